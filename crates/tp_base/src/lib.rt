@@ -1,0 +1,19 @@
+//! The numbers, names, limits and steps that all other crates share.
+#![tactic(auto)]
+
+mod history;
+mod ids;
+mod limits;
+mod refusal;
+mod step;
+mod sums;
+
+pub use history::History;
+pub use ids::{ActionId, Inputs, MessageId, NodeId, PoolId, TaskId};
+pub use limits::{
+    CLASSES, MAX_IDLE_TURNS, MAX_INPUTS, MAX_LEAVES, MAX_LIVE_TASKS, MAX_NODES, MAX_ORDER,
+    MAX_POOLS, MAX_SEED, MAX_SIDE, MAX_STEPS, MAX_WORKERS,
+};
+pub use refusal::Refusal;
+pub use step::Step;
+pub use sums::Sums;

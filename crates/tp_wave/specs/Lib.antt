@@ -1,0 +1,6 @@
+pub mod Steps
+pub mod Control
+pub mod Sums
+pub mod Machine
+pub mod Cut
+pub mod Checks
