@@ -1,0 +1,128 @@
+ghost use Rattle.std.specs.Prelude.{◌≡◌, ◌==◌, ◌+◌, ◌<◌, ◌≤◌, ◌↔◌, ℕ, [], ◌∷◌, ◌++◌, length, option_to_list, option_copied, slice_get, IsSome, IfErr, OnOk, OnErr};
+ghost use Rattle.tp_base.specs.declared.Refusal.TheVariants.{NoMemory};
+ghost use Rattle.tp_link.specs.Link.{IsUnchanged};
+
+use crate::routed::Routed;
+use std::alloc::{AllocError, Global};
+use std::collections::VecDeque;
+use std::marker::Model;
+use tp_base::{NodeId, Refusal};
+
+/// The messages on their way from one node to another, first in, first out. Contracts see its two ends, the list of its
+/// messages, the oldest first, and how many more can be put before memory has to grow.
+#[derive(Drop)]
+pub struct Link<M: Routed> {
+    from: NodeId,
+    to: NodeId,
+    messages: VecDeque<M>,
+}
+
+impl<M: Routed> Model for Link<M> {
+    ghost use Rattle.std.specs.Prelude.{◌-◌};
+    ghost use Rattle.std.specs.VecDeque.{deque_len, deque_capacity};
+    ghost use Rattle.tp_link.specs.Link.{Line};
+
+    ghost Value = { Line M };
+
+    ghost view = { λ l. record {
+      from = l.from.0;
+      to = l.to.0;
+      messages = l.messages.items;
+      room = deque_capacity l.messages - deque_len l.messages;
+    } };
+}
+
+impl<M: Routed> Link<M> {
+    /// A link with no message. It takes no memory.
+    pub fn new(alloc: Global, from: NodeId, to: NodeId) -> Self
+        ensures from { result.from ≡ from.0 }
+        ensures to { result.to ≡ to.0 }
+        ensures empty { result.messages ≡ [] }
+    {
+        Link {
+            from,
+            to,
+            messages: VecDeque::new(alloc),
+        }
+    }
+
+    /// The node that sends on it.
+    pub fn from(&self) -> NodeId
+        ensures { result.0 ≡ self.now.from }
+    {
+        self.from
+    }
+
+    /// The node that receives from it.
+    pub fn to(&self) -> NodeId
+        ensures { result.0 ≡ self.now.to }
+    {
+        self.to
+    }
+
+    /// How many messages are on it.
+    pub fn len(&self) -> usize
+        ensures { result ≡ length self.now.messages }
+    {
+        self.messages.len()
+    }
+
+    /// Whether no message is on it.
+    pub fn is_empty(&self) -> bool
+        ensures { result ≡ (length self.now.messages == 0) }
+    {
+        self.messages.is_empty()
+    }
+
+    /// Makes room for so many more messages.
+    pub fn reserve(&mut self, additional: usize) -> Result<(), AllocError>
+        ensures kept { IsUnchanged self.old self.new }
+        ensures room { OnOk result (additional ≤ self.new.room) }
+        ensures grows { OnErr result (self.old.room < additional) }
+    {
+        self.messages.reserve(additional)
+    }
+
+    /// Puts a message at the end, in the room that was made for it.
+    pub fn put_reserved(&mut self, message: M)
+        requires of_pair { (M.sender message ≡ self.old.from) × (M.receiver message ≡ self.old.to) }
+        requires room { 0 < self.old.room }
+        ensures ends { (self.new.from ≡ self.old.from) × (self.new.to ≡ self.old.to) }
+        ensures last { self.new.messages ≡ self.old.messages ++ message ∷ [] }
+        ensures room { self.new.room + 1 ≡ self.old.room }
+    {
+        self.messages.push_back_reserved(message);
+    }
+
+    /// Puts a message at the end. Refused with `NoMemory` where memory has to grow and does not; the message comes back.
+    pub fn put(&mut self, message: M) -> Result<(), (Refusal, M)>
+        requires of_pair { (M.sender message ≡ self.old.from) × (M.receiver message ≡ self.old.to) }
+        ensures ends { (self.new.from ≡ self.old.from) × (self.new.to ≡ self.old.to) }
+        ensures last { OnOk result (self.new.messages ≡ self.old.messages ++ message ∷ []) }
+        ensures refused { IfErr result (λ e. (e.0 ≡ NoMemory) × (e.1 ≡ message)) }
+        ensures kept { OnErr result (self.new.messages ≡ self.old.messages) }
+        ensures grows { OnErr result (self.old.room ≡ 0) }
+    {
+        if self.reserve(1).is_err() {
+            return Err((Refusal::NoMemory, message));
+        }
+        self.put_reserved(message);
+        Ok(())
+    }
+
+    /// Takes the oldest message.
+    pub fn get(&mut self) -> Option<M>
+        ensures ends { (self.new.from ≡ self.old.from) × (self.new.to ≡ self.old.to) }
+        ensures first { self.old.messages ≡ option_to_list result ++ self.new.messages }
+        ensures some { IsSome result ↔ (0 < length self.old.messages) }
+    {
+        self.messages.pop_front()
+    }
+
+    /// The oldest message, which stays.
+    pub fn front(&self) -> Option<&M>
+        ensures { option_copied result ≡ slice_get self.now.messages 0 }
+    {
+        self.messages.front()
+    }
+}
