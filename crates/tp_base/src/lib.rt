@@ -7,6 +7,7 @@ mod limits;
 mod refusal;
 mod step;
 mod sums;
+mod table;
 
 pub use history::History;
 pub use ids::{ActionId, Inputs, MessageId, NodeId, PoolId, TaskId};
@@ -17,3 +18,7 @@ pub use limits::{
 pub use refusal::Refusal;
 pub use step::Step;
 pub use sums::Sums;
+pub use table::Table;
+
+#[cfg(test)]
+mod tests;
