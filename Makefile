@@ -1,0 +1,22 @@
+# make        builds the program: bin/tp
+# make demo   proves, builds and runs the program on a stored script
+# make test   the gate: every proof from nothing, the must-fail edits, each test, each program
+.PHONY: all demo test clean
+
+all: bin/tp
+
+bin/tp: $(shell find crates -name '*.rt' -o -name '*.antt' -not -path '*/out/*') crates.txt
+	cd crates/tp && rt run -- sim < stdin > /dev/null
+	mkdir -p bin && cp crates/tp/out/tp bin/tp
+
+demo: bin/tp
+	@echo '$$ tp sim < examples/a-task'
+	@cat examples/a-task
+	@echo '--- answers'
+	@bin/tp sim < examples/a-task
+
+test:
+	rt ci
+
+clean:
+	rm -rf bin crates/*/out

@@ -1,0 +1,11 @@
+//! The command line of `tp`: words to a run and its status.
+#![tactic(auto)]
+
+mod cli;
+mod command;
+mod status;
+#[cfg(test)]
+mod tests;
+
+pub use cli::main_with;
+pub use status::Status;

@@ -1,0 +1,39 @@
+ghost use Rattle.std.specs.Prelude.{◌≡◌};
+ghost use Rattle.tp_cli.specs.Status.{status_of_verdict, status_of_fault};
+
+use tp_text::{TextFault, Verdict};
+
+/// The exit status of the program.
+#[derive(Clone, Copy, Debug, PartialEq, Eq)]
+pub enum Status {
+    /// It is done, or help was asked for.
+    Done = 0,
+    /// The command line, a specification, the reading or the writing is at fault.
+    Fault = 1,
+    /// A script or a trace was refused.
+    Refused = 2,
+    /// A run is at fault, or memory was refused.
+    Failed = 3,
+}
+
+impl Status {
+    /// The status of a text that was answered.
+    pub(crate) fn of_verdict(verdict: Verdict) -> Status
+        ensures { result ≡ status_of_verdict verdict }
+    {
+        match verdict {
+            Verdict::Sound => Status::Done,
+            Verdict::Refused => Status::Refused,
+        }
+    }
+
+    /// The status of a text that was not answered.
+    pub(crate) fn of_fault(fault: TextFault) -> Status
+        ensures { result ≡ status_of_fault fault }
+    {
+        match fault {
+            TextFault::Read | TextFault::TooLong | TextFault::Write => Status::Fault,
+            TextFault::Memory => Status::Failed,
+        }
+    }
+}
