@@ -1,5 +1,5 @@
 use Rattle.std.specs.Bool.{then_some}
-use Rattle.std.proofs.Common.{Option, Some, None, is_some, eqb, ◌≡◌, ℕ, zero, suc, ◌+◌, ◌-◌, ◌<◌, Bool, true, false, cond, not, ◌||◌, List, [], ◌∷◌, refl, sym, ap, ◌∙◌, inl, inr, arith, IsTrue, IsFalse}
+use Rattle.std.proofs.Common.{Option, Some, None, is_some, eqb, length, ◌≤◌, ◌≡◌, ℕ, suc, ◌+◌, ◌-◌, ◌<◌, Bool, true, false, cond, not, ◌||◌, List, [], ◌∷◌, refl, sym, ap, ◌∙◌, inl, inr, arith, IsTrue, IsFalse}
 use Rattle.std.proofs.lemmas.Bool.{cases_eq, cases_Bool, eq-eqb, ne_eqb, or_cases, or_parts, not-true, eqb-true, both_ways}
 use Rattle.std.proofs.lemmas.Bool.Decides.{nat_tests}
 use Rattle.tp_base.specs.declared.NodeId.{NodeId}
@@ -10,9 +10,9 @@ use Rattle.tp_wave.specs.Steps.{count, any, is_start, is_down, is_give, is_judge
 use Rattle.tp_wave.specs.Sums.{waves, earlier, visit, total, sent_sum, received_sum, sums_of, judgement}
 use Rattle.tp_wave.specs.Control.{parent, in_wave, has_ended, is_reached, is_control, IsControlStep, AreLawfulWaves}
 use Rattle.tp_wave.specs.declared.wave.Wave.{Wave}
-use Rattle.tp_wave.specs.Wave.{counted, newest_sums, last_sums, sums_so_far, no_sums, judgement_over, Follows, PoolStepLaw}
+use Rattle.tp_wave.specs.Wave.{counted, newest_sums, last_sums, sums_so_far, no_sums, judgement_over, started, Follows, StartedLaw, PoolStepLaw}
 use Rattle.tp_wave.proofs.Totals.{total-equal, total_one-changes, total-zero}
-use Rattle.tp_wave.proofs.Visits.{ended_given, judged_ended, newest-here, newest-past}
+use Rattle.tp_wave.proofs.Visits.{ended_given, judged_ended, newest-past}
 
 -- what the nodes gave, where it is what they had counted
 
@@ -163,3 +163,16 @@ root_sums n i steps j sums r at e =
           rw (at, eq-eqb j.0 0 root) (ap Some all)
       | inr child ↦ rw (at, ne_eqb j.0 0 child)
     ]
+
+count-le : (test : Step → Bool) (steps : List Step) → count test steps ≤ length steps
+count-le test [] = omega arith
+count-le test (s ∷ past) =
+    elim (test s) as (λ b. cond b (count test past + 1) (count test past) ≤ suc (length past)) [ true ↦ omega (arith, count-le test past) | false ↦ omega (arith, count-le test past) ]
+
+pub started_law : StartedLaw
+started_law n steps w f =
+    let counts : started w ≡ waves steps = ap (λ (sums : Sums). sums.wave) f.newest in
+    (counts, omega (arith, counts, count-le is_start steps))
+
+pub started_le : (n : ℕ) (steps : List Step) (w : Wave) → Follows n steps w → started w ≤ length steps
+started_le n steps w f = (started_law n steps w f).1

@@ -1,5 +1,5 @@
 -- What contracts see of a `Wave`.
-use Rattle.std.specs.Prelude.{ℕ, ◌-◌, ◌==◌, ◌&&◌, ◌≡◌, ◌<◌, List, ◌∷◌, Bool, false, IsTrue, IsFalse, nat_le, if◌then◌else◌, Option, Some, None, slice_index_or}
+use Rattle.std.specs.Prelude.{ℕ, ◌==◌, ◌&&◌, ◌≡◌, ◌<◌, ◌≤◌, length, List, ◌∷◌, Bool, false, IsFalse, nat_le, if◌then◌else◌, Option, Some, None, slice_index_or}
 use Rattle.tp_base.specs.declared.Step.{Step}
 use Rattle.tp_base.specs.declared.Sums.{Sums}
 use Rattle.tp_wave.specs.Steps.{count, is_give, is_up, is_judge, is_send_of, is_recv_at}
@@ -51,9 +51,9 @@ pub record Follows (n : ℕ) (steps : List Step) (w : Wave) : Type 0 where
   pub newest : newest_sums w ≡ sums_so_far n steps
   pub last : last_sums w ≡ sums_of n (earlier steps)
 
--- The waves are counted by their starts.
+-- The waves are counted by their starts, so there are no more than steps.
 abbrev pub StartedLaw : Type 0
-StartedLaw = (n : ℕ) (steps : List Step) (w : Wave) → Follows n steps w → started w ≡ waves steps
+StartedLaw = (n : ℕ) (steps : List Step) (w : Wave) → Follows n steps w → (started w ≡ waves steps) × (started w ≤ length steps)
 
 -- A step of the pool leaves the waves as they are.
 abbrev pub PoolStepLaw : Type 0

@@ -1,4 +1,4 @@
-use Rattle.std.proofs.Common.{◌∙◌, refl, sym, rules, arith, List, IsTrue, IsFalse}
+use Rattle.std.proofs.Common.{◌∙◌, refl, sym, arith, IsTrue, IsFalse}
 use Rattle.std.proofs.lemmas.Grind.{common_steps}
 use Rattle.tp_wave.specs.Sums.{is_ended, judgement}
 use Rattle.tp_wave.specs.Control.{has_ended}
