@@ -11,6 +11,8 @@ use Rattle.tp_wave.specs.Sums.{waves, earlier, visit, total, sent_sum, received_
 use Rattle.tp_wave.specs.Control.{parent, in_wave, has_ended, is_reached, is_control, IsControlStep, AreLawfulWaves}
 use Rattle.tp_wave.specs.declared.wave.Wave.{Wave}
 use Rattle.tp_wave.specs.Wave.{counted, newest_sums, last_sums, sums_so_far, no_sums, judgement_over, started, Follows, StartedLaw, PoolStepLaw}
+use Rattle.tp_wave.specs.Machine.{History, steps_of}
+use Rattle.tp_wave.proofs.Positions.{length-steps_of}
 use Rattle.tp_wave.proofs.Totals.{total-equal, total_one-changes, total-zero}
 use Rattle.tp_wave.proofs.Visits.{ended_given, judged_ended, newest-past}
 
@@ -174,5 +176,6 @@ started_law n steps w f =
     let counts : started w ≡ waves steps = ap (λ (sums : Sums). sums.wave) f.newest in
     (counts, omega (arith, counts, count-le is_start steps))
 
-pub started_le : (n : ℕ) (steps : List Step) (w : Wave) → Follows n steps w → started w ≤ length steps
-started_le n steps w f = (started_law n steps w f).1
+-- No more waves were started than there are events.
+pub started_within : (n : ℕ) (h : History) (w : Wave) → Follows n (steps_of h) w → started w ≤ length h
+started_within n h w f = omega (arith, (started_law n (steps_of h) w f).1, length-steps_of h)

@@ -39,11 +39,11 @@ impl Wave {
     /// Refused: `Ended` where the end was judged; `WaveOpen` where the newest wave was not judged yet.
     pub fn start(&mut self) -> Result<(), Refusal>
         requires { started self.old ≤ MAX_STEPS }
-        // What the nodes gave is what the steps before count.
+        // Where the nodes gave what they had counted.
         ensures exact { (n : ℕ) (steps : List Step) → Follows n steps self.old → result_err result ≡ control_refusal n steps Step.Start }
         ensures follows { (n : ℕ) (steps : List Step) → Follows n steps self.old → OnOk result (Follows n (Step.Start ∷ steps) self.new) }
 
-        // Whatever they gave.
+        // Whatever the nodes gave.
         ensures table { (n : ℕ) (ended : Bool) (steps : List Step) → Stands n ended steps self.old → result_err result ≡ first_refusal (wave_checks n ended steps Step.Start) }
         ensures stands { (n : ℕ) (ended : Bool) (steps : List Step) → Stands n ended steps self.old → OnOk result (Stands n ended (Step.Start ∷ steps) self.new) }
         ensures sums { OnOk result ((newest_sums self.new ≡ no_sums (started self.old + 1)) × (last_sums self.new ≡ newest_sums self.old)) }
@@ -75,11 +75,11 @@ impl Wave {
     /// Refused: `NoNode` where there is no such node; `Ended` where the end was judged; `NoToken` at node 0, where the newest
     /// wave has not come to the parent, and where it has come to the node.
     pub fn down(&mut self, node: NodeId) -> Result<(), Refusal>
-        // What the nodes gave is what the steps before count.
+        // Where the nodes gave what they had counted.
         ensures exact { (n : ℕ) (steps : List Step) → Follows n steps self.old → result_err result ≡ control_refusal n steps (Step.Down node) }
         ensures follows { (n : ℕ) (steps : List Step) → Follows n steps self.old → OnOk result (Follows n (Step.Down node ∷ steps) self.new) }
 
-        // Whatever they gave.
+        // Whatever the nodes gave.
         ensures table { (n : ℕ) (ended : Bool) (steps : List Step) → Stands n ended steps self.old → result_err result ≡ first_refusal (wave_checks n ended steps (Step.Down node)) }
         ensures stands { (n : ℕ) (ended : Bool) (steps : List Step) → Stands n ended steps self.old → OnOk result (Stands n ended (Step.Down node ∷ steps) self.new) }
         ensures sums { (newest_sums self.new ≡ newest_sums self.old) × (last_sums self.new ≡ last_sums self.old) }
@@ -101,12 +101,12 @@ impl Wave {
     pub fn give(&mut self, node: NodeId, sent: u32, received: u32) -> Result<Option<Sums>, Refusal>
         requires sent { sent ≤ MAX_STEPS }
         requires received { received ≤ MAX_STEPS }
-        // What the nodes gave is what the steps before count.
+        // Where the nodes gave what they had counted.
         ensures exact { (n : ℕ) (steps : List Step) → Follows n steps self.old → result_err result ≡ control_refusal n steps (Step.Give node) }
         ensures follows { (n : ℕ) (steps : List Step) → Follows n steps self.old → sent ≡ count (is_send_of node.0) steps → received ≡ count (is_recv_at node.0) steps → OnOk result (Follows n (Step.Give node ∷ steps) self.new) }
         ensures counted { (n : ℕ) (steps : List Step) → Follows n steps self.old → sent ≡ count (is_send_of node.0) steps → received ≡ count (is_recv_at node.0) steps → IfOk result (λ sums. sums ≡ (if node.0 == 0 then Some (sums_of n (Step.Give node ∷ steps)) else None)) }
 
-        // Whatever they gave.
+        // Whatever the nodes gave.
         ensures table { (n : ℕ) (ended : Bool) (steps : List Step) → Stands n ended steps self.old → result_err result ≡ first_refusal (wave_checks n ended steps (Step.Give node)) }
         ensures stands { (n : ℕ) (ended : Bool) (steps : List Step) → Stands n ended steps self.old → OnOk result (Stands n ended (Step.Give node ∷ steps) self.new) }
         ensures answer { IfOk result (λ sums. sums ≡ (if node.0 == 0 then Some (newest_sums self.new) else None)) }
@@ -132,11 +132,11 @@ impl Wave {
     /// Refused: `NoNode` where there is no such node; `Ended` where the end was judged; `NoToken` at node 0, where the node has
     /// not given in the newest wave, and where its sums were taken.
     pub fn up(&mut self, node: NodeId) -> Result<(), Refusal>
-        // What the nodes gave is what the steps before count.
+        // Where the nodes gave what they had counted.
         ensures exact { (n : ℕ) (steps : List Step) → Follows n steps self.old → result_err result ≡ control_refusal n steps (Step.Up node) }
         ensures follows { (n : ℕ) (steps : List Step) → Follows n steps self.old → OnOk result (Follows n (Step.Up node ∷ steps) self.new) }
 
-        // Whatever they gave.
+        // Whatever the nodes gave.
         ensures table { (n : ℕ) (ended : Bool) (steps : List Step) → Stands n ended steps self.old → result_err result ≡ first_refusal (wave_checks n ended steps (Step.Up node)) }
         ensures stands { (n : ℕ) (ended : Bool) (steps : List Step) → Stands n ended steps self.old → OnOk result (Stands n ended (Step.Up node ∷ steps) self.new) }
         ensures sums { (newest_sums self.new ≡ newest_sums self.old) × (last_sums self.new ≡ last_sums self.old) }
@@ -155,12 +155,12 @@ impl Wave {
     ///
     /// Refused: `Ended` where the end was judged; `WaveNotEnded` where no ended wave waits for judgement.
     pub fn judge(&mut self) -> Result<Option<u32>, Refusal>
-        // What the nodes gave is what the steps before count.
+        // Where the nodes gave what they had counted.
         ensures exact { (n : ℕ) (steps : List Step) → Follows n steps self.old → result_err result ≡ control_refusal n steps Step.Judge }
         ensures follows { (n : ℕ) (steps : List Step) → Follows n steps self.old → OnOk result (Follows n (Step.Judge ∷ steps) self.new) }
         ensures judged { (n : ℕ) (steps : List Step) → Follows n steps self.old → IfOk result (λ wave. wave ≡ judgement n steps) }
 
-        // Whatever they gave.
+        // Whatever the nodes gave.
         ensures table { (n : ℕ) (ended : Bool) (steps : List Step) → Stands n ended steps self.old → result_err result ≡ first_refusal (wave_checks n ended steps Step.Judge) }
         ensures stands { (n : ℕ) (ended : Bool) (steps : List Step) → Stands n ended steps self.old → IfOk result (λ wave. Stands n (is_some wave) (Step.Judge ∷ steps) self.new) }
         ensures answer { IfOk result (λ wave. wave ≡ judgement_over (last_sums self.old) (newest_sums self.old)) }
