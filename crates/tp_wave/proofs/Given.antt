@@ -166,7 +166,8 @@ root_sums n i steps j sums r at e =
       | inr child ↦ rw (at, ne_eqb j.0 0 child)
     ]
 
-count-le : (test : Step → Bool) (steps : List Step) → count test steps ≤ length steps
+-- No more steps pass a test than there are.
+pub count-le : (test : Step → Bool) (steps : List Step) → count test steps ≤ length steps
 count-le test [] = omega arith
 count-le test (s ∷ past) =
     elim (test s) as (λ b. cond b (count test past + 1) (count test past) ≤ suc (length past)) [ true ↦ omega (arith, count-le test past) | false ↦ omega (arith, count-le test past) ]

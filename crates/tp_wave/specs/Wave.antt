@@ -7,7 +7,7 @@ use Rattle.tp_wave.specs.Sums.{waves, earlier, visit, total, sums_of, is_ended}
 use Rattle.tp_wave.specs.Control.{in_wave, is_reached, is_control, AreLawfulWaves}
 use Rattle.tp_wave.specs.declared.wave.Wave.{Wave}
 
--- the number of the newest wave, and what the nodes gave in it so far
+-- the number of the newest wave, and the sums of what the nodes gave in it so far
 abbrev pub newest_sums : Wave → Sums
 newest_sums w = w.newest
 
@@ -28,7 +28,7 @@ abbrev pub judgement_over : Sums → Sums → Option ℕ
 judgement_over last newest =
     if nat_le 1 last.wave && (last.sent == last.received && last.received == newest.sent && newest.sent == newest.received) then Some last.wave else None
 
--- The waves have come to the nodes as these steps tell, and it was judged that the pool had ended, or not.
+-- The waves stand where these steps on n nodes led them, whatever the nodes gave; it was judged that the pool had ended, or not.
 pub record Stands (n : ℕ) (ended : Bool) (steps : List Step) (w : Wave) : Type 0 where
   pub nodes : w.nodes ≡ n
   pub over : w.over ≡ ended
@@ -41,10 +41,11 @@ pub record Stands (n : ℕ) (ended : Bool) (steps : List Step) (w : Wave) : Type
 abbrev pub counted : (ℕ → Step → Bool) → ℕ → List Step → ℕ
 counted test n steps = total n (λ i. if in_wave (is_give i) steps then count (test i) (visit i steps) else 0)
 
+-- the number of the newest wave, and what it has added up so far
 abbrev pub sums_so_far : ℕ → List Step → Sums
 sums_so_far n steps = record { wave = waves steps; sent = counted is_send_of n steps; received = counted is_recv_at n steps }
 
--- The steps on n nodes are lawful, the waves stand where they led them, and what the nodes gave is what they counted.
+-- The steps on n nodes are lawful, the waves stand where they led them, and each node gave what it had counted.
 pub record Follows (n : ℕ) (steps : List Step) (w : Wave) : Type 0 where
   pub lawful : AreLawfulWaves n steps
   pub stands : Stands n (is_ended n steps) steps w

@@ -7,7 +7,7 @@ mod calls;
 #[cfg(test)]
 mod tests;
 
-/// How many nodes a tree has at most.
+/// How many places an array has: one for each node that there may be.
 const PLACES: usize = MAX_NODES as usize;
 
 /// The control waves over the tree of the nodes: how far the newest one has come, what it has added up, and the sums of
@@ -20,15 +20,17 @@ const PLACES: usize = MAX_NODES as usize;
 #[derive(Clone, Copy, Debug, PartialEq, Eq)]
 pub struct Wave {
     nodes: u32,
-    // The nodes to which the newest wave has come, that gave in it, and whose sums were taken.
+    // The nodes to which the newest wave has come, those that gave in it, and those whose sums were taken.
     reached: [bool; PLACES],
     given: [bool; PLACES],
     taken: [bool; PLACES],
     judged: bool,
     // It was judged that the pool had ended.
     over: bool,
+    // What the nodes gave so far in the newest wave, and in all in the wave before it.
     newest: Sums,
     last: Sums,
     ghost few: { (1 ≤ nodes) × (nodes ≤ MAX_NODES) },
+    // Each node that gave added at most so much.
     ghost small: { (newest.sent ≤ MAX_STEPS * count_by (λ g. g) given) × (newest.received ≤ MAX_STEPS * count_by (λ g. g) given) },
 }

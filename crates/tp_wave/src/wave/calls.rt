@@ -10,7 +10,7 @@ use crate::wave::{PLACES, Wave};
 use tp_base::{MAX_NODES, MAX_STEPS, NodeId, Refusal, Sums};
 
 impl Wave {
-    /// No wave was started, over the nodes 0 to `nodes` - 1.
+    /// No wave was started yet over the nodes 0 to `nodes` - 1, which are 1 to 8.
     pub fn new(nodes: u32) -> Wave
         requires few { (1 ≤ nodes) × (nodes ≤ MAX_NODES) }
         ensures stands { Stands nodes false [] result }
@@ -34,7 +34,7 @@ impl Wave {
         }
     }
 
-    /// Opens the next wave at node 0.
+    /// Opens the next wave at node 0. At most 1,048,576 waves may have been started before.
     ///
     /// Refused: `Ended` where the end was judged; `WaveOpen` where the newest wave was not judged yet.
     pub fn start(&mut self) -> Result<(), Refusal>
@@ -94,7 +94,8 @@ impl Wave {
         Ok(())
     }
 
-    /// A node gives how many messages it has sent and received. At node 0 the wave ends, and its sums are answered.
+    /// A node gives how many messages it has sent and received, each at most 1,048,576. At node 0 the wave ends, and its sums
+    /// are answered.
     ///
     /// Refused: `NoNode` where there is no such node; `Ended` where the end was judged; `NoToken` where the newest wave has
     /// not come to the node, where the node gave in it, and where the sums of a child were not taken.
@@ -151,7 +152,8 @@ impl Wave {
         Ok(())
     }
 
-    /// Judges the newest wave: the number of the wave before it, where the pool had ended when that one ended, or `None`.
+    /// Judges the newest wave by the four counters: where its two sums and those of the wave before it are all equal, the pool
+    /// had ended when that earlier wave ended, whose number is answered; else `None`, as for the first wave.
     ///
     /// Refused: `Ended` where the end was judged; `WaveNotEnded` where no ended wave waits for judgement.
     pub fn judge(&mut self) -> Result<Option<u32>, Refusal>
