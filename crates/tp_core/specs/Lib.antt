@@ -1,0 +1,8 @@
+pub mod World
+pub mod Pool
+pub mod Run
+pub mod Checks
+pub mod Laws
+pub mod Accepted
+pub mod Kept
+pub mod NeverEarly
