@@ -4,5 +4,4 @@ pub mod Run
 pub mod Checks
 pub mod Laws
 pub mod Accepted
-pub mod Kept
 pub mod NeverEarly
