@@ -1,3 +1,4 @@
+pub mod Table
 pub mod World
 pub mod Pool
 pub mod Run
