@@ -76,7 +76,7 @@ quiet_from n w later past r judged q h =
     let pos = some_root n past judge.1 ended in
     let front = events_after n later (Judge ∷ past) ++ (record { 0 = 0 }, Judge) ∷ [] in
     let whole : history n (later ++ Judge ∷ past) ≡ front ++ history n past =
-      history-append n later (Judge ∷ past) ∙ sym (append_assoc (events_after n later (Judge ∷ past)) ((record { 0 = 0 }, Judge) ∷ []) (history n past)) in
+    history-append n later (Judge ∷ past) ∙ sym (append_assoc (events_after n later (Judge ∷ past)) ((record { 0 = 0 }, Judge) ∷ []) (history n past)) in
     let run : machine.IsRun n (front ++ history n past) = rw whole at (runs_are_counted n (later ++ Judge ∷ past) pos r).is_run in
     let same = steps_of-history n past in
     let there = ended_law n w front (history n past) run (rw same ended) (rw same judged) q (rw same h) in
