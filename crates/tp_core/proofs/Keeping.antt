@@ -79,12 +79,13 @@ numbers_written {a} {xs} s kept lawful j v low at is = record { size = length-se
     choose : (i : ℕ) (b : Bool) → (j == i) ≡ b → (if b then moved s (numbers_at j a) else numbers_at i a) ≡ (if b then moved s (numbers_at i a) else numbers_at i a)
     choose i true same = ap (λ k. moved s (numbers_at k a)) (eqb-true j i same)
     choose i false same = refl
+
     each : (i : ℕ) (d : NodeNumbers) → i < MAX_NODES → slice_index_or (set xs j v) i d ≡ numbers_at i (with_step a s)
     each i d inside =
         let step : numbers_at i (with_step a s) ≡ (if j == i then moved s (numbers_at i a) else numbers_at i a) = rw at (numbers_step a s i lawful) in
         let size = kept.size in
         let now : slice_index_or (set xs j v) i d ≡ (if j == i then moved s (numbers_at j a) else numbers_at i a) =
-          rw (written xs j i v d (omega arith), is, kept.each j zeros low, kept.each i d inside) refl in
+        rw (written xs j i v d (omega arith), is, kept.each j zeros low, kept.each i d inside) refl in
         now ∙ choose i (j == i) refl ∙ sym step
 
 -- ---- what is left

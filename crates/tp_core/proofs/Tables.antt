@@ -161,6 +161,7 @@ message_closed {opening} {named} {messages} {actions} kept new m to single was p
   where
     there : list_any (is_action to.0 (OfMessage m)) actions ≡ true
     there = let old = kept.are_open to.0 (OfMessage m) in grind (arith, nat_tests, old, was)
+
     now : (i : ℕ) (kind : Kind) → list_any (is_action i kind) (closed to.0 (OfMessage m) actions) ≡ is_kept_open opening named new i kind
     now i Opening = let old = kept.are_open i Opening in open-closed i to.0 Opening (OfMessage m) actions single there ∙ grind (arith, old)
     now i (Named b) = let old = kept.are_open i (Named b) in open-closed i to.0 (Named b) (OfMessage m) actions single there ∙ grind (arith, old)
@@ -190,11 +191,12 @@ message_received {table} {messages} {numbers} kept new m to single was puts = re
   where
     there : list_any (is_message m to.0) messages ≡ true
     there = let old = kept.under_way m to.0 in grind (arith, nat_tests, old, was)
+
     choose : (k j : ℕ) (b : Bool) → (m == k) ≡ b → list_any (is_message k j) (without (is_message m to.0) messages) ≡ is_posted is_under_way_stage j (lookup new k)
     choose k j true is =
         let same : m ≡ k = eqb-true m k is in
         let none = without-none (is_message k j) (is_message m to.0) (λ x. x.number == m) messages
-          (λ x h. is_message_of m k j x h same) (λ x h. is_message_of m m to.0 x h refl) single there in
+        (λ x h. is_message_of m k j x h same) (λ x h. is_message_of m m to.0 x h refl) single there in
         let at = puts k in grind (arith, none, at, is)
     choose k j false is =
         let old = kept.under_way k j in let at = puts k in
