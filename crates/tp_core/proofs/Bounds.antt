@@ -1,5 +1,5 @@
 -- No counter of a core leaves its type.
-use Rattle.std.proofs.Common.{ℕ, zero, suc, ◌+◌, ◌≡◌, ◌<◌, ◌≤◌, List, [], ◌∷◌, Bool, true, false, length, refl, ap, arith, zero-le}
+use Rattle.std.proofs.Common.{ℕ, zero, suc, ◌+◌, ◌≡◌, ◌<◌, ◌≤◌, List, [], ◌∷◌, Bool, true, false, Some, length, refl, ap, ◌∙◌, arith, zero-le}
 use Rattle.std.proofs.lemmas.Bool.Decides.{nat_tests}
 use Rattle.std.specs.Prelude.{not, if◌then◌else◌}
 use Rattle.std.specs.List.{slice_index_or}
@@ -7,13 +7,20 @@ use Rattle.tp_base.specs.declared.Step.{Step}
 use Rattle.tp_base.specs.declared.limits.TheConstants.{MAX_STEPS, MAX_NODES}
 use Rattle.tp_wave.specs.Steps.{count, is_send_of, is_recv_at}
 use Rattle.tp_core.specs.declared.accepting.Core.TheInside.{Inside}
+use Rattle.tp_core.specs.declared.held.Held.{Held}
 use Rattle.tp_core.specs.declared.life.Life.{Life}
+use Rattle.tp_core.specs.declared.life.Life.TheVariants as life
 use Rattle.tp_core.specs.declared.numbers.NodeNumbers.{NodeNumbers}
-use Rattle.tp_core.specs.World.{World, Task, Action, is_done, is_at, is_unfinished_at, how_many, openings, pending}
+use Rattle.tp_core.specs.World.{World, Task, Action, Kind, is_action, is_message, is_open, is_done, is_at, is_unfinished_at, how_many, openings, pending}
 use Rattle.tp_core.specs.Pool.{with_life, without, after}
 use Rattle.tp_core.specs.Run.{world}
-use Rattle.tp_core.specs.Kept.{accepted, IsKept, all_left}
+use Rattle.tp_core.specs.Accepted.{world_of}
+use Rattle.tp_core.specs.Kept.{accepted, IsKept, all_left, is_kept_open, is_posted, is_under_way_stage}
+use Rattle.tp_core.specs.Table.{lookup}
+use Rattle.tp_core.proofs.Counting.{active_home, active_open, some_message}
+use Rattle.tp_core.proofs.Sets.{lists_are_sets}
 use Rattle.tp_core.proofs.Keeping.{zeros}
+use Rattle.tp_core.proofs.Reading.{Lives}
 
 pub length-openings : (n : ℕ) → length (openings n) ≡ n
 length-openings zero = refl
@@ -77,3 +84,44 @@ small {c} agree i low =
       received = rw (agree.numbers.each i zeros low) (let bound = count_bound (is_recv_at i) steps in omega arith);
       under = rw agree.under (let bound = messages_bound c.nodes steps in omega arith);
     }
+
+lowered : {c : Inside} → IsKept c → (i : ℕ) → i < MAX_NODES → 0 < pending i (world_of (accepted c)) → (1 ≤ (slice_index_or c.numbers i zeros).pending) × (1 ≤ c.left)
+lowered {c} agree i low active =
+    let here : 1 ≤ (slice_index_or c.numbers i zeros).pending = rw (agree.numbers.each i zeros low) active in
+    let bound = (small agree i low).pending in (here, omega arith)
+
+-- a running task may be done: what it counts is above 0
+pub record MayEnd (c : Inside) (i : ℕ) : Type 0 where
+  pub pending : 1 ≤ (slice_index_or c.numbers i zeros).pending
+  pub left : 1 ≤ c.left
+
+pub may_end : {c : Inside} {t : ℕ} {h : Held} → IsKept c → Lives c t h → h.life ≡ life.Running → MayEnd c h.home.0
+may_end {c} {t} {h} agree task runs =
+    let active = active_home t (world_of (accepted c)) life.Running (task.life ∙ ap Some runs) refl in
+    let both = lowered agree h.home.0 task.inside (rw (← task.home) active) in
+    record { pending = both.0; left = both.1 }
+
+-- an open action may close: it is there once, and what it counts is above 0
+pub record MayClose (c : Inside) (i : ℕ) (kind : Kind) : Type 0 where
+  pub inside : i < MAX_NODES
+  pub there : is_open i kind (world_of (accepted c)) ≡ true
+  pub once : how_many (is_action i kind) (world_of (accepted c)).actions ≤ 1
+  pub pending : 1 ≤ (slice_index_or c.numbers i zeros).pending
+  pub left : 1 ≤ c.left
+
+pub may_close : {c : Inside} → IsKept c → (i : ℕ) → i < c.nodes → (kind : Kind) → is_kept_open c.opening c.named c.messages i kind ≡ true → MayClose c i kind
+may_close {c} agree i below kind open' =
+    let few = agree.few_nodes in
+    let there = agree.actions.are_open i kind ∙ open' in
+    let both = lowered agree i (omega arith) (active_open i kind (world_of (accepted c)) there) in
+    record {
+      inside = omega arith;
+      there = there;
+      once = (lists_are_sets c.nodes (accepted c).steps agree.is_run).actions i kind;
+      pending = both.0;
+      left = both.1;
+    }
+
+-- a message that is under way is counted
+pub may_receive : {c : Inside} → IsKept c → (m j : ℕ) → is_posted is_under_way_stage j (lookup c.messages m) ≡ true → 1 ≤ c.under
+may_receive {c} agree m j there = rw agree.under (some_message (is_message m j) (world_of (accepted c)).messages (agree.messages.under_way m j ∙ there))
