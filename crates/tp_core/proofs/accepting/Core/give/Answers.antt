@@ -26,7 +26,7 @@ returns-in_err-sums c =
     let agree = c.self.invariant in
     let a = accepted c.self.inside in
     let first : refusal a (Give c.args.node) ≡ Some c.in_err-sums.field-0.0 =
-      give_refused a c.args.node c.in_err-sums.field-0.0 (sym (c.in_err-sums.ensures.exact a.nodes a.steps agree.wave)) in
+    give_refused a c.args.node c.in_err-sums.field-0.0 (sym (c.in_err-sums.ensures.exact a.nodes a.steps agree.wave)) in
     let told = subst (λ (b : Accepted). refusal b (Give c.args.node) ≡ Some c.in_err-sums.field-0.0) c.self.view_is first in
     grind (arith, common_steps, told)
 
@@ -57,4 +57,3 @@ invariant_of-self-2 c =
     agree_after s agree lawful (c.in_ok-make_room.ensures.ok).0 refl c.make_room.ensures.items c.push_reserved.ensures.items
     (numbers_stay s agree.numbers lawful (λ x. refl)) refl refl agree.tasks agree.actions agree.messages
     (c.in_ok-sums.ensures.follows n past agree.wave (ap (λ (x : NodeNumbers). x.sent) there) (ap (λ (x : NodeNumbers). x.received) there))
-
