@@ -16,7 +16,7 @@ use Rattle.tp_core.specs.Pool.{with_life, without, after}
 use Rattle.tp_core.specs.Run.{world}
 use Rattle.tp_core.specs.Accepted.{world_of}
 use Rattle.tp_core.specs.Kept.{accepted, IsKept, all_left, is_kept_open, is_posted, is_under_way_stage}
-use Rattle.tp_core.specs.Table.{lookup}
+use Rattle.tp_base.specs.Table.{lookup}
 use Rattle.tp_core.proofs.Counting.{active_home, active_open, some_message}
 use Rattle.tp_core.proofs.Sets.{lists_are_sets}
 use Rattle.tp_core.proofs.Keeping.{zeros}

@@ -7,7 +7,7 @@ use Rattle.tp_base.specs.declared.limits.TheConstants.{MAX_NODES}
 use Rattle.tp_core.specs.declared.accepting.Core.TheInside.{Inside}
 use Rattle.tp_core.specs.declared.held.Held.{Held}
 use Rattle.tp_core.specs.World.{Task, life_of, home_of}
-use Rattle.tp_core.specs.Table.{lookup}
+use Rattle.tp_base.specs.Table.{lookup}
 use Rattle.tp_core.specs.Accepted.{world_of}
 use Rattle.tp_core.specs.Kept.{accepted, held, IsKept}
 use Rattle.tp_core.proofs.Counting.{home_inside}

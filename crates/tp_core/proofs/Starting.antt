@@ -9,8 +9,8 @@ use Rattle.tp_core.specs.declared.accepting.Core.TheInside.{Inside}
 use Rattle.tp_core.specs.declared.node_set.NodeSet.{NodeSet}
 use Rattle.tp_core.specs.declared.numbers.NodeNumbers.{NodeNumbers}
 use Rattle.tp_core.specs.declared.posted.Posted.{Posted}
-use Rattle.tp_core.specs.declared.table.Table.{Table}
-use Rattle.tp_core.specs.Table.{lookup}
+use Rattle.tp_base.specs.declared.Table.{Table}
+use Rattle.tp_base.specs.Table.{lookup}
 use Rattle.tp_core.specs.NodeSet.{has}
 use Rattle.tp_core.specs.World.{Kind, Opening, Named, OfMessage, Action, is_action, is_done, how_many, openings, IsQuiet}
 use Rattle.tp_core.specs.Accepted.{world_of, numbers_at}

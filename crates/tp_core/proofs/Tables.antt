@@ -10,8 +10,8 @@ use Rattle.tp_core.specs.declared.life.Life.{Life}
 use Rattle.tp_core.specs.declared.node_set.NodeSet.{NodeSet}
 use Rattle.tp_core.specs.declared.posted.Posted.{Posted}
 use Rattle.tp_core.specs.declared.posted.Stage.TheVariants as stage
-use Rattle.tp_core.specs.declared.table.Table.{Table}
-use Rattle.tp_core.specs.Table.{lookup, Puts}
+use Rattle.tp_base.specs.declared.Table.{Table}
+use Rattle.tp_base.specs.Table.{lookup, Puts}
 use Rattle.tp_core.specs.NodeSet.{has}
 use Rattle.tp_core.specs.World.{Task, Action, Message, Kind, Opening, Named, OfMessage, same_kind, is_action, is_message, how_many}
 use Rattle.tp_core.specs.Pool.{with_life, without, opened, closed}

@@ -1,4 +1,3 @@
-pub mod Table
 pub mod NodeSet
 pub mod World
 pub mod Pool

@@ -2,7 +2,7 @@ use Rattle.std.proofs.Common.{◌≡◌, Some, arith, refl}
 use Rattle.std.proofs.lemmas.Bool.Decides.{nat_tests}
 use Rattle.tp_base.specs.declared.Step.TheVariants.{MessageEnd}
 use Rattle.tp_core.specs.declared.posted.Stage.TheVariants as stage
-use Rattle.tp_core.specs.Table.{lookup}
+use Rattle.tp_base.specs.Table.{lookup}
 use Rattle.tp_core.specs.World.{OfMessage}
 use Rattle.tp_core.specs.Run.{IsLawful}
 use Rattle.tp_core.specs.Kept.{accepted}

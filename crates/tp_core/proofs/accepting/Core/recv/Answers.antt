@@ -3,7 +3,7 @@ use Rattle.std.proofs.lemmas.Bool.Decides.{nat_tests}
 use Rattle.tp_base.specs.declared.Step.TheVariants.{Recv}
 use Rattle.tp_base.specs.declared.limits.TheConstants.{MAX_NODES}
 use Rattle.tp_core.specs.declared.posted.Stage.TheVariants as stage
-use Rattle.tp_core.specs.Table.{lookup}
+use Rattle.tp_base.specs.Table.{lookup}
 use Rattle.tp_core.specs.World.{is_under_way}
 use Rattle.tp_core.specs.Run.{IsLawful}
 use Rattle.tp_core.specs.Accepted.{world_of}

@@ -2,7 +2,7 @@ use Rattle.std.proofs.Common.{◌≡◌, ◌<◌, None, arith, refl}
 use Rattle.std.proofs.lemmas.Bool.Decides.{nat_tests}
 use Rattle.tp_base.specs.declared.Step.TheVariants.{Send}
 use Rattle.tp_base.specs.declared.limits.TheConstants.{MAX_NODES}
-use Rattle.tp_core.specs.Table.{lookup}
+use Rattle.tp_base.specs.Table.{lookup}
 use Rattle.tp_core.specs.Run.{IsLawful}
 use Rattle.tp_core.specs.Kept.{accepted}
 use Rattle.tp_core.proofs.Keeping.{agree_next, numbers_written, zeros}
