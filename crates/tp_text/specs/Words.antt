@@ -1,17 +1,19 @@
--- Words in a line.
-use Rattle.std.specs.Prelude.{ℕ, ◌≡◌, ◌≢◌, List, [], ◌∷◌}
-use Rattle.std.specs.List.{All}
+-- Words and numbers at the front of a text.
+use Rattle.std.specs.Prelude.{ℕ, ◌≤◌, ◌≢◌, List, [], ◌∷◌}
 use Rattle.tp_text.specs.declared.words.Operands.{Operands}
 use Rattle.tp_text.specs.declared.words.Operands.TheVariants as operands
 
--- The byte does not stand in the text.
-abbrev pub Lacks : ℕ → List ℕ → Type 0
-Lacks byte text = All (λ b. b ≢ byte) text
+-- A word holds no space and no line feed.
+abbrev pub IsWordByte : ℕ → Type 0
+IsWordByte b = (b ≢ 32) × (b ≢ 10)
 
--- A word may end before this text: it is empty, or begins with a space.
-abbrev pub IsBoundary : List ℕ → Type 0
-IsBoundary [] = Unit {0}
-IsBoundary (b ∷ text) = b ≡ 32
+abbrev pub IsDigit : ℕ → Type 0
+IsDigit b = (48 ≤ b) × (b ≤ 57)
+
+-- The text does not begin with a byte of this kind.
+abbrev pub BeginsWithout : (ℕ → Type 0) → List ℕ → Type 0
+BeginsWithout P [] = Unit {0}
+BeginsWithout P (b ∷ text) = ¬ P b
 
 -- the numbers, as a list
 abbrev pub numbers_in : Operands → List ℕ
