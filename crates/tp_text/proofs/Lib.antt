@@ -1,3 +1,5 @@
 pub mod Splits
 pub mod Numbers
 pub mod Lines
+pub mod Spelled
+pub mod NoLine

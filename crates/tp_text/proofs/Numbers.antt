@@ -9,7 +9,7 @@ use Rattle.std.proofs.lemmas.Str.Parse.{IsNumeralModel, numerals_by_value, tells
 use Rattle.std.specs.List.{All}
 use Rattle.std.specs.Str.Parse.{digits_value}
 use Rattle.tp_text.specs.Spelling.{IsNumber}
-use Rattle.tp_text.specs.Words.{IsDigit, BeginsWithout}
+use Rattle.tp_text.specs.Words.{IsDigit, BeginsWithout, Splits}
 use Rattle.tp_text.proofs.Splits.{split_unique}
 
 abbrev AreDigits : List ℕ → Type 0
@@ -32,10 +32,9 @@ one_number j k a b p q s t e =
     (decimal_injective j k (omega arith) (omega arith) both.0, both.1)
 
 -- where the digits spell no number, none stands at the front
-pub no_leading : (ds a : List ℕ) → All IsDigit ds → BeginsWithout IsDigit a → ((k : ℕ) → IsNumber k → ds ≢ decimal k)
-    → (text : List ℕ) → text ≡ ds ++ a → (k : ℕ) (b : List ℕ) → IsNumber k → BeginsWithout IsDigit b → text ≢ decimal k ++ b
-no_leading ds a all s none text is k b p t e =
-    none k p (split_unique IsDigit ds (decimal k) a b all (decimal_digits k p) s t (sym is ∙ e)).0
+pub no_leading : (text ds a : List ℕ) → Splits IsDigit text ds a → ((k : ℕ) → IsNumber k → ds ≢ decimal k)
+    → (k : ℕ) (b : List ℕ) → IsNumber k → BeginsWithout IsDigit b → text ≢ decimal k ++ b
+no_leading text ds a h none k b p t e = none k p (split_unique IsDigit ds (decimal k) a b h.1 (decimal_digits k p) h.2 t (sym h.0 ∙ e)).0
 
 -- one digit more
 pub value_more : (ds : List ℕ) (n value : ℕ) → All IsDigit ds → n < length ds → value ≡ digits_value 10 (take n ds)

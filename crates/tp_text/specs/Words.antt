@@ -1,5 +1,6 @@
 -- Words and numbers at the front of a text.
-use Rattle.std.specs.Prelude.{ℕ, ◌≤◌, ◌≢◌, List, [], ◌∷◌}
+use Rattle.std.specs.Prelude.{ℕ, ◌≤◌, ◌≡◌, ◌≢◌, ◌++◌, List, [], ◌∷◌}
+use Rattle.std.specs.List.{All}
 use Rattle.tp_text.specs.declared.words.Operands.{Operands}
 use Rattle.tp_text.specs.declared.words.Operands.TheVariants as operands
 
@@ -14,6 +15,10 @@ IsDigit b = (48 ≤ b) × (b ≤ 57)
 abbrev pub BeginsWithout : (ℕ → Type 0) → List ℕ → Type 0
 BeginsWithout P [] = Unit {0}
 BeginsWithout P (b ∷ text) = ¬ P b
+
+-- The text is its front, which holds all the bytes of this kind up to the first of another, and then the rest.
+abbrev pub Splits : (ℕ → Type 0) → List ℕ → List ℕ → List ℕ → Type 0
+Splits P text front rest = (text ≡ front ++ rest) × All P front × BeginsWithout P rest
 
 -- the numbers, as a list
 abbrev pub numbers_in : Operands → List ℕ

@@ -1,7 +1,7 @@
 ghost use Rattle.std.specs.Prelude.{◌≡◌, ◌≢◌, ◌<◌, ◌++◌, ℕ, List, decimal, MatchOption};
 ghost use Rattle.std.specs.List.{All};
 ghost use Rattle.tp_text.specs.Spelling.{IsNumber};
-ghost use Rattle.tp_text.specs.Words.{IsDigit, BeginsWithout};
+ghost use Rattle.tp_text.specs.Words.{IsDigit, BeginsWithout, Splits};
 
 /// The number that digits spell: one to six of them, with no leading zero.
 fn number(digits: &[u8]) -> Option<u32>
@@ -22,9 +22,7 @@ fn number(digits: &[u8]) -> Option<u32>
 
 /// The digits at the front, and what stands behind them.
 fn leading_digits(text: &[u8]) -> (&[u8], &[u8])
-    ensures whole { text.now ≡ result.0.now ++ result.1.now }
-    ensures digits { All IsDigit result.0.now }
-    ensures rest { BeginsWithout IsDigit result.1.now }
+    ensures { Splits IsDigit text.now result.0.now result.1.now }
 {
     let end = text.iter().position(|byte| !byte.is_ascii_digit());
     text.split_at(end.unwrap_or(text.len()))

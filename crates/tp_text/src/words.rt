@@ -1,7 +1,7 @@
 ghost use Rattle.std.specs.Prelude.{◌≡◌, ◌≢◌, ◌≤◌, ◌++◌, ◌∷◌, ℕ, List, length, decimal, MatchOption};
 ghost use Rattle.std.specs.List.{All};
 ghost use Rattle.tp_text.specs.Spelling.{IsNumber, spaced};
-ghost use Rattle.tp_text.specs.Words.{IsWordByte, IsDigit, BeginsWithout, numbers_in};
+ghost use Rattle.tp_text.specs.Words.{IsWordByte, IsDigit, BeginsWithout, Splits, numbers_in};
 
 use crate::number::leading_number;
 
@@ -16,9 +16,7 @@ pub(crate) enum Operands {
 
 /// The word at the front, which ends at the first space or line feed, and what stands behind it.
 pub(crate) fn first_word(text: &[u8]) -> (&[u8], &[u8])
-    ensures whole { text.now ≡ result.0.now ++ result.1.now }
-    ensures word { All IsWordByte result.0.now }
-    ensures rest { BeginsWithout IsWordByte result.1.now }
+    ensures { Splits IsWordByte text.now result.0.now result.1.now }
 {
     let end = text.iter().position(|byte| *byte == b' ' || *byte == b'\n');
     text.split_at(end.unwrap_or(text.len()))
