@@ -68,7 +68,7 @@ ends_word : (ks rest : List ℕ) → BeginsWithout IsWordByte (spaced ks ++ 10 �
 ends_word [] rest = λ h. h.1 refl
 ends_word (k ∷ ks) rest = λ h. h.0 refl
 
-line_parts : (word : List ℕ) (ks rest : List ℕ) → line (word ++ spaced ks) ++ rest ≡ word ++ (spaced ks ++ 10 ∷ rest)
+pub line_parts : (word : List ℕ) (ks rest : List ℕ) → line (word ++ spaced ks) ++ rest ≡ word ++ (spaced ks ++ 10 ∷ rest)
 line_parts word ks rest = append_assoc (word ++ spaced ks) (10 ∷ []) rest ∙ append_assoc word (spaced ks) (10 ∷ rest)
 
 -- the word and the rest of a line are told apart

@@ -39,6 +39,18 @@ fn step_named(keyword: Keyword, operands: Operands) -> Option<Step>
     })
 }
 
+/// The number of nodes, where there is this number alone.
+fn node_count(operands: Operands) -> Option<u32>
+    ensures { MatchOption result
+        ((n : ℕ) → IsNodeCount n → numbers_in operands ≢ n ∷ [])
+        (λ n. IsNodeCount n × (numbers_in operands ≡ n ∷ [])) }
+{
+    match operands {
+        Operands::One(nodes) if 1 <= nodes && nodes <= MAX_NODES => Some(nodes),
+        _ => None,
+    }
+}
+
 /// The number of nodes in the first line of a script, and what stands behind that line.
 pub(crate) fn first_line(text: &[u8]) -> Option<(u32, &[u8])>
     ensures { MatchOption result
@@ -49,10 +61,8 @@ pub(crate) fn first_line(text: &[u8]) -> Option<(u32, &[u8])>
     if word != b"nodes".as_slice() {
         return None;
     }
-    match operands_of(text)? {
-        (Operands::One(nodes), rest) if 1 <= nodes && nodes <= MAX_NODES => Some((nodes, rest)),
-        _ => None,
-    }
+    let (operands, rest) = operands_of(text)?;
+    Some((node_count(operands)?, rest))
 }
 
 /// The step of the first line, and what stands behind that line.
