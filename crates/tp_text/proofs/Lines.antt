@@ -1,5 +1,5 @@
 -- The numbers behind a word, to the end of the line.
-use Rattle.std.proofs.Common.{◌≡◌, ◌≢◌, ℕ, zero, suc, ◌<◌, ◌≤◌, ◌+◌, List, [], ◌∷◌, ◌++◌, length, decimal, refl, sym, ap, ◌∙◌, arith, append_assoc}
+use Rattle.std.proofs.Common.{◌≡◌, ◌≢◌, ℕ, ◌≤◌, ◌+◌, List, [], ◌∷◌, ◌++◌, length, decimal, sym, ap, ◌∙◌, arith, append_assoc}
 use Rattle.std.specs.List.{All}
 use Rattle.tp_text.specs.Spelling.{IsNumber, spaced}
 use Rattle.tp_text.specs.Words.{IsDigit, BeginsWithout}

@@ -64,7 +64,7 @@ no_named text word a k os after h is found none (s, rest, p, e) =
 pub no_nodes : (text word a : List ℕ) → Splits IsWordByte text word a → word ≢ codes "nodes" → ¬ BeginsWithNodes text
 no_nodes text word a h none (n, rest, p, e) = none (one_word text word a (codes "nodes") (n ∷ []) rest h refl e).0
 
-is_number : (n : ℕ) → IsNodeCount n → All IsNumber (n ∷ [])
+pub is_number : (n : ℕ) → IsNodeCount n → All IsNumber (n ∷ [])
 is_number n p = All-cons IsNumber n [] (omega (arith, p.1)) (All-nil IsNumber)
 
 pub no_count : (text word a : List ℕ) → Splits IsWordByte text word a

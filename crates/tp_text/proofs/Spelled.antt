@@ -1,5 +1,5 @@
 -- A line is spelled by one step, and a step by one line.
-use Rattle.std.proofs.Common.{◌≡◌, ◌≢◌, ℕ, zero, suc, ◌<◌, ◌≤◌, ◌+◌, Bool, true, false, cond, eqb, not, ◌&&◌, List, [], ◌∷◌, ◌++◌, length, get_or, decimal, codes, refl, sym, ap, ◌∙◌, subst, arith, append_assoc}
+use Rattle.std.proofs.Common.{◌≡◌, ℕ, Bool, true, cond, eqb, not, ◌&&◌, List, [], ◌∷◌, ◌++◌, get_or, decimal, codes, refl, sym, ap, ◌∙◌, arith, append_assoc}
 use Rattle.std.proofs.lemmas.Bool.{and_parts}
 use Rattle.std.proofs.lemmas.Bool.Decides.{nat_tests}
 use Rattle.std.specs.List.{All}
@@ -9,8 +9,8 @@ use Rattle.tp_base.specs.declared.Step.TheVariants as steps
 use Rattle.tp_text.specs.declared.keyword.Keyword.{Keyword}
 use Rattle.tp_text.specs.declared.keyword.Keyword.TheVariants as keywords
 use Rattle.tp_text.specs.Keywords.{keyword_text}
-use Rattle.tp_text.specs.Script.{step_line, nodes_line}
-use Rattle.tp_text.specs.Spelling.{IsNumber, IsSpelled, spaced, line, spelling, word_of, numbers_of}
+use Rattle.tp_text.specs.Script.{step_line}
+use Rattle.tp_text.specs.Spelling.{IsNumber, IsSpelled, spaced, line, word_of, numbers_of}
 use Rattle.tp_text.specs.Words.{IsWordByte, BeginsWithout, Splits}
 use Rattle.tp_text.proofs.Lines.{ends_number}
 use Rattle.tp_text.proofs.Numbers.{one_number}
@@ -64,7 +64,7 @@ keyword_of_step (steps.Give i) = (keywords.Give, refl)
 keyword_of_step (steps.Up i) = (keywords.Up, refl)
 keyword_of_step steps.Judge = (keywords.Judge, refl)
 
-ends_word : (ks rest : List ℕ) → BeginsWithout IsWordByte (spaced ks ++ 10 ∷ rest)
+pub ends_word : (ks rest : List ℕ) → BeginsWithout IsWordByte (spaced ks ++ 10 ∷ rest)
 ends_word [] rest = λ h. h.1 refl
 ends_word (k ∷ ks) rest = λ h. h.0 refl
 
@@ -132,6 +132,6 @@ step_again steps.Judge = refl
 pub same_step : (s t : Step) (a b : List ℕ) → IsSpelled s → IsSpelled t → step_line s ++ a ≡ step_line t ++ b → (s ≡ t) × (a ≡ b)
 same_step s t a b p q e =
     let words = one_word (step_line s ++ a) (word_of s) (spaced (numbers_of s) ++ 10 ∷ a) (word_of t) (numbers_of t) b
-      (line_parts (word_of s) (numbers_of s) a, word_bytes (word_of s) (step_word s), ends_word (numbers_of s) a) (step_word t) e in
+    (line_parts (word_of s) (numbers_of s) a, word_bytes (word_of s) (step_word s), ends_word (numbers_of s) a) (step_word t) e in
     let numbers = same_numbers (numbers_of s) (numbers_of t) a b p.0 q.0 words.1 in
     (sym (step_again s) ∙ ap (λ w. step_spelled w (numbers_of s)) words.0 ∙ ap (step_spelled (word_of t)) numbers.0 ∙ step_again t, numbers.1)

@@ -1,18 +1,18 @@
 -- A text splits in one way where its first part has bytes of one kind and its second begins without one.
-use Rattle.std.proofs.Common.{◌≡◌, ◌≢◌, ℕ, zero, suc, ◌<◌, List, [], ◌∷◌, ◌++◌, length, get_or, refl, sym, ap, subst, arith}
+use Rattle.std.proofs.Common.{◌≡◌, ℕ, zero, suc, List, [], ◌∷◌, ◌++◌, refl, sym, subst, arith}
 use Rattle.std.specs.List.{All}
 use Rattle.tp_text.specs.Words.{BeginsWithout}
 
-pub All-nil : (P : ℕ → Type 0) → All P []
+pub All-nil : {X : Type 0} (P : X → Type 0) → All P []
 All-nil P k d h = absurd (omega arith)
 
-pub All-head : (P : ℕ → Type 0) (x : ℕ) (xs : List ℕ) → All P (x ∷ xs) → P x
-All-head P x xs h = h zero 0 (omega arith)
+pub All-head : {X : Type 0} (P : X → Type 0) (x : X) (xs : List X) → All P (x ∷ xs) → P x
+All-head P x xs h = h zero x (omega arith)
 
-pub All-tail : (P : ℕ → Type 0) (x : ℕ) (xs : List ℕ) → All P (x ∷ xs) → All P xs
+pub All-tail : {X : Type 0} (P : X → Type 0) (x : X) (xs : List X) → All P (x ∷ xs) → All P xs
 All-tail P x xs h = λ k d l. h (suc k) d (omega arith)
 
-pub All-cons : (P : ℕ → Type 0) (x : ℕ) (xs : List ℕ) → P x → All P xs → All P (x ∷ xs)
+pub All-cons : {X : Type 0} (P : X → Type 0) (x : X) (xs : List X) → P x → All P xs → All P (x ∷ xs)
 All-cons P x xs p h zero d l = p
 All-cons P x xs p h (suc k) d l = h k d (omega arith)
 

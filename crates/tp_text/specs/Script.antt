@@ -44,3 +44,8 @@ abbrev pub HasFaultAt : List ℕ → ℕ → Type 0
 HasFaultAt bytes l =
     ((l ≡ 1) × ¬ BeginsWithNodes bytes)
     ⊎ ((n : ℕ) × (steps : List Step) × (rest : List ℕ) × StopsAfter bytes n steps rest × (l ≡ length steps + 2))
+
+-- Bytes are the script of one list of steps at most.
+abbrev pub ScriptsAreDetermined : Type 0
+ScriptsAreDetermined = (bytes : List ℕ) (n m : ℕ) (steps others : List Step)
+    → IsScript bytes n steps → IsScript bytes m others → (n ≡ m) × (steps ≡ others)

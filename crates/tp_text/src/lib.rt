@@ -4,10 +4,12 @@
 mod fault;
 mod input;
 mod keyword;
+mod laws;
 mod number;
 mod parse;
 mod verdict;
 mod words;
 
 pub use fault::TextFault;
+pub use laws::scripts_are_determined;
 pub use verdict::Verdict;

@@ -15,7 +15,7 @@ fn step_named(keyword: Keyword, operands: Operands) -> Option<Step>
     ensures { MatchOption result
         ((s : Step) → IsSpelled s → word_of s ≡ keyword_text keyword → numbers_of s ≢ numbers_in operands)
         (λ s. (All IsNumber (numbers_in operands) → IsSpelled s)
-            × (word_of s ≡ keyword_text keyword) × (numbers_of s ≡ numbers_in operands)) }
+        × (word_of s ≡ keyword_text keyword) × (numbers_of s ≡ numbers_in operands)) }
 {
     Some(match (keyword, operands) {
         (Keyword::Insert, Operands::Three(i, t, k)) if k <= 16 => {

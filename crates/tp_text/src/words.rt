@@ -39,7 +39,7 @@ fn next_number(text: &[u8]) -> Option<(u32, &[u8])>
     ensures { MatchOption result
         ((k : ℕ) (rest : List ℕ) → IsNumber k → BeginsWithout IsDigit rest → text.now ≢ 32 ∷ (decimal k ++ rest))
         (λ found. IsNumber found.0 × BeginsWithout IsDigit found.1.now
-            × (text.now ≡ 32 ∷ (decimal found.0 ++ found.1.now))) }
+        × (text.now ≡ 32 ∷ (decimal found.0 ++ found.1.now))) }
 {
     match text {
         [b' ', rest @ ..] => leading_number(rest),

@@ -8,7 +8,7 @@ pub returns-in_err-step_named : goal.returns-in_err-step_named
 returns-in_err-step_named c =
     rw c.from_residual-in_err-step_named.ensures
     (no_named _ _ _ c.in_ok-keyword.keyword c.in_ok-operands.operands c.in_ok-operands.rest.now
-      c.first_word.ensures c.in_ok-keyword.ensures c.in_ok-operands.ensures c.in_err-step_named.ensures)
+    c.first_word.ensures c.in_ok-keyword.ensures c.in_ok-operands.ensures c.in_err-step_named.ensures)
 
 pub returns-in_err-operands : goal.returns-in_err-operands
 returns-in_err-operands c = rw c.from_residual-in_err-operands.ensures (no_operands _ _ _ c.first_word.ensures c.in_err-operands.ensures)
