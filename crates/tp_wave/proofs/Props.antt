@@ -2,11 +2,13 @@ use Rattle.std.proofs.Props.{props}
 use Rattle.std.proofs.Common.{ℕ, [], ◌∷◌, List}
 use Rattle.tp_base.specs.declared.Step.{Step}
 use Rattle.tp_base.specs.declared.Step.TheVariants.{Insert}
-use Rattle.tp_wave.specs.Control.{IsDue}
+use Rattle.tp_wave.specs.Control.{IsDue, AreLawfulWaves}
+use Rattle.tp_wave.specs.Wave.{Follows}
+use Rattle.tp_wave.specs.declared.wave.Wave.{Wave}
 use Rattle.tp_base.specs.History.{Event}
 use Rattle.tp_wave.specs.Machine.{History, IsOf, Needs, IsNext, IsRun}
 
--- A run is a fact: it has one proof at most, so a type can keep it.
+-- Each is a fact that has one proof at most, so a type can keep it: a run, and what a wave follows.
 
 IsDue-prop : (n : ℕ) (steps : List Step) (s : Step) → IsProp (IsDue n steps s)
 IsDue-prop n steps (Insert i t k) = hlevel props
@@ -26,3 +28,10 @@ IsNext-prop n past e = hlevel (props, IsOf-prop, Needs-prop, IsDue-prop)
 pub IsRun-prop : (n : ℕ) (h : History) → IsProp (IsRun n h)
 IsRun-prop n [] = hlevel
 IsRun-prop n (e ∷ past) = hlevel (IsNext-prop n past e, IsRun-prop n past)
+
+AreLawfulWaves-prop : (n : ℕ) (steps : List Step) → IsProp (AreLawfulWaves n steps)
+AreLawfulWaves-prop n [] = hlevel
+AreLawfulWaves-prop n (s ∷ past) = hlevel (props, IsDue-prop n past s, AreLawfulWaves-prop n past)
+
+pub Follows-prop : (n : ℕ) (steps : List Step) (w : Wave) → IsProp (Follows n steps w)
+Follows-prop n steps w = hlevel (props, AreLawfulWaves-prop n steps)

@@ -13,10 +13,12 @@ use Rattle.tp_wave.specs.Control.{parent, in_wave, is_reached, has_ended, is_con
 abbrev pub Check : Type 0
 Check = Bool × Refusal
 
+-- what the first check that holds refuses the step for
 abbrev pub first_refusal : List Check → Option Refusal
 first_refusal [] = None
 first_refusal (c ∷ cs) = if c.0 then Some c.1 else first_refusal cs
 
+-- There is no node i.
 abbrev pub is_outside : ℕ → ℕ → Bool
 is_outside n i = not (nat_lt i n)
 
@@ -32,11 +34,13 @@ lacks_token i past = (i == 0) || (in_wave (is_down i) past || not (is_reached (p
 abbrev pub lacks_child : ℕ → ℕ → List Step → Bool
 lacks_child n c past = nat_lt c n && not (in_wave (is_up c) past)
 
+-- The newest wave has not come to node i, or the node gave in it, or the sums of a child were not taken.
 abbrev pub cannot_give : ℕ → ℕ → List Step → Bool
 cannot_give n i past =
     not (is_reached i past)
     || (in_wave (is_give i) past || (lacks_child n (2 * i + 1) past || lacks_child n (2 * i + 2) past))
 
+-- Node i is the root, or has not given in the newest wave, or its sums were taken.
 abbrev pub lacks_sums : ℕ → List Step → Bool
 lacks_sums i past = (i == 0) || (not (in_wave (is_give i) past) || in_wave (is_up i) past)
 
@@ -44,13 +48,18 @@ lacks_sums i past = (i == 0) || (not (in_wave (is_give i) past) || in_wave (is_u
 abbrev pub lacks_ended_wave : List Step → Bool
 lacks_ended_wave past = not (has_ended past) || in_wave is_judge past
 
+-- the checks in their order, where it is known whether the end was judged
+abbrev pub wave_checks : ℕ → Bool → List Step → Step → List Check
+wave_checks n ended past Start = (ended, Ended) ∷ (is_wave_open past, WaveOpen) ∷ []
+wave_checks n ended past (Down i) = (is_outside n i.0, NoNode) ∷ (ended, Ended) ∷ (lacks_token i.0 past, NoToken) ∷ []
+wave_checks n ended past (Give i) = (is_outside n i.0, NoNode) ∷ (ended, Ended) ∷ (cannot_give n i.0 past, NoToken) ∷ []
+wave_checks n ended past (Up i) = (is_outside n i.0, NoNode) ∷ (ended, Ended) ∷ (lacks_sums i.0 past, NoToken) ∷ []
+wave_checks n ended past Judge = (ended, Ended) ∷ (lacks_ended_wave past, WaveNotEnded) ∷ []
+wave_checks n ended past _ = []
+
+-- the checks after these steps
 abbrev pub control_checks : ℕ → List Step → Step → List Check
-control_checks n past Start = (is_ended n past, Ended) ∷ (is_wave_open past, WaveOpen) ∷ []
-control_checks n past (Down i) = (is_outside n i.0, NoNode) ∷ (is_ended n past, Ended) ∷ (lacks_token i.0 past, NoToken) ∷ []
-control_checks n past (Give i) = (is_outside n i.0, NoNode) ∷ (is_ended n past, Ended) ∷ (cannot_give n i.0 past, NoToken) ∷ []
-control_checks n past (Up i) = (is_outside n i.0, NoNode) ∷ (is_ended n past, Ended) ∷ (lacks_sums i.0 past, NoToken) ∷ []
-control_checks n past Judge = (is_ended n past, Ended) ∷ (lacks_ended_wave past, WaveNotEnded) ∷ []
-control_checks n past _ = []
+control_checks n past s = wave_checks n (is_ended n past) past s
 
 -- what a control step is refused for after these steps, where no idleness is asked for
 abbrev pub control_refusal : ℕ → List Step → Step → Option Refusal

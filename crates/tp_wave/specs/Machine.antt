@@ -5,9 +5,11 @@ use Rattle.tp_base.specs.declared.Step.TheVariants.{Insert, Done, ActionOpen, Ac
 use Rattle.tp_wave.specs.Steps.{any}
 use Rattle.tp_wave.specs.Control.{is_control, IsControlStep}
 
+-- the node beside which the step stands
 abbrev pub node_of : Event → ℕ
 node_of e = e.0.0
 
+-- the step itself
 abbrev pub step_of : Event → Step
 step_of e = e.1
 
@@ -15,6 +17,7 @@ step_of e = e.1
 abbrev pub History : Type 0
 History = List Event
 
+-- the steps alone
 abbrev pub steps_of : History → List Step
 steps_of [] = []
 steps_of (e ∷ past) = step_of e ∷ steps_of past
@@ -41,6 +44,7 @@ under_way_after (Send i j m) under = under + 1
 under_way_after (Recv j m) under = under - 1
 under_way_after _ under = under
 
+-- the number of messages under way, over all links
 abbrev pub under_way : List Step → ℕ
 under_way [] = 0
 under_way (s ∷ past) = under_way_after s (under_way past)

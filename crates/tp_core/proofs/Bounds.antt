@@ -1,0 +1,127 @@
+-- No counter of a core leaves its type.
+use Rattle.std.proofs.Common.{ℕ, zero, suc, ◌+◌, ◌≡◌, ◌<◌, ◌≤◌, List, [], ◌∷◌, Bool, true, false, Some, length, refl, ap, ◌∙◌, arith, zero-le}
+use Rattle.std.proofs.lemmas.Bool.Decides.{nat_tests}
+use Rattle.std.specs.Prelude.{not, if◌then◌else◌}
+use Rattle.std.specs.List.{slice_index_or}
+use Rattle.tp_base.specs.declared.Step.{Step}
+use Rattle.tp_base.specs.declared.limits.TheConstants.{MAX_STEPS, MAX_NODES}
+use Rattle.tp_wave.specs.Steps.{count, is_send_of, is_recv_at}
+use Rattle.tp_core.specs.declared.accepting.Core.TheInside.{Inside}
+use Rattle.tp_core.specs.declared.held.Held.{Held}
+use Rattle.tp_core.specs.declared.life.Life.{Life}
+use Rattle.tp_core.specs.declared.life.Life.TheVariants as life
+use Rattle.tp_core.specs.declared.numbers.NodeNumbers.{NodeNumbers}
+use Rattle.tp_core.specs.World.{World, Task, Action, Kind, is_action, is_message, is_open, is_done, is_at, is_unfinished_at, how_many, openings, pending}
+use Rattle.tp_core.specs.Pool.{with_life, without, after}
+use Rattle.tp_core.specs.Run.{world}
+use Rattle.tp_core.specs.Accepted.{world_of}
+use Rattle.tp_core.specs.Kept.{accepted, IsKept, all_left, is_kept_open, is_posted, is_under_way_stage}
+use Rattle.tp_core.specs.Table.{lookup}
+use Rattle.tp_core.proofs.Counting.{active_home, active_open, some_message}
+use Rattle.tp_core.proofs.Sets.{lists_are_sets}
+use Rattle.tp_core.proofs.Keeping.{zeros}
+use Rattle.tp_core.proofs.Reading.{Lives}
+
+pub length-openings : (n : ℕ) → length (openings n) ≡ n
+length-openings zero = refl
+length-openings (suc n) = grind (arith, length-openings n)
+
+how_many-with_life : (p : Task → Bool) (t : ℕ) (f : Life → Life) (xs : List Task) → how_many p (with_life t f xs) ≤ how_many p xs + 1
+how_many-with_life p t f [] = zero-le
+how_many-with_life p t f (x ∷ xs) = grind (arith, how_many-with_life p t f xs)
+
+length-without-le : {A : Type 0} (p : A → Bool) (xs : List A) → length (without p xs) ≤ length xs
+length-without-le p [] = zero-le
+length-without-le p (x ∷ xs) = grind (arith, length-without-le p xs)
+
+left_after : (s : Step) (w : World) → all_left (after s w) ≤ all_left w + 1
+left_after s w = grind (arith, how_many-with_life, length-without-le {A = Action})
+
+left_bound : (n : ℕ) (steps : List Step) → all_left (world n steps) ≤ length steps + n
+left_bound n [] = let e = length-openings n in omega arith
+left_bound n (s ∷ past) = let one = left_after s (world n past) in let rest = left_bound n past in omega arith
+
+messages_after : (s : Step) (w : World) → length (after s w).messages ≤ length w.messages + 1
+messages_after s w = grind (arith, length-without-le)
+
+messages_bound : (n : ℕ) (steps : List Step) → length (world n steps).messages ≤ length steps
+messages_bound n [] = zero-le
+messages_bound n (s ∷ past) = let one = messages_after s (world n past) in let rest = messages_bound n past in omega arith
+
+count_bound : (test : Step → Bool) (steps : List Step) → count test steps ≤ length steps
+count_bound test [] = zero-le
+count_bound test (s ∷ past) = grind (arith, count_bound test past)
+
+fewer_tasks : (i : ℕ) (xs : List Task) → how_many (is_unfinished_at i) xs ≤ how_many (λ x. not (is_done x.life)) xs
+fewer_tasks i [] = zero-le
+fewer_tasks i (x ∷ xs) = grind (arith, fewer_tasks i xs)
+
+fewer_actions : (i : ℕ) (xs : List Action) → how_many (is_at i) xs ≤ length xs
+fewer_actions i [] = zero-le
+fewer_actions i (x ∷ xs) = grind (arith, fewer_actions i xs)
+
+pending-le-left : (i : ℕ) (w : World) → pending i w ≤ all_left w
+pending-le-left i w = let tasks = fewer_tasks i w.tasks in let actions = fewer_actions i w.actions in omega arith
+
+-- how large what a core counts can be
+pub record AreSmall (x : NodeNumbers) (all under_way : ℕ) : Type 0 where
+  pub pending : x.pending ≤ all
+  pub left : all ≤ MAX_STEPS + MAX_NODES
+  pub sent : x.sent ≤ MAX_STEPS
+  pub received : x.received ≤ MAX_STEPS
+  pub under : under_way ≤ MAX_STEPS
+
+pub small : {c : Inside} → IsKept c → (i : ℕ) → i < MAX_NODES → AreSmall (slice_index_or c.numbers i zeros) c.left c.under
+small {c} agree i low =
+    let steps = (accepted c).steps in
+    let w = world c.nodes steps in
+    let within = agree.within in
+    let few = agree.few_nodes in
+    record {
+      pending = rw (agree.numbers.each i zeros low, agree.left) (pending-le-left i w);
+      left = rw agree.left (let bound = left_bound c.nodes steps in omega arith);
+      sent = rw (agree.numbers.each i zeros low) (let bound = count_bound (is_send_of i) steps in omega arith);
+      received = rw (agree.numbers.each i zeros low) (let bound = count_bound (is_recv_at i) steps in omega arith);
+      under = rw agree.under (let bound = messages_bound c.nodes steps in omega arith);
+    }
+
+lowered : {c : Inside} → IsKept c → (i : ℕ) → i < MAX_NODES → 0 < pending i (world_of (accepted c)) → (1 ≤ (slice_index_or c.numbers i zeros).pending) × (1 ≤ c.left)
+lowered {c} agree i low active =
+    let here : 1 ≤ (slice_index_or c.numbers i zeros).pending = rw (agree.numbers.each i zeros low) active in
+    let bound = (small agree i low).pending in (here, omega arith)
+
+-- a running task may be done: what it counts is above 0
+pub record MayEnd (c : Inside) (i : ℕ) : Type 0 where
+  pub pending : 1 ≤ (slice_index_or c.numbers i zeros).pending
+  pub left : 1 ≤ c.left
+
+pub may_end : {c : Inside} {t : ℕ} {h : Held} → IsKept c → Lives c t h → h.life ≡ life.Running → MayEnd c h.home.0
+may_end {c} {t} {h} agree task runs =
+    let active = active_home t (world_of (accepted c)) life.Running (task.life ∙ ap Some runs) refl in
+    let both = lowered agree h.home.0 task.inside (rw (← task.home) active) in
+    record { pending = both.0; left = both.1 }
+
+-- an open action may close: it is there once, and what it counts is above 0
+pub record MayClose (c : Inside) (i : ℕ) (kind : Kind) : Type 0 where
+  pub inside : i < MAX_NODES
+  pub there : is_open i kind (world_of (accepted c)) ≡ true
+  pub once : how_many (is_action i kind) (world_of (accepted c)).actions ≤ 1
+  pub pending : 1 ≤ (slice_index_or c.numbers i zeros).pending
+  pub left : 1 ≤ c.left
+
+pub may_close : {c : Inside} → IsKept c → (i : ℕ) → i < c.nodes → (kind : Kind) → is_kept_open c.opening c.named c.messages i kind ≡ true → MayClose c i kind
+may_close {c} agree i below kind open' =
+    let few = agree.few_nodes in
+    let there = agree.actions.are_open i kind ∙ open' in
+    let both = lowered agree i (omega arith) (active_open i kind (world_of (accepted c)) there) in
+    record {
+      inside = omega arith;
+      there = there;
+      once = (lists_are_sets c.nodes (accepted c).steps agree.is_run).actions i kind;
+      pending = both.0;
+      left = both.1;
+    }
+
+-- a message that is under way is counted
+pub may_receive : {c : Inside} → IsKept c → (m j : ℕ) → is_posted is_under_way_stage j (lookup c.messages m) ≡ true → 1 ≤ c.under
+may_receive {c} agree m j there = rw agree.under (some_message (is_message m j) (world_of (accepted c)).messages (agree.messages.under_way m j ∙ there))

@@ -1,0 +1,139 @@
+-- What a core keeps goes on to be what its steps say.
+use Rattle.std.proofs.Common.{ℕ, zero, suc, ◌+◌, ◌-◌, ◌≡◌, ◌<◌, ◌≤◌, List, [], ◌∷◌, ◌++◌, Bool, true, false, Option, Some, None, length, reverse, refl, ap, sym, subst, ◌∙◌, arith, is_some, zero-le, set, length-set, eqb-true}
+use Rattle.std.proofs.lemmas.Bool.Decides.{nat_tests}
+use Rattle.std.proofs.lemmas.List.{reverse-append, length-reverse}
+use Rattle.std.specs.Prelude.{◌==◌, ◌&&◌, not, if◌then◌else◌}
+use Rattle.std.specs.List.{find, list_any, slice_index_or}
+use Rattle.std.specs.Option.{option_map}
+use Rattle.tp_base.specs.declared.Step.{Step}
+use Rattle.tp_base.specs.declared.Step.TheVariants.{Insert, Supply, Begin, Done, ActionOpen, ActionClose, Ready, Send, Recv, MessageEnd}
+use Rattle.tp_base.specs.declared.limits.TheConstants.{MAX_STEPS, MAX_NODES}
+use Rattle.tp_wave.specs.Steps.{count, is_send_of, is_recv_at}
+use Rattle.tp_wave.specs.Machine.{pending_after, under_way_after}
+use Rattle.tp_core.specs.declared.accepting.Core.TheInside.{Inside}
+use Rattle.tp_core.specs.declared.life.Life.{Life}
+use Rattle.tp_core.specs.declared.life.Life.TheVariants as life
+use Rattle.tp_core.specs.declared.numbers.NodeNumbers.{NodeNumbers}
+use Rattle.tp_core.specs.World.{World, Task, Action, Message, Kind, Opening, Named, OfMessage, is_action, is_message, is_done, is_at, is_unfinished_at, how_many, openings, pending}
+use Rattle.tp_core.specs.Pool.{with_life, without, supplied, after}
+use Rattle.tp_core.specs.Run.{world, node_of, IsLawful}
+use Rattle.tp_core.specs.Accepted.{Accepted, world_of, with_step, numbers_at}
+use Rattle.tp_core.specs.Kept.{accepted, Agree, IsKept, HasTasks, HasActions, HasMessages, HasNumbers, all_left}
+use Rattle.tp_core.proofs.Counting.{life_in, one_if, pending_step, not_done-lacking, length-without}
+use Rattle.tp_core.proofs.Written.{written}
+
+-- ---- the numbers of the nodes
+abbrev sent_after : Step → ℕ → ℕ
+sent_after (Send i j m) k = k + 1
+sent_after _ k = k
+
+abbrev received_after : Step → ℕ → ℕ
+received_after (Recv j m) k = k + 1
+received_after _ k = k
+
+-- how a step moves the numbers of its node
+abbrev pub moved : Step → NodeNumbers → NodeNumbers
+moved s x = record { pending = pending_after s x.pending; sent = sent_after s x.sent; received = received_after s x.received }
+
+if_same : (b : Bool) (x : ℕ) → (if b then x else x) ≡ x
+if_same true x = refl
+if_same false x = refl
+
+sent_step : (w : World) (s : Step) (i k : ℕ) → (if is_send_of i s then k + 1 else k) ≡ (if node_of w s == i then sent_after s k else k)
+sent_step w (Send a b m) i k = refl
+sent_step w (s) i k = sym (if_same _ _)
+
+received_step : (w : World) (s : Step) (i k : ℕ) → (if is_recv_at i s then k + 1 else k) ≡ (if node_of w s == i then received_after s k else k)
+received_step w (Recv j m) i k = refl
+received_step w (s) i k = sym (if_same _ _)
+
+joined : (b : Bool) (p q : ℕ) (x y : NodeNumbers) → (◌≡◌ {A = NodeNumbers} (record { pending = if b then x.pending else y.pending; sent = if b then x.sent else y.sent; received = if b then x.received else y.received }) (if b then x else y))
+joined true p q x y = refl
+joined false p q x y = refl
+
+numbers_step : (a : Accepted) (s : Step) (i : ℕ) → IsLawful a.nodes a.steps s
+    → numbers_at i (with_step a s) ≡ (if node_of (world_of a) s == i then moved s (numbers_at i a) else numbers_at i a)
+numbers_step a s i lawful =
+    rw (pending_step a.nodes a.steps s i lawful, sent_step (world_of a) s i (count (is_send_of i) a.steps), received_step (world_of a) s i (count (is_recv_at i) a.steps))
+    (joined (node_of (world_of a) s == i) 0 0 (moved s (numbers_at i a)) (numbers_at i a))
+
+-- the numbers of a node that has none
+abbrev pub zeros : NodeNumbers
+zeros = record { pending = 0; sent = 0; received = 0 }
+
+-- a step that moves no number
+pub numbers_stay : {a : Accepted} {xs : List NodeNumbers} (s : Step) → HasNumbers xs a → IsLawful a.nodes a.steps s → ((x : NodeNumbers) → moved s x ≡ x)
+    → HasNumbers xs (with_step a s)
+numbers_stay {a} {xs} s kept lawful stay =
+    record { size = kept.size; each = λ i d low. kept.each i d low ∙ sym (numbers_step a s i lawful ∙ rw (stay (numbers_at i a)) (choose i (node_of (world_of a) s == i))) }
+  where
+    choose : (i : ℕ) (b : Bool) → (if b then numbers_at i a else numbers_at i a) ≡ numbers_at i a
+    choose i true = refl
+    choose i false = refl
+
+-- a step that moves the numbers of node j
+pub numbers_written : {a : Accepted} {xs : List NodeNumbers} (s : Step) → HasNumbers xs a → IsLawful a.nodes a.steps s → (j : ℕ) (v : NodeNumbers) → j < MAX_NODES
+    → j ≡ node_of (world_of a) s → v ≡ moved s (slice_index_or xs j zeros) → HasNumbers (set xs j v) (with_step a s)
+numbers_written {a} {xs} s kept lawful j v low at is = record { size = length-set _ _ _ ∙ kept.size; each = each }
+  where
+    choose : (i : ℕ) (b : Bool) → (j == i) ≡ b → (if b then moved s (numbers_at j a) else numbers_at i a) ≡ (if b then moved s (numbers_at i a) else numbers_at i a)
+    choose i true same = ap (λ k. moved s (numbers_at k a)) (eqb-true j i same)
+    choose i false same = refl
+
+    each : (i : ℕ) (d : NodeNumbers) → i < MAX_NODES → slice_index_or (set xs j v) i d ≡ numbers_at i (with_step a s)
+    each i d inside =
+        let step : numbers_at i (with_step a s) ≡ (if j == i then moved s (numbers_at i a) else numbers_at i a) = rw at (numbers_step a s i lawful) in
+        let size = kept.size in
+        let now : slice_index_or (set xs j v) i d ≡ (if j == i then moved s (numbers_at j a) else numbers_at i a) =
+        rw (written xs j i v d (omega arith), is, kept.each j zeros low, kept.each i d inside) refl in
+        now ∙ choose i (j == i) refl ∙ sym step
+
+-- ---- what is left
+left-with_life : (t : ℕ) (f : Life → Life) (l : Life) (xs : List Task) → life_in t xs ≡ Some l
+    → how_many (λ x. not (is_done x.life)) (with_life t f xs) + one_if (not (is_done l)) ≡ how_many (λ x. not (is_done x.life)) xs + one_if (not (is_done (f l)))
+left-with_life t f l [] h = grind arith
+left-with_life t f l (x ∷ xs) h = grind (arith, left-with_life t f l xs)
+
+left_step : (n : ℕ) (past : List Step) (s : Step) → IsLawful n past s → all_left (after s (world n past)) ≡ pending_after s (all_left (world n past))
+left_step n past (Insert i t k) r = grind (arith, not_done-lacking k.count)
+left_step n past (Supply t) r =
+    let e = left-with_life t.0 supplied (life.Waiting r.0) (world n past).tasks r.1 in grind (arith, e, not_done-lacking (r.0 - 1))
+left_step n past (Begin t) r = let e = left-with_life t.0 (λ _. life.Running) life.Ready (world n past).tasks r in grind (arith, e)
+left_step n past (Done t) r = let e = left-with_life t.0 (λ _. life.Done) life.Running (world n past).tasks r in grind (arith, e)
+left_step n past (ActionOpen i a) r = grind arith
+left_step n past (ActionClose i a) r = let e = length-without (is_action i.0 (Named a.0)) (world n past).actions r.1 in grind (arith, e)
+left_step n past (Ready i) r = let e = length-without (is_action i.0 Opening) (world n past).actions r.1 in grind (arith, e)
+left_step n past (Recv j m) r = grind arith
+left_step n past (MessageEnd j m) r = let e = length-without (is_action j.0 (OfMessage m.0)) (world n past).actions r.1 in grind (arith, e)
+left_step n past (s) r = refl
+
+under_step : (n : ℕ) (past : List Step) (s : Step) → IsLawful n past s → length (after s (world n past)).messages ≡ under_way_after s (length (world n past).messages)
+under_step n past (Send i j m) r = grind arith
+under_step n past (Recv j m) r = let e = length-without (is_message m.0 j.0) (world n past).messages r.1 in grind (arith, e)
+under_step n past (s) r = refl
+
+-- ---- all of it
+accepted_next : (c d : Inside) (s : Step) → d.nodes ≡ c.nodes → d.steps.items ≡ c.steps.items ++ s ∷ [] → accepted d ≡ with_step (accepted c) s
+accepted_next c d s nodes pushed = rw (nodes, pushed, reverse-append c.steps.items (s ∷ [])) refl
+
+pub agree_next : {c d : Inside} {mid : List Step} (s : Step) → IsKept c → IsLawful c.nodes (accepted c).steps s → length c.steps.items < MAX_STEPS
+    → d.nodes ≡ c.nodes → mid ≡ c.steps.items → d.steps.items ≡ mid ++ s ∷ []
+    → HasNumbers d.numbers (with_step (accepted c) s)
+    → d.left ≡ pending_after s c.left → d.under ≡ under_way_after s c.under
+    → HasTasks d.tasks (after s (world_of (accepted c))).tasks
+    → HasActions d.opening d.named d.messages (after s (world_of (accepted c))).actions
+    → HasMessages d.messages (after s (world_of (accepted c))).messages (after s (world_of (accepted c))).numbers
+    → IsKept d
+agree_next {c} {d} s agree lawful room nodes stay pushed numbers left under tasks actions messages =
+    subst (λ a. Agree a d) (sym (accepted_next c d s nodes (rw stay at pushed))) record {
+      some_node = agree.some_node;
+      few_nodes = agree.few_nodes;
+      is_run = (lawful, agree.is_run);
+      within = rw (length-reverse c.steps.items) (omega arith);
+      numbers = numbers;
+      left = left ∙ rw agree.left (sym (left_step c.nodes (accepted c).steps s lawful));
+      under = under ∙ rw agree.under (sym (under_step c.nodes (accepted c).steps s lawful));
+      tasks = tasks;
+      actions = actions;
+      messages = messages;
+    }

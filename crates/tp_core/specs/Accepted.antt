@@ -1,0 +1,110 @@
+-- What a core has accepted, and what it answers to the next step.
+use Rattle.std.specs.Prelude.{Bool, true, false, IsFalse, ℕ, ◌==◌, ◌≡◌, ◌<◌, List, [], ◌∷◌, ◌++◌, nat_le, is_some, length, Option, Some, None, Result, Ok, Err, if◌then◌else◌}
+use Rattle.std.specs.List.{list_any}
+use Rattle.tp_base.specs.declared.limits.TheConstants.{MAX_STEPS}
+use Rattle.tp_base.specs.declared.Refusal.{Refusal}
+use Rattle.tp_base.specs.declared.Refusal.TheVariants.{HistoryFull, NoMemory}
+use Rattle.tp_base.specs.declared.Step.{Step}
+use Rattle.tp_base.specs.declared.Step.TheVariants.{Give, Judge}
+use Rattle.tp_base.specs.declared.Sums.{Sums}
+use Rattle.tp_wave.specs.Steps.{count, is_send_of, is_recv_at}
+use Rattle.tp_wave.specs.Sums.{waves, sent_sum, received_sum, judgement}
+use Rattle.tp_wave.specs.Checks.{Check, first_refusal}
+use Rattle.tp_core.specs.declared.numbers.NodeNumbers.{NodeNumbers}
+use Rattle.tp_core.specs.declared.reply.Reply.{Reply}
+use Rattle.tp_core.specs.declared.reply.Reply.TheVariants.{Plain, WaveSums, Not, Over}
+use Rattle.tp_core.specs.World.{World, pending}
+use Rattle.tp_core.specs.Run.{world, IsLawful}
+use Rattle.tp_core.specs.Checks.{checks}
+
+-- The steps have the newest first.
+pub record Accepted : Type 0 where
+  pub nodes : ℕ
+  pub steps : List Step
+
+abbrev pub world_of : Accepted → World
+world_of a = world a.nodes a.steps
+
+-- There is room for one more step after so many.
+abbrev pub room_check : ℕ → List Check
+room_check taken = (nat_le MAX_STEPS taken, HistoryFull taken) ∷ []
+
+-- the first check that holds, room being the last one
+abbrev pub refusal : Accepted → Step → Option Refusal
+refusal a s = first_refusal (checks a.nodes a.steps s ++ room_check (length a.steps))
+
+-- The step is refused by the first check that holds, or where none does for want of memory.
+abbrev pub IsRefusedFor : Option Refusal → Refusal → Type 0
+IsRefusedFor (Some first) r = r ≡ first
+IsRefusedFor None r = r ≡ NoMemory
+
+abbrev pub with_step : Accepted → Step → Accepted
+with_step a s = record a { steps = s ∷ a.steps }
+
+-- what the newest wave, which has ended, adds up: each node's counts at its own visit
+abbrev pub sums_of : ℕ → List Step → Sums
+sums_of n steps = record { wave = waves steps; sent = sent_sum n steps; received = received_sum n steps }
+
+-- how a judgement is answered
+abbrev pub judged : Option ℕ → Reply
+judged (Some w) = Over w
+judged None = Not
+
+-- The answer to an accepted step: the sums of the wave where the root gives, the judgement of the four counters, or no more.
+abbrev pub reply_to : ℕ → List Step → Step → Reply
+reply_to n past (Give i) = if i.0 == 0 then WaveSums (sums_of n (Give i ∷ past)) else Plain
+reply_to n past Judge = judged (judgement n past)
+reply_to n past _ = Plain
+
+-- the answer to the step, and what has been accepted after it, where memory is ample
+abbrev pub answered : Accepted → Step → Option Refusal → Result Reply Refusal
+answered a s None = Ok (reply_to a.nodes a.steps s)
+answered a s (Some r) = Err r
+
+abbrev pub answer : Accepted → Step → Result Reply Refusal
+answer a s = answered a s (refusal a s)
+
+abbrev pub next : Accepted → Step → Accepted
+next a s = if is_some (refusal a s) then a else with_step a s
+
+-- What a core that had accepted the old steps answers to the next one, and what it has accepted then.
+abbrev pub Answers : Accepted → Step → Result Reply Refusal → Accepted → Type 0
+Answers old s (Ok reply) new = (refusal old s ≡ None) × (reply ≡ reply_to old.nodes old.steps s) × (new ≡ with_step old s)
+Answers old s (Err r) new = IsRefusedFor (refusal old s) r × (new ≡ old)
+
+-- the answers to several steps, in order, and what has been accepted after them
+abbrev pub answers : Accepted → List Step → List (Result Reply Refusal)
+answers a [] = []
+answers a (s ∷ later) = answer a s ∷ answers (next a s) later
+
+abbrev pub after_all : Accepted → List Step → Accepted
+after_all a [] = a
+after_all a (s ∷ later) = after_all (next a s) later
+
+-- The step is lawful, and there is room for it.
+abbrev pub IsAcceptable : Accepted → Step → Type 0
+IsAcceptable a s = IsLawful a.nodes a.steps s × (length a.steps < MAX_STEPS)
+
+-- what a core answers to several steps, in order
+abbrev pub AnswersAll : Accepted → List Step → List (Result Reply Refusal) → Accepted → Type 0
+AnswersAll old [] [] new = new ≡ old
+AnswersAll old (s ∷ later) (r ∷ rs) new = (mid : Accepted) × Answers old s r mid × AnswersAll mid later rs new
+AnswersAll old [] (r ∷ rs) new = ⊥
+AnswersAll old (s ∷ later) [] new = ⊥
+
+abbrev pub is_no_memory : Result Reply Refusal → Bool
+is_no_memory (Err NoMemory) = true
+is_no_memory _ = false
+
+-- Where no answer was want of memory, the answers and what has been accepted then are functions of the steps.
+abbrev pub RunsAreDetermined : Type 0
+RunsAreDetermined = (old new : Accepted) (steps : List Step) (rs : List (Result Reply Refusal)) → AnswersAll old steps rs new
+    → IsFalse (list_any is_no_memory rs) → (rs ≡ answers old steps) × (new ≡ after_all old steps)
+
+-- the numbers of node i
+abbrev pub numbers_at : ℕ → Accepted → NodeNumbers
+numbers_at i a = record {
+  pending = pending i (world_of a);
+  sent = count (is_send_of i) a.steps;
+  received = count (is_recv_at i) a.steps;
+}

@@ -1,0 +1,10 @@
+pub mod Table
+pub mod NodeSet
+pub mod World
+pub mod Pool
+pub mod Run
+pub mod Checks
+pub mod Laws
+pub mod Accepted
+pub mod Kept
+pub mod NeverEarly

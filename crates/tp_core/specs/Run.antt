@@ -1,0 +1,51 @@
+-- The runs of the core on n nodes. A list of steps has the newest step first.
+use Rattle.std.specs.Prelude.{ℕ, ◌≡◌, List, [], ◌∷◌}
+use Rattle.tp_base.specs.declared.Step.{Step}
+use Rattle.tp_base.specs.declared.Step.TheVariants.{Insert, Supply, Begin, Done, ActionOpen, ActionClose, Ready, Send, Recv, MessageEnd, Start, Down, Give, Up, Judge}
+use Rattle.tp_wave.specs.Control.{IsControlStep}
+use Rattle.tp_wave.specs.Machine.{History}
+use Rattle.tp_core.specs.World.{World, first_world, home_of, pending}
+use Rattle.tp_core.specs.Pool.{MayTake, after}
+
+-- the world after these steps
+abbrev pub world : ℕ → List Step → World
+world n [] = first_world n
+world n (s ∷ past) = after s (world n past)
+
+-- The core may take this step next: a step of the pool by the world, a control step by the list, and no active node
+-- gives its sums.
+abbrev pub IsLawful : ℕ → List Step → Step → Type 0
+IsLawful n past Start = IsControlStep n past Start
+IsLawful n past (Down i) = IsControlStep n past (Down i)
+IsLawful n past (Give i) = IsControlStep n past (Give i) × (pending i.0 (world n past) ≡ 0)
+IsLawful n past (Up i) = IsControlStep n past (Up i)
+IsLawful n past Judge = IsControlStep n past Judge
+IsLawful n past s = MayTake n (world n past) s
+
+-- Each step was lawful when it was taken.
+abbrev pub IsRun : ℕ → List Step → Type 0
+IsRun n [] = Unit {0}
+IsRun n (s ∷ past) = IsLawful n past s × IsRun n past
+
+-- The node beside which a step stands: the home of a task, or the node that the step names first, or the root.
+abbrev pub node_of : World → Step → ℕ
+node_of w (Insert i t k) = i.0
+node_of w (Supply t) = home_of t.0 w
+node_of w (Begin t) = home_of t.0 w
+node_of w (Done t) = home_of t.0 w
+node_of w (ActionOpen i a) = i.0
+node_of w (ActionClose i a) = i.0
+node_of w (Ready i) = i.0
+node_of w (Send i j m) = i.0
+node_of w (Recv j m) = j.0
+node_of w (MessageEnd j m) = j.0
+node_of w Start = 0
+node_of w (Down i) = i.0
+node_of w (Give i) = i.0
+node_of w (Up i) = i.0
+node_of w Judge = 0
+
+-- the steps, each beside its node
+abbrev pub history : ℕ → List Step → History
+history n [] = []
+history n (s ∷ past) = (record { 0 = node_of (world n past) s }, s) ∷ history n past

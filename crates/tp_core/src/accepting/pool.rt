@@ -1,0 +1,244 @@
+ghost use Rattle.std.specs.Prelude.{◌≡◌};
+ghost use Rattle.tp_core.specs.Pool.{lacking as lacking_inputs};
+
+use super::{Core, make_room};
+use crate::held::Held;
+use crate::life::Life;
+use crate::node_set::NodeSet;
+use crate::posted::{Posted, Stage};
+use crate::reply::Reply;
+use tp_base::{ActionId, Inputs, MessageId, NodeId, Refusal, Step, TaskId};
+
+impl Core {
+    ghost use Rattle.tp_core.specs.Accepted.{Answers};
+
+    pub(super) fn insert(
+        &mut self,
+        home: NodeId,
+        task: TaskId,
+        inputs: Inputs,
+    ) -> Result<Reply, Refusal>
+        ensures { Answers self.old (Step.Insert home task inputs) result self.new }
+    {
+        if home.0 >= self.nodes {
+            return Err(Refusal::NoNode);
+        }
+        if self.tasks.get(task.0).is_some() {
+            return Err(Refusal::TaskKnown);
+        }
+        if self.numbers[home.0 as usize].pending == 0 {
+            return Err(Refusal::Inactive);
+        }
+        make_room(&mut self.steps)?;
+        let life = lacking(inputs.get());
+        self.tasks.insert(task.0, Held { home, life })?;
+        self.numbers[home.0 as usize].pending += 1;
+        self.left += 1;
+        self.steps.push_reserved(Step::Insert(home, task, inputs));
+        Ok(Reply::Plain)
+    }
+
+    pub(super) fn supply(&mut self, task: TaskId) -> Result<Reply, Refusal>
+        ensures { Answers self.old (Step.Supply task) result self.new }
+    {
+        let Some(held) = self.tasks.get(task.0) else {
+            return Err(Refusal::NoTask);
+        };
+        let Life::Waiting(missing) = held.life else {
+            return Err(Refusal::WrongLife);
+        };
+        make_room(&mut self.steps)?;
+        let life = lacking(missing - 1);
+        self.tasks.set(task.0, Held { life, ..held });
+        self.steps.push_reserved(Step::Supply(task));
+        Ok(Reply::Plain)
+    }
+
+    pub(super) fn begin(&mut self, task: TaskId) -> Result<Reply, Refusal>
+        ensures { Answers self.old (Step.Begin task) result self.new }
+    {
+        let Some(held) = self.tasks.get(task.0) else {
+            return Err(Refusal::NoTask);
+        };
+        let Life::Ready = held.life else {
+            return Err(Refusal::WrongLife);
+        };
+        make_room(&mut self.steps)?;
+        let life = Life::Running;
+        self.tasks.set(task.0, Held { life, ..held });
+        self.steps.push_reserved(Step::Begin(task));
+        Ok(Reply::Plain)
+    }
+
+    pub(super) fn done(&mut self, task: TaskId) -> Result<Reply, Refusal>
+        ensures { Answers self.old (Step.Done task) result self.new }
+    {
+        let Some(held) = self.tasks.get(task.0) else {
+            return Err(Refusal::NoTask);
+        };
+        let Life::Running = held.life else {
+            return Err(Refusal::WrongLife);
+        };
+        make_room(&mut self.steps)?;
+        let life = Life::Done;
+        self.tasks.set(task.0, Held { life, ..held });
+        self.numbers[held.home.0 as usize].pending -= 1;
+        self.left -= 1;
+        self.steps.push_reserved(Step::Done(task));
+        Ok(Reply::Plain)
+    }
+
+    pub(super) fn open(&mut self, node: NodeId, action: ActionId) -> Result<Reply, Refusal>
+        ensures { Answers self.old (Step.ActionOpen node action) result self.new }
+    {
+        if node.0 >= self.nodes {
+            return Err(Refusal::NoNode);
+        }
+        let nodes = self.named.get(action.0).unwrap_or(NodeSet::new());
+        if nodes.has(node) {
+            return Err(Refusal::ActionKnown);
+        }
+        if self.numbers[node.0 as usize].pending == 0 {
+            return Err(Refusal::Inactive);
+        }
+        make_room(&mut self.steps)?;
+        self.named.insert(action.0, nodes.with(node))?;
+        self.numbers[node.0 as usize].pending += 1;
+        self.left += 1;
+        self.steps.push_reserved(Step::ActionOpen(node, action));
+        Ok(Reply::Plain)
+    }
+
+    pub(super) fn close(&mut self, node: NodeId, action: ActionId) -> Result<Reply, Refusal>
+        ensures { Answers self.old (Step.ActionClose node action) result self.new }
+    {
+        if node.0 >= self.nodes {
+            return Err(Refusal::NoNode);
+        }
+        let Some(nodes) = self.named.get(action.0) else {
+            return Err(Refusal::NoAction);
+        };
+        if !nodes.has(node) {
+            return Err(Refusal::NoAction);
+        }
+        make_room(&mut self.steps)?;
+        self.named.set(action.0, nodes.without(node));
+        self.numbers[node.0 as usize].pending -= 1;
+        self.left -= 1;
+        self.steps.push_reserved(Step::ActionClose(node, action));
+        Ok(Reply::Plain)
+    }
+
+    pub(super) fn ready(&mut self, node: NodeId) -> Result<Reply, Refusal>
+        ensures { Answers self.old (Step.Ready node) result self.new }
+    {
+        if node.0 >= self.nodes {
+            return Err(Refusal::NoNode);
+        }
+        if !self.opening.has(node) {
+            return Err(Refusal::NoAction);
+        }
+        make_room(&mut self.steps)?;
+        self.opening = self.opening.without(node);
+        self.numbers[node.0 as usize].pending -= 1;
+        self.left -= 1;
+        self.steps.push_reserved(Step::Ready(node));
+        Ok(Reply::Plain)
+    }
+
+    pub(super) fn send(
+        &mut self,
+        from: NodeId,
+        to: NodeId,
+        message: MessageId,
+    ) -> Result<Reply, Refusal>
+        ensures { Answers self.old (Step.Send from to message) result self.new }
+    {
+        if from.0 >= self.nodes || to.0 >= self.nodes {
+            return Err(Refusal::NoNode);
+        }
+        if from.0 == to.0 {
+            return Err(Refusal::SameNode);
+        }
+        if self.messages.get(message.0).is_some() {
+            return Err(Refusal::MessageKnown);
+        }
+        if self.numbers[from.0 as usize].pending == 0 {
+            return Err(Refusal::Inactive);
+        }
+        make_room(&mut self.steps)?;
+        let stage = Stage::UnderWay;
+        self.messages.insert(message.0, Posted { to, stage })?;
+        self.numbers[from.0 as usize].sent += 1;
+        self.under += 1;
+        self.steps.push_reserved(Step::Send(from, to, message));
+        Ok(Reply::Plain)
+    }
+
+    pub(super) fn recv(&mut self, node: NodeId, message: MessageId) -> Result<Reply, Refusal>
+        ensures { Answers self.old (Step.Recv node message) result self.new }
+    {
+        if node.0 >= self.nodes {
+            return Err(Refusal::NoNode);
+        }
+        let Some(
+            Posted {
+                to,
+                stage: Stage::UnderWay,
+            },
+        ) = self.messages.get(message.0)
+        else {
+            return Err(Refusal::NoMessage);
+        };
+        if to.0 != node.0 {
+            return Err(Refusal::NoMessage);
+        }
+        make_room(&mut self.steps)?;
+        let stage = Stage::Received;
+        self.messages.set(message.0, Posted { to, stage });
+        let numbers = &mut self.numbers[node.0 as usize];
+        numbers.pending += 1;
+        numbers.received += 1;
+        self.left += 1;
+        self.under -= 1;
+        self.steps.push_reserved(Step::Recv(node, message));
+        Ok(Reply::Plain)
+    }
+
+    pub(super) fn end(&mut self, node: NodeId, message: MessageId) -> Result<Reply, Refusal>
+        ensures { Answers self.old (Step.MessageEnd node message) result self.new }
+    {
+        if node.0 >= self.nodes {
+            return Err(Refusal::NoNode);
+        }
+        let Some(
+            Posted {
+                to,
+                stage: Stage::Received,
+            },
+        ) = self.messages.get(message.0)
+        else {
+            return Err(Refusal::NoAction);
+        };
+        if to.0 != node.0 {
+            return Err(Refusal::NoAction);
+        }
+        make_room(&mut self.steps)?;
+        let stage = Stage::Ended;
+        self.messages.set(message.0, Posted { to, stage });
+        self.numbers[node.0 as usize].pending -= 1;
+        self.left -= 1;
+        self.steps.push_reserved(Step::MessageEnd(node, message));
+        Ok(Reply::Plain)
+    }
+}
+
+// The life of a task that lacks so many inputs.
+fn lacking(count: u8) -> Life
+    ensures { result ≡ lacking_inputs count }
+{
+    match count {
+        0 => Life::Ready,
+        _ => Life::Waiting(count),
+    }
+}
