@@ -4,3 +4,4 @@ pub mod Lines
 pub mod Spelled
 pub mod NoLine
 pub mod Unique
+pub mod Printed

@@ -3,3 +3,5 @@ pub mod Script
 pub mod Words
 pub mod Keywords
 pub mod Input
+pub mod SimText
+pub mod Printed

@@ -7,6 +7,7 @@ mod keyword;
 mod laws;
 mod number;
 mod parse;
+mod printing;
 mod verdict;
 mod words;
 
