@@ -10,6 +10,9 @@ use Rattle.tp_base.specs.declared.Step.TheVariants.{Insert, Supply, Begin, Done,
 use Rattle.tp_base.specs.declared.limits.TheConstants.{MAX_STEPS, MAX_NODES}
 use Rattle.tp_wave.specs.Steps.{count, is_send_of, is_recv_at}
 use Rattle.tp_wave.specs.Machine.{pending_after, under_way_after}
+use Rattle.tp_wave.specs.Control.{is_control}
+use Rattle.tp_wave.specs.Wave.{Follows}
+use Rattle.tp_wave.proofs.Given.{pool_step}
 use Rattle.tp_core.specs.declared.accepting.Core.TheInside.{Inside}
 use Rattle.tp_core.specs.declared.life.Life.{Life}
 use Rattle.tp_core.specs.declared.life.Life.TheVariants as life
@@ -116,15 +119,16 @@ under_step n past (s) r = refl
 accepted_next : (c d : Inside) (s : Step) → d.nodes ≡ c.nodes → d.steps.items ≡ c.steps.items ++ s ∷ [] → accepted d ≡ with_step (accepted c) s
 accepted_next c d s nodes pushed = rw (nodes, pushed, reverse-append c.steps.items (s ∷ [])) refl
 
-pub agree_next : {c d : Inside} {mid : List Step} (s : Step) → IsKept c → IsLawful c.nodes (accepted c).steps s → length c.steps.items < MAX_STEPS
+pub agree_after : {c d : Inside} {mid : List Step} (s : Step) → IsKept c → IsLawful c.nodes (accepted c).steps s → length c.steps.items < MAX_STEPS
     → d.nodes ≡ c.nodes → mid ≡ c.steps.items → d.steps.items ≡ mid ++ s ∷ []
     → HasNumbers d.numbers (with_step (accepted c) s)
     → d.left ≡ pending_after s c.left → d.under ≡ under_way_after s c.under
     → HasTasks d.tasks (after s (world_of (accepted c))).tasks
     → HasActions d.opening d.named d.messages (after s (world_of (accepted c))).actions
     → HasMessages d.messages (after s (world_of (accepted c))).messages (after s (world_of (accepted c))).numbers
+    → Follows c.nodes (s ∷ (accepted c).steps) d.wave
     → IsKept d
-agree_next {c} {d} s agree lawful room nodes stay pushed numbers left under tasks actions messages =
+agree_after {c} {d} s agree lawful room nodes stay pushed numbers left under tasks actions messages follows =
     subst (λ a. Agree a d) (sym (accepted_next c d s nodes (rw stay at pushed))) record {
       some_node = agree.some_node;
       few_nodes = agree.few_nodes;
@@ -136,4 +140,18 @@ agree_next {c} {d} s agree lawful room nodes stay pushed numbers left under task
       tasks = tasks;
       actions = actions;
       messages = messages;
+      wave = follows;
     }
+
+-- a step of the pool
+pub agree_next : {c d : Inside} {mid : List Step} (s : Step) → IsKept c → IsLawful c.nodes (accepted c).steps s → length c.steps.items < MAX_STEPS
+    → is_control s ≡ false → d.nodes ≡ c.nodes → d.wave ≡ c.wave → mid ≡ c.steps.items → d.steps.items ≡ mid ++ s ∷ []
+    → HasNumbers d.numbers (with_step (accepted c) s)
+    → d.left ≡ pending_after s c.left → d.under ≡ under_way_after s c.under
+    → HasTasks d.tasks (after s (world_of (accepted c))).tasks
+    → HasActions d.opening d.named d.messages (after s (world_of (accepted c))).actions
+    → HasMessages d.messages (after s (world_of (accepted c))).messages (after s (world_of (accepted c))).numbers
+    → IsKept d
+agree_next {c} {d} s agree lawful room pool nodes wave stay pushed numbers left under tasks actions messages =
+    agree_after s agree lawful room nodes stay pushed numbers left under tasks actions messages
+    (rw wave (pool_step c.nodes (accepted c).steps s c.wave pool agree.wave))

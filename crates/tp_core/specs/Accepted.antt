@@ -6,9 +6,8 @@ use Rattle.tp_base.specs.declared.Refusal.{Refusal}
 use Rattle.tp_base.specs.declared.Refusal.TheVariants.{HistoryFull, NoMemory}
 use Rattle.tp_base.specs.declared.Step.{Step}
 use Rattle.tp_base.specs.declared.Step.TheVariants.{Give, Judge}
-use Rattle.tp_base.specs.declared.Sums.{Sums}
 use Rattle.tp_wave.specs.Steps.{count, is_send_of, is_recv_at}
-use Rattle.tp_wave.specs.Sums.{waves, sent_sum, received_sum, judgement}
+use Rattle.tp_wave.specs.Sums.{sums_of, judgement}
 use Rattle.tp_wave.specs.Checks.{Check, first_refusal}
 use Rattle.tp_core.specs.declared.numbers.NodeNumbers.{NodeNumbers}
 use Rattle.tp_core.specs.declared.reply.Reply.{Reply}
@@ -40,10 +39,6 @@ IsRefusedFor None r = r ≡ NoMemory
 
 abbrev pub with_step : Accepted → Step → Accepted
 with_step a s = record a { steps = s ∷ a.steps }
-
--- what the newest wave, which has ended, adds up: each node's counts at its own visit
-abbrev pub sums_of : ℕ → List Step → Sums
-sums_of n steps = record { wave = waves steps; sent = sent_sum n steps; received = received_sum n steps }
 
 -- how a judgement is answered
 abbrev pub judged : Option ℕ → Reply
@@ -108,3 +103,7 @@ numbers_at i a = record {
   sent = count (is_send_of i) a.steps;
   received = count (is_recv_at i) a.steps;
 }
+
+-- the numbers of a node that is not there
+abbrev pub no_numbers : NodeNumbers
+no_numbers = record { pending = 0; sent = 0; received = 0 }

@@ -21,9 +21,9 @@ invariant_of-self-2 c =
     let agree = c.self.invariant in
     let s = ActionClose c.args.node c.args.action in
     let may : MayClose c.self.inside c.args.node.0 (Named c.args.action.0) =
-      may_close agree c.args.node.0 (omega arith) (Named c.args.action.0) (grind (arith, c.in-Some.ensures, c.has.ensures, c.if-not-has.false)) in
+    may_close agree c.args.node.0 (omega arith) (Named c.args.action.0) (grind (arith, c.in-Some.ensures, c.has.ensures, c.if-not-has.false)) in
     let lawful : IsLawful c.self.inside.nodes (accepted c.self.inside).steps s = (omega arith, may.there) in
-    agree_next s agree lawful (c.in_ok-make_room.ensures.ok).0 refl c.make_room.ensures.items c.push_reserved.ensures.items
+    agree_next s agree lawful (c.in_ok-make_room.ensures.ok).0 refl refl refl c.make_room.ensures.items c.push_reserved.ensures.items
     (numbers_written s agree.numbers lawful c.args.node.0 _ may.inside refl refl) refl refl agree.tasks
     (named_closed agree.actions _ c.args.node.0 c.args.action.0 _ may.once may.there c.set.ensures
     (λ i. c.without.ensures i ∙ rw (← c.in-Some.ensures) refl))

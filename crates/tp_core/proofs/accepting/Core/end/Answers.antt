@@ -24,11 +24,11 @@ invariant_of-self-2 c =
     let agree = c.self.invariant in
     let s = MessageEnd c.args.node c.args.message in
     let was : lookup c.self.inside.messages c.args.message.0 ≡ Some (record { to = c.args.node; stage = stage.Received }) =
-      grind (arith, c.in-Some-Received.ensures, c.if-to-node.false) in
+    grind (arith, c.in-Some-Received.ensures, c.if-to-node.false) in
     let may : MayClose c.self.inside c.args.node.0 (OfMessage c.args.message.0) =
-      may_close agree c.args.node.0 (omega arith) (OfMessage c.args.message.0) (grind (arith, nat_tests, was)) in
+    may_close agree c.args.node.0 (omega arith) (OfMessage c.args.message.0) (grind (arith, nat_tests, was)) in
     let lawful : IsLawful c.self.inside.nodes (accepted c.self.inside).steps s = (omega arith, may.there) in
-    agree_next s agree lawful (c.in_ok-make_room.ensures.ok).0 refl c.make_room.ensures.items c.push_reserved.ensures.items
+    agree_next s agree lawful (c.in_ok-make_room.ensures.ok).0 refl refl refl c.make_room.ensures.items c.push_reserved.ensures.items
     (numbers_written s agree.numbers lawful c.args.node.0 _ may.inside refl refl) refl refl agree.tasks
     (message_closed agree.actions _ c.args.message.0 c.args.node may.once was (rw c.if-to-node.false at c.set.ensures))
     (message_ended agree.messages _ c.args.message.0 c.args.node was (rw c.if-to-node.false at c.set.ensures))

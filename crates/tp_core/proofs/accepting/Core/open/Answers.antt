@@ -27,8 +27,8 @@ invariant_of-self-2 c =
     let there = agree.numbers.each c.args.node.0 zeros low in
     let closed = agree.actions.are_open c.args.node.0 (Named c.args.action.0) in
     let lawful : IsLawful c.self.inside.nodes (accepted c.self.inside).steps s =
-      (omega arith, grind (arith, closed, c.get.ensures, c.new.ensures, c.unwrap_or-nodes.ensures, c.has.ensures, c.if-has.false), grind (arith, nat_tests, there)) in
-    agree_next s agree lawful (c.in_ok-make_room.ensures.ok).0 refl c.make_room.ensures.items c.push_reserved.ensures.items
+    (omega arith, grind (arith, closed, c.get.ensures, c.new.ensures, c.unwrap_or-nodes.ensures, c.has.ensures, c.if-has.false), grind (arith, nat_tests, there)) in
+    agree_next s agree lawful (c.in_ok-make_room.ensures.ok).0 refl refl refl c.make_room.ensures.items c.push_reserved.ensures.items
     (numbers_written s agree.numbers lawful c.args.node.0 _ low refl refl) refl refl agree.tasks
     (named_opened agree.actions _ c.args.node.0 c.args.action.0 _ c.in_ok-insert.ensures.ok
     (λ i. c.with.ensures i ∙ grind (arith, c.get.ensures, c.new.ensures i, c.unwrap_or-nodes.ensures)))

@@ -20,7 +20,7 @@ invariant_of-self-2 c =
     let s = Ready c.args.node in
     let may : MayClose c.self.inside c.args.node.0 Opening = may_close agree c.args.node.0 (omega arith) Opening (grind (arith, c.has.ensures, c.if-not-has.false)) in
     let lawful : IsLawful c.self.inside.nodes (accepted c.self.inside).steps s = (omega arith, may.there) in
-    agree_next s agree lawful (c.in_ok-make_room.ensures.ok).0 refl c.make_room.ensures.items c.push_reserved.ensures.items
+    agree_next s agree lawful (c.in_ok-make_room.ensures.ok).0 refl refl refl c.make_room.ensures.items c.push_reserved.ensures.items
     (numbers_written s agree.numbers lawful c.args.node.0 _ may.inside refl refl) refl refl agree.tasks
     (opening_closed agree.actions _ c.args.node.0 may.once may.there c.without-self-inside.ensures)
     agree.messages

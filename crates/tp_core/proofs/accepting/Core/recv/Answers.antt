@@ -36,11 +36,11 @@ invariant_of-self-2 c =
     let few = agree.few_nodes in
     let s = Recv c.args.node c.args.message in
     let was : lookup c.self.inside.messages c.args.message.0 ≡ Some (record { to = c.args.node; stage = stage.UnderWay }) =
-      grind (arith, c.in-Some-UnderWay.ensures, c.if-to-node.false) in
+    grind (arith, c.in-Some-UnderWay.ensures, c.if-to-node.false) in
     let there : is_under_way c.args.message.0 c.args.node.0 (world_of (accepted c.self.inside)) ≡ true =
-      agree.messages.under_way c.args.message.0 c.args.node.0 ∙ grind (arith, nat_tests, was) in
+    agree.messages.under_way c.args.message.0 c.args.node.0 ∙ grind (arith, nat_tests, was) in
     let lawful : IsLawful c.self.inside.nodes (accepted c.self.inside).steps s = (omega arith, there) in
-    agree_next s agree lawful (c.in_ok-make_room.ensures.ok).0 refl c.make_room.ensures.items c.push_reserved.ensures.items
+    agree_next s agree lawful (c.in_ok-make_room.ensures.ok).0 refl refl refl c.make_room.ensures.items c.push_reserved.ensures.items
     (numbers_written s agree.numbers lawful c.args.node.0 _ (omega arith) refl refl) refl refl agree.tasks
     (received agree.actions _ c.args.message.0 c.args.node was (rw c.if-to-node.false at c.set.ensures))
     (message_received agree.messages _ c.args.message.0 c.args.node ((lists_are_sets _ _ agree.is_run).messages c.args.message.0) was

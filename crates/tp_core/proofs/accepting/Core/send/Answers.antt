@@ -28,8 +28,8 @@ invariant_of-self-2 c =
     let known = agree.messages.known c.args.message.0 in
     let fresh : lookup c.self.inside.messages c.args.message.0 ≡ None = grind (arith, c.is_some.ensures, c.get.ensures, c.if-is_some.false) in
     let lawful : IsLawful c.self.inside.nodes (accepted c.self.inside).steps s =
-      (omega arith, omega arith, λ e. omega arith, grind (arith, known, fresh), grind (arith, nat_tests, there)) in
-    agree_next s agree lawful (c.in_ok-make_room.ensures.ok).0 refl c.make_room.ensures.items c.push_reserved.ensures.items
+    (omega arith, omega arith, λ e. omega arith, grind (arith, known, fresh), grind (arith, nat_tests, there)) in
+    agree_next s agree lawful (c.in_ok-make_room.ensures.ok).0 refl refl refl c.make_room.ensures.items c.push_reserved.ensures.items
     (numbers_written s agree.numbers lawful c.args.from.0 _ low refl refl) refl refl agree.tasks
     (posted agree.actions _ c.args.message.0 c.args.to fresh c.in_ok-insert.ensures.ok)
     (message_sent agree.messages _ c.args.from.0 c.args.message.0 c.args.to fresh c.in_ok-insert.ensures.ok)
