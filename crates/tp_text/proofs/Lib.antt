@@ -5,3 +5,4 @@ pub mod Spelled
 pub mod NoLine
 pub mod Unique
 pub mod Printed
+pub mod Taking

@@ -1,3 +1,4 @@
+use std::alloc::AllocError;
 use thiserror::Error;
 
 /// Why a text was not answered.
@@ -15,4 +16,15 @@ pub enum TextFault {
     /// A growth of memory was refused.
     #[error("no memory")]
     Memory,
+}
+
+impl From<AllocError> for TextFault {
+    ghost use Rattle.std.specs.Prelude.{◌≡◌};
+    ghost use Rattle.tp_text.specs.declared.fault.TextFault.TheVariants.{Memory};
+
+    ghost from_gives = { λ _ fault. fault ≡ Memory };
+
+    fn from(_: AllocError) -> Self {
+        TextFault::Memory
+    }
 }

@@ -8,9 +8,11 @@ mod laws;
 mod number;
 mod parse;
 mod printing;
+mod simulation;
 mod verdict;
 mod words;
 
 pub use fault::TextFault;
-pub use laws::scripts_are_determined;
+pub use laws::{scripts_are_determined, texts_are_determined};
+pub use simulation::sim;
 pub use verdict::Verdict;

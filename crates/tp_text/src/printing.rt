@@ -1,14 +1,14 @@
-ghost use Rattle.std.specs.Prelude.{◌≡◌, ◌++◌, ◌+◌, ◌^◌, ◌<◌, ◌≤◌, ℕ, length, decimal, codes, if◌then◌else◌, OnOk};
+ghost use Rattle.std.specs.Prelude.{◌≡◌, ◌++◌, ◌+◌, ◌^◌, ◌<◌, ◌≤◌, ℕ, length, decimal, codes, if◌then◌else◌, OnOk, IfOk};
 ghost use Rattle.tp_base.specs.declared.limits.TheConstants.{MAX_NODES};
 ghost use Rattle.tp_wave.specs.Sums.{total};
 ghost use Rattle.tp_text.specs.Printed.{listed};
 ghost use Rattle.tp_text.specs.Spelling.{line};
-ghost use Rattle.tp_text.specs.SimText.{answer_line, counts, node_line, node_lines, all_numbers};
+ghost use Rattle.tp_text.specs.SimText.{answer_line, counts, node_line, node_lines, closing};
 
 use itoa::Buffer;
-use std::alloc::AllocError;
+use std::alloc::{AllocError, Global};
 use tp_base::Refusal;
-use tp_core::{NodeNumbers, Reply};
+use tp_core::{Core, NodeNumbers, Reply};
 
 /// A label and a number.
 fn push_count(out: &mut Vec<u8>, label: &[u8], number: u64) -> Result<(), AllocError>
@@ -155,4 +155,27 @@ fn push_quiet(out: &mut Vec<u8>, quiet: bool) -> Result<(), AllocError>
     } else {
         out.extend_from_slice(b"quiet no\n")
     }
+}
+
+/// The closing lines, from the numbers of a core over so many nodes.
+pub(crate) fn push_closing(out: &mut Vec<u8>, core: &Core, nodes: u32) -> Result<(), AllocError>
+    requires { (nodes ≡ core.now.nodes) × (nodes ≤ MAX_NODES) }
+    ensures { OnOk result (out.new.items ≡ out.old.items ++ closing core.now) }
+{
+    let numbers = core.numbers();
+    let nodes = &numbers.nodes[..nodes as usize];
+    push_nodes(out, nodes)?;
+    push_total(out, all_counts(nodes), u64::from(numbers.under))?;
+    push_quiet(out, core.quiet())?;
+    Ok(())
+}
+
+/// The line that tells the first line that is not of the grammar.
+pub(crate) fn syntax_line(alloc: Global, number: u64) -> Result<Vec<u8>, AllocError>
+    ensures { IfOk result (λ out. out.items ≡ line (codes "syntax line " ++ decimal number)) }
+{
+    let mut out = Vec::new(alloc);
+    push_count(&mut out, b"syntax line ", number)?;
+    out.extend_from_slice(b"\n")?;
+    Ok(out)
 }
