@@ -19,10 +19,10 @@ use Rattle.tp_core.specs.declared.life.Life.TheVariants as life
 use Rattle.tp_core.specs.declared.numbers.NodeNumbers.{NodeNumbers}
 use Rattle.tp_core.specs.World.{World, Task, Action, Message, Kind, Opening, Named, OfMessage, is_action, is_message, is_done, is_at, is_unfinished_at, how_many, openings, pending}
 use Rattle.tp_core.specs.Pool.{with_life, without, supplied, after}
-use Rattle.tp_core.specs.Run.{world, node_of, IsLawful}
+use Rattle.tp_core.specs.Run.{world, node_of, IsLawful, IsRun}
 use Rattle.tp_core.specs.Accepted.{Accepted, world_of, with_step, numbers_at}
 use Rattle.tp_core.specs.Kept.{accepted, Agree, IsKept, HasTasks, HasActions, HasMessages, HasNumbers, all_left}
-use Rattle.tp_core.proofs.Counting.{life_in, one_if, pending_step, not_done-lacking, length-without}
+use Rattle.tp_core.proofs.Counting.{life_in, one_if, node_inside, open_at-openings, pending_step, not_done-lacking, length-without}
 use Rattle.tp_core.proofs.Written.{written}
 
 -- ---- the numbers of the nodes
@@ -90,6 +90,13 @@ numbers_written {a} {xs} s kept lawful j v low at is = record { size = length-se
         let now : slice_index_or (set xs j v) i d ≡ (if j == i then moved s (numbers_at j a) else numbers_at i a) =
         rw (written xs j i v d (omega arith), is, kept.each j zeros low, kept.each i d inside) refl in
         now ∙ choose i (j == i) refl ∙ sym step
+
+-- a node that is not there has no numbers
+pub outside : (n i : ℕ) (steps : List Step) → 0 < n → IsRun n steps → n ≤ i → numbers_at i (record { nodes = n; steps = steps }) ≡ zeros
+outside n i [] pos r h = ap (λ p. record { pending = p; sent = 0; received = 0 }) (grind (arith, nat_tests, open_at-openings i n))
+outside n i (s ∷ past) pos r h =
+    let inside = node_inside n past s pos r.1 r.0 in
+    numbers_step (record { nodes = n; steps = past }) s i r.0 ∙ grind (arith, nat_tests, inside, outside n i past pos r.1 h)
 
 -- ---- what is left
 left-with_life : (t : ℕ) (f : Life → Life) (l : Life) (xs : List Task) → life_in t xs ≡ Some l

@@ -1,0 +1,103 @@
+-- What a new core keeps, and where what is kept is quiet.
+use Rattle.std.proofs.Common.{ℕ, zero, suc, ◌+◌, ◌≡◌, ◌<◌, ◌≤◌, List, [], ◌∷◌, Bool, true, false, None, length, refl, ap, sym, ◌∙◌, arith, zero-le, set, length-set, subst}
+use Rattle.std.proofs.lemmas.Bool.Decides.{nat_tests}
+use Rattle.std.specs.Prelude.{◌==◌, ◌&&◌, nat_lt, not, if◌then◌else◌}
+use Rattle.std.specs.List.{list_any, slice_index_or}
+use Rattle.tp_base.specs.declared.limits.TheConstants.{MAX_NODES}
+use Rattle.tp_wave.specs.Wave.{Follows}
+use Rattle.tp_core.specs.declared.accepting.Core.TheInside.{Inside}
+use Rattle.tp_core.specs.declared.node_set.NodeSet.{NodeSet}
+use Rattle.tp_core.specs.declared.numbers.NodeNumbers.{NodeNumbers}
+use Rattle.tp_core.specs.declared.posted.Posted.{Posted}
+use Rattle.tp_core.specs.declared.table.Table.{Table}
+use Rattle.tp_core.specs.Table.{lookup}
+use Rattle.tp_core.specs.NodeSet.{has}
+use Rattle.tp_core.specs.World.{Kind, Opening, Named, OfMessage, Action, is_action, is_done, how_many, openings, IsQuiet}
+use Rattle.tp_core.specs.Accepted.{world_of, numbers_at}
+use Rattle.tp_core.specs.Kept.{accepted, Agree, IsKept, HasActions, is_kept_open}
+use Rattle.tp_core.proofs.Counting.{one_if, open_at-openings}
+use Rattle.tp_core.proofs.Quiet.{none_from_length}
+use Rattle.tp_core.proofs.Keeping.{zeros}
+use Rattle.tp_core.proofs.Bounds.{length-openings}
+use Rattle.tp_core.proofs.Written.{written}
+
+-- ---- a new core
+-- the numbers of node k where the nodes below i have their opening actions
+abbrev pub opened_below : ℕ → ℕ → NodeNumbers
+opened_below i k = record { pending = if nat_lt k i then 1 else 0; sent = 0; received = 0 }
+
+-- The first i nodes have their opening actions.
+pub record AreOpened (i : ℕ) (numbers : List NodeNumbers) (opening : NodeSet) : Type 0 where
+  pub size : length numbers ≡ MAX_NODES
+  pub each : (k : ℕ) (d : NodeNumbers) → k < MAX_NODES → slice_index_or numbers k d ≡ opened_below i k
+  pub opened : (k : ℕ) → has opening k ≡ nat_lt k i
+
+any_opening : (i n : ℕ) (kind : Kind) → list_any (is_action i kind) (openings n) ≡ (nat_lt i n && list_any (is_action i kind) (record { node = i; kind = Opening } ∷ []))
+any_opening i zero kind = grind (arith, nat_tests)
+any_opening i (suc n) kind = grind (arith, nat_tests, any_opening i n kind)
+
+pub opened_more : {i : ℕ} {numbers : List NodeNumbers} {opening : NodeSet} → AreOpened i numbers opening → i < MAX_NODES → (new : NodeSet)
+    → ((k : ℕ) → has new k ≡ (if i == k then true else has opening k))
+    → AreOpened (i + 1) (set numbers i (record { pending = 1; sent = (slice_index_or numbers i zeros).sent; received = (slice_index_or numbers i zeros).received })) new
+opened_more {i} {numbers} {opening} before low new more = record {
+  size = length-set _ _ _ ∙ before.size;
+  each = λ k d h.
+      let at_i = before.each i zeros low in
+      let at_k = before.each k d h in
+      let size = before.size in
+      let sent = ap (λ (x : NodeNumbers). x.sent) at_i in
+      let received = ap (λ (x : NodeNumbers). x.received) at_i in
+      written numbers i k _ d (omega arith) ∙ rw (sent, received) (grind (arith, nat_tests, at_k));
+  opened = λ k. let one = more k in let old = before.opened k in grind (arith, nat_tests, one, old);
+}
+
+first_actions : (n : ℕ) (opening : NodeSet) (named : Table NodeSet) (messages : Table Posted) → ((k : ℕ) → has opening k ≡ nat_lt k n)
+    → ((k : ℕ) → lookup named k ≡ None) → ((k : ℕ) → lookup messages k ≡ None) → HasActions opening named messages (openings n)
+first_actions n opening named messages opened no_name no_message = record { are_open = λ i kind. any_opening i n kind ∙ now i kind }
+  where
+    now : (i : ℕ) (kind : Kind) → (nat_lt i n && list_any (is_action i kind) (record { node = i; kind = Opening } ∷ [])) ≡ is_kept_open opening named messages i kind
+    now i Opening = let open' = opened i in grind (arith, nat_tests, open')
+    now i (Named a) = let none = no_name a in grind (arith, none)
+    now i (OfMessage m) = let none = no_message m in grind (arith, none)
+
+first_numbers : (i n : ℕ) → opened_below n i ≡ numbers_at i (record { nodes = n; steps = [] })
+first_numbers i n = ap (λ p. record { pending = p; sent = 0; received = 0 }) (grind (arith, open_at-openings i n))
+
+pub first_kept : {c : Inside} → 0 < c.nodes → c.nodes ≤ MAX_NODES → c.steps.items ≡ [] → AreOpened c.nodes c.numbers c.opening → c.left ≡ c.nodes → c.under ≡ 0
+    → ((k : ℕ) → lookup c.named k ≡ None) → ((k : ℕ) → lookup c.tasks k ≡ None) → ((k : ℕ) → lookup c.messages k ≡ None)
+    → Follows c.nodes [] c.wave → IsKept c
+first_kept {c} some few empty opened left under no_name no_task no_message follows =
+    subst (λ a. Agree a c) (sym (rw empty refl)) (record {
+      some_node = some;
+      few_nodes = few;
+      is_run = tt;
+      within = zero-le;
+      numbers = record { size = opened.size; each = λ i d h. opened.each i d h ∙ first_numbers i c.nodes };
+      left = left ∙ sym (length-openings c.nodes) ∙ omega arith;
+      under = under;
+      tasks = record { found = no_task };
+      actions = first_actions c.nodes c.opening c.named c.messages opened.opened no_name no_message;
+      messages = record { known = λ m. rw (no_message m) refl; under_way = λ m j. rw (no_message m) refl };
+      wave = follows;
+    })
+
+-- ---- what is kept tells whether the world is quiet
+none_left : {A : Type 0} (p : A → Bool) (xs : List A) → how_many p xs ≡ 0 → list_any p xs ≡ false
+none_left p [] h = refl
+none_left p (x ∷ xs) h = grind (arith, none_left p xs)
+
+left_none : {A : Type 0} (p : A → Bool) (xs : List A) → list_any p xs ≡ false → how_many p xs ≡ 0
+left_none p [] h = refl
+left_none p (x ∷ xs) h = grind (arith, left_none p xs)
+
+pub quiet_from_kept : {c : Inside} → IsKept c → c.left ≡ 0 → c.under ≡ 0 → IsQuiet (world_of (accepted c))
+quiet_from_kept {c} agree left under =
+    let w = world_of (accepted c) in
+    let all = sym agree.left ∙ left in
+    (none_left _ w.tasks (omega arith), none_from_length w.actions (omega arith), none_from_length w.messages (sym agree.under ∙ under))
+
+pub kept_from_quiet : {c : Inside} → IsKept c → IsQuiet (world_of (accepted c)) → (c.left ≡ 0) × (c.under ≡ 0)
+kept_from_quiet {c} agree quiet =
+    let tasks = left_none _ (world_of (accepted c)).tasks quiet.0 in
+    let actions = ap length quiet.1 in
+    (agree.left ∙ omega arith, agree.under ∙ ap length quiet.2)

@@ -1,0 +1,11 @@
+use Rattle.std.proofs.Common.{◌≡◌, ◌≤◌, ◌∙◌, subst, sym}
+use Rattle.tp_core.specs.Accepted.{Accepted}
+use Rattle.tp_core.specs.Kept.{accepted}
+use Rattle.tp_core.proofs.Keeping.{outside}
+use Rattle.tp_core.proofs.accepting.Core.numbers.Goals as goal
+
+pub returns-clause-others : goal.returns-clause-others
+returns-clause-others c i d h low =
+    let agree = c.self.invariant in
+    let beyond = subst (λ (a : Accepted). a.nodes ≤ i) (sym c.self.view_is) h in
+    agree.numbers.each i d low ∙ outside c.self.inside.nodes i (accepted c.self.inside).steps agree.some_node agree.is_run beyond

@@ -1,0 +1,17 @@
+use Rattle.std.proofs.Common.{refl, sym}
+use Rattle.tp_base.specs.declared.Step.TheVariants.{Up}
+use Rattle.tp_wave.proofs.Exact.{checks_exact}
+use Rattle.tp_core.specs.Kept.{accepted}
+use Rattle.tp_core.proofs.Keeping.{agree_after, numbers_stay}
+use Rattle.tp_core.proofs.accepting.Core.up.Goals as goal
+
+pub invariant_of-self-2 : goal.invariant_of-self-2
+invariant_of-self-2 c =
+    let agree = c.self.invariant in
+    let n = c.self.inside.nodes in
+    let past = (accepted c.self.inside).steps in
+    let s = Up c.args.node in
+    let lawful = (checks_exact n past s refl).0 (sym (c.in_ok-up.ensures.exact n past agree.wave)) in
+    agree_after s agree lawful (c.in_ok-make_room.ensures.ok).0 refl c.make_room.ensures.items c.push_reserved.ensures.items
+    (numbers_stay s agree.numbers lawful (λ x. refl)) refl refl agree.tasks agree.actions agree.messages
+    (c.in_ok-up.ensures.follows n past agree.wave)
