@@ -1,0 +1,137 @@
+-- A line is spelled by one step, and a step by one line.
+use Rattle.std.proofs.Common.{◌≡◌, ℕ, Bool, true, cond, eqb, not, ◌&&◌, List, [], ◌∷◌, ◌++◌, get_or, decimal, codes, refl, sym, ap, ◌∙◌, arith, append_assoc}
+use Rattle.std.proofs.lemmas.Bool.{and_parts}
+use Rattle.std.proofs.lemmas.Bool.Decides.{nat_tests}
+use Rattle.std.specs.List.{All}
+use Rattle.std.specs.Str.{bytes_eq}
+use Rattle.tp_base.specs.declared.Step.{Step}
+use Rattle.tp_base.specs.declared.Step.TheVariants as steps
+use Rattle.tp_text.specs.declared.keyword.Keyword.{Keyword}
+use Rattle.tp_text.specs.declared.keyword.Keyword.TheVariants as keywords
+use Rattle.tp_text.specs.Keywords.{keyword_text}
+use Rattle.tp_text.specs.Script.{step_line}
+use Rattle.tp_text.specs.Spelling.{IsNumber, IsSpelled, spaced, line, word_of, numbers_of}
+use Rattle.tp_text.specs.Words.{IsWordByte, BeginsWithout, Splits}
+use Rattle.tp_text.proofs.Lines.{ends_number}
+use Rattle.tp_text.proofs.Numbers.{one_number}
+use Rattle.tp_text.proofs.Splits.{All-nil, All-cons, All-head, All-tail, split_unique}
+
+abbrev is_word : List ℕ → Bool
+is_word [] = true
+is_word (b ∷ text) = (not (eqb b 32) && not (eqb b 10)) && is_word text
+
+word_byte : (b : ℕ) → (not (eqb b 32) && not (eqb b 10)) ≡ true → IsWordByte b
+word_byte b e = grind (arith, nat_tests)
+
+pub word_bytes : (text : List ℕ) → is_word text ≡ true → All IsWordByte text
+word_bytes [] e = All-nil IsWordByte
+word_bytes (b ∷ text) e =
+    let both = and_parts (not (eqb b 32) && not (eqb b 10)) (is_word text) e in
+    All-cons IsWordByte b text (word_byte b both.0) (word_bytes text both.1)
+
+-- the words of steps hold no space and no line feed
+pub step_word : (s : Step) → is_word (word_of s) ≡ true
+step_word (steps.Insert i t k) = refl
+step_word (steps.Supply t) = refl
+step_word (steps.Begin t) = refl
+step_word (steps.Done t) = refl
+step_word (steps.ActionOpen i a) = refl
+step_word (steps.ActionClose i a) = refl
+step_word (steps.Ready i) = refl
+step_word (steps.Send i j m) = refl
+step_word (steps.Recv j m) = refl
+step_word (steps.MessageEnd j m) = refl
+step_word steps.Start = refl
+step_word (steps.Down i) = refl
+step_word (steps.Give i) = refl
+step_word (steps.Up i) = refl
+step_word steps.Judge = refl
+
+pub keyword_of_step : (s : Step) → (k : Keyword) × (word_of s ≡ keyword_text k)
+keyword_of_step (steps.Insert i t k) = (keywords.Insert, refl)
+keyword_of_step (steps.Supply t) = (keywords.Supply, refl)
+keyword_of_step (steps.Begin t) = (keywords.Begin, refl)
+keyword_of_step (steps.Done t) = (keywords.Done, refl)
+keyword_of_step (steps.ActionOpen i a) = (keywords.Open, refl)
+keyword_of_step (steps.ActionClose i a) = (keywords.Close, refl)
+keyword_of_step (steps.Ready i) = (keywords.Ready, refl)
+keyword_of_step (steps.Send i j m) = (keywords.Send, refl)
+keyword_of_step (steps.Recv j m) = (keywords.Recv, refl)
+keyword_of_step (steps.MessageEnd j m) = (keywords.End, refl)
+keyword_of_step steps.Start = (keywords.Start, refl)
+keyword_of_step (steps.Down i) = (keywords.Down, refl)
+keyword_of_step (steps.Give i) = (keywords.Give, refl)
+keyword_of_step (steps.Up i) = (keywords.Up, refl)
+keyword_of_step steps.Judge = (keywords.Judge, refl)
+
+pub ends_word : (ks rest : List ℕ) → BeginsWithout IsWordByte (spaced ks ++ 10 ∷ rest)
+ends_word [] rest = λ h. h.1 refl
+ends_word (k ∷ ks) rest = λ h. h.0 refl
+
+pub line_parts : (word : List ℕ) (ks rest : List ℕ) → line (word ++ spaced ks) ++ rest ≡ word ++ (spaced ks ++ 10 ∷ rest)
+line_parts word ks rest = append_assoc (word ++ spaced ks) (10 ∷ []) rest ∙ append_assoc word (spaced ks) (10 ∷ rest)
+
+-- the word and the rest of a line are told apart
+pub one_word : (text word a w : List ℕ) (ks rest : List ℕ) → Splits IsWordByte text word a → is_word w ≡ true
+    → text ≡ line (w ++ spaced ks) ++ rest → (word ≡ w) × (a ≡ spaced ks ++ 10 ∷ rest)
+one_word text word a w ks rest h q e =
+    split_unique IsWordByte word w a (spaced ks ++ 10 ∷ rest) h.1 (word_bytes w q) h.2 (ends_word ks rest) (sym h.0 ∙ e ∙ line_parts w ks rest)
+
+-- and so are its numbers
+pub same_numbers : (js ks a b : List ℕ) → All IsNumber js → All IsNumber ks → spaced js ++ 10 ∷ a ≡ spaced ks ++ 10 ∷ b → (js ≡ ks) × (a ≡ b)
+same_numbers [] [] a b p q e = (refl, cc)
+same_numbers [] (k ∷ ks) a b p q e = cc
+same_numbers (j ∷ js) [] a b p q e = cc
+same_numbers (j ∷ js) (k ∷ ks) a b p q e =
+    let whole : 32 ∷ (decimal j ++ (spaced js ++ 10 ∷ a)) ≡ 32 ∷ (decimal k ++ (spaced ks ++ 10 ∷ b)) =
+    sym (ap (λ l. 32 ∷ l) (append_assoc (decimal j) (spaced js) (10 ∷ a))) ∙ e ∙ ap (λ l. 32 ∷ l) (append_assoc (decimal k) (spaced ks) (10 ∷ b)) in
+    let same : decimal j ++ (spaced js ++ 10 ∷ a) ≡ decimal k ++ (spaced ks ++ 10 ∷ b) = cc in
+    let first = one_number j k (spaced js ++ 10 ∷ a) (spaced ks ++ 10 ∷ b) (All-head IsNumber j js p) (All-head IsNumber k ks q) (ends_number js a) (ends_number ks b) same in
+    let head : j ≡ k = first.0 in
+    let rest = same_numbers js ks a b (All-tail IsNumber j js p) (All-tail IsNumber k ks q) first.1 in
+    let tail : js ≡ ks = rest.0 in
+    (cc, rest.1)
+
+-- the step that a word and numbers spell
+abbrev step_spelled : List ℕ → List ℕ → Step
+step_spelled w ks =
+    let a = get_or ks 0 0 in let b = get_or ks 1 0 in let d = get_or ks 2 0 in
+    cond (bytes_eq w (codes "insert")) (steps.Insert (record { 0 = a }) (record { 0 = b }) (record { count = d }))
+    (cond (bytes_eq w (codes "supply")) (steps.Supply (record { 0 = a }))
+    (cond (bytes_eq w (codes "begin")) (steps.Begin (record { 0 = a }))
+    (cond (bytes_eq w (codes "done")) (steps.Done (record { 0 = a }))
+    (cond (bytes_eq w (codes "open")) (steps.ActionOpen (record { 0 = a }) (record { 0 = b }))
+    (cond (bytes_eq w (codes "close")) (steps.ActionClose (record { 0 = a }) (record { 0 = b }))
+    (cond (bytes_eq w (codes "ready")) (steps.Ready (record { 0 = a }))
+    (cond (bytes_eq w (codes "send")) (steps.Send (record { 0 = a }) (record { 0 = b }) (record { 0 = d }))
+    (cond (bytes_eq w (codes "recv")) (steps.Recv (record { 0 = a }) (record { 0 = b }))
+    (cond (bytes_eq w (codes "end")) (steps.MessageEnd (record { 0 = a }) (record { 0 = b }))
+    (cond (bytes_eq w (codes "start")) steps.Start
+    (cond (bytes_eq w (codes "down")) (steps.Down (record { 0 = a }))
+    (cond (bytes_eq w (codes "give")) (steps.Give (record { 0 = a }))
+    (cond (bytes_eq w (codes "up")) (steps.Up (record { 0 = a })) steps.Judge)))))))))))))
+
+step_again : (s : Step) → step_spelled (word_of s) (numbers_of s) ≡ s
+step_again (steps.Insert i t k) = refl
+step_again (steps.Supply t) = refl
+step_again (steps.Begin t) = refl
+step_again (steps.Done t) = refl
+step_again (steps.ActionOpen i a) = refl
+step_again (steps.ActionClose i a) = refl
+step_again (steps.Ready i) = refl
+step_again (steps.Send i j m) = refl
+step_again (steps.Recv j m) = refl
+step_again (steps.MessageEnd j m) = refl
+step_again steps.Start = refl
+step_again (steps.Down i) = refl
+step_again (steps.Give i) = refl
+step_again (steps.Up i) = refl
+step_again steps.Judge = refl
+
+-- the first line spells one step
+pub same_step : (s t : Step) (a b : List ℕ) → IsSpelled s → IsSpelled t → step_line s ++ a ≡ step_line t ++ b → (s ≡ t) × (a ≡ b)
+same_step s t a b p q e =
+    let words = one_word (step_line s ++ a) (word_of s) (spaced (numbers_of s) ++ 10 ∷ a) (word_of t) (numbers_of t) b
+    (line_parts (word_of s) (numbers_of s) a, word_bytes (word_of s) (step_word s), ends_word (numbers_of s) a) (step_word t) e in
+    let numbers = same_numbers (numbers_of s) (numbers_of t) a b p.0 q.0 words.1 in
+    (sym (step_again s) ∙ ap (λ w. step_spelled w (numbers_of s)) words.0 ∙ ap (step_spelled (word_of t)) numbers.0 ∙ step_again t, numbers.1)

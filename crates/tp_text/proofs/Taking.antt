@@ -1,0 +1,115 @@
+-- The lines of a script that were taken, and what was answered to them.
+use Rattle.std.proofs.Common.{◌≡◌, ◌≢◌, ℕ, zero, suc, ◌+◌, ◌≤◌, ◌<◌, Bool, true, false, List, [], ◌∷◌, ◌++◌, length, codes, decimal, is_some, Result, refl, sym, ap, ◌∙◌, subst, add-one, append_assoc, append-nil, length-append, arith, inl, inr, if◌then◌else◌}
+use Rattle.std.specs.List.{All, flat_map}
+use Rattle.tp_base.specs.declared.Refusal.{Refusal}
+use Rattle.tp_base.specs.declared.Step.{Step}
+use Rattle.tp_core.specs.declared.Reply.{Reply}
+use Rattle.tp_core.specs.Accepted.{Accepted, answer, next, answers, after_all, refusal, with_step}
+use Rattle.tp_text.specs.declared.verdict.Verdict.TheVariants.{Sound, Refused}
+use Rattle.tp_text.specs.Script.{nodes_line, step_line, script, IsNodeCount, IsScript, BeginsWithNodes, BeginsWithStep, StopsAfter, HasFaultAt}
+use Rattle.tp_text.specs.SimText.{answer_line, closing, fresh, report, IsSimText}
+use Rattle.tp_text.specs.Spelling.{IsSpelled, line, spelling}
+use Rattle.tp_text.proofs.Splits.{All-nil, All-cons, All-head, All-tail}
+
+-- one more at the end
+All-more : {X : Type 0} (P : X → Type 0) (xs : List X) (x : X) → All P xs → P x → All P (xs ++ x ∷ [])
+All-more P [] x h p = All-cons P x [] p (All-nil P)
+All-more P (y ∷ xs) x h p = All-cons P y (xs ++ x ∷ []) (All-head P y xs h) (All-more P xs x (All-tail P y xs h) p)
+
+lines_more : (steps : List Step) (s : Step) → flat_map step_line (steps ++ s ∷ []) ≡ flat_map step_line steps ++ step_line s
+lines_more [] s = append-nil (step_line s)
+lines_more (x ∷ steps) s = ap (λ l. step_line x ++ l) (lines_more steps s) ∙ sym (append_assoc (step_line x) (flat_map step_line steps) (step_line s))
+
+after_more : (a : Accepted) (steps : List Step) (s : Step) → after_all a (steps ++ s ∷ []) ≡ next (after_all a steps) s
+after_more a [] s = refl
+after_more a (x ∷ steps) s = after_more (next a x) steps s
+
+answers_more : (a : Accepted) (steps : List Step) (s : Step)
+    → flat_map answer_line (answers a (steps ++ s ∷ [])) ≡ flat_map answer_line (answers a steps) ++ answer_line (answer (after_all a steps) s)
+answers_more a [] s = append-nil (answer_line (answer a s))
+answers_more a (x ∷ steps) s =
+    ap (λ l. answer_line (answer a x) ++ l) (answers_more (next a x) steps s)
+    ∙ sym (append_assoc (answer_line (answer a x)) (flat_map answer_line (answers (next a x) steps)) (answer_line (answer (after_all (next a x) steps) s)))
+
+chosen : (b : Bool) (a : Accepted) (s : Step) → (if b then a else with_step a s).nodes ≡ a.nodes
+chosen true a s = refl
+chosen false a s = refl
+
+pub nodes_kept : (a : Accepted) (steps : List Step) → (after_all a steps).nodes ≡ a.nodes
+nodes_kept a [] = refl
+nodes_kept a (s ∷ steps) = nodes_kept (next a s) steps ∙ chosen (is_some (refusal a s)) a s
+
+-- These steps were taken from the front of the text, the core is as after them, and so many lines were read.
+pub record Takes (text : List ℕ) (n : ℕ) (taken : List Step) (rest : List ℕ) (core : Accepted) (out : List ℕ) (number : ℕ) : Type 0 where
+  pub count : IsNodeCount n
+  pub spelled : All IsSpelled taken
+  pub text_is : text ≡ script n taken ++ rest
+  pub core_is : core ≡ after_all (fresh n) taken
+  pub out_is : out ≡ flat_map answer_line (answers (fresh n) taken)
+  pub number_is : number ≡ length taken + 2
+  pub short : number + length rest ≤ length text + 2
+
+pub takes_none : (text : List ℕ) (n : ℕ) (rest : List ℕ) (core : Accepted) (out : List ℕ) → IsNodeCount n × (text ≡ nodes_line n ++ rest)
+    → core ≡ fresh n → out ≡ [] → Takes text n [] rest core out 2
+takes_none text n rest core out found c o = record {
+  count = found.0;
+  spelled = All-nil IsSpelled;
+  text_is = found.1 ∙ ap (λ l. l ++ rest) (sym (append-nil (nodes_line n)));
+  core_is = c;
+  out_is = o;
+  number_is = refl;
+  short = omega (arith, ap length found.1, length-append (nodes_line n) rest);
+}
+
+step_counts : (s : Step) (behind : List ℕ) → length behind + 1 ≤ length (step_line s ++ behind)
+step_counts s behind = omega (arith, length-append (spelling s) (10 ∷ []), length-append (step_line s) behind)
+
+pub shorter : (s : Step) (rest behind : List ℕ) → rest ≡ step_line s ++ behind → length behind < length rest
+shorter s rest behind e = omega (arith, ap length e, step_counts s behind)
+
+-- nothing is left of the text
+is_over : (rest : List ℕ) → length rest ≡ 0 → rest ≡ []
+is_over [] e = refl
+is_over (b ∷ rest) e = absurd (omega arith)
+
+pub takes_one : (text : List ℕ) (n : ℕ) (taken : List Step) (rest : List ℕ) (core : Accepted) (out : List ℕ) (number : ℕ)
+    (s : Step) (behind : List ℕ) (r : Result Reply Refusal) (core' : Accepted) (out' : List ℕ)
+    → Takes text n taken rest core out number → IsSpelled s × (rest ≡ step_line s ++ behind) → r ≡ answer core s → core' ≡ next core s
+    → out' ≡ out ++ answer_line r → Takes text n (taken ++ s ∷ []) behind core' out' (number + 1)
+takes_one text n taken rest core out number s behind r core' out' h found answered after written = record {
+  count = h.count;
+  spelled = All-more IsSpelled taken s h.spelled found.0;
+  text_is =
+  h.text_is ∙ ap (λ l. script n taken ++ l) found.1 ∙ sym (append_assoc (script n taken) (step_line s) behind)
+  ∙ ap (λ l. l ++ behind) (append_assoc (nodes_line n) (flat_map step_line taken) (step_line s) ∙ ap (λ l. nodes_line n ++ l) (sym (lines_more taken s)));
+  core_is = after ∙ ap (λ a. next a s) h.core_is ∙ sym (after_more (fresh n) taken s);
+  out_is =
+  written ∙ ap (λ l. l ++ answer_line r) h.out_is
+  ∙ ap (λ y. flat_map answer_line (answers (fresh n) taken) ++ answer_line y) (answered ∙ ap (λ a. answer a s) h.core_is)
+  ∙ sym (answers_more (fresh n) taken s);
+  number_is = omega (arith, h.number_is, length-append taken (s ∷ []));
+  short = omega (arith, h.short, ap length found.1, step_counts s behind);
+}
+
+pub takes_all : (text : List ℕ) (n : ℕ) (taken : List Step) (rest : List ℕ) (core : Accepted) (out : List ℕ) (number : ℕ) (out' : List ℕ)
+    → Takes text n taken rest core out number → length rest ≡ 0 → out' ≡ out ++ closing core → IsSimText text Sound out'
+takes_all text n taken rest core out number out' h none written =
+    let whole : text ≡ script n taken = h.text_is ∙ ap (λ l. script n taken ++ l) (is_over rest none) ∙ append-nil (script n taken) in
+    (n, taken, record { nodes = h.count; spelled = h.spelled; text = whole },
+      written ∙ ap (λ l. l ++ closing core) h.out_is ∙ ap (λ a. flat_map answer_line (answers (fresh n) taken) ++ closing a) h.core_is)
+
+pub takes_fault : (text : List ℕ) (n : ℕ) (taken : List Step) (rest : List ℕ) (core : Accepted) (out : List ℕ) (number : ℕ) (out' : List ℕ)
+    → Takes text n taken rest core out number → 0 < length rest → ¬ BeginsWithStep rest
+    → out' ≡ line (codes "syntax line " ++ decimal number) → IsSimText text Refused out'
+takes_fault text n taken rest core out number out' h some none written =
+    let before : IsScript (script n taken) n taken = record { nodes = h.count; spelled = h.spelled; text = refl } in
+    let stops : StopsAfter text n taken rest = record {
+      before = before;
+      text = h.text_is;
+      more = λ e. omega (arith, some, ap length e);
+      no_step = none;
+    } in
+    (number, inr (n, taken, rest, stops, h.number_is), written)
+
+pub fault_first : (text out : List ℕ) → ¬ BeginsWithNodes text → out ≡ line (codes "syntax line " ++ decimal 1) → IsSimText text Refused out
+fault_first text out none written = (1, inl (refl, none), written)

@@ -1,0 +1,7 @@
+use Rattle.std.proofs.Common.{◌≡◌, ◌++◌}
+use Rattle.tp_text.specs.Printed.{listed}
+use Rattle.tp_text.specs.SimText.{node_lines}
+use Rattle.tp_text.proofs.printing.push_nodes.Given as goal
+
+abbrev pub invariant-loop-i : goal.invariant-loop-i
+invariant-loop-i l = l.out.items ≡ l.fn.out.items ++ node_lines l.i (listed l.nodes)

@@ -1,0 +1,37 @@
+use Rattle.std.proofs.Common.{[], ◌∷◌, ◌++◌, ◌+◌, ◌≤◌, length, sym, ap, ◌∙◌, arith}
+use Rattle.std.proofs.lemmas.Bool.Decides.{nat_tests}
+use Rattle.std.proofs.lemmas.Grind.{common_steps}
+use Rattle.tp_core.specs.Accepted.{Accepted}
+use Rattle.tp_text.specs.SimText.{fresh}
+use Rattle.tp_text.proofs.Taking.{fault_first, takes_none, takes_one, takes_all, takes_fault, nodes_kept, shorter}
+use Rattle.tp_text.proofs.simulation.answered.Goals as goal
+
+pub returns-in_default-clause-ok : goal.returns-in_default-clause-ok
+returns-in_default-clause-ok c = fault_first c.args.text.now _ c.in_default.ensures c.in_ok-syntax_line.ensures
+
+pub loop-rest-init : goal.loop-rest-init
+loop-rest-init c = ([], takes_none _ _ _ _ _ c.in-Some.ensures c.new-core.ensures c.new-out.ensures.items)
+
+pub loop-rest-preserved : goal.loop-rest-preserved
+loop-rest-preserved c =
+    let ample = c.step-answer.ensures.ample (grind (arith, common_steps)) in
+    (c.loop-rest.invariant.0 ++ c.in-Some-next_step.step ∷ [],
+      takes_one _ _ c.loop-rest.invariant.0 _ _ _ _ c.in-Some-next_step.step _ _ _ _ c.loop-rest.invariant.1 c.in-Some-next_step.ensures ample.0 ample.1 c.in_ok-push_answer.ensures)
+
+pub loop-rest-smaller : goal.loop-rest-smaller
+loop-rest-smaller c = shorter c.in-Some-next_step.step _ _ c.in-Some-next_step.ensures.1
+
+pub overflow_add-number : goal.overflow_add-number
+overflow_add-number c = omega (arith, c.loop-rest.invariant.1.short)
+
+pub push_closing-requires : goal.push_closing-requires
+push_closing-requires c =
+    let h = c.loop-rest.invariant.1 in
+    (sym (ap (λ (a : Accepted). a.nodes) h.core_is ∙ nodes_kept (fresh c.in-Some.nodes) c.loop-rest.invariant.0), h.count.1)
+
+pub returns-clause-ok : goal.returns-clause-ok
+returns-clause-ok c = takes_all _ _ _ _ _ _ _ _ c.loop-rest.invariant.1 (grind (arith, nat_tests, c.loop-rest-test.ensures)) c.in_ok-push_closing.ensures
+
+pub returns-in_default-next_step-clause-ok : goal.returns-in_default-next_step-clause-ok
+returns-in_default-next_step-clause-ok c =
+    takes_fault _ _ _ _ _ _ _ _ c.loop-rest.invariant.1 (grind (arith, nat_tests, c.loop-rest-test.ensures)) c.in_default-next_step.ensures c.in_ok-syntax_line-2.ensures

@@ -1,0 +1,10 @@
+use Rattle.std.proofs.Common.{List, length}
+use Rattle.tp_base.specs.declared.Step.{Step}
+use Rattle.tp_text.proofs.Taking.{Takes}
+use Rattle.tp_text.proofs.simulation.answered.Given as goal
+
+abbrev pub invariant-loop-rest : goal.invariant-loop-rest
+invariant-loop-rest l = (taken : List Step) × Takes l.text l.nodes taken l.rest l.core l.out.items l.number
+
+abbrev pub decreases-loop-rest : goal.decreases-loop-rest
+decreases-loop-rest l = length l.rest

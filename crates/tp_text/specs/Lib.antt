@@ -1,0 +1,7 @@
+pub mod Spelling
+pub mod Script
+pub mod Words
+pub mod Keywords
+pub mod Input
+pub mod SimText
+pub mod Printed

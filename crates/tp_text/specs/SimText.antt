@@ -1,0 +1,74 @@
+-- What is answered to a script.
+use Rattle.std.specs.Prelude.{ℕ, zero, suc, ◌≡◌, ◌++◌, ◌&&◌, List, [], ◌∷◌, ◌==◌, Bool, not, length, codes, decimal, Result, Ok, Err, if◌then◌else◌}
+use Rattle.std.specs.List.{flat_map, list_any}
+use Rattle.tp_base.specs.declared.Refusal.{Refusal}
+use Rattle.tp_base.specs.declared.Step.{Step}
+use Rattle.tp_base.specs.Refusals.{number_of, name_of}
+use Rattle.tp_wave.specs.Sums.{total}
+use Rattle.tp_core.specs.declared.NodeNumbers.{NodeNumbers}
+use Rattle.tp_core.specs.declared.Reply.{Reply}
+use Rattle.tp_core.specs.declared.Reply.TheVariants.{Plain, WaveSums, Not, Over}
+use Rattle.tp_core.specs.World.{World, is_done}
+use Rattle.tp_core.specs.Accepted.{Accepted, world_of, numbers_at, answers, after_all}
+use Rattle.tp_text.specs.declared.verdict.Verdict.{Verdict}
+use Rattle.tp_text.specs.declared.verdict.Verdict.TheVariants.{Sound, Refused}
+use Rattle.tp_text.specs.Spelling.{line}
+use Rattle.tp_text.specs.Script.{IsScript, HasFaultAt}
+
+-- the line for the answer to a step
+abbrev pub answer_line : Result Reply Refusal → List ℕ
+answer_line (Ok Plain) = line (codes "ok")
+answer_line (Ok (WaveSums s)) =
+    line (codes "wave " ++ decimal s.wave ++ codes " sent " ++ decimal s.sent ++ codes " received " ++ decimal s.received)
+answer_line (Ok Not) = line (codes "not")
+answer_line (Ok (Over w)) = line (codes "ended " ++ decimal w)
+answer_line (Err r) = line (codes "refused " ++ decimal (number_of r) ++ codes " " ++ name_of r)
+
+abbrev pub counts : NodeNumbers → List ℕ
+counts x = codes " pending " ++ decimal x.pending ++ codes " sent " ++ decimal x.sent ++ codes " received " ++ decimal x.received
+
+abbrev pub node_line : ℕ → NodeNumbers → List ℕ
+node_line i x = line (codes "node " ++ decimal i ++ counts x)
+
+-- the lines of the nodes below n, in rising order
+abbrev pub node_lines : ℕ → (ℕ → NodeNumbers) → List ℕ
+node_lines zero numbers = []
+node_lines (suc n) numbers = node_lines n numbers ++ node_line n (numbers n)
+
+-- the numbers of all nodes below n, added up
+abbrev pub all_numbers : ℕ → (ℕ → NodeNumbers) → NodeNumbers
+all_numbers n numbers = record {
+  pending = total n (λ i. (numbers i).pending);
+  sent = total n (λ i. (numbers i).sent);
+  received = total n (λ i. (numbers i).received);
+}
+
+-- Each task is done, no action is open, and no message is under way.
+abbrev pub is_quiet : World → Bool
+is_quiet w = not (list_any (λ x. not (is_done x.life)) w.tasks) && ((length w.actions == 0) && (length w.messages == 0))
+
+-- the closing lines: the numbers of each node, those of all, and whether all is quiet
+abbrev pub closing : Accepted → List ℕ
+closing a =
+    node_lines a.nodes (λ i. numbers_at i a)
+    ++ line (codes "total" ++ counts (all_numbers a.nodes (λ i. numbers_at i a)) ++ codes " under " ++ decimal (length (world_of a).messages))
+    ++ line (codes "quiet " ++ (if is_quiet (world_of a) then codes "yes" else codes "no"))
+
+-- a core on n nodes that has accepted nothing
+abbrev pub fresh : ℕ → Accepted
+fresh n = record { nodes = n; steps = [] }
+
+-- a line for each step, in their order, and the closing lines
+abbrev pub report : ℕ → List Step → List ℕ
+report n steps = flat_map answer_line (answers (fresh n) steps) ++ closing (after_all (fresh n) steps)
+
+-- This verdict and this text are what is answered to these bytes: the report of the script that they are, or the first line
+-- that is not of the grammar.
+abbrev pub IsSimText : List ℕ → Verdict → List ℕ → Type 0
+IsSimText bytes Sound text = (n : ℕ) × (steps : List Step) × IsScript bytes n steps × (text ≡ report n steps)
+IsSimText bytes Refused text = (l : ℕ) × HasFaultAt bytes l × (text ≡ line (codes "syntax line " ++ decimal l))
+
+-- One verdict and one text are answered to some bytes.
+abbrev pub TextsAreDetermined : Type 0
+TextsAreDetermined = (bytes : List ℕ) (v : Verdict) (text : List ℕ) (w : Verdict) (other : List ℕ)
+    → IsSimText bytes v text → IsSimText bytes w other → (v ≡ w) × (text ≡ other)

@@ -1,0 +1,43 @@
+ghost use Rattle.std.specs.Prelude.{◌≡◌, ◌+◌, ◌≤◌, ℕ, List, length, IfOk, IsErrOf};
+ghost use Rattle.std.specs.Io.KnownBytes.{Consumes, IsAtEnd};
+ghost use Rattle.tp_text.specs.Input.{ReadsAll};
+
+use crate::fault::TextFault;
+use std::alloc::Global;
+use std::io::{ErrorKind, Read};
+
+/// How many bytes a text may have.
+pub const MAX_TEXT: usize = 33_554_432;
+
+/// How many reads may be made for a text.
+pub const MAX_READS: u64 = 67_108_864;
+
+/// Reads all there is, in pieces. A read that was interrupted is tried again.
+pub(crate) fn read_text<R: Read>(alloc: Global, reader: &mut R) -> Result<Vec<u8>, TextFault>
+    ensures whole { IfOk result (λ text. ReadsAll (R.remaining reader.old) (R.remaining reader.new) text.items) }
+    ensures fits { IfOk result (λ text. length text.items ≤ MAX_TEXT) }
+    // It has read one byte more than a text may have.
+    ensures too_long { IsErrOf result TextFault.TooLong →
+        (bytes : List ℕ) × Consumes (R.remaining reader.old) (R.remaining reader.new) bytes × (length bytes ≡ MAX_TEXT + 1) }
+    ensures unwritten { IsErrOf result TextFault.Write → ⊥ }
+{
+    let mut text = Vec::new(alloc);
+    let mut piece = [0; 65_536];
+    for _ in 0..MAX_READS {
+        let left = MAX_TEXT + 1 - text.len();
+        let size = left.min(piece.len());
+        match reader.read(&mut piece[..size]) {
+            Ok(0) => return Ok(text),
+            Ok(count) => {
+                text.extend_from_slice(&piece[..count])
+                    .map_err(|_| TextFault::Memory)?;
+                if text.len() > MAX_TEXT {
+                    return Err(TextFault::TooLong);
+                }
+            }
+            Err(error) if error.kind() == ErrorKind::Interrupted => {}
+            Err(_) => return Err(TextFault::Read),
+        }
+    }
+    Err(TextFault::Read)
+}

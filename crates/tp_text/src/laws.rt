@@ -1,0 +1,15 @@
+ghost use Rattle.tp_text.specs.Script.{ScriptsAreDetermined};
+ghost use Rattle.tp_text.specs.SimText.{TextsAreDetermined};
+
+/// One script is spelled in one way, and one text spells one script.
+#[tactic(auto, using(crate::proofs::Unique::scripts_determined))]
+pub fn scripts_are_determined()
+    ensures { ScriptsAreDetermined }
+{}
+
+/// One verdict and one text are answered to some bytes.
+#[tactic(auto, using(crate::proofs::Unique::texts_determined))]
+pub fn texts_are_determined()
+    ensures { TextsAreDetermined }
+{
+}

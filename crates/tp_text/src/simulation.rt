@@ -1,0 +1,80 @@
+ghost use Rattle.std.specs.Prelude.{◌≡◌, ◌≢◌, ◌+◌, ◌≤◌, ◌++◌, ℕ, List, length, codes, decimal, IfOk, OnOk, IfErr, IsErrOf};
+ghost use Rattle.std.specs.Io.KnownBytes.{Consumes, Appends};
+ghost use Rattle.tp_text.specs.Input.{ReadsAll};
+ghost use Rattle.tp_text.specs.Spelling.{line};
+ghost use Rattle.tp_text.specs.SimText.{IsSimText};
+ghost use Rattle.tp_text.specs.declared.input.TheConstants.{MAX_TEXT};
+
+use crate::fault::TextFault;
+use crate::input::read_text;
+use crate::parse::{first_line, next_step};
+use crate::printing::{push_answer, push_closing, syntax_line};
+use crate::verdict::Verdict;
+use std::alloc::Global;
+use std::io::{Read, Write};
+use tp_base::Refusal;
+use tp_core::Core;
+
+/// The answers to the steps of a script and its closing lines, or the line of its first fault.
+fn answered(alloc: Global, text: &[u8]) -> Result<(Verdict, Vec<u8>), TextFault>
+    ensures ok { IfOk result (λ answer. IsSimText text.now answer.0 answer.1.items) }
+    ensures err { IfErr result (λ fault. fault ≡ TextFault.Memory) }
+{
+    let Some((nodes, steps)) = first_line(text) else {
+        return Ok((Verdict::Refused, syntax_line(alloc, 1)?));
+    };
+    let mut core = Core::new(alloc, nodes);
+    let mut out = Vec::new(alloc);
+    let mut rest = steps;
+    let mut number = 2;
+    while !rest.is_empty() {
+        let Some((step, behind)) = next_step(rest) else {
+            return Ok((Verdict::Refused, syntax_line(alloc, number)?));
+        };
+        let answer = core.step(step);
+        if answer == Err(Refusal::NoMemory) {
+            return Err(TextFault::Memory);
+        }
+        push_answer(&mut out, answer)?;
+        rest = behind;
+        number += 1;
+    }
+    push_closing(&mut out, &core, nodes)?;
+    Ok((Verdict::Sound, out))
+}
+
+/// Answers to a script: reads all of the reader, takes the steps of the script in turn with a new core, and writes the
+/// answer to each and the closing lines; or, where the text is no script, the line of its first fault. Nothing is written
+/// before all of it is known.
+///
+/// It is refused as `Read` where a read fails, an interrupted one apart, which is tried again, and where 67,108,864 reads
+/// were made; as `TooLong` where there are more than 33,554,432 bytes; as `Memory` where a growth of memory was refused;
+/// and as `Write` where the writing fails.
+pub fn sim<R: Read, W: Write>(
+    alloc: Global,
+    reader: &mut R,
+    writer: &mut W,
+) -> Result<Verdict, TextFault>
+    // All that there was was read, and what is answered to it was written, and nothing else.
+    ensures ok { IfOk result (λ verdict. (bytes : List ℕ) × (text : List ℕ)
+        × ReadsAll (R.remaining reader.old) (R.remaining reader.new) bytes × (length bytes ≤ MAX_TEXT)
+        × IsSimText bytes verdict text × Appends (W.contents writer.old) (W.contents writer.new) text) }
+    // One byte more than a text may have was read.
+    ensures too_long { IsErrOf result TextFault.TooLong → (bytes : List ℕ)
+        × Consumes (R.remaining reader.old) (R.remaining reader.new) bytes × (length bytes ≡ MAX_TEXT + 1) }
+    // Where no answer was made, nothing was written.
+    ensures unwritten { IfErr result (λ fault. fault ≢ TextFault.Write → writer.new ≡ writer.old) }
+{
+    let text = read_text(alloc, reader)?;
+    let (verdict, answer) = answered(alloc, &text)?;
+    write_answer(writer, &answer)?;
+    Ok(verdict)
+}
+
+fn write_answer<W: Write>(writer: &mut W, answer: &[u8]) -> Result<(), TextFault>
+    ensures ok { OnOk result (Appends (W.contents writer.old) (W.contents writer.new) answer.now) }
+    ensures err { IfErr result (λ fault. fault ≡ TextFault.Write) }
+{
+    writer.write_all(answer).map_err(|_| TextFault::Write)?;
+    writer.flush().map_err(|_| TextFault::Write)
+}

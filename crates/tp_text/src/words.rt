@@ -1,0 +1,69 @@
+ghost use Rattle.std.specs.Prelude.{◌≡◌, ◌≢◌, ◌≤◌, ◌++◌, ◌∷◌, ℕ, List, length, decimal, MatchOption};
+ghost use Rattle.std.specs.List.{All};
+ghost use Rattle.tp_text.specs.Spelling.{IsNumber, spaced};
+ghost use Rattle.tp_text.specs.Words.{IsWordByte, IsDigit, BeginsWithout, Splits, numbers_in};
+
+use crate::number::leading_number;
+
+/// The numbers behind a word.
+#[derive(Clone, Copy)]
+pub(crate) enum Operands {
+    None,
+    One(u32),
+    Two(u32, u32),
+    Three(u32, u32, u32),
+}
+
+/// The word at the front, which ends at the first space or line feed, and what stands behind it.
+pub(crate) fn first_word(text: &[u8]) -> (&[u8], &[u8])
+    ensures { Splits IsWordByte text.now result.0.now result.1.now }
+{
+    let end = text.iter().position(|byte| *byte == b' ' || *byte == b'\n');
+    text.split_at(end.unwrap_or(text.len()))
+}
+
+/// What stands behind the line feed at the front.
+fn behind_line(text: &[u8]) -> Option<&[u8]>
+    ensures { MatchOption result
+        ((rest : List ℕ) → text.now ≢ 10 ∷ rest)
+        (λ rest. text.now ≡ 10 ∷ rest.now) }
+{
+    match text {
+        [b'\n', rest @ ..] => Some(rest),
+        _ => None,
+    }
+}
+
+/// The number behind the space at the front, and what stands behind it.
+fn next_number(text: &[u8]) -> Option<(u32, &[u8])>
+    ensures { MatchOption result
+        ((k : ℕ) (rest : List ℕ) → IsNumber k → BeginsWithout IsDigit rest → text.now ≢ 32 ∷ (decimal k ++ rest))
+        (λ found. IsNumber found.0 × BeginsWithout IsDigit found.1.now
+        × (text.now ≡ 32 ∷ (decimal found.0 ++ found.1.now))) }
+{
+    match text {
+        [b' ', rest @ ..] => leading_number(rest),
+        _ => None,
+    }
+}
+
+/// At most three numbers, each behind a space, to the end of the line, and what stands behind that line.
+pub(crate) fn operands_of(text: &[u8]) -> Option<(Operands, &[u8])>
+    ensures { MatchOption result
+        ((ks : List ℕ) (rest : List ℕ) → All IsNumber ks → length ks ≤ 3 → text.now ≢ spaced ks ++ 10 ∷ rest)
+        (λ found. All IsNumber (numbers_in found.0) × (text.now ≡ spaced (numbers_in found.0) ++ 10 ∷ found.1.now)) }
+{
+    if let Some(rest) = behind_line(text) {
+        return Some((Operands::None, rest));
+    }
+    let (first, text) = next_number(text)?;
+    if let Some(rest) = behind_line(text) {
+        return Some((Operands::One(first), rest));
+    }
+    let (second, text) = next_number(text)?;
+    if let Some(rest) = behind_line(text) {
+        return Some((Operands::Two(first, second), rest));
+    }
+    let (third, text) = next_number(text)?;
+    Some((Operands::Three(first, second, third), behind_line(text)?))
+}
