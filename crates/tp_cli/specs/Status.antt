@@ -1,5 +1,5 @@
 -- The exit status of a text's answer.
-use Rattle.std.specs.Prelude.{ℕ, List, ◌++◌, ◌∷◌, [], codes}
+use Rattle.std.specs.Prelude.{ℕ, List, codes}
 use Rattle.tp_text.specs.declared.Verdict.{Verdict}
 use Rattle.tp_text.specs.declared.Verdict.TheVariants as verdict
 use Rattle.tp_text.specs.declared.TextFault.{TextFault}

@@ -1,7 +1,5 @@
-ghost use Rattle.std.specs.Prelude.{◌≡◌, ℕ, List};
-ghost use Rattle.std.specs.Io.KnownBytes.{Appends};
-ghost use Rattle.tp_text.specs.Input.{ReadsAll};
-ghost use Rattle.tp_text.specs.SimText.{IsSimText};
+ghost use Rattle.std.specs.Prelude.{◌≡◌, ◌≢◌, ◌≤◌, ◌⊎◌};
+ghost use Rattle.tp_cli.specs.Answered.{IsAnswered};
 ghost use Rattle.tp_text.specs.declared.Verdict.TheVariants.{Sound, Refused as RefusedText};
 ghost use Rattle.tp_cli.specs.declared.status.Status.TheVariants.{Done, Refused};
 ghost use Rattle.tp_cli.specs.Status.{fault_line};
@@ -29,7 +27,13 @@ pub fn main_with<R: Read, O: Write, E: Write>(
     reader: &mut R,
     out: &mut O,
     err: &mut E,
-) -> u8 {
+) -> u8
+    ensures range { result ≤ 3 }
+    // Where it is done, a sound text was answered, or help was asked for and nothing was read.
+    ensures done { result ≡ 0 → IsAnswered (R.remaining reader.old) (R.remaining reader.new) (O.contents out.old) (O.contents out.new) Sound
+        ⊎ (reader.new ≡ reader.old) }
+    ensures refused { result ≡ 2 → IsAnswered (R.remaining reader.old) (R.remaining reader.new) (O.contents out.old) (O.contents out.new) RefusedText }
+{
     let status = match requested(alloc, words) {
         Ok(Request::Sim) => run_sim(alloc, reader, out, err),
         Err(error) => explain(&error, out, err),
@@ -43,7 +47,10 @@ fn requested(alloc: Global, words: &[&str]) -> Result<Request, Error> {
     let matches = command.try_get_matches_from_mut(words)?;
     match matches.subcommand_name() {
         Some("sim") => Ok(Request::Sim),
-        _ => Err(tp_command(alloc)?.error(ErrorKind::MissingSubcommand, "a subcommand is required")?),
+        _ => Err(tp_command(alloc)?.error(
+            ErrorKind::MissingSubcommand,
+            "a subcommand is required",
+        )?),
     }
 }
 
@@ -54,14 +61,8 @@ fn run_sim<R: Read, O: Write, E: Write>(
     out: &mut O,
     err: &mut E,
 ) -> Status
-    ensures sound { result ≡ Done → (bytes : List ℕ) × (text : List ℕ)
-        × ReadsAll (R.remaining reader.old) (R.remaining reader.new) bytes
-        × IsSimText bytes Sound text
-        × Appends (O.contents out.old) (O.contents out.new) text }
-    ensures refused { result ≡ Refused → (bytes : List ℕ) × (text : List ℕ)
-        × ReadsAll (R.remaining reader.old) (R.remaining reader.new) bytes
-        × IsSimText bytes RefusedText text
-        × Appends (O.contents out.old) (O.contents out.new) text }
+    ensures sound { result ≡ Done → IsAnswered (R.remaining reader.old) (R.remaining reader.new) (O.contents out.old) (O.contents out.new) Sound }
+    ensures refused { result ≡ Refused → IsAnswered (R.remaining reader.old) (R.remaining reader.new) (O.contents out.old) (O.contents out.new) RefusedText }
 {
     match sim(alloc, reader, out) {
         Ok(verdict) => Status::of_verdict(verdict),
@@ -85,7 +86,9 @@ fn fault_text(fault: TextFault) -> &'static str
 }
 
 /// Shows help where it was asked for, and else what is wrong with the words.
-fn explain<O: Write, E: Write>(error: &Error, out: &mut O, err: &mut E) -> Status {
+fn explain<O: Write, E: Write>(error: &Error, out: &mut O, err: &mut E) -> Status
+    ensures { result ≢ Refused }
+{
     if error.kind() == ErrorKind::OutOfMemory {
         let _ = err.write_all(fault_text(TextFault::Memory).as_bytes());
         return Status::Failed;

@@ -18,7 +18,8 @@ static TP_HELP: &str = "Try the life of a task:
 
 Every subcommand tells more with --help.";
 
-static SIM_HELP: &str = "The script is read from standard input: a line `nodes N`, 1 to 8, then a line for each step.
+static SIM_HELP: &str =
+    "The script is read from standard input: a line `nodes N`, 1 to 8, then a line for each step.
   insert I T K   task T at node I waits for K inputs, 0 to 16
   supply T       one input for task T
   begin T        task T begins to run

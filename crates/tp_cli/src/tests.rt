@@ -13,6 +13,7 @@ fn run(alloc: Global, words: &[&str], input: &str) -> Result<(u8, Vec<u8>, Vec<u
 }
 
 /// A reader that fails.
+#[derive(Drop)]
 struct Broken;
 
 impl Read for Broken {
@@ -21,7 +22,18 @@ impl Read for Broken {
     }
 }
 
+/// A reader that never ends.
+#[derive(Drop)]
+struct Endless;
+
+impl Read for Endless {
+    fn read(&mut self, buffer: &mut [u8]) -> io::Result<usize> {
+        Ok(buffer.len())
+    }
+}
+
 /// A writer that takes nothing.
+#[derive(Drop)]
 struct Full;
 
 impl Write for Full {
@@ -39,7 +51,8 @@ fn a_task_from_insert_to_done(rt: HostRuntime) -> Result<(), Fail> {
     let script = "nodes 1\ninsert 0 1 2\nsupply 1\nsupply 1\nbegin 1\ndone 1\nsupply 1\n";
     let (status, out, err) = run(rt.alloc(), &["tp", "sim"], script)?;
     assert_eq!(rt; status, 0);
-    let answer = "ok\nok\nok\nok\nok\nrefused 5 WrongLife\nnode 0 pending 1 sent 0 received 0\ntotal pending 1 sent 0 received 0 under 0\nquiet no\n";
+    let answer =
+        "ok\nok\nok\nok\nok\nrefused 5 WrongLife\nnode 0 pending 1 sent 0 received 0\ntotal pending 1 sent 0 received 0 under 0\nquiet no\n";
     assert_eq!(rt; out.as_slice(), answer.as_bytes());
     assert!(rt; err.is_empty());
     Ok(())
@@ -58,12 +71,25 @@ fn a_script_of_no_nodes_is_refused(rt: HostRuntime) -> Result<(), Fail> {
 fn faults_of_reading_and_writing(rt: HostRuntime) -> Result<(), Fail> {
     let mut out = Vec::new(rt.alloc());
     let mut err = Vec::new(rt.alloc());
-    assert_eq!(rt; main_with(rt.alloc(), &["tp", "sim"], &mut Broken, &mut out, &mut err), 1);
+    assert_eq!(rt;
+        main_with(rt.alloc(), &["tp", "sim"], &mut Broken, &mut out, &mut err),
+        1
+    );
     assert!(rt; out.is_empty());
     assert_eq!(rt; err.as_slice(), b"fault read\n".as_slice());
     let mut err = Vec::new(rt.alloc());
+    assert_eq!(rt;
+        main_with(rt.alloc(), &["tp", "sim"], &mut Endless, &mut out, &mut err),
+        1
+    );
+    assert!(rt; out.is_empty());
+    assert_eq!(rt; err.as_slice(), b"fault too long\n".as_slice());
+    let mut err = Vec::new(rt.alloc());
     let mut reader = b"nodes 1\n".as_slice();
-    assert_eq!(rt; main_with(rt.alloc(), &["tp", "sim"], &mut reader, &mut Full, &mut err), 1);
+    assert_eq!(rt;
+        main_with(rt.alloc(), &["tp", "sim"], &mut reader, &mut Full, &mut err),
+        1
+    );
     assert_eq!(rt; err.as_slice(), b"fault write\n".as_slice());
     Ok(())
 }

@@ -1,8 +1,7 @@
 //! Answers each of the example scripts.
 #![tactic(auto)]
 
-use std::fs;
-use std::io;
+use std::{fs, io};
 use tp_text::sim;
 
 static NAMES: [&str; 4] = [
