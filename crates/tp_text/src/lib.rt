@@ -12,6 +12,9 @@ mod simulation;
 mod verdict;
 mod words;
 
+#[cfg(test)]
+mod tests;
+
 pub use fault::TextFault;
 pub use laws::{scripts_are_determined, texts_are_determined};
 pub use simulation::sim;
