@@ -7,6 +7,7 @@ use Rattle.std.proofs.lemmas.List.Elements.{All-take}
 use Rattle.std.proofs.lemmas.Str.{digit_value_digit}
 use Rattle.std.proofs.lemmas.Str.Parse.{IsNumeralModel, numerals_by_value, tells_by_index, digits_value_short}
 use Rattle.std.specs.List.{All}
+use Rattle.std.specs.Prelude.{slice_index}
 use Rattle.std.specs.Str.Parse.{digits_value}
 use Rattle.tp_text.specs.Spelling.{IsNumber}
 use Rattle.tp_text.specs.Words.{IsDigit, BeginsWithout, Splits}
@@ -56,9 +57,13 @@ not_empty ds k none p e = omega (arith, ap length e, decimal_nonempty k (omega a
 pub not_long : (ds : List ℕ) (k : ℕ) → 6 < length ds → IsNumber k → ds ≢ decimal k
 not_long ds k long p e = omega (arith, ap length e, length-decimal-le 6 k (omega arith) (omega arith) (omega arith))
 
-pub not_padded : (ds : List ℕ) (k : ℕ) → 1 < length ds → get_or ds 0 0 ≡ 48 → IsNumber k → ds ≢ decimal k
-not_padded ds zero long first p e = let one : length (decimal 0) ≡ 1 = ap length (decimal_digit 0 (omega arith)) in omega (arith, ap length e)
-not_padded ds (suc k) long first p e = omega (arith, ap (λ l. get_or l 0 0) e, first_decimal (suc k) (omega arith) (omega arith))
+pub not_padded : (ds : List ℕ) (k : ℕ) → (1 < length ds) × (slice_index ds 0 ≡ 48) → IsNumber k → ds ≢ decimal k
+not_padded ds zero padded p e =
+    let one : length (decimal 0) ≡ 1 = ap length (decimal_digit 0 (omega arith)) in omega (arith, padded.0, ap length e)
+not_padded ds (suc k) padded p e = omega (arith, padded.1, ap (λ l. get_or l 0 0) e, first_decimal (suc k) (omega arith) (omega arith))
+
+pub plain : (ds : List ℕ) → 0 < length ds → ¬ ((1 < length ds) × (slice_index ds 0 ≡ 48)) → get_or ds 0 0 ≡ 48 → length ds ≡ 1
+plain ds some not first = grind (arith, not)
 
 -- fewer digits, a smaller value
 pub value_small : (ds : List ℕ) (n : ℕ) → All IsDigit ds → digits_value 10 (take n ds) < 10 ^ n

@@ -1,5 +1,5 @@
 -- Lines and sums, one node further.
-use Rattle.std.proofs.Common.{◌≡◌, ℕ, zero, suc, ◌+◌, ◌<◌, ◌≤◌, Bool, true, false, not, ◌&&◌, eqb, List, [], ◌∷◌, ◌++◌, length, get_or, take, codes, decimal, refl, sym, ap, ◌∙◌, add-one, append_assoc, arith, rules, if◌then◌else◌}
+use Rattle.std.proofs.Common.{◌≡◌, ℕ, zero, suc, ◌+◌, ◌<◌, ◌≤◌, Bool, true, false, not, ◌&&◌, List, [], ◌∷◌, ◌++◌, length, take, codes, decimal, refl, sym, ap, ◌∙◌, add-one, append_assoc, arith, rules, if◌then◌else◌}
 use Rattle.std.proofs.Math.Seq.{get_or-take, length-take-le}
 use Rattle.std.proofs.lemmas.Bool.Decides.{nat_tests}
 use Rattle.std.specs.Prelude.{IsTrue, IsFalse, ◌↔◌, ◌==◌}
@@ -103,7 +103,7 @@ closing_written a xs x under b out p q r lists sums u quiet ep eq er =
     (line (codes "quiet " ++ (if is_quiet (world_of a) then codes "yes" else codes "no"))) p q r
     (ep ∙ ap (λ l. out ++ l) (numbers_lines xs a lists))
     (eq ∙ ap (λ l. p ++ line (codes "total" ++ l ++ codes " under " ++ decimal under)) (numbers_sums xs x a lists sums)
-      ∙ ap (λ n. p ++ line (codes "total" ++ counts (all_numbers a.nodes (λ i. numbers_at i a)) ++ codes " under " ++ decimal n)) u)
+    ∙ ap (λ n. p ++ line (codes "total" ++ counts (all_numbers a.nodes (λ i. numbers_at i a)) ++ codes " under " ++ decimal n)) u)
     (er ∙ ap (λ v. q ++ line (codes "quiet " ++ (if v then codes "yes" else codes "no"))) (quiet_is b (world_of a) quiet))
 
 -- the first numbers of more

@@ -1,13 +1,13 @@
 -- The lines of a script that were taken, and what was answered to them.
-use Rattle.std.proofs.Common.{◌≡◌, ◌≢◌, ℕ, zero, suc, ◌+◌, ◌≤◌, ◌<◌, Bool, true, false, List, [], ◌∷◌, ◌++◌, length, codes, decimal, is_some, Result, refl, sym, ap, ◌∙◌, subst, add-one, append_assoc, append-nil, length-append, arith, inl, inr, if◌then◌else◌}
+use Rattle.std.proofs.Common.{◌≡◌, ℕ, ◌+◌, ◌≤◌, ◌<◌, Bool, true, false, List, [], ◌∷◌, ◌++◌, length, codes, decimal, is_some, Result, refl, sym, ap, ◌∙◌, append_assoc, append-nil, length-append, arith, inl, inr, if◌then◌else◌}
 use Rattle.std.specs.List.{All, flat_map}
 use Rattle.tp_base.specs.declared.Refusal.{Refusal}
 use Rattle.tp_base.specs.declared.Step.{Step}
 use Rattle.tp_core.specs.declared.Reply.{Reply}
 use Rattle.tp_core.specs.Accepted.{Accepted, answer, next, answers, after_all, refusal, with_step}
 use Rattle.tp_text.specs.declared.verdict.Verdict.TheVariants.{Sound, Refused}
-use Rattle.tp_text.specs.Script.{nodes_line, step_line, script, IsNodeCount, IsScript, BeginsWithNodes, BeginsWithStep, StopsAfter, HasFaultAt}
-use Rattle.tp_text.specs.SimText.{answer_line, closing, fresh, report, IsSimText}
+use Rattle.tp_text.specs.Script.{nodes_line, step_line, script, IsNodeCount, IsScript, BeginsWithNodes, BeginsWithStep, StopsAfter}
+use Rattle.tp_text.specs.SimText.{answer_line, closing, fresh, IsSimText}
 use Rattle.tp_text.specs.Spelling.{IsSpelled, line, spelling}
 use Rattle.tp_text.proofs.Splits.{All-nil, All-cons, All-head, All-tail}
 
@@ -80,13 +80,13 @@ takes_one text n taken rest core out number s behind r core' out' h found answer
   count = h.count;
   spelled = All-more IsSpelled taken s h.spelled found.0;
   text_is =
-  h.text_is ∙ ap (λ l. script n taken ++ l) found.1 ∙ sym (append_assoc (script n taken) (step_line s) behind)
-  ∙ ap (λ l. l ++ behind) (append_assoc (nodes_line n) (flat_map step_line taken) (step_line s) ∙ ap (λ l. nodes_line n ++ l) (sym (lines_more taken s)));
+      h.text_is ∙ ap (λ l. script n taken ++ l) found.1 ∙ sym (append_assoc (script n taken) (step_line s) behind)
+      ∙ ap (λ l. l ++ behind) (append_assoc (nodes_line n) (flat_map step_line taken) (step_line s) ∙ ap (λ l. nodes_line n ++ l) (sym (lines_more taken s)));
   core_is = after ∙ ap (λ a. next a s) h.core_is ∙ sym (after_more (fresh n) taken s);
   out_is =
-  written ∙ ap (λ l. l ++ answer_line r) h.out_is
-  ∙ ap (λ y. flat_map answer_line (answers (fresh n) taken) ++ answer_line y) (answered ∙ ap (λ a. answer a s) h.core_is)
-  ∙ sym (answers_more (fresh n) taken s);
+      written ∙ ap (λ l. l ++ answer_line r) h.out_is
+      ∙ ap (λ y. flat_map answer_line (answers (fresh n) taken) ++ answer_line y) (answered ∙ ap (λ a. answer a s) h.core_is)
+      ∙ sym (answers_more (fresh n) taken s);
   number_is = omega (arith, h.number_is, length-append taken (s ∷ []));
   short = omega (arith, h.short, ap length found.1, step_counts s behind);
 }
@@ -94,9 +94,12 @@ takes_one text n taken rest core out number s behind r core' out' h found answer
 pub takes_all : (text : List ℕ) (n : ℕ) (taken : List Step) (rest : List ℕ) (core : Accepted) (out : List ℕ) (number : ℕ) (out' : List ℕ)
     → Takes text n taken rest core out number → length rest ≡ 0 → out' ≡ out ++ closing core → IsSimText text Sound out'
 takes_all text n taken rest core out number out' h none written =
-    let whole : text ≡ script n taken = h.text_is ∙ ap (λ l. script n taken ++ l) (is_over rest none) ∙ append-nil (script n taken) in
-    (n, taken, record { nodes = h.count; spelled = h.spelled; text = whole },
-      written ∙ ap (λ l. l ++ closing core) h.out_is ∙ ap (λ a. flat_map answer_line (answers (fresh n) taken) ++ closing a) h.core_is)
+    let whole : text ≡ script n taken = h.text_is ∙ ap (λ l. script n taken ++ l) (is_over rest none) ∙ append-nil (script n taken) in (
+      n,
+      taken,
+      record { nodes = h.count; spelled = h.spelled; text = whole },
+      written ∙ ap (λ l. l ++ closing core) h.out_is ∙ ap (λ a. flat_map answer_line (answers (fresh n) taken) ++ closing a) h.core_is,
+    )
 
 pub takes_fault : (text : List ℕ) (n : ℕ) (taken : List Step) (rest : List ℕ) (core : Accepted) (out : List ℕ) (number : ℕ) (out' : List ℕ)
     → Takes text n taken rest core out number → 0 < length rest → ¬ BeginsWithStep rest

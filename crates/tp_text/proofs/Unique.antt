@@ -4,7 +4,7 @@ use Rattle.std.specs.List.{All, flat_map}
 use Rattle.tp_base.specs.declared.Step.{Step}
 use Rattle.tp_text.specs.Script.{nodes_line, step_line, script, IsNodeCount, IsScript, BeginsWithNodes, BeginsWithStep, StopsAfter, HasFaultAt, ScriptsAreDetermined}
 use Rattle.tp_text.specs.declared.verdict.Verdict.TheVariants.{Sound, Refused}
-use Rattle.tp_text.specs.SimText.{report, IsSimText, TextsAreDetermined}
+use Rattle.tp_text.specs.SimText.{report, TextsAreDetermined}
 use Rattle.tp_text.specs.Spelling.{IsSpelled, line, spaced, word_of, numbers_of}
 use Rattle.tp_text.proofs.NoLine.{is_number}
 use Rattle.tp_text.proofs.Spelled.{one_word, line_parts, word_bytes, ends_word, same_numbers, same_step}
@@ -66,7 +66,7 @@ pub no_fault : (bytes : List ℕ) (n : ℕ) (steps : List Step) (l : ℕ) → Is
 no_fault bytes n steps l h (inl q) = q.1 (script_begins bytes n steps [] h.nodes (h.text ∙ sym (append-nil (script n steps))))
 no_fault bytes n steps l h (inr (m, others, b, g, q)) =
     g.more (sym (same_reading n m steps others [] b h.nodes g.before.nodes h.spelled g.before.spelled no_step_in_nothing g.no_step
-        (append-nil (script n steps) ∙ sym h.text ∙ g.text)).2)
+    (append-nil (script n steps) ∙ sym h.text ∙ g.text)).2)
 
 pub scripts_determined : ScriptsAreDetermined
 scripts_determined bytes n m steps others h g =

@@ -11,5 +11,4 @@ pub fn scripts_are_determined()
 #[tactic(auto, using(crate::proofs::Unique::texts_determined))]
 pub fn texts_are_determined()
     ensures { TextsAreDetermined }
-{
-}
+{}

@@ -9,10 +9,13 @@ mod number;
 mod parse;
 mod printing;
 mod simulation;
+#[cfg(test)]
+mod tests;
 mod verdict;
 mod words;
 
 pub use fault::TextFault;
+pub use input::{MAX_READS, MAX_TEXT};
 pub use laws::{scripts_are_determined, texts_are_determined};
 pub use simulation::sim;
 pub use verdict::Verdict;

@@ -1,7 +1,14 @@
-ghost use Rattle.std.specs.Prelude.{◌≡◌, ◌≢◌, ◌<◌, ◌++◌, ℕ, List, decimal, MatchOption};
+ghost use Rattle.std.specs.Prelude.{◌≡◌, ◌≢◌, ◌<◌, ◌↔◌, ◌++◌, ℕ, List, length, slice_index, decimal, IsTrue, MatchOption};
 ghost use Rattle.std.specs.List.{All};
 ghost use Rattle.tp_text.specs.Spelling.{IsNumber};
 ghost use Rattle.tp_text.specs.Words.{IsDigit, BeginsWithout, Splits};
+
+/// There are several digits, and the first is a zero.
+fn is_padded(digits: &[u8]) -> bool
+    ensures { IsTrue result ↔ ((1 < length digits.now) × (slice_index digits.now 0 ≡ 48)) }
+{
+    digits.len() > 1 && digits[0] == b'0'
+}
 
 /// The number that digits spell: one to six of them, with no leading zero.
 fn number(digits: &[u8]) -> Option<u32>
@@ -10,7 +17,7 @@ fn number(digits: &[u8]) -> Option<u32>
         ((k : ℕ) → IsNumber k → digits.now ≢ decimal k)
         (λ k. IsNumber k × (digits.now ≡ decimal k)) }
 {
-    if digits.is_empty() || digits.len() > 6 || (digits.len() > 1 && digits[0] == b'0') {
+    if digits.is_empty() || digits.len() > 6 || is_padded(digits) {
         return None;
     }
     let mut value = 0;

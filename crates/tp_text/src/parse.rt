@@ -18,8 +18,9 @@ fn step_named(keyword: Keyword, operands: Operands) -> Option<Step>
         × (word_of s ≡ keyword_text keyword) × (numbers_of s ≡ numbers_in operands)) }
 {
     Some(match (keyword, operands) {
-        (Keyword::Insert, Operands::Three(i, t, k)) if k <= 16 => {
-            Step::Insert(NodeId(i), TaskId(t), Inputs::new(k as u8)?)
+        (Keyword::Insert, Operands::Three(i, t, k)) => {
+            let inputs = Inputs::new(u8::try_from(k).ok()?)?;
+            Step::Insert(NodeId(i), TaskId(t), inputs)
         }
         (Keyword::Supply, Operands::One(t)) => Step::Supply(TaskId(t)),
         (Keyword::Begin, Operands::One(t)) => Step::Begin(TaskId(t)),

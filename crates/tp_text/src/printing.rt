@@ -58,9 +58,9 @@ struct Counts {
 impl Counts {
     fn of(numbers: &NodeNumbers) -> Counts
         ensures value { result ≡ record {
-            pending = numbers.now.pending;
-            sent = numbers.now.sent;
-            received = numbers.now.received;
+          pending = numbers.now.pending;
+          sent = numbers.now.sent;
+          received = numbers.now.received;
         } }
         ensures small { (result.pending < 2 ^ 32) × (result.sent < 2 ^ 32) × (result.received < 2 ^ 32) }
     {
@@ -76,9 +76,9 @@ impl Counts {
         requires sent { self.sent + other.sent < 2 ^ 64 }
         requires received { self.received + other.received < 2 ^ 64 }
         ensures { result ≡ record {
-            pending = self.pending + other.pending;
-            sent = self.sent + other.sent;
-            received = self.received + other.received;
+          pending = self.pending + other.pending;
+          sent = self.sent + other.sent;
+          received = self.received + other.received;
         } }
     {
         Counts {
@@ -91,9 +91,9 @@ impl Counts {
 
 fn push_counts(out: &mut Vec<u8>, numbers: Counts) -> Result<(), AllocError>
     ensures { OnOk result (out.new.items ≡ out.old.items ++ counts (record {
-        pending = numbers.pending;
-        sent = numbers.sent;
-        received = numbers.received;
+      pending = numbers.pending;
+      sent = numbers.sent;
+      received = numbers.received;
     })) }
 {
     push_count(out, b" pending ", numbers.pending)?;
@@ -125,7 +125,11 @@ fn all_counts(nodes: &[NodeNumbers]) -> Counts
     ensures sent { result.sent ≡ total (length nodes.now) (λ i. (listed nodes.now i).sent) }
     ensures received { result.received ≡ total (length nodes.now) (λ i. (listed nodes.now i).received) }
 {
-    let mut sums = Counts { pending: 0, sent: 0, received: 0 };
+    let mut sums = Counts {
+        pending: 0,
+        sent: 0,
+        received: 0,
+    };
     for numbers in nodes {
         sums = sums.plus(Counts::of(numbers));
     }
@@ -134,9 +138,9 @@ fn all_counts(nodes: &[NodeNumbers]) -> Counts
 
 fn push_total(out: &mut Vec<u8>, sums: Counts, under: u64) -> Result<(), AllocError>
     ensures { OnOk result (out.new.items ≡ out.old.items ++ line (codes "total" ++ counts (record {
-        pending = sums.pending;
-        sent = sums.sent;
-        received = sums.received;
+      pending = sums.pending;
+      sent = sums.sent;
+      received = sums.received;
     }) ++ codes " under " ++ decimal under)) }
 {
     out.extend_from_slice(b"total")?;

@@ -1,4 +1,4 @@
-use Rattle.std.proofs.Common.{[], ◌∷◌, ◌++◌, ◌+◌, ◌≤◌, length, sym, ap, ◌∙◌, arith}
+use Rattle.std.proofs.Common.{[], ◌∷◌, ◌++◌, sym, ap, ◌∙◌, arith}
 use Rattle.std.proofs.lemmas.Bool.Decides.{nat_tests}
 use Rattle.std.proofs.lemmas.Grind.{common_steps}
 use Rattle.tp_core.specs.Accepted.{Accepted}
@@ -14,9 +14,10 @@ loop-rest-init c = ([], takes_none _ _ _ _ _ c.in-Some.ensures c.new-core.ensure
 
 pub loop-rest-preserved : goal.loop-rest-preserved
 loop-rest-preserved c =
-    let ample = c.step-answer.ensures.ample (grind (arith, common_steps)) in
-    (c.loop-rest.invariant.0 ++ c.in-Some-next_step.step ∷ [],
-      takes_one _ _ c.loop-rest.invariant.0 _ _ _ _ c.in-Some-next_step.step _ _ _ _ c.loop-rest.invariant.1 c.in-Some-next_step.ensures ample.0 ample.1 c.in_ok-push_answer.ensures)
+    let ample = c.step-answer.ensures.ample (grind (arith, common_steps)) in (
+      c.loop-rest.invariant.0 ++ c.in-Some-next_step.step ∷ [],
+      takes_one _ _ c.loop-rest.invariant.0 _ _ _ _ c.in-Some-next_step.step _ _ _ _ c.loop-rest.invariant.1 c.in-Some-next_step.ensures ample.0 ample.1 c.in_ok-push_answer.ensures,
+    )
 
 pub loop-rest-smaller : goal.loop-rest-smaller
 loop-rest-smaller c = shorter c.in-Some-next_step.step _ _ c.in-Some-next_step.ensures.1
