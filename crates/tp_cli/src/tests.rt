@@ -125,3 +125,147 @@ fn help_goes_to_the_output(rt: HostRuntime) -> Result<(), Fail> {
     assert!(rt; text.contains("insert I T K"));
     Ok(())
 }
+
+/// The answer of `tp sim` to a script that is sound, both with a semicolon for each line feed.
+fn answer_to(alloc: Global, script: &str) -> Result<String, Fail> {
+    let script = script.replace(alloc, ";", "\n")?;
+    let (status, out, err) = run(alloc, &["tp", "sim"], script.as_str())?;
+    if status != 0 || !err.is_empty() {
+        return Err(Fail::from("a sound script"));
+    }
+    let answer = String::from_utf8(out).ok().ok_or("text")?;
+    Ok(answer.replace(alloc, "\n", ";")?)
+}
+
+#[test]
+fn the_opening_action_is_pending(rt: HostRuntime) -> Result<(), Fail> {
+    let answer = answer_to(rt.alloc(), "nodes 1;")?;
+    assert_eq!(rt;
+        answer.as_str(),
+        "node 0 pending 1 sent 0 received 0;total pending 1 sent 0 received 0 under 0;\
+         quiet no;"
+    );
+    Ok(())
+}
+
+#[test]
+fn an_idle_node_inserts_nothing(rt: HostRuntime) -> Result<(), Fail> {
+    let answer = answer_to(rt.alloc(), "nodes 1;ready 0;insert 0 1 0;")?;
+    assert_eq!(rt;
+        answer.as_str(),
+        "ok;refused 6 Inactive;node 0 pending 0 sent 0 received 0;\
+         total pending 0 sent 0 received 0 under 0;quiet yes;"
+    );
+    Ok(())
+}
+
+#[test]
+fn a_message_is_received_once(rt: HostRuntime) -> Result<(), Fail> {
+    let answer = answer_to(rt.alloc(), "nodes 2;send 0 1 7;recv 1 7;recv 1 7;")?;
+    assert_eq!(rt;
+        answer.as_str(),
+        "ok;ok;refused 10 NoMessage;node 0 pending 1 sent 1 received 0;\
+         node 1 pending 2 sent 0 received 1;total pending 3 sent 1 received 1 under 0;\
+         quiet no;"
+    );
+    Ok(())
+}
+
+#[test]
+fn a_message_overtakes_the_wave(rt: HostRuntime) -> Result<(), Fail> {
+    let answer = answer_to(
+        rt.alloc(),
+        "nodes 3;ready 0;ready 1;start;down 1;give 1;send 2 1 1;recv 1 1;send 1 2 2;recv 2 2;\
+         end 2 2;ready 2;down 2;give 2;up 1;up 2;give 0;judge;end 1 1;start;down 1;give 1;\
+         down 2;give 2;up 1;up 2;give 0;judge;start;down 1;give 1;down 2;give 2;up 1;up 2;\
+         give 0;judge;",
+    )?;
+    assert_eq!(rt;
+        answer.as_str(),
+        "ok;ok;ok;ok;ok;ok;ok;ok;ok;ok;ok;ok;ok;ok;ok;wave 1 sent 1 received 1;not;ok;ok;ok;\
+         ok;ok;ok;ok;ok;wave 2 sent 2 received 2;not;ok;ok;ok;ok;ok;ok;ok;\
+         wave 3 sent 2 received 2;ended 2;node 0 pending 0 sent 0 received 0;\
+         node 1 pending 0 sent 1 received 1;node 2 pending 0 sent 1 received 1;\
+         total pending 0 sent 2 received 2 under 0;quiet yes;"
+    );
+    Ok(())
+}
+
+#[test]
+fn two_waves_end_a_pool_without_messages(rt: HostRuntime) -> Result<(), Fail> {
+    let answer = answer_to(
+        rt.alloc(),
+        "nodes 2;ready 0;ready 1;start;down 1;give 1;up 1;give 0;judge;start;down 1;give 1;\
+         up 1;give 0;judge;",
+    )?;
+    assert_eq!(rt;
+        answer.as_str(),
+        "ok;ok;ok;ok;ok;ok;wave 1 sent 0 received 0;not;ok;ok;ok;ok;wave 2 sent 0 received 0;\
+         ended 1;node 0 pending 0 sent 0 received 0;node 1 pending 0 sent 0 received 0;\
+         total pending 0 sent 0 received 0 under 0;quiet yes;"
+    );
+    Ok(())
+}
+
+#[test]
+fn nothing_starts_after_the_end(rt: HostRuntime) -> Result<(), Fail> {
+    let answer = answer_to(
+        rt.alloc(),
+        "nodes 1;ready 0;start;give 0;judge;start;give 0;judge;start;insert 0 1 0;",
+    )?;
+    assert_eq!(rt;
+        answer.as_str(),
+        "ok;ok;wave 1 sent 0 received 0;not;ok;wave 2 sent 0 received 0;ended 1;\
+         refused 15 Ended;refused 6 Inactive;node 0 pending 0 sent 0 received 0;\
+         total pending 0 sent 0 received 0 under 0;quiet yes;"
+    );
+    Ok(())
+}
+
+#[test]
+fn an_active_node_gives_nothing(rt: HostRuntime) -> Result<(), Fail> {
+    let answer = answer_to(
+        rt.alloc(),
+        "nodes 2;ready 0;open 1 4;ready 1;start;down 1;give 1;close 1 4;give 1;",
+    )?;
+    assert_eq!(rt;
+        answer.as_str(),
+        "ok;ok;ok;ok;ok;refused 11 NotIdle;ok;ok;node 0 pending 0 sent 0 received 0;\
+         node 1 pending 0 sent 0 received 0;total pending 0 sent 0 received 0 under 0;\
+         quiet yes;"
+    );
+    Ok(())
+}
+
+#[test]
+fn a_wave_goes_by_its_tokens(rt: HostRuntime) -> Result<(), Fail> {
+    let answer = answer_to(
+        rt.alloc(),
+        "nodes 2;ready 0;ready 1;start;give 0;start;judge;give 1;",
+    )?;
+    assert_eq!(rt;
+        answer.as_str(),
+        "ok;ok;ok;refused 12 NoToken;refused 13 WaveOpen;refused 14 WaveNotEnded;\
+         refused 12 NoToken;node 0 pending 0 sent 0 received 0;\
+         node 1 pending 0 sent 0 received 0;total pending 0 sent 0 received 0 under 0;\
+         quiet yes;"
+    );
+    Ok(())
+}
+
+#[test]
+fn a_message_that_never_comes_keeps_the_detector_silent(rt: HostRuntime) -> Result<(), Fail> {
+    let answer = answer_to(
+        rt.alloc(),
+        "nodes 2;send 0 1 1;ready 0;ready 1;start;down 1;give 1;up 1;give 0;judge;start;\
+         down 1;give 1;up 1;give 0;judge;",
+    )?;
+    assert_eq!(rt;
+        answer.as_str(),
+        "ok;ok;ok;ok;ok;ok;ok;wave 1 sent 1 received 0;not;ok;ok;ok;ok;\
+         wave 2 sent 1 received 0;not;node 0 pending 0 sent 1 received 0;\
+         node 1 pending 0 sent 0 received 0;total pending 0 sent 1 received 0 under 1;\
+         quiet no;"
+    );
+    Ok(())
+}
