@@ -1,12 +1,12 @@
 -- The values that pages have, after a change of one page.
-use Rattle.std.proofs.Common.{ℕ, zero, suc, ◌+◌, ◌-◌, ◌*◌, ◌/◌, ◌%◌, ◌≡◌, ◌<◌, ◌≤◌, List, [], ◌∷◌, ◌++◌, Bool, true, false, Option, Some, None, length, refl, ap, sym, ◌∙◌, arith, set, get_or, eqb-true, take, take_all, replicate, inl, inr}
+use Rattle.std.proofs.Common.{ℕ, zero, suc, ◌-◌, ◌/◌, ◌%◌, ◌≡◌, ◌<◌, ◌≤◌, List, [], ◌∷◌, ◌++◌, Bool, true, false, Option, Some, None, length, refl, arith, set, eqb-true, take, take_all, replicate, inl, inr}
 use Rattle.std.proofs.lemmas.Bool.{cases_lt}
 use Rattle.std.proofs.lemmas.Bool.Decides.{nat_tests}
-use Rattle.std.proofs.lemmas.Option.{slice_get_past, slice_get_within, slice_get-get_or}
+use Rattle.std.proofs.lemmas.Option.{slice_get_past, slice_get_within}
 use Rattle.std.specs.Prelude.{◌==◌, IsSome, slice_get, if◌then◌else◌}
 use Rattle.std.specs.Global.{Vec}
 use Rattle.std.specs.Option.{option_flatten}
-use Rattle.tp_core.specs.declared.table.TheConstants.{PAGE, PAGED}
+use Rattle.tp_core.specs.declared.table.TheConstants.{PAGE}
 use Rattle.tp_core.specs.Table.{in_page, in_pages, page_len, places}
 
 slice_get-set : {A : Type 0} (xs : List A) (i k : ℕ) (v : A) → i < length xs → slice_get (set xs i v) k ≡ (if i == k then Some v else slice_get xs k)
@@ -45,6 +45,7 @@ value_written {V} pages key value old new there place now k =
     second : (b : Bool) (o : Option (Option V)) → option_flatten (if b then Some (Some value) else o) ≡ (if b then Some value else option_flatten o)
     second true o = refl
     second false o = refl
+
     choose : (b : Bool) → ((key / PAGE) == (k / PAGE)) ≡ b
         → in_page (k % PAGE) (if b then Some new else slice_get pages (k / PAGE)) ≡ (if key == k then Some value else in_page (k % PAGE) (slice_get pages (k / PAGE)))
     choose true is =

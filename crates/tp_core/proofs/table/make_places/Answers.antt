@@ -1,4 +1,4 @@
-use Rattle.std.proofs.Common.{◌≡◌, ◌≤◌, Some, length, refl, arith, sym, ◌∙◌, ap, take, replicate}
+use Rattle.std.proofs.Common.{◌≡◌, ◌≤◌, Some, arith, sym, ◌∙◌, ap}
 use Rattle.std.proofs.lemmas.Option.{slice_get-get_or}
 use Rattle.std.specs.Prelude.{slice_get}
 use Rattle.std.specs.Option.{option_flatten}

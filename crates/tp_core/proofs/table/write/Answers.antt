@@ -1,4 +1,4 @@
-use Rattle.std.proofs.Common.{◌≡◌, ◌<◌, ◌%◌, ◌/◌, Some, length, refl, arith, sym, ◌∙◌, ap, get_or}
+use Rattle.std.proofs.Common.{◌≡◌, ◌%◌, ◌/◌, Some, refl, arith, sym, ◌∙◌, ap}
 use Rattle.std.proofs.lemmas.Option.{slice_get-get_or}
 use Rattle.std.specs.Prelude.{slice_get}
 use Rattle.tp_core.specs.declared.table.TheConstants.{PAGE}
@@ -16,7 +16,7 @@ index_mut-requires g c =
     let pages = c.args.pages.now.items in
     let page = c.index_mut-page.result.now in
     let there : slice_get pages i ≡ Some page =
-      slice_get-get_or pages i page (there_from_places pages i (c.args.key % PAGE) c.requires) ∙ ap Some (sym c.index_mut-page.ensures.value) in
+    slice_get-get_or pages i page (there_from_places pages i (c.args.key % PAGE) c.requires) ∙ ap Some (sym c.index_mut-page.ensures.value) in
     let places = places-at pages i page there in
     let h = c.requires in
     let len = page.ok.0 in omega arith
@@ -27,7 +27,7 @@ returns g c =
     let pages = c.args.pages.now.items in
     let page = c.index_mut-page.result.now in
     let there : slice_get pages i ≡ Some page =
-      slice_get-get_or pages i page (there_from_places pages i (c.args.key % PAGE) c.requires) ∙ ap Some (sym c.index_mut-page.ensures.value) in
+    slice_get-get_or pages i page (there_from_places pages i (c.args.key % PAGE) c.requires) ∙ ap Some (sym c.index_mut-page.ensures.value) in
     let places = places-at pages i page there in
     let h = c.requires in
     value_written pages c.args.key c.args.value page _ there (omega arith) refl

@@ -1,4 +1,4 @@
-use Rattle.std.proofs.Common.{◌≡◌, ◌<◌, arith, refl, ◌∙◌}
+use Rattle.std.proofs.Common.{◌<◌, arith, refl, ◌∙◌}
 use Rattle.std.proofs.lemmas.Bool.Decides.{nat_tests}
 use Rattle.tp_base.specs.declared.Step.TheVariants.{ActionOpen}
 use Rattle.tp_base.specs.declared.limits.TheConstants.{MAX_NODES}

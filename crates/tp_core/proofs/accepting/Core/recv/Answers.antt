@@ -1,12 +1,10 @@
-use Rattle.std.proofs.Common.{◌≡◌, ◌<◌, Some, true, arith, refl, ◌∙◌}
-use Rattle.std.proofs.lemmas.Bool.Decides.{nat_tests}
+use Rattle.std.proofs.Common.{◌≡◌, ◌<◌, Some, arith, refl}
+use Rattle.std.proofs.lemmas.Grind.{common_steps}
 use Rattle.tp_base.specs.declared.Step.TheVariants.{Recv}
 use Rattle.tp_base.specs.declared.limits.TheConstants.{MAX_NODES}
 use Rattle.tp_core.specs.declared.posted.Stage.TheVariants as stage
 use Rattle.tp_core.specs.Table.{lookup}
-use Rattle.tp_core.specs.World.{is_under_way}
 use Rattle.tp_core.specs.Run.{IsLawful}
-use Rattle.tp_core.specs.Accepted.{world_of}
 use Rattle.tp_core.specs.Kept.{accepted}
 use Rattle.tp_core.proofs.Sets.{lists_are_sets}
 use Rattle.tp_core.proofs.Keeping.{agree_next, numbers_written}
@@ -28,20 +26,21 @@ pub overflow_add-self : goal.overflow_add-self
 overflow_add-self c = let bounds = small c.self.invariant 0 (omega arith) in omega (arith, bounds.left)
 
 pub overflow_sub-self : goal.overflow_sub-self
-overflow_sub-self c = may_receive c.self.invariant c.args.message.0 c.args.node.0 (grind (arith, nat_tests, c.in-Some-UnderWay.ensures, c.if-to-node.false))
+overflow_sub-self c =
+    let was : lookup c.self.inside.messages c.args.message.0 ≡ Some (record { to = c.args.node; stage = stage.UnderWay }) =
+    grind (arith, common_steps, c.get.ensures, c.new-under_way.ensures, c.ne.ensures, c.if-ne.false) in
+    (may_receive c.self.invariant c.args.node c.args.message.0 (omega arith) was).under
 
 pub invariant_of-self-2 : goal.invariant_of-self-2
 invariant_of-self-2 c =
     let agree = c.self.invariant in
-    let few = agree.few_nodes in
     let s = Recv c.args.node c.args.message in
     let was : lookup c.self.inside.messages c.args.message.0 ≡ Some (record { to = c.args.node; stage = stage.UnderWay }) =
-    grind (arith, c.in-Some-UnderWay.ensures, c.if-to-node.false) in
-    let there : is_under_way c.args.message.0 c.args.node.0 (world_of (accepted c.self.inside)) ≡ true =
-    agree.messages.under_way c.args.message.0 c.args.node.0 ∙ grind (arith, nat_tests, was) in
-    let lawful : IsLawful c.self.inside.nodes (accepted c.self.inside).steps s = (omega arith, there) in
+    grind (arith, common_steps, c.get.ensures, c.new-under_way.ensures, c.ne.ensures, c.if-ne.false) in
+    let may = may_receive agree c.args.node c.args.message.0 (omega arith) was in
+    let lawful : IsLawful c.self.inside.nodes (accepted c.self.inside).steps s = (omega arith, may.there) in
     agree_next s agree lawful (c.in_ok-make_room.ensures.ok).0 refl refl refl c.make_room.ensures.items c.push_reserved.ensures.items
-    (numbers_written s agree.numbers lawful c.args.node.0 _ (omega arith) refl refl) refl refl agree.tasks
-    (received agree.actions _ c.args.message.0 c.args.node was (rw c.if-to-node.false at c.set.ensures))
+    (numbers_written s agree.numbers lawful c.args.node.0 _ may.inside refl refl) refl refl agree.tasks
+    (received agree.actions _ c.args.message.0 c.args.node was (rw c.new.ensures at c.set.ensures))
     (message_received agree.messages _ c.args.message.0 c.args.node ((lists_are_sets _ _ agree.is_run).messages c.args.message.0) was
-    (rw c.if-to-node.false at c.set.ensures))
+    (rw c.new.ensures at c.set.ensures))

@@ -31,5 +31,5 @@ invariant_of-self-2 c =
     (omega arith, omega arith, λ e. omega arith, grind (arith, known, fresh), grind (arith, nat_tests, there)) in
     agree_next s agree lawful (c.in_ok-make_room.ensures.ok).0 refl refl refl c.make_room.ensures.items c.push_reserved.ensures.items
     (numbers_written s agree.numbers lawful c.args.from.0 _ low refl refl) refl refl agree.tasks
-    (posted agree.actions _ c.args.message.0 c.args.to fresh c.in_ok-insert.ensures.ok)
-    (message_sent agree.messages _ c.args.from.0 c.args.message.0 c.args.to fresh c.in_ok-insert.ensures.ok)
+    (posted agree.actions _ c.args.message.0 c.args.to fresh (rw c.new-under_way.ensures at c.in_ok-insert.ensures.ok))
+    (message_sent agree.messages _ c.args.from.0 c.args.message.0 c.args.to fresh (rw c.new-under_way.ensures at c.in_ok-insert.ensures.ok))
