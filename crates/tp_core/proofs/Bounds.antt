@@ -138,7 +138,7 @@ pub may_receive : {c : Inside} → IsKept c → (i : NodeId) (m : ℕ) → i.0 <
     → MayReceive c i.0 m
 may_receive {c} agree i m below was =
     let few = agree.few_nodes in
-    let there = agree.messages.under_way m i.0 ∙ grind (arith, nat_tests, was) in
+    let there : is_under_way m i.0 (world_of (accepted c)) ≡ true = agree.messages.under_way m i.0 ∙ grind (arith, nat_tests, was) in
     record {
       inside = omega arith;
       there = there;

@@ -80,10 +80,17 @@ behind [] ys j none = none j
 behind (x ∷ xs) ys zero none = refl
 behind (x ∷ xs) ys (suc j) none = behind xs ys j none
 
-pub filled : {V : Type 0} (xs : List (Option V)) (n m j : ℕ) → m ≡ length xs → m ≤ n
+filled : {V : Type 0} (xs : List (Option V)) (n m j : ℕ) → m ≡ length xs → m ≤ n
     → option_flatten (slice_get (take n xs ++ replicate (n - m) None) j) ≡ option_flatten (slice_get xs j)
 filled {V} xs n m j e h =
     let few : length xs ≤ n = omega arith in rw (take_all n xs few) (behind xs (replicate (n - m) None) j (flatten-nones {V = V} (n - m)))
+
+pub filled_up : {V : Type 0} (xs ys : List (Option V)) (n m : ℕ) → ys ≡ take n xs ++ replicate (n - m) None → m ≡ length xs → m ≤ n
+    → (j : ℕ) → option_flatten (slice_get ys j) ≡ option_flatten (slice_get xs j)
+filled_up xs ys n m now e h j = rw now (filled xs n m j e h)
+
+pub unchanged : {V : Type 0} (xs ys : List (Option V)) → ys ≡ xs → (j : ℕ) → option_flatten (slice_get ys j) ≡ option_flatten (slice_get xs j)
+unchanged xs ys now j = rw now refl
 
 -- an empty page more has none
 added : {V : Type 0} (pages : List (Vec (Option V))) (new : Vec (Option V)) (i j : ℕ) → new.items ≡ [] → in_page i (slice_get (pages ++ new ∷ []) j) ≡ in_page i (slice_get pages j)
