@@ -186,8 +186,8 @@ impl Core {
             return Err(Refusal::NoMessage);
         }
         make_room(&mut self.steps)?;
-        self.messages
-            .set(message.0, Posted::new(node, Stage::Received));
+        let received = Posted::new(node, Stage::Received);
+        self.messages.set(message.0, received);
         let numbers = &mut self.numbers[node.0 as usize];
         numbers.pending += 1;
         numbers.received += 1;
@@ -208,8 +208,8 @@ impl Core {
             return Err(Refusal::NoAction);
         }
         make_room(&mut self.steps)?;
-        self.messages
-            .set(message.0, Posted::new(node, Stage::Ended));
+        let ended = Posted::new(node, Stage::Ended);
+        self.messages.set(message.0, ended);
         self.numbers[node.0 as usize].pending -= 1;
         self.left -= 1;
         self.steps.push_reserved(Step::MessageEnd(node, message));

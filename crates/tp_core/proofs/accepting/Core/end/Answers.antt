@@ -35,8 +35,8 @@ invariant_of-self-2 c =
     let at = (goal.at.invariant_of-self-2 c).After-make_room in
     agree_next s agree (lawful at) (c.in_ok-make_room.ensures.ok).0 refl refl refl c.make_room.ensures.items c.push_reserved.ensures.items
     (numbers_written s agree.numbers (lawful at) c.args.node.0 _ (may at).inside refl refl) refl refl agree.tasks
-    (message_closed agree.actions _ c.args.message.0 c.args.node (may at).once (was at) (rw c.new.ensures at c.set.ensures))
-    (message_ended agree.messages _ c.args.message.0 c.args.node (was at) (rw c.new.ensures at c.set.ensures))
+    (message_closed agree.actions _ c.args.message.0 c.args.node (may at).once (was at) (rw c.new-ended.ensures at c.set.ensures))
+    (message_ended agree.messages _ c.args.message.0 c.args.node (was at) (rw c.new-ended.ensures at c.set.ensures))
 
 pub returns : goal.returns
 returns c =

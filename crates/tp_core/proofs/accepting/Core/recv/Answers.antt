@@ -43,9 +43,9 @@ invariant_of-self-2 c =
     let at = (goal.at.invariant_of-self-2 c).After-make_room in
     agree_next s agree (lawful at) (c.in_ok-make_room.ensures.ok).0 refl refl refl c.make_room.ensures.items c.push_reserved.ensures.items
     (numbers_written s agree.numbers (lawful at) c.args.node.0 _ (may at).inside refl refl) refl refl agree.tasks
-    (received agree.actions _ c.args.message.0 c.args.node (was at) (rw c.new.ensures at c.set.ensures))
+    (received agree.actions _ c.args.message.0 c.args.node (was at) (rw c.new-received.ensures at c.set.ensures))
     (message_received agree.messages _ c.args.message.0 c.args.node ((lists_are_sets _ _ agree.is_run).messages c.args.message.0) (was at)
-    (rw c.new.ensures at c.set.ensures))
+    (rw c.new-received.ensures at c.set.ensures))
 
 pub returns : goal.returns
 returns c =
