@@ -1,5 +1,5 @@
 -- What the answers to steps tell.
-use Rattle.std.proofs.Common.{ℕ, Result, take, get_or, ◌+◌, ◌≡◌, ◌<◌, List, [], ◌∷◌, ◌++◌, Bool, true, false, Option, Some, None, length, refl, ap, subst, ◌∙◌, arith}
+use Rattle.std.proofs.Common.{ℕ, Result, take, get_or, ◌+◌, ◌≡◌, ◌<◌, List, [], ◌∷◌, ◌++◌, true, false, Option, Some, None, length, refl, ap, subst, ◌∙◌, arith}
 use Rattle.std.proofs.lemmas.List.{take_more}
 use Rattle.std.specs.Prelude.{IsOk, Ok, Err, ◌≢◌, ◌↔◌}
 use Rattle.std.specs.List.{list_any}

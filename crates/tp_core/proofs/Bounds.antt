@@ -1,21 +1,23 @@
 -- No counter of a core leaves its type.
-use Rattle.std.proofs.Common.{ℕ, zero, suc, ◌+◌, ◌≡◌, ◌<◌, ◌≤◌, List, [], ◌∷◌, Bool, true, false, Some, length, refl, ap, ◌∙◌, arith, zero-le}
+use Rattle.std.proofs.Common.{ℕ, zero, suc, ◌+◌, ◌≡◌, ◌<◌, ◌≤◌, List, [], ◌∷◌, Bool, true, Some, length, refl, ap, ◌∙◌, arith, zero-le}
 use Rattle.std.proofs.lemmas.Bool.Decides.{nat_tests}
-use Rattle.std.specs.Prelude.{not, if◌then◌else◌}
+use Rattle.std.specs.Prelude.{not}
 use Rattle.std.specs.List.{slice_index_or}
 use Rattle.tp_base.specs.declared.Step.{Step}
 use Rattle.tp_base.specs.declared.limits.TheConstants.{MAX_STEPS, MAX_NODES}
 use Rattle.tp_wave.specs.Steps.{count, is_send_of, is_recv_at}
 use Rattle.tp_core.specs.declared.accepting.Core.TheInside.{Inside}
+use Rattle.tp_base.specs.declared.NodeId.{NodeId}
+use Rattle.tp_core.specs.declared.posted.Stage.TheVariants as stage
 use Rattle.tp_core.specs.declared.held.Held.{Held}
 use Rattle.tp_core.specs.declared.life.Life.{Life}
 use Rattle.tp_core.specs.declared.life.Life.TheVariants as life
 use Rattle.tp_core.specs.declared.numbers.NodeNumbers.{NodeNumbers}
-use Rattle.tp_core.specs.World.{World, Task, Action, Kind, is_action, is_message, is_open, is_done, is_at, is_unfinished_at, how_many, openings, pending}
+use Rattle.tp_core.specs.World.{World, Task, Action, Kind, OfMessage, is_under_way, is_action, is_message, is_open, is_done, is_at, is_unfinished_at, how_many, openings, pending}
 use Rattle.tp_core.specs.Pool.{with_life, without, after}
 use Rattle.tp_core.specs.Run.{world}
 use Rattle.tp_core.specs.Accepted.{world_of}
-use Rattle.tp_core.specs.Kept.{accepted, IsKept, all_left, is_kept_open, is_posted, is_under_way_stage}
+use Rattle.tp_core.specs.Kept.{accepted, IsKept, all_left, is_kept_open}
 use Rattle.tp_base.specs.Table.{lookup}
 use Rattle.tp_core.proofs.Counting.{active_home, active_open, some_message}
 use Rattle.tp_core.proofs.Sets.{lists_are_sets}
@@ -122,6 +124,23 @@ may_close {c} agree i below kind open' =
       left = both.1;
     }
 
+pub may_end_message : {c : Inside} → IsKept c → (i : NodeId) (m : ℕ) → i.0 < c.nodes → lookup c.messages m ≡ Some (record { to = i; stage = stage.Received })
+    → MayClose c i.0 (OfMessage m)
+may_end_message {c} agree i m below was = may_close agree i.0 below (OfMessage m) (grind (arith, nat_tests, was))
+
 -- a message that is under way is counted
-pub may_receive : {c : Inside} → IsKept c → (m j : ℕ) → is_posted is_under_way_stage j (lookup c.messages m) ≡ true → 1 ≤ c.under
-may_receive {c} agree m j there = rw agree.under (some_message (is_message m j) (world_of (accepted c)).messages (agree.messages.under_way m j ∙ there))
+pub record MayReceive (c : Inside) (i m : ℕ) : Type 0 where
+  pub inside : i < MAX_NODES
+  pub there : is_under_way m i (world_of (accepted c)) ≡ true
+  pub under : 1 ≤ c.under
+
+pub may_receive : {c : Inside} → IsKept c → (i : NodeId) (m : ℕ) → i.0 < c.nodes → lookup c.messages m ≡ Some (record { to = i; stage = stage.UnderWay })
+    → MayReceive c i.0 m
+may_receive {c} agree i m below was =
+    let few = agree.few_nodes in
+    let there : is_under_way m i.0 (world_of (accepted c)) ≡ true = agree.messages.under_way m i.0 ∙ grind (arith, nat_tests, was) in
+    record {
+      inside = omega arith;
+      there = there;
+      under = rw agree.under (some_message (is_message m i.0) (world_of (accepted c)).messages there);
+    }

@@ -1,7 +1,6 @@
 -- The detector is never early: from the end of the wave that it names on, nothing was left.
 use Rattle.std.proofs.Common.{ℕ, suc, ◌+◌, ◌≡◌, ◌<◌, ◌≤◌, List, [], ◌∷◌, ◌++◌, Bool, true, false, Option, Some, None, length, refl, ap, sym, ◌∙◌, inl, inr, arith, append_assoc}
 use Rattle.std.proofs.lemmas.Bool.{cases_lt}
-use Rattle.std.proofs.lemmas.Bool.Decides.{nat_tests}
 use Rattle.std.specs.Prelude.{not}
 use Rattle.std.specs.List.{list_any}
 use Rattle.tp_base.specs.declared.Step.{Step}
@@ -12,14 +11,13 @@ use Rattle.tp_wave.specs.Control.{in_wave, has_ended}
 use Rattle.tp_wave.specs.Machine.{History, steps_of}
 use Rattle.tp_wave.specs.Machine as machine
 use Rattle.tp_wave.specs.Cut.{visited_at}
-use Rattle.tp_wave.specs.Cut as cut
 use Rattle.tp_wave.proofs.Positions.{before-all, before-past}
 use Rattle.tp_wave.proofs.Judged.{ended_law}
 use Rattle.tp_core.specs.declared.life.Life.{Life}
 use Rattle.tp_core.specs.declared.life.Life.TheVariants as life
-use Rattle.tp_core.specs.World.{Task, is_done, is_at, how_many, pending, life_of, IsQuiet}
+use Rattle.tp_core.specs.World.{Task, is_done, life_of, IsQuiet}
 use Rattle.tp_core.specs.Run.{world, history, node_of, IsRun}
-use Rattle.tp_core.specs.Laws.{is_insert_of, IsOnce}
+use Rattle.tp_core.specs.Laws.{is_insert_of}
 use Rattle.tp_core.specs.NeverEarly.{HasRunOnce, IsOverFrom, IsNeverEarly}
 use Rattle.tp_core.proofs.Counting.{life_in, steps_of-history, runs_are_counted}
 use Rattle.tp_core.proofs.Quiet.{quiet_is_seen, nothing_pending_when_quiet}

@@ -1,10 +1,9 @@
 -- What a core keeps goes on to be what its steps say.
-use Rattle.std.proofs.Common.{ℕ, zero, suc, ◌+◌, ◌-◌, ◌≡◌, ◌<◌, ◌≤◌, List, [], ◌∷◌, ◌++◌, Bool, true, false, Option, Some, None, length, reverse, refl, ap, sym, subst, ◌∙◌, arith, is_some, zero-le, set, length-set, eqb-true}
+use Rattle.std.proofs.Common.{ℕ, ◌+◌, ◌-◌, ◌≡◌, ◌<◌, ◌≤◌, List, [], ◌∷◌, ◌++◌, Bool, true, false, Some, length, refl, ap, sym, subst, ◌∙◌, arith, set, length-set, eqb-true}
 use Rattle.std.proofs.lemmas.Bool.Decides.{nat_tests}
 use Rattle.std.proofs.lemmas.List.{reverse-append, length-reverse}
-use Rattle.std.specs.Prelude.{◌==◌, ◌&&◌, not, if◌then◌else◌}
-use Rattle.std.specs.List.{find, list_any, slice_index_or}
-use Rattle.std.specs.Option.{option_map}
+use Rattle.std.specs.Prelude.{◌==◌, not, if◌then◌else◌}
+use Rattle.std.specs.List.{slice_index_or}
 use Rattle.tp_base.specs.declared.Step.{Step}
 use Rattle.tp_base.specs.declared.Step.TheVariants.{Insert, Supply, Begin, Done, ActionOpen, ActionClose, Ready, Send, Recv, MessageEnd}
 use Rattle.tp_base.specs.declared.limits.TheConstants.{MAX_STEPS, MAX_NODES}
@@ -17,8 +16,8 @@ use Rattle.tp_core.specs.declared.accepting.Core.TheInside.{Inside}
 use Rattle.tp_core.specs.declared.life.Life.{Life}
 use Rattle.tp_core.specs.declared.life.Life.TheVariants as life
 use Rattle.tp_core.specs.declared.numbers.NodeNumbers.{NodeNumbers}
-use Rattle.tp_core.specs.World.{World, Task, Action, Message, Kind, Opening, Named, OfMessage, is_action, is_message, is_done, is_at, is_unfinished_at, how_many, openings, pending}
-use Rattle.tp_core.specs.Pool.{with_life, without, supplied, after}
+use Rattle.tp_core.specs.World.{World, Task, Opening, Named, OfMessage, is_action, is_message, is_done, how_many}
+use Rattle.tp_core.specs.Pool.{with_life, supplied, after}
 use Rattle.tp_core.specs.Run.{world, node_of, IsLawful, IsRun}
 use Rattle.tp_core.specs.Accepted.{Accepted, world_of, with_step, numbers_at}
 use Rattle.tp_core.specs.Kept.{accepted, Agree, IsKept, HasTasks, HasActions, HasMessages, HasNumbers, all_left}

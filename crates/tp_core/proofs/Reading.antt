@@ -1,5 +1,5 @@
 -- What the tables of a core tell of its world.
-use Rattle.std.proofs.Common.{ℕ, ◌≡◌, ◌<◌, ◌≤◌, Option, Some, None, true, refl, ap, sym, ◌∙◌, arith, is_some}
+use Rattle.std.proofs.Common.{ℕ, ◌≡◌, ◌<◌, Option, Some, None, ap, ◌∙◌, arith, is_some}
 use Rattle.std.specs.Prelude.{◌==◌, unwrap_or}
 use Rattle.std.specs.List.{find}
 use Rattle.std.specs.Option.{option_map}

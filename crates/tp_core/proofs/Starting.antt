@@ -1,7 +1,7 @@
 -- What a new core keeps, and where what is kept is quiet.
 use Rattle.std.proofs.Common.{ℕ, zero, suc, ◌+◌, ◌≡◌, ◌<◌, ◌≤◌, List, [], ◌∷◌, Bool, true, false, None, length, refl, ap, sym, ◌∙◌, arith, zero-le, set, length-set, subst}
 use Rattle.std.proofs.lemmas.Bool.Decides.{nat_tests}
-use Rattle.std.specs.Prelude.{◌==◌, ◌&&◌, nat_lt, not, if◌then◌else◌}
+use Rattle.std.specs.Prelude.{◌==◌, ◌&&◌, nat_lt, if◌then◌else◌}
 use Rattle.std.specs.List.{list_any, slice_index_or}
 use Rattle.tp_base.specs.declared.limits.TheConstants.{MAX_NODES}
 use Rattle.tp_wave.specs.Wave.{Follows}
@@ -12,10 +12,10 @@ use Rattle.tp_core.specs.declared.posted.Posted.{Posted}
 use Rattle.tp_base.specs.declared.Table.{Table}
 use Rattle.tp_base.specs.Table.{lookup}
 use Rattle.tp_core.specs.NodeSet.{has}
-use Rattle.tp_core.specs.World.{Kind, Opening, Named, OfMessage, Action, is_action, is_done, how_many, openings, IsQuiet}
+use Rattle.tp_core.specs.World.{Kind, Opening, Named, OfMessage, is_action, how_many, openings, IsQuiet}
 use Rattle.tp_core.specs.Accepted.{world_of, numbers_at}
 use Rattle.tp_core.specs.Kept.{accepted, Agree, IsKept, HasActions, is_kept_open}
-use Rattle.tp_core.proofs.Counting.{one_if, open_at-openings}
+use Rattle.tp_core.proofs.Counting.{open_at-openings}
 use Rattle.tp_core.proofs.Quiet.{none_from_length}
 use Rattle.tp_core.proofs.Keeping.{zeros}
 use Rattle.tp_core.proofs.Bounds.{length-openings}

@@ -1,7 +1,7 @@
 -- What the tables of a core say of the world after a change.
-use Rattle.std.proofs.Common.{ℕ, ◌+◌, ◌≡◌, ◌≤◌, List, [], ◌∷◌, Bool, true, false, Option, Some, None, refl, ap, sym, ◌∙◌, arith, eqb-true, is_some, cond}
+use Rattle.std.proofs.Common.{ℕ, ◌≡◌, ◌≤◌, List, [], ◌∷◌, Bool, true, false, Option, Some, None, refl, sym, ◌∙◌, arith, eqb-true}
 use Rattle.std.proofs.lemmas.Bool.Decides.{nat_tests}
-use Rattle.std.specs.Prelude.{◌==◌, ◌&&◌, ◌||◌, if◌then◌else◌}
+use Rattle.std.specs.Prelude.{◌==◌, ◌&&◌, if◌then◌else◌}
 use Rattle.std.specs.List.{find, list_any}
 use Rattle.std.specs.Option.{option_map}
 use Rattle.tp_base.specs.declared.NodeId.{NodeId}
@@ -16,7 +16,7 @@ use Rattle.tp_core.specs.NodeSet.{has}
 use Rattle.tp_core.specs.World.{Task, Action, Message, Kind, Opening, Named, OfMessage, same_kind, is_action, is_message, how_many}
 use Rattle.tp_core.specs.Pool.{with_life, without, opened, closed}
 use Rattle.tp_core.proofs.Sets.{same_kind_equal}
-use Rattle.tp_core.specs.Kept.{held, HasTasks, HasActions, HasMessages, has_in, is_posted, is_under_way_stage, is_received_stage, is_kept_open}
+use Rattle.tp_core.specs.Kept.{held, HasTasks, HasActions, HasMessages, has_in, is_posted, is_under_way_stage, is_kept_open}
 
 -- ---- tasks
 pub task_added : {table : Table Held} {tasks : List Task} → HasTasks table tasks → (new : Table Held) (x : Task) → Puts table new x.number (held x)

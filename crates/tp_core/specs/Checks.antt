@@ -1,5 +1,5 @@
 -- The checks that a step has to pass, in order. The first one that holds is its refusal.
-use Rattle.std.specs.Prelude.{ℕ, ◌==◌, ◌||◌, ◌++◌, List, [], ◌∷◌, Bool, true, false, not, Option, Some, None, is_none, is_some}
+use Rattle.std.specs.Prelude.{ℕ, ◌==◌, ◌||◌, ◌++◌, List, [], ◌∷◌, Bool, true, false, not, Option, Some, is_none, is_some}
 use Rattle.tp_base.specs.declared.Refusal.{Refusal}
 use Rattle.tp_base.specs.declared.Refusal.TheVariants.{NoNode, SameNode, TaskKnown, NoTask, WrongLife, Inactive, ActionKnown, NoAction, MessageKnown, NoMessage, NotIdle}
 use Rattle.tp_base.specs.declared.Step.{Step}

@@ -1,3 +1,5 @@
+ghost use Rattle.std.specs.Prelude.{◌≡◌};
+
 use tp_base::NodeId;
 
 /// How far a message has come.
@@ -15,4 +17,13 @@ pub enum Stage {
 pub struct Posted {
     pub to: NodeId,
     pub stage: Stage,
+}
+
+impl Posted {
+    /// A message to this node that has come so far.
+    pub fn new(to: NodeId, stage: Stage) -> Self
+        ensures { result ≡ record { to = to; stage = stage } }
+    {
+        Posted { to, stage }
+    }
 }

@@ -167,8 +167,8 @@ impl Core {
             return Err(Refusal::Inactive);
         }
         make_room(&mut self.steps)?;
-        let stage = Stage::UnderWay;
-        self.messages.insert(message.0, Posted { to, stage })?;
+        let under_way = Posted::new(to, Stage::UnderWay);
+        self.messages.insert(message.0, under_way)?;
         self.numbers[from.0 as usize].sent += 1;
         self.under += 1;
         self.steps.push_reserved(Step::Send(from, to, message));
@@ -181,21 +181,13 @@ impl Core {
         if node.0 >= self.nodes {
             return Err(Refusal::NoNode);
         }
-        let Some(
-            Posted {
-                to,
-                stage: Stage::UnderWay,
-            },
-        ) = self.messages.get(message.0)
-        else {
-            return Err(Refusal::NoMessage);
-        };
-        if to.0 != node.0 {
+        let under_way = Posted::new(node, Stage::UnderWay);
+        if self.messages.get(message.0) != Some(under_way) {
             return Err(Refusal::NoMessage);
         }
         make_room(&mut self.steps)?;
-        let stage = Stage::Received;
-        self.messages.set(message.0, Posted { to, stage });
+        let received = Posted::new(node, Stage::Received);
+        self.messages.set(message.0, received);
         let numbers = &mut self.numbers[node.0 as usize];
         numbers.pending += 1;
         numbers.received += 1;
@@ -211,21 +203,13 @@ impl Core {
         if node.0 >= self.nodes {
             return Err(Refusal::NoNode);
         }
-        let Some(
-            Posted {
-                to,
-                stage: Stage::Received,
-            },
-        ) = self.messages.get(message.0)
-        else {
-            return Err(Refusal::NoAction);
-        };
-        if to.0 != node.0 {
+        let received = Posted::new(node, Stage::Received);
+        if self.messages.get(message.0) != Some(received) {
             return Err(Refusal::NoAction);
         }
         make_room(&mut self.steps)?;
-        let stage = Stage::Ended;
-        self.messages.set(message.0, Posted { to, stage });
+        let ended = Posted::new(node, Stage::Ended);
+        self.messages.set(message.0, ended);
         self.numbers[node.0 as usize].pending -= 1;
         self.left -= 1;
         self.steps.push_reserved(Step::MessageEnd(node, message));

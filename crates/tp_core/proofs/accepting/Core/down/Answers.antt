@@ -1,17 +1,38 @@
-use Rattle.std.proofs.Common.{refl, sym}
+use Rattle.std.proofs.Common.{refl, sym, arith}
+use Rattle.std.proofs.lemmas.Grind.{common_steps}
 use Rattle.tp_base.specs.declared.Step.TheVariants.{Down}
 use Rattle.tp_wave.proofs.Exact.{checks_exact}
+use Rattle.tp_core.specs.Run.{IsLawful}
 use Rattle.tp_core.specs.Kept.{accepted}
 use Rattle.tp_core.proofs.Keeping.{agree_after, numbers_stay}
+use Rattle.tp_core.proofs.Taking.{taken, for_room, by_wave}
 use Rattle.tp_core.proofs.accepting.Core.down.Goals as goal
+use Rattle.tp_core.proofs.accepting.Core.down.Goals.{After-make_room}
+
+lawful : (c : After-make_room) → IsLawful c.self.inside.nodes (accepted c.self.inside).steps (Down c.args.node)
+lawful c =
+    let a = accepted c.self.inside in (checks_exact a.nodes a.steps (Down c.args.node) refl).0 (sym (c.in_ok-down.ensures.exact a.nodes a.steps c.self.invariant.wave))
+
+pub returns-in_err-down : goal.returns-in_err-down
+returns-in_err-down c =
+    let a = accepted c.self.inside in
+    let first = by_wave (Down c.args.node) c.self.invariant c.self.view_is c.in_err-down.field-0.0 (c.in_err-down.ensures.exact a.nodes a.steps c.self.invariant.wave) in
+    grind (arith, common_steps, first)
+
+pub returns-in_err-make_room : goal.returns-in_err-make_room
+returns-in_err-make_room c =
+    let only_room = for_room (Down c.args.node) c.self.invariant c.self.view_is (lawful (goal.at.returns-in_err-make_room c).After-make_room) in
+    grind (arith, common_steps, only_room)
 
 pub invariant_of-self-2 : goal.invariant_of-self-2
 invariant_of-self-2 c =
     let agree = c.self.invariant in
-    let n = c.self.inside.nodes in
-    let past = (accepted c.self.inside).steps in
-    let s = Down c.args.node in
-    let lawful = (checks_exact n past s refl).0 (sym (c.in_ok-down.ensures.exact n past agree.wave)) in
-    agree_after s agree lawful (c.in_ok-make_room.ensures.ok).0 refl c.make_room.ensures.items c.push_reserved.ensures.items
-    (numbers_stay s agree.numbers lawful (λ x. refl)) refl refl agree.tasks agree.actions agree.messages
-    (c.in_ok-down.ensures.follows n past agree.wave)
+    let at = (goal.at.invariant_of-self-2 c).After-make_room in
+    agree_after (Down c.args.node) agree (lawful at) (c.in_ok-make_room.ensures.ok).0 refl c.make_room.ensures.items c.push_reserved.ensures.items
+    (numbers_stay (Down c.args.node) agree.numbers (lawful at) (λ x. refl)) refl refl agree.tasks agree.actions agree.messages
+    (c.in_ok-down.ensures.follows c.self.inside.nodes (accepted c.self.inside).steps agree.wave)
+
+pub returns : goal.returns
+returns c =
+    taken (Down c.args.node) c.self.invariant c.self.view_is (lawful (goal.at.returns c).After-make_room) (c.in_ok-make_room.ensures.ok).0
+    c.make_room.ensures.items c.push_reserved.ensures.items refl

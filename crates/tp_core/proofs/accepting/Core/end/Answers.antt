@@ -1,5 +1,5 @@
 use Rattle.std.proofs.Common.{◌≡◌, Some, arith, refl}
-use Rattle.std.proofs.lemmas.Bool.Decides.{nat_tests}
+use Rattle.std.proofs.lemmas.Grind.{common_steps}
 use Rattle.tp_base.specs.declared.Step.TheVariants.{MessageEnd}
 use Rattle.tp_core.specs.declared.posted.Stage.TheVariants as stage
 use Rattle.tp_base.specs.Table.{lookup}
@@ -7,28 +7,38 @@ use Rattle.tp_core.specs.World.{OfMessage}
 use Rattle.tp_core.specs.Run.{IsLawful}
 use Rattle.tp_core.specs.Kept.{accepted}
 use Rattle.tp_core.proofs.Keeping.{agree_next, numbers_written}
-use Rattle.tp_core.proofs.Bounds.{MayClose, may_close}
+use Rattle.tp_core.proofs.Bounds.{MayClose, may_end_message}
 use Rattle.tp_core.proofs.Tables.{message_closed, message_ended}
+use Rattle.tp_core.proofs.Taking.{taken}
 use Rattle.tp_core.proofs.accepting.Core.end.Goals as goal
+use Rattle.tp_core.proofs.accepting.Core.end.Goals.{After-make_room}
+
+was : (c : After-make_room) → lookup c.self.inside.messages c.args.message.0 ≡ Some (record { to = c.args.node; stage = stage.Received })
+was c = grind (arith, common_steps, c.get.ensures, c.new-received.ensures, c.ne.ensures, c.if-ne.false)
+
+may : (c : After-make_room) → MayClose c.self.inside c.args.node.0 (OfMessage c.args.message.0)
+may c = may_end_message c.self.invariant c.args.node c.args.message.0 (omega arith) (was c)
+
+lawful : (c : After-make_room) → IsLawful c.self.inside.nodes (accepted c.self.inside).steps (MessageEnd c.args.node c.args.message)
+lawful c = (omega arith, (may c).there)
 
 pub overflow_sub-self : goal.overflow_sub-self
-overflow_sub-self c =
-    (may_close c.self.invariant c.args.node.0 (omega arith) (OfMessage c.args.message.0) (grind (arith, nat_tests, c.in-Some-Received.ensures, c.if-to-node.false))).pending
+overflow_sub-self c = (may (goal.at.overflow_sub-self c).After-make_room).pending
 
 pub overflow_sub-self-2 : goal.overflow_sub-self-2
-overflow_sub-self-2 c =
-    (may_close c.self.invariant c.args.node.0 (omega arith) (OfMessage c.args.message.0) (grind (arith, nat_tests, c.in-Some-Received.ensures, c.if-to-node.false))).left
+overflow_sub-self-2 c = (may (goal.at.overflow_sub-self-2 c).After-make_room).left
 
 pub invariant_of-self-2 : goal.invariant_of-self-2
 invariant_of-self-2 c =
     let agree = c.self.invariant in
     let s = MessageEnd c.args.node c.args.message in
-    let was : lookup c.self.inside.messages c.args.message.0 ≡ Some (record { to = c.args.node; stage = stage.Received }) =
-    grind (arith, c.in-Some-Received.ensures, c.if-to-node.false) in
-    let may : MayClose c.self.inside c.args.node.0 (OfMessage c.args.message.0) =
-    may_close agree c.args.node.0 (omega arith) (OfMessage c.args.message.0) (grind (arith, nat_tests, was)) in
-    let lawful : IsLawful c.self.inside.nodes (accepted c.self.inside).steps s = (omega arith, may.there) in
-    agree_next s agree lawful (c.in_ok-make_room.ensures.ok).0 refl refl refl c.make_room.ensures.items c.push_reserved.ensures.items
-    (numbers_written s agree.numbers lawful c.args.node.0 _ may.inside refl refl) refl refl agree.tasks
-    (message_closed agree.actions _ c.args.message.0 c.args.node may.once was (rw c.if-to-node.false at c.set.ensures))
-    (message_ended agree.messages _ c.args.message.0 c.args.node was (rw c.if-to-node.false at c.set.ensures))
+    let at = (goal.at.invariant_of-self-2 c).After-make_room in
+    agree_next s agree (lawful at) (c.in_ok-make_room.ensures.ok).0 refl refl refl c.make_room.ensures.items c.push_reserved.ensures.items
+    (numbers_written s agree.numbers (lawful at) c.args.node.0 _ (may at).inside refl refl) refl refl agree.tasks
+    (message_closed agree.actions _ c.args.message.0 c.args.node (may at).once (was at) (rw c.new-ended.ensures at c.set.ensures))
+    (message_ended agree.messages _ c.args.message.0 c.args.node (was at) (rw c.new-ended.ensures at c.set.ensures))
+
+pub returns : goal.returns
+returns c =
+    taken (MessageEnd c.args.node c.args.message) c.self.invariant c.self.view_is (lawful (goal.at.returns c).After-make_room)
+    (c.in_ok-make_room.ensures.ok).0 c.make_room.ensures.items c.push_reserved.ensures.items refl

@@ -1,19 +1,42 @@
-use Rattle.std.proofs.Common.{◌≡◌, Some, None, refl, sym, subst, ap, ◌∙◌, arith, ◌<◌, length}
+use Rattle.std.proofs.Common.{◌≡◌, Bool, true, false, Option, Some, None, refl, sym, subst, ap, arith}
 use Rattle.std.proofs.lemmas.Grind.{common_steps}
-use Rattle.std.specs.List.{slice_index_or}
 use Rattle.tp_base.specs.declared.Step.TheVariants.{Give}
-use Rattle.tp_base.specs.declared.limits.TheConstants.{MAX_NODES}
+use Rattle.tp_base.specs.declared.Refusal.TheVariants.{NotIdle}
 use Rattle.tp_wave.proofs.Exact.{checks_exact}
 use Rattle.tp_core.specs.declared.numbers.NodeNumbers.{NodeNumbers}
+use Rattle.std.specs.Prelude.{◌==◌, if◌then◌else◌}
+use Rattle.tp_base.specs.declared.Sums.{Sums}
+use Rattle.tp_core.specs.declared.reply.Reply.TheVariants.{WaveSums, Plain}
 use Rattle.tp_core.specs.World.{pending}
 use Rattle.tp_core.specs.Run.{IsLawful}
-use Rattle.tp_wave.specs.Checks.{first_refusal}
-use Rattle.tp_core.specs.Accepted.{Accepted, refusal, room_check, world_of}
+use Rattle.tp_core.specs.Accepted.{Accepted, refusal, numbers_at, world_of}
 use Rattle.tp_core.specs.Kept.{accepted}
-use Rattle.tp_core.proofs.Exact.{give_refused, give_passes}
+use Rattle.tp_core.proofs.Exact.{give_refused, give_active}
 use Rattle.tp_core.proofs.Bounds.{small}
 use Rattle.tp_core.proofs.Keeping.{agree_after, numbers_stay, zeros}
+use Rattle.tp_core.proofs.Taking.{taken, for_room}
+use Rattle.std.specs.List.{slice_index_or}
 use Rattle.tp_core.proofs.accepting.Core.give.Goals as goal
+use Rattle.tp_core.proofs.accepting.Core.give.Goals.{After-give, After-make_room, in-Some, in-None}
+
+counted : (c : After-give) → slice_index_or c.self.inside.numbers c.args.node.0 zeros ≡ numbers_at c.args.node.0 (accepted c.self.inside)
+counted c = let few = c.self.invariant.few_nodes in c.self.invariant.numbers.each c.args.node.0 zeros (omega arith)
+
+lawful : (c : After-make_room) → IsLawful c.self.inside.nodes (accepted c.self.inside).steps (Give c.args.node)
+lawful c =
+    let a = accepted c.self.inside in
+    let few = c.self.invariant.few_nodes in
+    let there = ap (λ (x : NodeNumbers). x.pending) (c.self.invariant.numbers.each c.args.node.0 zeros (omega arith)) in
+    let idle : pending c.args.node.0 (world_of a) ≡ 0 = omega arith in
+    ((checks_exact a.nodes a.steps (Give c.args.node) refl).0 (sym (c.in_ok-sums.ensures.exact a.nodes a.steps c.self.invariant.wave)), idle)
+
+sums_replied : (b : Bool) (o : Option Sums) (x y : Sums) → o ≡ (if b then Some x else None) → o ≡ Some y → WaveSums y ≡ (if b then WaveSums x else Plain)
+sums_replied true o x y e f = let same : x ≡ y = cc in ap WaveSums (sym same)
+sums_replied false o x y e f = cc
+
+none_replied : (b : Bool) (o : Option Sums) (x : Sums) → o ≡ (if b then Some x else None) → o ≡ None → Plain ≡ (if b then WaveSums x else Plain)
+none_replied true o x e f = cc
+none_replied false o x e f = refl
 
 pub give-requires-clause-sent : goal.give-requires-clause-sent
 give-requires-clause-sent c = let few = c.self.invariant.few_nodes in (small c.self.invariant c.args.node.0 (omega arith)).sent
@@ -23,37 +46,48 @@ give-requires-clause-received c = let few = c.self.invariant.few_nodes in (small
 
 pub returns-in_err-sums : goal.returns-in_err-sums
 returns-in_err-sums c =
-    let agree = c.self.invariant in
     let a = accepted c.self.inside in
-    let first : refusal a (Give c.args.node) ≡ Some c.in_err-sums.field-0.0 =
-    give_refused a c.args.node c.in_err-sums.field-0.0 (sym (c.in_err-sums.ensures.exact a.nodes a.steps agree.wave)) in
+    let first = give_refused a c.args.node c.in_err-sums.field-0.0 (sym (c.in_err-sums.ensures.exact a.nodes a.steps c.self.invariant.wave)) in
     let told = subst (λ (b : Accepted). refusal b (Give c.args.node) ≡ Some c.in_err-sums.field-0.0) c.self.view_is first in
     grind (arith, common_steps, told)
 
+pub returns-then-numbers-gt0 : goal.returns-then-numbers-gt0
+returns-then-numbers-gt0 c =
+    let a = accepted c.self.inside in
+    let there = ap (λ (x : NodeNumbers). x.pending) (counted (goal.at.returns-then-numbers-gt0 c).After-give) in
+    let active = give_active a c.args.node (sym (c.in_ok-sums.ensures.exact a.nodes a.steps c.self.invariant.wave)) (omega arith) in
+    let told = subst (λ (b : Accepted). refusal b (Give c.args.node) ≡ Some NotIdle) c.self.view_is active in
+    grind (arith, told)
+
 pub returns-in_err-make_room : goal.returns-in_err-make_room
 returns-in_err-make_room c =
-    let agree = c.self.invariant in
-    let a = accepted c.self.inside in
-    let few = agree.few_nodes in
-    let there = agree.numbers.each c.args.node.0 zeros (omega arith) in
-    let counted = ap (λ (x : NodeNumbers). x.pending) there in
-    let idle : pending c.args.node.0 (world_of a) ≡ 0 = omega arith in
-    let passes = give_passes a c.args.node (sym (c.in_ok-sums.ensures.exact a.nodes a.steps agree.wave)) idle in
-    let told = subst (λ (b : Accepted). refusal b (Give c.args.node) ≡ first_refusal (room_check (length b.steps))) c.self.view_is passes in
-    grind (arith, common_steps, told)
+    let only_room = for_room (Give c.args.node) c.self.invariant c.self.view_is (lawful (goal.at.returns-in_err-make_room c).After-make_room) in
+    grind (arith, common_steps, only_room)
 
 pub invariant_of-self-2 : goal.invariant_of-self-2
 invariant_of-self-2 c =
     let agree = c.self.invariant in
-    let n = c.self.inside.nodes in
-    let past = (accepted c.self.inside).steps in
+    let at = (goal.at.invariant_of-self-2 c).After-make_room in
+    let there = counted (goal.at.invariant_of-self-2 c).After-give in
+    agree_after (Give c.args.node) agree (lawful at) (c.in_ok-make_room.ensures.ok).0 refl c.make_room.ensures.items c.push_reserved.ensures.items
+    (numbers_stay (Give c.args.node) agree.numbers (lawful at) (λ x. refl)) refl refl agree.tasks agree.actions agree.messages
+    (c.in_ok-sums.ensures.follows c.self.inside.nodes (accepted c.self.inside).steps agree.wave
+    (ap (λ (x : NodeNumbers). x.sent) there) (ap (λ (x : NodeNumbers). x.received) there))
+
+pub returns : goal.returns
+returns c =
     let s = Give c.args.node in
-    let few = agree.few_nodes in
-    let low : c.args.node.0 < MAX_NODES = omega arith in
-    let there = agree.numbers.each c.args.node.0 zeros low in
-    let counted = ap (λ (x : NodeNumbers). x.pending) there in
-    let idle : pending c.args.node.0 (world_of (accepted c.self.inside)) ≡ 0 = omega arith in
-    let lawful : IsLawful n past s = ((checks_exact n past s refl).0 (sym (c.in_ok-sums.ensures.exact n past agree.wave)), idle) in
-    agree_after s agree lawful (c.in_ok-make_room.ensures.ok).0 refl c.make_room.ensures.items c.push_reserved.ensures.items
-    (numbers_stay s agree.numbers lawful (λ x. refl)) refl refl agree.tasks agree.actions agree.messages
-    (c.in_ok-sums.ensures.follows n past agree.wave (ap (λ (x : NodeNumbers). x.sent) there) (ap (λ (x : NodeNumbers). x.received) there))
+    let a = accepted c.self.inside in
+    let at = (goal.at.returns c).After-make_room in
+    let there = counted (goal.at.returns c).After-give in
+    let sums = c.in_ok-sums.ensures.counted a.nodes a.steps c.self.invariant.wave (ap (λ (x : NodeNumbers). x.sent) there) (ap (λ (x : NodeNumbers). x.received) there) in
+    elim c.match-sums.branch [
+      | in-Some w ↦
+          rw w.result-is
+          (taken s c.self.invariant c.self.view_is (lawful at) (c.in_ok-make_room.ensures.ok).0 c.make_room.ensures.items c.push_reserved.ensures.items
+          (sums_replied (c.args.node.0 == 0) _ _ _ sums w.in-Some.is))
+      | in-None w ↦
+          rw w.result-is
+          (taken s c.self.invariant c.self.view_is (lawful at) (c.in_ok-make_room.ensures.ok).0 c.make_room.ensures.items c.push_reserved.ensures.items
+          (none_replied (c.args.node.0 == 0) _ _ sums w.in-None.is))
+    ]

@@ -1,17 +1,33 @@
-use Rattle.std.proofs.Common.{refl, sym}
+use Rattle.std.proofs.Common.{refl, sym, arith}
+use Rattle.std.proofs.lemmas.Grind.{common_steps}
 use Rattle.tp_base.specs.declared.Step.TheVariants.{Judge}
 use Rattle.tp_wave.proofs.Exact.{checks_exact}
+use Rattle.tp_core.specs.Run.{IsLawful}
 use Rattle.tp_core.specs.Kept.{accepted}
 use Rattle.tp_core.proofs.Keeping.{agree_after, numbers_stay}
+use Rattle.tp_core.proofs.Taking.{for_room, by_wave}
 use Rattle.tp_core.proofs.accepting.Core.judge.Goals as goal
+use Rattle.tp_core.proofs.accepting.Core.judge.Goals.{After-make_room}
+
+lawful : (c : After-make_room) → IsLawful c.self.inside.nodes (accepted c.self.inside).steps Judge
+lawful c =
+    let a = accepted c.self.inside in (checks_exact a.nodes a.steps Judge refl).0 (sym (c.in_ok-judged.ensures.exact a.nodes a.steps c.self.invariant.wave))
+
+pub returns-in_err-judged : goal.returns-in_err-judged
+returns-in_err-judged c =
+    let a = accepted c.self.inside in
+    let first = by_wave Judge c.self.invariant c.self.view_is c.in_err-judged.field-0.0 (c.in_err-judged.ensures.exact a.nodes a.steps c.self.invariant.wave) in
+    grind (arith, common_steps, first)
+
+pub returns-in_err-make_room : goal.returns-in_err-make_room
+returns-in_err-make_room c =
+    let only_room = for_room Judge c.self.invariant c.self.view_is (lawful (goal.at.returns-in_err-make_room c).After-make_room) in
+    grind (arith, common_steps, only_room)
 
 pub invariant_of-self-2 : goal.invariant_of-self-2
 invariant_of-self-2 c =
     let agree = c.self.invariant in
-    let n = c.self.inside.nodes in
-    let past = (accepted c.self.inside).steps in
-    let s = Judge in
-    let lawful = (checks_exact n past s refl).0 (sym (c.in_ok-judged.ensures.exact n past agree.wave)) in
-    agree_after s agree lawful (c.in_ok-make_room.ensures.ok).0 refl c.make_room.ensures.items c.push_reserved.ensures.items
-    (numbers_stay s agree.numbers lawful (λ x. refl)) refl refl agree.tasks agree.actions agree.messages
-    (c.in_ok-judged.ensures.follows n past agree.wave)
+    let at = (goal.at.invariant_of-self-2 c).After-make_room in
+    agree_after Judge agree (lawful at) (c.in_ok-make_room.ensures.ok).0 refl c.make_room.ensures.items c.push_reserved.ensures.items
+    (numbers_stay Judge agree.numbers (lawful at) (λ x. refl)) refl refl agree.tasks agree.actions agree.messages
+    (c.in_ok-judged.ensures.follows c.self.inside.nodes (accepted c.self.inside).steps agree.wave)

@@ -1,4 +1,4 @@
-use Rattle.std.proofs.Common.{◌≡◌, ◌≤◌, ◌∙◌, subst, sym}
+use Rattle.std.proofs.Common.{◌≤◌, ◌∙◌, subst, sym}
 use Rattle.tp_core.specs.Accepted.{Accepted}
 use Rattle.tp_core.specs.Kept.{accepted}
 use Rattle.tp_core.proofs.Keeping.{outside}

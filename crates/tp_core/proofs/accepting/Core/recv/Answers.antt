@@ -1,47 +1,53 @@
-use Rattle.std.proofs.Common.{◌≡◌, ◌<◌, Some, true, arith, refl, ◌∙◌}
-use Rattle.std.proofs.lemmas.Bool.Decides.{nat_tests}
+use Rattle.std.proofs.Common.{◌≡◌, Some, arith, refl}
+use Rattle.std.proofs.lemmas.Grind.{common_steps}
 use Rattle.tp_base.specs.declared.Step.TheVariants.{Recv}
-use Rattle.tp_base.specs.declared.limits.TheConstants.{MAX_NODES}
 use Rattle.tp_core.specs.declared.posted.Stage.TheVariants as stage
 use Rattle.tp_base.specs.Table.{lookup}
-use Rattle.tp_core.specs.World.{is_under_way}
 use Rattle.tp_core.specs.Run.{IsLawful}
-use Rattle.tp_core.specs.Accepted.{world_of}
 use Rattle.tp_core.specs.Kept.{accepted}
 use Rattle.tp_core.proofs.Sets.{lists_are_sets}
 use Rattle.tp_core.proofs.Keeping.{agree_next, numbers_written}
-use Rattle.tp_core.proofs.Bounds.{small, may_receive}
+use Rattle.tp_core.proofs.Bounds.{MayReceive, may_receive, small}
 use Rattle.tp_core.proofs.Tables.{received, message_received}
+use Rattle.tp_core.proofs.Taking.{taken}
 use Rattle.tp_core.proofs.accepting.Core.recv.Goals as goal
+use Rattle.tp_core.proofs.accepting.Core.recv.Goals.{After-make_room}
+
+was : (c : After-make_room) → lookup c.self.inside.messages c.args.message.0 ≡ Some (record { to = c.args.node; stage = stage.UnderWay })
+was c = grind (arith, common_steps, c.get.ensures, c.new-under_way.ensures, c.ne.ensures, c.if-ne.false)
+
+may : (c : After-make_room) → MayReceive c.self.inside c.args.node.0 c.args.message.0
+may c = may_receive c.self.invariant c.args.node c.args.message.0 (omega arith) (was c)
+
+lawful : (c : After-make_room) → IsLawful c.self.inside.nodes (accepted c.self.inside).steps (Recv c.args.node c.args.message)
+lawful c = (omega arith, (may c).there)
 
 pub overflow_add-numbers : goal.overflow_add-numbers
 overflow_add-numbers c =
-    let few = c.self.invariant.few_nodes in let low : c.args.node.0 < MAX_NODES = omega arith in
-    let bounds = small c.self.invariant c.args.node.0 low in omega (arith, bounds.pending, bounds.left)
+    let bounds = small c.self.invariant c.args.node.0 (may (goal.at.overflow_add-numbers c).After-make_room).inside in omega (arith, bounds.pending, bounds.left)
 
 pub overflow_add-numbers-2 : goal.overflow_add-numbers-2
 overflow_add-numbers-2 c =
-    let few = c.self.invariant.few_nodes in let low : c.args.node.0 < MAX_NODES = omega arith in
-    let bounds = small c.self.invariant c.args.node.0 low in omega (arith, bounds.received)
+    let bounds = small c.self.invariant c.args.node.0 (may (goal.at.overflow_add-numbers-2 c).After-make_room).inside in omega (arith, bounds.received)
 
 pub overflow_add-self : goal.overflow_add-self
 overflow_add-self c = let bounds = small c.self.invariant 0 (omega arith) in omega (arith, bounds.left)
 
 pub overflow_sub-self : goal.overflow_sub-self
-overflow_sub-self c = may_receive c.self.invariant c.args.message.0 c.args.node.0 (grind (arith, nat_tests, c.in-Some-UnderWay.ensures, c.if-to-node.false))
+overflow_sub-self c = (may (goal.at.overflow_sub-self c).After-make_room).under
 
 pub invariant_of-self-2 : goal.invariant_of-self-2
 invariant_of-self-2 c =
     let agree = c.self.invariant in
-    let few = agree.few_nodes in
     let s = Recv c.args.node c.args.message in
-    let was : lookup c.self.inside.messages c.args.message.0 ≡ Some (record { to = c.args.node; stage = stage.UnderWay }) =
-    grind (arith, c.in-Some-UnderWay.ensures, c.if-to-node.false) in
-    let there : is_under_way c.args.message.0 c.args.node.0 (world_of (accepted c.self.inside)) ≡ true =
-    agree.messages.under_way c.args.message.0 c.args.node.0 ∙ grind (arith, nat_tests, was) in
-    let lawful : IsLawful c.self.inside.nodes (accepted c.self.inside).steps s = (omega arith, there) in
-    agree_next s agree lawful (c.in_ok-make_room.ensures.ok).0 refl refl refl c.make_room.ensures.items c.push_reserved.ensures.items
-    (numbers_written s agree.numbers lawful c.args.node.0 _ (omega arith) refl refl) refl refl agree.tasks
-    (received agree.actions _ c.args.message.0 c.args.node was (rw c.if-to-node.false at c.set.ensures))
-    (message_received agree.messages _ c.args.message.0 c.args.node ((lists_are_sets _ _ agree.is_run).messages c.args.message.0) was
-    (rw c.if-to-node.false at c.set.ensures))
+    let at = (goal.at.invariant_of-self-2 c).After-make_room in
+    agree_next s agree (lawful at) (c.in_ok-make_room.ensures.ok).0 refl refl refl c.make_room.ensures.items c.push_reserved.ensures.items
+    (numbers_written s agree.numbers (lawful at) c.args.node.0 _ (may at).inside refl refl) refl refl agree.tasks
+    (received agree.actions _ c.args.message.0 c.args.node (was at) (rw c.new-received.ensures at c.set.ensures))
+    (message_received agree.messages _ c.args.message.0 c.args.node ((lists_are_sets _ _ agree.is_run).messages c.args.message.0) (was at)
+    (rw c.new-received.ensures at c.set.ensures))
+
+pub returns : goal.returns
+returns c =
+    taken (Recv c.args.node c.args.message) c.self.invariant c.self.view_is (lawful (goal.at.returns c).After-make_room)
+    (c.in_ok-make_room.ensures.ok).0 c.make_room.ensures.items c.push_reserved.ensures.items refl

@@ -8,12 +8,24 @@ use Rattle.tp_core.specs.Kept.{accepted}
 use Rattle.tp_core.proofs.Keeping.{agree_next, numbers_written, zeros}
 use Rattle.tp_core.proofs.Bounds.{small}
 use Rattle.tp_core.proofs.Tables.{posted, message_sent}
+use Rattle.tp_core.proofs.Taking.{taken}
 use Rattle.tp_core.proofs.accepting.Core.send.Goals as goal
+use Rattle.tp_core.proofs.accepting.Core.send.Goals.{After-make_room}
+
+low : (c : After-make_room) → c.args.from.0 < MAX_NODES
+low c = let few = c.self.invariant.few_nodes in omega arith
+
+fresh : (c : After-make_room) → lookup c.self.inside.messages c.args.message.0 ≡ None
+fresh c = grind (arith, c.is_some.ensures, c.get.ensures, c.if-is_some.false)
+
+lawful : (c : After-make_room) → IsLawful c.self.inside.nodes (accepted c.self.inside).steps (Send c.args.from c.args.to c.args.message)
+lawful c =
+    let there = c.self.invariant.numbers.each c.args.from.0 zeros (low c) in
+    let known = c.self.invariant.messages.known c.args.message.0 in
+    (omega arith, omega arith, λ e. omega arith, grind (arith, known, fresh c), grind (arith, nat_tests, there))
 
 pub overflow_add-self : goal.overflow_add-self
-overflow_add-self c =
-    let few = c.self.invariant.few_nodes in let low : c.args.from.0 < MAX_NODES = omega arith in
-    let bounds = small c.self.invariant c.args.from.0 low in omega (arith, bounds.sent)
+overflow_add-self c = let bounds = small c.self.invariant c.args.from.0 (low (goal.at.overflow_add-self c).After-make_room) in omega (arith, bounds.sent)
 
 pub overflow_add-self-2 : goal.overflow_add-self-2
 overflow_add-self-2 c = let bounds = small c.self.invariant 0 (omega arith) in omega (arith, bounds.under)
@@ -21,15 +33,14 @@ overflow_add-self-2 c = let bounds = small c.self.invariant 0 (omega arith) in o
 pub invariant_of-self-2 : goal.invariant_of-self-2
 invariant_of-self-2 c =
     let agree = c.self.invariant in
-    let few = agree.few_nodes in
     let s = Send c.args.from c.args.to c.args.message in
-    let low : c.args.from.0 < MAX_NODES = omega arith in
-    let there = agree.numbers.each c.args.from.0 zeros low in
-    let known = agree.messages.known c.args.message.0 in
-    let fresh : lookup c.self.inside.messages c.args.message.0 ≡ None = grind (arith, c.is_some.ensures, c.get.ensures, c.if-is_some.false) in
-    let lawful : IsLawful c.self.inside.nodes (accepted c.self.inside).steps s =
-    (omega arith, omega arith, λ e. omega arith, grind (arith, known, fresh), grind (arith, nat_tests, there)) in
-    agree_next s agree lawful (c.in_ok-make_room.ensures.ok).0 refl refl refl c.make_room.ensures.items c.push_reserved.ensures.items
-    (numbers_written s agree.numbers lawful c.args.from.0 _ low refl refl) refl refl agree.tasks
-    (posted agree.actions _ c.args.message.0 c.args.to fresh c.in_ok-insert.ensures.ok)
-    (message_sent agree.messages _ c.args.from.0 c.args.message.0 c.args.to fresh c.in_ok-insert.ensures.ok)
+    let at = (goal.at.invariant_of-self-2 c).After-make_room in
+    agree_next s agree (lawful at) (c.in_ok-make_room.ensures.ok).0 refl refl refl c.make_room.ensures.items c.push_reserved.ensures.items
+    (numbers_written s agree.numbers (lawful at) c.args.from.0 _ (low at) refl refl) refl refl agree.tasks
+    (posted agree.actions _ c.args.message.0 c.args.to (fresh at) (rw c.new-under_way.ensures at c.in_ok-insert.ensures.ok))
+    (message_sent agree.messages _ c.args.from.0 c.args.message.0 c.args.to (fresh at) (rw c.new-under_way.ensures at c.in_ok-insert.ensures.ok))
+
+pub returns : goal.returns
+returns c =
+    taken (Send c.args.from c.args.to c.args.message) c.self.invariant c.self.view_is (lawful (goal.at.returns c).After-make_room)
+    (c.in_ok-make_room.ensures.ok).0 c.make_room.ensures.items c.push_reserved.ensures.items refl
