@@ -1,0 +1,10 @@
+-- What the first of some checks refuses, more checks after them don't change.
+use Rattle.std.proofs.Common.{◌≡◌, List, [], ◌∷◌, ◌++◌, true, false, Some}
+use Rattle.tp_base.specs.declared.Refusal.{Refusal}
+use Rattle.tp_monitor.specs.Checks.{Check, first_refusal}
+
+pub first_refusal-append : (checks rest : List Check) (e : Refusal)
+    → Some e ≡ first_refusal checks → Some e ≡ first_refusal (checks ++ rest)
+first_refusal-append [] rest e h = cc
+first_refusal-append ((true, r) ∷ checks) rest e h = h
+first_refusal-append ((false, r) ∷ checks) rest e h = first_refusal-append checks rest e h

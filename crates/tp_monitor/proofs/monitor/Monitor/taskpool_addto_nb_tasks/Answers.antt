@@ -1,0 +1,17 @@
+use Rattle.std.proofs.Common.{[], ◌∷◌}
+use Rattle.std.proofs.lemmas.Int.{to_z-of_z}
+use Rattle.std.proofs.lemmas.Result.{err_from_is_err_and}
+use Rattle.tp_base.specs.declared.Refusal.TheVariants.{NoTask, StoreFull}
+use Rattle.tp_base.specs.declared.limits.TheConstants.{MAX_LIVE_TASKS}
+use Rattle.tp_monitor.specs.Monitors.{change_checks, falls_below, passes}
+use Rattle.tp_monitor.proofs.Prefix.{first_refusal-append}
+use Rattle.tp_monitor.proofs.monitor.Monitor.taskpool_addto_nb_tasks.Goals as goal
+
+pub returns-in_err-check_change-clause-refused : goal.returns-in_err-check_change-clause-refused
+returns-in_err-check_change-clause-refused c =
+    let m = c.args.self.now in
+    let fits = c.ranges.delta in
+    let first = simp to_z-of_z at c.in_err-check_change.ensures in
+    let p = err_from_is_err_and c.from_residual.result c.from_residual.ensures.1 in
+    let rest = (falls_below m.numbers.tasks c.args.delta, NoTask) ∷ (passes MAX_LIVE_TASKS m.numbers.tasks c.args.delta, StoreFull) ∷ [] in
+    rw (p.1, p.2) (first_refusal-append (change_checks m c.args.pool c.args.delta) rest _ first)
