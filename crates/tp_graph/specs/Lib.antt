@@ -1,0 +1,11 @@
+pub mod Carried
+pub mod Columns
+pub mod Graphs
+pub mod ProductLaws
+pub mod Products
+pub mod Serial
+pub mod TreeLaws
+pub mod Trees
+pub mod Values
+pub mod WaveLaws
+pub mod Waves

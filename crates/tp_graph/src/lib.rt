@@ -1,0 +1,23 @@
+//! Task graphs with their laws, and values that are the definition's by their type.
+#![tactic(auto)]
+
+mod feed;
+mod graph;
+mod message;
+mod numbers;
+mod one_thread;
+mod product;
+mod reduce;
+mod wavefront;
+mod value;
+mod work;
+
+pub use feed::Feed;
+pub use graph::{Graph, is_same};
+pub use message::{Message, Parcel};
+pub use one_thread::serial;
+pub use product::Product;
+pub use reduce::Reduce;
+pub use value::Value;
+pub use wavefront::Wavefront;
+pub use work::{Finished, Work};

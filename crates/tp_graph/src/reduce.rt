@@ -1,0 +1,65 @@
+ghost use Rattle.std.specs.Prelude.{◌≡◌, ◌<◌, ◌≤◌, ◌-◌, ◌*◌};
+ghost use Rattle.tp_graph.specs.Trees.{IsReduce, IsReduce-prop, reduce_graph};
+ghost use Rattle.tp_graph.specs.TreeLaws.{reduce_lawful, both_same};
+ghost use mathlib.Core.HLevel.{is_prop→PathP};
+
+use crate::graph::Graph;
+use crate::numbers::{add, lone};
+use crate::value::Value;
+use std::alloc::Global;
+use tp_base::{NodeId, Refusal, TaskId};
+
+/// A tree that adds up its leaves.
+#[derive(Clone, Copy, Debug, PartialEq, Eq)]
+pub struct Reduce {
+    /// How many leaves there are: a power of two from 1 to 1,024.
+    pub leaves: u32,
+    /// What the leaves' values start from: 0 to 9,999.
+    pub seed: u32,
+    pub ghost in_rules: { IsReduce leaves seed },
+}
+
+#[tactic(auto, unfolding(crate::specs::Trees::reduce_graph))]
+impl Graph for Reduce {
+    ghost meaning = { λ r. reduce_graph r.leaves r.seed };
+
+    ghost lawful = { λ r. reduce_lawful r.leaves r.seed r.in_rules };
+
+    ghost same = { λ a b e. let same = both_same a.leaves b.leaves a.seed b.seed e in λ i. record { leaves = same.0 i; seed = same.1 i; in_rules = is_prop→PathP (λ j. IsReduce (same.0 j) (same.1 j)) (λ j. IsReduce-prop (same.0 j) (same.1 j)) a.in_rules b.in_rules i } };
+
+    fn tasks(&self) -> u32 {
+        2 * self.leaves - 1
+    }
+
+    fn arity(&self, task: TaskId) -> u8 {
+        if task.0 < self.leaves { 0 } else { 2 }
+    }
+
+    fn class(&self, task: TaskId) -> u8 {
+        if task.0 < self.leaves { 1 } else { 0 }
+    }
+
+    fn feeds(&self, task: TaskId) -> u32 {
+        if task.0 < 2 * self.leaves - 2 { 1 } else { 0 }
+    }
+
+    fn feed(&self, task: TaskId, _turn: u32) -> (TaskId, u8) {
+        (TaskId(self.leaves + task.0 / 2), (task.0 % 2) as u8)
+    }
+
+    fn home(&self, task: TaskId, nodes: u32) -> NodeId {
+        NodeId(task.0 % nodes)
+    }
+
+    fn body(&self, alloc: Global, task: TaskId, inputs: &[Value]) -> Result<Value, Refusal> {
+        if task.0 < self.leaves {
+            let leaf = (11 * task.0 + self.seed) % 100;
+            return Ok(Value::from(vec![in alloc; i64::from(leaf)]?));
+        }
+        let [left, right] = inputs else {
+            return Err(Refusal::BodyFailed);
+        };
+        let sum = add(lone(left)?, lone(right)?)?;
+        Ok(Value::from(vec![in alloc; sum]?))
+    }
+}
