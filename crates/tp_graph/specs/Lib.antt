@@ -1,8 +1,10 @@
+pub mod Any
 pub mod Carried
 pub mod Columns
 pub mod Graphs
 pub mod ProductLaws
 pub mod Products
+pub mod Same
 pub mod Serial
 pub mod TreeLaws
 pub mod Trees

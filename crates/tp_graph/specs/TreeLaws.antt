@@ -31,7 +31,3 @@ reduce_lawful leaves seed h = record {
   feeds_fill = λ p k h q. fills leaves seed p k h q;
   slots_filled = λ t s h q. filled leaves seed t s h q;
 }
-
--- two pairs of numbers that a test finds equal are equal
-pub both_same : (a b c d : ℕ) → (eqb a b && eqb c d) ≡ true → (a ≡ b) × (c ≡ d)
-both_same a b c d h = (grind (arith, nat_tests), grind (arith, nat_tests))

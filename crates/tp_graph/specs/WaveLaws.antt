@@ -42,7 +42,3 @@ wavefront_lawful rows columns seed h = record {
   feeds_fill = λ p k a b. fills rows columns seed (omega (arith, h.some_columns)) p k a b;
   slots_filled = λ t s a b. filled rows columns seed (omega (arith, h.some_columns)) t s a b;
 }
-
--- three pairs of numbers that a test finds equal are equal
-pub three_same : (a b c d e f : ℕ) → (eqb a b && (eqb c d && eqb e f)) ≡ true → (a ≡ b) × (c ≡ d) × (e ≡ f)
-three_same a b c d e f h = (grind (arith, nat_tests), grind (arith, nat_tests), grind (arith, nat_tests))

@@ -1,10 +1,9 @@
 ghost use Rattle.std.specs.Prelude.{◌≡◌, ◌<◌, ◌≤◌, ◌+◌, ◌-◌, ◌*◌, ◌/◌, ◌%◌, ◌+ℤ◌, ◌∷◌, [], ◌*ℤ◌, unsigned_abs, true, false, length, IfOk, MatchResult, Some};
 ghost use Rattle.tp_graph.specs.Products.{IsProduct, IsProduct-prop, product_graph, left_entry, right_entry, term, sum_from, tile, added, place_sum};
 ghost use Rattle.tp_graph.specs.ProductLaws.{product_lawful};
-ghost use Rattle.tp_graph.specs.WaveLaws.{three_same};
+ghost use Rattle.tp_graph.specs.Same.{three_same, rule_of_three};
 ghost use Rattle.tp_graph.specs.Values.{IsRefusal, fits, all_fit};
 ghost use Rattle.tp_base.specs.declared.Refusal.TheVariants.{BodyFailed};
-ghost use mathlib.Core.HLevel.{is_prop→PathP};
 
 use crate::graph::Graph;
 use crate::numbers::add;
@@ -86,7 +85,7 @@ impl Graph for Product {
 
     ghost lawful = { λ p. product_lawful p.tiles p.side p.seed p.in_rules };
 
-    ghost same = { λ a b e. let same = three_same a.tiles b.tiles a.side b.side a.seed b.seed e in λ i. record { tiles = same.0 i; side = same.1 i; seed = same.2 i; in_rules = is_prop→PathP (λ j. IsProduct (same.0 j) (same.1 j) (same.2 j)) (λ j. IsProduct-prop (same.0 j) (same.1 j) (same.2 j)) a.in_rules b.in_rules i } };
+    ghost same = { λ a b h. let e = three_same a.tiles b.tiles a.side b.side a.seed b.seed h in λ i. record { tiles = e.0 i; side = e.1 i; seed = e.2 i; in_rules = rule_of_three IsProduct IsProduct-prop e a.in_rules b.in_rules i } };
 
     fn tasks(&self) -> u32 {
         self.tiles * self.tiles * self.tiles

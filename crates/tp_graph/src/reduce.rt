@@ -1,7 +1,7 @@
 ghost use Rattle.std.specs.Prelude.{◌≡◌, ◌<◌, ◌≤◌, ◌-◌, ◌*◌};
 ghost use Rattle.tp_graph.specs.Trees.{IsReduce, IsReduce-prop, reduce_graph};
-ghost use Rattle.tp_graph.specs.TreeLaws.{reduce_lawful, both_same};
-ghost use mathlib.Core.HLevel.{is_prop→PathP};
+ghost use Rattle.tp_graph.specs.TreeLaws.{reduce_lawful};
+ghost use Rattle.tp_graph.specs.Same.{both_same, rule_of_two};
 
 use crate::graph::Graph;
 use crate::numbers::{add, lone};
@@ -25,7 +25,7 @@ impl Graph for Reduce {
 
     ghost lawful = { λ r. reduce_lawful r.leaves r.seed r.in_rules };
 
-    ghost same = { λ a b e. let same = both_same a.leaves b.leaves a.seed b.seed e in λ i. record { leaves = same.0 i; seed = same.1 i; in_rules = is_prop→PathP (λ j. IsReduce (same.0 j) (same.1 j)) (λ j. IsReduce-prop (same.0 j) (same.1 j)) a.in_rules b.in_rules i } };
+    ghost same = { λ a b h. let e = both_same a.leaves b.leaves a.seed b.seed h in λ i. record { leaves = e.0 i; seed = e.1 i; in_rules = rule_of_two IsReduce IsReduce-prop e a.in_rules b.in_rules i } };
 
     fn tasks(&self) -> u32 {
         2 * self.leaves - 1

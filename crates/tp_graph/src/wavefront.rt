@@ -1,7 +1,7 @@
 ghost use Rattle.std.specs.Prelude.{◌≡◌, ◌<◌, ◌≤◌, ◌+◌, ◌*◌, ◌/◌, ◌%◌};
 ghost use Rattle.tp_graph.specs.Waves.{IsWavefront, IsWavefront-prop, cost, wavefront_graph};
-ghost use Rattle.tp_graph.specs.WaveLaws.{wavefront_lawful, three_same};
-ghost use mathlib.Core.HLevel.{is_prop→PathP};
+ghost use Rattle.tp_graph.specs.WaveLaws.{wavefront_lawful};
+ghost use Rattle.tp_graph.specs.Same.{three_same, rule_of_three};
 
 use crate::graph::Graph;
 use crate::numbers::{add, lone};
@@ -39,7 +39,7 @@ impl Graph for Wavefront {
 
     ghost lawful = { λ w. wavefront_lawful w.rows w.columns w.seed w.in_rules };
 
-    ghost same = { λ a b e. let same = three_same a.rows b.rows a.columns b.columns a.seed b.seed e in λ i. record { rows = same.0 i; columns = same.1 i; seed = same.2 i; in_rules = is_prop→PathP (λ j. IsWavefront (same.0 j) (same.1 j) (same.2 j)) (λ j. IsWavefront-prop (same.0 j) (same.1 j) (same.2 j)) a.in_rules b.in_rules i } };
+    ghost same = { λ a b h. let e = three_same a.rows b.rows a.columns b.columns a.seed b.seed h in λ i. record { rows = e.0 i; columns = e.1 i; seed = e.2 i; in_rules = rule_of_three IsWavefront IsWavefront-prop e a.in_rules b.in_rules i } };
 
     fn tasks(&self) -> u32 {
         self.rows * self.columns
