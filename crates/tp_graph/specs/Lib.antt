@@ -11,3 +11,4 @@ pub mod Trees
 pub mod Values
 pub mod WaveLaws
 pub mod Waves
+pub mod Words

@@ -11,7 +11,7 @@ mod product;
 mod reduce;
 mod wavefront;
 mod value;
-//mod words;
+mod words;
 mod work;
 
 pub use any::AnyGraph;
@@ -23,5 +23,5 @@ pub use product::Product;
 pub use reduce::Reduce;
 pub use value::Value;
 pub use wavefront::Wavefront;
-//pub use words::checked;
+pub use words::checked;
 pub use work::{Finished, Work};
