@@ -1,3 +1,7 @@
+pub mod PlainCells
+pub mod ProductSums
 pub mod Spelling
 pub mod Sums
+pub mod TreeSums
 pub mod Valued
+pub mod WaveCells

@@ -49,3 +49,22 @@ gather-is (suc n) f (x ∷ xs) d e h =
 pub value_made : (g : TaskGraph) (t : ℕ) (inputs : List (List ℤ)) → IsLawful g → t < g.tasks → AreInputs g t inputs → value_of g t ≡ outcome g t inputs
 value_made g t inputs lawful h right =
     value-is g t lawful h ∙ ap (λ m. then_some m (outcome g t)) (gather-is (g.arity t) (λ s. value_of g (g.source t s)) inputs [] right.long right.right)
+
+-- tasks of no, one and two inputs
+pub value-zero : (g : TaskGraph) (t : ℕ) → IsLawful g → t < g.tasks → g.arity t ≡ 0 → value_of g t ≡ outcome g t []
+value-zero g t lawful h e = value-is g t lawful h ∙ ap (λ n. then_some (gather n (λ s. value_of g (g.source t s))) (outcome g t)) e
+
+pub value-one : (g : TaskGraph) (t : ℕ) (a : List ℤ) → IsLawful g → t < g.tasks → g.arity t ≡ 1 → value_of g (g.source t 0) ≡ Some a → value_of g t ≡ outcome g t (a ∷ [])
+value-one g t a lawful h e p =
+    value-is g t lawful h ∙ ap (λ n. then_some (gather n (λ s. value_of g (g.source t s))) (outcome g t)) e ∙
+    ap (λ m. then_some (then_some m (λ first. Some (first ∷ []))) (outcome g t)) p
+
+pub value-two : (g : TaskGraph) (t : ℕ) (a b : List ℤ) → IsLawful g → t < g.tasks → g.arity t ≡ 2 → value_of g (g.source t 0) ≡ Some a → value_of g (g.source t 1) ≡ Some b → value_of g t ≡ outcome g t (a ∷ (b ∷ []))
+value-two g t a b lawful h e p q =
+    value-is g t lawful h ∙ ap (λ n. then_some (gather n (λ s. value_of g (g.source t s))) (outcome g t)) e ∙
+    ap (λ m. then_some (then_some m (λ first. then_some (then_some (value_of g (g.source t 1)) (λ second. Some (second ∷ []))) (λ rest. Some (first ∷ rest)))) (outcome g t)) p ∙
+    ap (λ m. then_some (then_some (then_some m (λ second. Some (second ∷ []))) (λ rest. Some (a ∷ rest))) (outcome g t)) q
+
+-- one number that fits
+pub fitting-one : (n : ℕ) → n < 2 ^ 63 → fitting (pos n ∷ []) ≡ Some (pos n ∷ [])
+fitting-one n h = grind (arith, nat_tests)

@@ -6,6 +6,7 @@ pub mod ProductLaws
 pub mod Products
 pub mod Same
 pub mod Serial
+pub mod Tables
 pub mod TreeLaws
 pub mod Trees
 pub mod Values

@@ -10,6 +10,7 @@ mod one_thread;
 mod product;
 mod reduce;
 mod wavefront;
+mod table;
 mod value;
 mod words;
 mod work;
