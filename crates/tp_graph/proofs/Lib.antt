@@ -1,7 +1,1 @@
-pub mod PlainCells
-pub mod ProductSums
-pub mod Spelling
-pub mod Sums
-pub mod TreeSums
 pub mod Valued
-pub mod WaveCells

@@ -1,15 +1,4 @@
-pub mod Any
 pub mod Carried
-pub mod Columns
 pub mod Graphs
-pub mod ProductLaws
-pub mod Products
-pub mod Same
 pub mod Serial
-pub mod Tables
-pub mod TreeLaws
-pub mod Trees
 pub mod Values
-pub mod WaveLaws
-pub mod Waves
-pub mod Words

@@ -1,28 +1,21 @@
 //! Task graphs with their laws, and values that are the definition's by their type.
+//!
+//! A pool of tasks is a type that implements [`Graph`]. A begun task is [`Work`], which performs its body and is then
+//! [`Finished`]; what a feed passes on to another node is a [`Message`], and a [`Parcel`] once it is received. Each of
+//! these types keeps that the values it carries are those that the graph defines. [`serial`] works a graph out on one
+//! thread.
 #![tactic(auto)]
 
-mod any;
 mod feed;
 mod graph;
 mod message;
-mod numbers;
 mod one_thread;
-mod product;
-mod reduce;
-mod wavefront;
-mod table;
 mod value;
-mod words;
 mod work;
 
-pub use any::AnyGraph;
 pub use feed::Feed;
 pub use graph::{Graph, is_same};
 pub use message::{Message, Parcel};
 pub use one_thread::serial;
-pub use product::Product;
-pub use reduce::Reduce;
 pub use value::Value;
-pub use wavefront::Wavefront;
-pub use words::checked;
 pub use work::{Finished, Work};

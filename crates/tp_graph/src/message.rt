@@ -6,7 +6,7 @@ use crate::feed::Feed;
 use crate::graph::Graph;
 use crate::value::Value;
 use std::marker::Model;
-use tp_base::{MessageId, NodeId, TaskId};
+use tp_base::{MessageId, NodeId};
 use tp_link::Routed;
 
 /// A value on its way to a task at another node.
@@ -83,34 +83,13 @@ impl<G: Graph> Message<G> {
         self.to
     }
 
-    /// Where the value goes.
+    /// The task that made the value, and the task and slot that it goes to.
     pub fn feed(&self) -> Feed
         ensures same { result ≡ self.now.feed }
         ensures right { IsFeed (G.meaning self.now.graph) result }
         ensures input { IsInput (G.meaning self.now.graph) result.target.0 result.slot self.now.value }
     {
         self.feed
-    }
-
-    /// The task that made the value.
-    pub fn producer(&self) -> TaskId
-        ensures { result ≡ self.now.feed.producer }
-    {
-        self.feed.producer
-    }
-
-    /// The task that waits for the value.
-    pub fn target(&self) -> TaskId
-        ensures { result ≡ self.now.feed.target }
-    {
-        self.feed.target
-    }
-
-    /// The slot that the value fills there.
-    pub fn slot(&self) -> u8
-        ensures { result ≡ self.now.feed.slot }
-    {
-        self.feed.slot
     }
 
     /// The value.
@@ -210,34 +189,13 @@ impl<G: Graph> Parcel<G> {
         self.message.to()
     }
 
-    /// Where the value goes.
+    /// The task that made the value, and the task and slot that it goes to.
     pub fn feed(&self) -> Feed
         ensures same { result ≡ self.now.feed }
         ensures right { IsFeed (G.meaning self.now.graph) result }
         ensures input { IsInput (G.meaning self.now.graph) result.target.0 result.slot self.now.value }
     {
         self.message.feed()
-    }
-
-    /// The task that made the value.
-    pub fn producer(&self) -> TaskId
-        ensures { result ≡ self.now.feed.producer }
-    {
-        self.message.producer()
-    }
-
-    /// The task that waits for the value.
-    pub fn target(&self) -> TaskId
-        ensures { result ≡ self.now.feed.target }
-    {
-        self.message.target()
-    }
-
-    /// The slot that the value fills there.
-    pub fn slot(&self) -> u8
-        ensures { result ≡ self.now.feed.slot }
-    {
-        self.message.slot()
     }
 
     /// The value.

@@ -1,11 +1,14 @@
-ghost use Rattle.std.specs.Prelude.{◌≡◌, []};
+ghost use Rattle.std.specs.Prelude.{◌≡◌, [], ◌∷◌, Some, None, IfOk, MatchResult};
 ghost use Rattle.std.specs.Cmp.{int_eq_equiv, on_equiv, on_per, partial_equiv_from_equiv};
 ghost use Rattle.std.specs.Cmp.Lexicographic.{pointwise, lists_equiv};
 ghost use Rattle.std.specs.Ordering.{int_eq};
+ghost use Rattle.tp_base.specs.declared.Refusal.TheVariants.{BodyFailed};
+ghost use Rattle.tp_graph.specs.Values.{lone_of};
 
 use std::alloc::{AllocError, Global};
 use std::default::MadeWith;
 use std::marker::Model;
+use tp_base::Refusal;
 
 /// What a task makes: some numbers. Contracts see the list of them.
 #[derive(Debug, Drop)]
@@ -22,6 +25,25 @@ impl Model for Value {
 }
 
 impl Value {
+    /// One number.
+    pub fn one(alloc: Global, number: i64) -> Result<Self, AllocError>
+        ensures { IfOk result (λ value. value ≡ number ∷ []) }
+    {
+        Ok(Value {
+            numbers: vec![in alloc; number]?,
+        })
+    }
+
+    /// The number of a value that has just one. Refused with `BodyFailed` where it has another count.
+    pub fn lone(&self) -> Result<i64, Refusal>
+        ensures { MatchResult result (λ number. lone_of self.now ≡ Some number) (λ refusal. (refusal ≡ BodyFailed) × (lone_of self.now ≡ None)) }
+    {
+        match self.numbers.as_slice() {
+            [number] => Ok(*number),
+            _ => Err(Refusal::BodyFailed),
+        }
+    }
+
     /// The numbers.
     pub fn as_slice(&self) -> &[i64]
         ensures { result.now ≡ self.now }

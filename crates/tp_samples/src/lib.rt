@@ -1,0 +1,18 @@
+//! The sample pools: the product of two matrices, a wavefront over a table, and a tree of sums.
+//!
+//! [`checked`] reads the word of a pool. What [`AnyGraph`] says of its table tells a printer where each number stands.
+#![tactic(auto)]
+
+mod any;
+mod numbers;
+mod product;
+mod reduce;
+mod table;
+mod wavefront;
+mod words;
+
+pub use any::AnyGraph;
+pub use product::Product;
+pub use reduce::Reduce;
+pub use wavefront::Wavefront;
+pub use words::checked;
