@@ -1,4 +1,6 @@
+pub mod Found
 pub mod PlainCells
+pub mod Printed
 pub mod ProductSums
 pub mod Spelling
 pub mod Sums

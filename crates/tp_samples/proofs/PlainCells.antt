@@ -4,7 +4,8 @@ use Rattle.std.proofs.lemmas.Bool.Decides.{nat_tests}
 use Rattle.tp_samples.specs.Products.{entry, list_of}
 use Rattle.tp_samples.specs.Waves.{cell}
 use Rattle.tp_samples.specs.Trees.{IsReduce, is_leaf_count, sum_of_leaves}
-use Rattle.tp_samples.specs.Tables.{HasCell, table_of, task_at}
+use Rattle.tp_samples.specs.Needed.{HasCell}
+use Rattle.tp_samples.specs.Tables.{table_of, task_at}
 use Rattle.tp_samples.specs.declared.any.AnyGraph.TheVariants as pool
 use Rattle.tp_samples.specs.declared.any.AnyGraph.{AnyGraph}
 use Rattle.tp_samples.specs.declared.product.Product.{Product}

@@ -1,4 +1,4 @@
-use Rattle.std.specs.Prelude.{◌≡◌, ◌≢◌, ◌<◌, ◌+◌, ◌-◌, ◌*◌, ◌/◌, ◌%◌, ◌++◌, ℕ, zero, suc, ℤ, pos, List, [], ◌∷◌, Some, length, slice_index_or, if◌then◌else◌, nat_eq, All}
+use Rattle.std.specs.Prelude.{◌≡◌, ◌≢◌, ◌<◌, ◌+◌, ◌-◌, ◌*◌, ◌/◌, ◌%◌, ◌++◌, ℕ, zero, suc, ℤ, pos, List, [], ◌∷◌, Some, if◌then◌else◌, nat_eq, All}
 use Rattle.std.specs.Fmt.{signed_decimal}
 use Rattle.tp_samples.specs.Any.{any_graph}
 use Rattle.tp_samples.specs.Products.{entry}
@@ -56,23 +56,3 @@ pub record LacksCell (graph : AnyGraph) (results : Results) : Type 0 where
   pub row_within : row < (table_of graph).rows
   pub column_within : column < (table_of graph).columns
   pub none : HasNone results (task_at graph row column)
-
--- How many tasks have a value that the table needs, and which these are, in rising order.
-abbrev pub needed : AnyGraph → ℕ
-needed (pool.Product p) = p.tiles * p.tiles
-needed (pool.Wavefront w) = w.rows * w.columns
-needed (pool.Reduce r) = 1
-
-abbrev pub needed_task : AnyGraph → ℕ → ℕ
-needed_task (pool.Product p) k = k * p.tiles + (p.tiles - 1)
-needed_task (pool.Wavefront w) k = k
-needed_task (pool.Reduce r) k = 2 * r.leaves - 2
-
--- the value of the needed task of that rank has a cell of the table at a place
-pub record HasCell (graph : AnyGraph) (i j rank place : ℕ) : Type 0 where
-  pub known : rank < needed graph
-  pub task_is : needed_task graph rank ≡ task_at graph i j
-  pub numbers : List ℤ
-  pub is_value : value_of (any_graph graph) (needed_task graph rank) ≡ Some numbers
-  pub within : place < length numbers
-  pub is_cell : slice_index_or numbers place (pos 0) ≡ (table_of graph).at i j

@@ -1,6 +1,7 @@
-ghost use Rattle.std.specs.Prelude.{◌≡◌, ◌≢◌, ◌<◌, ◌≤◌, ◌+◌, ◌-◌, ◌*◌, ◌/◌, ◌%◌, ℕ, MatchOption};
+ghost use Rattle.std.specs.Prelude.{◌≡◌, ◌<◌, ◌≤◌, ◌*◌, ℕ, IfSome};
 ghost use Rattle.tp_samples.specs.declared.any.AnyGraph.{AnyGraph};
-ghost use Rattle.tp_samples.specs.Tables.{table_of, needed, needed_task, HasCell};
+ghost use Rattle.tp_samples.specs.Needed.{needed, needed_task, HasCell};
+ghost use Rattle.tp_samples.specs.Tables.{table_of};
 
 use crate::any::AnyGraph;
 use crate::product::Product;
@@ -8,10 +9,9 @@ use crate::reduce::Reduce;
 use crate::wavefront::Wavefront;
 use tp_base::TaskId;
 
-/// The table of a pool's results: the product of the two matrices, the cells of the wavefront, or the one sum.
 impl AnyGraph {
     /// How many rows its table has.
-    pub fn rows(&self) -> u32
+    pub(crate) fn rows(&self) -> u32
         ensures { result ≡ (table_of self.now).rows }
     {
         match self {
@@ -22,7 +22,7 @@ impl AnyGraph {
     }
 
     /// How many columns its table has.
-    pub fn columns(&self) -> u32
+    pub(crate) fn columns(&self) -> u32
         ensures { result ≡ (table_of self.now).columns }
     {
         match self {
@@ -33,7 +33,7 @@ impl AnyGraph {
     }
 
     /// How many tasks have a value that the table needs: at most 4,096.
-    pub fn needed(&self) -> u32
+    pub(crate) fn needed(&self) -> u32
         ensures same { result ≡ needed self.now }
         ensures few { result ≤ 4096 }
     {
@@ -45,8 +45,9 @@ impl AnyGraph {
     }
 
     /// The rank of a task among those whose values the table needs, counted from 0 for the lowest.
-    pub fn rank(&self, task: TaskId) -> Option<u32>
-        ensures { MatchOption result ((k : ℕ) → k < needed self.now → needed_task self.now k ≢ task.0) (λ rank. (rank < needed self.now) × (needed_task self.now rank ≡ task.0)) }
+    pub(crate) fn rank(&self, task: TaskId) -> Option<u32>
+        ensures each { (rank : ℕ) → rank < needed self.now → needed_task self.now rank ≡ task.0 → result ≡ Some rank }
+        ensures only { IfSome result (λ rank. (rank < needed self.now) × (needed_task self.now rank ≡ task.0)) }
     {
         match self {
             AnyGraph::Product(product) => product.rank(task),
@@ -56,7 +57,7 @@ impl AnyGraph {
     }
 
     /// Where a cell of the table stands: the rank of the task whose value has it, and its place there.
-    pub fn cell(&self, i: u32, j: u32) -> (u32, usize)
+    pub(crate) fn cell(&self, i: u32, j: u32) -> (u32, usize)
         requires row { i < (table_of self.now).rows }
         requires column { j < (table_of self.now).columns }
         ensures { HasCell self.now i j result.0 result.1 }
@@ -72,7 +73,8 @@ impl AnyGraph {
 impl Product {
     #[tactic(auto, using(crate::proofs::PlainCells::last_of))]
     fn rank(&self, task: TaskId) -> Option<u32>
-        ensures { MatchOption result ((k : ℕ) → k < self.now.tiles * self.now.tiles → k * self.now.tiles + (self.now.tiles - 1) ≢ task.0) (λ rank. (rank < self.now.tiles * self.now.tiles) × (rank * self.now.tiles + (self.now.tiles - 1) ≡ task.0)) }
+        ensures each { (rank : ℕ) → rank < needed (AnyGraph.Product self.now) → needed_task (AnyGraph.Product self.now) rank ≡ task.0 → result ≡ Some rank }
+        ensures only { IfSome result (λ rank. (rank < needed (AnyGraph.Product self.now)) × (needed_task (AnyGraph.Product self.now) rank ≡ task.0)) }
     {
         let rank = task.0 / self.tiles;
         if task.0 % self.tiles + 1 == self.tiles && rank < self.tiles * self.tiles {
@@ -95,7 +97,8 @@ impl Product {
 
 impl Wavefront {
     fn rank(&self, task: TaskId) -> Option<u32>
-        ensures { MatchOption result ((k : ℕ) → k < self.now.rows * self.now.columns → k ≢ task.0) (λ rank. (rank < self.now.rows * self.now.columns) × (rank ≡ task.0)) }
+        ensures each { (rank : ℕ) → rank < needed (AnyGraph.Wavefront self.now) → needed_task (AnyGraph.Wavefront self.now) rank ≡ task.0 → result ≡ Some rank }
+        ensures only { IfSome result (λ rank. (rank < needed (AnyGraph.Wavefront self.now)) × (needed_task (AnyGraph.Wavefront self.now) rank ≡ task.0)) }
     {
         if task.0 < self.rows * self.columns {
             Some(task.0)
@@ -116,7 +119,8 @@ impl Wavefront {
 
 impl Reduce {
     fn rank(&self, task: TaskId) -> Option<u32>
-        ensures { MatchOption result ((k : ℕ) → k < 1 → 2 * self.now.leaves - 2 ≢ task.0) (λ rank. (rank < 1) × (2 * self.now.leaves - 2 ≡ task.0)) }
+        ensures each { (rank : ℕ) → rank < needed (AnyGraph.Reduce self.now) → needed_task (AnyGraph.Reduce self.now) rank ≡ task.0 → result ≡ Some rank }
+        ensures only { IfSome result (λ rank. (rank < needed (AnyGraph.Reduce self.now)) × (needed_task (AnyGraph.Reduce self.now) rank ≡ task.0)) }
     {
         if task.0 == 2 * self.leaves - 2 {
             Some(0)
