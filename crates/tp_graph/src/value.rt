@@ -1,9 +1,9 @@
-ghost use Rattle.std.specs.Prelude.{◌≡◌, [], ◌∷◌, Some, None, IfOk, MatchResult};
+ghost use Rattle.std.specs.Prelude.{◌≡◌, ◌+ℤ◌, [], ◌∷◌, true, if◌then◌else◌, Some, None, IfOk, MatchResult};
 ghost use Rattle.std.specs.Cmp.{int_eq_equiv, on_equiv, on_per, partial_equiv_from_equiv};
 ghost use Rattle.std.specs.Cmp.Lexicographic.{pointwise, lists_equiv};
 ghost use Rattle.std.specs.Ordering.{int_eq};
-ghost use Rattle.tp_base.specs.declared.Refusal.TheVariants.{BodyFailed};
-ghost use Rattle.tp_graph.specs.Values.{lone_of};
+ghost use Rattle.tp_base.specs.declared.Refusal.TheVariants.{BodyFailed, NoMemory};
+ghost use Rattle.tp_graph.specs.Values.{fits, lone_of};
 
 use std::alloc::{AllocError, Global};
 use std::default::MadeWith;
@@ -32,6 +32,16 @@ impl Value {
         Ok(Value {
             numbers: vec![in alloc; number]?,
         })
+    }
+
+    /// One number, the sum of two. Refused with `BodyFailed` where it leaves `i64`, and then with `NoMemory`.
+    pub fn sum(alloc: Global, a: i64, b: i64) -> Result<Self, Refusal>
+        ensures { MatchResult result (λ value. (value ≡ (a +ℤ b) ∷ []) × (fits (a +ℤ b) ≡ true)) (λ refusal. refusal ≡ (if fits (a +ℤ b) then NoMemory else BodyFailed)) }
+    {
+        match a.checked_add(b) {
+            Some(sum) => Ok(Value::one(alloc, sum)?),
+            None => Err(Refusal::BodyFailed),
+        }
     }
 
     /// The number of a value that has just one. Refused with `BodyFailed` where it has another count.

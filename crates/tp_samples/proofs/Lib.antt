@@ -5,4 +5,5 @@ pub mod ProductSums
 pub mod Spelling
 pub mod Sums
 pub mod TreeSums
+pub mod Valued
 pub mod WaveCells

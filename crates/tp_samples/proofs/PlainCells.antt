@@ -16,7 +16,7 @@ use Rattle.tp_samples.proofs.TreeSums.{tree_root}
 use Rattle.tp_samples.proofs.WaveCells.{wave_cell}
 use Rattle.tp_samples.proofs.ProductSums.{product_tile}
 
-leaves-few : (n s : ℕ) → IsReduce n s → (1 ≤ n) × (n ≤ 1024)
+pub leaves-few : (n s : ℕ) → IsReduce n s → (1 ≤ n) × (n ≤ 1024)
 leaves-few n s h = let t = h.leaf_count in (grind (arith, nat_tests), grind (arith, nat_tests))
 
 pub reduce_cell : (r : Reduce) (i j : ℕ) → HasCell (pool.Reduce r) i j 0 0

@@ -1,9 +1,9 @@
-use Rattle.std.proofs.Common.{◌≡◌, ◌≢◌, ◌<◌, ◌≤◌, ◌+◌, ◌-◌, ◌*◌, ◌/◌, ◌%◌, ◌^◌, ℕ, zero, suc, ℤ, pos, negsuc, ◌+ℤ◌, ◌-ℤ◌, ◌*ℤ◌, unsigned_abs, List, [], ◌∷◌, length, Option, Some, None, Bool, true, false, nat_eq, if◌then◌else◌, refl, sym, ap, ◌∙◌, subst, add-one, arith}
+use Rattle.std.proofs.Common.{◌≡◌, ◌≢◌, ◌<◌, ◌≤◌, ◌+◌, ◌-◌, ◌*◌, ◌/◌, ◌%◌, ◌^◌, ℕ, zero, suc, ℤ, pos, negsuc, ◌+ℤ◌, ◌-ℤ◌, ◌*ℤ◌, unsigned_abs, List, [], ◌∷◌, length, Option, Some, None, Bool, true, false, nat_eq, if◌then◌else◌, refl, sym, ap, ◌∙◌, subst, IsSome, rules, add-one, arith}
 use Rattle.std.specs.Int.Signed.{mag}
 use Rattle.std.proofs.lemmas.Bool.{and_from}
 use Rattle.std.proofs.lemmas.Bool.Decides.{nat_tests}
 use Rattle.std.proofs.lemmas.Int.{ints, unsigned_abs-mul}
-use Rattle.std.proofs.lemmas.Nat.{mod-mul-add, div-mul-add, mul-add-lt, mul-le, mul-lt}
+use Rattle.std.proofs.lemmas.Nat.{mod-mul-add, div-mul-add, mul-add-lt, mul-le, div_below, div-add-mod'}
 use Rattle.tp_graph.specs.Graphs.{TaskGraph, IsLawful}
 use Rattle.tp_graph.specs.Values.{value_of, outcome, fits, all_fit, fitting, then_some}
 use Rattle.tp_samples.specs.Products.{IsProduct, product_graph, left_entry, right_entry, term, sum_from, list_of, tile, add_lists, tile_and_input, entry}
@@ -156,3 +156,13 @@ module _ (tiles side seed : ℕ) (kept : IsProduct tiles side seed) where
       let last : tiles - 1 < tiles = omega (arith, kept.some_tiles) in
       let all : (tiles - 1 + 1) * side ≡ tiles * side = ap (λ n. n * side) (let n : tiles - 1 + 1 ≡ tiles = omega (arith, kept.some_tiles) in n) in
       step i j (tiles - 1) p q last ∙ ap (λ n. Some (list_of (side * side) (λ e. sum_from 0 n (term seed (i * side + e / side) (j * side + e % side))))) all
+
+  -- each task has a value
+  pub product_valued : (t : ℕ) → t < tiles * tiles * tiles → IsSome (value_of (product_graph tiles side seed) t)
+  product_valued t h =
+      let some : 0 < tiles = omega (arith, kept.some_tiles) in
+      let upper : t / tiles < tiles * tiles = div_below t tiles (tiles * tiles) some h in
+      let e = step (t / tiles / tiles) (t / tiles % tiles) (t % tiles) (div_below (t / tiles) tiles tiles some upper) (omega arith) (omega arith) in
+      let place : (t / tiles / tiles * tiles + t / tiles % tiles) * tiles + t % tiles ≡ t = ap (λ n. n * tiles + t % tiles) (div-add-mod' (t / tiles) tiles) ∙ div-add-mod' t tiles in
+      let P : Option (List ℤ) → Type 0 = λ o. IsSome o in
+      subst P (sym (sym (ap (value_of (product_graph tiles side seed)) place) ∙ e)) (search rules)

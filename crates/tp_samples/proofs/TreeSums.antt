@@ -1,4 +1,4 @@
-use Rattle.std.proofs.Common.{◌≡◌, ◌≢◌, ◌<◌, ◌≤◌, ◌+◌, ◌-◌, ◌*◌, ◌/◌, ◌%◌, ◌^◌, ℕ, zero, suc, ℤ, pos, List, [], ◌∷◌, Option, Some, None, Bool, true, false, ltb, refl, sym, ap, ◌∙◌, subst, add-one, arith, ⊎_elim}
+use Rattle.std.proofs.Common.{◌≡◌, ◌≢◌, ◌<◌, ◌≤◌, ◌+◌, ◌-◌, ◌*◌, ◌/◌, ◌%◌, ◌^◌, ℕ, zero, suc, ℤ, pos, List, [], ◌∷◌, Option, Some, None, Bool, true, false, ltb, refl, sym, ap, ◌∙◌, subst, IsSome, add-one, arith, rules, ⊎_elim}
 use Rattle.std.proofs.lemmas.Bool.{cases_eq}
 use Rattle.std.proofs.lemmas.Bool.Decides.{nat_tests}
 use Rattle.tp_graph.specs.Graphs.{TaskGraph, IsLawful}
@@ -108,3 +108,10 @@ module _ (leaves seed : ℕ) (rules_kept : IsReduce leaves seed) (some : 1 ≤ l
       let only : f (2 * (leaves - 1)) + 0 ≡ sum_of_leaves seed leaves = sym (ap (λ n. span (2 * (leaves - 1)) n f) one) ∙ all.1 in
       let number : f (2 * leaves - 2) ≡ sum_of_leaves seed leaves = omega (arith, only, ap f place) in
       all.0 (2 * leaves - 2) (omega arith) ∙ ap (λ n. Some (pos n ∷ [])) number
+
+  -- each task has a value
+  pub tree_valued : (t : ℕ) → t < 2 * leaves - 1 → IsSome (value_of (reduce_graph leaves seed) t)
+  tree_valued t h =
+      let e = (frontier (leaves - 1) (omega arith)).0 t (omega arith) in
+      let P : Option (List ℤ) → Type 0 = λ o. IsSome o in
+      subst P (sym e) (search rules)

@@ -1,6 +1,6 @@
-use Rattle.std.proofs.Common.{◌≡◌, ◌≢◌, ◌<◌, ◌≤◌, ◌+◌, ◌-◌, ◌*◌, ◌/◌, ◌%◌, ◌^◌, ℕ, zero, suc, min, ℤ, pos, List, [], ◌∷◌, Option, Some, None, Bool, true, false, ltb, leb, refl, sym, ap, ◌∙◌, subst, add-one, arith, ⊎_elim}
+use Rattle.std.proofs.Common.{◌≡◌, ◌≢◌, ◌<◌, ◌≤◌, ◌+◌, ◌-◌, ◌*◌, ◌/◌, ◌%◌, ◌^◌, ℕ, zero, suc, min, ℤ, pos, List, [], ◌∷◌, Option, Some, None, Bool, true, false, ltb, leb, refl, sym, ap, ◌∙◌, subst, IsSome, add-one, arith, rules, ⊎_elim}
 use Rattle.std.proofs.lemmas.Bool.Decides.{nat_tests}
-use Rattle.std.proofs.lemmas.Nat.{mod-mul-add, div-mul-add, mul-add-lt}
+use Rattle.std.proofs.lemmas.Nat.{mod-mul-add, div-mul-add, mul-add-lt, div_below, div-add-mod'}
 use Rattle.std.specs.Int.{int_min}
 use Rattle.tp_graph.specs.Graphs.{TaskGraph, IsLawful}
 use Rattle.tp_graph.specs.Values.{value_of, outcome, fitting}
@@ -95,3 +95,12 @@ module _ (rows columns seed : ℕ) (kept : IsWavefront rows columns seed) where
   pub wave_cell : (i j : ℕ) → i < rows → j < columns → value_of (wavefront_graph rows columns seed) (i * columns + j) ≡ Some (pos (cell seed i j) ∷ [])
   wave_cell zero j p q = let e : 0 * columns + j ≡ j = omega arith in ap (value_of (wavefront_graph rows columns seed)) e ∙ first j q
   wave_cell (suc i) j p q = next i p (λ k r. wave_cell i k (omega arith) r) j q
+
+  -- each task has a value
+  pub wave_valued : (t : ℕ) → t < rows * columns → IsSome (value_of (wavefront_graph rows columns seed) t)
+  wave_valued t h =
+      let some : 0 < columns = omega (arith, kept.some_columns) in
+      let e = wave_cell (t / columns) (t % columns) (div_below t columns rows some h) (omega arith) in
+      let place : (t / columns) * columns + t % columns ≡ t = div-add-mod' t columns in
+      let P : Option (List ℤ) → Type 0 = λ o. IsSome o in
+      subst P (sym (sym (ap (value_of (wavefront_graph rows columns seed)) place) ∙ e)) (search rules)

@@ -4,7 +4,7 @@
 #![tactic(auto)]
 
 mod any;
-mod numbers;
+mod laws;
 mod product;
 mod reduce;
 mod result_table;
@@ -13,6 +13,7 @@ mod wavefront;
 mod words;
 
 pub use any::AnyGraph;
+pub use laws::each_task_has_a_value;
 pub use product::Product;
 pub use reduce::Reduce;
 pub use result_table::ResultTable;

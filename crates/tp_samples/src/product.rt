@@ -5,7 +5,6 @@ ghost use Rattle.tp_samples.specs.Same.{three_same, rule_of_three};
 ghost use Rattle.tp_graph.specs.Values.{IsRefusal, fits, all_fit};
 ghost use Rattle.tp_base.specs.declared.Refusal.TheVariants.{BodyFailed};
 
-use crate::numbers::add;
 use std::alloc::{AllocError, Global};
 use tp_base::{NodeId, Refusal, TaskId};
 use tp_graph::{Graph, Value};
@@ -178,5 +177,8 @@ fn sum_of_places(a: &[i64], b: &[i64], e: usize) -> Result<i64, Refusal>
     requires right { e < length b.now }
     ensures { MatchResult result (λ sum. (place_sum a.now b.now e ≡ sum) × (fits (place_sum a.now b.now e) ≡ true)) (λ refusal. (refusal ≡ BodyFailed) × (fits (place_sum a.now b.now e) ≡ false)) }
 {
-    add(a[e], b[e])
+    match a[e].checked_add(b[e]) {
+        Some(sum) => Ok(sum),
+        None => Err(Refusal::BodyFailed),
+    }
 }

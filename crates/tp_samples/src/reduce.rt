@@ -3,7 +3,6 @@ ghost use Rattle.tp_samples.specs.Trees.{IsReduce, IsReduce-prop, reduce_graph};
 ghost use Rattle.tp_samples.specs.TreeLaws.{reduce_lawful};
 ghost use Rattle.tp_samples.specs.Same.{both_same, rule_of_two};
 
-use crate::numbers::add;
 use std::alloc::Global;
 use tp_base::{NodeId, Refusal, TaskId};
 use tp_graph::{Graph, Value};
@@ -58,7 +57,6 @@ impl Graph for Reduce {
         let [left, right] = inputs else {
             return Err(Refusal::BodyFailed);
         };
-        let sum = add(left.lone()?, right.lone()?)?;
-        Ok(Value::one(alloc, sum)?)
+        Value::sum(alloc, left.lone()?, right.lone()?)
     }
 }

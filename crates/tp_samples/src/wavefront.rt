@@ -3,7 +3,6 @@ ghost use Rattle.tp_samples.specs.Waves.{IsWavefront, IsWavefront-prop, cost, wa
 ghost use Rattle.tp_samples.specs.WaveLaws.{wavefront_lawful};
 ghost use Rattle.tp_samples.specs.Same.{three_same, rule_of_three};
 
-use crate::numbers::add;
 use std::alloc::Global;
 use tp_base::{NodeId, Refusal, TaskId};
 use tp_graph::{Graph, Value};
@@ -88,7 +87,6 @@ impl Graph for Wavefront {
             [above, left] => above.lone()?.min(left.lone()?),
             _ => return Err(Refusal::BodyFailed),
         };
-        let sum = add(least, i64::from(self.cost(task)))?;
-        Ok(Value::one(alloc, sum)?)
+        Value::sum(alloc, least, i64::from(self.cost(task)))
     }
 }
