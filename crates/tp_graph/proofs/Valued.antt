@@ -1,10 +1,6 @@
-use Rattle.std.proofs.Common.{◌≡◌, ◌≢◌, ◌<◌, ◌≤◌, ◌+◌, ◌*◌, ℕ, zero, suc, ◌^◌, ℤ, pos, List, [], ◌∷◌, ◌++◌, length, get_or, Option, Some, None, refl, sym, ap, ◌∙◌, Bool, true, false, eqb, add-one, arith, ⊎_elim}
-use Rattle.std.proofs.lemmas.Bool.{cases_eq}
+use Rattle.std.proofs.Common.{◌≡◌, ◌≢◌, ◌<◌, ℕ, zero, suc, ◌^◌, ℤ, pos, List, [], ◌∷◌, length, get_or, Option, Some, refl, ap, ◌∙◌, true, false, eqb, arith, ⊎_elim}
 use Rattle.std.proofs.lemmas.Bool.Decides.{nat_tests, eqb_tells}
-use Rattle.std.proofs.lemmas.List.{get_or_push, get_or_append_left, get_or-map}
-use Rattle.tp_base.specs.declared.TaskId.{TaskId}
 use Rattle.tp_graph.specs.Graphs.{TaskGraph, IsLawful}
-use Rattle.tp_graph.specs.Serial.{AreValues, Results}
 use Rattle.tp_graph.specs.Values.{value_of, values_below, fitting, gather, then_some, outcome, AreInputs}
 
 -- lists of answers that are alike below a number gather alike

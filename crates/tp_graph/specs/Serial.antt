@@ -1,4 +1,4 @@
-use Rattle.std.specs.Prelude.{◌≡◌, ◌<◌, ◌+◌, ◌*◌, ◌⊎◌, ℕ, ℤ, List, [], Some, None, length, map, slice_index, slice_index_or}
+use Rattle.std.specs.Prelude.{◌≡◌, ◌<◌, ◌+◌, ◌*◌, ◌⊎◌, ℕ, ℤ, List, Some, None, length, slice_index, slice_index_or, All}
 use Rattle.tp_base.specs.declared.TaskId.{TaskId}
 use Rattle.tp_base.specs.declared.Refusal.{Refusal}
 use Rattle.tp_base.specs.declared.Refusal.TheVariants.{BodyFailed, NoMemory}
@@ -9,17 +9,15 @@ use Rattle.tp_graph.specs.Values.{value_of}
 abbrev pub Results : Type 0
 Results = List (TaskId × List ℤ)
 
-abbrev pub task_numbers : Results → List ℕ
-task_numbers results = map (λ r. r.0.0) results
-
-abbrev pub values_in : Results → List (List ℤ)
-values_in results = map (λ r. r.1) results
+-- each result is its task's value
+abbrev pub AreRight : TaskGraph → Results → Type 0
+AreRight g results = All (λ r. value_of g r.0.0 ≡ Some r.1) results
 
 -- the values of the first tasks, so many, in rising order
 pub record AreValues (g : TaskGraph) (count : ℕ) (results : Results) : Type 0 where
   pub long : length results ≡ count
-  pub tasks_rise : (t : ℕ) → t < count → slice_index (task_numbers results) t ≡ t
-  pub values_right : (t : ℕ) → t < count → value_of g t ≡ Some (slice_index_or (values_in results) t [])
+  pub rise : (t : ℕ) (d : TaskId × List ℤ) → t < count → (slice_index_or results t d).0.0 ≡ t
+  pub right : AreRight g results
 
 -- why there are no values: a task has none, or there was no memory
 abbrev pub IsSerialRefusal : TaskGraph → Refusal → Type 0

@@ -211,7 +211,14 @@ impl<G: Graph> Parcel<G> {
         ensures same { result ≡ self.value }
         ensures right { value_of (G.meaning self.graph) self.feed.producer.0 ≡ Some result }
     {
-        let Message { graph: _, number: _, from: _, to: _, feed: _, value } = self.message;
+        let Message {
+            graph: _,
+            number: _,
+            from: _,
+            to: _,
+            feed: _,
+            value,
+        } = self.message;
         value
     }
 }

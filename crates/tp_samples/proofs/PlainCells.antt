@@ -1,13 +1,11 @@
-use Rattle.std.proofs.Common.{◌≡◌, ◌<◌, ◌≤◌, ◌+◌, ◌-◌, ◌*◌, ◌/◌, ◌%◌, ℕ, zero, suc, ℤ, pos, List, [], ◌∷◌, Some, length, get_or, refl, sym, ap, ◌∙◌, subst, arith}
+use Rattle.std.proofs.Common.{◌≡◌, ◌<◌, ◌≤◌, ◌+◌, ◌-◌, ◌*◌, ◌/◌, ◌%◌, ℕ, zero, suc, ℤ, pos, [], ◌∷◌, get_or, refl, sym, ap, ◌∙◌, arith}
 use Rattle.std.proofs.lemmas.Nat.{mod-mul-add, div-mul-add, mul-add-lt, div_below, div-add-mod'}
 use Rattle.std.proofs.lemmas.Bool.Decides.{nat_tests}
 use Rattle.tp_samples.specs.Products.{entry, list_of}
 use Rattle.tp_samples.specs.Waves.{cell}
-use Rattle.tp_samples.specs.Trees.{IsReduce, is_leaf_count, sum_of_leaves}
+use Rattle.tp_samples.specs.Trees.{IsReduce, sum_of_leaves}
 use Rattle.tp_samples.specs.Needed.{HasCell}
-use Rattle.tp_samples.specs.Tables.{table_of, task_at}
 use Rattle.tp_samples.specs.declared.any.AnyGraph.TheVariants as pool
-use Rattle.tp_samples.specs.declared.any.AnyGraph.{AnyGraph}
 use Rattle.tp_samples.specs.declared.product.Product.{Product}
 use Rattle.tp_samples.specs.declared.wavefront.Wavefront.{Wavefront}
 use Rattle.tp_samples.specs.declared.reduce.Reduce.{Reduce}

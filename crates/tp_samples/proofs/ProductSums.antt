@@ -1,11 +1,10 @@
-use Rattle.std.proofs.Common.{◌≡◌, ◌≢◌, ◌<◌, ◌≤◌, ◌+◌, ◌-◌, ◌*◌, ◌/◌, ◌%◌, ◌^◌, ℕ, zero, suc, ℤ, pos, negsuc, ◌+ℤ◌, ◌-ℤ◌, ◌*ℤ◌, unsigned_abs, List, [], ◌∷◌, length, Option, Some, None, Bool, true, false, nat_eq, if◌then◌else◌, refl, sym, ap, ◌∙◌, subst, IsSome, rules, add-one, arith}
+use Rattle.std.proofs.Common.{◌≡◌, ◌<◌, ◌≤◌, ◌+◌, ◌-◌, ◌*◌, ◌/◌, ◌%◌, ◌^◌, ℕ, zero, suc, ℤ, pos, negsuc, ◌+ℤ◌, unsigned_abs, List, [], ◌∷◌, length, Option, Some, true, nat_eq, if◌then◌else◌, refl, sym, ap, ◌∙◌, subst, IsSome, rules, arith}
 use Rattle.std.specs.Int.Signed.{mag}
 use Rattle.std.proofs.lemmas.Bool.{and_from}
 use Rattle.std.proofs.lemmas.Bool.Decides.{nat_tests}
 use Rattle.std.proofs.lemmas.Int.{ints, unsigned_abs-mul}
 use Rattle.std.proofs.lemmas.Nat.{mod-mul-add, div-mul-add, mul-add-lt, mul-le, div_below, div-add-mod'}
-use Rattle.tp_graph.specs.Graphs.{TaskGraph, IsLawful}
-use Rattle.tp_graph.specs.Values.{value_of, outcome, fits, all_fit, fitting, then_some}
+use Rattle.tp_graph.specs.Values.{value_of, fits, all_fit, fitting, then_some}
 use Rattle.tp_samples.specs.Products.{IsProduct, product_graph, left_entry, right_entry, term, sum_from, list_of, tile, add_lists, tile_and_input, entry}
 use Rattle.tp_samples.specs.ProductLaws.{product_lawful}
 use Rattle.tp_samples.proofs.Sums.{list-length, fits_from}

@@ -1,9 +1,8 @@
-use Rattle.std.proofs.Common.{◌≡◌, ◌<◌, ◌≤◌, ◌+◌, ◌-◌, ◌*◌, ℕ, zero, suc, ◌^◌, ℤ, pos, negsuc, ◌+ℤ◌, List, [], ◌∷◌, ◌++◌, length, get_or, take, ◌/◌, ◌%◌, nat_eq, Vec, Result, Ok, Err, IfOk, IfErr, MatchResult, if◌then◌else◌, ◌⊎◌, inl, inr, ⊎_elim, subst, Option, Some, None, Bool, true, false, ◌&&◌, refl, sym, ap, ◌∙◌, add-one, arith, length-append}
+use Rattle.std.proofs.Common.{◌≡◌, ◌<◌, ◌≤◌, ◌+◌, ◌*◌, ℕ, zero, suc, ◌^◌, ℤ, pos, negsuc, ◌+ℤ◌, List, [], ◌∷◌, ◌++◌, length, get_or, take, ◌/◌, ◌%◌, nat_eq, subst, Some, None, true, false, refl, sym, ap, ◌∙◌, add-one, arith}
 use Rattle.std.specs.Int.Signed.{mag}
 use Rattle.std.proofs.lemmas.Bool.Decides.{nat_tests}
-use Rattle.std.proofs.lemmas.Bool.{and_parts, and_from, and_right, and_cases}
+use Rattle.std.proofs.lemmas.Bool.{and_parts, and_from, and_right}
 use Rattle.std.proofs.lemmas.List.{take_more, take_all}
-use Rattle.std.specs.declared.alloc.Global.{Global}
 use Rattle.tp_graph.specs.Values.{fits, all_fit, fitting, then_some}
 use Rattle.tp_samples.specs.Products.{sum_from, list_of, add_lists, added, place_sum, tile, tile_and_input, term}
 

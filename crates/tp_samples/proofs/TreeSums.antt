@@ -1,9 +1,8 @@
-use Rattle.std.proofs.Common.{◌≡◌, ◌≢◌, ◌<◌, ◌≤◌, ◌+◌, ◌-◌, ◌*◌, ◌/◌, ◌%◌, ◌^◌, ℕ, zero, suc, ℤ, pos, List, [], ◌∷◌, Option, Some, None, Bool, true, false, ltb, refl, sym, ap, ◌∙◌, subst, IsSome, add-one, arith, rules, ⊎_elim}
+use Rattle.std.proofs.Common.{◌≡◌, ◌≢◌, ◌<◌, ◌≤◌, ◌+◌, ◌-◌, ◌*◌, ◌^◌, ℕ, zero, suc, ℤ, pos, List, [], ◌∷◌, Option, Some, true, false, ltb, refl, sym, ap, ◌∙◌, subst, IsSome, arith, rules, ⊎_elim}
 use Rattle.std.proofs.lemmas.Bool.{cases_eq}
 use Rattle.std.proofs.lemmas.Bool.Decides.{nat_tests}
-use Rattle.tp_graph.specs.Graphs.{TaskGraph, IsLawful}
-use Rattle.tp_graph.specs.Values.{value_of, outcome, fitting}
-use Rattle.tp_samples.specs.Trees.{IsReduce, is_leaf_count, reduce_graph, leaf_value, sum_of_leaves}
+use Rattle.tp_graph.specs.Values.{value_of}
+use Rattle.tp_samples.specs.Trees.{IsReduce, reduce_graph, leaf_value, sum_of_leaves}
 use Rattle.tp_samples.specs.TreeLaws.{reduce_lawful}
 use Rattle.tp_graph.proofs.Valued.{value-zero, value-two, fitting-one}
 

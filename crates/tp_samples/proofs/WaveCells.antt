@@ -1,10 +1,9 @@
-use Rattle.std.proofs.Common.{◌≡◌, ◌≢◌, ◌<◌, ◌≤◌, ◌+◌, ◌-◌, ◌*◌, ◌/◌, ◌%◌, ◌^◌, ℕ, zero, suc, min, ℤ, pos, List, [], ◌∷◌, Option, Some, None, Bool, true, false, ltb, leb, refl, sym, ap, ◌∙◌, subst, IsSome, add-one, arith, rules, ⊎_elim}
+use Rattle.std.proofs.Common.{◌≡◌, ◌<◌, ◌≤◌, ◌+◌, ◌*◌, ◌/◌, ◌%◌, ◌^◌, ℕ, zero, suc, min, ℤ, pos, List, [], ◌∷◌, Option, Some, sym, ap, ◌∙◌, subst, IsSome, arith, rules}
 use Rattle.std.proofs.lemmas.Bool.Decides.{nat_tests}
 use Rattle.std.proofs.lemmas.Nat.{mod-mul-add, div-mul-add, mul-add-lt, div_below, div-add-mod'}
 use Rattle.std.specs.Int.{int_min}
-use Rattle.tp_graph.specs.Graphs.{TaskGraph, IsLawful}
-use Rattle.tp_graph.specs.Values.{value_of, outcome, fitting}
-use Rattle.tp_samples.specs.Waves.{IsWavefront, wavefront_graph, cost, first_row, next_row, cell, cost_and_least}
+use Rattle.tp_graph.specs.Values.{value_of}
+use Rattle.tp_samples.specs.Waves.{IsWavefront, wavefront_graph, cost, first_row, next_row, cell}
 use Rattle.tp_samples.specs.WaveLaws.{wavefront_lawful}
 use Rattle.tp_graph.proofs.Valued.{value-zero, value-one, value-two, fitting-one}
 

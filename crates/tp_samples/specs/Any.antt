@@ -1,5 +1,4 @@
-use Rattle.std.specs.Prelude.{◌≡◌, true}
-use Rattle.std.proofs.Common.{◌&&◌, eqb, ap}
+use Rattle.std.specs.Prelude.{◌≡◌}
 use Rattle.tp_graph.specs.Graphs.{TaskGraph, IsLawful}
 use Rattle.tp_samples.specs.Products.{IsProduct, IsProduct-prop, product_graph}
 use Rattle.tp_samples.specs.ProductLaws.{product_lawful}
@@ -7,7 +6,7 @@ use Rattle.tp_samples.specs.Waves.{IsWavefront, IsWavefront-prop, wavefront_grap
 use Rattle.tp_samples.specs.WaveLaws.{wavefront_lawful}
 use Rattle.tp_samples.specs.Trees.{IsReduce, IsReduce-prop, reduce_graph}
 use Rattle.tp_samples.specs.TreeLaws.{reduce_lawful}
-use Rattle.tp_samples.specs.Same.{both_same, three_same, rule_of_two, rule_of_three}
+use Rattle.tp_samples.specs.Same.{rule_of_two, rule_of_three}
 use Rattle.tp_samples.specs.declared.any.AnyGraph.{AnyGraph}
 use Rattle.tp_samples.specs.declared.any.AnyGraph.TheVariants as pool
 use Rattle.tp_samples.specs.declared.product.Product.{Product}

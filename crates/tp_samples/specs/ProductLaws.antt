@@ -1,6 +1,6 @@
-use Rattle.std.proofs.Common.{◌≡◌, ◌<◌, ◌≤◌, ◌+◌, ◌-◌, ◌*◌, ◌/◌, ◌%◌, ℕ, arith, rules}
+use Rattle.std.proofs.Common.{◌≡◌, ◌<◌, ◌≤◌, ◌+◌, ◌-◌, ◌*◌, ◌%◌, ℕ, arith}
 use Rattle.std.proofs.lemmas.Bool.Decides.{nat_tests}
-use Rattle.tp_graph.specs.Graphs.{TaskGraph, IsLawful, FillsSlot, IsFilled}
+use Rattle.tp_graph.specs.Graphs.{IsLawful, FillsSlot, IsFilled}
 use Rattle.tp_samples.specs.Products.{IsProduct, product_graph}
 use Rattle.tp_samples.specs.Columns.{mod_right, mod_left, right_within}
 

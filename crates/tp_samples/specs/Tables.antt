@@ -1,10 +1,8 @@
-use Rattle.std.specs.Prelude.{◌≡◌, ◌≢◌, ◌<◌, ◌+◌, ◌-◌, ◌*◌, ◌/◌, ◌%◌, ◌++◌, ℕ, zero, suc, ℤ, pos, List, [], ◌∷◌, Some, if◌then◌else◌, nat_eq, All}
+use Rattle.std.specs.Prelude.{◌≢◌, ◌<◌, ◌+◌, ◌-◌, ◌*◌, ◌/◌, ◌++◌, ℕ, zero, suc, ℤ, pos, List, [], ◌∷◌, if◌then◌else◌, nat_eq, All}
 use Rattle.std.specs.Fmt.{signed_decimal}
-use Rattle.tp_samples.specs.Any.{any_graph}
 use Rattle.tp_samples.specs.Products.{entry}
 use Rattle.tp_graph.specs.Serial.{Results}
 use Rattle.tp_samples.specs.Trees.{sum_of_leaves}
-use Rattle.tp_graph.specs.Values.{value_of}
 use Rattle.tp_samples.specs.Waves.{cell}
 use Rattle.tp_samples.specs.declared.any.AnyGraph.{AnyGraph}
 use Rattle.tp_samples.specs.declared.any.AnyGraph.TheVariants as pool
@@ -40,10 +38,6 @@ cell_text columns j number = signed_decimal number ++ (if nat_eq (j + 1) columns
 -- the rows of a table, each a line
 abbrev pub table_text : Table → List ℕ
 table_text table = texts table.rows (λ i. texts table.columns (λ j. cell_text table.columns j (table.at i j)))
-
--- each result is its task's value
-abbrev pub AreRight : AnyGraph → Results → Type 0
-AreRight graph results = All (λ r. value_of (any_graph graph) r.0.0 ≡ Some r.1) results
 
 -- no result is of the task
 abbrev pub HasNone : Results → ℕ → Type 0

@@ -1,7 +1,7 @@
-use Rattle.std.proofs.Common.{◌≡◌, ◌<◌, ◌≤◌, ◌+◌, ◌-◌, ◌*◌, ◌/◌, ◌%◌, ℕ, true, ◌&&◌, eqb, arith, rules}
+use Rattle.std.proofs.Common.{◌<◌, ◌-◌, ◌*◌, ℕ, arith}
 use Rattle.std.proofs.lemmas.Bool.Decides.{nat_tests}
-use Rattle.tp_graph.specs.Graphs.{TaskGraph, IsLawful, FillsSlot, IsFilled}
-use Rattle.tp_samples.specs.Trees.{IsReduce, is_leaf_count, reduce_graph}
+use Rattle.tp_graph.specs.Graphs.{IsLawful, FillsSlot, IsFilled}
+use Rattle.tp_samples.specs.Trees.{IsReduce, reduce_graph}
 
 fills : (leaves seed p k : ℕ) → p < 2 * leaves - 1 → k < (reduce_graph leaves seed).feeds p → FillsSlot (reduce_graph leaves seed) p k
 unfolding reduce_graph

@@ -9,6 +9,8 @@ mod product;
 mod reduce;
 mod result_table;
 mod table;
+#[cfg(test)]
+mod tests;
 mod wavefront;
 mod words;
 

@@ -1,7 +1,9 @@
 ghost use Rattle.std.specs.Prelude.{◌≡◌, ◌<◌, ◌≤◌, ◌↔◌, ℕ, IsErr, IfOk, IfErr, IsSome, MatchOption, slice_index_or, None, length};
 ghost use Rattle.tp_base.specs.declared.Refusal.TheVariants.{Missing};
 ghost use Rattle.tp_samples.specs.Needed.{needed, IsIndex};
-ghost use Rattle.tp_samples.specs.Tables.{table_of, AreRight, LacksCell};
+ghost use Rattle.tp_graph.specs.Serial.{AreRight};
+ghost use Rattle.tp_samples.specs.Any.{any_graph};
+ghost use Rattle.tp_samples.specs.Tables.{table_of, LacksCell};
 
 use crate::any::AnyGraph;
 use std::marker::Model;
@@ -33,7 +35,7 @@ impl<'a> ResultTable<'a> {
     /// Finds the numbers of a graph's table among results, each of which has to be its task's value. Refused with
     /// `Missing` exactly where a task that the table needs has no result. It takes no memory.
     pub fn new(graph: AnyGraph, results: &'a [(TaskId, Value)]) -> Result<Self, Refusal>
-        requires { AreRight graph results.now }
+        requires { AreRight (any_graph graph) results.now }
         ensures found { IfOk result (λ table. table ≡ graph) }
         ensures missing { IsErr result ↔ LacksCell graph results.now }
         ensures refused { IfErr result (λ refusal. refusal ≡ Missing) }
@@ -83,11 +85,8 @@ fn nothing<'a>() -> [Option<&'a Value>; MAX_NEEDED]
 }
 
 /// The values that a table needs, by the ranks of their tasks.
-fn index<'a>(
-    graph: AnyGraph,
-    results: &'a [(TaskId, Value)],
-) -> [Option<&'a Value>; MAX_NEEDED]
-    requires { AreRight graph results.now }
+fn index<'a>(graph: AnyGraph, results: &'a [(TaskId, Value)]) -> [Option<&'a Value>; MAX_NEEDED]
+    requires { AreRight (any_graph graph) results.now }
     ensures long { length result ≡ 4096 }
     ensures found { IsIndex graph results.now result }
 {

@@ -2,5 +2,7 @@
 #![tactic(auto)]
 
 mod table;
+#[cfg(test)]
+mod tests;
 
 pub use table::print_table;

@@ -1,7 +1,9 @@
 ghost use Rattle.std.specs.Prelude.{◌≡◌, ◌<◌, ◌⊎◌, ◌↔◌, ◌++◌, ◌∷◌, [], if◌then◌else◌, IfOk, OnOk, IfErr};
 ghost use Rattle.std.specs.Fmt.{signed_decimal};
 ghost use Rattle.tp_base.specs.declared.Refusal.TheVariants.{Missing, NoMemory};
-ghost use Rattle.tp_samples.specs.Tables.{AreRight, LacksCell, table_of, texts, cell_text, table_text};
+ghost use Rattle.tp_graph.specs.Serial.{AreRight};
+ghost use Rattle.tp_samples.specs.Any.{any_graph};
+ghost use Rattle.tp_samples.specs.Tables.{LacksCell, table_of, texts, cell_text, table_text};
 
 use std::alloc::{AllocError, Global};
 use tp_base::{Refusal, TaskId};
@@ -16,7 +18,7 @@ pub fn print_table(
     graph: AnyGraph,
     results: &[(TaskId, Value)],
 ) -> Result<Vec<u8>, Refusal>
-    requires { AreRight graph results.now }
+    requires { AreRight (any_graph graph) results.now }
     ensures printed { IfOk result (λ text. text.items ≡ table_text (table_of graph)) }
     ensures missing { (result ≡ Err Missing) ↔ LacksCell graph results.now }
     ensures refused { IfErr result (λ refusal. (refusal ≡ Missing) ⊎ (refusal ≡ NoMemory)) }
@@ -48,7 +50,12 @@ fn print_row(
 }
 
 /// Writes a number and what follows it.
-fn print_number(alloc: Global, text: &mut Vec<u8>, number: i64, last: bool) -> Result<(), AllocError>
+fn print_number(
+    alloc: Global,
+    text: &mut Vec<u8>,
+    number: i64,
+    last: bool,
+) -> Result<(), AllocError>
     ensures { OnOk result (text.new.items ≡ text.old.items ++ (signed_decimal number ++ (if last then 10 else 32) ∷ [])) }
 {
     let digits = number.to_string(alloc)?;

@@ -1,4 +1,4 @@
-use Rattle.std.proofs.Common.{◌≡◌, ◌≤◌, ◌*◌, ◌+◌, ◌/◌, ◌%◌, true}
+use Rattle.std.proofs.Common.{◌≡◌, ◌*◌, ◌+◌, ◌/◌, ◌%◌, true}
 use Rattle.tp_graph.specs.Values.{all_fit}
 use Rattle.tp_samples.specs.Products.{sum_from, term, list_of}
 use Rattle.tp_samples.proofs.product.make_tile.Given as goal

@@ -1,6 +1,5 @@
-use Rattle.std.proofs.Common.{rules, ◌≡◌, ◌≤◌, ◌*◌, ◌+◌, ◌+ℤ◌, ◌*ℤ◌, ap, arith, refl, to_z, of_z, w64}
+use Rattle.std.proofs.Common.{arith, w64}
 use Rattle.std.proofs.lemmas.Int.{to_z-of_z}
-use Rattle.tp_samples.specs.Products.{sum_from, term, left_entry, right_entry}
 use Rattle.tp_samples.proofs.Sums.{sum_more}
 use Rattle.tp_samples.proofs.product.sum_at.Goals as goal
 

@@ -1,4 +1,4 @@
-use Rattle.std.proofs.Common.{◌≡◌, ℕ, None, get_or, replicate}
+use Rattle.std.proofs.Common.{None}
 use Rattle.tp_samples.proofs.Found.{get_or-replicate_same}
 use Rattle.tp_samples.proofs.result_table.nothing.Goals as goal
 

@@ -1,4 +1,4 @@
-use Rattle.std.proofs.Common.{◌≡◌, ◌∙◌, ◌<◌, ◌^◌, sym, subst, arith, rules, Option, ℕ, List, IfSome, decimal}
+use Rattle.std.proofs.Common.{◌≡◌, ◌∙◌, ◌<◌, ◌^◌, sym, subst, arith, rules, Option, ℕ, IfSome, decimal}
 use Rattle.tp_samples.specs.Words.{IsPlain}
 use Rattle.tp_samples.proofs.Spelling.{decimal_plain, read_plain, read_decimal}
 use Rattle.tp_samples.proofs.words.number.Goals as goal

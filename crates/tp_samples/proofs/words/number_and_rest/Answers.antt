@@ -1,4 +1,4 @@
-use Rattle.std.proofs.Common.{◌≡◌, ◌∙◌, sym, ap, arith, rules, Some, None}
+use Rattle.std.proofs.Common.{arith, Some, None}
 use Rattle.std.proofs.lemmas.Str.Pattern.{split_parts}
 use Rattle.tp_samples.proofs.Spelling.{has_colon, split_number}
 use Rattle.tp_samples.proofs.words.number_and_rest.Goals as goal

@@ -1,4 +1,4 @@
-use Rattle.std.proofs.Common.{◌≡◌, ◌<◌, ◌*◌, ◌/◌, ◌%◌, ◌^◌, Some, ap, ◌∙◌, arith}
+use Rattle.std.proofs.Common.{◌≡◌, ◌*◌, ◌/◌, ◌%◌, Some, ap, ◌∙◌, arith}
 use Rattle.tp_samples.specs.Any.{product_same}
 use Rattle.tp_samples.proofs.Spelling.{order_is, each_of_three}
 use Rattle.tp_samples.proofs.words.product_named.Goals as goal

@@ -1,4 +1,4 @@
-use Rattle.std.proofs.Common.{rules, ◌≡◌, ◌+◌, ◌*◌, ◌/◌, ◌%◌, ℕ, ℤ, List, [], ◌∷◌, Option, Some, MatchResult, sym, ap, ◌∙◌, subst, arith}
+use Rattle.std.proofs.Common.{◌≡◌, ◌/◌, ◌%◌, ℕ, ℤ, List, [], ◌∷◌, Option, Some, MatchResult, sym, ap, ◌∙◌, subst, arith}
 use Rattle.tp_graph.specs.Values.{outcome, IsRefusal}
 use Rattle.tp_samples.specs.Products.{product_graph, added}
 use Rattle.tp_samples.proofs.Sums.{tile_added, one_item}
