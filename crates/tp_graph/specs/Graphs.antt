@@ -1,4 +1,5 @@
 use Rattle.std.specs.Prelude.{◌≡◌, ◌<◌, ◌≤◌, ℕ, ℤ, List, Option}
+use Rattle.tp_base.specs.declared.limits.TheConstants.{CLASSES, MAX_INPUTS, MAX_NODES}
 
 -- A task graph as plain data. Tasks are the numbers below `tasks`. Task t waits for `arity t` inputs, in slots from 0
 -- on; what fills slot s is feed `turn t s` of task `source t s`. Task t passes its value on in `feeds t` feeds; feed k
@@ -31,11 +32,11 @@ pub record IsFilled (g : TaskGraph) (t : ℕ) (s : ℕ) : Type 0 where
   pub target_is : g.target (g.source t s) (g.turn t s) ≡ t
   pub slot_is : g.slot (g.source t s) (g.turn t s) ≡ s
 
--- What holds of every graph, for 1 to 8 nodes. The two parts on feeds say together that each slot below a task's arity
+-- What holds of every graph. The two parts on feeds say together that each slot below a task's arity
 -- has exactly one feed of exactly one producer, and that no feed names another slot.
 pub record IsLawful (g : TaskGraph) : Type 0 where
-  pub few_inputs : (t : ℕ) → t < g.tasks → g.arity t ≤ 16
-  pub few_classes : (t : ℕ) → t < g.tasks → g.class t ≤ 3
-  pub homes : (t m : ℕ) → t < g.tasks → 1 ≤ m → m ≤ 8 → g.home t m < m
+  pub few_inputs : (t : ℕ) → t < g.tasks → g.arity t ≤ MAX_INPUTS
+  pub few_classes : (t : ℕ) → t < g.tasks → g.class t < CLASSES
+  pub homes : (t m : ℕ) → t < g.tasks → 1 ≤ m → m ≤ MAX_NODES → g.home t m < m
   pub feeds_fill : (p k : ℕ) → p < g.tasks → k < g.feeds p → FillsSlot g p k
   pub slots_filled : (t s : ℕ) → t < g.tasks → s < g.arity t → IsFilled g t s

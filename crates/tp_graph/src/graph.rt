@@ -4,7 +4,7 @@ ghost use Rattle.tp_graph.specs.Values.{outcome, IsRefusal};
 
 use crate::value::Value;
 use std::alloc::Global;
-use tp_base::{NodeId, Refusal, TaskId};
+use tp_base::{MAX_NODES, NodeId, Refusal, TaskId};
 
 /// A task graph. Its meaning is plain data, and its laws are said of that.
 pub trait Graph: Copy + Eq + Send + Sync {
@@ -40,7 +40,7 @@ pub trait Graph: Copy + Eq + Send + Sync {
     fn home(&self, task: TaskId, nodes: u32) -> NodeId
         requires known { task.0 < (meaning self.now).tasks }
         requires some { 1 ≤ nodes }
-        requires few { nodes ≤ 8 }
+        requires few { nodes ≤ MAX_NODES }
         ensures { result.0 ≡ (meaning self.now).home task.0 nodes };
 
     /// What a task makes of its inputs, in slot order. Refused with `BodyFailed` exactly where its rule fails or a number

@@ -69,7 +69,7 @@ product_graph tiles side seed = record {
   slot = λ t k. 0;
   source = λ t s. t - 1;
   turn = λ t s. 0;
-  home = λ t m. (t / tiles / tiles + t / tiles % tiles + t % tiles) % m;
+  home = λ t m. (t / tiles + t % tiles) % m;
   rule = λ t inputs. tile_and_input (side * side) (tile side seed (t / tiles / tiles) (t / tiles % tiles) (t % tiles)) inputs;
 }
 

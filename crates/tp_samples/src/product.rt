@@ -111,9 +111,7 @@ impl Graph for Product {
     }
 
     fn home(&self, task: TaskId, nodes: u32) -> NodeId {
-        let i = task.0 / self.tiles / self.tiles;
-        let j = task.0 / self.tiles % self.tiles;
-        NodeId((i + j + task.0 % self.tiles) % nodes)
+        NodeId((task.0 / self.tiles + task.0 % self.tiles) % nodes)
     }
 
     fn body(&self, alloc: Global, task: TaskId, inputs: &[Value]) -> Result<Value, Refusal> {
