@@ -1,4 +1,4 @@
-use Rattle.std.specs.Prelude.{◌≡◌, ◌<◌, ◌+◌, ◌*◌, ◌⊎◌, ℕ, ℤ, List, Some, None, length, slice_index, slice_index_or, All}
+use Rattle.std.specs.Prelude.{◌≡◌, ◌<◌, ◌⊎◌, ℕ, ℤ, List, Some, None, length, slice_index_or, All}
 use Rattle.tp_base.specs.declared.TaskId.{TaskId}
 use Rattle.tp_base.specs.declared.Refusal.{Refusal}
 use Rattle.tp_base.specs.declared.Refusal.TheVariants.{BodyFailed, NoMemory}
@@ -22,14 +22,3 @@ pub record AreValues (g : TaskGraph) (count : ℕ) (results : Results) : Type 0 
 -- why there are no values: a task has none, or there was no memory
 abbrev pub IsSerialRefusal : TaskGraph → Refusal → Type 0
 IsSerialRefusal g refusal = (refusal ≡ NoMemory) ⊎ ((refusal ≡ BodyFailed) × ((t : ℕ) × (t < g.tasks) × (value_of g t ≡ None)))
-
--- a table of producers: that of slot s of task t stands at 16 * t + s
-pub record IsTable (g : TaskGraph) (table : List ℕ) : Type 0 where
-  pub long : length table ≡ 16 * g.tasks
-  pub each : (t s : ℕ) → t < g.tasks → s < g.arity t → slice_index table (16 * t + s) ≡ g.source t s
-
--- the same, of the tasks below p and the first k feeds of p
-pub record IsTableTo (g : TaskGraph) (p : ℕ) (k : ℕ) (table : List ℕ) : Type 0 where
-  pub long : length table ≡ 16 * g.tasks
-  pub earlier : (t s : ℕ) → t < g.tasks → s < g.arity t → g.source t s < p → slice_index table (16 * t + s) ≡ g.source t s
-  pub current : (t s : ℕ) → t < g.tasks → s < g.arity t → g.source t s ≡ p → g.turn t s < k → slice_index table (16 * t + s) ≡ p

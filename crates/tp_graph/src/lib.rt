@@ -8,6 +8,7 @@
 
 mod feed;
 mod graph;
+mod laws;
 mod message;
 mod one_thread;
 mod value;
@@ -15,6 +16,7 @@ mod work;
 
 pub use feed::Feed;
 pub use graph::{Graph, is_same};
+pub use laws::value_is_what_the_rule_makes;
 pub use message::{Message, Parcel};
 pub use one_thread::serial;
 pub use value::Value;

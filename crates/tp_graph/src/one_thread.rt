@@ -1,5 +1,6 @@
 ghost use Rattle.std.specs.Prelude.{◌≡◌, ◌<◌, Some, IfOk, MatchResult};
-ghost use Rattle.tp_graph.specs.Serial.{AreValues, IsSerialRefusal, IsTable};
+ghost use Rattle.tp_graph.specs.Producers.{IsTable};
+ghost use Rattle.tp_graph.specs.Serial.{AreValues, IsSerialRefusal};
 ghost use Rattle.tp_graph.specs.Values.{value_of, AreInputs, IsRefusal};
 
 use crate::graph::Graph;

@@ -1,4 +1,4 @@
-ghost use Rattle.std.specs.Prelude.{◌≡◌, ◌<◌, IfOk};
+ghost use Rattle.std.specs.Prelude.{◌≡◌, ◌<◌};
 
 use crate::Chain;
 use smallvec::SmallVec;
@@ -6,6 +6,7 @@ use std::alloc::{AllocError, Global};
 use std::test::Fail;
 use tp_base::{MessageId, NodeId, TaskId};
 use tp_graph::{Message, Parcel, Value, Work, serial};
+use tp_link::Link;
 
 #[test]
 fn each_task_adds_its_number(rt: HostRuntime) -> Result<(), Fail> {
@@ -49,6 +50,13 @@ fn a_value_goes_to_the_next_task(rt: HostRuntime) -> Result<(), Fail> {
     let feed = done.pass_on();
     assert!(rt; done.all_fed());
     let message = Message::new(chain, MessageId(5), NodeId(0), NodeId(1), feed, value);
+    let mut link = Link::new(alloc, NodeId(0), NodeId(1));
+    let Ok(()) = link.put(message) else {
+        panic!(&rt; "the message does not go")
+    };
+    let Some(message) = link.get() else {
+        panic!(&rt; "the message does not come")
+    };
     let Ok(last) = next(alloc, message.receive())?.perform(alloc) else {
         panic!(&rt; "the last task fails")
     };
