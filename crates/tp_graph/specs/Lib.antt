@@ -1,0 +1,5 @@
+pub mod Carried
+pub mod Graphs
+pub mod Producers
+pub mod Serial
+pub mod Values

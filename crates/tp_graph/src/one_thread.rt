@@ -1,0 +1,81 @@
+ghost use Rattle.std.specs.Prelude.{◌≡◌, ◌<◌, Some, IfOk, MatchResult};
+ghost use Rattle.tp_graph.specs.Producers.{IsTable};
+ghost use Rattle.tp_graph.specs.Serial.{AreValues, IsSerialRefusal};
+ghost use Rattle.tp_graph.specs.Values.{value_of, AreInputs, IsRefusal};
+
+use crate::graph::Graph;
+use crate::value::Value;
+use crate::work::Work;
+use smallvec::SmallVec;
+use std::alloc::{AllocError, Global};
+use tp_base::{Refusal, TaskId};
+
+/// The value of each task, in rising order. Refused with `BodyFailed` exactly where a task has no value, and with
+/// `NoMemory` where memory is refused first.
+pub fn serial<G: Graph>(alloc: Global, graph: G) -> Result<Vec<(TaskId, Value)>, Refusal>
+    ensures { MatchResult result (λ results. AreValues (G.meaning graph) (G.meaning graph).tasks results.items) (IsSerialRefusal (G.meaning graph)) }
+{
+    let table = producers(alloc, graph)?;
+    let mut results = Vec::new(alloc);
+    for t in 0..graph.tasks() {
+        let value = value_after(alloc, graph, &table, &results, t)?;
+        results.push((TaskId(t), value))?;
+    }
+    Ok(results)
+}
+
+/// The producers of all slots.
+fn producers<G: Graph>(alloc: Global, graph: G) -> Result<Vec<u32>, AllocError>
+    ensures { IfOk result (λ table. IsTable (G.meaning graph) table.items) }
+{
+    let tasks = graph.tasks();
+    let mut table = vec![in alloc; 0; 16 * tasks as usize]?;
+    for p in 0..tasks {
+        for k in 0..graph.feeds(TaskId(p)) {
+            let (target, slot) = graph.feed(TaskId(p), k);
+            table[16 * target.0 as usize + slot as usize] = p;
+        }
+    }
+    Ok(table)
+}
+
+/// The value of a task, from those of all lower ones.
+fn value_after<G: Graph>(
+    alloc: Global,
+    graph: G,
+    table: &[u32],
+    results: &[(TaskId, Value)],
+    task: u32,
+) -> Result<Value, Refusal>
+    requires known { task < (G.meaning graph).tasks }
+    requires sources { IsTable (G.meaning graph) table.now }
+    requires lower { AreValues (G.meaning graph) task results.now }
+    ensures { MatchResult result (λ made. value_of (G.meaning graph) task ≡ Some made) (IsRefusal (value_of (G.meaning graph) task)) }
+{
+    let inputs = inputs_after(alloc, graph, table, results, task)?;
+    match Work::new(graph, TaskId(task), inputs).perform(alloc) {
+        Ok(finished) => Ok(finished.into_value()),
+        Err((refusal, _)) => Err(refusal),
+    }
+}
+
+/// The inputs of a task, from the values of all lower ones.
+fn inputs_after<G: Graph>(
+    alloc: Global,
+    graph: G,
+    table: &[u32],
+    results: &[(TaskId, Value)],
+    task: u32,
+) -> Result<SmallVec<Value, 4>, AllocError>
+    requires known { task < (G.meaning graph).tasks }
+    requires sources { IsTable (G.meaning graph) table.now }
+    requires lower { AreValues (G.meaning graph) task results.now }
+    ensures { IfOk result (λ inputs. AreInputs (G.meaning graph) task inputs.items) }
+{
+    let mut inputs = SmallVec::new(alloc);
+    for s in 0..graph.arity(TaskId(task)) {
+        let producer = table[16 * task as usize + s as usize];
+        inputs.push(results[producer as usize].1.clone()?)?;
+    }
+    Ok(inputs)
+}

@@ -1,0 +1,212 @@
+ghost use Rattle.std.specs.Prelude.{◌≡◌, ◌<◌, ◌≤◌, ◌+◌, ◌↔◌, IsTrue, Some, IfOk, IfErr, MatchResult};
+ghost use Rattle.tp_graph.specs.Carried.{Begun, Ran, feed_at, IsFeed};
+ghost use Rattle.tp_graph.specs.Values.{value_of, AreInputs, IsInput, IsRefusal};
+
+use crate::feed::Feed;
+use crate::graph::Graph;
+use crate::value::Value;
+use smallvec::SmallVec;
+use std::alloc::Global;
+use std::marker::Model;
+use tp_base::{Refusal, TaskId};
+
+/// A task that was begun, with its inputs, which are the values of its producers.
+#[derive(Drop)]
+pub struct Work<G: Graph> {
+    graph: G,
+    task: TaskId,
+    inputs: SmallVec<Value, 4>,
+}
+
+impl<G: Graph> Model for Work<G> {
+    ghost use Rattle.tp_graph.specs.Carried.{Begun, IsBegun};
+
+    ghost Value = { Begun G };
+
+    ghost view = { λ w. record { graph = w.graph; task = w.task; inputs = w.inputs.items } };
+
+    ghost invariant = { λ w. IsBegun (G.meaning w.graph) w.task.0 w.inputs.items };
+}
+
+impl<G: Graph> Work<G> {
+    /// A begun task. Its inputs have to be its producers' values, in slot order. It takes no memory.
+    pub fn new(graph: G, task: TaskId, inputs: SmallVec<Value, 4>) -> Self
+        requires known { task.0 < (G.meaning graph).tasks }
+        requires right { AreInputs (G.meaning graph) task.0 inputs.items }
+        ensures { result ≡ record { graph = graph; task = task; inputs = inputs.items } }
+    {
+        Work {
+            graph,
+            task,
+            inputs,
+        }
+    }
+
+    /// The graph that the task is of.
+    pub fn graph(&self) -> G
+        ensures { result ≡ self.now.graph }
+    {
+        self.graph
+    }
+
+    /// The task.
+    pub fn task(&self) -> TaskId
+        ensures same { result ≡ self.now.task }
+        ensures known { result.0 < (G.meaning self.now.graph).tasks }
+    {
+        self.task
+    }
+
+    /// The inputs, in slot order.
+    pub fn inputs(&self) -> &[Value]
+        ensures same { result.now ≡ self.now.inputs }
+        ensures right { AreInputs (G.meaning self.now.graph) self.now.task.0 result.now }
+    {
+        self.inputs.as_slice()
+    }
+
+    /// Runs the task's body. Refused with `BodyFailed` exactly where the task has no value, since its rule fails or a
+    /// number leaves `i64`, and with `NoMemory` where memory is refused first; the work comes back.
+    pub fn perform(self, alloc: Global) -> Result<Finished<G>, (Refusal, Work<G>)>
+        ensures done { IfOk result (λ finished. (finished.graph ≡ self.graph) × (finished.task ≡ self.task) × (finished.fed ≡ 0)) }
+        ensures right { IfOk result (λ finished. value_of (G.meaning self.graph) self.task.0 ≡ Some finished.value) }
+        ensures refused { IfErr result (λ refusal. IsRefusal (value_of (G.meaning self.graph) self.task.0) refusal.0) }
+        ensures kept { IfErr result (λ refusal. refusal.1 ≡ self) }
+    {
+        match run_body(alloc, &self.graph, self.task, self.inputs.as_slice()) {
+            Ok(value) => Ok(Finished {
+                graph: self.graph,
+                task: self.task,
+                value,
+                fed: 0,
+            }),
+            Err(refusal) => Err((refusal, self)),
+        }
+    }
+}
+
+/// What a task makes of its inputs, which is its value.
+fn run_body<G: Graph>(
+    alloc: Global,
+    graph: &G,
+    task: TaskId,
+    inputs: &[Value],
+) -> Result<Value, Refusal>
+    requires known { task.0 < (G.meaning graph.now).tasks }
+    requires right { AreInputs (G.meaning graph.now) task.0 inputs.now }
+    ensures { MatchResult result (λ made. value_of (G.meaning graph.now) task.0 ≡ Some made) (IsRefusal (value_of (G.meaning graph.now) task.0)) }
+{
+    graph.body(alloc, task, inputs)
+}
+
+/// A task that has run, with its value, and how many of its feeds were passed on.
+#[derive(Drop)]
+pub struct Finished<G: Graph> {
+    graph: G,
+    task: TaskId,
+    value: Value,
+    fed: u32,
+}
+
+impl<G: Graph> Model for Finished<G> {
+    ghost use Rattle.tp_graph.specs.Carried.{Ran, IsRun};
+
+    ghost Value = { Ran G };
+
+    ghost view = { λ f. record { graph = f.graph; task = f.task; value = f.value; fed = f.fed } };
+
+    ghost invariant = { λ f. IsRun (G.meaning f.graph) f.task.0 f.value f.fed };
+}
+
+impl<G: Graph> Finished<G> {
+    /// A task that has run, with its value. No feed was passed on yet. It takes no memory.
+    pub fn new(graph: G, task: TaskId, value: Value) -> Self
+        requires known { task.0 < (G.meaning graph).tasks }
+        requires right { value_of (G.meaning graph) task.0 ≡ Some value }
+        ensures { result ≡ record { graph = graph; task = task; value = value; fed = 0 } }
+    {
+        Finished {
+            graph,
+            task,
+            value,
+            fed: 0,
+        }
+    }
+
+    /// The graph that the task is of.
+    pub fn graph(&self) -> G
+        ensures { result ≡ self.now.graph }
+    {
+        self.graph
+    }
+
+    /// The task.
+    pub fn task(&self) -> TaskId
+        ensures same { result ≡ self.now.task }
+        ensures known { result.0 < (G.meaning self.now.graph).tasks }
+    {
+        self.task
+    }
+
+    /// Its value.
+    pub fn value(&self) -> &Value
+        ensures same { result.now ≡ self.now.value }
+        ensures right { value_of (G.meaning self.now.graph) self.now.task.0 ≡ Some result.now }
+    {
+        &self.value
+    }
+
+    /// Its value, which is moved out.
+    pub fn into_value(self) -> Value
+        ensures same { result ≡ self.value }
+        ensures right { value_of (G.meaning self.graph) self.task.0 ≡ Some result }
+    {
+        self.value
+    }
+
+    /// How many of its feeds were passed on.
+    pub fn fed(&self) -> u32
+        ensures same { result ≡ self.now.fed }
+        ensures few { result ≤ (G.meaning self.now.graph).feeds self.now.task.0 }
+    {
+        self.fed
+    }
+
+    /// Whether each feed was passed on.
+    pub fn all_fed(&self) -> bool
+        ensures { IsTrue result ↔ (self.now.fed ≡ (G.meaning self.now.graph).feeds self.now.task.0) }
+    {
+        self.fed == self.graph.feeds(self.task)
+    }
+
+    /// The next feed, which has to be passed on.
+    pub fn next_feed(&self) -> Feed
+        requires { self.now.fed < (G.meaning self.now.graph).feeds self.now.task.0 }
+        ensures same { result ≡ feed_at (G.meaning self.now.graph) self.now.task.0 self.now.fed }
+        ensures right { IsFeed (G.meaning self.now.graph) result }
+        ensures input { IsInput (G.meaning self.now.graph) result.target.0 result.slot self.now.value }
+    {
+        let (target, slot) = self.graph.feed(self.task, self.fed);
+        Feed {
+            producer: self.task,
+            target,
+            slot,
+        }
+    }
+
+    /// Counts the next feed as passed on, and answers it. It takes no memory, so a layer above first copies the value
+    /// and makes all room, passes the value on, and calls this last.
+    pub fn pass_on(&mut self) -> Feed
+        requires { self.old.fed < (G.meaning self.old.graph).feeds self.old.task.0 }
+        ensures passed { result ≡ feed_at (G.meaning self.old.graph) self.old.task.0 self.old.fed }
+        ensures right { IsFeed (G.meaning self.old.graph) result }
+        ensures input { IsInput (G.meaning self.old.graph) result.target.0 result.slot self.old.value }
+        ensures counted { self.new ≡ record self.old { fed = self.old.fed + 1 } }
+    {
+        let feed = self.next_feed();
+        let feeds = self.graph.feeds(self.task);
+        prove!(self.fed < feeds);
+        self.fed += 1;
+        feed
+    }
+}

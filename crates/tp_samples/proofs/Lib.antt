@@ -1,0 +1,9 @@
+pub mod Found
+pub mod PlainCells
+pub mod Printed
+pub mod ProductSums
+pub mod Spelling
+pub mod Sums
+pub mod TreeSums
+pub mod Valued
+pub mod WaveCells

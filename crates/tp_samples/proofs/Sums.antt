@@ -1,0 +1,91 @@
+use Rattle.std.proofs.Common.{◌≡◌, ◌<◌, ◌≤◌, ◌+◌, ◌*◌, ℕ, zero, suc, ◌^◌, ℤ, pos, negsuc, ◌+ℤ◌, List, [], ◌∷◌, ◌++◌, length, get_or, take, ◌/◌, ◌%◌, nat_eq, subst, Some, None, true, false, refl, sym, ap, ◌∙◌, add-one, arith}
+use Rattle.std.specs.Int.Signed.{mag}
+use Rattle.std.proofs.lemmas.Bool.Decides.{nat_tests}
+use Rattle.std.proofs.lemmas.Bool.{and_parts, and_from, and_right}
+use Rattle.std.proofs.lemmas.List.{take_more, take_all}
+use Rattle.tp_graph.specs.Values.{fits, all_fit, fitting, then_some}
+use Rattle.tp_samples.specs.Products.{sum_from, list_of, add_lists, added, place_sum, tile, tile_and_input, term}
+
+pub sum_more : (start count : ℕ) (f : ℕ → ℤ) → sum_from start (count + 1) f ≡ sum_from start count f +ℤ f (start + count)
+sum_more start count f = rw add-one refl
+
+list_last : {A : Type 0} (count : ℕ) (f : ℕ → A) → list_of (suc count) f ≡ list_of count f ++ f count ∷ []
+list_last zero f = refl
+list_last (suc count) f = ap (λ l. f 0 ∷ l) (list_last count (λ e. f (suc e)))
+
+pub list_more : {A : Type 0} (count : ℕ) (f : ℕ → A) → list_of (count + 1) f ≡ list_of count f ++ f count ∷ []
+list_more count f = rw add-one (list_last count f)
+
+pub list-length : {A : Type 0} (count : ℕ) (f : ℕ → A) → length (list_of count f) ≡ count
+list-length zero f = refl
+list-length (suc count) f = ap suc (list-length count (λ e. f (suc e)))
+
+pub added-length : (a b : List ℤ) → length a ≡ length b → length (add_lists a b) ≡ length a
+added-length [] b e = refl
+added-length (x ∷ xs) [] e = absurd (omega arith)
+added-length (x ∷ xs) (y ∷ ys) e = ap suc (added-length xs ys (omega arith))
+
+pub added-at : (a b : List ℤ) (k : ℕ) → k < length a → length a ≡ length b → get_or (add_lists a b) k (pos 0) ≡ get_or a k (pos 0) +ℤ get_or b k (pos 0)
+added-at [] b k h e = absurd (omega arith)
+added-at (x ∷ xs) [] k h e = absurd (omega arith)
+added-at (x ∷ xs) (y ∷ ys) zero h e = refl
+added-at (x ∷ xs) (y ∷ ys) (suc k) h e = added-at xs ys k (omega arith) (omega arith)
+
+pub fits_from : (z : ℤ) → mag z < 2 ^ 63 → fits z ≡ true
+fits_from (pos n) h = grind (arith, nat_tests)
+fits_from (negsuc n) h = grind (arith, nat_tests)
+
+fit-at : (xs : List ℤ) (k : ℕ) → k < length xs → fits (get_or xs k (pos 0)) ≡ false → all_fit xs ≡ false
+fit-at [] k h e = absurd (omega arith)
+fit-at (x ∷ xs) zero h e = rw e refl
+fit-at (x ∷ xs) (suc k) h e = and_right (fits x) (all_fit xs) (fit-at xs k (omega arith) e)
+
+pub fit_push : (xs : List ℤ) (y : ℤ) → all_fit xs ≡ true → fits y ≡ true → all_fit (xs ++ y ∷ []) ≡ true
+fit_push [] y p q = rw q refl
+fit_push (x ∷ xs) y p q = let both = and_parts (fits x) (all_fit xs) p in and_from (fits x) (all_fit (xs ++ y ∷ [])) both.0 (fit_push xs y both.1 q)
+
+-- one more sum
+pub add_step : (a b sums : List ℤ) (k : ℕ) (sum : ℤ) → length a ≡ length b → k < length a → sums ≡ take k (add_lists a b) → all_fit sums ≡ true →
+    place_sum a b k ≡ sum → fits (place_sum a b k) ≡ true →
+    (sums ++ sum ∷ [] ≡ take (k + 1) (add_lists a b)) × (all_fit (sums ++ sum ∷ []) ≡ true)
+add_step a b sums k sum long h same fit is fits_too =
+    let inside : k < length (add_lists a b) = omega (arith, added-length a b long) in
+    let next = take_more (add_lists a b) k (pos 0) inside in
+    let here : get_or (add_lists a b) k (pos 0) ≡ sum = added-at a b k h long ∙ is in
+    let P : ℤ → Type 0 = λ y. fits y ≡ true in (
+      (ap (λ l. l ++ sum ∷ []) same ∙ ap (λ y. take k (add_lists a b) ++ y ∷ []) (sym here) ∙ sym next),
+      fit_push sums sum fit (subst P is fits_too),
+    )
+
+nat-same : (n : ℕ) → nat_eq n n ≡ true
+nat-same n = grind (arith, nat_tests)
+
+-- a sum that does not fit
+pub add_fails : (a b : List ℤ) (k : ℕ) → length a ≡ length b → k < length a → fits (place_sum a b k) ≡ false → added a b ≡ None
+add_fails a b k long h e =
+    let inside : k < length (add_lists a b) = omega (arith, added-length a b long) in
+    let not : all_fit (add_lists a b) ≡ false = fit-at (add_lists a b) k inside (ap fits (added-at a b k h long) ∙ e) in
+    rw (long, nat-same (length b)) (rw not refl)
+
+-- all sums
+pub add_ends : (a b sums : List ℤ) (k : ℕ) → length a ≡ length b → length a ≤ k → sums ≡ take k (add_lists a b) → all_fit sums ≡ true → added a b ≡ Some sums
+add_ends a b sums k long h same fit =
+    let short : length (add_lists a b) ≤ k = omega (arith, added-length a b long) in
+    let all : sums ≡ add_lists a b = same ∙ take_all k (add_lists a b) short in
+    let fit' : all_fit (add_lists a b) ≡ true = sym (ap all_fit all) ∙ fit in
+    rw (long, nat-same (length b)) (rw fit' (ap Some (sym all)))
+
+-- lists of unlike lengths
+pub add_unlike : (a b : List ℤ) → (length a ≡ length b → ⊥) → added a b ≡ None
+add_unlike a b h = let no : nat_eq (length a) (length b) ≡ false = grind (arith, nat_tests) in rw no refl
+
+-- what the rule of a product makes of one input
+pub tile_added : (side seed i j k : ℕ) (input made : List ℤ) → made ≡ tile side seed i j k → then_some (tile_and_input (side * side) (tile side seed i j k) (input ∷ [])) fitting ≡ added input made
+tile_added side seed i j k input made e =
+    let long : length made ≡ side * side = ap length e ∙ list-length (side * side) (λ p. sum_from (k * side) side (term seed (i * side + p / side) (j * side + p % side))) in
+    ap (λ m. then_some (tile_and_input (side * side) m (input ∷ [])) fitting) (sym e) ∙ ap (λ n. then_some (tile_and_input n made (input ∷ [])) fitting) (sym long)
+
+pub one_item : {A : Type 0} (xs : List A) (x : A) → length xs ≡ 1 → x ≡ get_or xs 0 x → xs ≡ x ∷ []
+one_item [] x e h = absurd (omega arith)
+one_item (y ∷ []) x e h = ap (λ v. v ∷ []) (sym h)
+one_item (y ∷ (z ∷ zs)) x e h = absurd (omega arith)

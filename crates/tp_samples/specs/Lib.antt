@@ -1,0 +1,12 @@
+pub mod Any
+pub mod Columns
+pub mod Needed
+pub mod ProductLaws
+pub mod Products
+pub mod Same
+pub mod Tables
+pub mod TreeLaws
+pub mod Trees
+pub mod WaveLaws
+pub mod Waves
+pub mod Words

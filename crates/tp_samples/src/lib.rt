@@ -1,0 +1,23 @@
+//! The sample pools: the product of two matrices, a wavefront over a table, and a tree of sums.
+//!
+//! [`checked`] reads the word of a pool. What [`AnyGraph`] says of its table tells a printer where each number stands.
+#![tactic(auto)]
+
+mod any;
+mod laws;
+mod product;
+mod reduce;
+mod result_table;
+mod table;
+#[cfg(test)]
+mod tests;
+mod wavefront;
+mod words;
+
+pub use any::AnyGraph;
+pub use laws::each_task_has_a_value;
+pub use product::Product;
+pub use reduce::Reduce;
+pub use result_table::ResultTable;
+pub use wavefront::Wavefront;
+pub use words::checked;

@@ -1,0 +1,182 @@
+ghost use Rattle.std.specs.Prelude.{◌≡◌, ◌<◌, ◌≤◌, ◌+◌, ◌-◌, ◌*◌, ◌/◌, ◌%◌, ◌+ℤ◌, ◌∷◌, [], ◌*ℤ◌, unsigned_abs, true, false, length, IfOk, MatchResult, Some};
+ghost use Rattle.tp_samples.specs.Products.{IsProduct, IsProduct-prop, product_graph, left_entry, right_entry, term, sum_from, tile, added, place_sum};
+ghost use Rattle.tp_samples.specs.ProductLaws.{product_lawful};
+ghost use Rattle.tp_samples.specs.Same.{three_same, rule_of_three};
+ghost use Rattle.tp_graph.specs.Values.{IsRefusal, fits, all_fit};
+ghost use Rattle.tp_base.specs.declared.Refusal.TheVariants.{BodyFailed};
+
+use std::alloc::{AllocError, Global};
+use tp_base::{NodeId, Refusal, TaskId};
+use tp_graph::{Graph, Value};
+
+/// The product of two matrices, in tiles.
+#[derive(Clone, Copy, Debug, PartialEq, Eq)]
+pub struct Product {
+    /// How many tiles a matrix has on a side: 1 to 64.
+    pub tiles: u32,
+    /// How many numbers a tile has on a side: 1 to 64. The order of the matrices, tiles times side, is at most 64.
+    pub side: u32,
+    /// What the matrices' entries start from: 0 to 9,999.
+    pub seed: u32,
+    pub ghost in_rules: { IsProduct tiles side seed },
+}
+
+/// An entry of the matrix on the left.
+fn left_at(seed: u32, x: u32, z: u32) -> i64
+    requires places { (x < 64) × (z < 64) }
+    requires seed_small { seed ≤ 9999 }
+    ensures same { result ≡ left_entry seed x z }
+    ensures small { unsigned_abs result ≤ 10 }
+{
+    i64::from((7 * x + 3 * z + seed) % 21) - 10
+}
+
+/// An entry of the matrix on the right.
+fn right_at(seed: u32, z: u32, y: u32) -> i64
+    requires places { (z < 64) × (y < 64) }
+    requires seed_small { seed ≤ 9999 }
+    ensures same { result ≡ right_entry seed z y }
+    ensures small { unsigned_abs result ≤ 10 }
+{
+    i64::from((5 * z + 2 * y + seed) % 21) - 10
+}
+
+/// A product of two small numbers.
+fn multiply(a: i64, b: i64) -> i64
+    requires left { unsigned_abs a ≤ 10 }
+    requires right { unsigned_abs b ≤ 10 }
+    ensures same { result ≡ a *ℤ b }
+    ensures small { unsigned_abs result ≤ 100 }
+{
+    a * b
+}
+
+/// The sum of a small number and a product of two.
+fn plus(sum: i64, product: i64) -> i64
+    requires left { unsigned_abs sum ≤ 6400 }
+    requires right { unsigned_abs product ≤ 100 }
+    ensures same { result ≡ sum +ℤ product }
+    ensures small { unsigned_abs result ≤ unsigned_abs sum + 100 }
+{
+    sum + product
+}
+
+/// The sum of some products.
+#[tactic(auto, using(crate::proofs::Sums::sum_more, crate::proofs::Sums::fits_from))]
+fn sum_at(seed: u32, x: u32, y: u32, start: u32, count: u32) -> i64
+    requires places { (x < 64) × (y < 64) × (start + count ≤ 64) }
+    requires seed_small { seed ≤ 9999 }
+    ensures same { result ≡ sum_from start count (term seed x y) }
+    ensures fit { fits result ≡ true }
+{
+    let mut sum = 0;
+    for z in 0..count {
+        let product = multiply(left_at(seed, x, start + z), right_at(seed, start + z, y));
+        sum = plus(sum, product);
+    }
+    sum
+}
+
+#[tactic(auto, unfolding(crate::specs::Products::product_graph))]
+impl Graph for Product {
+    ghost meaning = { λ p. product_graph p.tiles p.side p.seed };
+
+    ghost lawful = { λ p. product_lawful p.tiles p.side p.seed p.in_rules };
+
+    ghost same = { λ a b h. let e = three_same a.tiles b.tiles a.side b.side a.seed b.seed h in λ i. record { tiles = e.0 i; side = e.1 i; seed = e.2 i; in_rules = rule_of_three IsProduct IsProduct-prop e a.in_rules b.in_rules i } };
+
+    fn tasks(&self) -> u32 {
+        self.tiles * self.tiles * self.tiles
+    }
+
+    fn arity(&self, task: TaskId) -> u8 {
+        if task.0 % self.tiles == 0 { 0 } else { 1 }
+    }
+
+    fn class(&self, task: TaskId) -> u8 {
+        if task.0 % self.tiles == 0 { 1 } else { 0 }
+    }
+
+    fn feeds(&self, task: TaskId) -> u32 {
+        if task.0 % self.tiles + 1 < self.tiles {
+            1
+        } else {
+            0
+        }
+    }
+
+    fn feed(&self, task: TaskId, _turn: u32) -> (TaskId, u8) {
+        prove!(task.0 < self.tasks());
+        (TaskId(task.0 + 1), 0)
+    }
+
+    fn home(&self, task: TaskId, nodes: u32) -> NodeId {
+        NodeId((task.0 / self.tiles + task.0 % self.tiles) % nodes)
+    }
+
+    fn body(&self, alloc: Global, task: TaskId, inputs: &[Value]) -> Result<Value, Refusal> {
+        let i = task.0 / self.tiles / self.tiles;
+        let j = task.0 / self.tiles % self.tiles;
+        let made = make_tile(alloc, self.side, self.seed, i, j, task.0 % self.tiles)?;
+        match inputs {
+            [] => Ok(Value::from(made)),
+            [input] => add_values(alloc, input.as_slice(), &made),
+            _ => Err(Refusal::BodyFailed),
+        }
+    }
+}
+
+/// A tile of products.
+#[tactic(auto, using(crate::proofs::Sums::list_more, crate::proofs::Sums::fit_push))]
+fn make_tile(
+    alloc: Global,
+    side: u32,
+    seed: u32,
+    i: u32,
+    j: u32,
+    k: u32,
+) -> Result<Vec<i64>, AllocError>
+    requires places { (i * side + side ≤ 64) × (j * side + side ≤ 64) × (k * side + side ≤ 64) }
+    requires seed_small { seed ≤ 9999 }
+    requires some { 1 ≤ side }
+    ensures { IfOk result (λ made. (made.items ≡ tile side seed i j k) × (all_fit made.items ≡ true)) }
+{
+    let mut made = Vec::new(alloc);
+    for e in 0..side * side {
+        made.push(sum_at(
+            seed,
+            i * side + e / side,
+            j * side + e % side,
+            k * side,
+            side,
+        ))?;
+    }
+    Ok(made)
+}
+
+/// Two lists of as many numbers, added place by place.
+#[tactic(auto, using(crate::proofs::Sums::add_step, crate::proofs::Sums::add_fails, crate::proofs::Sums::add_ends, crate::proofs::Sums::add_unlike))]
+fn add_values(alloc: Global, a: &[i64], b: &[i64]) -> Result<Value, Refusal>
+    ensures { MatchResult result (λ sum. added a.now b.now ≡ Some sum) (IsRefusal (added a.now b.now)) }
+{
+    if a.len() != b.len() {
+        return Err(Refusal::BodyFailed);
+    }
+    let mut sums = Vec::new(alloc);
+    for e in 0..a.len() {
+        sums.push(sum_of_places(a, b, e)?)?;
+    }
+    Ok(Value::from(sums))
+}
+
+/// The sum of the numbers at a place of two lists.
+fn sum_of_places(a: &[i64], b: &[i64], e: usize) -> Result<i64, Refusal>
+    requires left { e < length a.now }
+    requires right { e < length b.now }
+    ensures { MatchResult result (λ sum. (place_sum a.now b.now e ≡ sum) × (fits (place_sum a.now b.now e) ≡ true)) (λ refusal. (refusal ≡ BodyFailed) × (fits (place_sum a.now b.now e) ≡ false)) }
+{
+    match a[e].checked_add(b[e]) {
+        Some(sum) => Ok(sum),
+        None => Err(Refusal::BodyFailed),
+    }
+}
