@@ -26,10 +26,21 @@ chain_graph length = record {
 }
 
 fills : (length p k : ℕ) → p < length → k < (chain_graph length).feeds p → FillsSlot (chain_graph length) p k
-fills length p k h q = record { higher = omega arith; known = grind (arith, nat_tests); within = grind (arith, nat_tests); source_is = omega arith; turn_is = grind (arith, nat_tests) }
+fills length p k h q = record {
+  higher = omega arith;
+  known = grind (arith, nat_tests);
+  within = grind (arith, nat_tests);
+  source_is = omega arith;
+  turn_is = grind (arith, nat_tests);
+}
 
 filled : (length t s : ℕ) → t < length → s < (chain_graph length).arity t → IsFilled (chain_graph length) t s
-filled length t s h q = record { lower = grind (arith, nat_tests); within = grind (arith, nat_tests); target_is = grind (arith, nat_tests); slot_is = grind (arith, nat_tests) }
+filled length t s h q = record {
+  lower = grind (arith, nat_tests);
+  within = grind (arith, nat_tests);
+  target_is = grind (arith, nat_tests);
+  slot_is = grind (arith, nat_tests);
+}
 
 pub chain_lawful : (length : ℕ) → IsLawful (chain_graph length)
 chain_lawful length = record {
