@@ -1,0 +1,6 @@
+pub mod Names
+pub mod Numbers
+pub mod Counts
+pub mod Routes
+pub mod States
+pub mod Logs

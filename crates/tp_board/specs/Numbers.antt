@@ -1,0 +1,106 @@
+-- The numbers that a node's and a link's shares carry, and how steps move them.
+use Rattle.std.specs.Prelude.{ℕ, ◌+◌, ◌≤◌, ◌==◌, Bool, true, false, not, List, map, filter}
+use Rattle.std.specs.List.{range_with_len, flat_map}
+use Rattle.tp_base.specs.History.{Event}
+use Rattle.tp_base.specs.declared.step.Step.{Step}
+use Rattle.tp_base.specs.declared.step.Step.TheVariants.{Insert, Supply, Begin, Done, ActionOpen, ActionClose, Ready, Send, Recv, MessageEnd}
+use Rattle.tp_wave.specs.Machine.{pending_after}
+
+abbrev pub is_send : Step → Bool
+is_send (Send i j m) = true
+is_send _ = false
+
+abbrev pub is_recv : Step → Bool
+is_recv (Recv j m) = true
+is_recv _ = false
+
+abbrev pub is_done : Step → Bool
+is_done (Done t) = true
+is_done _ = false
+
+-- a step of the pool that moves no message
+abbrev pub is_plain : Step → Bool
+is_plain (Insert i t k) = true
+is_plain (Supply t) = true
+is_plain (Begin t) = true
+is_plain (Done t) = true
+is_plain (ActionOpen i a) = true
+is_plain (ActionClose i a) = true
+is_plain (Ready i) = true
+is_plain (MessageEnd j m) = true
+is_plain _ = false
+
+-- a step beside a node
+abbrev pub event : ℕ → Step → Event
+event node step = (record { 0 = node }, step)
+
+-- node i sends message m to node j
+abbrev pub sending : ℕ → ℕ → ℕ → Step
+sending i j m = Send (record { 0 = i }) (record { 0 = j }) (record { 0 = m })
+
+-- node j receives message m
+abbrev pub receiving : ℕ → ℕ → Step
+receiving j m = Recv (record { 0 = j }) (record { 0 = m })
+
+-- A node by its number: its pending number, the messages that it has sent and received, and the tasks that it has done.
+pub record NodeNumbers : Type 0 where
+  pub node : ℕ
+  pub pending : ℕ
+  pub sent : ℕ
+  pub received : ℕ
+  pub done : ℕ
+
+-- A link by its two nodes, and how many messages are under way on it.
+pub record LinkNumbers : Type 0 where
+  pub from : ℕ
+  pub to : ℕ
+  pub under : ℕ
+
+abbrev pub sent_after : Step → ℕ → ℕ
+sent_after (Send i j m) n = n + 1
+sent_after _ n = n
+
+abbrev pub received_after : Step → ℕ → ℕ
+received_after (Recv j m) n = n + 1
+received_after _ n = n
+
+abbrev pub done_after : Step → ℕ → ℕ
+done_after (Done t) n = n + 1
+done_after _ n = n
+
+-- a node's numbers after a step of its own
+abbrev pub numbers_after : Step → NodeNumbers → NodeNumbers
+numbers_after s n =
+    record {
+      node = n.node;
+      pending = pending_after s n.pending;
+      sent = sent_after s n.sent;
+      received = received_after s n.received;
+      done = done_after s n.done;
+    }
+
+-- a node's numbers at first: its opening action is pending
+abbrev pub first_numbers : ℕ → NodeNumbers
+first_numbers i = record { node = i; pending = 1; sent = 0; received = 0; done = 0 }
+
+-- the first numbers of n nodes, in rising order
+abbrev pub first_shares : ℕ → List NodeNumbers
+first_shares n = map first_numbers (range_with_len 0 n)
+
+abbrev pub empty_link : ℕ → ℕ → LinkNumbers
+empty_link i j = record { from = i; to = j; under = 0 }
+
+-- the empty links from node i to the other nodes below n, in rising order
+abbrev pub links_of : ℕ → ℕ → List LinkNumbers
+links_of n i = map (empty_link i) (filter (λ j. not (i == j)) (range_with_len 0 n))
+
+-- the empty links among n nodes, by sender and then by receiver
+abbrev pub first_links : ℕ → List LinkNumbers
+first_links n = flat_map (links_of n) (range_with_len 0 n)
+
+-- No number passes the limit of steps. The pending number has the opening action beside them.
+pub record AreSmall (n : NodeNumbers) : Type 0 where
+  pub pending : n.pending ≤ 1048577
+  pub sent : n.sent ≤ 1048576
+  pub received : n.received ≤ 1048576
+  pub done : n.done ≤ 1048576
