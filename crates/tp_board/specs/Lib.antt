@@ -4,3 +4,4 @@ pub mod Counts
 pub mod Routes
 pub mod States
 pub mod Logs
+pub mod Pendings

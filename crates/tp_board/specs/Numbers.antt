@@ -50,6 +50,11 @@ pub record NodeNumbers : Type 0 where
   pub received : ℕ
   pub done : ℕ
 
+-- A node's share of its pending ledger.
+pub record PendingNumber : Type 0 where
+  pub node : ℕ
+  pub amount : ℕ
+
 -- A link by its two nodes, and how many messages are under way on it.
 pub record LinkNumbers : Type 0 where
   pub from : ℕ

@@ -3,4 +3,6 @@
 
 mod counts;
 mod log;
+mod names;
+mod pending;
 mod routes;
