@@ -44,13 +44,17 @@ lacks_sums i past = (i == 0) || (not (in_wave (is_give i) past) || in_wave (is_u
 abbrev pub lacks_ended_wave : List Step → Bool
 lacks_ended_wave past = not (has_ended past) || in_wave is_judge past
 
+-- the checks where it is known whether the end was judged
+abbrev pub wave_checks : ℕ → Bool → List Step → Step → List Check
+wave_checks n ended past Start = (ended, Ended) ∷ (is_wave_open past, WaveOpen) ∷ []
+wave_checks n ended past (Down i) = (is_outside n i.0, NoNode) ∷ (ended, Ended) ∷ (lacks_token i.0 past, NoToken) ∷ []
+wave_checks n ended past (Give i) = (is_outside n i.0, NoNode) ∷ (ended, Ended) ∷ (cannot_give n i.0 past, NoToken) ∷ []
+wave_checks n ended past (Up i) = (is_outside n i.0, NoNode) ∷ (ended, Ended) ∷ (lacks_sums i.0 past, NoToken) ∷ []
+wave_checks n ended past Judge = (ended, Ended) ∷ (lacks_ended_wave past, WaveNotEnded) ∷ []
+wave_checks n ended past _ = []
+
 abbrev pub control_checks : ℕ → List Step → Step → List Check
-control_checks n past Start = (is_ended n past, Ended) ∷ (is_wave_open past, WaveOpen) ∷ []
-control_checks n past (Down i) = (is_outside n i.0, NoNode) ∷ (is_ended n past, Ended) ∷ (lacks_token i.0 past, NoToken) ∷ []
-control_checks n past (Give i) = (is_outside n i.0, NoNode) ∷ (is_ended n past, Ended) ∷ (cannot_give n i.0 past, NoToken) ∷ []
-control_checks n past (Up i) = (is_outside n i.0, NoNode) ∷ (is_ended n past, Ended) ∷ (lacks_sums i.0 past, NoToken) ∷ []
-control_checks n past Judge = (is_ended n past, Ended) ∷ (lacks_ended_wave past, WaveNotEnded) ∷ []
-control_checks n past _ = []
+control_checks n past s = wave_checks n (is_ended n past) past s
 
 -- what a control step is refused for after these steps, where no idleness is asked for
 abbrev pub control_refusal : ℕ → List Step → Step → Option Refusal

@@ -4,3 +4,4 @@ pub mod Sums
 pub mod Machine
 pub mod Cut
 pub mod Checks
+pub mod Wave

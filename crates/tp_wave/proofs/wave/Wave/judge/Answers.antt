@@ -1,0 +1,32 @@
+use Rattle.std.proofs.Common.{◌∙◌, refl, sym, rules, arith, List, IsTrue, IsFalse}
+use Rattle.std.proofs.lemmas.Grind.{common_steps}
+use Rattle.tp_wave.specs.Sums.{is_ended, judgement}
+use Rattle.tp_wave.specs.Control.{has_ended}
+use Rattle.tp_wave.proofs.Given.{judged_following, over_after}
+use Rattle.tp_wave.proofs.wave.Wave.judge.Goals as goal
+
+pub returns-clause-answer : goal.returns-clause-answer
+returns-clause-answer c = grind (arith, common_steps)
+
+pub returns-clause-judged : goal.returns-clause-judged
+returns-clause-judged c = λ n steps f.
+    let ended : IsTrue (has_ended steps) = grind (arith, common_steps, f.stands.given 0) in
+    returns-clause-answer c ∙ judged_following n steps c.args.self.now f ended
+
+pub returns-clause-follows : goal.returns-clause-follows
+returns-clause-follows c = λ n steps f.
+    let over : IsFalse (is_ended n steps) = sym f.stands.over ∙ c.if-self.false in
+    let word = returns-clause-judged c n steps f in
+    record {
+      lawful = grind (arith, common_steps, f.stands.given 0);
+      stands = record {
+        nodes = f.stands.nodes;
+        over = over_after c.if-self-4.self (is_ended n steps) c.args.self.now.last.wave (judgement n steps) (sym c.then_some.ensures ∙ word) over;
+        judged = refl;
+        reached = f.stands.reached;
+        given = f.stands.given;
+        taken = f.stands.taken;
+      };
+      newest = f.newest;
+      last = f.last;
+    }
