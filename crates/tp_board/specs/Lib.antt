@@ -5,3 +5,4 @@ pub mod Routes
 pub mod States
 pub mod Logs
 pub mod Pendings
+pub mod Books

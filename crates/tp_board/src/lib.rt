@@ -1,8 +1,11 @@
 //! The board of a pool: its history, and the ledgers that tie it to what lies under other locks.
 #![tactic(auto)]
 
+mod accounts;
 mod counts;
+mod ended;
 mod log;
 mod names;
 mod pending;
 mod routes;
+mod shares;

@@ -1,6 +1,6 @@
-ghost use Rattle.std.specs.Prelude.{◌≡◌, ◌≤◌, ℕ, ◌+◌, ◌-◌, ◌*◌, ◌<◌, IsTrue, [], ◌∷◌, slice_index, slice_set, length};
+ghost use Rattle.std.specs.Prelude.{◌≡◌, ◌≤◌, ℕ, ◌+◌, ◌-◌, ◌*◌, ◌<◌, IsFalse, [], ◌∷◌, slice_index, slice_set, length};
 ghost use Rattle.tp_board.specs.Names.{pending_name};
-ghost use Rattle.tp_board.specs.Numbers.{is_plain};
+ghost use Rattle.tp_board.specs.Numbers.{is_recv};
 ghost use Rattle.tp_wave.specs.Machine.{pending_after};
 
 use crate::names::{Ledgers, Pending};
@@ -133,7 +133,7 @@ impl<K: Ledgers> PendingOf<K> {
 
     /// Moves the share and its book as a step of the node does.
     pub fn follow(&mut self, books: &mut PendingBooks<K>, step: &Step)
-        requires active { 0 < self.old.amount }
+        requires active { IsFalse (is_recv step.now) → 0 < self.old.amount }
         ensures share { self.new ≡ record { node = self.old.node; amount = pending_after step.now self.old.amount } }
         ensures books { books.new ≡ slice_set books.old self.old.node (pending_after step.now (slice_index books.old self.old.node)) }
     {

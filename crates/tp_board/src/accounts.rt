@@ -1,0 +1,225 @@
+ghost use Rattle.std.specs.Prelude.{◌≡◌, ◌≤◌, ◌<◌, ◌+◌, ◌-◌, ◌∷◌, [], IsFalse, IsTrue, ◌↔◌};
+ghost use Rattle.tp_board.specs.Books.{IsBooked, totals_after, with_judged, with_under};
+ghost use Rattle.tp_board.specs.Names.{under_parts};
+ghost use Rattle.tp_board.specs.Numbers.{done_after, is_plain, is_recv, numbers_after, received_after, sent_after};
+
+use crate::ended::{Ended, Keeper};
+use crate::names::{Done, Ledgers, Received, Sent, Under};
+use crate::pending::PendingBooks;
+use crate::shares::{LinkShare, Shares};
+use std::marker::Model;
+use std::sync::ledger::{Book, Share};
+use tp_base::Step;
+
+/// The books of a pool's ledgers, with the board's own share. Contracts see their totals.
+#[derive(Drop)]
+pub struct Accounts<K: Ledgers> {
+    pending: PendingBooks<K>,
+    sent: Book<Sent<K>>,
+    received: Book<Received<K>>,
+    done: Book<Done<K>>,
+    under: Book<Under<K>>,
+    kept: Share<Under<K>>,
+    keeper: Keeper<K>,
+}
+
+impl<K: Ledgers> Model for Accounts<K> {
+    ghost use Rattle.std.specs.Prelude.{◌≡◌};
+    ghost use Rattle.tp_board.specs.Books.{BookTotals};
+
+    ghost Value = { BookTotals };
+
+    ghost view = { λ a. record { pending = a.pending; sent = a.sent.total; received = a.received.total; done = a.done.total; under = a.under.total; judged = a.keeper } };
+
+    ghost invariant = { λ a. (a.kept.parts ≡ 1) × (a.kept.amount ≡ 0) };
+}
+
+impl<K: Ledgers> Accounts<K> {
+    /// The books of new ledgers.
+    pub fn new(
+        pending: PendingBooks<K>,
+        sent: Book<Sent<K>>,
+        received: Book<Received<K>>,
+        done: Book<Done<K>>,
+        under: Book<Under<K>>,
+        kept: Share<Under<K>>,
+        keeper: Keeper<K>,
+    ) -> Accounts<K>
+        requires { (kept.parts ≡ 1) × (kept.amount ≡ 0) }
+        ensures { result ≡ record { pending = pending; sent = sent.total; received = received.total; done = done.total; under = under.total; judged = keeper } }
+    {
+        Accounts {
+            pending,
+            sent,
+            received,
+            done,
+            under,
+            kept,
+            keeper,
+        }
+    }
+
+    /// Changes nothing, and tells how a node's numbers stand to the books.
+    pub fn audit(&mut self, shares: &mut Shares<K>)
+        ensures same { (self.new ≡ self.old) × (shares.new ≡ shares.old) }
+        ensures told { IsBooked shares.old self.old }
+        ensures node { shares.old.node < K.names.nodes }
+    {
+        shares.pending.audit(&mut self.pending);
+        self.sent.audit(&mut shares.sent);
+        self.received.audit(&mut shares.received);
+        self.done.audit(&mut shares.done);
+    }
+
+    /// Changes nothing, and tells that no link has more messages under way than all have.
+    pub fn audit_link(&mut self, link: &mut LinkShare<K>)
+        ensures same { (self.new ≡ self.old) × (link.new ≡ link.old) }
+        ensures told { link.old.under ≤ self.old.under }
+    {
+        self.under.audit(&mut link.under);
+    }
+
+    /// Changes nothing, and tells that a token of the end is out.
+    pub fn audit_ended(&mut self, ended: &mut Ended<K>)
+        ensures same { self.new ≡ self.old }
+        ensures told { 0 < self.old.judged }
+    {
+        self.keeper.audit(ended);
+    }
+
+    /// Moves a node's numbers and their books as a step of the node does.
+    pub fn follow(&mut self, step: &Step, shares: &mut Shares<K>)
+        requires { IsFalse (is_recv step.now) → 0 < shares.old.pending }
+        ensures told { IsBooked shares.old self.old }
+        ensures node { shares.old.node < K.names.nodes }
+        ensures books { self.new ≡ totals_after shares.old.node step.now self.old }
+        ensures shares { shares.new ≡ numbers_after step.now shares.old }
+    {
+        self.audit(shares);
+        shares.pending.follow(&mut self.pending, step);
+        follow_sent(&mut self.sent, &mut shares.sent, step);
+        follow_received(&mut self.received, &mut shares.received, step);
+        follow_done(&mut self.done, &mut shares.done, step);
+    }
+
+    /// One message more is under way on a link.
+    pub fn raise(&mut self, link: &mut LinkShare<K>)
+        ensures books { self.new ≡ with_under (self.old.under + 1) self.old }
+        ensures link { link.new ≡ record link.old { under = link.old.under + 1 } }
+    {
+        self.under.add(&mut link.under, 1);
+    }
+
+    /// One message less is under way on a link.
+    pub fn lower(&mut self, link: &mut LinkShare<K>)
+        requires { 0 < link.old.under }
+        ensures some { 0 < self.old.under }
+        ensures books { self.new ≡ with_under (self.old.under - 1) self.old }
+        ensures link { link.new ≡ record link.old { under = link.old.under - 1 } }
+    {
+        self.under.audit(&mut link.under);
+        self.under.sub(&mut link.under, 1);
+    }
+
+    /// Hands out the token of the end.
+    pub fn hand_out(&mut self) -> Ended<K>
+        requires { self.old.judged ≡ 0 }
+        ensures { self.new ≡ with_judged 1 self.old }
+    {
+        self.keeper.hand_out()
+    }
+
+    /// Whether the token of the end was handed out.
+    pub fn is_ended(&self) -> bool
+        ensures out { IsTrue result ↔ (self.now.judged ≡ 1) }
+        ensures one { self.now.judged ≤ 1 }
+    {
+        self.keeper.is_out()
+    }
+
+    /// A share of no part and no message.
+    pub fn no_messages(&mut self) -> Share<Under<K>>
+        ensures same { self.new ≡ self.old }
+        ensures none { (result.parts ≡ 0) × (result.amount ≡ 0) }
+    {
+        self.kept.empty()
+    }
+
+    /// Tells that all shares add up to the books.
+    pub fn close(
+        self,
+        sent: Share<Sent<K>>,
+        received: Share<Received<K>>,
+        done: Share<Done<K>>,
+        under: Share<Under<K>>,
+    )
+        requires nodes { (sent.parts ≡ K.names.nodes) × (received.parts ≡ K.names.nodes) × (done.parts ≡ K.names.nodes) }
+        requires links { under.parts + 1 ≡ under_parts K.names.nodes }
+        ensures sent { sent.amount ≡ self.sent }
+        ensures received { received.amount ≡ self.received }
+        ensures done { done.amount ≡ self.done }
+        ensures under { under.amount ≡ self.under }
+    {
+        let Accounts {
+            pending: _,
+            sent: mut sent_book,
+            received: mut received_book,
+            done: mut done_book,
+            under: mut under_book,
+            kept,
+            keeper: _,
+        } = self;
+        let mut sent = sent;
+        let mut received = received;
+        let mut done = done;
+        let mut under = under;
+        under.merge(kept);
+        sent_book.audit(&mut sent);
+        received_book.audit(&mut received);
+        done_book.audit(&mut done);
+        under_book.audit(&mut under);
+    }
+}
+
+/// Moves a node's share of the messages sent, and its book, as a step does.
+fn follow_sent<K: Ledgers>(book: &mut Book<Sent<K>>, share: &mut Share<Sent<K>>, step: &Step)
+    requires { 0 < share.old.parts }
+    ensures book { book.new.total ≡ sent_after step.now book.old.total }
+    ensures amount { share.new.amount ≡ sent_after step.now share.old.amount }
+    ensures parts { share.new.parts ≡ share.old.parts }
+{
+    match step {
+        Step::Send(..) => book.add(share, 1),
+        _ => book.audit(share),
+    }
+}
+
+/// The same for the messages received.
+fn follow_received<K: Ledgers>(
+    book: &mut Book<Received<K>>,
+    share: &mut Share<Received<K>>,
+    step: &Step,
+)
+    requires { 0 < share.old.parts }
+    ensures book { book.new.total ≡ received_after step.now book.old.total }
+    ensures amount { share.new.amount ≡ received_after step.now share.old.amount }
+    ensures parts { share.new.parts ≡ share.old.parts }
+{
+    match step {
+        Step::Recv(..) => book.add(share, 1),
+        _ => book.audit(share),
+    }
+}
+
+/// The same for the tasks done.
+fn follow_done<K: Ledgers>(book: &mut Book<Done<K>>, share: &mut Share<Done<K>>, step: &Step)
+    requires { 0 < share.old.parts }
+    ensures book { book.new.total ≡ done_after step.now book.old.total }
+    ensures amount { share.new.amount ≡ done_after step.now share.old.amount }
+    ensures parts { share.new.parts ≡ share.old.parts }
+{
+    match step {
+        Step::Done(..) => book.add(share, 1),
+        _ => book.audit(share),
+    }
+}
