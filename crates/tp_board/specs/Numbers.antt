@@ -103,9 +103,9 @@ links_of n i = map (empty_link i) (filter (λ j. not (i == j)) (range_with_len 0
 abbrev pub first_links : ℕ → List LinkNumbers
 first_links n = flat_map (links_of n) (range_with_len 0 n)
 
--- No number passes the limit of steps. The pending number has the opening action beside them.
-pub record AreSmall (n : NodeNumbers) : Type 0 where
-  pub pending : n.pending ≤ 1048577
-  pub sent : n.sent ≤ 1048576
-  pub received : n.received ≤ 1048576
-  pub done : n.done ≤ 1048576
+-- No number is above so many, the opening action apart.
+pub record AreWithin (most : ℕ) (n : NodeNumbers) : Type 0 where
+  pub pending : n.pending ≤ most + 1
+  pub sent : n.sent ≤ most
+  pub received : n.received ≤ most
+  pub done : n.done ≤ most

@@ -2,6 +2,7 @@
 #![tactic(auto)]
 
 mod accounts;
+mod board;
 mod counts;
 mod ended;
 mod log;

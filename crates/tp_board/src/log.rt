@@ -1,4 +1,4 @@
-ghost use Rattle.std.specs.Prelude.{◌≡◌, ◌∷◌, ◌+◌, ◌≤◌, ◌<◌, [], length, max, IsTrue, IsFalse, IfOk, OnErr, OnOk, None};
+ghost use Rattle.std.specs.Prelude.{◌≡◌, ◌∷◌, ◌+◌, ◌≤◌, ◌<◌, [], length, max, IsTrue, IsFalse, IfOk, IsOk, OnErr, OnOk, None};
 ghost use Rattle.tp_base.specs.History.{Event};
 ghost use Rattle.tp_board.specs.Counts.{counts_at};
 ghost use Rattle.tp_board.specs.Numbers.{event, is_done, is_recv, is_send, sending};
@@ -56,6 +56,7 @@ impl Log {
         ensures ok { OnOk result (self.new ≡ with_reserved (max self.old.reserved more) self.old) }
         ensures places { OnOk result (length self.old.history + more ≤ self.old.limit) }
         ensures refusal { AnswersBy (full_check more self.old ∷ []) more self.old result }
+        ensures reserved { more ≤ self.old.reserved → IsOk result }
         ensures refused { OnErr result (self.new ≡ self.old) }
     {
         let count = self.history.len();
@@ -75,8 +76,9 @@ impl Log {
         requires beside { IsOf node.0 step }
         requires kind { IsFalse (is_send step) }
         ensures ok { OnOk result (self.new ≡ with_event (event node.0 step) self.old) }
-        ensures places { OnOk result (length self.old.history < self.old.limit) }
+        ensures places { OnOk result (length self.old.history < 1048576) }
         ensures refusal { AnswersBy (full_check 1 self.old ∷ []) 1 self.old result }
+        ensures reserved { 0 < self.old.reserved → IsOk result }
         ensures refused { OnErr result (self.new ≡ self.old) }
     {
         let count = self.history.len();
@@ -96,8 +98,9 @@ impl Log {
         ensures number { IfOk result (λ m. m.0 ≡ count is_send (steps_of self.old.history)) }
         ensures ok { IfOk result (λ m. self.new ≡ with_event (event from.0 (sending from.0 to.0 m.0)) self.old) }
         ensures fresh { IfOk result (λ m. IsFalse (any (is_send_numbered m.0) (steps_of self.old.history))) }
-        ensures places { OnOk result (length self.old.history < self.old.limit) }
+        ensures places { OnOk result (length self.old.history < 1048576) }
         ensures refusal { AnswersBy (full_check 1 self.old ∷ []) 1 self.old result }
+        ensures reserved { 0 < self.old.reserved → IsOk result }
         ensures refused { OnErr result (self.new ≡ self.old) }
     {
         self.reserve(1)?;
