@@ -8,7 +8,7 @@ use Rattle.tp_base.specs.History.{Event}
 use Rattle.tp_base.specs.declared.step.Step.{Step}
 use Rattle.tp_base.specs.declared.step.Step.TheVariants.{Insert, ActionOpen, Send, Recv, Done}
 use Rattle.tp_wave.specs.Steps.{count, is_send_of, is_recv_at}
-use Rattle.tp_wave.specs.Machine.{node_of, step_of, steps_of, pending_at, pending_after, IsOf}
+use Rattle.tp_wave.specs.Machine.{node_of, step_of, steps_of, pending_at, pending_after, under_way, under_way_after, IsOf}
 use Rattle.tp_board.specs.Numbers.{event, is_recv, is_done, sent_after, received_after, done_after}
 use Rattle.tp_board.specs.Counts.{counts_at, counts_after, AreCountsOf, AreFew}
 use Rattle.tp_board.specs.declared.counts.NodeCounts.{NodeCounts}
@@ -118,15 +118,27 @@ count-le test (e ∷ h) =
     ]
 
 -- where the history is short, its counts are small
+pub few_at : (i : ℕ) (h : List Event) → length h ≤ 1048576 → AreFew (counts_at i h)
+few_at i h short =
+    record {
+      pending = omega (arith, pending_at-le i h);
+      sent = omega (arith, count-le (is_send_of i) h);
+      received = omega (arith, count-le (is_recv_at i) h);
+    }
+
 pub counts_few : (h : List Event) (c : Counts) (i : ℕ) → i < 8 → length h ≤ 1048576 → AreCountsOf h c
     → AreFew (slice_index_or c.nodes i (record { pending = 0; sent = 0; received = 0 })) × (c.received ≤ 1048576) × (c.done ≤ 1048576)
 counts_few h c i below short are =
-    let was = get_or_from_slice_get c.nodes i (counts_at i h) (record { pending = 0; sent = 0; received = 0 }) (are.nodes i below) in (
-      rw was (record {
-        pending = omega (arith, pending_at-le i h);
-        sent = omega (arith, count-le (is_send_of i) h);
-        received = omega (arith, count-le (is_recv_at i) h);
-      }),
-      omega (arith, are.received, count-le is_recv h),
-      omega (arith, are.done, count-le is_done h),
-    )
+    let was = get_or_from_slice_get c.nodes i (counts_at i h) (record { pending = 0; sent = 0; received = 0 }) (are.nodes i below) in
+    (rw was (few_at i h short), omega (arith, are.received, count-le is_recv h), omega (arith, are.done, count-le is_done h))
+
+under_step : (s : Step) (u m : ℕ) → u ≤ m → under_way_after s u ≤ m + 1
+under_step (Send i j m) u most less = omega arith
+under_step _ u most less = omega arith
+
+-- nor are more messages under way
+pub under_way-le : (h : List Event) → under_way (steps_of h) ≤ length h
+under_way-le [] = omega arith
+under_way-le (e ∷ h) =
+    let most = under_step (step_of e) (under_way (steps_of h)) (length h) (under_way-le h) in
+    omega arith

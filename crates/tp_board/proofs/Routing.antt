@@ -9,7 +9,7 @@ use Rattle.tp_base.specs.declared.ids.NodeId.{NodeId}
 use Rattle.tp_base.specs.declared.step.Step.{Step}
 use Rattle.tp_base.specs.declared.step.Step.TheVariants.{Send}
 use Rattle.tp_wave.specs.Steps.{any, count}
-use Rattle.tp_wave.specs.Machine.{steps_of, is_send_numbered}
+use Rattle.tp_wave.specs.Machine.{steps_of, is_send_numbered, is_send_to}
 use Rattle.tp_board.proofs.Counting.{count-le}
 use Rattle.tp_board.specs.Numbers.{is_send}
 use Rattle.tp_board.specs.Routes.{IsNumbered, Route, Table, is_route, is_send_between, routes_of}
@@ -103,3 +103,25 @@ log_send old new limit reserved counts now routes kept from to m log some number
       room = omega (arith, log.room);
       routes_room = omega (arith, log.routes_room);
     }
+
+and_right : (a b : Bool) → (a && b) ≡ true → b ≡ true
+and_right true b is = is
+and_right false b is = absurd cc
+
+or_right : (a b : Bool) → b ≡ true → (a || b) ≡ true
+or_right true b is = refl
+or_right false b is = is
+
+or_both : (a b c d : Bool) → (a ≡ true → c ≡ true) → (b ≡ true → d ≡ true) → (a || b) ≡ true → (c || d) ≡ true
+or_both true b c d first rest is = rw (first refl) refl
+or_both false b c d first rest is = or_right c d (rest is)
+
+between_to : (i j m : ℕ) (s : Step) → is_send_between i j m s ≡ true → is_send_to j m s ≡ true
+between_to i j m (Send a b k) is = and_right (a.0 == i) _ is
+between_to i j m _ is = absurd cc
+
+-- what was sent from one node to another was sent to the other
+pub any_to : (i j m : ℕ) (past : List Step) → any (is_send_between i j m) past ≡ true → any (is_send_to j m) past ≡ true
+any_to i j m [] is = absurd cc
+any_to i j m (s ∷ past) is =
+    or_both (is_send_between i j m s) (any (is_send_between i j m) past) (is_send_to j m s) (any (is_send_to j m) past) (between_to i j m s) (any_to i j m past) is

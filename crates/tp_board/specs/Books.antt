@@ -54,6 +54,7 @@ pub record IsBoard (n nodes : ℕ) (h : List Event) (t : BookTotals) (wave : Wav
   pub nodes_are : nodes ≡ n
   pub some : 1 ≤ n
   pub few : n ≤ 8
+  pub short : length h ≤ 1048576
   pub run : IsRun n h
   pub pending : (i : ℕ) → i < n → slice_index t.pending i ≡ pending_at i h
   pub sent : t.sent ≡ count is_send (steps_of h)

@@ -6,3 +6,4 @@ pub mod States
 pub mod Logs
 pub mod Pendings
 pub mod Books
+pub mod Judgements

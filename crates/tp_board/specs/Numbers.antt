@@ -2,6 +2,7 @@
 use Rattle.std.specs.Prelude.{ℕ, ◌+◌, ◌≤◌, ◌==◌, Bool, true, false, not, List, map, filter}
 use Rattle.std.specs.List.{range_with_len, flat_map}
 use Rattle.tp_base.specs.History.{Event}
+use Rattle.tp_base.specs.declared.ids.NodeId.{NodeId}
 use Rattle.tp_base.specs.declared.step.Step.{Step}
 use Rattle.tp_base.specs.declared.step.Step.TheVariants.{Insert, Supply, Begin, Done, ActionOpen, ActionClose, Ready, Send, Recv, MessageEnd}
 use Rattle.tp_wave.specs.Machine.{pending_after}
@@ -30,17 +31,21 @@ is_plain (Ready i) = true
 is_plain (MessageEnd j m) = true
 is_plain _ = false
 
--- a step beside a node
+-- the node of this number
+abbrev pub node_at : ℕ → NodeId
+node_at i = record { 0 = i }
+
+-- a step beside node i
 abbrev pub event : ℕ → Step → Event
-event node step = (record { 0 = node }, step)
+event i step = (node_at i, step)
 
 -- node i sends message m to node j
 abbrev pub sending : ℕ → ℕ → ℕ → Step
-sending i j m = Send (record { 0 = i }) (record { 0 = j }) (record { 0 = m })
+sending i j m = Send (node_at i) (node_at j) (record { 0 = m })
 
 -- node j receives message m
 abbrev pub receiving : ℕ → ℕ → Step
-receiving j m = Recv (record { 0 = j }) (record { 0 = m })
+receiving j m = Recv (node_at j) (record { 0 = m })
 
 -- A node by its number: its pending number, the messages that it has sent and received, and the tasks that it has done.
 pub record NodeNumbers : Type 0 where

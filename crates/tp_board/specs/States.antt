@@ -1,10 +1,14 @@
 -- What contracts see of a board, and what its calls are refused for.
-use Rattle.std.specs.Prelude.{ℕ, ◌+◌, ◌-◌, ◌≡◌, ◌<◌, List, ◌∷◌, length, Option, Some, Result, Err, MatchOption, IfErr, nat_lt}
+use Rattle.std.specs.Prelude.{ℕ, ◌+◌, ◌-◌, ◌≡◌, ◌<◌, List, [], ◌∷◌, ◌++◌, length, Option, Some, Result, Err, MatchOption, IfErr, nat_lt}
 use Rattle.std.specs.Option.{option_or}
 use Rattle.tp_base.specs.History.{Event}
 use Rattle.tp_base.specs.declared.refusal.Refusal.{Refusal}
-use Rattle.tp_base.specs.declared.refusal.Refusal.TheVariants.{HistoryFull, NoMemory}
-use Rattle.tp_wave.specs.Checks.{Check, first_refusal}
+use Rattle.tp_base.specs.declared.refusal.Refusal.TheVariants.{HistoryFull, NoMemory, NotIdle}
+use Rattle.tp_base.specs.declared.ids.NodeId.{NodeId}
+use Rattle.tp_base.specs.declared.step.Step.{Step}
+use Rattle.tp_base.specs.declared.step.Step.TheVariants.{Give}
+use Rattle.tp_wave.specs.Checks.{Check, control_checks, first_refusal}
+use Rattle.tp_wave.specs.Machine.{pending_at, steps_of}
 
 -- A board has its events, the newest first, how many there may be, how many more are sure of a place and of memory, and
 -- the first fault that was set.
@@ -35,3 +39,11 @@ full_check more b = (nat_lt b.limit (length b.history + more), HistoryFull (leng
 abbrev pub AnswersBy : {A : Type 0} → List Check → ℕ → BoardState → Result A Refusal → Type 0
 AnswersBy checks more b result =
     MatchOption (first_refusal checks) (IfErr result (λ e. (e ≡ NoMemory) × (b.reserved < more))) (λ e. result ≡ Err e)
+
+-- the checks of a control step that no node has to be idle for
+abbrev pub step_checks : ℕ → BoardState → Step → List Check
+step_checks n b s = control_checks n (steps_of b.history) s ++ full_check 1 b ∷ []
+
+-- the checks of a visit to node i: an active node gives nothing
+abbrev pub visit_checks : ℕ → BoardState → NodeId → List Check
+visit_checks n b i = control_checks n (steps_of b.history) (Give i) ++ (nat_lt 0 (pending_at i.0 b.history), NotIdle) ∷ full_check 1 b ∷ []

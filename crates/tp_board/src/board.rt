@@ -1,7 +1,7 @@
-ghost use Rattle.std.specs.Prelude.{◌≡◌, ◌≤◌, ◌<◌, ◌+◌, ◌-◌, ◌∷◌, [], length, IsTrue, IfOk, IsOk, OnErr, OnOk, None};
+ghost use Rattle.std.specs.Prelude.{◌≡◌, ◌==◌, ◌≤◌, ◌<◌, ◌+◌, ◌-◌, ◌∷◌, ℕ, [], length, max, slice_index, IsTrue, IfOk, IsOk, OnErr, OnOk, None};
 ghost use Rattle.tp_board.specs.Numbers.{AreWithin, event, is_plain, is_send, numbers_after, receiving, sending};
 ghost use Rattle.tp_board.specs.Routes.{is_send_between};
-ghost use Rattle.tp_board.specs.States.{AnswersBy, full_check, with_event, with_fault};
+ghost use Rattle.tp_board.specs.States.{AnswersBy, full_check, with_event, with_fault, with_reserved};
 ghost use Rattle.tp_wave.specs.Machine.{IsOf, IsRun, is_send_to, pending_at, steps_of, under_way};
 ghost use Rattle.tp_wave.specs.Steps.{any, count};
 
@@ -39,6 +39,131 @@ impl<K: Ledgers> Model for Board<K> {
 }
 
 impl<K: Ledgers> Board<K> {
+    /// A board with an empty history.
+    pub(crate) fn new(alloc: Global, nodes: u32, limit: u32, accounts: Accounts<K>) -> Board<K>
+        requires nodes { (nodes ≡ K.names.nodes) × (1 ≤ nodes) × (nodes ≤ 8) }
+        requires limit { limit ≤ 1048576 }
+        requires pending { (i : ℕ) → i < nodes → slice_index accounts.pending i ≡ 1 }
+        requires others { (accounts.sent ≡ 0) × (accounts.received ≡ 0) × (accounts.done ≡ 0) × (accounts.under ≡ 0) × (accounts.judged ≡ 0) }
+        ensures { result ≡ record { history = []; limit = limit; reserved = 0; fault = None } }
+    {
+        Board {
+            nodes,
+            log: Log::new(alloc, limit),
+            accounts,
+            wave: Wave::new(nodes),
+        }
+    }
+
+    /// How many nodes the pool has.
+    pub fn nodes(&self) -> u32
+        ensures number { result ≡ K.names.nodes }
+        ensures few { (1 ≤ result) × (result ≤ 8) }
+    {
+        self.nodes
+    }
+
+    /// How many events there are.
+    pub fn len(&self) -> usize
+        ensures number { result ≡ length self.now.history }
+        ensures small { result ≤ 1048576 }
+    {
+        self.log.len()
+    }
+
+    /// Whether nothing has happened.
+    pub fn is_empty(&self) -> bool
+        ensures { result ≡ (length self.now.history == 0) }
+    {
+        self.log.history().is_empty()
+    }
+
+    /// The events.
+    pub fn history(&self) -> &History
+        ensures events { result.now.events ≡ self.now.history }
+        ensures run { IsRun K.names.nodes self.now.history }
+    {
+        self.log.history()
+    }
+
+    /// The events alone.
+    pub fn into_history(self) -> History
+        ensures events { result.events ≡ self.history }
+        ensures run { IsRun K.names.nodes self.history }
+    {
+        let Board {
+            nodes: _,
+            log,
+            accounts: _,
+            wave: _,
+        } = self;
+        log.into_history()
+    }
+
+    /// The first fault that was set.
+    pub fn fault(&self) -> Option<Refusal>
+        ensures { result ≡ self.now.fault }
+    {
+        self.log.fault()
+    }
+
+    /// Keeps a fault, where it is the first.
+    pub fn set_fault(&mut self, fault: Refusal)
+        ensures { self.new ≡ with_fault fault self.old }
+    {
+        self.log.set_fault(fault);
+    }
+
+    /// The number of the next message: how many were sent before it.
+    pub fn next_message(&self) -> MessageId
+        ensures { result.0 ≡ count is_send (steps_of self.now.history) }
+    {
+        MessageId(self.log.totals().0)
+    }
+
+    /// Whether a message was sent from one node to another. It looks once into a table.
+    pub fn gave(&self, from: NodeId, to: NodeId, message: MessageId) -> bool
+        ensures sent { result ≡ any (is_send_between from.0 to.0 message.0) (steps_of self.now.history) }
+        ensures to { IsTrue result → IsTrue (any (is_send_to to.0 message.0) (steps_of self.now.history)) }
+    {
+        self.log.gave(from, to, message)
+    }
+
+    /// Makes sure of a place and of memory for so many more events: the next ones are then not refused for either.
+    ///
+    /// Refused: `HistoryFull` where fewer places are free; `NoMemory` where memory has to grow and does not.
+    pub fn reserve(&mut self, more: u32) -> Result<(), Refusal>
+        ensures ok { OnOk result (self.new ≡ with_reserved (max self.old.reserved more) self.old) }
+        ensures places { OnOk result (length self.old.history + more ≤ self.old.limit) }
+        ensures refusal { AnswersBy (full_check more self.old ∷ []) more self.old result }
+        ensures reserved { more ≤ self.old.reserved → IsOk result }
+        ensures refused { OnErr result (self.new ≡ self.old) }
+    {
+        self.log.reserve(more)
+    }
+
+    /// Changes nothing, and tells how a node's numbers stand to the history.
+    pub fn audit(&mut self, shares: &mut Shares<K>)
+        ensures same { (self.new ≡ self.old) × (shares.new ≡ shares.old) }
+        ensures node { shares.old.node < K.names.nodes }
+        ensures pending { shares.old.pending ≡ pending_at shares.old.node self.old.history }
+        ensures within { AreWithin (length self.old.history) shares.old }
+        ensures places { (length self.old.history + self.old.reserved ≤ self.old.limit) × (self.old.limit ≤ 1048576) }
+        ensures run { IsRun K.names.nodes self.old.history }
+    {
+        let _count = self.log.len();
+        self.accounts.audit(shares);
+    }
+
+    /// Changes nothing, and tells that no link has more messages under way than the history gives.
+    pub fn audit_link(&mut self, link: &mut LinkShare<K>)
+        ensures same { (self.new ≡ self.old) × (link.new ≡ link.old) }
+        ensures under { link.old.under ≤ under_way (steps_of self.old.history) }
+        ensures small { link.old.under ≤ 1048576 }
+    {
+        self.accounts.audit_link(link);
+    }
+
     /// Adds a step of a node that moves no message.
     ///
     /// Refused: `HistoryFull` where the history has reached its limit; `NoMemory` where memory has to grow and does not.

@@ -3,6 +3,7 @@
 
 mod accounts;
 mod board;
+mod control;
 mod counts;
 mod ended;
 mod log;

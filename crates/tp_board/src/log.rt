@@ -1,6 +1,6 @@
 ghost use Rattle.std.specs.Prelude.{◌≡◌, ◌∷◌, ◌+◌, ◌≤◌, ◌<◌, [], length, max, IsTrue, IsFalse, IfOk, IsOk, OnErr, OnOk, None};
 ghost use Rattle.tp_base.specs.History.{Event};
-ghost use Rattle.tp_board.specs.Counts.{counts_at};
+ghost use Rattle.tp_board.specs.Counts.{AreFew, counts_at};
 ghost use Rattle.tp_board.specs.Numbers.{event, is_done, is_recv, is_send, sending};
 ghost use Rattle.tp_board.specs.Routes.{is_send_between};
 ghost use Rattle.tp_board.specs.States.{AnswersBy, full_check, with_event, with_fault, with_reserved};
@@ -113,10 +113,20 @@ impl Log {
         Ok(message)
     }
 
+    /// How many events there are.
+    pub fn len(&self) -> usize
+        ensures number { result ≡ length self.now.history }
+        ensures places { length self.now.history + self.now.reserved ≤ self.now.limit }
+        ensures limit { self.now.limit ≤ 1048576 }
+    {
+        self.history.len()
+    }
+
     /// What is counted of a node.
     pub fn counts(&self, node: NodeId) -> NodeCounts
         requires { node.0 < 8 }
-        ensures { result ≡ counts_at node.0 self.now.history }
+        ensures counts { result ≡ counts_at node.0 self.now.history }
+        ensures few { AreFew result }
     {
         self.counts.of(node)
     }
