@@ -1,8 +1,10 @@
 -- A board, one event further.
-use Rattle.std.proofs.Common.{ℕ, suc, ◌+◌, ◌-◌, ◌≡◌, ◌≢◌, ◌<◌, ◌≤◌, ◌==◌, List, [], ◌∷◌, length, set, get_or, Bool, true, false, IsTrue, refl, sym, ap, subst, ◌∙◌, arith, Some, inl, inr}
+use Rattle.std.proofs.Common.{ℕ, ◌+◌, ◌-◌, ◌≡◌, ◌≢◌, ◌<◌, ◌≤◌, List, [], ◌∷◌, ◌++◌, length, Bool, IsTrue, refl, sym, ap, subst, ◌∙◌, arith, Some, inl, inr}
 use Rattle.std.specs.Prelude.{IsFalse, slice_index, slice_set, if◌then◌else◌}
 use Rattle.std.proofs.lemmas.Bool.{eq-eqb, ne_eqb, cases_eq}
 use Rattle.std.proofs.lemmas.Bool.Decides.{nat_tests}
+use Rattle.std.specs.List.{All}
+use Rattle.std.proofs.lemmas.List.Elements.{All-append, All-cons}
 use Rattle.std.proofs.lemmas.List.{get_or-set_same, get_or-set_other}
 use Rattle.tp_base.specs.History.{Event}
 use Rattle.tp_base.specs.declared.step.Step.{Step}
@@ -14,7 +16,7 @@ use Rattle.tp_wave.specs.Wave.{Follows, started}
 use Rattle.tp_wave.specs.Control.{is_control}
 use Rattle.tp_wave.specs.Cut.{IsQuiet}
 use Rattle.tp_wave.proofs.Judged.{judged_law}
-use Rattle.tp_wave.specs.Machine.{steps_of, pending_at, pending_after, under_way, under_way_after, IsOf, IsRun, Needs, is_send_numbered, is_send_to}
+use Rattle.tp_wave.specs.Machine.{node_of, step_of, steps_of, pending_at, pending_after, under_way, under_way_after, IsOf, IsRun, Needs, is_send_numbered, is_send_to}
 use Rattle.tp_wave.proofs.Given.{pool_step}
 use Rattle.tp_wave.specs.declared.wave.Wave.{Wave}
 use Rattle.tp_board.specs.Numbers.{AreWithin, NodeNumbers, event, is_plain, is_send, is_recv, is_done, numbers_after, receiving, sending, sent_after, received_after, done_after}
@@ -176,3 +178,24 @@ pub quiet_judged : (n nodes w : ℕ) (h now : List Event) (t : BookTotals) (befo
 quiet_judged n nodes w h now t before after board is follows judged =
     let ended : IsTrue (is_ended n (steps_of (event 0 Judge ∷ h))) = rw judged refl in
     rw is (judged_law n (event 0 Judge ∷ h) (record { known = board.some; beside = refl; needed = tt; control = follows.lawful.0 }, board.run) ended)
+
+balanced_step : (n : ℕ) (past : List Event) (i : ℕ) (s : Step) → Needs n past i s → count is_send (steps_of past) ≡ count is_recv (steps_of past) + under_way (steps_of past)
+    → count is_send (s ∷ steps_of past) ≡ count is_recv (s ∷ steps_of past) + under_way (s ∷ steps_of past)
+balanced_step n past i (Send a b m) needs before = omega arith
+balanced_step n past i (Recv a m) needs before = omega (arith, needs.0)
+balanced_step n past i _ needs before = before
+
+-- in a run what was sent was received or is under way
+balanced : (n : ℕ) (h : List Event) → IsRun n h → count is_send (steps_of h) ≡ count is_recv (steps_of h) + under_way (steps_of h)
+balanced n [] run = refl
+balanced n (e ∷ past) run = balanced_step n past (node_of e) (step_of e) run.0.needed (balanced n past run.1)
+
+pub balance : (n nodes : ℕ) (h : List Event) (t : BookTotals) (w : Wave) → IsBoard n nodes h t w → count is_send (steps_of h) ≡ count is_recv (steps_of h) + t.under
+balance n nodes h t w board = omega (arith, balanced n h board.run, board.under)
+
+pub agree_last : (h : List Event) (xs ys : List NodeNumbers) (x : NodeNumbers) → ys ≡ xs ++ x ∷ [] → x.pending ≡ pending_at x.node h → All (λ (s : NodeNumbers). s.pending ≡ pending_at s.node h) xs
+    → All (λ (s : NodeNumbers). s.pending ≡ pending_at s.node h) ys
+agree_last h xs ys x is last rest =
+    let P : NodeNumbers → Type 0 = λ s. s.pending ≡ pending_at s.node h in
+    let one : All P (x ∷ []) = All-cons P x [] last (λ k d less. absurd (omega arith)) in
+    rw is (All-append P xs (x ∷ []) rest one)

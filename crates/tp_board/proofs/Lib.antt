@@ -2,3 +2,4 @@ pub mod Counting
 pub mod Routing
 pub mod Boards
 pub mod Answering
+pub mod Links

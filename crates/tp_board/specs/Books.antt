@@ -1,5 +1,5 @@
 -- The totals of a board's books, and the run that they belong to.
-use Rattle.std.specs.Prelude.{ℕ, ◌+◌, ◌≡◌, ◌<◌, ◌≤◌, List, length, slice_index, slice_set, if◌then◌else◌}
+use Rattle.std.specs.Prelude.{ℕ, ◌≡◌, ◌<◌, ◌≤◌, List, length, slice_index, slice_set, if◌then◌else◌}
 use Rattle.tp_base.specs.History.{Event}
 use Rattle.tp_base.specs.declared.step.Step.{Step}
 use Rattle.tp_wave.specs.Steps.{count}

@@ -60,6 +60,13 @@ pub record PendingNumber : Type 0 where
   pub node : ℕ
   pub amount : ℕ
 
+-- What the shares of so many nodes add up to.
+pub record PartNumbers : Type 0 where
+  pub parts : ℕ
+  pub sent : ℕ
+  pub received : ℕ
+  pub done : ℕ
+
 -- A link by its two nodes, and how many messages are under way on it.
 pub record LinkNumbers : Type 0 where
   pub from : ℕ
@@ -92,6 +99,12 @@ numbers_after s n =
 -- a node's numbers at first: its opening action is pending
 abbrev pub first_numbers : ℕ → NodeNumbers
 first_numbers i = record { node = i; pending = 1; sent = 0; received = 0; done = 0 }
+
+abbrev pub empty_parts : ℕ → PartNumbers
+empty_parts parts = record { parts = parts; sent = 0; received = 0; done = 0 }
+
+abbrev pub first_pending : ℕ → PendingNumber
+first_pending i = record { node = i; amount = 1 }
 
 -- the first numbers of n nodes, in rising order
 abbrev pub first_shares : ℕ → List NodeNumbers

@@ -1,5 +1,5 @@
 -- What contracts see of the shares of pending ledgers.
-use Rattle.std.specs.Prelude.{ℕ, ◌≡◌}
+use Rattle.std.specs.Prelude.{◌≡◌}
 use Rattle.tp_board.specs.Numbers.{PendingNumber}
 use Rattle.tp_board.specs.declared.pending.PendingShare.{PendingShare}
 use Rattle.tp_board.specs.declared.pending.PendingShare.TheVariants.{Node0, Node1, Node2, Node3, Node4, Node5, Node6, Node7}

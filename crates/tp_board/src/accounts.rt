@@ -6,7 +6,7 @@ ghost use Rattle.tp_board.specs.Numbers.{done_after, is_plain, is_recv, numbers_
 use crate::ended::{Ended, Keeper};
 use crate::names::{Done, Ledgers, Received, Sent, Under};
 use crate::pending::PendingBooks;
-use crate::shares::{LinkShare, Shares};
+use crate::shares::{LinkShare, Parts, Shares};
 use std::marker::Model;
 use std::sync::ledger::{Book, Share};
 use tp_base::Step;
@@ -146,18 +146,12 @@ impl<K: Ledgers> Accounts<K> {
     }
 
     /// Tells that all shares add up to the books.
-    pub fn close(
-        self,
-        sent: Share<Sent<K>>,
-        received: Share<Received<K>>,
-        done: Share<Done<K>>,
-        under: Share<Under<K>>,
-    )
-        requires nodes { (sent.parts ≡ K.names.nodes) × (received.parts ≡ K.names.nodes) × (done.parts ≡ K.names.nodes) }
+    pub fn close(self, parts: Parts<K>, under: Share<Under<K>>)
+        requires nodes { parts.parts ≡ K.names.nodes }
         requires links { under.parts + 1 ≡ under_parts K.names.nodes }
-        ensures sent { sent.amount ≡ self.sent }
-        ensures received { received.amount ≡ self.received }
-        ensures done { done.amount ≡ self.done }
+        ensures sent { parts.sent ≡ self.sent }
+        ensures received { parts.received ≡ self.received }
+        ensures done { parts.done ≡ self.done }
         ensures under { under.amount ≡ self.under }
     {
         let Accounts {
@@ -169,9 +163,11 @@ impl<K: Ledgers> Accounts<K> {
             kept,
             keeper: _,
         } = self;
-        let mut sent = sent;
-        let mut received = received;
-        let mut done = done;
+        let Parts {
+            mut sent,
+            mut received,
+            mut done,
+        } = parts;
         let mut under = under;
         under.merge(kept);
         sent_book.audit(&mut sent);

@@ -1,16 +1,21 @@
 ghost use Rattle.std.specs.Prelude.{◌≡◌, ◌==◌, ◌≤◌, ◌<◌, ◌+◌, ◌-◌, ◌∷◌, ℕ, [], length, max, slice_index, IsTrue, IfOk, IsOk, OnErr, OnOk, None};
-ghost use Rattle.tp_board.specs.Numbers.{AreWithin, event, is_plain, is_send, numbers_after, receiving, sending};
+ghost use Rattle.tp_board.specs.Names.{under_parts};
+ghost use Rattle.tp_board.specs.Numbers.{AreWithin, event, is_done, is_plain, is_recv, is_send, numbers_after, receiving, sending};
 ghost use Rattle.tp_board.specs.Routes.{is_send_between};
 ghost use Rattle.tp_board.specs.States.{AnswersBy, full_check, with_event, with_fault, with_reserved};
 ghost use Rattle.tp_wave.specs.Machine.{IsOf, IsRun, is_send_to, pending_at, steps_of, under_way};
+ghost use Rattle.tp_wave.specs.Cut.{IsQuiet};
 ghost use Rattle.tp_wave.specs.Steps.{any, count};
+ghost use Rattle.tp_wave.specs.Sums.{is_ended};
 
 use crate::accounts::Accounts;
+use crate::closing::Totals;
 use crate::log::Log;
-use crate::names::Ledgers;
-use crate::shares::{LinkShare, Shares};
+use crate::names::{Ledgers, Under};
+use crate::shares::{LinkShare, Parts, Shares};
 use std::alloc::Global;
 use std::marker::Model;
+use std::sync::ledger::Share;
 use tp_base::{History, MessageId, NodeId, Refusal, Step};
 use tp_wave::Wave;
 
@@ -162,6 +167,63 @@ impl<K: Ledgers> Board<K> {
         ensures small { link.old.under ≤ 1048576 }
     {
         self.accounts.audit_link(link);
+    }
+
+    /// A node's pending number.
+    pub(crate) fn pending(&mut self, shares: &mut Shares<K>) -> u32
+        ensures same { (self.new ≡ self.old) × (shares.new ≡ shares.old) }
+        ensures number { result ≡ shares.old.pending }
+        ensures agrees { shares.old.pending ≡ pending_at shares.old.node self.old.history }
+        ensures small { shares.old.pending ≤ 1048577 }
+    {
+        self.accounts.audit(shares);
+        self.log.counts(shares.node()).pending
+    }
+
+    /// A share of no part and no message.
+    pub(crate) fn no_messages(&mut self) -> Share<Under<K>>
+        ensures same { self.new ≡ self.old }
+        ensures none { (result.parts ≡ 0) × (result.amount ≡ 0) }
+    {
+        self.accounts.no_messages()
+    }
+
+    /// The totals, where all shares are gathered.
+    pub(crate) fn close(self, pending: u32, parts: Parts<K>, under: Share<Under<K>>) -> Totals
+        requires nodes { parts.parts ≡ K.names.nodes }
+        requires links { under.parts + 1 ≡ under_parts K.names.nodes }
+        ensures pending { result.pending ≡ pending }
+        ensures sent { (result.sent ≡ parts.sent) × (result.sent ≡ count is_send (steps_of self.history)) }
+        ensures received { (result.received ≡ parts.received) × (result.received ≡ count is_recv (steps_of self.history)) }
+        ensures under { (result.under ≡ under.amount) × (result.under ≡ under_way (steps_of self.history)) }
+        ensures done { (result.done ≡ parts.done) × (result.done ≡ count is_done (steps_of self.history)) }
+        ensures balance { result.sent ≡ result.received + result.under }
+        ensures ended { result.ended ≡ is_ended K.names.nodes (steps_of self.history) }
+        ensures quiet { IsTrue result.ended → IsQuiet K.names.nodes self.history }
+        ensures fault { result.fault ≡ self.fault }
+        ensures history { result.history.events ≡ self.history }
+        ensures run { IsRun K.names.nodes self.history }
+    {
+        let (sent, received, done) = self.log.totals();
+        let ended = self.accounts.is_ended();
+        let fault = self.log.fault();
+        let Board {
+            nodes: _,
+            log,
+            accounts,
+            wave: _,
+        } = self;
+        accounts.close(parts, under);
+        Totals {
+            pending,
+            sent,
+            received,
+            under: sent - received,
+            done,
+            ended,
+            fault,
+            history: log.into_history(),
+        }
     }
 
     /// Adds a step of a node that moves no message.

@@ -3,11 +3,13 @@
 
 mod accounts;
 mod board;
+mod closing;
 mod control;
 mod counts;
 mod ended;
 mod log;
 mod names;
+mod opening;
 mod pending;
 mod routes;
 mod shares;

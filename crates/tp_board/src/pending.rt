@@ -1,6 +1,6 @@
 ghost use Rattle.std.specs.Prelude.{◌≡◌, ◌≤◌, ℕ, ◌+◌, ◌-◌, ◌*◌, ◌<◌, IsFalse, [], ◌∷◌, slice_index, slice_set, length};
 ghost use Rattle.tp_board.specs.Names.{pending_name};
-ghost use Rattle.tp_board.specs.Numbers.{is_recv};
+ghost use Rattle.tp_board.specs.Numbers.{first_pending, is_recv};
 ghost use Rattle.tp_wave.specs.Machine.{pending_after};
 
 use crate::names::{Ledgers, Pending};
@@ -146,10 +146,9 @@ impl<K: Ledgers> PendingOf<K> {
     }
 }
 
-/// The books of the pending ledgers, and their shares by node.
+/// The first share of each pending ledger.
 #[derive(Drop)]
-pub struct Opened<K: Ledgers> {
-    pub books: PendingBooks<K>,
+pub struct FirstPending<K: Ledgers> {
     pub node_0: PendingOf<K>,
     pub node_1: PendingOf<K>,
     pub node_2: PendingOf<K>,
@@ -158,6 +157,8 @@ pub struct Opened<K: Ledgers> {
     pub node_5: PendingOf<K>,
     pub node_6: PendingOf<K>,
     pub node_7: PendingOf<K>,
+    ghost low: { (node_0 ≡ first_pending 0) × (node_1 ≡ first_pending 1) × (node_2 ≡ first_pending 2) × (node_3 ≡ first_pending 3) },
+    ghost high: { (node_4 ≡ first_pending 4) × (node_5 ≡ first_pending 5) × (node_6 ≡ first_pending 6) × (node_7 ≡ first_pending 7) },
 }
 
 /// New ledgers of pending numbers, which have no names yet.
@@ -198,17 +199,9 @@ impl PendingBlanks {
     }
 
     /// Opens the pending ledgers. Each node's opening action is pending.
-    pub fn open<K: Ledgers>(self) -> Opened<K>
+    pub fn open<K: Ledgers>(self) -> (PendingBooks<K>, FirstPending<K>)
         requires { self ≡ K.names.pending }
-        ensures books { result.books ≡ 1 ∷ 1 ∷ 1 ∷ 1 ∷ 1 ∷ 1 ∷ 1 ∷ 1 ∷ [] }
-        ensures node_0 { result.node_0 ≡ record { node = 0; amount = 1 } }
-        ensures node_1 { result.node_1 ≡ record { node = 1; amount = 1 } }
-        ensures node_2 { result.node_2 ≡ record { node = 2; amount = 1 } }
-        ensures node_3 { result.node_3 ≡ record { node = 3; amount = 1 } }
-        ensures node_4 { result.node_4 ≡ record { node = 4; amount = 1 } }
-        ensures node_5 { result.node_5 ≡ record { node = 5; amount = 1 } }
-        ensures node_6 { result.node_6 ≡ record { node = 6; amount = 1 } }
-        ensures node_7 { result.node_7 ≡ record { node = 7; amount = 1 } }
+        ensures { result.0 ≡ 1 ∷ 1 ∷ 1 ∷ 1 ∷ 1 ∷ 1 ∷ 1 ∷ 1 ∷ [] }
     {
         let PendingBlanks {
             blank_0,
@@ -228,17 +221,17 @@ impl PendingBlanks {
         let (book_5, node_5) = open_one::<K, 5>(blank_5);
         let (book_6, node_6) = open_one::<K, 6>(blank_6);
         let (book_7, node_7) = open_one::<K, 7>(blank_7);
-        Opened {
-            books: PendingBooks {
-                book_0,
-                book_1,
-                book_2,
-                book_3,
-                book_4,
-                book_5,
-                book_6,
-                book_7,
-            },
+        let books = PendingBooks {
+            book_0,
+            book_1,
+            book_2,
+            book_3,
+            book_4,
+            book_5,
+            book_6,
+            book_7,
+        };
+        let shares = FirstPending {
             node_0: PendingOf {
                 share: PendingShare::Node0(node_0),
             },
@@ -263,7 +256,8 @@ impl PendingBlanks {
             node_7: PendingOf {
                 share: PendingShare::Node7(node_7),
             },
-        }
+        };
+        (books, shares)
     }
 }
 

@@ -1,5 +1,5 @@
-ghost use Rattle.std.specs.Prelude.{◌≡◌, ◌≢◌, ◌<◌};
-ghost use Rattle.tp_board.specs.Numbers.{empty_link, first_numbers};
+ghost use Rattle.std.specs.Prelude.{◌≡◌, ◌≢◌, ◌<◌, ◌+◌, ◌-◌};
+ghost use Rattle.tp_board.specs.Numbers.{empty_link, empty_parts, first_numbers};
 
 use crate::names::{Done, Ledgers, Received, Sent, Under};
 use crate::pending::PendingOf;
@@ -29,20 +29,35 @@ impl<K: Ledgers> Model for Shares<K> {
 
 impl<K: Ledgers> Shares<K> {
     /// A node's shares at first.
-    pub(crate) fn new(
-        pending: PendingOf<K>,
-        sent: Share<Sent<K>>,
-        received: Share<Received<K>>,
-        done: Share<Done<K>>,
-    ) -> Shares<K>
+    pub(crate) fn new(pending: PendingOf<K>, parts: Parts<K>) -> Shares<K>
         requires pending { (pending.node < K.names.nodes) × (pending.amount ≡ 1) }
-        requires sent { (sent.parts ≡ 1) × (sent.amount ≡ 0) }
-        requires received { (received.parts ≡ 1) × (received.amount ≡ 0) }
-        requires done { (done.parts ≡ 1) × (done.amount ≡ 0) }
+        requires parts { parts ≡ empty_parts 1 }
         ensures { result ≡ first_numbers pending.node }
     {
+        let Parts {
+            sent,
+            received,
+            done,
+        } = parts;
         Shares {
             pending,
+            sent,
+            received,
+            done,
+        }
+    }
+
+    /// The shares alone, those of the pending number apart.
+    pub(crate) fn into_parts(self) -> Parts<K>
+        ensures { result ≡ record { parts = 1; sent = self.sent; received = self.received; done = self.done } }
+    {
+        let Shares {
+            pending: _,
+            sent,
+            received,
+            done,
+        } = self;
+        Parts {
             sent,
             received,
             done,
@@ -55,6 +70,54 @@ impl<K: Ledgers> Shares<K> {
         ensures below { self.now.node < K.names.nodes }
     {
         NodeId(self.pending.node())
+    }
+}
+
+/// Shares of the ledgers of which each node has a part. Contracts see of how many nodes they are, and the numbers.
+#[derive(Drop)]
+pub(crate) struct Parts<K: Ledgers> {
+    pub sent: Share<Sent<K>>,
+    pub received: Share<Received<K>>,
+    pub done: Share<Done<K>>,
+}
+
+impl<K: Ledgers> Model for Parts<K> {
+    ghost use Rattle.std.specs.Prelude.{◌≡◌};
+    ghost use Rattle.tp_board.specs.Numbers.{PartNumbers};
+
+    ghost Value = { PartNumbers };
+
+    ghost view = { λ p. record { parts = p.sent.parts; sent = p.sent.amount; received = p.received.amount; done = p.done.amount } };
+
+    ghost invariant = { λ p. (p.received.parts ≡ p.sent.parts) × (p.done.parts ≡ p.sent.parts) };
+}
+
+impl<K: Ledgers> Parts<K> {
+    /// Takes out one node's first shares.
+    pub fn split_off(&mut self) -> Parts<K>
+        requires { (0 < self.old.parts) × (self.old ≡ empty_parts self.old.parts) }
+        ensures one { result ≡ empty_parts 1 }
+        ensures left { self.new ≡ empty_parts (self.old.parts - 1) }
+    {
+        Parts {
+            sent: self.sent.split_off(1, 0),
+            received: self.received.split_off(1, 0),
+            done: self.done.split_off(1, 0),
+        }
+    }
+
+    /// Adds the shares of other nodes.
+    pub fn merge(&mut self, other: Parts<K>)
+        ensures { self.new ≡ record { parts = self.old.parts + other.parts; sent = self.old.sent + other.sent; received = self.old.received + other.received; done = self.old.done + other.done } }
+    {
+        let Parts {
+            sent,
+            received,
+            done,
+        } = other;
+        self.sent.merge(sent);
+        self.received.merge(received);
+        self.done.merge(done);
     }
 }
 

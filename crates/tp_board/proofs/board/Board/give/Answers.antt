@@ -1,4 +1,4 @@
-use Rattle.std.proofs.Common.{List, [], ◌∷◌, Option, Result, Ok, Err, ap, sym, refl, ◌∙◌, arith}
+use Rattle.std.proofs.Common.{Option, Result, Ok, Err, ap, sym, refl, ◌∙◌, arith}
 use Rattle.std.specs.Result.{result_err}
 use Rattle.std.proofs.lemmas.Result.{err_from_is_err_and}
 use Rattle.tp_base.specs.declared.refusal.Refusal.{Refusal}
