@@ -13,3 +13,12 @@ mod opening;
 mod pending;
 mod routes;
 mod shares;
+#[cfg(test)]
+mod tests;
+
+pub use board::Board;
+pub use closing::{Totals, close_books};
+pub use ended::{Ended, Judgement};
+pub use names::{Brand, Ledgers};
+pub use opening::{Blanks, Books, open_books};
+pub use shares::{LinkShare, Shares};
