@@ -9,6 +9,8 @@ use std::process::Abort;
 use std::test::Fail;
 use tp_base::{MessageId, NodeId, Refusal, Step, Sums};
 
+mod threads;
+
 /// A pool of two nodes, whose opening actions may be open.
 #[derive(Drop)]
 struct Pair<K: Ledgers> {
@@ -148,11 +150,7 @@ impl<K: Ledgers> Pair<K> {
     }
 }
 
-fn full_history<K: Ledgers, R: Abort>(
-    rt: &R,
-    alloc: Global,
-    blanks: Blanks,
-) -> Result<(), Refusal>
+fn full_history<K: Ledgers, R: Abort>(rt: &R, alloc: Global, blanks: Blanks) -> Result<(), Refusal>
     requires { (blanks ≡ K.names) × (blanks.nodes ≡ 2) }
 {
     let mut pair = Pair::<K>::open(alloc, blanks, 12)?;
@@ -197,21 +195,29 @@ fn judged_end<K: Ledgers, R: Abort>(
 #[test]
 fn two_equal_waves_judge_the_end(rt: HostRuntime) -> Result<(), Fail> {
     let totals = judged_end::<Brand, HostRuntime>(&rt, rt.alloc(), Blanks::new(2))?;
-    assert_eq!(rt; (totals.pending, totals.sent, totals.received, totals.under), (0, 0, 0, 0));
+    assert_eq!(rt;
+        (totals.pending, totals.sent, totals.received, totals.under),
+        (0, 0, 0, 0)
+    );
     assert_eq!(rt; (totals.done, totals.ended, totals.fault), (0, true, None));
     assert_eq!(rt; totals.history.len(), 14);
-    assert_eq!(rt; totals.history.at(0), Some((NodeId(0), Step::Ready(NodeId(0)))));
-    assert_eq!(rt; totals.history.at(6), Some((NodeId(0), Step::Give(NodeId(0)))));
-    assert_eq!(rt; totals.history.at(11), Some((NodeId(1), Step::Up(NodeId(1)))));
+    assert_eq!(rt;
+        totals.history.at(0),
+        Some((NodeId(0), Step::Ready(NodeId(0))))
+    );
+    assert_eq!(rt;
+        totals.history.at(6),
+        Some((NodeId(0), Step::Give(NodeId(0))))
+    );
+    assert_eq!(rt;
+        totals.history.at(11),
+        Some((NodeId(1), Step::Up(NodeId(1))))
+    );
     assert_eq!(rt; totals.history.at(13), Some((NodeId(0), Step::Judge)));
     Ok(())
 }
 
-fn messages<K: Ledgers, R: Abort>(
-    rt: &R,
-    alloc: Global,
-    blanks: Blanks,
-) -> Result<Totals, Refusal>
+fn messages<K: Ledgers, R: Abort>(rt: &R, alloc: Global, blanks: Blanks) -> Result<Totals, Refusal>
     requires { (blanks ≡ K.names) × (blanks.nodes ≡ 2) }
 {
     let mut pair = Pair::<K>::open(alloc, blanks, 100)?;
@@ -231,7 +237,10 @@ fn messages<K: Ledgers, R: Abort>(
 #[test]
 fn messages_are_counted_at_both_ends(rt: HostRuntime) -> Result<(), Fail> {
     let totals = messages::<Brand, HostRuntime>(&rt, rt.alloc(), Blanks::new(2))?;
-    assert_eq!(rt; (totals.pending, totals.sent, totals.received, totals.under), (3, 2, 1, 1));
+    assert_eq!(rt;
+        (totals.pending, totals.sent, totals.received, totals.under),
+        (3, 2, 1, 1)
+    );
     assert_eq!(rt; (totals.done, totals.ended), (0, false));
     assert_eq!(rt; totals.fault, Some(Refusal::Stranger));
     assert_eq!(rt; totals.history.len(), 3);
