@@ -11,7 +11,8 @@ use Rattle.tp_wave.specs.Machine.{pending_at, steps_of}
 use Rattle.tp_wave.specs.Wave.{Stands}
 use Rattle.tp_wave.specs.declared.wave.Wave.{Wave}
 use Rattle.tp_board.specs.States.{AnswersBy, BoardState, full_check}
-use Rattle.tp_board.specs.Books.{BookTotals, IsBoard}
+use Rattle.tp_ledgers.specs.Books.{BookTotals}
+use Rattle.tp_board.specs.Boards.{IsBoard}
 
 -- where a check of the first call holds
 first_refused : (cs ds : List Check) (e : Refusal) → first_refusal cs ≡ Some e → first_refusal (cs ++ ds) ≡ Some e

@@ -19,21 +19,10 @@ use Rattle.tp_wave.proofs.Judged.{judged_law}
 use Rattle.tp_wave.specs.Machine.{node_of, step_of, steps_of, pending_at, pending_after, under_way, under_way_after, IsOf, IsRun, Needs, is_send_numbered, is_send_to}
 use Rattle.tp_wave.proofs.Given.{pool_step}
 use Rattle.tp_wave.specs.declared.wave.Wave.{Wave}
-use Rattle.tp_board.specs.Numbers.{AreWithin, NodeNumbers, event, is_plain, is_send, is_recv, is_done, numbers_after, receiving, sending, sent_after, received_after, done_after}
-use Rattle.tp_board.specs.Books.{BookTotals, IsBoard, IsBooked, ended_number, totals_after, with_under}
+use Rattle.tp_ledgers.specs.Numbers.{AreWithin, NodeNumbers, event, is_done, is_plain, is_recv, is_send, numbers_after, plus_if, receiving, sending}
+use Rattle.tp_ledgers.specs.Books.{BookTotals, IsBooked, totals_after, with_under}
+use Rattle.tp_board.specs.Boards.{IsBoard, ended_number}
 use Rattle.tp_board.proofs.Counting.{count-le, pending_at-le}
-
-sent_one : (s : Step) (past : List Step) → count is_send (s ∷ past) ≡ sent_after s (count is_send past)
-sent_one (Send i j m) past = refl
-sent_one _ past = refl
-
-received_one : (s : Step) (past : List Step) → count is_recv (s ∷ past) ≡ received_after s (count is_recv past)
-received_one (Recv j m) past = refl
-received_one _ past = refl
-
-done_one : (s : Step) (past : List Step) → count is_done (s ∷ past) ≡ done_after s (count is_done past)
-done_one (Done t) past = refl
-done_one _ past = refl
 
 pool_ended : (n : ℕ) (s : Step) (past : List Step) → IsFalse (is_control s) → is_ended n (s ∷ past) ≡ is_ended n past
 pool_ended n Judge past pool = absurd cc
@@ -59,9 +48,9 @@ pool_next n nodes h t w i under s board places below room own pool needs moved =
       short = omega arith;
       run = (record { known = below; beside = own; needed = needs; control = λ c. absurd (cc (c, pool)) }, board.run);
       pending = λ j less. pending_next h t.pending i j s room (board.pending i below) (board.pending j less);
-      sent = ap (sent_after s) board.sent ∙ sym (sent_one s (steps_of h));
-      received = ap (received_after s) board.received ∙ sym (received_one s (steps_of h));
-      done = ap (done_after s) board.done ∙ sym (done_one s (steps_of h));
+      sent = ap (plus_if (is_send s)) board.sent;
+      received = ap (plus_if (is_recv s)) board.received;
+      done = ap (plus_if (is_done s)) board.done;
       under = moved ∙ ap (under_way_after s) board.under;
       judged = board.judged ∙ ap (λ (b : Bool). if b then 1 else 0) (sym (pool_ended n s (steps_of h) pool));
       follows = pool_step n (steps_of h) s w pool board.follows;
@@ -147,14 +136,14 @@ recv_next n nodes m h t w x board places booked below some sent_before =
 
 -- after the sending of a message
 pub send_follows : (n nodes a b j m : ℕ) (h now : List Event) (t after sent : BookTotals) (w : Wave) (x : NodeNumbers) → now ≡ event a (sending a b m) ∷ h → a ≡ x.node → b ≡ j
-    → after ≡ totals_after x.node (sending a b m) t → sent ≡ with_under (after.under + 1) after
+    → after ≡ totals_after x.node (sending a b m) t → sent ≡ with_under (under_way_after (sending a b m) after.under) after
     → IsBoard n nodes h t w → length h < 1048576 → IsBooked x t → x.node < n → j < n → x.node ≢ j → 0 < x.pending → IsFalse (any (is_send_numbered m) (steps_of h)) → IsBoard n nodes now sent w
 send_follows n nodes a b j m h now t after sent w x is is_a is_b is_after is_sent board places booked below there apart active fresh =
     rw (is, is_sent, is_after, is_a, is_b) (send_next n nodes j m h t w x board places booked below there apart active fresh)
 
 -- after the receipt of a message
 pub recv_follows : (n nodes a m : ℕ) (h now : List Event) (t after left : BookTotals) (w : Wave) (x : NodeNumbers) → now ≡ event a (receiving a m) ∷ h → a ≡ x.node
-    → after ≡ totals_after x.node (receiving a m) t → left ≡ with_under (after.under - 1) after → 0 < after.under
+    → after ≡ totals_after x.node (receiving a m) t → left ≡ with_under (under_way_after (receiving a m) after.under) after → 0 < after.under
     → IsBoard n nodes h t w → length h < 1048576 → IsBooked x t → x.node < n → IsTrue (any (is_send_to x.node m) (steps_of h)) → IsBoard n nodes now left w
 recv_follows n nodes a m h now t after left w x is is_a is_after is_left some board places booked below sent_before =
     rw (is, is_left, is_after, is_a) (recv_next n nodes m h t w x board places booked below (omega (arith, ap (λ (y : BookTotals). y.under) is_after)) sent_before)

@@ -5,10 +5,10 @@ use Rattle.std.proofs.lemmas.Bool.{eq-eqb, ne_eqb, cases_eq}
 use Rattle.std.proofs.lemmas.Option.{slice_get_within, get_or_from_slice_get}
 use Rattle.tp_base.specs.History.{Event}
 use Rattle.tp_base.specs.declared.step.Step.{Step}
-use Rattle.tp_base.specs.declared.step.Step.TheVariants.{Insert, ActionOpen, Send, Recv, Done}
+use Rattle.tp_base.specs.declared.step.Step.TheVariants.{Insert, ActionOpen, Send, Recv}
 use Rattle.tp_wave.specs.Steps.{count, is_send_of, is_recv_at}
 use Rattle.tp_wave.specs.Machine.{node_of, step_of, steps_of, pending_at, pending_after, under_way, under_way_after, IsOf}
-use Rattle.tp_board.specs.Numbers.{event, is_recv, is_done, sent_after, received_after, done_after}
+use Rattle.tp_ledgers.specs.Numbers.{event, is_done, is_recv, is_send, plus_if}
 use Rattle.tp_board.specs.Counts.{counts_at, counts_after, AreCountsOf, AreFew}
 use Rattle.tp_board.specs.declared.counts.NodeCounts.{NodeCounts}
 use Rattle.tp_board.specs.declared.counts.Counts.{Counts}
@@ -16,11 +16,11 @@ use Rattle.tp_board.specs.declared.counts.Counts.{Counts}
 pending_here : (i : ℕ) (s : Step) (h : List Event) → pending_at i (event i s ∷ h) ≡ pending_after s (pending_at i h)
 pending_here i s h = rw (eq-eqb i i refl) refl
 
-sent_here : (i : ℕ) (s : Step) (past : List Step) → IsOf i s → count (is_send_of i) (s ∷ past) ≡ sent_after s (count (is_send_of i) past)
+sent_here : (i : ℕ) (s : Step) (past : List Step) → IsOf i s → count (is_send_of i) (s ∷ past) ≡ plus_if (is_send s) (count (is_send_of i) past)
 sent_here i (Send a b m) past own = rw (eq-eqb a.0 i own) refl
 sent_here i _ past own = refl
 
-received_here : (i : ℕ) (s : Step) (past : List Step) → IsOf i s → count (is_recv_at i) (s ∷ past) ≡ received_after s (count (is_recv_at i) past)
+received_here : (i : ℕ) (s : Step) (past : List Step) → IsOf i s → count (is_recv_at i) (s ∷ past) ≡ plus_if (is_recv s) (count (is_recv_at i) past)
 received_here i (Recv a m) past own = rw (eq-eqb a.0 i own) refl
 received_here i _ past own = refl
 
@@ -45,14 +45,6 @@ here i s h own = joined _ _ (pending_here i s h) (sent_here i s (steps_of h) own
 -- the counts of another node
 there : (i j : ℕ) (s : Step) (h : List Event) → i ≢ j → IsOf i s → counts_at j (event i s ∷ h) ≡ counts_at j h
 there i j s h apart own = joined _ _ (pending_there i j s h apart) (sent_there i j s (steps_of h) apart own) (received_there i j s (steps_of h) apart own)
-
-received_one : (s : Step) (past : List Step) → count is_recv (s ∷ past) ≡ received_after s (count is_recv past)
-received_one (Recv j m) past = refl
-received_one _ past = refl
-
-done_one : (s : Step) (past : List Step) → count is_done (s ∷ past) ≡ done_after s (count is_done past)
-done_one (Done t) past = refl
-done_one _ past = refl
 
 get_set_other : (xs : List NodeCounts) (i j : ℕ) (x : NodeCounts) → i ≢ j → slice_get (set xs i x) j ≡ slice_get xs j
 get_set_other [] i j x apart = refl
@@ -80,14 +72,14 @@ each h xs i s below own are j less =
 -- one more event
 pub counts_follow : (h : List Event) (old new : Counts) (i : ℕ) (s : Step) → i < 8 → IsOf i s
     → new.nodes ≡ set old.nodes i (counts_after s (slice_index_or old.nodes i (record { pending = 0; sent = 0; received = 0 })))
-    → new.received ≡ received_after s old.received → new.done ≡ done_after s old.done
+    → new.received ≡ plus_if (is_recv s) old.received → new.done ≡ plus_if (is_done s) old.done
     → AreCountsOf h old → AreCountsOf (event i s ∷ h) new
 counts_follow h old new i s below own nodes received done are =
     let was = get_or_from_slice_get old.nodes i (counts_at i h) (record { pending = 0; sent = 0; received = 0 }) (are.nodes i below) in
     record {
       nodes = rw (nodes, was) (each h old.nodes i s below own are.nodes);
-      received = received ∙ ap (received_after s) are.received ∙ sym (received_one s (steps_of h));
-      done = done ∙ ap (done_after s) are.done ∙ sym (done_one s (steps_of h));
+      received = received ∙ ap (plus_if (is_recv s)) are.received;
+      done = done ∙ ap (plus_if (is_done s)) are.done;
     }
 
 pending_step : (s : Step) (p m : ℕ) → p ≤ m → pending_after s p ≤ m + 1

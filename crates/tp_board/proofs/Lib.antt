@@ -2,4 +2,3 @@ pub mod Counting
 pub mod Routing
 pub mod Boards
 pub mod Answering
-pub mod Links

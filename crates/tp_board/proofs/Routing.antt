@@ -11,7 +11,7 @@ use Rattle.tp_base.specs.declared.step.Step.TheVariants.{Send}
 use Rattle.tp_wave.specs.Steps.{any, count}
 use Rattle.tp_wave.specs.Machine.{steps_of, is_send_numbered, is_send_to}
 use Rattle.tp_board.proofs.Counting.{count-le}
-use Rattle.tp_board.specs.Numbers.{is_send}
+use Rattle.tp_ledgers.specs.Numbers.{is_send}
 use Rattle.tp_board.specs.Routes.{IsNumbered, Route, Table, is_route, is_send_between, routes_of}
 use Rattle.tp_board.specs.Counts.{AreCountsOf}
 use Rattle.tp_board.specs.Logs.{IsLog}

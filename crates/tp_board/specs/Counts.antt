@@ -4,7 +4,7 @@ use Rattle.tp_base.specs.History.{Event}
 use Rattle.tp_base.specs.declared.step.Step.{Step}
 use Rattle.tp_wave.specs.Steps.{count, is_send_of, is_recv_at}
 use Rattle.tp_wave.specs.Machine.{steps_of, pending_at, pending_after}
-use Rattle.tp_board.specs.Numbers.{is_recv, is_done, sent_after, received_after}
+use Rattle.tp_ledgers.specs.Numbers.{is_done, is_recv, is_send, plus_if}
 use Rattle.tp_board.specs.declared.counts.NodeCounts.{NodeCounts}
 use Rattle.tp_board.specs.declared.counts.Counts.{Counts}
 
@@ -19,7 +19,7 @@ counts_at i h =
 
 -- the same after one more step of the node
 abbrev pub counts_after : Step → NodeCounts → NodeCounts
-counts_after s c = record { pending = pending_after s c.pending; sent = sent_after s c.sent; received = received_after s c.received }
+counts_after s c = record { pending = pending_after s c.pending; sent = plus_if (is_send s) c.sent; received = plus_if (is_recv s) c.received }
 
 -- One more of each fits.
 pub record AreFew (c : NodeCounts) : Type 0 where

@@ -1,9 +1,8 @@
-pub mod Names
-pub mod Numbers
+pub use Rattle.tp_ledgers.specs.Names
+pub use Rattle.tp_ledgers.specs.Numbers
 pub mod Counts
 pub mod Routes
 pub mod States
 pub mod Logs
-pub mod Pendings
-pub mod Books
+pub mod Boards
 pub mod Judgements

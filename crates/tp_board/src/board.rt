@@ -1,6 +1,7 @@
 ghost use Rattle.std.specs.Prelude.{◌≡◌, ◌==◌, ◌≤◌, ◌<◌, ◌+◌, ◌-◌, ◌∷◌, ℕ, [], length, max, slice_index, IsTrue, IfOk, IsOk, OnErr, OnOk, None};
-ghost use Rattle.tp_board.specs.Names.{under_parts};
-ghost use Rattle.tp_board.specs.Numbers.{AreWithin, event, is_done, is_plain, is_recv, is_send, numbers_after, receiving, sending};
+ghost use Rattle.tp_ledgers.specs.Books.{first_totals};
+ghost use Rattle.tp_ledgers.specs.Names.{under_parts};
+ghost use Rattle.tp_ledgers.specs.Numbers.{AreWithin, event, is_done, is_plain, is_recv, is_send, numbers_after, receiving, sending};
 ghost use Rattle.tp_board.specs.Routes.{is_send_between};
 ghost use Rattle.tp_board.specs.States.{AnswersBy, full_check, with_event, with_fault, with_reserved};
 ghost use Rattle.tp_wave.specs.Machine.{IsOf, IsRun, is_send_to, pending_at, steps_of, under_way};
@@ -8,15 +9,13 @@ ghost use Rattle.tp_wave.specs.Cut.{IsQuiet};
 ghost use Rattle.tp_wave.specs.Steps.{any, count};
 ghost use Rattle.tp_wave.specs.Sums.{is_ended};
 
-use crate::accounts::Accounts;
-use crate::closing::Totals;
+use crate::books::Totals;
 use crate::log::Log;
-use crate::names::{Ledgers, Under};
-use crate::shares::{LinkShare, Parts, Shares};
 use std::alloc::Global;
 use std::marker::Model;
 use std::sync::ledger::Share;
 use tp_base::{History, MessageId, NodeId, Refusal, Step};
+use tp_ledgers::{Accounts, Ledgers, LinkShare, Parts, Shares, Under};
 use tp_wave::Wave;
 
 /// What lies under a pool's board lock: its history, the books of its ledgers, its wave and its first fault.
@@ -33,7 +32,7 @@ pub struct Board<K: Ledgers> {
 }
 
 impl<K: Ledgers> Model for Board<K> {
-    ghost use Rattle.tp_board.specs.Books.{IsBoard};
+    ghost use Rattle.tp_board.specs.Boards.{IsBoard};
     ghost use Rattle.tp_board.specs.States.{BoardState};
 
     ghost Value = { BoardState };
@@ -48,8 +47,7 @@ impl<K: Ledgers> Board<K> {
     pub(crate) fn new(alloc: Global, nodes: u32, limit: u32, accounts: Accounts<K>) -> Board<K>
         requires nodes { (nodes ≡ K.names.nodes) × (1 ≤ nodes) × (nodes ≤ 8) }
         requires limit { limit ≤ 1048576 }
-        requires pending { (i : ℕ) → i < nodes → slice_index accounts.pending i ≡ 1 }
-        requires others { (accounts.sent ≡ 0) × (accounts.received ≡ 0) × (accounts.done ≡ 0) × (accounts.under ≡ 0) × (accounts.judged ≡ 0) }
+        requires accounts { accounts ≡ first_totals }
         ensures { result ≡ record { history = []; limit = limit; reserved = 0; fault = None } }
     {
         Board {
@@ -180,12 +178,12 @@ impl<K: Ledgers> Board<K> {
         self.log.counts(shares.node()).pending
     }
 
-    /// A share of no part and no message.
-    pub(crate) fn no_messages(&mut self) -> Share<Under<K>>
+    /// A share of no link.
+    pub(crate) fn no_links(&mut self) -> Share<Under<K>>
         ensures same { self.new ≡ self.old }
         ensures none { (result.parts ≡ 0) × (result.amount ≡ 0) }
     {
-        self.accounts.no_messages()
+        self.accounts.no_links()
     }
 
     /// The totals, where all shares are gathered.
@@ -266,8 +264,9 @@ impl<K: Ledgers> Board<K> {
         let node = shares.node();
         let to = link.to();
         let message = self.log.add_send(node, to)?;
-        self.accounts.follow(&Step::Send(node, to, message), shares);
-        self.accounts.raise(link);
+        let step = Step::Send(node, to, message);
+        self.accounts.follow(&step, shares);
+        self.accounts.follow_link(&step, link);
         Ok(message)
     }
 
@@ -295,7 +294,7 @@ impl<K: Ledgers> Board<K> {
         let step = Step::Recv(node, message);
         self.log.add(node, step)?;
         self.accounts.follow(&step, shares);
-        self.accounts.lower(link);
+        self.accounts.follow_link(&step, link);
         Ok(())
     }
 }

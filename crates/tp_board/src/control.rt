@@ -1,7 +1,7 @@
 ghost use Rattle.std.specs.Prelude.{◌≡◌, ◌==◌, ◌≤◌, ◌<◌, ◌∷◌, IsTrue, IfOk, IsOk, OnErr, OnOk, None, Some, is_some, if◌then◌else◌};
 ghost use Rattle.tp_base.specs.declared.step.Step.TheVariants as steps;
 ghost use Rattle.tp_board.specs.Judgements.{is_over};
-ghost use Rattle.tp_board.specs.Numbers.{event, node_at};
+ghost use Rattle.tp_ledgers.specs.Numbers.{event, node_at};
 ghost use Rattle.tp_board.specs.States.{AnswersBy, step_checks, visit_checks, with_event};
 ghost use Rattle.tp_wave.specs.Control.{parent};
 ghost use Rattle.tp_wave.specs.Cut.{IsQuiet};
@@ -9,10 +9,9 @@ ghost use Rattle.tp_wave.specs.Machine.{steps_of};
 ghost use Rattle.tp_wave.specs.Sums.{is_ended, judgement, sums_of};
 
 use crate::board::Board;
-use crate::ended::{Ended, Judgement};
-use crate::names::Ledgers;
-use crate::shares::Shares;
+use crate::judgement::Judgement;
 use tp_base::{NodeId, Refusal, Step, Sums};
+use tp_ledgers::{Ended, Ledgers, Shares};
 
 // The steps of the control waves. Each is tried on a copy of the wave, before a place and memory are asked for.
 impl<K: Ledgers> Board<K> {

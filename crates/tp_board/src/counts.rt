@@ -1,7 +1,7 @@
 ghost use Rattle.std.specs.Prelude.{◌≡◌, ◌≤◌, ◌<◌, ◌^◌, ◌∷◌, List, [], length};
 ghost use Rattle.tp_base.specs.History.{Event};
 ghost use Rattle.tp_board.specs.Counts.{AreCountsOf, counts_after, counts_at, AreFew};
-ghost use Rattle.tp_board.specs.Numbers.{event, done_after, received_after};
+ghost use Rattle.tp_ledgers.specs.Numbers.{event, is_done, is_recv, plus_if};
 ghost use Rattle.tp_wave.specs.Machine.{IsOf};
 
 use tp_base::{NodeId, Step};
@@ -98,7 +98,7 @@ impl Counts {
 /// One more where the step receives a message.
 fn count_received(step: &Step, received: u32) -> u32
     requires { received ≤ 1048576 }
-    ensures { result ≡ received_after step.now received }
+    ensures { result ≡ plus_if (is_recv step.now) received }
 {
     match step {
         Step::Recv(..) => received + 1,
@@ -109,7 +109,7 @@ fn count_received(step: &Step, received: u32) -> u32
 /// One more where the step ends a task.
 fn count_done(step: &Step, done: u32) -> u32
     requires { done ≤ 1048576 }
-    ensures { result ≡ done_after step.now done }
+    ensures { result ≡ plus_if (is_done step.now) done }
 {
     match step {
         Step::Done(..) => done + 1,

@@ -1,24 +1,17 @@
-//! The board of a pool: its history, and the ledgers that tie it to what lies under other locks.
+//! The board of a pool: its history, the books of its ledgers, and its wave.
 #![tactic(auto)]
 
-mod accounts;
 mod board;
-mod closing;
+mod books;
 mod control;
 mod counts;
-mod ended;
+mod judgement;
 mod log;
-mod names;
-mod opening;
-mod pending;
 mod routes;
-mod shares;
 #[cfg(test)]
 mod tests;
 
 pub use board::Board;
-pub use closing::{Totals, close_books};
-pub use ended::{Ended, Judgement};
-pub use names::{Brand, Ledgers};
-pub use opening::{Blanks, Books, open_books};
-pub use shares::{LinkShare, Shares};
+pub use books::{Books, Totals, close_books, open_books};
+pub use judgement::Judgement;
+pub use tp_ledgers::{Blanks, Brand, Ended, Ledgers, LinkShare, Shares};

@@ -1,7 +1,7 @@
 ghost use Rattle.std.specs.Prelude.{◌≡◌, ◌∷◌, ◌+◌, ◌≤◌, ◌<◌, [], length, max, IsTrue, IsFalse, IfOk, IsOk, OnErr, OnOk, None};
 ghost use Rattle.tp_base.specs.History.{Event};
 ghost use Rattle.tp_board.specs.Counts.{AreFew, counts_at};
-ghost use Rattle.tp_board.specs.Numbers.{event, is_done, is_recv, is_send, sending};
+ghost use Rattle.tp_ledgers.specs.Numbers.{event, is_done, is_recv, is_send, sending};
 ghost use Rattle.tp_board.specs.Routes.{is_send_between};
 ghost use Rattle.tp_board.specs.States.{AnswersBy, full_check, with_event, with_fault, with_reserved};
 ghost use Rattle.tp_wave.specs.Machine.{IsOf, is_send_numbered, steps_of};

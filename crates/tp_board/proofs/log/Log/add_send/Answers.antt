@@ -1,7 +1,7 @@
 use Rattle.std.proofs.Common.{◌≤◌, ap, ◌∙◌, refl, arith}
 use Rattle.tp_wave.specs.Steps.{count}
 use Rattle.tp_wave.specs.Machine.{steps_of}
-use Rattle.tp_board.specs.Numbers.{is_send}
+use Rattle.tp_ledgers.specs.Numbers.{is_send}
 use Rattle.tp_board.specs.States.{BoardState}
 use Rattle.tp_board.proofs.Routing.{fresh, log_send, log_sends}
 use Rattle.tp_board.proofs.log.Log.add_send.Goals as goal

@@ -1,5 +1,5 @@
 -- The numbers that a node's and a link's shares carry, and how steps move them.
-use Rattle.std.specs.Prelude.{ℕ, ◌+◌, ◌≤◌, ◌==◌, Bool, true, false, not, List, map, filter}
+use Rattle.std.specs.Prelude.{ℕ, ◌+◌, ◌≤◌, ◌==◌, Bool, true, false, not, List, map, filter, if◌then◌else◌}
 use Rattle.std.specs.List.{range_with_len, flat_map}
 use Rattle.tp_base.specs.History.{Event}
 use Rattle.tp_base.specs.declared.ids.NodeId.{NodeId}
@@ -73,17 +73,9 @@ pub record LinkNumbers : Type 0 where
   pub to : ℕ
   pub under : ℕ
 
-abbrev pub sent_after : Step → ℕ → ℕ
-sent_after (Send i j m) n = n + 1
-sent_after _ n = n
-
-abbrev pub received_after : Step → ℕ → ℕ
-received_after (Recv j m) n = n + 1
-received_after _ n = n
-
-abbrev pub done_after : Step → ℕ → ℕ
-done_after (Done t) n = n + 1
-done_after _ n = n
+-- one more, or none
+abbrev pub plus_if : Bool → ℕ → ℕ
+plus_if more n = if more then n + 1 else n
 
 -- a node's numbers after a step of its own
 abbrev pub numbers_after : Step → NodeNumbers → NodeNumbers
@@ -91,9 +83,9 @@ numbers_after s n =
     record {
       node = n.node;
       pending = pending_after s n.pending;
-      sent = sent_after s n.sent;
-      received = received_after s n.received;
-      done = done_after s n.done;
+      sent = plus_if (is_send s) n.sent;
+      received = plus_if (is_recv s) n.received;
+      done = plus_if (is_done s) n.done;
     }
 
 -- a node's numbers at first: its opening action is pending

@@ -1,8 +1,8 @@
 use Rattle.std.specs.Prelude.{◌≡◌, ◌+◌, ◌*◌, ◌≤◌, vec_len, sum_by}
 use Rattle.std.specs.List.{All}
 use Rattle.tp_wave.specs.Machine.{pending_at}
-use Rattle.tp_board.specs.Numbers.{NodeNumbers}
-use Rattle.tp_board.proofs.closing.gather.Given as goal
+use Rattle.tp_ledgers.specs.Numbers.{NodeNumbers}
+use Rattle.tp_board.proofs.books.gather.Given as goal
 
 abbrev pub invariant-loop-next : goal.invariant-loop-next
 invariant-loop-next g l =

@@ -1,17 +1,59 @@
-ghost use Rattle.std.specs.Prelude.{◌≡◌, ◌≤◌, ◌<◌, ◌+◌, ◌-◌, ◌*◌, IsTrue, sum_by, vec_len};
+ghost use Rattle.std.specs.Prelude.{◌≡◌, ◌≤◌, ◌<◌, ◌+◌, ◌-◌, ◌*◌, [], IfErr, IfOk, IsTrue, None, sum_by, vec_len};
 ghost use Rattle.std.specs.List.{All};
-ghost use Rattle.tp_board.specs.Numbers.{is_done, is_recv, is_send};
+ghost use Rattle.tp_base.specs.declared.refusal.Refusal.TheVariants as refusals;
+ghost use Rattle.tp_ledgers.specs.Numbers.{first_links, first_shares, is_done, is_recv, is_send};
 ghost use Rattle.tp_wave.specs.Cut.{IsQuiet};
 ghost use Rattle.tp_wave.specs.Machine.{IsRun, pending_at, steps_of, under_way};
 ghost use Rattle.tp_wave.specs.Steps.{count};
 ghost use Rattle.tp_wave.specs.Sums.{is_ended};
 
 use crate::board::Board;
-use crate::names::{Ledgers, Under};
-use crate::opening::Books;
-use crate::shares::{LinkShare, Parts, Shares};
+use std::alloc::Global;
 use std::sync::ledger::Share;
 use tp_base::{History, Refusal};
+use tp_ledgers::{Blanks, Ledgers, LinkShare, Opened, Parts, Shares, Under};
+
+/// A pool's board, with all shares of its ledgers.
+#[derive(Drop)]
+pub struct Books<K: Ledgers> {
+    /// What lies under the board's lock.
+    pub board: Board<K>,
+    /// The shares of the nodes, in rising order.
+    pub shares: Vec<Shares<K>>,
+    /// The shares of the links, by sender and then by receiver.
+    pub links: Vec<LinkShare<K>>,
+}
+
+/// Opens the ledgers of a pool of so many nodes, with an empty history of at most so many events.
+///
+/// Refused: `NoMemory` where memory has to grow and does not. The ledgers are lost then.
+pub fn open_books<K: Ledgers>(
+    alloc: Global,
+    blanks: Blanks,
+    nodes: u32,
+    limit: u32,
+) -> Result<Books<K>, Refusal>
+    requires names { blanks ≡ K.names }
+    requires nodes { (blanks.nodes ≡ nodes) × (1 ≤ nodes) × (nodes ≤ 8) }
+    requires limit { limit ≤ 1048576 }
+    ensures board { IfOk result (λ b. b.board ≡ record { history = []; limit = limit; reserved = 0; fault = None }) }
+    ensures shares { IfOk result (λ b. b.shares.items ≡ first_shares nodes) }
+    ensures links { IfOk result (λ b. b.links.items ≡ first_links nodes) }
+    ensures each_share { IfOk result (λ b. vec_len b.shares ≡ nodes) }
+    ensures each_link { IfOk result (λ b. vec_len b.links ≡ nodes * (nodes - 1)) }
+    ensures refusal { IfErr result (λ e. e ≡ refusals.NoMemory) }
+{
+    let Opened {
+        accounts,
+        shares,
+        links,
+    } = blanks.open::<K>(alloc, nodes)?;
+    Ok(Books {
+        board: Board::new(alloc, nodes, limit, accounts),
+        shares,
+        links,
+    })
+}
 
 /// What all shares of a pool add up to, and what its board has kept.
 #[derive(Drop)]
@@ -61,7 +103,7 @@ pub fn close_books<K: Ledgers>(books: Books<K>) -> Totals
         unreachable!()
     };
     let (pending, parts) = gather(&mut board, first, shares);
-    let under = gather_links(board.no_messages(), links);
+    let under = gather_links(board.no_links(), links);
     board.close(pending, parts, under)
 }
 

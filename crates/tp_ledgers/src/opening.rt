@@ -1,11 +1,10 @@
-ghost use Rattle.std.specs.Prelude.{◌≡◌, ◌≢◌, ◌≤◌, ◌<◌, ◌+◌, ◌-◌, ◌*◌, ◌++◌, [], IfErr, IfOk, None, OnOk, min, vec_capacity, vec_len};
-ghost use Rattle.std.specs.List.{All};
+ghost use Rattle.std.specs.Prelude.{◌≡◌, ◌≤◌, ◌<◌, ◌+◌, ◌-◌, ◌*◌, ◌++◌, IfErr, IfOk, OnOk, min, vec_capacity, vec_len};
 ghost use Rattle.tp_base.specs.declared.refusal.Refusal.TheVariants as refusals;
-ghost use Rattle.tp_board.specs.Names.{PoolNames, under_parts};
-ghost use Rattle.tp_board.specs.Numbers.{empty_parts, first_links, first_shares, links_of};
+ghost use Rattle.tp_ledgers.specs.Books.{first_totals};
+ghost use Rattle.tp_ledgers.specs.Names.{under_parts};
+ghost use Rattle.tp_ledgers.specs.Numbers.{empty_parts, first_links, first_shares, links_of};
 
 use crate::accounts::Accounts;
-use crate::board::Board;
 use crate::ended::Keeper;
 use crate::names::{Done, Ledgers, Received, Sent, Under};
 use crate::pending::{FirstPending, PendingBlanks, PendingOf};
@@ -28,7 +27,7 @@ pub struct Blanks {
 
 impl Model for Blanks {
     ghost use Rattle.std.specs.Prelude.{◌≡◌};
-    ghost use Rattle.tp_board.specs.Names.{PoolNames, under_parts};
+    ghost use Rattle.tp_ledgers.specs.Names.{PoolNames, under_parts};
 
     ghost Value = { PoolNames };
 
@@ -53,72 +52,58 @@ impl Blanks {
             judged: Blank::new(1),
         }
     }
+
+    /// Opens the ledgers, where each node's opening action is pending.
+    ///
+    /// Refused: `NoMemory` where memory has to grow and does not. The ledgers are lost then.
+    pub fn open<K: Ledgers>(self, alloc: Global, nodes: u32) -> Result<Opened<K>, Refusal>
+        requires names { self ≡ K.names }
+        requires nodes { (self.nodes ≡ nodes) × (1 ≤ nodes) × (nodes ≤ 8) }
+        ensures accounts { IfOk result (λ o. o.accounts ≡ first_totals) }
+        ensures shares { IfOk result (λ o. o.shares.items ≡ first_shares nodes) }
+        ensures links { IfOk result (λ o. o.links.items ≡ first_links nodes) }
+        ensures each_share { IfOk result (λ o. vec_len o.shares ≡ nodes) }
+        ensures each_link { IfOk result (λ o. vec_len o.links ≡ nodes * (nodes - 1)) }
+        ensures refusal { IfErr result (λ e. e ≡ refusals.NoMemory) }
+    {
+        let (pending, first) = self.pending.open::<K>();
+        let (sent_book, sent) = self.sent.open::<Sent<K>>();
+        let (received_book, received) = self.received.open::<Received<K>>();
+        let (done_book, done) = self.done.open::<Done<K>>();
+        let (under_book, mut under) = self.under.open::<Under<K>>();
+        let keeper = Keeper::open(self.judged);
+        let parts = Parts {
+            sent,
+            received,
+            done,
+        };
+        let shares = open_shares(alloc, first, parts, nodes)?;
+        let links = open_links(alloc, &mut under, nodes)?;
+        Ok(Opened {
+            accounts: Accounts::new(
+                pending,
+                sent_book,
+                received_book,
+                done_book,
+                under_book,
+                under,
+                keeper,
+            ),
+            shares,
+            links,
+        })
+    }
 }
 
-/// A pool's board, with all shares of its ledgers.
+/// The books of a pool's ledgers, with all shares.
 #[derive(Drop)]
-pub struct Books<K: Ledgers> {
-    /// What lies under the board's lock.
-    pub board: Board<K>,
+pub struct Opened<K: Ledgers> {
+    /// The books.
+    pub accounts: Accounts<K>,
     /// The shares of the nodes, in rising order.
     pub shares: Vec<Shares<K>>,
     /// The shares of the links, by sender and then by receiver.
     pub links: Vec<LinkShare<K>>,
-}
-
-/// Opens the ledgers of a pool of so many nodes, with an empty history of at most so many events.
-///
-/// Refused: `NoMemory` where memory has to grow and does not. The ledgers are lost then.
-pub fn open_books<K: Ledgers>(
-    alloc: Global,
-    blanks: Blanks,
-    nodes: u32,
-    limit: u32,
-) -> Result<Books<K>, Refusal>
-    requires names { blanks ≡ K.names }
-    requires nodes { (blanks.nodes ≡ nodes) × (1 ≤ nodes) × (nodes ≤ 8) }
-    requires limit { limit ≤ 1048576 }
-    ensures board { IfOk result (λ b. b.board ≡ record { history = []; limit = limit; reserved = 0; fault = None }) }
-    ensures shares { IfOk result (λ b. b.shares.items ≡ first_shares nodes) }
-    ensures links { IfOk result (λ b. b.links.items ≡ first_links nodes) }
-    ensures each_share { IfOk result (λ b. vec_len b.shares ≡ nodes) }
-    ensures each_link { IfOk result (λ b. vec_len b.links ≡ nodes * (nodes - 1)) }
-    ensures refusal { IfErr result (λ e. e ≡ refusals.NoMemory) }
-{
-    let Blanks {
-        pending,
-        sent,
-        received,
-        done,
-        under,
-        judged,
-    } = blanks;
-    let (pending_books, pending) = pending.open::<K>();
-    let (sent_book, sent) = sent.open::<Sent<K>>();
-    let (received_book, received) = received.open::<Received<K>>();
-    let (done_book, done) = done.open::<Done<K>>();
-    let (under_book, mut under) = under.open::<Under<K>>();
-    let parts = Parts {
-        sent,
-        received,
-        done,
-    };
-    let shares = open_shares(alloc, pending, parts, nodes)?;
-    let links = open_links(alloc, &mut under, nodes)?;
-    let accounts = Accounts::new(
-        pending_books,
-        sent_book,
-        received_book,
-        done_book,
-        under_book,
-        under,
-        Keeper::open(judged),
-    );
-    Ok(Books {
-        board: Board::new(alloc, nodes, limit, accounts),
-        shares,
-        links,
-    })
 }
 
 /// The first shares of the nodes.

@@ -3,7 +3,7 @@ use Rattle.std.proofs.lemmas.Grind.{common_steps}
 use Rattle.tp_wave.specs.Machine.{pending_at}
 use Rattle.tp_board.specs.States.{BoardState}
 use Rattle.tp_board.proofs.Boards.{agree_last}
-use Rattle.tp_board.proofs.closing.gather.Goals as goal
+use Rattle.tp_board.proofs.books.gather.Goals as goal
 
 pub loop-next-preserved : goal.loop-next-preserved
 loop-next-preserved g c =

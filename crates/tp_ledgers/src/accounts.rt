@@ -1,17 +1,18 @@
-ghost use Rattle.std.specs.Prelude.{◌≡◌, ◌≤◌, ◌<◌, ◌+◌, ◌-◌, ◌∷◌, [], IsFalse, IsTrue, ◌↔◌};
-ghost use Rattle.tp_board.specs.Books.{IsBooked, totals_after, with_judged, with_under};
-ghost use Rattle.tp_board.specs.Names.{under_parts};
-ghost use Rattle.tp_board.specs.Numbers.{done_after, is_plain, is_recv, numbers_after, received_after, sent_after};
+ghost use Rattle.std.specs.Prelude.{◌≡◌, ◌≤◌, ◌<◌, ◌+◌, ◌↔◌, IsFalse, IsTrue};
+ghost use Rattle.tp_ledgers.specs.Books.{IsBooked, totals_after, with_judged, with_under};
+ghost use Rattle.tp_ledgers.specs.Names.{under_parts};
+ghost use Rattle.tp_ledgers.specs.Numbers.{is_done, is_recv, is_send, numbers_after, plus_if};
+ghost use Rattle.tp_wave.specs.Machine.{under_way_after};
 
 use crate::ended::{Ended, Keeper};
 use crate::names::{Done, Ledgers, Received, Sent, Under};
 use crate::pending::PendingBooks;
 use crate::shares::{LinkShare, Parts, Shares};
 use std::marker::Model;
-use std::sync::ledger::{Book, Share};
+use std::sync::ledger::{Book, Ledger, Share};
 use tp_base::Step;
 
-/// The books of a pool's ledgers, with the board's own share. Contracts see their totals.
+/// The books of a pool's ledgers, with the share that stays with them. Contracts see their totals.
 #[derive(Drop)]
 pub struct Accounts<K: Ledgers> {
     pending: PendingBooks<K>,
@@ -25,7 +26,7 @@ pub struct Accounts<K: Ledgers> {
 
 impl<K: Ledgers> Model for Accounts<K> {
     ghost use Rattle.std.specs.Prelude.{◌≡◌};
-    ghost use Rattle.tp_board.specs.Books.{BookTotals};
+    ghost use Rattle.tp_ledgers.specs.Books.{BookTotals};
 
     ghost Value = { BookTotals };
 
@@ -36,7 +37,7 @@ impl<K: Ledgers> Model for Accounts<K> {
 
 impl<K: Ledgers> Accounts<K> {
     /// The books of new ledgers.
-    pub fn new(
+    pub(crate) fn new(
         pending: PendingBooks<K>,
         sent: Book<Sent<K>>,
         received: Book<Received<K>>,
@@ -97,28 +98,24 @@ impl<K: Ledgers> Accounts<K> {
     {
         self.audit(shares);
         shares.pending.follow(&mut self.pending, step);
-        follow_sent(&mut self.sent, &mut shares.sent, step);
-        follow_received(&mut self.received, &mut shares.received, step);
-        follow_done(&mut self.done, &mut shares.done, step);
+        add_if(&mut self.sent, &mut shares.sent, sends(step));
+        add_if(&mut self.received, &mut shares.received, receives(step));
+        add_if(&mut self.done, &mut shares.done, ends_task(step));
     }
 
-    /// One message more is under way on a link.
-    pub fn raise(&mut self, link: &mut LinkShare<K>)
-        ensures books { self.new ≡ with_under (self.old.under + 1) self.old }
-        ensures link { link.new ≡ record link.old { under = link.old.under + 1 } }
+    /// Moves a link's number and its book as a step does that sends or receives over it.
+    pub fn follow_link(&mut self, step: &Step, link: &mut LinkShare<K>)
+        requires { IsTrue (is_recv step.now) → 0 < link.old.under }
+        ensures told { link.old.under ≤ self.old.under }
+        ensures books { self.new ≡ with_under (under_way_after step.now self.old.under) self.old }
+        ensures link { link.new ≡ record link.old { under = under_way_after step.now link.old.under } }
     {
-        self.under.add(&mut link.under, 1);
-    }
-
-    /// One message less is under way on a link.
-    pub fn lower(&mut self, link: &mut LinkShare<K>)
-        requires { 0 < link.old.under }
-        ensures some { 0 < self.old.under }
-        ensures books { self.new ≡ with_under (self.old.under - 1) self.old }
-        ensures link { link.new ≡ record link.old { under = link.old.under - 1 } }
-    {
-        self.under.audit(&mut link.under);
-        self.under.sub(&mut link.under, 1);
+        self.audit_link(link);
+        match step {
+            Step::Send(..) => self.under.add(&mut link.under, 1),
+            Step::Recv(..) => self.under.sub(&mut link.under, 1),
+            _ => {}
+        }
     }
 
     /// Hands out the token of the end.
@@ -137,8 +134,8 @@ impl<K: Ledgers> Accounts<K> {
         self.keeper.is_out()
     }
 
-    /// A share of no part and no message.
-    pub fn no_messages(&mut self) -> Share<Under<K>>
+    /// A share of no link.
+    pub fn no_links(&mut self) -> Share<Under<K>>
         ensures same { self.new ≡ self.old }
         ensures none { (result.parts ≡ 0) × (result.amount ≡ 0) }
     {
@@ -177,45 +174,32 @@ impl<K: Ledgers> Accounts<K> {
     }
 }
 
-/// Moves a node's share of the messages sent, and its book, as a step does.
-fn follow_sent<K: Ledgers>(book: &mut Book<Sent<K>>, share: &mut Share<Sent<K>>, step: &Step)
+/// One more in a share and its book, or none.
+fn add_if<L: Ledger>(book: &mut Book<L>, share: &mut Share<L>, more: bool)
     requires { 0 < share.old.parts }
-    ensures book { book.new.total ≡ sent_after step.now book.old.total }
-    ensures amount { share.new.amount ≡ sent_after step.now share.old.amount }
+    ensures book { book.new.total ≡ plus_if more book.old.total }
+    ensures amount { share.new.amount ≡ plus_if more share.old.amount }
     ensures parts { share.new.parts ≡ share.old.parts }
 {
-    match step {
-        Step::Send(..) => book.add(share, 1),
-        _ => book.audit(share),
+    if more {
+        book.add(share, 1);
     }
 }
 
-/// The same for the messages received.
-fn follow_received<K: Ledgers>(
-    book: &mut Book<Received<K>>,
-    share: &mut Share<Received<K>>,
-    step: &Step,
-)
-    requires { 0 < share.old.parts }
-    ensures book { book.new.total ≡ received_after step.now book.old.total }
-    ensures amount { share.new.amount ≡ received_after step.now share.old.amount }
-    ensures parts { share.new.parts ≡ share.old.parts }
+fn sends(step: &Step) -> bool
+    ensures { result ≡ is_send step.now }
 {
-    match step {
-        Step::Recv(..) => book.add(share, 1),
-        _ => book.audit(share),
-    }
+    matches!(step, Step::Send(..))
 }
 
-/// The same for the tasks done.
-fn follow_done<K: Ledgers>(book: &mut Book<Done<K>>, share: &mut Share<Done<K>>, step: &Step)
-    requires { 0 < share.old.parts }
-    ensures book { book.new.total ≡ done_after step.now book.old.total }
-    ensures amount { share.new.amount ≡ done_after step.now share.old.amount }
-    ensures parts { share.new.parts ≡ share.old.parts }
+fn receives(step: &Step) -> bool
+    ensures { result ≡ is_recv step.now }
 {
-    match step {
-        Step::Done(..) => book.add(share, 1),
-        _ => book.audit(share),
-    }
+    matches!(step, Step::Recv(..))
+}
+
+fn ends_task(step: &Step) -> bool
+    ensures { result ≡ is_done step.now }
+{
+    matches!(step, Step::Done(..))
 }

@@ -1,11 +1,11 @@
 ghost use Rattle.std.specs.Prelude.{◌≡◌, ◌≤◌, ℕ, ◌+◌, ◌-◌, ◌*◌, ◌<◌, IsFalse, [], ◌∷◌, slice_index, slice_set, length};
-ghost use Rattle.tp_board.specs.Names.{pending_name};
-ghost use Rattle.tp_board.specs.Numbers.{first_pending, is_recv};
+ghost use Rattle.tp_ledgers.specs.Names.{pending_name};
+ghost use Rattle.tp_ledgers.specs.Numbers.{first_pending, is_recv};
 ghost use Rattle.tp_wave.specs.Machine.{pending_after};
 
 use crate::names::{Ledgers, Pending};
 use std::marker::Model;
-use std::sync::ledger::{Blank, Book, Share};
+use std::sync::ledger::{Blank, Book, Ledger, Share};
 use tp_base::Step;
 
 /// The books of the pending ledgers. Contracts see their totals.
@@ -49,11 +49,11 @@ pub struct PendingOf<K: Ledgers> {
 }
 
 impl<K: Ledgers> Model for PendingOf<K> {
-    ghost use Rattle.tp_board.specs.Numbers.{PendingNumber};
+    ghost use Rattle.tp_ledgers.specs.Numbers.{PendingNumber};
 
     ghost Value = { PendingNumber };
 
-    ghost use Rattle.tp_board.specs.Pendings.{pending_number, IsWhole};
+    ghost use Rattle.tp_ledgers.specs.Pendings.{pending_number, IsWhole};
 
     ghost view = { λ s. pending_number s.share };
 
@@ -79,10 +79,9 @@ impl<K: Ledgers> PendingOf<K> {
 
     /// Changes nothing, and tells that the book has the amount.
     pub fn audit(&mut self, books: &mut PendingBooks<K>)
-        ensures same { self.new ≡ self.old }
-        ensures books { books.new ≡ books.old }
+        ensures same { (self.new ≡ self.old) × (books.new ≡ books.old) }
+        ensures known { self.old.node < length books.old }
         ensures told { self.old.amount ≡ slice_index books.old self.old.node }
-        ensures node { self.old.node < length books.old }
     {
         match &mut self.share {
             PendingShare::Node0(share) => books.book_0.audit(share),
@@ -96,53 +95,39 @@ impl<K: Ledgers> PendingOf<K> {
         }
     }
 
-    /// One more, in the share and in its book.
-    pub fn raise(&mut self, books: &mut PendingBooks<K>)
-        ensures share { self.new ≡ record { node = self.old.node; amount = self.old.amount + 1 } }
-        ensures books { books.new ≡ slice_set books.old self.old.node (slice_index books.old self.old.node + 1) }
-    {
-        match &mut self.share {
-            PendingShare::Node0(share) => books.book_0.add(share, 1),
-            PendingShare::Node1(share) => books.book_1.add(share, 1),
-            PendingShare::Node2(share) => books.book_2.add(share, 1),
-            PendingShare::Node3(share) => books.book_3.add(share, 1),
-            PendingShare::Node4(share) => books.book_4.add(share, 1),
-            PendingShare::Node5(share) => books.book_5.add(share, 1),
-            PendingShare::Node6(share) => books.book_6.add(share, 1),
-            PendingShare::Node7(share) => books.book_7.add(share, 1),
-        }
-    }
-
-    /// One less, in the share and in its book.
-    pub fn lower(&mut self, books: &mut PendingBooks<K>)
-        requires { 0 < self.old.amount }
-        ensures share { self.new ≡ record { node = self.old.node; amount = self.old.amount - 1 } }
-        ensures books { books.new ≡ slice_set books.old self.old.node (slice_index books.old self.old.node - 1) }
-    {
-        match &mut self.share {
-            PendingShare::Node0(share) => books.book_0.sub(share, 1),
-            PendingShare::Node1(share) => books.book_1.sub(share, 1),
-            PendingShare::Node2(share) => books.book_2.sub(share, 1),
-            PendingShare::Node3(share) => books.book_3.sub(share, 1),
-            PendingShare::Node4(share) => books.book_4.sub(share, 1),
-            PendingShare::Node5(share) => books.book_5.sub(share, 1),
-            PendingShare::Node6(share) => books.book_6.sub(share, 1),
-            PendingShare::Node7(share) => books.book_7.sub(share, 1),
-        }
-    }
-
     /// Moves the share and its book as a step of the node does.
     pub fn follow(&mut self, books: &mut PendingBooks<K>, step: &Step)
         requires active { IsFalse (is_recv step.now) → 0 < self.old.amount }
         ensures share { self.new ≡ record { node = self.old.node; amount = pending_after step.now self.old.amount } }
         ensures books { books.new ≡ slice_set books.old self.old.node (pending_after step.now (slice_index books.old self.old.node)) }
     {
-        match step {
-            Step::Insert(..) | Step::ActionOpen(..) | Step::Recv(..) => self.raise(books),
-            Step::Done(..) | Step::ActionClose(..) | Step::Ready(..) | Step::MessageEnd(..) =>
-                self.lower(books),
-            _ => self.audit(books),
+        match &mut self.share {
+            PendingShare::Node0(share) => follow_one(&mut books.book_0, share, step),
+            PendingShare::Node1(share) => follow_one(&mut books.book_1, share, step),
+            PendingShare::Node2(share) => follow_one(&mut books.book_2, share, step),
+            PendingShare::Node3(share) => follow_one(&mut books.book_3, share, step),
+            PendingShare::Node4(share) => follow_one(&mut books.book_4, share, step),
+            PendingShare::Node5(share) => follow_one(&mut books.book_5, share, step),
+            PendingShare::Node6(share) => follow_one(&mut books.book_6, share, step),
+            PendingShare::Node7(share) => follow_one(&mut books.book_7, share, step),
         }
+    }
+}
+
+/// Moves a share that is the whole of its ledger, and its book, as a step moves a pending number.
+fn follow_one<L: Ledger>(book: &mut Book<L>, share: &mut Share<L>, step: &Step)
+    requires whole { (share.old.parts ≡ 1) × (L.parts ≡ 1) }
+    requires active { IsFalse (is_recv step.now) → 0 < share.old.amount }
+    ensures book { book.new.total ≡ pending_after step.now book.old.total }
+    ensures amount { share.new.amount ≡ pending_after step.now share.old.amount }
+    ensures parts { share.new.parts ≡ share.old.parts }
+{
+    match step {
+        Step::Insert(..) | Step::ActionOpen(..) | Step::Recv(..) => book.add(share, 1),
+        Step::Done(..) | Step::ActionClose(..) | Step::Ready(..) | Step::MessageEnd(..) => book.sub(
+            share, 1,
+        ),
+        _ => book.audit(share),
     }
 }
 
