@@ -1,7 +1,7 @@
 ghost use Rattle.std.specs.Prelude.{◌≡◌, ◌≤◌, ◌<◌, ◌+◌, ◌-◌, ◌*◌, [], IfErr, IfOk, IsTrue, None, sum_by, vec_len};
 ghost use Rattle.std.specs.List.{All};
 ghost use Rattle.tp_base.specs.declared.refusal.Refusal.TheVariants as refusals;
-ghost use Rattle.tp_ledgers.specs.Numbers.{first_links, first_shares, is_done, is_recv, is_send};
+ghost use Rattle.tp_ledgers.specs.Numbers.{first_links, first_numbers, first_shares, is_done, is_recv, is_send};
 ghost use Rattle.tp_wave.specs.Cut.{IsQuiet};
 ghost use Rattle.tp_wave.specs.Machine.{IsRun, pending_at, steps_of, under_way};
 ghost use Rattle.tp_wave.specs.Steps.{count};
@@ -39,6 +39,8 @@ pub fn open_books<K: Ledgers>(
     ensures board { IfOk result (λ b. b.board ≡ record { history = []; limit = limit; reserved = 0; fault = None }) }
     ensures shares { IfOk result (λ b. b.shares.items ≡ first_shares nodes) }
     ensures links { IfOk result (λ b. b.links.items ≡ first_links nodes) }
+    ensures all_first { IfOk result (λ b. All (λ s. s ≡ first_numbers s.node) b.shares.items) }
+    ensures all_empty { IfOk result (λ b. All (λ l. l.under ≡ 0) b.links.items) }
     ensures each_share { IfOk result (λ b. vec_len b.shares ≡ nodes) }
     ensures each_link { IfOk result (λ b. vec_len b.links ≡ nodes * (nodes - 1)) }
     ensures refusal { IfErr result (λ e. e ≡ refusals.NoMemory) }
