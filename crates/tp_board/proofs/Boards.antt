@@ -1,0 +1,190 @@
+-- A board, one event further.
+use Rattle.std.proofs.Common.{ℕ, ◌+◌, ◌-◌, ◌≡◌, ◌≢◌, ◌<◌, ◌≤◌, List, [], ◌∷◌, ◌++◌, length, Bool, IsTrue, refl, sym, ap, subst, ◌∙◌, arith, Some, inl, inr}
+use Rattle.std.specs.Prelude.{IsFalse, slice_index, slice_set, if◌then◌else◌}
+use Rattle.std.proofs.lemmas.Bool.{eq-eqb, ne_eqb, cases_eq}
+use Rattle.std.proofs.lemmas.Bool.Decides.{nat_tests}
+use Rattle.std.specs.List.{All}
+use Rattle.std.proofs.lemmas.List.Elements.{All-append, All-cons}
+use Rattle.std.proofs.lemmas.List.{get_or-set_same, get_or-set_other}
+use Rattle.tp_base.specs.History.{Event}
+use Rattle.tp_base.specs.declared.step.Step.{Step}
+use Rattle.tp_base.specs.declared.step.Step.TheVariants.{Insert, ActionOpen, Send, Recv, Done, Start, Down, Give, Up, Judge}
+use Rattle.tp_wave.specs.Steps.{any, count, is_start}
+use Rattle.tp_base.specs.declared.Sums.{Sums}
+use Rattle.tp_wave.specs.Sums.{is_ended, judgement, waves}
+use Rattle.tp_wave.specs.Wave.{Follows, started}
+use Rattle.tp_wave.specs.Control.{is_control}
+use Rattle.tp_wave.specs.Cut.{IsQuiet}
+use Rattle.tp_wave.proofs.Judged.{judged_law}
+use Rattle.tp_wave.specs.Machine.{node_of, step_of, steps_of, pending_at, pending_after, under_way, under_way_after, IsOf, IsRun, Needs, is_send_numbered, is_send_to}
+use Rattle.tp_wave.proofs.Given.{pool_step}
+use Rattle.tp_wave.specs.declared.wave.Wave.{Wave}
+use Rattle.tp_ledgers.specs.Numbers.{AreWithin, NodeNumbers, event, is_done, is_plain, is_recv, is_send, numbers_after, plus_if, receiving, sending}
+use Rattle.tp_ledgers.specs.Books.{BookTotals, IsBooked, totals_after, with_under}
+use Rattle.tp_board.specs.Boards.{IsBoard, ended_number}
+use Rattle.tp_board.proofs.Counting.{count-le, pending_at-le}
+
+pool_ended : (n : ℕ) (s : Step) (past : List Step) → IsFalse (is_control s) → is_ended n (s ∷ past) ≡ is_ended n past
+pool_ended n Judge past pool = absurd cc
+pool_ended n _ past pool = refl
+
+pending_next : (h : List Event) (pending : List ℕ) (i j : ℕ) (s : Step) → i < length pending → slice_index pending i ≡ pending_at i h → slice_index pending j ≡ pending_at j h
+    → slice_index (slice_set pending i (pending_after s (slice_index pending i))) j ≡ pending_at j (event i s ∷ h)
+pending_next h pending i j s room here there =
+    let P : ℕ → Type 0 = λ k. slice_index (slice_set pending i (pending_after s (slice_index pending i))) k ≡ pending_at k (event i s ∷ h) in
+    elim (cases_eq i j) [
+      | inl e ↦ subst P e (rw (eq-eqb i i refl) (get_or-set_same pending i (pending_after s (slice_index pending i)) 0 room ∙ ap (pending_after s) here))
+      | inr apart ↦ rw (ne_eqb i j apart) (get_or-set_other pending i j (pending_after s (slice_index pending i)) 0 (λ e. apart (sym e)) ∙ there)
+    ]
+
+-- after a step of the pool
+pub pool_next : (n nodes : ℕ) (h : List Event) (t : BookTotals) (w : Wave) (i under : ℕ) (s : Step) → IsBoard n nodes h t w → length h < 1048576 → i < n → i < length t.pending → IsOf i s → IsFalse (is_control s)
+    → Needs n h i s → under ≡ under_way_after s t.under → IsBoard n nodes (event i s ∷ h) (with_under under (totals_after i s t)) w
+pool_next n nodes h t w i under s board places below room own pool needs moved =
+    record {
+      nodes_are = board.nodes_are;
+      some = board.some;
+      few = board.few;
+      short = omega arith;
+      run = (record { known = below; beside = own; needed = needs; control = λ c. absurd (cc (c, pool)) }, board.run);
+      pending = λ j less. pending_next h t.pending i j s room (board.pending i below) (board.pending j less);
+      sent = ap (plus_if (is_send s)) board.sent;
+      received = ap (plus_if (is_recv s)) board.received;
+      done = ap (plus_if (is_done s)) board.done;
+      under = moved ∙ ap (under_way_after s) board.under;
+      judged = board.judged ∙ ap (λ (b : Bool). if b then 1 else 0) (sym (pool_ended n s (steps_of h) pool));
+      follows = pool_step n (steps_of h) s w pool board.follows;
+    }
+
+-- a node's numbers are no more than the history's events
+pub within : (n nodes : ℕ) (h : List Event) (t : BookTotals) (w : Wave) (x : NodeNumbers) → IsBoard n nodes h t w → IsBooked x t → x.node < n → AreWithin (length h) x
+within n nodes h t w x board booked below =
+    record {
+      pending = omega (arith, booked.pending, board.pending x.node below, pending_at-le x.node h);
+      sent = omega (arith, booked.sent, board.sent, count-le is_send h);
+      received = omega (arith, booked.received, board.received, count-le is_recv h);
+      done = omega (arith, booked.done, board.done, count-le is_done h);
+    }
+
+one_step : (most : ℕ) (x : NodeNumbers) (s : Step) → AreWithin most x → AreWithin (most + 1) (numbers_after s x)
+one_step most x (Insert i t k) are = record { pending = omega (arith, are.pending); sent = omega (arith, are.sent); received = omega (arith, are.received); done = omega (arith, are.done) }
+one_step most x (ActionOpen i a) are = record { pending = omega (arith, are.pending); sent = omega (arith, are.sent); received = omega (arith, are.received); done = omega (arith, are.done) }
+one_step most x (Send i j m) are = record { pending = omega (arith, are.pending); sent = omega (arith, are.sent); received = omega (arith, are.received); done = omega (arith, are.done) }
+one_step most x (Recv j m) are = record { pending = omega (arith, are.pending); sent = omega (arith, are.sent); received = omega (arith, are.received); done = omega (arith, are.done) }
+one_step most x (Done t) are = record { pending = omega (arith, are.pending); sent = omega (arith, are.sent); received = omega (arith, are.received); done = omega (arith, are.done) }
+one_step most x _ are = record { pending = omega (arith, are.pending); sent = omega (arith, are.sent); received = omega (arith, are.received); done = omega (arith, are.done) }
+
+-- nor after one more
+pub within_next : (n nodes : ℕ) (h : List Event) (t : BookTotals) (w : Wave) (x : NodeNumbers) (s : Step) → IsBoard n nodes h t w → IsBooked x t → x.node < n → length h < 1048576
+    → AreWithin 1048576 (numbers_after s x)
+within_next n nodes h t w x s board booked below short =
+    let are = one_step (length h) x s (within n nodes h t w x board booked below) in
+    record {
+      pending = omega (arith, are.pending);
+      sent = omega (arith, are.sent);
+      received = omega (arith, are.received);
+      done = omega (arith, are.done);
+    }
+
+plain_is_pool : (s : Step) → IsTrue (is_plain s) → IsFalse (is_control s)
+plain_is_pool Start plain = absurd cc
+plain_is_pool (Down i) plain = absurd cc
+plain_is_pool (Give i) plain = absurd cc
+plain_is_pool (Up i) plain = absurd cc
+plain_is_pool Judge plain = absurd cc
+plain_is_pool _ plain = refl
+
+plain_needs : (n : ℕ) (h : List Event) (i : ℕ) (s : Step) → IsTrue (is_plain s) → 0 < pending_at i h → Needs n h i s
+plain_needs n h i (Send a b m) plain active = absurd cc
+plain_needs n h i (Recv a m) plain active = absurd cc
+plain_needs n h i Start plain active = absurd cc
+plain_needs n h i (Down a) plain active = absurd cc
+plain_needs n h i (Give a) plain active = absurd cc
+plain_needs n h i (Up a) plain active = absurd cc
+plain_needs n h i Judge plain active = absurd cc
+plain_needs n h i _ plain active = active
+
+plain_under : (s : Step) (under : ℕ) → IsTrue (is_plain s) → under ≡ under_way_after s under
+plain_under (Send i j m) under plain = absurd cc
+plain_under (Recv j m) under plain = absurd cc
+plain_under _ under plain = refl
+
+-- after a step that moves no message
+pub plain_next : (n nodes : ℕ) (h : List Event) (t : BookTotals) (w : Wave) (x : NodeNumbers) (s : Step) → IsBoard n nodes h t w → length h < 1048576 → IsBooked x t → x.node < n
+    → IsTrue (is_plain s) → IsOf x.node s → 0 < x.pending → IsBoard n nodes (event x.node s ∷ h) (totals_after x.node s t) w
+plain_next n nodes h t w x s board places booked below plain own active =
+    let needs = plain_needs n h x.node s plain (omega (arith, booked.pending, board.pending x.node below)) in
+    pool_next n nodes h t w x.node t.under s board places below booked.known own (plain_is_pool s plain) needs (plain_under s t.under plain)
+
+-- the same, as the values come from calls
+pub plain_follows : (n nodes a : ℕ) (h now : List Event) (t after : BookTotals) (w : Wave) (x : NodeNumbers) (s : Step) → now ≡ event a s ∷ h → a ≡ x.node → after ≡ totals_after x.node s t
+    → IsBoard n nodes h t w → length h < 1048576 → IsBooked x t → x.node < n → IsTrue (is_plain s) × IsOf x.node s × (0 < x.pending) → IsBoard n nodes now after w
+plain_follows n nodes a h now t after w x s is is_a is_after board places booked below lawful =
+    rw (is, is_a, is_after) (plain_next n nodes h t w x s board places booked below lawful.0 lawful.1 lawful.2)
+
+send_next : (n nodes b m : ℕ) (h : List Event) (t : BookTotals) (w : Wave) (x : NodeNumbers) → IsBoard n nodes h t w → length h < 1048576 → IsBooked x t → x.node < n → b < n → x.node ≢ b → 0 < x.pending
+    → IsFalse (any (is_send_numbered m) (steps_of h)) → IsBoard n nodes (event x.node (sending x.node b m) ∷ h) (with_under (t.under + 1) (totals_after x.node (sending x.node b m) t)) w
+send_next n nodes b m h t w x board places booked below there apart active fresh =
+    let needs : Needs n h x.node (sending x.node b m) = (omega (arith, booked.pending, board.pending x.node below), there, (λ e. apart (sym e)), fresh) in
+    pool_next n nodes h t w x.node (t.under + 1) (sending x.node b m) board places below booked.known refl refl needs refl
+
+recv_next : (n nodes m : ℕ) (h : List Event) (t : BookTotals) (w : Wave) (x : NodeNumbers) → IsBoard n nodes h t w → length h < 1048576 → IsBooked x t → x.node < n → 0 < t.under
+    → IsTrue (any (is_send_to x.node m) (steps_of h)) → IsBoard n nodes (event x.node (receiving x.node m) ∷ h) (with_under (t.under - 1) (totals_after x.node (receiving x.node m) t)) w
+recv_next n nodes m h t w x board places booked below some sent_before =
+    let needs : Needs n h x.node (receiving x.node m) = (omega (arith, board.under), sent_before) in
+    pool_next n nodes h t w x.node (t.under - 1) (receiving x.node m) board places below booked.known refl refl needs refl
+
+-- after the sending of a message
+pub send_follows : (n nodes a b j m : ℕ) (h now : List Event) (t after sent : BookTotals) (w : Wave) (x : NodeNumbers) → now ≡ event a (sending a b m) ∷ h → a ≡ x.node → b ≡ j
+    → after ≡ totals_after x.node (sending a b m) t → sent ≡ with_under (under_way_after (sending a b m) after.under) after
+    → IsBoard n nodes h t w → length h < 1048576 → IsBooked x t → x.node < n → j < n → x.node ≢ j → 0 < x.pending → IsFalse (any (is_send_numbered m) (steps_of h)) → IsBoard n nodes now sent w
+send_follows n nodes a b j m h now t after sent w x is is_a is_b is_after is_sent board places booked below there apart active fresh =
+    rw (is, is_sent, is_after, is_a, is_b) (send_next n nodes j m h t w x board places booked below there apart active fresh)
+
+-- after the receipt of a message
+pub recv_follows : (n nodes a m : ℕ) (h now : List Event) (t after left : BookTotals) (w : Wave) (x : NodeNumbers) → now ≡ event a (receiving a m) ∷ h → a ≡ x.node
+    → after ≡ totals_after x.node (receiving a m) t → left ≡ with_under (under_way_after (receiving a m) after.under) after → 0 < after.under
+    → IsBoard n nodes h t w → length h < 1048576 → IsBooked x t → x.node < n → IsTrue (any (is_send_to x.node m) (steps_of h)) → IsBoard n nodes now left w
+recv_follows n nodes a m h now t after left w x is is_a is_after is_left some board places booked below sent_before =
+    rw (is, is_left, is_after, is_a) (recv_next n nodes m h t w x board places booked below (omega (arith, ap (λ (y : BookTotals). y.under) is_after)) sent_before)
+
+ended_out : (n out : ℕ) (past : List Step) → out ≡ ended_number n past → 0 < out → IsTrue (is_ended n past)
+ended_out n out past is some = grind (arith, nat_tests)
+
+-- where the token is out, nothing is left
+pub quiet_out : (n nodes : ℕ) (h : List Event) (t : BookTotals) (w : Wave) → IsBoard n nodes h t w → 0 < t.judged → IsQuiet n h
+quiet_out n nodes h t w board some = judged_law n h board.run (ended_out n t.judged (steps_of h) board.judged some)
+
+-- no more waves were started than events happened
+pub started-le : (n nodes : ℕ) (h : List Event) (t : BookTotals) (w : Wave) → IsBoard n nodes h t w → started w ≤ 1048576
+started-le n nodes h t w board =
+    let all : started w ≡ waves (steps_of h) = ap (λ (s : Sums). s.wave) board.follows.newest in
+    omega (arith, count-le is_start h, board.short)
+
+-- where the judgement is that the pool has ended, nothing is left
+pub quiet_judged : (n nodes w : ℕ) (h now : List Event) (t : BookTotals) (before after : Wave) → IsBoard n nodes h t before → now ≡ event 0 Judge ∷ h → Follows n (Judge ∷ steps_of h) after
+    → judgement n (steps_of h) ≡ Some w → IsQuiet n now
+quiet_judged n nodes w h now t before after board is follows judged =
+    let ended : IsTrue (is_ended n (steps_of (event 0 Judge ∷ h))) = rw judged refl in
+    rw is (judged_law n (event 0 Judge ∷ h) (record { known = board.some; beside = refl; needed = tt; control = follows.lawful.0 }, board.run) ended)
+
+balanced_step : (n : ℕ) (past : List Event) (i : ℕ) (s : Step) → Needs n past i s → count is_send (steps_of past) ≡ count is_recv (steps_of past) + under_way (steps_of past)
+    → count is_send (s ∷ steps_of past) ≡ count is_recv (s ∷ steps_of past) + under_way (s ∷ steps_of past)
+balanced_step n past i (Send a b m) needs before = omega arith
+balanced_step n past i (Recv a m) needs before = omega (arith, needs.0)
+balanced_step n past i _ needs before = before
+
+-- in a run what was sent was received or is under way
+balanced : (n : ℕ) (h : List Event) → IsRun n h → count is_send (steps_of h) ≡ count is_recv (steps_of h) + under_way (steps_of h)
+balanced n [] run = refl
+balanced n (e ∷ past) run = balanced_step n past (node_of e) (step_of e) run.0.needed (balanced n past run.1)
+
+pub balance : (n nodes : ℕ) (h : List Event) (t : BookTotals) (w : Wave) → IsBoard n nodes h t w → count is_send (steps_of h) ≡ count is_recv (steps_of h) + t.under
+balance n nodes h t w board = omega (arith, balanced n h board.run, board.under)
+
+pub agree_last : (h : List Event) (xs ys : List NodeNumbers) (x : NodeNumbers) → ys ≡ xs ++ x ∷ [] → x.pending ≡ pending_at x.node h → All (λ (s : NodeNumbers). s.pending ≡ pending_at s.node h) xs
+    → All (λ (s : NodeNumbers). s.pending ≡ pending_at s.node h) ys
+agree_last h xs ys x is last rest =
+    let P : NodeNumbers → Type 0 = λ s. s.pending ≡ pending_at s.node h in
+    let one : All P (x ∷ []) = All-cons P x [] last (λ k d less. absurd (omega arith)) in
+    rw is (All-append P xs (x ∷ []) rest one)

@@ -1,0 +1,13 @@
+use Rattle.std.proofs.Common.{ap}
+use Rattle.tp_board.specs.States.{BoardState}
+use Rattle.tp_board.proofs.Boards.{plain_follows, within_next}
+use Rattle.tp_board.proofs.board.Board.append.Goals as goal
+
+pub invariant_of-self-2 : goal.invariant_of-self-2
+invariant_of-self-2 g c =
+    let history = ap (λ (b : BoardState). b.history) c.in_ok-add.ensures.ok in
+    plain_follows _ _ _ _ _ _ _ _ _ _ history c.node.ensures.number c.follow.ensures.books c.self.invariant c.in_ok-add.ensures.places c.follow.ensures.told c.follow.ensures.node c.requires.lawful
+
+pub returns-clause-within : goal.returns-clause-within
+returns-clause-within g c =
+    rw c.follow.ensures.shares (within_next _ _ _ _ _ _ _ c.self.invariant c.follow.ensures.told c.follow.ensures.node c.in_ok-add.ensures.places)

@@ -1,0 +1,22 @@
+use Rattle.std.proofs.Common.{[], ◌∷◌, Err, ap, sym, ◌∙◌}
+use Rattle.std.specs.Result.{result_err}
+use Rattle.std.proofs.lemmas.Result.{err_from_is_err_and}
+use Rattle.tp_base.specs.declared.step.Step.TheVariants.{Judge}
+use Rattle.tp_board.specs.States.{BoardState, full_check}
+use Rattle.tp_wave.specs.Machine.{steps_of}
+use Rattle.tp_board.proofs.Answering.{refused}
+use Rattle.tp_board.proofs.Boards.{quiet_judged}
+use Rattle.tp_board.proofs.board.Board.judge.Goals as goal
+
+pub returns-in_err-ended_with-clause-refusal : goal.returns-in_err-ended_with-clause-refusal
+returns-in_err-ended_with-clause-refusal g c =
+    let p = err_from_is_err_and c.from_residual.result c.from_residual.ensures.1 in
+    refused _ _ _ _ _ _ Judge (full_check 1 c.args.self.now ∷ []) _ _ _ c.self.invariant c.self.view_is c.judge.ensures.exact (ap result_err c.in_err-ended_with.was) (p.1 ∙ ap Err p.2)
+
+pub returns-in-Some-clause-quiet : goal.returns-in-Some-clause-quiet
+returns-in-Some-clause-quiet g c =
+    let history = ap (λ (b : BoardState). b.history) c.in_ok-add.ensures.ok in
+    let n = g.K.Ledgers.names.nodes in
+    let past = steps_of c.self.inside.log.history in
+    let follows = c.self.invariant.follows in
+    λ over. quiet_judged _ _ c.in-Some.field-0 _ _ _ _ _ c.self.invariant history (c.in_ok-ended_with.ensures.follows n past follows) (sym (c.in_ok-ended_with.ensures.judged n past follows) ∙ c.in-Some.is)

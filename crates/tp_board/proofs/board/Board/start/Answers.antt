@@ -1,0 +1,16 @@
+use Rattle.std.proofs.Common.{[], ◌∷◌, Err, ap, ◌∙◌}
+use Rattle.std.specs.Result.{result_err}
+use Rattle.std.proofs.lemmas.Result.{err_from_is_err_and}
+use Rattle.tp_base.specs.declared.step.Step.TheVariants.{Start}
+use Rattle.tp_board.specs.States.{full_check}
+use Rattle.tp_board.proofs.Answering.{refused}
+use Rattle.tp_board.proofs.Boards.{started-le}
+use Rattle.tp_board.proofs.board.Board.start.Goals as goal
+
+pub start-requires : goal.start-requires
+start-requires g c = started-le _ _ _ _ _ c.self.invariant
+
+pub returns-in_err-start-clause-refusal : goal.returns-in_err-start-clause-refusal
+returns-in_err-start-clause-refusal g c =
+    let p = err_from_is_err_and c.from_residual.result c.from_residual.ensures.1 in
+    refused _ _ _ _ _ _ Start (full_check 1 c.args.self.now ∷ []) _ _ _ c.self.invariant c.self.view_is c.start.ensures.exact (ap result_err c.in_err-start.was) (p.1 ∙ ap Err p.2)

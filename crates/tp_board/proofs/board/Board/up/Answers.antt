@@ -1,0 +1,12 @@
+use Rattle.std.proofs.Common.{[], ◌∷◌, Err, ap, ◌∙◌}
+use Rattle.std.specs.Result.{result_err}
+use Rattle.std.proofs.lemmas.Result.{err_from_is_err_and}
+use Rattle.tp_base.specs.declared.step.Step.TheVariants.{Up}
+use Rattle.tp_board.specs.States.{full_check}
+use Rattle.tp_board.proofs.Answering.{refused}
+use Rattle.tp_board.proofs.board.Board.up.Goals as goal
+
+pub returns-in_err-up-clause-refusal : goal.returns-in_err-up-clause-refusal
+returns-in_err-up-clause-refusal g c =
+    let p = err_from_is_err_and c.from_residual.result c.from_residual.ensures.1 in
+    refused _ _ _ _ _ _ (Up c.args.child) (full_check 1 c.args.self.now ∷ []) _ _ _ c.self.invariant c.self.view_is c.up.ensures.exact (ap result_err c.in_err-up.was) (p.1 ∙ ap Err p.2)

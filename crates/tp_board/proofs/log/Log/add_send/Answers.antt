@@ -1,0 +1,27 @@
+use Rattle.std.proofs.Common.{◌≤◌, ap, ◌∙◌, refl, arith}
+use Rattle.tp_wave.specs.Steps.{count}
+use Rattle.tp_wave.specs.Machine.{steps_of}
+use Rattle.tp_ledgers.specs.Numbers.{is_send}
+use Rattle.tp_board.specs.States.{BoardState}
+use Rattle.tp_board.proofs.Routing.{fresh, log_send, log_sends}
+use Rattle.tp_board.proofs.log.Log.add_send.Goals as goal
+
+pub overflow_cast-message : goal.overflow_cast-message
+overflow_cast-message c = record { fits = omega (arith, c.len.ensures, (log_sends _ _ _ _ _ c.self.invariant).1) }
+
+pub invariant_of-self : goal.invariant_of-self
+invariant_of-self c =
+    let reserved = ap (λ (b : BoardState). b.reserved) c.self.view_is ∙ ap (λ (b : BoardState). b.reserved) c.in_ok-reserve.ensures.ok in
+    let counted = c.follow.ensures c.self.inside.history.events c.self.invariant.counted refl in
+    log_send _ _ _ _ _ _ _ _ _ _ _ c.self.invariant (omega (arith, reserved)) c.len.ensures c.push_reserved.ensures.events c.push_reserved.ensures.room c.push_reserved-2.ensures.routes c.push_reserved-2.ensures.room counted
+
+pub returns-clause-number : goal.returns-clause-number
+returns-clause-number c =
+    let same = ap (λ (b : BoardState). b.history) c.self.view_is ∙ ap (λ (b : BoardState). b.history) c.in_ok-reserve.ensures.ok in
+    rw (← same) (c.len.ensures ∙ (log_sends _ _ _ _ _ c.self.invariant).0)
+
+pub returns-clause-fresh : goal.returns-clause-fresh
+returns-clause-fresh c =
+    let same = ap (λ (b : BoardState). b.history) c.self.view_is ∙ ap (λ (b : BoardState). b.history) c.in_ok-reserve.ensures.ok in
+    let late : count is_send (steps_of c.self.inside.history.events) ≤ c.len.result = omega (arith, c.len.ensures, (log_sends _ _ _ _ _ c.self.invariant).0) in
+    rw (← same) (fresh c.len.result (steps_of c.self.inside.history.events) c.self.invariant.numbered late)

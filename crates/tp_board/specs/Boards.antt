@@ -1,0 +1,31 @@
+-- What a board keeps.
+use Rattle.std.specs.Prelude.{ℕ, ◌≡◌, ◌<◌, ◌≤◌, List, length, slice_index, if◌then◌else◌}
+use Rattle.tp_base.specs.History.{Event}
+use Rattle.tp_base.specs.declared.step.Step.{Step}
+use Rattle.tp_wave.specs.Steps.{count}
+use Rattle.tp_wave.specs.Sums.{is_ended}
+use Rattle.tp_wave.specs.Machine.{steps_of, pending_at, under_way, IsRun}
+use Rattle.tp_wave.specs.Wave.{Follows}
+use Rattle.tp_wave.specs.declared.wave.Wave.{Wave}
+use Rattle.tp_ledgers.specs.Books.{BookTotals}
+use Rattle.tp_ledgers.specs.Numbers.{is_done, is_recv, is_send}
+
+-- how many tokens of the end are out: one, once the end was judged
+abbrev pub ended_number : ℕ → List Step → ℕ
+ended_number n steps = if is_ended n steps then 1 else 0
+
+-- What a board keeps: its history is a run on n nodes, its books have that run's numbers, and the wave stands where the
+-- run led it.
+pub record IsBoard (n nodes : ℕ) (h : List Event) (t : BookTotals) (wave : Wave) : Type 0 where
+  pub nodes_are : nodes ≡ n
+  pub some : 1 ≤ n
+  pub few : n ≤ 8
+  pub short : length h ≤ 1048576
+  pub run : IsRun n h
+  pub pending : (i : ℕ) → i < n → slice_index t.pending i ≡ pending_at i h
+  pub sent : t.sent ≡ count is_send (steps_of h)
+  pub received : t.received ≡ count is_recv (steps_of h)
+  pub done : t.done ≡ count is_done (steps_of h)
+  pub under : t.under ≡ under_way (steps_of h)
+  pub judged : t.judged ≡ ended_number n (steps_of h)
+  pub follows : Follows n (steps_of h) wave

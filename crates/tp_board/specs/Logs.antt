@@ -1,0 +1,17 @@
+-- What a log keeps.
+use Rattle.std.specs.Prelude.{ℕ, ◌+◌, ◌≡◌, ◌≤◌, length}
+use Rattle.tp_base.specs.History.{Recorded}
+use Rattle.tp_wave.specs.Machine.{steps_of}
+use Rattle.tp_board.specs.Counts.{AreCountsOf}
+use Rattle.tp_board.specs.Routes.{IsNumbered, Table, routes_of}
+use Rattle.tp_board.specs.declared.counts.Counts.{Counts}
+
+-- The counts and the routes are the history's, and what is reserved has a place and memory.
+pub record IsLog (history : Recorded) (limit reserved : ℕ) (counts : Counts) (routes : Table) : Type 0 where
+  pub counted : AreCountsOf history.events counts
+  pub numbered : IsNumbered (steps_of history.events)
+  pub routed : routes.routes ≡ routes_of (steps_of history.events)
+  pub places : length history.events + reserved ≤ limit
+  pub limited : limit ≤ 1048576
+  pub room : reserved ≤ history.room
+  pub routes_room : reserved ≤ routes.room

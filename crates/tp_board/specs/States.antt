@@ -1,0 +1,49 @@
+-- What contracts see of a board, and what its calls are refused for.
+use Rattle.std.specs.Prelude.{ℕ, ◌+◌, ◌-◌, ◌≡◌, ◌<◌, List, [], ◌∷◌, ◌++◌, length, Option, Some, Result, Err, MatchOption, IfErr, nat_lt}
+use Rattle.std.specs.Option.{option_or}
+use Rattle.tp_base.specs.History.{Event}
+use Rattle.tp_base.specs.declared.refusal.Refusal.{Refusal}
+use Rattle.tp_base.specs.declared.refusal.Refusal.TheVariants.{HistoryFull, NoMemory, NotIdle}
+use Rattle.tp_base.specs.declared.ids.NodeId.{NodeId}
+use Rattle.tp_base.specs.declared.step.Step.{Step}
+use Rattle.tp_base.specs.declared.step.Step.TheVariants.{Give}
+use Rattle.tp_wave.specs.Checks.{Check, control_checks, first_refusal}
+use Rattle.tp_wave.specs.Machine.{pending_at, steps_of}
+
+-- A board has its events, the newest first, how many there may be, how many more are sure of a place and of memory, and
+-- the first fault that was set.
+pub record BoardState : Type 0 where
+  pub history : List Event
+  pub limit : ℕ
+  pub reserved : ℕ
+  pub fault : Option Refusal
+
+-- the board after one more event
+abbrev pub with_event : Event → BoardState → BoardState
+with_event e b = record { history = e ∷ b.history; limit = b.limit; reserved = b.reserved - 1; fault = b.fault }
+
+-- the board where so many more events were made sure of
+abbrev pub with_reserved : ℕ → BoardState → BoardState
+with_reserved more b = record { history = b.history; limit = b.limit; reserved = more; fault = b.fault }
+
+-- the board after a fault, of which it keeps the first
+abbrev pub with_fault : Refusal → BoardState → BoardState
+with_fault f b = record { history = b.history; limit = b.limit; reserved = b.reserved; fault = option_or b.fault (Some f) }
+
+-- Fewer than so many places are free.
+abbrev pub full_check : ℕ → BoardState → Check
+full_check more b = (nat_lt b.limit (length b.history + more), HistoryFull (length b.history))
+
+-- A call that wants so many events and makes these checks answers the first of them that holds. Otherwise it succeeds, or
+-- finds no memory where it had to ask for some.
+abbrev pub AnswersBy : {A : Type 0} → List Check → ℕ → BoardState → Result A Refusal → Type 0
+AnswersBy checks more b result =
+    MatchOption (first_refusal checks) (IfErr result (λ e. (e ≡ NoMemory) × (b.reserved < more))) (λ e. result ≡ Err e)
+
+-- the checks of a control step that no node has to be idle for
+abbrev pub step_checks : ℕ → BoardState → Step → List Check
+step_checks n b s = control_checks n (steps_of b.history) s ++ full_check 1 b ∷ []
+
+-- the checks of a visit to node i: an active node gives nothing
+abbrev pub visit_checks : ℕ → BoardState → NodeId → List Check
+visit_checks n b i = control_checks n (steps_of b.history) (Give i) ++ (nat_lt 0 (pending_at i.0 b.history), NotIdle) ∷ full_check 1 b ∷ []

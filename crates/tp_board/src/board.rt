@@ -1,0 +1,300 @@
+ghost use Rattle.std.specs.Prelude.{◌≡◌, ◌==◌, ◌≤◌, ◌<◌, ◌+◌, ◌-◌, ◌∷◌, ℕ, [], length, max, slice_index, IsTrue, IfOk, IsOk, OnErr, OnOk, None};
+ghost use Rattle.tp_ledgers.specs.Books.{first_totals};
+ghost use Rattle.tp_ledgers.specs.Names.{under_parts};
+ghost use Rattle.tp_ledgers.specs.Numbers.{AreWithin, event, is_done, is_plain, is_recv, is_send, numbers_after, receiving, sending};
+ghost use Rattle.tp_board.specs.Routes.{is_send_between};
+ghost use Rattle.tp_board.specs.States.{AnswersBy, full_check, with_event, with_fault, with_reserved};
+ghost use Rattle.tp_wave.specs.Machine.{IsOf, IsRun, is_send_to, pending_at, steps_of, under_way};
+ghost use Rattle.tp_wave.specs.Cut.{IsQuiet};
+ghost use Rattle.tp_wave.specs.Steps.{any, count};
+ghost use Rattle.tp_wave.specs.Sums.{is_ended};
+
+use crate::books::Totals;
+use crate::log::Log;
+use std::alloc::Global;
+use std::marker::Model;
+use std::sync::ledger::Share;
+use tp_base::{History, MessageId, NodeId, Refusal, Step};
+use tp_ledgers::{Accounts, Ledgers, LinkShare, Parts, Shares, Under};
+use tp_wave::Wave;
+
+/// What lies under a pool's board lock: its history, the books of its ledgers, its wave and its first fault.
+///
+/// Its type keeps that the history is a run of the counting machine, that each book has that run's number, and that the
+/// wave stands where the run led it. Contracts see the events, the newest first, how many there may be, for how many more
+/// a place and memory are reserved, and the fault.
+#[derive(Drop)]
+pub struct Board<K: Ledgers> {
+    pub(crate) nodes: u32,
+    pub(crate) log: Log,
+    pub(crate) accounts: Accounts<K>,
+    pub(crate) wave: Wave,
+}
+
+impl<K: Ledgers> Model for Board<K> {
+    ghost use Rattle.tp_board.specs.Boards.{IsBoard};
+    ghost use Rattle.tp_board.specs.States.{BoardState};
+
+    ghost Value = { BoardState };
+
+    ghost view = { λ b. b.log };
+
+    ghost invariant = { λ b. IsBoard K.names.nodes b.nodes b.log.history b.accounts b.wave };
+}
+
+impl<K: Ledgers> Board<K> {
+    /// A board with an empty history.
+    pub(crate) fn new(alloc: Global, nodes: u32, limit: u32, accounts: Accounts<K>) -> Board<K>
+        requires nodes { (nodes ≡ K.names.nodes) × (1 ≤ nodes) × (nodes ≤ 8) }
+        requires limit { limit ≤ 1048576 }
+        requires accounts { accounts ≡ first_totals }
+        ensures { result ≡ record { history = []; limit = limit; reserved = 0; fault = None } }
+    {
+        Board {
+            nodes,
+            log: Log::new(alloc, limit),
+            accounts,
+            wave: Wave::new(nodes),
+        }
+    }
+
+    /// How many nodes the pool has.
+    pub fn nodes(&self) -> u32
+        ensures number { result ≡ K.names.nodes }
+        ensures few { (1 ≤ result) × (result ≤ 8) }
+    {
+        self.nodes
+    }
+
+    /// How many events there are.
+    pub fn len(&self) -> usize
+        ensures number { result ≡ length self.now.history }
+        ensures small { result ≤ 1048576 }
+    {
+        self.log.len()
+    }
+
+    /// Whether nothing has happened.
+    pub fn is_empty(&self) -> bool
+        ensures { result ≡ (length self.now.history == 0) }
+    {
+        self.log.history().is_empty()
+    }
+
+    /// The events.
+    pub fn history(&self) -> &History
+        ensures events { result.now.events ≡ self.now.history }
+        ensures run { IsRun K.names.nodes self.now.history }
+    {
+        self.log.history()
+    }
+
+    /// The events alone.
+    pub fn into_history(self) -> History
+        ensures events { result.events ≡ self.history }
+        ensures run { IsRun K.names.nodes self.history }
+    {
+        let Board {
+            nodes: _,
+            log,
+            accounts: _,
+            wave: _,
+        } = self;
+        log.into_history()
+    }
+
+    /// The first fault that was set.
+    pub fn fault(&self) -> Option<Refusal>
+        ensures { result ≡ self.now.fault }
+    {
+        self.log.fault()
+    }
+
+    /// Keeps a fault, where it is the first.
+    pub fn set_fault(&mut self, fault: Refusal)
+        ensures { self.new ≡ with_fault fault self.old }
+    {
+        self.log.set_fault(fault);
+    }
+
+    /// The number of the next message: how many were sent before it.
+    pub fn next_message(&self) -> MessageId
+        ensures { result.0 ≡ count is_send (steps_of self.now.history) }
+    {
+        MessageId(self.log.totals().0)
+    }
+
+    /// Whether a message was sent from one node to another. It looks once into a table.
+    pub fn gave(&self, from: NodeId, to: NodeId, message: MessageId) -> bool
+        ensures sent { result ≡ any (is_send_between from.0 to.0 message.0) (steps_of self.now.history) }
+        ensures to { IsTrue result → IsTrue (any (is_send_to to.0 message.0) (steps_of self.now.history)) }
+    {
+        self.log.gave(from, to, message)
+    }
+
+    /// Makes sure of a place and of memory for so many more events: the next ones are then not refused for either.
+    ///
+    /// Refused: `HistoryFull` where fewer places are free; `NoMemory` where memory has to grow and does not.
+    pub fn reserve(&mut self, more: u32) -> Result<(), Refusal>
+        ensures ok { OnOk result (self.new ≡ with_reserved (max self.old.reserved more) self.old) }
+        ensures places { OnOk result (length self.old.history + more ≤ self.old.limit) }
+        ensures refusal { AnswersBy (full_check more self.old ∷ []) more self.old result }
+        ensures reserved { more ≤ self.old.reserved → IsOk result }
+        ensures refused { OnErr result (self.new ≡ self.old) }
+    {
+        self.log.reserve(more)
+    }
+
+    /// Changes nothing, and tells how a node's numbers stand to the history.
+    pub fn audit(&mut self, shares: &mut Shares<K>)
+        ensures same { (self.new ≡ self.old) × (shares.new ≡ shares.old) }
+        ensures node { shares.old.node < K.names.nodes }
+        ensures pending { shares.old.pending ≡ pending_at shares.old.node self.old.history }
+        ensures within { AreWithin (length self.old.history) shares.old }
+        ensures places { (length self.old.history + self.old.reserved ≤ self.old.limit) × (self.old.limit ≤ 1048576) }
+        ensures run { IsRun K.names.nodes self.old.history }
+    {
+        let _count = self.log.len();
+        self.accounts.audit(shares);
+    }
+
+    /// Changes nothing, and tells that no link has more messages under way than the history gives.
+    pub fn audit_link(&mut self, link: &mut LinkShare<K>)
+        ensures same { (self.new ≡ self.old) × (link.new ≡ link.old) }
+        ensures under { link.old.under ≤ under_way (steps_of self.old.history) }
+        ensures small { link.old.under ≤ 1048576 }
+    {
+        self.accounts.audit_link(link);
+    }
+
+    /// A node's pending number.
+    pub(crate) fn pending(&mut self, shares: &mut Shares<K>) -> u32
+        ensures same { (self.new ≡ self.old) × (shares.new ≡ shares.old) }
+        ensures number { result ≡ shares.old.pending }
+        ensures agrees { shares.old.pending ≡ pending_at shares.old.node self.old.history }
+        ensures small { shares.old.pending ≤ 1048577 }
+    {
+        self.accounts.audit(shares);
+        self.log.counts(shares.node()).pending
+    }
+
+    /// A share of no link.
+    pub(crate) fn no_links(&mut self) -> Share<Under<K>>
+        ensures same { self.new ≡ self.old }
+        ensures none { (result.parts ≡ 0) × (result.amount ≡ 0) }
+    {
+        self.accounts.no_links()
+    }
+
+    /// The totals, where all shares are gathered.
+    pub(crate) fn close(self, pending: u32, parts: Parts<K>, under: Share<Under<K>>) -> Totals
+        requires nodes { parts.parts ≡ K.names.nodes }
+        requires links { under.parts + 1 ≡ under_parts K.names.nodes }
+        ensures pending { result.pending ≡ pending }
+        ensures sent { (result.sent ≡ parts.sent) × (result.sent ≡ count is_send (steps_of self.history)) }
+        ensures received { (result.received ≡ parts.received) × (result.received ≡ count is_recv (steps_of self.history)) }
+        ensures under { (result.under ≡ under.amount) × (result.under ≡ under_way (steps_of self.history)) }
+        ensures done { (result.done ≡ parts.done) × (result.done ≡ count is_done (steps_of self.history)) }
+        ensures balance { result.sent ≡ result.received + result.under }
+        ensures ended { result.ended ≡ is_ended K.names.nodes (steps_of self.history) }
+        ensures quiet { IsTrue result.ended → IsQuiet K.names.nodes self.history }
+        ensures fault { result.fault ≡ self.fault }
+        ensures history { result.history.events ≡ self.history }
+        ensures run { IsRun K.names.nodes self.history }
+    {
+        let (sent, received, done) = self.log.totals();
+        let ended = self.accounts.is_ended();
+        let fault = self.log.fault();
+        let Board {
+            nodes: _,
+            log,
+            accounts,
+            wave: _,
+        } = self;
+        accounts.close(parts, under);
+        Totals {
+            pending,
+            sent,
+            received,
+            under: sent - received,
+            done,
+            ended,
+            fault,
+            history: log.into_history(),
+        }
+    }
+
+    /// Adds a step of a node that moves no message.
+    ///
+    /// Refused: `HistoryFull` where the history has reached its limit; `NoMemory` where memory has to grow and does not.
+    pub fn append(&mut self, step: Step, shares: &mut Shares<K>) -> Result<(), Refusal>
+        requires lawful { IsTrue (is_plain step) × IsOf shares.old.node step × (0 < shares.old.pending) }
+        ensures ok { OnOk result (self.new ≡ with_event (event shares.old.node step) self.old) }
+        ensures shares { OnOk result (shares.new ≡ numbers_after step shares.old) }
+        ensures within { OnOk result (AreWithin 1048576 shares.new) }
+        ensures refusal { AnswersBy (full_check 1 self.old ∷ []) 1 self.old result }
+        ensures reserved { 0 < self.old.reserved → IsOk result }
+        ensures refused { OnErr result ((self.new ≡ self.old) × (shares.new ≡ shares.old)) }
+    {
+        self.log.add(shares.node(), step)?;
+        self.accounts.follow(&step, shares);
+        Ok(())
+    }
+
+    /// Adds the sending of the next message, over a link of the node's. Its number is answered: how many messages were
+    /// sent before it.
+    ///
+    /// Refused: `HistoryFull` where the history has reached its limit; `NoMemory` where memory has to grow and does not.
+    pub fn append_send(
+        &mut self,
+        shares: &mut Shares<K>,
+        link: &mut LinkShare<K>,
+    ) -> Result<MessageId, Refusal>
+        requires active { 0 < shares.old.pending }
+        requires of_link { link.old.from ≡ shares.old.node }
+        ensures number { IfOk result (λ m. m.0 ≡ count is_send (steps_of self.old.history)) }
+        ensures ok { IfOk result (λ m. self.new ≡ with_event (event shares.old.node (sending shares.old.node link.old.to m.0)) self.old) }
+        ensures shares { OnOk result (shares.new ≡ record shares.old { sent = shares.old.sent + 1 }) }
+        ensures within { OnOk result (AreWithin 1048576 shares.new) }
+        ensures link { OnOk result (link.new ≡ record link.old { under = link.old.under + 1 }) }
+        ensures refusal { AnswersBy (full_check 1 self.old ∷ []) 1 self.old result }
+        ensures reserved { 0 < self.old.reserved → IsOk result }
+        ensures refused { OnErr result ((self.new ≡ self.old) × (shares.new ≡ shares.old) × (link.new ≡ link.old)) }
+    {
+        let node = shares.node();
+        let to = link.to();
+        let message = self.log.add_send(node, to)?;
+        let step = Step::Send(node, to, message);
+        self.accounts.follow(&step, shares);
+        self.accounts.follow_link(&step, link);
+        Ok(message)
+    }
+
+    /// Adds the receipt of a message that was sent to the node and is under way on the link.
+    ///
+    /// Refused: `HistoryFull` where the history has reached its limit; `NoMemory` where memory has to grow and does not.
+    pub fn append_recv(
+        &mut self,
+        message: MessageId,
+        shares: &mut Shares<K>,
+        link: &mut LinkShare<K>,
+    ) -> Result<(), Refusal>
+        requires sent { IsTrue (any (is_send_to shares.old.node message.0) (steps_of self.old.history)) }
+        requires under_way { 0 < link.old.under }
+        requires of_link { link.old.to ≡ shares.old.node }
+        ensures ok { OnOk result (self.new ≡ with_event (event shares.old.node (receiving shares.old.node message.0)) self.old) }
+        ensures shares { OnOk result (shares.new ≡ record shares.old { pending = shares.old.pending + 1; received = shares.old.received + 1 }) }
+        ensures within { OnOk result (AreWithin 1048576 shares.new) }
+        ensures link { OnOk result (link.new ≡ record link.old { under = link.old.under - 1 }) }
+        ensures refusal { AnswersBy (full_check 1 self.old ∷ []) 1 self.old result }
+        ensures reserved { 0 < self.old.reserved → IsOk result }
+        ensures refused { OnErr result ((self.new ≡ self.old) × (shares.new ≡ shares.old) × (link.new ≡ link.old)) }
+    {
+        let node = shares.node();
+        let step = Step::Recv(node, message);
+        self.log.add(node, step)?;
+        self.accounts.follow(&step, shares);
+        self.accounts.follow_link(&step, link);
+        Ok(())
+    }
+}

@@ -1,0 +1,126 @@
+ghost use Rattle.std.specs.Prelude.{◌≡◌, ◌==◌, ◌≤◌, ◌<◌, ◌∷◌, IsTrue, IfOk, IsOk, OnErr, OnOk, None, Some, is_some, if◌then◌else◌};
+ghost use Rattle.tp_base.specs.declared.step.Step.TheVariants as steps;
+ghost use Rattle.tp_board.specs.Judgements.{is_over};
+ghost use Rattle.tp_ledgers.specs.Numbers.{event, node_at};
+ghost use Rattle.tp_board.specs.States.{AnswersBy, step_checks, visit_checks, with_event};
+ghost use Rattle.tp_wave.specs.Control.{parent};
+ghost use Rattle.tp_wave.specs.Cut.{IsQuiet};
+ghost use Rattle.tp_wave.specs.Machine.{steps_of};
+ghost use Rattle.tp_wave.specs.Sums.{is_ended, judgement, sums_of};
+
+use crate::board::Board;
+use crate::judgement::Judgement;
+use tp_base::{NodeId, Refusal, Step, Sums};
+use tp_ledgers::{Ended, Ledgers, Shares};
+
+// The steps of the control waves. Each is tried on a copy of the wave, before a place and memory are asked for.
+impl<K: Ledgers> Board<K> {
+    /// Opens the next wave, at node 0.
+    ///
+    /// Refused: `Ended` where the end was judged; `WaveOpen` where the newest wave was not judged yet; `HistoryFull`;
+    /// `NoMemory`.
+    pub fn start(&mut self, shares: &Shares<K>) -> Result<(), Refusal>
+        requires root { shares.now.node ≡ 0 }
+        ensures ok { OnOk result (self.new ≡ with_event (event 0 steps.Start) self.old) }
+        ensures refusal { AnswersBy (step_checks K.names.nodes self.old steps.Start) 1 self.old result }
+        ensures refused { OnErr result (self.new ≡ self.old) }
+    {
+        let root = shares.node();
+        let mut wave = self.wave;
+        wave.start()?;
+        self.log.add(root, Step::Start)?;
+        self.wave = wave;
+        Ok(())
+    }
+
+    /// The node takes its token.
+    ///
+    /// Refused: `Ended` where the end was judged; `NoToken` where no token lies on the edge to the node; `HistoryFull`;
+    /// `NoMemory`.
+    pub fn down(&mut self, shares: &Shares<K>) -> Result<(), Refusal>
+        ensures ok { OnOk result (self.new ≡ with_event (event shares.now.node (steps.Down (node_at shares.now.node))) self.old) }
+        ensures refusal { AnswersBy (step_checks K.names.nodes self.old (steps.Down (node_at shares.now.node))) 1 self.old result }
+        ensures refused { OnErr result (self.new ≡ self.old) }
+    {
+        let node = shares.node();
+        let mut wave = self.wave;
+        wave.down(node)?;
+        self.log.add(node, Step::Down(node))?;
+        self.wave = wave;
+        Ok(())
+    }
+
+    /// A parent takes the sums that its child gave.
+    ///
+    /// Refused: `Ended` where the end was judged; `NoToken` where the child has not given in the newest wave, and where its
+    /// sums were taken; `HistoryFull`; `NoMemory`.
+    pub fn up(&mut self, child: NodeId, shares: &Shares<K>) -> Result<(), Refusal>
+        requires child { (1 ≤ child.0) × (child.0 < K.names.nodes) }
+        requires parent { shares.now.node ≡ parent child.0 }
+        ensures ok { OnOk result (self.new ≡ with_event (child, steps.Up child) self.old) }
+        ensures refusal { AnswersBy (step_checks K.names.nodes self.old (steps.Up child)) 1 self.old result }
+        ensures refused { OnErr result (self.new ≡ self.old) }
+    {
+        let _parent = shares.node();
+        let mut wave = self.wave;
+        wave.up(child)?;
+        self.log.add(child, Step::Up(child))?;
+        self.wave = wave;
+        Ok(())
+    }
+
+    /// The node, idle, gives what it has sent and received. At node 0 the wave ends, and its sums are answered.
+    ///
+    /// Refused: `Ended` where the end was judged; `NoToken` where the newest wave has not come to the node, where the node
+    /// gave in it, and where the sums of a child were not taken; `NotIdle` where the node is active; `HistoryFull`;
+    /// `NoMemory`.
+    pub fn give(&mut self, shares: &Shares<K>) -> Result<Option<Sums>, Refusal>
+        ensures ok { OnOk result (self.new ≡ with_event (event shares.now.node (steps.Give (node_at shares.now.node))) self.old) }
+        ensures sums { IfOk result (λ sums. sums ≡ (if shares.now.node == 0 then Some (sums_of K.names.nodes (steps_of self.new.history)) else None)) }
+        ensures refusal { AnswersBy (visit_checks K.names.nodes self.old (node_at shares.now.node)) 1 self.old result }
+        ensures refused { OnErr result (self.new ≡ self.old) }
+    {
+        let node = shares.node();
+        let counts = self.log.counts(node);
+        let mut wave = self.wave;
+        let sums = wave.give(node, counts.sent, counts.received)?;
+        if counts.pending > 0 {
+            return Err(Refusal::NotIdle);
+        }
+        self.log.add(node, Step::Give(node))?;
+        self.wave = wave;
+        Ok(sums)
+    }
+
+    /// Judges the newest wave: `Over` exactly where its sums and those of the wave before it are all equal. Then nothing is
+    /// left, and the one token of the end is handed out.
+    ///
+    /// Refused: `Ended` where the end was judged; `WaveNotEnded` where no ended wave waits for judgement; `HistoryFull`;
+    /// `NoMemory`.
+    pub fn judge(&mut self) -> Result<Judgement<K>, Refusal>
+        ensures ok { OnOk result (self.new ≡ with_event (event 0 steps.Judge) self.old) }
+        ensures over { IfOk result (λ j. is_over j ≡ is_some (judgement K.names.nodes (steps_of self.old.history))) }
+        ensures ended { IfOk result (λ j. is_over j ≡ is_ended K.names.nodes (steps_of self.new.history)) }
+        ensures quiet { IfOk result (λ j. IsTrue (is_over j) → IsQuiet K.names.nodes self.new.history) }
+        ensures refusal { AnswersBy (step_checks K.names.nodes self.old steps.Judge) 1 self.old result }
+        ensures refused { OnErr result (self.new ≡ self.old) }
+    {
+        let mut wave = self.wave;
+        let ended_with = wave.judge()?;
+        self.log.add(NodeId(0), Step::Judge)?;
+        self.wave = wave;
+        match ended_with {
+            Some(_) => Ok(Judgement::Over(self.accounts.hand_out())),
+            None => Ok(Judgement::Not),
+        }
+    }
+
+    /// Changes nothing, and tells that the end was judged and nothing is left.
+    pub fn audit_ended(&mut self, ended: &mut Ended<K>)
+        ensures same { self.new ≡ self.old }
+        ensures ended { IsTrue (is_ended K.names.nodes (steps_of self.old.history)) }
+        ensures quiet { IsQuiet K.names.nodes self.old.history }
+    {
+        self.accounts.audit_ended(ended);
+    }
+}

@@ -1,0 +1,80 @@
+ghost use Rattle.std.specs.Prelude.{◌≡◌, ◌≤◌, ◌<◌, ◌↔◌, IsTrue};
+
+use crate::names::{Judged, Ledgers};
+use std::marker::Model;
+use std::sync::ledger::{Blank, Book, Share};
+
+/// The pool's end was judged. A board hands out one, and it has no clone.
+#[derive(Drop)]
+pub struct Ended<K: Ledgers> {
+    share: Share<Judged<K>>,
+    ghost one: { share.amount ≡ 1 },
+}
+
+/// What a wave was judged to show.
+#[derive(Drop)]
+pub enum Judgement<K: Ledgers> {
+    /// The pool may go on.
+    Not,
+    /// The pool has ended.
+    Over(Ended<K>),
+}
+
+/// The one token of the end, until it is handed out. Contracts see how many were handed out.
+#[derive(Drop)]
+pub(crate) struct Keeper<K: Ledgers> {
+    book: Book<Judged<K>>,
+    token: Option<Share<Judged<K>>>,
+}
+
+impl<K: Ledgers> Model for Keeper<K> {
+    ghost use Rattle.std.specs.Prelude.{◌≡◌, ℕ, MatchOption};
+
+    ghost Value = { ℕ };
+
+    ghost view = { λ k. k.book.total };
+
+    ghost invariant = { λ k. MatchOption k.token (k.book.total ≡ 1) (λ s. (s.parts ≡ 1) × (s.amount ≡ 0) × (k.book.total ≡ 0)) };
+}
+
+impl<K: Ledgers> Keeper<K> {
+    /// Nothing was handed out.
+    pub fn open(blank: Blank) -> Keeper<K>
+        requires { (blank.name ≡ K.names.judged) × (blank.parts ≡ 1) }
+        ensures { result ≡ 0 }
+    {
+        let (book, share) = blank.open::<Judged<K>>();
+        Keeper {
+            book,
+            token: Some(share),
+        }
+    }
+
+    /// Whether the token was handed out.
+    pub fn is_out(&self) -> bool
+        ensures out { IsTrue result ↔ (self.now ≡ 1) }
+        ensures one { self.now ≤ 1 }
+    {
+        self.token.is_none()
+    }
+
+    /// Hands out the token.
+    pub fn hand_out(&mut self) -> Ended<K>
+        requires { self.old ≡ 0 }
+        ensures { self.new ≡ 1 }
+    {
+        let Some(mut share) = self.token.take() else {
+            unreachable!()
+        };
+        self.book.add(&mut share, 1);
+        Ended { share }
+    }
+
+    /// Changes nothing, and tells that the token was handed out.
+    pub fn audit(&mut self, ended: &mut Ended<K>)
+        ensures same { self.new ≡ self.old }
+        ensures told { 0 < self.old }
+    {
+        self.book.audit(&mut ended.share);
+    }
+}
