@@ -18,4 +18,5 @@ pub use fault::TextFault;
 pub use input::{MAX_READS, MAX_TEXT};
 pub use laws::{scripts_are_determined, texts_are_determined};
 pub use simulation::sim;
+pub use tp_table::print_table;
 pub use verdict::Verdict;
