@@ -11,7 +11,7 @@ use Rattle.tp_board.proofs.board.Board.judge.Goals as goal
 pub returns-in_err-ended_with-clause-refusal : goal.returns-in_err-ended_with-clause-refusal
 returns-in_err-ended_with-clause-refusal g c =
     let p = err_from_is_err_and c.from_residual.result c.from_residual.ensures.1 in
-    refused _ _ _ _ _ _ Judge (full_check 1 c.args.self.now ∷ []) _ _ _ c.self.invariant c.self.view_is c.judge.ensures.exact (ap result_err c.in_err-ended_with.was) (p.1 ∙ ap Err p.2)
+    refused _ _ _ _ _ _ Judge (full_check 1 c.args.self.now ∷ []) _ _ _ c.self.invariant c.self.view_is c.judge.ensures.table (ap result_err c.in_err-ended_with.was) (p.1 ∙ ap Err p.2)
 
 pub returns-in-Some-clause-quiet : goal.returns-in-Some-clause-quiet
 returns-in-Some-clause-quiet g c =

@@ -13,4 +13,4 @@ start-requires g c = started-le _ _ _ _ _ c.self.invariant
 pub returns-in_err-start-clause-refusal : goal.returns-in_err-start-clause-refusal
 returns-in_err-start-clause-refusal g c =
     let p = err_from_is_err_and c.from_residual.result c.from_residual.ensures.1 in
-    refused _ _ _ _ _ _ Start (full_check 1 c.args.self.now ∷ []) _ _ _ c.self.invariant c.self.view_is c.start.ensures.exact (ap result_err c.in_err-start.was) (p.1 ∙ ap Err p.2)
+    refused _ _ _ _ _ _ Start (full_check 1 c.args.self.now ∷ []) _ _ _ c.self.invariant c.self.view_is c.start.ensures.table (ap result_err c.in_err-start.was) (p.1 ∙ ap Err p.2)

@@ -9,4 +9,4 @@ use Rattle.tp_board.proofs.board.Board.up.Goals as goal
 pub returns-in_err-up-clause-refusal : goal.returns-in_err-up-clause-refusal
 returns-in_err-up-clause-refusal g c =
     let p = err_from_is_err_and c.from_residual.result c.from_residual.ensures.1 in
-    refused _ _ _ _ _ _ (Up c.args.child) (full_check 1 c.args.self.now ∷ []) _ _ _ c.self.invariant c.self.view_is c.up.ensures.exact (ap result_err c.in_err-up.was) (p.1 ∙ ap Err p.2)
+    refused _ _ _ _ _ _ (Up c.args.child) (full_check 1 c.args.self.now ∷ []) _ _ _ c.self.invariant c.self.view_is c.up.ensures.table (ap result_err c.in_err-up.was) (p.1 ∙ ap Err p.2)
