@@ -1,0 +1,4 @@
+pub mod Content
+pub mod SlabSlots
+pub mod Commands
+pub mod Names

@@ -1,0 +1,144 @@
+-- How a task's item keeps what it says.
+use Rattle.std.proofs.Common.{◌≡◌, ℕ, zero, suc, ◌+◌, ◌-◌, ◌<◌, ◌≤◌, Bool, true, false, cond, List, [], length, take, set, get_or, map, replicate, insert, Option, Some, None, is_some, is_none, count_by, refl, sym, ap, ◌∙◌, arith}
+use Rattle.std.proofs.lemmas.List.{take-replicate, length-take-le, length-replicate, length-set, get_or-take}
+use Rattle.std.proofs.lemmas.List.Edits.{length-insert}
+use Rattle.std.proofs.lemmas.List.Sums.{sum_by-set}
+use Rattle.std.proofs.Math.Seq.{take-set-lt}
+use Rattle.smallvec.specs.SmallVec.{SmallVec, small_vec_len, HasRoomFor}
+use Rattle.tp_store.specs.Content.{Task, fresh, with_value, has_begun, is_waiting, life_lacking, supplied}
+use Rattle.tp_store.specs.Sound.{IsTask, LacksSome, lacking}
+use Rattle.tp_store.specs.Items.{count_set, spread, slots_of, IsFilled}
+use Rattle.tp_store.specs.declared.life.Life.{Life}
+use Rattle.tp_store.specs.declared.life.Life.TheVariants.{Waiting, Ready, Running, Done}
+use Rattle.tp_store.proofs.Spread.{count_set-set, count_set-none, count_set-take, take-take, length-spread, spread-get, spread-set, spread-all, spread_none, count_none-fresh}
+
+-- ---- lives
+pub lacking_life : (k : ℕ) → lacking (life_lacking k) ≡ k
+lacking_life zero = refl
+lacking_life (suc k) = refl
+
+pub lacks_life : (k : ℕ) → LacksSome (life_lacking k)
+lacks_life zero = tt
+lacks_life (suc k) = omega arith
+
+pub not_begun_life : (k : ℕ) → has_begun (life_lacking k) ≡ false
+not_begun_life zero = refl
+not_begun_life (suc k) = refl
+
+pub ready_life : (k : ℕ) → k ≡ 0 → Ready ≡ life_lacking k
+ready_life zero e = refl
+ready_life (suc k) e = absurd (omega arith)
+
+pub waiting_life : (k : ℕ) → 0 < k → Waiting k ≡ life_lacking k
+waiting_life zero h = absurd (omega arith)
+waiting_life (suc k) h = refl
+
+module _ {V : Type 0} where
+  -- ---- a fresh task
+  pub slots_fresh : (arity : ℕ) → arity ≤ 16 → slots_of {V = V} (life_lacking arity) arity (replicate 16 false) [] ≡ replicate arity None
+  slots_fresh arity h = rw (not_begun_life arity, take-replicate arity 16 false h) (spread_none arity)
+
+  pub IsTask-fresh : (arity class : ℕ) → arity ≤ 16 → class < 4 → IsTask (fresh {V = V} arity class)
+  IsTask-fresh arity class h l = record {
+    arity = h;
+    class = l;
+    lacks = lacks_life arity;
+    slots = rw (not_begun_life arity) (length-replicate arity None, ap (λ (l : List (Option V)). count_by is_none l) (sym (spread_none {V = V} arity)) ∙ count_none-fresh V arity ∙ sym (lacking_life arity));
+  }
+
+  pub fresh_item : (arity class : ℕ) (values : List V) → arity ≤ 16 → values ≡ [] → record { life = life_lacking arity; arity = arity; class = class; values = slots_of (life_lacking arity) arity (replicate 16 false) values } ≡ fresh arity class
+  fresh_item arity class values h none = λ i. record { life = life_lacking arity; arity = arity; class = class; values = (ap (slots_of (life_lacking arity) arity (replicate 16 false)) none ∙ slots_fresh arity h) i }
+
+  pub IsFilled-fresh : (arity class : ℕ) (values : SmallVec V) → arity ≤ 16 → class < 4 → values.items ≡ [] → arity ≤ values.capacity → IsFilled (fresh {V = V} arity class) (replicate 16 false) values
+  IsFilled-fresh arity class values h l none room = record {
+    task = IsTask-fresh arity class h l;
+    each = rw (take-replicate arity 16 false h) (count_set-none arity ∙ sym (ap length none));
+    room = rw (lacking_life arity) (omega (arith, ap length none));
+  }
+
+  -- ---- a task that waits gets one more input
+  module _ (k arity class slot : ℕ) (filled : List Bool) (values new : SmallVec V) (value : V)
+      (is : IsFilled {V = V} (record { life = Waiting k; arity = arity; class = class; values = spread (take arity filled) values.items }) filled values)
+      (long : arity ≤ length filled) (low : slot < arity) (free : get_or (spread (take arity filled) values.items) slot None ≡ None)
+      (items : new.items ≡ insert values.items (count_set (take slot filled)) value) (capacity : new.capacity ≡ values.capacity) where
+    abbrev pub task : Task V
+    task = record { life = Waiting k; arity = arity; class = class; values = spread (take arity filled) values.items }
+
+    pub not_set : get_or filled slot false ≡ false
+    not_set = sym (get_or-take arity filled slot false low) ∙ sym (spread-get (take arity filled) values.items slot is.each) ∙ ap is_some free
+
+    pub before : count_set (take slot filled) ≤ length values.items
+    before = omega (arith, is.each, count_set-take (take arity filled) slot, ap count_set (take-take filled slot arity (omega arith)))
+
+    values_after : spread (take arity (set filled slot true)) new.items ≡ set (spread (take arity filled) values.items) slot (Some value)
+    values_after =
+        rw (take-set-lt arity filled slot true low, items, ← take-take filled slot arity (omega arith))
+        (spread-set (take arity filled) values.items slot value (omega (arith, length-take-le arity filled long)) (get_or-take arity filled slot false low ∙ not_set) is.each)
+
+    slots_after : slots_of (supplied (Waiting k)) arity (set filled slot true) new.items ≡ set (spread (take arity filled) values.items) slot (Some value)
+    slots_after = rw (not_begun_life (k - 1)) values_after
+
+    -- its item is the task with that value
+    pub filled_task : record { life = supplied (Waiting k); arity = arity; class = class; values = slots_of (supplied (Waiting k)) arity (set filled slot true) new.items } ≡ with_value task slot value
+    filled_task = λ i. record { life = supplied (Waiting k); arity = arity; class = class; values = slots_after i }
+
+    lacks_one_less : count_by is_none (set (spread (take arity filled) values.items) slot (Some value)) ≡ k - 1
+    lacks_one_less =
+        let was : is_none (get_or (spread (take arity filled) values.items) slot None) ≡ true = ap is_none free in
+        let count = sum_by-set (λ (o : Option V). cond (is_none o) 1 0) (spread (take arity filled) values.items) slot (Some value) None (omega (arith, length-spread (take arity filled) values.items, length-take-le arity filled long)) in
+        let now = rw was at count in
+        omega (arith, now, is.task.slots.1)
+
+    pub IsFilled-filled : IsFilled (with_value task slot value) (set filled slot true) new
+    IsFilled-filled =
+        let count : length new.items ≡ length values.items + 1 = ap length items ∙ length-insert values.items (count_set (take slot filled)) value before in
+        let set_count : count_set (take arity (set filled slot true)) ≡ count_set (take arity filled) + 1 =
+        ap count_set (take-set-lt arity filled slot true low) ∙ count_set-set (take arity filled) slot (omega (arith, length-take-le arity filled long)) (get_or-take arity filled slot false low ∙ not_set) in
+        let waits : 0 < k = is.task.lacks in
+        record {
+          task = record {
+            arity = is.task.arity;
+            class = is.task.class;
+            lacks = lacks_life (k - 1);
+            slots = rw (not_begun_life (k - 1)) (length-set (spread (take arity filled) values.items) slot (Some value) ∙ is.task.slots.0, lacks_one_less ∙ sym (lacking_life (k - 1)));
+          };
+          each = omega (arith, count, set_count, is.each);
+          room = rw (lacking_life (k - 1)) (omega (arith, count, capacity, is.room));
+        }
+
+  -- ---- a ready task begins
+  pub all_inputs : (arity class : ℕ) (filled : List Bool) (values : SmallVec V) → IsFilled {V = V} (record { life = Ready; arity = arity; class = class; values = spread (take arity filled) values.items }) filled values → map (λ v. Some v) values.items ≡ spread (take arity filled) values.items
+  all_inputs arity class filled values is = spread-all (take arity filled) values.items is.each is.task.slots.1
+
+  pub IsFilled-begun : (arity class : ℕ) (values : SmallVec V) → arity ≤ 16 → class < 4 → values.items ≡ [] → IsFilled {V = V} (record { life = Running; arity = arity; class = class; values = [] }) (replicate 16 false) values
+  IsFilled-begun arity class values h l none = record {
+    task = record { arity = h; class = l; lacks = tt; slots = refl };
+    each = rw (take-replicate arity 16 false h) (count_set-none arity ∙ sym (ap length none));
+    room = omega (arith, ap length none);
+  }
+
+  -- whether a slot has its value
+  pub has_slot : (life : Life) (arity class slot : ℕ) (filled : List Bool) (values : SmallVec V) → has_begun life ≡ false → IsFilled {V = V} (record { life = life; arity = arity; class = class; values = slots_of life arity filled values.items }) filled values → slot < arity → get_or filled slot false ≡ is_some (get_or (slots_of life arity filled values.items) slot None)
+  has_slot life arity class slot filled values e is low =
+      rw e (sym (get_or-take arity filled slot false low) ∙ sym (spread-get (take arity filled) values.items slot is.each))
+
+  -- ---- the same where only a test says that the task waits
+  abbrev pub item_task : Life → ℕ → ℕ → List Bool → List V → Task V
+  item_task life arity class filled values = record { life = life; arity = arity; class = class; values = slots_of life arity filled values }
+
+  pub can_insert : (life : Life) (arity class slot : ℕ) (filled : List Bool) (values : SmallVec V) → is_waiting life ≡ true → IsFilled (item_task life arity class filled values.items) filled values → slot < arity → (count_set (take slot filled) ≤ small_vec_len values) × HasRoomFor values 1
+  can_insert (Waiting k) arity class slot filled values e is low =
+      let waits : 0 < k = is.task.lacks in
+      (omega (arith, is.each, count_set-take (take arity filled) slot, ap count_set (take-take filled slot arity (omega arith))), omega (arith, is.room))
+  can_insert Ready arity class slot filled values e is low = cc
+  can_insert Running arity class slot filled values e is low = cc
+  can_insert Done arity class slot filled values e is low = cc
+
+  pub item_filled : (life : Life) (arity class slot : ℕ) (filled : List Bool) (values new : SmallVec V) (value : V) → is_waiting life ≡ true → IsFilled (item_task life arity class filled values.items) filled values → arity ≤ length filled → slot < arity → get_or (slots_of life arity filled values.items) slot None ≡ None → new.items ≡ insert values.items (count_set (take slot filled)) value → new.capacity ≡ values.capacity
+      → (item_task (supplied life) arity class (set filled slot true) new.items ≡ with_value (item_task life arity class filled values.items) slot value) × IsFilled (item_task (supplied life) arity class (set filled slot true) new.items) (set filled slot true) new
+  item_filled (Waiting k) arity class slot filled values new value e is long low free items capacity =
+      let same = filled_task k arity class slot filled values new value is long low free items capacity in
+      (same, rw same (IsFilled-filled k arity class slot filled values new value is long low free items capacity))
+  item_filled Ready arity class slot filled values new value e is long low free items capacity = cc
+  item_filled Running arity class slot filled values new value e is long low free items capacity = cc
+  item_filled Done arity class slot filled values new value e is long low free items capacity = cc

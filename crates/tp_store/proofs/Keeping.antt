@@ -1,0 +1,116 @@
+-- How the slots and the index give the content, and how a change of one task moves it.
+use Rattle.std.proofs.Common.{◌≡◌, ◌≢◌, ℕ, ◌<◌, ◌≤◌, ◌==◌, Bool, true, false, cond, List, [], ◌∷◌, length, map, Option, Some, None, unwrap_or, IfSome, refl, sym, ap, subst, ◌∙◌, inl, inr, arith}
+use Rattle.std.specs.Prelude.{if◌then◌else◌}
+use Rattle.std.specs.Option.{option_map}
+use Rattle.std.specs.Ordering.{nat_cmp}
+use Rattle.std.specs.BTreeMap.{BTreeMap, get, is_at}
+use Rattle.std.specs.Map.{lookup}
+use Rattle.std.specs.Cmp.{nat_cmp_total, unsigned_tied}
+use Rattle.std.specs.FinMap as finite
+use Rattle.std.proofs.lemmas.Bool.{cases_eq}
+use Rattle.std.proofs.lemmas.Bool.Decides.{nat_tests}
+use Rattle.tp_slots.specs.Content as slots
+use Rattle.tp_slots.proofs.Sound.{get_inserted, get_removed, IsSound-with_ready}
+use Rattle.tp_slots.proofs.Lists.{same_each, with_last-each}
+use Rattle.tp_store.specs.Content.{Task, fresh}
+use Rattle.tp_store.specs.Items.{Item}
+use Rattle.tp_store.specs.Kept.{task_under, with_found, tasks_of, number_at}
+use Rattle.tp_store.specs.declared.index.Entry.{Entry}
+use Rattle.tp_store.specs.declared.index.Entry.TheVariants.{Live, Done}
+
+-- what stands under a number, where something does
+pub found : (o : Option (Option Entry)) (e : Entry) → unwrap_or o None ≡ Some e → o ≡ Some (Some e)
+found None e is = cc
+found (Some o) e is = ap Some is
+
+-- what stands under a number
+abbrev pub entry_at : BTreeMap ℕ (Option Entry) → ℕ → Option Entry
+entry_at index q = unwrap_or (get nat_cmp index q) None
+
+module _ {V : Type 0} where
+  get-with_found : (tasks : finite.FinMap nat_cmp (Task V)) (k q : ℕ) (o : Option (Task V)) → finite.get (with_found tasks k o) q ≡ cond (q == k) o (finite.get tasks q)
+  get-with_found tasks k q None = get_removed tasks k q
+  get-with_found tasks k q (Some x) = get_inserted tasks k x q
+
+  tasks_at : (c : slots.Content (Item V)) (entries : List (ℕ × Option Entry)) (q : ℕ) → finite.get (tasks_of c entries) q ≡ task_under c (unwrap_or (lookup (is_at (nat_cmp q)) entries) None)
+  tasks_at c [] q = finite.get-empty nat_cmp q
+  tasks_at c (e ∷ rest) q =
+      get-with_found (tasks_of c rest) e.0 q (task_under c e.1)
+      ∙ ap (cond (q == e.0) (task_under c e.1)) (tasks_at c rest q)
+      ∙ rw (unsigned_tied q e.0) (elim (q == e.0) as (λ b. cond b (task_under c e.1) (task_under c (unwrap_or (lookup (is_at (nat_cmp q)) rest) None)) ≡ task_under c (unwrap_or (cond b (Some e.1) (lookup (is_at (nat_cmp q)) rest)) None)) [ true ↦ refl | false ↦ refl ])
+
+  -- what is known of a task is what stands under its number
+  pub get-tasks_of : (c : slots.Content (Item V)) (index : BTreeMap ℕ (Option Entry)) (q : ℕ) → finite.get (tasks_of c index.entries) q ≡ task_under c (entry_at index q)
+  get-tasks_of c index q = tasks_at c index.entries q
+
+  -- an entry says the same where the item at its place, if it has one, stays
+  under_same : (c d : slots.Content (Item V)) (p : ℕ) (e : Option Entry) → ((q : ℕ) → q ≢ p → slots.item_at d q ≡ slots.item_at c q) → (e ≡ Some (Live p) → ⊥) → task_under d e ≡ task_under c e
+  under_same c d p None items apart = refl
+  under_same c d p (Some (Live q)) items apart = ap (option_map (λ i. i.task)) (items q (λ same. apart (ap (λ x. Some (Live x)) same)))
+  under_same c d p (Some (Done a b)) items apart = refl
+
+  -- one task is changed, with the item at one place or the entry under its number
+  pub tasks-put : (c d : slots.Content (Item V)) (index new : BTreeMap ℕ (Option Entry)) (t p : ℕ) (x : Task V) → ((q : ℕ) → q ≢ p → slots.item_at d q ≡ slots.item_at c q) → ((q : ℕ) → q ≢ t → entry_at new q ≡ entry_at index q) → ((q : ℕ) → q ≢ t → entry_at index q ≡ Some (Live p) → ⊥) → task_under d (entry_at new t) ≡ Some x
+      → tasks_of d new.entries ≡ finite.insert (tasks_of c index.entries) t x
+  tasks-put c d index new t p x items entries apart here = finite.same_map nat_cmp_total finite.nat_cmp-IsAntisymmetric _ _ (λ q.
+      get-tasks_of d new q ∙ (elim (cases_eq q t) [
+        | inl same ↦ let e : (q == t) ≡ true = grind (arith, nat_tests) in ap (λ k. task_under d (entry_at new k)) same ∙ here ∙ sym (ap (λ b. cond b (Some x) (finite.get (tasks_of c index.entries) q)) e)
+        | inr differs ↦
+            let e : (q == t) ≡ false = grind (arith, nat_tests) in
+            ap (task_under d) (entries q differs) ∙ under_same c d p (entry_at index q) items (apart q differs) ∙ sym (get-tasks_of c index q) ∙ sym (ap (λ b. cond b (Some x) (finite.get (tasks_of c index.entries) q)) e)
+      ]) ∙ sym (get_inserted (tasks_of c index.entries) t x q))
+
+  -- no task is changed
+  pub tasks-same : (c : slots.Content (Item V)) (index new : BTreeMap ℕ (Option Entry)) → ((q : ℕ) → task_under c (entry_at new q) ≡ task_under c (entry_at index q)) → tasks_of c new.entries ≡ tasks_of c index.entries
+  tasks-same c index new same = finite.same_map nat_cmp_total finite.nat_cmp-IsAntisymmetric _ _ (λ q. get-tasks_of c new q ∙ same q ∙ sym (get-tasks_of c index q))
+
+  -- the numbers at listed places, where only an unlisted place is changed
+  pub numbers_same : (c d : slots.Content (Item V)) (p : ℕ) (lists : List (List ℕ)) → ((q : ℕ) → q ≢ p → slots.item_at d q ≡ slots.item_at c q) → slots.times p lists ≡ 0 → map (map (number_at d)) lists ≡ map (map (number_at c)) lists
+  numbers_same c d p lists items none = same_each (number_at d) (number_at c) lists (λ q more. ap (λ o. unwrap_or (option_map (λ i. i.number) o) (record { 0 = 0 })) (items q (λ same. let some : 0 < slots.times p lists = subst (λ k. 0 < slots.times k lists) same more in absurd (omega arith))))
+
+  -- or it keeps its number
+  pub numbers_kept : (c d : slots.Content (Item V)) (lists : List (List ℕ)) → ((q : ℕ) → number_at d q ≡ number_at c q) → map (map (number_at d)) lists ≡ map (map (number_at c)) lists
+  numbers_kept c d lists same = same_each (number_at d) (number_at c) lists (λ q more. same q)
+
+  -- ---- what is at a place after a change
+  pub item_here : (c : slots.Content (Item V)) (p : ℕ) (i : Item V) → slots.item_at (slots.with_item c p i) p ≡ Some i
+  item_here c p i = let e : (p == p) ≡ true = grind (arith, nat_tests) in get_inserted c.items p i p ∙ ap (λ b. cond b (Some i) (finite.get c.items p)) e
+
+  pub item_there : (c : slots.Content (Item V)) (p q : ℕ) (i : Item V) → q ≢ p → slots.item_at (slots.with_item c p i) q ≡ slots.item_at c q
+  item_there c p q i apart = let e : (q == p) ≡ false = grind (arith, nat_tests) in get_inserted c.items p i q ∙ ap (λ b. cond b (Some i) (finite.get c.items q)) e
+
+  pub gone_there : (c : slots.Content (Item V)) (p q : ℕ) → q ≢ p → slots.item_at (slots.without_item c p) q ≡ slots.item_at c q
+  gone_there c p q apart = let e : (q == p) ≡ false = grind (arith, nat_tests) in get_removed c.items p q ∙ ap (λ b. cond b None (finite.get c.items q)) e
+
+  pub gone_here : (c : slots.Content (Item V)) (p : ℕ) → slots.item_at (slots.without_item c p) p ≡ None
+  gone_here c p = let e : (p == p) ≡ true = grind (arith, nat_tests) in get_removed c.items p p ∙ ap (λ b. cond b None (finite.get c.items p)) e
+
+  -- ---- a place is listed where its task is ready
+  abbrev pub listed : Bool → slots.Content (Item V) → ℕ → ℕ → slots.Content (Item V)
+  listed b c p class = if b then slots.with_ready c class p else c
+
+  pub listed_item : (b : Bool) (c : slots.Content (Item V)) (p class q : ℕ) → slots.item_at (listed b c p class) q ≡ slots.item_at c q
+  listed_item true c p class q = refl
+  listed_item false c p class q = refl
+
+  pub listed_count : (b : Bool) (c : slots.Content (Item V)) (p class : ℕ) → slots.held_count (listed b c p class) ≡ slots.held_count c
+  listed_count true c p class = refl
+  listed_count false c p class = refl
+
+  pub listed_sound : (b : Bool) (c : slots.Content (Item V)) (p class : ℕ) → slots.IsSound c → slots.IsIdle c p → class < 4 → slots.IsSound (listed b c p class)
+  listed_sound true c p class sound idle low = IsSound-with_ready c class p sound idle low
+  listed_sound false c p class sound idle low = sound
+
+  pub listed_lists : (b : Bool) (c : slots.Content (Item V)) (p class : ℕ) → class < length c.ready → map (map (number_at (listed b c p class))) (listed b c p class).ready ≡ (if b then slots.with_last (map (map (number_at c)) c.ready) class (number_at c p) else map (map (number_at c)) c.ready)
+  listed_lists true c p class low = sym (with_last-each (number_at c) c.ready class p (number_at c p) low refl)
+  listed_lists false c p class low = refl
+
+  -- what is said of the item that may be there
+  pub at_item : (o : Option (Item V)) (i : Item V) (P : Item V → Type 0) → o ≡ Some i → IfSome o P → P i
+  at_item None i P e h = let clash : None ≡ Some i = e in cc
+  at_item (Some j) i P e h = let same : j ≡ i = cc in subst P same h
+
+  -- more room does for the item that was made
+  pub spared : (room more : ℕ) (o : Option (Item V)) → room ≤ more → IfSome o (λ j. (j.task ≡ fresh j.task.arity 0) × (0 < room)) → IfSome o (λ j. (j.task ≡ fresh j.task.arity 0) × (0 < more))
+  spared room more None roomy h = tt
+  spared room more (Some j) roomy h = (h.0, omega (arith, h.1))

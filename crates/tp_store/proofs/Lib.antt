@@ -1,0 +1,15 @@
+pub mod Spread
+pub mod Filling
+pub mod Counting
+pub mod Contents
+pub mod Keeping
+pub mod Entering
+pub mod Reading
+pub mod Starting
+pub mod Rewriting
+pub mod Supplying
+pub mod Delivering
+pub mod Running
+pub mod Finishing
+mod Reserving
+mod Stages

@@ -1,0 +1,177 @@
+-- The next ready task begins.
+use Rattle.std.proofs.Common.{◌≡◌, ◌≢◌, ℕ, ◌+◌, ◌<◌, ◌≤◌, true, cond, List, map, Option, Some, None, is_some, IfSome, unwrap_or, refl, sym, ap, ◌∙◌, arith}
+use Rattle.std.specs.Option.{option_map}
+use Rattle.std.specs.Cmp.{nat_cmp_total}
+use Rattle.std.specs.BTreeMap.{BTreeMap}
+use Rattle.std.specs.FinMap as finite
+use Rattle.std.specs.declared.vec.Vec.{Vec}
+use Rattle.tp_base.specs.declared.ids.TaskId.{TaskId}
+use Rattle.tp_slots.specs.Content as slots
+use Rattle.tp_slots.proofs.Sound.{IsSound-with_item, IsSound-without_next, IsIdle-front, without_front-empty}
+use Rattle.tp_slots.proofs.Lists.{front-each, front_none-each, without_front-each}
+use Rattle.tp_store.specs.Content.{Content, task_of, life_of, values_of, unfinished, counts_of, is_ready, begun, with_begun}
+use Rattle.tp_store.specs.Items.{Item}
+use Rattle.tp_store.specs.Kept.{task_under, number_at, content_of, begun_counts, IsKept}
+use Rattle.tp_store.specs.declared.life.Life.{Life}
+use Rattle.tp_store.specs.declared.life.Life.TheVariants.{Waiting, Ready, Running, Done}
+use Rattle.tp_store.specs.declared.life.Counts.{Counts}
+use Rattle.tp_store.specs.declared.index.Entry.{Entry}
+use Rattle.tp_store.proofs.Contents.{front_ready, IsSound-begun, counts-begun, some_counted}
+use Rattle.tp_store.proofs.Keeping.{get-tasks_of, numbers_kept, item_here, item_there, at_item, spared}
+use Rattle.tp_store.proofs.Reading.{few_live}
+use Rattle.tp_store.proofs.Rewriting.{live, owner, tasks, numbers}
+
+ready_is : (life : Life) → is_ready life ≡ true → life ≡ Ready
+ready_is (Waiting k) e = cc
+ready_is Ready e = refl
+ready_is Running e = cc
+ready_is Done e = cc
+
+module _ {V A : Type 0} (c : slots.Content (Item V)) (room more : ℕ) (index : BTreeMap ℕ (Option Entry)) (results : Vec (TaskId × V) A) (counts : Counts) (reserved : Option (Item V)) (kept : IsKept {V = V} {A = A} c room index results counts reserved)
+    (i : Item V) (p : ℕ) (at : slots.item_at c p ≡ Some i) (is : is_ready i.task.life ≡ true) where
+  abbrev before : Content V
+  before = content_of c index.entries results.items
+
+  abbrev y : Item V
+  y = record { number = i.number; task = begun i.task }
+
+  abbrev after : slots.Content (Item V)
+  after = slots.with_item (slots.without_next c) p y
+
+  pub was : task_of before i.number ≡ Some i.task
+  was = get-tasks_of c index i.number.0 ∙ ap (λ o. task_under c (unwrap_or o None)) (kept.owner p i at) ∙ ap (option_map (λ j. j.task)) at
+
+  there : (q : ℕ) → q ≢ p → slots.item_at after q ≡ slots.item_at c q
+  there q apart = item_there (slots.without_next c) p q y apart
+
+  abbrev changed : Content V
+  changed = record { tasks = finite.insert before.tasks i.number.0 (begun i.task); ready = slots.without_front before.ready; results = before.results }
+
+  pub begun_content : content_of after index.entries results.items ≡ changed
+  begun_content =
+      let here = item_here (slots.without_next c) p y in
+      let kept_numbers = numbers_kept c after (slots.without_front c.ready) (numbers c after room index results counts reserved i y p kept at here there refl) in
+      λ k. record {
+        tasks = tasks c after room index results counts reserved i y p kept at here there refl k;
+        ready = (kept_numbers ∙ sym (without_front-each (number_at c) c.ready)) k;
+        results = results.items;
+      }
+
+  pub begun_moves : (unfinished changed ≡ unfinished before) × (begun_counts counts ≡ counts_of changed)
+  begun_moves = counts-begun before i.number i.task counts (slots.without_front before.ready) was is kept.counted
+
+  pub IsKept-begun : slots.front before.ready ≡ Some i.number → room ≤ more → IsKept {V = V} {A = A} after more index results (begun_counts counts) reserved
+  IsKept-begun first roomy =
+      let here = item_here (slots.without_next c) p y in
+      let count : slots.held_count after ≡ slots.held_count c = finite.len-insert nat_cmp_total c.items p y ∙ ap (λ (o : Option (Item V)). cond (is_some o) (slots.held_count c) (slots.held_count c + 1)) at in
+      record {
+        lists = IsSound-with_item (slots.without_next c) p y (IsSound-without_next c kept.lists);
+        live = live c after room index results counts reserved i y p kept at here there refl;
+        owner = owner c after room index results counts reserved i y p kept at here there refl;
+        sound = rw begun_content (IsSound-begun before i.number i.task kept.sound first was is);
+        held = count ∙ kept.held ∙ sym begun_moves.0 ∙ ap (λ (s : Content V). unfinished s) (sym begun_content);
+        within = omega (arith, count, kept.within);
+        counted = begun_moves.1 ∙ ap (λ (s : Content V). counts_of s) (sym begun_content);
+        space = omega (arith, count, kept.space);
+        spare = spared room more reserved roomy kept.spare;
+        rooms = kept.rooms;
+      }
+
+module _ {V A : Type 0} (c : slots.Content (Item V)) (room more : ℕ) (index : BTreeMap ℕ (Option Entry)) (results : Vec (TaskId × V) A) (counts : Counts) (reserved : Option (Item V)) (kept : IsKept {V = V} {A = A} c room index results counts reserved)
+    (s : Content V) (view : content_of c index.entries results.items ≡ s) where
+  -- ---- none is ready
+  module _ (none : slots.front c.ready ≡ None) where
+    pub none_next : None ≡ slots.front s.ready
+    none_next = sym (ap (λ v. slots.front v.ready) (sym view) ∙ front_none-each (number_at c) c.ready none)
+
+    pub same_slots : slots.without_next c ≡ c
+    same_slots = λ k. record { items = c.items; ready = without_front-empty c.ready none k }
+
+    pub IsKept-none : room ≤ more → IsKept {V = V} {A = A} c more index results counts reserved
+    IsKept-none roomy = record {
+      lists = kept.lists;
+      live = kept.live;
+      owner = kept.owner;
+      sound = kept.sound;
+      held = kept.held;
+      within = kept.within;
+      counted = kept.counted;
+      space = kept.space;
+      spare = spared room more reserved roomy kept.spare;
+      rooms = kept.rooms;
+    }
+
+  -- ---- the place of the next one
+  module _ (p : ℕ) (first : Some p ≡ slots.front c.ready) where
+    abbrev old : Content V
+    old = content_of c index.entries results.items
+
+    pub record Next (i : Item V) : Type 0 where
+      pub at : slots.item_at c p ≡ Some i
+      pub next : Some i.number ≡ slots.front s.ready
+      pub known : task_of s i.number ≡ Some i.task
+      pub is : is_ready i.task.life ≡ true
+
+    pub next_item : (i : Item V) × Next i
+    next_item = some_item (slots.item_at c p) refl (IsIdle-front c p kept.lists (sym first)).taken
+      where
+        some_item : (o : Option (Item V)) → slots.item_at c p ≡ o → is_some o ≡ true → (i : Item V) × Next i
+        some_item None e h = cc
+        some_item (Some i) e h =
+            let own : number_at c p ≡ i.number = ap (λ o. unwrap_or (option_map (λ j. j.number) o) (record { 0 = 0 })) e in
+            let front : slots.front old.ready ≡ Some i.number = front-each (number_at c) c.ready p (sym first) ∙ ap (λ n. Some n) own in
+            let known : task_of old i.number ≡ Some i.task = get-tasks_of c index i.number.0 ∙ ap (λ o. task_under c (unwrap_or o None)) (kept.owner p i e) ∙ ap (option_map (λ j. j.task)) e in
+            let x = front_ready old i.number kept.sound front in
+            let both : Some i.task ≡ Some x.0 = sym known ∙ x.1 in
+            let same : i.task ≡ x.0 = cc in (
+              i,
+              record {
+                at = e;
+                next = sym front ∙ ap (λ v. slots.front v.ready) view;
+                known = ap (λ v. task_of v i.number) (sym view) ∙ known;
+                is = ap (λ y. is_ready y.life) same ∙ x.2;
+              },
+            )
+
+    -- it can begin
+    pub can_begin : slots.IsTaken (slots.without_next c) p × IfSome (slots.item_at (slots.without_next c) p) (λ i. i.task.life ≡ Ready)
+    can_begin = let k = next_item in (ap is_some k.1.at, rw k.1.at (ready_is k.0.task.life k.1.is))
+
+    pub some_ready : (0 < counts.ready) × (counts.waiting + counts.ready + counts.running ≤ 65536)
+    some_ready =
+        let k = next_item in
+        (omega (arith, some_counted is_ready s k.0.number k.0.task k.1.known k.1.is refl, ap (λ n. n.ready) kept.counted, ap (λ v. (counts_of v).ready) view), few_live c room index results counts reserved kept s view)
+
+    module _ (d : slots.Content (Item V)) (t : TaskId) (inputs : List V)
+        (number : IfSome (slots.item_at (slots.without_next c) p) (λ i. t ≡ i.number))
+        (values : IfSome (slots.item_at (slots.without_next c) p) (λ i. map (λ v. Some v) inputs ≡ i.task.values))
+        (placed : IfSome (slots.item_at (slots.without_next c) p) (λ i. d ≡ slots.with_item (slots.without_next c) p (record i { task = begun i.task }))) where
+      at : slots.item_at (slots.without_next c) p ≡ Some next_item.0
+      at = next_item.1.at
+
+      own : t ≡ next_item.0.number
+      own = at_item _ _ _ at number
+
+      pub begins : (Some t ≡ slots.front s.ready) × (life_of s t ≡ Some Ready) × (map (λ v. Some v) inputs ≡ values_of s t)
+      begins =
+          let k = next_item in
+          let known : task_of s t ≡ Some k.0.task = ap (task_of s) own ∙ k.1.known in
+          (ap (λ n. Some n) own ∙ k.1.next, rw known (ap (λ l. Some l) (ready_is k.0.task.life k.1.is)), rw known (at_item _ _ _ at values))
+
+      pub begun_all : room ≤ more → (content_of d index.entries results.items ≡ with_begun s t) × (unfinished (content_of d index.entries results.items) ≡ unfinished s) × IsKept {V = V} {A = A} d more index results (begun_counts counts) reserved
+      begun_all roomy =
+          let k = next_item in
+          let i = k.0 in
+          let front : slots.front old.ready ≡ Some i.number = ap (λ v. slots.front v.ready) view ∙ sym k.1.next in
+          let content = begun_content c room more index results counts reserved kept i p k.1.at k.1.is in
+          let moves = begun_moves c room more index results counts reserved kept i p k.1.at k.1.is in
+          let all = IsKept-begun c room more index results counts reserved kept i p k.1.at k.1.is front roomy in
+          let known : task_of s t ≡ Some i.task = ap (task_of s) own ∙ k.1.known in
+          rw (at_item _ _ _ at placed) (
+            content
+                ∙ ap (λ v. record { tasks = finite.insert v.tasks i.number.0 (begun i.task); ready = slots.without_front v.ready; results = v.results }) view
+                ∙ ap (λ n. record { tasks = finite.insert s.tasks n.0 (begun i.task); ready = slots.without_front s.ready; results = s.results }) (sym own)
+                ∙ ap (λ o. record { tasks = unwrap_or (option_map (λ x. finite.insert s.tasks t.0 (begun x)) o) s.tasks; ready = slots.without_front s.ready; results = s.results }) (sym known),
+            ap unfinished content ∙ moves.0 ∙ ap unfinished view,
+            all,
+          )

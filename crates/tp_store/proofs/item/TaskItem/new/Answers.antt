@@ -1,0 +1,14 @@
+use Rattle.std.proofs.Common.{ap, length, ◌∙◌, arith}
+use Rattle.tp_store.proofs.Filling.{IsFilled-fresh, fresh_item}
+use Rattle.tp_store.proofs.item.TaskItem.new.Goals as goal
+
+pub invariant_of-result : goal.invariant_of-result
+invariant_of-result g c =
+    let none = c.reserve_exact.ensures.items ∙ c.new-values.ensures.items in
+    rw (c.lacking.ensures, fresh_item c.args.arity 0 c.reserve_exact.new.self.items c.requires none)
+    (IsFilled-fresh c.args.arity 0 c.reserve_exact.new.self c.requires (omega arith) none (omega (arith, c.in_ok-reserve_exact.ensures.ok, ap length none)))
+
+pub returns : goal.returns
+returns g c =
+    let none = c.reserve_exact.ensures.items ∙ c.new-values.ensures.items in
+    rw c.lacking.ensures (λ i. record { number = c.args.number; task = fresh_item c.args.arity 0 c.reserve_exact.new.self.items c.requires none i })

@@ -1,0 +1,12 @@
+use Rattle.std.proofs.Common.{false, arith}
+use Rattle.tp_store.proofs.Spread.{count_set-take_more}
+use Rattle.tp_store.proofs.item.count_set.Goals as goal
+use Rattle.tp_store.proofs.item.count_set.Goals.{then-is_set, else-is_set}
+
+pub loop-is_set-preserved : goal.loop-is_set-preserved
+loop-is_set-preserved c =
+    let more = count_set-take_more c.args.flags.now c.loop-is_set.is_set-index false (omega arith) in
+    elim c.if-is_set.branch [
+      | then-is_set w ↦ let now = rw w.if-is_set.true at more in record { value = omega arith; bound = omega arith }
+      | else-is_set w ↦ let now = rw w.if-is_set.false at more in record { value = omega arith; bound = omega arith }
+    ]

@@ -1,0 +1,7 @@
+use Rattle.std.proofs.Common.{ap, ◌∙◌}
+use Rattle.tp_store.specs.Content.{counts_of}
+use Rattle.tp_store.proofs.Counting.{unfinished_counted}
+use Rattle.tp_store.proofs.store.TaskStore.counts.Goals as goal
+
+pub returns-clause-unfinished : goal.returns-clause-unfinished
+returns-clause-unfinished g c = unfinished_counted c.args.self.now.content c.self.inside.counts (c.self.invariant.counted ∙ ap (λ v. counts_of v.content) c.self.view_is)

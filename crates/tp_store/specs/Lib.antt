@@ -1,0 +1,5 @@
+pub mod Content
+pub mod Codes
+pub mod Sound
+pub mod Items
+pub mod Kept

@@ -1,0 +1,167 @@
+//! A task that is not done, with the inputs that it has.
+ghost use Rattle.std.specs.Prelude.{◌≡◌, ◌<◌, ◌≤◌, [], length, map, insert, Some, None, is_some, slice_index_or, true, false, MatchOption, IfOk};
+ghost use Rattle.smallvec.specs.SmallVec.{small_vec_len, HasRoomFor};
+ghost use Rattle.tp_store.specs.Items.{count_set};
+ghost use Rattle.tp_store.specs.Content.{fresh, with_value, begun, is_waiting, has_begun, refusal_of_value};
+
+use crate::life::Life;
+use smallvec::SmallVec;
+use std::alloc::{AllocError, Global};
+use std::default::MadeWith;
+use std::marker::Model;
+use std::mem;
+use tp_base::{CLASSES, MAX_INPUTS, Refusal, TaskId};
+
+/// A task that is not done, with the inputs that it has: what a store keeps in its slots.
+#[derive(Drop)]
+pub struct TaskItem<V> {
+    number: TaskId,
+    life: Life,
+    arity: u8,
+    class: u8,
+    // Which slots are filled, and their values in the order of the slots.
+    filled: [bool; 16],
+    values: SmallVec<V, 4>,
+}
+
+impl<V> Model for TaskItem<V> {
+    ghost use Rattle.tp_store.specs.Items.{Item, slots_of, IsFilled};
+
+    ghost Value = { Item V };
+
+    ghost view = { λ x. record { number = x.number; task = record { life = x.life; arity = x.arity; class = x.class; values = slots_of x.life x.arity x.filled x.values.items } } };
+
+    ghost invariant = { λ x. IsFilled (record { life = x.life; arity = x.arity; class = x.class; values = slots_of x.life x.arity x.filled x.values.items }) x.filled x.values };
+}
+
+impl<V> TaskItem<V> {
+    /// Its number.
+    pub(crate) fn number(&self) -> TaskId
+        ensures { result ≡ self.now.number }
+    {
+        self.number
+    }
+
+    /// What it has come to.
+    pub(crate) fn life(&self) -> Life
+        ensures { result ≡ self.now.task.life }
+    {
+        self.life
+    }
+
+    /// How many inputs it takes.
+    pub(crate) fn arity(&self) -> u8
+        ensures { result ≡ self.now.task.arity }
+    {
+        self.arity
+    }
+
+    /// Its class.
+    pub(crate) fn class(&self) -> u8
+        ensures value { result ≡ self.now.task.class }
+        ensures in_range { result < CLASSES }
+    {
+        self.class
+    }
+
+    /// Whether a value can come to a slot of this task, if it takes so many inputs.
+    ///
+    /// `TaskKnown` where it has begun or takes another number of inputs, `SlotTaken` where the slot has its value.
+    pub(crate) fn check(&self, arity: u8, slot: u8) -> Result<(), Refusal>
+        ensures { MatchOption (refusal_of_value self.now.task arity slot) (result ≡ Ok tt) (λ e. result ≡ Err e) }
+    {
+        if matches!(self.life, Life::Running | Life::Done) || self.arity != arity {
+            return Err(Refusal::TaskKnown);
+        }
+        if self.has_value(slot) {
+            return Err(Refusal::SlotTaken);
+        }
+        Ok(())
+    }
+
+    /// Whether a slot has its value, before the task has begun.
+    fn has_value(&self, slot: u8) -> bool
+        requires { has_begun self.now.task.life ≡ false }
+        ensures { result ≡ is_some (slice_index_or self.now.task.values slot None) }
+    {
+        slot < self.arity && self.filled[slot as usize]
+    }
+}
+
+impl<V: MadeWith<Global> + Drop> TaskItem<V> {
+    /// A task of class 0 that has none of its inputs, with room for them.
+    pub(crate) fn new(number: TaskId, arity: u8, alloc: Global) -> Result<Self, AllocError>
+        requires { arity ≤ MAX_INPUTS }
+        ensures { IfOk result (λ item. item ≡ record { number = number; task = fresh arity 0 }) }
+    {
+        let mut values = SmallVec::new(alloc);
+        values.reserve_exact(arity as usize)?;
+        Ok(TaskItem {
+            number,
+            life: Life::lacking(arity),
+            arity,
+            class: 0,
+            filled: [false; 16],
+            values,
+        })
+    }
+
+    /// The same task in a class.
+    pub(crate) fn with_class(self, class: u8) -> Self
+        requires { class < CLASSES }
+        ensures { result ≡ record self { task = record self.task { class = class } } }
+    {
+        let mut item = self;
+        item.class = class;
+        item
+    }
+
+    /// Puts a value into a free slot of a task that waits.
+    pub(crate) fn fill(&mut self, slot: u8, value: V)
+        requires waiting { is_waiting self.old.task.life ≡ true }
+        requires slot_in_range { slot < self.old.task.arity }
+        requires free { slice_index_or self.old.task.values slot None ≡ None }
+        ensures { self.new ≡ record self.old { task = with_value self.old.task slot value } }
+    {
+        let before = count_set(&self.filled[..slot as usize]);
+        insert_reserved(&mut self.values, before, value);
+        self.filled[slot as usize] = true;
+        self.life = self.life.supplied();
+    }
+
+    /// A ready task begins. Its inputs are moved out, in the order of the slots.
+    pub(crate) fn begin(&mut self) -> SmallVec<V, 4>
+        requires { self.old.task.life ≡ Life.Ready }
+        ensures inputs { map (λ v. Some v) result.items ≡ self.old.task.values }
+        ensures task { self.new ≡ record self.old { task = begun self.old.task } }
+    {
+        self.life = Life::Running;
+        self.filled = [false; 16];
+        let alloc = *self.values.allocator();
+        mem::replace(&mut self.values, SmallVec::new(alloc))
+    }
+}
+
+// Inserts a value into a vector with room for it.
+fn insert_reserved<V: MadeWith<Global> + Drop>(values: &mut SmallVec<V, 4>, at: usize, value: V)
+    requires in_range { at ≤ small_vec_len values.old }
+    requires room { HasRoomFor values.old 1 }
+    ensures items { values.new.items ≡ insert values.old.items at value }
+    ensures capacity { values.new.capacity ≡ values.old.capacity }
+{
+    let _room_was_made = values.insert(at, value);
+}
+
+// How many flags are set.
+fn count_set(flags: &[bool]) -> usize
+    ensures value { result ≡ count_set flags.now }
+    ensures bound { result ≤ length flags.now }
+{
+    let mut count = 0;
+    for is_set in flags {
+        if *is_set {
+            count += 1;
+        }
+    }
+    count
+}

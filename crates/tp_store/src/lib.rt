@@ -1,0 +1,16 @@
+//! The tasks of a node: those that wait for inputs, those that are ready, those that run, and the results of those that
+//! are done.
+#![tactic(auto)]
+
+mod index;
+mod item;
+mod life;
+mod places;
+mod reserved;
+mod store;
+#[cfg(test)]
+mod tests;
+
+pub use item::TaskItem;
+pub use life::{Counts, Delivered, Life};
+pub use store::{Begun, TaskStore};

@@ -1,0 +1,95 @@
+//! What the store does to the items in its slots.
+ghost use Rattle.std.specs.Prelude.{◌≡◌, ◌<◌, ◌≤◌, ℕ, None, Some, ◌+◌, IfSome, IsSome, map, slice_index_or, true, ◌==◌, if◌then◌else◌};
+ghost use Rattle.std.specs.Mem.{FitsInMemory};
+ghost use Rattle.std.specs.Ordering.{nat_cmp};
+ghost use Rattle.std.specs.BTreeMap.{get};
+ghost use Rattle.tp_slots.specs.Content.{item_at, IsTaken, IsIdle, held_count, with_item};
+ghost use Rattle.tp_store.specs.Content.{is_waiting, is_ready, with_value, begun};
+ghost use Rattle.tp_store.specs.Kept.{with_listed, entered, supplied_counts};
+ghost use Rattle.tp_store.specs.contracts.item.TaskItem.{the_row};
+
+use crate::index::{Entry, Index, set_entry};
+use crate::item::TaskItem;
+use crate::life::{Counts, Life};
+use smallvec::SmallVec;
+use std::alloc::Global;
+use std::default::MadeWith;
+use tp_base::{MAX_LIVE_TASKS, TaskId};
+use tp_slots::{Place, Slots};
+
+/// Puts a value into a free slot of the waiting task at a place, and lists it where that was its last.
+pub(crate) fn supply<S: Slots<TaskItem<V>>, V: MadeWith<Global> + Drop>(
+    slots: &mut S,
+    counts: &mut Counts,
+    place: Place,
+    slot: u8,
+    value: V,
+)
+    requires fits { FitsInMemory (the_row V.row) }
+    requires idle { IsIdle (S.content slots.old) place }
+    requires waiting { IfSome (item_at (S.content slots.old) place) (λ i. is_waiting i.task.life ≡ true) }
+    requires slot_in_range { IfSome (item_at (S.content slots.old) place) (λ i. slot < i.task.arity) }
+    requires free { IfSome (item_at (S.content slots.old) place) (λ i. slice_index_or i.task.values slot None ≡ None) }
+    requires some_wait { 0 < counts.old.waiting }
+    requires counted { counts.old.waiting + counts.old.ready + counts.old.running ≤ MAX_LIVE_TASKS }
+    ensures content { IfSome (item_at (S.content slots.old) place) (λ i. S.content slots.new ≡ with_listed (with_item (S.content slots.old) place (record i { task = with_value i.task slot value })) place (with_value i.task slot value)) }
+    ensures counts { IfSome (item_at (S.content slots.old) place) (λ i. counts.new ≡ supplied_counts counts.old (is_ready (with_value i.task slot value).life)) }
+    ensures room { S.room slots.old ≤ S.room slots.new }
+{
+    slots.get_mut(place).fill(slot, value);
+    counts.supply(list_if_ready(slots, place));
+}
+
+/// The ready task at a place begins: its number, and its inputs in the order of the slots.
+pub(crate) fn begin_at<S: Slots<TaskItem<V>>, V: MadeWith<Global> + Drop>(
+    slots: &mut S,
+    place: Place,
+) -> (TaskId, SmallVec<V, 4>)
+    requires fits { FitsInMemory (the_row V.row) }
+    requires taken { IsTaken (S.content slots.old) place }
+    requires ready { IfSome (item_at (S.content slots.old) place) (λ i. i.task.life ≡ Life.Ready) }
+    ensures number { IfSome (item_at (S.content slots.old) place) (λ i. result.0 ≡ i.number) }
+    ensures inputs { IfSome (item_at (S.content slots.old) place) (λ i. map (λ v. Some v) result.1.items ≡ i.task.values) }
+    ensures content { IfSome (item_at (S.content slots.old) place) (λ i. S.content slots.new ≡ with_item (S.content slots.old) place (record i { task = begun i.task })) }
+    ensures room { S.room slots.new ≡ S.room slots.old }
+{
+    let item = slots.get_mut(place);
+    (item.number(), item.begin())
+}
+
+/// Puts an idle place at the end of the list of its task's class, where the task is ready, and answers whether it is.
+pub(crate) fn list_if_ready<S: Slots<TaskItem<V>>, V>(slots: &mut S, place: Place) -> bool
+    requires fits { FitsInMemory (the_row V.row) }
+    requires idle { IsIdle (S.content slots.old) place }
+    ensures ready { IfSome (item_at (S.content slots.old) place) (λ i. result ≡ is_ready i.task.life) }
+    ensures content { IfSome (item_at (S.content slots.old) place) (λ i. S.content slots.new ≡ with_listed (S.content slots.old) place i.task) }
+    ensures room { S.room slots.old ≤ S.room slots.new }
+{
+    let item = slots.get(place);
+    if item.life() != Life::Ready {
+        return false;
+    }
+    let class = item.class();
+    slots.push_ready(place, class);
+    true
+}
+
+/// Takes a task that has not begun into the slots, and lists it where it is ready.
+pub(crate) fn enter<S: Slots<TaskItem<V>>, V>(
+    slots: &mut S,
+    index: &mut Index,
+    counts: &mut Counts,
+    item: TaskItem<V>,
+)
+    requires room { 0 < S.room slots.old }
+    requires entry { IsSome (get nat_cmp index.old item.number.0) }
+    requires counted { counts.old.waiting + counts.old.ready + counts.old.running ≡ held_count (S.content slots.old) }
+    ensures place { (place : ℕ) × (item_at (S.content slots.old) place ≡ None) × (S.content slots.new ≡ with_listed (with_item (S.content slots.old) place item) place item.task) × ((q : ℕ) → get nat_cmp index.new q ≡ (if q == item.number.0 then Some (Some (Entry.Live place)) else get nat_cmp index.old q)) }
+    ensures counts { counts.new ≡ entered counts.old (is_ready item.task.life) }
+    ensures not_full { held_count (S.content slots.old) < MAX_LIVE_TASKS }
+{
+    let number = item.number();
+    let place = slots.take_reserved(item);
+    set_entry(index, number, Entry::Live(place));
+    counts.enter(list_if_ready(slots, place));
+}

@@ -1,0 +1,368 @@
+//! The store of a node's tasks.
+ghost use Rattle.std.specs.Prelude.{◌≡◌, ◌≢◌, ℕ, ◌+◌, ◌<◌, ◌≤◌, None, Some, IsOk, IfOk, IfErr, IfSome, OnOk, OnErr, MatchOption, unwrap_or, map, IsSome};
+ghost use Rattle.std.specs.Option.{option_map};
+ghost use Rattle.tp_slots.specs.Content.{front};
+
+use crate::index::{Entry, Index, entry_of, set_entry};
+use crate::item::TaskItem;
+use crate::life::{Counts, Delivered, Life};
+use crate::places::{begin_at, enter, supply};
+use crate::reserved::{is_made_for, keep_item, make_item};
+use smallvec::SmallVec;
+use std::alloc::Global;
+use std::collections::BTreeMap;
+use std::default::MadeWith;
+use std::marker::Model;
+use tp_base::{CLASSES, MAX_INPUTS, MAX_LIVE_TASKS, Refusal, TaskId};
+use tp_slots::Slots;
+
+/// A task that has begun, with its inputs in the order of its slots.
+#[derive(Drop)]
+pub struct Begun<V> {
+    /// Its number.
+    pub task: TaskId,
+    /// The value of each of its inputs.
+    pub inputs: SmallVec<V, 4>,
+}
+
+/// The tasks of a node, of which at most 65,536 are not done: what each has come to, which are ready in which class, and the
+/// results of those that are done.
+///
+/// Contracts see the content, and beside it the task that room was made for, if any, with how many inputs it takes. A
+/// call that takes memory is `reserve`, which may be refused, and one that then cannot fail.
+#[derive(Drop)]
+pub struct TaskStore<S: Slots<TaskItem<V>>, V> {
+    slots: S,
+    index: Index,
+    results: Vec<(TaskId, V)>,
+    counts: Counts,
+    // A fresh task with room for its inputs; there is room for it in the slots, the index and the results.
+    reserved: Option<TaskItem<V>>,
+    alloc: Global,
+}
+
+impl<S: Slots<TaskItem<V>>, V> Model for TaskStore<S, V> {
+    ghost use Rattle.tp_store.specs.Content.{Stored};
+    ghost use Rattle.tp_store.specs.Codes.{stored_code};
+
+    ghost Value = { Stored V };
+
+    ghost coded = { stored_code V.code };
+
+    ghost use Rattle.tp_store.specs.Kept.{content_of, reserved_of, IsKept};
+
+    ghost view = { λ s. record { content = content_of (S.content s.slots) s.index.entries s.results.items; reserved = reserved_of s.reserved } };
+
+    ghost invariant = { λ s. IsKept (S.content s.slots) (S.room s.slots) s.index s.results s.counts s.reserved };
+}
+
+impl<S: Slots<TaskItem<V>>, V> TaskStore<S, V> {
+    ghost use Rattle.tp_store.specs.Content.{nothing_stored, task_of, life_of, values_of, unfinished, counts_of, refusal_of_new, refusal_of_insert, refusal_of_deliver, refusal_of_done, with_inserted, with_delivered, with_begun, with_done, delivered_to, HasRoom};
+    ghost use Rattle.tp_store.specs.Sound.{IsSound};
+
+    /// A store with no task. It takes no memory yet.
+    pub fn new(alloc: Global) -> Self
+        ensures content { result.content ≡ nothing_stored }
+        ensures unfinished { unfinished result.content ≡ 0 }
+    {
+        TaskStore {
+            slots: S::new(alloc),
+            index: BTreeMap::new(alloc),
+            results: Vec::new(alloc),
+            counts: Counts {
+                waiting: 0,
+                ready: 0,
+                running: 0,
+            },
+            reserved: None,
+            alloc,
+        }
+    }
+
+    /// What a task has come to, or `None` where it was never inserted.
+    pub fn life(&self, task: TaskId) -> Option<Life>
+        ensures life { result ≡ life_of self.now.content task }
+        ensures sound { IsSound self.now.content }
+    {
+        match entry_of(&self.index, task) {
+            Some(Entry::Live(place)) => Some(self.slots.get(place).life()),
+            Some(Entry::Done(_, _)) => Some(Life::Done),
+            None => None,
+        }
+    }
+
+    /// How many tasks wait, are ready, and run.
+    pub fn counts(&self) -> Counts
+        ensures counts { result ≡ counts_of self.now.content }
+        ensures unfinished { unfinished self.now.content ≡ result.waiting + result.ready + result.running }
+        ensures limit { unfinished self.now.content ≤ MAX_LIVE_TASKS }
+    {
+        self.counts
+    }
+
+    /// Each task that is done with its result, in the order in which they were done.
+    pub fn results(&self) -> &[(TaskId, V)]
+        ensures results { result.now ≡ self.now.content.results }
+        ensures sound { IsSound self.now.content }
+    {
+        self.results.as_slice()
+    }
+
+    /// Whether an input-free task can be inserted.
+    ///
+    /// `TaskKnown` where it was inserted before, `StoreFull` where 65,536 tasks are not done.
+    pub fn check_insert(&self, task: TaskId) -> Result<(), Refusal>
+        ensures { MatchOption (refusal_of_insert self.now.content task) (result ≡ Ok tt) (λ e. result ≡ Err e) }
+    {
+        match entry_of(&self.index, task) {
+            Some(_) => Err(Refusal::TaskKnown),
+            None => check_new(&self.counts),
+        }
+    }
+
+    /// Whether a value can be delivered: what `deliver` answers, want of memory apart.
+    ///
+    /// `TaskKnown` where the task has begun or is done, or was inserted with another number of inputs, `SlotTaken` where the
+    /// slot has its value, `StoreFull` where the task is unknown and 65,536 tasks are not done.
+    pub fn check(&self, task: TaskId, arity: u8, slot: u8) -> Result<(), Refusal>
+        ensures { MatchOption (refusal_of_deliver self.now.content task arity slot) (result ≡ Ok tt) (λ e. result ≡ Err e) }
+    {
+        match entry_of(&self.index, task) {
+            Some(Entry::Live(place)) => self.slots.get(place).check(arity, slot),
+            Some(Entry::Done(_, _)) => Err(Refusal::TaskKnown),
+            None => check_new(&self.counts),
+        }
+    }
+}
+
+// Whether one more task may live.
+fn check_new(counts: &Counts) -> Result<(), Refusal>
+    requires { counts.now.waiting + counts.now.ready + counts.now.running ≤ MAX_LIVE_TASKS }
+    ensures ok { OnOk result (counts.now.waiting + counts.now.ready + counts.now.running < MAX_LIVE_TASKS) }
+    ensures err { IfErr result (λ e. (e ≡ Refusal.StoreFull) × (counts.now.waiting + counts.now.ready + counts.now.running ≡ MAX_LIVE_TASKS)) }
+{
+    if counts.waiting + counts.ready + counts.running == MAX_LIVE_TASKS {
+        return Err(Refusal::StoreFull);
+    }
+    Ok(())
+}
+
+impl<S: Slots<TaskItem<V>> + Drop, V: Drop> TaskStore<S, V> {
+    /// Each task that is done with its result, in the order in which they were done. The rest is dropped.
+    pub fn into_results(self) -> Vec<(TaskId, V)>
+        ensures { result.items ≡ self.content.results }
+    {
+        let TaskStore {
+            slots: _,
+            index: _,
+            results,
+            counts: _,
+            reserved: _,
+            alloc: _,
+        } = self;
+        results
+    }
+}
+
+impl<S: Slots<TaskItem<V>>, V: MadeWith<Global> + Drop> TaskStore<S, V> {
+    ghost use Rattle.tp_store.specs.Content.{task_of, life_of, values_of, unfinished, refusal_of_new, refusal_of_insert, refusal_of_deliver, refusal_of_done, with_inserted, with_delivered, with_begun, with_done, delivered_to, inserted_by, HasRoom, NoneGoesBack};
+
+    /// Makes room for a task that takes so many inputs, at most 16, in place of the room that was made for another. A
+    /// task that is known needs none.
+    ///
+    /// `StoreFull` where the task is unknown and 65,536 tasks are not done, `NoMemory` where a growth was refused.
+    pub fn reserve(&mut self, task: TaskId, arity: u8) -> Result<(), Refusal>
+        requires { arity ≤ MAX_INPUTS }
+        ensures content { self.new.content ≡ self.old.content }
+        ensures room { OnOk result (task_of self.old.content task ≡ None → HasRoom self.new task arity) }
+        ensures not_full { OnOk result (task_of self.old.content task ≡ None → refusal_of_new self.old.content ≡ None) }
+
+        ensures known { IsSome (task_of self.old.content task) → self.new.reserved ≡ self.old.reserved }
+
+        // It fails only for an unknown task that no room was made for.
+        ensures refusal { IfErr result (λ e. e ≡ unwrap_or (refusal_of_new self.old.content) Refusal.NoMemory) }
+        ensures unknown { OnErr result (task_of self.old.content task ≡ None) }
+        ensures had_room { HasRoom self.old task arity → IsOk result }
+        ensures unchanged { OnErr result (self.new ≡ self.old) }
+    {
+        if entry_of(&self.index, task).is_some() {
+            return Ok(());
+        }
+        if is_made_for(&self.reserved, task, arity) {
+            return Ok(());
+        }
+        let live = self.counts.waiting + self.counts.ready + self.counts.running;
+        let item = make_item(
+            &mut self.slots,
+            &mut self.index,
+            &mut self.results,
+            live as usize + 1,
+            task,
+            arity,
+            self.alloc,
+        )?;
+        keep_item(&mut self.reserved, &mut self.index, item);
+        Ok(())
+    }
+
+    /// Inserts an input-free task, ready at once, into the room that was made for it. Its class is 0 to 3.
+    pub fn insert_reserved(&mut self, task: TaskId, class: u8)
+        requires unknown { task_of self.old.content task ≡ None }
+        requires room { HasRoom self.old task 0 }
+        requires class_in_range { class < CLASSES }
+        ensures content { self.new.content ≡ with_inserted self.old.content task class }
+        ensures unfinished { unfinished self.new.content ≡ unfinished self.old.content + 1 }
+        ensures lives { NoneGoesBack self.old.content self.new.content }
+    {
+        let Some(item) = self.reserved.take() else {
+            unreachable!()
+        };
+        enter(
+            &mut self.slots,
+            &mut self.index,
+            &mut self.counts,
+            item.with_class(class),
+        );
+    }
+
+    /// Inserts an input-free task, ready at once: `reserve`, then `insert_reserved`. Its class is 0 to 3.
+    ///
+    /// `TaskKnown` where it was inserted before, `StoreFull` where 65,536 tasks are not done, `NoMemory` where a growth was
+    /// refused.
+    pub fn insert(&mut self, task: TaskId, class: u8) -> Result<(), Refusal>
+        requires { class < CLASSES }
+        ensures checked { OnOk result (refusal_of_insert self.old.content task ≡ None) }
+        ensures content { OnOk result (self.new.content ≡ with_inserted self.old.content task class) }
+        ensures unfinished { OnOk result (unfinished self.new.content ≡ unfinished self.old.content + 1) }
+        ensures lives { NoneGoesBack self.old.content self.new.content }
+
+        ensures refusal { IfErr result (λ e. e ≡ unwrap_or (refusal_of_insert self.old.content task) Refusal.NoMemory) }
+        ensures unchanged { OnErr result (self.new.content ≡ self.old.content) }
+    {
+        self.check_insert(task)?;
+        self.reserve(task, 0)?;
+        self.insert_reserved(task, class);
+        Ok(())
+    }
+
+    /// Delivers a value to a slot of a task, as `deliver`, where `check` answers `Ok` and room was made for an unknown task.
+    pub fn deliver_reserved(
+        &mut self,
+        task: TaskId,
+        arity: u8,
+        class: u8,
+        slot: u8,
+        value: V,
+    ) -> Delivered
+        requires checked { refusal_of_deliver self.old.content task arity slot ≡ None }
+        requires room { task_of self.old.content task ≡ None → HasRoom self.old task arity }
+        requires arity_in_range { arity ≤ MAX_INPUTS }
+        requires class_in_range { class < CLASSES }
+        requires slot_in_range { slot < arity }
+        ensures answer { result ≡ delivered_to self.old.content task arity }
+        ensures content { self.new.content ≡ with_delivered self.old.content task arity class slot value }
+        ensures unfinished { unfinished self.new.content ≡ unfinished self.old.content + inserted_by result }
+        ensures lives { NoneGoesBack self.old.content self.new.content }
+    {
+        let Some(entry) = entry_of(&self.index, task) else {
+            let Some(item) = self.reserved.take() else {
+                unreachable!()
+            };
+            let mut item = item.with_class(class);
+            item.fill(slot, value);
+            enter(&mut self.slots, &mut self.index, &mut self.counts, item);
+            return Delivered::Inserted(arity - 1);
+        };
+        let Entry::Live(place) = entry else {
+            unreachable!()
+        };
+        supply(&mut self.slots, &mut self.counts, place, slot, value);
+        Delivered::Filled
+    }
+
+    /// Delivers a value to a slot of a task that takes 1 to 16 inputs: `check`, `reserve`, then `deliver_reserved`. An unknown
+    /// task is inserted by it. With its last input a task is ready, in the class that it was inserted with: the class, 0 to 3,
+    /// is looked at for an unknown task alone. A refused value comes back.
+    ///
+    /// `TaskKnown` where the task has begun or is done, or was inserted with another number of inputs, `SlotTaken` where the
+    /// slot has its value, `StoreFull` where the task is unknown and 65,536 tasks are not done, `NoMemory` where a growth was
+    /// refused.
+    pub fn deliver(
+        &mut self,
+        task: TaskId,
+        arity: u8,
+        class: u8,
+        slot: u8,
+        value: V,
+    ) -> Result<Delivered, (Refusal, V)>
+        requires arity_in_range { arity ≤ MAX_INPUTS }
+        requires class_in_range { class < CLASSES }
+        requires slot_in_range { slot < arity }
+        ensures checked { OnOk result (refusal_of_deliver self.old.content task arity slot ≡ None) }
+        ensures answer { IfOk result (λ d. d ≡ delivered_to self.old.content task arity) }
+        ensures content { OnOk result (self.new.content ≡ with_delivered self.old.content task arity class slot value) }
+        ensures unfinished { IfOk result (λ d. unfinished self.new.content ≡ unfinished self.old.content + inserted_by d) }
+        ensures lives { NoneGoesBack self.old.content self.new.content }
+
+        ensures refusal { IfErr result (λ e. e.0 ≡ unwrap_or (refusal_of_deliver self.old.content task arity slot) Refusal.NoMemory) }
+        ensures value_returned { IfErr result (λ e. e.1 ≡ value) }
+        ensures unchanged { OnErr result (self.new.content ≡ self.old.content) }
+    {
+        if let Err(refusal) = self.check(task, arity, slot) {
+            return Err((refusal, value));
+        }
+        if let Err(refusal) = self.reserve(task, arity) {
+            return Err((refusal, value));
+        }
+        Ok(self.deliver_reserved(task, arity, class, slot, value))
+    }
+
+    /// The next ready task, of the lowest class that has one, begins: its inputs are moved out.
+    pub fn begin(&mut self) -> Option<Begun<V>>
+        ensures next { option_map (λ b. b.task) result ≡ front self.old.content.ready }
+        ensures life { IfSome result (λ b. life_of self.old.content b.task ≡ Some Life.Ready) }
+        ensures inputs { IfSome result (λ b. map (λ v. Some v) b.inputs.items ≡ values_of self.old.content b.task) }
+        ensures content { MatchOption result (self.new.content ≡ self.old.content) (λ b. self.new.content ≡ with_begun self.old.content b.task) }
+        ensures unfinished { unfinished self.new.content ≡ unfinished self.old.content }
+        ensures lives { NoneGoesBack self.old.content self.new.content }
+        ensures reserved { self.new.reserved ≡ self.old.reserved }
+    {
+        let Some(place) = self.slots.pop_ready() else {
+            return None;
+        };
+        let (task, inputs) = begin_at(&mut self.slots, place);
+        self.counts.begin();
+        Some(Begun { task, inputs })
+    }
+
+    /// A running task is done, with this result. A refused result comes back.
+    ///
+    /// `NoTask` where the task was never inserted, `WrongLife` where it does not run.
+    pub fn done(&mut self, task: TaskId, value: V) -> Result<(), (Refusal, V)>
+        ensures checked { OnOk result (refusal_of_done (life_of self.old.content task) ≡ None) }
+        ensures content { OnOk result (self.new.content ≡ with_done self.old.content task value) }
+        ensures unfinished { OnOk result (unfinished self.new.content + 1 ≡ unfinished self.old.content) }
+        ensures lives { NoneGoesBack self.old.content self.new.content }
+        ensures reserved { self.new.reserved ≡ self.old.reserved }
+
+        ensures refusal { IfErr result (λ e. Some e.0 ≡ refusal_of_done (life_of self.old.content task)) }
+        ensures value_returned { IfErr result (λ e. e.1 ≡ value) }
+        ensures unchanged { OnErr result (self.new.content ≡ self.old.content) }
+    {
+        let place = match entry_of(&self.index, task) {
+            Some(Entry::Live(place)) => place,
+            Some(Entry::Done(_, _)) => return Err((Refusal::WrongLife, value)),
+            None => return Err((Refusal::NoTask, value)),
+        };
+        let item = self.slots.get(place);
+        let Life::Running = item.life() else {
+            return Err((Refusal::WrongLife, value));
+        };
+        let entry = Entry::Done(item.arity(), item.class());
+        let _ = self.slots.give_back(place);
+        set_entry(&mut self.index, task, entry);
+        self.results.push_reserved((task, value));
+        self.counts.running -= 1;
+        Ok(())
+    }
+}
