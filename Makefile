@@ -10,10 +10,10 @@ bin/tp: $(shell find crates -name '*.rt' -o -name '*.antt' -not -path '*/out/*')
 	mkdir -p bin && cp crates/tp/out/tp bin/tp
 
 demo: bin/tp
-	@echo '$$ tp sim < examples/a-task'
-	@cat examples/a-task
-	@echo '--- answers'
-	@bin/tp sim < examples/a-task
+	@echo '$$ tp sim, on this script:'
+	@cat crates/tp/stdin
+	@echo '--- its answer:'
+	@bin/tp sim < crates/tp/stdin
 
 test:
 	rt ci
