@@ -5,7 +5,9 @@
 
 all: bin/tp
 
-bin/tp: $(shell find crates -name '*.rt' -o -name '*.antt' -not -path '*/out/*') crates.txt
+SOURCES := $(shell find crates -name out -prune -o -name '*.rt' -print -o -name '*.antt' -print)
+
+bin/tp: $(SOURCES) crates.txt
 	cd crates/tp && rt run -- sim < stdin > /dev/null
 	mkdir -p bin && cp crates/tp/out/tp bin/tp
 
