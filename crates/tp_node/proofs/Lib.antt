@@ -1,0 +1,2 @@
+pub mod FiniteSets
+pub mod Refusals
