@@ -1,0 +1,39 @@
+-- Where no task is unfinished.
+use Rattle.std.proofs.Common.{◌≡◌, ℕ, ◌+◌, ◌<◌, ◌≤◌, ◌==◌, Bool, true, false, cond, List, [], ◌∷◌, Option, Some, None, is_some, unwrap_or, MatchOption, count_by, refl, sym, ap, subst, ◌∙◌, arith}
+use Rattle.std.specs.Prelude.{if◌then◌else◌, IsTrue}
+use Rattle.std.specs.Option.{option_map}
+use Rattle.std.specs.FinMap as finite
+use Rattle.tp_base.specs.declared.ids.TaskId.{TaskId}
+use Rattle.tp_node.specs.Nodes.{Numbers, EachOnce}
+use Rattle.tp_store.proofs.Counting.{one_if, passing, passing-insert}
+use Rattle.tp_store.specs.Content.{Task, Content, task_of, done, unfinished, is_unfinished, is_done}
+use Rattle.tp_store.specs.Sound.{IsSound, times_done}
+use Rattle.tp_store.specs.declared.life.Life.{Life}
+use Rattle.tp_store.specs.declared.life.Life.TheVariants.{Waiting, Ready, Running, Done}
+
+abbrev weight : Life → ℕ
+weight life = cond (is_unfinished life) 1 0
+
+over_if : (life : Life) → weight life ≡ 0 → is_done life ≡ true
+over_if (Waiting k) e = absurd (omega arith)
+over_if Ready e = absurd (omega arith)
+over_if Running e = absurd (omega arith)
+over_if Done e = refl
+
+module _ (s : Content Numbers) (t : TaskId) (x : Task Numbers) (known : task_of s t ≡ Some x) where
+  moved : unfinished s ≡ count_by (λ e. is_unfinished e.1.life) (finite.entries (finite.insert s.tasks t.0 (done x))) + weight x.life
+  moved =
+      let e = passing-insert (λ (y : Task Numbers). is_unfinished y.life) s.tasks t.0 (done x) in
+      let e2 = rw known at e in
+      omega (arith, e2)
+
+  pub is_over : unfinished s ≡ 0 → is_done x.life ≡ true
+  is_over none = over_if x.life (omega (arith, moved))
+
+pub each_once : (s : Content Numbers) → IsSound s → unfinished s ≡ 0 → EachOnce s
+each_once s sound none t known = go (task_of s t) refl known
+  where
+    go : (o : Option (Task Numbers)) → task_of s t ≡ o → IsTrue (is_some o) → times_done s t ≡ 1
+    go None e k = absurd (let no : false ≡ true = k in cc)
+    go (Some x) e k =
+        sound.done t ∙ ap (λ o. if unwrap_or (option_map (λ (y : Task Numbers). is_done y.life) o) false then 1 else 0) e ∙ ap (λ b. if b then 1 else 0) (is_over s t x e none)
