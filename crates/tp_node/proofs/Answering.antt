@@ -15,7 +15,7 @@ use Rattle.tp_base.specs.declared.ids.MessageId.{MessageId}
 use Rattle.tp_node.specs.Locals.{LocalState}
 use Rattle.tp_node.specs.Nodes.{Numbers, with_received}
 use Rattle.tp_node.specs.Refused.{has_message}
-use Rattle.tp_wave.specs.Checks.{Check, first_refusal}
+use Rattle.tp_base.specs.Checks.{Check, first_refusal}
 
 -- the same refusal, with what comes back
 module _ (A : Type 0) {B : Type 0} (checks : List Check) (e : Refusal) (back : B) where

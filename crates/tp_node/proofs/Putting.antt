@@ -12,7 +12,7 @@ use Rattle.tp_store.specs.Content.{Task, Content, task_of, life_of, done, unfini
 use Rattle.tp_store.specs.Sound.{IsSound, times_done}
 use Rattle.tp_store.specs.declared.life.Life.{Life}
 use Rattle.tp_store.specs.declared.life.Life.TheVariants.{Waiting, Ready, Running, Done}
-use Rattle.tp_wave.specs.Checks.{first_refusal}
+use Rattle.tp_base.specs.Checks.{first_refusal}
 
 module _ {V : Type 0} (s : Content V) (t : TaskId) where
   abbrev pub put_test : ℕ → ℕ → Option Refusal

@@ -4,7 +4,7 @@ use Rattle.tp_base.specs.History.{Event}
 use Rattle.tp_base.specs.declared.refusal.Refusal.{Refusal}
 use Rattle.tp_base.specs.declared.refusal.Refusal.TheVariants.{NoMemory}
 use Rattle.tp_board.specs.States.{BoardState}
-use Rattle.tp_wave.specs.Checks.{Check, first_refusal}
+use Rattle.tp_base.specs.Checks.{Check, first_refusal}
 
 -- The board has these events more, the newest first, and else is as it was. What is reserved is left open.
 pub record Appends (events : List Event) (old new : BoardState) : Type 0 where

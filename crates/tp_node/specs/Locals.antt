@@ -13,7 +13,8 @@ use Rattle.tp_monitor.specs.declared.TaskpoolState.{TaskpoolState}
 use Rattle.tp_monitor.specs.declared.TaskpoolState.TheVariants.{NotReady, Busy, Idle, Terminated}
 use Rattle.tp_base.specs.Checks.{Check, first_refusal}
 use Rattle.tp_monitor.specs.Monitors.{Monitored, is_idle}
-use Rattle.tp_store.specs.Content.{Content, nothing_stored, task_of, unfinished, refusal_of_new, refusal_of_deliver}
+use Rattle.tp_store.specs.Content.{Content, nothing_stored, task_of, unfinished, is_unfinished, refusal_of_new, refusal_of_deliver}
+use Rattle.tp_store.specs.declared.life.Life.{Life}
 use Rattle.tp_store.specs.Codes.{content_code}
 use Rattle.tp_node.specs.Actions.{Actions, actions_code, first_actions, open_count, opening_count}
 
@@ -40,6 +41,11 @@ pub record IsCounted (m : Monitored) (unfinished opened opening : ℕ) : Type 0 
   pub tasks : m.numbers.tasks ≡ unfinished
   pub actions : m.numbers.actions ≡ opened
   pub first : m.numbers.opening ≡ opening
+
+-- the life of a task that is not done
+abbrev pub is_live : Option Life → Bool
+is_live None = false
+is_live (Some life) = is_unfinished life
 
 module _ {V : Type 0} where
   -- There is no task, and the opening action alone is open.

@@ -16,7 +16,7 @@ use Rattle.tp_node.specs.Nodes.{NodeState, Numbers}
 use Rattle.tp_node.specs.Wires.{WireState}
 use Rattle.tp_store.specs.Content.{Content, task_of, is_running, has_begun, unfinished}
 use Rattle.tp_store.specs.Sound.{passes}
-use Rattle.tp_wave.specs.Checks.{Check}
+use Rattle.tp_base.specs.Checks.{Check}
 use Rattle.tp_wave.specs.Machine.{steps_of}
 use Rattle.tp_wave.specs.Steps.{any}
 

@@ -1,4 +1,4 @@
-ghost use Rattle.std.specs.Prelude.{◌≡◌, ◌+◌, ◌≤◌, ◌<◌, true, None, Some, map, unwrap_or, is_some, OnOk, OnErr, IfOk, IfErr, IfSome, MatchOption};
+ghost use Rattle.std.specs.Prelude.{◌≡◌, ◌+◌, ◌≤◌, ◌<◌, true, None, Some, map, unwrap_or, is_some, OnOk, OnErr, IfOk, IfErr, IfSome, OnSome, IsTrue, MatchOption};
 ghost use Rattle.std.specs.FinSet as set;
 ghost use Rattle.std.specs.Option.{option_map};
 ghost use Rattle.std.specs.Result.{result_err};
@@ -6,9 +6,11 @@ ghost use Rattle.tp_base.specs.Checks.{first_refusal};
 ghost use Rattle.tp_monitor.specs.Monitors.{IsWithinLimits};
 ghost use Rattle.tp_monitor.specs.declared.TaskpoolState.TheVariants.{Terminated};
 ghost use Rattle.tp_slots.specs.Content.{front};
-ghost use Rattle.tp_store.specs.Content.{with_inserted, with_delivered, with_begun, with_done, delivered_to, values_of, counts_of, task_of, life_of, unfinished, refusal_of_done};
+ghost use Rattle.tp_store.specs.Content.{with_inserted, with_delivered, with_begun, with_done, delivered_to, values_of, counts_of, task_of, life_of, unfinished, refusal_of_done, inserted_by};
+ghost use Rattle.tp_store.specs.Sound.{IsSound};
+ghost use Rattle.tp_store.specs.declared.life.Life.TheVariants as lives;
 ghost use Rattle.tp_node.specs.Actions.{open_count, without_opening, with_named, without_named, with_message, without_message};
-ghost use Rattle.tp_node.specs.Locals.{first_state, pending, standing, refusal_of_insertion, refusal_of_delivery, send_checks, receive_checks, end_checks, open_checks, close_checks, ready_checks, finish_checks};
+ghost use Rattle.tp_node.specs.Locals.{first_state, pending, is_live, standing, refusal_of_insertion, refusal_of_delivery, send_checks, receive_checks, end_checks, open_checks, close_checks, ready_checks, finish_checks};
 
 use crate::actions::OpenActions;
 use crate::tally::Tally;
@@ -52,7 +54,8 @@ impl<V> Model for Local<V> {
 impl<V: MadeWith<Global> + Drop> Local<V> {
     /// Nothing is stored, and the opening action alone is open. It takes no memory.
     pub fn new(alloc: Global, pool: PoolId) -> Self
-        ensures { result ≡ first_state }
+        ensures first { result ≡ first_state }
+        ensures counted { pending result ≡ 1 }
     {
         Local {
             store: TaskStore::new(alloc),
@@ -69,6 +72,7 @@ impl<V: MadeWith<Global> + Drop> Local<V> {
         requires { class < CLASSES }
         ensures checked { OnOk result (refusal_of_insertion self.old task ≡ None) }
         ensures inserted { OnOk result (self.new ≡ record self.old { store = with_inserted self.old.store task class }) }
+        ensures counted { OnOk result (pending self.new ≡ pending self.old + 1) }
         ensures refused { IfErr result (λ e. e ≡ unwrap_or (refusal_of_insertion self.old task) Refusal.NoMemory) }
         ensures kept { OnErr result (self.new ≡ self.old) }
     {
@@ -104,6 +108,7 @@ impl<V: MadeWith<Global> + Drop> Local<V> {
         ensures checked { OnOk result (refusal_of_delivery self.old task arity slot ≡ None) }
         ensures answer { IfOk result (λ d. d ≡ delivered_to self.old.store task arity) }
         ensures delivered { OnOk result (self.new ≡ record self.old { store = with_delivered self.old.store task arity class slot value }) }
+        ensures counted { IfOk result (λ d. pending self.new ≡ pending self.old + inserted_by d) }
         ensures refused { IfErr result (λ e. e.0 ≡ unwrap_or (refusal_of_delivery self.old task arity slot) Refusal.NoMemory) }
         ensures value_returned { IfErr result (λ e. e.1 ≡ value) }
         ensures kept { OnErr result (self.new ≡ self.old) }
@@ -124,8 +129,12 @@ impl<V: MadeWith<Global> + Drop> Local<V> {
     /// where no task is ready.
     pub fn begin(&mut self) -> Option<Begun<V>>
         ensures next { option_map (λ b. b.task) result ≡ front self.old.store.ready }
+        ensures life { IfSome result (λ b. life_of self.old.store b.task ≡ Some lives.Ready) }
         ensures inputs { IfSome result (λ b. map (λ v. Some v) b.inputs.items ≡ values_of self.old.store b.task) }
         ensures begun { MatchOption result (self.new ≡ self.old) (λ b. self.new ≡ record self.old { store = with_begun self.old.store b.task }) }
+        ensures counted { pending self.new ≡ pending self.old }
+        ensures active { OnSome result (0 < pending self.old) }
+        ensures sound { IsSound self.old.store }
     {
         self.store.begin()
     }
@@ -136,6 +145,7 @@ impl<V: MadeWith<Global> + Drop> Local<V> {
     pub fn done(&mut self, task: TaskId, value: V) -> Result<(), (Refusal, V)>
         ensures checked { OnOk result (refusal_of_done (life_of self.old.store task) ≡ None) }
         ensures done { OnOk result (self.new ≡ record self.old { store = with_done self.old.store task value }) }
+        ensures counted { OnOk result (pending self.new + 1 ≡ pending self.old) }
         ensures refused { IfErr result (λ e. Some e.0 ≡ refusal_of_done (life_of self.old.store task)) }
         ensures value_returned { IfErr result (λ e. e.1 ≡ value) }
         ensures kept { OnErr result (self.new ≡ self.old) }
@@ -168,6 +178,7 @@ impl<V: MadeWith<Global> + Drop> Local<V> {
     pub fn receive(&mut self, message: MessageId) -> Result<(), Refusal>
         ensures checked { OnOk result (first_refusal (receive_checks self.old message.0) ≡ None) }
         ensures received { OnOk result (self.new ≡ record self.old { received = self.old.received + 1; actions = with_message self.old.actions message.0 }) }
+        ensures counted { OnOk result (pending self.new ≡ pending self.old + 1) }
         ensures refused { IfErr result (λ e. e ≡ unwrap_or (first_refusal (receive_checks self.old message.0)) Refusal.NoMemory) }
         ensures kept { OnErr result (self.new ≡ self.old) }
     {
@@ -190,6 +201,7 @@ impl<V: MadeWith<Global> + Drop> Local<V> {
     pub fn end(&mut self, message: MessageId) -> Result<(), Refusal>
         ensures refused { result_err result ≡ first_refusal (end_checks self.old message.0) }
         ensures closed { OnOk result (self.new ≡ record self.old { actions = without_message self.old.actions message.0 }) }
+        ensures counted { OnOk result (pending self.new + 1 ≡ pending self.old) }
         ensures kept { OnErr result (self.new ≡ self.old) }
     {
         if !self.actions.has_message(message) {
@@ -207,6 +219,7 @@ impl<V: MadeWith<Global> + Drop> Local<V> {
     pub fn open(&mut self, action: ActionId) -> Result<(), Refusal>
         ensures checked { OnOk result (first_refusal (open_checks self.old action.0) ≡ None) }
         ensures opened { OnOk result (self.new ≡ record self.old { actions = with_named self.old.actions action.0 }) }
+        ensures counted { OnOk result (pending self.new ≡ pending self.old + 1) }
         ensures refused { IfErr result (λ e. e ≡ unwrap_or (first_refusal (open_checks self.old action.0)) Refusal.NoMemory) }
         ensures kept { OnErr result (self.new ≡ self.old) }
     {
@@ -229,6 +242,7 @@ impl<V: MadeWith<Global> + Drop> Local<V> {
     pub fn close(&mut self, action: ActionId) -> Result<(), Refusal>
         ensures refused { result_err result ≡ first_refusal (close_checks self.old action.0) }
         ensures closed { OnOk result (self.new ≡ record self.old { actions = without_named self.old.actions action.0 }) }
+        ensures counted { OnOk result (pending self.new + 1 ≡ pending self.old) }
         ensures kept { OnErr result (self.new ≡ self.old) }
     {
         if !self.actions.has_named(action) {
@@ -245,6 +259,7 @@ impl<V: MadeWith<Global> + Drop> Local<V> {
     pub fn ready(&mut self) -> Result<(), Refusal>
         ensures refused { result_err result ≡ first_refusal (ready_checks self.old) }
         ensures closed { OnOk result (self.new ≡ record self.old { actions = without_opening self.old.actions }) }
+        ensures counted { OnOk result (pending self.new + 1 ≡ pending self.old) }
         ensures kept { OnErr result (self.new ≡ self.old) }
     {
         if !self.actions.is_opening() {
@@ -301,25 +316,51 @@ impl<V: MadeWith<Global> + Drop> Local<V> {
         self.tally.state()
     }
 
+    /// Whether the pool's end was announced here.
+    pub fn is_over(&self) -> bool
+        ensures { result ≡ self.now.ended }
+    {
+        self.tally.is_over()
+    }
+
+    /// Whether the opening action is open.
+    pub fn is_opening(&self) -> bool
+        ensures open { result ≡ self.now.actions.opening }
+        ensures active { IsTrue result → 0 < pending self.now }
+    {
+        self.actions.is_opening()
+    }
+
     /// Whether a named action is open.
-    pub fn has_action(&self, action: ActionId) -> bool
-        ensures { result ≡ set.contains self.now.actions.named action.0 }
+    pub fn has_named(&self, action: ActionId) -> bool
+        ensures open { result ≡ set.contains self.now.actions.named action.0 }
+        ensures active { IsTrue result → 0 < pending self.now }
     {
         self.actions.has_named(action)
     }
 
     /// Whether the action of a message is open.
     pub fn has_message(&self, message: MessageId) -> bool
-        ensures { result ≡ set.contains self.now.actions.messages message.0 }
+        ensures open { result ≡ set.contains self.now.actions.messages message.0 }
+        ensures active { IsTrue result → 0 < pending self.now }
     {
         self.actions.has_message(message)
     }
 
     /// What a task has come to, or `None` where there is no such task.
     pub fn life(&self, task: TaskId) -> Option<Life>
-        ensures { result ≡ life_of self.now.store task }
+        ensures life { result ≡ life_of self.now.store task }
+        ensures active { IsTrue (is_live result) → 0 < pending self.now }
+        ensures sound { IsSound self.now.store }
     {
         self.store.life(task)
+    }
+
+    /// Whether a task is ready, which `begin` would begin.
+    pub fn has_ready(&self) -> bool
+        ensures { result ≡ is_some (front self.now.store.ready) }
+    {
+        self.store.counts().ready > 0
     }
 
     /// What `deliver` would answer, `NoMemory` apart.
@@ -344,9 +385,17 @@ impl<V: MadeWith<Global> + Drop> Local<V> {
 
     /// Each task that is done with its result, in the order in which they were done.
     pub fn results(&self) -> &[(TaskId, V)]
-        ensures { result.now ≡ self.now.store.results }
+        ensures results { result.now ≡ self.now.store.results }
+        ensures sound { IsSound self.now.store }
     {
         self.store.results()
+    }
+
+    /// The results alone. The rest is dropped.
+    pub fn into_results(self) -> Vec<(TaskId, V)>
+        ensures { result.items ≡ self.store.results }
+    {
+        self.store.into_results()
     }
 
     /// Whether a task was inserted.

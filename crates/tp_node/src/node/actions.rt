@@ -26,7 +26,9 @@ impl<G: Graph, K: Ledgers> Node<G, K> {
             return Err(Refusal::NoAction);
         }
         board.append(Step::Ready(self.shares.node()), &mut self.shares)?;
-        self.local.ready();
+        let Ok(()) = self.local.ready() else {
+            unreachable!()
+        };
         Ok(())
     }
 
@@ -70,7 +72,9 @@ impl<G: Graph, K: Ledgers> Node<G, K> {
         }
         let step = Step::ActionClose(self.shares.node(), action);
         board.append(step, &mut self.shares)?;
-        self.local.close(action);
+        let Ok(()) = self.local.close(action) else {
+            unreachable!()
+        };
         Ok(())
     }
 
@@ -86,6 +90,8 @@ impl<G: Graph, K: Ledgers> Node<G, K> {
         board.audit_ended(ended);
         board.audit(&mut self.shares);
         let _results = self.local.results();
-        self.local.finish();
+        let Ok(()) = self.local.finish() else {
+            unreachable!()
+        };
     }
 }

@@ -10,7 +10,7 @@ ghost use Rattle.tp_node.specs.Refused.{deliver_checks, has_message, is_stranger
 ghost use Rattle.tp_node.specs.Wires.{message_on, with_message};
 ghost use Rattle.tp_wave.specs.Machine.{is_send_to, steps_of};
 ghost use Rattle.tp_wave.specs.Steps.{any, count};
-ghost use Rattle.tp_wave.specs.Checks.{first_refusal};
+ghost use Rattle.tp_base.specs.Checks.{first_refusal};
 ghost use Rattle.tp_base.specs.declared.refusal.Refusal.TheVariants.{Stranger, WrongLife};
 
 use crate::node::Node;
@@ -50,7 +50,9 @@ impl<G: Graph, K: Ledgers> Node<G, K> {
         board.audit(&mut self.shares);
         let feed = finished.next_feed();
         let number = wire.put(board, &mut self.shares, self.graph, feed, value)?;
-        self.local.send();
+        let Ok(()) = self.local.send() else {
+            unreachable!()
+        };
         finished.pass_on();
         Ok(number)
     }
@@ -172,6 +174,8 @@ impl<G: Graph, K: Ledgers> Node<G, K> {
         let Ok(()) = board.append(step, &mut self.shares) else {
             unreachable!()
         };
-        self.local.end(message);
+        let Ok(()) = self.local.end(message) else {
+            unreachable!()
+        };
     }
 }

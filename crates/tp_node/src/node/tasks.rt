@@ -9,7 +9,7 @@ ghost use Rattle.tp_node.specs.Refused.{begin_checks, done_checks, feed_checks, 
 ghost use Rattle.tp_slots.specs.Content.{front};
 ghost use Rattle.tp_store.specs.Content.{refusal_of_deliver, task_of, values_of};
 ghost use Rattle.tp_base.specs.declared.step.Step.TheVariants as steps;
-ghost use Rattle.tp_wave.specs.Checks.{first_refusal};
+ghost use Rattle.tp_base.specs.Checks.{first_refusal};
 
 use crate::local::Local;
 use crate::node::Node;
@@ -146,7 +146,7 @@ impl<G: Graph, K: Ledgers> Node<G, K> {
         if self.local.pending() == 0 {
             return Err(Refusal::Inactive);
         }
-        let is_full = self.local.check_insert(task).is_err();
+        let is_full = self.local.check(task, 0, 0).is_err();
         make_room(board, 1, is_full)?;
         self.local.insert(task, self.graph.class(task))?;
         let Some(none) = Inputs::new(0) else {
