@@ -21,7 +21,7 @@ use tp_base::{
     ActionId, CLASSES, MAX_INPUTS, MAX_LIVE_TASKS, MAX_STEPS, MessageId, PoolId, Refusal, TaskId,
 };
 use tp_monitor::{MAX_ACTIONS, TaskpoolState};
-use tp_slots::SlabSlots;
+use tp_slots::Slots;
 use tp_store::{Begun, Counts, Delivered, Life, TaskItem, TaskStore};
 
 /// A node's tasks and open actions for one pool, beside a monitor that counts them.
@@ -31,13 +31,13 @@ use tp_store::{Begun, Counts, Delivered, Life, TaskItem, TaskStore};
 /// A refused call changes nothing and hands back what was moved in. Its refusal is the first that holds of those that its
 /// call names, in their order.
 #[derive(Drop)]
-pub struct Local<V> {
-    store: TaskStore<SlabSlots<TaskItem<V>>, V>,
+pub struct Local<S: Slots<TaskItem<V>>, V> {
+    store: TaskStore<S, V>,
     actions: OpenActions,
     tally: Tally,
 }
 
-impl<V> Model for Local<V> {
+impl<S: Slots<TaskItem<V>>, V> Model for Local<S, V> {
     ghost use Rattle.tp_store.specs.Content.{unfinished};
     ghost use Rattle.tp_node.specs.Actions.{open_count, opening_count};
     ghost use Rattle.tp_node.specs.Locals.{LocalState, state_code, IsCounted, state_of};
@@ -51,7 +51,7 @@ impl<V> Model for Local<V> {
     ghost invariant = { λ l. IsCounted l.tally (unfinished l.store.content) (open_count l.actions) (opening_count l.actions) };
 }
 
-impl<V: MadeWith<Global> + Drop> Local<V> {
+impl<S: Slots<TaskItem<V>>, V: MadeWith<Global> + Drop> Local<S, V> {
     /// Nothing is stored, and the opening action alone is open. It takes no memory.
     pub fn new(alloc: Global, pool: PoolId) -> Self
         ensures first { result ≡ first_state }
@@ -391,13 +391,6 @@ impl<V: MadeWith<Global> + Drop> Local<V> {
         self.store.results()
     }
 
-    /// The results alone. The rest is dropped.
-    pub fn into_results(self) -> Vec<(TaskId, V)>
-        ensures { result.items ≡ self.store.results }
-    {
-        self.store.into_results()
-    }
-
     /// Whether a task was inserted.
     fn is_known(&self, task: TaskId) -> bool
         ensures { result ≡ is_some (task_of self.now.store task) }
@@ -406,14 +399,24 @@ impl<V: MadeWith<Global> + Drop> Local<V> {
     }
 }
 
+impl<S: Slots<TaskItem<V>> + Drop, V: Drop> Local<S, V> {
+    /// The results alone. The rest is dropped.
+    pub fn into_results(self) -> Vec<(TaskId, V)>
+        ensures { result.items ≡ self.store.results }
+    {
+        self.store.into_results()
+    }
+}
+
 #[cfg(test)]
 mod tests {
     use super::*;
+    use tp_slots::SlabSlots;
     use std::test::Fail;
 
     #[test]
     fn pending_falls_where_a_task_is_done(rt: HostRuntime) -> Result<(), Fail> {
-        let mut local: Local<u64> = Local::new(rt.alloc(), PoolId(0));
+        let mut local: Local<SlabSlots<TaskItem<u64>>, u64> = Local::new(rt.alloc(), PoolId(0));
         assert_eq!(rt; local.pending(), 1);
         assert_eq!(rt; local.state(), TaskpoolState::NotReady);
         assert_eq!(rt; local.insert(TaskId(1), 0), Ok(()));
@@ -435,7 +438,7 @@ mod tests {
 
     #[test]
     fn values_messages_and_actions_come_to_a_node(rt: HostRuntime) -> Result<(), Fail> {
-        let mut local: Local<u64> = Local::new(rt.alloc(), PoolId(0));
+        let mut local: Local<SlabSlots<TaskItem<u64>>, u64> = Local::new(rt.alloc(), PoolId(0));
         assert_eq!(rt; local.receive(MessageId(4)), Ok(()));
         assert_eq!(rt;
             local.deliver(TaskId(1), 2, 0, 0, 30),

@@ -17,7 +17,11 @@ use tp_base::{NodeId, PoolId, TaskId};
 use tp_board::{Board, Ledgers, Shares};
 use tp_graph::{Graph, Value};
 use tp_monitor::TaskpoolState;
-use tp_store::Counts;
+use tp_slots::SlabSlots;
+use tp_store::{Counts, TaskItem};
+
+/// A node's own numbers, over slots in a slab.
+type NodeLocal = Local<SlabSlots<TaskItem<Value>>, Value>;
 
 /// A node of a pool: what lies under its lock.
 ///
@@ -30,7 +34,7 @@ pub struct Node<G: Graph, K: Ledgers> {
     nodes: u32,
     // The input-free tasks of this node below this one were inserted.
     next: u32,
-    local: Local<Value>,
+    local: NodeLocal,
     shares: Shares<K>,
 }
 
