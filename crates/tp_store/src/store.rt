@@ -1,5 +1,5 @@
 //! The store of a node's tasks.
-ghost use Rattle.std.specs.Prelude.{◌≡◌, ◌≢◌, ℕ, ◌+◌, ◌<◌, ◌≤◌, None, Some, IsOk, IfOk, IfErr, IfSome, OnOk, OnErr, MatchOption, unwrap_or, map, IsSome};
+ghost use Rattle.std.specs.Prelude.{◌≡◌, ◌≢◌, ℕ, ◌+◌, ◌<◌, ◌≤◌, None, Some, is_some, IsOk, IfOk, IfErr, IfSome, OnOk, OnErr, MatchOption, unwrap_or, map, IsSome};
 ghost use Rattle.std.specs.Option.{option_map};
 ghost use Rattle.tp_slots.specs.Content.{front};
 
@@ -98,6 +98,13 @@ impl<S: Slots<TaskItem<V>>, V> TaskStore<S, V> {
         ensures limit { unfinished self.now.content ≤ MAX_LIVE_TASKS }
     {
         self.counts
+    }
+
+    /// Whether a task is ready: whether `begin` answers one.
+    pub fn has_ready(&self) -> bool
+        ensures { result ≡ is_some (front self.now.content.ready) }
+    {
+        self.counts.ready > 0
     }
 
     /// Each task that is done with its result, in the order in which they were done.
