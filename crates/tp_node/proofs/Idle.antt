@@ -1,12 +1,13 @@
 -- Where no task is unfinished.
 use Rattle.std.proofs.Common.{◌≡◌, ℕ, ◌+◌, ◌<◌, ◌≤◌, ◌==◌, Bool, true, false, cond, List, [], ◌∷◌, Option, Some, None, is_some, unwrap_or, MatchOption, count_by, refl, sym, ap, subst, ◌∙◌, arith}
-use Rattle.std.specs.Prelude.{if◌then◌else◌, IsTrue}
+use Rattle.std.specs.Prelude.{if◌then◌else◌, IsTrue, IfSome, OnSome}
 use Rattle.std.specs.Option.{option_map}
 use Rattle.std.specs.FinMap as finite
 use Rattle.tp_base.specs.declared.ids.TaskId.{TaskId}
+use Rattle.tp_node.specs.Locals.{is_live}
 use Rattle.tp_node.specs.Nodes.{Numbers, EachOnce}
 use Rattle.tp_store.proofs.Counting.{one_if, passing, passing-insert}
-use Rattle.tp_store.specs.Content.{Task, Content, task_of, done, unfinished, is_unfinished, is_done}
+use Rattle.tp_store.specs.Content.{Task, Content, task_of, life_of, done, unfinished, is_unfinished, is_done}
 use Rattle.tp_store.specs.Sound.{IsSound, times_done}
 use Rattle.tp_store.specs.declared.life.Life.{Life}
 use Rattle.tp_store.specs.declared.life.Life.TheVariants.{Waiting, Ready, Running, Done}
@@ -20,15 +21,35 @@ over_if Ready e = absurd (omega arith)
 over_if Running e = absurd (omega arith)
 over_if Done e = refl
 
-module _ (s : Content Numbers) (t : TaskId) (x : Task Numbers) (known : task_of s t ≡ Some x) where
+module _ {V : Type 0} (s : Content V) (t : TaskId) (x : Task V) (known : task_of s t ≡ Some x) where
   moved : unfinished s ≡ count_by (λ e. is_unfinished e.1.life) (finite.entries (finite.insert s.tasks t.0 (done x))) + weight x.life
   moved =
-      let e = passing-insert (λ (y : Task Numbers). is_unfinished y.life) s.tasks t.0 (done x) in
+      let e = passing-insert (λ (y : Task V). is_unfinished y.life) s.tasks t.0 (done x) in
       let e2 = rw known at e in
       omega (arith, e2)
 
   pub is_over : unfinished s ≡ 0 → is_done x.life ≡ true
   is_over none = over_if x.life (omega (arith, moved))
+
+  counted_live : is_unfinished x.life ≡ true → 0 < unfinished s
+  counted_live live =
+      let one : weight x.life ≡ 1 = ap (λ b. cond b 1 0) live in
+      omega (arith, moved, one)
+
+-- a task that is not done is counted
+pub live_counts : {V : Type 0} (s : Content V) (t : TaskId) → IsTrue (is_live (life_of s t)) → 0 < unfinished s
+live_counts {V} s t live = go (task_of s t) refl
+  where
+    go : (o : Option (Task V)) → task_of s t ≡ o → 0 < unfinished s
+    go None e = absurd (let no : false ≡ true = sym (ap (λ (p : Option (Task V)). is_live (option_map (λ x. x.life) p)) e) ∙ live in cc)
+    go (Some x) e = counted_live s t x e (sym (ap (λ (p : Option (Task V)). is_live (option_map (λ x. x.life) p)) e) ∙ live)
+
+-- a task that begins was ready, and so counted
+pub begun_counts : {V B : Type 0} (s : Content V) (actions : ℕ) (task : B → TaskId) (r : Option B) → IfSome r (λ b. life_of s (task b) ≡ Some Ready) → OnSome r (0 < unfinished s + actions)
+begun_counts s actions task None h = tt
+begun_counts s actions task (Some b) h =
+    let some : 0 < unfinished s = live_counts s (task b) (ap is_live h) in
+    omega (arith, some)
 
 pub each_once : (s : Content Numbers) → IsSound s → unfinished s ≡ 0 → EachOnce s
 each_once s sound none t known = go (task_of s t) refl known

@@ -5,6 +5,7 @@
 #![tactic(auto)]
 
 mod actions;
+mod held;
 mod local;
 mod node;
 mod numbers;

@@ -17,11 +17,7 @@ use tp_base::{NodeId, PoolId, TaskId};
 use tp_board::{Board, Ledgers, Shares};
 use tp_graph::{Graph, Value};
 use tp_monitor::TaskpoolState;
-use tp_slots::SlabSlots;
-use tp_store::{Counts, TaskItem};
-
-/// A node's own numbers, over slots in a slab.
-type NodeLocal = Local<SlabSlots<TaskItem<Value>>, Value>;
+use tp_store::Counts;
 
 /// A node of a pool: what lies under its lock.
 ///
@@ -34,7 +30,7 @@ pub struct Node<G: Graph, K: Ledgers> {
     nodes: u32,
     // The input-free tasks of this node below this one were inserted.
     next: u32,
-    local: NodeLocal,
+    local: Local,
     shares: Shares<K>,
 }
 

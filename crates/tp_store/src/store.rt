@@ -13,6 +13,7 @@ use std::alloc::Global;
 use std::collections::BTreeMap;
 use std::default::MadeWith;
 use std::marker::Model;
+use std::mem;
 use tp_base::{CLASSES, MAX_INPUTS, MAX_LIVE_TASKS, Refusal, TaskId};
 use tp_slots::Slots;
 
@@ -155,6 +156,8 @@ fn check_new(counts: &Counts) -> Result<(), Refusal>
 }
 
 impl<S: Slots<TaskItem<V>> + Drop, V: Drop> TaskStore<S, V> {
+    ghost use Rattle.tp_store.specs.Content.{nothing_stored};
+
     /// Each task that is done with its result, in the order in which they were done. The rest is dropped.
     pub fn into_results(self) -> Vec<(TaskId, V)>
         ensures { result.items ≡ self.content.results }
@@ -168,6 +171,23 @@ impl<S: Slots<TaskItem<V>> + Drop, V: Drop> TaskStore<S, V> {
             alloc: _,
         } = self;
         results
+    }
+
+    /// Hands out each task that is done with its result, in the order in which they were done. The store is then as a new
+    /// one. It takes no memory.
+    pub fn take_results(&mut self) -> Vec<(TaskId, V)>
+        ensures results { result.items ≡ self.old.content.results }
+        ensures emptied { self.new.content ≡ nothing_stored }
+    {
+        self.slots = S::new(self.alloc);
+        self.index = Index::new(self.alloc);
+        self.counts = Counts {
+            waiting: 0,
+            ready: 0,
+            running: 0,
+        };
+        self.reserved = None;
+        mem::replace(&mut self.results, Vec::new(self.alloc))
     }
 }
 

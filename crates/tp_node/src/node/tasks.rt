@@ -11,7 +11,8 @@ ghost use Rattle.tp_store.specs.Content.{refusal_of_deliver, task_of, values_of}
 ghost use Rattle.tp_base.specs.declared.step.Step.TheVariants as steps;
 ghost use Rattle.tp_base.specs.Checks.{first_refusal};
 
-use crate::node::{Node, NodeLocal};
+use crate::local::Local;
+use crate::node::Node;
 use tp_base::{Inputs, NodeId, Refusal, Step, TaskId};
 use tp_board::{Board, Ledgers};
 use tp_graph::{Feed, Finished, Graph, Value, Work};
@@ -235,7 +236,7 @@ fn find_seed<G: Graph>(
     graph: &G,
     nodes: u32,
     node: NodeId,
-    local: &NodeLocal,
+    local: &Local,
     from: u32,
 ) -> Option<u32>
     requires nodes { (1 ≤ nodes) × (nodes ≤ 8) }
@@ -250,7 +251,7 @@ fn find_seed<G: Graph>(
 }
 
 /// Whether a task is an input-free one of a node and was not inserted.
-fn is_seed<G: Graph>(graph: &G, nodes: u32, node: NodeId, local: &NodeLocal, task: u32) -> bool
+fn is_seed<G: Graph>(graph: &G, nodes: u32, node: NodeId, local: &Local, task: u32) -> bool
     requires known { task < (G.meaning graph.now).tasks }
     requires nodes { (1 ≤ nodes) × (nodes ≤ 8) }
     ensures yes { IsTrue result → IsSeed (G.meaning graph.now) nodes node.0 local.now.store task }
