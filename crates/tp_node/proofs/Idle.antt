@@ -1,10 +1,15 @@
 -- Where no task is unfinished.
 use Rattle.std.proofs.Common.{◌≡◌, ℕ, ◌+◌, ◌<◌, ◌≤◌, ◌==◌, Bool, true, false, cond, List, [], ◌∷◌, Option, Some, None, is_some, unwrap_or, MatchOption, count_by, refl, sym, ap, subst, ◌∙◌, arith}
-use Rattle.std.specs.Prelude.{if◌then◌else◌, IsTrue, IfSome, OnSome}
+use Rattle.std.specs.Prelude.{if◌then◌else◌, not, IsTrue, IfSome, OnSome}
 use Rattle.std.specs.Option.{option_map}
 use Rattle.std.specs.FinMap as finite
 use Rattle.tp_base.specs.declared.ids.TaskId.{TaskId}
-use Rattle.tp_node.specs.Locals.{is_live}
+use Rattle.tp_base.specs.declared.refusal.Refusal.TheVariants.{WrongLife}
+use Rattle.tp_monitor.specs.Monitors.{is_idle}
+use Rattle.tp_monitor.specs.declared.TaskpoolState.TheVariants.{NotReady, Busy, Idle, Terminated}
+use Rattle.tp_base.specs.Checks.{first_refusal}
+use Rattle.tp_node.specs.Actions.{opening_count}
+use Rattle.tp_node.specs.Locals.{LocalState, finish_checks, is_live, pending}
 use Rattle.tp_node.specs.Nodes.{Numbers, EachOnce}
 use Rattle.tp_store.proofs.Counting.{one_if, passing, passing-insert}
 use Rattle.tp_store.specs.Content.{Task, Content, task_of, life_of, done, unfinished, is_unfinished, is_done}
@@ -58,3 +63,20 @@ each_once s sound none t known = go (task_of s t) refl known
     go None e k = absurd (let no : false ≡ true = k in cc)
     go (Some x) e k =
         sound.done t ∙ ap (λ o. if unwrap_or (option_map (λ (y : Task Numbers). is_done y.life) o) false then 1 else 0) e ∙ ap (λ b. if b then 1 else 0) (is_over s t x e none)
+
+announced : (ended opening idle : Bool) → ended ≡ false → opening ≡ false → idle ≡ true
+    → first_refusal ((not (is_idle (if ended then Terminated else (if opening then NotReady else (if idle then Idle else Busy)))), WrongLife) ∷ []) ≡ None
+announced true opening idle a b c = cc
+announced false true idle a b c = cc
+announced false false true a b c = refl
+announced false false false a b c = cc
+
+-- the end can be announced where nothing is pending
+pub idle_finishes : {V : Type 0} (l : LocalState V) → l.ended ≡ false → pending l ≡ 0 → first_refusal (finish_checks l) ≡ None
+idle_finishes l going none = announced l.ended l.actions.opening (pending l == 0) going (closed l.actions.opening refl) (ap (λ n. n == 0) none)
+  where
+    closed : (b : Bool) → l.actions.opening ≡ b → b ≡ false
+    closed false e = refl
+    closed true e =
+        let one : opening_count l.actions ≡ 1 = ap (λ b. if b then 1 else 0) e in
+        absurd (omega (arith, none, one))

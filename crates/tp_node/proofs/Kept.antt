@@ -15,7 +15,8 @@ use Rattle.tp_graph.specs.Values.{value_of, IsInput}
 use Rattle.tp_node.specs.Locals.{LocalState, first_state, pending}
 use Rattle.tp_node.specs.Nodes.{Numbers, NodeState, IsNode, IsSeed, IsCountedBy, AreRightValues, inserting, task_at, with_store}
 use Rattle.tp_node.proofs.Right.{here, there, right-inserted, right-delivered, right-begun, right-done}
-use Rattle.tp_store.specs.Content.{Task, Content, nothing_stored, task_of, begun, done, fresh, with_value, with_task, with_inserted, with_delivered, with_begun, with_done}
+use Rattle.tp_store.specs.Content.{Task, Content, nothing_stored, task_of, begun, done, fresh, with_value, with_task, with_inserted, with_delivered, with_begun, with_done, inserted_by}
+use Rattle.tp_store.specs.declared.life.Delivered.TheVariants.{Inserted, Filled}
 
 -- a task that is unknown afterwards was unknown before
 abbrev pub KeepsKnown : Content Numbers → Content Numbers → Type 0
@@ -126,6 +127,11 @@ module _ (pool : ℕ) (g : TaskGraph) {G : Type 0} (graph : G) (nodes next : ℕ
         (subst (λ (z : LocalState Numbers). AreRightValues g z.store) (sym ek) (right-delivered g l.store t class slot value kept.right input))
         (ap (λ z. z.node) em)
         (subst (λ (z : LocalState Numbers). KeepsKnown l.store z.store) (sym ek) (known-put l.store t (with_value (unwrap_or (task_of l.store t) (fresh (g.arity t.0) class)) slot value)))
+
+-- a delivery inserts a task that is unknown
+pub inserts_if : (known : Bool) (inputs : ℕ) → inserted_by (if known then Filled else Inserted inputs) ≡ (if known then 0 else 1)
+inserts_if true inputs = refl
+inserts_if false inputs = refl
 
 -- a store without tasks
 pub right_at_first : (g : TaskGraph) → AreRightValues g nothing_stored

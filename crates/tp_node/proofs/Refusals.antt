@@ -77,3 +77,16 @@ module _ {V : Type 0} (l : LocalState V) (s : Content V) (t : TaskId) (is : l.st
 pub refusal_is : (r : Result (Unit {0}) Refusal) (o : Option Refusal) → MatchOption o (r ≡ Ok tt) (λ e. r ≡ Err e) → result_err r ≡ o
 refusal_is r None h = ap result_err h
 refusal_is r (Some e) h = ap result_err h
+
+pick : (known inactive : Bool) (a b : Option Refusal) → a ≡ None → (known ≡ false → b ≡ None) → inactive ≡ false
+    → (if known then a else (if inactive then Some Inactive else b)) ≡ None
+pick true inactive a b ha hb hi = ha
+pick false true a b ha hb hi = cc
+pick false false a b ha hb hi = hb refl
+
+-- an active node refuses no value that its store takes
+pub delivery_free : {V : Type 0} (l : LocalState V) (t : TaskId) (arity slot : ℕ) → refusal_of_deliver l.store t arity slot ≡ None → 0 < pending l → refusal_of_delivery l t arity slot ≡ None
+delivery_free l t arity slot free some =
+    pick (is_some (task_of l.store t)) (is_inactive l) (refusal_of_deliver l.store t arity slot) (refusal_of_new l.store) free
+    (λ new. sym (unknown (task_of l.store t) (λ x. refusal_of_value x arity slot) (refusal_of_new l.store) new) ∙ free)
+    (active (pending l) (pending l) refl (λ none. absurd (omega (arith, some, none))))

@@ -289,6 +289,19 @@ impl Local {
         Ok(())
     }
 
+    /// Announces the pool's end, where nothing is pending. It may have been announced before.
+    pub(crate) fn announce(&mut self)
+        requires { pending self.old ≡ 0 }
+        ensures { self.new ≡ record self.old { ended = true } }
+    {
+        if self.is_over() {
+            return;
+        }
+        let Ok(()) = self.finish() else {
+            unreachable!()
+        };
+    }
+
     /// How many tasks are not done and how many actions are open, together.
     pub(crate) fn pending(&self) -> u32
         ensures pending { result ≡ pending self.now }

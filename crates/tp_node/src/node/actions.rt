@@ -90,8 +90,6 @@ impl<G: Graph, K: Ledgers> Node<G, K> {
         board.audit_ended(ended);
         board.audit(&mut self.shares);
         let _results = self.local.results();
-        let Ok(()) = self.local.finish() else {
-            unreachable!()
-        };
+        self.local.announce();
     }
 }

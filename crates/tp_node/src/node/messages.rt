@@ -152,6 +152,7 @@ impl<G: Graph, K: Ledgers> Node<G, K> {
 
     /// Makes sure that a received value can be put, and of both events.
     fn room_to_deliver(&self, board: &mut Board<K>, feed: Feed) -> Result<(), Refusal>
+        requires active { 0 < self.now.numbers.pending }
         requires feed { IsFeed (G.meaning self.now.graph) feed }
         ensures reserved { OnOk result (2 ≤ board.new.reserved) }
         ensures free { OnOk result (refusal_of_deliver self.now.state.store feed.target ((G.meaning self.now.graph).arity feed.target.0) feed.slot ≡ None) }

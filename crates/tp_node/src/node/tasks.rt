@@ -173,6 +173,7 @@ impl<G: Graph, K: Ledgers> Node<G, K> {
     /// Whether a value can be put to where a feed ends, a full store apart. It answers whether the task is unknown and no
     /// more may live.
     pub(crate) fn check_put(&self, feed: Feed) -> Result<bool, Refusal>
+        requires active { 0 < self.now.numbers.pending }
         requires feed { IsFeed (G.meaning self.now.graph) feed }
         ensures refusal { MatchOption (first_refusal ((takes_nothing self.now.state.store feed.target ((G.meaning self.now.graph).arity feed.target.0), TaskKnown) ∷ (is_taken self.now.state.store feed.target feed.slot, SlotTaken) ∷ [])) (result ≡ Ok (lacks_place self.now.state.store feed.target)) (λ e. result ≡ Err e) }
         ensures free { IfOk result (λ is_full. is_full ≡ false → refusal_of_deliver self.now.state.store feed.target ((G.meaning self.now.graph).arity feed.target.0) feed.slot ≡ None) }
@@ -203,7 +204,8 @@ impl<G: Graph, K: Ledgers> Node<G, K> {
         ensures event { OnOk result (Appends (event_of self.old (putting_at (G.meaning self.old.graph) feed self.old) ∷ []) board.old board.new) }
         ensures put { OnOk result (self.new ≡ fed_with (G.meaning self.old.graph) feed value self.old) }
         ensures left { OnOk result (board.new.reserved + 1 ≡ board.old.reserved) }
-        ensures refused { IfErr result (λ e. (e ≡ (NoMemory, value)) × (board.new ≡ board.old) × (self.new ≡ self.old)) }
+        ensures refused { IfErr result (λ e. e ≡ (NoMemory, value)) }
+        ensures kept { OnErr result ((board.new ≡ board.old) × (self.new ≡ self.old)) }
     {
         let arity = self.graph.arity(feed.target);
         let class = self.graph.class(feed.target);

@@ -9,4 +9,4 @@ pub new-requires-clause-right : goal.new-requires-clause-right
 new-requires-clause-right g c κs within = (ready_inputs _ _ _ _ c.self.invariant.right c.in-Some.ensures.sound c.in-Some.ensures.life c.in-Some.ensures.inputs).1
 
 pub invariant_of-self : goal.invariant_of-self
-invariant_of-self g c = begun_keeps _ _ _ _ _ _ _ _ _ _ c.self.invariant c.in-Some.ensures.begun c.in-Ok.ensures.shares c.in-Some.ensures.pending
+invariant_of-self g c = begun_keeps _ _ _ _ _ _ _ _ _ _ c.self.invariant c.in-Some.ensures.begun c.in-Ok.ensures.shares c.in-Some.ensures.counted
