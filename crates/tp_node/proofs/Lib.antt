@@ -6,3 +6,4 @@ pub mod Idle
 pub mod Kept
 pub mod Answering
 pub mod Opening
+pub mod Turns

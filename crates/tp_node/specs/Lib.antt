@@ -6,3 +6,4 @@ pub mod Boards
 pub mod Nodes
 pub mod Refused
 pub mod Pools
+pub mod Turns

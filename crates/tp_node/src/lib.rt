@@ -11,8 +11,10 @@ mod node;
 mod numbers;
 mod pool;
 mod tally;
+mod turn;
 mod wire;
 
 pub use node::Node;
 pub use pool::{Pool, open_pool};
+pub use turn::Turn;
 pub use wire::Wire;

@@ -7,6 +7,7 @@ ghost use Rattle.tp_store.specs.Content.{counts_of};
 ghost use Rattle.tp_wave.specs.Machine.{IsRun};
 
 mod actions;
+mod control;
 mod messages;
 mod tasks;
 
