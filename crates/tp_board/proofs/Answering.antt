@@ -6,7 +6,8 @@ use Rattle.std.specs.Result.{result_err}
 use Rattle.tp_base.specs.declared.refusal.Refusal.TheVariants.{NoMemory, NotIdle}
 use Rattle.tp_base.specs.declared.refusal.Refusal.{Refusal}
 use Rattle.tp_base.specs.declared.step.Step.{Step}
-use Rattle.tp_wave.specs.Checks.{Check, control_checks, first_refusal, wave_checks}
+use Rattle.tp_base.specs.Checks.{Check, first_refusal}
+use Rattle.tp_wave.specs.Checks.{control_checks, wave_checks}
 use Rattle.tp_wave.specs.Machine.{pending_at, steps_of}
 use Rattle.tp_wave.specs.Wave.{Stands}
 use Rattle.tp_wave.specs.declared.wave.Wave.{Wave}

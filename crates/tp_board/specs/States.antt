@@ -7,7 +7,8 @@ use Rattle.tp_base.specs.declared.refusal.Refusal.TheVariants.{HistoryFull, NoMe
 use Rattle.tp_base.specs.declared.ids.NodeId.{NodeId}
 use Rattle.tp_base.specs.declared.step.Step.{Step}
 use Rattle.tp_base.specs.declared.step.Step.TheVariants.{Give}
-use Rattle.tp_wave.specs.Checks.{Check, control_checks, first_refusal}
+use Rattle.tp_base.specs.Checks.{Check, first_refusal}
+use Rattle.tp_wave.specs.Checks.{control_checks}
 use Rattle.tp_wave.specs.Machine.{pending_at, steps_of}
 
 -- A board has its events, the newest first, how many there may be, how many more are sure of a place and of memory, and

@@ -8,7 +8,7 @@ use Rattle.tp_base.specs.declared.Step.{Step}
 use Rattle.tp_base.specs.declared.Step.TheVariants.{Give, Judge}
 use Rattle.tp_wave.specs.Steps.{count, is_send_of, is_recv_at}
 use Rattle.tp_wave.specs.Sums.{sums_of, judgement}
-use Rattle.tp_wave.specs.Checks.{Check, first_refusal}
+use Rattle.tp_base.specs.Checks.{Check, first_refusal}
 use Rattle.tp_core.specs.declared.numbers.NodeNumbers.{NodeNumbers}
 use Rattle.tp_core.specs.declared.reply.Reply.{Reply}
 use Rattle.tp_core.specs.declared.reply.Reply.TheVariants.{Plain, WaveSums, Not, Over}

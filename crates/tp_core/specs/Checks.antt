@@ -4,7 +4,8 @@ use Rattle.tp_base.specs.declared.Refusal.{Refusal}
 use Rattle.tp_base.specs.declared.Refusal.TheVariants.{NoNode, SameNode, TaskKnown, NoTask, WrongLife, Inactive, ActionKnown, NoAction, MessageKnown, NoMessage, NotIdle}
 use Rattle.tp_base.specs.declared.Step.{Step}
 use Rattle.tp_base.specs.declared.Step.TheVariants.{Insert, Supply, Begin, Done, ActionOpen, ActionClose, Ready, Send, Recv, MessageEnd, Start, Down, Give, Up, Judge}
-use Rattle.tp_wave.specs.Checks.{Check, first_refusal, is_outside, control_checks}
+use Rattle.tp_base.specs.Checks.{Check, first_refusal}
+use Rattle.tp_wave.specs.Checks.{is_outside, control_checks}
 use Rattle.tp_core.specs.declared.life.Life.{Life}
 use Rattle.tp_core.specs.declared.life.Life.TheVariants as life
 use Rattle.tp_core.specs.World.{World, Opening, Named, OfMessage, life_of, is_open, is_under_way, is_known_message, pending}

@@ -1,7 +1,7 @@
 -- What the first of some checks refuses, more checks after them don't change.
 use Rattle.std.proofs.Common.{◌≡◌, List, [], ◌∷◌, ◌++◌, true, false, Some}
 use Rattle.tp_base.specs.declared.Refusal.{Refusal}
-use Rattle.tp_monitor.specs.Checks.{Check, first_refusal}
+use Rattle.tp_base.specs.Checks.{Check, first_refusal}
 
 pub first_refusal-append : (checks rest : List Check) (e : Refusal)
     → Some e ≡ first_refusal checks → Some e ≡ first_refusal (checks ++ rest)

@@ -8,7 +8,7 @@ use Rattle.tp_monitor.specs.declared.numbers.MonitorNumbers.{MonitorNumbers}
 use Rattle.tp_monitor.specs.declared.numbers.TheConstants.{MAX_ACTIONS}
 use Rattle.tp_monitor.specs.declared.state.TaskpoolState.{TaskpoolState}
 use Rattle.tp_monitor.specs.declared.state.TaskpoolState.TheVariants.{NotMonitored, NotReady, Busy, Idle, Terminated}
-use Rattle.tp_monitor.specs.Checks.{Check}
+use Rattle.tp_base.specs.Checks.{Check}
 
 -- What contracts see of a monitor: the pool that it monitors, if any, its numbers, and whether the pool's end was announced.
 pub record Monitored : Type 0 where

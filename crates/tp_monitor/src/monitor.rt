@@ -1,6 +1,6 @@
 ghost use Rattle.std.specs.Prelude.{◌≡◌, ◌+ℤ◌, pos, true, false, IfSome, OnOk, OnErr};
 ghost use Rattle.std.specs.Result.{result_err};
-ghost use Rattle.tp_monitor.specs.Checks.{first_refusal};
+ghost use Rattle.tp_base.specs.Checks.{first_refusal};
 ghost use Rattle.tp_monitor.specs.Monitors.{
   IsWithinLimits,
   is_pool,

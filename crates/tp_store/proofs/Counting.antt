@@ -13,7 +13,7 @@ use Rattle.tp_store.specs.declared.life.Life.{Life}
 use Rattle.tp_store.specs.declared.life.Life.TheVariants.{Waiting, Ready, Running, Done}
 use Rattle.std.specs.FinMap.Entries.{put, find, is_sorted, by_order, length-put}
 
-later_sorted : (a b : Bool) → T (a && b) → T b
+pub later_sorted : (a b : Bool) → T (a && b) → T b
 later_sorted true b h = h
 later_sorted false b h = absurd h
 

@@ -2,35 +2,34 @@
 use Rattle.std.proofs.Common.{◌≡◌, ◌≢◌, ℕ, ◌+◌, ◌<◌, ◌==◌, true, false, cond, length, map, Option, Some, None, is_some, IsSome, unwrap_or, refl, sym, ap, subst, ◌∙◌, inl, inr, arith}
 use Rattle.std.specs.Prelude.{if◌then◌else◌}
 use Rattle.std.specs.Option.{option_map, IsSomeAnd}
-use Rattle.std.specs.Ordering.{nat_cmp}
 use Rattle.std.specs.Cmp.{nat_cmp_total}
-use Rattle.std.specs.BTreeMap.{BTreeMap, get}
 use Rattle.std.specs.FinMap as finite
 use Rattle.std.specs.declared.vec.Vec.{Vec}
 use Rattle.std.proofs.lemmas.Bool.{cases_eq}
 use Rattle.std.proofs.lemmas.Bool.Decides.{nat_tests}
 use Rattle.tp_base.specs.declared.ids.TaskId.{TaskId}
+use Rattle.tp_base.specs.Table.{lookup}
 use Rattle.tp_slots.specs.Content as slots
 use Rattle.tp_slots.proofs.Sound.{IsSound-with_item, idle_when_taken}
 use Rattle.tp_store.specs.Content.{Task, Content, Stored, fresh, task_of, with_task, unfinished, counts_of, is_ready, has_begun}
 use Rattle.tp_store.specs.Items.{Item}
+use Rattle.tp_store.specs.Entries.{Entries, entry_at}
 use Rattle.tp_store.specs.Sound.{IsTask}
 use Rattle.tp_store.specs.Kept.{task_under, tasks_of, number_at, content_of, with_listed, reserved_of, entered, IsKept}
 use Rattle.tp_store.specs.declared.life.Counts.{Counts}
-use Rattle.tp_store.specs.declared.index.Entry.{Entry}
 use Rattle.tp_store.specs.declared.index.Entry.TheVariants.{Live}
 use Rattle.tp_store.proofs.Counting.{unfinished_counted}
 use Rattle.tp_store.proofs.Contents.{NotReady, unknown, same_number, IsSound-put, counts-new}
-use Rattle.tp_store.proofs.Keeping.{found, get-tasks_of, tasks-put, numbers_same, item_here, item_there, listed_item, listed_count, listed_sound, listed_lists}
+use Rattle.tp_store.proofs.Keeping.{get-tasks_of, tasks-put, numbers_same, item_here, item_there, listed_item, listed_count, listed_sound, listed_lists}
 
-module _ {V A : Type 0} (c : slots.Content (Item V)) (room more : ℕ) (index new : BTreeMap ℕ (Option Entry)) (results : Vec (TaskId × V) A) (counts : Counts) (i0 i : Item V) (p : ℕ)
+module _ {V A : Type 0} (c : slots.Content (Item V)) (room more : ℕ) (index new : Entries) (results : Vec (TaskId × V) A) (counts : Counts) (i0 i : Item V) (p : ℕ)
     (kept : IsKept {V = V} {A = A} c room index results counts (Some i0))
     (number : i.number ≡ i0.number) (task : IsTask i.task) (before : has_begun i.task.life ≡ false)
     (free : slots.item_at c p ≡ None)
-    (entries : (q : ℕ) → get nat_cmp new q ≡ (if q == i.number.0 then Some (Some (Live p)) else get nat_cmp index q))
+    (entries : (q : ℕ) → entry_at new q ≡ (if q == i.number.0 then Some (Live p) else entry_at index q))
     (low : slots.held_count c < 65536) where
   abbrev old : Content V
-  old = content_of c index.entries results.items
+  old = content_of c index results.items
 
   abbrev with : slots.Content (Item V)
   with = slots.with_item c p i
@@ -38,19 +37,19 @@ module _ {V A : Type 0} (c : slots.Content (Item V)) (room more : ℕ) (index ne
   abbrev after : slots.Content (Item V)
   after = with_listed with p i.task
 
-  had_room : get nat_cmp index i.number.0 ≡ Some None
-  had_room = (kept.rooms i.number.0).1 (ap (λ n. n.0) (sym number))
+  no_entry : entry_at index i.number.0 ≡ None
+  no_entry = ap (λ n. entry_at index n.0) number ∙ kept.entry.0
 
   pub was_unknown : task_of old i.number ≡ None
-  was_unknown = get-tasks_of c index i.number.0 ∙ ap (λ o. task_under c (unwrap_or o None)) had_room
+  was_unknown = get-tasks_of c index i.number.0 ∙ ap (task_under c) no_entry
 
   unlisted : slots.times p c.ready ≡ 0
   unlisted = (idle_when_taken c p i kept.lists free).unlisted
 
-  entry_here : get nat_cmp new i.number.0 ≡ Some (Some (Live p))
+  entry_here : entry_at new i.number.0 ≡ Some (Live p)
   entry_here = let e : (i.number.0 == i.number.0) ≡ true = grind (arith, nat_tests) in rw e at (entries i.number.0)
 
-  entry_there : (q : ℕ) → q ≢ i.number.0 → get nat_cmp new q ≡ get nat_cmp index q
+  entry_there : (q : ℕ) → q ≢ i.number.0 → entry_at new q ≡ entry_at index q
   entry_there q apart = let e : (q == i.number.0) ≡ false = grind (arith, nat_tests) in rw e at (entries q)
 
   there : (q : ℕ) → q ≢ p → slots.item_at after q ≡ slots.item_at c q
@@ -60,14 +59,14 @@ module _ {V A : Type 0} (c : slots.Content (Item V)) (room more : ℕ) (index ne
   here = listed_item (is_ready i.task.life) with p i.task.class p ∙ item_here c p i
 
   -- no known task has the place
-  taken_apart : (q place : ℕ) → get nat_cmp index q ≡ Some (Some (Live place)) → place ≢ p
+  taken_apart : (q place : ℕ) → entry_at index q ≡ Some (Live place) → place ≢ p
   taken_apart q place e same =
       let at = kept.live q place e in
       let none : slots.item_at c place ≡ None = ap (slots.item_at c) same ∙ free in
       rw none at at
 
-  tasks : tasks_of after new.entries ≡ finite.insert (tasks_of c index.entries) i.number.0 i.task
-  tasks = tasks-put c after index new i.number.0 p i.task there (λ q apart. ap (λ o. unwrap_or o None) (entry_there q apart)) (λ q apart e. taken_apart q p (found (get nat_cmp index q) (Live p) e) refl) (ap (λ o. task_under after (unwrap_or o None)) entry_here ∙ ap (option_map (λ j. j.task)) here)
+  tasks : tasks_of after new ≡ finite.insert (tasks_of c index) i.number.0 i.task
+  tasks = tasks-put c after index new i.number.0 p i.task there entry_there (λ q apart e. taken_apart q p e refl) (ap (task_under after) entry_here ∙ ap (option_map (λ j. j.task)) here)
 
   four : length c.ready ≡ 4
   four = kept.lists.four
@@ -80,7 +79,7 @@ module _ {V A : Type 0} (c : slots.Content (Item V)) (room more : ℕ) (index ne
       ∙ ap (λ l. if is_ready i.task.life then slots.with_last l i.task.class (number_at with p) else l) same
       ∙ ap (λ n. if is_ready i.task.life then slots.with_last (map (map (number_at c)) c.ready) i.task.class n else map (map (number_at c)) c.ready) own
 
-  pub entered_content : content_of after new.entries results.items ≡ with_task old i.number i.task
+  pub entered_content : content_of after new results.items ≡ with_task old i.number i.task
   entered_content = λ k. record { tasks = tasks k; ready = ready k; results = results.items }
 
   count : slots.held_count after ≡ slots.held_count c + 1
@@ -94,21 +93,21 @@ module _ {V A : Type 0} (c : slots.Content (Item V)) (room more : ℕ) (index ne
     lists = listed_sound (is_ready i.task.life) with p i.task.class (IsSound-with_item c p i kept.lists) (idle_when_taken c p i kept.lists free) task.class;
     live = λ t place e. elim (cases_eq t i.number.0) [
       | inl same ↦
-          let both : Some (Some (Live p)) ≡ Some (Some (Live place)) = sym entry_here ∙ ap (get nat_cmp new) (sym same) ∙ e in
+          let both : Some (Live p) ≡ Some (Live place) = sym entry_here ∙ ap (entry_at new) (sym same) ∙ e in
           let at : p ≡ place = cc in
           subst (λ q. IsSomeAnd (slots.item_at after q) (λ j. j.number.0 ≡ t)) at (rw here (sym same))
       | inr apart ↦
-          let was : get nat_cmp index t ≡ Some (Some (Live place)) = sym (entry_there t apart) ∙ e in
+          let was : entry_at index t ≡ Some (Live place) = sym (entry_there t apart) ∙ e in
           subst (λ (o : Option (Item V)). IsSomeAnd o (λ j. j.number.0 ≡ t)) (sym (there place (taken_apart t place was))) (kept.live t place was)
     ];
     owner = λ place j e. elim (cases_eq place p) [
       | inl same ↦
           let both : Some i ≡ Some j = sym here ∙ ap (slots.item_at after) (sym same) ∙ e in
           let is : i ≡ j = cc in
-          ap (λ k. get nat_cmp new k.number.0) (sym is) ∙ entry_here ∙ ap (λ q. Some (Some (Live q))) (sym same)
+          ap (λ k. entry_at new k.number.0) (sym is) ∙ entry_here ∙ ap (λ q. Some (Live q)) (sym same)
       | inr apart ↦
-          let was : get nat_cmp index j.number.0 ≡ Some (Some (Live place)) = kept.owner place j (sym (there place apart) ∙ e) in
-          entry_there j.number.0 (λ same. let clash : Some None ≡ Some (Some (Live place)) = sym had_room ∙ ap (get nat_cmp index) (sym same) ∙ was in cc) ∙ was
+          let was : entry_at index j.number.0 ≡ Some (Live place) = kept.owner place j (sym (there place apart) ∙ e) in
+          entry_there j.number.0 (λ same. let clash : None ≡ Some (Live place) = sym no_entry ∙ ap (entry_at index) (sym same) ∙ was in cc) ∙ was
     ];
     sound = rw entered_content (IsSound-put old i.number i.task kept.sound task before (subst (NotReady {V = V}) (sym was_unknown) unknown));
     held = count ∙ ap (λ n. n + 1) kept.held ∙ sym counted.0 ∙ ap (λ (s : Content V). unfinished s) (sym entered_content);
@@ -116,18 +115,12 @@ module _ {V A : Type 0} (c : slots.Content (Item V)) (room more : ℕ) (index ne
     counted = counted.1 ∙ ap (λ (s : Content V). counts_of s) (sym entered_content);
     space = omega (arith, count, kept.space);
     spare = tt;
-    rooms = λ t. (
-      λ e. elim (cases_eq t i.number.0) [
-        | inl same ↦ let clash : Some (Some (Live p)) ≡ Some None = sym entry_here ∙ ap (get nat_cmp new) (sym same) ∙ e in cc
-        | inr apart ↦ let is : i0.number.0 ≡ t = (kept.rooms t).0 (sym (entry_there t apart) ∙ e) in apart (sym is ∙ ap (λ n. n.0) (sym number))
-      ],
-      λ h. absurd h,
-    );
+    entry = tt;
   }
 
-module _ {V A : Type 0} (c : slots.Content (Item V)) (room : ℕ) (index : BTreeMap ℕ (Option Entry)) (results : Vec (TaskId × V) A) (counts : Counts) (reserved : Option (Item V)) (s : Content V) (i0 : Item V) (t : TaskId) (arity : ℕ)
+module _ {V A : Type 0} (c : slots.Content (Item V)) (room : ℕ) (index : Entries) (results : Vec (TaskId × V) A) (counts : Counts) (reserved : Option (Item V)) (s : Content V) (i0 : Item V) (t : TaskId) (arity : ℕ)
     (any : IsKept {V = V} {A = A} c room index results counts reserved) (is : Some i0 ≡ reserved)
-    (view : ◌≡◌ {A = Stored V} (record { content = content_of c index.entries results.items; reserved = reserved_of reserved }) (record { content = s; reserved = Some (t.0, arity) })) where
+    (view : ◌≡◌ {A = Stored V} (record { content = content_of c index results.items; reserved = reserved_of reserved }) (record { content = s; reserved = Some (t.0, arity) })) where
   kept : IsKept {V = V} {A = A} c room index results counts (Some i0)
   kept = subst (λ o. IsKept {V = V} {A = A} c room index results counts o) (sym is) any
 
@@ -145,14 +138,14 @@ module _ {V A : Type 0} (c : slots.Content (Item V)) (room : ℕ) (index : BTree
       λ k. record { number = same_number t i0.number number k; task = task k }
 
   -- it can enter
-  pub can_enter : (i : Item V) → i.number ≡ t → (0 < room) × (IsSome (get nat_cmp index i.number.0) × (counts.waiting + counts.ready + counts.running ≡ slots.held_count c))
-  can_enter i is = (kept.spare.1, (ap is_some (ap (λ n. get nat_cmp index n.0) is ∙ (kept.rooms t.0).1 number), sym (unfinished_counted (content_of c index.entries results.items) counts kept.counted) ∙ sym kept.held))
+  pub can_enter : (i : Item V) → i.number ≡ t → (0 < room) × (IsSome (lookup index i.number.0) × (counts.waiting + counts.ready + counts.running ≡ slots.held_count c))
+  can_enter i is = (kept.spare.1, (ap (λ n. is_some (lookup index n.0)) (is ∙ sym (same_number t i0.number number)) ∙ kept.entry.1, sym (unfinished_counted (content_of c index results.items) counts kept.counted) ∙ sym kept.held))
 
   -- what that leaves
-  pub entered_all : (d : slots.Content (Item V)) (more : ℕ) (new : BTreeMap ℕ (Option Entry)) (now : Counts) (i : Item V) (x : Task V) → ◌≡◌ {A = Item V} i (record { number = t; task = x }) → IsTask x → has_begun x.life ≡ false
-      → ((p : ℕ) × (slots.item_at c p ≡ None) × (d ≡ with_listed (slots.with_item c p i) p i.task) × ((q : ℕ) → get nat_cmp new q ≡ (if q == i.number.0 then Some (Some (Live p)) else get nat_cmp index q)))
+  pub entered_all : (d : slots.Content (Item V)) (more : ℕ) (new : Entries) (now : Counts) (i : Item V) (x : Task V) → ◌≡◌ {A = Item V} i (record { number = t; task = x }) → IsTask x → has_begun x.life ≡ false
+      → ((p : ℕ) × (slots.item_at c p ≡ None) × (d ≡ with_listed (slots.with_item c p i) p i.task) × ((q : ℕ) → entry_at new q ≡ (if q == i.number.0 then Some (Live p) else entry_at index q)))
       → now ≡ entered counts (is_ready i.task.life) → slots.held_count c < 65536
-      → (content_of d new.entries results.items ≡ with_task s t x) × (unfinished (content_of d new.entries results.items) ≡ unfinished s + 1) × IsKept {V = V} {A = A} d more new results now None
+      → (content_of d new results.items ≡ with_task s t x) × (unfinished (content_of d new results.items) ≡ unfinished s + 1) × IsKept {V = V} {A = A} d more new results now None
   entered_all d more new now i x is task before placed counts_are low =
       let own : i.number ≡ i0.number = ap (λ j. j.number) is ∙ sym (same_number t i0.number number) in
       let its : i.task ≡ x = ap (λ j. j.task) is in

@@ -1,20 +1,20 @@
 -- A running task is done.
-use Rattle.std.proofs.Common.{◌≡◌, ◌≢◌, ℕ, ◌+◌, ◌-◌, ◌<◌, ◌≤◌, ◌==◌, true, false, [], ◌∷◌, ◌++◌, map, Option, Some, None, is_some, unwrap_or, refl, sym, ap, subst, ◌∙◌, inl, inr, arith, vec_len, vec_capacity}
+use Rattle.std.proofs.Common.{◌≡◌, ◌≢◌, ℕ, ◌+◌, ◌-◌, ◌<◌, ◌≤◌, ◌==◌, true, false, [], ◌∷◌, ◌++◌, map, Option, Some, None, is_some, IfSome, unwrap_or, refl, sym, ap, subst, ◌∙◌, inl, inr, arith, vec_len, vec_capacity}
 use Rattle.std.specs.Prelude.{if◌then◌else◌}
 use Rattle.std.specs.Option.{option_map, IsSome, IsSomeAnd}
-use Rattle.std.specs.Ordering.{nat_cmp}
 use Rattle.std.specs.Cmp.{nat_cmp_total}
-use Rattle.std.specs.BTreeMap.{BTreeMap, get}
 use Rattle.std.specs.FinMap as finite
 use Rattle.std.specs.declared.vec.Vec.{Vec}
 use Rattle.std.proofs.lemmas.Bool.{cases_eq}
 use Rattle.std.proofs.lemmas.Bool.Decides.{nat_tests}
 use Rattle.tp_base.specs.declared.ids.TaskId.{TaskId}
 use Rattle.tp_base.specs.declared.refusal.Refusal.TheVariants.{WrongLife}
+use Rattle.tp_base.specs.Table.{lookup}
 use Rattle.tp_slots.specs.Content as slots
 use Rattle.tp_slots.proofs.Sound.{IsSound-without_item}
 use Rattle.tp_store.specs.Content.{Task, Content, task_of, life_of, unfinished, counts_of, is_running, is_unfinished, refusal_of_done, done, with_done}
 use Rattle.tp_store.specs.Items.{Item}
+use Rattle.tp_store.specs.Entries.{Entries, entry_at, IsFreeAt}
 use Rattle.tp_store.specs.Sound.{IsTask, times_ready}
 use Rattle.tp_store.specs.Kept.{task_under, tasks_of, number_at, content_of, IsKept}
 use Rattle.tp_store.specs.declared.life.Life.{Life}
@@ -23,20 +23,20 @@ use Rattle.tp_store.specs.declared.life.Counts.{Counts}
 use Rattle.tp_store.specs.declared.index.Entry.{Entry}
 use Rattle.tp_store.specs.declared.index.Entry.TheVariants.{Live, Done}
 use Rattle.tp_store.proofs.Contents.{same_number, ready_in, runs_not, IsSound-done, counts-done, some_counted}
-use Rattle.tp_store.proofs.Keeping.{found, entry_at, get-tasks_of, tasks-put, numbers_same, gone_here, gone_there, spared}
+use Rattle.tp_store.proofs.Keeping.{room_under, get-tasks_of, tasks-put, numbers_same, gone_here, gone_there, spared}
 use Rattle.tp_store.proofs.Rewriting.{unlisted}
 use Rattle.tp_store.proofs.Reading.{seen_live}
 
-module _ {V A : Type 0} (c : slots.Content (Item V)) (room : ℕ) (index : BTreeMap ℕ (Option Entry)) (results : Vec (TaskId × V) A) (counts : Counts) (reserved : Option (Item V)) (kept : IsKept {V = V} {A = A} c room index results counts reserved)
+module _ {V A : Type 0} (c : slots.Content (Item V)) (room : ℕ) (index : Entries) (results : Vec (TaskId × V) A) (counts : Counts) (reserved : Option (Item V)) (kept : IsKept {V = V} {A = A} c room index results counts reserved)
     (i : Item V) (p : ℕ) (at : slots.item_at c p ≡ Some i) (runs : i.task.life ≡ Running) (t : TaskId) (number : i.number ≡ t) where
   abbrev old : Content V
-  old = content_of c index.entries results.items
+  old = content_of c index results.items
 
-  own_entry : get nat_cmp index t.0 ≡ Some (Some (Live p))
-  own_entry = ap (λ n. get nat_cmp index n.0) (sym number) ∙ kept.owner p i at
+  own_entry : entry_at index t.0 ≡ Some (Live p)
+  own_entry = ap (λ n. entry_at index n.0) (sym number) ∙ kept.owner p i at
 
   pub was : task_of old t ≡ Some i.task
-  was = get-tasks_of c index t.0 ∙ ap (λ o. task_under c (unwrap_or o None)) own_entry ∙ ap (option_map (λ j. j.task)) at
+  was = get-tasks_of c index t.0 ∙ ap (task_under c) own_entry ∙ ap (option_map (λ j. j.task)) at
 
   running : is_running i.task.life ≡ true
   running = ap is_running runs
@@ -47,7 +47,7 @@ module _ {V A : Type 0} (c : slots.Content (Item V)) (room : ℕ) (index : BTree
   pub idle : slots.IsIdle c p
   idle = record {
     taken = ap is_some at;
-    unlisted = unlisted c index.entries results.items p i at (λ class.
+    unlisted = unlisted c index results.items p i at (λ class.
         let no : ready_in (Some i.task) class ≡ 0 = rw (runs_not i.task.life running).0 refl in
         ap (times_ready old class) number ∙ kept.sound.ready class t ∙ ap (λ o. ready_in o class) was ∙ no);
   }
@@ -56,19 +56,19 @@ module _ {V A : Type 0} (c : slots.Content (Item V)) (room : ℕ) (index : BTree
   some_held = omega (arith, some_counted is_unfinished old t i.task was (rw runs refl) refl, kept.held)
 
   -- no other task has the place
-  own : (q : ℕ) → get nat_cmp index q ≡ Some (Some (Live p)) → t.0 ≡ q
+  own : (q : ℕ) → entry_at index q ≡ Some (Live p) → t.0 ≡ q
   own q e = let is = kept.live q p e in ap (λ n. n.0) (sym number) ∙ rw at at is
 
-  module _ (more : ℕ) (new : BTreeMap ℕ (Option Entry)) (after : Vec (TaskId × V) A) (value : V)
-      (entries : (q : ℕ) → get nat_cmp new q ≡ (if q == t.0 then Some (Some (Done i.task.arity i.task.class)) else get nat_cmp index q))
+  module _ (more : ℕ) (new : Entries) (after : Vec (TaskId × V) A) (value : V)
+      (entries : (q : ℕ) → entry_at new q ≡ (if q == t.0 then Some (Done i.task.arity i.task.class) else entry_at index q)) (rooms : (q : ℕ) → IsSome (lookup index q) → IsSome (lookup new q))
       (items : after.items ≡ results.items ++ (t, value) ∷ []) (long : vec_len after ≡ vec_len results + 1) (capacity : vec_capacity after ≡ vec_capacity results) (roomy : room ≤ more) where
     abbrev without : slots.Content (Item V)
     without = slots.without_item c p
 
-    entry_here : get nat_cmp new t.0 ≡ Some (Some (Done i.task.arity i.task.class))
+    entry_here : entry_at new t.0 ≡ Some (Done i.task.arity i.task.class)
     entry_here = let e : (t.0 == t.0) ≡ true = grind (arith, nat_tests) in rw e at (entries t.0)
 
-    entry_there : (q : ℕ) → q ≢ t.0 → get nat_cmp new q ≡ get nat_cmp index q
+    entry_there : (q : ℕ) → q ≢ t.0 → entry_at new q ≡ entry_at index q
     entry_there q apart = let e : (q == t.0) ≡ false = grind (arith, nat_tests) in rw e at (entries q)
 
     given_away : i.task.values ≡ []
@@ -80,9 +80,9 @@ module _ {V A : Type 0} (c : slots.Content (Item V)) (room : ℕ) (index : BTree
     its : ◌≡◌ {A = Task V} (record { life = Over; arity = i.task.arity; class = i.task.class; values = [] }) (done i.task)
     its = λ k. record { life = Over; arity = i.task.arity; class = i.task.class; values = (sym given_away) k }
 
-    pub done_content : content_of without new.entries after.items ≡ changed
+    pub done_content : content_of without new after.items ≡ changed
     done_content =
-        let tasks : tasks_of without new.entries ≡ finite.insert old.tasks t.0 (done i.task) = tasks-put c without index new t.0 p (done i.task) (λ q apart. gone_there c p q apart) (λ q apart. ap (λ o. unwrap_or o None) (entry_there q apart)) (λ q apart e. apart (sym (own q (found (get nat_cmp index q) (Live p) e)))) (ap (λ o. task_under without (unwrap_or o None)) entry_here ∙ ap (λ x. Some x) its) in
+        let tasks : tasks_of without new ≡ finite.insert old.tasks t.0 (done i.task) = tasks-put c without index new t.0 p (done i.task) (λ q apart. gone_there c p q apart) entry_there (λ q apart e. apart (sym (own q e))) (ap (task_under without) entry_here ∙ ap (λ x. Some x) its) in
         let ready : map (map (number_at without)) c.ready ≡ map (map (number_at c)) c.ready = numbers_same c without p c.ready (λ q apart. gone_there c p q apart) idle.unlisted in
         λ k. record { tasks = tasks k; ready = ready k; results = items k }
 
@@ -99,18 +99,18 @@ module _ {V A : Type 0} (c : slots.Content (Item V)) (room : ℕ) (index : BTree
     IsKept-done = record {
       lists = IsSound-without_item c p kept.lists idle;
       live = λ q place e. elim (cases_eq q t.0) [
-        | inl same ↦ let clash : Some (Some (Done i.task.arity i.task.class)) ≡ Some (Some (Live place)) = sym entry_here ∙ ap (get nat_cmp new) (sym same) ∙ e in cc
+        | inl same ↦ let clash : Some (Done i.task.arity i.task.class) ≡ Some (Live place) = sym entry_here ∙ ap (entry_at new) (sym same) ∙ e in cc
         | inr apart ↦
-            let was_live : get nat_cmp index q ≡ Some (Some (Live place)) = sym (entry_there q apart) ∙ e in
-            let elsewhere : place ≢ p = λ is. apart (sym (own q (was_live ∙ ap (λ r. Some (Some (Live r))) is))) in
+            let was_live : entry_at index q ≡ Some (Live place) = sym (entry_there q apart) ∙ e in
+            let elsewhere : place ≢ p = λ is. apart (sym (own q (was_live ∙ ap (λ r. Some (Live r)) is))) in
             subst (λ (o : Option (Item V)). IsSomeAnd o (λ j. j.number.0 ≡ q)) (sym (gone_there c p place elsewhere)) (kept.live q place was_live)
       ];
       owner = λ place j e. elim (cases_eq place p) [
         | inl is ↦ let clash : None ≡ Some j = sym (gone_here c p) ∙ ap (slots.item_at without) (sym is) ∙ e in cc
         | inr apart ↦
-            let was_live : get nat_cmp index j.number.0 ≡ Some (Some (Live place)) = kept.owner place j (sym (gone_there c p place apart) ∙ e) in
+            let was_live : entry_at index j.number.0 ≡ Some (Live place) = kept.owner place j (sym (gone_there c p place apart) ∙ e) in
             let other : j.number.0 ≢ t.0 = λ same.
-            let both : Some (Some (Live p)) ≡ Some (Some (Live place)) = sym own_entry ∙ ap (get nat_cmp index) (sym same) ∙ was_live in
+            let both : Some (Live p) ≡ Some (Live place) = sym own_entry ∙ ap (entry_at index) (sym same) ∙ was_live in
             let is : p ≡ place = cc in
             apart (sym is) in
             entry_there j.number.0 other ∙ was_live
@@ -121,42 +121,42 @@ module _ {V A : Type 0} (c : slots.Content (Item V)) (room : ℕ) (index : BTree
       counted = done_moves.1 ∙ ap (λ (s : Content V). counts_of s) (sym done_content);
       space = omega (arith, count, kept.space, long, capacity);
       spare = spared room more reserved roomy kept.spare;
-      rooms = λ q. elim (cases_eq q t.0) [
-        | inl same ↦ (
-          λ e. let clash : Some (Some (Done i.task.arity i.task.class)) ≡ Some None = sym entry_here ∙ ap (get nat_cmp new) (sym same) ∙ e in cc,
-          λ h. let clash : Some (Some (Live p)) ≡ Some None = sym own_entry ∙ ap (get nat_cmp index) (sym same) ∙ (kept.rooms q).1 h in cc,
-        )
-        | inr apart ↦ (λ e. (kept.rooms q).0 (sym (entry_there q apart) ∙ e), λ h. entry_there q apart ∙ (kept.rooms q).1 h)
-      ];
+      entry = still_free reserved kept.entry;
     }
+      where
+        still_free : (o : Option (Item V)) → IfSome o (λ j. IsFreeAt index j.number.0) → IfSome o (λ j. IsFreeAt new j.number.0)
+        still_free None h = tt
+        still_free (Some j) h =
+            let other : j.number.0 ≢ t.0 = λ same. let clash : Some (Live p) ≡ None = sym own_entry ∙ ap (entry_at index) (sym same) ∙ h.0 in cc in
+            (entry_there j.number.0 other ∙ h.0, rooms j.number.0 h.1)
 
 -- ---- in terms of the content
-module _ {V A : Type 0} (c : slots.Content (Item V)) (room : ℕ) (index : BTreeMap ℕ (Option Entry)) (results : Vec (TaskId × V) A) (counts : Counts) (reserved : Option (Item V)) (kept : IsKept {V = V} {A = A} c room index results counts reserved)
-    (s : Content V) (view : content_of c index.entries results.items ≡ s) (t : TaskId) (i : Item V) (p : ℕ) (stands : entry_at index t.0 ≡ Some (Live p)) (at : slots.item_at c p ≡ Some i) where
+module _ {V A : Type 0} (c : slots.Content (Item V)) (room : ℕ) (index : Entries) (results : Vec (TaskId × V) A) (counts : Counts) (reserved : Option (Item V)) (kept : IsKept {V = V} {A = A} c room index results counts reserved)
+    (s : Content V) (view : content_of c index results.items ≡ s) (t : TaskId) (i : Item V) (p : ℕ) (stands : entry_at index t.0 ≡ Some (Live p)) (at : slots.item_at c p ≡ Some i) where
   own_number : i.number ≡ t
-  own_number = let is = kept.live t.0 p (found (get nat_cmp index t.0) (Live p) stands) in same_number t i.number (rw at at is)
+  own_number = let is = kept.live t.0 p stands in same_number t i.number (rw at at is)
 
   pub life_is : life_of s t ≡ Some i.task.life
   life_is = ap (option_map (λ x. x.life)) (seen_live c index results.items s view t p i stands at)
 
   module _ (runs : i.task.life ≡ Running) where
-    pub can_finish : slots.IsIdle c p × (get nat_cmp index t.0 ≡ Some (Some (Live p))) × (vec_len results < vec_capacity results) × (0 < counts.running)
+    pub can_finish : slots.IsIdle c p × (entry_at index t.0 ≡ Some (Live p)) × (vec_len results < vec_capacity results) × (0 < counts.running)
     can_finish = (
       idle c room index results counts reserved kept i p at runs t own_number,
-      found (get nat_cmp index t.0) (Live p) stands,
+      stands,
       omega (arith, some_held c room index results counts reserved kept i p at runs t own_number, kept.space),
-      omega (arith, some_counted is_running (content_of c index.entries results.items) t i.task (was c room index results counts reserved kept i p at runs t own_number) (ap is_running runs) refl, ap (λ n. n.running) kept.counted),
+      omega (arith, some_counted is_running (content_of c index results.items) t i.task (was c room index results counts reserved kept i p at runs t own_number) (ap is_running runs) refl, ap (λ n. n.running) kept.counted),
     )
 
-    pub done_all : (d : slots.Content (Item V)) (more : ℕ) (new : BTreeMap ℕ (Option Entry)) (after : Vec (TaskId × V) A) (value : V) (entry : Entry) → d ≡ slots.without_item c p → entry ≡ Done i.task.arity i.task.class
-        → ((q : ℕ) → get nat_cmp new q ≡ (if q == t.0 then Some (Some entry) else get nat_cmp index q))
+    pub done_all : (d : slots.Content (Item V)) (more : ℕ) (new : Entries) (after : Vec (TaskId × V) A) (value : V) (entry : Entry) → d ≡ slots.without_item c p → entry ≡ Done i.task.arity i.task.class
+        → ((q : ℕ) → entry_at new q ≡ (if q == t.0 then Some entry else entry_at index q)) → ((q : ℕ) → IsSome (lookup index q) → IsSome (lookup new q))
         → after.items ≡ results.items ++ (t, value) ∷ [] → vec_len after ≡ vec_len results + 1 → vec_capacity after ≡ vec_capacity results → room ≤ more
-        → (content_of d new.entries after.items ≡ with_done s t value) × (unfinished (content_of d new.entries after.items) + 1 ≡ unfinished s) × IsKept {V = V} {A = A} d more new after (record { waiting = counts.waiting; ready = counts.ready; running = counts.running - 1 }) reserved
-    done_all d more new after value entry gone is put items long capacity roomy =
-        let entries : (q : ℕ) → get nat_cmp new q ≡ (if q == t.0 then Some (Some (Done i.task.arity i.task.class)) else get nat_cmp index q) = λ q. put q ∙ ap (λ e. if q == t.0 then Some (Some e) else get nat_cmp index q) is in
-        let content = done_content c room index results counts reserved kept i p at runs t own_number more new after value entries items long capacity roomy in
-        let moves = done_moves c room index results counts reserved kept i p at runs t own_number more new after value entries items long capacity roomy in
-        let all = IsKept-done c room index results counts reserved kept i p at runs t own_number more new after value entries items long capacity roomy in
+        → (content_of d new after.items ≡ with_done s t value) × (unfinished (content_of d new after.items) + 1 ≡ unfinished s) × IsKept {V = V} {A = A} d more new after (record { waiting = counts.waiting; ready = counts.ready; running = counts.running - 1 }) reserved
+    done_all d more new after value entry gone is put rooms items long capacity roomy =
+        let entries : (q : ℕ) → entry_at new q ≡ (if q == t.0 then Some (Done i.task.arity i.task.class) else entry_at index q) = λ q. put q ∙ ap (λ e. if q == t.0 then Some e else entry_at index q) is in
+        let content = done_content c room index results counts reserved kept i p at runs t own_number more new after value entries rooms items long capacity roomy in
+        let moves = done_moves c room index results counts reserved kept i p at runs t own_number more new after value entries rooms items long capacity roomy in
+        let all = IsKept-done c room index results counts reserved kept i p at runs t own_number more new after value entries rooms items long capacity roomy in
         let known : task_of s t ≡ Some i.task = seen_live c index results.items s view t p i stands at in
         rw gone (
           content
@@ -166,16 +166,16 @@ module _ {V A : Type 0} (c : slots.Content (Item V)) (room : ℕ) (index : BTree
           all,
         )
 
-module _ {V A : Type 0} (c : slots.Content (Item V)) (room : ℕ) (index : BTreeMap ℕ (Option Entry)) (results : Vec (TaskId × V) A) (counts : Counts) (reserved : Option (Item V)) (kept : IsKept {V = V} {A = A} c room index results counts reserved) (t : TaskId) (p : ℕ) where
+module _ {V A : Type 0} (c : slots.Content (Item V)) (room : ℕ) (index : Entries) (results : Vec (TaskId × V) A) (counts : Counts) (reserved : Option (Item V)) (kept : IsKept {V = V} {A = A} c room index results counts reserved) (t : TaskId) (p : ℕ) where
   pub taken_there : entry_at index t.0 ≡ Some (Live p) → slots.IsTaken c p
-  taken_there is = some_there (slots.item_at c p) (kept.live t.0 p (found (get nat_cmp index t.0) (Live p) is))
+  taken_there is = some_there (slots.item_at c p) (kept.live t.0 p is)
     where
       some_there : (o : Option (Item V)) → IsSomeAnd o (λ i. i.number.0 ≡ t.0) → IsSome o
       some_there None h = absurd h
       some_there (Some i) h = refl
 
-  pub has_entry : get nat_cmp index t.0 ≡ Some (Some (Live p)) → IsSome (get nat_cmp index t.0)
-  has_entry is = ap is_some is
+  pub has_entry : entry_at index t.0 ≡ Some (Live p) → IsSome (lookup index t.0)
+  has_entry is = room_under index t.0 (Live p) is
 
 -- a task of another life does not end
 pub wrong_life : (life : Life) → life ≢ Running → Some WrongLife ≡ refusal_of_done (Some life)

@@ -1,47 +1,59 @@
 -- How the slots and the index give the content, and how a change of one task moves it.
-use Rattle.std.proofs.Common.{◌≡◌, ◌≢◌, ℕ, ◌<◌, ◌≤◌, ◌==◌, Bool, true, false, cond, List, [], ◌∷◌, length, map, Option, Some, None, unwrap_or, IfSome, refl, sym, ap, subst, ◌∙◌, inl, inr, arith}
-use Rattle.std.specs.Prelude.{if◌then◌else◌}
+use Rattle.std.proofs.Common.{◌≡◌, ◌≢◌, ℕ, zero, suc, ◌<◌, ◌≤◌, ◌==◌, ◌^◌, Bool, true, false, cond, List, length, map, Option, Some, None, IsSome, unwrap_or, IfSome, refl, sym, ap, subst, ◌∙◌, inl, inr, arith}
+use Rattle.std.specs.Prelude.{nat_lt, if◌then◌else◌}
 use Rattle.std.specs.Option.{option_map}
 use Rattle.std.specs.Ordering.{nat_cmp}
-use Rattle.std.specs.BTreeMap.{BTreeMap, get, is_at}
-use Rattle.std.specs.Map.{lookup}
-use Rattle.std.specs.Cmp.{nat_cmp_total, unsigned_tied}
+use Rattle.std.specs.Cmp.{nat_cmp_total}
 use Rattle.std.specs.FinMap as finite
 use Rattle.std.proofs.lemmas.Bool.{cases_eq}
 use Rattle.std.proofs.lemmas.Bool.Decides.{nat_tests}
+use Rattle.tp_base.specs.Table.{lookup}
 use Rattle.tp_slots.specs.Content as slots
 use Rattle.tp_slots.proofs.Sound.{get_inserted, get_removed, IsSound-with_ready}
 use Rattle.tp_slots.proofs.Lists.{same_each, with_last-each}
 use Rattle.tp_store.specs.Content.{Task, fresh}
 use Rattle.tp_store.specs.Items.{Item}
-use Rattle.tp_store.specs.Kept.{task_under, with_found, tasks_of, number_at}
+use Rattle.tp_store.specs.Entries.{Entries, entry_at}
+use Rattle.tp_store.specs.Kept.{task_under, with_found, tasks_below, tasks_of, number_at}
 use Rattle.tp_store.specs.declared.index.Entry.{Entry}
 use Rattle.tp_store.specs.declared.index.Entry.TheVariants.{Live, Done}
 
--- what stands under a number, where something does
-pub found : (o : Option (Option Entry)) (e : Entry) → unwrap_or o None ≡ Some e → o ≡ Some (Some e)
-found None e is = cc
-found (Some o) e is = ap Some is
-
--- what stands under a number
-abbrev pub entry_at : BTreeMap ℕ (Option Entry) → ℕ → Option Entry
-entry_at index q = unwrap_or (get nat_cmp index q) None
+-- there is room where something stands
+pub room_under : (index : Entries) (t : ℕ) (e : Entry) → entry_at index t ≡ Some e → IsSome (lookup index t)
+room_under index t e is = go (nat_lt t (2 ^ 32)) (lookup index t) is
+  where
+    go : (b : Bool) (o : Option (Option Entry)) → (if b then unwrap_or o None else None) ≡ Some e → IsSome o
+    go true (Some x) h = refl
+    go true None h = cc
+    go false o h = cc
 
 module _ {V : Type 0} where
   get-with_found : (tasks : finite.FinMap nat_cmp (Task V)) (k q : ℕ) (o : Option (Task V)) → finite.get (with_found tasks k o) q ≡ cond (q == k) o (finite.get tasks q)
   get-with_found tasks k q None = get_removed tasks k q
   get-with_found tasks k q (Some x) = get_inserted tasks k x q
 
-  tasks_at : (c : slots.Content (Item V)) (entries : List (ℕ × Option Entry)) (q : ℕ) → finite.get (tasks_of c entries) q ≡ task_under c (unwrap_or (lookup (is_at (nat_cmp q)) entries) None)
-  tasks_at c [] q = finite.get-empty nat_cmp q
-  tasks_at c (e ∷ rest) q =
-      get-with_found (tasks_of c rest) e.0 q (task_under c e.1)
-      ∙ ap (cond (q == e.0) (task_under c e.1)) (tasks_at c rest q)
-      ∙ rw (unsigned_tied q e.0) (elim (q == e.0) as (λ b. cond b (task_under c e.1) (task_under c (unwrap_or (lookup (is_at (nat_cmp q)) rest) None)) ≡ task_under c (unwrap_or (cond b (Some e.1) (lookup (is_at (nat_cmp q)) rest)) None)) [ true ↦ refl | false ↦ refl ])
+  get-tasks_below : (c : slots.Content (Item V)) (index : Entries) (n q : ℕ) → finite.get (tasks_below c index n) q ≡ (if nat_lt q n then task_under c (unwrap_or (lookup index q) None) else None)
+  unfolding tasks_below
+  get-tasks_below c index zero q = let past : nat_lt q 0 ≡ false = grind (arith, nat_tests) in rw past (finite.get-empty nat_cmp q)
+  get-tasks_below c index (suc n) q =
+      get-with_found (tasks_below c index n) n q (task_under c (unwrap_or (lookup index n) None))
+      ∙ ap (cond (q == n) (task_under c (unwrap_or (lookup index n) None))) (get-tasks_below c index n q)
+      ∙ (elim (cases_eq q n) [
+        | inl same ↦
+            let here : (q == n) ≡ true = grind (arith, nat_tests) in
+            let low : nat_lt q (suc n) ≡ true = grind (arith, nat_tests) in
+            rw (here, low) (ap (λ k. task_under c (unwrap_or (lookup index k) None)) (sym same))
+        | inr apart ↦
+            let there : (q == n) ≡ false = grind (arith, nat_tests) in
+            let low : nat_lt q (suc n) ≡ nat_lt q n = grind (arith, nat_tests) in
+            rw (there, low) refl
+      ])
 
   -- what is known of a task is what stands under its number
-  pub get-tasks_of : (c : slots.Content (Item V)) (index : BTreeMap ℕ (Option Entry)) (q : ℕ) → finite.get (tasks_of c index.entries) q ≡ task_under c (entry_at index q)
-  get-tasks_of c index q = tasks_at c index.entries q
+  pub get-tasks_of : (c : slots.Content (Item V)) (index : Entries) (q : ℕ) → finite.get (tasks_of c index) q ≡ task_under c (entry_at index q)
+  get-tasks_of c index q =
+      get-tasks_below c index (2 ^ 32) q
+      ∙ elim (nat_lt q (2 ^ 32)) as (λ b. (if b then task_under c (unwrap_or (lookup index q) None) else None) ≡ task_under c (if b then unwrap_or (lookup index q) None else None)) [ true ↦ refl | false ↦ refl ]
 
   -- an entry says the same where the item at its place, if it has one, stays
   under_same : (c d : slots.Content (Item V)) (p : ℕ) (e : Option Entry) → ((q : ℕ) → q ≢ p → slots.item_at d q ≡ slots.item_at c q) → (e ≡ Some (Live p) → ⊥) → task_under d e ≡ task_under c e
@@ -50,18 +62,18 @@ module _ {V : Type 0} where
   under_same c d p (Some (Done a b)) items apart = refl
 
   -- one task is changed, with the item at one place or the entry under its number
-  pub tasks-put : (c d : slots.Content (Item V)) (index new : BTreeMap ℕ (Option Entry)) (t p : ℕ) (x : Task V) → ((q : ℕ) → q ≢ p → slots.item_at d q ≡ slots.item_at c q) → ((q : ℕ) → q ≢ t → entry_at new q ≡ entry_at index q) → ((q : ℕ) → q ≢ t → entry_at index q ≡ Some (Live p) → ⊥) → task_under d (entry_at new t) ≡ Some x
-      → tasks_of d new.entries ≡ finite.insert (tasks_of c index.entries) t x
+  pub tasks-put : (c d : slots.Content (Item V)) (index new : Entries) (t p : ℕ) (x : Task V) → ((q : ℕ) → q ≢ p → slots.item_at d q ≡ slots.item_at c q) → ((q : ℕ) → q ≢ t → entry_at new q ≡ entry_at index q) → ((q : ℕ) → q ≢ t → entry_at index q ≡ Some (Live p) → ⊥) → task_under d (entry_at new t) ≡ Some x
+      → tasks_of d new ≡ finite.insert (tasks_of c index) t x
   tasks-put c d index new t p x items entries apart here = finite.same_map nat_cmp_total finite.nat_cmp-IsAntisymmetric _ _ (λ q.
       get-tasks_of d new q ∙ (elim (cases_eq q t) [
-        | inl same ↦ let e : (q == t) ≡ true = grind (arith, nat_tests) in ap (λ k. task_under d (entry_at new k)) same ∙ here ∙ sym (ap (λ b. cond b (Some x) (finite.get (tasks_of c index.entries) q)) e)
+        | inl same ↦ let e : (q == t) ≡ true = grind (arith, nat_tests) in ap (λ k. task_under d (entry_at new k)) same ∙ here ∙ sym (ap (λ b. cond b (Some x) (finite.get (tasks_of c index) q)) e)
         | inr differs ↦
             let e : (q == t) ≡ false = grind (arith, nat_tests) in
-            ap (task_under d) (entries q differs) ∙ under_same c d p (entry_at index q) items (apart q differs) ∙ sym (get-tasks_of c index q) ∙ sym (ap (λ b. cond b (Some x) (finite.get (tasks_of c index.entries) q)) e)
-      ]) ∙ sym (get_inserted (tasks_of c index.entries) t x q))
+            ap (task_under d) (entries q differs) ∙ under_same c d p (entry_at index q) items (apart q differs) ∙ sym (get-tasks_of c index q) ∙ sym (ap (λ b. cond b (Some x) (finite.get (tasks_of c index) q)) e)
+      ]) ∙ sym (get_inserted (tasks_of c index) t x q))
 
   -- no task is changed
-  pub tasks-same : (c : slots.Content (Item V)) (index new : BTreeMap ℕ (Option Entry)) → ((q : ℕ) → task_under c (entry_at new q) ≡ task_under c (entry_at index q)) → tasks_of c new.entries ≡ tasks_of c index.entries
+  pub tasks-same : (c : slots.Content (Item V)) (index new : Entries) → ((q : ℕ) → task_under c (entry_at new q) ≡ task_under c (entry_at index q)) → tasks_of c new ≡ tasks_of c index
   tasks-same c index new same = finite.same_map nat_cmp_total finite.nat_cmp-IsAntisymmetric _ _ (λ q. get-tasks_of c new q ∙ same q ∙ sym (get-tasks_of c index q))
 
   -- the numbers at listed places, where only an unlisted place is changed

@@ -2,6 +2,7 @@ pub mod Spread
 pub mod Filling
 pub mod Counting
 pub mod Contents
+pub mod Available
 pub mod Keeping
 pub mod Entering
 pub mod Reading

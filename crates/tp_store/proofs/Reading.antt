@@ -1,8 +1,6 @@
 -- What the slots and the index tell of one task.
 use Rattle.std.proofs.Common.{◌≡◌, ℕ, ◌+◌, ◌<◌, ◌≤◌, ◌==◌, true, false, List, [], Option, Some, None, MatchOption, Result, Ok, Err, OnOk, IfErr, refl, sym, ap, ◌∙◌, arith}
 use Rattle.std.specs.Option.{option_map, IsSomeAnd}
-use Rattle.std.specs.Ordering.{nat_cmp}
-use Rattle.std.specs.BTreeMap.{BTreeMap, get}
 use Rattle.std.specs.declared.vec.Vec.{Vec}
 use Rattle.std.proofs.lemmas.Bool.Decides.{nat_tests}
 use Rattle.tp_base.specs.declared.ids.TaskId.{TaskId}
@@ -11,27 +9,28 @@ use Rattle.tp_base.specs.declared.refusal.Refusal.TheVariants.{TaskKnown, StoreF
 use Rattle.tp_slots.specs.Content as slots
 use Rattle.tp_store.specs.Content.{Task, Content, task_of, unfinished, refusal_of_new, refusal_of_insert, refusal_of_deliver, refusal_of_value, has_begun}
 use Rattle.tp_store.specs.Items.{Item}
+use Rattle.tp_store.specs.Entries.{Entries, entry_at}
 use Rattle.tp_store.specs.Kept.{task_under, content_of, IsKept}
 use Rattle.tp_store.specs.declared.life.Life.TheVariants.{Done as over}
 use Rattle.tp_store.specs.declared.life.Counts.{Counts}
 use Rattle.tp_store.specs.declared.index.Entry.{Entry}
 use Rattle.tp_store.specs.declared.index.Entry.TheVariants.{Live, Done}
 use Rattle.tp_store.proofs.Counting.{unfinished_counted}
-use Rattle.tp_store.proofs.Keeping.{found, entry_at, get-tasks_of}
+use Rattle.tp_store.proofs.Keeping.{get-tasks_of}
 
-module _ {V : Type 0} (c : slots.Content (Item V)) (index : BTreeMap ℕ (Option Entry)) (results : List (TaskId × V)) (s : Content V) (view : content_of c index.entries results ≡ s) (t : TaskId) where
+module _ {V : Type 0} (c : slots.Content (Item V)) (index : Entries) (results : List (TaskId × V)) (s : Content V) (view : content_of c index results ≡ s) (t : TaskId) where
   pub seen : (e : Option Entry) → entry_at index t.0 ≡ e → task_of s t ≡ task_under c e
   seen e is = ap (λ v. task_of v t) (sym view) ∙ get-tasks_of c index t.0 ∙ ap (task_under c) is
 
   pub seen_live : (place : ℕ) (i : Item V) → entry_at index t.0 ≡ Some (Live place) → slots.item_at c place ≡ Some i → task_of s t ≡ Some i.task
   seen_live place i e at = seen (Some (Live place)) e ∙ ap (option_map (λ j. j.task)) at
 
-module _ {V A : Type 0} (c : slots.Content (Item V)) (room : ℕ) (index : BTreeMap ℕ (Option Entry)) (results : Vec (TaskId × V) A) (counts : Counts) (reserved : Option (Item V)) (kept : IsKept {V = V} {A = A} c room index results counts reserved) (s : Content V) (view : content_of c index.entries results.items ≡ s) where
+module _ {V A : Type 0} (c : slots.Content (Item V)) (room : ℕ) (index : Entries) (results : Vec (TaskId × V) A) (counts : Counts) (reserved : Option (Item V)) (kept : IsKept {V = V} {A = A} c room index results counts reserved) (s : Content V) (view : content_of c index results.items ≡ s) where
   pub live_count : unfinished s ≡ counts.waiting + counts.ready + counts.running
-  live_count = ap (λ v. unfinished v) (sym view) ∙ unfinished_counted (content_of c index.entries results.items) counts kept.counted
+  live_count = ap (λ v. unfinished v) (sym view) ∙ unfinished_counted (content_of c index results.items) counts kept.counted
 
   pub live_held : counts.waiting + counts.ready + counts.running ≡ slots.held_count c
-  live_held = sym (unfinished_counted (content_of c index.entries results.items) counts kept.counted) ∙ sym kept.held
+  live_held = sym (unfinished_counted (content_of c index results.items) counts kept.counted) ∙ sym kept.held
 
   pub few_live : counts.waiting + counts.ready + counts.running ≤ 65536
   few_live = omega (arith, live_held, kept.within)
@@ -40,7 +39,7 @@ module _ {V A : Type 0} (c : slots.Content (Item V)) (room : ℕ) (index : BTree
   pub known : (t : TaskId) (e : Entry) → entry_at index t.0 ≡ Some e → (x : Task V) × (task_of s t ≡ Some x)
   known t (Done arity class) is = (record { life = over; arity = arity; class = class; values = [] }, seen c index results.items s view t (Some (Done arity class)) is)
   known t (Live place) is =
-      let i = some_of (slots.item_at c place) (kept.live t.0 place (found (get nat_cmp index t.0) (Live place) is)) in
+      let i = some_of (slots.item_at c place) (kept.live t.0 place is) in
       (i.0.task, seen_live c index results.items s view t place i.0 is i.1)
     where
       some_of : (o : Option (Item V)) → IsSomeAnd o (λ i. i.number.0 ≡ t.0) → (i : Item V) × (o ≡ Some i)
@@ -51,6 +50,14 @@ module _ {V A : Type 0} (c : slots.Content (Item V)) (room : ℕ) (index : BTree
   pub new_answer : (r : Result (Unit {0}) Refusal) → OnOk r (counts.waiting + counts.ready + counts.running < 65536) → IfErr r (λ e. (e ≡ StoreFull) × (counts.waiting + counts.ready + counts.running ≡ 65536)) → MatchOption (refusal_of_new s) (r ≡ Ok tt) (λ e. r ≡ Err e)
   new_answer (Ok x) ok err = let e : (unfinished s == 65536) ≡ false = grind (arith, nat_tests, live_count, ok) in rw e refl
   new_answer (Err x) ok err = let e : (unfinished s == 65536) ≡ true = grind (arith, nat_tests, live_count, err.1) in rw e (ap Err err.0)
+
+-- what a delivery is refused for, by what is known of the task
+module _ {V : Type 0} (s : Content V) (t : TaskId) (arity slot : ℕ) where
+  pub unknown_refusal : task_of s t ≡ None → refusal_of_deliver s t arity slot ≡ refusal_of_new s
+  unknown_refusal e = rw e refl
+
+  pub known_refusal : (x : Task V) → task_of s t ≡ Some x → refusal_of_deliver s t arity slot ≡ refusal_of_value x arity slot
+  known_refusal x e = rw e refl
 
 module _ {V : Type 0} (s : Content V) (t : TaskId) (r : Result (Unit {0}) Refusal) where
   -- the answers of the checks, by what is known of the task
@@ -65,6 +72,15 @@ module _ {V : Type 0} (s : Content V) (t : TaskId) (r : Result (Unit {0}) Refusa
 
   pub deliver_unknown : (arity slot : ℕ) → task_of s t ≡ None → MatchOption (refusal_of_new s) (r ≡ Ok tt) (λ e. r ≡ Err e) → MatchOption (refusal_of_deliver s t arity slot) (r ≡ Ok tt) (λ e. r ≡ Err e)
   deliver_unknown arity slot e is = rw e is
+
+-- what a check answers
+pub accepts : (o : Option Refusal) (r : Result (Unit {0}) Refusal) (x : Unit {0}) → MatchOption o (r ≡ Ok tt) (λ e. r ≡ Err e) → r ≡ Ok x → o ≡ None
+accepts None r x h e = refl
+accepts (Some y) r x h e = let clash : Err y ≡ Ok x = sym h ∙ e in cc
+
+pub refuses : (o : Option Refusal) (r : Result (Unit {0}) Refusal) (y : Refusal) → MatchOption o (r ≡ Ok tt) (λ e. r ≡ Err e) → r ≡ Err y → o ≡ Some y
+refuses None r y h e = let clash : Ok tt ≡ Err y = sym h ∙ e in cc
+refuses (Some z) r y h e = let both : Err z ≡ Err y = sym h ∙ e in cc
 
 -- a value that is accepted comes to no task that has begun
 pub never_begun : {V : Type 0} (s : Content V) (t : TaskId) (x : Task V) (arity slot : ℕ) → task_of s t ≡ Some x → has_begun x.life ≡ true → refusal_of_deliver s t arity slot ≡ None → ⊥

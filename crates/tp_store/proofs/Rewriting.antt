@@ -1,8 +1,6 @@
 -- The item at one place is changed, and keeps its number.
-use Rattle.std.proofs.Common.{◌≡◌, ◌≢◌, ℕ, suc, ◌≤◌, ◌==◌, true, cond, List, [], ◌∷◌, get_or, map, Option, Some, None, unwrap_or, count_by, refl, sym, ap, subst, ◌∙◌, inl, inr, arith}
+use Rattle.std.proofs.Common.{◌≡◌, ◌≢◌, ℕ, suc, ◌≤◌, ◌==◌, true, cond, List, [], ◌∷◌, get_or, map, Option, Some, unwrap_or, count_by, refl, sym, ap, subst, ◌∙◌, inl, inr, arith}
 use Rattle.std.specs.Option.{option_map, IsSomeAnd}
-use Rattle.std.specs.Ordering.{nat_cmp}
-use Rattle.std.specs.BTreeMap.{BTreeMap, get}
 use Rattle.std.specs.FinMap as finite
 use Rattle.std.specs.declared.vec.Vec.{Vec}
 use Rattle.std.proofs.lemmas.Bool.{cases_eq}
@@ -11,43 +9,43 @@ use Rattle.std.proofs.lemmas.List.Sums.{sum_by-cons}
 use Rattle.tp_base.specs.declared.ids.TaskId.{TaskId}
 use Rattle.tp_slots.specs.Content as slots
 use Rattle.tp_store.specs.Items.{Item}
+use Rattle.tp_store.specs.Entries.{Entries, entry_at}
 use Rattle.tp_store.specs.Sound.{is_task, times_ready}
 use Rattle.tp_store.specs.Kept.{task_under, tasks_of, number_at, content_of, IsKept}
 use Rattle.tp_store.specs.declared.life.Counts.{Counts}
-use Rattle.tp_store.specs.declared.index.Entry.{Entry}
 use Rattle.tp_store.specs.declared.index.Entry.TheVariants.{Live}
 use Rattle.tp_store.proofs.Contents.{is_itself}
-use Rattle.tp_store.proofs.Keeping.{found, tasks-put}
+use Rattle.tp_store.proofs.Keeping.{tasks-put}
 
-module _ {V A : Type 0} (c d : slots.Content (Item V)) (room : ℕ) (index : BTreeMap ℕ (Option Entry)) (results : Vec (TaskId × V) A) (counts : Counts) (reserved : Option (Item V)) (i y : Item V) (p : ℕ)
+module _ {V A : Type 0} (c d : slots.Content (Item V)) (room : ℕ) (index : Entries) (results : Vec (TaskId × V) A) (counts : Counts) (reserved : Option (Item V)) (i y : Item V) (p : ℕ)
     (kept : IsKept {V = V} {A = A} c room index results counts reserved)
     (at : slots.item_at c p ≡ Some i) (here : slots.item_at d p ≡ Some y) (there : (q : ℕ) → q ≢ p → slots.item_at d q ≡ slots.item_at c q) (same : y.number ≡ i.number) where
-  pub entry : get nat_cmp index i.number.0 ≡ Some (Some (Live p))
+  pub entry : entry_at index i.number.0 ≡ Some (Live p)
   entry = kept.owner p i at
 
   -- no other task has the place
-  own : (q : ℕ) → get nat_cmp index q ≡ Some (Some (Live p)) → i.number.0 ≡ q
+  own : (q : ℕ) → entry_at index q ≡ Some (Live p) → i.number.0 ≡ q
   own q e = let is = kept.live q p e in rw at at is
 
-  pub live : (t place : ℕ) → get nat_cmp index t ≡ Some (Some (Live place)) → IsSomeAnd (slots.item_at d place) (λ j. j.number.0 ≡ t)
+  pub live : (t place : ℕ) → entry_at index t ≡ Some (Live place) → IsSomeAnd (slots.item_at d place) (λ j. j.number.0 ≡ t)
   live t place e = elim (cases_eq place p) [
     | inl is ↦
-        let mine : i.number.0 ≡ t = own t (e ∙ ap (λ q. Some (Some (Live q))) is) in
+        let mine : i.number.0 ≡ t = own t (e ∙ ap (λ q. Some (Live q)) is) in
         subst (λ (o : Option (Item V)). IsSomeAnd o (λ j. j.number.0 ≡ t)) (sym (ap (slots.item_at d) is ∙ here)) (ap (λ n. n.0) same ∙ mine)
     | inr apart ↦ subst (λ (o : Option (Item V)). IsSomeAnd o (λ j. j.number.0 ≡ t)) (sym (there place apart)) (kept.live t place e)
   ]
 
-  pub owner : (place : ℕ) (j : Item V) → slots.item_at d place ≡ Some j → get nat_cmp index j.number.0 ≡ Some (Some (Live place))
+  pub owner : (place : ℕ) (j : Item V) → slots.item_at d place ≡ Some j → entry_at index j.number.0 ≡ Some (Live place)
   owner place j e = elim (cases_eq place p) [
     | inl is ↦
         let both : Some y ≡ Some j = sym here ∙ ap (slots.item_at d) (sym is) ∙ e in
         let yj : y ≡ j = cc in
-        ap (λ k. get nat_cmp index k.number.0) (sym yj) ∙ ap (λ n. get nat_cmp index n.0) same ∙ entry ∙ ap (λ q. Some (Some (Live q))) (sym is)
+        ap (λ k. entry_at index k.number.0) (sym yj) ∙ ap (λ n. entry_at index n.0) same ∙ entry ∙ ap (λ q. Some (Live q)) (sym is)
     | inr apart ↦ kept.owner place j (sym (there place apart) ∙ e)
   ]
 
-  pub tasks : tasks_of d index.entries ≡ finite.insert (tasks_of c index.entries) i.number.0 y.task
-  tasks = tasks-put c d index index i.number.0 p y.task there (λ q apart. refl) (λ q apart e. apart (sym (own q (found (get nat_cmp index q) (Live p) e)))) (ap (λ o. task_under d (unwrap_or o None)) entry ∙ ap (option_map (λ j. j.task)) here)
+  pub tasks : tasks_of d index ≡ finite.insert (tasks_of c index) i.number.0 y.task
+  tasks = tasks-put c d index index i.number.0 p y.task there (λ q apart. refl) (λ q apart e. apart (sym (own q e))) (ap (task_under d) entry ∙ ap (option_map (λ j. j.task)) here)
 
   pub numbers : (q : ℕ) → number_at d q ≡ number_at c q
   numbers q = elim (cases_eq q p) [
@@ -71,9 +69,9 @@ module _ (f : ℕ → TaskId) (p : ℕ) where
   none_listed [] h = refl
   none_listed (r ∷ rs) h = omega (arith, h 0, times_below r, none_listed rs (λ class. h (suc class)))
 
-module _ {V : Type 0} (c : slots.Content (Item V)) (entries : List (ℕ × Option Entry)) (results : List (TaskId × V)) (p : ℕ) (i : Item V) (at : slots.item_at c p ≡ Some i) where
+module _ {V : Type 0} (c : slots.Content (Item V)) (index : Entries) (results : List (TaskId × V)) (p : ℕ) (i : Item V) (at : slots.item_at c p ≡ Some i) where
   number_is : number_at c p ≡ i.number
   number_is = ap (λ o. unwrap_or (option_map (λ j. j.number) o) (record { 0 = 0 })) at
 
-  pub unlisted : ((class : ℕ) → times_ready (content_of c entries results) class i.number ≡ 0) → slots.times p c.ready ≡ 0
+  pub unlisted : ((class : ℕ) → times_ready (content_of c index results) class i.number ≡ 0) → slots.times p c.ready ≡ 0
   unlisted none = none_listed (number_at c) p c.ready (λ class. ap (λ n. count_by (is_task n) (get_or (map (map (number_at c)) c.ready) class [])) number_is ∙ none class)

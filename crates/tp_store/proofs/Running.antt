@@ -2,7 +2,6 @@
 use Rattle.std.proofs.Common.{◌≡◌, ◌≢◌, ℕ, ◌+◌, ◌<◌, ◌≤◌, true, cond, List, map, Option, Some, None, is_some, IfSome, unwrap_or, refl, sym, ap, ◌∙◌, arith}
 use Rattle.std.specs.Option.{option_map}
 use Rattle.std.specs.Cmp.{nat_cmp_total}
-use Rattle.std.specs.BTreeMap.{BTreeMap}
 use Rattle.std.specs.FinMap as finite
 use Rattle.std.specs.declared.vec.Vec.{Vec}
 use Rattle.tp_base.specs.declared.ids.TaskId.{TaskId}
@@ -11,11 +10,11 @@ use Rattle.tp_slots.proofs.Sound.{IsSound-with_item, IsSound-without_next, IsIdl
 use Rattle.tp_slots.proofs.Lists.{front-each, front_none-each, without_front-each}
 use Rattle.tp_store.specs.Content.{Content, task_of, life_of, values_of, unfinished, counts_of, is_ready, begun, with_begun}
 use Rattle.tp_store.specs.Items.{Item}
+use Rattle.tp_store.specs.Entries.{Entries}
 use Rattle.tp_store.specs.Kept.{task_under, number_at, content_of, begun_counts, IsKept}
 use Rattle.tp_store.specs.declared.life.Life.{Life}
 use Rattle.tp_store.specs.declared.life.Life.TheVariants.{Waiting, Ready, Running, Done}
 use Rattle.tp_store.specs.declared.life.Counts.{Counts}
-use Rattle.tp_store.specs.declared.index.Entry.{Entry}
 use Rattle.tp_store.proofs.Contents.{front_ready, IsSound-begun, counts-begun, some_counted}
 use Rattle.tp_store.proofs.Keeping.{get-tasks_of, numbers_kept, item_here, item_there, at_item, spared}
 use Rattle.tp_store.proofs.Reading.{few_live}
@@ -27,10 +26,10 @@ ready_is Ready e = refl
 ready_is Running e = cc
 ready_is Done e = cc
 
-module _ {V A : Type 0} (c : slots.Content (Item V)) (room more : ℕ) (index : BTreeMap ℕ (Option Entry)) (results : Vec (TaskId × V) A) (counts : Counts) (reserved : Option (Item V)) (kept : IsKept {V = V} {A = A} c room index results counts reserved)
+module _ {V A : Type 0} (c : slots.Content (Item V)) (room more : ℕ) (index : Entries) (results : Vec (TaskId × V) A) (counts : Counts) (reserved : Option (Item V)) (kept : IsKept {V = V} {A = A} c room index results counts reserved)
     (i : Item V) (p : ℕ) (at : slots.item_at c p ≡ Some i) (is : is_ready i.task.life ≡ true) where
   abbrev before : Content V
-  before = content_of c index.entries results.items
+  before = content_of c index results.items
 
   abbrev y : Item V
   y = record { number = i.number; task = begun i.task }
@@ -39,7 +38,7 @@ module _ {V A : Type 0} (c : slots.Content (Item V)) (room more : ℕ) (index : 
   after = slots.with_item (slots.without_next c) p y
 
   pub was : task_of before i.number ≡ Some i.task
-  was = get-tasks_of c index i.number.0 ∙ ap (λ o. task_under c (unwrap_or o None)) (kept.owner p i at) ∙ ap (option_map (λ j. j.task)) at
+  was = get-tasks_of c index i.number.0 ∙ ap (task_under c) (kept.owner p i at) ∙ ap (option_map (λ j. j.task)) at
 
   there : (q : ℕ) → q ≢ p → slots.item_at after q ≡ slots.item_at c q
   there q apart = item_there (slots.without_next c) p q y apart
@@ -47,7 +46,7 @@ module _ {V A : Type 0} (c : slots.Content (Item V)) (room more : ℕ) (index : 
   abbrev changed : Content V
   changed = record { tasks = finite.insert before.tasks i.number.0 (begun i.task); ready = slots.without_front before.ready; results = before.results }
 
-  pub begun_content : content_of after index.entries results.items ≡ changed
+  pub begun_content : content_of after index results.items ≡ changed
   begun_content =
       let here = item_here (slots.without_next c) p y in
       let kept_numbers = numbers_kept c after (slots.without_front c.ready) (numbers c after room index results counts reserved i y p kept at here there refl) in
@@ -74,11 +73,11 @@ module _ {V A : Type 0} (c : slots.Content (Item V)) (room more : ℕ) (index : 
         counted = begun_moves.1 ∙ ap (λ (s : Content V). counts_of s) (sym begun_content);
         space = omega (arith, count, kept.space);
         spare = spared room more reserved roomy kept.spare;
-        rooms = kept.rooms;
+        entry = kept.entry;
       }
 
-module _ {V A : Type 0} (c : slots.Content (Item V)) (room more : ℕ) (index : BTreeMap ℕ (Option Entry)) (results : Vec (TaskId × V) A) (counts : Counts) (reserved : Option (Item V)) (kept : IsKept {V = V} {A = A} c room index results counts reserved)
-    (s : Content V) (view : content_of c index.entries results.items ≡ s) where
+module _ {V A : Type 0} (c : slots.Content (Item V)) (room more : ℕ) (index : Entries) (results : Vec (TaskId × V) A) (counts : Counts) (reserved : Option (Item V)) (kept : IsKept {V = V} {A = A} c room index results counts reserved)
+    (s : Content V) (view : content_of c index results.items ≡ s) where
   -- ---- none is ready
   module _ (none : slots.front c.ready ≡ None) where
     pub none_next : None ≡ slots.front s.ready
@@ -98,13 +97,13 @@ module _ {V A : Type 0} (c : slots.Content (Item V)) (room more : ℕ) (index : 
       counted = kept.counted;
       space = kept.space;
       spare = spared room more reserved roomy kept.spare;
-      rooms = kept.rooms;
+      entry = kept.entry;
     }
 
   -- ---- the place of the next one
   module _ (p : ℕ) (first : Some p ≡ slots.front c.ready) where
     abbrev old : Content V
-    old = content_of c index.entries results.items
+    old = content_of c index results.items
 
     pub record Next (i : Item V) : Type 0 where
       pub at : slots.item_at c p ≡ Some i
@@ -120,7 +119,7 @@ module _ {V A : Type 0} (c : slots.Content (Item V)) (room more : ℕ) (index : 
         some_item (Some i) e h =
             let own : number_at c p ≡ i.number = ap (λ o. unwrap_or (option_map (λ j. j.number) o) (record { 0 = 0 })) e in
             let front : slots.front old.ready ≡ Some i.number = front-each (number_at c) c.ready p (sym first) ∙ ap (λ n. Some n) own in
-            let known : task_of old i.number ≡ Some i.task = get-tasks_of c index i.number.0 ∙ ap (λ o. task_under c (unwrap_or o None)) (kept.owner p i e) ∙ ap (option_map (λ j. j.task)) e in
+            let known : task_of old i.number ≡ Some i.task = get-tasks_of c index i.number.0 ∙ ap (task_under c) (kept.owner p i e) ∙ ap (option_map (λ j. j.task)) e in
             let x = front_ready old i.number kept.sound front in
             let both : Some i.task ≡ Some x.0 = sym known ∙ x.1 in
             let same : i.task ≡ x.0 = cc in (
@@ -158,7 +157,7 @@ module _ {V A : Type 0} (c : slots.Content (Item V)) (room more : ℕ) (index : 
           let known : task_of s t ≡ Some k.0.task = ap (task_of s) own ∙ k.1.known in
           (ap (λ n. Some n) own ∙ k.1.next, rw known (ap (λ l. Some l) (ready_is k.0.task.life k.1.is)), rw known (at_item _ _ _ at values))
 
-      pub begun_all : room ≤ more → (content_of d index.entries results.items ≡ with_begun s t) × (unfinished (content_of d index.entries results.items) ≡ unfinished s) × IsKept {V = V} {A = A} d more index results (begun_counts counts) reserved
+      pub begun_all : room ≤ more → (content_of d index results.items ≡ with_begun s t) × (unfinished (content_of d index results.items) ≡ unfinished s) × IsKept {V = V} {A = A} d more index results (begun_counts counts) reserved
       begun_all roomy =
           let k = next_item in
           let i = k.0 in

@@ -1,13 +1,12 @@
 -- No task goes back.
-use Rattle.std.proofs.Common.{◌≡◌, ℕ, zero, suc, ◌<◌, ◌≤◌, ◌==◌, true, false, cond, Option, Some, None, is_some, unwrap_or, refl, sym, ap, subst, ◌∙◌, inl, inr, arith}
+use Rattle.std.proofs.Common.{◌≡◌, ℕ, zero, suc, ◌≤◌, ◌==◌, true, false, cond, Option, Some, None, unwrap_or, refl, sym, ap, ◌∙◌, inl, inr, arith}
 use Rattle.std.specs.Option.{option_map}
-use Rattle.std.specs.Ordering.{nat_cmp}
 use Rattle.std.specs.FinMap as finite
 use Rattle.std.proofs.lemmas.Bool.{cases_eq}
 use Rattle.std.proofs.lemmas.Bool.Decides.{nat_tests}
 use Rattle.tp_base.specs.declared.ids.TaskId.{TaskId}
 use Rattle.tp_slots.proofs.Sound.{get_inserted}
-use Rattle.tp_store.specs.Content.{Task, Content, task_of, life_of, stage, NoneGoesBack, supplied, life_lacking, fresh, with_value, begun, done, changed_tasks, with_inserted, with_delivered, with_begun, with_done}
+use Rattle.tp_store.specs.Content.{Task, Content, task_of, life_of, stage, NoneGoesBack, supplied, life_lacking, fresh, begun, done, changed_tasks, with_inserted, with_delivered, with_begun, with_done}
 use Rattle.tp_store.specs.declared.life.Life.{Life}
 use Rattle.tp_store.specs.declared.life.Life.TheVariants.{Waiting, Ready, Running, Done}
 

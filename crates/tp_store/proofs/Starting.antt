@@ -1,16 +1,20 @@
 -- A store with no task.
-use Rattle.std.proofs.Common.{◌≡◌, ℕ, zero, suc, List, [], ◌∷◌, get_or, length, Option, Some, None, count_by, refl, sym, ap, ◌∙◌, arith, vec_len}
+use Rattle.std.proofs.Common.{◌≡◌, ℕ, zero, suc, ◌^◌, true, false, List, [], ◌∷◌, get_or, length, map, Option, Some, None, count_by, refl, sym, ap, ◌∙◌, arith, vec_len}
+use Rattle.std.specs.Prelude.{nat_lt, if◌then◌else◌}
+use Rattle.std.specs.Cmp.{nat_cmp_total}
 use Rattle.std.specs.Ordering.{nat_cmp}
-use Rattle.std.specs.BTreeMap.{BTreeMap, get}
 use Rattle.std.specs.FinMap as finite
 use Rattle.std.specs.declared.vec.Vec.{Vec}
 use Rattle.tp_base.specs.declared.ids.TaskId.{TaskId}
+use Rattle.tp_base.specs.Table.{lookup}
 use Rattle.tp_slots.specs.Content as slots
 use Rattle.tp_slots.proofs.Sound.{IsSound-nothing_held}
 use Rattle.tp_store.specs.Content.{Task, Content, nothing_stored, unfinished, counts_of}
 use Rattle.tp_store.specs.Items.{Item}
+use Rattle.tp_store.specs.Entries.{Entries, entry_at}
 use Rattle.tp_store.specs.Sound.{IsSound, is_task}
-use Rattle.tp_store.specs.Kept.{content_of, IsKept}
+use Rattle.tp_store.specs.Kept.{task_under, tasks_of, number_at, content_of, IsKept}
+use Rattle.tp_store.proofs.Keeping.{get-tasks_of}
 use Rattle.tp_store.specs.declared.index.Entry.{Entry}
 use Rattle.tp_store.specs.declared.index.Entry.TheVariants.{Live}
 
@@ -40,12 +44,15 @@ module _ {V : Type 0} where
     done = λ t. rw (finite.get-empty {X = Task V} nat_cmp t.0) refl;
   }
 
-module _ {V A : Type 0} (c : slots.Content (Item V)) (room : ℕ) (index : BTreeMap ℕ (Option Entry)) (results : Vec (TaskId × V) A) (held : c ≡ slots.nothing_held) (none : index.entries ≡ []) (items : results.items ≡ []) where
-  pub nothing_kept : content_of c index.entries results.items ≡ nothing_stored
-  nothing_kept = rw (held, none, items) refl
+module _ {V A : Type 0} (c : slots.Content (Item V)) (room : ℕ) (index : Entries) (results : Vec (TaskId × V) A) (held : c ≡ slots.nothing_held) (none : (k : ℕ) → lookup index k ≡ None) (items : results.items ≡ []) where
+  no_entry : (t : ℕ) → entry_at index t ≡ None
+  no_entry t = rw (none t) (elim (nat_lt t (2 ^ 32)) as (λ b. ◌≡◌ {A = Option Entry} (if b then None else None) None) [ true ↦ refl | false ↦ refl ])
 
-  no_entry : (t : ℕ) → get nat_cmp index t ≡ None
-  no_entry t = rw none refl
+  no_tasks : ◌≡◌ {A = finite.FinMap nat_cmp (Task V)} (tasks_of c index) finite.empty
+  no_tasks = finite.same_map nat_cmp_total finite.nat_cmp-IsAntisymmetric _ _ (λ q. get-tasks_of c index q ∙ ap (task_under c) (no_entry q) ∙ sym (finite.get-empty nat_cmp q))
+
+  pub nothing_kept : content_of c index results.items ≡ nothing_stored
+  nothing_kept = let lists : map (map (number_at c)) c.ready ≡ [] ∷ [] ∷ [] ∷ [] ∷ [] = rw held refl in λ k. record { tasks = no_tasks k; ready = lists k; results = items k }
 
   no_item : (place : ℕ) → slots.item_at c place ≡ None
   no_item place = rw held (finite.get-empty nat_cmp place)
@@ -55,7 +62,7 @@ module _ {V A : Type 0} (c : slots.Content (Item V)) (room : ℕ) (index : BTree
       let count : slots.held_count c ≡ 0 = rw held (finite.len-empty nat_cmp (Item V)) in
       record {
         lists = rw held IsSound-nothing_held;
-        live = λ t place e. let clash : None ≡ Some (Some (Live place)) = sym (no_entry t) ∙ e in cc;
+        live = λ t place e. let clash : None ≡ Some (Live place) = sym (no_entry t) ∙ e in cc;
         owner = λ place i e. let clash : None ≡ Some i = sym (no_item place) ∙ e in cc;
         sound = rw nothing_kept IsSound-nothing;
         held = count ∙ sym (none_live V) ∙ ap (λ (s : Content V). unfinished s) (sym nothing_kept);
@@ -63,7 +70,7 @@ module _ {V A : Type 0} (c : slots.Content (Item V)) (room : ℕ) (index : BTree
         counted = no_counts ∙ ap (λ (s : Content V). counts_of s) (sym nothing_kept);
         space = omega (arith, count, long);
         spare = tt;
-        rooms = λ t. (λ e. let clash : None ≡ Some None = sym (no_entry t) ∙ e in cc, λ h. absurd h);
+        entry = tt;
       }
     where
       no_counts : record { waiting = 0; ready = 0; running = 0 } ≡ counts_of (nothing_stored {V = V})

@@ -3,9 +3,7 @@ use Rattle.std.proofs.Common.{◌≡◌, ◌≢◌, ℕ, zero, suc, ◌+◌, ◌
 use Rattle.std.specs.Prelude.{if◌then◌else◌, ◌==◌, ◌||◌, not, MatchBool}
 use Rattle.std.proofs.lemmas.Bool.Decides.{nat_tests}
 use Rattle.std.specs.Option.{option_map, IsSomeAnd}
-use Rattle.std.specs.Ordering.{nat_cmp}
 use Rattle.std.specs.Cmp.{nat_cmp_total}
-use Rattle.std.specs.BTreeMap.{BTreeMap, get}
 use Rattle.std.specs.FinMap as finite
 use Rattle.std.specs.declared.vec.Vec.{Vec}
 use Rattle.std.proofs.lemmas.List.{length-set, get_or-replicate}
@@ -15,6 +13,7 @@ use Rattle.tp_slots.specs.Content as slots
 use Rattle.tp_slots.proofs.Sound.{IsSound-with_item, idle_with_item}
 use Rattle.tp_store.specs.Content.{Task, Content, fresh, with_value, supplied, life_lacking, refusal_of_value, refusal_of_deliver, with_delivered, delivered_to, task_of, with_task, unfinished, counts_of, is_ready, is_waiting, has_begun}
 use Rattle.tp_store.specs.Items.{Item}
+use Rattle.tp_store.specs.Entries.{Entries, entry_at}
 use Rattle.tp_store.specs.Sound.{IsTask, LacksSome, lacking}
 use Rattle.tp_store.specs.Kept.{task_under, number_at, content_of, with_listed, supplied_counts, IsKept}
 use Rattle.tp_base.specs.declared.refusal.Refusal.TheVariants.{TaskKnown, SlotTaken}
@@ -22,19 +21,18 @@ use Rattle.tp_store.specs.declared.life.Life.{Life}
 use Rattle.tp_store.specs.declared.life.Life.TheVariants.{Waiting, Ready, Running, Done}
 use Rattle.tp_store.specs.declared.life.Delivered.TheVariants.{Filled}
 use Rattle.tp_store.specs.declared.life.Counts.{Counts}
-use Rattle.tp_store.specs.declared.index.Entry.{Entry}
 use Rattle.tp_store.specs.declared.index.Entry.TheVariants.{Live}
 use Rattle.tp_store.proofs.Filling.{lacks_life, lacking_life, not_begun_life, waiting_life, IsTask-fresh}
 use Rattle.tp_store.proofs.Reading.{seen_live, few_live}
 use Rattle.tp_store.proofs.Contents.{same_number, NotReady, waiting, IsSound-put, some_counted, counts-supplied, not_listed}
-use Rattle.tp_store.proofs.Keeping.{found, entry_at, at_item, spared, get-tasks_of, numbers_kept, item_here, item_there, listed_item, listed_count, listed_sound, listed_lists}
+use Rattle.tp_store.proofs.Keeping.{at_item, spared, get-tasks_of, numbers_kept, item_here, item_there, listed_item, listed_count, listed_sound, listed_lists}
 use Rattle.tp_store.proofs.Rewriting.{live, owner, tasks, numbers, unlisted}
 
-module _ {V A : Type 0} (c : slots.Content (Item V)) (room more : ℕ) (index : BTreeMap ℕ (Option Entry)) (results : Vec (TaskId × V) A) (counts : Counts) (reserved : Option (Item V)) (i : Item V) (x : Task V) (p : ℕ)
+module _ {V A : Type 0} (c : slots.Content (Item V)) (room more : ℕ) (index : Entries) (results : Vec (TaskId × V) A) (counts : Counts) (reserved : Option (Item V)) (i : Item V) (x : Task V) (p : ℕ)
     (kept : IsKept {V = V} {A = A} c room index results counts reserved) (at : slots.item_at c p ≡ Some i)
     (waits : is_waiting i.task.life ≡ true) where
   abbrev old : Content V
-  old = content_of c index.entries results.items
+  old = content_of c index results.items
 
   abbrev y : Item V
   y = record { number = i.number; task = x }
@@ -45,17 +43,17 @@ module _ {V A : Type 0} (c : slots.Content (Item V)) (room more : ℕ) (index : 
   abbrev after : slots.Content (Item V)
   after = with_listed with p x
 
-  own_entry : get nat_cmp index i.number.0 ≡ Some (Some (Live p))
+  own_entry : entry_at index i.number.0 ≡ Some (Live p)
   own_entry = kept.owner p i at
 
   pub was : task_of old i.number ≡ Some i.task
-  was = get-tasks_of c index i.number.0 ∙ ap (λ o. task_under c (unwrap_or o None)) own_entry ∙ ap (option_map (λ j. j.task)) at
+  was = get-tasks_of c index i.number.0 ∙ ap (task_under c) own_entry ∙ ap (option_map (λ j. j.task)) at
 
   not_ready : NotReady (task_of old i.number)
   not_ready = subst (NotReady {V = V}) (sym was) (waiting i.task waits)
 
   pub idle : slots.IsIdle c p
-  idle = record { taken = ap is_some at; unlisted = unlisted c index.entries results.items p i at (λ class. kept.sound.ready class i.number ∙ not_listed (task_of old i.number) class not_ready) }
+  idle = record { taken = ap is_some at; unlisted = unlisted c index results.items p i at (λ class. kept.sound.ready class i.number ∙ not_listed (task_of old i.number) class not_ready) }
 
   with_idle : slots.IsIdle with p
   with_idle = idle_with_item c p y idle
@@ -81,7 +79,7 @@ module _ {V A : Type 0} (c : slots.Content (Item V)) (room more : ℕ) (index : 
         ∙ ap (λ l. if is_ready x.life then slots.with_last l x.class (number_at with p) else l) same
         ∙ ap (λ n. if is_ready x.life then slots.with_last (map (map (number_at c)) c.ready) x.class n else map (map (number_at c)) c.ready) own
 
-    pub supplied_content : content_of after index.entries results.items ≡ with_task old i.number x
+    pub supplied_content : content_of after index results.items ≡ with_task old i.number x
     supplied_content = λ k. record { tasks = tasks c after room index results counts reserved i y p kept at here there refl k; ready = ready k; results = results.items }
 
     pub supplied_counted : (unfinished (with_task old i.number x) ≡ unfinished old) × (supplied_counts counts (is_ready x.life) ≡ counts_of (with_task old i.number x))
@@ -98,7 +96,7 @@ module _ {V A : Type 0} (c : slots.Content (Item V)) (room more : ℕ) (index : 
       counted = supplied_counted.1 ∙ ap (λ (s : Content V). counts_of s) (sym supplied_content);
       space = omega (arith, count, kept.space);
       spare = spared room more reserved roomy kept.spare;
-      rooms = kept.rooms;
+      entry = kept.entry;
     }
 
 -- ---- what the check of a delivery tells of a known task
@@ -159,8 +157,8 @@ module _ {V : Type 0} where
       (waits, free, next.0, next.1)
 
 -- ---- the store
-module _ {V A : Type 0} (c : slots.Content (Item V)) (room : ℕ) (index : BTreeMap ℕ (Option Entry)) (results : Vec (TaskId × V) A) (counts : Counts) (reserved : Option (Item V)) (kept : IsKept {V = V} {A = A} c room index results counts reserved)
-    (s : Content V) (view : content_of c index.entries results.items ≡ s) (t : TaskId) (arity class slot : ℕ) (value : V) (p : ℕ) (stands : entry_at index t.0 ≡ Some (Live p)) (checked : refusal_of_deliver s t arity slot ≡ None) (low : slot < arity) where
+module _ {V A : Type 0} (c : slots.Content (Item V)) (room : ℕ) (index : Entries) (results : Vec (TaskId × V) A) (counts : Counts) (reserved : Option (Item V)) (kept : IsKept {V = V} {A = A} c room index results counts reserved)
+    (s : Content V) (view : content_of c index results.items ≡ s) (t : TaskId) (arity class slot : ℕ) (value : V) (p : ℕ) (stands : entry_at index t.0 ≡ Some (Live p)) (checked : refusal_of_deliver s t arity slot ≡ None) (low : slot < arity) where
   pub record Known (i : Item V) : Type 0 where
     pub at : slots.item_at c p ≡ Some i
     pub number : i.number ≡ t
@@ -172,7 +170,7 @@ module _ {V A : Type 0} (c : slots.Content (Item V)) (room : ℕ) (index : BTree
     pub before : has_begun (with_value i.task slot value).life ≡ false
 
   pub known_item : (i : Item V) × Known i
-  known_item = go (slots.item_at c p) refl (kept.live t.0 p (found (get nat_cmp index t.0) (Live p) stands))
+  known_item = go (slots.item_at c p) refl (kept.live t.0 p stands)
     where
       go : (o : Option (Item V)) → slots.item_at c p ≡ o → IsSomeAnd o (λ i. i.number.0 ≡ t.0) → (i : Item V) × Known i
       go None e h = absurd h
@@ -188,9 +186,9 @@ module _ {V A : Type 0} (c : slots.Content (Item V)) (room : ℕ) (index : BTree
   pub can_supply : slots.IsIdle c p × (0 < counts.waiting) × (counts.waiting + counts.ready + counts.running ≤ 65536)
   can_supply =
       let k = known_item in
-      let known : task_of (content_of c index.entries results.items) t ≡ Some k.0.task = ap (λ v. task_of v t) view ∙ k.1.known in (
+      let known : task_of (content_of c index results.items) t ≡ Some k.0.task = ap (λ v. task_of v t) view ∙ k.1.known in (
         idle c room room index results counts reserved k.0 k.0.task p kept k.1.at k.1.waits,
-        omega (arith, some_counted is_waiting (content_of c index.entries results.items) t k.0.task known k.1.waits refl, ap (λ n. n.waiting) kept.counted),
+        omega (arith, some_counted is_waiting (content_of c index results.items) t k.0.task known k.1.waits refl, ap (λ n. n.waiting) kept.counted),
         few_live c room index results counts reserved kept s view,
       )
 
@@ -199,7 +197,7 @@ module _ {V A : Type 0} (c : slots.Content (Item V)) (room : ℕ) (index : BTree
       → IfSome (slots.item_at c p) (λ i. d ≡ with_listed (slots.with_item c p (record i { task = with_value i.task slot value })) p (with_value i.task slot value))
       → IfSome (slots.item_at c p) (λ i. now ≡ supplied_counts counts (is_ready (with_value i.task slot value).life))
       → room ≤ more
-      → (content_of d index.entries results.items ≡ with_delivered s t arity class slot value) × (unfinished (content_of d index.entries results.items) ≡ unfinished s) × IsKept {V = V} {A = A} d more index results now reserved
+      → (content_of d index results.items ≡ with_delivered s t arity class slot value) × (unfinished (content_of d index results.items) ≡ unfinished s) × IsKept {V = V} {A = A} d more index results now reserved
   supplied_all d more now placed counted roomy =
       let k = known_item in
       let i = k.0 in
@@ -208,7 +206,7 @@ module _ {V A : Type 0} (c : slots.Content (Item V)) (room : ℕ) (index : BTree
       let moves = supplied_counted c room room index results counts reserved i x p kept k.1.at k.1.waits k.1.task k.1.before in
       let all = IsKept-supplied c room more index results counts reserved i x p kept k.1.at k.1.waits k.1.task k.1.before roomy in
       rw (at_item _ _ _ k.1.at placed, at_item _ _ _ k.1.at counted) (
-        content ∙ ap (λ n. with_task (content_of c index.entries results.items) n x) k.1.number ∙ ap (λ v. with_task v t x) view ∙ ap (λ o. with_task s t (with_value (unwrap_or o (fresh arity class)) slot value)) (sym k.1.known),
+        content ∙ ap (λ n. with_task (content_of c index results.items) n x) k.1.number ∙ ap (λ v. with_task v t x) view ∙ ap (λ o. with_task s t (with_value (unwrap_or o (fresh arity class)) slot value)) (sym k.1.known),
         ap unfinished content ∙ moves.0 ∙ ap unfinished view,
         all,
       )

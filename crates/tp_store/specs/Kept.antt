@@ -1,15 +1,16 @@
 -- How a store keeps its content.
-use Rattle.std.specs.Prelude.{◌≡◌, ℕ, ◌+◌, ◌-◌, ◌<◌, ◌≤◌, ◌↔◌, Bool, List, [], ◌∷◌, map as each, Option, None, Some, is_some, unwrap_or, IfSome, vec_len, vec_capacity, if◌then◌else◌}
+use Rattle.std.specs.Prelude.{◌≡◌, ℕ, zero, suc, ◌+◌, ◌-◌, ◌^◌, ◌<◌, ◌≤◌, Bool, List, [], map as each, Option, None, Some, is_some, unwrap_or, IfSome, vec_len, vec_capacity, if◌then◌else◌}
 use Rattle.std.specs.Option.{option_map, IsSomeAnd}
 use Rattle.std.specs.Ordering.{nat_cmp}
-use Rattle.std.specs.BTreeMap.{BTreeMap, get}
 use Rattle.std.specs.FinMap as map
 use Rattle.std.specs.declared.vec.Vec.{Vec}
 use Rattle.tp_base.specs.declared.limits.TheConstants.{MAX_LIVE_TASKS}
 use Rattle.tp_base.specs.declared.ids.TaskId.{TaskId}
+use Rattle.tp_base.specs.Table.{lookup}
 use Rattle.tp_slots.specs.Content as slots
 use Rattle.tp_store.specs.Content.{Task, Content, fresh, is_ready, unfinished, counts_of}
 use Rattle.tp_store.specs.Items.{Item}
+use Rattle.tp_store.specs.Entries.{Entries, entry_at, IsFreeAt}
 use Rattle.tp_store.specs.Sound.{IsSound}
 use Rattle.tp_store.specs.declared.life.Life.TheVariants.{Done as is_over}
 use Rattle.tp_store.specs.declared.life.Counts.{Counts}
@@ -40,16 +41,21 @@ module _ {V : Type 0} where
   with_found tasks k None = map.remove tasks k
   with_found tasks k (Some x) = map.insert tasks k x
 
-  abbrev pub tasks_of : slots.Content (Item V) → List (ℕ × Option Entry) → map.FinMap nat_cmp (Task V)
-  tasks_of c [] = map.empty
-  tasks_of c (e ∷ rest) = with_found (tasks_of c rest) e.0 (task_under c e.1)
+  -- the tasks under the numbers below n
+  unfoldable pub tasks_below : slots.Content (Item V) → Entries → ℕ → map.FinMap nat_cmp (Task V)
+  tasks_below c index zero = map.empty
+  tasks_below c index (suc n) = with_found (tasks_below c index n) n (task_under c (unwrap_or (lookup index n) None))
+
+  -- the tasks under all numbers of 32 bits
+  abbrev pub tasks_of : slots.Content (Item V) → Entries → map.FinMap nat_cmp (Task V)
+  tasks_of c index = tasks_below c index (2 ^ 32)
 
   -- the number of the task at a place
   abbrev pub number_at : slots.Content (Item V) → ℕ → TaskId
   number_at c place = unwrap_or (option_map (λ i. i.number) (slots.item_at c place)) (record { 0 = 0 })
 
-  abbrev pub content_of : slots.Content (Item V) → List (ℕ × Option Entry) → List (TaskId × V) → Content V
-  content_of c entries results = record { tasks = tasks_of c entries; ready = each (each (number_at c)) c.ready; results = results }
+  abbrev pub content_of : slots.Content (Item V) → Entries → List (TaskId × V) → Content V
+  content_of c index results = record { tasks = tasks_of c index; ready = each (each (number_at c)) c.ready; results = results }
 
   -- the same with the place of a ready task at the end of its list
   abbrev pub with_listed : slots.Content (Item V) → ℕ → Task V → slots.Content (Item V)
@@ -61,15 +67,15 @@ module _ {V : Type 0} where
 
   module _ {A : Type 0} where
     -- each task that is not done has its own place, and each item its entry; there is room for the result of each such task,
-    -- and for the task that room was made for, under whose number alone nothing stands yet
-    pub record IsKept (c : slots.Content (Item V)) (room : ℕ) (index : BTreeMap ℕ (Option Entry)) (results : Vec (TaskId × V) A) (counts : Counts) (reserved : Option (Item V)) : Type 0 where
+    -- and for the task that room was made for, under whose number nothing stands yet
+    pub record IsKept (c : slots.Content (Item V)) (room : ℕ) (index : Entries) (results : Vec (TaskId × V) A) (counts : Counts) (reserved : Option (Item V)) : Type 0 where
       pub lists : slots.IsSound c
-      pub live : (t place : ℕ) → get nat_cmp index t ≡ Some (Some (Live place)) → IsSomeAnd (slots.item_at c place) (λ i. i.number.0 ≡ t)
-      pub owner : (place : ℕ) (i : Item V) → slots.item_at c place ≡ Some i → get nat_cmp index i.number.0 ≡ Some (Some (Live place))
-      pub sound : IsSound (content_of c index.entries results.items)
-      pub held : slots.held_count c ≡ unfinished (content_of c index.entries results.items)
+      pub live : (t place : ℕ) → entry_at index t ≡ Some (Live place) → IsSomeAnd (slots.item_at c place) (λ i. i.number.0 ≡ t)
+      pub owner : (place : ℕ) (i : Item V) → slots.item_at c place ≡ Some i → entry_at index i.number.0 ≡ Some (Live place)
+      pub sound : IsSound (content_of c index results.items)
+      pub held : slots.held_count c ≡ unfinished (content_of c index results.items)
       pub within : slots.held_count c + (if is_some reserved then 1 else 0) ≤ MAX_LIVE_TASKS
-      pub counted : counts ≡ counts_of (content_of c index.entries results.items)
+      pub counted : counts ≡ counts_of (content_of c index results.items)
       pub space : vec_len results + slots.held_count c + (if is_some reserved then 1 else 0) ≤ vec_capacity results
       pub spare : IfSome reserved (λ i. (i.task ≡ fresh i.task.arity 0) × (0 < room))
-      pub rooms : (t : ℕ) → (get nat_cmp index t ≡ Some None) ↔ IsSomeAnd reserved (λ i. i.number.0 ≡ t)
+      pub entry : IfSome reserved (λ i. IsFreeAt index i.number.0)

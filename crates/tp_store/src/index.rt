@@ -1,14 +1,13 @@
 //! What stands under the numbers of tasks.
-ghost use Rattle.std.specs.Prelude.{◌≡◌, ℕ, Some, None, IsSome, OnOk, OnErr, unwrap_or, if◌then◌else◌, ◌==◌};
-ghost use Rattle.std.specs.Ordering.{nat_cmp};
-ghost use Rattle.std.specs.BTreeMap.{get};
+ghost use Rattle.std.specs.Prelude.{◌≡◌, ◌==◌, ℕ, Some, None, IsSome, OnOk, if◌then◌else◌};
+ghost use Rattle.tp_base.specs.Table.{lookup};
+ghost use Rattle.tp_store.specs.Entries.{entry_at};
 
 use std::alloc::AllocError;
-use std::collections::BTreeMap;
-use tp_base::TaskId;
+use tp_base::{Table, TaskId};
 use tp_slots::Place;
 
-/// What stands under a task's number. Nothing stands under it where there is only room for the task.
+/// What stands under a task's number.
 #[derive(Clone, Copy)]
 pub(crate) enum Entry {
     /// The place of a task that is not done.
@@ -17,43 +16,34 @@ pub(crate) enum Entry {
     Done(u8, u8),
 }
 
-/// What stands under each number.
-pub(crate) type Index = BTreeMap<u32, Option<Entry>>;
+/// What stands under each number. Where there is only room, nothing does.
+pub(crate) type Index = Table<Option<Entry>>;
 
 /// What stands under a number.
 pub(crate) fn entry_of(index: &Index, task: TaskId) -> Option<Entry>
-    ensures { result ≡ unwrap_or (get nat_cmp index.now task.0) None }
+    ensures { result ≡ entry_at index.now task.0 }
 {
-    match index.get(&task.0) {
-        Some(entry) => *entry,
+    match index.get(task.0) {
+        Some(entry) => entry,
         None => None,
     }
 }
 
-/// Makes room under a number.
+/// Makes room under a number where nothing stands.
 pub(crate) fn make_room(index: &mut Index, task: TaskId) -> Result<(), AllocError>
-    ensures ok { OnOk result ((q : ℕ) → get nat_cmp index.new q ≡ (if q == task.0 then Some None else get nat_cmp index.old q)) }
-    ensures err { OnErr result ((q : ℕ) → get nat_cmp index.new q ≡ get nat_cmp index.old q) }
+    requires { entry_at index.old task.0 ≡ None }
+    ensures entries { (q : ℕ) → entry_at index.new q ≡ entry_at index.old q }
+    ensures room { OnOk result (IsSome (lookup index.new task.0)) }
+    ensures rooms { (q : ℕ) → IsSome (lookup index.old q) → IsSome (lookup index.new q) }
 {
-    match index.insert(task.0, None) {
-        Ok(_) => Ok(()),
-        Err(_) => Err(AllocError),
-    }
+    index.insert(task.0, None)
 }
 
-/// Replaces what stands under a number, which takes no memory.
+/// Replaces what stands under a number that has room, which takes no memory.
 pub(crate) fn set_entry(index: &mut Index, task: TaskId, to: Entry)
-    requires { IsSome (get nat_cmp index.old task.0) }
-    ensures { (q : ℕ) → get nat_cmp index.new q ≡ (if q == task.0 then Some (Some to) else get nat_cmp index.old q) }
+    requires { IsSome (lookup index.old task.0) }
+    ensures entries { (q : ℕ) → entry_at index.new q ≡ (if q == task.0 then Some to else entry_at index.old q) }
+    ensures rooms { (q : ℕ) → IsSome (lookup index.old q) → IsSome (lookup index.new q) }
 {
-    if let Some(entry) = index.get_mut(&task.0) {
-        *entry = Some(to);
-    }
-}
-
-/// Takes away what stands under a number.
-pub(crate) fn remove_entry(index: &mut Index, task: TaskId)
-    ensures { (q : ℕ) → get nat_cmp index.new q ≡ (if q == task.0 then None else get nat_cmp index.old q) }
-{
-    let _ = index.remove(&task.0);
+    index.set(task.0, Some(to));
 }

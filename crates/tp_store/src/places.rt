@@ -1,10 +1,10 @@
 //! What the store does to the items in its slots.
 ghost use Rattle.std.specs.Prelude.{◌≡◌, ◌<◌, ◌≤◌, ℕ, None, Some, ◌+◌, IfSome, IsSome, map, slice_index_or, true, ◌==◌, if◌then◌else◌};
 ghost use Rattle.std.specs.Mem.{FitsInMemory};
-ghost use Rattle.std.specs.Ordering.{nat_cmp};
-ghost use Rattle.std.specs.BTreeMap.{get};
+ghost use Rattle.tp_base.specs.Table.{lookup};
 ghost use Rattle.tp_slots.specs.Content.{item_at, IsTaken, IsIdle, held_count, with_item};
 ghost use Rattle.tp_store.specs.Content.{is_waiting, is_ready, with_value, begun};
+ghost use Rattle.tp_store.specs.Entries.{entry_at};
 ghost use Rattle.tp_store.specs.Kept.{with_listed, entered, supplied_counts};
 ghost use Rattle.tp_store.specs.contracts.item.TaskItem.{the_row};
 
@@ -82,9 +82,9 @@ pub(crate) fn enter<S: Slots<TaskItem<V>>, V>(
     item: TaskItem<V>,
 )
     requires room { 0 < S.room slots.old }
-    requires entry { IsSome (get nat_cmp index.old item.number.0) }
+    requires entry { IsSome (lookup index.old item.number.0) }
     requires counted { counts.old.waiting + counts.old.ready + counts.old.running ≡ held_count (S.content slots.old) }
-    ensures place { (place : ℕ) × (item_at (S.content slots.old) place ≡ None) × (S.content slots.new ≡ with_listed (with_item (S.content slots.old) place item) place item.task) × ((q : ℕ) → get nat_cmp index.new q ≡ (if q == item.number.0 then Some (Some (Entry.Live place)) else get nat_cmp index.old q)) }
+    ensures place { (place : ℕ) × (item_at (S.content slots.old) place ≡ None) × (S.content slots.new ≡ with_listed (with_item (S.content slots.old) place item) place item.task) × ((q : ℕ) → entry_at index.new q ≡ (if q == item.number.0 then Some (Entry.Live place) else entry_at index.old q)) }
     ensures counts { counts.new ≡ entered counts.old (is_ready item.task.life) }
     ensures not_full { held_count (S.content slots.old) < MAX_LIVE_TASKS }
 {

@@ -1,5 +1,5 @@
 //! The store of a node's tasks.
-ghost use Rattle.std.specs.Prelude.{◌≡◌, ◌≢◌, ℕ, ◌+◌, ◌<◌, ◌≤◌, None, Some, IsOk, IfOk, IfErr, IfSome, OnOk, OnErr, MatchOption, unwrap_or, map, IsSome};
+ghost use Rattle.std.specs.Prelude.{◌≡◌, ◌≢◌, ℕ, ◌+◌, ◌<◌, ◌≤◌, None, Some, is_some, IsOk, IfOk, IfErr, IfSome, OnOk, OnErr, MatchOption, unwrap_or, map, IsSome};
 ghost use Rattle.std.specs.Option.{option_map};
 ghost use Rattle.tp_slots.specs.Content.{front};
 
@@ -7,13 +7,13 @@ use crate::index::{Entry, Index, entry_of, set_entry};
 use crate::item::TaskItem;
 use crate::life::{Counts, Delivered, Life};
 use crate::places::{begin_at, enter, supply};
-use crate::reserved::{is_made_for, keep_item, make_item};
+use crate::reserved::{is_made_for, make_item};
 use smallvec::SmallVec;
 use std::alloc::Global;
-use std::collections::BTreeMap;
 use std::default::MadeWith;
 use std::marker::Model;
-use tp_base::{CLASSES, MAX_INPUTS, MAX_LIVE_TASKS, Refusal, TaskId};
+use std::mem;
+use tp_base::{CLASSES, MAX_INPUTS, MAX_LIVE_TASKS, Refusal, Table, TaskId};
 use tp_slots::Slots;
 
 /// A task that has begun, with its inputs in the order of its slots.
@@ -51,7 +51,7 @@ impl<S: Slots<TaskItem<V>>, V> Model for TaskStore<S, V> {
 
     ghost use Rattle.tp_store.specs.Kept.{content_of, reserved_of, IsKept};
 
-    ghost view = { λ s. record { content = content_of (S.content s.slots) s.index.entries s.results.items; reserved = reserved_of s.reserved } };
+    ghost view = { λ s. record { content = content_of (S.content s.slots) s.index s.results.items; reserved = reserved_of s.reserved } };
 
     ghost invariant = { λ s. IsKept (S.content s.slots) (S.room s.slots) s.index s.results s.counts s.reserved };
 }
@@ -67,7 +67,7 @@ impl<S: Slots<TaskItem<V>>, V> TaskStore<S, V> {
     {
         TaskStore {
             slots: S::new(alloc),
-            index: BTreeMap::new(alloc),
+            index: Table::new(alloc),
             results: Vec::new(alloc),
             counts: Counts {
                 waiting: 0,
@@ -98,6 +98,13 @@ impl<S: Slots<TaskItem<V>>, V> TaskStore<S, V> {
         ensures limit { unfinished self.now.content ≤ MAX_LIVE_TASKS }
     {
         self.counts
+    }
+
+    /// Whether a task is ready: whether `begin` answers one.
+    pub fn has_ready(&self) -> bool
+        ensures { result ≡ is_some (front self.now.content.ready) }
+    {
+        self.counts.ready > 0
     }
 
     /// Each task that is done with its result, in the order in which they were done.
@@ -148,6 +155,8 @@ fn check_new(counts: &Counts) -> Result<(), Refusal>
 }
 
 impl<S: Slots<TaskItem<V>> + Drop, V: Drop> TaskStore<S, V> {
+    ghost use Rattle.tp_store.specs.Content.{nothing_stored};
+
     /// Each task that is done with its result, in the order in which they were done. The rest is dropped.
     pub fn into_results(self) -> Vec<(TaskId, V)>
         ensures { result.items ≡ self.content.results }
@@ -161,6 +170,23 @@ impl<S: Slots<TaskItem<V>> + Drop, V: Drop> TaskStore<S, V> {
             alloc: _,
         } = self;
         results
+    }
+
+    /// Hands out each task that is done with its result, in the order in which they were done. The store is then as a new
+    /// one. It takes no memory.
+    pub fn take_results(&mut self) -> Vec<(TaskId, V)>
+        ensures results { result.items ≡ self.old.content.results }
+        ensures emptied { self.new.content ≡ nothing_stored }
+    {
+        self.slots = S::new(self.alloc);
+        self.index = Table::new(self.alloc);
+        self.counts = Counts {
+            waiting: 0,
+            ready: 0,
+            running: 0,
+        };
+        self.reserved = None;
+        mem::replace(&mut self.results, Vec::new(self.alloc))
     }
 }
 
@@ -188,6 +214,20 @@ impl<S: Slots<TaskItem<V>>, V: MadeWith<Global> + Drop> TaskStore<S, V> {
         if entry_of(&self.index, task).is_some() {
             return Ok(());
         }
+        self.reserve_unknown(task, arity)
+    }
+
+    // Makes room for a task that is not known: what `reserve` does there.
+    fn reserve_unknown(&mut self, task: TaskId, arity: u8) -> Result<(), Refusal>
+        requires arity_in_range { arity ≤ MAX_INPUTS }
+        requires unknown { task_of self.old.content task ≡ None }
+        ensures content { self.new.content ≡ self.old.content }
+        ensures room { OnOk result (HasRoom self.new task arity) }
+        ensures not_full { OnOk result (refusal_of_new self.old.content ≡ None) }
+        ensures refusal { IfErr result (λ e. e ≡ unwrap_or (refusal_of_new self.old.content) Refusal.NoMemory) }
+        ensures had_room { HasRoom self.old task arity → IsOk result }
+        ensures unchanged { OnErr result (self.new ≡ self.old) }
+    {
         if is_made_for(&self.reserved, task, arity) {
             return Ok(());
         }
@@ -201,7 +241,7 @@ impl<S: Slots<TaskItem<V>>, V: MadeWith<Global> + Drop> TaskStore<S, V> {
             arity,
             self.alloc,
         )?;
-        keep_item(&mut self.reserved, &mut self.index, item);
+        self.reserved = Some(item);
         Ok(())
     }
 
@@ -240,7 +280,7 @@ impl<S: Slots<TaskItem<V>>, V: MadeWith<Global> + Drop> TaskStore<S, V> {
         ensures unchanged { OnErr result (self.new.content ≡ self.old.content) }
     {
         self.check_insert(task)?;
-        self.reserve(task, 0)?;
+        self.reserve_unknown(task, 0)?;
         self.insert_reserved(task, class);
         Ok(())
     }
@@ -265,12 +305,7 @@ impl<S: Slots<TaskItem<V>>, V: MadeWith<Global> + Drop> TaskStore<S, V> {
         ensures lives { NoneGoesBack self.old.content self.new.content }
     {
         let Some(entry) = entry_of(&self.index, task) else {
-            let Some(item) = self.reserved.take() else {
-                unreachable!()
-            };
-            let mut item = item.with_class(class);
-            item.fill(slot, value);
-            enter(&mut self.slots, &mut self.index, &mut self.counts, item);
+            self.insert_with_value(task, arity, class, slot, value);
             return Delivered::Inserted(arity - 1);
         };
         let Entry::Live(place) = entry else {
@@ -278,6 +313,24 @@ impl<S: Slots<TaskItem<V>>, V: MadeWith<Global> + Drop> TaskStore<S, V> {
         };
         supply(&mut self.slots, &mut self.counts, place, slot, value);
         Delivered::Filled
+    }
+
+    // Inserts a task with its first value, into the room that was made for it.
+    fn insert_with_value(&mut self, task: TaskId, arity: u8, class: u8, slot: u8, value: V)
+        requires unknown { task_of self.old.content task ≡ None }
+        requires room { HasRoom self.old task arity }
+        requires arity_in_range { arity ≤ MAX_INPUTS }
+        requires class_in_range { class < CLASSES }
+        requires slot_in_range { slot < arity }
+        ensures content { self.new.content ≡ with_delivered self.old.content task arity class slot value }
+        ensures unfinished { unfinished self.new.content ≡ unfinished self.old.content + 1 }
+    {
+        let Some(item) = self.reserved.take() else {
+            unreachable!()
+        };
+        let mut item = item.with_class(class);
+        item.fill(slot, value);
+        enter(&mut self.slots, &mut self.index, &mut self.counts, item);
     }
 
     /// Delivers a value to a slot of a task that takes 1 to 16 inputs: `check`, `reserve`, then `deliver_reserved`. An unknown
@@ -308,13 +361,21 @@ impl<S: Slots<TaskItem<V>>, V: MadeWith<Global> + Drop> TaskStore<S, V> {
         ensures value_returned { IfErr result (λ e. e.1 ≡ value) }
         ensures unchanged { OnErr result (self.new.content ≡ self.old.content) }
     {
-        if let Err(refusal) = self.check(task, arity, slot) {
+        let Some(entry) = entry_of(&self.index, task) else {
+            if let Err(refusal) = self.reserve_unknown(task, arity) {
+                return Err((refusal, value));
+            }
+            self.insert_with_value(task, arity, class, slot, value);
+            return Ok(Delivered::Inserted(arity - 1));
+        };
+        let Entry::Live(place) = entry else {
+            return Err((Refusal::TaskKnown, value));
+        };
+        if let Err(refusal) = self.slots.get(place).check(arity, slot) {
             return Err((refusal, value));
         }
-        if let Err(refusal) = self.reserve(task, arity) {
-            return Err((refusal, value));
-        }
-        Ok(self.deliver_reserved(task, arity, class, slot, value))
+        supply(&mut self.slots, &mut self.counts, place, slot, value);
+        Ok(Delivered::Filled)
     }
 
     /// The next ready task, of the lowest class that has one, begins: its inputs are moved out.

@@ -42,3 +42,18 @@ fn a_task_from_its_first_input_to_its_result(rt: HostRuntime) -> Result<(), Fail
     assert_eq!(rt; store.results(), [(nine, 103)].as_slice());
     Ok(())
 }
+
+#[test]
+fn an_input_free_task_is_ready_at_once(rt: HostRuntime) -> Result<(), Fail> {
+    let four = TaskId(4);
+    let mut store = Store::<u64>::new(rt.alloc());
+    assert_eq!(rt; store.has_ready(), false);
+    assert_eq!(rt; store.reserve(four, 0), Ok(()));
+    assert_eq!(rt; store.has_ready(), false);
+    assert_eq!(rt; store.insert(four, 3), Ok(()));
+    assert_eq!(rt; store.has_ready(), true);
+    assert_eq!(rt; store.insert(four, 3), Err(Refusal::TaskKnown));
+    assert_eq!(rt; store.life(four), Some(Life::Ready));
+    assert_eq!(rt; store.check(four, 1, 0), Err(Refusal::TaskKnown));
+    Ok(())
+}

@@ -3,7 +3,8 @@ ghost use Rattle.std.specs.Result.{result_err};
 ghost use Rattle.tp_base.specs.declared.Step.{Step};
 ghost use Rattle.tp_wave.specs.Steps.{count, is_send_of, is_recv_at};
 ghost use Rattle.tp_wave.specs.Sums.{sums_of, judgement};
-ghost use Rattle.tp_wave.specs.Checks.{control_refusal, first_refusal, is_outside, wave_checks};
+ghost use Rattle.tp_base.specs.Checks.{first_refusal};
+ghost use Rattle.tp_wave.specs.Checks.{control_refusal, is_outside, wave_checks};
 ghost use Rattle.tp_wave.specs.Wave.{Follows, Stands, newest_sums, last_sums, started, no_sums, judgement_over};
 
 use crate::wave::{PLACES, Wave};

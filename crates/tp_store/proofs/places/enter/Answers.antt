@@ -8,7 +8,7 @@ pub returns-clause-place : goal.returns-clause-place
 returns-clause-place g c =
     let place = c.take_reserved-place.result in
     let here = ap (λ d. item_at d place) c.take_reserved-place.ensures.content ∙ item_here (g.S.Slots.content c.args.slots.now) place c.args.item in
-    (place, c.take_reserved-place.ensures.fresh, at_item _ _ _ here c.list_if_ready.ensures.content ∙ ap (λ d. with_listed d place c.args.item.task) c.take_reserved-place.ensures.content, rw c.number-number.ensures at c.set_entry.ensures)
+    (place, c.take_reserved-place.ensures.fresh, at_item _ _ _ here c.list_if_ready.ensures.content ∙ ap (λ d. with_listed d place c.args.item.task) c.take_reserved-place.ensures.content, rw c.number-number.ensures at c.set_entry.ensures.entries)
 
 pub returns-clause-counts : goal.returns-clause-counts
 returns-clause-counts g c =

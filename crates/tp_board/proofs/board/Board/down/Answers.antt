@@ -3,7 +3,7 @@ use Rattle.std.specs.Result.{result_err}
 use Rattle.std.proofs.lemmas.Result.{err_from_is_err_and}
 use Rattle.tp_base.specs.declared.refusal.Refusal.{Refusal}
 use Rattle.tp_base.specs.declared.step.Step.TheVariants.{Down}
-use Rattle.tp_wave.specs.Checks.{Check}
+use Rattle.tp_base.specs.Checks.{Check}
 use Rattle.tp_board.specs.States.{BoardState, full_check}
 use Rattle.tp_board.proofs.Answering.{passed, refused}
 use Rattle.tp_board.proofs.board.Board.down.Goals as goal

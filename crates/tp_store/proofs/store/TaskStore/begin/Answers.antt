@@ -15,7 +15,7 @@ pub returns-in_default : goal.returns-in_default
 returns-in_default g c =
     let s = c.self.inside in
     let same = c.in_default.ensures.content ∙ same_slots (g.S.Slots.content s.slots) (g.S.Slots.room s.slots) (g.S.Slots.room c.pop_ready.new.self) s.index s.results s.counts s.reserved c.self.invariant c.args.self.now.content (ap (λ v. v.content) c.self.view_is) (sym c.in_default.ensures.next) in
-    let content = ap (λ d. content_of d s.index.entries s.results.items) same ∙ ap (λ v. v.content) c.self.view_is in
+    let content = ap (λ d. content_of d s.index s.results.items) same ∙ ap (λ v. v.content) c.self.view_is in
     record {
       next = none_next (g.S.Slots.content s.slots) (g.S.Slots.room s.slots) (g.S.Slots.room c.pop_ready.new.self) s.index s.results s.counts s.reserved c.self.invariant c.args.self.now.content (ap (λ v. v.content) c.self.view_is) (sym c.in_default.ensures.next);
       life = tt;

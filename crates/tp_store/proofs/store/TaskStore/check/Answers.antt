@@ -1,5 +1,6 @@
 use Rattle.std.proofs.Common.{Some, None, ap, sym, refl, ◌∙◌}
 use Rattle.tp_store.specs.declared.index.Entry.TheVariants.{Done}
+use Rattle.tp_store.proofs.Finishing.{taken_there}
 use Rattle.tp_store.proofs.Reading.{seen, seen_live, few_live, new_answer, deliver_known, deliver_unknown}
 use Rattle.tp_store.proofs.store.TaskStore.check.Goals as goal
 
@@ -24,3 +25,8 @@ returns-in-None g c =
     let s = c.self.inside in
     let view = ap (λ v. v.content) c.self.view_is in
     deliver_unknown c.args.self.now.content c.args.task c.check_new.result c.args.arity c.args.slot (seen (g.S.Slots.content s.slots) s.index s.results.items c.args.self.now.content view c.args.task None (sym c.entry_of.ensures ∙ c.in-None.is)) (new_answer _ _ _ _ _ _ c.self.invariant c.args.self.now.content view c.check_new.result c.check_new.ensures.ok c.check_new.ensures.err)
+
+pub get-requires : goal.get-requires
+get-requires g c =
+    let s = c.self.inside in
+    taken_there (g.S.Slots.content s.slots) (g.S.Slots.room s.slots) s.index s.results s.counts s.reserved c.self.invariant c.args.task c.in-Some-Live.place (sym c.entry_of.ensures ∙ c.in-Some-Live.is ∙ ap Some c.in-Some-Live.field-0-is)

@@ -62,12 +62,12 @@ overflow_sub-self g c =
 pub invariant_of-self : goal.invariant_of-self
 invariant_of-self g c =
     let s = c.self.inside in
-    (done_all (g.S.Slots.content s.slots) (g.S.Slots.room s.slots) s.index s.results s.counts s.reserved c.self.invariant c.args.self.now.content (ap (λ v. v.content) c.self.view_is) c.args.task c.get-item.result.now c.in-Some-Live.place (sym c.entry_of.ensures ∙ c.in-Some-Live.is ∙ ap Some c.in-Some-Live.field-0-is) c.get-item.ensures (sym c.life.ensures ∙ c.in-Running.is) (g.S.Slots.content c.give_back.new.self) (g.S.Slots.room c.give_back.new.self) c.set_entry.new.index c.push_reserved.new.self c.args.value (Done c.arity.result c.class.result) c.give_back.ensures.content (ap (λ n. Done n c.class.result) c.arity.ensures ∙ ap (λ n. Done c.get-item.result.now.task.arity n) c.class.ensures.value) c.set_entry.ensures c.push_reserved.ensures.items c.push_reserved.ensures.len c.push_reserved.ensures.capacity c.give_back.ensures.room).2
+    (done_all (g.S.Slots.content s.slots) (g.S.Slots.room s.slots) s.index s.results s.counts s.reserved c.self.invariant c.args.self.now.content (ap (λ v. v.content) c.self.view_is) c.args.task c.get-item.result.now c.in-Some-Live.place (sym c.entry_of.ensures ∙ c.in-Some-Live.is ∙ ap Some c.in-Some-Live.field-0-is) c.get-item.ensures (sym c.life.ensures ∙ c.in-Running.is) (g.S.Slots.content c.give_back.new.self) (g.S.Slots.room c.give_back.new.self) c.set_entry.new.index c.push_reserved.new.self c.args.value (Done c.arity.result c.class.result) c.give_back.ensures.content (ap (λ n. Done n c.class.result) c.arity.ensures ∙ ap (λ n. Done c.get-item.result.now.task.arity n) c.class.ensures.value) c.set_entry.ensures.entries c.set_entry.ensures.rooms c.push_reserved.ensures.items c.push_reserved.ensures.len c.push_reserved.ensures.capacity c.give_back.ensures.room).2
 
 pub returns : goal.returns
 returns g c =
     let s = c.self.inside in
-    let all = done_all (g.S.Slots.content s.slots) (g.S.Slots.room s.slots) s.index s.results s.counts s.reserved c.self.invariant c.args.self.now.content (ap (λ v. v.content) c.self.view_is) c.args.task c.get-item.result.now c.in-Some-Live.place (sym c.entry_of.ensures ∙ c.in-Some-Live.is ∙ ap Some c.in-Some-Live.field-0-is) c.get-item.ensures (sym c.life.ensures ∙ c.in-Running.is) (g.S.Slots.content c.give_back.new.self) (g.S.Slots.room c.give_back.new.self) c.set_entry.new.index c.push_reserved.new.self c.args.value (Done c.arity.result c.class.result) c.give_back.ensures.content (ap (λ n. Done n c.class.result) c.arity.ensures ∙ ap (λ n. Done c.get-item.result.now.task.arity n) c.class.ensures.value) c.set_entry.ensures c.push_reserved.ensures.items c.push_reserved.ensures.len c.push_reserved.ensures.capacity c.give_back.ensures.room in
+    let all = done_all (g.S.Slots.content s.slots) (g.S.Slots.room s.slots) s.index s.results s.counts s.reserved c.self.invariant c.args.self.now.content (ap (λ v. v.content) c.self.view_is) c.args.task c.get-item.result.now c.in-Some-Live.place (sym c.entry_of.ensures ∙ c.in-Some-Live.is ∙ ap Some c.in-Some-Live.field-0-is) c.get-item.ensures (sym c.life.ensures ∙ c.in-Running.is) (g.S.Slots.content c.give_back.new.self) (g.S.Slots.room c.give_back.new.self) c.set_entry.new.index c.push_reserved.new.self c.args.value (Done c.arity.result c.class.result) c.give_back.ensures.content (ap (λ n. Done n c.class.result) c.arity.ensures ∙ ap (λ n. Done c.get-item.result.now.task.arity n) c.class.ensures.value) c.set_entry.ensures.entries c.set_entry.ensures.rooms c.push_reserved.ensures.items c.push_reserved.ensures.len c.push_reserved.ensures.capacity c.give_back.ensures.room in
     record {
       checked = ap refusal_of_done (life_is (g.S.Slots.content s.slots) (g.S.Slots.room s.slots) s.index s.results s.counts s.reserved c.self.invariant c.args.self.now.content (ap (λ v. v.content) c.self.view_is) c.args.task c.get-item.result.now c.in-Some-Live.place (sym c.entry_of.ensures ∙ c.in-Some-Live.is ∙ ap Some c.in-Some-Live.field-0-is) c.get-item.ensures ∙ ap Some (sym c.life.ensures ∙ c.in-Running.is));
       content = all.0;

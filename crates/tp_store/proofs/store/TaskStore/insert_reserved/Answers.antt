@@ -14,7 +14,7 @@ enter-requires g c =
     let own = ap (λ j. j.number) (c.with_class.ensures ∙ prepared (g.S.Slots.content s.slots) (g.S.Slots.room s.slots) s.index s.results s.counts s.reserved c.args.self.now.content c.in-Some.item c.args.task 0 c.self.invariant c.in-Some.ensures.value view c.args.class) in
     (search rules, can_enter (g.S.Slots.content s.slots) (g.S.Slots.room s.slots) s.index s.results s.counts s.reserved c.args.self.now.content c.in-Some.item c.args.task 0 c.self.invariant c.in-Some.ensures.value view c.with_class.result own)
 
-entered : (g : given.Over) (c : goal.After-enter g) → (content_of (g.S.Slots.content c.enter.new.slots) c.enter.new.index.entries c.self.inside.results.items ≡ with_inserted c.args.self.now.content c.args.task c.args.class) × (unfinished (content_of (g.S.Slots.content c.enter.new.slots) c.enter.new.index.entries c.self.inside.results.items) ≡ unfinished c.args.self.now.content + 1)
+entered : (g : given.Over) (c : goal.After-enter g) → (content_of (g.S.Slots.content c.enter.new.slots) c.enter.new.index c.self.inside.results.items ≡ with_inserted c.args.self.now.content c.args.task c.args.class) × (unfinished (content_of (g.S.Slots.content c.enter.new.slots) c.enter.new.index c.self.inside.results.items) ≡ unfinished c.args.self.now.content + 1)
     × IsKept (g.S.Slots.content c.enter.new.slots) (g.S.Slots.room c.enter.new.slots) c.enter.new.index c.self.inside.results c.enter.new.counts None
 entered g c =
     let s = c.self.inside in

@@ -1,6 +1,7 @@
 use Rattle.std.proofs.Common.{Some, None, ap, sym, ◌∙◌}
 use Rattle.std.specs.Option.{option_map}
 use Rattle.tp_store.specs.declared.index.Entry.TheVariants.{Done}
+use Rattle.tp_store.proofs.Finishing.{taken_there}
 use Rattle.tp_store.proofs.Reading.{seen, seen_live}
 use Rattle.tp_store.proofs.store.TaskStore.life.Goals as goal
 
@@ -20,3 +21,8 @@ pub returns-in-None-clause-life : goal.returns-in-None-clause-life
 returns-in-None-clause-life g c =
     let s = c.self.inside in
     sym (ap (option_map (λ x. x.life)) (seen (g.S.Slots.content s.slots) s.index s.results.items c.args.self.now.content (ap (λ v. v.content) c.self.view_is) c.args.task None (sym c.entry_of.ensures ∙ c.in-None.is)))
+
+pub get-requires : goal.get-requires
+get-requires g c =
+    let s = c.self.inside in
+    taken_there (g.S.Slots.content s.slots) (g.S.Slots.room s.slots) s.index s.results s.counts s.reserved c.self.invariant c.args.task c.in-Some-Live.place (sym c.entry_of.ensures ∙ c.in-Some-Live.is ∙ ap Some c.in-Some-Live.field-0-is)

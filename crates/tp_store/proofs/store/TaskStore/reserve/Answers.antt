@@ -1,9 +1,7 @@
-use Rattle.std.proofs.Common.{is_some, ap, sym, ◌∙◌, arith}
-use Rattle.tp_store.proofs.Reading.{few_live}
-use Rattle.tp_store.proofs.Reserving.{none_there, is_known, unknown, is_made, not_made, refusals, refused_content, IsKept-refused, made_content, IsKept-made, on_err, told, not_some}
+use Rattle.std.proofs.Common.{rules, is_some, ap, sym, ◌∙◌}
+use Rattle.tp_store.proofs.Reserving.{none_there, is_known, unknown, not_some, on_ok, on_err}
 use Rattle.tp_store.proofs.store.TaskStore.reserve.Goals as goal
 
--- ---- there is nothing to do
 pub returns-then-is_some-clause-room : goal.returns-then-is_some-clause-room
 returns-then-is_some-clause-room g c =
     let s = c.self.inside in
@@ -14,70 +12,23 @@ returns-then-is_some-clause-not_full g c =
     let s = c.self.inside in
     λ none. absurd (is_known (g.S.Slots.content s.slots) (g.S.Slots.room s.slots) s.index s.results s.counts s.reserved c.self.invariant c.args.self.now.content (ap (λ v. v.content) c.self.view_is) c.args.task c.args.arity (ap is_some (sym c.entry_of.ensures) ∙ sym c.is_some.ensures ∙ c.if-is_some.true) none)
 
-pub returns-then-is_made_for-clause-room : goal.returns-then-is_made_for-clause-room
-returns-then-is_made_for-clause-room g c =
+pub reserve_unknown-requires : goal.reserve_unknown-requires
+reserve_unknown-requires g c =
     let s = c.self.inside in
-    λ none. sym (ap (λ v. v.reserved) c.self.view_is) ∙ (is_made (g.S.Slots.content s.slots) (g.S.Slots.room s.slots) s.index s.results s.counts s.reserved c.self.invariant c.args.self.now.content (ap (λ v. v.content) c.self.view_is) c.args.task c.args.arity (sym c.is_made_for.ensures ∙ c.if-is_made_for.true)).0
+    (search rules, (c.requires, unknown (g.S.Slots.content s.slots) (g.S.Slots.room s.slots) s.index s.results s.counts s.reserved c.self.invariant c.args.self.now.content (ap (λ v. v.content) c.self.view_is) c.args.task c.args.arity (sym c.entry_of.ensures ∙ none_there c.entry_of.result (sym c.is_some.ensures ∙ c.if-is_some.false))))
 
-pub returns-then-is_made_for-clause-not_full : goal.returns-then-is_made_for-clause-not_full
-returns-then-is_made_for-clause-not_full g c =
-    let s = c.self.inside in
-    λ none. (is_made (g.S.Slots.content s.slots) (g.S.Slots.room s.slots) s.index s.results s.counts s.reserved c.self.invariant c.args.self.now.content (ap (λ v. v.content) c.self.view_is) c.args.task c.args.arity (sym c.is_made_for.ensures ∙ c.if-is_made_for.true)).1
+pub returns-clause-room : goal.returns-clause-room
+returns-clause-room g c = on_ok c.reserve_unknown.result _ _ (λ made none. made) c.reserve_unknown.ensures.room
 
-pub overflow_add-live : goal.overflow_add-live
-overflow_add-live g c =
-    let s = c.self.inside in
-    omega (arith, few_live (g.S.Slots.content s.slots) (g.S.Slots.room s.slots) s.index s.results s.counts s.reserved c.self.invariant c.args.self.now.content (ap (λ v. v.content) c.self.view_is))
-
-pub overflow_add-live-2 : goal.overflow_add-live-2
-overflow_add-live-2 g c =
-    let s = c.self.inside in
-    omega (arith, few_live (g.S.Slots.content s.slots) (g.S.Slots.room s.slots) s.index s.results s.counts s.reserved c.self.invariant c.args.self.now.content (ap (λ v. v.content) c.self.view_is))
-
--- ---- no room was to be had
-pub invariant_of-self : goal.invariant_of-self
-invariant_of-self g c =
-    let s = c.self.inside in
-    IsKept-refused (g.S.Slots.content s.slots) (g.S.Slots.room s.slots) s.index s.results s.counts s.reserved c.self.invariant c.args.self.now.content (ap (λ v. v.content) c.self.view_is) (g.S.Slots.content c.make_item.new.slots) (g.S.Slots.room c.make_item.new.slots) c.make_item.new.index c.make_item.new.results c.make_item.ensures.slots c.in_err-item.ensures.no_entry c.make_item.ensures.results c.in_err-item.ensures.had_room c.make_item.ensures.len c.make_item.ensures.capacity
-
-pub returns-in_err-item-clause-content : goal.returns-in_err-item-clause-content
-returns-in_err-item-clause-content g c =
-    let s = c.self.inside in
-    refused_content (g.S.Slots.content s.slots) (g.S.Slots.room s.slots) s.index s.results s.counts s.reserved c.self.invariant c.args.self.now.content (ap (λ v. v.content) c.self.view_is) (g.S.Slots.content c.make_item.new.slots) (g.S.Slots.room c.make_item.new.slots) c.make_item.new.index c.make_item.new.results c.make_item.ensures.slots c.in_err-item.ensures.no_entry c.make_item.ensures.results
-
-pub returns-in_err-item-clause-refusal : goal.returns-in_err-item-clause-refusal
-returns-in_err-item-clause-refusal g c =
-    let s = c.self.inside in
-    told c.from_residual.result c.in_err-item.field-0.0 _ c.from_residual.ensures.1 (c.in_err-item.ensures.refusal ∙ refusals (g.S.Slots.content s.slots) (g.S.Slots.room s.slots) s.index s.results s.counts s.reserved c.self.invariant c.args.self.now.content (ap (λ v. v.content) c.self.view_is) c.args.task c.args.arity)
-
-pub returns-in_err-item-clause-unknown : goal.returns-in_err-item-clause-unknown
-returns-in_err-item-clause-unknown g c =
-    let s = c.self.inside in
-    on_err c.from_residual.result _ (unknown (g.S.Slots.content s.slots) (g.S.Slots.room s.slots) s.index s.results s.counts s.reserved c.self.invariant c.args.self.now.content (ap (λ v. v.content) c.self.view_is) c.args.task c.args.arity (sym c.entry_of.ensures ∙ none_there c.entry_of.result (sym c.is_some.ensures ∙ c.if-is_some.false)))
-
-pub returns-in_err-item-clause-had_room : goal.returns-in_err-item-clause-had_room
-returns-in_err-item-clause-had_room g c =
-    let s = c.self.inside in
-    λ had. absurd (not_made (g.S.Slots.content s.slots) (g.S.Slots.room s.slots) s.index s.results s.counts s.reserved c.self.invariant c.args.self.now.content (ap (λ v. v.content) c.self.view_is) c.args.task c.args.arity (sym c.is_made_for.ensures ∙ c.if-is_made_for.false) (ap (λ v. v.reserved) c.self.view_is ∙ had))
-
-pub returns-in_err-item-clause-unchanged : goal.returns-in_err-item-clause-unchanged
-returns-in_err-item-clause-unchanged g c =
-    let s = c.self.inside in
-    let content = refused_content (g.S.Slots.content s.slots) (g.S.Slots.room s.slots) s.index s.results s.counts s.reserved c.self.invariant c.args.self.now.content (ap (λ v. v.content) c.self.view_is) (g.S.Slots.content c.make_item.new.slots) (g.S.Slots.room c.make_item.new.slots) c.make_item.new.index c.make_item.new.results c.make_item.ensures.slots c.in_err-item.ensures.no_entry c.make_item.ensures.results in
-    on_err c.from_residual.result _ (λ k. record { content = content k; reserved = (ap (λ v. v.reserved) c.self.view_is) k })
-
--- ---- room was made
-pub invariant_of-self-2 : goal.invariant_of-self-2
-invariant_of-self-2 g c =
-    let s = c.self.inside in
-    rw c.keep_item.ensures.reserved (IsKept-made (g.S.Slots.content s.slots) (g.S.Slots.room s.slots) s.index s.results s.counts s.reserved c.self.invariant c.args.self.now.content (ap (λ v. v.content) c.self.view_is) c.args.task c.args.arity (sym c.entry_of.ensures ∙ none_there c.entry_of.result (sym c.is_some.ensures ∙ c.if-is_some.false)) (g.S.Slots.content c.make_item.new.slots) (g.S.Slots.room c.make_item.new.slots) c.make_item.new.index c.keep_item.new.index c.make_item.new.results c.in_ok-item.item c.make_item.ensures.slots c.in_ok-item.ensures.item c.in_ok-item.ensures.entry c.keep_item.ensures.index c.make_item.ensures.results c.in_ok-item.ensures.room c.in_ok-item.ensures.not_full c.in_ok-item.ensures.space c.make_item.ensures.len)
-
-pub returns-clause-content : goal.returns-clause-content
-returns-clause-content g c =
-    let s = c.self.inside in
-    made_content (g.S.Slots.content s.slots) (g.S.Slots.room s.slots) s.index s.results s.counts s.reserved c.self.invariant c.args.self.now.content (ap (λ v. v.content) c.self.view_is) c.args.task c.args.arity (sym c.entry_of.ensures ∙ none_there c.entry_of.result (sym c.is_some.ensures ∙ c.if-is_some.false)) (g.S.Slots.content c.make_item.new.slots) (g.S.Slots.room c.make_item.new.slots) c.make_item.new.index c.keep_item.new.index c.make_item.new.results c.in_ok-item.item c.make_item.ensures.slots c.in_ok-item.ensures.item c.in_ok-item.ensures.entry c.keep_item.ensures.index c.make_item.ensures.results
+pub returns-clause-not_full : goal.returns-clause-not_full
+returns-clause-not_full g c = on_ok c.reserve_unknown.result _ _ (λ not_full none. not_full) c.reserve_unknown.ensures.not_full
 
 pub returns-clause-known : goal.returns-clause-known
 returns-clause-known g c =
     let s = c.self.inside in
     λ some. absurd (not_some _ (unknown (g.S.Slots.content s.slots) (g.S.Slots.room s.slots) s.index s.results s.counts s.reserved c.self.invariant c.args.self.now.content (ap (λ v. v.content) c.self.view_is) c.args.task c.args.arity (sym c.entry_of.ensures ∙ none_there c.entry_of.result (sym c.is_some.ensures ∙ c.if-is_some.false))) some)
+
+pub returns-clause-unknown : goal.returns-clause-unknown
+returns-clause-unknown g c =
+    let s = c.self.inside in
+    on_err c.reserve_unknown.result _ (unknown (g.S.Slots.content s.slots) (g.S.Slots.room s.slots) s.index s.results s.counts s.reserved c.self.invariant c.args.self.now.content (ap (λ v. v.content) c.self.view_is) c.args.task c.args.arity (sym c.entry_of.ensures ∙ none_there c.entry_of.result (sym c.is_some.ensures ∙ c.if-is_some.false)))

@@ -1,0 +1,13 @@
+use Rattle.std.proofs.Common.{ap, sym, ◌∙◌, rules}
+use Rattle.tp_board.specs.Numbers.{NodeNumbers}
+use Rattle.tp_node.specs.Nodes.{NodeState}
+use Rattle.tp_node.proofs.Turns.{answered, appended, idle, kept, refused, turn_told}
+use Rattle.tp_node.proofs.node.Node.control_turn.Goals as goal
+
+pub returns : goal.returns
+returns g c =
+    let now = c.args.self.now in
+    let nodes = sym c.self.invariant.nodes ∙ ap (λ (n : NodeState g.row.G.Denot). n.nodes) c.self.view_is in
+    let number = ap (λ (n : NodeNumbers). n.node) c.audit.ensures.same.1 ∙ ap (λ (n : NodeState g.row.G.Denot). n.numbers.node) c.self.view_is in
+    let turn = turn_told now c.args.board.now nodes number c.audit.ensures.same.0 c.make_first.ensures in
+    record { node = search rules; idle = idle now turn; event = appended now turn; answer = answered now turn; refusal = refused now turn; refused = kept now turn }

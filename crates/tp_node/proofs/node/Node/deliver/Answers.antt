@@ -1,0 +1,15 @@
+use Rattle.std.proofs.Common.{subst}
+use Rattle.std.specs.Prelude.{Result, Err}
+use Rattle.tp_base.specs.declared.refusal.Refusal.{Refusal}
+use Rattle.tp_graph.specs.Carried.{Carried}
+use Rattle.tp_graph.specs.declared.feed.Feed.{Feed}
+use Rattle.tp_node.specs.Boards.{AnswersWith}
+use Rattle.tp_node.specs.Refused.{deliver_checks}
+use Rattle.tp_node.proofs.Answering.{refused_with}
+use Rattle.tp_node.proofs.node.Node.deliver.Goals as goal
+
+pub returns-in-Err-clause-refusal : goal.returns-in-Err-clause-refusal
+returns-in-Err-clause-refusal g c =
+    subst (λ (f : Feed). AnswersWith {A = Unit {0}} (deliver_checks (g.G.Graph.meaning c.args.self.now.graph) c.args.self.now c.args.board.now f) c.args.parcel (Err (c.in-Err.refusal, c.args.parcel)))
+    c.feed-feed.ensures.same
+    (refused_with (Unit {0}) (deliver_checks (g.G.Graph.meaning c.args.self.now.graph) c.args.self.now c.args.board.now c.feed-feed.result) c.in-Err.refusal c.args.parcel c.in-Err.ensures.refusal)

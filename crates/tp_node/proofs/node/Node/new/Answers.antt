@@ -1,0 +1,20 @@
+use Rattle.std.proofs.Common.{arith, sym, ap, subst, ◌∙◌, length}
+use Rattle.tp_node.specs.Locals.{LocalState}
+use Rattle.tp_node.specs.Nodes.{Numbers, AreRightValues}
+use Rattle.tp_node.proofs.Kept.{right_at_first}
+use Rattle.tp_node.proofs.node.Node.new.Goals as goal
+
+pub invariant_of-result : goal.invariant_of-result
+invariant_of-result g c = record {
+  nodes = c.requires.pool.0;
+  some = c.requires.pool.1;
+  few = c.requires.pool.2;
+  counted = record {
+    pending = ap (λ s. s.pending) c.requires.first ∙ sym c.new.ensures.counted;
+    sent = ap (λ s. s.sent) c.requires.first ∙ sym (ap (λ l. l.sent) c.new.ensures.first);
+    received = ap (λ s. s.received) c.requires.first ∙ sym (ap (λ l. l.received) c.new.ensures.first);
+    done = ap (λ s. s.done) c.requires.first ∙ sym (ap (λ l. length l.store.results) c.new.ensures.first);
+  };
+  right = subst (λ (l : LocalState Numbers). AreRightValues (g.G.Graph.meaning c.args.graph) l.store) (sym c.new.ensures.first) (right_at_first _);
+  seeded = λ u low seed. absurd (omega arith);
+}

@@ -1,0 +1,6 @@
+use Rattle.std.specs.Prelude.{◌≡◌, map}
+use Rattle.tp_node.specs.Nodes.{first_node}
+use Rattle.tp_node.proofs.pool.open_nodes.Given as goal
+
+abbrev pub invariant-loop-share : goal.invariant-loop-share
+invariant-loop-share g l = l.nodes.items ≡ map (λ s. first_node l.graph l.count s.node) l.yielded

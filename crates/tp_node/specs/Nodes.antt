@@ -1,0 +1,219 @@
+-- What contracts see of a node, and how its calls change it.
+use Rattle.std.specs.Prelude.{ℕ, ℤ, ◌+◌, ◌-◌, ◌≡◌, ◌≢◌, ◌<◌, ◌≤◌, ◌==◌, List, [], ◌∷◌, Bool, true, IsTrue, Option, None, Some, length, is_some, if◌then◌else◌, slice_index_or, All, refl}
+use Rattle.std.specs.Coded.{Coded, code_by, coded×, coded_ℕ, coded_ℤ, coded_list}
+use Rattle.tp_base.specs.History.{Event}
+use Rattle.tp_base.specs.declared.ids.TaskId.{TaskId}
+use Rattle.tp_base.specs.declared.ids.Inputs.{Inputs}
+use Rattle.tp_base.specs.declared.step.Step.{Step}
+use Rattle.tp_base.specs.declared.step.Step.TheVariants as steps
+use Rattle.tp_board.specs.Numbers.{NodeNumbers, event, node_at, numbers_after, first_numbers}
+use Rattle.tp_graph.specs.Carried.{feed_at}
+use Rattle.tp_graph.specs.Graphs.{TaskGraph}
+use Rattle.tp_graph.specs.Values.{value_of}
+use Rattle.tp_graph.specs.declared.feed.Feed.{Feed}
+use Rattle.tp_node.specs.Actions.{Actions, without_opening, with_named, without_named, with_message, without_message}
+use Rattle.tp_node.specs.Locals.{LocalState, first_state, pending, state_code}
+use Rattle.tp_wave.specs.Machine.{pending_at}
+use Rattle.tp_store.specs.Sound.{times_done}
+use Rattle.tp_store.specs.Content.{Task, Content, task_of, with_inserted, with_delivered, with_begun, with_done}
+
+-- values are lists of numbers
+abbrev pub Numbers : Type 0
+Numbers = List ℤ
+
+-- A node has the graph that its pool works out, on so many nodes; its own state; and its shares' numbers, with its own
+-- number.
+pub record NodeState (G : Type 0) : Type 0 where
+  pub graph : G
+  pub nodes : ℕ
+  pub state : LocalState Numbers
+  pub numbers : NodeNumbers
+
+-- how a proof tells nodes apart
+abbrev pub numbers_code : Coded NodeNumbers
+numbers_code =
+    code_by
+    (ℕ × (ℕ × (ℕ × (ℕ × ℕ))))
+    (coded× coded_ℕ (coded× coded_ℕ (coded× coded_ℕ (coded× coded_ℕ coded_ℕ))))
+    (λ n. (n.node, (n.pending, (n.sent, (n.received, n.done)))))
+    (λ p. record { node = p.0; pending = p.1.0; sent = p.1.1.0; received = p.1.1.1.0; done = p.1.1.1.1 })
+    (λ _. refl)
+
+abbrev pub node_code : {G : Type 0} → Coded G → Coded (NodeState G)
+node_code {G} code =
+    code_by
+    (G × (ℕ × (LocalState Numbers × NodeNumbers)))
+    (coded× code (coded× coded_ℕ (coded× (state_code (coded_list coded_ℤ)) numbers_code)))
+    (λ n. (n.graph, (n.nodes, (n.state, n.numbers))))
+    (λ p. record { graph = p.0; nodes = p.1.0; state = p.1.1.0; numbers = p.1.1.1 })
+    (λ _. refl)
+
+-- ---- steps of a task
+-- the task of this number
+abbrev pub task_at : ℕ → TaskId
+task_at t = record { 0 = t }
+
+-- node i inserts a task that waits for so many inputs
+abbrev pub inserting : ℕ → TaskId → ℕ → Step
+inserting i t inputs = steps.Insert (node_at i) t (record { count = inputs })
+
+-- A value that is put to a task of node i inserts the task, which then waits for its other inputs, or supplies it.
+abbrev pub putting : TaskGraph → ℕ → Content Numbers → TaskId → Step
+putting g i c t = if is_some (task_of c t) then steps.Supply t else inserting i t (g.arity t.0 - 1)
+
+-- ---- what is left to insert
+-- task t is an input-free one of this node, of so many, and was never inserted
+pub record IsSeed (g : TaskGraph) (nodes node : ℕ) (c : Content Numbers) (t : ℕ) : Type 0 where
+  pub known : t < g.tasks
+  pub free : g.arity t ≡ 0
+  pub here : g.home t nodes ≡ node
+  pub absent : task_of c (task_at t) ≡ None
+
+module _ {G : Type 0} where
+  abbrev pub IsSeedOf : TaskGraph → NodeState G → ℕ → Type 0
+  IsSeedOf g n t = IsSeed g n.nodes n.numbers.node n.state.store t
+
+  -- no such task is left
+  abbrev pub HasNoSeed : TaskGraph → NodeState G → Type 0
+  HasNoSeed g n = (t : ℕ) → IsSeedOf g n t → ⊥
+
+  -- t is the lowest of them
+  pub record IsNextSeed (g : TaskGraph) (n : NodeState G) (t : ℕ) : Type 0 where
+    pub seed : IsSeedOf g n t
+    pub lowest : (u : ℕ) → u < t → IsSeedOf g n u → ⊥
+
+-- ---- how a node changes
+module _ {V : Type 0} where
+  abbrev pub with_store : Content V → LocalState V → LocalState V
+  with_store c l = record { store = c; actions = l.actions; sent = l.sent; received = l.received; ended = l.ended }
+
+  abbrev pub with_actions : Actions → LocalState V → LocalState V
+  with_actions a l = record { store = l.store; actions = a; sent = l.sent; received = l.received; ended = l.ended }
+
+  abbrev pub with_sent : LocalState V → LocalState V
+  with_sent l = record { store = l.store; actions = l.actions; sent = l.sent + 1; received = l.received; ended = l.ended }
+
+  -- a message was received, and its action opens
+  abbrev pub with_received : ℕ → LocalState V → LocalState V
+  with_received m l = record { store = l.store; actions = with_message l.actions m; sent = l.sent; received = l.received + 1; ended = l.ended }
+
+  abbrev pub with_end : LocalState V → LocalState V
+  with_end l = record { store = l.store; actions = l.actions; sent = l.sent; received = l.received; ended = true }
+
+-- the store with a value put to where a feed ends
+abbrev pub put_to : TaskGraph → Feed → Numbers → Content Numbers → Content Numbers
+put_to g f value c = with_delivered c f.target (g.arity f.target.0) (g.class f.target.0) f.slot value
+
+module _ {G : Type 0} where
+  -- a node at first
+  abbrev pub first_node : G → ℕ → ℕ → NodeState G
+  first_node graph nodes i = record { graph = graph; nodes = nodes; state = first_state; numbers = first_numbers i }
+
+  -- the node after a step of its own that leads to this state
+  abbrev pub after : Step → LocalState Numbers → NodeState G → NodeState G
+  after s l n = record { graph = n.graph; nodes = n.nodes; state = l; numbers = numbers_after s n.numbers }
+
+  abbrev pub node_of : NodeState G → ℕ
+  node_of n = n.numbers.node
+
+  -- the event of a step of the node
+  abbrev pub event_of : NodeState G → Step → Event
+  event_of n s = event (node_of n) s
+
+  -- ---- each call's step, and the node after it
+  abbrev pub seeding : NodeState G → ℕ → Step
+  seeding n t = inserting (node_of n) (task_at t) 0
+
+  abbrev pub seeded : TaskGraph → ℕ → NodeState G → NodeState G
+  seeded g t n = after (seeding n t) (with_store (with_inserted n.state.store (task_at t) (g.class t)) n.state) n
+
+  abbrev pub closing : NodeState G → Step
+  closing n = steps.Ready (node_at (node_of n))
+
+  abbrev pub made_ready : NodeState G → NodeState G
+  made_ready n = after (closing n) (with_actions (without_opening n.state.actions) n.state) n
+
+  abbrev pub begun_with : TaskId → NodeState G → NodeState G
+  begun_with t n = after (steps.Begin t) (with_store (with_begun n.state.store t) n.state) n
+
+  abbrev pub putting_at : TaskGraph → Feed → NodeState G → Step
+  putting_at g f n = putting g (node_of n) n.state.store f.target
+
+  abbrev pub fed_with : TaskGraph → Feed → Numbers → NodeState G → NodeState G
+  fed_with g f value n = after (putting_at g f n) (with_store (put_to g f value n.state.store) n.state) n
+
+  abbrev pub ending : ℕ → NodeState G → Step
+  ending m n = steps.MessageEnd (node_at (node_of n)) (record { 0 = m })
+
+  -- the value of a received message was put, and then its action closed
+  abbrev pub delivered_with : TaskGraph → Feed → Numbers → ℕ → NodeState G → NodeState G
+  delivered_with g f value m n =
+      let fed = fed_with g f value n in
+      after (ending m n) (with_actions (without_message n.state.actions m) fed.state) fed
+
+  abbrev pub done_with : TaskId → Numbers → NodeState G → NodeState G
+  done_with t value n = after (steps.Done t) (with_store (with_done n.state.store t value) n.state) n
+
+  abbrev pub opening_of : ℕ → NodeState G → Step
+  opening_of a n = steps.ActionOpen (node_at (node_of n)) (record { 0 = a })
+
+  abbrev pub opened_with : ℕ → NodeState G → NodeState G
+  opened_with a n = after (opening_of a n) (with_actions (with_named n.state.actions a) n.state) n
+
+  abbrev pub closing_of : ℕ → NodeState G → Step
+  closing_of a n = steps.ActionClose (node_at (node_of n)) (record { 0 = a })
+
+  abbrev pub closed_with : ℕ → NodeState G → NodeState G
+  closed_with a n = after (closing_of a n) (with_actions (without_named n.state.actions a) n.state) n
+
+  -- the end was announced
+  abbrev pub over : NodeState G → NodeState G
+  over n = record { graph = n.graph; nodes = n.nodes; state = with_end n.state; numbers = n.numbers }
+
+-- ---- what a node keeps
+-- a value in a slot of task t is the one that the graph defines for it
+abbrev pub IsRightTask : TaskGraph → ℕ → Task Numbers → Type 0
+IsRightTask g t x =
+    (t < g.tasks) × (x.arity ≡ g.arity t)
+    × ((s : ℕ) (v : Numbers) → slice_index_or x.values s None ≡ Some v → value_of g (g.source t s) ≡ Some v)
+
+-- The values of the slots and the results are those that the graph defines.
+pub record AreRightValues (g : TaskGraph) (c : Content Numbers) : Type 0 where
+  pub tasks : (t : TaskId) (x : Task Numbers) → task_of c t ≡ Some x → IsRightTask g t.0 x
+  pub results : All (λ r. value_of g r.0.0 ≡ Some r.1) c.results
+
+-- A node's numbers are counted over its state: what is pending are its unfinished tasks and open actions.
+pub record IsCountedBy (n : NodeNumbers) (l : LocalState Numbers) : Type 0 where
+  pub pending : n.pending ≡ pending l
+  pub sent : n.sent ≡ l.sent
+  pub received : n.received ≡ l.received
+  pub done : n.done ≡ length l.store.results
+
+-- What a node keeps, in a pool of so many nodes: the input-free tasks of the node below a number were inserted.
+pub record IsNode (pool : ℕ) (g : TaskGraph) {G : Type 0} (n : NodeState G) (next : ℕ) : Type 0 where
+  pub nodes : n.nodes ≡ pool
+  pub some : 1 ≤ n.nodes
+  pub few : n.nodes ≤ 8
+  pub counted : IsCountedBy n.numbers n.state
+  pub right : AreRightValues g n.state.store
+  pub seeded : (t : ℕ) → t < next → IsSeedOf g n t → ⊥
+
+-- a node's numbers, counted over its state
+abbrev pub counted_of : {G : Type 0} → NodeState G → NodeNumbers
+counted_of n =
+    record {
+      node = n.numbers.node;
+      pending = pending n.state;
+      sent = n.state.sent;
+      received = n.state.received;
+      done = length n.state.store.results;
+    }
+
+-- The node stands as the history says: its pending number, which is counted over its state, is the run's.
+pub record AgreesWith (h : List Event) {G : Type 0} (n : NodeState G) : Type 0 where
+  pub counted : IsCountedBy n.numbers n.state
+  pub pending : n.numbers.pending ≡ pending_at n.numbers.node h
+
+-- Each task that was ever inserted is done, and has its one result.
+abbrev pub EachOnce : Content Numbers → Type 0
+EachOnce c = (t : TaskId) → IsTrue (is_some (task_of c t)) → times_done c t ≡ 1

@@ -1,0 +1,99 @@
+-- The checks of each call of a node, in their order.
+use Rattle.std.specs.Prelude.{ℕ, ◌+◌, ◌==◌, ◌&&◌, ◌||◌, List, [], ◌∷◌, Bool, not, is_some, is_none, slice_index_or, None}
+use Rattle.std.specs.FinSet as set
+use Rattle.tp_base.specs.declared.ids.MessageId.{MessageId}
+use Rattle.tp_base.specs.declared.ids.TaskId.{TaskId}
+use Rattle.tp_base.specs.declared.limits.TheConstants.{MAX_LIVE_TASKS}
+use Rattle.tp_base.specs.declared.refusal.Refusal.{Refusal}
+use Rattle.tp_base.specs.declared.refusal.Refusal.TheVariants.{TaskKnown, WrongLife, Inactive, ActionKnown, NoAction, SlotTaken, Stranger, StoreFull}
+use Rattle.tp_board.specs.States.{BoardState, full_check}
+use Rattle.tp_board.specs.Routes.{is_send_between}
+use Rattle.tp_graph.specs.Carried.{Carried}
+use Rattle.tp_graph.specs.Graphs.{TaskGraph}
+use Rattle.tp_graph.specs.declared.feed.Feed.{Feed}
+use Rattle.tp_node.specs.Locals.{LocalState, pending}
+use Rattle.tp_node.specs.Nodes.{NodeState, Numbers}
+use Rattle.tp_node.specs.Wires.{WireState}
+use Rattle.tp_store.specs.Content.{Content, task_of, is_running, has_begun, unfinished}
+use Rattle.tp_store.specs.Sound.{passes}
+use Rattle.tp_base.specs.Checks.{Check}
+use Rattle.tp_wave.specs.Machine.{steps_of}
+use Rattle.tp_wave.specs.Steps.{any}
+
+-- ---- tests
+module _ {V : Type 0} where
+  -- nothing is pending
+  abbrev pub is_inactive : LocalState V → Bool
+  is_inactive l = pending l == 0
+
+  -- the task runs here
+  abbrev pub runs : Content V → TaskId → Bool
+  runs c t = passes c t (λ x. is_running x.life)
+
+  -- the task has begun or is done, or takes another number of inputs
+  abbrev pub takes_nothing : Content V → TaskId → ℕ → Bool
+  takes_nothing c t arity = passes c t (λ x. has_begun x.life || not (x.arity == arity))
+
+  -- the slot of the task has its value
+  abbrev pub is_taken : Content V → TaskId → ℕ → Bool
+  is_taken c t slot = passes c t (λ x. is_some (slice_index_or x.values slot None))
+
+  -- the task is unknown, and no more may live
+  abbrev pub lacks_place : Content V → TaskId → Bool
+  lacks_place c t = is_none (task_of c t) && (unfinished c == MAX_LIVE_TASKS)
+
+  abbrev pub has_named : LocalState V → ℕ → Bool
+  has_named l a = set.contains l.actions.named a
+
+  abbrev pub has_message : LocalState V → MessageId → Bool
+  has_message l m = set.contains l.actions.messages m.0
+
+-- the board gave the number of the message to this pair
+abbrev pub was_given : BoardState → {G : Type 0} → WireState G → MessageId → Bool
+was_given b w m = any (is_send_between w.from w.to m.0) (steps_of b.history)
+
+-- ---- checks
+abbrev pub begin_checks : BoardState → List Check
+begin_checks b = full_check 1 b ∷ []
+
+module _ {G : Type 0} where
+  abbrev pub seed_checks : NodeState G → BoardState → TaskId → List Check
+  seed_checks n b t = (is_inactive n.state, Inactive) ∷ full_check 1 b ∷ (lacks_place n.state.store t, StoreFull) ∷ []
+
+  abbrev pub ready_checks : NodeState G → BoardState → List Check
+  ready_checks n b = (not n.state.actions.opening, NoAction) ∷ full_check 1 b ∷ []
+
+  -- what a value that is put to where a feed ends is refused for, where it takes so many events
+  abbrev pub put_checks : TaskGraph → NodeState G → BoardState → Feed → ℕ → List Check
+  put_checks g n b f events =
+      (takes_nothing n.state.store f.target (g.arity f.target.0), TaskKnown)
+      ∷ (is_taken n.state.store f.target f.slot, SlotTaken)
+      ∷ full_check events b
+      ∷ (lacks_place n.state.store f.target, StoreFull)
+      ∷ []
+
+  abbrev pub feed_checks : TaskGraph → NodeState G → BoardState → TaskId → Feed → List Check
+  feed_checks g n b t f = (not (runs n.state.store t), WrongLife) ∷ put_checks g n b f 1
+
+  abbrev pub send_checks : NodeState G → BoardState → TaskId → List Check
+  send_checks n b t = (not (runs n.state.store t), WrongLife) ∷ full_check 1 b ∷ []
+
+  -- A message is a stranger's where it is of another graph, where the board never gave its number to this pair, and where
+  -- the action of that number is open.
+  abbrev pub is_stranger : NodeState G → BoardState → WireState G → Bool → MessageId → Bool
+  is_stranger n b w is_same m = not is_same || (not (was_given b w m) || has_message n.state m)
+
+  abbrev pub receive_checks : NodeState G → BoardState → WireState G → Bool → MessageId → List Check
+  receive_checks n b w is_same m = (n.state.ended, WrongLife) ∷ (is_stranger n b w is_same m, Stranger) ∷ full_check 1 b ∷ []
+
+  abbrev pub deliver_checks : TaskGraph → NodeState G → BoardState → Feed → List Check
+  deliver_checks g n b f = put_checks g n b f 2
+
+  abbrev pub done_checks : NodeState G → BoardState → TaskId → List Check
+  done_checks n b t = (not (runs n.state.store t), WrongLife) ∷ full_check 1 b ∷ []
+
+  abbrev pub open_checks : NodeState G → BoardState → ℕ → List Check
+  open_checks n b a = (has_named n.state a, ActionKnown) ∷ (is_inactive n.state, Inactive) ∷ full_check 1 b ∷ []
+
+  abbrev pub close_checks : NodeState G → BoardState → ℕ → List Check
+  close_checks n b a = (not (has_named n.state a), NoAction) ∷ full_check 1 b ∷ []

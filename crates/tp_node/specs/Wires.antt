@@ -1,0 +1,37 @@
+-- What contracts see of a wire: a link of messages with its share.
+use Rattle.std.specs.Prelude.{ℕ, ◌≡◌, ◌+◌, List, [], ◌∷◌, ◌++◌, length}
+use Rattle.tp_base.specs.declared.ids.MessageId.{MessageId}
+use Rattle.tp_board.specs.Numbers.{LinkNumbers, node_at}
+use Rattle.tp_graph.specs.Carried.{Carried}
+use Rattle.tp_graph.specs.declared.feed.Feed.{Feed}
+use Rattle.tp_link.specs.Link.{Line}
+use Rattle.std.specs.Prelude.{ℤ}
+
+-- A wire goes from a node to another. Its messages have the oldest first.
+pub record WireState (G : Type 0) : Type 0 where
+  pub from : ℕ
+  pub to : ℕ
+  pub messages : List (Carried G)
+
+-- a wire with no message
+abbrev pub empty_wire : {G : Type 0} → LinkNumbers → WireState G
+empty_wire l = record { from = l.from; to = l.to; messages = [] }
+
+-- the wire with one more message, the newest
+abbrev pub with_message : {G : Type 0} → Carried G → WireState G → WireState G
+with_message m w = record { from = w.from; to = w.to; messages = w.messages ++ m ∷ [] }
+
+-- message m of the wire, which carries a value to where a feed ends
+abbrev pub message_on : {G : Type 0} → WireState G → G → ℕ → Feed → List ℤ → Carried G
+message_on w graph m feed value =
+    record { graph = graph; number = record { 0 = m }; from = node_at w.from; to = node_at w.to; feed = feed; value = value }
+
+-- a wire's numbers, counted over its messages
+abbrev pub link_of : {G : Type 0} → WireState G → LinkNumbers
+link_of w = record { from = w.from; to = w.to; under = length w.messages }
+
+-- What a wire keeps: its share is of the link's two nodes, and its number is the link's length.
+pub record IsWire {M : Type 0} (link : Line M) (share : LinkNumbers) : Type 0 where
+  pub from : link.from ≡ share.from
+  pub to : link.to ≡ share.to
+  pub under : share.under ≡ length link.messages

@@ -1,0 +1,20 @@
+//! A node of a pool: its tasks, its open actions and its results, beside its shares of the pool's ledgers.
+//!
+//! [`open_pool`] gives nodes, links and a board whose ledgers belong together. Each call of [`Node`] that changes it appends
+//! its events to the board's history.
+#![tactic(auto)]
+
+mod actions;
+mod held;
+mod local;
+mod node;
+mod numbers;
+mod pool;
+mod tally;
+mod turn;
+mod wire;
+
+pub use node::Node;
+pub use pool::{Pool, open_pool};
+pub use turn::Turn;
+pub use wire::Wire;

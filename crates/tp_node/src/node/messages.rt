@@ -1,0 +1,182 @@
+ghost use Rattle.std.specs.Prelude.{◌≡◌, ◌≤◌, ◌<◌, ◌+◌, [], ◌∷◌, false, Some, None, slice_get, IfOk, IsTrue, MatchOption, OnErr, OnOk};
+ghost use Rattle.std.specs.FinSet as set;
+ghost use Rattle.tp_board.specs.Numbers.{is_send, receiving, sending};
+ghost use Rattle.tp_graph.specs.Carried.{IsFeed, feed_at};
+ghost use Rattle.tp_node.specs.Actions.{without_message};
+ghost use Rattle.tp_store.specs.Content.{refusal_of_deliver};
+ghost use Rattle.tp_node.specs.Boards.{Answers, AnswersWith, Appends};
+ghost use Rattle.tp_node.specs.Nodes.{after, delivered_with, ending, event_of, putting_at, with_actions, with_received, with_sent};
+ghost use Rattle.tp_node.specs.Refused.{deliver_checks, has_message, is_stranger, receive_checks, send_checks};
+ghost use Rattle.tp_node.specs.Wires.{message_on, with_message};
+ghost use Rattle.tp_wave.specs.Machine.{is_send_to, steps_of};
+ghost use Rattle.tp_wave.specs.Steps.{any, count};
+ghost use Rattle.tp_base.specs.Checks.{first_refusal};
+ghost use Rattle.tp_base.specs.declared.refusal.Refusal.TheVariants.{Stranger, WrongLife};
+
+use crate::node::Node;
+use crate::node::tasks::make_room;
+use crate::wire::Wire;
+use tp_base::{MessageId, Refusal, Step};
+use tp_board::{Board, Ledgers};
+use tp_graph::{Feed, Finished, Graph, Message, Parcel};
+
+impl<G: Graph, K: Ledgers> Node<G, K> {
+    /// Passes the next feed of a task that runs here on to the node at the end of a wire. The number of the message is
+    /// answered: how many messages were sent before it.
+    ///
+    /// Refused: `WrongLife` where the finished task does not run here; `HistoryFull` where the history has reached its
+    /// limit; `NoMemory`.
+    pub fn send(
+        &mut self,
+        wire: &mut Wire<G, K>,
+        board: &mut Board<K>,
+        finished: &mut Finished<G>,
+    ) -> Result<MessageId, Refusal>
+        requires graph { finished.old.graph ≡ self.old.graph }
+        requires next { finished.old.fed < (G.meaning self.old.graph).feeds finished.old.task.0 }
+        requires from_here { wire.old.from ≡ self.old.numbers.node }
+        requires there { (G.meaning self.old.graph).home (feed_at (G.meaning self.old.graph) finished.old.task.0 finished.old.fed).target.0 self.old.nodes ≡ wire.old.to }
+        ensures number { IfOk result (λ m. m.0 ≡ count is_send (steps_of board.old.history)) }
+        ensures event { IfOk result (λ m. Appends (event_of self.old (sending self.old.numbers.node wire.old.to m.0) ∷ []) board.old board.new) }
+        ensures sent { IfOk result (λ m. self.new ≡ after (sending self.old.numbers.node wire.old.to m.0) (with_sent self.old.state) self.old) }
+        ensures last { IfOk result (λ m. wire.new ≡ with_message (message_on wire.old self.old.graph m.0 (feed_at (G.meaning self.old.graph) finished.old.task.0 finished.old.fed) finished.old.value) wire.old) }
+        ensures passed { OnOk result (finished.new ≡ record finished.old { fed = finished.old.fed + 1 }) }
+        ensures refusal { Answers (send_checks self.old board.old finished.old.task) result }
+        ensures refused { OnErr result (Appends [] board.old board.new × (self.new ≡ self.old) × (wire.new ≡ wire.old) × (finished.new ≡ finished.old)) }
+    {
+        self.check_runs(finished.task())?;
+        board.reserve(1)?;
+        let value = finished.value().clone()?;
+        board.audit(&mut self.shares);
+        let feed = finished.next_feed();
+        let number = wire.put(board, &mut self.shares, self.graph, feed, value)?;
+        let Ok(()) = self.local.send() else {
+            unreachable!()
+        };
+        finished.pass_on();
+        Ok(number)
+    }
+
+    /// Receives the oldest message of a wire to this node: it is counted, and its action opens. It answers `None` where the
+    /// wire is empty.
+    ///
+    /// Refused, where there is a message, which stays: `WrongLife` where the end was announced; `Stranger` where the message
+    /// is of another graph, where the board never gave its number to this pair of nodes, and where the action of that number
+    /// is open here; `HistoryFull` where the history has reached its limit; `NoMemory`.
+    pub fn receive(
+        &mut self,
+        wire: &mut Wire<G, K>,
+        board: &mut Board<K>,
+    ) -> Result<Option<Parcel<G>>, Refusal>
+        requires to_here { wire.old.to ≡ self.old.numbers.node }
+        ensures none { wire.old.messages ≡ [] → result ≡ Ok None }
+        ensures received { IfOk result (λ parcel. MatchOption parcel ((wire.old.messages ≡ []) × Appends [] board.old board.new × (self.new ≡ self.old) × (wire.new ≡ wire.old)) (λ p. (p.graph ≡ self.old.graph) × (wire.old.messages ≡ p ∷ wire.new.messages) × (wire.new.from ≡ wire.old.from) × (wire.new.to ≡ wire.old.to) × Appends (event_of self.old (receiving self.old.numbers.node p.number.0) ∷ []) board.old board.new × (self.new ≡ after (receiving self.old.numbers.node p.number.0) (with_received p.number.0 self.old.state) self.old))) }
+        ensures open { IfOk result (λ parcel. MatchOption parcel (Unit {0}) (λ p. IsTrue (has_message self.new.state p.number))) }
+        ensures refusal { MatchOption (slice_get wire.old.messages 0) (Unit {0}) (λ m. Answers (receive_checks self.old board.old wire.old (G.eq m.graph self.old.graph) m.number) result) }
+        ensures refused { OnErr result (Appends [] board.old board.new × (self.new ≡ self.old) × (wire.new ≡ wire.old)) }
+    {
+        let Some(message) = wire.front() else {
+            return Ok(None);
+        };
+        let number = message.number();
+        self.check_message(wire, board, message)?;
+        board.reserve(1)?;
+        board.audit(&mut self.shares);
+        self.local.receive(number)?;
+        let message = wire.take(board, &mut self.shares);
+        Ok(Some(message.receive()))
+    }
+
+    /// Delivers the value of a received message to its task, which is inserted where it is unknown and else supplied, and
+    /// then closes the action of the message: two events.
+    ///
+    /// Refused: `TaskKnown` where the target has begun or is done; `SlotTaken` where its slot has its value; `HistoryFull`
+    /// where fewer than two more events may be; `StoreFull` where the target is unknown and 65,536 tasks are not done;
+    /// `NoMemory`. The parcel comes back then.
+    pub fn deliver(
+        &mut self,
+        board: &mut Board<K>,
+        parcel: Parcel<G>,
+    ) -> Result<(), (Refusal, Parcel<G>)>
+        requires graph { parcel.graph ≡ self.old.graph }
+        requires open { IsTrue (has_message self.old.state parcel.number) }
+        ensures events { OnOk result (Appends (event_of self.old (ending parcel.number.0 self.old) ∷ event_of self.old (putting_at (G.meaning self.old.graph) parcel.feed self.old) ∷ []) board.old board.new) }
+        ensures delivered { OnOk result (self.new ≡ delivered_with (G.meaning self.old.graph) parcel.feed parcel.value parcel.number.0 self.old) }
+        ensures refusal { AnswersWith (deliver_checks (G.meaning self.old.graph) self.old board.old parcel.feed) parcel result }
+        ensures refused { OnErr result (Appends [] board.old board.new × (self.new ≡ self.old)) }
+    {
+        let feed = parcel.feed();
+        let _is_open = self.local.has_message(parcel.number());
+        if let Err(refusal) = self.room_to_deliver(board, feed) {
+            return Err((refusal, parcel));
+        }
+        let (graph, number) = (parcel.graph(), parcel.number());
+        let (from, to) = (parcel.from(), parcel.to());
+        match self.put(board, feed, parcel.into_value()) {
+            Ok(()) => {
+                self.end(board, number);
+                Ok(())
+            }
+            Err((refusal, value)) => {
+                Err((refusal, Parcel::new(graph, number, from, to, feed, value)))
+            }
+        }
+    }
+}
+
+// The parts of these calls.
+impl<G: Graph, K: Ledgers> Node<G, K> {
+    /// Whether a message of a wire can be received, places and memory apart.
+    fn check_message(
+        &self,
+        wire: &Wire<G, K>,
+        board: &Board<K>,
+        message: &Message<G>,
+    ) -> Result<(), Refusal>
+        ensures refusal { MatchOption (first_refusal ((self.now.state.ended, WrongLife) ∷ (is_stranger self.now board.now wire.now (G.eq message.now.graph self.now.graph) message.now.number, Stranger) ∷ [])) (result ≡ Ok tt) (λ e. result ≡ Err e) }
+        ensures graph { OnOk result (message.now.graph ≡ self.now.graph) }
+        ensures sent { OnOk result (IsTrue (any (is_send_to wire.now.to message.now.number.0) (steps_of board.now.history))) }
+        ensures closed { OnOk result ((self.now.state.ended ≡ false) × (set.contains self.now.state.actions.messages message.now.number.0 ≡ false)) }
+    {
+        if self.local.is_over() {
+            return Err(Refusal::WrongLife);
+        }
+        let number = message.number();
+        let is_same = message.graph() == self.graph;
+        let was_given = board.gave(wire.from(), wire.to(), number);
+        if !is_same || !was_given || self.local.has_message(number) {
+            return Err(Refusal::Stranger);
+        }
+        Ok(())
+    }
+
+    /// Makes sure that a received value can be put, and of both events.
+    fn room_to_deliver(&self, board: &mut Board<K>, feed: Feed) -> Result<(), Refusal>
+        requires active { 0 < self.now.numbers.pending }
+        requires feed { IsFeed (G.meaning self.now.graph) feed }
+        ensures reserved { OnOk result (2 ≤ board.new.reserved) }
+        ensures free { OnOk result (refusal_of_deliver self.now.state.store feed.target ((G.meaning self.now.graph).arity feed.target.0) feed.slot ≡ None) }
+        ensures refusal { Answers (deliver_checks (G.meaning self.now.graph) self.now board.old feed) result }
+        ensures same { Appends [] board.old board.new }
+    {
+        let is_full = self.check_put(feed)?;
+        make_room(board, 2, is_full)
+    }
+
+    /// Closes the action of a message, in the place that was reserved for the event.
+    fn end(&mut self, board: &mut Board<K>, message: MessageId)
+        requires reserved { 0 < board.old.reserved }
+        requires open { IsTrue (set.contains self.old.state.actions.messages message.0) }
+        ensures event { Appends (event_of self.old (ending message.0 self.old) ∷ []) board.old board.new }
+        ensures ended { self.new ≡ after (ending message.0 self.old) (with_actions (without_message self.old.state.actions message.0) self.old.state) self.old }
+    {
+        let _is_open = self.local.has_message(message);
+        let step = Step::MessageEnd(self.shares.node(), message);
+        let Ok(()) = board.append(step, &mut self.shares) else {
+            unreachable!()
+        };
+        let Ok(()) = self.local.end(message) else {
+            unreachable!()
+        };
+    }
+}

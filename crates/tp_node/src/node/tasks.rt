@@ -1,0 +1,284 @@
+ghost use Rattle.std.specs.Prelude.{◌≡◌, ◌≤◌, ◌<◌, ◌+◌, ◌-◌, ℕ, [], ◌∷◌, false, map, Some, None, if◌then◌else◌, is_some, IfErr, IfOk, IsTrue, MatchBool, MatchOption, OnErr, OnOk};
+ghost use Rattle.tp_base.specs.declared.refusal.Refusal.TheVariants.{NoMemory, SlotTaken, StoreFull, TaskKnown, WrongLife};
+ghost use Rattle.tp_board.specs.States.{full_check};
+ghost use Rattle.tp_graph.specs.Carried.{IsFeed, feed_at};
+ghost use Rattle.tp_graph.specs.Values.{IsInput};
+ghost use Rattle.tp_node.specs.Boards.{Answers, AnswersWith, Appends};
+ghost use Rattle.tp_node.specs.Nodes.{HasNoSeed, IsNextSeed, IsSeed, IsSeedOf, begun_with, done_with, event_of, fed_with, inserting, putting_at, seeded, seeding, task_at};
+ghost use Rattle.tp_node.specs.Refused.{begin_checks, done_checks, feed_checks, is_taken, lacks_place, runs, seed_checks, takes_nothing};
+ghost use Rattle.tp_slots.specs.Content.{front};
+ghost use Rattle.tp_store.specs.Content.{refusal_of_deliver, task_of, values_of};
+ghost use Rattle.tp_base.specs.declared.step.Step.TheVariants as steps;
+ghost use Rattle.tp_base.specs.Checks.{first_refusal};
+
+use crate::local::Local;
+use crate::node::Node;
+use tp_base::{Inputs, NodeId, Refusal, Step, TaskId};
+use tp_board::{Board, Ledgers};
+use tp_graph::{Feed, Finished, Graph, Value, Work};
+use tp_store::Life;
+
+impl<G: Graph, K: Ledgers> Node<G, K> {
+    /// Inserts the lowest input-free task of this node that was not inserted yet. It answers false where none is left.
+    ///
+    /// Refused, where one is left: `Inactive` where nothing is pending; `HistoryFull` where the history has reached its
+    /// limit; `StoreFull` where 65,536 tasks are not done; `NoMemory`.
+    pub fn seed(&mut self, board: &mut Board<K>) -> Result<bool, Refusal>
+        ensures none { HasNoSeed (G.meaning self.old.graph) self.old → result ≡ Ok false }
+        ensures seeded { IfOk result (λ found. MatchBool found ((t : ℕ) × IsNextSeed (G.meaning self.old.graph) self.old t × Appends (event_of self.old (seeding self.old t) ∷ []) board.old board.new × (self.new ≡ seeded (G.meaning self.old.graph) t self.old)) (HasNoSeed (G.meaning self.old.graph) self.old × Appends [] board.old board.new × (self.new ≡ self.old))) }
+        ensures refusal { (t : ℕ) → IsNextSeed (G.meaning self.old.graph) self.old t → Answers (seed_checks self.old board.old (task_at t)) result }
+        ensures refused { OnErr result (Appends [] board.old board.new × (self.new ≡ self.old)) }
+    {
+        let Some(task) = self.next_seed() else {
+            return Ok(false);
+        };
+        self.insert_seed(board, task)?;
+        Ok(true)
+    }
+
+    /// Begins the next ready task, of the lowest class that has one. Its inputs are moved out. It answers `None` where no
+    /// task is ready.
+    ///
+    /// Refused, where a task is ready: `HistoryFull` where the history has reached its limit; `NoMemory`.
+    pub fn begin(&mut self, board: &mut Board<K>) -> Result<Option<Work<G>>, Refusal>
+        ensures none { front self.old.state.store.ready ≡ None → result ≡ Ok None }
+        ensures begun { IfOk result (λ work. MatchOption work ((front self.old.state.store.ready ≡ None) × Appends [] board.old board.new × (self.new ≡ self.old)) (λ w. (front self.old.state.store.ready ≡ Some w.task) × (w.graph ≡ self.old.graph) × (map (λ v. Some v) w.inputs ≡ values_of self.old.state.store w.task) × Appends (event_of self.old (steps.Begin w.task) ∷ []) board.old board.new × (self.new ≡ begun_with w.task self.old))) }
+        ensures refusal { MatchOption (front self.old.state.store.ready) (Unit {0}) (λ t. Answers (begin_checks board.old) result) }
+        ensures refused { OnErr result (Appends [] board.old board.new × (self.new ≡ self.old)) }
+    {
+        if !self.local.has_ready() {
+            return Ok(None);
+        }
+        board.reserve(1)?;
+        let Some(begun) = self.local.begin() else {
+            unreachable!()
+        };
+        let Ok(()) = board.append(Step::Begin(begun.task), &mut self.shares) else {
+            unreachable!()
+        };
+        Ok(Some(Work::new(self.graph, begun.task, begun.inputs)))
+    }
+
+    /// Passes the next feed of a task that runs here on to a task of this node, which is inserted where it is unknown and
+    /// else supplied.
+    ///
+    /// Refused: `WrongLife` where the finished task does not run here; `TaskKnown` where the target has begun or is done;
+    /// `SlotTaken` where its slot has its value; `HistoryFull` where the history has reached its limit; `StoreFull` where
+    /// the target is unknown and 65,536 tasks are not done; `NoMemory`.
+    pub fn feed(&mut self, board: &mut Board<K>, finished: &mut Finished<G>) -> Result<(), Refusal>
+        requires graph { finished.old.graph ≡ self.old.graph }
+        requires next { finished.old.fed < (G.meaning self.old.graph).feeds finished.old.task.0 }
+        requires here { (G.meaning self.old.graph).home (feed_at (G.meaning self.old.graph) finished.old.task.0 finished.old.fed).target.0 self.old.nodes ≡ self.old.numbers.node }
+        ensures event { OnOk result (Appends (event_of self.old (putting_at (G.meaning self.old.graph) (feed_at (G.meaning self.old.graph) finished.old.task.0 finished.old.fed) self.old) ∷ []) board.old board.new) }
+        ensures put { OnOk result (self.new ≡ fed_with (G.meaning self.old.graph) (feed_at (G.meaning self.old.graph) finished.old.task.0 finished.old.fed) finished.old.value self.old) }
+        ensures passed { OnOk result (finished.new ≡ record finished.old { fed = finished.old.fed + 1 }) }
+        ensures refusal { Answers (feed_checks (G.meaning self.old.graph) self.old board.old finished.old.task (feed_at (G.meaning self.old.graph) finished.old.task.0 finished.old.fed)) result }
+        ensures refused { OnErr result (Appends [] board.old board.new × (self.new ≡ self.old) × (finished.new ≡ finished.old)) }
+    {
+        self.check_runs(finished.task())?;
+        let feed = finished.next_feed();
+        let is_full = self.check_put(feed)?;
+        make_room(board, 1, is_full)?;
+        let value = finished.value().clone()?;
+        match self.put(board, feed, value) {
+            Ok(()) => {
+                finished.pass_on();
+                Ok(())
+            }
+            Err((refusal, _)) => Err(refusal),
+        }
+    }
+
+    /// A task that runs here, and whose feeds were all passed on, is done. Its value goes to the end of the results.
+    ///
+    /// Refused: `WrongLife` where the task does not run here; `HistoryFull` where the history has reached its limit;
+    /// `NoMemory`. The finished task comes back then.
+    pub fn done(
+        &mut self,
+        board: &mut Board<K>,
+        finished: Finished<G>,
+    ) -> Result<(), (Refusal, Finished<G>)>
+        requires graph { finished.graph ≡ self.old.graph }
+        requires all_fed { finished.fed ≡ (G.meaning self.old.graph).feeds finished.task.0 }
+        ensures event { OnOk result (Appends (event_of self.old (steps.Done finished.task) ∷ []) board.old board.new) }
+        ensures done { OnOk result (self.new ≡ done_with finished.task finished.value self.old) }
+        ensures refusal { AnswersWith (done_checks self.old board.old finished.task) finished result }
+        ensures refused { OnErr result (Appends [] board.old board.new × (self.new ≡ self.old)) }
+    {
+        let task = finished.task();
+        if let Err(refusal) = self.check_runs(task) {
+            return Err((refusal, finished));
+        }
+        if let Err(refusal) = board.append(Step::Done(task), &mut self.shares) {
+            return Err((refusal, finished));
+        }
+        let Ok(()) = self.local.done(task, finished.into_value()) else {
+            unreachable!()
+        };
+        Ok(())
+    }
+}
+
+// The parts of these calls.
+impl<G: Graph, K: Ledgers> Node<G, K> {
+    /// The lowest input-free task of this node that was not inserted yet.
+    fn next_seed(&mut self) -> Option<u32>
+        ensures same { self.new ≡ self.old }
+        ensures next { MatchOption result (HasNoSeed (G.meaning self.old.graph) self.old) (IsNextSeed (G.meaning self.old.graph) self.old) }
+    {
+        let node = self.shares.node();
+        let next = find_seed(&self.graph, self.nodes, node, &self.local, self.next);
+        if let Some(task) = next {
+            self.next = task;
+        }
+        next
+    }
+
+    /// Inserts an input-free task of this node.
+    fn insert_seed(&mut self, board: &mut Board<K>, task: u32) -> Result<(), Refusal>
+        requires seed { IsSeedOf (G.meaning self.old.graph) self.old task }
+        ensures event { OnOk result (Appends (event_of self.old (seeding self.old task) ∷ []) board.old board.new) }
+        ensures seeded { OnOk result (self.new ≡ seeded (G.meaning self.old.graph) task self.old) }
+        ensures refusal { Answers (seed_checks self.old board.old (task_at task)) result }
+        ensures refused { OnErr result (Appends [] board.old board.new × (self.new ≡ self.old)) }
+    {
+        let task = TaskId(task);
+        if self.local.pending() == 0 {
+            return Err(Refusal::Inactive);
+        }
+        let is_full = self.local.check(task, 0, 0).is_err();
+        make_room(board, 1, is_full)?;
+        self.local.insert(task, self.graph.class(task))?;
+        let Some(none) = Inputs::new(0) else {
+            unreachable!()
+        };
+        let step = Step::Insert(self.shares.node(), task, none);
+        let Ok(()) = board.append(step, &mut self.shares) else {
+            unreachable!()
+        };
+        Ok(())
+    }
+
+    /// Whether the task runs here.
+    pub(crate) fn check_runs(&self, task: TaskId) -> Result<(), Refusal>
+        ensures running { MatchBool (runs self.now.state.store task) (result ≡ Ok tt) (result ≡ Err WrongLife) }
+        ensures active { IsTrue (runs self.now.state.store task) → 0 < self.now.numbers.pending }
+    {
+        match self.local.life(task) {
+            Some(Life::Running) => Ok(()),
+            _ => Err(Refusal::WrongLife),
+        }
+    }
+
+    /// Whether a value can be put to where a feed ends, a full store apart. It answers whether the task is unknown and no
+    /// more may live.
+    pub(crate) fn check_put(&self, feed: Feed) -> Result<bool, Refusal>
+        requires active { 0 < self.now.numbers.pending }
+        requires feed { IsFeed (G.meaning self.now.graph) feed }
+        ensures refusal { MatchOption (first_refusal ((takes_nothing self.now.state.store feed.target ((G.meaning self.now.graph).arity feed.target.0), TaskKnown) ∷ (is_taken self.now.state.store feed.target feed.slot, SlotTaken) ∷ [])) (result ≡ Ok (lacks_place self.now.state.store feed.target)) (λ e. result ≡ Err e) }
+        ensures free { IfOk result (λ is_full. is_full ≡ false → refusal_of_deliver self.now.state.store feed.target ((G.meaning self.now.graph).arity feed.target.0) feed.slot ≡ None) }
+    {
+        match self
+            .local
+            .check(feed.target, self.graph.arity(feed.target), feed.slot)
+        {
+            Err(Refusal::StoreFull) => Ok(true),
+            Err(refusal) => Err(refusal),
+            Ok(()) => Ok(false),
+        }
+    }
+
+    /// Puts a value to where a feed ends, in the place that was reserved for the event. Refused with `NoMemory` alone; the
+    /// value comes back then.
+    pub(crate) fn put(
+        &mut self,
+        board: &mut Board<K>,
+        feed: Feed,
+        value: Value,
+    ) -> Result<(), (Refusal, Value)>
+        requires reserved { 0 < board.old.reserved }
+        requires active { 0 < self.old.numbers.pending }
+        requires feed { IsFeed (G.meaning self.old.graph) feed }
+        requires input { IsInput (G.meaning self.old.graph) feed.target.0 feed.slot value }
+        requires free { refusal_of_deliver self.old.state.store feed.target ((G.meaning self.old.graph).arity feed.target.0) feed.slot ≡ None }
+        ensures event { OnOk result (Appends (event_of self.old (putting_at (G.meaning self.old.graph) feed self.old) ∷ []) board.old board.new) }
+        ensures put { OnOk result (self.new ≡ fed_with (G.meaning self.old.graph) feed value self.old) }
+        ensures left { OnOk result (board.new.reserved + 1 ≡ board.old.reserved) }
+        ensures refused { IfErr result (λ e. e ≡ (NoMemory, value)) }
+        ensures kept { OnErr result ((board.new ≡ board.old) × (self.new ≡ self.old)) }
+    {
+        let arity = self.graph.arity(feed.target);
+        let class = self.graph.class(feed.target);
+        let step = self.putting_step(feed.target, arity);
+        self.local
+            .deliver(feed.target, arity, class, feed.slot, value)?;
+        let Ok(()) = board.append(step, &mut self.shares) else {
+            unreachable!()
+        };
+        Ok(())
+    }
+
+    /// The step that puts a value to a task.
+    fn putting_step(&self, task: TaskId, arity: u8) -> Step
+        requires { (0 < arity) × (arity ≤ 16) }
+        ensures { result ≡ (if is_some (task_of self.now.state.store task) then steps.Supply task else inserting self.now.numbers.node task (arity - 1)) }
+    {
+        if self.local.life(task).is_some() {
+            return Step::Supply(task);
+        }
+        let Some(inputs) = Inputs::new(arity - 1) else {
+            unreachable!()
+        };
+        Step::Insert(self.shares.node(), task, inputs)
+    }
+}
+
+/// The lowest input-free task of a node, from a number on, that was not inserted.
+fn find_seed<G: Graph>(
+    graph: &G,
+    nodes: u32,
+    node: NodeId,
+    local: &Local,
+    from: u32,
+) -> Option<u32>
+    requires nodes { (1 ≤ nodes) × (nodes ≤ 8) }
+    ensures next { MatchOption result ((t : ℕ) → from ≤ t → IsSeed (G.meaning graph.now) nodes node.0 local.now.store t → ⊥) (λ t. IsSeed (G.meaning graph.now) nodes node.0 local.now.store t × (from ≤ t) × ((u : ℕ) → from ≤ u → u < t → IsSeed (G.meaning graph.now) nodes node.0 local.now.store u → ⊥)) }
+{
+    for task in from..graph.tasks() {
+        if is_seed(graph, nodes, node, local, task) {
+            return Some(task);
+        }
+    }
+    None
+}
+
+/// Whether a task is an input-free one of a node and was not inserted.
+fn is_seed<G: Graph>(graph: &G, nodes: u32, node: NodeId, local: &Local, task: u32) -> bool
+    requires known { task < (G.meaning graph.now).tasks }
+    requires nodes { (1 ≤ nodes) × (nodes ≤ 8) }
+    ensures yes { IsTrue result → IsSeed (G.meaning graph.now) nodes node.0 local.now.store task }
+    ensures no { IsSeed (G.meaning graph.now) nodes node.0 local.now.store task → IsTrue result }
+{
+    let task = TaskId(task);
+    graph.arity(task) == 0 && graph.home(task, nodes) == node && local.life(task).is_none()
+}
+
+/// Makes sure of places and of memory for so many events. A full store is refused before want of memory.
+pub(crate) fn make_room<K: Ledgers>(
+    board: &mut Board<K>,
+    events: u32,
+    is_full: bool,
+) -> Result<(), Refusal>
+    ensures reserved { OnOk result (events ≤ board.new.reserved) }
+    ensures refusal { Answers (full_check events board.old ∷ (is_full, StoreFull) ∷ []) result }
+    ensures same { Appends [] board.old board.new }
+{
+    let room = board.reserve(events);
+    if let Err(Refusal::HistoryFull(length)) = room {
+        return Err(Refusal::HistoryFull(length));
+    }
+    if is_full {
+        return Err(Refusal::StoreFull);
+    }
+    room
+}

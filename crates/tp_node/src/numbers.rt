@@ -1,0 +1,58 @@
+ghost use Rattle.std.specs.Prelude.{◌≡◌, OnOk, OnErr};
+ghost use Rattle.std.specs.FinSet as set;
+
+use std::alloc::{AllocError, Global};
+use std::collections::BTreeSet;
+use std::marker::Model;
+
+/// A set of numbers. Each call but `new` takes O(log n).
+#[derive(Drop)]
+pub(crate) struct NumberSet {
+    numbers: BTreeSet<u32>,
+}
+
+impl Model for NumberSet {
+    ghost use Rattle.std.specs.Ordering.{nat_cmp};
+    ghost use Rattle.std.specs.Coded.{coded_ℕ};
+    ghost use Rattle.std.specs.FinSet as set;
+
+    ghost Value = { set.FinSet nat_cmp };
+
+    ghost coded = { set.code coded_ℕ };
+
+    ghost view = { λ s. set.from_list s.numbers.keys };
+}
+
+impl NumberSet {
+    /// The empty set, which takes no memory.
+    pub(crate) fn new(alloc: Global) -> Self
+        ensures { result ≡ set.empty }
+    {
+        NumberSet {
+            numbers: BTreeSet::new(alloc),
+        }
+    }
+
+    /// Whether it has the number.
+    pub(crate) fn contains(&self, number: u32) -> bool
+        ensures { result ≡ set.contains self.now number }
+    {
+        self.numbers.contains(&number)
+    }
+
+    /// Adds the number, which takes memory.
+    pub(crate) fn insert(&mut self, number: u32) -> Result<(), AllocError>
+        ensures added { OnOk result (self.new ≡ set.insert self.old number) }
+        ensures kept { OnErr result (self.new ≡ self.old) }
+    {
+        self.numbers.insert(number)?;
+        Ok(())
+    }
+
+    /// Takes the number out.
+    pub(crate) fn remove(&mut self, number: u32)
+        ensures { self.new ≡ set.remove self.old number }
+    {
+        self.numbers.remove(&number);
+    }
+}

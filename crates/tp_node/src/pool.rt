@@ -1,0 +1,89 @@
+ghost use Rattle.std.specs.Prelude.{◌≡◌, ◌≤◌, [], map, vec_len, IfErr, IfOk, None};
+ghost use Rattle.std.specs.List.{All};
+ghost use Rattle.tp_base.specs.declared.refusal.Refusal.TheVariants.{NoMemory};
+ghost use Rattle.tp_board.specs.Numbers.{first_links, first_numbers};
+ghost use Rattle.tp_node.specs.Nodes.{first_node};
+ghost use Rattle.tp_node.specs.Pools.{first_nodes, first_wires};
+ghost use Rattle.tp_node.specs.Wires.{empty_wire};
+
+use crate::node::Node;
+use crate::wire::Wire;
+use std::alloc::{AllocError, Global};
+use tp_base::Refusal;
+use tp_board::{Blanks, Board, Books, Ledgers, LinkShare, Shares, open_books};
+use tp_graph::Graph;
+
+/// A pool in one hand: its nodes, its links and its board.
+#[derive(Drop)]
+pub struct Pool<G: Graph, K: Ledgers> {
+    /// The nodes, in rising order.
+    pub nodes: Vec<Node<G, K>>,
+    /// The links, by sender and then by receiver.
+    pub links: Vec<Wire<G, K>>,
+    /// What lies under the board's lock.
+    pub board: Board<K>,
+}
+
+/// Opens a pool of 1 to 8 nodes that works a graph out, in a history of at most so many events, 1,048,576 or fewer. The
+/// ledgers of its parts belong together.
+///
+/// Refused: `NoMemory` where memory has to grow and does not. The blank ledgers are lost then.
+pub fn open_pool<G: Graph, K: Ledgers>(
+    alloc: Global,
+    blanks: Blanks,
+    graph: G,
+    nodes: u32,
+    limit: u32,
+) -> Result<Pool<G, K>, Refusal>
+    requires names { blanks ≡ K.names }
+    requires nodes { (blanks.nodes ≡ nodes) × (1 ≤ nodes) × (nodes ≤ 8) }
+    requires limit { limit ≤ 1048576 }
+    ensures nodes { IfOk result (λ p. p.nodes.items ≡ first_nodes graph nodes) }
+    ensures links { IfOk result (λ p. p.links.items ≡ first_wires nodes) }
+    ensures board { IfOk result (λ p. p.board ≡ record { history = []; limit = limit; reserved = 0; fault = None }) }
+    ensures refusal { IfErr result (λ e. e ≡ NoMemory) }
+{
+    let Books {
+        board,
+        shares,
+        links,
+    } = open_books::<K>(alloc, blanks, nodes, limit)?;
+    Ok(Pool {
+        nodes: open_nodes(alloc, graph, nodes, shares)?,
+        links: open_wires(alloc, links)?,
+        board,
+    })
+}
+
+/// The nodes of first shares.
+fn open_nodes<G: Graph, K: Ledgers>(
+    alloc: Global,
+    graph: G,
+    count: u32,
+    shares: Vec<Shares<K>>,
+) -> Result<Vec<Node<G, K>>, AllocError>
+    requires pool { (count ≡ K.names.nodes) × (1 ≤ count) × (count ≤ 8) }
+    requires first { All (λ s. s ≡ first_numbers s.node) shares.items }
+    ensures { IfOk result (λ nodes. nodes.items ≡ map (λ s. first_node graph count s.node) shares.items) }
+{
+    let mut nodes = Vec::new(alloc);
+    for share in shares {
+        nodes.push(Node::new(alloc, graph, count, share))?;
+    }
+    Ok(nodes)
+}
+
+/// The wires of empty links.
+fn open_wires<G: Graph, K: Ledgers>(
+    alloc: Global,
+    links: Vec<LinkShare<K>>,
+) -> Result<Vec<Wire<G, K>>, AllocError>
+    requires empty { All (λ l. l.under ≡ 0) links.items }
+    ensures { IfOk result (λ wires. wires.items ≡ map empty_wire links.items) }
+{
+    let mut wires = Vec::new(alloc);
+    for share in links {
+        wires.push(Wire::new(alloc, share))?;
+    }
+    Ok(wires)
+}

@@ -1,0 +1,162 @@
+ghost use Rattle.std.specs.Prelude.{◌≡◌, ◌≤◌, ◌+◌, ◌*◌, [], ◌∷◌, false, if◌then◌else◌};
+ghost use Rattle.tp_base.specs.declared.step.Step.TheVariants as steps;
+ghost use Rattle.tp_board.specs.Numbers.{node_at};
+ghost use Rattle.tp_board.specs.Judgements.{is_over};
+ghost use Rattle.tp_node.specs.Turns.{ComesTo, MakesFirst, is_for_room, turns, visits};
+ghost use Rattle.tp_wave.specs.Machine.{pending_at};
+
+use tp_base::{NodeId, Refusal};
+use tp_board::{Board, Ended, Judgement, Ledgers, Shares};
+
+/// What a control turn did.
+#[derive(Drop)]
+pub enum Turn<K: Ledgers> {
+    /// Nothing: the waves allowed no control step of the node.
+    Idle,
+    /// It made a control step.
+    Moved,
+    /// It judged that the pool has ended.
+    Over(Ended<K>),
+}
+
+/// Makes the first control step of a node that the waves allow.
+pub(crate) fn make_first<K: Ledgers>(
+    board: &mut Board<K>,
+    shares: &Shares<K>,
+    pending: u32,
+) -> Result<Turn<K>, Refusal>
+    requires { pending ≡ pending_at shares.now.node board.old.history }
+    ensures { MakesFirst K.names.nodes shares.now.node (turns shares.now.node) board.old board.new result }
+{
+    if shares.node() == NodeId(0) {
+        lead(board, shares, pending)
+    } else {
+        pass_on(board, shares)
+    }
+}
+
+// What the root does: it judges and starts the waves, and does what each node does.
+fn lead<K: Ledgers>(
+    board: &mut Board<K>,
+    shares: &Shares<K>,
+    pending: u32,
+) -> Result<Turn<K>, Refusal>
+    requires root { shares.now.node ≡ 0 }
+    requires pending { pending ≡ pending_at shares.now.node board.old.history }
+    ensures { MakesFirst K.names.nodes shares.now.node (steps.Judge ∷ steps.Start ∷ visits shares.now.node) board.old board.new result }
+{
+    match judge(board, shares)? {
+        Turn::Idle => {}
+        turn => return Ok(turn),
+    }
+    match start(board, shares, pending)? {
+        Turn::Idle => {}
+        turn => return Ok(turn),
+    }
+    pass_on(board, shares)
+}
+
+// What each node does in a wave: it takes its token, takes the sums of its children, and gives.
+fn pass_on<K: Ledgers>(board: &mut Board<K>, shares: &Shares<K>) -> Result<Turn<K>, Refusal>
+    ensures { MakesFirst K.names.nodes shares.now.node (visits shares.now.node) board.old board.new result }
+{
+    match down(board, shares)? {
+        Turn::Idle => {}
+        turn => return Ok(turn),
+    }
+    match up(board, shares, 1)? {
+        Turn::Idle => {}
+        turn => return Ok(turn),
+    }
+    match up(board, shares, 2)? {
+        Turn::Idle => {}
+        turn => return Ok(turn),
+    }
+    give(board, shares)
+}
+
+// The root judges the newest wave.
+fn judge<K: Ledgers>(board: &mut Board<K>, shares: &Shares<K>) -> Result<Turn<K>, Refusal>
+    ensures { MakesFirst K.names.nodes shares.now.node (steps.Judge ∷ []) board.old board.new result }
+{
+    let _root = shares.node();
+    judged(board.judge())
+}
+
+// The root, where it is idle, starts the next wave.
+fn start<K: Ledgers>(
+    board: &mut Board<K>,
+    shares: &Shares<K>,
+    pending: u32,
+) -> Result<Turn<K>, Refusal>
+    requires root { shares.now.node ≡ 0 }
+    requires pending { pending ≡ pending_at shares.now.node board.old.history }
+    ensures { MakesFirst K.names.nodes shares.now.node (steps.Start ∷ []) board.old board.new result }
+{
+    if pending > 0 {
+        return Ok(Turn::Idle);
+    }
+    moved(board.start(shares))
+}
+
+// The node takes its token.
+fn down<K: Ledgers>(board: &mut Board<K>, shares: &Shares<K>) -> Result<Turn<K>, Refusal>
+    ensures { MakesFirst K.names.nodes shares.now.node (steps.Down (node_at shares.now.node) ∷ []) board.old board.new result }
+{
+    moved(board.down(shares))
+}
+
+// The node takes the sums of its first or second child, where there is one.
+fn up<K: Ledgers>(
+    board: &mut Board<K>,
+    shares: &Shares<K>,
+    which: u32,
+) -> Result<Turn<K>, Refusal>
+    requires { (1 ≤ which) × (which ≤ 2) }
+    ensures { MakesFirst K.names.nodes shares.now.node (steps.Up (node_at (2 * shares.now.node + which)) ∷ []) board.old board.new result }
+{
+    let nodes = board.nodes();
+    let child = 2 * shares.node().0 + which;
+    if child >= nodes {
+        return Ok(Turn::Idle);
+    }
+    moved(board.up(NodeId(child), shares))
+}
+
+// The node, where it is idle, gives what it has sent and received.
+fn give<K: Ledgers>(board: &mut Board<K>, shares: &Shares<K>) -> Result<Turn<K>, Refusal>
+    ensures { MakesFirst K.names.nodes shares.now.node (steps.Give (node_at shares.now.node) ∷ []) board.old board.new result }
+{
+    moved(board.give(shares))
+}
+
+// What trying to judge comes to.
+fn judged<K: Ledgers>(tried: Result<Judgement<K>, Refusal>) -> Result<Turn<K>, Refusal>
+    ensures { ComesTo is_over tried result }
+{
+    match tried {
+        Ok(Judgement::Over(ended)) => Ok(Turn::Over(ended)),
+        Ok(Judgement::Not) => Ok(Turn::Moved),
+        Err(refusal) => unless_for_room(refusal),
+    }
+}
+
+// What trying a step that judges nothing comes to.
+fn moved<T: Drop, K: Ledgers>(tried: Result<T, Refusal>) -> Result<Turn<K>, Refusal>
+    ensures { ComesTo (λ _. false) tried result }
+{
+    match tried {
+        Ok(_) => Ok(Turn::Moved),
+        Err(refusal) => unless_for_room(refusal),
+    }
+}
+
+// A step that the waves do not allow now is none. Only one that they allow is refused for want of room.
+fn unless_for_room<K: Ledgers>(refusal: Refusal) -> Result<Turn<K>, Refusal>
+    ensures { result ≡ (if is_for_room refusal then Err refusal else Ok Turn.Idle) }
+{
+    match refusal {
+        Refusal::HistoryFull(_) | Refusal::NoMemory => Err(refusal),
+        _ => Ok(Turn::Idle),
+    }
+}

@@ -1,0 +1,144 @@
+ghost use Rattle.std.specs.Prelude.{◌≡◌, ◌==◌, ◌+◌, ◌<◌, [], ◌∷◌, ◌++◌, length, option_copied, slice_get, IfOk, OnErr, OnOk, Some, IsTrue};
+ghost use Rattle.tp_board.specs.Numbers.{event, is_send, numbers_after, receiving, sending};
+ghost use Rattle.tp_board.specs.States.{full_check};
+ghost use Rattle.tp_graph.specs.Carried.{Carried, IsFeed};
+ghost use Rattle.tp_graph.specs.Values.{value_of};
+ghost use Rattle.tp_node.specs.Boards.{Answers, Appends};
+ghost use Rattle.tp_node.specs.Wires.{empty_wire, link_of, message_on, with_message};
+ghost use Rattle.tp_wave.specs.Machine.{is_send_to, steps_of};
+ghost use Rattle.tp_wave.specs.Steps.{any, count};
+
+use std::alloc::Global;
+use std::marker::Model;
+use tp_base::{MessageId, NodeId, Refusal};
+use tp_board::{Board, Ledgers, LinkShare, Shares};
+use tp_graph::{Feed, Graph, Message, Value};
+use tp_link::Link;
+
+/// A link of messages from one node to another, with its share of the messages under way: its type keeps that the share is
+/// the number of its messages. Contracts see its two nodes and its messages, the oldest first.
+#[derive(Drop)]
+pub struct Wire<G: Graph, K: Ledgers> {
+    link: Link<Message<G>>,
+    share: LinkShare<K>,
+}
+
+impl<G: Graph, K: Ledgers> Model for Wire<G, K> {
+    ghost use Rattle.tp_node.specs.Wires.{IsWire, WireState};
+
+    ghost Value = { WireState G };
+
+    ghost view = { λ w. record { from = w.share.from; to = w.share.to; messages = w.link.messages } };
+
+    ghost invariant = { λ w. IsWire w.link w.share };
+}
+
+impl<G: Graph, K: Ledgers> Wire<G, K> {
+    /// A wire with no message. It takes no memory.
+    pub fn new(alloc: Global, share: LinkShare<K>) -> Self
+        requires { share.under ≡ 0 }
+        ensures { result ≡ empty_wire share }
+    {
+        let link = Link::new(alloc, share.from(), share.to());
+        Wire { link, share }
+    }
+
+    /// The node that sends on it.
+    pub fn from(&self) -> NodeId
+        ensures number { result.0 ≡ self.now.from }
+        ensures below { self.now.from < K.names.nodes }
+    {
+        self.share.from()
+    }
+
+    /// The node that receives from it.
+    pub fn to(&self) -> NodeId
+        ensures number { result.0 ≡ self.now.to }
+        ensures below { self.now.to < K.names.nodes }
+    {
+        self.share.to()
+    }
+
+    /// How many messages are on it.
+    pub fn len(&self) -> usize
+        ensures { result ≡ length self.now.messages }
+    {
+        self.link.len()
+    }
+
+    /// Whether no message is on it.
+    pub fn is_empty(&self) -> bool
+        ensures { result ≡ (length self.now.messages == 0) }
+    {
+        self.link.is_empty()
+    }
+
+    /// The oldest message, which stays.
+    pub fn front(&self) -> Option<&Message<G>>
+        ensures { option_copied result ≡ slice_get self.now.messages 0 }
+    {
+        self.link.front()
+    }
+
+    /// The share alone. What is on the wire is dropped.
+    pub fn into_share(self) -> LinkShare<K>
+        ensures { result ≡ link_of self }
+    {
+        let Wire { link: _, share } = self;
+        share
+    }
+
+    /// Sends the value that a feed waits for. The message gets the next number.
+    ///
+    /// Refused: `HistoryFull` where the history has reached its limit; `NoMemory` where memory has to grow and does not.
+    pub(crate) fn put(
+        &mut self,
+        board: &mut Board<K>,
+        shares: &mut Shares<K>,
+        graph: G,
+        feed: Feed,
+        value: Value,
+    ) -> Result<MessageId, Refusal>
+        requires active { 0 < shares.old.pending }
+        requires of_wire { self.old.from ≡ shares.old.node }
+        requires right { value_of (G.meaning graph) feed.producer.0 ≡ Some value }
+        requires fed { IsFeed (G.meaning graph) feed }
+        ensures number { IfOk result (λ m. m.0 ≡ count is_send (steps_of board.old.history)) }
+        ensures sent { IfOk result (λ m. Appends (event shares.old.node (sending shares.old.node self.old.to m.0) ∷ []) board.old board.new) }
+        ensures shares { IfOk result (λ m. shares.new ≡ numbers_after (sending shares.old.node self.old.to m.0) shares.old) }
+        ensures last { IfOk result (λ m. self.new ≡ with_message (message_on self.old graph m.0 feed value) self.old) }
+        ensures refusal { Answers (full_check 1 board.old ∷ []) result }
+        ensures refused { OnErr result (Appends [] board.old board.new × (shares.new ≡ shares.old) × (self.new ≡ self.old)) }
+    {
+        board.reserve(1)?;
+        self.link.reserve(1)?;
+        let from = self.share.from();
+        let to = self.share.to();
+        let Ok(number) = board.append_send(shares, &mut self.share) else {
+            unreachable!()
+        };
+        self.link
+            .put_reserved(Message::new(graph, number, from, to, feed, value));
+        Ok(number)
+    }
+
+    /// Takes the oldest message, which was sent to the node, in the place that was reserved for its event.
+    pub(crate) fn take(&mut self, board: &mut Board<K>, shares: &mut Shares<K>) -> Message<G>
+        requires reserved { 0 < board.old.reserved }
+        requires to_node { self.old.to ≡ shares.old.node }
+        requires some { 0 < length self.old.messages }
+        requires sent { (m : Carried G) → slice_get self.old.messages 0 ≡ Some m → IsTrue (any (is_send_to self.old.to m.number.0) (steps_of board.old.history)) }
+        ensures first { self.old.messages ≡ result ∷ self.new.messages }
+        ensures ends { (self.new.from ≡ self.old.from) × (self.new.to ≡ self.old.to) }
+        ensures received { Appends (event shares.old.node (receiving shares.old.node result.number.0) ∷ []) board.old board.new }
+        ensures shares { shares.new ≡ numbers_after (receiving shares.old.node result.number.0) shares.old }
+    {
+        let Some(message) = self.link.get() else {
+            unreachable!()
+        };
+        let Ok(()) = board.append_recv(message.number(), shares, &mut self.share) else {
+            unreachable!()
+        };
+        message
+    }
+}

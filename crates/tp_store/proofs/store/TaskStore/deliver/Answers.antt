@@ -1,0 +1,104 @@
+use Rattle.std.proofs.Common.{◌+◌, Some, None, unwrap_or, rules, subst, ap, sym, ◌∙◌, arith}
+use Rattle.tp_base.specs.declared.refusal.Refusal.TheVariants.{NoMemory}
+use Rattle.tp_store.specs.Content.{task_of, unfinished, with_delivered, NoneGoesBack}
+use Rattle.tp_store.specs.declared.index.Entry.TheVariants.{Done}
+use Rattle.tp_store.proofs.Stages.{delivered_goes_on}
+use Rattle.tp_store.proofs.Finishing.{taken_there}
+use Rattle.tp_store.proofs.Reading.{seen, seen_live, known_refusal, unknown_refusal, accepts, refuses}
+use Rattle.tp_store.proofs.Delivering.{inserts}
+use Rattle.tp_store.proofs.Supplying.{known_item, can_supply, supplied_all, fills}
+use Rattle.tp_store.proofs.store.TaskStore.deliver.Goals as goal
+
+-- ---- an unknown task
+pub reserve_unknown-requires : goal.reserve_unknown-requires
+reserve_unknown-requires g c =
+    let s = c.self.inside in
+    (search rules, (c.requires.arity_in_range, (seen (g.S.Slots.content s.slots) s.index s.results.items c.args.self.now.content (ap (λ v. v.content) c.self.view_is) c.args.task None (sym c.entry_of.ensures ∙ c.in_default.is))))
+
+pub returns-in-Err-clause-refusal : goal.returns-in-Err-clause-refusal
+returns-in-Err-clause-refusal g c =
+    let s = c.self.inside in
+    c.in-Err.ensures.refusal ∙ ap (λ o. unwrap_or o NoMemory) (sym (unknown_refusal c.args.self.now.content c.args.task c.args.arity c.args.slot (seen (g.S.Slots.content s.slots) s.index s.results.items c.args.self.now.content (ap (λ v. v.content) c.self.view_is) c.args.task None (sym c.entry_of.ensures ∙ c.in_default.is))))
+
+pub insert_with_value-requires : goal.insert_with_value-requires
+insert_with_value-requires g c =
+    let s = c.self.inside in
+    (search rules, (ap (λ v. task_of v c.args.task) c.in_default-reserve_unknown.ensures.content ∙ (seen (g.S.Slots.content s.slots) s.index s.results.items c.args.self.now.content (ap (λ v. v.content) c.self.view_is) c.args.task None (sym c.entry_of.ensures ∙ c.in_default.is)), (c.in_default-reserve_unknown.ensures.room, (c.requires.arity_in_range, (c.requires.class_in_range, c.requires.slot_in_range)))))
+
+pub returns-in_default : goal.returns-in_default
+returns-in_default g c =
+    let s = c.self.inside in
+    let same = c.in_default-reserve_unknown.ensures.content in
+    let none = (seen (g.S.Slots.content s.slots) s.index s.results.items c.args.self.now.content (ap (λ v. v.content) c.self.view_is) c.args.task None (sym c.entry_of.ensures ∙ c.in_default.is)) in
+    let content = c.insert_with_value.ensures.content ∙ ap (λ v. with_delivered v c.args.task c.args.arity c.args.class c.args.slot c.args.value) same in
+    record {
+      checked = unknown_refusal c.args.self.now.content c.args.task c.args.arity c.args.slot none ∙ c.in_default-reserve_unknown.ensures.not_full;
+      answer = inserts c.args.self.now.content c.args.task c.args.arity none;
+      content = content;
+      unfinished = c.insert_with_value.ensures.unfinished ∙ ap (λ v. unfinished v + 1) same;
+      lives = subst (λ v. NoneGoesBack c.args.self.now.content v) (sym content) (delivered_goes_on c.args.self.now.content c.args.task c.args.arity c.args.class c.args.slot c.args.value);
+      refusal = tt;
+      value_returned = tt;
+      unchanged = tt;
+    }
+
+-- ---- a task that is done
+pub returns-in_default-entry-clause-refusal : goal.returns-in_default-entry-clause-refusal
+returns-in_default-entry-clause-refusal g c =
+    let s = c.self.inside in
+    let at = c.in_default-entry in
+    let over = seen (g.S.Slots.content s.slots) s.index s.results.items c.args.self.now.content (ap (λ v. v.content) c.self.view_is) c.args.task (Some (Done at.field-0 at.field-1)) (sym c.entry_of.ensures ∙ c.in-Some.is ∙ ap Some at.is) in
+    sym (ap (λ o. unwrap_or o NoMemory) (known_refusal c.args.self.now.content c.args.task c.args.arity c.args.slot _ over))
+
+-- ---- a task that is not done
+pub get-requires : goal.get-requires
+get-requires g c =
+    let s = c.self.inside in
+    taken_there (g.S.Slots.content s.slots) (g.S.Slots.room s.slots) s.index s.results s.counts s.reserved c.self.invariant c.args.task c.in-Live.place (sym c.entry_of.ensures ∙ c.in-Some.is ∙ ap Some c.in-Live.is)
+
+pub returns-in-Err-check-clause-refusal : goal.returns-in-Err-check-clause-refusal
+returns-in-Err-check-clause-refusal g c =
+    let s = c.self.inside in
+    let x = seen_live (g.S.Slots.content s.slots) s.index s.results.items c.args.self.now.content (ap (λ v. v.content) c.self.view_is) c.args.task c.in-Live.place c.get.result.now (sym c.entry_of.ensures ∙ c.in-Some.is ∙ ap Some c.in-Live.is) c.get.ensures in
+    sym (ap (λ o. unwrap_or o NoMemory) (known_refusal c.args.self.now.content c.args.task c.args.arity c.args.slot _ x ∙ refuses _ c.check.result c.in-Err-check.refusal c.check.ensures c.in-Err-check.is))
+
+pub supply-requires : goal.supply-requires
+supply-requires g c =
+    let s = c.self.inside in
+    let x = seen_live (g.S.Slots.content s.slots) s.index s.results.items c.args.self.now.content (ap (λ v. v.content) c.self.view_is) c.args.task c.in-Live.place c.get.result.now (sym c.entry_of.ensures ∙ c.in-Some.is ∙ ap Some c.in-Live.is) c.get.ensures in
+    let checked = known_refusal c.args.self.now.content c.args.task c.args.arity c.args.slot _ x ∙ accepts _ c.check.result c.in_default-check.field-0 c.check.ensures c.in_default-check.is in
+    let k = known_item (g.S.Slots.content s.slots) (g.S.Slots.room s.slots) s.index s.results s.counts s.reserved c.self.invariant c.args.self.now.content (ap (λ v. v.content) c.self.view_is) c.args.task c.args.arity c.args.class c.args.slot c.args.value c.in-Live.place (sym c.entry_of.ensures ∙ c.in-Some.is ∙ ap Some c.in-Live.is) checked c.requires.slot_in_range in
+    let can = can_supply (g.S.Slots.content s.slots) (g.S.Slots.room s.slots) s.index s.results s.counts s.reserved c.self.invariant c.args.self.now.content (ap (λ v. v.content) c.self.view_is) c.args.task c.args.arity c.args.class c.args.slot c.args.value c.in-Live.place (sym c.entry_of.ensures ∙ c.in-Some.is ∙ ap Some c.in-Live.is) checked c.requires.slot_in_range in
+    record {
+      fits = search rules;
+      idle = can.0;
+      waiting = rw k.1.at k.1.waits;
+      slot_in_range = rw k.1.at k.1.in_range;
+      free = rw k.1.at k.1.free;
+      some_wait = can.1;
+      counted = can.2;
+    }
+
+pub invariant_of-self : goal.invariant_of-self
+invariant_of-self g c =
+    let s = c.self.inside in
+    let x = seen_live (g.S.Slots.content s.slots) s.index s.results.items c.args.self.now.content (ap (λ v. v.content) c.self.view_is) c.args.task c.in-Live.place c.get.result.now (sym c.entry_of.ensures ∙ c.in-Some.is ∙ ap Some c.in-Live.is) c.get.ensures in
+    let checked = known_refusal c.args.self.now.content c.args.task c.args.arity c.args.slot _ x ∙ accepts _ c.check.result c.in_default-check.field-0 c.check.ensures c.in_default-check.is in
+    (supplied_all (g.S.Slots.content s.slots) (g.S.Slots.room s.slots) s.index s.results s.counts s.reserved c.self.invariant c.args.self.now.content (ap (λ v. v.content) c.self.view_is) c.args.task c.args.arity c.args.class c.args.slot c.args.value c.in-Live.place (sym c.entry_of.ensures ∙ c.in-Some.is ∙ ap Some c.in-Live.is) checked c.requires.slot_in_range (g.S.Slots.content c.supply.new.slots) (g.S.Slots.room c.supply.new.slots) c.supply.new.counts c.supply.ensures.content c.supply.ensures.counts c.supply.ensures.room).2
+
+pub returns : goal.returns
+returns g c =
+    let s = c.self.inside in
+    let x = seen_live (g.S.Slots.content s.slots) s.index s.results.items c.args.self.now.content (ap (λ v. v.content) c.self.view_is) c.args.task c.in-Live.place c.get.result.now (sym c.entry_of.ensures ∙ c.in-Some.is ∙ ap Some c.in-Live.is) c.get.ensures in
+    let checked = known_refusal c.args.self.now.content c.args.task c.args.arity c.args.slot _ x ∙ accepts _ c.check.result c.in_default-check.field-0 c.check.ensures c.in_default-check.is in
+    let all = supplied_all (g.S.Slots.content s.slots) (g.S.Slots.room s.slots) s.index s.results s.counts s.reserved c.self.invariant c.args.self.now.content (ap (λ v. v.content) c.self.view_is) c.args.task c.args.arity c.args.class c.args.slot c.args.value c.in-Live.place (sym c.entry_of.ensures ∙ c.in-Some.is ∙ ap Some c.in-Live.is) checked c.requires.slot_in_range (g.S.Slots.content c.supply.new.slots) (g.S.Slots.room c.supply.new.slots) c.supply.new.counts c.supply.ensures.content c.supply.ensures.counts c.supply.ensures.room in
+    record {
+      checked = checked;
+      answer = fills (g.S.Slots.content s.slots) (g.S.Slots.room s.slots) s.index s.results s.counts s.reserved c.self.invariant c.args.self.now.content (ap (λ v. v.content) c.self.view_is) c.args.task c.args.arity c.args.class c.args.slot c.args.value c.in-Live.place (sym c.entry_of.ensures ∙ c.in-Some.is ∙ ap Some c.in-Live.is) checked c.requires.slot_in_range;
+      content = all.0;
+      unfinished = omega (arith, all.1);
+      lives = subst (λ v. NoneGoesBack c.args.self.now.content v) (sym all.0) (delivered_goes_on c.args.self.now.content c.args.task c.args.arity c.args.class c.args.slot c.args.value);
+      refusal = tt;
+      value_returned = tt;
+      unchanged = tt;
+    }

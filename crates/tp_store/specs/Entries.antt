@@ -1,0 +1,17 @@
+-- What stands under the numbers of tasks.
+use Rattle.std.specs.Prelude.{◌≡◌, ◌^◌, ℕ, nat_lt, Option, None, IsSome, unwrap_or, if◌then◌else◌}
+use Rattle.tp_base.specs.declared.table.Table.{Table}
+use Rattle.tp_base.specs.Table.{lookup}
+use Rattle.tp_store.specs.declared.index.Entry.{Entry}
+
+-- under each number an entry, or only room for one
+abbrev pub Entries : Type 0
+Entries = Table (Option Entry)
+
+-- what stands under a number, which has 32 bits
+abbrev pub entry_at : Entries → ℕ → Option Entry
+entry_at index t = if nat_lt t (2 ^ 32) then unwrap_or (lookup index t) None else None
+
+-- there is room under the number, and nothing stands there yet
+abbrev pub IsFreeAt : Entries → ℕ → Type 0
+IsFreeAt index t = (entry_at index t ≡ None) × IsSome (lookup index t)
