@@ -1,6 +1,6 @@
 -- What a turn comes to that tries control steps in a row.
 use Rattle.std.proofs.Common.{ℕ, ◌≡◌, List, [], ◌∷◌, ◌++◌, Bool, true, false, Option, Some, None, Result, Ok, Err, refl, sym, ap, subst, ◌∙◌, cond, arith}
-use Rattle.std.specs.Prelude.{MatchOption, IfErr, IfNone, IfOk, IfSome, IsOkAnd, OnErr, OnOk, MatchResult, if◌then◌else◌, ◌<◌, ◌≤◌, is_none, is_some, nat_lt, ◌+◌, ◌==◌, length}
+use Rattle.std.specs.Prelude.{MatchOption, IfErr, IfNone, IfOk, IfSome, OnErr, OnOk, if◌then◌else◌, ◌<◌, ◌≤◌, is_none, is_some, nat_lt, ◌+◌, length}
 use Rattle.std.proofs.lemmas.Bool.Decides.{nat_tests}
 use Rattle.std.specs.List.{find}
 use Rattle.std.specs.Result.{result_err}
@@ -10,14 +10,14 @@ use Rattle.tp_base.specs.declared.refusal.Refusal.{Refusal}
 use Rattle.tp_base.specs.declared.refusal.Refusal.TheVariants.{HistoryFull, NoMemory, NotIdle}
 use Rattle.tp_base.specs.declared.step.Step.{Step}
 use Rattle.tp_base.specs.declared.step.Step.TheVariants.{Start, Down, Give, Up, Judge}
-use Rattle.tp_board.specs.Numbers.{event, node_at}
+use Rattle.tp_board.specs.Numbers.{node_at}
 use Rattle.tp_board.specs.States.{AnswersBy, BoardState, full_check, step_checks, visit_checks, with_event}
 use Rattle.tp_node.specs.Boards.{Answers, Appends}
-use Rattle.tp_node.specs.Turns.{ComesTo, IsMade, Makes, MakesFirst, control_event, ends, is_for_room, may_make, turn_checks, turn_of, turns}
+use Rattle.tp_node.specs.Turns.{ComesTo, IsMade, Makes, MakesFirst, control_event, ends, is_for_room, may_make, turn_checks, turn_of, turn_steps, wave_steps}
 use Rattle.tp_node.specs.Nodes.{NodeState}
 use Rattle.tp_node.specs.declared.turn.Turn.{Turn}
 use Rattle.tp_node.specs.declared.turn.Turn.TheVariants.{Idle}
-use Rattle.tp_wave.specs.Checks.{control_checks, wave_checks}
+use Rattle.tp_wave.specs.Checks.{control_checks}
 use Rattle.tp_wave.specs.Machine.{pending_at, steps_of}
 use Rattle.tp_wave.specs.Sums.{judgement}
 
@@ -42,13 +42,12 @@ split (c ∷ cs) b r all answer =
 -- Where a place is asked for, want of room is the one refusal.
 room : {A : Type 0} (b : BoardState) (e : Refusal) (r : Result A Refusal) → r ≡ Err e → AnswersBy (full_check 1 b ∷ []) 1 b r → is_for_room e ≡ true
 room {A} b e r is answer =
-    let full : Result A Refusal = Err (HistoryFull (length b.history)) in
     elim (nat_lt b.limit (length b.history + 1)) as (λ t. MatchOption (if t then Some (HistoryFull (length b.history)) else None) (IfErr r (λ f. (f ≡ NoMemory) × (b.reserved < 1))) (λ f. r ≡ Err f) → is_for_room e ≡ true) [
       | true ↦ λ h. (let same : e ≡ HistoryFull (length b.history) = cc in ap is_for_room same)
       | false ↦ λ h. ap is_for_room (subst (λ (z : Result A Refusal). IfErr z (λ f. (f ≡ NoMemory) × (b.reserved < 1))) is h).0
     ] answer
 
--- Another call answers the same.
+-- Another call that returns its error answers the same.
 same_to : {A B : Type 0} (o : Option Refusal) (want : Type 0) (r : Result A Refusal) (q : Result B Refusal) → result_err r ≡ result_err q
     → MatchOption o (IfErr r (λ e. (e ≡ NoMemory) × want)) (λ e. r ≡ Err e) → MatchOption o (IfErr q (λ e. e ≡ NoMemory)) (λ e. q ≡ Err e)
 same_to None want (Ok x) (Ok y) same answer = tt
@@ -67,7 +66,7 @@ same_room b r q same answer = same_to (first_refusal (full_check 1 b ∷ [])) (b
 abbrev only : Step → Option Refusal → Option Step
 only s o = cond (is_none o) (Some s) None
 
--- what is known of a step s of node i, of n, that was tried: the call answers r and leads from old to new, and the turn answers q
+-- what is known of a step that was tried, among n nodes: a call answers r and leads from old to new, its answer tells whether the step ended the pool, and the turn answers q
 pub record IsTried {A K : Type 0} (n : ℕ) (s : Step) (old new : BoardState) (ended : A → Bool) (r : Result A Refusal) (q : Result (Turn K) Refusal) : Type 0 where
   pub event : OnOk r (new ≡ with_event (control_event s) old)
   pub same : OnErr r (new ≡ old)
@@ -79,6 +78,7 @@ module _ {A K : Type 0} (n : ℕ) (s : Step) (old new : BoardState) (ended : A �
   abbrev refused_with : Refusal → Bool → Result (Turn K) Refusal
   refused_with e for_room = if for_room then Err e else Ok Idle
 
+  -- where its checks are passed
   made : (r : Result A Refusal) (q : Result (Turn K) Refusal) → IsTried n s old new ended r q → AnswersBy (full_check 1 old ∷ []) 1 old r → Makes n s old new q
   made (Ok x) (Ok turn) h answer = record { event = h.event; answer = subst (λ b. IsMade b turn) h.over h.answer; refusal = same_room old (Ok x) (Ok turn) refl answer; refused = tt }
   made (Ok x) (Err f) h answer = absurd h.answer
@@ -92,12 +92,14 @@ module _ {A K : Type 0} (n : ℕ) (s : Step) (old new : BoardState) (ended : A �
       let is : q ≡ refused_with e true = h.answer ∙ ap (refused_with e) (room old e r refl answer) in
       record { event = tt; answer = tt; refusal = same_room old r q (sym (ap result_err is)) answer; refused = h.same }
 
-  passed : (r : Result A Refusal) (q : Result (Turn K) Refusal) (e : Refusal) → IsTried n s old new ended r q → r ≡ Err e → is_for_room e ≡ false → (q ≡ Ok Idle) × (new ≡ old)
-  passed (Ok x) q e h is no_room = absurd cc
-  passed (Err f) q e h is no_room =
+  -- where one of its checks holds
+  none : (r : Result A Refusal) (q : Result (Turn K) Refusal) (e : Refusal) → IsTried n s old new ended r q → r ≡ Err e → is_for_room e ≡ false → (q ≡ Ok Idle) × (new ≡ old)
+  none (Ok x) q e h is no_room = absurd cc
+  none (Err f) q e h is no_room =
       let same : f ≡ e = cc in
       (h.answer ∙ ap (refused_with f) (ap is_for_room same ∙ no_room), h.same)
 
+  -- either, by the first check that holds
   first : (i : ℕ) (o : Option Refusal) (r : Result A Refusal) (q : Result (Turn K) Refusal) → IsTried n s old new ended r q → o ≡ first_refusal (turn_checks n i old.history s)
       → MatchOption o (AnswersBy (full_check 1 old ∷ []) 1 old r) (λ e. (r ≡ Err e) × (is_for_room e ≡ false)) → MakesFirst n i (s ∷ []) old new q
   first i None r q h is answer =
@@ -107,7 +109,7 @@ module _ {A K : Type 0} (n : ℕ) (s : Step) (old new : BoardState) (ended : A �
       }
   first i (Some e) r q h is answer =
       record {
-        none = λ none. passed r q e h answer.0 answer.1;
+        none = λ all. none r q e h answer.0 answer.1;
         some = λ t some. (let both : None ≡ Some t = ap (only s) is ∙ some in absurd cc);
       }
 
@@ -116,7 +118,6 @@ module _ {A K : Type 0} (n : ℕ) (s : Step) (old new : BoardState) (ended : A �
       → AnswersBy (cs ++ full_check 1 old ∷ []) 1 old r → MakesFirst n i (s ∷ []) old new q
   tried i cs r q h is all answer = first i (first_refusal cs) r q h is (split cs old r all answer)
 
--- The step is no judgement.
 never : {A : Type 0} (r : Result A Refusal) → IfOk r (λ x. false ≡ false)
 never (Ok x) = refl
 never (Err e) = tt
@@ -223,6 +224,13 @@ module _ {K : Type 0} {n i : ℕ} {s : Step} {ts : List Step} {old mid : BoardSt
   pub at_error : {e : Refusal} {r : Result (Turn K) Refusal} → MakesFirst {K = K} n i (s ∷ []) old mid (Err e) → r ≡ Err e → MakesFirst n i (s ∷ ts) old mid r
   at_error {e} {r} one is = first_to (may_make n i old.history s) r refl (λ idle. absurd cc) (subst (λ (q : Result (Turn K) Refusal). MakesFirst {K = K} n i (s ∷ []) old mid q) (sym is) one)
 
+-- The node is the root.
+pub at_root : {K : Type 0} {n i : ℕ} {old new : BoardState} {r : Result (Turn K) Refusal} → i ≡ 0 → MakesFirst n i (wave_steps i) old new r → MakesFirst n 0 (wave_steps 0) old new r
+at_root {K} {n} {i} {old} {new} {r} is made = subst (λ k. MakesFirst n k (wave_steps k) old new r) is made
+
+pub turn_of_root : {K : Type 0} {n i : ℕ} {old new : BoardState} {r : Result (Turn K) Refusal} → i ≡ 0 → MakesFirst n 0 (turn_steps 0) old new r → MakesFirst n i (turn_steps i) old new r
+turn_of_root {K} {n} {i} {old} {new} {r} is made = subst (λ k. MakesFirst n k (turn_steps k) old new r) (sym is) made
+
 -- ---- the turn of a node
 nothing : (old new : BoardState) → new ≡ old → Appends [] old new
 nothing old new same = record { history = ap (λ b. b.history) same; limit = ap (λ b. b.limit) same; fault = ap (λ b. b.fault) same }
@@ -247,7 +255,7 @@ on_err (Ok x) P Q p f = tt
 on_err (Err e) P Q p f = f p
 
 -- the node, of so many, stands beside a board that leads from old to new, and the call answers r
-module _ {G K : Type 0} (node : NodeState G) {old new : BoardState} {r : Result (Turn K) Refusal} (turn : MakesFirst node.nodes node.numbers.node (turns node.numbers.node) old new r) where
+module _ {G K : Type 0} (node : NodeState G) {old new : BoardState} {r : Result (Turn K) Refusal} (turn : MakesFirst node.nodes node.numbers.node (turn_steps node.numbers.node) old new r) where
   pub idle : IfNone (turn_of node old) ((r ≡ Ok Idle) × Appends [] old new)
   idle = when_none (turn_of node old) ((r ≡ Ok Idle) × Appends [] old new) (λ is. let none = turn.none is in (none.0, nothing old new none.1))
 
@@ -270,9 +278,9 @@ module _ {G K : Type 0} (node : NodeState G) {old new : BoardState} {r : Result 
   kept = on_err r (new ≡ old) (Appends [] old new) (unchanged_by (turn_of node old) refl) (nothing old new)
 
 -- What is known of the turn speaks of the node and of the board as they were.
-pub turn_told : {G K : Type 0} {n i : ℕ} {start new : BoardState} {r : Result (Turn K) Refusal} (node : NodeState G) (old : BoardState) → n ≡ node.nodes → i ≡ node.numbers.node → start ≡ old → MakesFirst n i (turns i) start new r
-    → MakesFirst node.nodes node.numbers.node (turns node.numbers.node) old new r
+pub turn_told : {G K : Type 0} {n i : ℕ} {start new : BoardState} {r : Result (Turn K) Refusal} (node : NodeState G) (old : BoardState) → n ≡ node.nodes → i ≡ node.numbers.node → start ≡ old → MakesFirst n i (turn_steps i) start new r
+    → MakesFirst node.nodes node.numbers.node (turn_steps node.numbers.node) old new r
 turn_told {G} {K} {n} {i} {start} {new} {r} node old nodes number board turn =
-    subst (λ b. MakesFirst node.nodes node.numbers.node (turns node.numbers.node) b new r) board
-    (subst (λ j. MakesFirst node.nodes j (turns j) start new r) number
-    (subst (λ m. MakesFirst m i (turns i) start new r) nodes turn))
+    subst (λ b. MakesFirst node.nodes node.numbers.node (turn_steps node.numbers.node) b new r) board
+    (subst (λ j. MakesFirst node.nodes j (turn_steps j) start new r) number
+    (subst (λ m. MakesFirst m i (turn_steps i) start new r) nodes turn))

@@ -20,22 +20,22 @@ use Rattle.tp_wave.specs.Sums.{judgement}
 
 -- ---- which step
 -- what any node does in a wave: it takes its token, then the sums of its lower and of its higher child, and then gives
-abbrev pub visits : ℕ → List Step
-visits i = Down (node_at i) ∷ Up (node_at (2 * i + 1)) ∷ Up (node_at (2 * i + 2)) ∷ Give (node_at i) ∷ []
+abbrev pub wave_steps : ℕ → List Step
+wave_steps i = Down (node_at i) ∷ Up (node_at (2 * i + 1)) ∷ Up (node_at (2 * i + 2)) ∷ Give (node_at i) ∷ []
 
 -- the control steps of node i, in the order in which it tries them; the root alone judges and starts the waves
-abbrev pub turns : ℕ → List Step
-turns i = if i == 0 then Judge ∷ Start ∷ visits i else visits i
+abbrev pub turn_steps : ℕ → List Step
+turn_steps i = if i == 0 then Judge ∷ Start ∷ wave_steps i else wave_steps i
 
 -- An active node starts no wave, and gives nothing.
-abbrev pub wants_idle : Step → Bool
-wants_idle Start = true
-wants_idle (Give i) = true
-wants_idle _ = false
+abbrev pub needs_idle : Step → Bool
+needs_idle Start = true
+needs_idle (Give i) = true
+needs_idle _ = false
 
 -- what node i, of n, may be refused a control step for after these events
 abbrev pub turn_checks : ℕ → ℕ → List Event → Step → List Check
-turn_checks n i h s = control_checks n (steps_of h) s ++ (wants_idle s && nat_lt 0 (pending_at i h), NotIdle) ∷ []
+turn_checks n i h s = control_checks n (steps_of h) s ++ (needs_idle s && nat_lt 0 (pending_at i h), NotIdle) ∷ []
 
 -- the node may make the step
 abbrev pub may_make : ℕ → ℕ → List Event → Step → Bool
@@ -43,7 +43,7 @@ may_make n i h s = is_none (first_refusal (turn_checks n i h s))
 
 -- the first of its control steps that a node may make
 abbrev pub turn_of : {G : Type 0} → NodeState G → BoardState → Option Step
-turn_of node b = find (may_make node.nodes node.numbers.node b.history) (turns node.numbers.node)
+turn_of node b = find (may_make node.nodes node.numbers.node b.history) (turn_steps node.numbers.node)
 
 -- ---- what it leads to
 -- a control step beside the node that it names, or beside the root

@@ -20,8 +20,8 @@ use std::marker::Model;
 use tp_base::{
     ActionId, CLASSES, MAX_INPUTS, MAX_LIVE_TASKS, MAX_STEPS, MessageId, PoolId, Refusal, TaskId,
 };
-use tp_monitor::{MAX_ACTIONS, TaskpoolState};
 use tp_graph::Value;
+use tp_monitor::{MAX_ACTIONS, TaskpoolState};
 use tp_slots::SlabSlots;
 use tp_store::{Begun, Counts, Delivered, Life, TaskItem, TaskStore};
 
@@ -42,7 +42,6 @@ impl Model for Local {
     ghost use Rattle.tp_store.specs.Content.{unfinished};
     ghost use Rattle.tp_node.specs.Actions.{open_count, opening_count};
     ghost use Rattle.tp_node.specs.Locals.{LocalState, state_code, IsCounted, state_of};
-
     ghost use Rattle.std.specs.Coded.{coded_list, coded_ℤ};
     ghost use Rattle.tp_node.specs.Nodes.{Numbers};
 

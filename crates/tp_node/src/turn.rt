@@ -2,7 +2,7 @@ ghost use Rattle.std.specs.Prelude.{◌≡◌, ◌≤◌, ◌+◌, ◌*◌, [], 
 ghost use Rattle.tp_base.specs.declared.step.Step.TheVariants as steps;
 ghost use Rattle.tp_board.specs.Numbers.{node_at};
 ghost use Rattle.tp_board.specs.Judgements.{is_over};
-ghost use Rattle.tp_node.specs.Turns.{ComesTo, MakesFirst, is_for_room, turns, visits};
+ghost use Rattle.tp_node.specs.Turns.{ComesTo, MakesFirst, is_for_room, turn_steps, wave_steps};
 ghost use Rattle.tp_wave.specs.Machine.{pending_at};
 
 use tp_base::{NodeId, Refusal};
@@ -26,12 +26,12 @@ pub(crate) fn make_first<K: Ledgers>(
     pending: u32,
 ) -> Result<Turn<K>, Refusal>
     requires { pending ≡ pending_at shares.now.node board.old.history }
-    ensures { MakesFirst K.names.nodes shares.now.node (turns shares.now.node) board.old board.new result }
+    ensures { MakesFirst K.names.nodes shares.now.node (turn_steps shares.now.node) board.old board.new result }
 {
-    if shares.node() == NodeId(0) {
+    if shares.node().0 == 0 {
         lead(board, shares, pending)
     } else {
-        pass_on(board, shares)
+        take_part(board, shares)
     }
 }
 
@@ -42,10 +42,10 @@ fn lead<K: Ledgers>(
     pending: u32,
 ) -> Result<Turn<K>, Refusal>
     requires root { shares.now.node ≡ 0 }
-    requires pending { pending ≡ pending_at shares.now.node board.old.history }
-    ensures { MakesFirst K.names.nodes shares.now.node (steps.Judge ∷ steps.Start ∷ visits shares.now.node) board.old board.new result }
+    requires pending { pending ≡ pending_at 0 board.old.history }
+    ensures { MakesFirst K.names.nodes 0 (turn_steps 0) board.old board.new result }
 {
-    match judge(board, shares)? {
+    match judge(board)? {
         Turn::Idle => {}
         turn => return Ok(turn),
     }
@@ -53,12 +53,12 @@ fn lead<K: Ledgers>(
         Turn::Idle => {}
         turn => return Ok(turn),
     }
-    pass_on(board, shares)
+    take_part(board, shares)
 }
 
 // What each node does in a wave: it takes its token, takes the sums of its children, and gives.
-fn pass_on<K: Ledgers>(board: &mut Board<K>, shares: &Shares<K>) -> Result<Turn<K>, Refusal>
-    ensures { MakesFirst K.names.nodes shares.now.node (visits shares.now.node) board.old board.new result }
+fn take_part<K: Ledgers>(board: &mut Board<K>, shares: &Shares<K>) -> Result<Turn<K>, Refusal>
+    ensures { MakesFirst K.names.nodes shares.now.node (wave_steps shares.now.node) board.old board.new result }
 {
     match down(board, shares)? {
         Turn::Idle => {}
@@ -76,10 +76,9 @@ fn pass_on<K: Ledgers>(board: &mut Board<K>, shares: &Shares<K>) -> Result<Turn<
 }
 
 // The root judges the newest wave.
-fn judge<K: Ledgers>(board: &mut Board<K>, shares: &Shares<K>) -> Result<Turn<K>, Refusal>
-    ensures { MakesFirst K.names.nodes shares.now.node (steps.Judge ∷ []) board.old board.new result }
+fn judge<K: Ledgers>(board: &mut Board<K>) -> Result<Turn<K>, Refusal>
+    ensures { MakesFirst K.names.nodes 0 (steps.Judge ∷ []) board.old board.new result }
 {
-    let _root = shares.node();
     judged(board.judge())
 }
 
@@ -90,8 +89,8 @@ fn start<K: Ledgers>(
     pending: u32,
 ) -> Result<Turn<K>, Refusal>
     requires root { shares.now.node ≡ 0 }
-    requires pending { pending ≡ pending_at shares.now.node board.old.history }
-    ensures { MakesFirst K.names.nodes shares.now.node (steps.Start ∷ []) board.old board.new result }
+    requires pending { pending ≡ pending_at 0 board.old.history }
+    ensures { MakesFirst K.names.nodes 0 (steps.Start ∷ []) board.old board.new result }
 {
     if pending > 0 {
         return Ok(Turn::Idle);
@@ -107,11 +106,7 @@ fn down<K: Ledgers>(board: &mut Board<K>, shares: &Shares<K>) -> Result<Turn<K>,
 }
 
 // The node takes the sums of its first or second child, where there is one.
-fn up<K: Ledgers>(
-    board: &mut Board<K>,
-    shares: &Shares<K>,
-    which: u32,
-) -> Result<Turn<K>, Refusal>
+fn up<K: Ledgers>(board: &mut Board<K>, shares: &Shares<K>, which: u32) -> Result<Turn<K>, Refusal>
     requires { (1 ≤ which) × (which ≤ 2) }
     ensures { MakesFirst K.names.nodes shares.now.node (steps.Up (node_at (2 * shares.now.node + which)) ∷ []) board.old board.new result }
 {
@@ -137,7 +132,7 @@ fn judged<K: Ledgers>(tried: Result<Judgement<K>, Refusal>) -> Result<Turn<K>, R
     match tried {
         Ok(Judgement::Over(ended)) => Ok(Turn::Over(ended)),
         Ok(Judgement::Not) => Ok(Turn::Moved),
-        Err(refusal) => unless_for_room(refusal),
+        Err(refusal) => refused(refusal),
     }
 }
 
@@ -147,12 +142,12 @@ fn moved<T: Drop, K: Ledgers>(tried: Result<T, Refusal>) -> Result<Turn<K>, Refu
 {
     match tried {
         Ok(_) => Ok(Turn::Moved),
-        Err(refusal) => unless_for_room(refusal),
+        Err(refusal) => refused(refusal),
     }
 }
 
 // A step that the waves do not allow now is none. Only one that they allow is refused for want of room.
-fn unless_for_room<K: Ledgers>(refusal: Refusal) -> Result<Turn<K>, Refusal>
+fn refused<K: Ledgers>(refusal: Refusal) -> Result<Turn<K>, Refusal>
     ensures { result ≡ (if is_for_room refusal then Err refusal else Ok Turn.Idle) }
 {
     match refusal {
@@ -160,3 +155,6 @@ fn unless_for_room<K: Ledgers>(refusal: Refusal) -> Result<Turn<K>, Refusal>
         _ => Ok(Turn::Idle),
     }
 }
+
+#[cfg(test)]
+mod tests;

@@ -234,13 +234,7 @@ impl<G: Graph, K: Ledgers> Node<G, K> {
 }
 
 /// The lowest input-free task of a node, from a number on, that was not inserted.
-fn find_seed<G: Graph>(
-    graph: &G,
-    nodes: u32,
-    node: NodeId,
-    local: &Local,
-    from: u32,
-) -> Option<u32>
+fn find_seed<G: Graph>(graph: &G, nodes: u32, node: NodeId, local: &Local, from: u32) -> Option<u32>
     requires nodes { (1 ≤ nodes) × (nodes ≤ 8) }
     ensures next { MatchOption result ((t : ℕ) → from ≤ t → IsSeed (G.meaning graph.now) nodes node.0 local.now.store t → ⊥) (λ t. IsSeed (G.meaning graph.now) nodes node.0 local.now.store t × (from ≤ t) × ((u : ℕ) → from ≤ u → u < t → IsSeed (G.meaning graph.now) nodes node.0 local.now.store u → ⊥)) }
 {

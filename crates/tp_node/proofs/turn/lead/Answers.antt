@@ -1,7 +1,7 @@
 use Rattle.std.proofs.Common.{Err, ap, sym, ◌∙◌}
 use Rattle.std.proofs.lemmas.Result.{err_from_is_err_and}
 use Rattle.tp_board.specs.States.{BoardState}
-use Rattle.tp_node.proofs.Turns.{at_error, at_first, then_next, unchanged}
+use Rattle.tp_node.proofs.Turns.{at_error, at_first, at_root, then_next, unchanged}
 use Rattle.tp_node.proofs.turn.lead.Goals as goal
 use Rattle.tp_wave.specs.Machine.{pending_at}
 
@@ -14,7 +14,7 @@ pub returns-in_default : goal.returns-in_default
 returns-in_default g c = at_first c.in_ok-turn.ensures c.in_default.not-Idle
 
 pub start-requires-clause-pending : goal.start-requires-clause-pending
-start-requires-clause-pending g c = c.requires.pending ∙ ap (λ (b : BoardState). pending_at c.args.shares.now.node b.history) (sym (unchanged c.in_ok-turn.ensures c.in-Idle.is))
+start-requires-clause-pending g c = c.requires.pending ∙ ap (λ (b : BoardState). pending_at 0 b.history) (sym (unchanged c.in_ok-turn.ensures c.in-Idle.is))
 
 pub returns-in_err-turn-2 : goal.returns-in_err-turn-2
 returns-in_err-turn-2 g c =
@@ -25,4 +25,6 @@ pub returns-in_default-2 : goal.returns-in_default-2
 returns-in_default-2 g c = then_next c.in_ok-turn.ensures c.in-Idle.is (at_first c.in_ok-turn-2.ensures c.in_default-2.not-Idle)
 
 pub returns : goal.returns
-returns g c = then_next c.in_ok-turn.ensures c.in-Idle.is (then_next c.in_ok-turn-2.ensures c.in-Idle-2.is c.pass_on.ensures)
+returns g c =
+    let wave = at_root c.requires.root c.take_part.ensures in
+    then_next c.in_ok-turn.ensures c.in-Idle.is (then_next c.in_ok-turn-2.ensures c.in-Idle-2.is wave)

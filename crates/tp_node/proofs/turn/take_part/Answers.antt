@@ -1,7 +1,7 @@
 use Rattle.std.proofs.Common.{Err, ap, ◌∙◌}
 use Rattle.std.proofs.lemmas.Result.{err_from_is_err_and}
 use Rattle.tp_node.proofs.Turns.{at_error, at_first, then_next}
-use Rattle.tp_node.proofs.turn.pass_on.Goals as goal
+use Rattle.tp_node.proofs.turn.take_part.Goals as goal
 
 pub returns-in_err-turn : goal.returns-in_err-turn
 returns-in_err-turn g c =

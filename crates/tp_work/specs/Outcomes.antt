@@ -1,0 +1,74 @@
+-- What a pool answers once all its threads have ended.
+use Rattle.std.specs.Prelude.{ℕ, List, Bool, false, slice_index_or, ◌≡◌, ◌≤◌, ◌==◌, ◌⊎◌, nat_lt, if◌then◌else◌, IsTrue, MatchOption, vec_len}
+use Rattle.std.specs.List.{count_by}
+use Rattle.tp_base.specs.declared.limits.TheConstants.{MAX_IDLE_TURNS, MAX_NODES, MAX_WORKERS}
+use Rattle.tp_base.specs.declared.refusal.Refusal.{Refusal}
+use Rattle.tp_base.specs.declared.refusal.Refusal.TheVariants.{Missing, NoMemory, NoNode, Stranger}
+use Rattle.tp_board.specs.Numbers.{is_done, is_send}
+use Rattle.tp_graph.specs.Graphs.{TaskGraph}
+use Rattle.tp_graph.specs.Serial.{AreRight, Results}
+use Rattle.tp_wave.specs.Machine.{IsRun, steps_of}
+use Rattle.tp_wave.specs.Steps.{count}
+use Rattle.tp_wave.specs.Sums.{is_ended}
+use Rattle.tp_work.specs.Reports.{IsReport}
+use Rattle.tp_work.specs.declared.config.Config.{Config}
+use Rattle.tp_work.specs.declared.config.Fault.{Fault}
+use Rattle.tp_work.specs.declared.config.Outcome.{Outcome}
+use Rattle.tp_work.specs.declared.gathered.Report.{Report}
+
+-- how a pool may run
+pub record IsWithinLimits (c : Config) : Type 0 where
+  pub nodes : (1 ≤ c.nodes) × (c.nodes ≤ MAX_NODES)
+  pub workers : (1 ≤ c.workers) × (c.workers ≤ MAX_WORKERS)
+  pub idle_turns : (1 ≤ c.idle_turns) × (c.idle_turns ≤ MAX_IDLE_TURNS)
+
+-- how many results a task has
+abbrev pub times : ℕ → Results → ℕ
+times t results = count_by (λ r. r.0.0 == t) results
+
+-- Each task below a number has one result, and no other task has any.
+abbrev pub HasEachOnce : ℕ → Results → Type 0
+HasEachOnce tasks results = (t : ℕ) → times t results ≡ (if nat_lt t tasks then 1 else 0)
+
+-- the mark of a task
+abbrev pub is_marked : List Bool → ℕ → Bool
+is_marked marks t = slice_index_or marks t false
+
+-- A marked task has one result, and any other none.
+abbrev pub AreMarks : Results → List Bool → Type 0
+AreMarks results marks = (t : ℕ) → times t results ≡ (if is_marked marks t then 1 else 0)
+
+-- Each task of the graph has one result, which is the value that the graph defines, and no other task has any. The events
+-- are a run on n nodes whose end was judged, with as many tasks done as there are results, and with the messages that are
+-- answered.
+pub record IsOutcome (n : ℕ) (g : TaskGraph) (o : Outcome) : Type 0 where
+  pub each_once : HasEachOnce g.tasks o.results.items
+  pub right : AreRight g o.results.items
+  pub run : IsRun n o.history.events
+  pub ended : IsTrue (is_ended n (steps_of o.history.events))
+  pub tasks : (o.tasks ≡ vec_len o.results) × (o.tasks ≡ count is_done (steps_of o.history.events))
+  pub messages : o.messages ≡ count is_send (steps_of o.history.events)
+
+-- The end was judged, and each task has one result.
+abbrev pub IsComplete : ℕ → Report → Type 0
+IsComplete tasks r = IsTrue r.ended × HasEachOnce tasks r.results.items
+
+-- why a pool of so many tasks, in which no fault was set, has no outcome: it is not complete, or there was no memory to tell
+abbrev pub IsLack : ℕ → Report → Refusal → Type 0
+IsLack tasks r e = ((e ≡ Missing) × (IsComplete tasks r → ⊥)) ⊎ ((e ≡ NoMemory) × IsTrue r.ended)
+
+-- a part of the pool was not at its place
+abbrev pub IsMisplaced : Refusal → Type 0
+IsMisplaced e = (e ≡ NoNode) ⊎ (e ≡ Stranger)
+
+-- why nothing was gathered: there was no memory, or a part of the pool was not at its place
+abbrev pub IsUngathered : Refusal → Type 0
+IsUngathered e = (e ≡ NoMemory) ⊎ IsMisplaced e
+
+-- Where a report was gathered and a fault was set, that is the refusal.
+abbrev pub IsFault : ℕ → TaskGraph → Fault → Type 0
+IsFault n g f =
+    MatchOption
+    f.report
+    (IsUngathered f.refusal)
+    (λ r. IsReport n g r × MatchOption r.fault (IsLack g.tasks r f.refusal) (λ e. f.refusal ≡ e))

@@ -1,0 +1,141 @@
+ghost use Rattle.std.specs.Prelude.{◌≡◌, ◌≤◌, IfErr, IfOk, MatchOption, None};
+ghost use Rattle.tp_work.specs.Outcomes.{IsComplete, IsFault, IsLack, IsOutcome, IsUngathered, IsWithinLimits};
+ghost use Rattle.tp_work.specs.Reports.{IsReport};
+
+use crate::config::{Config, Fault, Outcome};
+use crate::gate::Gate;
+use crate::gathered::{Report, finish};
+use crate::locks::{Locks, Room, check_places};
+use crate::once::each_once;
+use crate::worker::{Worker, set_fault};
+use std::alloc::Global;
+use std::sync::Wait;
+use std::thread;
+use std::thread::Threads;
+use tp_base::{MAX_STEPS, NodeId, Refusal};
+use tp_board::{Blanks, Brand, Ledgers};
+use tp_graph::Graph;
+use tp_node::open_pool;
+
+/// Runs a pool that works a graph out, by so many threads at each node, and gathers what it has made when all have ended.
+///
+/// Refused: `Stalled` where a gate answered false or a worker's idle turns ran out; `BodyFailed` where a task has no value;
+/// `HistoryFull` where the pool needs more than 1,048,576 events; `StoreFull` where more than 65,536 tasks live at a node;
+/// `NoNode` and `Stranger` where a part is not at its place; `NoMemory` where memory has to grow and does not, or a thread
+/// cannot be started; `Missing` where the end was not judged, or a task has no result or more than one. The first fault that
+/// a worker set is the refusal, also after a judged end.
+pub fn run_pool<G: Graph, A: Gate, R: Threads + Wait + Sync>(
+    rt: &R,
+    alloc: Global,
+    graph: G,
+    config: Config,
+    gate: &A,
+) -> Result<Outcome, Fault>
+    requires limits { IsWithinLimits config }
+    ensures outcome { IfOk result (IsOutcome config.nodes (G.meaning graph)) }
+    ensures fault { IfErr result (IsFault config.nodes (G.meaning graph)) }
+{
+    let blanks = Blanks::new(config.nodes);
+    let report = match run::<G, Brand, A, R>(rt, alloc, blanks, graph, config, gate) {
+        Ok(report) => report,
+        Err(refusal) => {
+            return Err(Fault {
+                refusal,
+                report: None,
+            });
+        }
+    };
+    if let Some(refusal) = refusal_of(alloc, graph.tasks(), &report) {
+        return Err(Fault {
+            refusal,
+            report: Some(report),
+        });
+    }
+    Ok(Outcome {
+        results: report.results,
+        tasks: report.done,
+        messages: report.sent,
+        history: report.history,
+    })
+}
+
+/// Why a pool of so many tasks, of which this was gathered, has no outcome.
+fn refusal_of(alloc: Global, tasks: u32, report: &Report) -> Option<Refusal>
+    ensures { MatchOption report.now.fault (MatchOption result (IsComplete tasks report.now) (IsLack tasks report.now)) (λ fault. result ≡ Some fault) }
+{
+    if let Some(fault) = report.fault {
+        return Some(fault);
+    }
+    if !report.ended {
+        return Some(Refusal::Missing);
+    }
+    match each_once(alloc, tasks, &report.results) {
+        Ok(true) => None,
+        Ok(false) => Some(Refusal::Missing),
+        Err(_) => Some(Refusal::NoMemory),
+    }
+}
+
+/// Opens a pool, runs it, and gathers it when all its threads have ended.
+fn run<G: Graph, K: Ledgers + Send + Sync, A: Gate, R: Threads + Wait + Sync>(
+    rt: &R,
+    alloc: Global,
+    blanks: Blanks,
+    graph: G,
+    config: Config,
+    gate: &A,
+) -> Result<Report, Refusal>
+    requires names { blanks ≡ K.names }
+    requires nodes { blanks.nodes ≡ config.nodes }
+    requires limits { IsWithinLimits config }
+    ensures report { IfOk result (IsReport config.nodes (G.meaning graph)) }
+    ensures refusal { IfErr result IsUngathered }
+{
+    let pool = open_pool::<G, K>(alloc, blanks, graph, config.nodes, MAX_STEPS)?;
+    let room = Room::new(alloc, pool.nodes.len(), pool.links.len())?;
+    let locks = Locks::new(alloc, pool)?;
+    start_workers(rt, alloc, graph, config, &locks, gate);
+    let pool = locks.into_pool(room);
+    check_places(&pool, &graph)?;
+    match finish(alloc, pool) {
+        Ok(report) => Ok(report),
+        Err((refusal, _)) => Err(refusal),
+    }
+}
+
+/// Starts all workers, and waits for them. Where one cannot be started, that is the pool's fault.
+fn start_workers<G: Graph, K: Ledgers + Send + Sync, A: Gate, R: Threads + Wait + Sync>(
+    rt: &R,
+    alloc: Global,
+    graph: G,
+    config: Config,
+    locks: &Locks<G, K>,
+    gate: &A,
+)
+    requires limits { IsWithinLimits config }
+{
+    let all = config.nodes * config.workers;
+    thread::scope(
+        thread::scope_env(),
+        rt,
+        |scope|
+            requires { 1 ≤ config.nodes }
+        {
+            for number in 0..all {
+                let worker = Worker {
+                    rt,
+                    alloc,
+                    graph,
+                    place: NodeId(number % config.nodes),
+                    idle_turns: config.idle_turns,
+                    locks,
+                    gate,
+                };
+                if scope.spawn(move || worker.run()).is_err() {
+                    set_fault(rt, locks, Refusal::NoMemory);
+                    break;
+                }
+            }
+        },
+    );
+}

@@ -1,0 +1,3 @@
+mod gates;
+mod one_hand;
+mod pools;

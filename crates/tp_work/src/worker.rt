@@ -1,0 +1,364 @@
+ghost use Rattle.std.specs.Prelude.{◌≡◌, ◌<◌, ◌≤◌, MatchOption, OnOk};
+ghost use Rattle.tp_work.specs.Feeds.{HasFeed, IsFarther, IsSameNode};
+ghost use Rattle.tp_work.specs.Feeds as feeds;
+
+use crate::gate::Gate;
+use crate::locks::{Line, Locks, link_place};
+use std::alloc::Global;
+use std::sync::Wait;
+use std::sync::atomic::Ordering;
+use std::thread;
+use tp_base::{MAX_NODES, NodeId, Refusal};
+use tp_board::{Board, Ended, Ledgers};
+use tp_graph::{Finished, Graph, Work, is_same};
+use tp_monitor::TaskpoolState;
+use tp_node::{Node, Turn as ControlTurn};
+
+/// How many tasks are inserted in one hold of the board's lock.
+const SEEDS_IN_A_HOLD: u32 = 64;
+
+/// A worker of a node, with what it shares with the others.
+#[derive(Drop)]
+pub(crate) struct Worker<'a, G: Graph, K: Ledgers, A: Gate, R: Wait> {
+    pub rt: &'a R,
+    pub alloc: Global,
+    pub graph: G,
+    pub place: NodeId,
+    pub idle_turns: u32,
+    pub locks: &'a Locks<G, K>,
+    pub gate: &'a A,
+}
+
+/// What a turn did.
+enum Turn<G: Graph, K: Ledgers> {
+    /// There was nothing to do.
+    Idle,
+    /// Something was done.
+    Moved,
+    /// A task was begun.
+    Begun(Work<G>),
+    /// The end was judged.
+    Over(Ended<K>),
+    /// A fault was set, or the end was announced.
+    Stop,
+}
+
+/// What a worker saw when its node could make no control step: how many there were, and the node's pending number. As long
+/// as it sees the same it need not ask again.
+#[derive(Clone, Copy, PartialEq, Eq)]
+struct Seen {
+    control_steps: u64,
+    pending: u32,
+}
+
+impl<'a, G: Graph, K: Ledgers, A: Gate, R: Wait> Worker<'a, G, K, A, R> {
+    /// Works until the pool has ended. What stops it before is the pool's fault.
+    pub fn run(&self) {
+        if let Err(refusal) = self.take_turns() {
+            set_fault(self.rt, self.locks, refusal);
+        }
+    }
+
+    fn take_turns(&self) -> Result<(), Refusal> {
+        let mut idle = 0u32;
+        let mut finished = None;
+        let mut seen = None;
+        for _ in self.rt.forever() {
+            match self.turn(finished.take(), idle, &mut seen)? {
+                Turn::Idle => {
+                    idle = idle.saturating_add(1);
+                    if idle >= self.idle_turns {
+                        return Err(Refusal::Stalled(idle));
+                    }
+                    thread::yield_now();
+                }
+                Turn::Moved => idle = 0,
+                Turn::Begun(work) => {
+                    finished = Some(self.perform(work, idle)?);
+                    idle = 0;
+                }
+                Turn::Over(ended) => return self.announce(ended),
+                Turn::Stop => return Ok(()),
+            }
+        }
+        unreachable!()
+    }
+
+    /// Passes on what a task that was begun before has made, and takes a turn, all in one hold of the node's lock.
+    fn turn(
+        &self,
+        finished: Option<Finished<G>>,
+        idle: u32,
+        seen: &mut Option<Seen>,
+    ) -> Result<Turn<G, K>, Refusal> {
+        let Some(lock) = self.locks.nodes.get(self.place.0 as usize) else {
+            return Err(Refusal::NoNode);
+        };
+        let mut guard = lock.lock(self.rt);
+        let here = &mut *guard;
+        self.check_node(here, self.place)?;
+        if let Some(finished) = finished {
+            self.pass_on(here, finished)?;
+        }
+        if self.locks.is_stopped.load(Ordering::SeqCst) {
+            return Ok(Turn::Stop);
+        }
+        if !self.gate.inside(self.place) {
+            return Err(Refusal::Stalled(idle));
+        }
+        match here.state() {
+            TaskpoolState::Terminated => Ok(Turn::Stop),
+            TaskpoolState::NotReady => self.open(here),
+            _ => self.go_on(here, seen),
+        }
+    }
+
+    /// Whether a node is the one of a place, of the worker's graph.
+    fn check_node(&self, node: &Node<G, K>, place: NodeId) -> Result<(), Refusal>
+        ensures place { OnOk result (node.now.numbers.node ≡ place.0) }
+        ensures graph { OnOk result (node.now.graph ≡ self.now.graph) }
+    {
+        if node.number() != place {
+            return Err(Refusal::NoNode);
+        }
+        if !is_same(&node.graph(), &self.graph) {
+            return Err(Refusal::Stranger);
+        }
+        Ok(())
+    }
+
+    /// Inserts input-free tasks, and closes the opening action after the last.
+    fn open(&self, here: &mut Node<G, K>) -> Result<Turn<G, K>, Refusal> {
+        let mut board = self.locks.board.lock(self.rt);
+        for _ in 0..SEEDS_IN_A_HOLD {
+            if !here.seed(&mut board)? {
+                here.ready(&mut board)?;
+                break;
+            }
+        }
+        Ok(Turn::Moved)
+    }
+
+    /// A turn of a node whose opening action is closed.
+    fn go_on(&self, here: &mut Node<G, K>, seen: &mut Option<Seen>) -> Result<Turn<G, K>, Refusal> {
+        if self.receive(here)? {
+            return Ok(Turn::Moved);
+        }
+        if here.counts().ready > 0 {
+            let mut board = self.locks.board.lock(self.rt);
+            if let Some(work) = here.begin(&mut board)? {
+                return Ok(Turn::Begun(work));
+            }
+        }
+        self.control(here, seen)
+    }
+
+    /// Receives a message and delivers its value, where there is one.
+    fn receive(&self, here: &mut Node<G, K>) -> Result<bool, Refusal> {
+        let (number, nodes) = (here.number(), here.nodes());
+        for from in 0..nodes {
+            if from == number.0 {
+                continue;
+            }
+            let Some(line) = self.locks.lines.get(link_place(from, number.0, nodes)) else {
+                return Err(Refusal::NoNode);
+            };
+            if line.length.load(Ordering::SeqCst) > 0 {
+                return self.receive_from(here, line, NodeId(from));
+            }
+        }
+        Ok(false)
+    }
+
+    fn receive_from(
+        &self,
+        here: &mut Node<G, K>,
+        line: &Line<G, K>,
+        from: NodeId,
+    ) -> Result<bool, Refusal> {
+        let mut guard = line.wire.lock(self.rt);
+        let wire = &mut *guard;
+        if wire.from() != from || wire.to() != here.number() {
+            return Err(Refusal::NoNode);
+        }
+        let mut board = self.locks.board.lock(self.rt);
+        let Some(parcel) = here.receive(wire, &mut board)? else {
+            return Ok(false);
+        };
+        line.length.store(wire.len() as u64, Ordering::SeqCst);
+        drop(guard);
+        match here.deliver(&mut board, parcel) {
+            Ok(()) => Ok(true),
+            Err((refusal, _)) => Err(refusal),
+        }
+    }
+
+    /// Makes a control step, where the node can make one.
+    fn control(
+        &self,
+        here: &mut Node<G, K>,
+        seen: &mut Option<Seen>,
+    ) -> Result<Turn<G, K>, Refusal> {
+        let now = Some(Seen {
+            control_steps: self.locks.control_steps.load(Ordering::SeqCst),
+            pending: here.pending(),
+        });
+        if *seen == now {
+            return Ok(Turn::Idle);
+        }
+        let mut board = self.locks.board.lock(self.rt);
+        match here.control_turn(&mut board)? {
+            ControlTurn::Idle => {
+                *seen = now;
+                Ok(Turn::Idle)
+            }
+            ControlTurn::Moved => {
+                self.locks.control_steps.fetch_add(1, Ordering::SeqCst);
+                Ok(Turn::Moved)
+            }
+            ControlTurn::Over(ended) => Ok(Turn::Over(ended)),
+        }
+    }
+
+    /// Runs the body of a task, under no lock.
+    fn perform(&self, work: Work<G>, idle: u32) -> Result<Finished<G>, Refusal> {
+        if !self.gate.before(work.task()) {
+            return Err(Refusal::Stalled(idle));
+        }
+        match work.perform(self.alloc) {
+            Ok(finished) => Ok(finished),
+            Err((refusal, _)) => Err(refusal),
+        }
+    }
+
+    /// Passes the feeds of a finished task on, and records it as done. One hold of the board's lock serves all feeds in a
+    /// row that stay at the node.
+    fn pass_on(&self, here: &mut Node<G, K>, finished: Finished<G>) -> Result<(), Refusal>
+        requires { here.old.graph ≡ self.now.graph }
+    {
+        if !is_same(&finished.graph(), &self.graph) {
+            return Err(Refusal::Stranger);
+        }
+        let mut finished = finished;
+        while let Some(home) = next_home(&finished, here.nodes()) {
+            if home != here.number() {
+                self.send(here, home, &mut finished)?;
+                continue;
+            }
+            let mut board = self.locks.board.lock(self.rt);
+            feed_here(here, &mut board, &mut finished)?;
+            if finished.all_fed() {
+                return record_done(here, &mut board, finished);
+            }
+        }
+        let mut board = self.locks.board.lock(self.rt);
+        record_done(here, &mut board, finished)
+    }
+
+    /// Passes the next feed on to another node.
+    fn send(
+        &self,
+        here: &mut Node<G, K>,
+        to: NodeId,
+        finished: &mut Finished<G>,
+    ) -> Result<(), Refusal>
+        requires graph { finished.old.graph ≡ here.old.graph }
+        requires next { HasFeed (G.meaning here.old.graph) finished.old }
+        requires there { feeds.next_home (G.meaning here.old.graph) finished.old here.old.nodes ≡ to.0 }
+        requires node { to.0 < here.old.nodes }
+        ensures node { OnOk result (IsSameNode here.old here.new) }
+        ensures passed { OnOk result (IsFarther finished.old finished.new) }
+    {
+        let (number, nodes) = (here.number(), here.nodes());
+        let Some(line) = self.locks.lines.get(link_place(number.0, to.0, nodes)) else {
+            return Err(Refusal::NoNode);
+        };
+        let mut guard = line.wire.lock(self.rt);
+        let wire = &mut *guard;
+        if wire.from() != number || wire.to() != to {
+            return Err(Refusal::NoNode);
+        }
+        let mut board = self.locks.board.lock(self.rt);
+        here.send(wire, &mut board, finished)?;
+        drop(board);
+        line.length.store(wire.len() as u64, Ordering::SeqCst);
+        Ok(())
+    }
+
+    /// Announces the end to each node.
+    fn announce(&self, ended: Ended<K>) -> Result<(), Refusal> {
+        let mut ended = ended;
+        for place in 0..MAX_NODES {
+            let Some(lock) = self.locks.nodes.get(place as usize) else {
+                break;
+            };
+            let mut guard = lock.lock(self.rt);
+            let node = &mut *guard;
+            self.check_node(node, NodeId(place))?;
+            let mut board = self.locks.board.lock(self.rt);
+            node.quiet_under(&mut ended, &mut board);
+        }
+        Ok(())
+    }
+}
+
+/// Sets the pool's fault, where it is the first, and stops the workers.
+pub(crate) fn set_fault<G: Graph, K: Ledgers, R: Wait>(
+    rt: &R,
+    locks: &Locks<G, K>,
+    refusal: Refusal,
+) {
+    locks.board.lock(rt).set_fault(refusal);
+    locks.is_stopped.store(true, Ordering::SeqCst);
+}
+
+/// The node, of so many, that the next feed goes to, where one is left.
+fn next_home<G: Graph>(finished: &Finished<G>, nodes: u32) -> Option<NodeId>
+    requires { (1 ≤ nodes) × (nodes ≤ 8) }
+    ensures next { MatchOption result (finished.now.fed ≡ (G.meaning finished.now.graph).feeds finished.now.task.0) (λ home. HasFeed (G.meaning finished.now.graph) finished.now × (home.0 ≡ feeds.next_home (G.meaning finished.now.graph) finished.now nodes) × (home.0 < nodes)) }
+{
+    let _passed = finished.fed();
+    if finished.all_fed() {
+        return None;
+    }
+    let feed = finished.next_feed();
+    Some(finished.graph().home(feed.target, nodes))
+}
+
+/// Passes the next feed on to the node itself, and those after it, as long as they stay there.
+fn feed_here<G: Graph, K: Ledgers>(
+    here: &mut Node<G, K>,
+    board: &mut Board<K>,
+    finished: &mut Finished<G>,
+) -> Result<(), Refusal>
+    requires graph { finished.old.graph ≡ here.old.graph }
+    requires next { HasFeed (G.meaning here.old.graph) finished.old }
+    requires here { feeds.next_home (G.meaning here.old.graph) finished.old here.old.nodes ≡ here.old.numbers.node }
+    ensures node { OnOk result (IsSameNode here.old here.new) }
+    ensures passed { OnOk result (IsFarther finished.old finished.new) }
+{
+    let (number, nodes) = (here.number(), here.nodes());
+    here.feed(board, finished)?;
+    while let Some(home) = next_home(finished, nodes) {
+        if home != number {
+            break;
+        }
+        here.feed(board, finished)?;
+    }
+    Ok(())
+}
+
+/// Records a task as done, all of whose feeds were passed on.
+fn record_done<G: Graph, K: Ledgers>(
+    here: &mut Node<G, K>,
+    board: &mut Board<K>,
+    finished: Finished<G>,
+) -> Result<(), Refusal>
+    requires graph { finished.graph ≡ here.old.graph }
+    requires all_fed { finished.fed ≡ (G.meaning here.old.graph).feeds finished.task.0 }
+{
+    match here.done(board, finished) {
+        Ok(()) => Ok(()),
+        Err((refusal, _)) => Err(refusal),
+    }
+}
