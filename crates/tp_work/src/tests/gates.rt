@@ -139,12 +139,12 @@ fn a_body_that_may_not_run_ends_the_pool(rt: HostRuntime) -> Result<(), Fail> {
     Ok(())
 }
 
-/// Counts the turns of a node, of which it allows so many. A body waits until so many were taken.
+/// Counts the turns of a node, from 0, and refuses one of them. A body waits until so many were taken.
 #[derive(Drop)]
 struct Turns {
     taken: AtomicU64,
     awaited: u64,
-    allowed: u64,
+    refused: u64,
 }
 
 impl Gate for Turns {
@@ -160,7 +160,7 @@ impl Gate for Turns {
     }
 
     fn inside(&self, _node: NodeId) -> bool {
-        self.taken.fetch_add(1, Ordering::SeqCst) < self.allowed
+        self.taken.fetch_add(1, Ordering::SeqCst) != self.refused
     }
 }
 
@@ -175,7 +175,7 @@ fn idle_turns_in_a_row_are_counted(rt: HostRuntime) -> Result<(), Fail> {
     let gate = Turns {
         taken: AtomicU64::new(0),
         awaited: 7,
-        allowed: u64::MAX,
+        refused: u64::MAX,
     };
     let Err(fault) = run_pool(&rt, rt.alloc(), LEAF, config, &gate) else {
         return Err(Fail::new("the pool ended"));
@@ -194,7 +194,7 @@ fn a_gate_tells_how_many_turns_were_idle(rt: HostRuntime) -> Result<(), Fail> {
     let gate = Turns {
         taken: AtomicU64::new(0),
         awaited: 8,
-        allowed: 7,
+        refused: 7,
     };
     let Err(fault) = run_pool(&rt, rt.alloc(), LEAF, config, &gate) else {
         return Err(Fail::new("the pool ended"));
