@@ -12,6 +12,7 @@ fn main(rt: HostRuntime) -> io::Result<ExitCode> {
         words.push(argument.as_str())?;
     }
     let status = main_with(
+        &rt,
         rt.alloc(),
         &words,
         &mut rt.stdin(),

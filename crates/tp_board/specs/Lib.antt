@@ -6,3 +6,4 @@ pub mod States
 pub mod Logs
 pub mod Boards
 pub mod Judgements
+pub mod Calls

@@ -1,2 +1,5 @@
-pub mod Status
 pub mod Answered
+pub mod Asked
+pub mod Command
+pub mod Runs
+pub mod Status

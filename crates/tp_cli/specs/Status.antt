@@ -4,6 +4,8 @@ use Rattle.tp_text.specs.declared.Verdict.{Verdict}
 use Rattle.tp_text.specs.declared.Verdict.TheVariants as verdict
 use Rattle.tp_text.specs.declared.TextFault.{TextFault}
 use Rattle.tp_text.specs.declared.TextFault.TheVariants as fault
+use Rattle.tp_cli.specs.declared.run.RunFault.{RunFault}
+use Rattle.tp_cli.specs.declared.run.RunFault.TheVariants as run
 use Rattle.tp_cli.specs.declared.status.Status.{Status}
 use Rattle.tp_cli.specs.declared.status.Status.TheVariants.{Done, Fault, Refused, Failed}
 
@@ -21,3 +23,8 @@ fault_line fault.Read = codes "fault read\n"
 fault_line fault.TooLong = codes "fault too long\n"
 fault_line fault.Write = codes "fault write\n"
 fault_line fault.Memory = codes "refused 17 NoMemory\n"
+
+abbrev pub status_of_run_fault : RunFault → Status
+status_of_run_fault (run.Spec refusal) = Fault
+status_of_run_fault (run.Run refusal) = Failed
+status_of_run_fault run.Write = Fault

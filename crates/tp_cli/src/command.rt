@@ -1,20 +1,68 @@
-use clap::Command;
+ghost use Rattle.std.specs.Prelude.{◌≡◌, IfOk, false};
+ghost use Rattle.clap.specs.Words.{app_of, rule_of};
+ghost use Rattle.clap.specs.declared.builder.command.Command.TheViews.{out-Command};
+ghost use Rattle.tp_cli.specs.Command.{count_rule, run_app, sim_app, tp_app};
+
+use clap::{Arg, Command, value_parser};
 use std::alloc::{AllocError, Global};
 
 /// The command line: one level of subcommands.
-pub(crate) fn tp_command<'a>(alloc: Global) -> Result<Command<'a>, AllocError> {
-    let sim = Command::new(alloc, "sim")
-        .about("Takes the steps of a script in turn and answers each")
-        .after_help(SIM_HELP);
+pub(crate) fn tp_command<'a>(alloc: Global) -> Result<Command<'a>, AllocError>
+    ensures { IfOk result (λ command. app_of command ≡ tp_app) }
+{
     Command::new(alloc, "tp")
         .about("Task pools on several nodes, and the detector of their end")
         .after_help(TP_HELP)
         .subcommand_required(true)
-        .subcommand(sim)
+        .subcommand(sim_command(alloc))?
+        .subcommand(run_command(alloc)?)
+}
+
+fn sim_command<'a>(alloc: Global) -> Command<'a>
+    ensures app { app_of result ≡ sim_app }
+    ensures local { (out-Command result).has_globals ≡ false }
+{
+    Command::new(alloc, "sim")
+        .about("Takes the steps of a script in turn and answers each")
+        .after_help(SIM_HELP)
+}
+
+fn run_command<'a>(alloc: Global) -> Result<Command<'a>, AllocError>
+    ensures app { IfOk result (λ command. app_of command ≡ run_app) }
+    ensures local { IfOk result (λ command. (out-Command command).has_globals ≡ false) }
+{
+    let spec = Arg::new(alloc, "SPEC").required(true).help(
+        "The pool, as product:4:2:0, wavefront:8:8:0 or reduce:16:0",
+    );
+    let nodes = count_option(alloc, "nodes", "N").help("How many nodes there are, 1 to 8");
+    let workers = count_option(alloc, "workers", "W").help(
+        "How many threads work at each node, 1 to 8",
+    );
+    Command::new(alloc, "run")
+        .about("Runs a pool of tasks on worker threads and prints its result")
+        .after_help(RUN_HELP)
+        .arg(spec)?
+        .arg(nodes)?
+        .arg(workers)
+}
+
+/// An option that takes a number from 1 to 8.
+fn count_option<'a>(alloc: Global, name: &'a str, value: &'a str) -> Arg<'a>
+    ensures rule { rule_of result ≡ count_rule name.entry.now }
+    ensures local { result.global ≡ false }
+{
+    Arg::new(alloc, name)
+        .long(name)
+        .value_name(value)
+        .value_parser(value_parser!(u32).range(1..=8))
+        .default_value("1")
 }
 
 static TP_HELP: &str = "Try the life of a task:
   printf 'nodes 1\\ninsert 0 1 0\\nbegin 1\\ndone 1\\nready 0\\n' | tp sim
+
+Try a pool of tasks, the sum of a tree's leaves:
+  tp run reduce:4:0 --nodes 2
 
 Every subcommand tells more with --help.";
 
@@ -49,3 +97,20 @@ An example:
   ready 0
 
 The exit status is 0, or 2 where a line is not of the grammar.";
+
+static RUN_HELP: &str =
+    "SPEC names one of three pools by its kind and its numbers, which have no leading zeros:
+  product:ORDER:SIDE:SEED      two matrices of ORDER, 1 to 64, are multiplied in square tiles; SIDE divides ORDER
+  wavefront:ROWS:COLUMNS:SEED  each cell of a table, 1 to 64 by 1 to 64, adds its cost to the least of those above and left
+  reduce:LEAVES:SEED           the leaves of a tree, a power of two from 1 to 1024, are added up
+SEED, 0 to 9999, gives the numbers that a pool begins with.
+
+The pool's tasks run at N nodes, by W threads at each, and their values go from node to node as messages. When its end
+was detected the result is printed as a table, and then the number of tasks, the number of messages, and `ended`. The
+table and the tasks are the same for every N and W.
+
+An example:
+  tp run product:4:2:0 --nodes 2 --workers 2
+
+The exit status is 0; 1 for a fault of these words, as `refused 26 BadSpec` where SPEC names no pool; and 3 where the run
+was refused.";

@@ -3,6 +3,8 @@
 
 mod cli;
 mod command;
+mod request;
+mod run;
 mod status;
 #[cfg(test)]
 mod tests;

@@ -1,6 +1,7 @@
 ghost use Rattle.std.specs.Prelude.{◌≡◌};
-ghost use Rattle.tp_cli.specs.Status.{status_of_verdict, status_of_fault};
+ghost use Rattle.tp_cli.specs.Status.{status_of_fault, status_of_run_fault, status_of_verdict};
 
+use crate::run::RunFault;
 use tp_text::{TextFault, Verdict};
 
 /// The exit status of the program.
@@ -34,6 +35,16 @@ impl Status {
         match fault {
             TextFault::Read | TextFault::TooLong | TextFault::Write => Status::Fault,
             TextFault::Memory => Status::Failed,
+        }
+    }
+
+    /// The status of a run that did not come to its end.
+    pub(crate) fn of_run_fault(fault: RunFault) -> Status
+        ensures { result ≡ status_of_run_fault fault }
+    {
+        match fault {
+            RunFault::Spec(_) | RunFault::Write => Status::Fault,
+            RunFault::Run(_) => Status::Failed,
         }
     }
 }

@@ -3,7 +3,7 @@ use Rattle.std.proofs.Common.{◌≡◌, ℕ, List, [], ◌∷◌, Option, Some,
 use Rattle.std.specs.Prelude.{Result, Err, slice_get}
 use Rattle.tp_base.specs.declared.refusal.Refusal.{Refusal}
 use Rattle.tp_base.specs.declared.refusal.Refusal.TheVariants.{NoMemory}
-use Rattle.tp_node.specs.Boards.{Answers, AnswersWith}
+use Rattle.tp_board.specs.Calls.{Answers, AnswersWith}
 use Rattle.std.specs.Prelude.{IsTrue, true, ◌||◌}
 use Rattle.tp_base.specs.History.{Event}
 use Rattle.tp_graph.specs.Carried.{Carried}
@@ -12,8 +12,9 @@ use Rattle.tp_wave.specs.Steps.{any}
 use Rattle.std.specs.FinSet as set
 use Rattle.std.proofs.lemmas.Cmp.{nat_cmp_total, eq_by_cmp_equiv}
 use Rattle.tp_base.specs.declared.ids.MessageId.{MessageId}
-use Rattle.tp_node.specs.Locals.{LocalState}
-use Rattle.tp_node.specs.Nodes.{Numbers, with_received}
+use Rattle.tp_local.specs.Locals.{LocalState}
+use Rattle.tp_node.specs.Nodes.{with_received}
+use Rattle.tp_local.specs.Locals.{Numbers}
 use Rattle.tp_node.specs.Refused.{has_message}
 use Rattle.tp_base.specs.Checks.{Check, first_refusal}
 

@@ -12,8 +12,9 @@ use Rattle.tp_base.specs.declared.step.Step.TheVariants as steps
 use Rattle.tp_board.specs.Numbers.{NodeNumbers, numbers_after}
 use Rattle.tp_graph.specs.Graphs.{TaskGraph}
 use Rattle.tp_graph.specs.Values.{value_of, IsInput}
-use Rattle.tp_node.specs.Locals.{LocalState, first_state, pending}
-use Rattle.tp_node.specs.Nodes.{Numbers, NodeState, IsNode, IsSeed, IsCountedBy, AreRightValues, inserting, task_at, with_store}
+use Rattle.tp_local.specs.Locals.{LocalState, first_state, pending}
+use Rattle.tp_node.specs.Nodes.{NodeState, IsNode, IsSeed, IsCountedBy, AreRightValues, inserting, task_at, with_store}
+use Rattle.tp_local.specs.Locals.{Numbers}
 use Rattle.tp_node.proofs.Right.{here, there, right-inserted, right-delivered, right-begun, right-done}
 use Rattle.tp_store.specs.Content.{Task, Content, nothing_stored, task_of, begun, done, fresh, with_value, with_task, with_inserted, with_delivered, with_begun, with_done, inserted_by}
 use Rattle.tp_store.specs.declared.life.Delivered.TheVariants.{Inserted, Filled}

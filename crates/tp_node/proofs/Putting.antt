@@ -6,7 +6,7 @@ use Rattle.std.specs.FinMap as finite
 use Rattle.tp_base.specs.declared.ids.TaskId.{TaskId}
 use Rattle.tp_base.specs.declared.refusal.Refusal.{Refusal}
 use Rattle.tp_base.specs.declared.refusal.Refusal.TheVariants.{TaskKnown, SlotTaken, StoreFull, WrongLife, NoTask}
-use Rattle.tp_node.specs.Nodes.{EachOnce}
+use Rattle.tp_local.specs.Locals.{EachOnce}
 use Rattle.tp_node.specs.Refused.{takes_nothing, is_taken, lacks_place, runs}
 use Rattle.tp_store.specs.Content.{Task, Content, task_of, life_of, done, unfinished, is_unfinished, is_running, is_done, has_begun, refusal_of_new, refusal_of_value, refusal_of_deliver, refusal_of_done}
 use Rattle.tp_store.specs.Sound.{IsSound, times_done}

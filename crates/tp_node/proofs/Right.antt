@@ -11,7 +11,8 @@ use Rattle.std.proofs.lemmas.List.Elements.{All-push}
 use Rattle.tp_base.specs.declared.ids.TaskId.{TaskId}
 use Rattle.tp_graph.specs.Graphs.{TaskGraph}
 use Rattle.tp_graph.specs.Values.{value_of, IsInput, AreInputs}
-use Rattle.tp_node.specs.Nodes.{Numbers, IsRightTask, AreRightValues}
+use Rattle.tp_node.specs.Nodes.{IsRightTask, AreRightValues}
+use Rattle.tp_local.specs.Locals.{Numbers}
 use Rattle.tp_slots.proofs.Sound.{get_inserted}
 use Rattle.tp_store.specs.Content.{Task, Content, has_begun, task_of, life_of, values_of, fresh, with_value, begun, done, with_task, with_inserted, with_delivered, with_begun, with_done}
 use Rattle.tp_store.specs.Sound.{IsTask, IsSound, lacking}

@@ -11,15 +11,11 @@ use Rattle.tp_graph.specs.Carried.{feed_at}
 use Rattle.tp_graph.specs.Graphs.{TaskGraph}
 use Rattle.tp_graph.specs.Values.{value_of}
 use Rattle.tp_graph.specs.declared.feed.Feed.{Feed}
-use Rattle.tp_node.specs.Actions.{Actions, without_opening, with_named, without_named, with_message, without_message}
-use Rattle.tp_node.specs.Locals.{LocalState, first_state, pending, state_code}
+use Rattle.tp_local.specs.Actions.{Actions, without_opening, with_named, without_named, with_message, without_message}
+use Rattle.tp_local.specs.Locals.{LocalState, Numbers, first_state, pending, state_code}
 use Rattle.tp_wave.specs.Machine.{pending_at}
 use Rattle.tp_store.specs.Sound.{times_done}
 use Rattle.tp_store.specs.Content.{Task, Content, task_of, with_inserted, with_delivered, with_begun, with_done}
-
--- values are lists of numbers
-abbrev pub Numbers : Type 0
-Numbers = List ℤ
 
 -- A node has the graph that its pool works out, on so many nodes; its own state; and its shares' numbers, with its own
 -- number.
@@ -213,7 +209,3 @@ counted_of n =
 pub record AgreesWith (h : List Event) {G : Type 0} (n : NodeState G) : Type 0 where
   pub counted : IsCountedBy n.numbers n.state
   pub pending : n.numbers.pending ≡ pending_at n.numbers.node h
-
--- Each task that was ever inserted is done, and has its one result.
-abbrev pub EachOnce : Content Numbers → Type 0
-EachOnce c = (t : TaskId) → IsTrue (is_some (task_of c t)) → times_done c t ≡ 1

@@ -11,8 +11,9 @@ use Rattle.tp_board.specs.Routes.{is_send_between}
 use Rattle.tp_graph.specs.Carried.{Carried}
 use Rattle.tp_graph.specs.Graphs.{TaskGraph}
 use Rattle.tp_graph.specs.declared.feed.Feed.{Feed}
-use Rattle.tp_node.specs.Locals.{LocalState, pending}
-use Rattle.tp_node.specs.Nodes.{NodeState, Numbers}
+use Rattle.tp_local.specs.Locals.{LocalState, pending}
+use Rattle.tp_node.specs.Nodes.{NodeState}
+use Rattle.tp_local.specs.Locals.{Numbers}
 use Rattle.tp_node.specs.Wires.{WireState}
 use Rattle.tp_store.specs.Content.{Content, task_of, is_running, has_begun, unfinished}
 use Rattle.tp_store.specs.Sound.{passes}

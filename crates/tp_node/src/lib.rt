@@ -4,17 +4,11 @@
 //! its events to the board's history.
 #![tactic(auto)]
 
-mod actions;
-mod held;
-mod local;
 mod node;
-mod numbers;
 mod pool;
-mod tally;
-mod turn;
 mod wire;
 
 pub use node::Node;
 pub use pool::{Pool, open_pool};
-pub use turn::Turn;
+pub use tp_turns::Turn;
 pub use wire::Wire;

@@ -1,7 +1,7 @@
 ghost use Rattle.std.specs.Prelude.{◌≡◌, ◌≤◌, ◌<◌, length, IsTrue};
 ghost use Rattle.tp_board.specs.Numbers.{first_numbers};
 ghost use Rattle.tp_graph.specs.Serial.{AreRight};
-ghost use Rattle.tp_node.specs.Locals.{pending, standing};
+ghost use Rattle.tp_local.specs.Locals.{pending, standing};
 ghost use Rattle.tp_node.specs.Nodes.{AgreesWith, counted_of, first_node};
 ghost use Rattle.tp_store.specs.Content.{counts_of};
 ghost use Rattle.tp_wave.specs.Machine.{IsRun};
@@ -11,12 +11,12 @@ mod control;
 mod messages;
 mod tasks;
 
-use crate::local::Local;
 use std::alloc::Global;
 use std::marker::Model;
 use tp_base::{NodeId, PoolId, TaskId};
 use tp_board::{Board, Ledgers, Shares};
 use tp_graph::{Graph, Value};
+use tp_local::Local;
 use tp_monitor::TaskpoolState;
 use tp_store::Counts;
 

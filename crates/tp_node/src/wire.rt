@@ -3,7 +3,7 @@ ghost use Rattle.tp_board.specs.Numbers.{event, is_send, numbers_after, receivin
 ghost use Rattle.tp_board.specs.States.{full_check};
 ghost use Rattle.tp_graph.specs.Carried.{Carried, IsFeed};
 ghost use Rattle.tp_graph.specs.Values.{value_of};
-ghost use Rattle.tp_node.specs.Boards.{Answers, Appends};
+ghost use Rattle.tp_board.specs.Calls.{Answers, Appends};
 ghost use Rattle.tp_node.specs.Wires.{empty_wire, link_of, message_on, with_message};
 ghost use Rattle.tp_wave.specs.Machine.{is_send_to, steps_of};
 ghost use Rattle.tp_wave.specs.Steps.{any, count};

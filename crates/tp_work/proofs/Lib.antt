@@ -1,4 +1,3 @@
-pub mod Gathering
 pub mod Marking
 pub mod Placing
 pub mod Reporting

@@ -1,4 +1,3 @@
 pub mod Feeds
 pub mod Places
-pub mod Reports
 pub mod Outcomes

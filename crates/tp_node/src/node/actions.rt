@@ -1,8 +1,9 @@
 ghost use Rattle.std.specs.Prelude.{◌≡◌, [], ◌∷◌, OnErr, OnOk};
 ghost use Rattle.tp_monitor.specs.declared.state.TaskpoolState.TheVariants.{Terminated};
-ghost use Rattle.tp_node.specs.Boards.{Answers, Appends};
-ghost use Rattle.tp_node.specs.Locals.{pending, standing};
-ghost use Rattle.tp_node.specs.Nodes.{EachOnce, HasNoSeed, closed_with, closing, closing_of, event_of, made_ready, opened_with, opening_of, over};
+ghost use Rattle.tp_board.specs.Calls.{Answers, Appends};
+ghost use Rattle.tp_local.specs.Locals.{pending, standing};
+ghost use Rattle.tp_node.specs.Nodes.{HasNoSeed, closed_with, closing, closing_of, event_of, made_ready, opened_with, opening_of, over};
+ghost use Rattle.tp_local.specs.Locals.{EachOnce};
 ghost use Rattle.tp_node.specs.Refused.{close_checks, open_checks, ready_checks};
 ghost use Rattle.tp_store.specs.Content.{unfinished};
 

@@ -1,13 +1,14 @@
 ghost use Rattle.std.specs.Prelude.{◌≡◌, [], ◌∷◌, IfNone, IfOk, IfSome, OnErr, OnOk};
 ghost use Rattle.tp_board.specs.States.{full_check};
-ghost use Rattle.tp_node.specs.Boards.{Answers, Appends};
-ghost use Rattle.tp_node.specs.Turns.{IsMade, control_event, ends, turn_of};
+ghost use Rattle.tp_board.specs.Calls.{Answers, Appends};
+ghost use Rattle.tp_node.specs.Turns.{turn_of};
+ghost use Rattle.tp_turns.specs.Turns.{IsMade, control_event, ends};
 
 use crate::node::Node;
-use crate::turn::{self, Turn};
 use tp_base::Refusal;
 use tp_board::{Board, Ledgers};
 use tp_graph::Graph;
+use tp_turns::{Turn, make_first};
 
 impl<G: Graph, K: Ledgers> Node<G, K> {
     /// Makes the first step of the control waves that is lawful for this node, in the order judge, start, down, up of the
@@ -28,6 +29,6 @@ impl<G: Graph, K: Ledgers> Node<G, K> {
     {
         let pending = self.pending();
         board.audit(&mut self.shares);
-        turn::make_first(board, &self.shares, pending)
+        make_first(board, &self.shares, pending)
     }
 }

@@ -2,9 +2,9 @@ ghost use Rattle.std.specs.Prelude.{◌≡◌, ◌≤◌, ◌<◌, ◌+◌, [], 
 ghost use Rattle.std.specs.FinSet as set;
 ghost use Rattle.tp_board.specs.Numbers.{is_send, receiving, sending};
 ghost use Rattle.tp_graph.specs.Carried.{IsFeed, feed_at};
-ghost use Rattle.tp_node.specs.Actions.{without_message};
+ghost use Rattle.tp_local.specs.Actions.{without_message};
 ghost use Rattle.tp_store.specs.Content.{refusal_of_deliver};
-ghost use Rattle.tp_node.specs.Boards.{Answers, AnswersWith, Appends};
+ghost use Rattle.tp_board.specs.Calls.{Answers, AnswersWith, Appends};
 ghost use Rattle.tp_node.specs.Nodes.{after, delivered_with, ending, event_of, putting_at, with_actions, with_received, with_sent};
 ghost use Rattle.tp_node.specs.Refused.{deliver_checks, has_message, is_stranger, receive_checks, send_checks};
 ghost use Rattle.tp_node.specs.Wires.{message_on, with_message};

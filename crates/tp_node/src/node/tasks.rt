@@ -3,7 +3,7 @@ ghost use Rattle.tp_base.specs.declared.refusal.Refusal.TheVariants.{NoMemory, S
 ghost use Rattle.tp_board.specs.States.{full_check};
 ghost use Rattle.tp_graph.specs.Carried.{IsFeed, feed_at};
 ghost use Rattle.tp_graph.specs.Values.{IsInput};
-ghost use Rattle.tp_node.specs.Boards.{Answers, AnswersWith, Appends};
+ghost use Rattle.tp_board.specs.Calls.{Answers, AnswersWith, Appends};
 ghost use Rattle.tp_node.specs.Nodes.{HasNoSeed, IsNextSeed, IsSeed, IsSeedOf, begun_with, done_with, event_of, fed_with, inserting, putting_at, seeded, seeding, task_at};
 ghost use Rattle.tp_node.specs.Refused.{begin_checks, done_checks, feed_checks, is_taken, lacks_place, runs, seed_checks, takes_nothing};
 ghost use Rattle.tp_slots.specs.Content.{front};
@@ -11,11 +11,11 @@ ghost use Rattle.tp_store.specs.Content.{refusal_of_deliver, task_of, values_of}
 ghost use Rattle.tp_base.specs.declared.step.Step.TheVariants as steps;
 ghost use Rattle.tp_base.specs.Checks.{first_refusal};
 
-use crate::local::Local;
 use crate::node::Node;
 use tp_base::{Inputs, NodeId, Refusal, Step, TaskId};
 use tp_board::{Board, Ledgers};
 use tp_graph::{Feed, Finished, Graph, Value, Work};
+use tp_local::Local;
 use tp_store::Life;
 
 impl<G: Graph, K: Ledgers> Node<G, K> {

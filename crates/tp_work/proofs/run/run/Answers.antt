@@ -4,7 +4,7 @@ use Rattle.tp_board.specs.Numbers.{first_links, first_shares}
 use Rattle.tp_ledgers.specs.Names.{PoolNames}
 use Rattle.tp_work.proofs.Placing.{length-first_links, length-first_shares}
 use Rattle.tp_work.proofs.Reporting.{is_report}
-use Rattle.tp_work.specs.Reports.{IsReport}
+use Rattle.tp_gather.specs.Reports.{IsReport}
 use Rattle.tp_work.proofs.run.run.Goals as goal
 
 nodes_of : (g : _) (c : goal.In_ok-check_places g) → g.K.Ledgers.names.nodes ≡ c.args.config.nodes

@@ -3,7 +3,7 @@ use Rattle.std.specs.Prelude.{Result, Err}
 use Rattle.tp_base.specs.declared.refusal.Refusal.{Refusal}
 use Rattle.tp_graph.specs.Carried.{Carried}
 use Rattle.tp_graph.specs.declared.feed.Feed.{Feed}
-use Rattle.tp_node.specs.Boards.{AnswersWith}
+use Rattle.tp_board.specs.Calls.{AnswersWith}
 use Rattle.tp_node.specs.Refused.{deliver_checks}
 use Rattle.tp_node.proofs.Answering.{refused_with}
 use Rattle.tp_node.proofs.node.Node.deliver.Goals as goal

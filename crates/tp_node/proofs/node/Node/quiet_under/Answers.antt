@@ -1,6 +1,7 @@
 use Rattle.std.proofs.Common.{◌≡◌, ap, sym, subst, ◌∙◌, arith}
-use Rattle.tp_node.specs.Nodes.{NodeState, EachOnce}
-use Rattle.tp_node.proofs.Idle.{each_once}
+use Rattle.tp_node.specs.Nodes.{NodeState}
+use Rattle.tp_local.specs.Locals.{EachOnce}
+use Rattle.tp_local.proofs.Idle.{each_once}
 use Rattle.tp_node.proofs.node.Node.quiet_under.Goals as goal
 use Rattle.tp_store.specs.Content.{unfinished}
 use Rattle.tp_wave.specs.Machine.{pending_at}

@@ -1,0 +1,5 @@
+pub mod Asked
+pub mod Counted
+pub mod Named
+pub mod Printed
+pub mod Walked

@@ -1,0 +1,14 @@
+use Rattle.std.proofs.Common.{rules, ◌≡◌, ◌∙◌, ap, sym, codes, Some}
+use Rattle.clap.proofs.WalkLemmas.{first_value-rows}
+use Rattle.clap.specs.Words.{found_of, rows_of, subcommand_name_of}
+use Rattle.clap.specs.declared.parser.matches.ArgMatches.TheViews.{out-ArgMatches}
+use Rattle.tp_cli.proofs.Asked.{found_as}
+use Rattle.tp_cli.proofs.request.asked.Goals as goal
+
+pub returns-in_ok-get_str-in-run-default : goal.returns-in_ok-get_str-in-run-default
+returns-in_ok-get_str-in-run-default c =
+    let found = found_of c.in_ok-subcommand.field-0.1.now in
+    let name : subcommand_name_of c.args.matches.now ≡ Some (codes "run") = sym c.in_ok-subcommand.ensures.name ∙ ap Some c.in-run-default.is-run-0 in
+    let is = found_as (out-ArgMatches c.args.matches.now).subcommand (codes "run") (rows_of found) name (sym c.in_ok-subcommand.ensures.rows) in
+    let spec = sym (first_value-rows found (codes "SPEC")) ∙ sym c.in_ok-get_str-in-run-default.ensures in
+    ((rows_of found, is, spec), search rules)

@@ -1,0 +1,15 @@
+-- A request and the words that make it.
+use Rattle.std.specs.Prelude.{List, Option}
+use Rattle.clap.specs.Words.{Row, Text, subcommand_of}
+use Rattle.tp_cli.specs.Command.{IsRunNaming, IsSim, tp_app}
+use Rattle.tp_cli.specs.declared.request.Request.{Request}
+use Rattle.tp_cli.specs.declared.request.Request.TheVariants.{Sim, Run}
+use Rattle.tp_work.specs.Outcomes.{IsWithinLimits}
+
+-- the subcommand that was found, with its matches, makes the request
+abbrev pub IsMadeBy : Option (Text × List Row) → Request → Type 0
+IsMadeBy found Sim = IsSim found
+IsMadeBy found (Run spec config) = IsRunNaming spec.now found × IsWithinLimits config
+
+abbrev pub IsAskedBy : List Text → Request → Type 0
+IsAskedBy words request = IsMadeBy (subcommand_of tp_app words) request

@@ -1,0 +1,40 @@
+-- What a run of `tp run` did.
+use Rattle.std.specs.Prelude.{ℕ, ◌≡◌, ◌++◌, List, Contains, Option, codes, decimal}
+use Rattle.std.specs.Io.KnownBytes.{Appends}
+use Rattle.clap.specs.Words.{Text}
+use Rattle.tp_base.specs.Refusals.{number_of, name_of}
+use Rattle.tp_base.specs.declared.refusal.Refusal.{Refusal}
+use Rattle.tp_samples.specs.Any.{any_graph}
+use Rattle.tp_samples.specs.Tables.{table_of, table_text}
+use Rattle.tp_samples.specs.Words.{word_of}
+use Rattle.tp_samples.specs.declared.any.AnyGraph.{AnyGraph}
+use Rattle.tp_cli.specs.Command.{AsksForRun}
+use Rattle.tp_text.specs.Spelling.{line}
+use Rattle.tp_work.specs.Outcomes.{IsOutcome}
+use Rattle.tp_work.specs.declared.config.Outcome.{Outcome}
+
+-- how many tasks there were and how many messages were sent, and that the pool ended
+abbrev pub totals_text : ℕ → ℕ → List ℕ
+totals_text tasks messages = line (codes "tasks " ++ decimal tasks) ++ line (codes "messages " ++ decimal messages) ++ line (codes "ended")
+
+-- the graph's plain result as a table, the number of its tasks, and so many messages
+abbrev pub run_text : AnyGraph → ℕ → List ℕ
+run_text g messages = table_text (table_of g) ++ totals_text (any_graph g).tasks messages
+
+-- the text of a run of a graph on n nodes to its judged end
+abbrev pub IsTextOf : AnyGraph → ℕ → List ℕ → Type 0
+IsTextOf g n text = (o : Outcome) × IsOutcome n (any_graph g) o × (text ≡ run_text g o.messages)
+
+-- The word names a graph, and the text of a run of it on n nodes was written and nothing else.
+abbrev pub IsRunOf : List ℕ → ℕ → Option (List ℕ) → Option (List ℕ) → Type 0
+IsRunOf word n written_old written_new =
+    (g : AnyGraph) × (text : List ℕ) × (word ≡ word_of g) × IsTextOf g n text × Appends written_old written_new text
+
+-- One of the words names the pool of which they ask for a run, and the text of one was written and nothing else.
+abbrev pub IsRunFor : List Text → Option (List ℕ) → Option (List ℕ) → Type 0
+IsRunFor words written_old written_new =
+    (word : Text) × (n : ℕ) × Contains words word × AsksForRun words word × IsRunOf word n written_old written_new
+
+-- the line of a refusal
+abbrev pub refusal_line : Refusal → List ℕ
+refusal_line r = line (codes "refused " ++ decimal (number_of r) ++ codes " " ++ name_of r)

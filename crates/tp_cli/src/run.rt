@@ -1,0 +1,90 @@
+ghost use Rattle.std.specs.Prelude.{◌≡◌, ◌≢◌, ◌↔◌, ◌++◌, IfErr, IfOk, OnErr, OnOk, Err};
+ghost use Rattle.std.specs.Io.KnownBytes.{Appends};
+ghost use Rattle.std.specs.String.{string_bytes};
+ghost use Rattle.tp_base.specs.declared.refusal.Refusal.TheVariants.{BadSpec, NoMemory};
+ghost use Rattle.tp_samples.specs.Any.{any_graph};
+ghost use Rattle.tp_samples.specs.Words.{word_of};
+ghost use Rattle.tp_samples.specs.declared.any.AnyGraph.{AnyGraph};
+ghost use Rattle.tp_cli.specs.Runs.{IsRunOf, IsTextOf, refusal_line, totals_text};
+ghost use Rattle.tp_work.specs.Outcomes.{IsOutcome, IsWithinLimits};
+
+use std::alloc::{AllocError, Global};
+use std::io::{self, Write};
+use std::sync::Wait;
+use std::thread::Threads;
+use tp_base::Refusal;
+use tp_samples::{AnyGraph, checked};
+use tp_table::print_table;
+use tp_work::{Config, OpenGate, run_pool};
+
+/// Why a pool was not run to its end, or nothing is known of what was written.
+#[derive(Clone, Copy, Debug, PartialEq, Eq)]
+pub(crate) enum RunFault {
+    /// The word names no pool.
+    Spec(Refusal),
+    /// The run was refused, or there was no memory for its text.
+    Run(Refusal),
+    /// The text could not be written; how much of it was is not known.
+    Write,
+}
+
+/// Runs the pool that a word names, and writes its table and its totals. Nothing is written before all of it is known.
+pub(crate) fn run<O: Write, R: Threads + Wait + Sync>(
+    rt: &R,
+    alloc: Global,
+    spec: &str,
+    config: Config,
+    out: &mut O,
+) -> Result<(), RunFault>
+    requires { IsWithinLimits config }
+    ensures ran { OnOk result (IsRunOf spec.now config.nodes (O.contents out.old) (O.contents out.new)) }
+    ensures unnamed { (result ≡ Err (RunFault.Spec BadSpec)) ↔ ((graph : AnyGraph) → spec.now ≢ word_of graph) }
+    ensures named { IfErr result (λ fault. (refusal : _) → fault ≡ RunFault.Spec refusal → refusal ≡ BadSpec) }
+    ensures unwritten { IfErr result (λ fault. fault ≢ RunFault.Write → out.new ≡ out.old) }
+{
+    let graph = checked(spec).map_err(RunFault::Spec)?;
+    let text = text_of_run(rt, alloc, graph, config).map_err(RunFault::Run)?;
+    write_text(out, &text)
+}
+
+fn write_text<O: Write>(out: &mut O, text: &[u8]) -> Result<(), RunFault>
+    ensures ok { OnOk result (Appends (O.contents out.old) (O.contents out.new) text.now) }
+    ensures err { IfErr result (λ fault. fault ≡ RunFault.Write) }
+{
+    out.write_all(text).map_err(|_| RunFault::Write)?;
+    out.flush().map_err(|_| RunFault::Write)
+}
+
+/// Runs a pool of a graph: its table and its totals.
+fn text_of_run<R: Threads + Wait + Sync>(
+    rt: &R,
+    alloc: Global,
+    graph: AnyGraph,
+    config: Config,
+) -> Result<Vec<u8>, Refusal>
+    requires { IsWithinLimits config }
+    ensures { IfOk result (λ text. IsTextOf graph config.nodes text.items) }
+{
+    let outcome = match run_pool(rt, alloc, graph, config, &OpenGate) {
+        Ok(outcome) => outcome,
+        Err(fault) => return Err(fault.refusal),
+    };
+    let mut text = print_table(alloc, graph, &outcome.results)?;
+    let totals = totals(alloc, outcome.tasks, outcome.messages)?;
+    text.extend_from_slice(totals.as_bytes())?;
+    Ok(text)
+}
+
+/// The lines below a pool's table.
+fn totals(alloc: Global, tasks: u32, messages: u32) -> Result<String, AllocError>
+    ensures { IfOk result (λ text. string_bytes text ≡ totals_text tasks messages) }
+{
+    format!(in alloc; "tasks {tasks}\nmessages {messages}\nended\n")
+}
+
+/// Writes the line of a refusal. It takes no memory.
+pub(crate) fn write_refusal<E: Write>(err: &mut E, refusal: Refusal) -> io::Result<()>
+    ensures { OnOk result (Appends (E.contents err.old) (E.contents err.new) (refusal_line refusal)) }
+{
+    writeln!(err, "refused {} {}", refusal.number(), refusal.name())
+}

@@ -1,0 +1,30 @@
+use Rattle.std.proofs.Common.{rules, List, ◌≡◌, ap, sym, subst, ◌∙◌, length, vec_len}
+use Rattle.std.specs.Prelude.{sum_by}
+use Rattle.std.specs.List.{All}
+use Rattle.tp_board.specs.Numbers.{LinkNumbers, NodeNumbers}
+use Rattle.tp_node.specs.Nodes.{counted_of}
+use Rattle.tp_node.specs.Wires.{link_of}
+use Rattle.tp_wave.specs.Machine.{pending_at}
+use Rattle.tp_gather.proofs.Gathering.{All-of_map, done_by, sum_by-map}
+use Rattle.tp_gather.proofs.gathered.gather.Goals as goal
+
+pub returns-clause-gathered : goal.returns-clause-gathered
+returns-clause-gathered g c =
+    record {
+      pending = c.close_books-totals.ensures.pending ∙ ap (sum_by (λ (s : NodeNumbers). s.pending)) c.take_nodes.ensures.shares ∙ sum_by-map (λ (s : NodeNumbers). s.pending) counted_of c.args.pool.nodes.items;
+      sent = c.close_books-totals.ensures.sent.0 ∙ ap (sum_by (λ (s : NodeNumbers). s.sent)) c.take_nodes.ensures.shares ∙ sum_by-map (λ (s : NodeNumbers). s.sent) counted_of c.args.pool.nodes.items;
+      received = c.close_books-totals.ensures.received.0 ∙ ap (sum_by (λ (s : NodeNumbers). s.received)) c.take_nodes.ensures.shares ∙ sum_by-map (λ (s : NodeNumbers). s.received) counted_of c.args.pool.nodes.items;
+      under = c.close_books-totals.ensures.under.0 ∙ ap (sum_by (λ (l : LinkNumbers). l.under)) c.take_wires.ensures ∙ sum_by-map (λ (l : LinkNumbers). l.under) link_of c.args.pool.links.items;
+      balance = c.close_books-totals.ensures.balance;
+      done = c.close_books-totals.ensures.done.0 ∙ ap (sum_by (λ (s : NodeNumbers). s.done)) c.take_nodes.ensures.shares ∙ done_by c.args.pool.nodes.items ∙ ap length (sym c.take_nodes.ensures.results) ∙ search rules;
+      results = c.take_nodes.ensures.results;
+      fault = c.close_books-totals.ensures.fault;
+      history = c.close_books-totals.ensures.history;
+    }
+
+pub returns-clause-each_node : goal.returns-clause-each_node
+returns-clause-each_node g c =
+    let each : All (λ s. s.pending ≡ pending_at s.node c.close_books-totals.result.history.events) c.take_nodes.new.shares.items =
+    rw c.close_books-totals.ensures.history c.close_books-totals.ensures.each_pending in
+    All-of_map (λ s. s.pending ≡ pending_at s.node c.close_books-totals.result.history.events) counted_of c.args.pool.nodes.items
+    (subst (λ (shares : List NodeNumbers). All (λ s. s.pending ≡ pending_at s.node c.close_books-totals.result.history.events) shares) c.take_nodes.ensures.shares each)

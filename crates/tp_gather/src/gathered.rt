@@ -1,0 +1,169 @@
+ghost use Rattle.std.specs.Prelude.{◌≡◌, ◌≤◌, ◌+◌, ◌-◌, ◌*◌, [], IfErr, IfOk, IfSome, length, map, sum_by, vec_capacity, vec_len};
+ghost use Rattle.std.specs.List.{All, flat_map};
+ghost use Rattle.tp_base.specs.declared.refusal.Refusal.TheVariants.{NoMemory};
+ghost use Rattle.tp_graph.specs.Serial.{AreRight};
+ghost use Rattle.tp_node.specs.Nodes.{counted_of};
+ghost use Rattle.tp_node.specs.Wires.{link_of};
+ghost use Rattle.tp_gather.specs.Reports.{AreOfTheRun, IsGathered, IsOfItsRun};
+
+use std::alloc::{AllocError, Global};
+use tp_base::{History, Refusal, TaskId};
+use tp_board::{Books, Ledgers, LinkShare, Shares, close_books};
+use tp_graph::{Graph, Value};
+use tp_node::{Node, Pool, Wire};
+
+/// What was gathered of a pool.
+#[derive(Drop)]
+pub struct Report {
+    /// Unfinished tasks and open actions, over all nodes.
+    pub pending: u32,
+    /// Messages sent, over all nodes.
+    pub sent: u32,
+    /// Messages received, over all nodes.
+    pub received: u32,
+    /// Messages under way, over all links.
+    pub under: u32,
+    /// Tasks done, over all nodes.
+    pub done: u32,
+    /// Whether the end was judged.
+    pub ended: bool,
+    /// The first fault.
+    pub fault: Option<Refusal>,
+    /// The results of all nodes, each a task and its value.
+    pub results: Vec<(TaskId, Value)>,
+    /// The events.
+    pub history: History,
+}
+
+/// Gathers a pool: what its nodes and links count, and what its board has kept.
+///
+/// Refused: `NoMemory` where memory has to grow and does not; the pool comes back then.
+pub fn finish<G: Graph, K: Ledgers>(
+    alloc: Global,
+    pool: Pool<G, K>,
+) -> Result<Report, (Refusal, Pool<G, K>)>
+    requires nodes { vec_len pool.nodes ≡ K.names.nodes }
+    requires links { vec_len pool.links ≡ K.names.nodes * (K.names.nodes - 1) }
+    ensures gathered { IfOk result (IsGathered pool.nodes.items pool.links.items pool.board) }
+    ensures of_its_run { IfOk result (IsOfItsRun K.names.nodes) }
+    ensures each_node { IfOk result (AreOfTheRun pool.nodes.items) }
+    ensures right { IfOk result (λ r. (g : G) → All (λ n. n.graph ≡ g) pool.nodes.items → AreRight (G.meaning g) r.results.items) }
+    ensures refused { IfErr result (λ e. e ≡ (NoMemory, pool)) }
+{
+    match room_for(alloc, &pool.nodes, &pool.links) {
+        Ok(room) => Ok(gather(pool, room)),
+        Err(_) => Err((Refusal::NoMemory, pool)),
+    }
+}
+
+/// Empty lists with room for all that is gathered.
+#[derive(Drop)]
+struct Room<K: Ledgers> {
+    shares: Vec<Shares<K>>,
+    links: Vec<LinkShare<K>>,
+    results: Vec<(TaskId, Value)>,
+}
+
+fn room_for<G: Graph, K: Ledgers>(
+    alloc: Global,
+    nodes: &Vec<Node<G, K>>,
+    links: &Vec<Wire<G, K>>,
+) -> Result<Room<K>, AllocError>
+    ensures shares { IfOk result (λ r. (r.shares.items ≡ []) × (vec_len nodes.now ≤ vec_capacity r.shares)) }
+    ensures links { IfOk result (λ r. (r.links.items ≡ []) × (vec_len links.now ≤ vec_capacity r.links)) }
+    ensures results { IfOk result (λ r. (r.results.items ≡ []) × (sum_by (λ n. length n.state.store.results) nodes.now.items ≤ vec_capacity r.results)) }
+{
+    let Some(count) = count_results(nodes) else {
+        return Err(AllocError);
+    };
+    Ok(Room {
+        shares: Vec::with_capacity(alloc, nodes.len())?,
+        links: Vec::with_capacity(alloc, links.len())?,
+        results: Vec::with_capacity(alloc, count)?,
+    })
+}
+
+/// How many results all nodes have, where one list can have so many.
+fn count_results<G: Graph, K: Ledgers>(nodes: &Vec<Node<G, K>>) -> Option<usize>
+    ensures { IfSome result (λ count. count ≡ sum_by (λ n. length n.state.store.results) nodes.now.items) }
+{
+    let mut count = 0usize;
+    for node in nodes {
+        count = count.checked_add(node.results().len())?;
+    }
+    Some(count)
+}
+
+fn gather<G: Graph, K: Ledgers>(pool: Pool<G, K>, room: Room<K>) -> Report
+    requires nodes { vec_len pool.nodes ≡ K.names.nodes }
+    requires links { vec_len pool.links ≡ K.names.nodes * (K.names.nodes - 1) }
+    requires room_for_shares { (room.shares.items ≡ []) × (vec_len pool.nodes ≤ vec_capacity room.shares) }
+    requires room_for_links { (room.links.items ≡ []) × (vec_len pool.links ≤ vec_capacity room.links) }
+    requires room_for_results { (room.results.items ≡ []) × (sum_by (λ n. length n.state.store.results) pool.nodes.items ≤ vec_capacity room.results) }
+    ensures gathered { IsGathered pool.nodes.items pool.links.items pool.board result }
+    ensures of_its_run { IsOfItsRun K.names.nodes result }
+    ensures each_node { AreOfTheRun pool.nodes.items result }
+    ensures right { (g : G) → All (λ n. n.graph ≡ g) pool.nodes.items → AreRight (G.meaning g) result.results.items }
+{
+    let Pool {
+        nodes,
+        links: wires,
+        board,
+    } = pool;
+    let Room {
+        mut shares,
+        mut links,
+        mut results,
+    } = room;
+    take_nodes(nodes, &mut shares, &mut results);
+    take_wires(wires, &mut links);
+    let totals = close_books(Books {
+        board,
+        shares,
+        links,
+    });
+    Report {
+        pending: totals.pending,
+        sent: totals.sent,
+        received: totals.received,
+        under: totals.under,
+        done: totals.done,
+        ended: totals.ended,
+        fault: totals.fault,
+        results,
+        history: totals.history,
+    }
+}
+
+/// The shares and the results of all nodes, in their order.
+fn take_nodes<G: Graph, K: Ledgers>(
+    nodes: Vec<Node<G, K>>,
+    shares: &mut Vec<Shares<K>>,
+    results: &mut Vec<(TaskId, Value)>,
+)
+    requires empty { (shares.old.items ≡ []) × (results.old.items ≡ []) }
+    requires shares { vec_len nodes ≤ vec_capacity shares.old }
+    requires results { sum_by (λ n. length n.state.store.results) nodes.items ≤ vec_capacity results.old }
+    ensures shares { shares.new.items ≡ map counted_of nodes.items }
+    ensures results { results.new.items ≡ flat_map (λ n. n.state.store.results) nodes.items }
+    ensures right { (g : G) → All (λ n. n.graph ≡ g) nodes.items → AreRight (G.meaning g) results.new.items }
+{
+    for node in nodes {
+        let (share, mut more) = node.into_parts();
+        shares.push_reserved(share);
+        let Ok(()) = results.append(&mut more) else {
+            unreachable!()
+        };
+    }
+}
+
+/// The shares of all links, in their order.
+fn take_wires<G: Graph, K: Ledgers>(wires: Vec<Wire<G, K>>, links: &mut Vec<LinkShare<K>>)
+    requires empty { links.old.items ≡ [] }
+    requires room { vec_len wires ≤ vec_capacity links.old }
+    ensures { links.new.items ≡ map link_of wires.items }
+{
+    for wire in wires {
+        links.push_reserved(wire.into_share());
+    }
+}

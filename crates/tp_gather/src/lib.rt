@@ -1,0 +1,8 @@
+//! A pool in one hand: what its nodes, its links and its board add up to.
+#![tactic(auto)]
+
+mod gathered;
+#[cfg(test)]
+mod tests;
+
+pub use gathered::{Report, finish};

@@ -1,0 +1,3 @@
+pub mod FiniteSets
+pub mod Refusals
+pub mod Idle

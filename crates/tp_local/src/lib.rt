@@ -1,0 +1,10 @@
+//! A node's own numbers for one pool: its store of tasks and its open actions, beside a monitor that counts them.
+#![tactic(auto)]
+
+mod actions;
+mod held;
+mod local;
+mod numbers;
+mod tally;
+
+pub use local::Local;

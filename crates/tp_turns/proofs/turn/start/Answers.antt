@@ -1,0 +1,12 @@
+use Rattle.std.proofs.Common.{◌≡◌, arith, subst, ◌<◌}
+use Rattle.tp_turns.proofs.Turns.{start_tried, start_active}
+use Rattle.tp_turns.proofs.turn.start.Goals as goal
+use Rattle.tp_wave.specs.Machine.{pending_at}
+
+pub returns-then-pending-gt0 : goal.returns-then-pending-gt0
+returns-then-pending-gt0 g c = start_active _ _ _ (subst (λ p. 0 < p) c.requires.pending c.if-pending-gt0.true)
+
+pub returns : goal.returns
+returns g c =
+    let idle : pending_at 0 c.args.board.now.history ≡ 0 = omega arith in
+    start_tried c.start.result idle c.start.ensures.ok c.start.ensures.refusal c.start.ensures.refused c.moved.ensures

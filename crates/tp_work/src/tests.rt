@@ -1,3 +1,0 @@
-mod gates;
-mod one_hand;
-mod pools;
