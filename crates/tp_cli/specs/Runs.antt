@@ -1,5 +1,5 @@
 -- What a run of `tp run` did.
-use Rattle.std.specs.Prelude.{ℕ, ◌≡◌, ◌++◌, List, Contains, Option, codes, decimal}
+use Rattle.std.specs.Prelude.{ℕ, ◌≡◌, ◌++◌, List, Option, codes, decimal}
 use Rattle.std.specs.Io.KnownBytes.{Appends}
 use Rattle.clap.specs.Words.{Text}
 use Rattle.tp_base.specs.Refusals.{number_of, name_of}
@@ -30,10 +30,10 @@ abbrev pub IsRunOf : List ℕ → ℕ → Option (List ℕ) → Option (List ℕ
 IsRunOf word n written_old written_new =
     (g : AnyGraph) × (text : List ℕ) × (word ≡ word_of g) × IsTextOf g n text × Appends written_old written_new text
 
--- One of the words names the pool of which they ask for a run, and the text of one was written and nothing else.
+-- The words ask for a run of the pool that one of them names, and the text of one was written and nothing else.
 abbrev pub IsRunFor : List Text → Option (List ℕ) → Option (List ℕ) → Type 0
 IsRunFor words written_old written_new =
-    (word : Text) × (n : ℕ) × Contains words word × AsksForRun words word × IsRunOf word n written_old written_new
+    (word : Text) × (n : ℕ) × AsksForRun words word × IsRunOf word n written_old written_new
 
 -- the line of a refusal
 abbrev pub refusal_line : Refusal → List ℕ
