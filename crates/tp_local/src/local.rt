@@ -392,6 +392,13 @@ impl Local {
         self.actions.has_message(message)
     }
 
+    /// Whether a task was inserted.
+    pub fn is_known(&self, task: TaskId) -> bool
+        ensures { result ≡ is_some (task_of self.now.store task) }
+    {
+        self.store.value.knows(task)
+    }
+
     /// What a task has come to, or `None` where there is no such task.
     pub fn life(&self, task: TaskId) -> Option<Life>
         ensures life { result ≡ life_of self.now.store task }
@@ -431,13 +438,6 @@ impl Local {
         ensures sound { IsSound self.now.store }
     {
         self.store.value.results()
-    }
-
-    /// Whether a task was inserted.
-    fn is_known(&self, task: TaskId) -> bool
-        ensures { result ≡ is_some (task_of self.now.store task) }
-    {
-        self.store.value.life(task).is_some()
     }
 
     /// The results alone. The rest is dropped.
