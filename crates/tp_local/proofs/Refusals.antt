@@ -22,9 +22,6 @@ unknown : {A B : Type 0} (o : Option A) (f : A → B) (d : B) → is_some o ≡ 
 unknown None f d h = refl
 unknown (Some x) f d h = cc
 
-fits : (n : ℕ) → (if n == MAX_LIVE_TASKS then Some StoreFull else None) ≡ None → n ≤ MAX_LIVE_TASKS → n < MAX_LIVE_TASKS
-fits n h k = grind (arith, nat_tests)
-
 active : (n m : ℕ) → m ≡ n → (m ≡ 0 → ⊥) → (n == 0) ≡ false
 active n m e h = grind (arith, nat_tests)
 
@@ -60,12 +57,6 @@ module _ {V : Type 0} (l : LocalState V) (s : Content V) (t : TaskId) (is : l.st
       ∙ sym (alike (is_some (task_of l.store t)) (is_inactive l) (refusal_of_deliver l.store t arity slot) (refusal_of_new l.store) new (active (pending l) m counted some)
       ∙ ap refusal_of_new is)
 
-  -- a store that takes one more has room for it
-  pub one_more : (arity slot : ℕ) → refusal_of_deliver s t arity slot ≡ None → unfinished l.store ≤ MAX_LIVE_TASKS → unfinished s < MAX_LIVE_TASKS
-  one_more arity slot h k =
-      let same : unfinished l.store ≡ unfinished s = ap unfinished is in
-      fits (unfinished s) (sym (deliver_of_new arity slot) ∙ h) (rw same at k)
-
 -- a task that is known
 module _ {V : Type 0} (l : LocalState V) (s : Content V) (t : TaskId) (is : l.store ≡ s) (known : is_some (task_of l.store t) ≡ true) where
   pub delivery_of_known : (arity slot : ℕ) → refusal_of_deliver s t arity slot ≡ refusal_of_delivery l t arity slot
@@ -90,3 +81,12 @@ delivery_free l t arity slot free some =
     pick (is_some (task_of l.store t)) (is_inactive l) (refusal_of_deliver l.store t arity slot) (refusal_of_new l.store) free
     (λ new. sym (unknown (task_of l.store t) (λ x. refusal_of_value x arity slot) (refusal_of_new l.store) new) ∙ free)
     (active (pending l) (pending l) refl (λ none. absurd (omega (arith, some, none))))
+
+-- where something is pending, what a delivery is refused is the store's answer
+pub delivery_active : {V : Type 0} (l : LocalState V) (s : Content V) (t : TaskId) → l.store ≡ s → (m : ℕ) → m ≡ pending l → (m ≡ 0 → ⊥) → (arity slot : ℕ)
+    → refusal_of_deliver s t arity slot ≡ refusal_of_delivery l t arity slot
+delivery_active l s t is m counted some arity slot = go (is_some (task_of l.store t)) refl
+  where
+    go : (b : Bool) → is_some (task_of l.store t) ≡ b → refusal_of_deliver s t arity slot ≡ refusal_of_delivery l t arity slot
+    go true known = delivery_of_known l s t is known arity slot
+    go false new = delivery_is l s t is new m counted some arity slot

@@ -118,16 +118,42 @@ impl Local {
         ensures value_returned { IfErr result (λ e. e.1 ≡ value) }
         ensures kept { OnErr result (self.new ≡ self.old) }
     {
-        if self.is_known(task) {
-            let filled = self.store.value.deliver(task, arity, class, slot, value)?;
-            return Ok(filled);
-        }
         if self.pending() == 0 {
+            return self.deliver_to_known(task, arity, class, slot, value);
+        }
+        let delivered = self.store.value.deliver(task, arity, class, slot, value)?;
+        if let Delivered::Inserted(_) = delivered {
+            self.tally.add_task();
+        }
+        Ok(delivered)
+    }
+
+    /// Delivers where nothing is pending, and so to no unknown task.
+    fn deliver_to_known(
+        &mut self,
+        task: TaskId,
+        arity: u8,
+        class: u8,
+        slot: u8,
+        value: Value,
+    ) -> Result<Delivered, (Refusal, Value)>
+        requires arity_in_range { arity ≤ MAX_INPUTS }
+        requires class_in_range { class < CLASSES }
+        requires slot_in_range { slot < arity }
+        requires inactive { pending self.old ≡ 0 }
+        ensures checked { OnOk result (refusal_of_delivery self.old task arity slot ≡ None) }
+        ensures answer { IfOk result (λ d. d ≡ delivered_to self.old.store task arity) }
+        ensures delivered { OnOk result (self.new ≡ record self.old { store = with_delivered self.old.store task arity class slot value }) }
+        ensures counted { IfOk result (λ d. pending self.new ≡ pending self.old + inserted_by d) }
+        ensures refused { IfErr result (λ e. e.0 ≡ unwrap_or (refusal_of_delivery self.old task arity slot) Refusal.NoMemory) }
+        ensures value_returned { IfErr result (λ e. e.1 ≡ value) }
+        ensures kept { OnErr result (self.new ≡ self.old) }
+    {
+        if !self.is_known(task) {
             return Err((Refusal::Inactive, value));
         }
-        let inserted = self.store.value.deliver(task, arity, class, slot, value)?;
-        self.tally.add_task();
-        Ok(inserted)
+        let filled = self.store.value.deliver(task, arity, class, slot, value)?;
+        Ok(filled)
     }
 
     /// The next ready task, of the lowest class that has one, begins: its inputs are moved out in the order of the slots. `None`
@@ -366,6 +392,13 @@ impl Local {
         self.actions.has_message(message)
     }
 
+    /// Whether a task was inserted.
+    pub fn is_known(&self, task: TaskId) -> bool
+        ensures { result ≡ is_some (task_of self.now.store task) }
+    {
+        self.store.value.knows(task)
+    }
+
     /// What a task has come to, or `None` where there is no such task.
     pub fn life(&self, task: TaskId) -> Option<Life>
         ensures life { result ≡ life_of self.now.store task }
@@ -386,10 +419,7 @@ impl Local {
     pub fn check(&self, task: TaskId, arity: u8, slot: u8) -> Result<(), Refusal>
         ensures { result_err result ≡ refusal_of_delivery self.now task arity slot }
     {
-        if self.is_known(task) {
-            return self.store.value.check(task, arity, slot);
-        }
-        if self.pending() == 0 {
+        if self.pending() == 0 && !self.is_known(task) {
             return Err(Refusal::Inactive);
         }
         self.store.value.check(task, arity, slot)
@@ -408,13 +438,6 @@ impl Local {
         ensures sound { IsSound self.now.store }
     {
         self.store.value.results()
-    }
-
-    /// Whether a task was inserted.
-    fn is_known(&self, task: TaskId) -> bool
-        ensures { result ≡ is_some (task_of self.now.store task) }
-    {
-        self.store.value.life(task).is_some()
     }
 
     /// The results alone. The rest is dropped.

@@ -79,6 +79,13 @@ module _ {V A : Type 0} (c : slots.Content (Item V)) (room : ℕ) (index : Entri
     pub is_known : is_some (entry_at index t.0) ≡ true → task_of s t ≡ None → ⊥
     is_known some none = let clash : is_some (entry_at index t.0) ≡ false = ap is_some (nothing_there none) in cc
 
+    pub is_there : is_some (entry_at index t.0) ≡ is_some (task_of s t)
+    is_there = at_entry (entry_at index t.0) refl
+      where
+        at_entry : (o : Option Entry) → entry_at index t.0 ≡ o → is_some (entry_at index t.0) ≡ is_some (task_of s t)
+        at_entry None is = ap is_some is ∙ sym (ap is_some (unknown is))
+        at_entry (Some e) is = let x = known c room index results counts reserved kept s view t e is in ap is_some is ∙ sym (ap is_some x.1)
+
     -- the item was made for it
     pub is_made : unwrap_or (option_map (λ i. (i.number.0 == t.0) && (i.task.arity == arity)) reserved) false ≡ true → (reserved_of reserved ≡ Some (t.0, arity)) × (refusal_of_new s ≡ None)
     is_made h = made reserved h kept.within

@@ -91,6 +91,13 @@ impl<S: Slots<TaskItem<V>>, V> TaskStore<S, V> {
         }
     }
 
+    /// Whether a task was ever inserted.
+    pub fn knows(&self, task: TaskId) -> bool
+        ensures { result ≡ is_some (task_of self.now.content task) }
+    {
+        entry_of(&self.index, task).is_some()
+    }
+
     /// How many tasks wait, are ready, and run.
     pub fn counts(&self) -> Counts
         ensures counts { result ≡ counts_of self.now.content }

@@ -223,7 +223,7 @@ impl<G: Graph, K: Ledgers> Node<G, K> {
         requires { (0 < arity) × (arity ≤ 16) }
         ensures { result ≡ (if is_some (task_of self.now.state.store task) then steps.Supply task else inserting self.now.numbers.node task (arity - 1)) }
     {
-        if self.local.life(task).is_some() {
+        if self.local.is_known(task) {
             return Step::Supply(task);
         }
         let Some(inputs) = Inputs::new(arity - 1) else {
@@ -254,7 +254,7 @@ fn is_seed<G: Graph>(graph: &G, nodes: u32, node: NodeId, local: &Local, task: u
     ensures no { IsSeed (G.meaning graph.now) nodes node.0 local.now.store task → IsTrue result }
 {
     let task = TaskId(task);
-    graph.arity(task) == 0 && graph.home(task, nodes) == node && local.life(task).is_none()
+    graph.arity(task) == 0 && graph.home(task, nodes) == node && !local.is_known(task)
 }
 
 /// Makes sure of places and of memory for so many events. A full store is refused before want of memory.

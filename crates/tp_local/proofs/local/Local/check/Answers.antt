@@ -1,13 +1,13 @@
 use Rattle.std.proofs.Common.{sym, ap, ◌∙◌}
-use Rattle.tp_local.proofs.Refusals.{delivery_is, delivery_of_known, refusal_is}
+use Rattle.tp_local.proofs.Refusals.{delivery_active, delivery_of_known, refusal_is}
 use Rattle.tp_local.proofs.local.Local.check.Goals as goal
-
-pub returns-then-is_known : goal.returns-then-is_known
-returns-then-is_known c =
-    refusal_is _ _ c.check.ensures
-    ∙ delivery_of_known c.args.self.now c.self.inside.store.value.content c.args.task (ap (λ l. l.store) (sym c.self.view_is)) (sym c.is_known.ensures ∙ c.if-is_known.true) c.args.arity c.args.slot
+use Rattle.tp_local.proofs.local.Local.check.Goals.{else-pending-eq0-via-then-pending-eq0+else-not-is_known, else-pending-eq0-via-else-pending-eq0}
 
 pub returns : goal.returns
 returns c =
-    refusal_is _ _ c.check-2.ensures
-    ∙ delivery_is c.args.self.now c.self.inside.store.value.content c.args.task (ap (λ l. l.store) (sym c.self.view_is)) (sym c.is_known.ensures ∙ c.if-is_known.false) c.pending.result c.pending.ensures.pending c.if-pending-eq0.false c.args.arity c.args.slot
+    let store = ap (λ l. l.store) (sym c.self.view_is) in
+    refusal_is _ _ c.check.ensures
+    ∙ elim c.else-pending-eq0.branch [
+      | else-pending-eq0-via-then-pending-eq0+else-not-is_known w ↦ delivery_of_known c.args.self.now c.self.inside.store.value.content c.args.task store (sym w.is_known.ensures ∙ w.if-not-is_known.false) c.args.arity c.args.slot
+      | else-pending-eq0-via-else-pending-eq0 w ↦ delivery_active c.args.self.now c.self.inside.store.value.content c.args.task store c.pending.result c.pending.ensures.pending w.if-pending-eq0.false c.args.arity c.args.slot
+    ]
