@@ -141,15 +141,15 @@ fn make_tile(
     requires some { 1 ≤ side }
     ensures { IfOk result (λ made. (made.items ≡ tile side seed i j k) × (all_fit made.items ≡ true)) }
 {
-    let mut made = Vec::new(alloc);
+    let mut made = Vec::with_capacity(alloc, (side * side) as usize)?;
     for e in 0..side * side {
-        made.push(sum_at(
+        made.push_reserved(sum_at(
             seed,
             i * side + e / side,
             j * side + e % side,
             k * side,
             side,
-        ))?;
+        ));
     }
     Ok(made)
 }
