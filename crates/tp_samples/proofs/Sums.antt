@@ -1,8 +1,8 @@
-use Rattle.std.proofs.Common.{◌≡◌, ◌<◌, ◌≤◌, ◌+◌, ◌*◌, ℕ, zero, suc, ◌^◌, ℤ, pos, negsuc, ◌+ℤ◌, List, [], ◌∷◌, ◌++◌, length, get_or, take, ◌/◌, ◌%◌, nat_eq, subst, Some, None, true, false, refl, sym, ap, ◌∙◌, add-one, arith}
+use Rattle.std.proofs.Common.{◌≡◌, ◌<◌, ◌≤◌, ◌+◌, ◌*◌, ℕ, zero, suc, ◌^◌, ℤ, pos, negsuc, ◌+ℤ◌, List, [], ◌∷◌, ◌++◌, length, get_or, set, take, ◌/◌, ◌%◌, nat_eq, subst, Some, None, true, false, refl, sym, ap, ◌∙◌, add-one, arith}
 use Rattle.std.specs.Int.Signed.{mag}
 use Rattle.std.proofs.lemmas.Bool.Decides.{nat_tests}
 use Rattle.std.proofs.lemmas.Bool.{and_parts, and_from, and_right}
-use Rattle.std.proofs.lemmas.List.{take_more, take_all}
+use Rattle.std.proofs.lemmas.List.{take_more, take_more_set, take_all}
 use Rattle.tp_graph.specs.Values.{fits, all_fit, fitting, then_some}
 use Rattle.tp_samples.specs.Products.{sum_from, list_of, add_lists, added, place_sum, tile, tile_and_input, term}
 
@@ -45,10 +45,10 @@ fit_push [] y p q = rw q refl
 fit_push (x ∷ xs) y p q = let both = and_parts (fits x) (all_fit xs) p in and_from (fits x) (all_fit (xs ++ y ∷ [])) both.0 (fit_push xs y both.1 q)
 
 -- one more sum
-pub add_step : (a b sums : List ℤ) (k : ℕ) (sum : ℤ) → length a ≡ length b → k < length a → sums ≡ take k (add_lists a b) → all_fit sums ≡ true →
+add-step : (a b sums : List ℤ) (k : ℕ) (sum : ℤ) → length a ≡ length b → k < length a → sums ≡ take k (add_lists a b) → all_fit sums ≡ true →
     place_sum a b k ≡ sum → fits (place_sum a b k) ≡ true →
     (sums ++ sum ∷ [] ≡ take (k + 1) (add_lists a b)) × (all_fit (sums ++ sum ∷ []) ≡ true)
-add_step a b sums k sum long h same fit is fits_too =
+add-step a b sums k sum long h same fit is fits_too =
     let inside : k < length (add_lists a b) = omega (arith, added-length a b long) in
     let next = take_more (add_lists a b) k (pos 0) inside in
     let here : get_or (add_lists a b) k (pos 0) ≡ sum = added-at a b k h long ∙ is in
@@ -57,22 +57,40 @@ add_step a b sums k sum long h same fit is fits_too =
       fit_push sums sum fit (subst P is fits_too),
     )
 
+-- where a place of b is as it was, its sum is the one with b
+same_place : (a b now : List ℤ) (k : ℕ) → get_or now k (pos 0) ≡ get_or b k (pos 0) → place_sum a now k ≡ place_sum a b k
+same_place a b now k e = ap (λ y. get_or a k (pos 0) +ℤ y) e
+
+-- one more sum, written over b's number
+pub add_written : (a b now : List ℤ) (k : ℕ) (sum : ℤ) → length a ≡ length b → k < length a → k < length now →
+    take k now ≡ take k (add_lists a b) → all_fit (take k now) ≡ true → get_or now k (pos 0) ≡ get_or b k (pos 0) →
+    place_sum a now k ≡ sum → fits (place_sum a now k) ≡ true →
+    (take (k + 1) (set now k sum) ≡ take (k + 1) (add_lists a b)) × (all_fit (take (k + 1) (set now k sum)) ≡ true)
+add_written a b now k sum long h room same fit rest is fits_too =
+    let was = same_place a b now k rest in
+    let step = add-step a b (take k now) k sum long h same fit (sym was ∙ is) (ap fits (sym was) ∙ fits_too) in
+    let next = take_more_set now k sum room in
+    (next ∙ step.0, ap all_fit next ∙ step.1)
+
 nat-same : (n : ℕ) → nat_eq n n ≡ true
 nat-same n = grind (arith, nat_tests)
 
 -- a sum that does not fit
-pub add_fails : (a b : List ℤ) (k : ℕ) → length a ≡ length b → k < length a → fits (place_sum a b k) ≡ false → added a b ≡ None
-add_fails a b k long h e =
+pub add_fails : (a b now : List ℤ) (k : ℕ) → length a ≡ length b → k < length a → get_or now k (pos 0) ≡ get_or b k (pos 0) → fits (place_sum a now k) ≡ false → added a b ≡ None
+add_fails a b now k long h rest e =
     let inside : k < length (add_lists a b) = omega (arith, added-length a b long) in
-    let not : all_fit (add_lists a b) ≡ false = fit-at (add_lists a b) k inside (ap fits (added-at a b k h long) ∙ e) in
+    let here : fits (place_sum a b k) ≡ false = ap fits (sym (same_place a b now k rest)) ∙ e in
+    let not : all_fit (add_lists a b) ≡ false = fit-at (add_lists a b) k inside (ap fits (added-at a b k h long) ∙ here) in
     rw (long, nat-same (length b)) (rw not refl)
 
 -- all sums
-pub add_ends : (a b sums : List ℤ) (k : ℕ) → length a ≡ length b → length a ≤ k → sums ≡ take k (add_lists a b) → all_fit sums ≡ true → added a b ≡ Some sums
-add_ends a b sums k long h same fit =
+pub add_ends : (a b sums : List ℤ) (k : ℕ) → length a ≡ length b → length sums ≡ length b → length a ≤ k → take k sums ≡ take k (add_lists a b) → all_fit (take k sums) ≡ true → added a b ≡ Some sums
+add_ends a b sums k long as_long h same fit =
     let short : length (add_lists a b) ≤ k = omega (arith, added-length a b long) in
-    let all : sums ≡ add_lists a b = same ∙ take_all k (add_lists a b) short in
-    let fit' : all_fit (add_lists a b) ≡ true = sym (ap all_fit all) ∙ fit in
+    let within : length sums ≤ k = omega arith in
+    let whole : take k sums ≡ sums = take_all k sums within in
+    let all : sums ≡ add_lists a b = sym whole ∙ same ∙ take_all k (add_lists a b) short in
+    let fit' : all_fit (add_lists a b) ≡ true = ap all_fit (sym all ∙ sym whole) ∙ fit in
     rw (long, nat-same (length b)) (rw fit' (ap Some (sym all)))
 
 -- lists of unlike lengths

@@ -1,8 +1,8 @@
-ghost use Rattle.std.specs.Prelude.{◌≡◌, ◌<◌, ◌≤◌, ◌+◌, ◌-◌, ◌*◌, ◌/◌, ◌%◌, ◌+ℤ◌, ◌∷◌, [], ◌*ℤ◌, unsigned_abs, true, false, length, IfOk, MatchResult, Some};
+ghost use Rattle.std.specs.Prelude.{◌≡◌, ◌<◌, ◌≤◌, ◌+◌, ◌-◌, ◌*◌, ◌/◌, ◌%◌, ◌+ℤ◌, ◌∷◌, [], ◌*ℤ◌, unsigned_abs, true, false, length, IfOk, MatchResult, Some, None};
 ghost use Rattle.tp_samples.specs.Products.{IsProduct, IsProduct-prop, product_graph, left_entry, right_entry, term, sum_from, tile, added, place_sum};
 ghost use Rattle.tp_samples.specs.ProductLaws.{product_lawful};
 ghost use Rattle.tp_samples.specs.Same.{three_same, rule_of_three};
-ghost use Rattle.tp_graph.specs.Values.{IsRefusal, fits, all_fit};
+ghost use Rattle.tp_graph.specs.Values.{fits, all_fit};
 ghost use Rattle.tp_base.specs.declared.Refusal.TheVariants.{BodyFailed};
 
 use std::alloc::{AllocError, Global};
@@ -117,10 +117,13 @@ impl Graph for Product {
     fn body(&self, alloc: Global, task: TaskId, inputs: &[Value]) -> Result<Value, Refusal> {
         let i = task.0 / self.tiles / self.tiles;
         let j = task.0 / self.tiles % self.tiles;
-        let made = make_tile(alloc, self.side, self.seed, i, j, task.0 % self.tiles)?;
+        let mut made = make_tile(alloc, self.side, self.seed, i, j, task.0 % self.tiles)?;
         match inputs {
             [] => Ok(Value::from(made)),
-            [input] => add_values(alloc, input.as_slice(), &made),
+            [input] => {
+                add_to(&mut made, input.as_slice())?;
+                Ok(Value::from(made))
+            }
             _ => Err(Refusal::BodyFailed),
         }
     }
@@ -141,32 +144,32 @@ fn make_tile(
     requires some { 1 ≤ side }
     ensures { IfOk result (λ made. (made.items ≡ tile side seed i j k) × (all_fit made.items ≡ true)) }
 {
-    let mut made = Vec::new(alloc);
+    let mut made = Vec::with_capacity(alloc, (side * side) as usize)?;
     for e in 0..side * side {
-        made.push(sum_at(
+        made.push_reserved(sum_at(
             seed,
             i * side + e / side,
             j * side + e % side,
             k * side,
             side,
-        ))?;
+        ));
     }
     Ok(made)
 }
 
-/// Two lists of as many numbers, added place by place.
-#[tactic(auto, using(crate::proofs::Sums::add_step, crate::proofs::Sums::add_fails, crate::proofs::Sums::add_ends, crate::proofs::Sums::add_unlike))]
-fn add_values(alloc: Global, a: &[i64], b: &[i64]) -> Result<Value, Refusal>
-    ensures { MatchResult result (λ sum. added a.now b.now ≡ Some sum) (IsRefusal (added a.now b.now)) }
+/// Adds the numbers of a list to those of another of the same length, in place. Refused with `BodyFailed` exactly
+/// where the lengths differ or a sum leaves `i64`; some places may be added to by then.
+#[tactic(auto, using(crate::proofs::Sums::add_unlike))]
+fn add_to(sums: &mut [i64], input: &[i64]) -> Result<(), Refusal>
+    ensures { MatchResult result (λ _. added input.now sums.old ≡ Some sums.new) (λ refusal. (refusal ≡ BodyFailed) × (added input.now sums.old ≡ None)) }
 {
-    if a.len() != b.len() {
+    if input.len() != sums.len() {
         return Err(Refusal::BodyFailed);
     }
-    let mut sums = Vec::new(alloc);
-    for e in 0..a.len() {
-        sums.push(sum_of_places(a, b, e)?)?;
+    for e in 0..input.len() {
+        sums[e] = sum_of_places(input, sums, e)?;
     }
-    Ok(Value::from(sums))
+    Ok(())
 }
 
 /// The sum of the numbers at a place of two lists.
