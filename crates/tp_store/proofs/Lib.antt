@@ -13,4 +13,5 @@ pub mod Delivering
 pub mod Running
 pub mod Finishing
 mod Reserving
+mod Making
 mod Stages

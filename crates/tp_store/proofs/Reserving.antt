@@ -139,6 +139,10 @@ pub told : {X : Type 0} (r : Result X Refusal) (was w : Refusal) → IsErrAnd r 
 told (Ok x) was w h is = tt
 told (Err e) was w h is = h ∙ is
 
+pub told_first : {X Y : Type 0} (r : Result X (Refusal × Y)) (was : Refusal × Y) (w : Refusal) → IsErrAnd r (λ e. e ≡ was) → was.0 ≡ w → IfErr r (λ e. e.0 ≡ w)
+told_first (Ok x) was w h is = tt
+told_first (Err e) was w h is = ap (λ y. y.0) h ∙ is
+
 pub none_there : (o : Option Entry) → is_some o ≡ false → o ≡ None
 none_there None e = refl
 none_there (Some x) e = cc

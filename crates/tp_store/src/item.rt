@@ -1,12 +1,12 @@
 //! A task that is not done, with the inputs that it has.
-ghost use Rattle.std.specs.Prelude.{◌≡◌, ◌<◌, ◌≤◌, [], length, map, insert, Some, None, is_some, slice_index_or, true, false, MatchOption, IfOk};
+ghost use Rattle.std.specs.Prelude.{◌≡◌, ◌<◌, ◌≤◌, [], length, map, insert, Some, None, is_some, slice_index_or, true, false, MatchOption, IfOk, IfErr};
 ghost use Rattle.smallvec.specs.SmallVec.{small_vec_len, HasRoomFor};
 ghost use Rattle.tp_store.specs.Items.{count_set};
 ghost use Rattle.tp_store.specs.Content.{fresh, with_value, begun, is_waiting, has_begun, refusal_of_value};
 
 use crate::life::Life;
 use smallvec::SmallVec;
-use std::alloc::{AllocError, Global};
+use std::alloc::Global;
 use std::default::MadeWith;
 use std::marker::Model;
 use std::mem;
@@ -89,10 +89,12 @@ impl<V> TaskItem<V> {
 }
 
 impl<V: MadeWith<Global> + Drop> TaskItem<V> {
-    /// A task of class 0 that has none of its inputs, with room for them.
-    pub(crate) fn new(number: TaskId, arity: u8, alloc: Global) -> Result<Self, AllocError>
-        requires { arity ≤ MAX_INPUTS }
-        ensures { IfOk result (λ item. item ≡ record { number = number; task = fresh arity 0 }) }
+    /// A task that has none of its inputs, with room for them.
+    pub(crate) fn new(number: TaskId, arity: u8, class: u8, alloc: Global) -> Result<Self, Refusal>
+        requires arity_in_range { arity ≤ MAX_INPUTS }
+        requires class_in_range { class < CLASSES }
+        ensures item { IfOk result (λ item. item ≡ record { number = number; task = fresh arity class }) }
+        ensures refusal { IfErr result (λ e. e ≡ Refusal.NoMemory) }
     {
         let mut values = SmallVec::new(alloc);
         values.reserve_exact(arity as usize)?;
@@ -100,20 +102,18 @@ impl<V: MadeWith<Global> + Drop> TaskItem<V> {
             number,
             life: Life::lacking(arity),
             arity,
-            class: 0,
+            class,
             filled: [false; 16],
             values,
         })
     }
 
-    /// The same task in a class.
-    pub(crate) fn with_class(self, class: u8) -> Self
+    /// Puts it into a class.
+    pub(crate) fn set_class(&mut self, class: u8)
         requires { class < CLASSES }
-        ensures { result ≡ record self { task = record self.task { class = class } } }
+        ensures { self.new ≡ record self.old { task = record self.old.task { class = class } } }
     {
-        let mut item = self;
-        item.class = class;
-        item
+        self.class = class;
     }
 
     /// Puts a value into a free slot of a task that waits.

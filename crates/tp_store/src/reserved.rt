@@ -10,7 +10,7 @@ use crate::index::{Index, make_room};
 use crate::item::TaskItem;
 use std::alloc::Global;
 use std::default::MadeWith;
-use tp_base::{MAX_INPUTS, MAX_LIVE_TASKS, Refusal, TaskId};
+use tp_base::{CLASSES, MAX_INPUTS, MAX_LIVE_TASKS, Refusal, TaskId};
 use tp_slots::Slots;
 
 /// Whether the item is made for this task with so many inputs.
@@ -32,11 +32,13 @@ pub(crate) fn make_item<S: Slots<TaskItem<V>>, V: MadeWith<Global> + Drop>(
     more: usize,
     task: TaskId,
     arity: u8,
+    class: u8,
     alloc: Global,
 ) -> Result<TaskItem<V>, Refusal>
     requires arity_in_range { arity ≤ MAX_INPUTS }
+    requires class_in_range { class < CLASSES }
     requires unknown { entry_at index.old task.0 ≡ None }
-    ensures item { IfOk result (λ i. i ≡ record { number = task; task = fresh arity 0 }) }
+    ensures item { IfOk result (λ i. i ≡ record { number = task; task = fresh arity class }) }
     ensures slots { S.content slots.new ≡ S.content slots.old }
     ensures room { OnOk result (0 < S.room slots.new) }
     ensures not_full { OnOk result (held_count (S.content slots.old) < MAX_LIVE_TASKS) }
@@ -52,7 +54,6 @@ pub(crate) fn make_item<S: Slots<TaskItem<V>>, V: MadeWith<Global> + Drop>(
 {
     slots.reserve()?;
     results.reserve(more)?;
-    let item = TaskItem::new(task, arity, alloc)?;
     make_room(index, task)?;
-    Ok(item)
+    TaskItem::new(task, arity, class, alloc)
 }

@@ -246,6 +246,7 @@ impl<S: Slots<TaskItem<V>>, V: MadeWith<Global> + Drop> TaskStore<S, V> {
             live as usize + 1,
             task,
             arity,
+            0,
             self.alloc,
         )?;
         self.reserved = Some(item);
@@ -261,15 +262,11 @@ impl<S: Slots<TaskItem<V>>, V: MadeWith<Global> + Drop> TaskStore<S, V> {
         ensures unfinished { unfinished self.new.content ≡ unfinished self.old.content + 1 }
         ensures lives { NoneGoesBack self.old.content self.new.content }
     {
-        let Some(item) = self.reserved.take() else {
+        let Some(mut item) = self.reserved.take() else {
             unreachable!()
         };
-        enter(
-            &mut self.slots,
-            &mut self.index,
-            &mut self.counts,
-            item.with_class(class),
-        );
+        item.set_class(class);
+        enter(&mut self.slots, &mut self.index, &mut self.counts, item);
     }
 
     /// Inserts an input-free task, ready at once: `reserve`, then `insert_reserved`. Its class is 0 to 3.
@@ -287,8 +284,38 @@ impl<S: Slots<TaskItem<V>>, V: MadeWith<Global> + Drop> TaskStore<S, V> {
         ensures unchanged { OnErr result (self.new.content ≡ self.old.content) }
     {
         self.check_insert(task)?;
-        self.reserve_unknown(task, 0)?;
-        self.insert_reserved(task, class);
+        self.insert_unknown(task, class)
+    }
+
+    // Inserts an input-free task that is not known. Where no room was made for it, its item is made right for the slots.
+    fn insert_unknown(&mut self, task: TaskId, class: u8) -> Result<(), Refusal>
+        requires unknown { task_of self.old.content task ≡ None }
+        requires class_in_range { class < CLASSES }
+        ensures not_full { OnOk result (refusal_of_new self.old.content ≡ None) }
+        ensures content { OnOk result (self.new.content ≡ with_inserted self.old.content task class) }
+        ensures unfinished { OnOk result (unfinished self.new.content ≡ unfinished self.old.content + 1) }
+        ensures lives { NoneGoesBack self.old.content self.new.content }
+        ensures refusal { IfErr result (λ e. e ≡ unwrap_or (refusal_of_new self.old.content) Refusal.NoMemory) }
+        ensures unchanged { OnErr result (self.new.content ≡ self.old.content) }
+    {
+        if is_made_for(&self.reserved, task, 0) {
+            self.insert_reserved(task, class);
+            return Ok(());
+        }
+        let live = self.counts.waiting + self.counts.ready + self.counts.running;
+        let item = make_item(
+            &mut self.slots,
+            &mut self.index,
+            &mut self.results,
+            live as usize + 1,
+            task,
+            0,
+            class,
+            self.alloc,
+        )?;
+        // The room is for one task, so none is left for another.
+        self.reserved = None;
+        enter(&mut self.slots, &mut self.index, &mut self.counts, item);
         Ok(())
     }
 
@@ -332,10 +359,10 @@ impl<S: Slots<TaskItem<V>>, V: MadeWith<Global> + Drop> TaskStore<S, V> {
         ensures content { self.new.content ≡ with_delivered self.old.content task arity class slot value }
         ensures unfinished { unfinished self.new.content ≡ unfinished self.old.content + 1 }
     {
-        let Some(item) = self.reserved.take() else {
+        let Some(mut item) = self.reserved.take() else {
             unreachable!()
         };
-        let mut item = item.with_class(class);
+        item.set_class(class);
         item.fill(slot, value);
         enter(&mut self.slots, &mut self.index, &mut self.counts, item);
     }
@@ -369,10 +396,7 @@ impl<S: Slots<TaskItem<V>>, V: MadeWith<Global> + Drop> TaskStore<S, V> {
         ensures unchanged { OnErr result (self.new.content ≡ self.old.content) }
     {
         let Some(entry) = entry_of(&self.index, task) else {
-            if let Err(refusal) = self.reserve_unknown(task, arity) {
-                return Err((refusal, value));
-            }
-            self.insert_with_value(task, arity, class, slot, value);
+            self.deliver_unknown(task, arity, class, slot, value)?;
             return Ok(Delivered::Inserted(arity - 1));
         };
         let Entry::Live(place) = entry else {
@@ -383,6 +407,52 @@ impl<S: Slots<TaskItem<V>>, V: MadeWith<Global> + Drop> TaskStore<S, V> {
         }
         supply(&mut self.slots, &mut self.counts, place, slot, value);
         Ok(Delivered::Filled)
+    }
+
+    // Inserts a task that is not known with its first value. Where no room was made for it, its item is made right for the
+    // slots.
+    fn deliver_unknown(
+        &mut self,
+        task: TaskId,
+        arity: u8,
+        class: u8,
+        slot: u8,
+        value: V,
+    ) -> Result<(), (Refusal, V)>
+        requires unknown { task_of self.old.content task ≡ None }
+        requires arity_in_range { arity ≤ MAX_INPUTS }
+        requires class_in_range { class < CLASSES }
+        requires slot_in_range { slot < arity }
+        ensures not_full { OnOk result (refusal_of_new self.old.content ≡ None) }
+        ensures content { OnOk result (self.new.content ≡ with_delivered self.old.content task arity class slot value) }
+        ensures unfinished { OnOk result (unfinished self.new.content ≡ unfinished self.old.content + 1) }
+        ensures refusal { IfErr result (λ e. e.0 ≡ unwrap_or (refusal_of_new self.old.content) Refusal.NoMemory) }
+        ensures value_returned { IfErr result (λ e. e.1 ≡ value) }
+        ensures unchanged { OnErr result (self.new.content ≡ self.old.content) }
+    {
+        if is_made_for(&self.reserved, task, arity) {
+            self.insert_with_value(task, arity, class, slot, value);
+            return Ok(());
+        }
+        let live = self.counts.waiting + self.counts.ready + self.counts.running;
+        let mut item = match make_item(
+            &mut self.slots,
+            &mut self.index,
+            &mut self.results,
+            live as usize + 1,
+            task,
+            arity,
+            class,
+            self.alloc,
+        ) {
+            Ok(item) => item,
+            Err(refusal) => return Err((refusal, value)),
+        };
+        item.fill(slot, value);
+        // The room is for one task, so none is left for another.
+        self.reserved = None;
+        enter(&mut self.slots, &mut self.index, &mut self.counts, item);
+        Ok(())
     }
 
     /// The next ready task, of the lowest class that has one, begins: its inputs are moved out.

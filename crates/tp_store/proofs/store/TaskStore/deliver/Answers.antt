@@ -1,46 +1,42 @@
-use Rattle.std.proofs.Common.{◌+◌, Some, None, unwrap_or, rules, subst, ap, sym, ◌∙◌, arith}
+use Rattle.std.proofs.Common.{Some, None, unwrap_or, rules, subst, ap, sym, ◌∙◌, arith}
 use Rattle.tp_base.specs.declared.refusal.Refusal.TheVariants.{NoMemory}
-use Rattle.tp_store.specs.Content.{task_of, unfinished, with_delivered, NoneGoesBack}
+use Rattle.tp_store.specs.Content.{NoneGoesBack}
 use Rattle.tp_store.specs.declared.index.Entry.TheVariants.{Done}
 use Rattle.tp_store.proofs.Stages.{delivered_goes_on}
 use Rattle.tp_store.proofs.Finishing.{taken_there}
 use Rattle.tp_store.proofs.Reading.{seen, seen_live, known_refusal, unknown_refusal, accepts, refuses}
 use Rattle.tp_store.proofs.Delivering.{inserts}
+use Rattle.tp_store.proofs.Reserving.{told_first}
 use Rattle.tp_store.proofs.Supplying.{known_item, can_supply, supplied_all, fills}
 use Rattle.tp_store.proofs.store.TaskStore.deliver.Goals as goal
 
 -- ---- an unknown task
-pub reserve_unknown-requires : goal.reserve_unknown-requires
-reserve_unknown-requires g c =
+pub deliver_unknown-requires : goal.deliver_unknown-requires
+deliver_unknown-requires g c =
     let s = c.self.inside in
-    (search rules, (c.requires.arity_in_range, (seen (g.S.Slots.content s.slots) s.index s.results.items c.args.self.now.content (ap (λ v. v.content) c.self.view_is) c.args.task None (sym c.entry_of.ensures ∙ c.in_default.is))))
-
-pub returns-in-Err-clause-refusal : goal.returns-in-Err-clause-refusal
-returns-in-Err-clause-refusal g c =
-    let s = c.self.inside in
-    c.in-Err.ensures.refusal ∙ ap (λ o. unwrap_or o NoMemory) (sym (unknown_refusal c.args.self.now.content c.args.task c.args.arity c.args.slot (seen (g.S.Slots.content s.slots) s.index s.results.items c.args.self.now.content (ap (λ v. v.content) c.self.view_is) c.args.task None (sym c.entry_of.ensures ∙ c.in_default.is))))
-
-pub insert_with_value-requires : goal.insert_with_value-requires
-insert_with_value-requires g c =
-    let s = c.self.inside in
-    (search rules, (ap (λ v. task_of v c.args.task) c.in_default-reserve_unknown.ensures.content ∙ (seen (g.S.Slots.content s.slots) s.index s.results.items c.args.self.now.content (ap (λ v. v.content) c.self.view_is) c.args.task None (sym c.entry_of.ensures ∙ c.in_default.is)), (c.in_default-reserve_unknown.ensures.room, (c.requires.arity_in_range, (c.requires.class_in_range, c.requires.slot_in_range)))))
+    (search rules, (seen (g.S.Slots.content s.slots) s.index s.results.items c.args.self.now.content (ap (λ v. v.content) c.self.view_is) c.args.task None (sym c.entry_of.ensures ∙ c.in_default.is), (c.requires.arity_in_range, (c.requires.class_in_range, c.requires.slot_in_range))))
 
 pub returns-in_default : goal.returns-in_default
 returns-in_default g c =
     let s = c.self.inside in
-    let same = c.in_default-reserve_unknown.ensures.content in
-    let none = (seen (g.S.Slots.content s.slots) s.index s.results.items c.args.self.now.content (ap (λ v. v.content) c.self.view_is) c.args.task None (sym c.entry_of.ensures ∙ c.in_default.is)) in
-    let content = c.insert_with_value.ensures.content ∙ ap (λ v. with_delivered v c.args.task c.args.arity c.args.class c.args.slot c.args.value) same in
+    let none = seen (g.S.Slots.content s.slots) s.index s.results.items c.args.self.now.content (ap (λ v. v.content) c.self.view_is) c.args.task None (sym c.entry_of.ensures ∙ c.in_default.is) in
+    let content = c.in_ok-deliver_unknown.ensures.content in
     record {
-      checked = unknown_refusal c.args.self.now.content c.args.task c.args.arity c.args.slot none ∙ c.in_default-reserve_unknown.ensures.not_full;
+      checked = unknown_refusal c.args.self.now.content c.args.task c.args.arity c.args.slot none ∙ c.in_ok-deliver_unknown.ensures.not_full;
       answer = inserts c.args.self.now.content c.args.task c.args.arity none;
       content = content;
-      unfinished = c.insert_with_value.ensures.unfinished ∙ ap (λ v. unfinished v + 1) same;
+      unfinished = c.in_ok-deliver_unknown.ensures.unfinished;
       lives = subst (λ v. NoneGoesBack c.args.self.now.content v) (sym content) (delivered_goes_on c.args.self.now.content c.args.task c.args.arity c.args.class c.args.slot c.args.value);
       refusal = tt;
       value_returned = tt;
       unchanged = tt;
     }
+
+pub returns-in_err-deliver_unknown-clause-refusal : goal.returns-in_err-deliver_unknown-clause-refusal
+returns-in_err-deliver_unknown-clause-refusal g c =
+    let s = c.self.inside in
+    let none = seen (g.S.Slots.content s.slots) s.index s.results.items c.args.self.now.content (ap (λ v. v.content) c.self.view_is) c.args.task None (sym c.entry_of.ensures ∙ c.in_default.is) in
+    told_first c.from_residual.result c.in_err-deliver_unknown.field-0.0 _ c.from_residual.ensures.1 (c.in_err-deliver_unknown.ensures.refusal ∙ sym (ap (λ o. unwrap_or o NoMemory) (unknown_refusal c.args.self.now.content c.args.task c.args.arity c.args.slot none)))
 
 -- ---- a task that is done
 pub returns-in_default-entry-clause-refusal : goal.returns-in_default-entry-clause-refusal
@@ -56,11 +52,11 @@ get-requires g c =
     let s = c.self.inside in
     taken_there (g.S.Slots.content s.slots) (g.S.Slots.room s.slots) s.index s.results s.counts s.reserved c.self.invariant c.args.task c.in-Live.place (sym c.entry_of.ensures ∙ c.in-Some.is ∙ ap Some c.in-Live.is)
 
-pub returns-in-Err-check-clause-refusal : goal.returns-in-Err-check-clause-refusal
-returns-in-Err-check-clause-refusal g c =
+pub returns-in-Err-clause-refusal : goal.returns-in-Err-clause-refusal
+returns-in-Err-clause-refusal g c =
     let s = c.self.inside in
     let x = seen_live (g.S.Slots.content s.slots) s.index s.results.items c.args.self.now.content (ap (λ v. v.content) c.self.view_is) c.args.task c.in-Live.place c.get.result.now (sym c.entry_of.ensures ∙ c.in-Some.is ∙ ap Some c.in-Live.is) c.get.ensures in
-    sym (ap (λ o. unwrap_or o NoMemory) (known_refusal c.args.self.now.content c.args.task c.args.arity c.args.slot _ x ∙ refuses _ c.check.result c.in-Err-check.refusal c.check.ensures c.in-Err-check.is))
+    sym (ap (λ o. unwrap_or o NoMemory) (known_refusal c.args.self.now.content c.args.task c.args.arity c.args.slot _ x ∙ refuses _ c.check.result c.in-Err.refusal c.check.ensures c.in-Err.is))
 
 pub supply-requires : goal.supply-requires
 supply-requires g c =

@@ -11,16 +11,16 @@ pub enter-requires : goal.enter-requires
 enter-requires g c =
     let s = c.self.inside in
     let view = c.self.view_is ∙ (λ i. record { content = c.args.self.now.content; reserved = c.requires.room i }) in
-    let own = ap (λ j. j.number) (c.with_class.ensures ∙ prepared (g.S.Slots.content s.slots) (g.S.Slots.room s.slots) s.index s.results s.counts s.reserved c.args.self.now.content c.in-Some.item c.args.task 0 c.self.invariant c.in-Some.ensures.value view c.args.class) in
-    (search rules, can_enter (g.S.Slots.content s.slots) (g.S.Slots.room s.slots) s.index s.results s.counts s.reserved c.args.self.now.content c.in-Some.item c.args.task 0 c.self.invariant c.in-Some.ensures.value view c.with_class.result own)
+    let own = ap (λ j. j.number) (c.set_class.ensures ∙ prepared (g.S.Slots.content s.slots) (g.S.Slots.room s.slots) s.index s.results s.counts s.reserved c.args.self.now.content c.in-Some.item c.args.task 0 c.self.invariant c.in-Some.ensures.value view c.args.class) in
+    (search rules, can_enter (g.S.Slots.content s.slots) (g.S.Slots.room s.slots) s.index s.results s.counts s.reserved c.args.self.now.content c.in-Some.item c.args.task 0 c.self.invariant c.in-Some.ensures.value view c.set_class.new.self own)
 
 entered : (g : given.Over) (c : goal.After-enter g) → (content_of (g.S.Slots.content c.enter.new.slots) c.enter.new.index c.self.inside.results.items ≡ with_inserted c.args.self.now.content c.args.task c.args.class) × (unfinished (content_of (g.S.Slots.content c.enter.new.slots) c.enter.new.index c.self.inside.results.items) ≡ unfinished c.args.self.now.content + 1)
     × IsKept (g.S.Slots.content c.enter.new.slots) (g.S.Slots.room c.enter.new.slots) c.enter.new.index c.self.inside.results c.enter.new.counts None
 entered g c =
     let s = c.self.inside in
     let view = c.self.view_is ∙ (λ i. record { content = c.args.self.now.content; reserved = c.requires.room i }) in
-    let is = c.with_class.ensures ∙ prepared (g.S.Slots.content s.slots) (g.S.Slots.room s.slots) s.index s.results s.counts s.reserved c.args.self.now.content c.in-Some.item c.args.task 0 c.self.invariant c.in-Some.ensures.value view c.args.class in
-    entered_all (g.S.Slots.content s.slots) (g.S.Slots.room s.slots) s.index s.results s.counts s.reserved c.args.self.now.content c.in-Some.item c.args.task 0 c.self.invariant c.in-Some.ensures.value view (g.S.Slots.content c.enter.new.slots) (g.S.Slots.room c.enter.new.slots) c.enter.new.index c.enter.new.counts c.with_class.result (fresh 0 c.args.class) is (IsTask-fresh 0 c.args.class (omega arith) c.requires.class_in_range) (not_begun_life 0) c.enter.ensures.place c.enter.ensures.counts c.enter.ensures.not_full
+    let is = c.set_class.ensures ∙ prepared (g.S.Slots.content s.slots) (g.S.Slots.room s.slots) s.index s.results s.counts s.reserved c.args.self.now.content c.in-Some.item c.args.task 0 c.self.invariant c.in-Some.ensures.value view c.args.class in
+    entered_all (g.S.Slots.content s.slots) (g.S.Slots.room s.slots) s.index s.results s.counts s.reserved c.args.self.now.content c.in-Some.item c.args.task 0 c.self.invariant c.in-Some.ensures.value view (g.S.Slots.content c.enter.new.slots) (g.S.Slots.room c.enter.new.slots) c.enter.new.index c.enter.new.counts c.set_class.new.self (fresh 0 c.args.class) is (IsTask-fresh 0 c.args.class (omega arith) c.requires.class_in_range) (not_begun_life 0) c.enter.ensures.place c.enter.ensures.counts c.enter.ensures.not_full
 
 pub invariant_of-self : goal.invariant_of-self
 invariant_of-self g c = rw c.take.ensures.after (entered g c).2

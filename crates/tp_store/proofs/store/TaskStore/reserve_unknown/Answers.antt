@@ -27,7 +27,7 @@ overflow_add-live-2 g c =
 pub make_item-requires : goal.make_item-requires
 make_item-requires g c =
     let s = c.self.inside in
-    (search rules, (c.requires.arity_in_range, nothing_there (g.S.Slots.content s.slots) (g.S.Slots.room s.slots) s.index s.results s.counts s.reserved c.self.invariant c.args.self.now.content (ap (λ v. v.content) c.self.view_is) c.args.task c.args.arity c.requires.unknown))
+    (search rules, (c.requires.arity_in_range, (omega arith, nothing_there (g.S.Slots.content s.slots) (g.S.Slots.room s.slots) s.index s.results s.counts s.reserved c.self.invariant c.args.self.now.content (ap (λ v. v.content) c.self.view_is) c.args.task c.args.arity c.requires.unknown)))
 
 -- ---- no room was to be had
 pub invariant_of-self : goal.invariant_of-self
