@@ -1,8 +1,9 @@
-use Rattle.std.proofs.Common.{◌≡◌, ◌<◌, ◌≤◌, ◌+◌, ◌*◌, ℕ, zero, suc, ◌^◌, ℤ, pos, negsuc, ◌+ℤ◌, List, [], ◌∷◌, ◌++◌, length, get_or, set, take, ◌/◌, ◌%◌, nat_eq, subst, Some, None, true, false, refl, sym, ap, ◌∙◌, add-one, arith}
+use Rattle.std.proofs.Common.{◌≡◌, ◌<◌, ◌≤◌, ◌+◌, ◌*◌, ℕ, zero, suc, ◌^◌, ℤ, pos, negsuc, ◌+ℤ◌, List, [], ◌∷◌, ◌++◌, length, get_or, set, take, ◌/◌, ◌%◌, nat_eq, subst, Some, None, true, false, refl, sym, ap, ◌∙◌, append_assoc, append-nil, add-one, arith}
 use Rattle.std.specs.Int.Signed.{mag}
 use Rattle.std.proofs.lemmas.Bool.Decides.{nat_tests}
 use Rattle.std.proofs.lemmas.Bool.{and_parts, and_from, and_right}
 use Rattle.std.proofs.lemmas.List.{take_more, take_more_set, take_all}
+use Rattle.std.proofs.lemmas.Nat.{div-mul-add, mod-mul-add}
 use Rattle.tp_graph.specs.Values.{fits, all_fit, fitting, then_some}
 use Rattle.tp_samples.specs.Products.{sum_from, list_of, add_lists, added, place_sum, tile, tile_and_input, term}
 
@@ -13,8 +14,33 @@ list_last : {A : Type 0} (count : ℕ) (f : ℕ → A) → list_of (suc count) f
 list_last zero f = refl
 list_last (suc count) f = ap (λ l. f 0 ∷ l) (list_last count (λ e. f (suc e)))
 
-pub list_more : {A : Type 0} (count : ℕ) (f : ℕ → A) → list_of (count + 1) f ≡ list_of count f ++ f count ∷ []
-list_more count f = rw add-one (list_last count f)
+-- one more behind a list
+pub list_more : {A : Type 0} (xs : List A) (count : ℕ) (f : ℕ → A) → xs ++ list_of (count + 1) f ≡ (xs ++ list_of count f) ++ f count ∷ []
+list_more xs count f = rw add-one (ap (λ l. xs ++ l) (list_last count f) ∙ sym (append_assoc xs (list_of count f) (f count ∷ [])))
+
+-- as many more as g has
+list-joined : {A : Type 0} (m n : ℕ) (f g : ℕ → A) → ((c : ℕ) → c < n → g c ≡ f (m + c)) → list_of m f ++ list_of n g ≡ list_of (m + n) f
+list-joined m zero f g h = let none : m + 0 ≡ m = omega arith in append-nil (list_of m f) ∙ ap (λ k. list_of k f) (sym none)
+list-joined m (suc n) f g h =
+    let many : m + suc n ≡ suc (m + n) = omega arith in
+    ap (λ l. list_of m f ++ l) (list_last n g)
+    ∙ sym (append_assoc (list_of m f) (list_of n g) (g n ∷ []))
+    ∙ ap (λ l. l ++ g n ∷ []) (list-joined m n f g (λ c b. h c (omega arith)))
+    ∙ ap (λ y. list_of (m + n) f ++ y ∷ []) (h n (omega arith))
+    ∙ sym (list_last (m + n) f)
+    ∙ ap (λ k. list_of k f) (sym many)
+
+-- one more row of a tile
+pub row_joined : (side seed i j k r : ℕ) (before now : List ℤ) →
+    before ≡ list_of (r * side) (λ e. sum_from (k * side) side (term seed (i * side + e / side) (j * side + e % side))) →
+    now ≡ before ++ list_of side (λ c. sum_from (k * side) side (term seed (i * side + r) (j * side + c))) →
+    now ≡ list_of ((r + 1) * side) (λ e. sum_from (k * side) side (term seed (i * side + e / side) (j * side + e % side)))
+row_joined side seed i j k r before now rows row =
+    let at : ℕ → ℕ → ℤ = λ x y. sum_from (k * side) side (term seed (i * side + x) (j * side + y)) in
+    let here : (c : ℕ) → c < side → at r c ≡ at ((r * side + c) / side) ((r * side + c) % side) =
+    λ c b. sym (ap (λ x. at x ((r * side + c) % side)) (div-mul-add r side c b) ∙ ap (at r) (mod-mul-add r side c b)) in
+    let many : r * side + side ≡ (r + 1) * side = omega arith in
+    row ∙ ap (λ l. l ++ list_of side (at r)) rows ∙ list-joined (r * side) side (λ e. at (e / side) (e % side)) (at r) here ∙ ap (λ n. list_of n (λ e. at (e / side) (e % side))) many
 
 pub list-length : {A : Type 0} (count : ℕ) (f : ℕ → A) → length (list_of count f) ≡ count
 list-length zero f = refl

@@ -1,5 +1,5 @@
-ghost use Rattle.std.specs.Prelude.{◌≡◌, ◌<◌, ◌≤◌, ◌+◌, ◌-◌, ◌*◌, ◌/◌, ◌%◌, ◌+ℤ◌, ◌∷◌, [], ◌*ℤ◌, unsigned_abs, true, false, length, IfOk, MatchResult, Some, None};
-ghost use Rattle.tp_samples.specs.Products.{IsProduct, IsProduct-prop, product_graph, left_entry, right_entry, term, sum_from, tile, added, place_sum};
+ghost use Rattle.std.specs.Prelude.{◌≡◌, ◌<◌, ◌≤◌, ◌+◌, ◌-◌, ◌*◌, ◌/◌, ◌%◌, ◌+ℤ◌, ◌∷◌, ◌++◌, [], ◌*ℤ◌, unsigned_abs, true, false, length, vec_len, vec_capacity, IfOk, MatchResult, Some, None};
+ghost use Rattle.tp_samples.specs.Products.{IsProduct, IsProduct-prop, product_graph, left_entry, right_entry, term, sum_from, list_of, tile, added, place_sum};
 ghost use Rattle.tp_samples.specs.ProductLaws.{product_lawful};
 ghost use Rattle.tp_samples.specs.Same.{three_same, rule_of_three};
 ghost use Rattle.tp_graph.specs.Values.{fits, all_fit};
@@ -130,7 +130,6 @@ impl Graph for Product {
 }
 
 /// A tile of products.
-#[tactic(auto, using(crate::proofs::Sums::list_more, crate::proofs::Sums::fit_push))]
 fn make_tile(
     alloc: Global,
     side: u32,
@@ -141,20 +140,30 @@ fn make_tile(
 ) -> Result<Vec<i64>, AllocError>
     requires places { (i * side + side ≤ 64) × (j * side + side ≤ 64) × (k * side + side ≤ 64) }
     requires seed_small { seed ≤ 9999 }
-    requires some { 1 ≤ side }
     ensures { IfOk result (λ made. (made.items ≡ tile side seed i j k) × (all_fit made.items ≡ true)) }
 {
     let mut made = Vec::with_capacity(alloc, (side * side) as usize)?;
-    for e in 0..side * side {
-        made.push_reserved(sum_at(
-            seed,
-            i * side + e / side,
-            j * side + e % side,
-            k * side,
-            side,
-        ));
+    for r in 0..side {
+        push_row(&mut made, side, seed, i * side + r, j * side, k * side);
     }
     Ok(made)
+}
+
+/// Appends a row of a tile of products: row x, at as many columns from y on.
+#[tactic(auto, using(crate::proofs::Sums::list_more, crate::proofs::Sums::fit_push))]
+fn push_row(made: &mut Vec<i64>, side: u32, seed: u32, x: u32, y: u32, start: u32)
+    requires places { (x < 64) × (y + side ≤ 64) × (start + side ≤ 64) }
+    requires seed_small { seed ≤ 9999 }
+    requires room { vec_len made.old + side ≤ vec_capacity made.old }
+    requires fit { all_fit made.old.items ≡ true }
+    ensures items { made.new.items ≡ made.old.items ++ list_of side (λ c. sum_from start side (term seed x (y + c))) }
+    ensures fit { all_fit made.new.items ≡ true }
+    ensures len { vec_len made.new ≡ vec_len made.old + side }
+    ensures capacity { vec_capacity made.new ≡ vec_capacity made.old }
+{
+    for c in 0..side {
+        made.push_reserved(sum_at(seed, x, y + c, start, side));
+    }
 }
 
 /// Adds the numbers of a list to those of another of the same length, in place. Refused with `BodyFailed` exactly
