@@ -227,6 +227,7 @@ impl<K: Ledgers> Board<K> {
     /// Adds a step of a node that moves no message.
     ///
     /// Refused: `HistoryFull` where the history has reached its limit; `NoMemory` where memory has to grow and does not.
+    #[inline(always)]
     pub fn append(&mut self, step: Step, shares: &mut Shares<K>) -> Result<(), Refusal>
         requires lawful { IsTrue (is_plain step) × IsOf shares.old.node step × (0 < shares.old.pending) }
         ensures ok { OnOk result (self.new ≡ with_event (event shares.old.node step) self.old) }

@@ -19,6 +19,7 @@ pub struct NodeCounts {
 
 impl NodeCounts {
     /// After one more step of the node.
+    #[inline(always)]
     fn after(self, step: &Step) -> NodeCounts
         requires few { AreFew self }
         ensures { result ≡ counts_after step.now self }
@@ -83,6 +84,7 @@ impl Counts {
     }
 
     /// Counts one more event.
+    #[inline(always)]
     pub fn follow(&mut self, node: NodeId, step: &Step)
         requires node { node.0 < 8 }
         requires few { (h : List Event) × AreCountsOf h self.old × (length h ≤ 1048576) }
@@ -96,6 +98,7 @@ impl Counts {
 }
 
 /// One more where the step receives a message.
+#[inline(always)]
 fn count_received(step: &Step, received: u32) -> u32
     requires { received ≤ 1048576 }
     ensures { result ≡ plus_if (is_recv step.now) received }
@@ -107,6 +110,7 @@ fn count_received(step: &Step, received: u32) -> u32
 }
 
 /// One more where the step ends a task.
+#[inline(always)]
 fn count_done(step: &Step, done: u32) -> u32
     requires { done ≤ 1048576 }
     ensures { result ≡ plus_if (is_done step.now) done }

@@ -71,6 +71,7 @@ impl Log {
     }
 
     /// Adds an event that sends no message.
+    #[inline(always)]
     pub fn add(&mut self, node: NodeId, step: Step) -> Result<(), Refusal>
         requires node { node.0 < 8 }
         requires beside { IsOf node.0 step }

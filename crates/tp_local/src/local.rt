@@ -393,6 +393,7 @@ impl Local {
     }
 
     /// Whether a task was inserted.
+    #[inline(always)]
     pub fn is_known(&self, task: TaskId) -> bool
         ensures { result ≡ is_some (task_of self.now.store task) }
     {
@@ -400,6 +401,7 @@ impl Local {
     }
 
     /// What a task has come to, or `None` where there is no such task.
+    #[inline(always)]
     pub fn life(&self, task: TaskId) -> Option<Life>
         ensures life { result ≡ life_of self.now.store task }
         ensures active { IsTrue (is_live result) → 0 < pending self.now }
@@ -416,6 +418,7 @@ impl Local {
     }
 
     /// What `deliver` would answer, `NoMemory` apart.
+    #[inline(always)]
     pub fn check(&self, task: TaskId, arity: u8, slot: u8) -> Result<(), Refusal>
         ensures { result_err result ≡ refusal_of_delivery self.now task arity slot }
     {

@@ -20,6 +20,7 @@ pub(crate) enum Entry {
 pub(crate) type Index = Table<Option<Entry>>;
 
 /// What stands under a number.
+#[inline(always)]
 pub(crate) fn entry_of(index: &Index, task: TaskId) -> Option<Entry>
     ensures { result ≡ entry_at index.now task.0 }
 {
@@ -40,6 +41,7 @@ pub(crate) fn make_room(index: &mut Index, task: TaskId) -> Result<(), AllocErro
 }
 
 /// Replaces what stands under a number that has room, which takes no memory.
+#[inline(always)]
 pub(crate) fn set_entry(index: &mut Index, task: TaskId, to: Entry)
     requires { IsSome (lookup index.old task.0) }
     ensures entries { (q : ℕ) → entry_at index.new q ≡ (if q == task.0 then Some to else entry_at index.old q) }

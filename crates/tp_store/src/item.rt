@@ -117,6 +117,7 @@ impl<V: MadeWith<Global> + Drop> TaskItem<V> {
     }
 
     /// Puts a value into a free slot of a task that waits.
+    #[inline(always)]
     pub(crate) fn fill(&mut self, slot: u8, value: V)
         requires waiting { is_waiting self.old.task.life ≡ true }
         requires slot_in_range { slot < self.old.task.arity }
@@ -143,6 +144,7 @@ impl<V: MadeWith<Global> + Drop> TaskItem<V> {
 }
 
 // Inserts a value into a vector with room for it.
+#[inline(always)]
 fn insert_reserved<V: MadeWith<Global> + Drop>(values: &mut SmallVec<V, 4>, at: usize, value: V)
     requires in_range { at ≤ small_vec_len values.old }
     requires room { HasRoomFor values.old 1 }
@@ -153,6 +155,7 @@ fn insert_reserved<V: MadeWith<Global> + Drop>(values: &mut SmallVec<V, 4>, at: 
 }
 
 // How many flags are set.
+#[inline(always)]
 fn count_set(flags: &[bool]) -> usize
     ensures value { result ≡ count_set flags.now }
     ensures bound { result ≤ length flags.now }

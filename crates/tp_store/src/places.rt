@@ -58,6 +58,7 @@ pub(crate) fn begin_at<S: Slots<TaskItem<V>>, V: MadeWith<Global> + Drop>(
 }
 
 /// Puts an idle place at the end of the list of its task's class, where the task is ready, and answers whether it is.
+#[inline(always)]
 pub(crate) fn list_if_ready<S: Slots<TaskItem<V>>, V>(slots: &mut S, place: Place) -> bool
     requires fits { FitsInMemory (the_row V.row) }
     requires idle { IsIdle (S.content slots.old) place }
@@ -75,6 +76,7 @@ pub(crate) fn list_if_ready<S: Slots<TaskItem<V>>, V>(slots: &mut S, place: Plac
 }
 
 /// Takes a task that has not begun into the slots, and lists it where it is ready.
+#[inline(always)]
 pub(crate) fn enter<S: Slots<TaskItem<V>>, V>(
     slots: &mut S,
     index: &mut Index,

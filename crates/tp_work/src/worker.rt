@@ -313,6 +313,7 @@ pub(crate) fn set_fault<G: Graph, K: Ledgers, R: Wait>(
 }
 
 /// The node, of so many, that the next feed goes to, where one is left.
+#[inline(always)]
 fn next_home<G: Graph>(finished: &Finished<G>, nodes: u32) -> Option<NodeId>
     requires { (1 ≤ nodes) × (nodes ≤ 8) }
     ensures next { MatchOption result (finished.now.fed ≡ (G.meaning finished.now.graph).feeds finished.now.task.0) (λ home. HasFeed (G.meaning finished.now.graph) finished.now × (home.0 ≡ feeds.next_home (G.meaning finished.now.graph) finished.now nodes) × (home.0 < nodes)) }

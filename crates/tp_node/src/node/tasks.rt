@@ -160,6 +160,7 @@ impl<G: Graph, K: Ledgers> Node<G, K> {
     }
 
     /// Whether the task runs here.
+    #[inline(always)]
     pub(crate) fn check_runs(&self, task: TaskId) -> Result<(), Refusal>
         ensures running { MatchBool (runs self.now.state.store task) (result ≡ Ok tt) (result ≡ Err WrongLife) }
         ensures active { IsTrue (runs self.now.state.store task) → 0 < self.now.numbers.pending }
@@ -172,6 +173,7 @@ impl<G: Graph, K: Ledgers> Node<G, K> {
 
     /// Whether a value can be put to where a feed ends, a full store apart. It answers whether the task is unknown and no
     /// more may live.
+    #[inline(always)]
     pub(crate) fn check_put(&self, feed: Feed) -> Result<bool, Refusal>
         requires active { 0 < self.now.numbers.pending }
         requires feed { IsFeed (G.meaning self.now.graph) feed }
@@ -219,6 +221,7 @@ impl<G: Graph, K: Ledgers> Node<G, K> {
     }
 
     /// The step that puts a value to a task.
+    #[inline(always)]
     fn putting_step(&self, task: TaskId, arity: u8) -> Step
         requires { (0 < arity) × (arity ≤ 16) }
         ensures { result ≡ (if is_some (task_of self.now.state.store task) then steps.Supply task else inserting self.now.numbers.node task (arity - 1)) }
