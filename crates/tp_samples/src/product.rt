@@ -1,5 +1,5 @@
-ghost use Rattle.std.specs.Prelude.{◌≡◌, ◌<◌, ◌≤◌, ◌+◌, ◌-◌, ◌*◌, ◌/◌, ◌%◌, ◌+ℤ◌, ◌∷◌, ◌++◌, [], ◌*ℤ◌, unsigned_abs, true, false, length, vec_len, vec_capacity, IfOk, MatchResult, Some, None};
-ghost use Rattle.tp_samples.specs.Products.{IsProduct, IsProduct-prop, product_graph, left_entry, right_entry, term, sum_from, list_of, tile, added, place_sum};
+ghost use Rattle.std.specs.Prelude.{◌≡◌, ◌<◌, ◌≤◌, ◌+◌, ◌-◌, ◌*◌, ◌/◌, ◌%◌, pos, ◌+ℤ◌, ◌-ℤ◌, ◌∷◌, ◌++◌, [], ◌*ℤ◌, unsigned_abs, true, false, length, vec_len, vec_capacity, IfOk, MatchResult, Some, None};
+ghost use Rattle.tp_samples.specs.Products.{IsProduct, IsProduct-prop, product_graph, term, sum_from, list_of, tile, added, place_sum};
 ghost use Rattle.tp_samples.specs.ProductLaws.{product_lawful};
 ghost use Rattle.tp_samples.specs.Same.{three_same, rule_of_three};
 ghost use Rattle.tp_graph.specs.Values.{fits, all_fit};
@@ -19,26 +19,6 @@ pub struct Product {
     /// What the matrices' entries start from: 0 to 9,999.
     pub seed: u32,
     pub ghost in_rules: { IsProduct tiles side seed },
-}
-
-/// An entry of the matrix on the left.
-fn left_at(seed: u32, x: u32, z: u32) -> i64
-    requires places { (x < 64) × (z < 64) }
-    requires seed_small { seed ≤ 9999 }
-    ensures same { result ≡ left_entry seed x z }
-    ensures small { unsigned_abs result ≤ 10 }
-{
-    i64::from((7 * x + 3 * z + seed) % 21) - 10
-}
-
-/// An entry of the matrix on the right.
-fn right_at(seed: u32, z: u32, y: u32) -> i64
-    requires places { (z < 64) × (y < 64) }
-    requires seed_small { seed ≤ 9999 }
-    ensures same { result ≡ right_entry seed z y }
-    ensures small { unsigned_abs result ≤ 10 }
-{
-    i64::from((5 * z + 2 * y + seed) % 21) - 10
 }
 
 /// A product of two small numbers.
@@ -61,7 +41,27 @@ fn plus(sum: i64, product: i64) -> i64
     sum + product
 }
 
-/// The sum of some products.
+/// The product of the entries that two residues of 21 stand for.
+fn product_of(left: u32, right: u32) -> i64
+    requires left { left < 21 }
+    requires right { right < 21 }
+    ensures same { result ≡ (pos left -ℤ pos 10) *ℤ (pos right -ℤ pos 10) }
+    ensures small { unsigned_abs result ≤ 100 }
+{
+    multiply(i64::from(left) - 10, i64::from(right) - 10)
+}
+
+/// A residue of 21, moved on by a step.
+fn moved(residue: u32, step: u32) -> u32
+    requires residue { residue < 21 }
+    requires step { step ≤ 21 }
+    ensures { result ≡ (residue + step) % 21 }
+{
+    let sum = residue + step;
+    if sum < 21 { sum } else { sum - 21 }
+}
+
+/// The sum of some products. The residues of the entries move on by a step each, so that none needs a division.
 #[tactic(auto, using(crate::proofs::Sums::sum_more, crate::proofs::Sums::fits_from))]
 fn sum_at(seed: u32, x: u32, y: u32, start: u32, count: u32) -> i64
     requires places { (x < 64) × (y < 64) × (start + count ≤ 64) }
@@ -69,10 +69,13 @@ fn sum_at(seed: u32, x: u32, y: u32, start: u32, count: u32) -> i64
     ensures same { result ≡ sum_from start count (term seed x y) }
     ensures fit { fits result ≡ true }
 {
+    let mut left = (7 * x + 3 * start + seed) % 21;
+    let mut right = (5 * start + 2 * y + seed) % 21;
     let mut sum = 0;
-    for z in 0..count {
-        let product = multiply(left_at(seed, x, start + z), right_at(seed, start + z, y));
-        sum = plus(sum, product);
+    for _ in 0..count {
+        sum = plus(sum, product_of(left, right));
+        left = moved(left, 3);
+        right = moved(right, 5);
     }
     sum
 }
