@@ -151,7 +151,11 @@ fn insert_reserved<V: MadeWith<Global> + Drop>(values: &mut SmallVec<V, 4>, at: 
     ensures items { values.new.items ≡ insert values.old.items at value }
     ensures capacity { values.new.capacity ≡ values.old.capacity }
 {
-    let _room_was_made = values.insert(at, value);
+    if at == values.len() {
+        values.push_reserved(value);
+    } else {
+        let _room_was_made = values.insert(at, value);
+    }
 }
 
 // How many flags are set.

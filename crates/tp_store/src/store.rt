@@ -80,6 +80,7 @@ impl<S: Slots<TaskItem<V>>, V> TaskStore<S, V> {
     }
 
     /// What a task has come to, or `None` where it was never inserted.
+    #[inline(always)]
     pub fn life(&self, task: TaskId) -> Option<Life>
         ensures life { result ≡ life_of self.now.content task }
         ensures sound { IsSound self.now.content }
@@ -138,6 +139,7 @@ impl<S: Slots<TaskItem<V>>, V> TaskStore<S, V> {
     ///
     /// `TaskKnown` where the task has begun or is done, or was inserted with another number of inputs, `SlotTaken` where the
     /// slot has its value, `StoreFull` where the task is unknown and 65,536 tasks are not done.
+    #[inline(always)]
     pub fn check(&self, task: TaskId, arity: u8, slot: u8) -> Result<(), Refusal>
         ensures { MatchOption (refusal_of_deliver self.now.content task arity slot) (result ≡ Ok tt) (λ e. result ≡ Err e) }
     {
@@ -374,6 +376,7 @@ impl<S: Slots<TaskItem<V>>, V: MadeWith<Global> + Drop> TaskStore<S, V> {
     /// `TaskKnown` where the task has begun or is done, or was inserted with another number of inputs, `SlotTaken` where the
     /// slot has its value, `StoreFull` where the task is unknown and 65,536 tasks are not done, `NoMemory` where a growth was
     /// refused.
+    #[inline(always)]
     pub fn deliver(
         &mut self,
         task: TaskId,
