@@ -2,7 +2,5 @@
 #![tactic(auto)]
 
 mod gathered;
-#[cfg(test)]
-mod tests;
 
 pub use gathered::{Report, finish};

@@ -1,8 +1,10 @@
-//! Tests of whole pools on worker threads: against the answer of one thread, and with gates between the threads. They stand
-//! apart from `tp_work`, whose functions would else be proved once more with them.
+//! Tests of whole pools: in one hand, on worker threads against the answer of one thread, and with gates between the
+//! threads. They stand apart from the crates that they test, whose functions would else be proved once more with them.
 #![tactic(auto)]
 
 #[cfg(test)]
 mod gates;
+#[cfg(test)]
+mod one_hand;
 #[cfg(test)]
 mod pools;

@@ -192,6 +192,7 @@ impl<G: Graph, K: Ledgers> Node<G, K> {
 
     /// Puts a value to where a feed ends, in the place that was reserved for the event. Refused with `NoMemory` alone; the
     /// value comes back then.
+    #[inline(always)]
     pub(crate) fn put(
         &mut self,
         board: &mut Board<K>,

@@ -1,6 +1,5 @@
 ghost use Rattle.std.specs.Prelude.{◌≡◌, ◌≤◌};
 
-use crate::{Report, finish};
 use std::alloc::Global;
 use std::process::Abort;
 use std::test::Fail;
@@ -9,6 +8,7 @@ use tp_board::{Blanks, Board, Brand, Ledgers};
 use tp_graph::{Finished, Graph, is_same};
 use tp_node::{Node, Pool, Turn, Wire, open_pool};
 use tp_samples::Reduce;
+use tp_work::{Report, finish};
 
 /// A tree of four leaves: 0, 11, 22 and 33.
 const TREE: Reduce = Reduce { leaves: 4, seed: 0 };
