@@ -11,7 +11,7 @@ use Rattle.tp_base.specs.Table.{lookup}
 use Rattle.tp_slots.specs.Content as slots
 use Rattle.tp_slots.proofs.Sound.{get_inserted, get_removed, IsSound-with_ready}
 use Rattle.tp_slots.proofs.Lists.{same_each, with_last-each}
-use Rattle.tp_store.specs.Content.{Task, fresh}
+use Rattle.tp_store.specs.Content.{Task, fresh, with_value}
 use Rattle.tp_store.specs.Items.{Item}
 use Rattle.tp_store.specs.Entries.{Entries, entry_at}
 use Rattle.tp_store.specs.Kept.{task_under, with_found, tasks_below, tasks_of, number_at}
@@ -88,6 +88,13 @@ module _ {V : Type 0} where
   pub item_here : (c : slots.Content (Item V)) (p : ℕ) (i : Item V) → slots.item_at (slots.with_item c p i) p ≡ Some i
   item_here c p i = let e : (p == p) ≡ true = grind (arith, nat_tests) in get_inserted c.items p i p ∙ ap (λ b. cond b (Some i) (finite.get c.items p)) e
 
+  -- the last item that came to a place is what counts
+  pub item_again : (c : slots.Content (Item V)) (p : ℕ) (i j : Item V) → slots.with_item (slots.with_item c p i) p j ≡ slots.with_item c p j
+  item_again c p i j =
+      let items : finite.insert (finite.insert c.items p i) p j ≡ finite.insert c.items p j =
+      finite.same_map nat_cmp_total finite.nat_cmp-IsAntisymmetric _ _ (λ q. get_inserted (finite.insert c.items p i) p j q ∙ ap (cond (q == p) (Some j)) (get_inserted c.items p i q) ∙ elim (q == p) as (λ b. cond b (Some j) (cond b (Some i) (finite.get c.items q)) ≡ cond b (Some j) (finite.get c.items q)) [ true ↦ refl | false ↦ refl ] ∙ sym (get_inserted c.items p j q)) in
+      λ k. record { items = items k; ready = c.ready }
+
   pub item_there : (c : slots.Content (Item V)) (p q : ℕ) (i : Item V) → q ≢ p → slots.item_at (slots.with_item c p i) q ≡ slots.item_at c q
   item_there c p q i apart = let e : (q == p) ≡ false = grind (arith, nat_tests) in get_inserted c.items p i q ∙ ap (λ b. cond b (Some i) (finite.get c.items q)) e
 
@@ -118,6 +125,12 @@ module _ {V : Type 0} where
   listed_lists false c p class low = refl
 
   -- what is said of the item that may be there
+  pub same_item : (o : Option (Item V)) (i j : Item V) → o ≡ Some i → o ≡ Some j → i ≡ j
+  same_item o i j e h = let both : Some i ≡ Some j = sym e ∙ h in cc
+
+  pub filled_same : (slot : ℕ) (value : V) (i j : Item V) → i ≡ j → ◌≡◌ {A = Item V} (record i { task = with_value i.task slot value }) (record j { task = with_value j.task slot value })
+  filled_same slot value i j e = λ k. record { number = (e k).number; task = with_value (e k).task slot value }
+
   pub at_item : (o : Option (Item V)) (i : Item V) (P : Item V → Type 0) → o ≡ Some i → IfSome o P → P i
   at_item None i P e h = let clash : None ≡ Some i = e in cc
   at_item (Some j) i P e h = let same : j ≡ i = cc in subst P same h

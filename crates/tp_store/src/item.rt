@@ -151,11 +151,12 @@ fn insert_reserved<V: MadeWith<Global> + Drop>(values: &mut SmallVec<V, 4>, at: 
     ensures items { values.new.items ≡ insert values.old.items at value }
     ensures capacity { values.new.capacity ≡ values.old.capacity }
 {
+    // Inputs mostly come in the order of their slots, and then none has to move.
     if at == values.len() {
         values.push_reserved(value);
-    } else {
-        let _room_was_made = values.insert(at, value);
+        return;
     }
+    let _room_was_made = values.insert(at, value);
 }
 
 // How many flags are set.

@@ -95,3 +95,30 @@ pub(crate) fn enter<S: Slots<TaskItem<V>>, V>(
     set_entry(index, number, Entry::Live(place));
     counts.enter(list_if_ready(slots, place));
 }
+
+/// Takes a task that waits into the slots, puts a value into its free slot there, and lists it where that was its last.
+pub(crate) fn enter_with<S: Slots<TaskItem<V>>, V: MadeWith<Global> + Drop>(
+    slots: &mut S,
+    index: &mut Index,
+    counts: &mut Counts,
+    item: TaskItem<V>,
+    slot: u8,
+    value: V,
+)
+    requires room { 0 < S.room slots.old }
+    requires entry { IsSome (lookup index.old item.number.0) }
+    requires counted { counts.old.waiting + counts.old.ready + counts.old.running ≡ held_count (S.content slots.old) }
+    requires waiting { is_waiting item.task.life ≡ true }
+    requires slot_in_range { slot < item.task.arity }
+    requires free { slice_index_or item.task.values slot None ≡ None }
+    ensures place { (place : ℕ) × (item_at (S.content slots.old) place ≡ None) × (S.content slots.new ≡ with_listed (with_item (S.content slots.old) place (record item { task = with_value item.task slot value })) place (with_value item.task slot value)) × ((q : ℕ) → entry_at index.new q ≡ (if q == item.number.0 then Some (Entry.Live place) else entry_at index.old q)) }
+    ensures counts { counts.new ≡ entered counts.old (is_ready (with_value item.task slot value).life) }
+    ensures not_full { held_count (S.content slots.old) < MAX_LIVE_TASKS }
+{
+    let number = item.number();
+    let place = slots.take_reserved(item);
+    // The value comes once the item lies where it stays, so that the item moves once.
+    slots.get_mut(place).fill(slot, value);
+    set_entry(index, number, Entry::Live(place));
+    counts.enter(list_if_ready(slots, place));
+}

@@ -6,7 +6,7 @@ ghost use Rattle.tp_slots.specs.Content.{front};
 use crate::index::{Entry, Index, entry_of, set_entry};
 use crate::item::TaskItem;
 use crate::life::{Counts, Delivered, Life};
-use crate::places::{begin_at, enter, supply};
+use crate::places::{begin_at, enter, enter_with, supply};
 use crate::reserved::{is_made_for, make_item};
 use smallvec::SmallVec;
 use std::alloc::Global;
@@ -365,8 +365,14 @@ impl<S: Slots<TaskItem<V>>, V: MadeWith<Global> + Drop> TaskStore<S, V> {
             unreachable!()
         };
         item.set_class(class);
-        item.fill(slot, value);
-        enter(&mut self.slots, &mut self.index, &mut self.counts, item);
+        enter_with(
+            &mut self.slots,
+            &mut self.index,
+            &mut self.counts,
+            item,
+            slot,
+            value,
+        );
     }
 
     /// Delivers a value to a slot of a task that takes 1 to 16 inputs: `check`, `reserve`, then `deliver_reserved`. An unknown
@@ -438,7 +444,7 @@ impl<S: Slots<TaskItem<V>>, V: MadeWith<Global> + Drop> TaskStore<S, V> {
             return Ok(());
         }
         let live = self.counts.waiting + self.counts.ready + self.counts.running;
-        let mut item = match make_item(
+        let item = match make_item(
             &mut self.slots,
             &mut self.index,
             &mut self.results,
@@ -451,10 +457,16 @@ impl<S: Slots<TaskItem<V>>, V: MadeWith<Global> + Drop> TaskStore<S, V> {
             Ok(item) => item,
             Err(refusal) => return Err((refusal, value)),
         };
-        item.fill(slot, value);
         // The room is for one task, so none is left for another.
         self.reserved = None;
-        enter(&mut self.slots, &mut self.index, &mut self.counts, item);
+        enter_with(
+            &mut self.slots,
+            &mut self.index,
+            &mut self.counts,
+            item,
+            slot,
+            value,
+        );
         Ok(())
     }
 

@@ -1,4 +1,4 @@
-use Rattle.std.proofs.Common.{rules, ap, sym, ◌∙◌, arith}
+use Rattle.std.proofs.Common.{rules, refl, ap, sym, ◌∙◌, arith}
 use Rattle.tp_store.proofs.Reading.{few_live}
 use Rattle.tp_store.proofs.Reserving.{nothing_there, is_made, refusals, refused_content, IsKept-refused}
 use Rattle.tp_store.proofs.Making.{made_fills, made_comes, made_delivered}
@@ -48,27 +48,24 @@ returns-in-Err-clause-unchanged g c =
     refused_content (g.S.Slots.content s.slots) (g.S.Slots.room s.slots) s.index s.results s.counts s.reserved c.self.invariant c.args.self.now.content (ap (λ v. v.content) c.self.view_is) (g.S.Slots.content c.make_item.new.slots) (g.S.Slots.room c.make_item.new.slots) c.make_item.new.index c.make_item.new.results c.make_item.ensures.slots c.make_item.ensures.entries c.make_item.ensures.results
 
 -- ---- room was made
-pub fill-requires : goal.fill-requires
-fill-requires g c =
+pub enter_with-requires : goal.enter_with-requires
+enter_with-requires g c =
     let s = c.self.inside in
-    (search rules, made_fills (g.S.Slots.content s.slots) (g.S.Slots.room s.slots) s.index s.results s.counts s.reserved c.self.invariant c.args.self.now.content (ap (λ v. v.content) c.self.view_is) c.args.task c.args.arity c.requires.unknown (g.S.Slots.content c.make_item.new.slots) (g.S.Slots.room c.make_item.new.slots) c.make_item.new.index c.make_item.new.results c.make_item.ensures.slots c.make_item.ensures.entries c.make_item.ensures.results c.in-Ok.ensures.room c.in-Ok.ensures.entry c.in-Ok.ensures.not_full c.in-Ok.ensures.space c.make_item.ensures.len c.args.class c.requires.arity_in_range c.requires.class_in_range c.in-Ok.item c.in-Ok.ensures.item c.args.slot c.args.value c.requires.slot_in_range)
-
-pub enter-requires : goal.enter-requires
-enter-requires g c =
-    let s = c.self.inside in
-    (search rules, made_comes (g.S.Slots.content s.slots) (g.S.Slots.room s.slots) s.index s.results s.counts s.reserved c.self.invariant c.args.self.now.content (ap (λ v. v.content) c.self.view_is) c.args.task c.args.arity c.requires.unknown (g.S.Slots.content c.make_item.new.slots) (g.S.Slots.room c.make_item.new.slots) c.make_item.new.index c.make_item.new.results c.make_item.ensures.slots c.make_item.ensures.entries c.make_item.ensures.results c.in-Ok.ensures.room c.in-Ok.ensures.entry c.in-Ok.ensures.not_full c.in-Ok.ensures.space c.make_item.ensures.len c.args.class c.requires.arity_in_range c.requires.class_in_range c.in-Ok.item c.in-Ok.ensures.item c.args.slot c.args.value c.requires.slot_in_range c.fill.new.self c.fill.ensures)
+    let comes = made_comes (g.S.Slots.content s.slots) (g.S.Slots.room s.slots) s.index s.results s.counts s.reserved c.self.invariant c.args.self.now.content (ap (λ v. v.content) c.self.view_is) c.args.task c.args.arity c.requires.unknown (g.S.Slots.content c.make_item.new.slots) (g.S.Slots.room c.make_item.new.slots) c.make_item.new.index c.make_item.new.results c.make_item.ensures.slots c.make_item.ensures.entries c.make_item.ensures.results c.in-Ok.ensures.room c.in-Ok.ensures.entry c.in-Ok.ensures.not_full c.in-Ok.ensures.space c.make_item.ensures.len c.args.class c.requires.arity_in_range c.requires.class_in_range c.in-Ok.item c.in-Ok.ensures.item c.args.slot c.args.value c.requires.slot_in_range _ refl in
+    let fills = made_fills (g.S.Slots.content s.slots) (g.S.Slots.room s.slots) s.index s.results s.counts s.reserved c.self.invariant c.args.self.now.content (ap (λ v. v.content) c.self.view_is) c.args.task c.args.arity c.requires.unknown (g.S.Slots.content c.make_item.new.slots) (g.S.Slots.room c.make_item.new.slots) c.make_item.new.index c.make_item.new.results c.make_item.ensures.slots c.make_item.ensures.entries c.make_item.ensures.results c.in-Ok.ensures.room c.in-Ok.ensures.entry c.in-Ok.ensures.not_full c.in-Ok.ensures.space c.make_item.ensures.len c.args.class c.requires.arity_in_range c.requires.class_in_range c.in-Ok.item c.in-Ok.ensures.item c.args.slot c.args.value c.requires.slot_in_range in
+    (search rules, (comes.0, (comes.1.0, (comes.1.1, fills))))
 
 pub invariant_of-self-2 : goal.invariant_of-self-2
 invariant_of-self-2 g c =
     let s = c.self.inside in
-    (made_delivered (g.S.Slots.content s.slots) (g.S.Slots.room s.slots) s.index s.results s.counts s.reserved c.self.invariant c.args.self.now.content (ap (λ v. v.content) c.self.view_is) c.args.task c.args.arity c.requires.unknown (g.S.Slots.content c.make_item.new.slots) (g.S.Slots.room c.make_item.new.slots) c.make_item.new.index c.make_item.new.results c.make_item.ensures.slots c.make_item.ensures.entries c.make_item.ensures.results c.in-Ok.ensures.room c.in-Ok.ensures.entry c.in-Ok.ensures.not_full c.in-Ok.ensures.space c.make_item.ensures.len c.args.class c.requires.arity_in_range c.requires.class_in_range c.in-Ok.item c.in-Ok.ensures.item c.args.slot c.args.value c.requires.slot_in_range c.fill.new.self c.fill.ensures (g.S.Slots.content c.enter.new.slots) (g.S.Slots.room c.enter.new.slots) c.enter.new.index c.enter.new.counts c.enter.ensures.place c.enter.ensures.counts c.enter.ensures.not_full).2
+    (made_delivered (g.S.Slots.content s.slots) (g.S.Slots.room s.slots) s.index s.results s.counts s.reserved c.self.invariant c.args.self.now.content (ap (λ v. v.content) c.self.view_is) c.args.task c.args.arity c.requires.unknown (g.S.Slots.content c.make_item.new.slots) (g.S.Slots.room c.make_item.new.slots) c.make_item.new.index c.make_item.new.results c.make_item.ensures.slots c.make_item.ensures.entries c.make_item.ensures.results c.in-Ok.ensures.room c.in-Ok.ensures.entry c.in-Ok.ensures.not_full c.in-Ok.ensures.space c.make_item.ensures.len c.args.class c.requires.arity_in_range c.requires.class_in_range c.in-Ok.item c.in-Ok.ensures.item c.args.slot c.args.value c.requires.slot_in_range _ refl (g.S.Slots.content c.enter_with.new.slots) (g.S.Slots.room c.enter_with.new.slots) c.enter_with.new.index c.enter_with.new.counts c.enter_with.ensures.place c.enter_with.ensures.counts c.enter_with.ensures.not_full).2
 
 pub returns-clause-content : goal.returns-clause-content
 returns-clause-content g c =
     let s = c.self.inside in
-    (made_delivered (g.S.Slots.content s.slots) (g.S.Slots.room s.slots) s.index s.results s.counts s.reserved c.self.invariant c.args.self.now.content (ap (λ v. v.content) c.self.view_is) c.args.task c.args.arity c.requires.unknown (g.S.Slots.content c.make_item.new.slots) (g.S.Slots.room c.make_item.new.slots) c.make_item.new.index c.make_item.new.results c.make_item.ensures.slots c.make_item.ensures.entries c.make_item.ensures.results c.in-Ok.ensures.room c.in-Ok.ensures.entry c.in-Ok.ensures.not_full c.in-Ok.ensures.space c.make_item.ensures.len c.args.class c.requires.arity_in_range c.requires.class_in_range c.in-Ok.item c.in-Ok.ensures.item c.args.slot c.args.value c.requires.slot_in_range c.fill.new.self c.fill.ensures (g.S.Slots.content c.enter.new.slots) (g.S.Slots.room c.enter.new.slots) c.enter.new.index c.enter.new.counts c.enter.ensures.place c.enter.ensures.counts c.enter.ensures.not_full).0
+    (made_delivered (g.S.Slots.content s.slots) (g.S.Slots.room s.slots) s.index s.results s.counts s.reserved c.self.invariant c.args.self.now.content (ap (λ v. v.content) c.self.view_is) c.args.task c.args.arity c.requires.unknown (g.S.Slots.content c.make_item.new.slots) (g.S.Slots.room c.make_item.new.slots) c.make_item.new.index c.make_item.new.results c.make_item.ensures.slots c.make_item.ensures.entries c.make_item.ensures.results c.in-Ok.ensures.room c.in-Ok.ensures.entry c.in-Ok.ensures.not_full c.in-Ok.ensures.space c.make_item.ensures.len c.args.class c.requires.arity_in_range c.requires.class_in_range c.in-Ok.item c.in-Ok.ensures.item c.args.slot c.args.value c.requires.slot_in_range _ refl (g.S.Slots.content c.enter_with.new.slots) (g.S.Slots.room c.enter_with.new.slots) c.enter_with.new.index c.enter_with.new.counts c.enter_with.ensures.place c.enter_with.ensures.counts c.enter_with.ensures.not_full).0
 
 pub returns-clause-unfinished : goal.returns-clause-unfinished
 returns-clause-unfinished g c =
     let s = c.self.inside in
-    (made_delivered (g.S.Slots.content s.slots) (g.S.Slots.room s.slots) s.index s.results s.counts s.reserved c.self.invariant c.args.self.now.content (ap (λ v. v.content) c.self.view_is) c.args.task c.args.arity c.requires.unknown (g.S.Slots.content c.make_item.new.slots) (g.S.Slots.room c.make_item.new.slots) c.make_item.new.index c.make_item.new.results c.make_item.ensures.slots c.make_item.ensures.entries c.make_item.ensures.results c.in-Ok.ensures.room c.in-Ok.ensures.entry c.in-Ok.ensures.not_full c.in-Ok.ensures.space c.make_item.ensures.len c.args.class c.requires.arity_in_range c.requires.class_in_range c.in-Ok.item c.in-Ok.ensures.item c.args.slot c.args.value c.requires.slot_in_range c.fill.new.self c.fill.ensures (g.S.Slots.content c.enter.new.slots) (g.S.Slots.room c.enter.new.slots) c.enter.new.index c.enter.new.counts c.enter.ensures.place c.enter.ensures.counts c.enter.ensures.not_full).1
+    (made_delivered (g.S.Slots.content s.slots) (g.S.Slots.room s.slots) s.index s.results s.counts s.reserved c.self.invariant c.args.self.now.content (ap (λ v. v.content) c.self.view_is) c.args.task c.args.arity c.requires.unknown (g.S.Slots.content c.make_item.new.slots) (g.S.Slots.room c.make_item.new.slots) c.make_item.new.index c.make_item.new.results c.make_item.ensures.slots c.make_item.ensures.entries c.make_item.ensures.results c.in-Ok.ensures.room c.in-Ok.ensures.entry c.in-Ok.ensures.not_full c.in-Ok.ensures.space c.make_item.ensures.len c.args.class c.requires.arity_in_range c.requires.class_in_range c.in-Ok.item c.in-Ok.ensures.item c.args.slot c.args.value c.requires.slot_in_range _ refl (g.S.Slots.content c.enter_with.new.slots) (g.S.Slots.room c.enter_with.new.slots) c.enter_with.new.index c.enter_with.new.counts c.enter_with.ensures.place c.enter_with.ensures.counts c.enter_with.ensures.not_full).1
