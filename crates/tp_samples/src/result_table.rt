@@ -40,7 +40,8 @@ impl<'a> ResultTable<'a> {
         ensures missing { IsErr result ↔ LacksCell graph results.now }
         ensures refused { IfErr result (λ refusal. refusal ≡ Missing) }
     {
-        let values = index(graph, results);
+        let mut values = nothing();
+        index(graph, results, &mut values);
         match missing(graph, &values) {
             Some(_) => Err(Refusal::Missing),
             None => Ok(ResultTable { graph, values }),
@@ -84,20 +85,23 @@ fn nothing<'a>() -> [Option<&'a Value>; MAX_NEEDED]
     [None; MAX_NEEDED]
 }
 
-/// The values that a table needs, by the ranks of their tasks.
-fn index<'a>(graph: AnyGraph, results: &'a [(TaskId, Value)]) -> [Option<&'a Value>; MAX_NEEDED]
-    requires { AreRight (any_graph graph) results.now }
-    ensures long { length result ≡ 4096 }
-    ensures found { IsIndex graph results.now result }
+/// Finds the values that a table needs, by the ranks of their tasks.
+fn index<'a>(
+    graph: AnyGraph,
+    results: &'a [(TaskId, Value)],
+    values: &mut [Option<&'a Value>; MAX_NEEDED],
+)
+    requires right { AreRight (any_graph graph) results.now }
+    requires empty { (rank : ℕ) → slice_index_or values.old rank None ≡ None }
+    ensures long { length values.new ≡ 4096 }
+    ensures found { IsIndex graph results.now values.new }
 {
-    let mut values = nothing();
     for (task, value) in results {
         let Some(rank) = graph.rank(*task) else {
             continue;
         };
         values[rank as usize] = Some(value);
     }
-    values
 }
 
 /// The lowest rank at which the value was not found.

@@ -5,8 +5,9 @@ ghost use Rattle.tp_work.specs.Places.{AreInOrder, AreLinksInOrder, AreOf};
 ghost use Rattle.tp_work.specs.Outcomes.{IsMisplaced};
 
 use std::alloc::Global;
-use std::sync::Mutex;
-use std::sync::atomic::{AtomicBool, AtomicU64};
+use std::sync::atomic::{AtomicBool, AtomicU64, Ordering};
+use std::sync::{Mutex, MutexGuard, Wait};
+use std::thread;
 use tp_base::Refusal;
 use tp_board::{Board, Ledgers};
 use tp_graph::{Graph, is_same};
@@ -17,15 +18,36 @@ use tp_node::{Node, Pool, Wire};
 #[derive(Drop)]
 pub(crate) struct Locks<G: Graph, K: Ledgers> {
     /// The nodes, in rising order.
-    pub nodes: Vec<Mutex<Node<G, K>>>,
+    pub sites: Vec<Site<Node<G, K>>>,
     /// The links, by sender and then by receiver.
     pub lines: Vec<Line<G, K>>,
     /// The board.
     pub board: Mutex<Board<K>>,
     /// How many control steps were made.
     pub control_steps: AtomicU64,
-    /// Whether a fault was set.
+    /// Whether a fault was set, or the end was announced to each node.
     pub is_stopped: AtomicBool,
+}
+
+/// A node's lock.
+#[derive(Drop)]
+pub(crate) struct Site<N> {
+    /// The node.
+    pub node: Mutex<N>,
+    /// How many of its tasks are ready.
+    pub ready: AtomicU64,
+    /// How many messages are on the links to it.
+    pub mail: AtomicU64,
+}
+
+impl<N> Site<N> {
+    /// Tells how many of the node's tasks are ready. Most turns leave as many as before, and write nothing.
+    #[inline(always)]
+    pub fn tell_ready(&self, ready: u32) {
+        if self.ready.load(Ordering::SeqCst) != ready as u64 {
+            self.ready.store(ready as u64, Ordering::SeqCst);
+        }
+    }
 }
 
 /// A link's lock.
@@ -35,6 +57,28 @@ pub(crate) struct Line<G: Graph, K: Ledgers> {
     pub wire: Mutex<Wire<G, K>>,
     /// How many messages are on it.
     pub length: AtomicU64,
+}
+
+/// How often a thread looks at a lock that is held, and yields, before it sleeps.
+const TRIES: u32 = 32;
+
+/// Takes a lock. All of a pool's locks are held briefly, so a thread yields for a while before it sleeps until it is woken.
+#[inline(always)]
+pub(crate) fn lock_soon<'l, T, R: Wait>(rt: &R, lock: &'l Mutex<T>) -> MutexGuard<'l, T> {
+    match lock.try_lock() {
+        Some(guard) => guard,
+        None => lock_late(rt, lock),
+    }
+}
+
+fn lock_late<'l, T, R: Wait>(rt: &R, lock: &'l Mutex<T>) -> MutexGuard<'l, T> {
+    for _ in 0..TRIES {
+        thread::yield_now();
+        if let Some(guard) = lock.try_lock() {
+            return guard;
+        }
+    }
+    lock.lock(rt)
 }
 
 /// Empty lists with room for the parts of a pool.
@@ -61,7 +105,7 @@ impl<G: Graph, K: Ledgers> Room<G, K> {
 impl<G: Graph, K: Ledgers> Locks<G, K> {
     /// Puts the parts of a pool under locks.
     pub fn new(alloc: Global, pool: Pool<G, K>) -> Result<Self, Refusal>
-        ensures nodes { IfOk result (λ l. vec_len l.nodes ≡ vec_len pool.nodes) }
+        ensures nodes { IfOk result (λ l. vec_len l.sites ≡ vec_len pool.nodes) }
         ensures links { IfOk result (λ l. vec_len l.lines ≡ vec_len pool.links) }
         ensures refusal { IfErr result (λ e. e ≡ NoMemory) }
     {
@@ -71,7 +115,7 @@ impl<G: Graph, K: Ledgers> Locks<G, K> {
             board,
         } = pool;
         Ok(Locks {
-            nodes: lock_nodes(alloc, nodes)?,
+            sites: lock_nodes(alloc, nodes)?,
             lines: lock_links(alloc, links)?,
             board: Mutex::new(board),
             control_steps: AtomicU64::new(0),
@@ -81,13 +125,13 @@ impl<G: Graph, K: Ledgers> Locks<G, K> {
 
     /// Takes the parts out of their locks, into the room that was made for them.
     pub fn into_pool(self, room: Room<G, K>) -> Pool<G, K>
-        requires nodes { (room.nodes.items ≡ []) × (vec_len self.nodes ≤ vec_capacity room.nodes) }
+        requires nodes { (room.nodes.items ≡ []) × (vec_len self.sites ≤ vec_capacity room.nodes) }
         requires links { (room.links.items ≡ []) × (vec_len self.lines ≤ vec_capacity room.links) }
-        ensures nodes { vec_len result.nodes ≡ vec_len self.nodes }
+        ensures nodes { vec_len result.nodes ≡ vec_len self.sites }
         ensures links { vec_len result.links ≡ vec_len self.lines }
     {
         let Locks {
-            nodes: node_locks,
+            sites,
             lines,
             board,
             control_steps: _,
@@ -97,7 +141,7 @@ impl<G: Graph, K: Ledgers> Locks<G, K> {
             mut nodes,
             mut links,
         } = room;
-        unlock_each(node_locks, &mut nodes);
+        unlock_nodes(sites, &mut nodes);
         unlock_links(lines, &mut links);
         Pool {
             nodes,
@@ -107,18 +151,19 @@ impl<G: Graph, K: Ledgers> Locks<G, K> {
     }
 }
 
-fn lock_nodes<G: Graph, K: Ledgers>(
-    alloc: Global,
-    nodes: Vec<Node<G, K>>,
-) -> Result<Vec<Mutex<Node<G, K>>>, Refusal>
-    ensures each { IfOk result (λ locks. vec_len locks ≡ vec_len nodes) }
+fn lock_nodes<N: Drop>(alloc: Global, nodes: Vec<N>) -> Result<Vec<Site<N>>, Refusal>
+    ensures each { IfOk result (λ sites. vec_len sites ≡ vec_len nodes) }
     ensures refusal { IfErr result (λ e. e ≡ NoMemory) }
 {
-    let mut locks = Vec::with_capacity(alloc, nodes.len())?;
+    let mut sites = Vec::with_capacity(alloc, nodes.len())?;
     for node in nodes {
-        locks.push(Mutex::new(node))?;
+        sites.push(Site {
+            node: Mutex::new(node),
+            ready: AtomicU64::new(0),
+            mail: AtomicU64::new(0),
+        })?;
     }
-    Ok(locks)
+    Ok(sites)
 }
 
 fn lock_links<G: Graph, K: Ledgers>(
@@ -138,12 +183,12 @@ fn lock_links<G: Graph, K: Ledgers>(
     Ok(lines)
 }
 
-fn unlock_each<T: Drop>(locks: Vec<Mutex<T>>, parts: &mut Vec<T>)
-    requires { (parts.old.items ≡ []) × (vec_len locks ≤ vec_capacity parts.old) }
-    ensures { vec_len parts.new ≡ vec_len locks }
+fn unlock_nodes<N: Drop>(sites: Vec<Site<N>>, nodes: &mut Vec<N>)
+    requires { (nodes.old.items ≡ []) × (vec_len sites ≤ vec_capacity nodes.old) }
+    ensures { vec_len nodes.new ≡ vec_len sites }
 {
-    for lock in locks {
-        parts.push_reserved(lock.into_inner());
+    for site in sites {
+        nodes.push_reserved(site.node.into_inner());
     }
 }
 

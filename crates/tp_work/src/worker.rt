@@ -3,7 +3,7 @@ ghost use Rattle.tp_work.specs.Feeds.{HasFeed, IsFarther, IsSameNode};
 ghost use Rattle.tp_work.specs.Feeds as feeds;
 
 use crate::gate::Gate;
-use crate::locks::{Line, Locks, link_place};
+use crate::locks::{Line, Locks, Site, link_place, lock_soon};
 use std::alloc::Global;
 use std::sync::Wait;
 use std::sync::atomic::Ordering;
@@ -16,6 +16,9 @@ use tp_node::{Node, Turn as ControlTurn};
 
 /// How many tasks are inserted in one hold of the board's lock.
 const SEEDS_IN_A_HOLD: u32 = 64;
+
+/// How often an idle worker yields, and looks at the hints, before it takes its node's lock again.
+const LOOKS: u32 = 64;
 
 /// A worker of a node, with what it shares with the others.
 #[derive(Drop)]
@@ -70,7 +73,7 @@ impl<'a, G: Graph, K: Ledgers, A: Gate, R: Wait> Worker<'a, G, K, A, R> {
                     if idle >= self.idle_turns {
                         return Err(Refusal::Stalled(idle));
                     }
-                    thread::yield_now();
+                    self.rest(seen);
                 }
                 Turn::Moved => idle = 0,
                 Turn::Begun(work) => {
@@ -84,17 +87,41 @@ impl<'a, G: Graph, K: Ledgers, A: Gate, R: Wait> Worker<'a, G, K, A, R> {
         unreachable!()
     }
 
+    /// Yields until the hints tell that a turn may find something to do, or so many times.
+    fn rest(&self, seen: Option<Seen>) {
+        for _ in 0..LOOKS {
+            thread::yield_now();
+            if self.is_wanted(seen) {
+                return;
+            }
+        }
+    }
+
+    /// Whether the hints tell of a stop, a ready task, a message, or a control step since the worker last asked for one.
+    fn is_wanted(&self, seen: Option<Seen>) -> bool {
+        let Some(site) = self.locks.sites.get(self.place.0 as usize) else {
+            return true;
+        };
+        if site.ready.load(Ordering::SeqCst) > 0 || site.mail.load(Ordering::SeqCst) > 0 {
+            return true;
+        }
+        let control_steps = self.locks.control_steps.load(Ordering::SeqCst);
+        self.locks.is_stopped.load(Ordering::SeqCst)
+            || !seen.is_some_and(|seen| seen.control_steps == control_steps)
+    }
+
     /// Passes on what a task that was begun before has made, and takes a turn, all in one hold of the node's lock.
+    #[inline(always)]
     fn turn(
         &self,
         finished: Option<Finished<G>>,
         idle: u32,
         seen: &mut Option<Seen>,
     ) -> Result<Turn<G, K>, Refusal> {
-        let Some(lock) = self.locks.nodes.get(self.place.0 as usize) else {
+        let Some(site) = self.locks.sites.get(self.place.0 as usize) else {
             return Err(Refusal::NoNode);
         };
-        let mut guard = lock.lock(self.rt);
+        let mut guard = lock_soon(self.rt, &site.node);
         let here = &mut *guard;
         self.check_node(here, self.place)?;
         if let Some(finished) = finished {
@@ -108,8 +135,8 @@ impl<'a, G: Graph, K: Ledgers, A: Gate, R: Wait> Worker<'a, G, K, A, R> {
         }
         match here.state() {
             TaskpoolState::Terminated => Ok(Turn::Stop),
-            TaskpoolState::NotReady => self.open(here),
-            _ => self.go_on(here, seen),
+            TaskpoolState::NotReady => self.open(here, site),
+            _ => self.go_on(here, site, seen),
         }
     }
 
@@ -128,24 +155,34 @@ impl<'a, G: Graph, K: Ledgers, A: Gate, R: Wait> Worker<'a, G, K, A, R> {
     }
 
     /// Inserts input-free tasks, and closes the opening action after the last.
-    fn open(&self, here: &mut Node<G, K>) -> Result<Turn<G, K>, Refusal> {
-        let mut board = self.locks.board.lock(self.rt);
+    fn open(&self, here: &mut Node<G, K>, site: &Site<Node<G, K>>) -> Result<Turn<G, K>, Refusal> {
+        let mut board = lock_soon(self.rt, &self.locks.board);
         for _ in 0..SEEDS_IN_A_HOLD {
             if !here.seed(&mut board)? {
                 here.ready(&mut board)?;
                 break;
             }
         }
+        site.tell_ready(here.counts().ready);
         Ok(Turn::Moved)
     }
 
     /// A turn of a node whose opening action is closed.
-    fn go_on(&self, here: &mut Node<G, K>, seen: &mut Option<Seen>) -> Result<Turn<G, K>, Refusal> {
-        if self.receive(here)? {
+    #[inline(always)]
+    fn go_on(
+        &self,
+        here: &mut Node<G, K>,
+        site: &Site<Node<G, K>>,
+        seen: &mut Option<Seen>,
+    ) -> Result<Turn<G, K>, Refusal> {
+        if site.mail.load(Ordering::SeqCst) > 0 && self.receive(here, site)? {
+            site.tell_ready(here.counts().ready);
             return Ok(Turn::Moved);
         }
-        if here.counts().ready > 0 {
-            let mut board = self.locks.board.lock(self.rt);
+        let ready = here.counts().ready;
+        site.tell_ready(ready.saturating_sub(1));
+        if ready > 0 {
+            let mut board = lock_soon(self.rt, &self.locks.board);
             if let Some(work) = here.begin(&mut board)? {
                 return Ok(Turn::Begun(work));
             }
@@ -154,7 +191,7 @@ impl<'a, G: Graph, K: Ledgers, A: Gate, R: Wait> Worker<'a, G, K, A, R> {
     }
 
     /// Receives a message and delivers its value, where there is one.
-    fn receive(&self, here: &mut Node<G, K>) -> Result<bool, Refusal> {
+    fn receive(&self, here: &mut Node<G, K>, site: &Site<Node<G, K>>) -> Result<bool, Refusal> {
         let (number, nodes) = (here.number(), here.nodes());
         for from in 0..nodes {
             if from == number.0 {
@@ -164,7 +201,7 @@ impl<'a, G: Graph, K: Ledgers, A: Gate, R: Wait> Worker<'a, G, K, A, R> {
                 return Err(Refusal::NoNode);
             };
             if line.length.load(Ordering::SeqCst) > 0 {
-                return self.receive_from(here, line, NodeId(from));
+                return self.receive_from(here, site, line, NodeId(from));
             }
         }
         Ok(false)
@@ -173,19 +210,21 @@ impl<'a, G: Graph, K: Ledgers, A: Gate, R: Wait> Worker<'a, G, K, A, R> {
     fn receive_from(
         &self,
         here: &mut Node<G, K>,
+        site: &Site<Node<G, K>>,
         line: &Line<G, K>,
         from: NodeId,
     ) -> Result<bool, Refusal> {
-        let mut guard = line.wire.lock(self.rt);
+        let mut guard = lock_soon(self.rt, &line.wire);
         let wire = &mut *guard;
         if wire.from() != from || wire.to() != here.number() {
             return Err(Refusal::NoNode);
         }
-        let mut board = self.locks.board.lock(self.rt);
+        let mut board = lock_soon(self.rt, &self.locks.board);
         let Some(parcel) = here.receive(wire, &mut board)? else {
             return Ok(false);
         };
         line.length.store(wire.len() as u64, Ordering::SeqCst);
+        site.mail.fetch_sub(1, Ordering::SeqCst);
         drop(guard);
         match here.deliver(&mut board, parcel) {
             Ok(()) => Ok(true),
@@ -206,7 +245,7 @@ impl<'a, G: Graph, K: Ledgers, A: Gate, R: Wait> Worker<'a, G, K, A, R> {
         if *seen == now {
             return Ok(Turn::Idle);
         }
-        let mut board = self.locks.board.lock(self.rt);
+        let mut board = lock_soon(self.rt, &self.locks.board);
         match here.control_turn(&mut board)? {
             ControlTurn::Idle => {
                 *seen = now;
@@ -221,6 +260,7 @@ impl<'a, G: Graph, K: Ledgers, A: Gate, R: Wait> Worker<'a, G, K, A, R> {
     }
 
     /// Runs the body of a task, under no lock.
+    #[inline(always)]
     fn perform(&self, work: Work<G>, idle: u32) -> Result<Finished<G>, Refusal> {
         if !self.gate.before(work.task()) {
             return Err(Refusal::Stalled(idle));
@@ -245,13 +285,13 @@ impl<'a, G: Graph, K: Ledgers, A: Gate, R: Wait> Worker<'a, G, K, A, R> {
                 self.send(here, home, &mut finished)?;
                 continue;
             }
-            let mut board = self.locks.board.lock(self.rt);
+            let mut board = lock_soon(self.rt, &self.locks.board);
             feed_here(here, &mut board, &mut finished)?;
             if finished.all_fed() {
                 return record_done(here, &mut board, finished);
             }
         }
-        let mut board = self.locks.board.lock(self.rt);
+        let mut board = lock_soon(self.rt, &self.locks.board);
         record_done(here, &mut board, finished)
     }
 
@@ -273,15 +313,18 @@ impl<'a, G: Graph, K: Ledgers, A: Gate, R: Wait> Worker<'a, G, K, A, R> {
         let Some(line) = self.locks.lines.get(link_place(number.0, to.0, nodes)) else {
             return Err(Refusal::NoNode);
         };
-        let mut guard = line.wire.lock(self.rt);
+        let mut guard = lock_soon(self.rt, &line.wire);
         let wire = &mut *guard;
         if wire.from() != number || wire.to() != to {
             return Err(Refusal::NoNode);
         }
-        let mut board = self.locks.board.lock(self.rt);
+        let mut board = lock_soon(self.rt, &self.locks.board);
         here.send(wire, &mut board, finished)?;
         drop(board);
         line.length.store(wire.len() as u64, Ordering::SeqCst);
+        if let Some(site) = self.locks.sites.get(to.0 as usize) {
+            site.mail.fetch_add(1, Ordering::SeqCst);
+        }
         Ok(())
     }
 
@@ -289,15 +332,16 @@ impl<'a, G: Graph, K: Ledgers, A: Gate, R: Wait> Worker<'a, G, K, A, R> {
     fn announce(&self, ended: Ended<K>) -> Result<(), Refusal> {
         let mut ended = ended;
         for place in 0..MAX_NODES {
-            let Some(lock) = self.locks.nodes.get(place as usize) else {
+            let Some(site) = self.locks.sites.get(place as usize) else {
                 break;
             };
-            let mut guard = lock.lock(self.rt);
+            let mut guard = lock_soon(self.rt, &site.node);
             let node = &mut *guard;
             self.check_node(node, NodeId(place))?;
-            let mut board = self.locks.board.lock(self.rt);
+            let mut board = lock_soon(self.rt, &self.locks.board);
             node.quiet_under(&mut ended, &mut board);
         }
+        self.locks.is_stopped.store(true, Ordering::SeqCst);
         Ok(())
     }
 }

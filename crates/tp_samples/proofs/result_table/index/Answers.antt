@@ -23,7 +23,7 @@ loop-task-preserved c =
       long = length-set c.loop-task.values c.in-Some.rank _ ∙ c.loop-task.invariant.long;
       found =
           index_set c.args.graph c.args.results.now c.loop-task.task-index c.loop-task-item.result (omega arith) c.loop-task-item.is c.loop-task.values c.in-Some.rank _ within c.in-Some.ensures.only.1 refl
-          (subst P (sym c.loop-task-item.is) (c.requires c.loop-task.task-index c.loop-task-item.result (omega arith)))
+          (subst P (sym c.loop-task-item.is) (c.requires.right c.loop-task.task-index c.loop-task-item.result (omega arith)))
           (λ other h same. the_one other c.in-Some.rank (sym (c.in-Some.ensures.each other h same)))
           c.loop-task.invariant.found;
     }

@@ -2,4 +2,4 @@ use Rattle.std.specs.Prelude.{◌≡◌, length, vec_len}
 use Rattle.tp_work.proofs.locks.lock_nodes.Given as goal
 
 abbrev pub invariant-loop-node : goal.invariant-loop-node
-invariant-loop-node g l = vec_len l.locks ≡ length l.yielded
+invariant-loop-node g l = vec_len l.sites ≡ length l.yielded

@@ -1,4 +1,8 @@
-use Rattle.std.proofs.Common.{rules, ◌≡◌, ◌∙◌, ◌*◌, ◌-◌, ℕ, sym, ap, subst, length, vec_len}
+use Rattle.std.proofs.Common.{rules, ◌≡◌, ◌∙◌, ◌*◌, ◌-◌, ℕ, IfErr, Result, inr, sym, ap, subst, length, vec_len}
+use Rattle.std.proofs.lemmas.Result.{err_from_is_err_and}
+use Rattle.tp_base.specs.declared.refusal.Refusal.{Refusal}
+use Rattle.tp_gather.specs.declared.gathered.Report.{Report}
+use Rattle.tp_work.specs.Outcomes.{IsUngathered}
 use Rattle.std.proofs.lemmas.List.{length-map}
 use Rattle.tp_board.specs.Numbers.{first_links, first_shares}
 use Rattle.tp_ledgers.specs.Names.{PoolNames}
@@ -29,3 +33,8 @@ returns-in-Ok-clause-report g c =
     sym locked ∙ c.into_pool-pool.ensures.nodes ∙ c.in_ok-locks.ensures.nodes ∙ opened ∙ ap length c.in_ok-pool.ensures.nodes ∙ length-map (first_shares c.args.config.nodes) _ ∙ length-first_shares c.args.config.nodes ∙ sym nodes in
     subst (λ (n : ℕ). IsReport n (g.G.Graph.meaning c.args.graph) c.in-Ok.report) nodes
     (is_report g.K.Ledgers.names.nodes (g.G.Graph.meaning c.args.graph) c.into_pool-pool.result.nodes.items c.into_pool-pool.result.links.items c.into_pool-pool.result.board c.in-Ok.report c.in-Ok.ensures.gathered c.in-Ok.ensures.of_its_run c.in-Ok.ensures.each_node each c.in_ok-check_places.ensures.nodes (c.in-Ok.ensures.right c.args.graph c.in_ok-check_places.ensures.graph))
+
+pub returns-in_err-check_places-clause-refusal : goal.returns-in_err-check_places-clause-refusal
+returns-in_err-check_places-clause-refusal g c =
+    let passed = err_from_is_err_and c.from_residual-in_err-check_places.result c.from_residual-in_err-check_places.ensures.1 in
+    subst (λ (r : Result Report Refusal). IfErr r IsUngathered) (sym passed.1) (subst IsUngathered (sym passed.2) (inr c.in_err-check_places.ensures.refusal))
