@@ -1,31 +1,38 @@
-# make        builds the program: bin/tp
-# make demo   proves, builds and runs the program on a stored script and on a pool
-# make soak   runs each sample pool 200 times at 8 nodes with 8 workers each, and compares what they make
-# make test   the gate: every proof from nothing, the must-fail edits, each test, each program
-.PHONY: all demo soak test clean
+# make          proves every crate and builds the program: bin/tp (some 10 to 15 minutes on four cores)
+# make demo     two runs of the program, unproved (a minute)
+# make test     every test and every program, unproved (some minutes)
+# make gate     the gate: every proof from nothing, the wrong bodies, each test, each program (see docs/GATE.md)
+# make times    the gate, and its processor seconds by crate
+# make soak     each sample pool 200 times at 8 nodes with 8 workers each, and compares what they make
+# make install PREFIX=/usr/local     puts the proved program in place
+.PHONY: all demo test gate times soak install clean
+
+PREFIX ?= /usr/local
 
 all: bin/tp
 
-SOURCES := $(shell find crates -name out -prune -o -name '*.rt' -print -o -name '*.antt' -print)
+SOURCES := $(shell find crates -name out -prune -o \( -name '*.rt' -o -name '*.antt' \) -print)
 
 bin/tp: $(SOURCES) crates.txt
-	cd crates/tp && rt run -- sim < stdin > /dev/null
-	mkdir -p bin && cp crates/tp/out/tp bin/tp
+	@tools/build.sh
 
-demo: bin/tp
-	@echo '$$ tp sim, on this script:'
-	@cat crates/tp/stdin
-	@echo '--- its answer:'
-	@bin/tp sim < crates/tp/stdin
-	@echo
-	@echo '$$ tp run product:4:2:0 --nodes 2 --workers 2'
-	@bin/tp run product:4:2:0 --nodes 2 --workers 2
+demo:
+	@tools/demo.sh
+
+test:
+	@tools/try-all.py
+
+gate:
+	rt ci
+
+times:
+	tools/gate-times.py
 
 soak: bin/tp
 	tools/soak.sh bin/tp 200
 
-test:
-	rt ci
+install: bin/tp
+	install -D -m 755 bin/tp $(DESTDIR)$(PREFIX)/bin/tp
 
 clean:
 	rm -rf bin crates/*/out
