@@ -186,42 +186,56 @@ fn fault(kept: Option<Refusal>) -> Answer {
 /// What a pool adds up to.
 #[derive(Clone, Copy)]
 pub struct Summary {
-    pub pending: u32,
-    pub sent: u32,
-    pub received: u32,
-    pub under: u32,
+    /// What is pending, sent, received and under way.
+    pub numbers: (u32, u32, u32, u32),
+    /// How many tasks are done.
     pub done: u32,
+    /// Whether the end was judged.
     pub ended: bool,
+    /// The first fault.
     pub fault: Option<Refusal>,
+    /// How many events there are.
     pub length: usize,
 }
 
-pub fn summary(totals: &Totals) -> Summary {
-    Summary {
-        pending: totals.pending,
-        sent: totals.sent,
-        received: totals.received,
-        under: totals.under,
-        done: totals.done,
-        ended: totals.ended,
-        fault: totals.fault,
-        length: totals.history.len(),
+impl Summary {
+    pub fn of(totals: &Totals) -> Self {
+        Summary {
+            numbers: (totals.pending, totals.sent, totals.received, totals.under),
+            done: totals.done,
+            ended: totals.ended,
+            fault: totals.fault,
+            length: totals.history.len(),
+        }
+    }
+
+    /// Asserts that this is what was wanted.
+    pub fn must_be<R: Abort>(self, rt: &R, wanted: Summary) {
+        assert_eq!(rt; self.numbers, wanted.numbers);
+        assert_eq!(rt; self.done, wanted.done);
+        assert_eq!(rt; self.ended, wanted.ended);
+        assert_eq!(rt; self.fault, wanted.fault);
+        assert_eq!(rt; self.length, wanted.length);
     }
 }
 
-/// Opens a pool of two nodes whose history has so many places, makes the calls of a table, and adds the pool up.
-pub fn walked<R: Abort>(
+/// Opens a pool of two nodes whose history has so many places, makes the calls of a table, and asserts what each of them
+/// answers and what the pool adds up to.
+pub fn walk<R: Abort>(
     rt: &R,
     alloc: Global,
     limit: u32,
     table: &[Row],
-) -> Result<Summary, Refusal>
+    wanted: Summary,
+) -> Result<(), Refusal>
     requires { limit ≤ 1048576 }
 {
-    walked_with::<Brand, R>(rt, alloc, Blanks::new(2), limit, table)
+    let made = walk_with::<Brand, R>(rt, alloc, Blanks::new(2), limit, table)?;
+    made.must_be(rt, wanted);
+    Ok(())
 }
 
-fn walked_with<K: Ledgers, R: Abort>(
+fn walk_with<K: Ledgers, R: Abort>(
     rt: &R,
     alloc: Global,
     blanks: Blanks,
@@ -232,5 +246,5 @@ fn walked_with<K: Ledgers, R: Abort>(
 {
     let mut pair = Pair::<K>::open(alloc, blanks, limit)?;
     pair.walk(rt, table);
-    Ok(summary(&pair.close(alloc)?))
+    Ok(Summary::of(&pair.close(alloc)?))
 }

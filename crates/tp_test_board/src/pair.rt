@@ -140,16 +140,16 @@ impl<K: Ledgers> Pair<K> {
             there,
             back,
         } = self;
+        let mut shares = Vec::new(alloc);
+        shares.push(zero.shares)?;
+        shares.push(one.shares)?;
+        let mut links = Vec::new(alloc);
+        links.push(there.share)?;
+        links.push(back.share)?;
         Ok(close_books(Books {
             board,
-            shares: both(alloc, zero.shares, one.shares)?,
-            links: both(alloc, there.share, back.share)?,
+            shares,
+            links,
         }))
     }
-}
-
-fn both<T: Drop>(alloc: Global, first: T, second: T) -> Result<Vec<T>, Refusal>
-    ensures { IfOk result (λ all. vec_len all ≡ 2) }
-{
-    Ok(Vec::from_array(alloc, [first, second])?)
 }

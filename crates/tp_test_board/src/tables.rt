@@ -1,4 +1,4 @@
-use crate::calls::{Answer, Call, Row, Step, Told, walked};
+use crate::calls::{Answer, Call, Row, Step, Summary, Told, walk};
 use std::test::Fail;
 use tp_base::{MessageId, NodeId, Refusal, Step as Event, Sums};
 
@@ -60,7 +60,14 @@ fn a_full_history_refuses_the_visit(rt: HostRuntime) -> Result<(), Fail> {
         (Call::Length, Ok(Answer::Length(12))),
         (VISIT, Err(Refusal::HistoryFull(12))),
     ];
-    walked(&rt, rt.alloc(), 12, &table)?;
+    let wanted = Summary {
+        numbers: (0, 0, 0, 0),
+        done: 0,
+        ended: false,
+        fault: None,
+        length: 12,
+    };
+    walk(&rt, rt.alloc(), 12, &table, wanted)?;
     Ok(())
 }
 
@@ -87,13 +94,14 @@ fn two_equal_waves_judge_the_end(rt: HostRuntime) -> Result<(), Fail> {
         (Call::Event(11), event(1, Event::Up(NodeId(1)))),
         (Call::Event(13), event(0, Event::Judge)),
     ];
-    let totals = walked(&rt, rt.alloc(), 14, &table)?;
-    assert_eq!(rt;
-        (totals.pending, totals.sent, totals.received, totals.under),
-        (0, 0, 0, 0)
-    );
-    assert_eq!(rt; (totals.done, totals.ended, totals.fault), (0, true, None));
-    assert_eq!(rt; totals.length, 14);
+    let wanted = Summary {
+        numbers: (0, 0, 0, 0),
+        done: 0,
+        ended: true,
+        fault: None,
+        length: 14,
+    };
+    walk(&rt, rt.alloc(), 14, &table, wanted)?;
     Ok(())
 }
 
@@ -111,14 +119,14 @@ fn messages_are_counted_at_both_ends(rt: HostRuntime) -> Result<(), Fail> {
         (Call::SetFault(Refusal::Missing), DONE),
         (Call::Fault, Ok(Answer::Fault(Refusal::Stranger))),
     ];
-    let totals = walked(&rt, rt.alloc(), 100, &table)?;
-    assert_eq!(rt;
-        (totals.pending, totals.sent, totals.received, totals.under),
-        (3, 2, 1, 1)
-    );
-    assert_eq!(rt; (totals.done, totals.ended), (0, false));
-    assert_eq!(rt; totals.fault, Some(Refusal::Stranger));
-    assert_eq!(rt; totals.length, 3);
+    let wanted = Summary {
+        numbers: (3, 2, 1, 1),
+        done: 0,
+        ended: false,
+        fault: Some(Refusal::Stranger),
+        length: 3,
+    };
+    walk(&rt, rt.alloc(), 100, &table, wanted)?;
     Ok(())
 }
 
@@ -145,8 +153,14 @@ fn the_turns_of_two_waves_judge_the_end(rt: HostRuntime) -> Result<(), Fail> {
         (Call::Event(5), event(1, Event::Up(NodeId(1)))),
         (Call::Event(13), event(0, Event::Judge)),
     ];
-    let totals = walked(&rt, rt.alloc(), 14, &table)?;
-    assert_eq!(rt; totals.length, 14);
+    let wanted = Summary {
+        numbers: (0, 0, 0, 0),
+        done: 0,
+        ended: true,
+        fault: None,
+        length: 14,
+    };
+    walk(&rt, rt.alloc(), 14, &table, wanted)?;
     Ok(())
 }
 
@@ -158,6 +172,13 @@ fn a_full_history_refuses_a_turn_alone(rt: HostRuntime) -> Result<(), Fail> {
         (Call::TurnOfLeaf, Err(Refusal::HistoryFull(3))),
         (Call::TurnOfRoot, IDLE),
     ];
-    walked(&rt, rt.alloc(), 3, &table)?;
+    let wanted = Summary {
+        numbers: (0, 0, 0, 0),
+        done: 0,
+        ended: false,
+        fault: None,
+        length: 3,
+    };
+    walk(&rt, rt.alloc(), 3, &table, wanted)?;
     Ok(())
 }

@@ -1,6 +1,6 @@
 ghost use Rattle.std.specs.Prelude.{◌≡◌, ◌+◌, IfOk};
 
-use crate::calls::summary;
+use crate::calls::Summary;
 use crate::pair::{Node, Pair, Wire};
 use std::alloc::Global;
 use std::sync::{Mutex, Wait};
@@ -137,11 +137,14 @@ fn run_both<K: Ledgers + Send + Sync, R: Threads + Wait + Sync>(
 
 #[test]
 fn threads_end_with_the_books_totals(rt: HostRuntime) -> Result<(), Fail> {
-    let totals = summary(&run::<Brand, HostRuntime>(&rt, rt.alloc(), Blanks::new(2))?);
-    assert_eq!(rt;
-        (totals.pending, totals.sent, totals.received, totals.under),
-        (0, 20, 20, 0)
-    );
-    assert_eq!(rt; totals.length, 62);
+    let totals = run::<Brand, HostRuntime>(&rt, rt.alloc(), Blanks::new(2))?;
+    let wanted = Summary {
+        numbers: (0, 20, 20, 0),
+        done: 0,
+        ended: false,
+        fault: None,
+        length: 62,
+    };
+    Summary::of(&totals).must_be(&rt, wanted);
     Ok(())
 }

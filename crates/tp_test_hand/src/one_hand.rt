@@ -1,6 +1,7 @@
 ghost use Rattle.std.specs.Prelude.{◌≡◌, ◌≤◌};
 
 use std::alloc::Global;
+use std::process::Abort;
 use std::test::Fail;
 use tp_base::{ActionId, Refusal};
 use tp_board::{Blanks, Board, Brand, Ledgers};
@@ -228,6 +229,42 @@ struct Acts {
     unknown: Result<(), Refusal>,
 }
 
+/// What a pool adds up to.
+#[derive(Clone, Copy)]
+struct Summary {
+    /// What is pending, sent, received and under way.
+    numbers: (u32, u32, u32, u32),
+    /// How many tasks are done.
+    done: u32,
+    /// Whether the end was judged.
+    ended: bool,
+    /// The first fault.
+    fault: Option<Refusal>,
+    /// How many results there are.
+    results: usize,
+}
+
+impl Summary {
+    fn of(report: &Report) -> Self {
+        Summary {
+            numbers: (report.pending, report.sent, report.received, report.under),
+            done: report.done,
+            ended: report.ended,
+            fault: report.fault,
+            results: report.results.len(),
+        }
+    }
+
+    /// Asserts that this is what was wanted.
+    fn must_be<R: Abort>(self, rt: &R, wanted: Summary) {
+        assert_eq!(rt; self.numbers, wanted.numbers);
+        assert_eq!(rt; self.done, wanted.done);
+        assert_eq!(rt; self.ended, wanted.ended);
+        assert_eq!(rt; self.fault, wanted.fault);
+        assert_eq!(rt; self.results, wanted.results);
+    }
+}
+
 impl<K: Ledgers> Pair<K> {
     fn play(&mut self, alloc: Global, play: Play) -> Result<Answers, Refusal> {
         match play {
@@ -286,7 +323,7 @@ fn act<G: Graph, K: Ledgers>(node: &mut Node<G, K>, board: &mut Board<K>) -> Act
 }
 
 /// Opens a pool of two nodes, plays, and gathers the pool.
-fn played(alloc: Global, play: Play) -> Result<(Answers, Report), Refusal> {
+fn played(alloc: Global, play: Play) -> Result<(Answers, Summary), Refusal> {
     played_with::<Brand>(alloc, Blanks::new(2), play)
 }
 
@@ -294,50 +331,62 @@ fn played_with<K: Ledgers>(
     alloc: Global,
     blanks: Blanks,
     play: Play,
-) -> Result<(Answers, Report), Refusal>
+) -> Result<(Answers, Summary), Refusal>
     requires { (blanks ≡ K.names) × (blanks.nodes ≡ 2) }
 {
     let mut pair = Pair::<K>::open(alloc, blanks)?;
     let answers = pair.play(alloc, play)?;
-    Ok((answers, pair.close(alloc)?))
+    Ok((answers, Summary::of(&pair.close(alloc)?)))
 }
 
 #[test]
 fn two_nodes_run_to_the_end(rt: HostRuntime) -> Result<(), Fail> {
-    let (Answers::Seeded(at_zero, at_one), report) = played(rt.alloc(), Play::ToTheEnd)? else {
+    let (answers, made) = played(rt.alloc(), Play::ToTheEnd)?;
+    let Answers::Seeded(at_zero, at_one) = answers else {
         return Err(Fail::new("another play"));
     };
     assert_eq!(rt; (at_zero, at_one), (2, 2));
-    assert_eq!(rt;
-        (report.pending, report.sent, report.received, report.under),
-        (0, 3, 3, 0)
-    );
-    assert_eq!(rt; (report.done, report.ended, report.fault), (7, true, None));
-    assert_eq!(rt; report.results.len(), 7);
+    let wanted = Summary {
+        numbers: (0, 3, 3, 0),
+        done: 7,
+        ended: true,
+        fault: None,
+        results: 7,
+    };
+    made.must_be(&rt, wanted);
     Ok(())
 }
 
 #[test]
 fn a_message_under_way_is_counted(rt: HostRuntime) -> Result<(), Fail> {
-    let (Answers::Sent(all_fed), report) = played(rt.alloc(), Play::FirstSend)? else {
-        return Err(Fail::new("another play"));
+    let (answers, made) = played(rt.alloc(), Play::FirstSend)?;
+    assert!(rt; matches!(answers, Answers::Sent(true)));
+    let wanted = Summary {
+        numbers: (4, 1, 0, 1),
+        done: 0,
+        ended: false,
+        fault: None,
+        results: 0,
     };
-    assert!(rt; all_fed);
-    assert_eq!(rt; (report.sent, report.received, report.under), (1, 0, 1));
-    assert_eq!(rt; (report.pending, report.done, report.ended), (4, 0, false));
+    made.must_be(&rt, wanted);
     Ok(())
 }
 
 #[test]
 fn a_named_action_opens_once(rt: HostRuntime) -> Result<(), Fail> {
-    let (Answers::Acts(acts), _) = played(rt.alloc(), Play::Action)? else {
+    let (answers, _) = played(rt.alloc(), Play::Action)?;
+    let Answers::Acts(acts) = answers else {
         return Err(Fail::new("another play"));
     };
-    assert_eq!(rt; acts.opened, Ok(()));
+    for (made, wanted) in [
+        (acts.opened, Ok(())),
+        (acts.again, Err(Refusal::ActionKnown)),
+        (acts.closed, Ok(())),
+        (acts.unknown, Err(Refusal::NoAction)),
+    ] {
+        assert_eq!(rt; made, wanted);
+    }
     assert_eq!(rt; (acts.pending, acts.left), (2, 1));
-    assert_eq!(rt; acts.again, Err(Refusal::ActionKnown));
-    assert_eq!(rt; acts.closed, Ok(()));
-    assert_eq!(rt; acts.unknown, Err(Refusal::NoAction));
     Ok(())
 }
 
@@ -381,8 +430,15 @@ fn seed_into_three_places<K: Ledgers>(alloc: Global, blanks: Blanks) -> Result<S
 #[test]
 fn a_full_history_refuses_the_fourth_seed(rt: HostRuntime) -> Result<(), Fail> {
     let seeds = seed_into_three_places::<Brand>(rt.alloc(), Blanks::new(1))?;
-    let full = Err(Refusal::HistoryFull(3));
-    assert_eq!(rt; seeds.made, [Ok(true), Ok(true), Ok(true), full]);
+    let [first, second, third, fourth] = seeds.made;
+    for (made, wanted) in [
+        (first, Ok(true)),
+        (second, Ok(true)),
+        (third, Ok(true)),
+        (fourth, Err(Refusal::HistoryFull(3))),
+    ] {
+        assert_eq!(rt; made, wanted);
+    }
     assert_eq!(rt; (seeds.pending, seeds.sent, seeds.received), (4, 0, 0));
     Ok(())
 }

@@ -129,7 +129,7 @@ enum End {
 }
 
 /// What was left of a pool that ended before.
-#[derive(Clone, Copy, Debug, PartialEq, Eq)]
+#[derive(Clone, Copy)]
 struct Left {
     pending: u32,
     done: u32,
@@ -149,7 +149,7 @@ fn run_tree<R: Threads + Wait + Sync>(
 {
     match run_pool(rt, alloc, tree, config, gate) {
         Ok(outcome) => End::Root(root(&outcome)),
-        Err(fault) => End::Stop(fault.refusal, left(&fault)),
+        Err(fault) => End::Stop(fault.refusal, left_by(&fault)),
     }
 }
 
@@ -159,7 +159,7 @@ fn root(outcome: &Outcome) -> Option<i64> {
     value.as_slice().first().copied()
 }
 
-fn left(fault: &Fault) -> Option<Left> {
+fn left_by(fault: &Fault) -> Option<Left> {
     let report = fault.report.as_ref()?;
     Some(Left {
         pending: report.pending,
@@ -222,14 +222,13 @@ fn stop_behind<R: Threads + Wait + Sync>(
 #[test]
 fn a_body_that_may_not_run_ends_the_pool(rt: HostRuntime) -> Result<(), Fail> {
     let gate = TestGate::AllBut(TaskId(6));
-    let stop = stop_behind(&rt, rt.alloc(), TREE, 1, 100_000_000, &gate)?;
-    let left = Left {
-        pending: 1,
-        done: 6,
-        ended: false,
-        fault: Some(Refusal::Stalled(0)),
+    let (refusal, left) = stop_behind(&rt, rt.alloc(), TREE, 1, 100_000_000, &gate)?;
+    assert_eq!(rt; refusal, Refusal::Stalled(0));
+    let Some(left) = left else {
+        return Err(Fail::new("there is no report"));
     };
-    assert_eq!(rt; stop, (Refusal::Stalled(0), Some(left)));
+    assert_eq!(rt; (left.pending, left.done, left.ended), (1, 6, false));
+    assert_eq!(rt; left.fault, Some(Refusal::Stalled(0)));
     Ok(())
 }
 

@@ -1,6 +1,7 @@
 ghost use Rattle.std.specs.Prelude.{◌≤◌};
 
 use std::alloc::Global;
+use std::process::Abort;
 use std::sync::Wait;
 use std::test::Fail;
 use std::thread::Threads;
@@ -51,20 +52,29 @@ fn are_plain(plain: &[(TaskId, Value)], results: &[(TaskId, Value)]) -> bool {
             .all(|made| plain.get(made.0.0 as usize) == Some(made))
 }
 
+/// Runs a pool on each pair of 1, 2, 4 and 8 nodes and workers.
+fn each_pair<R: Threads + Wait + Sync + Abort>(
+    rt: &R,
+    alloc: Global,
+    graph: AnyGraph,
+    plain: &[(TaskId, Value)],
+    word: &str,
+    tasks: u32,
+) {
+    for nodes in [1, 2, 4, 8] {
+        for workers in [1, 2, 4, 8] {
+            let made = told(rt, alloc, graph, plain, nodes, workers);
+            assert_eq!(rt; made, Ok((tasks, true)), "{word} at {nodes} by {workers}");
+        }
+    }
+}
+
 #[test]
 fn each_pool_is_the_plain_one(rt: HostRuntime) -> Result<(), Fail> {
     for (word, tasks) in POOLS {
         let graph = checked(word)?;
         let plain = serial(rt.alloc(), graph)?;
-        for nodes in [1, 2, 4, 8] {
-            for workers in [1, 2, 4, 8] {
-                assert_eq!(rt;
-                    told(&rt, rt.alloc(), graph, &plain, nodes, workers),
-                    Ok((tasks, true)),
-                    "{word} at {nodes} by {workers}"
-                );
-            }
-        }
+        each_pair(&rt, rt.alloc(), graph, &plain, word, tasks);
     }
     Ok(())
 }
