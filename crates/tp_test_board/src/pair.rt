@@ -133,6 +133,9 @@ impl<K: Ledgers> Pair<K> {
         requires { K.names.nodes ≡ 2 }
         ensures { IfOk result (λ t. t.sent ≡ t.received + t.under) }
     {
+        // All room is made before the pool is taken apart, so that nothing is left to drop on the way.
+        let mut shares = Vec::with_capacity(alloc, 2)?;
+        let mut links = Vec::with_capacity(alloc, 2)?;
         let Pair {
             board,
             zero,
@@ -140,12 +143,10 @@ impl<K: Ledgers> Pair<K> {
             there,
             back,
         } = self;
-        let mut shares = Vec::new(alloc);
-        shares.push(zero.shares)?;
-        shares.push(one.shares)?;
-        let mut links = Vec::new(alloc);
-        links.push(there.share)?;
-        links.push(back.share)?;
+        shares.push_reserved(zero.shares);
+        shares.push_reserved(one.shares);
+        links.push_reserved(there.share);
+        links.push_reserved(back.share);
         Ok(close_books(Books {
             board,
             shares,

@@ -50,6 +50,9 @@ impl<K: Ledgers> Pair<K> {
     fn close(self, alloc: Global) -> Result<Report, Refusal>
         requires { K.names.nodes ≡ 2 }
     {
+        // All room is made before the pool is taken apart, so that nothing is left to drop on the way.
+        let mut nodes = Vec::with_capacity(alloc, 2)?;
+        let mut links = Vec::with_capacity(alloc, 2)?;
         let Pair {
             zero,
             one,
@@ -57,12 +60,10 @@ impl<K: Ledgers> Pair<K> {
             back,
             board,
         } = self;
-        let mut nodes = Vec::new(alloc);
-        nodes.push(zero)?;
-        nodes.push(one)?;
-        let mut links = Vec::new(alloc);
-        links.push(there)?;
-        links.push(back)?;
+        nodes.push_reserved(zero);
+        nodes.push_reserved(one);
+        links.push_reserved(there);
+        links.push_reserved(back);
         let pool = Pool {
             nodes,
             links,
