@@ -8,8 +8,6 @@ mod counts;
 mod judgement;
 mod log;
 mod routes;
-#[cfg(test)]
-mod tests;
 
 pub use board::Board;
 pub use books::{Books, Totals, close_books, open_books};

@@ -1,8 +1,6 @@
 //! Control turns: the first step of the waves that is lawful for a node.
 #![tactic(auto)]
 
-#[cfg(test)]
-mod tests;
 mod turn;
 
 pub use turn::{Turn, make_first};

@@ -1,0 +1,156 @@
+ghost use Rattle.std.specs.Prelude.{◌≡◌, ◌≤◌, ◌+◌, IfOk, vec_len};
+
+use std::alloc::Global;
+use tp_base::{MessageId, Refusal, Step};
+use tp_board::{Blanks, Board, Books, Ledgers, LinkShare, Shares, Totals, close_books, open_books};
+
+/// A node of a pool: its shares, beside the pending number that they carry.
+#[derive(Drop)]
+pub struct Node<K: Ledgers> {
+    pub shares: Shares<K>,
+    pub pending: u32,
+    ghost same: { shares.pending ≡ pending },
+}
+
+/// A link of a pool: its share, beside the messages that it counts.
+#[derive(Drop)]
+pub struct Wire<K: Ledgers> {
+    pub share: LinkShare<K>,
+    messages: Vec<MessageId>,
+    ghost same: { share.under ≡ vec_len messages },
+}
+
+/// A pool of two nodes, with the links between them.
+#[derive(Drop)]
+pub struct Pair<K: Ledgers> {
+    pub board: Board<K>,
+    pub zero: Node<K>,
+    pub one: Node<K>,
+    pub there: Wire<K>,
+    pub back: Wire<K>,
+}
+
+impl<K: Ledgers> Node<K> {
+    /// A node at first: its opening action is open.
+    fn new(shares: Shares<K>) -> Self
+        requires { shares.pending ≡ 1 }
+    {
+        Node { shares, pending: 1 }
+    }
+
+    /// Closes the opening action, where something is pending.
+    pub fn make_ready(&mut self, board: &mut Board<K>) -> Result<(), Refusal> {
+        if self.pending > 0 {
+            board.append(Step::Ready(self.shares.node()), &mut self.shares)?;
+            self.pending -= 1;
+        }
+        Ok(())
+    }
+
+    /// Sends a message, where something is pending.
+    pub fn send(
+        &mut self,
+        wire: &mut Wire<K>,
+        board: &mut Board<K>,
+    ) -> Result<Option<MessageId>, Refusal> {
+        if self.pending == 0 || wire.share.from() != self.shares.node() {
+            return Ok(None);
+        }
+        wire.messages.reserve(1)?;
+        let message = board.append_send(&mut self.shares, &mut wire.share)?;
+        wire.messages.push_reserved(message);
+        Ok(Some(message))
+    }
+
+    /// Receives the newest message, where there is one. Its action is open then.
+    pub fn receive(
+        &mut self,
+        wire: &mut Wire<K>,
+        board: &mut Board<K>,
+    ) -> Result<Option<MessageId>, Refusal> {
+        let from = wire.share.from();
+        let Some(message) = wire.messages.last().copied() else {
+            return Ok(None);
+        };
+        if wire.share.to() != self.shares.node() || !board.gave(from, self.shares.node(), message) {
+            return Ok(None);
+        }
+        board.append_recv(message, &mut self.shares, &mut wire.share)?;
+        self.pending += 1;
+        wire.messages.pop();
+        Ok(Some(message))
+    }
+
+    /// Ends the action of a message, where something is pending.
+    pub fn end(&mut self, message: MessageId, board: &mut Board<K>) -> Result<(), Refusal> {
+        if self.pending > 0 {
+            let step = Step::MessageEnd(self.shares.node(), message);
+            board.append(step, &mut self.shares)?;
+            self.pending -= 1;
+        }
+        Ok(())
+    }
+}
+
+impl<K: Ledgers> Wire<K> {
+    fn new(alloc: Global, share: LinkShare<K>) -> Self
+        requires { share.under ≡ 0 }
+    {
+        Wire {
+            share,
+            messages: Vec::new(alloc),
+        }
+    }
+}
+
+impl<K: Ledgers> Pair<K> {
+    /// Opens a pool of two nodes, whose history has so many places.
+    pub fn open(alloc: Global, blanks: Blanks, limit: u32) -> Result<Pair<K>, Refusal>
+        requires { (blanks ≡ K.names) × (blanks.nodes ≡ 2) × (limit ≤ 1048576) }
+    {
+        let Books {
+            board,
+            mut shares,
+            mut links,
+        } = open_books::<K>(alloc, blanks, 2, limit)?;
+        let (Some(one), Some(zero)) = (shares.pop(), shares.pop()) else {
+            unreachable!()
+        };
+        let (Some(back), Some(there)) = (links.pop(), links.pop()) else {
+            unreachable!()
+        };
+        Ok(Pair {
+            board,
+            zero: Node::new(zero),
+            one: Node::new(one),
+            there: Wire::new(alloc, there),
+            back: Wire::new(alloc, back),
+        })
+    }
+
+    /// Adds up the pool.
+    pub fn close(self, alloc: Global) -> Result<Totals, Refusal>
+        requires { K.names.nodes ≡ 2 }
+        ensures { IfOk result (λ t. t.sent ≡ t.received + t.under) }
+    {
+        // All room is made before the pool is taken apart, so that nothing is left to drop on the way.
+        let mut shares = Vec::with_capacity(alloc, 2)?;
+        let mut links = Vec::with_capacity(alloc, 2)?;
+        let Pair {
+            board,
+            zero,
+            one,
+            there,
+            back,
+        } = self;
+        shares.push_reserved(zero.shares);
+        shares.push_reserved(one.shares);
+        links.push_reserved(there.share);
+        links.push_reserved(back.share);
+        Ok(close_books(Books {
+            board,
+            shares,
+            links,
+        }))
+    }
+}
