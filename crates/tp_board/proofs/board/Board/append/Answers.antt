@@ -1,4 +1,4 @@
-use Rattle.std.proofs.Common.{ap}
+use Rattle.std.proofs.Common.{ap, rules, tests}
 use Rattle.tp_board.specs.States.{BoardState}
 use Rattle.tp_board.proofs.Boards.{plain_follows, within_next}
 use Rattle.tp_board.proofs.board.Board.append.Goals as goal
@@ -11,3 +11,9 @@ invariant_of-self-2 g c =
 pub returns-clause-within : goal.returns-clause-within
 returns-clause-within g c =
     rw c.follow.ensures.shares (within_next _ _ _ _ _ _ _ c.self.invariant c.follow.ensures.told c.follow.ensures.node c.in_ok-add.ensures.places)
+
+pub returns-clause-ok : goal.returns-clause-ok
+returns-clause-ok g c = search (rules, tests)
+
+pub returns-clause-shares : goal.returns-clause-shares
+returns-clause-shares g c = search (rules, tests)

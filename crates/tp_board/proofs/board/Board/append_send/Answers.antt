@@ -1,4 +1,4 @@
-use Rattle.std.proofs.Common.{ap, ◌∙◌}
+use Rattle.std.proofs.Common.{ap, ◌∙◌, rules, tests}
 use Rattle.tp_base.specs.declared.step.Step.TheVariants.{Send}
 use Rattle.tp_board.specs.States.{BoardState}
 use Rattle.tp_board.proofs.Boards.{send_follows, within_next}
@@ -12,3 +12,9 @@ invariant_of-self-2 g c =
 pub returns-clause-within : goal.returns-clause-within
 returns-clause-within g c =
     rw c.follow.ensures.shares (within_next _ _ _ _ _ _ (Send c.node-node.result c.to-to.result c.in_ok-message.message) c.self.invariant c.follow.ensures.told c.follow.ensures.node c.in_ok-message.ensures.places)
+
+pub returns-clause-number : goal.returns-clause-number
+returns-clause-number g c = search (rules, tests)
+
+pub returns-clause-ok : goal.returns-clause-ok
+returns-clause-ok g c = search (rules, tests)

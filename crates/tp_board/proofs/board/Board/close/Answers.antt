@@ -1,4 +1,4 @@
-use Rattle.std.proofs.Common.{arith}
+use Rattle.std.proofs.Common.{arith, rules, tests}
 use Rattle.tp_board.proofs.Boards.{balance, quiet_out}
 use Rattle.tp_board.proofs.board.Board.close.Goals as goal
 
@@ -16,3 +16,6 @@ returns-clause-balance g c = omega (arith, c.totals-sent.ensures, balance _ _ _ 
 pub returns-clause-quiet : goal.returns-clause-quiet
 returns-clause-quiet g c =
     rw (← c.self.view_is) (λ yes. quiet_out _ _ _ _ _ c.self.invariant (omega (arith, c.is_ended-ended.ensures.out.0 yes)))
+
+pub returns-clause-done : goal.returns-clause-done
+returns-clause-done g c = search (rules, tests)

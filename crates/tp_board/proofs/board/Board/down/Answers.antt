@@ -1,4 +1,4 @@
-use Rattle.std.proofs.Common.{List, [], ◌∷◌, Result, Ok, Err, ap, sym, ◌∙◌}
+use Rattle.std.proofs.Common.{List, [], ◌∷◌, Result, Ok, Err, ap, sym, ◌∙◌, rules, tests}
 use Rattle.std.specs.Result.{result_err}
 use Rattle.std.proofs.lemmas.Result.{err_from_is_err_and}
 use Rattle.tp_base.specs.declared.refusal.Refusal.{Refusal}
@@ -24,3 +24,9 @@ returns-clause-refusal g c =
     let full : BoardState → List Check = λ b. full_check 1 b ∷ [] in
     let ok : Result (Unit {0}) Refusal = Ok tt in
     rw (← c.node-node.ensures.number) (passed _ _ _ _ _ _ (Down c.node-node.result) full _ _ ok c.self.invariant c.self.view_is c.down.ensures.table (ap result_err c.in_ok-down.was) c.add.ensures.refusal (ap result_err c.in_ok-add.was))
+
+pub invariant_of-self-2 : goal.invariant_of-self-2
+invariant_of-self-2 g c = search (rules, tests)
+
+pub returns-clause-ok : goal.returns-clause-ok
+returns-clause-ok g c = search (rules, tests)

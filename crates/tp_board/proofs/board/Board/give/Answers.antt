@@ -1,4 +1,4 @@
-use Rattle.std.proofs.Common.{Option, Result, Ok, Err, ap, sym, refl, ◌∙◌, arith}
+use Rattle.std.proofs.Common.{Option, Result, Ok, Err, ap, sym, refl, ◌∙◌, arith, rules, tests}
 use Rattle.std.specs.Result.{result_err}
 use Rattle.std.proofs.lemmas.Result.{err_from_is_err_and}
 use Rattle.tp_base.specs.declared.refusal.Refusal.{Refusal}
@@ -34,3 +34,12 @@ returns-clause-refusal g c =
     let answer : Result (Option Sums) Refusal = Ok c.in_ok-sums.sums in
     let idle = when_idle c.node-node.result.0 c.self.inside.log c.add.result (omega (arith, pending)) c.add.ensures.refusal in
     rw (← c.node-node.ensures.number) (passed _ _ _ _ _ _ (Give c.node-node.result) (visit_rest c.node-node.result.0) _ _ answer c.self.invariant c.self.view_is c.give.ensures.table (ap result_err c.in_ok-sums.was) idle (ap result_err c.in_ok-add.was))
+
+pub invariant_of-self-2 : goal.invariant_of-self-2
+invariant_of-self-2 g c = search (rules, tests)
+
+pub returns-clause-ok : goal.returns-clause-ok
+returns-clause-ok g c = search (rules, tests)
+
+pub returns-clause-sums : goal.returns-clause-sums
+returns-clause-sums g c = search (rules, tests)

@@ -1,4 +1,4 @@
-use Rattle.std.proofs.Common.{[], ◌∷◌, Err, ap, ◌∙◌}
+use Rattle.std.proofs.Common.{[], ◌∷◌, Err, ap, ◌∙◌, rules, tests}
 use Rattle.std.specs.Result.{result_err}
 use Rattle.std.proofs.lemmas.Result.{err_from_is_err_and}
 use Rattle.tp_base.specs.declared.step.Step.TheVariants.{Start}
@@ -14,3 +14,9 @@ pub returns-in_err-start-clause-refusal : goal.returns-in_err-start-clause-refus
 returns-in_err-start-clause-refusal g c =
     let p = err_from_is_err_and c.from_residual.result c.from_residual.ensures.1 in
     refused _ _ _ _ _ _ Start (full_check 1 c.args.self.now ∷ []) _ _ _ c.self.invariant c.self.view_is c.start.ensures.table (ap result_err c.in_err-start.was) (p.1 ∙ ap Err p.2)
+
+pub invariant_of-self-2 : goal.invariant_of-self-2
+invariant_of-self-2 g c = search (rules, tests)
+
+pub returns-clause-ok : goal.returns-clause-ok
+returns-clause-ok g c = search (rules, tests)
