@@ -5,7 +5,7 @@ use Rattle.clap.specs.Faults.{fault_of}
 use Rattle.clap.specs.Kinds.{IsAmong}
 use Rattle.clap.specs.Words.{App, Row, Rule, Text, first_of, new_app, new_rule, subcommand_of, with_rule, with_subcommand}
 use Rattle.clap.specs.declared.builder.value_parser.ValueParser.TheVariants.{Signed}
-use Rattle.clap.specs.declared.error.kind.ErrorKind.TheVariants.{DisplayHelp}
+use Rattle.clap.specs.declared.error.kind.ErrorKind.TheVariants.{DisplayHelp, DisplayVersion}
 
 -- an option that takes a number from 1 to 8, and is 1 where it is left out
 abbrev pub count_rule : Text → Rule
@@ -29,13 +29,20 @@ run_app = with_rule (with_rule (with_rule (new_app (codes "run")) spec_rule) (co
 abbrev pub with_required : App → App
 with_required a = record a { top = record a.top { subcommand_required = true } }
 
--- a subcommand is required: `sim`, or `run` with its arguments
+abbrev pub with_version : App → App
+with_version a = record a { top = record a.top { has_version = true } }
+
+-- It has a version, and a subcommand is required: `sim`, or `run` with its arguments.
 abbrev pub tp_app : App
-tp_app = with_subcommand (with_subcommand (with_required (new_app (codes "tp"))) sim_app.top) run_app.top
+tp_app = with_subcommand (with_subcommand (with_required (with_version (new_app (codes "tp")))) sim_app.top) run_app.top
 
 -- the words ask for help
 abbrev pub AsksForHelp : List Text → Type 0
 AsksForHelp words = IsAmong DisplayHelp (fault_of tp_app words)
+
+-- the words ask for the version
+abbrev pub AsksForVersion : List Text → Type 0
+AsksForVersion words = IsAmong DisplayVersion (fault_of tp_app words)
 
 -- what was found, a subcommand and its matches, is `sim`
 abbrev pub IsSim : Option (Text × List Row) → Type 0

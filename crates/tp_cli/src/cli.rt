@@ -1,9 +1,9 @@
 ghost use Rattle.std.specs.Prelude.{◌≡◌, ◌≢◌, ◌≤◌, ◌⊎◌, map};
 ghost use Rattle.clap.specs.Values.{kind_of};
-ghost use Rattle.clap.specs.declared.error.kind.ErrorKind.TheVariants.{DisplayHelp};
+ghost use Rattle.clap.specs.declared.error.kind.ErrorKind.TheVariants.{DisplayHelp, DisplayVersion};
 ghost use Rattle.tp_text.specs.declared.Verdict.TheVariants.{Sound, Refused as RefusedText};
 ghost use Rattle.tp_cli.specs.Answered.{IsAnswered};
-ghost use Rattle.tp_cli.specs.Command.{AsksForHelp, AsksForSim};
+ghost use Rattle.tp_cli.specs.Command.{AsksForHelp, AsksForSim, AsksForVersion};
 ghost use Rattle.tp_cli.specs.Runs.{IsRunFor, IsRunOf};
 ghost use Rattle.tp_cli.specs.Status.{fault_line};
 ghost use Rattle.tp_cli.specs.declared.status.Status.TheVariants.{Done, Refused};
@@ -22,9 +22,9 @@ use tp_text::{TextFault, sim};
 use tp_work::Config;
 
 /// Runs the program on the words of its command line, its own name first. It reads from `reader`, writes its output to
-/// `out` and its complaints to `err`, and answers the exit status: 0 where it is done or help was asked for, 1 for a fault
-/// of the command line, a word that names no pool, the reading or the writing, 2 for a text that is refused, 3 for a run
-/// that was refused or want of memory.
+/// `out` and its complaints to `err`, and answers the exit status: 0 where it is done, or help or the version was asked
+/// for, 1 for a fault of the command line, a word that names no pool, the reading or the writing, 2 for a text that is
+/// refused, 3 for a run that was refused or want of memory.
 pub fn main_with<R: Threads + Wait + Sync, I: Read, O: Write, E: Write>(
     rt: &R,
     alloc: Global,
@@ -34,12 +34,12 @@ pub fn main_with<R: Threads + Wait + Sync, I: Read, O: Write, E: Write>(
     err: &mut E,
 ) -> u8
     ensures range { result ≤ 3 }
-    // Where it is done, a sound text was answered, or help was asked for, or a pool was run to its end. The latter two read
-    // nothing.
+    // Where it is done, a sound text was answered, or help or the version was asked for and nothing was read, or a pool was
+    // run to its end and nothing was read.
     ensures done { result ≡ 0 →
         (AsksForSim (map (λ w. w.now) words.now)
         × IsAnswered (I.remaining reader.old) (I.remaining reader.new) (O.contents out.old) (O.contents out.new) Sound)
-        ⊎ ((AsksForHelp (map (λ w. w.now) words.now) × (reader.new ≡ reader.old))
+        ⊎ (((AsksForHelp (map (λ w. w.now) words.now) ⊎ AsksForVersion (map (λ w. w.now) words.now)) × (reader.new ≡ reader.old))
         ⊎ (IsRunFor (map (λ w. w.now) words.now) (O.contents out.old) (O.contents out.new) × (reader.new ≡ reader.old))) }
     ensures refused { result ≡ 2 → AsksForSim (map (λ w. w.now) words.now)
         × IsAnswered (I.remaining reader.old) (I.remaining reader.new) (O.contents out.old) (O.contents out.new) RefusedText }
@@ -108,9 +108,9 @@ fn fault_text(fault: TextFault) -> &'static str
     }
 }
 
-/// Shows help where it was asked for, and else what is wrong with the words.
+/// Shows help or the version where it was asked for, and else what is wrong with the words.
 fn explain<O: Write, E: Write>(error: &Error, out: &mut O, err: &mut E) -> Status
-    ensures help { result ≡ Done → kind_of error.now ≡ DisplayHelp }
+    ensures shown { result ≡ Done → (kind_of error.now ≡ DisplayHelp) ⊎ (kind_of error.now ≡ DisplayVersion) }
     ensures never { result ≢ Refused }
 {
     match error.kind() {
@@ -118,7 +118,7 @@ fn explain<O: Write, E: Write>(error: &Error, out: &mut O, err: &mut E) -> Statu
             let _ = err.write_all(fault_text(TextFault::Memory).as_bytes());
             Status::Failed
         }
-        ErrorKind::DisplayHelp => match write!(out, "{error}") {
+        ErrorKind::DisplayHelp | ErrorKind::DisplayVersion => match write!(out, "{error}") {
             Ok(()) => Status::Done,
             Err(_) => {
                 let _ = err.write_all(fault_text(TextFault::Write).as_bytes());

@@ -6,11 +6,15 @@ ghost use Rattle.tp_cli.specs.Command.{count_rule, run_app, sim_app, tp_app};
 use clap::{Arg, Command, value_parser};
 use std::alloc::{AllocError, Global};
 
+/// The version of the program.
+static VERSION: &str = "0.1.0";
+
 /// The command line: one level of subcommands.
 pub(crate) fn tp_command<'a>(alloc: Global) -> Result<Command<'a>, AllocError>
     ensures { IfOk result (λ command. app_of command ≡ tp_app) }
 {
     Command::new(alloc, "tp")
+        .version(VERSION)
         .about("Task pools on several nodes, and the detector of their end")
         .after_help(TP_HELP)
         .subcommand_required(true)
@@ -34,10 +38,8 @@ fn run_command<'a>(alloc: Global) -> Result<Command<'a>, AllocError>
     let spec = Arg::new(alloc, "SPEC").required(true).help(
         "The pool, as product:4:2:0, wavefront:8:8:0 or reduce:16:0",
     );
-    let nodes = count_option(alloc, "nodes", "N").help("How many nodes there are, 1 to 8");
-    let workers = count_option(alloc, "workers", "W").help(
-        "How many threads work at each node, 1 to 8",
-    );
+    let nodes = count_option(alloc, "nodes").help("N, how many nodes there are");
+    let workers = count_option(alloc, "workers").help("W, how many threads work at each node");
     Command::new(alloc, "run")
         .about("Runs a pool of tasks on worker threads and prints its result")
         .after_help(RUN_HELP)
@@ -46,14 +48,15 @@ fn run_command<'a>(alloc: Global) -> Result<Command<'a>, AllocError>
         .arg(workers)
 }
 
-/// An option that takes a number from 1 to 8.
-fn count_option<'a>(alloc: Global, name: &'a str, value: &'a str) -> Arg<'a>
+/// An option that takes a number from 1 to 8. Its value is named by that range, so that a complaint of any other word says
+/// what is wanted.
+fn count_option<'a>(alloc: Global, name: &'a str) -> Arg<'a>
     ensures rule { rule_of result ≡ count_rule name.entry.now }
     ensures local { result.global ≡ false }
 {
     Arg::new(alloc, name)
         .long(name)
-        .value_name(value)
+        .value_name("1-8")
         .value_parser(value_parser!(u32).range(1..=8))
         .default_value("1")
 }
@@ -67,7 +70,8 @@ Try a pool of tasks, the sum of a tree's leaves:
 Every subcommand tells more with --help.";
 
 static SIM_HELP: &str =
-    "The script is read from standard input: a line `nodes N`, 1 to 8, then a line for each step.
+    "The script is read from standard input: a line `nodes N`, 1 to 8, then a line
+for each step.
   insert I T K   task T at node I waits for K inputs, 0 to 16
   supply T       one input for task T
   begin T        task T begins to run
@@ -84,8 +88,9 @@ static SIM_HELP: &str =
   up I           the parent of node I takes the sums that it gave
   judge          the wave that has ended is judged
 
-Each step is answered by `ok`, by what a wave adds up, by `not` or `ended W`, or by its refusal. Then come the numbers of
-each node and of all, and whether all is quiet.
+Each step is answered by `ok`, by what a wave adds up, by `not` or `ended W`, or
+by its refusal. Then come the numbers of each node and of all, and whether all
+is quiet.
 
 An example:
   nodes 1
@@ -96,21 +101,38 @@ An example:
   done 1
   ready 0
 
-The exit status is 0, or 2 where a line is not of the grammar.";
+The exit status is
+  0  where each step was answered, be it by its refusal;
+  1  where the words are at fault, the script could not be read or is longer
+     than 33,554,432 bytes, or the answer could not be written;
+  2  where a line is not of the grammar: `syntax line L` is the whole answer;
+  3  where memory was refused.";
 
 static RUN_HELP: &str =
-    "SPEC names one of three pools by its kind and its numbers, which have no leading zeros:
-  product:ORDER:SIDE:SEED      two matrices of ORDER, 1 to 64, are multiplied in square tiles; SIDE divides ORDER
-  wavefront:ROWS:COLUMNS:SEED  each cell of a table, 1 to 64 by 1 to 64, adds its cost to the least of those above and left
-  reduce:LEAVES:SEED           the leaves of a tree, a power of two from 1 to 1024, are added up
+    "SPEC names one of three pools by its kind and its numbers, which have no leading
+zeros:
+  product:ORDER:SIDE:SEED      two matrices of ORDER, 1 to 64, are multiplied in
+                               square tiles; SIDE divides ORDER
+  wavefront:ROWS:COLUMNS:SEED  each cell of a table, 1 to 64 by 1 to 64, adds
+                               its cost to the least of those above and left
+  reduce:LEAVES:SEED           the leaves of a tree, a power of two from 1 to
+                               1024, are added up
 SEED, 0 to 9999, gives the numbers that a pool begins with.
 
-The pool's tasks run at N nodes, by W threads at each, and their values go from node to node as messages. When its end
-was detected the result is printed as a table, and then the number of tasks, the number of messages, and `ended`. The
-table and the tasks are the same for every N and W.
+The pool's tasks run at N nodes, by W threads at each, and their values go from
+node to node as messages. When its end was detected the result is printed as a
+table, and then the number of tasks, the number of messages, and `ended`. Where
+the run is not refused, the table and the number of tasks do not depend on N and
+W; the number of messages depends on N.
 
 An example:
   tp run product:4:2:0 --nodes 2 --workers 2
 
-The exit status is 0; 1 for a fault of these words, as `refused 26 BadSpec` where SPEC names no pool; and 3 where the run
-was refused.";
+The exit status is
+  0  where the pool was run to its end and its text was written;
+  1  where the words are at fault, as `refused 26 BadSpec` where SPEC names no
+     pool, or the text could not be written;
+  3  where the run was refused, as `refused 16 HistoryFull`, or memory was.
+It is never 2. `HistoryFull` comes where the pool needs more than 1,048,576
+events: a task takes as many as it has inputs and 2 more, or 3 where it has
+none, and each message takes 3 more.";

@@ -1,9 +1,9 @@
 ghost use Rattle.std.specs.Prelude.{◌≡◌, ◌≤◌, IfErr, IfOk, IfSome, map};
 ghost use Rattle.clap.specs.Values.{kind_of};
-ghost use Rattle.clap.specs.declared.error.kind.ErrorKind.TheVariants.{DisplayHelp};
+ghost use Rattle.clap.specs.declared.error.kind.ErrorKind.TheVariants.{DisplayHelp, DisplayVersion};
 ghost use Rattle.clap.specs.Words.{subcommand_rows_of};
 ghost use Rattle.tp_cli.specs.Asked.{IsAskedBy, IsMadeBy};
-ghost use Rattle.tp_cli.specs.Command.{AsksForHelp};
+ghost use Rattle.tp_cli.specs.Command.{AsksForHelp, AsksForVersion};
 
 use crate::command::tp_command;
 use clap::error::ErrorKind;
@@ -28,6 +28,7 @@ pub(crate) enum Request<'a> {
 pub(crate) fn requested<'a>(alloc: Global, words: &'a [&'a str]) -> Result<Request<'a>, Error>
     ensures asked { IfOk result (IsAskedBy (map (λ w. w.now) words.entry.now)) }
     ensures help { IfErr result (λ e. kind_of e ≡ DisplayHelp → AsksForHelp (map (λ w. w.now) words.entry.now)) }
+    ensures version { IfErr result (λ e. kind_of e ≡ DisplayVersion → AsksForVersion (map (λ w. w.now) words.entry.now)) }
 {
     let mut command = tp_command(alloc)?;
     let matches = command.try_get_matches_from_mut(words)?;

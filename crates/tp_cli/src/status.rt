@@ -7,7 +7,7 @@ use tp_text::{TextFault, Verdict};
 /// The exit status of the program.
 #[derive(Clone, Copy, Debug, PartialEq, Eq)]
 pub enum Status {
-    /// It is done, or help was asked for.
+    /// It is done, or help or the version was asked for.
     Done = 0,
     /// The command line, a specification, the reading or the writing is at fault.
     Fault = 1,
