@@ -1,4 +1,4 @@
-use Rattle.std.proofs.Common.{◌∙◌, refl, sym, arith, IsTrue, IsFalse}
+use Rattle.std.proofs.Common.{◌∙◌, refl, sym, arith, IsTrue, IsFalse, rules}
 use Rattle.std.proofs.lemmas.Grind.{common_steps}
 use Rattle.tp_wave.specs.Sums.{is_ended, judgement}
 use Rattle.tp_wave.specs.Control.{has_ended}
@@ -30,3 +30,9 @@ returns-clause-follows c = λ n steps f.
       newest = f.newest;
       last = f.last;
     }
+
+pub returns-clause-exact : goal.returns-clause-exact
+returns-clause-exact c = search rules
+
+pub returns-clause-table : goal.returns-clause-table
+returns-clause-table c = search rules
