@@ -49,9 +49,9 @@ impl Model for Local {
 
     ghost coded = { state_code (coded_list coded_ℤ) };
 
-    ghost view = { λ l. state_of l.tally l.store.value.content l.actions };
+    ghost view = { λ l. state_of l.tally l.store.value l.actions };
 
-    ghost invariant = { λ l. IsCounted l.tally (unfinished l.store.value.content) (open_count l.actions) (opening_count l.actions) };
+    ghost invariant = { λ l. IsCounted l.tally (unfinished l.store.value) (open_count l.actions) (opening_count l.actions) };
 }
 
 impl Local {

@@ -95,13 +95,13 @@ module _ {T A : Type 0} where
     within = omega (arith, kept.within);
   }
 
-  -- the same content, with as much room or more
-  pub IsKept-reserved : (s new : Slab T) (r q : List (VecDeque ℕ A)) (room more : ℕ) → IsKept s r room → new ≡ record s { capacity = new.capacity } → places_of q ≡ places_of r → HasRoomFor s more → s.capacity ≤ new.capacity → EachHolds (slab_len s + more) q → slab_len s + more ≤ 65536 → IsKept new q more
-  IsKept-reserved s new r q room more kept rest same spare grown lists within =
+  -- the same content, with other room
+  pub IsKept-reserved : (s new : Slab T) (r q : List (VecDeque ℕ A)) (room more : ℕ) → IsKept s r room → new ≡ record s { capacity = new.capacity } → places_of q ≡ places_of r → HasRoomFor new more → EachHolds (slab_len s + more) q → slab_len s + more ≤ 65536 → IsKept new q more
+  IsKept-reserved s new r q room more kept rest same spare lists within =
       let long : slab_len new ≡ slab_len s = ap slab_len rest in
       record {
         sound = subst IsSound (sym (same_content s new r q rest same)) kept.sound;
-        spare = omega (arith, spare);
+        spare = spare;
         lists = subst (λ (n : ℕ). EachHolds (n + more) q) (sym long) lists;
         within = omega arith;
       }

@@ -1,5 +1,5 @@
 -- A new task enters the slots.
-use Rattle.std.proofs.Common.{◌≡◌, ◌≢◌, ℕ, ◌+◌, ◌<◌, ◌==◌, true, false, cond, length, map, Option, Some, None, is_some, IsSome, unwrap_or, refl, sym, ap, subst, ◌∙◌, inl, inr, arith}
+use Rattle.std.proofs.Common.{◌≡◌, ◌≢◌, ℕ, ◌+◌, ◌<◌, ◌≤◌, ◌==◌, true, false, cond, length, map, Option, Some, None, is_some, IsSome, unwrap_or, refl, sym, ap, subst, ◌∙◌, inl, inr, arith, vec_len, vec_capacity}
 use Rattle.std.specs.Prelude.{if◌then◌else◌}
 use Rattle.std.specs.Option.{option_map, IsSomeAnd}
 use Rattle.std.specs.Cmp.{nat_cmp_total}
@@ -8,26 +8,24 @@ use Rattle.std.specs.declared.vec.Vec.{Vec}
 use Rattle.std.proofs.lemmas.Bool.{cases_eq}
 use Rattle.std.proofs.lemmas.Bool.Decides.{nat_tests}
 use Rattle.tp_base.specs.declared.ids.TaskId.{TaskId}
-use Rattle.tp_base.specs.Table.{lookup}
 use Rattle.tp_slots.specs.Content as slots
 use Rattle.tp_slots.proofs.Sound.{IsSound-with_item, idle_when_taken}
-use Rattle.tp_store.specs.Content.{Task, Content, Stored, fresh, task_of, with_task, unfinished, counts_of, is_ready, has_begun}
+use Rattle.tp_store.specs.Content.{Task, Content, task_of, with_task, unfinished, counts_of, is_ready, has_begun}
 use Rattle.tp_store.specs.Items.{Item}
 use Rattle.tp_store.specs.Entries.{Entries, entry_at}
 use Rattle.tp_store.specs.Sound.{IsTask}
-use Rattle.tp_store.specs.Kept.{task_under, tasks_of, number_at, content_of, with_listed, reserved_of, entered, IsKept}
+use Rattle.tp_store.specs.Kept.{task_under, tasks_of, number_at, content_of, with_listed, entered, IsKept}
 use Rattle.tp_store.specs.declared.life.Counts.{Counts}
 use Rattle.tp_store.specs.declared.index.Entry.TheVariants.{Live}
-use Rattle.tp_store.proofs.Counting.{unfinished_counted}
-use Rattle.tp_store.proofs.Contents.{NotReady, unknown, same_number, IsSound-put, counts-new}
+use Rattle.tp_store.proofs.Contents.{NotReady, unknown, IsSound-put, counts-new}
 use Rattle.tp_store.proofs.Keeping.{get-tasks_of, tasks-put, numbers_same, item_here, item_there, listed_item, listed_count, listed_sound, listed_lists}
+use Rattle.tp_store.proofs.Reserving.{nothing_there}
 
-module _ {V A : Type 0} (c : slots.Content (Item V)) (room more : ℕ) (index new : Entries) (results : Vec (TaskId × V) A) (counts : Counts) (i0 i : Item V) (p : ℕ)
-    (kept : IsKept {V = V} {A = A} c room index results counts (Some i0))
-    (number : i.number ≡ i0.number) (task : IsTask i.task) (before : has_begun i.task.life ≡ false)
+module _ {V A : Type 0} {c : slots.Content (Item V)} {index : Entries} {results : Vec (TaskId × V) A} {counts : Counts} (kept : IsKept {V = V} {A = A} c index results counts) (new : Entries) (i : Item V) (p : ℕ)
+    (no_entry : entry_at index i.number.0 ≡ None) (task : IsTask i.task) (before : has_begun i.task.life ≡ false)
     (free : slots.item_at c p ≡ None)
     (entries : (q : ℕ) → entry_at new q ≡ (if q == i.number.0 then Some (Live p) else entry_at index q))
-    (low : slots.held_count c < 65536) where
+    (low : slots.held_count c < 65536) (space : vec_len results + slots.held_count c + 1 ≤ vec_capacity results) where
   abbrev old : Content V
   old = content_of c index results.items
 
@@ -36,9 +34,6 @@ module _ {V A : Type 0} (c : slots.Content (Item V)) (room more : ℕ) (index ne
 
   abbrev after : slots.Content (Item V)
   after = with_listed with p i.task
-
-  no_entry : entry_at index i.number.0 ≡ None
-  no_entry = ap (λ n. entry_at index n.0) number ∙ kept.entry.0
 
   pub was_unknown : task_of old i.number ≡ None
   was_unknown = get-tasks_of c index i.number.0 ∙ ap (task_under c) no_entry
@@ -88,7 +83,7 @@ module _ {V A : Type 0} (c : slots.Content (Item V)) (room more : ℕ) (index ne
   pub counted : (unfinished (with_task old i.number i.task) ≡ unfinished old + 1) × (entered counts (is_ready i.task.life) ≡ counts_of (with_task old i.number i.task))
   counted = counts-new old i.number i.task counts was_unknown before kept.counted
 
-  pub IsKept-entered : IsKept {V = V} {A = A} after more new results (entered counts (is_ready i.task.life)) None
+  pub IsKept-entered : IsKept {V = V} {A = A} after new results (entered counts (is_ready i.task.life))
   IsKept-entered = record {
     lists = listed_sound (is_ready i.task.life) with p i.task.class (IsSound-with_item c p i kept.lists) (idle_when_taken c p i kept.lists free) task.class;
     live = λ t place e. elim (cases_eq t i.number.0) [
@@ -113,49 +108,26 @@ module _ {V A : Type 0} (c : slots.Content (Item V)) (room more : ℕ) (index ne
     held = count ∙ ap (λ n. n + 1) kept.held ∙ sym counted.0 ∙ ap (λ (s : Content V). unfinished s) (sym entered_content);
     within = omega (arith, count);
     counted = counted.1 ∙ ap (λ (s : Content V). counts_of s) (sym entered_content);
-    space = omega (arith, count, kept.space);
-    spare = tt;
-    entry = tt;
+    space = omega (arith, count, space);
   }
 
-module _ {V A : Type 0} (c : slots.Content (Item V)) (room : ℕ) (index : Entries) (results : Vec (TaskId × V) A) (counts : Counts) (reserved : Option (Item V)) (s : Content V) (i0 : Item V) (t : TaskId) (arity : ℕ)
-    (any : IsKept {V = V} {A = A} c room index results counts reserved) (is : Some i0 ≡ reserved)
-    (view : ◌≡◌ {A = Stored V} (record { content = content_of c index results.items; reserved = reserved_of reserved }) (record { content = s; reserved = Some (t.0, arity) })) where
-  kept : IsKept {V = V} {A = A} c room index results counts (Some i0)
-  kept = subst (λ o. IsKept {V = V} {A = A} c room index results counts o) (sym is) any
-
-  made : ◌≡◌ {A = Option (ℕ × ℕ)} (Some (i0.number.0, i0.task.arity)) (Some (t.0, arity))
-  made = ap reserved_of is ∙ ap (λ (v : Stored V). v.reserved) view
-
-  number : i0.number.0 ≡ t.0
-  number = ap (λ (o : Option (ℕ × ℕ)). (unwrap_or o (0, 0)).0) made
-
-  -- the item for which room was made, in its class
-  pub prepared : (class : ℕ) → ◌≡◌ {A = Item V} (record { number = i0.number; task = record i0.task { class = class } }) (record { number = t; task = fresh arity class })
-  prepared class =
-      let same : i0.task.arity ≡ arity = ap (λ (o : Option (ℕ × ℕ)). (unwrap_or o (0, 0)).1) made in
-      let task : record i0.task { class = class } ≡ fresh arity class = ap {A = Task V} {B = Task V} (λ x. record { life = x.life; arity = x.arity; class = class; values = x.values }) kept.spare.0 ∙ ap (λ n. fresh n class) same in
-      λ k. record { number = same_number t i0.number number k; task = task k }
-
-  -- it can enter
-  pub can_enter : (i : Item V) → i.number ≡ t → (0 < room) × (IsSome (lookup index i.number.0) × (counts.waiting + counts.ready + counts.running ≡ slots.held_count c))
-  can_enter i is = (kept.spare.1, (ap (λ n. is_some (lookup index n.0)) (is ∙ sym (same_number t i0.number number)) ∙ kept.entry.1, sym (unfinished_counted (content_of c index results.items) counts kept.counted) ∙ sym kept.held))
-
-  -- what that leaves
-  pub entered_all : (d : slots.Content (Item V)) (more : ℕ) (new : Entries) (now : Counts) (i : Item V) (x : Task V) → ◌≡◌ {A = Item V} i (record { number = t; task = x }) → IsTask x → has_begun x.life ≡ false
+module _ {V A : Type 0} {c : slots.Content (Item V)} {index : Entries} {results : Vec (TaskId × V) A} {counts : Counts} (kept : IsKept {V = V} {A = A} c index results counts) {s : Content V} (view : content_of c index results.items ≡ s)
+    (t : TaskId) (unknown_task : task_of s t ≡ None) (space : vec_len results + slots.held_count c + 1 ≤ vec_capacity results) where
+  -- what the store is once the task entered
+  pub entered_all : (d : slots.Content (Item V)) (new : Entries) (now : Counts) (i : Item V) (x : Task V) → ◌≡◌ {A = Item V} i (record { number = t; task = x }) → IsTask x → has_begun x.life ≡ false
       → ((p : ℕ) × (slots.item_at c p ≡ None) × (d ≡ with_listed (slots.with_item c p i) p i.task) × ((q : ℕ) → entry_at new q ≡ (if q == i.number.0 then Some (Live p) else entry_at index q)))
       → now ≡ entered counts (is_ready i.task.life) → slots.held_count c < 65536
-      → (content_of d new results.items ≡ with_task s t x) × (unfinished (content_of d new results.items) ≡ unfinished s + 1) × IsKept {V = V} {A = A} d more new results now None
-  entered_all d more new now i x is task before placed counts_are low =
-      let own : i.number ≡ i0.number = ap (λ j. j.number) is ∙ sym (same_number t i0.number number) in
+      → (content_of d new results.items ≡ with_task s t x) × (unfinished (content_of d new results.items) ≡ unfinished s + 1) × IsKept {V = V} {A = A} d new results now
+  entered_all d new now i x is task before placed counts_are low =
+      let nothing : entry_at index i.number.0 ≡ None = ap (λ (j : Item V). entry_at index j.number.0) is ∙ nothing_there kept view t unknown_task in
       let its : i.task ≡ x = ap (λ j. j.task) is in
       let done_task : IsTask i.task = subst IsTask (sym its) task in
       let done_before : has_begun i.task.life ≡ false = ap (λ y. has_begun y.life) its ∙ before in
-      let content = entered_content c room more index new results counts i0 i placed.0 kept own done_task done_before placed.1 placed.3 low in
-      let moves = counted c room more index new results counts i0 i placed.0 kept own done_task done_before placed.1 placed.3 low in
-      let all = IsKept-entered c room more index new results counts i0 i placed.0 kept own done_task done_before placed.1 placed.3 low in
+      let content = entered_content kept new i placed.0 nothing done_task done_before placed.1 placed.3 low space in
+      let moves = counted kept new i placed.0 nothing done_task done_before placed.1 placed.3 low space in
+      let all = IsKept-entered kept new i placed.0 nothing done_task done_before placed.1 placed.3 low space in
       rw (placed.2, counts_are) (
-        content ∙ ap (λ v. with_task v.content i.number i.task) view ∙ ap {A = Item V} (λ j. with_task s j.number j.task) is,
-        ap unfinished content ∙ moves.0 ∙ ap (λ v. unfinished v.content + 1) view,
+        content ∙ ap (λ v. with_task v i.number i.task) view ∙ ap {A = Item V} (λ j. with_task s j.number j.task) is,
+        ap unfinished content ∙ moves.0 ∙ ap (λ v. unfinished v + 1) view,
         all,
       )

@@ -14,7 +14,7 @@ use Rattle.tp_slots.specs.Content as slots
 use Rattle.tp_slots.proofs.Sound.{IsSound-without_item}
 use Rattle.tp_store.specs.Content.{Task, Content, task_of, life_of, unfinished, counts_of, is_running, is_unfinished, refusal_of_done, done, with_done}
 use Rattle.tp_store.specs.Items.{Item}
-use Rattle.tp_store.specs.Entries.{Entries, entry_at, IsFreeAt}
+use Rattle.tp_store.specs.Entries.{Entries, entry_at}
 use Rattle.tp_store.specs.Sound.{IsTask, times_ready}
 use Rattle.tp_store.specs.Kept.{task_under, tasks_of, number_at, content_of, IsKept}
 use Rattle.tp_store.specs.declared.life.Life.{Life}
@@ -23,11 +23,11 @@ use Rattle.tp_store.specs.declared.life.Counts.{Counts}
 use Rattle.tp_store.specs.declared.index.Entry.{Entry}
 use Rattle.tp_store.specs.declared.index.Entry.TheVariants.{Live, Done}
 use Rattle.tp_store.proofs.Contents.{same_number, ready_in, runs_not, IsSound-done, counts-done, some_counted}
-use Rattle.tp_store.proofs.Keeping.{room_under, get-tasks_of, tasks-put, numbers_same, gone_here, gone_there, spared}
+use Rattle.tp_store.proofs.Keeping.{room_under, get-tasks_of, tasks-put, numbers_same, gone_here, gone_there}
 use Rattle.tp_store.proofs.Rewriting.{unlisted}
 use Rattle.tp_store.proofs.Reading.{seen_live}
 
-module _ {V A : Type 0} (c : slots.Content (Item V)) (room : ℕ) (index : Entries) (results : Vec (TaskId × V) A) (counts : Counts) (reserved : Option (Item V)) (kept : IsKept {V = V} {A = A} c room index results counts reserved)
+module _ {V A : Type 0} {c : slots.Content (Item V)} {index : Entries} {results : Vec (TaskId × V) A} {counts : Counts} (kept : IsKept {V = V} {A = A} c index results counts)
     (i : Item V) (p : ℕ) (at : slots.item_at c p ≡ Some i) (runs : i.task.life ≡ Running) (t : TaskId) (number : i.number ≡ t) where
   abbrev old : Content V
   old = content_of c index results.items
@@ -59,9 +59,9 @@ module _ {V A : Type 0} (c : slots.Content (Item V)) (room : ℕ) (index : Entri
   own : (q : ℕ) → entry_at index q ≡ Some (Live p) → t.0 ≡ q
   own q e = let is = kept.live q p e in ap (λ n. n.0) (sym number) ∙ rw at at is
 
-  module _ (more : ℕ) (new : Entries) (after : Vec (TaskId × V) A) (value : V)
-      (entries : (q : ℕ) → entry_at new q ≡ (if q == t.0 then Some (Done i.task.arity i.task.class) else entry_at index q)) (rooms : (q : ℕ) → IsSome (lookup index q) → IsSome (lookup new q))
-      (items : after.items ≡ results.items ++ (t, value) ∷ []) (long : vec_len after ≡ vec_len results + 1) (capacity : vec_capacity after ≡ vec_capacity results) (roomy : room ≤ more) where
+  module _ (new : Entries) (after : Vec (TaskId × V) A) (value : V)
+      (entries : (q : ℕ) → entry_at new q ≡ (if q == t.0 then Some (Done i.task.arity i.task.class) else entry_at index q))
+      (items : after.items ≡ results.items ++ (t, value) ∷ []) (long : vec_len after ≡ vec_len results + 1) (capacity : vec_capacity after ≡ vec_capacity results) where
     abbrev without : slots.Content (Item V)
     without = slots.without_item c p
 
@@ -95,7 +95,7 @@ module _ {V A : Type 0} (c : slots.Content (Item V)) (room : ℕ) (index : Entri
         let now = rw at at less in
         omega (arith, now, some_held)
 
-    pub IsKept-done : IsKept {V = V} {A = A} without more new after (record { waiting = counts.waiting; ready = counts.ready; running = counts.running - 1 }) reserved
+    pub IsKept-done : IsKept {V = V} {A = A} without new after (record { waiting = counts.waiting; ready = counts.ready; running = counts.running - 1 })
     IsKept-done = record {
       lists = IsSound-without_item c p kept.lists idle;
       live = λ q place e. elim (cases_eq q t.0) [
@@ -120,44 +120,36 @@ module _ {V A : Type 0} (c : slots.Content (Item V)) (room : ℕ) (index : Entri
       within = omega (arith, count, kept.within);
       counted = done_moves.1 ∙ ap (λ (s : Content V). counts_of s) (sym done_content);
       space = omega (arith, count, kept.space, long, capacity);
-      spare = spared room more reserved roomy kept.spare;
-      entry = still_free reserved kept.entry;
     }
-      where
-        still_free : (o : Option (Item V)) → IfSome o (λ j. IsFreeAt index j.number.0) → IfSome o (λ j. IsFreeAt new j.number.0)
-        still_free None h = tt
-        still_free (Some j) h =
-            let other : j.number.0 ≢ t.0 = λ same. let clash : Some (Live p) ≡ None = sym own_entry ∙ ap (entry_at index) (sym same) ∙ h.0 in cc in
-            (entry_there j.number.0 other ∙ h.0, rooms j.number.0 h.1)
 
 -- ---- in terms of the content
-module _ {V A : Type 0} (c : slots.Content (Item V)) (room : ℕ) (index : Entries) (results : Vec (TaskId × V) A) (counts : Counts) (reserved : Option (Item V)) (kept : IsKept {V = V} {A = A} c room index results counts reserved)
-    (s : Content V) (view : content_of c index results.items ≡ s) (t : TaskId) (i : Item V) (p : ℕ) (stands : entry_at index t.0 ≡ Some (Live p)) (at : slots.item_at c p ≡ Some i) where
+module _ {V A : Type 0} {c : slots.Content (Item V)} {index : Entries} {results : Vec (TaskId × V) A} {counts : Counts} (kept : IsKept {V = V} {A = A} c index results counts)
+    {s : Content V} (view : content_of c index results.items ≡ s) (t : TaskId) (i : Item V) (p : ℕ) (stands : entry_at index t.0 ≡ Some (Live p)) (at : slots.item_at c p ≡ Some i) where
   own_number : i.number ≡ t
   own_number = let is = kept.live t.0 p stands in same_number t i.number (rw at at is)
 
   pub life_is : life_of s t ≡ Some i.task.life
-  life_is = ap (option_map (λ x. x.life)) (seen_live c index results.items s view t p i stands at)
+  life_is = ap (option_map (λ x. x.life)) (seen_live kept view t p i stands at)
 
   module _ (runs : i.task.life ≡ Running) where
     pub can_finish : slots.IsIdle c p × (entry_at index t.0 ≡ Some (Live p)) × (vec_len results < vec_capacity results) × (0 < counts.running)
     can_finish = (
-      idle c room index results counts reserved kept i p at runs t own_number,
+      idle kept i p at runs t own_number,
       stands,
-      omega (arith, some_held c room index results counts reserved kept i p at runs t own_number, kept.space),
-      omega (arith, some_counted is_running (content_of c index results.items) t i.task (was c room index results counts reserved kept i p at runs t own_number) (ap is_running runs) refl, ap (λ n. n.running) kept.counted),
+      omega (arith, some_held kept i p at runs t own_number, kept.space),
+      omega (arith, some_counted is_running (content_of c index results.items) t i.task (was kept i p at runs t own_number) (ap is_running runs) refl, ap (λ n. n.running) kept.counted),
     )
 
-    pub done_all : (d : slots.Content (Item V)) (more : ℕ) (new : Entries) (after : Vec (TaskId × V) A) (value : V) (entry : Entry) → d ≡ slots.without_item c p → entry ≡ Done i.task.arity i.task.class
-        → ((q : ℕ) → entry_at new q ≡ (if q == t.0 then Some entry else entry_at index q)) → ((q : ℕ) → IsSome (lookup index q) → IsSome (lookup new q))
-        → after.items ≡ results.items ++ (t, value) ∷ [] → vec_len after ≡ vec_len results + 1 → vec_capacity after ≡ vec_capacity results → room ≤ more
-        → (content_of d new after.items ≡ with_done s t value) × (unfinished (content_of d new after.items) + 1 ≡ unfinished s) × IsKept {V = V} {A = A} d more new after (record { waiting = counts.waiting; ready = counts.ready; running = counts.running - 1 }) reserved
-    done_all d more new after value entry gone is put rooms items long capacity roomy =
+    pub done_all : (d : slots.Content (Item V)) (new : Entries) (after : Vec (TaskId × V) A) (value : V) (entry : Entry) → d ≡ slots.without_item c p → entry ≡ Done i.task.arity i.task.class
+        → ((q : ℕ) → entry_at new q ≡ (if q == t.0 then Some entry else entry_at index q))
+        → after.items ≡ results.items ++ (t, value) ∷ [] → vec_len after ≡ vec_len results + 1 → vec_capacity after ≡ vec_capacity results
+        → (content_of d new after.items ≡ with_done s t value) × (unfinished (content_of d new after.items) + 1 ≡ unfinished s) × IsKept {V = V} {A = A} d new after (record { waiting = counts.waiting; ready = counts.ready; running = counts.running - 1 })
+    done_all d new after value entry gone is put items long capacity =
         let entries : (q : ℕ) → entry_at new q ≡ (if q == t.0 then Some (Done i.task.arity i.task.class) else entry_at index q) = λ q. put q ∙ ap (λ e. if q == t.0 then Some e else entry_at index q) is in
-        let content = done_content c room index results counts reserved kept i p at runs t own_number more new after value entries rooms items long capacity roomy in
-        let moves = done_moves c room index results counts reserved kept i p at runs t own_number more new after value entries rooms items long capacity roomy in
-        let all = IsKept-done c room index results counts reserved kept i p at runs t own_number more new after value entries rooms items long capacity roomy in
-        let known : task_of s t ≡ Some i.task = seen_live c index results.items s view t p i stands at in
+        let content = done_content kept i p at runs t own_number new after value entries items long capacity in
+        let moves = done_moves kept i p at runs t own_number new after value entries items long capacity in
+        let all = IsKept-done kept i p at runs t own_number new after value entries items long capacity in
+        let known : task_of s t ≡ Some i.task = seen_live kept view t p i stands at in
         rw gone (
           content
               ∙ ap (λ v. record { tasks = finite.insert v.tasks t.0 (done i.task); ready = v.ready; results = v.results ++ (t, value) ∷ [] }) view
@@ -166,7 +158,7 @@ module _ {V A : Type 0} (c : slots.Content (Item V)) (room : ℕ) (index : Entri
           all,
         )
 
-module _ {V A : Type 0} (c : slots.Content (Item V)) (room : ℕ) (index : Entries) (results : Vec (TaskId × V) A) (counts : Counts) (reserved : Option (Item V)) (kept : IsKept {V = V} {A = A} c room index results counts reserved) (t : TaskId) (p : ℕ) where
+module _ {V A : Type 0} {c : slots.Content (Item V)} {index : Entries} {results : Vec (TaskId × V) A} {counts : Counts} (kept : IsKept {V = V} {A = A} c index results counts) (t : TaskId) (p : ℕ) where
   pub taken_there : entry_at index t.0 ≡ Some (Live p) → slots.IsTaken c p
   taken_there is = some_there (slots.item_at c p) (kept.live t.0 p is)
     where

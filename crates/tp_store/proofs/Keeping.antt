@@ -134,8 +134,3 @@ module _ {V : Type 0} where
   pub at_item : (o : Option (Item V)) (i : Item V) (P : Item V → Type 0) → o ≡ Some i → IfSome o P → P i
   at_item None i P e h = let clash : None ≡ Some i = e in cc
   at_item (Some j) i P e h = let same : j ≡ i = cc in subst P same h
-
-  -- more room does for the item that was made
-  pub spared : (room more : ℕ) (o : Option (Item V)) → room ≤ more → IfSome o (λ j. (j.task ≡ fresh j.task.arity 0) × (0 < room)) → IfSome o (λ j. (j.task ≡ fresh j.task.arity 0) × (0 < more))
-  spared room more None roomy h = tt
-  spared room more (Some j) roomy h = (h.0, omega (arith, h.1))

@@ -9,7 +9,6 @@ pub mod Reading
 pub mod Starting
 pub mod Rewriting
 pub mod Supplying
-pub mod Delivering
 pub mod Running
 pub mod Finishing
 mod Reserving

@@ -1,5 +1,6 @@
 -- What the slots and the index tell of one task.
-use Rattle.std.proofs.Common.{◌≡◌, ℕ, ◌+◌, ◌<◌, ◌≤◌, ◌==◌, true, false, List, [], Option, Some, None, MatchOption, Result, Ok, Err, OnOk, IfErr, refl, sym, ap, ◌∙◌, arith}
+use Rattle.std.proofs.Common.{◌≡◌, ℕ, ◌+◌, ◌<◌, ◌≤◌, ◌==◌, true, false, List, [], Option, Some, None, is_some, MatchOption, Result, Ok, Err, OnOk, IfErr, refl, sym, ap, ◌∙◌, arith}
+use Rattle.std.specs.Prelude.{if◌then◌else◌}
 use Rattle.std.specs.Option.{option_map, IsSomeAnd}
 use Rattle.std.specs.declared.vec.Vec.{Vec}
 use Rattle.std.proofs.lemmas.Bool.Decides.{nat_tests}
@@ -18,14 +19,14 @@ use Rattle.tp_store.specs.declared.index.Entry.TheVariants.{Live, Done}
 use Rattle.tp_store.proofs.Counting.{unfinished_counted}
 use Rattle.tp_store.proofs.Keeping.{get-tasks_of}
 
-module _ {V : Type 0} (c : slots.Content (Item V)) (index : Entries) (results : List (TaskId × V)) (s : Content V) (view : content_of c index results ≡ s) (t : TaskId) where
+module _ {V A : Type 0} {c : slots.Content (Item V)} {index : Entries} {results : Vec (TaskId × V) A} {counts : Counts} (kept : IsKept {V = V} {A = A} c index results counts) {s : Content V} (view : content_of c index results.items ≡ s) (t : TaskId) where
   pub seen : (e : Option Entry) → entry_at index t.0 ≡ e → task_of s t ≡ task_under c e
   seen e is = ap (λ v. task_of v t) (sym view) ∙ get-tasks_of c index t.0 ∙ ap (task_under c) is
 
   pub seen_live : (place : ℕ) (i : Item V) → entry_at index t.0 ≡ Some (Live place) → slots.item_at c place ≡ Some i → task_of s t ≡ Some i.task
   seen_live place i e at = seen (Some (Live place)) e ∙ ap (option_map (λ j. j.task)) at
 
-module _ {V A : Type 0} (c : slots.Content (Item V)) (room : ℕ) (index : Entries) (results : Vec (TaskId × V) A) (counts : Counts) (reserved : Option (Item V)) (kept : IsKept {V = V} {A = A} c room index results counts reserved) (s : Content V) (view : content_of c index results.items ≡ s) where
+module _ {V A : Type 0} {c : slots.Content (Item V)} {index : Entries} {results : Vec (TaskId × V) A} {counts : Counts} (kept : IsKept {V = V} {A = A} c index results counts) {s : Content V} (view : content_of c index results.items ≡ s) where
   pub live_count : unfinished s ≡ counts.waiting + counts.ready + counts.running
   live_count = ap (λ v. unfinished v) (sym view) ∙ unfinished_counted (content_of c index results.items) counts kept.counted
 
@@ -37,10 +38,10 @@ module _ {V A : Type 0} (c : slots.Content (Item V)) (room : ℕ) (index : Entri
 
   -- a number with an entry has a task
   pub known : (t : TaskId) (e : Entry) → entry_at index t.0 ≡ Some e → (x : Task V) × (task_of s t ≡ Some x)
-  known t (Done arity class) is = (record { life = over; arity = arity; class = class; values = [] }, seen c index results.items s view t (Some (Done arity class)) is)
+  known t (Done arity class) is = (record { life = over; arity = arity; class = class; values = [] }, seen kept view t (Some (Done arity class)) is)
   known t (Live place) is =
       let i = some_of (slots.item_at c place) (kept.live t.0 place is) in
-      (i.0.task, seen_live c index results.items s view t place i.0 is i.1)
+      (i.0.task, seen_live kept view t place i.0 is i.1)
     where
       some_of : (o : Option (Item V)) → IsSomeAnd o (λ i. i.number.0 ≡ t.0) → (i : Item V) × (o ≡ Some i)
       some_of None h = absurd h
@@ -82,6 +83,10 @@ pub refuses : (o : Option Refusal) (r : Result (Unit {0}) Refusal) (y : Refusal)
 refuses None r y h e = let clash : Ok tt ≡ Err y = sym h ∙ e in cc
 refuses (Some z) r y h e = let both : Err z ≡ Err y = sym h ∙ e in cc
 
--- a value that is accepted comes to no task that has begun
-pub never_begun : {V : Type 0} (s : Content V) (t : TaskId) (x : Task V) (arity slot : ℕ) → task_of s t ≡ Some x → has_begun x.life ≡ true → refusal_of_deliver s t arity slot ≡ None → ⊥
-never_begun s t x arity slot known begun checked = let clash : Some TaskKnown ≡ None = rw (known, begun) at checked in cc
+-- a task that is inserted is unknown, and there is room for it
+pub insertable : {V : Type 0} (s : Content V) (t : TaskId) → refusal_of_insert s t ≡ None → (task_of s t ≡ None) × (refusal_of_new s ≡ None)
+insertable {V} s t e = go (task_of s t) (refusal_of_new s) e
+  where
+    go : (o : Option (Task V)) (w : Option Refusal) → (if is_some o then Some TaskKnown else w) ≡ None → (o ≡ None) × (w ≡ None)
+    go None w h = (refl, h)
+    go (Some x) w h = cc

@@ -17,8 +17,7 @@ use Rattle.tp_store.specs.declared.index.Entry.TheVariants.{Live}
 use Rattle.tp_store.proofs.Contents.{is_itself}
 use Rattle.tp_store.proofs.Keeping.{tasks-put}
 
-module _ {V A : Type 0} (c d : slots.Content (Item V)) (room : ℕ) (index : Entries) (results : Vec (TaskId × V) A) (counts : Counts) (reserved : Option (Item V)) (i y : Item V) (p : ℕ)
-    (kept : IsKept {V = V} {A = A} c room index results counts reserved)
+module _ {V A : Type 0} {c : slots.Content (Item V)} {index : Entries} {results : Vec (TaskId × V) A} {counts : Counts} (kept : IsKept {V = V} {A = A} c index results counts) (d : slots.Content (Item V)) (i y : Item V) (p : ℕ)
     (at : slots.item_at c p ≡ Some i) (here : slots.item_at d p ≡ Some y) (there : (q : ℕ) → q ≢ p → slots.item_at d q ≡ slots.item_at c q) (same : y.number ≡ i.number) where
   pub entry : entry_at index i.number.0 ≡ Some (Live p)
   entry = kept.owner p i at

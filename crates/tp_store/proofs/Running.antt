@@ -16,7 +16,7 @@ use Rattle.tp_store.specs.declared.life.Life.{Life}
 use Rattle.tp_store.specs.declared.life.Life.TheVariants.{Waiting, Ready, Running, Done}
 use Rattle.tp_store.specs.declared.life.Counts.{Counts}
 use Rattle.tp_store.proofs.Contents.{front_ready, IsSound-begun, counts-begun, some_counted}
-use Rattle.tp_store.proofs.Keeping.{get-tasks_of, numbers_kept, item_here, item_there, at_item, spared}
+use Rattle.tp_store.proofs.Keeping.{get-tasks_of, numbers_kept, item_here, item_there, at_item}
 use Rattle.tp_store.proofs.Reading.{few_live}
 use Rattle.tp_store.proofs.Rewriting.{live, owner, tasks, numbers}
 
@@ -26,7 +26,7 @@ ready_is Ready e = refl
 ready_is Running e = cc
 ready_is Done e = cc
 
-module _ {V A : Type 0} (c : slots.Content (Item V)) (room more : ℕ) (index : Entries) (results : Vec (TaskId × V) A) (counts : Counts) (reserved : Option (Item V)) (kept : IsKept {V = V} {A = A} c room index results counts reserved)
+module _ {V A : Type 0} {c : slots.Content (Item V)} {index : Entries} {results : Vec (TaskId × V) A} {counts : Counts} (kept : IsKept {V = V} {A = A} c index results counts)
     (i : Item V) (p : ℕ) (at : slots.item_at c p ≡ Some i) (is : is_ready i.task.life ≡ true) where
   abbrev before : Content V
   before = content_of c index results.items
@@ -49,9 +49,9 @@ module _ {V A : Type 0} (c : slots.Content (Item V)) (room more : ℕ) (index : 
   pub begun_content : content_of after index results.items ≡ changed
   begun_content =
       let here = item_here (slots.without_next c) p y in
-      let kept_numbers = numbers_kept c after (slots.without_front c.ready) (numbers c after room index results counts reserved i y p kept at here there refl) in
+      let kept_numbers = numbers_kept c after (slots.without_front c.ready) (numbers kept after i y p at here there refl) in
       λ k. record {
-        tasks = tasks c after room index results counts reserved i y p kept at here there refl k;
+        tasks = tasks kept after i y p at here there refl k;
         ready = (kept_numbers ∙ sym (without_front-each (number_at c) c.ready)) k;
         results = results.items;
       }
@@ -59,25 +59,23 @@ module _ {V A : Type 0} (c : slots.Content (Item V)) (room more : ℕ) (index : 
   pub begun_moves : (unfinished changed ≡ unfinished before) × (begun_counts counts ≡ counts_of changed)
   begun_moves = counts-begun before i.number i.task counts (slots.without_front before.ready) was is kept.counted
 
-  pub IsKept-begun : slots.front before.ready ≡ Some i.number → room ≤ more → IsKept {V = V} {A = A} after more index results (begun_counts counts) reserved
-  IsKept-begun first roomy =
+  pub IsKept-begun : slots.front before.ready ≡ Some i.number → IsKept {V = V} {A = A} after index results (begun_counts counts)
+  IsKept-begun first =
       let here = item_here (slots.without_next c) p y in
       let count : slots.held_count after ≡ slots.held_count c = finite.len-insert nat_cmp_total c.items p y ∙ ap (λ (o : Option (Item V)). cond (is_some o) (slots.held_count c) (slots.held_count c + 1)) at in
       record {
         lists = IsSound-with_item (slots.without_next c) p y (IsSound-without_next c kept.lists);
-        live = live c after room index results counts reserved i y p kept at here there refl;
-        owner = owner c after room index results counts reserved i y p kept at here there refl;
+        live = live kept after i y p at here there refl;
+        owner = owner kept after i y p at here there refl;
         sound = rw begun_content (IsSound-begun before i.number i.task kept.sound first was is);
         held = count ∙ kept.held ∙ sym begun_moves.0 ∙ ap (λ (s : Content V). unfinished s) (sym begun_content);
         within = omega (arith, count, kept.within);
         counted = begun_moves.1 ∙ ap (λ (s : Content V). counts_of s) (sym begun_content);
         space = omega (arith, count, kept.space);
-        spare = spared room more reserved roomy kept.spare;
-        entry = kept.entry;
       }
 
-module _ {V A : Type 0} (c : slots.Content (Item V)) (room more : ℕ) (index : Entries) (results : Vec (TaskId × V) A) (counts : Counts) (reserved : Option (Item V)) (kept : IsKept {V = V} {A = A} c room index results counts reserved)
-    (s : Content V) (view : content_of c index results.items ≡ s) where
+module _ {V A : Type 0} {c : slots.Content (Item V)} {index : Entries} {results : Vec (TaskId × V) A} {counts : Counts} (kept : IsKept {V = V} {A = A} c index results counts)
+    {s : Content V} (view : content_of c index results.items ≡ s) where
   -- ---- none is ready
   module _ (none : slots.front c.ready ≡ None) where
     pub none_next : None ≡ slots.front s.ready
@@ -85,20 +83,6 @@ module _ {V A : Type 0} (c : slots.Content (Item V)) (room more : ℕ) (index : 
 
     pub same_slots : slots.without_next c ≡ c
     same_slots = λ k. record { items = c.items; ready = without_front-empty c.ready none k }
-
-    pub IsKept-none : room ≤ more → IsKept {V = V} {A = A} c more index results counts reserved
-    IsKept-none roomy = record {
-      lists = kept.lists;
-      live = kept.live;
-      owner = kept.owner;
-      sound = kept.sound;
-      held = kept.held;
-      within = kept.within;
-      counted = kept.counted;
-      space = kept.space;
-      spare = spared room more reserved roomy kept.spare;
-      entry = kept.entry;
-    }
 
   -- ---- the place of the next one
   module _ (p : ℕ) (first : Some p ≡ slots.front c.ready) where
@@ -139,7 +123,7 @@ module _ {V A : Type 0} (c : slots.Content (Item V)) (room more : ℕ) (index : 
     pub some_ready : (0 < counts.ready) × (counts.waiting + counts.ready + counts.running ≤ 65536)
     some_ready =
         let k = next_item in
-        (omega (arith, some_counted is_ready s k.0.number k.0.task k.1.known k.1.is refl, ap (λ n. n.ready) kept.counted, ap (λ v. (counts_of v).ready) view), few_live c room index results counts reserved kept s view)
+        (omega (arith, some_counted is_ready s k.0.number k.0.task k.1.known k.1.is refl, ap (λ n. n.ready) kept.counted, ap (λ v. (counts_of v).ready) view), few_live kept view)
 
     module _ (d : slots.Content (Item V)) (t : TaskId) (inputs : List V)
         (number : IfSome (slots.item_at (slots.without_next c) p) (λ i. t ≡ i.number))
@@ -157,14 +141,14 @@ module _ {V A : Type 0} (c : slots.Content (Item V)) (room more : ℕ) (index : 
           let known : task_of s t ≡ Some k.0.task = ap (task_of s) own ∙ k.1.known in
           (ap (λ n. Some n) own ∙ k.1.next, rw known (ap (λ l. Some l) (ready_is k.0.task.life k.1.is)), rw known (at_item _ _ _ at values))
 
-      pub begun_all : room ≤ more → (content_of d index results.items ≡ with_begun s t) × (unfinished (content_of d index results.items) ≡ unfinished s) × IsKept {V = V} {A = A} d more index results (begun_counts counts) reserved
-      begun_all roomy =
+      pub begun_all : (content_of d index results.items ≡ with_begun s t) × (unfinished (content_of d index results.items) ≡ unfinished s) × IsKept {V = V} {A = A} d index results (begun_counts counts)
+      begun_all =
           let k = next_item in
           let i = k.0 in
           let front : slots.front old.ready ≡ Some i.number = ap (λ v. slots.front v.ready) view ∙ sym k.1.next in
-          let content = begun_content c room more index results counts reserved kept i p k.1.at k.1.is in
-          let moves = begun_moves c room more index results counts reserved kept i p k.1.at k.1.is in
-          let all = IsKept-begun c room more index results counts reserved kept i p k.1.at k.1.is front roomy in
+          let content = begun_content kept i p k.1.at k.1.is in
+          let moves = begun_moves kept i p k.1.at k.1.is in
+          let all = IsKept-begun kept i p k.1.at k.1.is front in
           let known : task_of s t ≡ Some i.task = ap (task_of s) own ∙ k.1.known in
           rw (at_item _ _ _ at placed) (
             content

@@ -44,7 +44,7 @@ module _ {V : Type 0} where
     done = λ t. rw (finite.get-empty {X = Task V} nat_cmp t.0) refl;
   }
 
-module _ {V A : Type 0} (c : slots.Content (Item V)) (room : ℕ) (index : Entries) (results : Vec (TaskId × V) A) (held : c ≡ slots.nothing_held) (none : (k : ℕ) → lookup index k ≡ None) (items : results.items ≡ []) where
+module _ {V A : Type 0} (c : slots.Content (Item V)) (index : Entries) (results : Vec (TaskId × V) A) (held : c ≡ slots.nothing_held) (none : (k : ℕ) → lookup index k ≡ None) (items : results.items ≡ []) where
   no_entry : (t : ℕ) → entry_at index t ≡ None
   no_entry t = rw (none t) (elim (nat_lt t (2 ^ 32)) as (λ b. ◌≡◌ {A = Option Entry} (if b then None else None) None) [ true ↦ refl | false ↦ refl ])
 
@@ -57,7 +57,7 @@ module _ {V A : Type 0} (c : slots.Content (Item V)) (room : ℕ) (index : Entri
   no_item : (place : ℕ) → slots.item_at c place ≡ None
   no_item place = rw held (finite.get-empty nat_cmp place)
 
-  pub IsKept-new : vec_len results ≡ 0 → IsKept {V = V} {A = A} c room index results (record { waiting = 0; ready = 0; running = 0 }) None
+  pub IsKept-new : vec_len results ≡ 0 → IsKept {V = V} {A = A} c index results (record { waiting = 0; ready = 0; running = 0 })
   IsKept-new long =
       let count : slots.held_count c ≡ 0 = rw held (finite.len-empty nat_cmp (Item V)) in
       record {
@@ -69,8 +69,6 @@ module _ {V A : Type 0} (c : slots.Content (Item V)) (room : ℕ) (index : Entri
         within = omega arith;
         counted = no_counts ∙ ap (λ (s : Content V). counts_of s) (sym nothing_kept);
         space = omega (arith, count, long);
-        spare = tt;
-        entry = tt;
       }
     where
       no_counts : record { waiting = 0; ready = 0; running = 0 } ≡ counts_of (nothing_stored {V = V})

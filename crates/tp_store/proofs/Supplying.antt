@@ -25,11 +25,11 @@ use Rattle.tp_store.specs.declared.index.Entry.TheVariants.{Live}
 use Rattle.tp_store.proofs.Filling.{lacks_life, lacking_life, not_begun_life, waiting_life, IsTask-fresh}
 use Rattle.tp_store.proofs.Reading.{seen_live, few_live}
 use Rattle.tp_store.proofs.Contents.{same_number, NotReady, waiting, IsSound-put, some_counted, counts-supplied, not_listed}
-use Rattle.tp_store.proofs.Keeping.{at_item, spared, get-tasks_of, numbers_kept, item_here, item_there, listed_item, listed_count, listed_sound, listed_lists}
+use Rattle.tp_store.proofs.Keeping.{at_item, get-tasks_of, numbers_kept, item_here, item_there, listed_item, listed_count, listed_sound, listed_lists}
 use Rattle.tp_store.proofs.Rewriting.{live, owner, tasks, numbers, unlisted}
 
-module _ {V A : Type 0} (c : slots.Content (Item V)) (room more : ℕ) (index : Entries) (results : Vec (TaskId × V) A) (counts : Counts) (reserved : Option (Item V)) (i : Item V) (x : Task V) (p : ℕ)
-    (kept : IsKept {V = V} {A = A} c room index results counts reserved) (at : slots.item_at c p ≡ Some i)
+module _ {V A : Type 0} {c : slots.Content (Item V)} {index : Entries} {results : Vec (TaskId × V) A} {counts : Counts} (kept : IsKept {V = V} {A = A} c index results counts)
+    (i : Item V) (x : Task V) (p : ℕ) (at : slots.item_at c p ≡ Some i)
     (waits : is_waiting i.task.life ≡ true) where
   abbrev old : Content V
   old = content_of c index results.items
@@ -73,30 +73,28 @@ module _ {V A : Type 0} (c : slots.Content (Item V)) (room more : ℕ) (index : 
   module _ (task : IsTask x) (before : has_begun x.life ≡ false) where
     ready : map (map (number_at after)) after.ready ≡ (if is_ready x.life then slots.with_last (map (map (number_at c)) c.ready) x.class i.number else map (map (number_at c)) c.ready)
     ready =
-        let same : map (map (number_at with)) c.ready ≡ map (map (number_at c)) c.ready = numbers_kept c with c.ready (numbers c with room index results counts reserved i y p kept at (item_here c p y) (λ q apart. item_there c p q y apart) refl) in
+        let same : map (map (number_at with)) c.ready ≡ map (map (number_at c)) c.ready = numbers_kept c with c.ready (numbers kept with i y p at (item_here c p y) (λ q apart. item_there c p q y apart) refl) in
         let own : number_at with p ≡ i.number = ap (λ o. unwrap_or (option_map (λ j. j.number) o) (record { 0 = 0 })) (item_here c p y) in
         listed_lists (is_ready x.life) with p x.class (omega (arith, task.class, four))
         ∙ ap (λ l. if is_ready x.life then slots.with_last l x.class (number_at with p) else l) same
         ∙ ap (λ n. if is_ready x.life then slots.with_last (map (map (number_at c)) c.ready) x.class n else map (map (number_at c)) c.ready) own
 
     pub supplied_content : content_of after index results.items ≡ with_task old i.number x
-    supplied_content = λ k. record { tasks = tasks c after room index results counts reserved i y p kept at here there refl k; ready = ready k; results = results.items }
+    supplied_content = λ k. record { tasks = tasks kept after i y p at here there refl k; ready = ready k; results = results.items }
 
     pub supplied_counted : (unfinished (with_task old i.number x) ≡ unfinished old) × (supplied_counts counts (is_ready x.life) ≡ counts_of (with_task old i.number x))
     supplied_counted = counts-supplied old i.number i.task x counts was waits before kept.counted
 
-    pub IsKept-supplied : room ≤ more → IsKept {V = V} {A = A} after more index results (supplied_counts counts (is_ready x.life)) reserved
-    IsKept-supplied roomy = record {
+    pub IsKept-supplied : IsKept {V = V} {A = A} after index results (supplied_counts counts (is_ready x.life))
+    IsKept-supplied = record {
       lists = listed_sound (is_ready x.life) with p x.class (IsSound-with_item c p y kept.lists) with_idle task.class;
-      live = live c after room index results counts reserved i y p kept at here there refl;
-      owner = owner c after room index results counts reserved i y p kept at here there refl;
+      live = live kept after i y p at here there refl;
+      owner = owner kept after i y p at here there refl;
       sound = rw supplied_content (IsSound-put old i.number x kept.sound task before not_ready);
       held = count ∙ kept.held ∙ sym supplied_counted.0 ∙ ap (λ (s : Content V). unfinished s) (sym supplied_content);
       within = omega (arith, count, kept.within);
       counted = supplied_counted.1 ∙ ap (λ (s : Content V). counts_of s) (sym supplied_content);
       space = omega (arith, count, kept.space);
-      spare = spared room more reserved roomy kept.spare;
-      entry = kept.entry;
     }
 
 -- ---- what the check of a delivery tells of a known task
@@ -157,8 +155,8 @@ module _ {V : Type 0} where
       (waits, free, next.0, next.1)
 
 -- ---- the store
-module _ {V A : Type 0} (c : slots.Content (Item V)) (room : ℕ) (index : Entries) (results : Vec (TaskId × V) A) (counts : Counts) (reserved : Option (Item V)) (kept : IsKept {V = V} {A = A} c room index results counts reserved)
-    (s : Content V) (view : content_of c index results.items ≡ s) (t : TaskId) (arity class slot : ℕ) (value : V) (p : ℕ) (stands : entry_at index t.0 ≡ Some (Live p)) (checked : refusal_of_deliver s t arity slot ≡ None) (low : slot < arity) where
+module _ {V A : Type 0} {c : slots.Content (Item V)} {index : Entries} {results : Vec (TaskId × V) A} {counts : Counts} (kept : IsKept {V = V} {A = A} c index results counts)
+    {s : Content V} (view : content_of c index results.items ≡ s) (t : TaskId) (arity class slot : ℕ) (value : V) (p : ℕ) (stands : entry_at index t.0 ≡ Some (Live p)) (checked : refusal_of_deliver s t arity slot ≡ None) (low : slot < arity) where
   pub record Known (i : Item V) : Type 0 where
     pub at : slots.item_at c p ≡ Some i
     pub number : i.number ≡ t
@@ -175,7 +173,7 @@ module _ {V A : Type 0} (c : slots.Content (Item V)) (room : ℕ) (index : Entri
       go : (o : Option (Item V)) → slots.item_at c p ≡ o → IsSomeAnd o (λ i. i.number.0 ≡ t.0) → (i : Item V) × Known i
       go None e h = absurd h
       go (Some i) e h =
-          let known : task_of s t ≡ Some i.task = seen_live c index results.items s view t p i stands e in
+          let known : task_of s t ≡ Some i.task = seen_live kept view t p i stands e in
           let its = accepted i.task arity slot (rw known at checked) in
           let is : IsTask i.task = rw (ap (λ v. task_of v t) view ∙ known) at (kept.sound.tasks t) in
           let waits = waits_still i.task slot is its.0 (omega (arith, its.1)) its.2 in
@@ -187,24 +185,23 @@ module _ {V A : Type 0} (c : slots.Content (Item V)) (room : ℕ) (index : Entri
   can_supply =
       let k = known_item in
       let known : task_of (content_of c index results.items) t ≡ Some k.0.task = ap (λ v. task_of v t) view ∙ k.1.known in (
-        idle c room room index results counts reserved k.0 k.0.task p kept k.1.at k.1.waits,
+        idle kept k.0 k.0.task p k.1.at k.1.waits,
         omega (arith, some_counted is_waiting (content_of c index results.items) t k.0.task known k.1.waits refl, ap (λ n. n.waiting) kept.counted),
-        few_live c room index results counts reserved kept s view,
+        few_live kept view,
       )
 
   -- and what it leaves
-  pub supplied_all : (d : slots.Content (Item V)) (more : ℕ) (now : Counts)
+  pub supplied_all : (d : slots.Content (Item V)) (now : Counts)
       → IfSome (slots.item_at c p) (λ i. d ≡ with_listed (slots.with_item c p (record i { task = with_value i.task slot value })) p (with_value i.task slot value))
       → IfSome (slots.item_at c p) (λ i. now ≡ supplied_counts counts (is_ready (with_value i.task slot value).life))
-      → room ≤ more
-      → (content_of d index results.items ≡ with_delivered s t arity class slot value) × (unfinished (content_of d index results.items) ≡ unfinished s) × IsKept {V = V} {A = A} d more index results now reserved
-  supplied_all d more now placed counted roomy =
+      → (content_of d index results.items ≡ with_delivered s t arity class slot value) × (unfinished (content_of d index results.items) ≡ unfinished s) × IsKept {V = V} {A = A} d index results now
+  supplied_all d now placed counted =
       let k = known_item in
       let i = k.0 in
       let x = with_value i.task slot value in
-      let content = supplied_content c room room index results counts reserved i x p kept k.1.at k.1.waits k.1.task k.1.before in
-      let moves = supplied_counted c room room index results counts reserved i x p kept k.1.at k.1.waits k.1.task k.1.before in
-      let all = IsKept-supplied c room more index results counts reserved i x p kept k.1.at k.1.waits k.1.task k.1.before roomy in
+      let content = supplied_content kept i x p k.1.at k.1.waits k.1.task k.1.before in
+      let moves = supplied_counted kept i x p k.1.at k.1.waits k.1.task k.1.before in
+      let all = IsKept-supplied kept i x p k.1.at k.1.waits k.1.task k.1.before in
       rw (at_item _ _ _ k.1.at placed, at_item _ _ _ k.1.at counted) (
         content ∙ ap (λ n. with_task (content_of c index results.items) n x) k.1.number ∙ ap (λ v. with_task v t x) view ∙ ap (λ o. with_task s t (with_value (unwrap_or o (fresh arity class)) slot value)) (sym k.1.known),
         ap unfinished content ∙ moves.0 ∙ ap unfinished view,

@@ -4,7 +4,7 @@ use Rattle.std.specs.Ordering.{nat_cmp}
 use Rattle.std.specs.FinMap as map
 use Rattle.std.specs.Coded.{Coded, code_by, coded×, coded_ℕ, coded_list, coded_option}
 use Rattle.tp_base.specs.declared.ids.TaskId.{TaskId}
-use Rattle.tp_store.specs.Content.{Task, Content, Stored}
+use Rattle.tp_store.specs.Content.{Task, Content}
 use Rattle.tp_store.specs.declared.life.Life.{Life}
 use Rattle.tp_store.specs.contracts.life.Life.{the_row}
 
@@ -28,13 +28,4 @@ module _ {V : Type 0} (code : Coded V) where
       (coded× (map.code coded_ℕ task_code) (coded× (coded_list (coded_list number_code)) (coded_list (coded× number_code code))))
       (λ c. (c.tasks, (c.ready, c.results)))
       (λ p. record { tasks = p.0; ready = p.1.0; results = p.1.1 })
-      (λ _. refl)
-
-  abbrev pub stored_code : Coded (Stored V)
-  stored_code =
-      code_by
-      (Content V × Option (ℕ × ℕ))
-      (coded× content_code (coded_option (coded× coded_ℕ coded_ℕ)))
-      (λ s. (s.content, s.reserved))
-      (λ p. record { content = p.0; reserved = p.1 })
       (λ _. refl)

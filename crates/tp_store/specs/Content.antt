@@ -29,11 +29,6 @@ pub record Content (V : Type 0) : Type 0 where
   pub ready : List (List TaskId)
   pub results : List (TaskId × V)
 
--- the content; and the task that room was made for, if any, with how many inputs it takes
-pub record Stored (V : Type 0) : Type 0 where
-  pub content : Content V
-  pub reserved : Option (ℕ × ℕ)
-
 -- ---- lives
 abbrev pub is_waiting : Life → Bool
 is_waiting (Waiting k) = true
@@ -175,8 +170,3 @@ module _ {V : Type 0} where
   -- what a delivery answers
   abbrev pub delivered_to : Content V → TaskId → ℕ → Delivered
   delivered_to c t arity = if is_some (task_of c t) then Filled else Inserted (arity - 1)
-
-  -- ---- room
-  -- there is room for this task, which takes so many inputs
-  abbrev pub HasRoom : Stored V → TaskId → ℕ → Type 0
-  HasRoom s t arity = s.reserved ≡ Some (t.0, arity)

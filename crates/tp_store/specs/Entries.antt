@@ -11,7 +11,3 @@ Entries = Table (Option Entry)
 -- what stands under a number, which has 32 bits
 abbrev pub entry_at : Entries → ℕ → Option Entry
 entry_at index t = if nat_lt t (2 ^ 32) then unwrap_or (lookup index t) None else None
-
--- there is room under the number, and nothing stands there yet
-abbrev pub IsFreeAt : Entries → ℕ → Type 0
-IsFreeAt index t = (entry_at index t ≡ None) × IsSome (lookup index t)

@@ -8,9 +8,9 @@ use Rattle.tp_base.specs.declared.limits.TheConstants.{MAX_LIVE_TASKS}
 use Rattle.tp_base.specs.declared.ids.TaskId.{TaskId}
 use Rattle.tp_base.specs.Table.{lookup}
 use Rattle.tp_slots.specs.Content as slots
-use Rattle.tp_store.specs.Content.{Task, Content, fresh, is_ready, unfinished, counts_of}
+use Rattle.tp_store.specs.Content.{Task, Content, is_ready, unfinished, counts_of}
 use Rattle.tp_store.specs.Items.{Item}
-use Rattle.tp_store.specs.Entries.{Entries, entry_at, IsFreeAt}
+use Rattle.tp_store.specs.Entries.{Entries, entry_at}
 use Rattle.tp_store.specs.Sound.{IsSound}
 use Rattle.tp_store.specs.declared.life.Life.TheVariants.{Done as is_over}
 use Rattle.tp_store.specs.declared.life.Counts.{Counts}
@@ -61,21 +61,14 @@ module _ {V : Type 0} where
   abbrev pub with_listed : slots.Content (Item V) → ℕ → Task V → slots.Content (Item V)
   with_listed c place x = if is_ready x.life then slots.with_ready c x.class place else c
 
-  -- the task that room was made for, with how many inputs it may take
-  abbrev pub reserved_of : Option (Item V) → Option (ℕ × ℕ)
-  reserved_of = option_map (λ i. (i.number.0, i.task.arity))
-
   module _ {A : Type 0} where
-    -- each task that is not done has its own place, and each item its entry; there is room for the result of each such task,
-    -- and for the task that room was made for, under whose number nothing stands yet
-    pub record IsKept (c : slots.Content (Item V)) (room : ℕ) (index : Entries) (results : Vec (TaskId × V) A) (counts : Counts) (reserved : Option (Item V)) : Type 0 where
+    -- each task that is not done has its own place, and each item its entry; there is room for the result of each such task
+    pub record IsKept (c : slots.Content (Item V)) (index : Entries) (results : Vec (TaskId × V) A) (counts : Counts) : Type 0 where
       pub lists : slots.IsSound c
       pub live : (t place : ℕ) → entry_at index t ≡ Some (Live place) → IsSomeAnd (slots.item_at c place) (λ i. i.number.0 ≡ t)
       pub owner : (place : ℕ) (i : Item V) → slots.item_at c place ≡ Some i → entry_at index i.number.0 ≡ Some (Live place)
       pub sound : IsSound (content_of c index results.items)
       pub held : slots.held_count c ≡ unfinished (content_of c index results.items)
-      pub within : slots.held_count c + (if is_some reserved then 1 else 0) ≤ MAX_LIVE_TASKS
+      pub within : slots.held_count c ≤ MAX_LIVE_TASKS
       pub counted : counts ≡ counts_of (content_of c index results.items)
-      pub space : vec_len results + slots.held_count c + (if is_some reserved then 1 else 0) ≤ vec_capacity results
-      pub spare : IfSome reserved (λ i. (i.task ≡ fresh i.task.arity 0) × (0 < room))
-      pub entry : IfSome reserved (λ i. IsFreeAt index i.number.0)
+      pub space : vec_len results + slots.held_count c ≤ vec_capacity results

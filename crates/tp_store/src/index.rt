@@ -35,7 +35,6 @@ pub(crate) fn make_room(index: &mut Index, task: TaskId) -> Result<(), AllocErro
     requires { entry_at index.old task.0 ≡ None }
     ensures entries { (q : ℕ) → entry_at index.new q ≡ entry_at index.old q }
     ensures room { OnOk result (IsSome (lookup index.new task.0)) }
-    ensures rooms { (q : ℕ) → IsSome (lookup index.old q) → IsSome (lookup index.new q) }
 {
     index.insert(task.0, None)
 }
@@ -45,7 +44,6 @@ pub(crate) fn make_room(index: &mut Index, task: TaskId) -> Result<(), AllocErro
 pub(crate) fn set_entry(index: &mut Index, task: TaskId, to: Entry)
     requires { IsSome (lookup index.old task.0) }
     ensures entries { (q : ℕ) → entry_at index.new q ≡ (if q == task.0 then Some to else entry_at index.old q) }
-    ensures rooms { (q : ℕ) → IsSome (lookup index.old q) → IsSome (lookup index.new q) }
 {
     index.set(task.0, Some(to));
 }

@@ -108,14 +108,6 @@ impl<V: MadeWith<Global> + Drop> TaskItem<V> {
         })
     }
 
-    /// Puts it into a class.
-    pub(crate) fn set_class(&mut self, class: u8)
-        requires { class < CLASSES }
-        ensures { self.new ≡ record self.old { task = record self.old.task { class = class } } }
-    {
-        self.class = class;
-    }
-
     /// Puts a value into a free slot of a task that waits.
     #[inline(always)]
     pub(crate) fn fill(&mut self, slot: u8, value: V)

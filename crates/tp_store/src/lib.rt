@@ -6,7 +6,7 @@ mod index;
 mod item;
 mod life;
 mod places;
-mod reserved;
+mod room;
 mod store;
 #[cfg(test)]
 mod tests;

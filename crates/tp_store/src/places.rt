@@ -34,7 +34,6 @@ pub(crate) fn supply<S: Slots<TaskItem<V>>, V: MadeWith<Global> + Drop>(
     requires counted { counts.old.waiting + counts.old.ready + counts.old.running ≤ MAX_LIVE_TASKS }
     ensures content { IfSome (item_at (S.content slots.old) place) (λ i. S.content slots.new ≡ with_listed (with_item (S.content slots.old) place (record i { task = with_value i.task slot value })) place (with_value i.task slot value)) }
     ensures counts { IfSome (item_at (S.content slots.old) place) (λ i. counts.new ≡ supplied_counts counts.old (is_ready (with_value i.task slot value).life)) }
-    ensures room { S.room slots.old ≤ S.room slots.new }
 {
     slots.get_mut(place).fill(slot, value);
     counts.supply(list_if_ready(slots, place));
@@ -51,7 +50,6 @@ pub(crate) fn begin_at<S: Slots<TaskItem<V>>, V: MadeWith<Global> + Drop>(
     ensures number { IfSome (item_at (S.content slots.old) place) (λ i. result.0 ≡ i.number) }
     ensures inputs { IfSome (item_at (S.content slots.old) place) (λ i. map (λ v. Some v) result.1.items ≡ i.task.values) }
     ensures content { IfSome (item_at (S.content slots.old) place) (λ i. S.content slots.new ≡ with_item (S.content slots.old) place (record i { task = begun i.task })) }
-    ensures room { S.room slots.new ≡ S.room slots.old }
 {
     let item = slots.get_mut(place);
     (item.number(), item.begin())
@@ -64,7 +62,6 @@ pub(crate) fn list_if_ready<S: Slots<TaskItem<V>>, V>(slots: &mut S, place: Plac
     requires idle { IsIdle (S.content slots.old) place }
     ensures ready { IfSome (item_at (S.content slots.old) place) (λ i. result ≡ is_ready i.task.life) }
     ensures content { IfSome (item_at (S.content slots.old) place) (λ i. S.content slots.new ≡ with_listed (S.content slots.old) place i.task) }
-    ensures room { S.room slots.old ≤ S.room slots.new }
 {
     let item = slots.get(place);
     if item.life() != Life::Ready {

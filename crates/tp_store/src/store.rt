@@ -7,7 +7,7 @@ use crate::index::{Entry, Index, entry_of, set_entry};
 use crate::item::TaskItem;
 use crate::life::{Counts, Delivered, Life};
 use crate::places::{begin_at, enter, enter_with, supply};
-use crate::reserved::{is_made_for, make_item};
+use crate::room::make_item;
 use smallvec::SmallVec;
 use std::alloc::Global;
 use std::default::MadeWith;
@@ -28,42 +28,41 @@ pub struct Begun<V> {
 /// The tasks of a node, of which at most 65,536 are not done: what each has come to, which are ready in which class, and the
 /// results of those that are done.
 ///
-/// Contracts see the content, and beside it the task that room was made for, if any, with how many inputs it takes. A
-/// call that takes memory is `reserve`, which may be refused, and one that then cannot fail.
+/// Contracts see the content.
 #[derive(Drop)]
 pub struct TaskStore<S: Slots<TaskItem<V>>, V> {
     slots: S,
     index: Index,
     results: Vec<(TaskId, V)>,
     counts: Counts,
-    // A fresh task with room for its inputs; there is room for it in the slots, the index and the results.
-    reserved: Option<TaskItem<V>>,
+    // Always `None`: a store whose own type has an item in it is one whose items fit in memory, which its calls stand on.
+    no_item: Option<TaskItem<V>>,
     alloc: Global,
 }
 
 impl<S: Slots<TaskItem<V>>, V> Model for TaskStore<S, V> {
-    ghost use Rattle.tp_store.specs.Content.{Stored};
-    ghost use Rattle.tp_store.specs.Codes.{stored_code};
+    ghost use Rattle.tp_store.specs.Content.{Content};
+    ghost use Rattle.tp_store.specs.Codes.{content_code};
 
-    ghost Value = { Stored V };
+    ghost Value = { Content V };
 
-    ghost coded = { stored_code V.code };
+    ghost coded = { content_code V.code };
 
-    ghost use Rattle.tp_store.specs.Kept.{content_of, reserved_of, IsKept};
+    ghost use Rattle.tp_store.specs.Kept.{content_of, IsKept};
 
-    ghost view = { λ s. record { content = content_of (S.content s.slots) s.index s.results.items; reserved = reserved_of s.reserved } };
+    ghost view = { λ s. content_of (S.content s.slots) s.index s.results.items };
 
-    ghost invariant = { λ s. IsKept (S.content s.slots) (S.room s.slots) s.index s.results s.counts s.reserved };
+    ghost invariant = { λ s. IsKept (S.content s.slots) s.index s.results s.counts };
 }
 
 impl<S: Slots<TaskItem<V>>, V> TaskStore<S, V> {
-    ghost use Rattle.tp_store.specs.Content.{nothing_stored, task_of, life_of, values_of, unfinished, counts_of, refusal_of_new, refusal_of_insert, refusal_of_deliver, refusal_of_done, with_inserted, with_delivered, with_begun, with_done, delivered_to, HasRoom};
+    ghost use Rattle.tp_store.specs.Content.{nothing_stored, task_of, life_of, values_of, unfinished, counts_of, refusal_of_new, refusal_of_insert, refusal_of_deliver, refusal_of_done, with_inserted, with_delivered, with_begun, with_done, delivered_to};
     ghost use Rattle.tp_store.specs.Sound.{IsSound};
 
     /// A store with no task. It takes no memory yet.
     pub fn new(alloc: Global) -> Self
-        ensures content { result.content ≡ nothing_stored }
-        ensures unfinished { unfinished result.content ≡ 0 }
+        ensures content { result ≡ nothing_stored }
+        ensures unfinished { unfinished result ≡ 0 }
     {
         TaskStore {
             slots: S::new(alloc),
@@ -74,7 +73,7 @@ impl<S: Slots<TaskItem<V>>, V> TaskStore<S, V> {
                 ready: 0,
                 running: 0,
             },
-            reserved: None,
+            no_item: None,
             alloc,
         }
     }
@@ -82,8 +81,8 @@ impl<S: Slots<TaskItem<V>>, V> TaskStore<S, V> {
     /// What a task has come to, or `None` where it was never inserted.
     #[inline(always)]
     pub fn life(&self, task: TaskId) -> Option<Life>
-        ensures life { result ≡ life_of self.now.content task }
-        ensures sound { IsSound self.now.content }
+        ensures life { result ≡ life_of self.now task }
+        ensures sound { IsSound self.now }
     {
         match entry_of(&self.index, task) {
             Some(Entry::Live(place)) => Some(self.slots.get(place).life()),
@@ -94,31 +93,31 @@ impl<S: Slots<TaskItem<V>>, V> TaskStore<S, V> {
 
     /// Whether a task was ever inserted.
     pub fn knows(&self, task: TaskId) -> bool
-        ensures { result ≡ is_some (task_of self.now.content task) }
+        ensures { result ≡ is_some (task_of self.now task) }
     {
         entry_of(&self.index, task).is_some()
     }
 
     /// How many tasks wait, are ready, and run.
     pub fn counts(&self) -> Counts
-        ensures counts { result ≡ counts_of self.now.content }
-        ensures unfinished { unfinished self.now.content ≡ result.waiting + result.ready + result.running }
-        ensures limit { unfinished self.now.content ≤ MAX_LIVE_TASKS }
+        ensures counts { result ≡ counts_of self.now }
+        ensures unfinished { unfinished self.now ≡ result.waiting + result.ready + result.running }
+        ensures limit { unfinished self.now ≤ MAX_LIVE_TASKS }
     {
         self.counts
     }
 
     /// Whether a task is ready: whether `begin` answers one.
     pub fn has_ready(&self) -> bool
-        ensures { result ≡ is_some (front self.now.content.ready) }
+        ensures { result ≡ is_some (front self.now.ready) }
     {
         self.counts.ready > 0
     }
 
     /// Each task that is done with its result, in the order in which they were done.
     pub fn results(&self) -> &[(TaskId, V)]
-        ensures results { result.now ≡ self.now.content.results }
-        ensures sound { IsSound self.now.content }
+        ensures results { result.now ≡ self.now.results }
+        ensures sound { IsSound self.now }
     {
         self.results.as_slice()
     }
@@ -127,7 +126,7 @@ impl<S: Slots<TaskItem<V>>, V> TaskStore<S, V> {
     ///
     /// `TaskKnown` where it was inserted before, `StoreFull` where 65,536 tasks are not done.
     pub fn check_insert(&self, task: TaskId) -> Result<(), Refusal>
-        ensures { MatchOption (refusal_of_insert self.now.content task) (result ≡ Ok tt) (λ e. result ≡ Err e) }
+        ensures { MatchOption (refusal_of_insert self.now task) (result ≡ Ok tt) (λ e. result ≡ Err e) }
     {
         match entry_of(&self.index, task) {
             Some(_) => Err(Refusal::TaskKnown),
@@ -141,7 +140,7 @@ impl<S: Slots<TaskItem<V>>, V> TaskStore<S, V> {
     /// slot has its value, `StoreFull` where the task is unknown and 65,536 tasks are not done.
     #[inline(always)]
     pub fn check(&self, task: TaskId, arity: u8, slot: u8) -> Result<(), Refusal>
-        ensures { MatchOption (refusal_of_deliver self.now.content task arity slot) (result ≡ Ok tt) (λ e. result ≡ Err e) }
+        ensures { MatchOption (refusal_of_deliver self.now task arity slot) (result ≡ Ok tt) (λ e. result ≡ Err e) }
     {
         match entry_of(&self.index, task) {
             Some(Entry::Live(place)) => self.slots.get(place).check(arity, slot),
@@ -168,14 +167,14 @@ impl<S: Slots<TaskItem<V>> + Drop, V: Drop> TaskStore<S, V> {
 
     /// Each task that is done with its result, in the order in which they were done. The rest is dropped.
     pub fn into_results(self) -> Vec<(TaskId, V)>
-        ensures { result.items ≡ self.content.results }
+        ensures { result.items ≡ self.results }
     {
         let TaskStore {
             slots: _,
             index: _,
             results,
             counts: _,
-            reserved: _,
+            no_item: _,
             alloc: _,
         } = self;
         results
@@ -184,8 +183,8 @@ impl<S: Slots<TaskItem<V>> + Drop, V: Drop> TaskStore<S, V> {
     /// Hands out each task that is done with its result, in the order in which they were done. The store is then as a new
     /// one. It takes no memory.
     pub fn take_results(&mut self) -> Vec<(TaskId, V)>
-        ensures results { result.items ≡ self.old.content.results }
-        ensures emptied { self.new.content ≡ nothing_stored }
+        ensures results { result.items ≡ self.old.results }
+        ensures emptied { self.new ≡ nothing_stored }
     {
         self.slots = S::new(self.alloc);
         self.index = Table::new(self.alloc);
@@ -194,116 +193,42 @@ impl<S: Slots<TaskItem<V>> + Drop, V: Drop> TaskStore<S, V> {
             ready: 0,
             running: 0,
         };
-        self.reserved = None;
         mem::replace(&mut self.results, Vec::new(self.alloc))
     }
 }
 
 impl<S: Slots<TaskItem<V>>, V: MadeWith<Global> + Drop> TaskStore<S, V> {
-    ghost use Rattle.tp_store.specs.Content.{task_of, life_of, values_of, unfinished, refusal_of_new, refusal_of_insert, refusal_of_deliver, refusal_of_done, with_inserted, with_delivered, with_begun, with_done, delivered_to, inserted_by, HasRoom, NoneGoesBack};
+    ghost use Rattle.tp_store.specs.Content.{task_of, life_of, values_of, unfinished, refusal_of_new, refusal_of_insert, refusal_of_deliver, refusal_of_done, with_inserted, with_delivered, with_begun, with_done, delivered_to, inserted_by, NoneGoesBack};
 
-    /// Makes room for a task that takes so many inputs, at most 16, in place of the room that was made for another. A
-    /// task that is known needs none.
-    ///
-    /// `StoreFull` where the task is unknown and 65,536 tasks are not done, `NoMemory` where a growth was refused.
-    pub fn reserve(&mut self, task: TaskId, arity: u8) -> Result<(), Refusal>
-        requires { arity ≤ MAX_INPUTS }
-        ensures content { self.new.content ≡ self.old.content }
-        ensures room { OnOk result (task_of self.old.content task ≡ None → HasRoom self.new task arity) }
-        ensures not_full { OnOk result (task_of self.old.content task ≡ None → refusal_of_new self.old.content ≡ None) }
-
-        ensures known { IsSome (task_of self.old.content task) → self.new.reserved ≡ self.old.reserved }
-
-        // It fails only for an unknown task that no room was made for.
-        ensures refusal { IfErr result (λ e. e ≡ unwrap_or (refusal_of_new self.old.content) Refusal.NoMemory) }
-        ensures unknown { OnErr result (task_of self.old.content task ≡ None) }
-        ensures had_room { HasRoom self.old task arity → IsOk result }
-        ensures unchanged { OnErr result (self.new ≡ self.old) }
-    {
-        if entry_of(&self.index, task).is_some() {
-            return Ok(());
-        }
-        self.reserve_unknown(task, arity)
-    }
-
-    // Makes room for a task that is not known: what `reserve` does there.
-    fn reserve_unknown(&mut self, task: TaskId, arity: u8) -> Result<(), Refusal>
-        requires arity_in_range { arity ≤ MAX_INPUTS }
-        requires unknown { task_of self.old.content task ≡ None }
-        ensures content { self.new.content ≡ self.old.content }
-        ensures room { OnOk result (HasRoom self.new task arity) }
-        ensures not_full { OnOk result (refusal_of_new self.old.content ≡ None) }
-        ensures refusal { IfErr result (λ e. e ≡ unwrap_or (refusal_of_new self.old.content) Refusal.NoMemory) }
-        ensures had_room { HasRoom self.old task arity → IsOk result }
-        ensures unchanged { OnErr result (self.new ≡ self.old) }
-    {
-        if is_made_for(&self.reserved, task, arity) {
-            return Ok(());
-        }
-        let live = self.counts.waiting + self.counts.ready + self.counts.running;
-        let item = make_item(
-            &mut self.slots,
-            &mut self.index,
-            &mut self.results,
-            live as usize + 1,
-            task,
-            arity,
-            0,
-            self.alloc,
-        )?;
-        self.reserved = Some(item);
-        Ok(())
-    }
-
-    /// Inserts an input-free task, ready at once, into the room that was made for it. Its class is 0 to 3.
-    pub fn insert_reserved(&mut self, task: TaskId, class: u8)
-        requires unknown { task_of self.old.content task ≡ None }
-        requires room { HasRoom self.old task 0 }
-        requires class_in_range { class < CLASSES }
-        ensures content { self.new.content ≡ with_inserted self.old.content task class }
-        ensures unfinished { unfinished self.new.content ≡ unfinished self.old.content + 1 }
-        ensures lives { NoneGoesBack self.old.content self.new.content }
-    {
-        let Some(mut item) = self.reserved.take() else {
-            unreachable!()
-        };
-        item.set_class(class);
-        enter(&mut self.slots, &mut self.index, &mut self.counts, item);
-    }
-
-    /// Inserts an input-free task, ready at once: `reserve`, then `insert_reserved`. Its class is 0 to 3.
+    /// Inserts an input-free task, ready at once. Its class is 0 to 3.
     ///
     /// `TaskKnown` where it was inserted before, `StoreFull` where 65,536 tasks are not done, `NoMemory` where a growth was
     /// refused.
     pub fn insert(&mut self, task: TaskId, class: u8) -> Result<(), Refusal>
         requires { class < CLASSES }
-        ensures checked { OnOk result (refusal_of_insert self.old.content task ≡ None) }
-        ensures content { OnOk result (self.new.content ≡ with_inserted self.old.content task class) }
-        ensures unfinished { OnOk result (unfinished self.new.content ≡ unfinished self.old.content + 1) }
-        ensures lives { NoneGoesBack self.old.content self.new.content }
+        ensures checked { OnOk result (refusal_of_insert self.old task ≡ None) }
+        ensures content { OnOk result (self.new ≡ with_inserted self.old task class) }
+        ensures unfinished { OnOk result (unfinished self.new ≡ unfinished self.old + 1) }
+        ensures lives { NoneGoesBack self.old self.new }
 
-        ensures refusal { IfErr result (λ e. e ≡ unwrap_or (refusal_of_insert self.old.content task) Refusal.NoMemory) }
-        ensures unchanged { OnErr result (self.new.content ≡ self.old.content) }
+        ensures refusal { IfErr result (λ e. e ≡ unwrap_or (refusal_of_insert self.old task) Refusal.NoMemory) }
+        ensures unchanged { OnErr result (self.new ≡ self.old) }
     {
         self.check_insert(task)?;
         self.insert_unknown(task, class)
     }
 
-    // Inserts an input-free task that is not known. Where no room was made for it, its item is made right for the slots.
+    // Inserts an input-free task that is not known.
     fn insert_unknown(&mut self, task: TaskId, class: u8) -> Result<(), Refusal>
-        requires unknown { task_of self.old.content task ≡ None }
+        requires unknown { task_of self.old task ≡ None }
         requires class_in_range { class < CLASSES }
-        ensures not_full { OnOk result (refusal_of_new self.old.content ≡ None) }
-        ensures content { OnOk result (self.new.content ≡ with_inserted self.old.content task class) }
-        ensures unfinished { OnOk result (unfinished self.new.content ≡ unfinished self.old.content + 1) }
-        ensures lives { NoneGoesBack self.old.content self.new.content }
-        ensures refusal { IfErr result (λ e. e ≡ unwrap_or (refusal_of_new self.old.content) Refusal.NoMemory) }
-        ensures unchanged { OnErr result (self.new.content ≡ self.old.content) }
+        ensures not_full { OnOk result (refusal_of_new self.old ≡ None) }
+        ensures content { OnOk result (self.new ≡ with_inserted self.old task class) }
+        ensures unfinished { OnOk result (unfinished self.new ≡ unfinished self.old + 1) }
+        ensures lives { NoneGoesBack self.old self.new }
+        ensures refusal { IfErr result (λ e. e ≡ unwrap_or (refusal_of_new self.old) Refusal.NoMemory) }
+        ensures unchanged { OnErr result (self.new ≡ self.old) }
     {
-        if is_made_for(&self.reserved, task, 0) {
-            self.insert_reserved(task, class);
-            return Ok(());
-        }
         let live = self.counts.waiting + self.counts.ready + self.counts.running;
         let item = make_item(
             &mut self.slots,
@@ -315,69 +240,13 @@ impl<S: Slots<TaskItem<V>>, V: MadeWith<Global> + Drop> TaskStore<S, V> {
             class,
             self.alloc,
         )?;
-        // The room is for one task, so none is left for another.
-        self.reserved = None;
         enter(&mut self.slots, &mut self.index, &mut self.counts, item);
         Ok(())
     }
 
-    /// Delivers a value to a slot of a task, as `deliver`, where `check` answers `Ok` and room was made for an unknown task.
-    pub fn deliver_reserved(
-        &mut self,
-        task: TaskId,
-        arity: u8,
-        class: u8,
-        slot: u8,
-        value: V,
-    ) -> Delivered
-        requires checked { refusal_of_deliver self.old.content task arity slot ≡ None }
-        requires room { task_of self.old.content task ≡ None → HasRoom self.old task arity }
-        requires arity_in_range { arity ≤ MAX_INPUTS }
-        requires class_in_range { class < CLASSES }
-        requires slot_in_range { slot < arity }
-        ensures answer { result ≡ delivered_to self.old.content task arity }
-        ensures content { self.new.content ≡ with_delivered self.old.content task arity class slot value }
-        ensures unfinished { unfinished self.new.content ≡ unfinished self.old.content + inserted_by result }
-        ensures lives { NoneGoesBack self.old.content self.new.content }
-    {
-        let Some(entry) = entry_of(&self.index, task) else {
-            self.insert_with_value(task, arity, class, slot, value);
-            return Delivered::Inserted(arity - 1);
-        };
-        let Entry::Live(place) = entry else {
-            unreachable!()
-        };
-        supply(&mut self.slots, &mut self.counts, place, slot, value);
-        Delivered::Filled
-    }
-
-    // Inserts a task with its first value, into the room that was made for it.
-    fn insert_with_value(&mut self, task: TaskId, arity: u8, class: u8, slot: u8, value: V)
-        requires unknown { task_of self.old.content task ≡ None }
-        requires room { HasRoom self.old task arity }
-        requires arity_in_range { arity ≤ MAX_INPUTS }
-        requires class_in_range { class < CLASSES }
-        requires slot_in_range { slot < arity }
-        ensures content { self.new.content ≡ with_delivered self.old.content task arity class slot value }
-        ensures unfinished { unfinished self.new.content ≡ unfinished self.old.content + 1 }
-    {
-        let Some(mut item) = self.reserved.take() else {
-            unreachable!()
-        };
-        item.set_class(class);
-        enter_with(
-            &mut self.slots,
-            &mut self.index,
-            &mut self.counts,
-            item,
-            slot,
-            value,
-        );
-    }
-
-    /// Delivers a value to a slot of a task that takes 1 to 16 inputs: `check`, `reserve`, then `deliver_reserved`. An unknown
-    /// task is inserted by it. With its last input a task is ready, in the class that it was inserted with: the class, 0 to 3,
-    /// is looked at for an unknown task alone. A refused value comes back.
+    /// Delivers a value to a slot of a task that takes 1 to 16 inputs. An unknown task is inserted by it. With
+    /// its last input a task is ready, in the class that it was inserted with: the class, 0 to 3, is looked at for an unknown
+    /// task alone. A refused value comes back.
     ///
     /// `TaskKnown` where the task has begun or is done, or was inserted with another number of inputs, `SlotTaken` where the
     /// slot has its value, `StoreFull` where the task is unknown and 65,536 tasks are not done, `NoMemory` where a growth was
@@ -394,15 +263,15 @@ impl<S: Slots<TaskItem<V>>, V: MadeWith<Global> + Drop> TaskStore<S, V> {
         requires arity_in_range { arity ≤ MAX_INPUTS }
         requires class_in_range { class < CLASSES }
         requires slot_in_range { slot < arity }
-        ensures checked { OnOk result (refusal_of_deliver self.old.content task arity slot ≡ None) }
-        ensures answer { IfOk result (λ d. d ≡ delivered_to self.old.content task arity) }
-        ensures content { OnOk result (self.new.content ≡ with_delivered self.old.content task arity class slot value) }
-        ensures unfinished { IfOk result (λ d. unfinished self.new.content ≡ unfinished self.old.content + inserted_by d) }
-        ensures lives { NoneGoesBack self.old.content self.new.content }
+        ensures checked { OnOk result (refusal_of_deliver self.old task arity slot ≡ None) }
+        ensures answer { IfOk result (λ d. d ≡ delivered_to self.old task arity) }
+        ensures content { OnOk result (self.new ≡ with_delivered self.old task arity class slot value) }
+        ensures unfinished { IfOk result (λ d. unfinished self.new ≡ unfinished self.old + inserted_by d) }
+        ensures lives { NoneGoesBack self.old self.new }
 
-        ensures refusal { IfErr result (λ e. e.0 ≡ unwrap_or (refusal_of_deliver self.old.content task arity slot) Refusal.NoMemory) }
+        ensures refusal { IfErr result (λ e. e.0 ≡ unwrap_or (refusal_of_deliver self.old task arity slot) Refusal.NoMemory) }
         ensures value_returned { IfErr result (λ e. e.1 ≡ value) }
-        ensures unchanged { OnErr result (self.new.content ≡ self.old.content) }
+        ensures unchanged { OnErr result (self.new ≡ self.old) }
     {
         let Some(entry) = entry_of(&self.index, task) else {
             self.deliver_unknown(task, arity, class, slot, value)?;
@@ -418,8 +287,7 @@ impl<S: Slots<TaskItem<V>>, V: MadeWith<Global> + Drop> TaskStore<S, V> {
         Ok(Delivered::Filled)
     }
 
-    // Inserts a task that is not known with its first value. Where no room was made for it, its item is made right for the
-    // slots.
+    // Inserts a task that is not known with its first value.
     fn deliver_unknown(
         &mut self,
         task: TaskId,
@@ -428,21 +296,17 @@ impl<S: Slots<TaskItem<V>>, V: MadeWith<Global> + Drop> TaskStore<S, V> {
         slot: u8,
         value: V,
     ) -> Result<(), (Refusal, V)>
-        requires unknown { task_of self.old.content task ≡ None }
+        requires unknown { task_of self.old task ≡ None }
         requires arity_in_range { arity ≤ MAX_INPUTS }
         requires class_in_range { class < CLASSES }
         requires slot_in_range { slot < arity }
-        ensures not_full { OnOk result (refusal_of_new self.old.content ≡ None) }
-        ensures content { OnOk result (self.new.content ≡ with_delivered self.old.content task arity class slot value) }
-        ensures unfinished { OnOk result (unfinished self.new.content ≡ unfinished self.old.content + 1) }
-        ensures refusal { IfErr result (λ e. e.0 ≡ unwrap_or (refusal_of_new self.old.content) Refusal.NoMemory) }
+        ensures not_full { OnOk result (refusal_of_new self.old ≡ None) }
+        ensures content { OnOk result (self.new ≡ with_delivered self.old task arity class slot value) }
+        ensures unfinished { OnOk result (unfinished self.new ≡ unfinished self.old + 1) }
+        ensures refusal { IfErr result (λ e. e.0 ≡ unwrap_or (refusal_of_new self.old) Refusal.NoMemory) }
         ensures value_returned { IfErr result (λ e. e.1 ≡ value) }
-        ensures unchanged { OnErr result (self.new.content ≡ self.old.content) }
+        ensures unchanged { OnErr result (self.new ≡ self.old) }
     {
-        if is_made_for(&self.reserved, task, arity) {
-            self.insert_with_value(task, arity, class, slot, value);
-            return Ok(());
-        }
         let live = self.counts.waiting + self.counts.ready + self.counts.running;
         let item = match make_item(
             &mut self.slots,
@@ -457,8 +321,6 @@ impl<S: Slots<TaskItem<V>>, V: MadeWith<Global> + Drop> TaskStore<S, V> {
             Ok(item) => item,
             Err(refusal) => return Err((refusal, value)),
         };
-        // The room is for one task, so none is left for another.
-        self.reserved = None;
         enter_with(
             &mut self.slots,
             &mut self.index,
@@ -472,13 +334,12 @@ impl<S: Slots<TaskItem<V>>, V: MadeWith<Global> + Drop> TaskStore<S, V> {
 
     /// The next ready task, of the lowest class that has one, begins: its inputs are moved out.
     pub fn begin(&mut self) -> Option<Begun<V>>
-        ensures next { option_map (λ b. b.task) result ≡ front self.old.content.ready }
-        ensures life { IfSome result (λ b. life_of self.old.content b.task ≡ Some Life.Ready) }
-        ensures inputs { IfSome result (λ b. map (λ v. Some v) b.inputs.items ≡ values_of self.old.content b.task) }
-        ensures content { MatchOption result (self.new.content ≡ self.old.content) (λ b. self.new.content ≡ with_begun self.old.content b.task) }
-        ensures unfinished { unfinished self.new.content ≡ unfinished self.old.content }
-        ensures lives { NoneGoesBack self.old.content self.new.content }
-        ensures reserved { self.new.reserved ≡ self.old.reserved }
+        ensures next { option_map (λ b. b.task) result ≡ front self.old.ready }
+        ensures life { IfSome result (λ b. life_of self.old b.task ≡ Some Life.Ready) }
+        ensures inputs { IfSome result (λ b. map (λ v. Some v) b.inputs.items ≡ values_of self.old b.task) }
+        ensures content { MatchOption result (self.new ≡ self.old) (λ b. self.new ≡ with_begun self.old b.task) }
+        ensures unfinished { unfinished self.new ≡ unfinished self.old }
+        ensures lives { NoneGoesBack self.old self.new }
     {
         let Some(place) = self.slots.pop_ready() else {
             return None;
@@ -492,15 +353,14 @@ impl<S: Slots<TaskItem<V>>, V: MadeWith<Global> + Drop> TaskStore<S, V> {
     ///
     /// `NoTask` where the task was never inserted, `WrongLife` where it does not run.
     pub fn done(&mut self, task: TaskId, value: V) -> Result<(), (Refusal, V)>
-        ensures checked { OnOk result (refusal_of_done (life_of self.old.content task) ≡ None) }
-        ensures content { OnOk result (self.new.content ≡ with_done self.old.content task value) }
-        ensures unfinished { OnOk result (unfinished self.new.content + 1 ≡ unfinished self.old.content) }
-        ensures lives { NoneGoesBack self.old.content self.new.content }
-        ensures reserved { self.new.reserved ≡ self.old.reserved }
+        ensures checked { OnOk result (refusal_of_done (life_of self.old task) ≡ None) }
+        ensures content { OnOk result (self.new ≡ with_done self.old task value) }
+        ensures unfinished { OnOk result (unfinished self.new + 1 ≡ unfinished self.old) }
+        ensures lives { NoneGoesBack self.old self.new }
 
-        ensures refusal { IfErr result (λ e. Some e.0 ≡ refusal_of_done (life_of self.old.content task)) }
+        ensures refusal { IfErr result (λ e. Some e.0 ≡ refusal_of_done (life_of self.old task)) }
         ensures value_returned { IfErr result (λ e. e.1 ≡ value) }
-        ensures unchanged { OnErr result (self.new.content ≡ self.old.content) }
+        ensures unchanged { OnErr result (self.new ≡ self.old) }
     {
         let place = match entry_of(&self.index, task) {
             Some(Entry::Live(place)) => place,

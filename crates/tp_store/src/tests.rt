@@ -48,8 +48,6 @@ fn an_input_free_task_is_ready_at_once(rt: HostRuntime) -> Result<(), Fail> {
     let four = TaskId(4);
     let mut store = Store::<u64>::new(rt.alloc());
     assert_eq!(rt; store.has_ready(), false);
-    assert_eq!(rt; store.reserve(four, 0), Ok(()));
-    assert_eq!(rt; store.has_ready(), false);
     assert_eq!(rt; store.insert(four, 3), Ok(()));
     assert_eq!(rt; store.has_ready(), true);
     assert_eq!(rt; store.insert(four, 3), Err(Refusal::TaskKnown));

@@ -9,4 +9,4 @@ use Rattle.tp_local.specs.Locals.{Numbers}
 pub returns-clause-active : goal.returns-clause-active
 returns-clause-active c =
     subst (λ (l : LocalState Numbers). OnSome c.begin.result (0 < pending l)) c.self.view_is
-    (begun_counts c.self.inside.store.value.content (open_count c.self.inside.actions) (λ b. b.task) c.begin.result c.begin.ensures.life)
+    (begun_counts c.self.inside.store.value (open_count c.self.inside.actions) (λ b. b.task) c.begin.result c.begin.ensures.life)

@@ -5,28 +5,23 @@ use Rattle.tp_store.proofs.Reading.{seen, seen_live, few_live, new_answer, deliv
 use Rattle.tp_store.proofs.store.TaskStore.check.Goals as goal
 
 pub check_new-requires : goal.check_new-requires
-check_new-requires g c = few_live _ _ _ _ _ _ c.self.invariant _ (ap (λ v. v.content) c.self.view_is)
+check_new-requires g c = few_live c.self.invariant c.self.view_is
 
 pub returns-in-Some-Live : goal.returns-in-Some-Live
 returns-in-Some-Live g c =
-    let s = c.self.inside in
-    let x = seen_live (g.S.Slots.content s.slots) s.index s.results.items c.args.self.now.content (ap (λ v. v.content) c.self.view_is) c.args.task c.in-Some-Live.place c.get.result.now (sym c.entry_of.ensures ∙ c.in-Some-Live.is ∙ ap Some c.in-Some-Live.field-0-is) c.get.ensures in
-    deliver_known c.args.self.now.content c.args.task _ c.get.result.now.task c.args.arity c.args.slot x c.check.ensures
+    let x = seen_live c.self.invariant c.self.view_is c.args.task c.in-Some-Live.place c.get.result.now (sym c.entry_of.ensures ∙ c.in-Some-Live.is ∙ ap Some c.in-Some-Live.field-0-is) c.get.ensures in
+    deliver_known c.args.self.now c.args.task _ c.get.result.now.task c.args.arity c.args.slot x c.check.ensures
 
 pub returns-in-Some-Done : goal.returns-in-Some-Done
 returns-in-Some-Done g c =
-    let s = c.self.inside in
     let at = c.in-Some-Done in
-    let x = seen (g.S.Slots.content s.slots) s.index s.results.items c.args.self.now.content (ap (λ v. v.content) c.self.view_is) c.args.task (Some (Done at.field-0-0 at.field-0-1)) (sym c.entry_of.ensures ∙ at.is ∙ ap Some at.field-0-is) in
-    deliver_known c.args.self.now.content c.args.task _ _ c.args.arity c.args.slot x refl
+    let x = seen c.self.invariant c.self.view_is c.args.task (Some (Done at.field-0-0 at.field-0-1)) (sym c.entry_of.ensures ∙ at.is ∙ ap Some at.field-0-is) in
+    deliver_known c.args.self.now c.args.task _ _ c.args.arity c.args.slot x refl
 
 pub returns-in-None : goal.returns-in-None
 returns-in-None g c =
-    let s = c.self.inside in
-    let view = ap (λ v. v.content) c.self.view_is in
-    deliver_unknown c.args.self.now.content c.args.task c.check_new.result c.args.arity c.args.slot (seen (g.S.Slots.content s.slots) s.index s.results.items c.args.self.now.content view c.args.task None (sym c.entry_of.ensures ∙ c.in-None.is)) (new_answer _ _ _ _ _ _ c.self.invariant c.args.self.now.content view c.check_new.result c.check_new.ensures.ok c.check_new.ensures.err)
+    deliver_unknown c.args.self.now c.args.task c.check_new.result c.args.arity c.args.slot (seen c.self.invariant c.self.view_is c.args.task None (sym c.entry_of.ensures ∙ c.in-None.is)) (new_answer c.self.invariant c.self.view_is c.check_new.result c.check_new.ensures.ok c.check_new.ensures.err)
 
 pub get-requires : goal.get-requires
 get-requires g c =
-    let s = c.self.inside in
-    taken_there (g.S.Slots.content s.slots) (g.S.Slots.room s.slots) s.index s.results s.counts s.reserved c.self.invariant c.args.task c.in-Some-Live.place (sym c.entry_of.ensures ∙ c.in-Some-Live.is ∙ ap Some c.in-Some-Live.field-0-is)
+    taken_there c.self.invariant c.args.task c.in-Some-Live.place (sym c.entry_of.ensures ∙ c.in-Some-Live.is ∙ ap Some c.in-Some-Live.field-0-is)

@@ -3,16 +3,13 @@ use Rattle.tp_store.proofs.Reading.{seen, known, few_live, new_answer, insert_kn
 use Rattle.tp_store.proofs.store.TaskStore.check_insert.Goals as goal
 
 pub check_new-requires : goal.check_new-requires
-check_new-requires g c = few_live _ _ _ _ _ _ c.self.invariant _ (ap (λ v. v.content) c.self.view_is)
+check_new-requires g c = few_live c.self.invariant c.self.view_is
 
 pub returns-in-Some : goal.returns-in-Some
 returns-in-Some g c =
-    let s = c.self.inside in
-    let x = known (g.S.Slots.content s.slots) (g.S.Slots.room s.slots) s.index s.results s.counts s.reserved c.self.invariant c.args.self.now.content (ap (λ v. v.content) c.self.view_is) c.args.task c.in-Some.field-0 (sym c.entry_of.ensures ∙ c.in-Some.is) in
-    insert_known c.args.self.now.content c.args.task _ x.0 x.1 refl
+    let x = known c.self.invariant c.self.view_is c.args.task c.in-Some.field-0 (sym c.entry_of.ensures ∙ c.in-Some.is) in
+    insert_known c.args.self.now c.args.task _ x.0 x.1 refl
 
 pub returns-in-None : goal.returns-in-None
 returns-in-None g c =
-    let s = c.self.inside in
-    let view = ap (λ v. v.content) c.self.view_is in
-    insert_unknown c.args.self.now.content c.args.task c.check_new.result (seen (g.S.Slots.content s.slots) s.index s.results.items c.args.self.now.content view c.args.task None (sym c.entry_of.ensures ∙ c.in-None.is)) (new_answer _ _ _ _ _ _ c.self.invariant c.args.self.now.content view c.check_new.result c.check_new.ensures.ok c.check_new.ensures.err)
+    insert_unknown c.args.self.now c.args.task c.check_new.result (seen c.self.invariant c.self.view_is c.args.task None (sym c.entry_of.ensures ∙ c.in-None.is)) (new_answer c.self.invariant c.self.view_is c.check_new.result c.check_new.ensures.ok c.check_new.ensures.err)

@@ -5,7 +5,7 @@ use Rattle.tp_store.specs.declared.index.Entry.TheVariants.{Done}
 use Rattle.tp_store.proofs.Stages.{delivered_goes_on}
 use Rattle.tp_store.proofs.Finishing.{taken_there}
 use Rattle.tp_store.proofs.Reading.{seen, seen_live, known_refusal, unknown_refusal, accepts, refuses}
-use Rattle.tp_store.proofs.Delivering.{inserts}
+use Rattle.tp_store.proofs.Making.{inserts}
 use Rattle.tp_store.proofs.Reserving.{told_first}
 use Rattle.tp_store.proofs.Supplying.{known_item, can_supply, supplied_all, fills}
 use Rattle.tp_store.proofs.store.TaskStore.deliver.Goals as goal
@@ -13,20 +13,18 @@ use Rattle.tp_store.proofs.store.TaskStore.deliver.Goals as goal
 -- ---- an unknown task
 pub deliver_unknown-requires : goal.deliver_unknown-requires
 deliver_unknown-requires g c =
-    let s = c.self.inside in
-    (search rules, (seen (g.S.Slots.content s.slots) s.index s.results.items c.args.self.now.content (ap (λ v. v.content) c.self.view_is) c.args.task None (sym c.entry_of.ensures ∙ c.in_default.is), (c.requires.arity_in_range, (c.requires.class_in_range, c.requires.slot_in_range))))
+    (search rules, (seen c.self.invariant c.self.view_is c.args.task None (sym c.entry_of.ensures ∙ c.in_default.is), (c.requires.arity_in_range, (c.requires.class_in_range, c.requires.slot_in_range))))
 
 pub returns-in_default : goal.returns-in_default
 returns-in_default g c =
-    let s = c.self.inside in
-    let none = seen (g.S.Slots.content s.slots) s.index s.results.items c.args.self.now.content (ap (λ v. v.content) c.self.view_is) c.args.task None (sym c.entry_of.ensures ∙ c.in_default.is) in
+    let none = seen c.self.invariant c.self.view_is c.args.task None (sym c.entry_of.ensures ∙ c.in_default.is) in
     let content = c.in_ok-deliver_unknown.ensures.content in
     record {
-      checked = unknown_refusal c.args.self.now.content c.args.task c.args.arity c.args.slot none ∙ c.in_ok-deliver_unknown.ensures.not_full;
-      answer = inserts c.args.self.now.content c.args.task c.args.arity none;
+      checked = unknown_refusal c.args.self.now c.args.task c.args.arity c.args.slot none ∙ c.in_ok-deliver_unknown.ensures.not_full;
+      answer = inserts c.args.self.now c.args.task c.args.arity none;
       content = content;
       unfinished = c.in_ok-deliver_unknown.ensures.unfinished;
-      lives = subst (λ v. NoneGoesBack c.args.self.now.content v) (sym content) (delivered_goes_on c.args.self.now.content c.args.task c.args.arity c.args.class c.args.slot c.args.value);
+      lives = subst (λ v. NoneGoesBack c.args.self.now v) (sym content) (delivered_goes_on c.args.self.now c.args.task c.args.arity c.args.class c.args.slot c.args.value);
       refusal = tt;
       value_returned = tt;
       unchanged = tt;
@@ -34,37 +32,32 @@ returns-in_default g c =
 
 pub returns-in_err-deliver_unknown-clause-refusal : goal.returns-in_err-deliver_unknown-clause-refusal
 returns-in_err-deliver_unknown-clause-refusal g c =
-    let s = c.self.inside in
-    let none = seen (g.S.Slots.content s.slots) s.index s.results.items c.args.self.now.content (ap (λ v. v.content) c.self.view_is) c.args.task None (sym c.entry_of.ensures ∙ c.in_default.is) in
-    told_first c.from_residual.result c.in_err-deliver_unknown.field-0.0 _ c.from_residual.ensures.1 (c.in_err-deliver_unknown.ensures.refusal ∙ sym (ap (λ o. unwrap_or o NoMemory) (unknown_refusal c.args.self.now.content c.args.task c.args.arity c.args.slot none)))
+    let none = seen c.self.invariant c.self.view_is c.args.task None (sym c.entry_of.ensures ∙ c.in_default.is) in
+    told_first c.from_residual.result c.in_err-deliver_unknown.field-0.0 _ c.from_residual.ensures.1 (c.in_err-deliver_unknown.ensures.refusal ∙ sym (ap (λ o. unwrap_or o NoMemory) (unknown_refusal c.args.self.now c.args.task c.args.arity c.args.slot none)))
 
 -- ---- a task that is done
 pub returns-in_default-entry-clause-refusal : goal.returns-in_default-entry-clause-refusal
 returns-in_default-entry-clause-refusal g c =
-    let s = c.self.inside in
     let at = c.in_default-entry in
-    let over = seen (g.S.Slots.content s.slots) s.index s.results.items c.args.self.now.content (ap (λ v. v.content) c.self.view_is) c.args.task (Some (Done at.field-0 at.field-1)) (sym c.entry_of.ensures ∙ c.in-Some.is ∙ ap Some at.is) in
-    sym (ap (λ o. unwrap_or o NoMemory) (known_refusal c.args.self.now.content c.args.task c.args.arity c.args.slot _ over))
+    let over = seen c.self.invariant c.self.view_is c.args.task (Some (Done at.field-0 at.field-1)) (sym c.entry_of.ensures ∙ c.in-Some.is ∙ ap Some at.is) in
+    sym (ap (λ o. unwrap_or o NoMemory) (known_refusal c.args.self.now c.args.task c.args.arity c.args.slot _ over))
 
 -- ---- a task that is not done
 pub get-requires : goal.get-requires
 get-requires g c =
-    let s = c.self.inside in
-    taken_there (g.S.Slots.content s.slots) (g.S.Slots.room s.slots) s.index s.results s.counts s.reserved c.self.invariant c.args.task c.in-Live.place (sym c.entry_of.ensures ∙ c.in-Some.is ∙ ap Some c.in-Live.is)
+    taken_there c.self.invariant c.args.task c.in-Live.place (sym c.entry_of.ensures ∙ c.in-Some.is ∙ ap Some c.in-Live.is)
 
 pub returns-in-Err-clause-refusal : goal.returns-in-Err-clause-refusal
 returns-in-Err-clause-refusal g c =
-    let s = c.self.inside in
-    let x = seen_live (g.S.Slots.content s.slots) s.index s.results.items c.args.self.now.content (ap (λ v. v.content) c.self.view_is) c.args.task c.in-Live.place c.get.result.now (sym c.entry_of.ensures ∙ c.in-Some.is ∙ ap Some c.in-Live.is) c.get.ensures in
-    sym (ap (λ o. unwrap_or o NoMemory) (known_refusal c.args.self.now.content c.args.task c.args.arity c.args.slot _ x ∙ refuses _ c.check.result c.in-Err.refusal c.check.ensures c.in-Err.is))
+    let x = seen_live c.self.invariant c.self.view_is c.args.task c.in-Live.place c.get.result.now (sym c.entry_of.ensures ∙ c.in-Some.is ∙ ap Some c.in-Live.is) c.get.ensures in
+    sym (ap (λ o. unwrap_or o NoMemory) (known_refusal c.args.self.now c.args.task c.args.arity c.args.slot _ x ∙ refuses _ c.check.result c.in-Err.refusal c.check.ensures c.in-Err.is))
 
 pub supply-requires : goal.supply-requires
 supply-requires g c =
-    let s = c.self.inside in
-    let x = seen_live (g.S.Slots.content s.slots) s.index s.results.items c.args.self.now.content (ap (λ v. v.content) c.self.view_is) c.args.task c.in-Live.place c.get.result.now (sym c.entry_of.ensures ∙ c.in-Some.is ∙ ap Some c.in-Live.is) c.get.ensures in
-    let checked = known_refusal c.args.self.now.content c.args.task c.args.arity c.args.slot _ x ∙ accepts _ c.check.result c.in_default-check.field-0 c.check.ensures c.in_default-check.is in
-    let k = known_item (g.S.Slots.content s.slots) (g.S.Slots.room s.slots) s.index s.results s.counts s.reserved c.self.invariant c.args.self.now.content (ap (λ v. v.content) c.self.view_is) c.args.task c.args.arity c.args.class c.args.slot c.args.value c.in-Live.place (sym c.entry_of.ensures ∙ c.in-Some.is ∙ ap Some c.in-Live.is) checked c.requires.slot_in_range in
-    let can = can_supply (g.S.Slots.content s.slots) (g.S.Slots.room s.slots) s.index s.results s.counts s.reserved c.self.invariant c.args.self.now.content (ap (λ v. v.content) c.self.view_is) c.args.task c.args.arity c.args.class c.args.slot c.args.value c.in-Live.place (sym c.entry_of.ensures ∙ c.in-Some.is ∙ ap Some c.in-Live.is) checked c.requires.slot_in_range in
+    let x = seen_live c.self.invariant c.self.view_is c.args.task c.in-Live.place c.get.result.now (sym c.entry_of.ensures ∙ c.in-Some.is ∙ ap Some c.in-Live.is) c.get.ensures in
+    let checked = known_refusal c.args.self.now c.args.task c.args.arity c.args.slot _ x ∙ accepts _ c.check.result c.in_default-check.field-0 c.check.ensures c.in_default-check.is in
+    let k = known_item c.self.invariant c.self.view_is c.args.task c.args.arity c.args.class c.args.slot c.args.value c.in-Live.place (sym c.entry_of.ensures ∙ c.in-Some.is ∙ ap Some c.in-Live.is) checked c.requires.slot_in_range in
+    let can = can_supply c.self.invariant c.self.view_is c.args.task c.args.arity c.args.class c.args.slot c.args.value c.in-Live.place (sym c.entry_of.ensures ∙ c.in-Some.is ∙ ap Some c.in-Live.is) checked c.requires.slot_in_range in
     record {
       fits = search rules;
       idle = can.0;
@@ -77,23 +70,21 @@ supply-requires g c =
 
 pub invariant_of-self : goal.invariant_of-self
 invariant_of-self g c =
-    let s = c.self.inside in
-    let x = seen_live (g.S.Slots.content s.slots) s.index s.results.items c.args.self.now.content (ap (λ v. v.content) c.self.view_is) c.args.task c.in-Live.place c.get.result.now (sym c.entry_of.ensures ∙ c.in-Some.is ∙ ap Some c.in-Live.is) c.get.ensures in
-    let checked = known_refusal c.args.self.now.content c.args.task c.args.arity c.args.slot _ x ∙ accepts _ c.check.result c.in_default-check.field-0 c.check.ensures c.in_default-check.is in
-    (supplied_all (g.S.Slots.content s.slots) (g.S.Slots.room s.slots) s.index s.results s.counts s.reserved c.self.invariant c.args.self.now.content (ap (λ v. v.content) c.self.view_is) c.args.task c.args.arity c.args.class c.args.slot c.args.value c.in-Live.place (sym c.entry_of.ensures ∙ c.in-Some.is ∙ ap Some c.in-Live.is) checked c.requires.slot_in_range (g.S.Slots.content c.supply.new.slots) (g.S.Slots.room c.supply.new.slots) c.supply.new.counts c.supply.ensures.content c.supply.ensures.counts c.supply.ensures.room).2
+    let x = seen_live c.self.invariant c.self.view_is c.args.task c.in-Live.place c.get.result.now (sym c.entry_of.ensures ∙ c.in-Some.is ∙ ap Some c.in-Live.is) c.get.ensures in
+    let checked = known_refusal c.args.self.now c.args.task c.args.arity c.args.slot _ x ∙ accepts _ c.check.result c.in_default-check.field-0 c.check.ensures c.in_default-check.is in
+    (supplied_all c.self.invariant c.self.view_is c.args.task c.args.arity c.args.class c.args.slot c.args.value c.in-Live.place (sym c.entry_of.ensures ∙ c.in-Some.is ∙ ap Some c.in-Live.is) checked c.requires.slot_in_range (g.S.Slots.content c.supply.new.slots) c.supply.new.counts c.supply.ensures.content c.supply.ensures.counts).2
 
 pub returns : goal.returns
 returns g c =
-    let s = c.self.inside in
-    let x = seen_live (g.S.Slots.content s.slots) s.index s.results.items c.args.self.now.content (ap (λ v. v.content) c.self.view_is) c.args.task c.in-Live.place c.get.result.now (sym c.entry_of.ensures ∙ c.in-Some.is ∙ ap Some c.in-Live.is) c.get.ensures in
-    let checked = known_refusal c.args.self.now.content c.args.task c.args.arity c.args.slot _ x ∙ accepts _ c.check.result c.in_default-check.field-0 c.check.ensures c.in_default-check.is in
-    let all = supplied_all (g.S.Slots.content s.slots) (g.S.Slots.room s.slots) s.index s.results s.counts s.reserved c.self.invariant c.args.self.now.content (ap (λ v. v.content) c.self.view_is) c.args.task c.args.arity c.args.class c.args.slot c.args.value c.in-Live.place (sym c.entry_of.ensures ∙ c.in-Some.is ∙ ap Some c.in-Live.is) checked c.requires.slot_in_range (g.S.Slots.content c.supply.new.slots) (g.S.Slots.room c.supply.new.slots) c.supply.new.counts c.supply.ensures.content c.supply.ensures.counts c.supply.ensures.room in
+    let x = seen_live c.self.invariant c.self.view_is c.args.task c.in-Live.place c.get.result.now (sym c.entry_of.ensures ∙ c.in-Some.is ∙ ap Some c.in-Live.is) c.get.ensures in
+    let checked = known_refusal c.args.self.now c.args.task c.args.arity c.args.slot _ x ∙ accepts _ c.check.result c.in_default-check.field-0 c.check.ensures c.in_default-check.is in
+    let all = supplied_all c.self.invariant c.self.view_is c.args.task c.args.arity c.args.class c.args.slot c.args.value c.in-Live.place (sym c.entry_of.ensures ∙ c.in-Some.is ∙ ap Some c.in-Live.is) checked c.requires.slot_in_range (g.S.Slots.content c.supply.new.slots) c.supply.new.counts c.supply.ensures.content c.supply.ensures.counts in
     record {
       checked = checked;
-      answer = fills (g.S.Slots.content s.slots) (g.S.Slots.room s.slots) s.index s.results s.counts s.reserved c.self.invariant c.args.self.now.content (ap (λ v. v.content) c.self.view_is) c.args.task c.args.arity c.args.class c.args.slot c.args.value c.in-Live.place (sym c.entry_of.ensures ∙ c.in-Some.is ∙ ap Some c.in-Live.is) checked c.requires.slot_in_range;
+      answer = fills c.self.invariant c.self.view_is c.args.task c.args.arity c.args.class c.args.slot c.args.value c.in-Live.place (sym c.entry_of.ensures ∙ c.in-Some.is ∙ ap Some c.in-Live.is) checked c.requires.slot_in_range;
       content = all.0;
       unfinished = omega (arith, all.1);
-      lives = subst (λ v. NoneGoesBack c.args.self.now.content v) (sym all.0) (delivered_goes_on c.args.self.now.content c.args.task c.args.arity c.args.class c.args.slot c.args.value);
+      lives = subst (λ v. NoneGoesBack c.args.self.now v) (sym all.0) (delivered_goes_on c.args.self.now c.args.task c.args.arity c.args.class c.args.slot c.args.value);
       refusal = tt;
       value_returned = tt;
       unchanged = tt;

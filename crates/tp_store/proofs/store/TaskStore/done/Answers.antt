@@ -8,32 +8,35 @@ use Rattle.tp_store.proofs.Finishing.{life_is, can_finish, done_all, wrong_life,
 use Rattle.tp_store.proofs.store.TaskStore.done.Goals as goal
 
 -- ---- the task does not run
-pub returns-in-Some-Done-clause-refusal : goal.returns-in-Some-Done-clause-refusal
-returns-in-Some-Done-clause-refusal g c =
-    let s = c.self.inside in
+pub returns-in-Some-Done : goal.returns-in-Some-Done
+returns-in-Some-Done g c =
     let at = c.in-Some-Done in
-    sym (ap (λ o. refusal_of_done (option_map (λ x. x.life) o)) (seen (g.S.Slots.content s.slots) s.index s.results.items c.args.self.now.content (ap (λ v. v.content) c.self.view_is) c.args.task (Some (Done at.field-0-0 at.field-0-1)) (sym c.entry_of.ensures ∙ at.is ∙ ap Some at.field-0-is)))
-
-pub returns-in-None-clause-refusal : goal.returns-in-None-clause-refusal
-returns-in-None-clause-refusal g c =
-    let s = c.self.inside in
-    sym (ap (λ o. refusal_of_done (option_map (λ x. x.life) o)) (seen (g.S.Slots.content s.slots) s.index s.results.items c.args.self.now.content (ap (λ v. v.content) c.self.view_is) c.args.task None (sym c.entry_of.ensures ∙ c.in-None.is)))
-
-pub get-item-requires : goal.get-item-requires
-get-item-requires g c =
-    let s = c.self.inside in
-    taken_there (g.S.Slots.content s.slots) (g.S.Slots.room s.slots) s.index s.results s.counts s.reserved c.self.invariant c.args.task c.in-Some-Live.place (sym c.entry_of.ensures ∙ c.in-Some-Live.is ∙ ap Some c.in-Some-Live.field-0-is)
-
-pub returns-in_default : goal.returns-in_default
-returns-in_default g c =
-    let s = c.self.inside in
     record {
       checked = tt;
       content = tt;
       unfinished = tt;
       lives = λ t. omega arith;
-      reserved = refl;
-      refusal = wrong_life c.life.result c.in_default.not-Running ∙ ap (λ l. refusal_of_done (Some l)) c.life.ensures ∙ sym (ap refusal_of_done (life_is (g.S.Slots.content s.slots) (g.S.Slots.room s.slots) s.index s.results s.counts s.reserved c.self.invariant c.args.self.now.content (ap (λ v. v.content) c.self.view_is) c.args.task c.get-item.result.now c.in-Some-Live.place (sym c.entry_of.ensures ∙ c.in-Some-Live.is ∙ ap Some c.in-Some-Live.field-0-is) c.get-item.ensures));
+      refusal = sym (ap (λ o. refusal_of_done (option_map (λ x. x.life) o)) (seen c.self.invariant c.self.view_is c.args.task (Some (Done at.field-0-0 at.field-0-1)) (sym c.entry_of.ensures ∙ at.is ∙ ap Some at.field-0-is)));
+      value_returned = refl;
+      unchanged = refl;
+    }
+
+pub returns-in-None-clause-refusal : goal.returns-in-None-clause-refusal
+returns-in-None-clause-refusal g c =
+    sym (ap (λ o. refusal_of_done (option_map (λ x. x.life) o)) (seen c.self.invariant c.self.view_is c.args.task None (sym c.entry_of.ensures ∙ c.in-None.is)))
+
+pub get-item-requires : goal.get-item-requires
+get-item-requires g c =
+    taken_there c.self.invariant c.args.task c.in-Some-Live.place (sym c.entry_of.ensures ∙ c.in-Some-Live.is ∙ ap Some c.in-Some-Live.field-0-is)
+
+pub returns-in_default : goal.returns-in_default
+returns-in_default g c =
+    record {
+      checked = tt;
+      content = tt;
+      unfinished = tt;
+      lives = λ t. omega arith;
+      refusal = wrong_life c.life.result c.in_default.not-Running ∙ ap (λ l. refusal_of_done (Some l)) c.life.ensures ∙ sym (ap refusal_of_done (life_is c.self.invariant c.self.view_is c.args.task c.get-item.result.now c.in-Some-Live.place (sym c.entry_of.ensures ∙ c.in-Some-Live.is ∙ ap Some c.in-Some-Live.field-0-is) c.get-item.ensures));
       value_returned = refl;
       unchanged = refl;
     }
@@ -41,39 +44,32 @@ returns-in_default g c =
 -- ---- it runs
 pub give_back-requires : goal.give_back-requires
 give_back-requires g c =
-    let s = c.self.inside in
-    (can_finish (g.S.Slots.content s.slots) (g.S.Slots.room s.slots) s.index s.results s.counts s.reserved c.self.invariant c.args.self.now.content (ap (λ v. v.content) c.self.view_is) c.args.task c.get-item.result.now c.in-Some-Live.place (sym c.entry_of.ensures ∙ c.in-Some-Live.is ∙ ap Some c.in-Some-Live.field-0-is) c.get-item.ensures (sym c.life.ensures ∙ c.in-Running.is)).0
+    (can_finish c.self.invariant c.self.view_is c.args.task c.get-item.result.now c.in-Some-Live.place (sym c.entry_of.ensures ∙ c.in-Some-Live.is ∙ ap Some c.in-Some-Live.field-0-is) c.get-item.ensures (sym c.life.ensures ∙ c.in-Running.is)).0
 
 pub set_entry-requires : goal.set_entry-requires
 set_entry-requires g c =
-    let s = c.self.inside in
-    has_entry (g.S.Slots.content s.slots) (g.S.Slots.room s.slots) s.index s.results s.counts s.reserved c.self.invariant c.args.task c.in-Some-Live.place (can_finish (g.S.Slots.content s.slots) (g.S.Slots.room s.slots) s.index s.results s.counts s.reserved c.self.invariant c.args.self.now.content (ap (λ v. v.content) c.self.view_is) c.args.task c.get-item.result.now c.in-Some-Live.place (sym c.entry_of.ensures ∙ c.in-Some-Live.is ∙ ap Some c.in-Some-Live.field-0-is) c.get-item.ensures (sym c.life.ensures ∙ c.in-Running.is)).1
+    has_entry c.self.invariant c.args.task c.in-Some-Live.place (can_finish c.self.invariant c.self.view_is c.args.task c.get-item.result.now c.in-Some-Live.place (sym c.entry_of.ensures ∙ c.in-Some-Live.is ∙ ap Some c.in-Some-Live.field-0-is) c.get-item.ensures (sym c.life.ensures ∙ c.in-Running.is)).1
 
 pub push_reserved-requires : goal.push_reserved-requires
 push_reserved-requires g c =
-    let s = c.self.inside in
-    (can_finish (g.S.Slots.content s.slots) (g.S.Slots.room s.slots) s.index s.results s.counts s.reserved c.self.invariant c.args.self.now.content (ap (λ v. v.content) c.self.view_is) c.args.task c.get-item.result.now c.in-Some-Live.place (sym c.entry_of.ensures ∙ c.in-Some-Live.is ∙ ap Some c.in-Some-Live.field-0-is) c.get-item.ensures (sym c.life.ensures ∙ c.in-Running.is)).2
+    (can_finish c.self.invariant c.self.view_is c.args.task c.get-item.result.now c.in-Some-Live.place (sym c.entry_of.ensures ∙ c.in-Some-Live.is ∙ ap Some c.in-Some-Live.field-0-is) c.get-item.ensures (sym c.life.ensures ∙ c.in-Running.is)).2
 
 pub overflow_sub-self : goal.overflow_sub-self
 overflow_sub-self g c =
-    let s = c.self.inside in
-    (can_finish (g.S.Slots.content s.slots) (g.S.Slots.room s.slots) s.index s.results s.counts s.reserved c.self.invariant c.args.self.now.content (ap (λ v. v.content) c.self.view_is) c.args.task c.get-item.result.now c.in-Some-Live.place (sym c.entry_of.ensures ∙ c.in-Some-Live.is ∙ ap Some c.in-Some-Live.field-0-is) c.get-item.ensures (sym c.life.ensures ∙ c.in-Running.is)).3
+    (can_finish c.self.invariant c.self.view_is c.args.task c.get-item.result.now c.in-Some-Live.place (sym c.entry_of.ensures ∙ c.in-Some-Live.is ∙ ap Some c.in-Some-Live.field-0-is) c.get-item.ensures (sym c.life.ensures ∙ c.in-Running.is)).3
 
 pub invariant_of-self : goal.invariant_of-self
 invariant_of-self g c =
-    let s = c.self.inside in
-    (done_all (g.S.Slots.content s.slots) (g.S.Slots.room s.slots) s.index s.results s.counts s.reserved c.self.invariant c.args.self.now.content (ap (λ v. v.content) c.self.view_is) c.args.task c.get-item.result.now c.in-Some-Live.place (sym c.entry_of.ensures ∙ c.in-Some-Live.is ∙ ap Some c.in-Some-Live.field-0-is) c.get-item.ensures (sym c.life.ensures ∙ c.in-Running.is) (g.S.Slots.content c.give_back.new.self) (g.S.Slots.room c.give_back.new.self) c.set_entry.new.index c.push_reserved.new.self c.args.value (Done c.arity.result c.class.result) c.give_back.ensures.content (ap (λ n. Done n c.class.result) c.arity.ensures ∙ ap (λ n. Done c.get-item.result.now.task.arity n) c.class.ensures.value) c.set_entry.ensures.entries c.set_entry.ensures.rooms c.push_reserved.ensures.items c.push_reserved.ensures.len c.push_reserved.ensures.capacity c.give_back.ensures.room).2
+    (done_all c.self.invariant c.self.view_is c.args.task c.get-item.result.now c.in-Some-Live.place (sym c.entry_of.ensures ∙ c.in-Some-Live.is ∙ ap Some c.in-Some-Live.field-0-is) c.get-item.ensures (sym c.life.ensures ∙ c.in-Running.is) (g.S.Slots.content c.give_back.new.self) c.set_entry.new.index c.push_reserved.new.self c.args.value (Done c.arity.result c.class.result) c.give_back.ensures.content (ap (λ n. Done n c.class.result) c.arity.ensures ∙ ap (λ n. Done c.get-item.result.now.task.arity n) c.class.ensures.value) c.set_entry.ensures.entries c.push_reserved.ensures.items c.push_reserved.ensures.len c.push_reserved.ensures.capacity).2
 
 pub returns : goal.returns
 returns g c =
-    let s = c.self.inside in
-    let all = done_all (g.S.Slots.content s.slots) (g.S.Slots.room s.slots) s.index s.results s.counts s.reserved c.self.invariant c.args.self.now.content (ap (λ v. v.content) c.self.view_is) c.args.task c.get-item.result.now c.in-Some-Live.place (sym c.entry_of.ensures ∙ c.in-Some-Live.is ∙ ap Some c.in-Some-Live.field-0-is) c.get-item.ensures (sym c.life.ensures ∙ c.in-Running.is) (g.S.Slots.content c.give_back.new.self) (g.S.Slots.room c.give_back.new.self) c.set_entry.new.index c.push_reserved.new.self c.args.value (Done c.arity.result c.class.result) c.give_back.ensures.content (ap (λ n. Done n c.class.result) c.arity.ensures ∙ ap (λ n. Done c.get-item.result.now.task.arity n) c.class.ensures.value) c.set_entry.ensures.entries c.set_entry.ensures.rooms c.push_reserved.ensures.items c.push_reserved.ensures.len c.push_reserved.ensures.capacity c.give_back.ensures.room in
+    let all = done_all c.self.invariant c.self.view_is c.args.task c.get-item.result.now c.in-Some-Live.place (sym c.entry_of.ensures ∙ c.in-Some-Live.is ∙ ap Some c.in-Some-Live.field-0-is) c.get-item.ensures (sym c.life.ensures ∙ c.in-Running.is) (g.S.Slots.content c.give_back.new.self) c.set_entry.new.index c.push_reserved.new.self c.args.value (Done c.arity.result c.class.result) c.give_back.ensures.content (ap (λ n. Done n c.class.result) c.arity.ensures ∙ ap (λ n. Done c.get-item.result.now.task.arity n) c.class.ensures.value) c.set_entry.ensures.entries c.push_reserved.ensures.items c.push_reserved.ensures.len c.push_reserved.ensures.capacity in
     record {
-      checked = ap refusal_of_done (life_is (g.S.Slots.content s.slots) (g.S.Slots.room s.slots) s.index s.results s.counts s.reserved c.self.invariant c.args.self.now.content (ap (λ v. v.content) c.self.view_is) c.args.task c.get-item.result.now c.in-Some-Live.place (sym c.entry_of.ensures ∙ c.in-Some-Live.is ∙ ap Some c.in-Some-Live.field-0-is) c.get-item.ensures ∙ ap Some (sym c.life.ensures ∙ c.in-Running.is));
+      checked = ap refusal_of_done (life_is c.self.invariant c.self.view_is c.args.task c.get-item.result.now c.in-Some-Live.place (sym c.entry_of.ensures ∙ c.in-Some-Live.is ∙ ap Some c.in-Some-Live.field-0-is) c.get-item.ensures ∙ ap Some (sym c.life.ensures ∙ c.in-Running.is));
       content = all.0;
       unfinished = all.1;
-      lives = subst (λ v. NoneGoesBack c.args.self.now.content v) (sym all.0) (done_goes_on c.args.self.now.content c.args.task c.args.value);
-      reserved = ap (λ v. v.reserved) c.self.view_is;
+      lives = subst (λ v. NoneGoesBack c.args.self.now v) (sym all.0) (done_goes_on c.args.self.now c.args.task c.args.value);
       refusal = tt;
       value_returned = tt;
       unchanged = tt;

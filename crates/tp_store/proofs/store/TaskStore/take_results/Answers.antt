@@ -4,11 +4,11 @@ use Rattle.tp_store.proofs.store.TaskStore.take_results.Goals as goal
 
 pub invariant_of-self : goal.invariant_of-self
 invariant_of-self g c =
-    IsKept-new (g.S.Slots.content c.new.result) (g.S.Slots.room c.new.result) c.new-2.result c.replace.new.dest c.new.ensures c.new-2.ensures
+    IsKept-new (g.S.Slots.content c.new.result) c.new-2.result c.replace.new.dest c.new.ensures c.new-2.ensures
     (ap (λ v. v.items) c.replace.ensures.after ∙ c.new-3.ensures.items)
     (ap vec_len c.replace.ensures.after ∙ c.new-3.ensures.len)
 
 pub returns-clause-emptied : goal.returns-clause-emptied
 returns-clause-emptied g c =
-    nothing_kept (g.S.Slots.content c.new.result) (g.S.Slots.room c.new.result) c.new-2.result c.replace.new.dest c.new.ensures c.new-2.ensures
+    nothing_kept (g.S.Slots.content c.new.result) c.new-2.result c.replace.new.dest c.new.ensures c.new-2.ensures
     (ap (λ v. v.items) c.replace.ensures.after ∙ c.new-3.ensures.items)

@@ -1,6 +1,5 @@
-//! The room that is made for a task before it comes.
-ghost use Rattle.std.specs.Prelude.{◌≡◌, ◌<◌, ◌≤◌, ◌+◌, ℕ, ◌==◌, ◌&&◌, false, None, unwrap_or, IsSome, OnOk, OnErr, IfOk, IfErr, vec_len, vec_capacity};
-ghost use Rattle.std.specs.Option.{option_map};
+//! The room that is made for a new task.
+ghost use Rattle.std.specs.Prelude.{◌≡◌, ◌<◌, ◌≤◌, ◌+◌, ℕ, None, IsSome, OnOk, IfOk, IfErr, vec_len, vec_capacity};
 ghost use Rattle.tp_base.specs.Table.{lookup};
 ghost use Rattle.tp_slots.specs.Content.{held_count, refusal_of_take};
 ghost use Rattle.tp_store.specs.Content.{fresh};
@@ -12,16 +11,6 @@ use std::alloc::Global;
 use std::default::MadeWith;
 use tp_base::{CLASSES, MAX_INPUTS, MAX_LIVE_TASKS, Refusal, TaskId};
 use tp_slots::Slots;
-
-/// Whether the item is made for this task with so many inputs.
-pub(crate) fn is_made_for<V>(reserved: &Option<TaskItem<V>>, task: TaskId, arity: u8) -> bool
-    ensures { result ≡ unwrap_or (option_map (λ i. (i.number.0 == task.0) && (i.task.arity == arity)) reserved.now) false }
-{
-    match reserved {
-        Some(item) => item.number() == task && item.arity() == arity,
-        None => false,
-    }
-}
 
 /// Makes room for a task that is not known in the slots and under its number, and for so many more results. The item that
 /// comes back has room for the inputs.
@@ -42,14 +31,12 @@ pub(crate) fn make_item<S: Slots<TaskItem<V>>, V: MadeWith<Global> + Drop>(
     ensures slots { S.content slots.new ≡ S.content slots.old }
     ensures room { OnOk result (0 < S.room slots.new) }
     ensures not_full { OnOk result (held_count (S.content slots.old) < MAX_LIVE_TASKS) }
-    ensures had_room { OnErr result (0 < S.room slots.old → 0 < S.room slots.new) }
     ensures results { results.new.items ≡ results.old.items }
     ensures len { vec_len results.new ≡ vec_len results.old }
     ensures capacity { vec_capacity results.old ≤ vec_capacity results.new }
     ensures space { OnOk result (vec_len results.old + more ≤ vec_capacity results.new) }
     ensures entries { (q : ℕ) → entry_at index.new q ≡ entry_at index.old q }
     ensures entry { OnOk result (IsSome (lookup index.new task.0)) }
-    ensures had_entry { (q : ℕ) → IsSome (lookup index.old q) → IsSome (lookup index.new q) }
     ensures refusal { IfErr result (λ e. e ≡ refusal_of_take (S.content slots.old)) }
 {
     slots.reserve()?;
