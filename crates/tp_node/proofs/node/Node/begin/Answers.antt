@@ -1,3 +1,4 @@
+use Rattle.std.proofs.Common.{rules}
 use Rattle.tp_node.proofs.Kept.{begun_keeps}
 use Rattle.tp_node.proofs.Right.{ready_inputs}
 use Rattle.tp_node.proofs.node.Node.begin.Goals as goal
@@ -10,3 +11,6 @@ new-requires-clause-right g c κs within = (ready_inputs _ _ _ _ c.self.invarian
 
 pub invariant_of-self : goal.invariant_of-self
 invariant_of-self g c = begun_keeps _ _ _ _ _ _ _ _ _ _ c.self.invariant c.in-Some.ensures.begun c.in-Ok.ensures.shares c.in-Some.ensures.counted
+
+pub returns-clause-begun : goal.returns-clause-begun
+returns-clause-begun g c = search rules

@@ -1,4 +1,4 @@
-use Rattle.std.proofs.Common.{subst}
+use Rattle.std.proofs.Common.{subst, rules}
 use Rattle.std.specs.Prelude.{Result, Err}
 use Rattle.tp_base.specs.declared.refusal.Refusal.{Refusal}
 use Rattle.tp_graph.specs.Carried.{Carried}
@@ -13,3 +13,9 @@ returns-in-Err-clause-refusal g c =
     subst (λ (f : Feed). AnswersWith {A = Unit {0}} (deliver_checks (g.G.Graph.meaning c.args.self.now.graph) c.args.self.now c.args.board.now f) c.args.parcel (Err (c.in-Err.refusal, c.args.parcel)))
     c.feed-feed.ensures.same
     (refused_with (Unit {0}) (deliver_checks (g.G.Graph.meaning c.args.self.now.graph) c.args.self.now c.args.board.now c.feed-feed.result) c.in-Err.refusal c.args.parcel c.in-Err.ensures.refusal)
+
+pub returns-in-Ok-clause-events : goal.returns-in-Ok-clause-events
+returns-in-Ok-clause-events g c = search rules
+
+pub returns-in-Ok-clause-delivered : goal.returns-in-Ok-clause-delivered
+returns-in-Ok-clause-delivered g c = search rules
