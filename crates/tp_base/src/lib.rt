@@ -19,6 +19,3 @@ pub use refusal::Refusal;
 pub use step::Step;
 pub use sums::Sums;
 pub use table::Table;
-
-#[cfg(test)]
-mod tests;

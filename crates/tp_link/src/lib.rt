@@ -3,8 +3,6 @@
 
 mod link;
 mod routed;
-#[cfg(test)]
-mod tests;
 
 pub use link::Link;
 pub use routed::Routed;

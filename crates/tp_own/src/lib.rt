@@ -5,9 +5,6 @@ ghost use Rattle.std.specs.Prelude.{◌≡◌};
 ghost use Rattle.std.proofs.Common.{rules};
 ghost use Rattle.tp_own.specs.Chains.{chain_graph, chain_lawful};
 
-#[cfg(test)]
-mod tests;
-
 use std::alloc::Global;
 use tp_base::{NodeId, Refusal, TaskId};
 use tp_graph::{Graph, Value};

@@ -9,8 +9,6 @@ mod product;
 mod reduce;
 mod result_table;
 mod table;
-#[cfg(test)]
-mod tests;
 mod wavefront;
 mod words;
 

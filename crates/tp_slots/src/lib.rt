@@ -4,8 +4,6 @@
 mod run;
 mod slab_slots;
 mod slots;
-#[cfg(test)]
-mod tests;
 
 pub use run::{Command, Reply, run_slots};
 pub use slab_slots::SlabSlots;

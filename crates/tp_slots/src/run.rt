@@ -7,9 +7,6 @@ use std::alloc::Global;
 use std::collections::BTreeMap;
 use tp_base::{CLASSES, Refusal};
 
-#[cfg(test)]
-mod tests;
-
 /// A command. Items go by the number of their take, counted from 0, refused takes included.
 #[derive(Clone, Copy, Debug, PartialEq, Eq)]
 pub enum Command {

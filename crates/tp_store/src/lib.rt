@@ -8,8 +8,6 @@ mod life;
 mod places;
 mod room;
 mod store;
-#[cfg(test)]
-mod tests;
 
 pub use item::TaskItem;
 pub use life::{Counts, Delivered, Life};

@@ -1,24 +1,28 @@
 ghost use Rattle.std.specs.Prelude.{◌<◌, ◌≤◌, ◌*◌};
 
-use crate::{Product, Wavefront, checked};
 use std::test::Fail;
 use tp_base::{MAX_NODES, NodeId, Refusal, TaskId};
 use tp_graph::Graph;
+use tp_samples::{Product, Wavefront, checked};
 
 #[test]
 fn words_out_of_the_rules_are_refused(rt: HostRuntime) -> Result<(), Fail> {
-    assert_eq!(rt; checked("product:6:4:0"), Err(Refusal::BadSpec));
-    assert_eq!(rt; checked("reduce:3:0"), Err(Refusal::BadSpec));
-    assert_eq!(rt; checked("wavefront:0:1:0"), Err(Refusal::BadSpec));
-    assert_eq!(rt; checked("product:02:1:0"), Err(Refusal::BadSpec));
-    assert_eq!(rt; checked("reduce:4:0:"), Err(Refusal::BadSpec));
-    assert_eq!(rt; checked("reduce:4:+0"), Err(Refusal::BadSpec));
-    assert_eq!(rt; checked("reduce:4"), Err(Refusal::BadSpec));
+    for word in [
+        "product:6:4:0",
+        "reduce:3:0",
+        "wavefront:0:1:0",
+        "product:02:1:0",
+        "reduce:4:0:",
+        "reduce:4:+0",
+        "reduce:4",
+    ] {
+        assert_eq!(rt; checked(word), Err(Refusal::BadSpec), "at {word}");
+    }
     Ok(())
 }
 
 /// Where a task of a product runs.
-#[tactic(auto, unfolding(crate::specs::Products::product_graph))]
+#[tactic(auto, unfolding(tp_samples::specs::Products::product_graph))]
 fn product_home(product: Product, task: u32, nodes: u32) -> NodeId
     requires known { task < product.tiles * product.tiles * product.tiles }
     requires some { 1 ≤ nodes }
@@ -28,7 +32,7 @@ fn product_home(product: Product, task: u32, nodes: u32) -> NodeId
 }
 
 /// Where a task of a wavefront runs.
-#[tactic(auto, unfolding(crate::specs::Waves::wavefront_graph))]
+#[tactic(auto, unfolding(tp_samples::specs::Waves::wavefront_graph))]
 fn wavefront_home(wavefront: Wavefront, task: u32, nodes: u32) -> NodeId
     requires known { task < wavefront.rows * wavefront.columns }
     requires some { 1 ≤ nodes }
