@@ -6,8 +6,6 @@ mod command;
 mod request;
 mod run;
 mod status;
-#[cfg(test)]
-mod tests;
 
 pub use cli::main_with;
 pub use status::Status;

@@ -9,8 +9,6 @@ mod number;
 mod parse;
 mod printing;
 mod simulation;
-#[cfg(test)]
-mod tests;
 mod verdict;
 mod words;
 
