@@ -71,7 +71,6 @@ fn a_task_from_its_first_input_to_its_result(rt: HostRuntime) -> Result<(), Fail
 #[derive(Clone, Copy)]
 enum Call {
     HasReady,
-    Reserve,
     Insert,
     Life,
     Check,
@@ -89,7 +88,6 @@ enum Reply {
 fn reply_to(store: &mut Store, call: Call) -> Reply {
     match call {
         Call::HasReady => Reply::Ready(store.has_ready()),
-        Call::Reserve => Reply::Plain(store.reserve(FOUR, 0)),
         Call::Insert => Reply::Plain(store.insert(FOUR, 3)),
         Call::Life => Reply::Life(store.life(FOUR)),
         Call::Check => Reply::Plain(store.check(FOUR, 1, 0)),
@@ -100,8 +98,6 @@ fn reply_to(store: &mut Store, call: Call) -> Reply {
 fn an_input_free_task_is_ready_at_once(rt: HostRuntime) -> Result<(), Fail> {
     let mut store = Store::new(rt.alloc());
     for (call, wanted) in [
-        (Call::HasReady, Reply::Ready(false)),
-        (Call::Reserve, Reply::Plain(Ok(()))),
         (Call::HasReady, Reply::Ready(false)),
         (Call::Insert, Reply::Plain(Ok(()))),
         (Call::HasReady, Reply::Ready(true)),

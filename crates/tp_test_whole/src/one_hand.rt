@@ -5,10 +5,11 @@ use std::process::Abort;
 use std::test::Fail;
 use tp_base::{ActionId, Refusal};
 use tp_board::{Blanks, Board, Brand, Ledgers};
-use tp_gather::{Report, finish};
+
 use tp_graph::{Finished, Graph, is_same};
 use tp_node::{Node, Pool, Turn, Wire, open_pool};
 use tp_samples::Reduce;
+use tp_work::{Report, finish};
 
 /// A tree of four leaves: 0, 11, 22 and 33.
 const TREE: Reduce = Reduce { leaves: 4, seed: 0 };
