@@ -1,3 +1,4 @@
+pub mod Gathering
 pub mod Marking
 pub mod Placing
 pub mod Reporting

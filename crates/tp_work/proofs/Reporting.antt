@@ -9,11 +9,11 @@ use Rattle.tp_node.specs.Nodes.{NodeState}
 use Rattle.tp_node.specs.Wires.{WireState}
 use Rattle.tp_wave.specs.Machine.{pending_at}
 use Rattle.tp_wave.specs.Sums.{total}
-use Rattle.tp_gather.proofs.Gathering.{sum_by-map}
+use Rattle.tp_work.proofs.Gathering.{sum_by-map}
 use Rattle.tp_work.proofs.Placing.{sum_by-same, total-range}
 use Rattle.tp_work.specs.Places.{AreInOrder}
-use Rattle.tp_gather.specs.Reports.{AreOfTheRun, IsGathered, IsOfItsRun, IsReport}
-use Rattle.tp_gather.specs.declared.gathered.Report.{Report}
+use Rattle.tp_work.specs.Reports.{AreOfTheRun, IsGathered, IsOfItsRun, IsReport}
+use Rattle.tp_work.specs.declared.gathered.Report.{Report}
 use Rattle.std.specs.List.{range_with_len}
 
 module _ {G : Type 0} where

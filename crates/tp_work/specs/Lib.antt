@@ -1,3 +1,4 @@
 pub mod Feeds
 pub mod Places
+pub mod Reports
 pub mod Outcomes

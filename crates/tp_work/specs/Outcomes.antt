@@ -10,11 +10,11 @@ use Rattle.tp_graph.specs.Serial.{AreRight, Results}
 use Rattle.tp_wave.specs.Machine.{IsRun, steps_of}
 use Rattle.tp_wave.specs.Steps.{count}
 use Rattle.tp_wave.specs.Sums.{is_ended}
-use Rattle.tp_gather.specs.Reports.{IsReport}
+use Rattle.tp_work.specs.Reports.{IsReport}
 use Rattle.tp_work.specs.declared.config.Config.{Config}
 use Rattle.tp_work.specs.declared.config.Fault.{Fault}
 use Rattle.tp_work.specs.declared.config.Outcome.{Outcome}
-use Rattle.tp_gather.specs.declared.gathered.Report.{Report}
+use Rattle.tp_work.specs.declared.gathered.Report.{Report}
 
 -- how a pool may run
 pub record IsWithinLimits (c : Config) : Type 0 where

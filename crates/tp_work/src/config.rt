@@ -1,5 +1,5 @@
+use crate::gathered::Report;
 use tp_base::{History, Refusal, TaskId};
-use tp_gather::Report;
 use tp_graph::Value;
 
 /// How a pool runs.

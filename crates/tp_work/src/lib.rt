@@ -1,8 +1,9 @@
-//! A pool's run by worker threads.
+//! A pool's run by worker threads, and what its nodes, its links and its board add up to in one hand.
 #![tactic(auto)]
 
 mod config;
 mod gate;
+mod gathered;
 mod locks;
 mod once;
 mod run;
@@ -10,5 +11,5 @@ mod worker;
 
 pub use config::{Config, Fault, Outcome};
 pub use gate::{Gate, OpenGate};
+pub use gathered::{Report, finish};
 pub use run::run_pool;
-pub use tp_gather::{Report, finish};

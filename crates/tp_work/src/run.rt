@@ -1,9 +1,10 @@
 ghost use Rattle.std.specs.Prelude.{◌≡◌, ◌≤◌, IfErr, IfOk, MatchOption, None};
 ghost use Rattle.tp_work.specs.Outcomes.{IsComplete, IsFault, IsLack, IsOutcome, IsUngathered, IsWithinLimits};
-ghost use Rattle.tp_gather.specs.Reports.{IsReport};
+ghost use Rattle.tp_work.specs.Reports.{IsReport};
 
 use crate::config::{Config, Fault, Outcome};
 use crate::gate::Gate;
+use crate::gathered::{Report, finish};
 use crate::locks::{Locks, Room, check_places};
 use crate::once::each_once;
 use crate::worker::{Worker, set_fault};
@@ -13,7 +14,6 @@ use std::thread;
 use std::thread::Threads;
 use tp_base::{MAX_STEPS, NodeId, Refusal};
 use tp_board::{Blanks, Brand, Ledgers};
-use tp_gather::{Report, finish};
 use tp_graph::Graph;
 use tp_node::open_pool;
 

@@ -1,14 +1,14 @@
 use Rattle.std.proofs.Common.{rules, ◌≡◌, ◌∙◌, ◌*◌, ◌-◌, ℕ, IfErr, Result, inr, sym, ap, subst, length, vec_len}
 use Rattle.std.proofs.lemmas.Result.{err_from_is_err_and}
 use Rattle.tp_base.specs.declared.refusal.Refusal.{Refusal}
-use Rattle.tp_gather.specs.declared.gathered.Report.{Report}
+use Rattle.tp_work.specs.declared.gathered.Report.{Report}
 use Rattle.tp_work.specs.Outcomes.{IsUngathered}
 use Rattle.std.proofs.lemmas.List.{length-map}
 use Rattle.tp_board.specs.Numbers.{first_links, first_shares}
 use Rattle.tp_ledgers.specs.Names.{PoolNames}
 use Rattle.tp_work.proofs.Placing.{length-first_links, length-first_shares}
 use Rattle.tp_work.proofs.Reporting.{is_report}
-use Rattle.tp_gather.specs.Reports.{IsReport}
+use Rattle.tp_work.specs.Reports.{IsReport}
 use Rattle.tp_work.proofs.run.run.Goals as goal
 
 nodes_of : (g : _) (c : goal.In_ok-check_places g) → g.K.Ledgers.names.nodes ≡ c.args.config.nodes

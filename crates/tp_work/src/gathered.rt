@@ -4,7 +4,7 @@ ghost use Rattle.tp_base.specs.declared.refusal.Refusal.TheVariants.{NoMemory};
 ghost use Rattle.tp_graph.specs.Serial.{AreRight};
 ghost use Rattle.tp_node.specs.Nodes.{counted_of};
 ghost use Rattle.tp_node.specs.Wires.{link_of};
-ghost use Rattle.tp_gather.specs.Reports.{AreOfTheRun, IsGathered, IsOfItsRun};
+ghost use Rattle.tp_work.specs.Reports.{AreOfTheRun, IsGathered, IsOfItsRun};
 
 use std::alloc::{AllocError, Global};
 use tp_base::{History, Refusal, TaskId};

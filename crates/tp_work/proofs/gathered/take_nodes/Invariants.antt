@@ -3,7 +3,7 @@ use Rattle.std.specs.List.{All, flat_map}
 use Rattle.std.specs.Vec.Iter.{into_iter_items}
 use Rattle.tp_graph.specs.Serial.{AreRight}
 use Rattle.tp_node.specs.Nodes.{counted_of}
-use Rattle.tp_gather.proofs.gathered.take_nodes.Given as goal
+use Rattle.tp_work.proofs.gathered.take_nodes.Given as goal
 
 abbrev pub invariant-loop-node : goal.invariant-loop-node
 invariant-loop-node g l =

@@ -12,7 +12,7 @@ use Rattle.tp_wave.specs.Cut.{IsQuiet}
 use Rattle.tp_wave.specs.Machine.{IsRun, pending_at, steps_of, under_way}
 use Rattle.tp_wave.specs.Steps.{count}
 use Rattle.tp_wave.specs.Sums.{is_ended, total}
-use Rattle.tp_gather.specs.declared.gathered.Report.{Report}
+use Rattle.tp_work.specs.declared.gathered.Report.{Report}
 
 -- The report has the sums over the nodes and the links, each counted over its own state, and the results of all nodes. Fault
 -- and events are the board's.

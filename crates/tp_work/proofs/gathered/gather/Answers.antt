@@ -5,8 +5,8 @@ use Rattle.tp_board.specs.Numbers.{LinkNumbers, NodeNumbers}
 use Rattle.tp_node.specs.Nodes.{counted_of}
 use Rattle.tp_node.specs.Wires.{link_of}
 use Rattle.tp_wave.specs.Machine.{pending_at}
-use Rattle.tp_gather.proofs.Gathering.{All-of_map, done_by, sum_by-map}
-use Rattle.tp_gather.proofs.gathered.gather.Goals as goal
+use Rattle.tp_work.proofs.Gathering.{All-of_map, done_by, sum_by-map}
+use Rattle.tp_work.proofs.gathered.gather.Goals as goal
 
 pub returns-clause-gathered : goal.returns-clause-gathered
 returns-clause-gathered g c =

@@ -1,6 +1,0 @@
-//! A pool in one hand: what its nodes, its links and its board add up to.
-#![tactic(auto)]
-
-mod gathered;
-
-pub use gathered::{Report, finish};
