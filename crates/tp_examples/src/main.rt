@@ -1,38 +1,30 @@
-//! Runs the rows of the command line one after the other, and prints what is answered to each: what was written, after `! `
-//! each line of what was complained of, and the exit status.
+//! Runs the rows of the command line one after the other, and prints what is answered to each.
 #![tactic(auto)]
 
 mod answer;
 mod rows;
 
-use crate::answer::answer_to;
-use crate::rows::{HELP, RUNS, SCRIPTS, TEXTS, WRONG_WORDS};
-use std::{fs, io};
+use crate::answer::print_answer;
+use crate::rows::{COMMANDS, SCRIPTS, TEXTS, Told};
+use std::fs;
+use std::io::{self, Write};
+
+const SIM: [&str; 2] = ["tp", "sim"];
 
 fn main(rt: HostRuntime) -> io::Result<()> {
-    let sim = ["tp", "sim"];
+    let mut out = rt.stdout();
     for name in &SCRIPTS {
-        let mut script = fs::open(&rt, *name)?;
-        let answer = answer_to(&rt, rt.alloc(), &sim, &mut script)?;
-        print!(rt; "== {name}\n{answer}")?;
+        let script = fs::read_to_string(&rt, *name)?;
+        writeln!(out, "== {name}")?;
+        print_answer(&rt, rt.alloc(), &mut out, &SIM, &script, Told::Whole)?;
     }
     for (name, text) in &TEXTS {
-        let answer = answer_to(&rt, rt.alloc(), &sim, &mut text.as_bytes())?;
-        print!(rt; "== {name}\n{answer}")?;
+        writeln!(out, "== {name}")?;
+        print_answer(&rt, rt.alloc(), &mut out, &SIM, text, Told::Whole)?;
     }
-    for (name, words) in &RUNS {
-        let answer = answer_to(&rt, rt.alloc(), words, &mut io::empty())?;
-        print!(rt; "== {name}\n{answer}")?;
-    }
-    for (name, words) in &WRONG_WORDS {
-        let answer = answer_to(&rt, rt.alloc(), words, &mut io::empty())?;
-        let answer = answer.with_wrong_words_told(rt.alloc())?;
-        print!(rt; "== {name}\n{answer}")?;
-    }
-    for (name, words, word) in &HELP {
-        let answer = answer_to(&rt, rt.alloc(), words, &mut io::empty())?;
-        let answer = answer.with_help_told_by(rt.alloc(), word)?;
-        print!(rt; "== {name}\n{answer}")?;
+    for (name, words, told) in &COMMANDS {
+        writeln!(out, "== {name}")?;
+        print_answer(&rt, rt.alloc(), &mut out, words, "", *told)?;
     }
     Ok(())
 }

@@ -45,8 +45,20 @@ pub(crate) static TEXTS: [(&str, &str); 15] = [
     ("a-step-without-its-node", "nodes 1\nready 0\nready 0\nup\n"),
 ];
 
-/// Runs of pools, and words that name no pool.
-pub(crate) static RUNS: [(&str, &[&str]); 16] = [
+/// How much of an answer is told.
+#[derive(Clone, Copy)]
+pub(crate) enum Told {
+    /// All of it.
+    Whole,
+    /// Of the parser's own text, which says what is wrong with the words, that it speaks of help and of no refusal.
+    WrongWords,
+    /// Of the help, which is long, that this stands in it.
+    Help(&'static str),
+}
+
+/// Words of command lines: runs of pools, words that name no pool, words that are of no command line, and words that ask for
+/// help.
+pub(crate) static COMMANDS: [(&str, &[&str], Told); 27] = [
     (
         "a-product-in-tiles",
         &[
@@ -58,26 +70,43 @@ pub(crate) static RUNS: [(&str, &[&str]); 16] = [
             "--workers",
             "2",
         ],
+        Told::Whole,
     ),
     (
         "a-product-in-one-tile",
         &["tp", "run", "product:2:2:0", "--nodes", "2"],
+        Told::Whole,
     ),
     (
         "a-wavefront",
         &["tp", "run", "wavefront:2:3:0", "--nodes", "2"],
+        Told::Whole,
     ),
     (
         "a-tree-of-sums",
         &["tp", "run", "reduce:4:0", "--nodes", "2", "--workers", "3"],
+        Told::Whole,
     ),
-    ("a-tree-of-sums-at-one-node", &["tp", "run", "reduce:4:0"]),
-    ("a-product-of-one-task", &["tp", "run", "product:1:1:9999"]),
+    (
+        "a-tree-of-sums-at-one-node",
+        &["tp", "run", "reduce:4:0"],
+        Told::Whole,
+    ),
+    (
+        "a-product-of-one-task",
+        &["tp", "run", "product:1:1:9999"],
+        Told::Whole,
+    ),
     (
         "a-wavefront-of-one-task",
         &["tp", "run", "wavefront:1:1:9999"],
+        Told::Whole,
     ),
-    ("a-tree-of-one-task", &["tp", "run", "reduce:1:9999"]),
+    (
+        "a-tree-of-one-task",
+        &["tp", "run", "reduce:1:9999"],
+        Told::Whole,
+    ),
     (
         "eight-nodes-with-eight-workers-make-the-same-product-in-tiles",
         &[
@@ -89,6 +118,7 @@ pub(crate) static RUNS: [(&str, &[&str]); 16] = [
             "--workers",
             "8",
         ],
+        Told::Whole,
     ),
     (
         "eight-nodes-with-eight-workers-make-the-same-product-in-one-tile",
@@ -101,6 +131,7 @@ pub(crate) static RUNS: [(&str, &[&str]); 16] = [
             "--workers",
             "8",
         ],
+        Told::Whole,
     ),
     (
         "eight-nodes-with-eight-workers-make-the-same-wavefront",
@@ -113,64 +144,74 @@ pub(crate) static RUNS: [(&str, &[&str]); 16] = [
             "--workers",
             "8",
         ],
+        Told::Whole,
     ),
     (
         "eight-nodes-with-eight-workers-make-the-same-sum",
         &["tp", "run", "reduce:4:0", "--nodes", "8", "--workers", "8"],
+        Told::Whole,
     ),
     (
         "a-side-that-does-not-divide-the-order",
         &["tp", "run", "product:6:4:0"],
+        Told::Whole,
     ),
     (
         "leaves-that-are-no-power-of-two",
         &["tp", "run", "reduce:3:0"],
+        Told::Whole,
     ),
     (
         "a-wavefront-without-rows",
         &["tp", "run", "wavefront:0:1:0"],
+        Told::Whole,
     ),
     (
         "an-order-with-a-leading-zero",
         &["tp", "run", "product:02:1:0"],
+        Told::Whole,
     ),
-];
-
-/// Words that are of no command line.
-pub(crate) static WRONG_WORDS: [(&str, &[&str]); 8] = [
-    ("no-subcommand", &["tp"]),
-    ("an-unknown-subcommand", &["tp", "simulate"]),
-    ("a-word-too-many", &["tp", "sim", "more"]),
-    ("a-run-of-nothing", &["tp", "run"]),
+    ("no-subcommand", &["tp"], Told::WrongWords),
+    (
+        "an-unknown-subcommand",
+        &["tp", "simulate"],
+        Told::WrongWords,
+    ),
+    ("a-word-too-many", &["tp", "sim", "more"], Told::WrongWords),
+    ("a-run-of-nothing", &["tp", "run"], Told::WrongWords),
     (
         "a-run-at-nine-nodes",
         &["tp", "run", "reduce:4:0", "--nodes", "9"],
+        Told::WrongWords,
     ),
     (
         "a-run-at-no-nodes",
         &["tp", "run", "reduce:4:0", "--nodes", "0"],
+        Told::WrongWords,
     ),
     (
         "a-run-with-workers-in-letters",
         &["tp", "run", "reduce:4:0", "--workers", "two"],
+        Told::WrongWords,
     ),
     (
         "a-run-of-no-pool-at-nine-nodes",
         &["tp", "run", "product:6:4:0", "--nodes", "9"],
+        Told::WrongWords,
     ),
-];
-
-/// Words that ask for help, and what stands in it.
-pub(crate) static HELP: [(&str, &[&str], &str); 3] = [
-    ("help-goes-to-the-output", &["tp", "--help"], "sim"),
+    (
+        "help-goes-to-the-output",
+        &["tp", "--help"],
+        Told::Help("sim"),
+    ),
     (
         "help-of-sim-goes-to-the-output",
         &["tp", "sim", "--help"],
-        "insert I T K",
+        Told::Help("insert I T K"),
     ),
     (
         "help-of-run-goes-to-the-output",
         &["tp", "run", "--help"],
-        "wavefront:ROWS:COLUMNS:SEED",
+        Told::Help("wavefront:ROWS:COLUMNS:SEED"),
     ),
 ];

@@ -5,84 +5,51 @@ use std::sync::Wait;
 use std::thread::Threads;
 use tp_cli::main_with;
 
-/// What was answered to the words of a command line.
-#[derive(Debug, PartialEq, Eq, Drop)]
-struct Answer {
-    status: u8,
-    output: Vec<u8>,
-    complaints: Vec<u8>,
-}
-
-/// The answer to a script that is read so.
-fn answer_to_script<R: Threads + Wait + Sync, I: Read>(
+/// Whether the answer to a script that is read so is this complaint alone, with status 1.
+fn is_told<R: Threads + Wait + Sync, I: Read>(
     rt: &R,
     alloc: Global,
     reader: &mut I,
-) -> Answer {
-    let mut output = Vec::new(alloc);
-    let mut complaints = Vec::new(alloc);
+    complaint: &[u8],
+) -> bool {
+    let mut out = Vec::new(alloc);
+    let mut err = Vec::new(alloc);
     let words = ["tp", "sim"];
-    let status = main_with(rt, alloc, &words, reader, &mut output, &mut complaints);
-    Answer {
-        status,
-        output,
-        complaints,
-    }
+    let status = main_with(rt, alloc, &words, reader, &mut out, &mut err);
+    status == 1 && out.is_empty() && err.as_slice() == complaint
 }
 
-/// The status and the complaints where the output cannot be written.
-fn unwritten<R: Threads + Wait + Sync>(
+/// Whether it is told, with status 1, that the answer to these words and this input could not be written.
+fn is_told_unwritten<R: Threads + Wait + Sync>(
     rt: &R,
     alloc: Global,
     words: &[&str],
-    script: &str,
-) -> (u8, Vec<u8>) {
+    input: &str,
+) -> bool {
+    let mut reader = input.as_bytes();
     let mut writer = Narrow {
         room: 0,
         fault: ErrorKind::StorageFull,
     };
-    let mut complaints = Vec::new(alloc);
-    let mut reader = script.as_bytes();
-    let status = main_with(rt, alloc, words, &mut reader, &mut writer, &mut complaints);
-    (status, complaints)
+    let mut err = Vec::new(alloc);
+    let status = main_with(rt, alloc, words, &mut reader, &mut writer, &mut err);
+    status == 1 && err.as_slice() == b"fault write\n"
 }
 
 #[test]
-fn a_script_that_cannot_be_read(rt: HostRuntime) {
+fn faults_of_reading(rt: HostRuntime) {
     let mut broken = Hindered {
         interruptions: 0,
         bytes: b"",
         fails: true,
     };
-    let answer = answer_to_script(&rt, rt.alloc(), &mut broken);
-    assert_eq!(rt;
-        (
-            answer.status,
-            answer.output.len(),
-            answer.complaints.as_slice()
-        ),
-        (1, 0, b"fault read\n".as_slice())
-    );
-    let answer = answer_to_script(&rt, rt.alloc(), &mut io::repeat(b' '));
-    assert_eq!(rt;
-        (
-            answer.status,
-            answer.output.len(),
-            answer.complaints.as_slice()
-        ),
-        (1, 0, b"fault too long\n".as_slice())
-    );
+    let mut endless = io::repeat(b' ');
+    assert!(rt; is_told(&rt, rt.alloc(), &mut broken, b"fault read\n"));
+    assert!(rt; is_told(&rt, rt.alloc(), &mut endless, b"fault too long\n"));
 }
 
 #[test]
-fn an_answer_that_cannot_be_written(rt: HostRuntime) {
-    let sim: &[&str] = &["tp", "sim"];
-    let run: &[&str] = &["tp", "run", "reduce:4:0"];
-    for (words, script) in [(sim, "nodes 1\n"), (run, "")] {
-        let (status, complaints) = unwritten(&rt, rt.alloc(), words, script);
-        assert_eq!(rt;
-            (status, complaints.as_slice()),
-            (1, b"fault write\n".as_slice())
-        );
-    }
+fn faults_of_writing(rt: HostRuntime) {
+    assert!(rt; is_told_unwritten(&rt, rt.alloc(), &["tp", "sim"], "nodes 1\n"));
+    assert!(rt; is_told_unwritten(&rt, rt.alloc(), &["tp", "run", "reduce:4:0"], ""));
 }
