@@ -33,7 +33,7 @@ fn is_told_unwritten<R: Threads + Wait + Sync>(
     };
     let mut err = Vec::new(alloc);
     let status = main_with(rt, alloc, words, &mut reader, &mut writer, &mut err);
-    status == 1 && err.as_slice() == b"fault write\n"
+    status == 1 && err.as_slice() == b"fault write\n".as_slice()
 }
 
 #[test]
