@@ -22,8 +22,9 @@ demo:
 test:
 	@tools/try-all.py
 
+# (one job a check: each further job of a check loads the libraries anew)
 gate:
-	rt ci
+	RT_JOBS=$$(tools/lanes.sh) rt ci
 
 times:
 	tools/gate-times.py

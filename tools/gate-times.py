@@ -1,7 +1,7 @@
 #!/usr/bin/env python3
 """Runs the gate and tells its processor seconds by crate: for the proof, for the tests and for the wrong bodies.
 
-    tools/gate-times.py [--edits] [COMMAND ..]      the command is `rt ci` where none is given
+    tools/gate-times.py [--edits] [COMMAND ..]      the command is `make gate` where none is given
 
 What the command prints goes through. The table comes last, on standard error; with --edits a line for each wrong body comes before it. The processes
 below the command are looked at four times a second, so a process may have run for a quarter of a second more than is told; the total is exact.
@@ -109,7 +109,7 @@ def tell(watch, wall, exact):
 
 def main(words):
     has_edits = words[:1] == ["--edits"]
-    words = words[has_edits:] or ["rt", "ci"]
+    words = words[has_edits:] or ["make", "gate"]
     started = time.time()
     ran = subprocess.Popen(words, stdin=subprocess.DEVNULL)
     watch = Watch(ran.pid)
