@@ -115,24 +115,26 @@ fn start_workers<G: Graph, K: Ledgers + Send + Sync, A: Gate, R: Threads + Wait 
     requires limits { IsWithinLimits config }
 {
     let all = config.nodes * config.workers;
+    let nodes = config.nodes;
+    let first = Worker {
+        rt,
+        alloc,
+        graph,
+        place: NodeId(0),
+        idle_turns: config.idle_turns,
+        locks,
+        gate,
+    };
     thread::scope(
         thread::scope_env(),
         rt,
         |scope|
-            requires { 1 ≤ config.nodes }
+            requires { 1 ≤ nodes }
         {
             for number in 0..all {
-                let worker = Worker {
-                    rt,
-                    alloc,
-                    graph,
-                    place: NodeId(number % config.nodes),
-                    idle_turns: config.idle_turns,
-                    locks,
-                    gate,
-                };
+                let worker = first.at(NodeId(number % nodes));
                 if scope.spawn(move || worker.run()).is_err() {
-                    set_fault(rt, locks, Refusal::NoMemory);
+                    set_fault(first.rt, first.locks, Refusal::NoMemory);
                     break;
                 }
             }

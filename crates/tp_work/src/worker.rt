@@ -55,6 +55,19 @@ struct Seen {
 }
 
 impl<'a, G: Graph, K: Ledgers, A: Gate, R: Wait> Worker<'a, G, K, A, R> {
+    /// The same worker, of another node.
+    pub fn at(&self, place: NodeId) -> Self {
+        Worker {
+            rt: self.rt,
+            alloc: self.alloc,
+            graph: self.graph,
+            place,
+            idle_turns: self.idle_turns,
+            locks: self.locks,
+            gate: self.gate,
+        }
+    }
+
     /// Works until the pool has ended. What stops it before is the pool's fault.
     pub fn run(&self) {
         if let Err(refusal) = self.take_turns() {
