@@ -324,11 +324,7 @@ fn act<G: Graph, K: Ledgers>(node: &mut Node<G, K>, board: &mut Board<K>) -> Act
 }
 
 /// Opens a pool of two nodes, plays, and gathers the pool.
-fn played(alloc: Global, play: Play) -> Result<(Answers, Summary), Refusal> {
-    played_with::<Brand>(alloc, Blanks::new(2), play)
-}
-
-fn played_with<K: Ledgers>(
+fn played<K: Ledgers>(
     alloc: Global,
     blanks: Blanks,
     play: Play,
@@ -342,7 +338,7 @@ fn played_with<K: Ledgers>(
 
 #[test]
 fn two_nodes_run_to_the_end(rt: HostRuntime) -> Result<(), Fail> {
-    let (answers, made) = played(rt.alloc(), Play::ToTheEnd)?;
+    let (answers, made) = played::<Brand>(rt.alloc(), Blanks::new(2), Play::ToTheEnd)?;
     let Answers::Seeded(at_zero, at_one) = answers else {
         return Err(Fail::new("another play"));
     };
@@ -360,7 +356,7 @@ fn two_nodes_run_to_the_end(rt: HostRuntime) -> Result<(), Fail> {
 
 #[test]
 fn a_message_under_way_is_counted(rt: HostRuntime) -> Result<(), Fail> {
-    let (answers, made) = played(rt.alloc(), Play::FirstSend)?;
+    let (answers, made) = played::<Brand>(rt.alloc(), Blanks::new(2), Play::FirstSend)?;
     assert!(rt; matches!(answers, Answers::Sent(true)));
     let wanted = Summary {
         numbers: (4, 1, 0, 1),
@@ -375,7 +371,7 @@ fn a_message_under_way_is_counted(rt: HostRuntime) -> Result<(), Fail> {
 
 #[test]
 fn a_named_action_opens_once(rt: HostRuntime) -> Result<(), Fail> {
-    let (answers, _) = played(rt.alloc(), Play::Action)?;
+    let (answers, _) = played::<Brand>(rt.alloc(), Blanks::new(2), Play::Action)?;
     let Answers::Acts(acts) = answers else {
         return Err(Fail::new("another play"));
     };
