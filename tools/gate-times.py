@@ -5,15 +5,19 @@
 
 What the command prints goes through. The table comes last, on standard error; with --edits a line for each wrong body comes before it. The processes
 below the command are looked at four times a second, so a process may have run for a quarter of a second more than is told; the total is exact.
-The exit status is the command's.
+Four times a minute a small piece of work of always the same size is timed: where the machine's processors are shared with others that one does not see,
+the same work takes up to twice as long, and the last line tells how much longer than at its best. The exit status is the command's.
 """
 import os
 import resource
+import statistics
 import subprocess
 import sys
 import time
 
 TICK = os.sysconf("SC_CLK_TCK")
+# seconds between two probes
+PROBES = 15
 
 
 def read(path):
@@ -91,6 +95,20 @@ def tell_edits(watch):
             print(f"edit {used:7.1f} {crate}/{name}", file=sys.stderr)
 
 
+def probe():
+    """Gives the processor seconds of a piece of work that is always the same."""
+    started = time.process_time()
+    places = {}
+    for at in range(200_000):
+        places[at * 7919 % 20_011] = at
+    return time.process_time() - started
+
+
+def tell_probes(probes):
+    best, middle = min(probes), statistics.median(probes)
+    print(f"the probe took {1000 * best:.0f} ms at its best, {1000 * middle:.0f} in the middle of {len(probes)}: {middle / best:.2f} times", file=sys.stderr)
+
+
 def tell(watch, wall, exact):
     kinds = ["proof", "tests", "wrong bodies", "programs"]
     table = {}
@@ -112,14 +130,17 @@ def main(words):
     words = words[has_edits:] or ["make", "gate"]
     started = time.time()
     ran = subprocess.Popen(words, stdin=subprocess.DEVNULL)
-    watch = Watch(ran.pid)
+    watch, probes = Watch(ran.pid), [probe()]
     while ran.poll() is None:
         watch.look()
+        if time.time() - started > PROBES * len(probes):
+            probes.append(probe())
         time.sleep(0.25)
     used = resource.getrusage(resource.RUSAGE_CHILDREN)
     if has_edits:
         tell_edits(watch)
     tell(watch, time.time() - started, used.ru_utime + used.ru_stime)
+    tell_probes(probes)
     return ran.returncode
 
 
