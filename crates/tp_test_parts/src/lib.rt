@@ -11,6 +11,8 @@ mod local;
 #[cfg(test)]
 mod own;
 #[cfg(test)]
+mod pools;
+#[cfg(test)]
 mod samples;
 #[cfg(test)]
 mod slots;

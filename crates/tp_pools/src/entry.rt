@@ -1,0 +1,69 @@
+ghost use Rattle.std.specs.Prelude.{◌≡◌, string_bytes};
+ghost use Rattle.tp_pools.specs.Pools.{registered};
+
+use std::marker::Model;
+use tp_samples::AnyGraph;
+
+/// Where a pool stands.
+#[derive(Clone, Copy, Debug, PartialEq, Eq)]
+pub enum Standing {
+    /// It can be run.
+    Registered,
+    /// It runs.
+    Active,
+    /// It has ended, and has its results.
+    Over,
+    /// It has ended with a fault.
+    Failed,
+}
+
+/// A pool of a registry: its name, the graph that it works out, and where it stands.
+#[derive(Drop)]
+pub struct Entry {
+    name: String,
+    graph: AnyGraph,
+    pub(crate) standing: Standing,
+}
+
+impl Model for Entry {
+    ghost use Rattle.std.specs.Prelude.{string_bytes};
+    ghost use Rattle.tp_pools.specs.Pools.{Entered};
+
+    ghost Value = { Entered };
+
+    ghost view = { λ e. record { name = string_bytes e.name; graph = e.graph; standing = e.standing } };
+}
+
+impl Entry {
+    /// A pool that was registered just now. It takes no memory.
+    pub(crate) fn new(name: String, graph: AnyGraph) -> Self
+        ensures { result ≡ registered (string_bytes name) graph }
+    {
+        Entry {
+            name,
+            graph,
+            standing: Standing::Registered,
+        }
+    }
+
+    /// Its name.
+    pub fn name(&self) -> &str
+        ensures { result.now ≡ self.now.name }
+    {
+        self.name.as_str()
+    }
+
+    /// The graph that it works out.
+    pub fn graph(&self) -> AnyGraph
+        ensures { result ≡ self.now.graph }
+    {
+        self.graph
+    }
+
+    /// Where it stands.
+    pub fn standing(&self) -> Standing
+        ensures { result ≡ self.now.standing }
+    {
+        self.standing
+    }
+}

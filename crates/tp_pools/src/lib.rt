@@ -1,0 +1,9 @@
+//! Several pools under one registry, in the order of registration: each has its name, the graph that it works out, and
+//! where it stands.
+#![tactic(auto)]
+
+mod entry;
+mod registry;
+
+pub use entry::{Entry, Standing};
+pub use registry::Registry;

@@ -1,0 +1,173 @@
+ghost use Rattle.std.specs.Prelude.{◌≡◌, ◌≤◌, ◌++◌, ◌∷◌, [], IfErr, IfOk, MatchOption, OnErr, OnOk, length};
+ghost use Rattle.std.specs.Result.{result_err};
+ghost use Rattle.tp_base.specs.Checks.{first_refusal};
+ghost use Rattle.tp_base.specs.declared.refusal.Refusal.TheVariants.{BadSpec, NoMemory, NoPool, PoolKnown, WrongLife};
+ghost use Rattle.tp_base.specs.declared.limits.TheConstants.{MAX_POOLS};
+ghost use Rattle.tp_pools.specs.Pools.{is_named, register_checks, registered, standing_checks, standing_of, with_standing};
+ghost use Rattle.tp_pools.specs.declared.entry.Standing.TheVariants as stand;
+ghost use Rattle.tp_samples.specs.Words.{word_of};
+ghost use Rattle.tp_samples.specs.declared.any.AnyGraph.{AnyGraph};
+
+use crate::entry::{Entry, Standing};
+use std::alloc::Global;
+use std::marker::Model;
+use tp_base::{MAX_POOLS, PoolId, Refusal};
+use tp_samples::checked;
+
+/// At most 8 pools, in the order of registration. A pool's number is its position. A refused call changes nothing.
+#[derive(Drop)]
+pub struct Registry {
+    alloc: Global,
+    pools: Vec<Entry>,
+}
+
+impl Model for Registry {
+    ghost use Rattle.std.specs.Prelude.{◌≤◌, length};
+    ghost use Rattle.tp_base.specs.declared.limits.TheConstants.{MAX_POOLS};
+    ghost use Rattle.tp_pools.specs.Pools.{Pools};
+
+    ghost Value = { Pools };
+
+    ghost view = { λ r. r.pools.items };
+
+    ghost invariant = { λ r. length r.pools.items ≤ MAX_POOLS };
+}
+
+impl Registry {
+    /// No pool. It takes no memory.
+    pub fn new(alloc: Global) -> Self
+        ensures { result ≡ [] }
+    {
+        Registry {
+            alloc,
+            pools: Vec::new(alloc),
+        }
+    }
+
+    /// Registers a pool under a name, the last. Its specification is the word of a sample pool.
+    ///
+    /// Refused: `BadSpec` where the word names no pool; `PoolKnown` where a pool has the name; `StoreFull` where there are 8
+    /// pools; `NoMemory`.
+    pub fn register(&mut self, name: &str, spec: &str) -> Result<PoolId, Refusal>
+        ensures registered { IfOk result (λ pool. (graph : AnyGraph) × (spec.now ≡ word_of graph) × (pool.0 ≡ length self.old) × (self.new ≡ self.old ++ registered name.now graph ∷ [])) }
+        ensures no_spec { ((graph : AnyGraph) → spec.now ≡ word_of graph → ⊥) → result ≡ Err BadSpec }
+        ensures refusal { (graph : AnyGraph) → spec.now ≡ word_of graph → MatchOption (first_refusal (register_checks self.old name.now)) (IfErr result (λ e. e ≡ NoMemory)) (λ e. result ≡ Err e) }
+        ensures refused { OnErr result (self.new ≡ self.old) }
+    {
+        let graph = checked(spec)?;
+        if self.is_named(name) {
+            return Err(Refusal::PoolKnown);
+        }
+        let number = self.pools.len() as u32;
+        if number == MAX_POOLS {
+            return Err(Refusal::StoreFull);
+        }
+        let name = String::from_str(self.alloc, name)?;
+        self.pools.push(Entry::new(name, graph))?;
+        Ok(PoolId(number))
+    }
+
+    /// Makes a registered pool active.
+    ///
+    /// Refused: `NoPool` where there is none; `PoolKnown` where it is not registered.
+    pub fn monitor(&mut self, pool: PoolId) -> Result<(), Refusal>
+        ensures moved { OnOk result (self.new ≡ with_standing self.old pool.0 stand.Active) }
+        ensures refusal { result_err result ≡ first_refusal (standing_checks self.old pool.0 stand.Registered PoolKnown) }
+        ensures refused { OnErr result (self.new ≡ self.old) }
+    {
+        self.move_on(
+            pool,
+            Standing::Registered,
+            Standing::Active,
+            Refusal::PoolKnown,
+        )
+    }
+
+    /// Makes a pool that is over registered again.
+    ///
+    /// Refused: `NoPool` where there is none; `WrongLife` where it is not over.
+    pub fn unmonitor(&mut self, pool: PoolId) -> Result<(), Refusal>
+        ensures moved { OnOk result (self.new ≡ with_standing self.old pool.0 stand.Registered) }
+        ensures refusal { result_err result ≡ first_refusal (standing_checks self.old pool.0 stand.Over WrongLife) }
+        ensures refused { OnErr result (self.new ≡ self.old) }
+    {
+        self.move_on(
+            pool,
+            Standing::Over,
+            Standing::Registered,
+            Refusal::WrongLife,
+        )
+    }
+
+    /// Makes an active pool over.
+    ///
+    /// Refused: `NoPool` where there is none; `WrongLife` where it is not active.
+    pub fn set_over(&mut self, pool: PoolId) -> Result<(), Refusal>
+        ensures moved { OnOk result (self.new ≡ with_standing self.old pool.0 stand.Over) }
+        ensures refusal { result_err result ≡ first_refusal (standing_checks self.old pool.0 stand.Active WrongLife) }
+        ensures refused { OnErr result (self.new ≡ self.old) }
+    {
+        self.move_on(pool, Standing::Active, Standing::Over, Refusal::WrongLife)
+    }
+
+    /// Makes an active pool failed.
+    ///
+    /// Refused: `NoPool` where there is none; `WrongLife` where it is not active.
+    pub fn set_failed(&mut self, pool: PoolId) -> Result<(), Refusal>
+        ensures moved { OnOk result (self.new ≡ with_standing self.old pool.0 stand.Failed) }
+        ensures refusal { result_err result ≡ first_refusal (standing_checks self.old pool.0 stand.Active WrongLife) }
+        ensures refused { OnErr result (self.new ≡ self.old) }
+    {
+        self.move_on(pool, Standing::Active, Standing::Failed, Refusal::WrongLife)
+    }
+
+    /// Where a pool stands. Refused with `NoPool` where there is none.
+    pub fn state(&self, pool: PoolId) -> Result<Standing, Refusal>
+        ensures { MatchOption (standing_of self.now pool.0) (result ≡ Err NoPool) (λ s. result ≡ Ok s) }
+    {
+        match self.pools.get(pool.0 as usize) {
+            Some(entry) => Ok(entry.standing()),
+            None => Err(Refusal::NoPool),
+        }
+    }
+
+    /// All pools, in the order of registration.
+    pub fn list(&self) -> &[Entry]
+        ensures same { result.now ≡ self.now }
+        ensures few { length result.now ≤ MAX_POOLS }
+    {
+        self.pools.as_slice()
+    }
+}
+
+// The parts of these calls.
+impl Registry {
+    /// Whether a pool has the name.
+    fn is_named(&self, name: &str) -> bool
+        ensures { result ≡ is_named self.now name.now }
+    {
+        self.pools.iter().any(|entry| entry.name() == name)
+    }
+
+    /// Moves a pool from one standing to another; where it does not stand so, that is refused as is said.
+    fn move_on(
+        &mut self,
+        pool: PoolId,
+        from: Standing,
+        to: Standing,
+        refusal: Refusal,
+    ) -> Result<(), Refusal>
+        ensures moved { OnOk result (self.new ≡ with_standing self.old pool.0 to) }
+        ensures refusal { result_err result ≡ first_refusal (standing_checks self.old pool.0 from refusal) }
+        ensures refused { OnErr result (self.new ≡ self.old) }
+    {
+        let Some(entry) = self.pools.get_mut(pool.0 as usize) else {
+            return Err(Refusal::NoPool);
+        };
+        if entry.standing != from {
+            return Err(refusal);
+        }
+        entry.standing = to;
+        Ok(())
+    }
+}
