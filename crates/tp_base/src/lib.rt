@@ -3,6 +3,7 @@
 
 mod history;
 mod ids;
+mod laws;
 mod limits;
 mod refusal;
 mod step;
@@ -11,6 +12,7 @@ mod table;
 
 pub use history::History;
 pub use ids::{ActionId, Inputs, MessageId, NodeId, PoolId, TaskId};
+pub use laws::limits_are_these;
 pub use limits::{
     CLASSES, MAX_IDLE_TURNS, MAX_INPUTS, MAX_LEAVES, MAX_LIVE_TASKS, MAX_NODES, MAX_ORDER,
     MAX_POOLS, MAX_SEED, MAX_SIDE, MAX_STEPS, MAX_WORKERS,

@@ -74,10 +74,11 @@ impl<M: Routed> Link<M> {
         self.messages.is_empty()
     }
 
-    /// Makes room for so many more messages.
+    /// Makes room for so many more messages. No room is lost, also where memory is refused.
     pub fn reserve(&mut self, additional: usize) -> Result<(), AllocError>
         ensures kept { IsUnchanged self.old self.new }
         ensures room { OnOk result (additional ≤ self.new.room) }
+        ensures keeps { self.old.room ≤ self.new.room }
         ensures grows { OnErr result (self.old.room < additional) }
     {
         self.messages.reserve(additional)
@@ -101,6 +102,7 @@ impl<M: Routed> Link<M> {
         ensures last { OnOk result (self.new.messages ≡ self.old.messages ++ message ∷ []) }
         ensures refused { IfErr result (λ e. (e.0 ≡ NoMemory) × (e.1 ≡ message)) }
         ensures kept { OnErr result (self.new.messages ≡ self.old.messages) }
+        ensures keeps { self.old.room ≤ self.new.room + 1 }
         ensures grows { OnErr result (self.old.room ≡ 0) }
     {
         if self.reserve(1).is_err() {
@@ -115,6 +117,7 @@ impl<M: Routed> Link<M> {
         ensures ends { (self.new.from ≡ self.old.from) × (self.new.to ≡ self.old.to) }
         ensures first { self.old.messages ≡ option_to_list result ++ self.new.messages }
         ensures some { IsSome result ↔ (0 < length self.old.messages) }
+        ensures keeps { self.old.room ≤ self.new.room }
     {
         self.messages.pop_front()
     }

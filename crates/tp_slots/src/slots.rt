@@ -27,12 +27,13 @@ pub trait Slots<T> {
     fn new(alloc: Global) -> Self
         ensures { content result ≡ nothing_held };
 
-    /// Makes room for one more item.
+    /// Makes room for one more item. No room is lost, also where it is refused.
     ///
     /// `StoreFull` where 65,536 items are held, `NoMemory` where a growth was refused.
     fn reserve(&mut self) -> Result<(), Refusal>
         ensures content { content self.new ≡ content self.old }
         ensures room { OnOk result (0 < room self.new) }
+        ensures keeps { room self.old ≤ room self.new }
         ensures not_full { OnOk result (held_count (content self.old) < MAX_LIVE_TASKS) }
 
         // It fails only where there was no room.
@@ -56,6 +57,7 @@ pub trait Slots<T> {
         ensures fresh { IfOk result (λ place. item_at (content self.old) place ≡ None) }
         ensures content { IfOk result (λ place. content self.new ≡ with_item (content self.old) place item) }
         ensures idle { IfOk result (IsIdle (content self.new)) }
+        ensures room { room self.old ≤ room self.new + 1 }
         ensures not_full { OnOk result (held_count (content self.old) < MAX_LIVE_TASKS) }
 
         ensures refusal { IfErr result (λ e. e.0 ≡ refusal_of_take (content self.old)) }
@@ -97,10 +99,10 @@ pub trait Slots<T> {
         ensures content { (w : T) → content (rewritten self.old place w) ≡ with_item (content self.old) place w }
         ensures room { (w : T) → room (rewritten self.old place w) ≡ room self.old };
 
-    /// Takes the item out of a place that is in no list. The place is free from then on.
+    /// Takes the item out of a place that is in no list. The place is free from then on, and its room is back.
     fn give_back(&mut self, place: Place) -> T
         requires { IsIdle (content self.old) place }
         ensures value { item_at (content self.old) place ≡ Some result }
         ensures content { content self.new ≡ without_item (content self.old) place }
-        ensures room { room self.old ≤ room self.new };
+        ensures room { room self.old + 1 ≤ room self.new };
 }

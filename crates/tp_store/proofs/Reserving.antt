@@ -73,7 +73,7 @@ module _ {V A : Type 0} {c : slots.Content (Item V)} {index : Entries} {results 
         ∙ ap (λ n. unwrap_or (if n == 65536 then Some StoreFull else None) NoMemory) (kept.held ∙ ap (λ v. unfinished v) view)
 
 -- ---- what a refusal says
-pub on_err : {X : Type 0} (r : Result X Refusal) (P : Type 0) → P → OnErr r P
+pub on_err : {X E : Type 0} (r : Result X E) (P : Type 0) → P → OnErr r P
 on_err (Ok x) P h = tt
 on_err (Err e) P h = h
 
@@ -92,3 +92,7 @@ told (Err e) was w h is = h ∙ is
 pub told_first : {X Y : Type 0} (r : Result X (Refusal × Y)) (was : Refusal × Y) (w : Refusal) → IsErrAnd r (λ e. e ≡ was) → was.0 ≡ w → IfErr r (λ e. e.0 ≡ w)
 told_first (Ok x) was w h is = tt
 told_first (Err e) was w h is = ap (λ y. y.0) h ∙ is
+
+pub not_some : {X : Type 0} (o : Option X) → o ≡ None → IsSome o → ⊥
+not_some None none h = cc
+not_some (Some x) none h = cc

@@ -1,6 +1,6 @@
 //! What stands under the numbers of tasks.
-ghost use Rattle.std.specs.Prelude.{◌≡◌, ◌==◌, ℕ, Some, None, IsSome, OnOk, if◌then◌else◌};
-ghost use Rattle.tp_base.specs.Table.{lookup};
+ghost use Rattle.std.specs.Prelude.{◌≡◌, ◌==◌, ℕ, Some, None, IsSome, OnOk, OnErr, false, if◌then◌else◌};
+ghost use Rattle.tp_base.specs.Table.{lookup, has_place};
 ghost use Rattle.tp_store.specs.Entries.{entry_at};
 
 use std::alloc::AllocError;
@@ -30,11 +30,12 @@ pub(crate) fn entry_of(index: &Index, task: TaskId) -> Option<Entry>
     }
 }
 
-/// Makes room under a number where nothing stands.
+/// Makes room under a number where nothing stands. A number that has a place takes no memory.
 pub(crate) fn make_room(index: &mut Index, task: TaskId) -> Result<(), AllocError>
     requires { entry_at index.old task.0 ≡ None }
     ensures entries { (q : ℕ) → entry_at index.new q ≡ entry_at index.old q }
     ensures room { OnOk result (IsSome (lookup index.new task.0)) }
+    ensures grows { OnErr result (has_place index.old task.0 ≡ false) }
 {
     index.insert(task.0, None)
 }

@@ -1,5 +1,5 @@
 //! A task that is not done, with the inputs that it has.
-ghost use Rattle.std.specs.Prelude.{◌≡◌, ◌<◌, ◌≤◌, [], length, map, insert, Some, None, is_some, slice_index_or, true, false, MatchOption, IfOk, IfErr};
+ghost use Rattle.std.specs.Prelude.{◌≡◌, ◌<◌, ◌≤◌, [], length, map, insert, Some, None, is_some, slice_index_or, true, false, MatchOption, IsOk, IfOk, IfErr};
 ghost use Rattle.smallvec.specs.SmallVec.{small_vec_len, HasRoomFor};
 ghost use Rattle.tp_store.specs.Items.{count_set};
 ghost use Rattle.tp_store.specs.Content.{fresh, with_value, begun, is_waiting, has_begun, refusal_of_value};
@@ -89,12 +89,13 @@ impl<V> TaskItem<V> {
 }
 
 impl<V: MadeWith<Global> + Drop> TaskItem<V> {
-    /// A task that has none of its inputs, with room for them.
+    /// A task that has none of its inputs, with room for them. Up to four take no memory.
     pub(crate) fn new(number: TaskId, arity: u8, class: u8, alloc: Global) -> Result<Self, Refusal>
         requires arity_in_range { arity ≤ MAX_INPUTS }
         requires class_in_range { class < CLASSES }
         ensures item { IfOk result (λ item. item ≡ record { number = number; task = fresh arity class }) }
         ensures refusal { IfErr result (λ e. e ≡ Refusal.NoMemory) }
+        ensures few { arity ≤ 4 → IsOk result }
     {
         let mut values = SmallVec::new(alloc);
         values.reserve_exact(arity as usize)?;

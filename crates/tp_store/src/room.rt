@@ -1,6 +1,6 @@
 //! The room that is made for a new task.
-ghost use Rattle.std.specs.Prelude.{◌≡◌, ◌<◌, ◌≤◌, ◌+◌, ℕ, None, IsSome, OnOk, IfOk, IfErr, vec_len, vec_capacity};
-ghost use Rattle.tp_base.specs.Table.{lookup};
+ghost use Rattle.std.specs.Prelude.{◌≡◌, ◌<◌, ◌≤◌, ◌+◌, ℕ, None, IsSome, IsTrue, IsOk, OnOk, IfOk, IfErr, vec_len, vec_capacity};
+ghost use Rattle.tp_base.specs.Table.{lookup, has_place};
 ghost use Rattle.tp_slots.specs.Content.{held_count, refusal_of_take};
 ghost use Rattle.tp_store.specs.Content.{fresh};
 ghost use Rattle.tp_store.specs.Entries.{entry_at};
@@ -13,7 +13,7 @@ use tp_base::{CLASSES, MAX_INPUTS, MAX_LIVE_TASKS, Refusal, TaskId};
 use tp_slots::Slots;
 
 /// Makes room for a task that is not known in the slots and under its number, and for so many more results. The item that
-/// comes back has room for the inputs.
+/// comes back has room for the inputs. Where all have their room, and the inputs lie in the item itself, it is not refused.
 pub(crate) fn make_item<S: Slots<TaskItem<V>>, V: MadeWith<Global> + Drop>(
     slots: &mut S,
     index: &mut Index,
@@ -38,6 +38,7 @@ pub(crate) fn make_item<S: Slots<TaskItem<V>>, V: MadeWith<Global> + Drop>(
     ensures entries { (q : ℕ) → entry_at index.new q ≡ entry_at index.old q }
     ensures entry { OnOk result (IsSome (lookup index.new task.0)) }
     ensures refusal { IfErr result (λ e. e ≡ refusal_of_take (S.content slots.old)) }
+    ensures had_room { 0 < S.room slots.old → vec_len results.old + more ≤ vec_capacity results.old → IsTrue (has_place index.old task.0) → arity ≤ 4 → IsOk result }
 {
     slots.reserve()?;
     results.reserve(more)?;

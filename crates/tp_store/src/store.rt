@@ -249,8 +249,8 @@ impl<S: Slots<TaskItem<V>>, V: MadeWith<Global> + Drop> TaskStore<S, V> {
     /// task alone. A refused value comes back.
     ///
     /// `TaskKnown` where the task has begun or is done, or was inserted with another number of inputs, `SlotTaken` where the
-    /// slot has its value, `StoreFull` where the task is unknown and 65,536 tasks are not done, `NoMemory` where a growth was
-    /// refused.
+    /// slot has its value, `StoreFull` where the task is unknown and 65,536 tasks are not done, `NoMemory` where the task is
+    /// unknown and a growth was refused: a task that waits takes no memory.
     #[inline(always)]
     pub fn deliver(
         &mut self,
@@ -270,6 +270,7 @@ impl<S: Slots<TaskItem<V>>, V: MadeWith<Global> + Drop> TaskStore<S, V> {
         ensures lives { NoneGoesBack self.old self.new }
 
         ensures refusal { IfErr result (λ e. e.0 ≡ unwrap_or (refusal_of_deliver self.old task arity slot) Refusal.NoMemory) }
+        ensures no_growth { OnErr result (IsSome (task_of self.old task) → IsSome (refusal_of_deliver self.old task arity slot)) }
         ensures value_returned { IfErr result (λ e. e.1 ≡ value) }
         ensures unchanged { OnErr result (self.new ≡ self.old) }
     {

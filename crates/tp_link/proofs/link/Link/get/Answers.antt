@@ -6,3 +6,6 @@ returns-clause-first g c = search rules
 
 pub returns-clause-some : goal.returns-clause-some
 returns-clause-some g c = search rules
+
+pub returns-clause-keeps : goal.returns-clause-keeps
+returns-clause-keeps g c = search rules

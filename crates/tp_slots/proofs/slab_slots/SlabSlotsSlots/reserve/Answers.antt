@@ -30,3 +30,6 @@ invariant_of-self-2 g c =
 
 pub returns-clause-room : goal.returns-clause-room
 returns-clause-room g c = omega (arith, c.len-count.ensures, c.self.invariant.within)
+
+pub returns-then-self-gt0-clause-keeps : goal.returns-then-self-gt0-clause-keeps
+returns-then-self-gt0-clause-keeps g c = omega arith

@@ -1,4 +1,4 @@
-use Rattle.std.proofs.Common.{Some, None, unwrap_or, rules, subst, ap, sym, ◌∙◌, arith}
+use Rattle.std.proofs.Common.{Some, None, unwrap_or, rules, refl, subst, ap, sym, ◌∙◌, arith}
 use Rattle.tp_base.specs.declared.refusal.Refusal.TheVariants.{NoMemory}
 use Rattle.tp_store.specs.Content.{NoneGoesBack}
 use Rattle.tp_store.specs.declared.index.Entry.TheVariants.{Done}
@@ -6,7 +6,7 @@ use Rattle.tp_store.proofs.Stages.{delivered_goes_on}
 use Rattle.tp_store.proofs.Finishing.{taken_there}
 use Rattle.tp_store.proofs.Reading.{seen, seen_live, known_refusal, unknown_refusal, accepts, refuses}
 use Rattle.tp_store.proofs.Making.{inserts}
-use Rattle.tp_store.proofs.Reserving.{told_first}
+use Rattle.tp_store.proofs.Reserving.{not_some, on_err, told_first}
 use Rattle.tp_store.proofs.Supplying.{known_item, can_supply, supplied_all, fills}
 use Rattle.tp_store.proofs.store.TaskStore.deliver.Goals as goal
 
@@ -26,6 +26,7 @@ returns-in_default g c =
       unfinished = c.in_ok-deliver_unknown.ensures.unfinished;
       lives = subst (λ v. NoneGoesBack c.args.self.now v) (sym content) (delivered_goes_on c.args.self.now c.args.task c.args.arity c.args.class c.args.slot c.args.value);
       refusal = tt;
+      no_growth = tt;
       value_returned = tt;
       unchanged = tt;
     }
@@ -35,12 +36,23 @@ returns-in_err-deliver_unknown-clause-refusal g c =
     let none = seen c.self.invariant c.self.view_is c.args.task None (sym c.entry_of.ensures ∙ c.in_default.is) in
     told_first c.from_residual.result c.in_err-deliver_unknown.field-0.0 _ c.from_residual.ensures.1 (c.in_err-deliver_unknown.ensures.refusal ∙ sym (ap (λ o. unwrap_or o NoMemory) (unknown_refusal c.args.self.now c.args.task c.args.arity c.args.slot none)))
 
+pub returns-in_err-deliver_unknown-clause-no_growth : goal.returns-in_err-deliver_unknown-clause-no_growth
+returns-in_err-deliver_unknown-clause-no_growth g c =
+    let none = seen c.self.invariant c.self.view_is c.args.task None (sym c.entry_of.ensures ∙ c.in_default.is) in
+    on_err c.from_residual.result _ (λ h. absurd (not_some _ none h))
+
 -- ---- a task that is done
 pub returns-in_default-entry-clause-refusal : goal.returns-in_default-entry-clause-refusal
 returns-in_default-entry-clause-refusal g c =
     let at = c.in_default-entry in
     let over = seen c.self.invariant c.self.view_is c.args.task (Some (Done at.field-0 at.field-1)) (sym c.entry_of.ensures ∙ c.in-Some.is ∙ ap Some at.is) in
     sym (ap (λ o. unwrap_or o NoMemory) (known_refusal c.args.self.now c.args.task c.args.arity c.args.slot _ over))
+
+pub returns-in_default-entry-clause-no_growth : goal.returns-in_default-entry-clause-no_growth
+returns-in_default-entry-clause-no_growth g c h =
+    let at = c.in_default-entry in
+    let over = seen c.self.invariant c.self.view_is c.args.task (Some (Done at.field-0 at.field-1)) (sym c.entry_of.ensures ∙ c.in-Some.is ∙ ap Some at.is) in
+    rw (known_refusal c.args.self.now c.args.task c.args.arity c.args.slot _ over) refl
 
 -- ---- a task that is not done
 pub get-requires : goal.get-requires
@@ -51,6 +63,11 @@ pub returns-in-Err-clause-refusal : goal.returns-in-Err-clause-refusal
 returns-in-Err-clause-refusal g c =
     let x = seen_live c.self.invariant c.self.view_is c.args.task c.in-Live.place c.get.result.now (sym c.entry_of.ensures ∙ c.in-Some.is ∙ ap Some c.in-Live.is) c.get.ensures in
     sym (ap (λ o. unwrap_or o NoMemory) (known_refusal c.args.self.now c.args.task c.args.arity c.args.slot _ x ∙ refuses _ c.check.result c.in-Err.refusal c.check.ensures c.in-Err.is))
+
+pub returns-in-Err-clause-no_growth : goal.returns-in-Err-clause-no_growth
+returns-in-Err-clause-no_growth g c h =
+    let x = seen_live c.self.invariant c.self.view_is c.args.task c.in-Live.place c.get.result.now (sym c.entry_of.ensures ∙ c.in-Some.is ∙ ap Some c.in-Live.is) c.get.ensures in
+    rw (known_refusal c.args.self.now c.args.task c.args.arity c.args.slot _ x ∙ refuses _ c.check.result c.in-Err.refusal c.check.ensures c.in-Err.is) refl
 
 pub supply-requires : goal.supply-requires
 supply-requires g c =
@@ -86,6 +103,7 @@ returns g c =
       unfinished = omega (arith, all.1);
       lives = subst (λ v. NoneGoesBack c.args.self.now v) (sym all.0) (delivered_goes_on c.args.self.now c.args.task c.args.arity c.args.class c.args.slot c.args.value);
       refusal = tt;
+      no_growth = tt;
       value_returned = tt;
       unchanged = tt;
     }
