@@ -1,7 +1,8 @@
 -- What a core keeps goes on to be what its steps say.
-use Rattle.std.proofs.Common.{ℕ, ◌+◌, ◌-◌, ◌≡◌, ◌<◌, ◌≤◌, List, [], ◌∷◌, ◌++◌, Bool, true, false, Some, length, refl, ap, sym, subst, ◌∙◌, arith, set, length-set, eqb-true}
+use Rattle.std.proofs.Common.{Global, ℕ, ◌+◌, ◌-◌, ◌≡◌, ◌<◌, ◌≤◌, List, [], ◌∷◌, ◌++◌, Bool, true, false, Some, length, refl, ap, sym, subst, ◌∙◌, arith, set, length-set, eqb-true}
 use Rattle.std.proofs.lemmas.Bool.Decides.{nat_tests}
 use Rattle.std.proofs.lemmas.List.{reverse-append, length-reverse, length-append}
+use Rattle.std.specs.declared.vec.Vec.{Vec}
 use Rattle.std.specs.Prelude.{◌==◌, not, vec_capacity, if◌then◌else◌}
 use Rattle.std.specs.List.{slice_index_or}
 use Rattle.tp_base.specs.declared.Step.{Step}
@@ -162,3 +163,22 @@ pub agree_next : {c d : Inside} {mid : List Step} {room : ℕ} (s : Step) → Is
 agree_next {c} {d} s agree lawful room pieces pool nodes wave stay pushed capacity numbers left under tasks actions messages =
     agree_after s agree lawful room pieces nodes stay pushed capacity numbers left under tasks actions messages
     (rw wave (pool_step c.nodes (accepted c).steps s c.wave pool agree.wave))
+
+-- where a step was refused, after more room was made
+pub agree_room : {c : Inside} (steps : Vec Step Global) → IsKept c → steps.items ≡ c.steps.items → HasPieces (length c.steps.items) (vec_capacity steps) → IsKept (record c { steps = steps })
+agree_room {c} steps agree stay pieces =
+    let same : accepted (record c { steps = steps }) ≡ accepted c = rw stay refl in
+    subst (λ a. Agree a (record c { steps = steps })) (sym same) record {
+      some_node = agree.some_node;
+      few_nodes = agree.few_nodes;
+      is_run = agree.is_run;
+      within = agree.within;
+      pieces = subst (λ (xs : List Step). HasPieces (length xs) (vec_capacity steps)) (sym stay) pieces;
+      numbers = agree.numbers;
+      left = agree.left;
+      under = agree.under;
+      tasks = agree.tasks;
+      actions = agree.actions;
+      messages = agree.messages;
+      wave = agree.wave;
+    }

@@ -5,7 +5,7 @@ use Rattle.tp_base.specs.declared.Step.TheVariants.{Down}
 use Rattle.tp_wave.proofs.Exact.{checks_exact}
 use Rattle.tp_core.specs.Run.{IsLawful}
 use Rattle.tp_core.specs.Kept.{accepted}
-use Rattle.tp_core.proofs.Keeping.{agree_after, numbers_stay}
+use Rattle.tp_core.proofs.Keeping.{agree_after, agree_room, numbers_stay}
 use Rattle.tp_core.proofs.Taking.{taken, no_room, by_wave}
 use Rattle.tp_core.proofs.accepting.Core.down.Goals as goal
 use Rattle.tp_core.proofs.accepting.Core.down.Goals.{After-make_room}
@@ -26,6 +26,9 @@ returns-in_err-make_room c =
     rw (p.1, p.2)
     (no_room (Down c.args.node) c.self.invariant c.self.view_is (lawful (goal.at.returns-in_err-make_room c).After-make_room) _ c.in_err-make_room.ensures.err
     c.make_room.ensures.items)
+
+pub invariant_of-self : goal.invariant_of-self
+invariant_of-self c = agree_room c.make_room.new.steps c.self.invariant c.make_room.ensures.items c.make_room.ensures.kept
 
 pub invariant_of-self-2 : goal.invariant_of-self-2
 invariant_of-self-2 c =
