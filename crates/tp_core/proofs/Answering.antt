@@ -8,7 +8,7 @@ use Rattle.tp_base.specs.declared.Step.TheVariants.{Insert}
 use Rattle.tp_base.specs.declared.Refusal.{Refusal}
 use Rattle.tp_base.specs.declared.Refusal.TheVariants.{NoMemory}
 use Rattle.tp_core.specs.declared.reply.Reply.{Reply}
-use Rattle.tp_core.specs.Accepted.{Accepted, refusal, answer, answers, next, after_all, is_no_memory, Answers, AnswersAll, IsAcceptable, IsRefusedFor}
+use Rattle.tp_core.specs.Accepted.{Accepted, refusal, answer, answers, next, after_all, is_no_memory, Answers, AnswersAll, IsAcceptable, IsRefusedFor, asks_memory}
 use Rattle.tp_core.proofs.Exact.{lawful_where_none, none_where_lawful}
 
 -- ---- answers to several steps
@@ -37,7 +37,7 @@ acceptable_where_lawful a s h = none_where_lawful a s h.0 h.1
 pub exact_answer : (old new : Accepted) (s : Step) (r : Result Reply Refusal) → Answers old s r new → r ≢ Err NoMemory → IsOk r ↔ IsAcceptable old s
 exact_answer old new s (Ok reply) h ample = (λ _. lawful_where_none old s h.0, λ _. refl)
 exact_answer old new s (Err e) h ample =
-    (λ ok. grind (arith, ok), λ may. absurd (ample (ap (λ x. Err x) (rw (acceptable_where_lawful old s may) at h.0))))
+    (λ ok. grind (arith, ok), λ may. absurd (ample (ap (λ x. Err x) (rw (acceptable_where_lawful old s may) at h.0).0)))
 
 -- With ample memory the answer is a function of the step and of those before.
 pub ample_answer : (old new : Accepted) (s : Step) (r : Result Reply Refusal) → Answers old s r new → r ≢ Err NoMemory
@@ -45,8 +45,8 @@ pub ample_answer : (old new : Accepted) (s : Step) (r : Result Reply Refusal) �
 ample_answer old new s (Ok reply) h ample = (rw (h.0, h.1) refl, rw (h.0, h.2) refl)
 ample_answer old new s (Err e) h ample = refused (refusal old s) refl h.0
   where
-    refused : (o : Option Refusal) → refusal old s ≡ o → IsRefusedFor o e → (◌≡◌ {A = Result Reply Refusal} (Err e) (answer old s)) × (new ≡ next old s)
-    refused None is for = absurd (ample (ap (λ x. Err x) for))
+    refused : (o : Option Refusal) → refusal old s ≡ o → IsRefusedFor o (asks_memory old s) e → (◌≡◌ {A = Result Reply Refusal} (Err e) (answer old s)) × (new ≡ next old s)
+    refused None is for = absurd (ample (ap (λ x. Err x) for.0))
     refused (Some f) is for = (rw (is, for) refl, rw (is, h.1) refl)
 
 not_memory : (r : Result Reply Refusal) → is_no_memory r ≡ false → r ≢ Err NoMemory

@@ -1,8 +1,9 @@
 -- What a core keeps goes on to be what its steps say.
-use Rattle.std.proofs.Common.{ℕ, ◌+◌, ◌-◌, ◌≡◌, ◌<◌, ◌≤◌, List, [], ◌∷◌, ◌++◌, Bool, true, false, Some, length, refl, ap, sym, subst, ◌∙◌, arith, set, length-set, eqb-true}
+use Rattle.std.proofs.Common.{Global, ℕ, ◌+◌, ◌-◌, ◌≡◌, ◌<◌, ◌≤◌, List, [], ◌∷◌, ◌++◌, Bool, true, false, Some, length, refl, ap, sym, subst, ◌∙◌, arith, set, length-set, eqb-true}
 use Rattle.std.proofs.lemmas.Bool.Decides.{nat_tests}
-use Rattle.std.proofs.lemmas.List.{reverse-append, length-reverse}
-use Rattle.std.specs.Prelude.{◌==◌, not, if◌then◌else◌}
+use Rattle.std.proofs.lemmas.List.{reverse-append, length-reverse, length-append}
+use Rattle.std.specs.declared.vec.Vec.{Vec}
+use Rattle.std.specs.Prelude.{◌==◌, not, vec_capacity, if◌then◌else◌}
 use Rattle.std.specs.List.{slice_index_or}
 use Rattle.tp_base.specs.declared.Step.{Step}
 use Rattle.tp_base.specs.declared.Step.TheVariants.{Insert, Supply, Begin, Done, ActionOpen, ActionClose, Ready, Send, Recv, MessageEnd}
@@ -20,7 +21,7 @@ use Rattle.tp_core.specs.World.{World, Task, Opening, Named, OfMessage, is_actio
 use Rattle.tp_core.specs.Pool.{with_life, supplied, after}
 use Rattle.tp_core.specs.Run.{world, node_of, IsLawful, IsRun}
 use Rattle.tp_core.specs.Accepted.{Accepted, world_of, with_step, numbers_at}
-use Rattle.tp_core.specs.Kept.{accepted, Agree, IsKept, HasTasks, HasActions, HasMessages, HasNumbers, all_left}
+use Rattle.tp_core.specs.Kept.{accepted, Agree, IsKept, HasTasks, HasActions, HasMessages, HasNumbers, HasPieces, all_left}
 use Rattle.tp_core.proofs.Counting.{life_in, one_if, node_inside, open_at-openings, pending_step, not_done-lacking, length-without}
 use Rattle.tp_core.proofs.Written.{written}
 
@@ -125,8 +126,8 @@ under_step n past (s) r = refl
 accepted_next : (c d : Inside) (s : Step) → d.nodes ≡ c.nodes → d.steps.items ≡ c.steps.items ++ s ∷ [] → accepted d ≡ with_step (accepted c) s
 accepted_next c d s nodes pushed = rw (nodes, pushed, reverse-append c.steps.items (s ∷ [])) refl
 
-pub agree_after : {c d : Inside} {mid : List Step} (s : Step) → IsKept c → IsLawful c.nodes (accepted c).steps s → length c.steps.items < MAX_STEPS
-    → d.nodes ≡ c.nodes → mid ≡ c.steps.items → d.steps.items ≡ mid ++ s ∷ []
+pub agree_after : {c d : Inside} {mid : List Step} {room : ℕ} (s : Step) → IsKept c → IsLawful c.nodes (accepted c).steps s → length c.steps.items < MAX_STEPS
+    → HasPieces (length c.steps.items + 1) room → d.nodes ≡ c.nodes → mid ≡ c.steps.items → d.steps.items ≡ mid ++ s ∷ [] → vec_capacity d.steps ≡ room
     → HasNumbers d.numbers (with_step (accepted c) s)
     → d.left ≡ pending_after s c.left → d.under ≡ under_way_after s c.under
     → HasTasks d.tasks (after s (world_of (accepted c))).tasks
@@ -134,12 +135,13 @@ pub agree_after : {c d : Inside} {mid : List Step} (s : Step) → IsKept c → I
     → HasMessages d.messages (after s (world_of (accepted c))).messages (after s (world_of (accepted c))).numbers
     → Follows c.nodes (s ∷ (accepted c).steps) d.wave
     → IsKept d
-agree_after {c} {d} s agree lawful room nodes stay pushed numbers left under tasks actions messages follows =
+agree_after {c} {d} {mid} s agree lawful room pieces nodes stay pushed capacity numbers left under tasks actions messages follows =
     subst (λ a. Agree a d) (sym (accepted_next c d s nodes (rw stay at pushed))) record {
       some_node = agree.some_node;
       few_nodes = agree.few_nodes;
       is_run = (lawful, agree.is_run);
       within = rw (length-reverse c.steps.items) (omega arith);
+      pieces = rw (capacity, pushed, stay, length-append c.steps.items (s ∷ [])) pieces;
       numbers = numbers;
       left = left ∙ rw agree.left (sym (left_step c.nodes (accepted c).steps s lawful));
       under = under ∙ rw agree.under (sym (under_step c.nodes (accepted c).steps s lawful));
@@ -150,14 +152,33 @@ agree_after {c} {d} s agree lawful room nodes stay pushed numbers left under tas
     }
 
 -- a step of the pool
-pub agree_next : {c d : Inside} {mid : List Step} (s : Step) → IsKept c → IsLawful c.nodes (accepted c).steps s → length c.steps.items < MAX_STEPS
-    → is_control s ≡ false → d.nodes ≡ c.nodes → d.wave ≡ c.wave → mid ≡ c.steps.items → d.steps.items ≡ mid ++ s ∷ []
+pub agree_next : {c d : Inside} {mid : List Step} {room : ℕ} (s : Step) → IsKept c → IsLawful c.nodes (accepted c).steps s → length c.steps.items < MAX_STEPS
+    → HasPieces (length c.steps.items + 1) room → is_control s ≡ false → d.nodes ≡ c.nodes → d.wave ≡ c.wave → mid ≡ c.steps.items → d.steps.items ≡ mid ++ s ∷ [] → vec_capacity d.steps ≡ room
     → HasNumbers d.numbers (with_step (accepted c) s)
     → d.left ≡ pending_after s c.left → d.under ≡ under_way_after s c.under
     → HasTasks d.tasks (after s (world_of (accepted c))).tasks
     → HasActions d.opening d.named d.messages (after s (world_of (accepted c))).actions
     → HasMessages d.messages (after s (world_of (accepted c))).messages (after s (world_of (accepted c))).numbers
     → IsKept d
-agree_next {c} {d} s agree lawful room pool nodes wave stay pushed numbers left under tasks actions messages =
-    agree_after s agree lawful room nodes stay pushed numbers left under tasks actions messages
+agree_next {c} {d} s agree lawful room pieces pool nodes wave stay pushed capacity numbers left under tasks actions messages =
+    agree_after s agree lawful room pieces nodes stay pushed capacity numbers left under tasks actions messages
     (rw wave (pool_step c.nodes (accepted c).steps s c.wave pool agree.wave))
+
+-- where a step was refused, after more room was made
+pub agree_room : {c : Inside} (steps : Vec Step Global) → IsKept c → steps.items ≡ c.steps.items → HasPieces (length c.steps.items) (vec_capacity steps) → IsKept (record c { steps = steps })
+agree_room {c} steps agree stay pieces =
+    let same : accepted (record c { steps = steps }) ≡ accepted c = rw stay refl in
+    subst (λ a. Agree a (record c { steps = steps })) (sym same) record {
+      some_node = agree.some_node;
+      few_nodes = agree.few_nodes;
+      is_run = agree.is_run;
+      within = agree.within;
+      pieces = subst (λ (xs : List Step). HasPieces (length xs) (vec_capacity steps)) (sym stay) pieces;
+      numbers = agree.numbers;
+      left = agree.left;
+      under = agree.under;
+      tasks = agree.tasks;
+      actions = agree.actions;
+      messages = agree.messages;
+      wave = agree.wave;
+    }

@@ -1,9 +1,10 @@
 -- What a new core keeps, and where what is kept is quiet.
 use Rattle.std.proofs.Common.{ℕ, zero, suc, ◌+◌, ◌≡◌, ◌<◌, ◌≤◌, List, [], ◌∷◌, Bool, true, false, None, length, refl, ap, sym, ◌∙◌, arith, zero-le, set, length-set, subst}
 use Rattle.std.proofs.lemmas.Bool.Decides.{nat_tests}
-use Rattle.std.specs.Prelude.{◌==◌, ◌&&◌, nat_lt, if◌then◌else◌}
+use Rattle.std.specs.Prelude.{◌==◌, ◌&&◌, vec_capacity, nat_lt, if◌then◌else◌}
 use Rattle.std.specs.List.{list_any, slice_index_or}
 use Rattle.tp_base.specs.declared.limits.TheConstants.{MAX_NODES}
+use Rattle.tp_base.specs.declared.Step.{Step}
 use Rattle.tp_wave.specs.Wave.{Follows}
 use Rattle.tp_core.specs.declared.accepting.Core.TheInside.{Inside}
 use Rattle.tp_core.specs.declared.node_set.NodeSet.{NodeSet}
@@ -14,7 +15,7 @@ use Rattle.tp_base.specs.Table.{lookup}
 use Rattle.tp_core.specs.NodeSet.{has}
 use Rattle.tp_core.specs.World.{Kind, Opening, Named, OfMessage, is_action, how_many, openings, IsQuiet}
 use Rattle.tp_core.specs.Accepted.{world_of, numbers_at}
-use Rattle.tp_core.specs.Kept.{accepted, Agree, IsKept, HasActions, is_kept_open}
+use Rattle.tp_core.specs.Kept.{accepted, Agree, IsKept, HasActions, HasPieces, is_kept_open}
 use Rattle.tp_core.proofs.Counting.{open_at-openings}
 use Rattle.tp_core.proofs.Quiet.{none_from_length}
 use Rattle.tp_core.proofs.Keeping.{zeros}
@@ -72,6 +73,7 @@ first_kept {c} some few empty opened left under no_name no_task no_message follo
       few_nodes = few;
       is_run = tt;
       within = zero-le;
+      pieces = subst (λ (xs : List Step). HasPieces (length xs) (vec_capacity c.steps)) (sym empty) zero-le;
       numbers = record { size = opened.size; each = λ i d h. opened.each i d h ∙ first_numbers i c.nodes };
       left = left ∙ sym (length-openings c.nodes) ∙ omega arith;
       under = under;

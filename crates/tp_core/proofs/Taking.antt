@@ -1,15 +1,17 @@
 -- A lawful step for which there is room is answered by what it replies, and is taken.
-use Rattle.std.proofs.Common.{Some, sym, ◌≡◌, ◌<◌, List, [], ◌∷◌, ◌++◌, None, length, reverse, refl, subst}
+use Rattle.std.proofs.Common.{Option, Some, sym, ◌≡◌, ◌<◌, Bool, true, false, List, [], ◌∷◌, ◌++◌, None, length, reverse, refl, subst}
+use Rattle.std.specs.Prelude.{◌||◌}
 use Rattle.std.proofs.lemmas.List.{reverse-append, length-reverse}
 use Rattle.tp_base.specs.declared.Step.{Step}
 use Rattle.tp_base.specs.declared.Refusal.{Refusal}
+use Rattle.tp_base.specs.declared.Refusal.TheVariants.{NoMemory}
 use Rattle.tp_base.specs.declared.limits.TheConstants.{MAX_STEPS}
 use Rattle.tp_base.specs.Checks.{first_refusal}
 use Rattle.tp_core.specs.declared.accepting.Core.TheInside.{Inside}
 use Rattle.tp_core.specs.declared.reply.Reply.{Reply}
 use Rattle.tp_core.specs.Checks.{refusal_of}
 use Rattle.tp_core.specs.Run.{IsLawful}
-use Rattle.tp_core.specs.Accepted.{Accepted, refusal, reply_to, room_check, with_step}
+use Rattle.tp_core.specs.Accepted.{Accepted, IsRefusedFor, asks_memory, begins_piece, keeps_more, refusal, reply_to, room_check, with_step}
 use Rattle.tp_core.specs.Kept.{accepted, IsKept}
 use Rattle.tp_core.proofs.Exact.{none_where_lawful, refused_first, refused_for_room}
 
@@ -33,8 +35,31 @@ for_room {c} {old} s agree is lawful = subst (λ (a : Accepted). refusal a s ≡
 pub by_wave : {c : Inside} {old : Accepted} (s : Step) → IsKept c → accepted c ≡ old → (r : Refusal) → Some r ≡ refusal_of c.nodes (accepted c).steps s → refusal old s ≡ Some r
 by_wave {c} {old} s agree is r refused = subst (λ (a : Accepted). refusal a s ≡ Some r) is (refused_first (accepted c) s r (sym refused))
 
+-- it is refused where no room was made for it
+weaken : (first : Option Refusal) (b d : Bool) (r : Refusal) → IsRefusedFor first b r → IsRefusedFor first (d || b) r
+weaken (Some f) b d r h = h
+weaken None b true r h = (h.0, refl)
+weaken None b false r h = h
+
+pub no_room : {c : Inside} {old : Accepted} {mid : List Step} (s : Step) → IsKept c → accepted c ≡ old → IsLawful c.nodes (accepted c).steps s → (r : Refusal)
+    → IsRefusedFor (first_refusal (room_check (length c.steps.items))) (begins_piece (length c.steps.items)) r → mid ≡ c.steps.items
+    → IsRefusedFor (refusal old s) (asks_memory old s) r × (record { nodes = c.nodes; steps = reverse mid } ≡ old)
+no_room {c} {old} s agree is lawful r told stay = (
+  subst (λ (a : Accepted). IsRefusedFor (refusal a s) (asks_memory a s) r) is (
+      rw (refused_for_room (accepted c) s lawful, length-reverse c.steps.items)
+      (weaken (first_refusal (room_check (length c.steps.items))) (begins_piece (length c.steps.items)) (keeps_more s) r told)
+      ),
+  rw stay is,
+)
+
 -- and where there is room for nothing
 pub for_nothing : {c : Inside} {old : Accepted} (s : Step) → IsKept c → accepted c ≡ old → IsLawful c.nodes (accepted c).steps s → length c.steps.items < MAX_STEPS
     → refusal old s ≡ None
 for_nothing {c} {old} s agree is lawful room =
     subst (λ (a : Accepted). refusal a s ≡ None) is (none_where_lawful (accepted c) s lawful (rw (length-reverse c.steps.items) room))
+
+-- nor for what it keeps
+pub no_memory : {c : Inside} {old : Accepted} {mid : List Step} (s : Step) → IsKept c → accepted c ≡ old → IsLawful c.nodes (accepted c).steps s → length c.steps.items < MAX_STEPS
+    → keeps_more s ≡ true → (r : Refusal) → r ≡ NoMemory → mid ≡ c.steps.items
+    → IsRefusedFor (refusal old s) (asks_memory old s) r × (record { nodes = c.nodes; steps = reverse mid } ≡ old)
+no_memory {c} {old} s agree is lawful room keeps r memory stay = (rw (for_nothing s agree is lawful room, keeps) (memory, refl), rw stay is)

@@ -1,14 +1,15 @@
 -- What a core has accepted, and what it answers to the next step.
-use Rattle.std.specs.Prelude.{Bool, true, false, IsFalse, ℕ, ◌==◌, ◌≡◌, ◌<◌, List, [], ◌∷◌, ◌++◌, nat_le, is_some, length, Option, Some, None, Result, Ok, Err, if◌then◌else◌}
+use Rattle.std.specs.Prelude.{Bool, true, false, IsTrue, IsFalse, ℕ, ◌%◌, ◌||◌, ◌==◌, ◌≡◌, ◌<◌, List, [], ◌∷◌, ◌++◌, nat_le, is_some, length, Option, Some, None, Result, Ok, Err, if◌then◌else◌}
 use Rattle.std.specs.List.{list_any}
 use Rattle.tp_base.specs.declared.limits.TheConstants.{MAX_STEPS}
 use Rattle.tp_base.specs.declared.Refusal.{Refusal}
 use Rattle.tp_base.specs.declared.Refusal.TheVariants.{HistoryFull, NoMemory}
 use Rattle.tp_base.specs.declared.Step.{Step}
-use Rattle.tp_base.specs.declared.Step.TheVariants.{Give, Judge}
+use Rattle.tp_base.specs.declared.Step.TheVariants.{Insert, ActionOpen, Send, Give, Judge}
 use Rattle.tp_wave.specs.Steps.{count, is_send_of, is_recv_at}
 use Rattle.tp_wave.specs.Sums.{sums_of, judgement}
 use Rattle.tp_base.specs.Checks.{Check, first_refusal}
+use Rattle.tp_core.specs.declared.accepting.TheConstants.{PIECE}
 use Rattle.tp_core.specs.declared.numbers.NodeNumbers.{NodeNumbers}
 use Rattle.tp_core.specs.declared.reply.Reply.{Reply}
 use Rattle.tp_core.specs.declared.reply.Reply.TheVariants.{Plain, WaveSums, Not, Over}
@@ -32,10 +33,25 @@ room_check taken = (nat_le MAX_STEPS taken, HistoryFull taken) ∷ []
 abbrev pub refusal : Accepted → Step → Option Refusal
 refusal a s = first_refusal (checks a.nodes a.steps s ++ room_check (length a.steps))
 
--- The step is refused by the first check that holds, or where none does for want of memory.
-abbrev pub IsRefusedFor : Option Refusal → Refusal → Type 0
-IsRefusedFor (Some first) r = r ≡ first
-IsRefusedFor None r = r ≡ NoMemory
+-- Room is made for so many steps at once: after so many there is none left.
+abbrev pub begins_piece : ℕ → Bool
+begins_piece taken = taken % PIECE == 0
+
+-- The step keeps something under a number: a task, a named action or a message.
+abbrev pub keeps_more : Step → Bool
+keeps_more (Insert i t k) = true
+keeps_more (ActionOpen i a) = true
+keeps_more (Send i j m) = true
+keeps_more _ = false
+
+-- The step asks for memory.
+abbrev pub asks_memory : Accepted → Step → Bool
+asks_memory a s = keeps_more s || begins_piece (length a.steps)
+
+-- A step is refused by the first check that holds, or where none does for want of memory, if it asks for some.
+abbrev pub IsRefusedFor : Option Refusal → Bool → Refusal → Type 0
+IsRefusedFor (Some first) asks r = r ≡ first
+IsRefusedFor None asks r = (r ≡ NoMemory) × IsTrue asks
 
 abbrev pub with_step : Accepted → Step → Accepted
 with_step a s = record a { steps = s ∷ a.steps }
@@ -65,7 +81,7 @@ next a s = if is_some (refusal a s) then a else with_step a s
 -- What a core that had accepted the old steps answers to the next one, and what it has accepted then.
 abbrev pub Answers : Accepted → Step → Result Reply Refusal → Accepted → Type 0
 Answers old s (Ok reply) new = (refusal old s ≡ None) × (reply ≡ reply_to old.nodes old.steps s) × (new ≡ with_step old s)
-Answers old s (Err r) new = IsRefusedFor (refusal old s) r × (new ≡ old)
+Answers old s (Err r) new = IsRefusedFor (refusal old s) (asks_memory old s) r × (new ≡ old)
 
 -- the answers to several steps, in order, and what has been accepted after them
 abbrev pub answers : Accepted → List Step → List (Result Reply Refusal)

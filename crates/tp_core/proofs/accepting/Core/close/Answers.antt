@@ -1,4 +1,5 @@
 use Rattle.std.proofs.Common.{arith, refl, ◌∙◌}
+use Rattle.std.proofs.lemmas.Result.{err_from_is_err_and}
 use Rattle.tp_base.specs.declared.Step.TheVariants.{ActionClose}
 use Rattle.tp_core.specs.World.{Named}
 use Rattle.tp_core.specs.Run.{IsLawful}
@@ -6,7 +7,7 @@ use Rattle.tp_core.specs.Kept.{accepted}
 use Rattle.tp_core.proofs.Keeping.{agree_next, numbers_written}
 use Rattle.tp_core.proofs.Bounds.{MayClose, may_close}
 use Rattle.tp_core.proofs.Tables.{named_closed}
-use Rattle.tp_core.proofs.Taking.{taken}
+use Rattle.tp_core.proofs.Taking.{taken, no_room}
 use Rattle.tp_core.proofs.accepting.Core.close.Goals as goal
 use Rattle.tp_core.proofs.accepting.Core.close.Goals.{After-make_room}
 
@@ -27,11 +28,18 @@ invariant_of-self-2 c =
     let agree = c.self.invariant in
     let s = ActionClose c.args.node c.args.action in
     let at = (goal.at.invariant_of-self-2 c).After-make_room in
-    agree_next s agree (lawful at) (c.in_ok-make_room.ensures.ok).0 refl refl refl c.make_room.ensures.items c.push_reserved.ensures.items
+    agree_next s agree (lawful at) (c.in_ok-make_room.ensures.ok).0 c.in_ok-make_room.ensures.pieces refl refl refl c.make_room.ensures.items c.push_reserved.ensures.items c.push_reserved.ensures.capacity
     (numbers_written s agree.numbers (lawful at) c.args.node.0 _ (may at).inside refl refl) refl refl agree.tasks
     (named_closed agree.actions _ c.args.node.0 c.args.action.0 _ (may at).once (may at).there c.set.ensures
     (λ i. c.without.ensures i ∙ rw (← c.in-Some.ensures) refl))
     agree.messages
+
+pub returns-in_err-make_room : goal.returns-in_err-make_room
+returns-in_err-make_room c =
+    let p = err_from_is_err_and c.from_residual.result c.from_residual.ensures.1 in
+    rw (p.1, p.2)
+    (no_room (ActionClose c.args.node c.args.action) c.self.invariant c.self.view_is (lawful (goal.at.returns-in_err-make_room c).After-make_room) _ c.in_err-make_room.ensures.err
+    c.make_room.ensures.items)
 
 pub returns : goal.returns
 returns c =

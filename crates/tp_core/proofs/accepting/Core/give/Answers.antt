@@ -1,5 +1,6 @@
 use Rattle.std.proofs.Common.{◌≡◌, Bool, true, false, Option, Some, None, refl, sym, subst, ap, arith}
 use Rattle.std.proofs.lemmas.Grind.{common_steps}
+use Rattle.std.proofs.lemmas.Result.{err_from_is_err_and}
 use Rattle.tp_base.specs.declared.Step.TheVariants.{Give}
 use Rattle.tp_base.specs.declared.Refusal.TheVariants.{NotIdle}
 use Rattle.tp_wave.proofs.Exact.{checks_exact}
@@ -14,7 +15,7 @@ use Rattle.tp_core.specs.Kept.{accepted}
 use Rattle.tp_core.proofs.Exact.{give_refused, give_active}
 use Rattle.tp_core.proofs.Bounds.{small}
 use Rattle.tp_core.proofs.Keeping.{agree_after, numbers_stay, zeros}
-use Rattle.tp_core.proofs.Taking.{taken, for_room}
+use Rattle.tp_core.proofs.Taking.{taken, no_room}
 use Rattle.std.specs.List.{slice_index_or}
 use Rattle.tp_core.proofs.accepting.Core.give.Goals as goal
 use Rattle.tp_core.proofs.accepting.Core.give.Goals.{After-give, After-make_room, in-Some, in-None}
@@ -61,15 +62,17 @@ returns-then-numbers-gt0 c =
 
 pub returns-in_err-make_room : goal.returns-in_err-make_room
 returns-in_err-make_room c =
-    let only_room = for_room (Give c.args.node) c.self.invariant c.self.view_is (lawful (goal.at.returns-in_err-make_room c).After-make_room) in
-    grind (arith, common_steps, only_room)
+    let p = err_from_is_err_and c.from_residual-in_err-make_room.result c.from_residual-in_err-make_room.ensures.1 in
+    rw (p.1, p.2)
+    (no_room (Give c.args.node) c.self.invariant c.self.view_is (lawful (goal.at.returns-in_err-make_room c).After-make_room) _ c.in_err-make_room.ensures.err
+    c.make_room.ensures.items)
 
 pub invariant_of-self-2 : goal.invariant_of-self-2
 invariant_of-self-2 c =
     let agree = c.self.invariant in
     let at = (goal.at.invariant_of-self-2 c).After-make_room in
     let there = counted (goal.at.invariant_of-self-2 c).After-give in
-    agree_after (Give c.args.node) agree (lawful at) (c.in_ok-make_room.ensures.ok).0 refl c.make_room.ensures.items c.push_reserved.ensures.items
+    agree_after (Give c.args.node) agree (lawful at) (c.in_ok-make_room.ensures.ok).0 c.in_ok-make_room.ensures.pieces refl c.make_room.ensures.items c.push_reserved.ensures.items c.push_reserved.ensures.capacity
     (numbers_stay (Give c.args.node) agree.numbers (lawful at) (λ x. refl)) refl refl agree.tasks agree.actions agree.messages
     (c.in_ok-sums.ensures.follows c.self.inside.nodes (accepted c.self.inside).steps agree.wave
     (ap (λ (x : NodeNumbers). x.sent) there) (ap (λ (x : NodeNumbers). x.received) there))

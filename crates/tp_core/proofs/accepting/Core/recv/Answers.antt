@@ -1,5 +1,6 @@
 use Rattle.std.proofs.Common.{◌≡◌, Some, arith, refl}
 use Rattle.std.proofs.lemmas.Grind.{common_steps}
+use Rattle.std.proofs.lemmas.Result.{err_from_is_err_and}
 use Rattle.tp_base.specs.declared.Step.TheVariants.{Recv}
 use Rattle.tp_core.specs.declared.posted.Stage.TheVariants as stage
 use Rattle.tp_base.specs.Table.{lookup}
@@ -9,7 +10,7 @@ use Rattle.tp_core.proofs.Sets.{lists_are_sets}
 use Rattle.tp_core.proofs.Keeping.{agree_next, numbers_written}
 use Rattle.tp_core.proofs.Bounds.{MayReceive, may_receive, small}
 use Rattle.tp_core.proofs.Tables.{received, message_received}
-use Rattle.tp_core.proofs.Taking.{taken}
+use Rattle.tp_core.proofs.Taking.{taken, no_room}
 use Rattle.tp_core.proofs.accepting.Core.recv.Goals as goal
 use Rattle.tp_core.proofs.accepting.Core.recv.Goals.{After-make_room}
 
@@ -41,11 +42,18 @@ invariant_of-self-2 c =
     let agree = c.self.invariant in
     let s = Recv c.args.node c.args.message in
     let at = (goal.at.invariant_of-self-2 c).After-make_room in
-    agree_next s agree (lawful at) (c.in_ok-make_room.ensures.ok).0 refl refl refl c.make_room.ensures.items c.push_reserved.ensures.items
+    agree_next s agree (lawful at) (c.in_ok-make_room.ensures.ok).0 c.in_ok-make_room.ensures.pieces refl refl refl c.make_room.ensures.items c.push_reserved.ensures.items c.push_reserved.ensures.capacity
     (numbers_written s agree.numbers (lawful at) c.args.node.0 _ (may at).inside refl refl) refl refl agree.tasks
     (received agree.actions _ c.args.message.0 c.args.node (was at) (rw c.new-received.ensures at c.set.ensures))
     (message_received agree.messages _ c.args.message.0 c.args.node ((lists_are_sets _ _ agree.is_run).messages c.args.message.0) (was at)
     (rw c.new-received.ensures at c.set.ensures))
+
+pub returns-in_err-make_room : goal.returns-in_err-make_room
+returns-in_err-make_room c =
+    let p = err_from_is_err_and c.from_residual.result c.from_residual.ensures.1 in
+    rw (p.1, p.2)
+    (no_room (Recv c.args.node c.args.message) c.self.invariant c.self.view_is (lawful (goal.at.returns-in_err-make_room c).After-make_room) _ c.in_err-make_room.ensures.err
+    c.make_room.ensures.items)
 
 pub returns : goal.returns
 returns c =

@@ -1,5 +1,6 @@
 use Rattle.std.proofs.Common.{◌≡◌, ◌<◌, None, arith, refl}
 use Rattle.std.proofs.lemmas.Bool.Decides.{nat_tests}
+use Rattle.std.proofs.lemmas.Result.{err_from_is_err_and}
 use Rattle.tp_base.specs.declared.Step.TheVariants.{Send}
 use Rattle.tp_base.specs.declared.limits.TheConstants.{MAX_NODES}
 use Rattle.tp_base.specs.Table.{lookup}
@@ -8,7 +9,7 @@ use Rattle.tp_core.specs.Kept.{accepted}
 use Rattle.tp_core.proofs.Keeping.{agree_next, numbers_written, zeros}
 use Rattle.tp_core.proofs.Bounds.{small}
 use Rattle.tp_core.proofs.Tables.{posted, message_sent}
-use Rattle.tp_core.proofs.Taking.{taken}
+use Rattle.tp_core.proofs.Taking.{no_memory, no_room, taken}
 use Rattle.tp_core.proofs.accepting.Core.send.Goals as goal
 use Rattle.tp_core.proofs.accepting.Core.send.Goals.{After-make_room}
 
@@ -35,10 +36,24 @@ invariant_of-self-2 c =
     let agree = c.self.invariant in
     let s = Send c.args.from c.args.to c.args.message in
     let at = (goal.at.invariant_of-self-2 c).After-make_room in
-    agree_next s agree (lawful at) (c.in_ok-make_room.ensures.ok).0 refl refl refl c.make_room.ensures.items c.push_reserved.ensures.items
+    agree_next s agree (lawful at) (c.in_ok-make_room.ensures.ok).0 c.in_ok-make_room.ensures.pieces refl refl refl c.make_room.ensures.items c.push_reserved.ensures.items c.push_reserved.ensures.capacity
     (numbers_written s agree.numbers (lawful at) c.args.from.0 _ (low at) refl refl) refl refl agree.tasks
     (posted agree.actions _ c.args.message.0 c.args.to (fresh at) (rw c.new-under_way.ensures at c.in_ok-insert.ensures.ok))
     (message_sent agree.messages _ c.args.from.0 c.args.message.0 c.args.to (fresh at) (rw c.new-under_way.ensures at c.in_ok-insert.ensures.ok))
+
+pub returns-in_err-make_room : goal.returns-in_err-make_room
+returns-in_err-make_room c =
+    let p = err_from_is_err_and c.from_residual.result c.from_residual.ensures.1 in
+    rw (p.1, p.2)
+    (no_room (Send c.args.from c.args.to c.args.message) c.self.invariant c.self.view_is (lawful (goal.at.returns-in_err-make_room c).After-make_room) _ c.in_err-make_room.ensures.err
+    c.make_room.ensures.items)
+
+pub returns-in_err-insert : goal.returns-in_err-insert
+returns-in_err-insert c =
+    let p = err_from_is_err_and c.from_residual-in_err-insert.result c.from_residual-in_err-insert.ensures.1 in
+    rw p.1
+    (no_memory (Send c.args.from c.args.to c.args.message) c.self.invariant c.self.view_is (lawful (goal.at.returns-in_err-insert c).After-make_room)
+    (c.in_ok-make_room.ensures.ok).0 refl _ p.2 c.make_room.ensures.items)
 
 pub returns : goal.returns
 returns c =

@@ -1,11 +1,12 @@
 use Rattle.std.proofs.Common.{refl, sym, arith}
 use Rattle.std.proofs.lemmas.Grind.{common_steps}
+use Rattle.std.proofs.lemmas.Result.{err_from_is_err_and}
 use Rattle.tp_base.specs.declared.Step.TheVariants.{Up}
 use Rattle.tp_wave.proofs.Exact.{checks_exact}
 use Rattle.tp_core.specs.Run.{IsLawful}
 use Rattle.tp_core.specs.Kept.{accepted}
 use Rattle.tp_core.proofs.Keeping.{agree_after, numbers_stay}
-use Rattle.tp_core.proofs.Taking.{taken, for_room, by_wave}
+use Rattle.tp_core.proofs.Taking.{taken, no_room, by_wave}
 use Rattle.tp_core.proofs.accepting.Core.up.Goals as goal
 use Rattle.tp_core.proofs.accepting.Core.up.Goals.{After-make_room}
 
@@ -21,14 +22,16 @@ returns-in_err-up c =
 
 pub returns-in_err-make_room : goal.returns-in_err-make_room
 returns-in_err-make_room c =
-    let only_room = for_room (Up c.args.node) c.self.invariant c.self.view_is (lawful (goal.at.returns-in_err-make_room c).After-make_room) in
-    grind (arith, common_steps, only_room)
+    let p = err_from_is_err_and c.from_residual-in_err-make_room.result c.from_residual-in_err-make_room.ensures.1 in
+    rw (p.1, p.2)
+    (no_room (Up c.args.node) c.self.invariant c.self.view_is (lawful (goal.at.returns-in_err-make_room c).After-make_room) _ c.in_err-make_room.ensures.err
+    c.make_room.ensures.items)
 
 pub invariant_of-self-2 : goal.invariant_of-self-2
 invariant_of-self-2 c =
     let agree = c.self.invariant in
     let at = (goal.at.invariant_of-self-2 c).After-make_room in
-    agree_after (Up c.args.node) agree (lawful at) (c.in_ok-make_room.ensures.ok).0 refl c.make_room.ensures.items c.push_reserved.ensures.items
+    agree_after (Up c.args.node) agree (lawful at) (c.in_ok-make_room.ensures.ok).0 c.in_ok-make_room.ensures.pieces refl c.make_room.ensures.items c.push_reserved.ensures.items c.push_reserved.ensures.capacity
     (numbers_stay (Up c.args.node) agree.numbers (lawful at) (λ x. refl)) refl refl agree.tasks agree.actions agree.messages
     (c.in_ok-up.ensures.follows c.self.inside.nodes (accepted c.self.inside).steps agree.wave)
 
