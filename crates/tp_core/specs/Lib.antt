@@ -7,3 +7,4 @@ pub mod Laws
 pub mod Accepted
 pub mod Kept
 pub mod NeverEarly
+pub mod Reached

@@ -1,0 +1,28 @@
+-- What is accepted is a run.
+use Rattle.std.proofs.Common.{ℕ, ◌≡◌, List, [], ◌∷◌, Option, None, Some, refl, ◌∙◌, arith, sym, subst}
+use Rattle.std.specs.Prelude.{is_some, if◌then◌else◌}
+use Rattle.tp_base.specs.declared.Step.{Step}
+use Rattle.tp_base.specs.declared.Refusal.{Refusal}
+use Rattle.tp_core.specs.Accepted.{Accepted, refusal, next, with_step, after_all}
+use Rattle.tp_core.specs.NeverEarly.{IsNeverEarly}
+use Rattle.tp_core.specs.Reached.{AcceptedIsNeverEarly}
+use Rattle.tp_core.specs.Run.{IsRun}
+use Rattle.tp_core.proofs.Exact.{lawful_where_none}
+use Rattle.tp_core.proofs.Early.{never_early}
+
+pub record Reaches (n : ℕ) (a : Accepted) : Type 0 where
+  pub nodes : a.nodes ≡ n
+  pub run : IsRun n a.steps
+
+one_more : (n : ℕ) (a : Accepted) (s : Step) (o : Option Refusal) → refusal a s ≡ o → Reaches n a → Reaches n (if is_some o then a else with_step a s)
+one_more n a s (Some r) e h = h
+one_more n a s None e h = record { nodes = h.nodes; run = (subst (λ (m : ℕ). Rattle.tp_core.specs.Run.IsLawful m a.steps s) h.nodes (lawful_where_none a s e).0, h.run) }
+
+all_reach : (n : ℕ) (a : Accepted) (later : List Step) → Reaches n a → Reaches n (after_all a later)
+all_reach n a [] h = h
+all_reach n a (s ∷ later) h = all_reach n (next a s) later (one_more n a s (refusal a s) refl h)
+
+pub accepted_never_early : AcceptedIsNeverEarly
+accepted_never_early a later e =
+    let r = (all_reach a.nodes a later (record { nodes = refl; run = rw e cc })).run in
+    (r, never_early a.nodes (after_all a later).steps r)
