@@ -1,7 +1,7 @@
 -- A request and the words that make it.
 use Rattle.std.specs.Prelude.{List, Option}
 use Rattle.clap.specs.Words.{Row, Text, subcommand_of}
-use Rattle.tp_cli.specs.Command.{IsRunNaming, IsSim, tp_app}
+use Rattle.tp_cli.specs.Command.{IsRunAt, IsRunNaming, IsSim, tp_app}
 use Rattle.tp_cli.specs.declared.request.Request.{Request}
 use Rattle.tp_cli.specs.declared.request.Request.TheVariants.{Sim, Run}
 use Rattle.tp_work.specs.Outcomes.{IsWithinLimits}
@@ -9,7 +9,8 @@ use Rattle.tp_work.specs.Outcomes.{IsWithinLimits}
 -- the subcommand that was found, with its matches, makes the request
 abbrev pub IsMadeBy : Option (Text × List Row) → Request → Type 0
 IsMadeBy found Sim = IsSim found
-IsMadeBy found (Run spec config) = IsRunNaming spec.now found × IsWithinLimits config
+IsMadeBy found (Run spec config) =
+    IsRunNaming spec.now found × IsWithinLimits config × IsRunAt config.nodes config.workers found
 
 abbrev pub IsAskedBy : List Text → Request → Type 0
 IsAskedBy words request = IsMadeBy (subcommand_of tp_app words) request

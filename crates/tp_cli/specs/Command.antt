@@ -1,11 +1,14 @@
 -- The command line as plain data, and what its words ask for. Of a parse clap says what it finds for each argument, and by
 -- which faults it fails, as functions of the command and the words.
-use Rattle.std.specs.Prelude.{◌≡◌, List, [], ◌∷◌, Option, Some, pos, true, codes}
+use Rattle.std.specs.Prelude.{ℕ, ◌≡◌, ◌≢◌, ◌≤◌, ◌⊎◌, List, [], ◌∷◌, Option, Some, pos, true, codes}
+use Rattle.std.specs.Str.Parse.{IsNumeral, without_leading_plus, digits_value}
+use Rattle.tp_base.specs.declared.limits.TheConstants.{MAX_NODES, MAX_WORKERS}
 use Rattle.clap.specs.Faults.{fault_of}
 use Rattle.clap.specs.Kinds.{IsAmong}
-use Rattle.clap.specs.Words.{App, Row, Rule, Text, first_of, new_app, new_rule, subcommand_of, with_rule, with_subcommand}
+use Rattle.clap.specs.Words.{App, Row, Rule, Text, first_of, one_of, new_app, new_rule, subcommand_of, with_rule, with_subcommand}
 use Rattle.clap.specs.declared.builder.value_parser.ValueParser.TheVariants.{Signed}
-use Rattle.clap.specs.declared.error.kind.ErrorKind.TheVariants.{DisplayHelp, DisplayVersion}
+use Rattle.clap.specs.declared.error.kind.ErrorKind.{ErrorKind}
+use Rattle.clap.specs.declared.error.kind.ErrorKind.TheVariants.{DisplayHelp, DisplayVersion, MissingSubcommand, OutOfMemory}
 
 -- an option that takes a number from 1 to 8, and is 1 where it is left out
 abbrev pub count_rule : Text → Rule
@@ -36,26 +39,67 @@ with_version a = record a { top = record a.top { has_version = true } }
 abbrev pub tp_app : App
 tp_app = with_subcommand (with_subcommand (with_required (with_version (new_app (codes "tp")))) sim_app.top) run_app.top
 
--- the words ask for help
-abbrev pub AsksForHelp : List Text → Type 0
-AsksForHelp words = IsAmong DisplayHelp (fault_of tp_app words)
+-- ---- what was found: a subcommand and its matches
 
--- the words ask for the version
-abbrev pub AsksForVersion : List Text → Type 0
-AsksForVersion words = IsAmong DisplayVersion (fault_of tp_app words)
-
--- what was found, a subcommand and its matches, is `sim`
+-- it is `sim`
 abbrev pub IsSim : Option (Text × List Row) → Type 0
 IsSim found = (rows : List Row) × (found ≡ Some (codes "sim", rows))
 
--- what was found is `run`, with this word for SPEC
+-- it is `run`, with this word for SPEC
 abbrev pub IsRunNaming : Text → Option (Text × List Row) → Type 0
 IsRunNaming spec found = (rows : List Row) × (found ≡ Some (codes "run", rows)) × (first_of (codes "SPEC") rows ≡ Some spec)
 
--- the words ask for the answers to a script
+-- Where the option's text spells a number from 1 to so many, that is this one.
+abbrev pub IsCount : ℕ → Text → List Row → ℕ → Type 0
+IsCount most name rows k = (t : Text) → one_of name rows ≡ Some t → IsNumeral 10 (without_leading_plus t)
+    → 1 ≤ digits_value 10 (without_leading_plus t) → digits_value 10 (without_leading_plus t) ≤ most → k ≡ digits_value 10 (without_leading_plus t)
+
+-- it is `run`, at so many nodes with so many workers
+abbrev pub IsRunAt : ℕ → ℕ → Option (Text × List Row) → Type 0
+IsRunAt nodes workers found = (rows : List Row) × (found ≡ Some (codes "run", rows))
+    × IsCount MAX_NODES (codes "nodes") rows nodes × IsCount MAX_WORKERS (codes "workers") rows workers
+
+-- it is neither `sim` nor `run` with its word
+abbrev pub IsNeither : Option (Text × List Row) → Type 0
+IsNeither found = ¬ IsSim found × ((spec : Text) → ¬ IsRunNaming spec found)
+
+-- ---- what the words ask for
+
+-- help
+abbrev pub AsksForHelp : List Text → Type 0
+AsksForHelp words = IsAmong DisplayHelp (fault_of tp_app words)
+
+-- the version
+abbrev pub AsksForVersion : List Text → Type 0
+AsksForVersion words = IsAmong DisplayVersion (fault_of tp_app words)
+
+-- the answers to a script
 abbrev pub AsksForSim : List Text → Type 0
 AsksForSim words = IsSim (subcommand_of tp_app words)
 
--- the words ask for a run of the pool that this one of them names
+-- a run of the pool that this one of them names
 abbrev pub AsksForRun : List Text → Text → Type 0
 AsksForRun words spec = IsRunNaming spec (subcommand_of tp_app words)
+
+-- a run at so many nodes, with some number of workers
+abbrev pub AsksForNodes : List Text → ℕ → Type 0
+AsksForNodes words nodes = (workers : ℕ) × IsRunAt nodes workers (subcommand_of tp_app words)
+
+-- nothing that is known
+abbrev pub AsksForNothing : List Text → Type 0
+AsksForNothing words = IsNeither (subcommand_of tp_app words)
+
+-- ---- why the words make no request
+
+-- help or the version is asked for
+abbrev pub IsToBeShown : ErrorKind → Type 0
+IsToBeShown kind = (kind ≡ DisplayHelp) ⊎ (kind ≡ DisplayVersion)
+
+-- The words make no request by this kind: there was no memory, or it is among the faults of the words, or they ask for nothing.
+abbrev pub FailsAs : List Text → ErrorKind → Type 0
+FailsAs words kind =
+    (kind ≡ OutOfMemory) ⊎ (IsAmong kind (fault_of tp_app words) ⊎ ((kind ≡ MissingSubcommand) × AsksForNothing words))
+
+-- The words are at fault: of their faults one asks for neither help nor the version, or they ask for nothing.
+abbrev pub AreAtFault : List Text → Type 0
+AreAtFault words = ((kind : ErrorKind) × ¬ IsToBeShown kind × IsAmong kind (fault_of tp_app words)) ⊎ AsksForNothing words

@@ -1,5 +1,5 @@
-pub mod Answered
 pub mod Asked
 pub mod Command
+pub mod Ends
 pub mod Runs
 pub mod Status

@@ -1,14 +1,11 @@
--- What a run of `tp run` did.
-use Rattle.std.specs.Prelude.{ℕ, ◌≡◌, ◌++◌, List, Option, codes, decimal}
-use Rattle.std.specs.Io.KnownBytes.{Appends}
-use Rattle.clap.specs.Words.{Text}
+-- The text of a pool's run.
+use Rattle.std.specs.Prelude.{ℕ, ◌≡◌, ◌≢◌, ◌++◌, List, codes, decimal}
 use Rattle.tp_base.specs.Refusals.{number_of, name_of}
 use Rattle.tp_base.specs.declared.refusal.Refusal.{Refusal}
 use Rattle.tp_samples.specs.Any.{any_graph}
 use Rattle.tp_samples.specs.Tables.{table_of, table_text}
 use Rattle.tp_samples.specs.Words.{word_of}
 use Rattle.tp_samples.specs.declared.any.AnyGraph.{AnyGraph}
-use Rattle.tp_cli.specs.Command.{AsksForRun}
 use Rattle.tp_text.specs.Spelling.{line}
 use Rattle.tp_work.specs.Outcomes.{IsOutcome}
 use Rattle.tp_work.specs.declared.config.Outcome.{Outcome}
@@ -25,15 +22,13 @@ run_text g messages = table_text (table_of g) ++ totals_text (any_graph g).tasks
 abbrev pub IsTextOf : AnyGraph → ℕ → List ℕ → Type 0
 IsTextOf g n text = (o : Outcome) × IsOutcome n (any_graph g) o × (text ≡ run_text g o.messages)
 
--- The word names a graph, and the text of a run of it on n nodes was written and nothing else.
-abbrev pub IsRunOf : List ℕ → ℕ → Option (List ℕ) → Option (List ℕ) → Type 0
-IsRunOf word n written_old written_new =
-    (g : AnyGraph) × (text : List ℕ) × (word ≡ word_of g) × IsTextOf g n text × Appends written_old written_new text
+-- The word names a graph, and this is the text of a run of it on n nodes to its judged end.
+abbrev pub IsTextFor : List ℕ → ℕ → List ℕ → Type 0
+IsTextFor word n text = (g : AnyGraph) × (word ≡ word_of g) × IsTextOf g n text
 
--- The words ask for a run of the pool that one of them names, and the text of one was written and nothing else.
-abbrev pub IsRunFor : List Text → Option (List ℕ) → Option (List ℕ) → Type 0
-IsRunFor words written_old written_new =
-    (word : Text) × (n : ℕ) × AsksForRun words word × IsRunOf word n written_old written_new
+-- no graph has this word
+abbrev pub NamesNoGraph : List ℕ → Type 0
+NamesNoGraph word = (g : AnyGraph) → word ≢ word_of g
 
 -- the line of a refusal
 abbrev pub refusal_line : Refusal → List ℕ

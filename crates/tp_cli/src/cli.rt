@@ -1,12 +1,14 @@
-ghost use Rattle.std.specs.Prelude.{◌≡◌, ◌≢◌, ◌≤◌, ◌⊎◌, map};
+ghost use Rattle.std.specs.Prelude.{◌≡◌, ◌≢◌, ◌≤◌, ◌⊎◌, List, ℕ, map};
+ghost use Rattle.std.specs.Io.KnownBytes.{Appends};
 ghost use Rattle.clap.specs.Values.{kind_of};
-ghost use Rattle.clap.specs.declared.error.kind.ErrorKind.TheVariants.{DisplayHelp, DisplayVersion};
+ghost use Rattle.clap.specs.declared.error.kind.ErrorKind.TheVariants.{OutOfMemory};
+ghost use Rattle.tp_text.specs.declared.Verdict.{Verdict};
 ghost use Rattle.tp_text.specs.declared.Verdict.TheVariants.{Sound, Refused as RefusedText};
-ghost use Rattle.tp_cli.specs.Answered.{IsAnswered};
-ghost use Rattle.tp_cli.specs.Command.{AsksForHelp, AsksForSim, AsksForVersion};
-ghost use Rattle.tp_cli.specs.Runs.{IsRunFor, IsRunOf};
+ghost use Rattle.tp_cli.specs.Command.{AsksForSim, IsToBeShown};
+ghost use Rattle.tp_cli.specs.Ends.{Complained, CouldNotWrite, IsAnswerTo, RefusedScript, Succeeded};
+ghost use Rattle.tp_cli.specs.Runs.{IsTextFor, NamesNoGraph};
 ghost use Rattle.tp_cli.specs.Status.{fault_line};
-ghost use Rattle.tp_cli.specs.declared.status.Status.TheVariants.{Done, Refused};
+ghost use Rattle.tp_cli.specs.declared.status.Status.TheVariants.{Done, Failed, Fault, Refused};
 ghost use Rattle.tp_work.specs.Outcomes.{IsWithinLimits};
 
 use crate::request::{Request, requested};
@@ -15,7 +17,7 @@ use crate::status::Status;
 use clap::Error;
 use clap::error::ErrorKind;
 use std::alloc::Global;
-use std::io::{Read, Write};
+use std::io::{self, Read, Write};
 use std::sync::Wait;
 use std::thread::Threads;
 use tp_text::{TextFault, sim};
@@ -34,15 +36,19 @@ pub fn main_with<R: Threads + Wait + Sync, I: Read, O: Write, E: Write>(
     err: &mut E,
 ) -> u8
     ensures range { result ≤ 3 }
-    // Where it is done, a sound text was answered, or help or the version was asked for and nothing was read, or a pool was
-    // run to its end and nothing was read.
-    ensures done { result ≡ 0 →
-        (AsksForSim (map (λ w. w.now) words.now)
-        × IsAnswered (I.remaining reader.old) (I.remaining reader.new) (O.contents out.old) (O.contents out.new) Sound)
-        ⊎ (((AsksForHelp (map (λ w. w.now) words.now) ⊎ AsksForVersion (map (λ w. w.now) words.now)) × (reader.new ≡ reader.old))
-        ⊎ (IsRunFor (map (λ w. w.now) words.now) (O.contents out.old) (O.contents out.new) × (reader.new ≡ reader.old))) }
-    ensures refused { result ≡ 2 → AsksForSim (map (λ w. w.now) words.now)
-        × IsAnswered (I.remaining reader.old) (I.remaining reader.new) (O.contents out.old) (O.contents out.new) RefusedText }
+    // 0: what was asked for was written and nothing else, and nothing is complained of.
+    ensures succeeded { result ≡ 0 → (err.new ≡ err.old) × Succeeded (map (λ w. w.now) words.now)
+        (I.remaining reader.old) (I.remaining reader.new) (O.contents out.old) (O.contents out.new) }
+    // 1: the writing failed, of what was made in full; or nothing was written, for a fault of the words or of the reading.
+    ensures complained { result ≡ 1 → CouldNotWrite (map (λ w. w.now) words.now) (I.remaining reader.old) (I.remaining reader.new)
+        ⊎ ((out.new ≡ out.old) × Complained (map (λ w. w.now) words.now)) }
+    // 2: the line of the script's first fault was written and nothing else, and nothing is complained of.
+    ensures refused { result ≡ 2 → (err.new ≡ err.old) × RefusedScript (map (λ w. w.now) words.now)
+        (I.remaining reader.old) (I.remaining reader.new) (O.contents out.old) (O.contents out.new) }
+    // 3: a run was refused, or memory was, and nothing was written.
+    ensures failed { result ≡ 3 → out.new ≡ out.old }
+    // A script alone is read.
+    ensures unread { AsksForSim (map (λ w. w.now) words.now) ⊎ (reader.new ≡ reader.old) }
 {
     let status = match requested(alloc, words) {
         Ok(Request::Sim) => answer_script(alloc, reader, out, err),
@@ -52,15 +58,23 @@ pub fn main_with<R: Threads + Wait + Sync, I: Read, O: Write, E: Write>(
     status as u8
 }
 
-/// Answers a script. A status of 0 or 2 says that all was read, and that what is answered to it was written and nothing else.
+/// Answers a script.
 fn answer_script<I: Read, O: Write, E: Write>(
     alloc: Global,
     reader: &mut I,
     out: &mut O,
     err: &mut E,
 ) -> Status
-    ensures sound { result ≡ Done → IsAnswered (I.remaining reader.old) (I.remaining reader.new) (O.contents out.old) (O.contents out.new) Sound }
-    ensures refused { result ≡ Refused → IsAnswered (I.remaining reader.old) (I.remaining reader.new) (O.contents out.old) (O.contents out.new) RefusedText }
+    ensures done { result ≡ Done → (err.new ≡ err.old) × ((text : List ℕ)
+        × IsAnswerTo (I.remaining reader.old) (I.remaining reader.new) Sound text
+        × Appends (O.contents out.old) (O.contents out.new) text) }
+    ensures refused { result ≡ Refused → (err.new ≡ err.old) × ((text : List ℕ)
+        × IsAnswerTo (I.remaining reader.old) (I.remaining reader.new) RefusedText text
+        × Appends (O.contents out.old) (O.contents out.new) text) }
+    ensures fault { result ≡ Fault →
+        ((verdict : Verdict) × (text : List ℕ) × IsAnswerTo (I.remaining reader.old) (I.remaining reader.new) verdict text)
+        ⊎ (out.new ≡ out.old) }
+    ensures failed { result ≡ Failed → out.new ≡ out.old }
 {
     match sim(alloc, reader, out) {
         Ok(verdict) => Status::of_verdict(verdict),
@@ -71,7 +85,7 @@ fn answer_script<I: Read, O: Write, E: Write>(
     }
 }
 
-/// Runs the pool that a word names. A status of 0 says that its text was written and nothing else.
+/// Runs the pool that a word names.
 fn run_named<R: Threads + Wait + Sync, O: Write, E: Write>(
     rt: &R,
     alloc: Global,
@@ -81,7 +95,11 @@ fn run_named<R: Threads + Wait + Sync, O: Write, E: Write>(
     err: &mut E,
 ) -> Status
     requires { IsWithinLimits config }
-    ensures done { result ≡ Done → IsRunOf spec.now config.nodes (O.contents out.old) (O.contents out.new) }
+    ensures done { result ≡ Done → (err.new ≡ err.old) × ((text : List ℕ)
+        × IsTextFor spec.now config.nodes text × Appends (O.contents out.old) (O.contents out.new) text) }
+    ensures fault { result ≡ Fault → ((text : List ℕ) × IsTextFor spec.now config.nodes text)
+        ⊎ ((out.new ≡ out.old) × NamesNoGraph spec.now) }
+    ensures failed { result ≡ Failed → out.new ≡ out.old }
     ensures never { result ≢ Refused }
 {
     match run(rt, alloc, spec, config, out) {
@@ -110,7 +128,10 @@ fn fault_text(fault: TextFault) -> &'static str
 
 /// Shows help or the version where it was asked for, and else what is wrong with the words.
 fn explain<O: Write, E: Write>(error: &Error, out: &mut O, err: &mut E) -> Status
-    ensures shown { result ≡ Done → (kind_of error.now ≡ DisplayHelp) ⊎ (kind_of error.now ≡ DisplayVersion) }
+    ensures done { result ≡ Done → (err.new ≡ err.old) × IsToBeShown (kind_of error.now) }
+    ensures fault { result ≡ Fault → IsToBeShown (kind_of error.now)
+        ⊎ ((out.new ≡ out.old) × (kind_of error.now ≢ OutOfMemory) × ¬ IsToBeShown (kind_of error.now)) }
+    ensures failed { result ≡ Failed → out.new ≡ out.old }
     ensures never { result ≢ Refused }
 {
     match error.kind() {
@@ -118,7 +139,7 @@ fn explain<O: Write, E: Write>(error: &Error, out: &mut O, err: &mut E) -> Statu
             let _ = err.write_all(fault_text(TextFault::Memory).as_bytes());
             Status::Failed
         }
-        ErrorKind::DisplayHelp | ErrorKind::DisplayVersion => match write!(out, "{error}") {
+        ErrorKind::DisplayHelp | ErrorKind::DisplayVersion => match show(error, out) {
             Ok(()) => Status::Done,
             Err(_) => {
                 let _ = err.write_all(fault_text(TextFault::Write).as_bytes());
@@ -130,4 +151,10 @@ fn explain<O: Write, E: Write>(error: &Error, out: &mut O, err: &mut E) -> Statu
             Status::Fault
         }
     }
+}
+
+/// Writes the parser's own text.
+fn show<O: Write>(error: &Error, out: &mut O) -> io::Result<()> {
+    write!(out, "{error}")?;
+    out.flush()
 }

@@ -1,9 +1,9 @@
-ghost use Rattle.std.specs.Prelude.{◌≡◌, ◌≤◌, IfErr, IfOk, IfSome, map};
+ghost use Rattle.std.specs.Prelude.{◌≡◌, ◌≤◌, ℕ, List, Some, IfErr, IfOk, MatchOption, map};
+ghost use Rattle.std.specs.Str.Parse.{IsNumeral, without_leading_plus, digits_value};
 ghost use Rattle.clap.specs.Values.{kind_of};
-ghost use Rattle.clap.specs.declared.error.kind.ErrorKind.TheVariants.{DisplayHelp, DisplayVersion};
-ghost use Rattle.clap.specs.Words.{subcommand_rows_of};
+ghost use Rattle.clap.specs.Words.{found_of, one_text, subcommand_rows_of};
 ghost use Rattle.tp_cli.specs.Asked.{IsAskedBy, IsMadeBy};
-ghost use Rattle.tp_cli.specs.Command.{AsksForHelp, AsksForVersion};
+ghost use Rattle.tp_cli.specs.Command.{FailsAs, IsNeither};
 
 use crate::command::tp_command;
 use clap::error::ErrorKind;
@@ -27,8 +27,7 @@ pub(crate) enum Request<'a> {
 /// The request that the words make.
 pub(crate) fn requested<'a>(alloc: Global, words: &'a [&'a str]) -> Result<Request<'a>, Error>
     ensures asked { IfOk result (IsAskedBy (map (λ w. w.now) words.entry.now)) }
-    ensures help { IfErr result (λ e. kind_of e ≡ DisplayHelp → AsksForHelp (map (λ w. w.now) words.entry.now)) }
-    ensures version { IfErr result (λ e. kind_of e ≡ DisplayVersion → AsksForVersion (map (λ w. w.now) words.entry.now)) }
+    ensures why { IfErr result (λ error. FailsAs (map (λ w. w.now) words.entry.now) (kind_of error)) }
 {
     let mut command = tp_command(alloc)?;
     let matches = command.try_get_matches_from_mut(words)?;
@@ -40,7 +39,7 @@ pub(crate) fn requested<'a>(alloc: Global, words: &'a [&'a str]) -> Result<Reque
 
 /// The request that the matches make.
 fn asked<'a>(matches: &ArgMatches<'a>) -> Option<Request<'a>>
-    ensures { IfSome result (IsMadeBy (subcommand_rows_of matches.now)) }
+    ensures { MatchOption result (IsNeither (subcommand_rows_of matches.now)) (IsMadeBy (subcommand_rows_of matches.now)) }
 {
     match matches.subcommand()? {
         ("sim", _) => Some(Request::Sim),
@@ -59,7 +58,11 @@ fn asked<'a>(matches: &ArgMatches<'a>) -> Option<Request<'a>>
 /// The value of an option that takes a number from 1 to so many. The parser has let no other through.
 fn count_of(arguments: &ArgMatches, id: &str, most: u32) -> u32
     requires { 1 ≤ most }
-    ensures { (1 ≤ result) × (result ≤ most) }
+    ensures range { (1 ≤ result) × (result ≤ most) }
+    // Where the option's text spells a number in that range, it is that number.
+    ensures asked { (t : List ℕ) → one_text (found_of arguments.now) id.now ≡ Some t → IsNumeral 10 (without_leading_plus t)
+        → 1 ≤ digits_value 10 (without_leading_plus t) → digits_value 10 (without_leading_plus t) ≤ most
+        → result ≡ digits_value 10 (without_leading_plus t) }
 {
     arguments.get_one::<u32>(id).unwrap_or(1).clamp(1, most)
 }

@@ -1,12 +1,9 @@
-ghost use Rattle.std.specs.Prelude.{◌≡◌, ◌≢◌, ◌↔◌, ◌++◌, IfErr, IfOk, OnErr, OnOk, Err};
+ghost use Rattle.std.specs.Prelude.{◌≡◌, ◌≢◌, ◌↔◌, ℕ, List, IfErr, IfOk, OnOk, Err};
 ghost use Rattle.std.specs.Io.KnownBytes.{Appends};
 ghost use Rattle.std.specs.String.{string_bytes};
 ghost use Rattle.tp_base.specs.declared.refusal.Refusal.TheVariants.{BadSpec, NoMemory};
-ghost use Rattle.tp_samples.specs.Any.{any_graph};
-ghost use Rattle.tp_samples.specs.Words.{word_of};
-ghost use Rattle.tp_samples.specs.declared.any.AnyGraph.{AnyGraph};
-ghost use Rattle.tp_cli.specs.Runs.{IsRunOf, IsTextOf, refusal_line, totals_text};
-ghost use Rattle.tp_work.specs.Outcomes.{IsOutcome, IsWithinLimits};
+ghost use Rattle.tp_cli.specs.Runs.{IsTextFor, IsTextOf, NamesNoGraph, refusal_line, totals_text};
+ghost use Rattle.tp_work.specs.Outcomes.{IsWithinLimits};
 
 use std::alloc::{AllocError, Global};
 use std::io::{self, Write};
@@ -37,8 +34,11 @@ pub(crate) fn run<O: Write, R: Threads + Wait + Sync>(
     out: &mut O,
 ) -> Result<(), RunFault>
     requires { IsWithinLimits config }
-    ensures ran { OnOk result (IsRunOf spec.now config.nodes (O.contents out.old) (O.contents out.new)) }
-    ensures unnamed { (result ≡ Err (RunFault.Spec BadSpec)) ↔ ((graph : AnyGraph) → spec.now ≢ word_of graph) }
+    ensures ran { OnOk result ((text : List ℕ) × IsTextFor spec.now config.nodes text
+        × Appends (O.contents out.old) (O.contents out.new) text) }
+    // Where the text could not be written, it was made.
+    ensures made { IfErr result (λ fault. fault ≡ RunFault.Write → (text : List ℕ) × IsTextFor spec.now config.nodes text) }
+    ensures unnamed { (result ≡ Err (RunFault.Spec BadSpec)) ↔ NamesNoGraph spec.now }
     ensures named { IfErr result (λ fault. (refusal : _) → fault ≡ RunFault.Spec refusal → refusal ≡ BadSpec) }
     ensures unwritten { IfErr result (λ fault. fault ≢ RunFault.Write → out.new ≡ out.old) }
 {

@@ -6,3 +6,4 @@ pub mod NoLine
 pub mod Unique
 pub mod Printed
 pub mod Taking
+pub mod Judged

@@ -5,3 +5,4 @@ pub mod Keywords
 pub mod Input
 pub mod SimText
 pub mod Printed
+pub mod Ended

@@ -1,8 +1,10 @@
 ghost use Rattle.std.specs.Prelude.{◌≡◌, ◌≢◌, ◌+◌, ◌≤◌, ◌++◌, ℕ, List, length, codes, decimal, IfOk, OnOk, IfErr, IsErrOf};
 ghost use Rattle.std.specs.Io.KnownBytes.{Consumes, Appends};
+ghost use Rattle.tp_text.specs.Ended.{EndedIsNeverEarly};
 ghost use Rattle.tp_text.specs.Input.{ReadsAll};
 ghost use Rattle.tp_text.specs.Spelling.{line};
 ghost use Rattle.tp_text.specs.SimText.{IsSimText};
+ghost use Rattle.tp_text.specs.declared.verdict.Verdict.{Verdict};
 ghost use Rattle.tp_text.specs.declared.input.TheConstants.{MAX_TEXT};
 
 use crate::fault::TextFault;
@@ -59,6 +61,11 @@ pub fn sim<R: Read, W: Write>(
     ensures ok { IfOk result (λ verdict. (bytes : List ℕ) × (text : List ℕ)
         × ReadsAll (R.remaining reader.old) (R.remaining reader.new) bytes × (length bytes ≤ MAX_TEXT)
         × IsSimText bytes verdict text × Appends (W.contents writer.old) (W.contents writer.new) text) }
+    // Where a line of the answer is `ended W`, nothing was left from the end of wave W on.
+    ensures never_early { IfOk result (λ _. EndedIsNeverEarly) }
+    // Where the answer could not be written, it was made, from all that there was.
+    ensures made { IsErrOf result TextFault.Write → (verdict : Verdict) × (bytes : List ℕ) × (text : List ℕ)
+        × ReadsAll (R.remaining reader.old) (R.remaining reader.new) bytes × IsSimText bytes verdict text }
     // One byte more than a text may have was read.
     ensures too_long { IsErrOf result TextFault.TooLong → (bytes : List ℕ)
         × Consumes (R.remaining reader.old) (R.remaining reader.new) bytes × (length bytes ≡ MAX_TEXT + 1) }

@@ -1,17 +1,18 @@
+use Rattle.std.proofs.Common.{inr, map}
 use Rattle.clap.proofs.TakesLemmas.{passed_up}
 use Rattle.clap.specs.Words.{app_of}
-use Rattle.clap.specs.declared.error.kind.ErrorKind.TheVariants.{DisplayHelp, DisplayVersion}
-use Rattle.tp_cli.proofs.Asked.{help_is_no_lack, kind_asked, version_is_no_lack}
+use Rattle.tp_cli.proofs.Asked.{fails_as, neither_asked}
 use Rattle.tp_cli.proofs.request.requested.Goals as goal
 
-pub returns-in_err-matches-clause-help : goal.returns-in_err-matches-clause-help
-returns-in_err-matches-clause-help c =
+pub returns-in_err-matches-clause-why : goal.returns-in_err-matches-clause-why
+returns-in_err-matches-clause-why c =
     let error = c.in_err-matches.field-0.0 in
     passed_up c.from_residual-in_err-matches.result error _ c.from_residual-in_err-matches.ensures.1
-    (kind_asked error (app_of c.in_ok-command.command) _ DisplayHelp help_is_no_lack c.in_ok-command.ensures c.in_err-matches.ensures.kinds)
+    (fails_as error (app_of c.in_ok-command.command) _ c.in_ok-command.ensures c.in_err-matches.ensures.kinds)
 
-pub returns-in_err-matches-clause-version : goal.returns-in_err-matches-clause-version
-returns-in_err-matches-clause-version c =
-    let error = c.in_err-matches.field-0.0 in
-    passed_up c.from_residual-in_err-matches.result error _ c.from_residual-in_err-matches.ensures.1
-    (kind_asked error (app_of c.in_ok-command.command) _ DisplayVersion version_is_no_lack c.in_ok-command.ensures c.in_err-matches.ensures.kinds)
+pub returns-clause-why : goal.returns-clause-why
+returns-clause-why c =
+    inr (inr (
+      c.in_ok-error-in-None.ensures.kind,
+      neither_asked (app_of c.in_ok-command.command) _ c.in_ok-matches.matches c.in_ok-command.ensures c.in_ok-matches.ensures.ok.2 c.in-None.ensures,
+    ))

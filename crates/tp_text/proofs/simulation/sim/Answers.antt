@@ -1,0 +1,5 @@
+use Rattle.tp_text.proofs.Judged.{ended_never_early}
+use Rattle.tp_text.proofs.simulation.sim.Goals as goal
+
+pub returns-clause-never_early : goal.returns-clause-never_early
+returns-clause-never_early g c = ended_never_early
