@@ -16,9 +16,10 @@ ghost use Rattle.tp_base.specs.declared.refusal.Refusal.TheVariants.{Stranger, W
 use crate::node::Node;
 use crate::node::tasks::make_room;
 use crate::wire::Wire;
+use crate::work::Finished;
 use tp_base::{MessageId, Refusal, Step};
 use tp_board::{Board, Ledgers};
-use tp_graph::{Feed, Finished, Graph, Message, Parcel};
+use tp_graph::{Feed, Graph, Message, Parcel};
 
 impl<G: Graph, K: Ledgers> Node<G, K> {
     /// Passes the next feed of a task that runs here on to the node at the end of a wire. The number of the message is
