@@ -3,9 +3,9 @@ ghost use Rattle.tp_graph.specs.Producers.{IsTable};
 ghost use Rattle.tp_graph.specs.Serial.{AreValues, IsSerialRefusal};
 ghost use Rattle.tp_graph.specs.Values.{value_of, AreInputs, IsRefusal};
 
+use crate::body::run_body;
 use crate::graph::Graph;
 use crate::value::Value;
-use crate::work::Work;
 use smallvec::SmallVec;
 use std::alloc::{AllocError, Global};
 use tp_base::{Refusal, TaskId};
@@ -53,10 +53,7 @@ fn value_after<G: Graph>(
     ensures { MatchResult result (λ made. value_of (G.meaning graph) task ≡ Some made) (IsRefusal (value_of (G.meaning graph) task)) }
 {
     let inputs = inputs_after(alloc, graph, table, results, task)?;
-    match Work::new(graph, TaskId(task), inputs).perform(alloc) {
-        Ok(finished) => Ok(finished.into_value()),
-        Err((refusal, _)) => Err(refusal),
-    }
+    run_body(alloc, &graph, TaskId(task), inputs.as_slice())
 }
 
 /// The inputs of a task, from the values of all lower ones.

@@ -52,7 +52,7 @@ len_empty = set.len-empty nat_cmp
 pub len_with : (s : set.FinSet nat_cmp) (n : ℕ) → set.contains s n ≡ false → set.len (set.insert s n) ≡ set.len s + 1
 len_with s n h = set.len-insert nat_cmp_total s n ∙ ap (λ b. cond b (set.len s) (set.len s + 1)) h
 
-above_zero : (k : ℕ) → (k ≡ 0 → ⊥) → 0 < k
+pub above_zero : (k : ℕ) → (k ≡ 0 → ⊥) → 0 < k
 above_zero zero h = absurd (h refl)
 above_zero (suc k) h = omega arith
 

@@ -1,3 +1,4 @@
 pub mod FiniteSets
+pub mod FiniteMaps
 pub mod Refusals
 pub mod Idle

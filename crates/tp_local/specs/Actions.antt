@@ -1,27 +1,40 @@
 -- The open actions of a node. Each is the opening one, a named one, or that of a message that was received.
-use Rattle.std.specs.Prelude.{ℕ, ◌+◌, Bool, true, false, if◌then◌else◌, refl}
+use Rattle.std.specs.Prelude.{ℕ, ◌+◌, ◌≡◌, Bool, true, false, Some, if◌then◌else◌, refl}
 use Rattle.std.specs.Ordering.{nat_cmp}
+use Rattle.std.specs.FinMap as finite
 use Rattle.std.specs.FinSet as set
 use Rattle.std.specs.Coded.{Coded, code_by, coded×, coded_ℕ, coded_bool}
+use Rattle.tp_graph.specs.declared.feed.Feed.{Feed}
 
--- whether the opening action is open, and the numbers of the named actions and of the messages whose actions are open
+-- Whether the opening action is open, the numbers of the named actions that are, and, by the numbers of the messages whose
+-- actions are open, the feed that each of these messages brought.
 pub record Actions : Type 0 where
   pub opening : Bool
   pub named : set.FinSet nat_cmp
-  pub messages : set.FinSet nat_cmp
+  pub messages : finite.FinMap nat_cmp Feed
+
+-- how a proof tells feeds apart
+abbrev pub feed_code : Coded Feed
+feed_code =
+    code_by
+    (ℕ × (ℕ × ℕ))
+    (coded× coded_ℕ (coded× coded_ℕ coded_ℕ))
+    (λ f. (f.producer.0, (f.target.0, f.slot)))
+    (λ p. record { producer = record { 0 = p.0 }; target = record { 0 = p.1.0 }; slot = p.1.1 })
+    (λ _. refl)
 
 abbrev pub actions_code : Coded Actions
 actions_code =
     code_by
-    (Bool × (set.FinSet nat_cmp × set.FinSet nat_cmp))
-    (coded× coded_bool (coded× (set.code coded_ℕ) (set.code coded_ℕ)))
+    (Bool × (set.FinSet nat_cmp × finite.FinMap nat_cmp Feed))
+    (coded× coded_bool (coded× (set.code coded_ℕ) (finite.code coded_ℕ feed_code)))
     (λ a. (a.opening, (a.named, a.messages)))
     (λ p. record { opening = p.0; named = p.1.0; messages = p.1.1 })
     (λ _. refl)
 
 -- A node begins with its opening action alone.
 abbrev pub first_actions : Actions
-first_actions = record { opening = true; named = set.empty; messages = set.empty }
+first_actions = record { opening = true; named = set.empty; messages = finite.empty }
 
 -- 1 while the opening action is open
 abbrev pub opening_count : Actions → ℕ
@@ -29,7 +42,7 @@ opening_count a = if a.opening then 1 else 0
 
 -- how many actions are open
 abbrev pub open_count : Actions → ℕ
-open_count a = set.len a.named + set.len a.messages + opening_count a
+open_count a = set.len a.named + finite.len a.messages + opening_count a
 
 abbrev pub without_opening : Actions → Actions
 without_opening a = record a { opening = false }
@@ -40,8 +53,17 @@ with_named a number = record a { named = set.insert a.named number }
 abbrev pub without_named : Actions → ℕ → Actions
 without_named a number = record a { named = set.remove a.named number }
 
-abbrev pub with_message : Actions → ℕ → Actions
-with_message a number = record a { messages = set.insert a.messages number }
+-- message number brought a feed
+abbrev pub with_message : Actions → ℕ → Feed → Actions
+with_message a number feed = record a { messages = finite.insert a.messages number feed }
 
 abbrev pub without_message : Actions → ℕ → Actions
-without_message a number = record a { messages = set.remove a.messages number }
+without_message a number = record a { messages = finite.remove a.messages number }
+
+-- the action of this message is open
+abbrev pub has_message : Actions → ℕ → Bool
+has_message a number = finite.contains_key a.messages number
+
+-- the action of this message is open, and the message brought this feed
+abbrev pub Brought : Actions → ℕ → Feed → Type 0
+Brought a number feed = finite.get a.messages number ≡ Some feed

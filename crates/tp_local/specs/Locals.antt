@@ -17,7 +17,7 @@ use Rattle.tp_store.specs.Content.{Content, nothing_stored, task_of, unfinished,
 use Rattle.tp_store.specs.Sound.{times_done}
 use Rattle.tp_store.specs.declared.life.Life.{Life}
 use Rattle.tp_store.specs.Codes.{content_code}
-use Rattle.tp_local.specs.Actions.{Actions, actions_code, first_actions, open_count, opening_count}
+use Rattle.tp_local.specs.Actions.{Actions, actions_code, first_actions, has_message, open_count, opening_count}
 
 -- what a store holds, the open actions, how many messages were sent and received, and whether the end was announced
 pub record LocalState (V : Type 0) : Type 0 where
@@ -87,14 +87,14 @@ module _ {V : Type 0} where
   abbrev pub receive_checks : LocalState V → ℕ → List Check
   receive_checks l message =
       (l.ended, WrongLife)
-      ∷ (set.contains l.actions.messages message, ActionKnown)
+      ∷ (has_message l.actions message, ActionKnown)
       ∷ (l.received == MAX_STEPS, HistoryFull MAX_STEPS)
       ∷ (open_count l.actions == MAX_ACTIONS, HistoryFull MAX_ACTIONS)
       ∷ []
 
   -- A message's action that is open can be closed.
   abbrev pub end_checks : LocalState V → ℕ → List Check
-  end_checks l message = (not (set.contains l.actions.messages message), NoAction) ∷ []
+  end_checks l message = (not (has_message l.actions message), NoAction) ∷ []
 
   -- A named action opens at an active node, where it is not open.
   abbrev pub open_checks : LocalState V → ℕ → List Check

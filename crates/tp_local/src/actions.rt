@@ -1,18 +1,21 @@
 ghost use Rattle.std.specs.Prelude.{◌≡◌, ◌+◌, ◌<◌, ◌≤◌, if◌then◌else◌, false, IsTrue, OnOk, OnErr};
 ghost use Rattle.std.specs.FinSet as set;
-ghost use Rattle.tp_local.specs.Actions.{first_actions, open_count, opening_count, without_opening, with_named, without_named, with_message, without_message};
+ghost use Rattle.tp_local.specs.Actions.{first_actions, open_count, opening_count, without_opening, with_named, without_named, with_message, without_message, has_message};
 
+use crate::feeds::FeedMap;
 use crate::numbers::NumberSet;
 use std::alloc::{AllocError, Global};
 use std::marker::Model;
 use tp_base::{ActionId, MessageId};
+use tp_graph::Feed;
 
-/// The actions that are open at a node: its opening one, named ones, and those of received messages.
+/// The actions that are open at a node: its opening one, named ones, and those of received messages, each with the feed
+/// that the message brought.
 #[derive(Drop)]
 pub(crate) struct OpenActions {
     opening: bool,
     named: NumberSet,
-    messages: NumberSet,
+    messages: FeedMap,
 }
 
 impl Model for OpenActions {
@@ -27,7 +30,7 @@ impl Model for OpenActions {
 
 impl OpenActions {
     /// The opening action alone is open. It takes no memory.
-    #[tactic(auto, using(crate::proofs::FiniteSets::len_empty))]
+    #[tactic(auto, using(crate::proofs::FiniteSets::len_empty, crate::proofs::FiniteMaps::feeds_empty))]
     pub(crate) fn new(alloc: Global) -> Self
         ensures first { result ≡ first_actions }
         ensures counted { open_count result ≡ 1 }
@@ -36,7 +39,7 @@ impl OpenActions {
         OpenActions {
             opening: true,
             named: NumberSet::new(alloc),
-            messages: NumberSet::new(alloc),
+            messages: FeedMap::new(alloc),
         }
     }
 
@@ -59,9 +62,9 @@ impl OpenActions {
     }
 
     /// Whether the action of a message is open.
-    #[tactic(auto, using(crate::proofs::FiniteSets::len_some))]
+    #[tactic(auto, using(crate::proofs::FiniteMaps::feeds_some))]
     pub(crate) fn has_message(&self, message: MessageId) -> bool
-        ensures open { result ≡ set.contains self.now.messages message.0 }
+        ensures open { result ≡ has_message self.now message.0 }
         ensures counted { IsTrue result → opening_count self.now < open_count self.now }
     {
         self.messages.contains(message.0)
@@ -100,22 +103,22 @@ impl OpenActions {
         self.named.remove(action.0);
     }
 
-    /// Opens the action of a message, which takes memory.
-    #[tactic(auto, using(crate::proofs::FiniteSets::len_with))]
-    pub(crate) fn open_message(&mut self, message: MessageId) -> Result<(), AllocError>
-        requires { set.contains self.old.messages message.0 ≡ false }
-        ensures opened { OnOk result (self.new ≡ with_message self.old message.0) }
+    /// Opens the action of a message that brought a feed, which takes memory.
+    #[tactic(auto, using(crate::proofs::FiniteMaps::feeds_with))]
+    pub(crate) fn open_message(&mut self, message: MessageId, feed: Feed) -> Result<(), AllocError>
+        requires { has_message self.old message.0 ≡ false }
+        ensures opened { OnOk result (self.new ≡ with_message self.old message.0 feed) }
         ensures counted { OnOk result (open_count self.new ≡ open_count self.old + 1) }
         ensures opening { opening_count self.new ≡ opening_count self.old }
         ensures kept { OnErr result (self.new ≡ self.old) }
     {
-        self.messages.insert(message.0)
+        self.messages.insert(message.0, feed)
     }
 
     /// Closes the action of a message.
-    #[tactic(auto, using(crate::proofs::FiniteSets::len_without))]
+    #[tactic(auto, using(crate::proofs::FiniteMaps::feeds_without))]
     pub(crate) fn close_message(&mut self, message: MessageId)
-        requires { IsTrue (set.contains self.old.messages message.0) }
+        requires { IsTrue (has_message self.old message.0) }
         ensures closed { self.new ≡ without_message self.old message.0 }
         ensures counted { open_count self.new + 1 ≡ open_count self.old }
         ensures opening { opening_count self.new ≡ opening_count self.old }

@@ -2,6 +2,7 @@
 #![tactic(auto)]
 
 mod actions;
+mod feeds;
 mod held;
 mod local;
 mod numbers;

@@ -9,7 +9,7 @@ ghost use Rattle.tp_slots.specs.Content.{front};
 ghost use Rattle.tp_store.specs.Content.{with_inserted, with_delivered, with_begun, with_done, delivered_to, values_of, counts_of, task_of, life_of, unfinished, refusal_of_done, inserted_by};
 ghost use Rattle.tp_store.specs.Sound.{IsSound};
 ghost use Rattle.tp_store.specs.declared.life.Life.TheVariants as lives;
-ghost use Rattle.tp_local.specs.Actions.{open_count, without_opening, with_named, without_named, with_message, without_message};
+ghost use Rattle.tp_local.specs.Actions.{open_count, without_opening, with_named, without_named, with_message, without_message, has_message};
 ghost use Rattle.tp_local.specs.Locals.{first_state, pending, is_live, standing, refusal_of_insertion, refusal_of_delivery, send_checks, receive_checks, end_checks, open_checks, close_checks, ready_checks, finish_checks};
 
 use crate::actions::OpenActions;
@@ -20,7 +20,7 @@ use std::marker::Model;
 use tp_base::{
     ActionId, CLASSES, MAX_INPUTS, MAX_LIVE_TASKS, MAX_STEPS, MessageId, PoolId, Refusal, TaskId,
 };
-use tp_graph::Value;
+use tp_graph::{Feed, Value};
 use tp_monitor::{MAX_ACTIONS, TaskpoolState};
 use tp_slots::SlabSlots;
 use tp_store::{Begun, Counts, Delivered, Life, TaskItem, TaskStore};
@@ -202,14 +202,14 @@ impl Local {
         Ok(())
     }
 
-    /// Counts a message that is received, and opens its action.
+    /// Counts a message that is received and brings a feed, and opens its action.
     ///
     /// Refused `WrongLife` (5) where the pool is Terminated; `ActionKnown` (7) where the message's action is open;
     /// `HistoryFull` (16) with the limit 1,048,576 where so many were received, then with the limit 1,048,577 where so many
     /// actions are open; `NoMemory` (17).
-    pub fn receive(&mut self, message: MessageId) -> Result<(), Refusal>
+    pub fn receive(&mut self, message: MessageId, feed: Feed) -> Result<(), Refusal>
         ensures checked { OnOk result (first_refusal (receive_checks self.old message.0) ≡ None) }
-        ensures received { OnOk result (self.new ≡ record self.old { received = self.old.received + 1; actions = with_message self.old.actions message.0 }) }
+        ensures received { OnOk result (self.new ≡ record self.old { received = self.old.received + 1; actions = with_message self.old.actions message.0 feed }) }
         ensures counted { OnOk result (pending self.new ≡ pending self.old + 1) }
         ensures refused { IfErr result (λ e. e ≡ unwrap_or (first_refusal (receive_checks self.old message.0)) Refusal.NoMemory) }
         ensures kept { OnErr result (self.new ≡ self.old) }
@@ -222,7 +222,7 @@ impl Local {
         }
         let mut tally = self.tally;
         tally.receive()?;
-        self.actions.open_message(message)?;
+        self.actions.open_message(message, feed)?;
         self.tally = tally;
         Ok(())
     }
@@ -386,7 +386,7 @@ impl Local {
 
     /// Whether the action of a message is open.
     pub fn has_message(&self, message: MessageId) -> bool
-        ensures open { result ≡ set.contains self.now.actions.messages message.0 }
+        ensures open { result ≡ has_message self.now.actions message.0 }
         ensures active { IsTrue result → 0 < pending self.now }
     {
         self.actions.has_message(message)

@@ -1,21 +1,26 @@
 -- How the answers of calls in a row come together.
-use Rattle.std.proofs.Common.{◌≡◌, ℕ, List, [], ◌∷◌, Option, Some, None, MatchOption, refl, sym, ap, subst, ◌∙◌}
+use Rattle.std.proofs.Common.{◌≡◌, ℕ, suc, ◌+◌, ◌-◌, List, [], ◌∷◌, length, Option, Some, None, MatchOption, cond, refl, sym, ap, subst, ◌∙◌, arith}
 use Rattle.std.specs.Prelude.{Result, Err, slice_get}
 use Rattle.tp_base.specs.declared.refusal.Refusal.{Refusal}
 use Rattle.tp_base.specs.declared.refusal.Refusal.TheVariants.{NoMemory}
 use Rattle.tp_board.specs.Calls.{Answers, AnswersWith}
-use Rattle.std.specs.Prelude.{IsTrue, true, ◌||◌}
+use Rattle.std.specs.Prelude.{IsTrue}
 use Rattle.tp_base.specs.History.{Event}
 use Rattle.tp_graph.specs.Carried.{Carried}
+use Rattle.tp_graph.specs.Graphs.{TaskGraph}
+use Rattle.tp_graph.specs.declared.feed.Feed.{Feed}
 use Rattle.tp_wave.specs.Machine.{is_send_to, steps_of}
 use Rattle.tp_wave.specs.Steps.{any}
-use Rattle.std.specs.FinSet as set
+use Rattle.std.specs.FinMap as finite
+use Rattle.std.specs.List.{All}
 use Rattle.std.proofs.lemmas.Cmp.{nat_cmp_total, eq_by_cmp_equiv}
 use Rattle.tp_base.specs.declared.ids.MessageId.{MessageId}
 use Rattle.tp_local.specs.Locals.{LocalState}
-use Rattle.tp_node.specs.Nodes.{with_received}
+use Rattle.tp_node.specs.Nodes.{HasBrought, NodeState, with_received}
+use Rattle.tp_node.specs.Wires.{IsOnWay, IsWire}
+use Rattle.tp_board.specs.Numbers.{LinkNumbers}
+use Rattle.tp_link.specs.Link.{Line}
 use Rattle.tp_local.specs.Locals.{Numbers}
-use Rattle.tp_node.specs.Refused.{has_message}
 use Rattle.tp_base.specs.Checks.{Check, first_refusal}
 
 -- the same refusal, with what comes back
@@ -47,13 +52,28 @@ sent_first messages first to h k is same sent m e =
     let it : first ≡ m = (let both : Some first ≡ Some m = is ∙ e in cc) in
     subst (λ (z : List Event). IsTrue (any (is_send_to to m.number.0) (steps_of z))) (sym same) (ap (λ z. any (is_send_to to z.number.0) (steps_of h)) (sym it) ∙ sent)
 
--- the action of a message that was just received is open
-pub is_open : {G : Type 0} (messages rest : List (Carried G)) (first taken p : Carried G) (k l : LocalState Numbers) (m : MessageId) → Some first ≡ slice_get messages 0 → messages ≡ taken ∷ rest → p ≡ taken → m ≡ first.number → k ≡ with_received m.0 l → IsTrue (has_message k p.number)
-is_open {G} messages rest first taken p k l m is split same number ek =
+-- The action of a message that was just received is open with its feed, and the feed's task lives here.
+pub brings : {G : Type 0} (meaning : G → TaskGraph) (pool from to : ℕ) (messages rest : List (Carried G)) (first taken p : Carried G) (l : LocalState Numbers) (n : NodeState G) (m : MessageId) (f : Feed)
+    → Some first ≡ slice_get messages 0 → messages ≡ taken ∷ rest → p ≡ taken → m ≡ first.number → f ≡ first.feed → n.state ≡ with_received m.0 f l
+    → IsOnWay (meaning taken.graph) pool from to taken → first.graph ≡ n.graph → n.nodes ≡ pool → to ≡ n.numbers.node → HasBrought (meaning n.graph) n p
+brings {G} meaning pool from to messages rest first taken p l n m f is split same number feed state way graph nodes place =
     let both : Some first ≡ Some taken = is ∙ ap (λ (z : List (Carried G)). slice_get z 0) split in
     let one : first ≡ taken = cc in
-    let same_number : m ≡ p.number = number ∙ ap (λ (z : Carried G). z.number) (one ∙ sym same) in
-    let now_open : set.contains (set.insert l.actions.messages m.0) m.0 ≡ true =
-    set.contains-insert nat_cmp_total l.actions.messages m.0 m.0 ∙ ap (λ b. b || set.contains l.actions.messages m.0) ((eq_by_cmp_equiv nat_cmp_total).refl m.0) in
-    let at : IsTrue (has_message k m) = ap (λ (z : LocalState Numbers). has_message z m) ek ∙ now_open in
-    subst (λ (z : MessageId). IsTrue (has_message k z)) same_number at
+    let held : finite.get (finite.insert l.actions.messages m.0 f) m.0 ≡ Some f =
+    finite.get-insert nat_cmp_total l.actions.messages m.0 f m.0 ∙ ap (λ b. cond b (Some f) (finite.get l.actions.messages m.0)) ((eq_by_cmp_equiv nat_cmp_total).refl m.0) in
+    let here : (meaning first.graph).home first.feed.target.0 pool ≡ to = ap (λ (z : Carried G). (meaning z.graph).home z.feed.target.0 pool) one ∙ way.home_is in
+    subst (λ (z : Carried G). HasBrought (meaning n.graph) n z) (one ∙ sym same)
+    (record {
+      brought = ap (λ (z : LocalState Numbers). finite.get z.actions.messages first.number.0) state ∙ ap (λ k. finite.get (finite.insert l.actions.messages m.0 f) k.0) (sym number) ∙ held ∙ ap (λ z. Some z) feed;
+      here = ap (λ z. (meaning z).home first.feed.target.0 n.nodes) (sym graph) ∙ ap (λ k. (meaning first.graph).home first.feed.target.0 k) nodes ∙ here ∙ place;
+    })
+
+-- what a wire keeps where its first message was taken
+pub wire_without : {G : Type 0} (meaning : G → TaskGraph) (pool : ℕ) (link rest : Line (Carried G)) (share left : LinkNumbers) (m : Carried G)
+    → IsWire meaning pool link share → link.messages ≡ m ∷ rest.messages → (rest.from ≡ link.from) × (rest.to ≡ link.to) → left ≡ record share { under = share.under - 1 } → IsWire meaning pool rest left
+wire_without {G} meaning pool link rest share left m kept split ends is =
+    let each : All (λ (z : Carried G). IsOnWay (meaning z.graph) pool share.from share.to z) (m ∷ rest.messages) = subst (All (λ (z : Carried G). IsOnWay (meaning z.graph) pool share.from share.to z)) split kept.each in
+    let long : length link.messages ≡ suc (length rest.messages) = ap (λ (z : List (Carried G)). length z) split in
+    let less : share.under - 1 ≡ length rest.messages = omega (arith, long, kept.under) in
+    subst (λ (z : LinkNumbers). IsWire meaning pool rest z) (sym is)
+    (record { from = ends.0 ∙ kept.from; to = ends.1 ∙ kept.to; under = less; each = λ k d l. each (suc k) d (omega arith) })

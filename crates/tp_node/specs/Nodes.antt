@@ -7,11 +7,11 @@ use Rattle.tp_base.specs.declared.ids.Inputs.{Inputs}
 use Rattle.tp_base.specs.declared.step.Step.{Step}
 use Rattle.tp_base.specs.declared.step.Step.TheVariants as steps
 use Rattle.tp_board.specs.Numbers.{NodeNumbers, event, node_at, numbers_after, first_numbers}
-use Rattle.tp_graph.specs.Carried.{feed_at}
+use Rattle.tp_graph.specs.Carried.{Carried, feed_at}
 use Rattle.tp_graph.specs.Graphs.{TaskGraph}
 use Rattle.tp_graph.specs.Values.{value_of}
 use Rattle.tp_graph.specs.declared.feed.Feed.{Feed}
-use Rattle.tp_local.specs.Actions.{Actions, without_opening, with_named, without_named, with_message, without_message}
+use Rattle.tp_local.specs.Actions.{Actions, without_opening, with_named, without_named, with_message, without_message, Brought}
 use Rattle.tp_local.specs.Locals.{LocalState, Numbers, first_state, pending, state_code}
 use Rattle.tp_wave.specs.Machine.{pending_at}
 use Rattle.tp_store.specs.Sound.{times_done}
@@ -89,9 +89,9 @@ module _ {V : Type 0} where
   abbrev pub with_sent : LocalState V → LocalState V
   with_sent l = record { store = l.store; actions = l.actions; sent = l.sent + 1; received = l.received; ended = l.ended }
 
-  -- a message was received, and its action opens
-  abbrev pub with_received : ℕ → LocalState V → LocalState V
-  with_received m l = record { store = l.store; actions = with_message l.actions m; sent = l.sent; received = l.received + 1; ended = l.ended }
+  -- a message that brought a feed was received, and its action opens
+  abbrev pub with_received : ℕ → Feed → LocalState V → LocalState V
+  with_received m feed l = record { store = l.store; actions = with_message l.actions m feed; sent = l.sent; received = l.received + 1; ended = l.ended }
 
   abbrev pub with_end : LocalState V → LocalState V
   with_end l = record { store = l.store; actions = l.actions; sent = l.sent; received = l.received; ended = true }
@@ -165,6 +165,11 @@ module _ {G : Type 0} where
   -- the end was announced
   abbrev pub over : NodeState G → NodeState G
   over n = record { graph = n.graph; nodes = n.nodes; state = with_end n.state; numbers = n.numbers }
+
+-- A message was received whose action is open at the node: it brought this feed, and the task that it goes to lives here.
+pub record HasBrought (g : TaskGraph) {G : Type 0} (n : NodeState G) (m : Carried G) : Type 0 where
+  pub brought : Brought n.state.actions m.number.0 m.feed
+  pub here : g.home m.feed.target.0 n.nodes ≡ n.numbers.node
 
 -- ---- what a node keeps
 -- a value in a slot of task t is the one that the graph defines for it

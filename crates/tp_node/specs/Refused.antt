@@ -11,6 +11,7 @@ use Rattle.tp_board.specs.Routes.{is_send_between}
 use Rattle.tp_graph.specs.Carried.{Carried}
 use Rattle.tp_graph.specs.Graphs.{TaskGraph}
 use Rattle.tp_graph.specs.declared.feed.Feed.{Feed}
+use Rattle.tp_local.specs.Actions.{has_message}
 use Rattle.tp_local.specs.Locals.{LocalState, pending}
 use Rattle.tp_node.specs.Nodes.{NodeState}
 use Rattle.tp_local.specs.Locals.{Numbers}
@@ -46,9 +47,6 @@ module _ {V : Type 0} where
   abbrev pub has_named : LocalState V → ℕ → Bool
   has_named l a = set.contains l.actions.named a
 
-  abbrev pub has_message : LocalState V → MessageId → Bool
-  has_message l m = set.contains l.actions.messages m.0
-
 -- the board gave the number of the message to this pair
 abbrev pub was_given : BoardState → {G : Type 0} → WireState G → MessageId → Bool
 was_given b w m = any (is_send_between w.from w.to m.0) (steps_of b.history)
@@ -82,7 +80,7 @@ module _ {G : Type 0} where
   -- A message is a stranger's where it is of another graph, where the board never gave its number to this pair, and where
   -- the action of that number is open.
   abbrev pub is_stranger : NodeState G → BoardState → WireState G → Bool → MessageId → Bool
-  is_stranger n b w is_same m = not is_same || (not (was_given b w m) || has_message n.state m)
+  is_stranger n b w is_same m = not is_same || (not (was_given b w m) || has_message n.state.actions m.0)
 
   abbrev pub receive_checks : NodeState G → BoardState → WireState G → Bool → MessageId → List Check
   receive_checks n b w is_same m = (n.state.ended, WrongLife) ∷ (is_stranger n b w is_same m, Stranger) ∷ full_check 1 b ∷ []

@@ -1,8 +1,9 @@
 -- What contracts see of a wire: a link of messages with its share.
-use Rattle.std.specs.Prelude.{ℕ, ◌≡◌, ◌+◌, List, [], ◌∷◌, ◌++◌, length}
+use Rattle.std.specs.Prelude.{ℕ, ◌≡◌, ◌+◌, List, [], ◌∷◌, ◌++◌, length, All}
 use Rattle.tp_base.specs.declared.ids.MessageId.{MessageId}
 use Rattle.tp_board.specs.Numbers.{LinkNumbers, node_at}
 use Rattle.tp_graph.specs.Carried.{Carried}
+use Rattle.tp_graph.specs.Graphs.{TaskGraph}
 use Rattle.tp_graph.specs.declared.feed.Feed.{Feed}
 use Rattle.tp_link.specs.Link.{Line}
 use Rattle.std.specs.Prelude.{ℤ}
@@ -30,8 +31,16 @@ message_on w graph m feed value =
 abbrev pub link_of : {G : Type 0} → WireState G → LinkNumbers
 link_of w = record { from = w.from; to = w.to; under = length w.messages }
 
--- What a wire keeps: its share is of the link's two nodes, and its number is the link's length.
-pub record IsWire {M : Type 0} (link : Line M) (share : LinkNumbers) : Type 0 where
+-- A message of this graph goes from one of so many nodes to another, where the task that its feed goes to lives.
+pub record IsOnWay {G : Type 0} (g : TaskGraph) (nodes from to : ℕ) (m : Carried G) : Type 0 where
+  pub from_is : m.from.0 ≡ from
+  pub to_is : m.to.0 ≡ to
+  pub home_is : g.home m.feed.target.0 nodes ≡ to
+
+-- What a wire of a pool of so many nodes keeps: its share is of the link's two nodes, its number is the link's length, and
+-- each message goes from the one node to the other, where its task lives.
+pub record IsWire {G : Type 0} (meaning : G → TaskGraph) (nodes : ℕ) (link : Line (Carried G)) (share : LinkNumbers) : Type 0 where
   pub from : link.from ≡ share.from
   pub to : link.to ≡ share.to
   pub under : share.under ≡ length link.messages
+  pub each : All (λ m. IsOnWay (meaning m.graph) nodes share.from share.to m) link.messages

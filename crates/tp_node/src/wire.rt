@@ -4,7 +4,7 @@ ghost use Rattle.tp_board.specs.States.{full_check};
 ghost use Rattle.tp_graph.specs.Carried.{Carried, IsFeed};
 ghost use Rattle.tp_graph.specs.Values.{value_of};
 ghost use Rattle.tp_board.specs.Calls.{Answers, Appends};
-ghost use Rattle.tp_node.specs.Wires.{empty_wire, link_of, message_on, with_message};
+ghost use Rattle.tp_node.specs.Wires.{IsOnWay, empty_wire, link_of, message_on, with_message};
 ghost use Rattle.tp_wave.specs.Machine.{is_send_to, steps_of};
 ghost use Rattle.tp_wave.specs.Steps.{any, count};
 
@@ -16,7 +16,8 @@ use tp_graph::{Feed, Graph, Message, Value};
 use tp_link::Link;
 
 /// A link of messages from one node to another, with its share of the messages under way: its type keeps that the share is
-/// the number of its messages. Contracts see its two nodes and its messages, the oldest first.
+/// the number of its messages, and that each goes from the one node to the other, where the task that its feed goes to
+/// lives. Contracts see its two nodes and its messages, the oldest first.
 #[derive(Drop)]
 pub struct Wire<G: Graph, K: Ledgers> {
     link: Link<Message<G>>,
@@ -30,7 +31,7 @@ impl<G: Graph, K: Ledgers> Model for Wire<G, K> {
 
     ghost view = { λ w. record { from = w.share.from; to = w.share.to; messages = w.link.messages } };
 
-    ghost invariant = { λ w. IsWire w.link w.share };
+    ghost invariant = { λ w. IsWire (λ graph. G.meaning graph) K.names.nodes w.link w.share };
 }
 
 impl<G: Graph, K: Ledgers> Wire<G, K> {
@@ -103,6 +104,7 @@ impl<G: Graph, K: Ledgers> Wire<G, K> {
         requires of_wire { self.old.from ≡ shares.old.node }
         requires right { value_of (G.meaning graph) feed.producer.0 ≡ Some value }
         requires fed { IsFeed (G.meaning graph) feed }
+        requires there { (G.meaning graph).home feed.target.0 K.names.nodes ≡ self.old.to }
         ensures number { IfOk result (λ m. m.0 ≡ count is_send (steps_of board.old.history)) }
         ensures sent { IfOk result (λ m. Appends (event shares.old.node (sending shares.old.node self.old.to m.0) ∷ []) board.old board.new) }
         ensures shares { IfOk result (λ m. shares.new ≡ numbers_after (sending shares.old.node self.old.to m.0) shares.old) }
@@ -129,6 +131,7 @@ impl<G: Graph, K: Ledgers> Wire<G, K> {
         requires some { 0 < length self.old.messages }
         requires sent { (m : Carried G) → slice_get self.old.messages 0 ≡ Some m → IsTrue (any (is_send_to self.old.to m.number.0) (steps_of board.old.history)) }
         ensures first { self.old.messages ≡ result ∷ self.new.messages }
+        ensures on_way { IsOnWay (G.meaning result.graph) K.names.nodes self.old.from self.old.to result }
         ensures ends { (self.new.from ≡ self.old.from) × (self.new.to ≡ self.old.to) }
         ensures received { Appends (event shares.old.node (receiving shares.old.node result.number.0) ∷ []) board.old board.new }
         ensures shares { shares.new ≡ numbers_after (receiving shares.old.node result.number.0) shares.old }

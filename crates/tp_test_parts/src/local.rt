@@ -1,7 +1,7 @@
 use std::alloc::Global;
 use std::test::Fail;
 use tp_base::{ActionId, MessageId, PoolId, Refusal, TaskId};
-use tp_graph::Value;
+use tp_graph::{Feed, Value};
 use tp_local::Local;
 use tp_monitor::TaskpoolState;
 use tp_store::Delivered;
@@ -38,6 +38,13 @@ enum Reply {
     Returned(Refusal, i64),
 }
 
+/// What a message brings: the first input of task 1.
+const FEED: Feed = Feed {
+    producer: TaskId(0),
+    target: TaskId(1),
+    slot: 0,
+};
+
 /// It was done.
 const DONE: Reply = Reply::Plain(Ok(()));
 
@@ -53,7 +60,7 @@ fn reply_to(alloc: Global, local: &mut Local, call: Call) -> Result<Reply, Refus
         Call::Insert(task) => local.insert(TaskId(task), 0),
         Call::Ready => local.ready(),
         Call::Finish => local.finish(),
-        Call::Receive(message) => local.receive(MessageId(message)),
+        Call::Receive(message) => local.receive(MessageId(message), FEED),
         Call::End(message) => local.end(MessageId(message)),
         Call::Open(action) => local.open(ActionId(action)),
         Call::Close(action) => local.close(ActionId(action)),

@@ -1,10 +1,9 @@
 ghost use Rattle.std.specs.Prelude.{◌≡◌, ◌<◌, IfOk};
 
-use smallvec::SmallVec;
-use std::alloc::{AllocError, Global};
+use std::alloc::Global;
 use std::test::Fail;
 use tp_base::{MessageId, NodeId, Refusal, TaskId};
-use tp_graph::{Finished, Message, Parcel, Work, serial};
+use tp_graph::{Message, Parcel, feed_of, run_body, serial};
 use tp_link::Link;
 use tp_own::Chain;
 
@@ -31,27 +30,15 @@ fn each_task_adds_its_number(rt: HostRuntime) -> Result<(), Fail> {
     Ok(())
 }
 
-/// Runs the first task of a chain.
-fn run_first(alloc: Global, chain: Chain) -> Result<Finished<Chain>, Refusal>
-    requires { 0 < chain.length }
-    ensures { IfOk result (λ done. (done.graph ≡ chain) × (done.task.0 ≡ 0) × (done.fed ≡ 0)) }
-{
-    match Work::new(chain, TaskId(0), SmallVec::new(alloc)).perform(alloc) {
-        Ok(done) => Ok(done),
-        Err((refusal, _)) => Err(refusal),
-    }
-}
-
-/// Passes the value of the first task on, as a message from node 0 to node 1.
-fn pass_on(done: &mut Finished<Chain>) -> Result<Message<Chain>, AllocError>
-    requires first { (done.old.task.0 ≡ 0) × (done.old.fed ≡ 0) }
-    requires more { 1 < done.old.graph.length }
+/// The value of the first task of a chain on its way to the next one, as a message from node 0 to node 1.
+fn first_message(alloc: Global, chain: Chain) -> Result<Message<Chain>, Refusal>
+    requires { 1 < chain.length }
     ensures { IfOk result (λ message. (message.from.0 ≡ 0) × (message.to.0 ≡ 1)) }
 {
-    let value = done.value().clone()?;
-    let feed = done.pass_on();
+    let value = run_body(alloc, &chain, TaskId(0), &[])?;
+    let feed = feed_of(&chain, TaskId(0), 0);
     Ok(Message::new(
-        done.graph(),
+        chain,
         MessageId(5),
         NodeId(0),
         NodeId(1),
@@ -78,20 +65,13 @@ fn carry(alloc: Global, message: Message<Chain>) -> Result<Parcel<Chain>, Refusa
 fn run_next(alloc: Global, parcel: Parcel<Chain>) -> Result<(TaskId, i64), Refusal> {
     let chain = parcel.graph();
     let target = parcel.feed().target;
-    let mut inputs = SmallVec::new(alloc);
-    inputs.push(parcel.into_value())?;
-    match Work::new(chain, target, inputs).perform(alloc) {
-        Ok(done) => Ok((done.task(), done.value().lone()?)),
-        Err((refusal, _)) => Err(refusal),
-    }
+    let value = run_body(alloc, &chain, target, &[parcel.into_value()])?;
+    Ok((target, value.lone()?))
 }
 
 #[test]
 fn a_value_goes_to_the_next_task(rt: HostRuntime) -> Result<(), Fail> {
-    let mut done = run_first(rt.alloc(), Chain { length: 2 })?;
-    assert!(rt; !done.all_fed());
-    let message = pass_on(&mut done)?;
-    assert!(rt; done.all_fed());
+    let message = first_message(rt.alloc(), Chain { length: 2 })?;
     let parcel = carry(rt.alloc(), message)?;
     assert_eq!(rt; run_next(rt.alloc(), parcel), Ok((TaskId(1), 1)));
     Ok(())

@@ -5,8 +5,8 @@ use std::process::Abort;
 use std::test::Fail;
 use tp_base::{ActionId, Refusal};
 use tp_board::{Blanks, Board, Brand, Ledgers};
-use tp_graph::{Finished, Graph, is_same};
-use tp_node::{Node, Pool, Turn, Wire, open_pool};
+use tp_graph::{Graph, is_same};
+use tp_node::{Finished, Node, Pool, Turn, Wire, open_pool};
 use tp_samples::Reduce;
 use tp_work::{Report, finish};
 

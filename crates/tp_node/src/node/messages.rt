@@ -1,12 +1,11 @@
 ghost use Rattle.std.specs.Prelude.{◌≡◌, ◌≤◌, ◌<◌, ◌+◌, [], ◌∷◌, false, Some, None, slice_get, IfOk, IsTrue, MatchOption, OnErr, OnOk};
-ghost use Rattle.std.specs.FinSet as set;
 ghost use Rattle.tp_board.specs.Numbers.{is_send, receiving, sending};
 ghost use Rattle.tp_graph.specs.Carried.{IsFeed, feed_at};
-ghost use Rattle.tp_local.specs.Actions.{without_message};
+ghost use Rattle.tp_local.specs.Actions.{has_message, without_message};
 ghost use Rattle.tp_store.specs.Content.{refusal_of_deliver};
 ghost use Rattle.tp_board.specs.Calls.{Answers, AnswersWith, Appends};
-ghost use Rattle.tp_node.specs.Nodes.{after, delivered_with, ending, event_of, putting_at, with_actions, with_received, with_sent};
-ghost use Rattle.tp_node.specs.Refused.{deliver_checks, has_message, is_stranger, receive_checks, send_checks};
+ghost use Rattle.tp_node.specs.Nodes.{HasBrought, after, delivered_with, ending, event_of, putting_at, with_actions, with_received, with_sent};
+ghost use Rattle.tp_node.specs.Refused.{deliver_checks, is_stranger, receive_checks, send_checks};
 ghost use Rattle.tp_node.specs.Wires.{message_on, with_message};
 ghost use Rattle.tp_wave.specs.Machine.{is_send_to, steps_of};
 ghost use Rattle.tp_wave.specs.Steps.{any, count};
@@ -16,9 +15,10 @@ ghost use Rattle.tp_base.specs.declared.refusal.Refusal.TheVariants.{Stranger, W
 use crate::node::Node;
 use crate::node::tasks::make_room;
 use crate::wire::Wire;
+use crate::work::Finished;
 use tp_base::{MessageId, Refusal, Step};
 use tp_board::{Board, Ledgers};
-use tp_graph::{Feed, Finished, Graph, Message, Parcel};
+use tp_graph::{Feed, Graph, Message, Parcel};
 
 impl<G: Graph, K: Ledgers> Node<G, K> {
     /// Passes the next feed of a task that runs here on to the node at the end of a wire. The number of the message is
@@ -57,8 +57,8 @@ impl<G: Graph, K: Ledgers> Node<G, K> {
         Ok(number)
     }
 
-    /// Receives the oldest message of a wire to this node: it is counted, and its action opens. It answers `None` where the
-    /// wire is empty.
+    /// Receives the oldest message of a wire to this node: it is counted, and its action opens, with the feed that it brings.
+    /// It answers `None` where the wire is empty.
     ///
     /// Refused, where there is a message, which stays: `WrongLife` where the end was announced; `Stranger` where the message
     /// is of another graph, where the board never gave its number to this pair of nodes, and where the action of that number
@@ -70,8 +70,8 @@ impl<G: Graph, K: Ledgers> Node<G, K> {
     ) -> Result<Option<Parcel<G>>, Refusal>
         requires to_here { wire.old.to ≡ self.old.numbers.node }
         ensures none { wire.old.messages ≡ [] → result ≡ Ok None }
-        ensures received { IfOk result (λ parcel. MatchOption parcel ((wire.old.messages ≡ []) × Appends [] board.old board.new × (self.new ≡ self.old) × (wire.new ≡ wire.old)) (λ p. (p.graph ≡ self.old.graph) × (wire.old.messages ≡ p ∷ wire.new.messages) × (wire.new.from ≡ wire.old.from) × (wire.new.to ≡ wire.old.to) × Appends (event_of self.old (receiving self.old.numbers.node p.number.0) ∷ []) board.old board.new × (self.new ≡ after (receiving self.old.numbers.node p.number.0) (with_received p.number.0 self.old.state) self.old))) }
-        ensures open { IfOk result (λ parcel. MatchOption parcel (Unit {0}) (λ p. IsTrue (has_message self.new.state p.number))) }
+        ensures received { IfOk result (λ parcel. MatchOption parcel ((wire.old.messages ≡ []) × Appends [] board.old board.new × (self.new ≡ self.old) × (wire.new ≡ wire.old)) (λ p. (p.graph ≡ self.old.graph) × (wire.old.messages ≡ p ∷ wire.new.messages) × (wire.new.from ≡ wire.old.from) × (wire.new.to ≡ wire.old.to) × Appends (event_of self.old (receiving self.old.numbers.node p.number.0) ∷ []) board.old board.new × (self.new ≡ after (receiving self.old.numbers.node p.number.0) (with_received p.number.0 p.feed self.old.state) self.old))) }
+        ensures brought { IfOk result (λ parcel. MatchOption parcel (Unit {0}) (HasBrought (G.meaning self.new.graph) self.new)) }
         ensures refusal { MatchOption (slice_get wire.old.messages 0) (Unit {0}) (λ m. Answers (receive_checks self.old board.old wire.old (G.eq m.graph self.old.graph) m.number) result) }
         ensures refused { OnErr result (Appends [] board.old board.new × (self.new ≡ self.old) × (wire.new ≡ wire.old)) }
     {
@@ -79,16 +79,17 @@ impl<G: Graph, K: Ledgers> Node<G, K> {
             return Ok(None);
         };
         let number = message.number();
+        let feed = message.feed();
         self.check_message(wire, board, message)?;
         board.reserve(1)?;
         board.audit(&mut self.shares);
-        self.local.receive(number)?;
+        self.local.receive(number, feed)?;
         let message = wire.take(board, &mut self.shares);
         Ok(Some(message.receive()))
     }
 
-    /// Delivers the value of a received message to its task, which is inserted where it is unknown and else supplied, and
-    /// then closes the action of the message: two events.
+    /// Delivers the value of a received message, whose action is open with this feed, to its task, which lives here and is
+    /// inserted where it is unknown and else supplied, and then closes the action of the message: two events.
     ///
     /// Refused: `TaskKnown` where the target has begun or is done; `SlotTaken` where its slot has its value; `HistoryFull`
     /// where fewer than two more events may be; `StoreFull` where the target is unknown and 65,536 tasks are not done;
@@ -99,7 +100,7 @@ impl<G: Graph, K: Ledgers> Node<G, K> {
         parcel: Parcel<G>,
     ) -> Result<(), (Refusal, Parcel<G>)>
         requires graph { parcel.graph ≡ self.old.graph }
-        requires open { IsTrue (has_message self.old.state parcel.number) }
+        requires brought { HasBrought (G.meaning self.old.graph) self.old parcel }
         ensures events { OnOk result (Appends (event_of self.old (ending parcel.number.0 self.old) ∷ event_of self.old (putting_at (G.meaning self.old.graph) parcel.feed self.old) ∷ []) board.old board.new) }
         ensures delivered { OnOk result (self.new ≡ delivered_with (G.meaning self.old.graph) parcel.feed parcel.value parcel.number.0 self.old) }
         ensures refusal { AnswersWith (deliver_checks (G.meaning self.old.graph) self.old board.old parcel.feed) parcel result }
@@ -136,7 +137,7 @@ impl<G: Graph, K: Ledgers> Node<G, K> {
         ensures refusal { MatchOption (first_refusal ((self.now.state.ended, WrongLife) ∷ (is_stranger self.now board.now wire.now (G.eq message.now.graph self.now.graph) message.now.number, Stranger) ∷ [])) (result ≡ Ok tt) (λ e. result ≡ Err e) }
         ensures graph { OnOk result (message.now.graph ≡ self.now.graph) }
         ensures sent { OnOk result (IsTrue (any (is_send_to wire.now.to message.now.number.0) (steps_of board.now.history))) }
-        ensures closed { OnOk result ((self.now.state.ended ≡ false) × (set.contains self.now.state.actions.messages message.now.number.0 ≡ false)) }
+        ensures closed { OnOk result ((self.now.state.ended ≡ false) × (has_message self.now.state.actions message.now.number.0 ≡ false)) }
     {
         if self.local.is_over() {
             return Err(Refusal::WrongLife);
@@ -166,7 +167,7 @@ impl<G: Graph, K: Ledgers> Node<G, K> {
     /// Closes the action of a message, in the place that was reserved for the event.
     fn end(&mut self, board: &mut Board<K>, message: MessageId)
         requires reserved { 0 < board.old.reserved }
-        requires open { IsTrue (set.contains self.old.state.actions.messages message.0) }
+        requires open { IsTrue (has_message self.old.state.actions message.0) }
         ensures event { Appends (event_of self.old (ending message.0 self.old) ∷ []) board.old board.new }
         ensures ended { self.new ≡ after (ending message.0 self.old) (with_actions (without_message self.old.state.actions message.0) self.old.state) self.old }
     {

@@ -12,9 +12,10 @@ ghost use Rattle.tp_base.specs.declared.step.Step.TheVariants as steps;
 ghost use Rattle.tp_base.specs.Checks.{first_refusal};
 
 use crate::node::Node;
+use crate::work::{Finished, Work};
 use tp_base::{Inputs, NodeId, Refusal, Step, TaskId};
 use tp_board::{Board, Ledgers};
-use tp_graph::{Feed, Finished, Graph, Value, Work};
+use tp_graph::{Feed, Graph, Value};
 use tp_local::Local;
 use tp_store::Life;
 

@@ -1,7 +1,7 @@
 use Rattle.std.proofs.Common.{◌≡◌, Some, MatchResult, List, ℤ, Option, sym, subst}
 use Rattle.tp_graph.specs.Values.{IsRefusal}
 use Rattle.tp_graph.proofs.Valued.{value_made}
-use Rattle.tp_graph.proofs.work.run_body.Goals as goal
+use Rattle.tp_graph.proofs.body.run_body.Goals as goal
 
 pub returns : goal.returns
 returns g c =

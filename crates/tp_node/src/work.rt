@@ -1,14 +1,12 @@
-ghost use Rattle.std.specs.Prelude.{◌≡◌, ◌<◌, ◌≤◌, ◌+◌, ◌↔◌, IsTrue, Some, IfOk, IfErr, MatchResult};
-ghost use Rattle.tp_graph.specs.Carried.{Begun, Ran, feed_at, IsFeed};
+ghost use Rattle.std.specs.Prelude.{◌≡◌, ◌<◌, ◌≤◌, ◌+◌, ◌↔◌, IsTrue, Some, IfOk, IfErr};
+ghost use Rattle.tp_graph.specs.Carried.{feed_at, IsFeed};
 ghost use Rattle.tp_graph.specs.Values.{value_of, AreInputs, IsInput, IsRefusal};
 
-use crate::feed::Feed;
-use crate::graph::Graph;
-use crate::value::Value;
 use smallvec::SmallVec;
 use std::alloc::Global;
 use std::marker::Model;
 use tp_base::{Refusal, TaskId};
+use tp_graph::{Feed, Graph, Value, feed_of, run_body};
 
 /// A task that was begun, with its inputs, which are the values of its producers.
 #[derive(Drop)]
@@ -85,21 +83,8 @@ impl<G: Graph> Work<G> {
     }
 }
 
-/// What a task makes of its inputs, which is its value.
-fn run_body<G: Graph>(
-    alloc: Global,
-    graph: &G,
-    task: TaskId,
-    inputs: &[Value],
-) -> Result<Value, Refusal>
-    requires known { task.0 < (G.meaning graph.now).tasks }
-    requires right { AreInputs (G.meaning graph.now) task.0 inputs.now }
-    ensures { MatchResult result (λ made. value_of (G.meaning graph.now) task.0 ≡ Some made) (IsRefusal (value_of (G.meaning graph.now) task.0)) }
-{
-    graph.body(alloc, task, inputs)
-}
-
-/// A task that has run, with its value, and how many of its feeds were passed on.
+/// A task that has run, with its value, and how many of its feeds were passed on. Only [`Node::feed`](crate::Node::feed)
+/// and [`Node::send`](crate::Node::send) raise that number.
 #[derive(Drop)]
 pub struct Finished<G: Graph> {
     graph: G,
@@ -174,7 +159,8 @@ impl<G: Graph> Finished<G> {
 
     /// Whether each feed was passed on.
     pub fn all_fed(&self) -> bool
-        ensures { IsTrue result ↔ (self.now.fed ≡ (G.meaning self.now.graph).feeds self.now.task.0) }
+        ensures all { IsTrue result ↔ (self.now.fed ≡ (G.meaning self.now.graph).feeds self.now.task.0) }
+        ensures few { self.now.fed ≤ (G.meaning self.now.graph).feeds self.now.task.0 }
     {
         self.fed == self.graph.feeds(self.task)
     }
@@ -186,27 +172,16 @@ impl<G: Graph> Finished<G> {
         ensures right { IsFeed (G.meaning self.now.graph) result }
         ensures input { IsInput (G.meaning self.now.graph) result.target.0 result.slot self.now.value }
     {
-        let (target, slot) = self.graph.feed(self.task, self.fed);
-        Feed {
-            producer: self.task,
-            target,
-            slot,
-        }
+        feed_of(&self.graph, self.task, self.fed)
     }
 
-    /// Counts the next feed as passed on, and answers it. It takes no memory, so a layer above first copies the value
-    /// and makes all room, passes the value on, and calls this last.
-    pub fn pass_on(&mut self) -> Feed
+    /// Counts the next feed as passed on. The node alone counts, as the last part of a call that passed the value on.
+    pub(crate) fn pass_on(&mut self)
         requires { self.old.fed < (G.meaning self.old.graph).feeds self.old.task.0 }
-        ensures passed { result ≡ feed_at (G.meaning self.old.graph) self.old.task.0 self.old.fed }
-        ensures right { IsFeed (G.meaning self.old.graph) result }
-        ensures input { IsInput (G.meaning self.old.graph) result.target.0 result.slot self.old.value }
-        ensures counted { self.new ≡ record self.old { fed = self.old.fed + 1 } }
+        ensures { self.new ≡ record self.old { fed = self.old.fed + 1 } }
     {
-        let feed = self.next_feed();
         let feeds = self.graph.feeds(self.task);
         prove!(self.fed < feeds);
         self.fed += 1;
-        feed
     }
 }

@@ -1,0 +1,23 @@
+ghost use Rattle.std.specs.Prelude.{◌≡◌, ◌<◌, Some, MatchResult};
+ghost use Rattle.tp_graph.specs.Values.{value_of, AreInputs, IsRefusal};
+
+use crate::graph::Graph;
+use crate::value::Value;
+use std::alloc::Global;
+use tp_base::{Refusal, TaskId};
+
+/// What a task makes of its inputs, which have to be its producers' values in slot order: its value. Refused with
+/// `BodyFailed` exactly where the task has no value, since its rule fails or a number leaves `i64`, and with `NoMemory`
+/// where memory is refused first.
+pub fn run_body<G: Graph>(
+    alloc: Global,
+    graph: &G,
+    task: TaskId,
+    inputs: &[Value],
+) -> Result<Value, Refusal>
+    requires known { task.0 < (G.meaning graph.now).tasks }
+    requires right { AreInputs (G.meaning graph.now) task.0 inputs.now }
+    ensures { MatchResult result (λ made. value_of (G.meaning graph.now) task.0 ≡ Some made) (IsRefusal (value_of (G.meaning graph.now) task.0)) }
+{
+    graph.body(alloc, task, inputs)
+}
