@@ -1,4 +1,5 @@
 pub mod Gathering
+pub mod Living
 pub mod Marking
 pub mod Placing
 pub mod Reporting

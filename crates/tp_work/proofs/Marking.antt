@@ -1,5 +1,5 @@
 -- Marks for results.
-use Rattle.std.proofs.Common.{◌≡◌, ℕ, ◌+◌, ◌<◌, ◌≤◌, ◌↔◌, ◌==◌, List, Bool, true, false, length, filter, take, drop, get_or, nat_lt, IsTrue, refl, sym, subst, ap, ◌∙◌, inl, inr, arith, length-append, slice_index_or}
+use Rattle.std.proofs.Common.{◌≡◌, ℕ, ◌+◌, ◌<◌, ◌≤◌, ◌↔◌, ◌==◌, List, Bool, true, false, length, filter, take, drop, get_or, IsTrue, sym, subst, ap, ◌∙◌, inl, inr, arith, length-append}
 use Rattle.std.specs.List.{All, count_by}
 use Rattle.std.proofs.lemmas.Bool.{cases_lt, eq-eqb}
 use Rattle.std.proofs.lemmas.Bool.Decides.{nat_tests}

@@ -1,6 +1,6 @@
 -- What is gathered of a pool.
 use Rattle.std.specs.Prelude.{ℕ, ◌+◌, ◌≡◌, List, IsTrue, length, sum_by, vec_len}
-use Rattle.std.specs.List.{All, flat_map}
+use Rattle.std.specs.List.{All, count_by, flat_map}
 use Rattle.tp_board.specs.Numbers.{is_done, is_recv, is_send}
 use Rattle.tp_board.specs.States.{BoardState}
 use Rattle.tp_graph.specs.Graphs.{TaskGraph}
@@ -14,8 +14,8 @@ use Rattle.tp_wave.specs.Steps.{count}
 use Rattle.tp_wave.specs.Sums.{is_ended, total}
 use Rattle.tp_work.specs.declared.gathered.Report.{Report}
 
--- The report has the sums over the nodes and the links, each counted over its own state, and the results of all nodes. Fault
--- and events are the board's.
+-- The report has the sums over the nodes and the links, each counted over its own state, how many nodes were told of the end,
+-- and the results of all nodes. Fault and events are the board's.
 pub record IsGathered {G : Type 0} (nodes : List (NodeState G)) (links : List (WireState G)) (board : BoardState) (r : Report) : Type 0 where
   pub pending : r.pending ≡ sum_by (λ n. pending n.state) nodes
   pub sent : r.sent ≡ sum_by (λ n. n.state.sent) nodes
@@ -23,6 +23,7 @@ pub record IsGathered {G : Type 0} (nodes : List (NodeState G)) (links : List (W
   pub under : r.under ≡ sum_by (λ w. length w.messages) links
   pub balance : r.sent ≡ r.received + r.under
   pub done : r.done ≡ vec_len r.results
+  pub announced : r.announced ≡ count_by (λ n. n.state.ended) nodes
   pub results : r.results.items ≡ flat_map (λ n. n.state.store.results) nodes
   pub fault : r.fault ≡ board.fault
   pub history : r.history.events ≡ board.history

@@ -22,6 +22,8 @@ pub struct Outcome {
     pub tasks: u32,
     /// How many messages were sent.
     pub messages: u32,
+    /// How many nodes were told of the end.
+    pub announced: u32,
     /// The events.
     pub history: History,
 }

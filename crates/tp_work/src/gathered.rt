@@ -1,5 +1,5 @@
 ghost use Rattle.std.specs.Prelude.{◌≡◌, ◌≤◌, ◌+◌, ◌-◌, ◌*◌, [], IfErr, IfOk, IfSome, length, map, sum_by, vec_capacity, vec_len};
-ghost use Rattle.std.specs.List.{All, flat_map};
+ghost use Rattle.std.specs.List.{All, count_by, flat_map};
 ghost use Rattle.tp_base.specs.declared.refusal.Refusal.TheVariants.{NoMemory};
 ghost use Rattle.tp_graph.specs.Serial.{AreRight};
 ghost use Rattle.tp_node.specs.Nodes.{counted_of};
@@ -10,6 +10,7 @@ use std::alloc::{AllocError, Global};
 use tp_base::{History, Refusal, TaskId};
 use tp_board::{Books, Ledgers, LinkShare, Shares, close_books};
 use tp_graph::{Graph, Value};
+use tp_monitor::TaskpoolState;
 use tp_node::{Node, Pool, Wire};
 
 /// What was gathered of a pool.
@@ -27,6 +28,8 @@ pub struct Report {
     pub done: u32,
     /// Whether the end was judged.
     pub ended: bool,
+    /// How many nodes were told of the end.
+    pub announced: u32,
     /// The first fault.
     pub fault: Option<Refusal>,
     /// The results of all nodes, each a task and its value.
@@ -115,6 +118,8 @@ fn gather<G: Graph, K: Ledgers>(pool: Pool<G, K>, room: Room<K>) -> Report
         mut links,
         mut results,
     } = room;
+    let _nodes = board.nodes();
+    let announced = count_told(&nodes);
     take_nodes(nodes, &mut shares, &mut results);
     take_wires(wires, &mut links);
     let totals = close_books(Books {
@@ -129,10 +134,25 @@ fn gather<G: Graph, K: Ledgers>(pool: Pool<G, K>, room: Room<K>) -> Report
         under: totals.under,
         done: totals.done,
         ended: totals.ended,
+        announced,
         fault: totals.fault,
         results,
         history: totals.history,
     }
+}
+
+/// How many nodes were told of the end.
+fn count_told<G: Graph, K: Ledgers>(nodes: &[Node<G, K>]) -> u32
+    requires { length nodes.now ≤ 8 }
+    ensures { result ≡ count_by (λ n. n.state.ended) nodes.now }
+{
+    let mut told = 0;
+    for node in nodes {
+        if node.state() == TaskpoolState::Terminated {
+            told += 1;
+        }
+    }
+    told
 }
 
 /// The shares and the results of all nodes, in their order.

@@ -4,6 +4,7 @@
 mod config;
 mod gate;
 mod gathered;
+mod lives;
 mod locks;
 mod once;
 mod run;

@@ -1,4 +1,5 @@
 ghost use Rattle.std.specs.Prelude.{◌≡◌, ◌≤◌, ◌<◌, ◌+◌, [], IfErr, IfOk, OnOk, vec_capacity, vec_len};
+ghost use Rattle.tp_base.specs.declared.limits.TheConstants.{MAX_STEPS};
 ghost use Rattle.tp_base.specs.declared.refusal.Refusal.TheVariants.{NoMemory, NoNode};
 ghost use Rattle.tp_work.specs.Places as places;
 ghost use Rattle.tp_work.specs.Places.{AreInOrder, AreLinksInOrder, AreOf};
@@ -103,8 +104,9 @@ impl<G: Graph, K: Ledgers> Room<G, K> {
 }
 
 impl<G: Graph, K: Ledgers> Locks<G, K> {
-    /// Puts the parts of a pool under locks.
+    /// Puts the parts of a pool, which may have as many events as any, under locks.
     pub fn new(alloc: Global, pool: Pool<G, K>) -> Result<Self, Refusal>
+        requires limit { pool.board.limit ≡ MAX_STEPS }
         ensures nodes { IfOk result (λ l. vec_len l.sites ≡ vec_len pool.nodes) }
         ensures links { IfOk result (λ l. vec_len l.lines ≡ vec_len pool.links) }
         ensures refusal { IfErr result (λ e. e ≡ NoMemory) }

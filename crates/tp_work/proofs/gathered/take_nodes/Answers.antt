@@ -6,7 +6,7 @@ use Rattle.std.proofs.lemmas.Iterator.Adapters.{YieldsList-from_vec}
 use Rattle.std.proofs.lemmas.Iterator.Consumers.{YieldsList-end}
 use Rattle.std.proofs.lemmas.Grind.{common_steps}
 use Rattle.std.proofs.lemmas.List.Sums.{sum_by-cons}
-use Rattle.tp_graph.specs.Serial.{AreRight, Results}
+use Rattle.tp_graph.specs.Serial.{AreRight}
 use Rattle.tp_node.specs.Nodes.{NodeState}
 use Rattle.tp_work.proofs.Gathering.{All-of_map, results_of, right-more}
 use Rattle.tp_work.proofs.gathered.take_nodes.Goals as goal

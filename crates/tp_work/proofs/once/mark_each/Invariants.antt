@@ -1,4 +1,4 @@
-use Rattle.std.specs.Prelude.{◌≡◌, length, take}
+use Rattle.std.specs.Prelude.{take}
 use Rattle.tp_work.specs.Outcomes.{AreMarks}
 use Rattle.tp_work.proofs.once.mark_each.Given as goal
 

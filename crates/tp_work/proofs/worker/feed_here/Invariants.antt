@@ -1,4 +1,4 @@
-use Rattle.std.specs.Prelude.{◌≡◌, ◌-◌}
+use Rattle.std.specs.Prelude.{◌-◌}
 use Rattle.tp_work.specs.Feeds.{IsFarther, IsSameNode}
 use Rattle.tp_work.proofs.worker.feed_here.Given as goal
 

@@ -1,0 +1,6 @@
+use Rattle.std.specs.Prelude.{◌≡◌, ◌≤◌, take}
+use Rattle.std.specs.List.{count_by}
+use Rattle.tp_work.proofs.gathered.count_told.Given as goal
+
+abbrev pub invariant-loop-node : goal.invariant-loop-node
+invariant-loop-node g l = (l.told ≡ count_by (λ n. n.state.ended) (take l.node-index l.nodes)) × (l.told ≤ l.node-index)
