@@ -10,9 +10,9 @@ use std::sync::atomic::Ordering;
 use std::thread;
 use tp_base::{MAX_NODES, NodeId, Refusal};
 use tp_board::{Board, Ended, Ledgers};
-use tp_graph::{Finished, Graph, Work, is_same};
+use tp_graph::{Graph, is_same};
 use tp_monitor::TaskpoolState;
-use tp_node::{Node, Turn as ControlTurn};
+use tp_node::{Finished, Node, Turn as ControlTurn, Work};
 
 /// How many tasks are inserted in one hold of the board's lock.
 const SEEDS_IN_A_HOLD: u32 = 64;
