@@ -1,6 +1,7 @@
-use Rattle.std.proofs.Common.{◌≡◌, ◌<◌, None, arith, refl}
+use Rattle.std.proofs.Common.{Bool, false, Option, Some, sym, ◌≡◌, ◌<◌, None, arith, refl}
 use Rattle.std.proofs.lemmas.Bool.Decides.{nat_tests}
 use Rattle.std.proofs.lemmas.Result.{err_from_is_err_and}
+use Rattle.std.specs.Prelude.{is_some}
 use Rattle.tp_base.specs.declared.Step.TheVariants.{Send}
 use Rattle.tp_base.specs.declared.limits.TheConstants.{MAX_NODES}
 use Rattle.tp_base.specs.Table.{lookup}
@@ -13,11 +14,15 @@ use Rattle.tp_core.proofs.Taking.{no_memory, no_room, taken}
 use Rattle.tp_core.proofs.accepting.Core.send.Goals as goal
 use Rattle.tp_core.proofs.accepting.Core.send.Goals.{After-make_room}
 
+none_of : {A : Type 0} (o p : Option A) (b : Bool) → o ≡ p → b ≡ is_some o → b ≡ false → p ≡ None
+none_of None p b e f g = sym e
+none_of (Some x) p b e f g = cc
+
 low : (c : After-make_room) → c.args.from.0 < MAX_NODES
 low c = let few = c.self.invariant.few_nodes in omega arith
 
 fresh : (c : After-make_room) → lookup c.self.inside.messages c.args.message.0 ≡ None
-fresh c = grind (arith, c.is_some.ensures, c.get.ensures, c.if-is_some.false)
+fresh c = none_of _ _ _ c.get.ensures c.is_some.ensures c.if-is_some.false
 
 lawful : (c : After-make_room) → IsLawful c.self.inside.nodes (accepted c.self.inside).steps (Send c.args.from c.args.to c.args.message)
 lawful c =
