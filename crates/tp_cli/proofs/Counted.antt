@@ -1,10 +1,9 @@
 -- Where each task has one result, and no other task has any, there are as many results as tasks.
-use Rattle.std.proofs.Common.{◌≡◌, ◌∙◌, ◌+◌, ◌<◌, ◌≤◌, ◌==◌, ℕ, zero, suc, Bool, true, false, cond, List, [], ◌∷◌, length, refl, ap, sym, arith}
+use Rattle.std.proofs.Common.{◌≡◌, ◌∙◌, ◌+◌, ◌<◌, ◌≤◌, ◌==◌, ℕ, zero, suc, Bool, cond, List, [], ◌∷◌, length, refl, arith}
 use Rattle.std.proofs.lemmas.Bool.Decides.{nat_tests}
 use Rattle.std.proofs.lemmas.List.Sums.{sum_by-cons}
 use Rattle.std.specs.List.{count_by}
-use Rattle.std.specs.Prelude.{ℤ, nat_lt}
-use Rattle.tp_base.specs.declared.TaskId.{TaskId}
+use Rattle.std.specs.Prelude.{nat_lt}
 use Rattle.tp_graph.specs.Graphs.{TaskGraph}
 use Rattle.tp_graph.specs.Serial.{Results}
 use Rattle.tp_work.specs.Outcomes.{HasEachOnce, IsOutcome, times}

@@ -1,6 +1,6 @@
 -- The command line as plain data, and what its words ask for. Of a parse clap says what it finds for each argument, and by
 -- which faults it fails, as functions of the command and the words.
-use Rattle.std.specs.Prelude.{ℕ, ◌≡◌, ◌≢◌, ◌≤◌, ◌⊎◌, List, [], ◌∷◌, Option, Some, pos, true, codes}
+use Rattle.std.specs.Prelude.{ℕ, ◌≡◌, ◌≤◌, ◌⊎◌, List, [], ◌∷◌, Option, Some, pos, true, codes}
 use Rattle.std.specs.Str.Parse.{IsNumeral, without_leading_plus, digits_value}
 use Rattle.tp_base.specs.declared.limits.TheConstants.{MAX_NODES, MAX_WORKERS}
 use Rattle.clap.specs.Faults.{fault_of}

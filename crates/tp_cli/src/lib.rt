@@ -8,4 +8,4 @@ mod run;
 mod status;
 
 pub use cli::main_with;
-pub use status::Status;
+pub use status::{Status, without_words};

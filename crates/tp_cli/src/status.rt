@@ -1,7 +1,8 @@
-ghost use Rattle.std.specs.Prelude.{◌≡◌};
+ghost use Rattle.std.specs.Prelude.{◌≡◌, ◌≢◌, codes};
 ghost use Rattle.tp_cli.specs.Status.{status_of_fault, status_of_run_fault, status_of_verdict};
 
 use crate::run::RunFault;
+use std::io::ErrorKind;
 use tp_text::{TextFault, Verdict};
 
 /// The exit status of the program.
@@ -46,5 +47,17 @@ impl Status {
             RunFault::Spec(_) | RunFault::Write => Status::Fault,
             RunFault::Run(_) => Status::Failed,
         }
+    }
+}
+
+/// What is complained of, and the exit status, where the words of the command line could not be had: memory was refused, or
+/// one of them is not UTF-8.
+pub fn without_words(fault: ErrorKind) -> (&'static str, u8)
+    ensures memory { fault ≡ ErrorKind.OutOfMemory → (result.0.now ≡ codes "refused 17 NoMemory\n") × (result.1 ≡ 3) }
+    ensures words { fault ≢ ErrorKind.OutOfMemory → (result.0.now ≡ codes "fault words\n") × (result.1 ≡ 1) }
+{
+    match fault {
+        ErrorKind::OutOfMemory => ("refused 17 NoMemory\n", Status::Failed as u8),
+        _ => ("fault words\n", Status::Fault as u8),
     }
 }

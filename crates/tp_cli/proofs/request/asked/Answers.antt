@@ -1,6 +1,6 @@
 use Rattle.std.proofs.Common.{rules, ◌≡◌, ◌∙◌, ap, sym, codes, Some, None}
 use Rattle.clap.proofs.WalkLemmas.{first_value-rows, one_text-rows}
-use Rattle.clap.specs.Words.{found_of, first_of, first_value, rows_of, subcommand_name_of}
+use Rattle.clap.specs.Words.{found_of, first_of, rows_of, subcommand_name_of}
 use Rattle.clap.specs.declared.parser.matches.ArgMatches.TheViews.{out-ArgMatches}
 use Rattle.tp_cli.proofs.Asked.{found_as, lacks_its_word, nothing_passed}
 use Rattle.tp_cli.proofs.request.asked.Goals as goal

@@ -1,4 +1,4 @@
-use Rattle.std.proofs.Common.{inr, map}
+use Rattle.std.proofs.Common.{inr}
 use Rattle.clap.proofs.TakesLemmas.{passed_up}
 use Rattle.clap.specs.Words.{app_of}
 use Rattle.tp_cli.proofs.Asked.{fails_as, neither_asked}

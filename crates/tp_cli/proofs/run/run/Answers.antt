@@ -1,6 +1,6 @@
 use Rattle.std.proofs.Common.{rules, ◌≡◌, Ok}
 use Rattle.std.proofs.lemmas.Result.{IfOk-at_ok, on_ok_weaker}
-use Rattle.tp_cli.specs.Runs.{IsTextFor, IsTextOf}
+use Rattle.tp_cli.specs.Runs.{IsTextOf}
 use Rattle.tp_cli.proofs.Ending.{IfErr-all}
 use Rattle.tp_samples.specs.Words.{word_of}
 use Rattle.tp_cli.proofs.run.run.Goals as goal
