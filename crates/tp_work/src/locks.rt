@@ -159,11 +159,11 @@ fn lock_nodes<N: Drop>(alloc: Global, nodes: Vec<N>) -> Result<Vec<Site<N>>, Ref
 {
     let mut sites = Vec::with_capacity(alloc, nodes.len())?;
     for node in nodes {
-        sites.push(Site {
+        sites.push_reserved(Site {
             node: Mutex::new(node),
             ready: AtomicU64::new(0),
             mail: AtomicU64::new(0),
-        })?;
+        });
     }
     Ok(sites)
 }
@@ -177,10 +177,10 @@ fn lock_links<G: Graph, K: Ledgers>(
 {
     let mut lines = Vec::with_capacity(alloc, links.len())?;
     for wire in links {
-        lines.push(Line {
+        lines.push_reserved(Line {
             wire: Mutex::new(wire),
             length: AtomicU64::new(0),
-        })?;
+        });
     }
     Ok(lines)
 }

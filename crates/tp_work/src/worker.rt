@@ -12,7 +12,7 @@ use tp_base::{MAX_NODES, NodeId, Refusal};
 use tp_board::{Board, Ended, Ledgers};
 use tp_graph::{Graph, is_same};
 use tp_monitor::TaskpoolState;
-use tp_node::{Finished, Node, Turn as ControlTurn, Work};
+use tp_node::{Finished, Node, Turn as ControlTurn, Wire, Work};
 
 /// How many tasks are inserted in one hold of the board's lock.
 const SEEDS_IN_A_HOLD: u32 = 64;
@@ -136,7 +136,7 @@ impl<'a, G: Graph, K: Ledgers, A: Gate, R: Wait> Worker<'a, G, K, A, R> {
         };
         let mut guard = lock_soon(self.rt, &site.node);
         let here = &mut *guard;
-        self.check_node(here, self.place)?;
+        check_node(here, self.place, &self.graph)?;
         if let Some(finished) = finished {
             self.pass_on(here, finished)?;
         }
@@ -151,20 +151,6 @@ impl<'a, G: Graph, K: Ledgers, A: Gate, R: Wait> Worker<'a, G, K, A, R> {
             TaskpoolState::NotReady => self.open(here, site),
             _ => self.go_on(here, site, seen),
         }
-    }
-
-    /// Whether a node is the one of a place, of the worker's graph.
-    fn check_node(&self, node: &Node<G, K>, place: NodeId) -> Result<(), Refusal>
-        ensures place { OnOk result (node.now.numbers.node ≡ place.0) }
-        ensures graph { OnOk result (node.now.graph ≡ self.now.graph) }
-    {
-        if node.number() != place {
-            return Err(Refusal::NoNode);
-        }
-        if !is_same(&node.graph(), &self.graph) {
-            return Err(Refusal::Stranger);
-        }
-        Ok(())
     }
 
     /// Inserts input-free tasks, and closes the opening action after the last.
@@ -227,22 +213,14 @@ impl<'a, G: Graph, K: Ledgers, A: Gate, R: Wait> Worker<'a, G, K, A, R> {
         line: &Line<G, K>,
         from: NodeId,
     ) -> Result<bool, Refusal> {
-        let mut guard = lock_soon(self.rt, &line.wire);
-        let wire = &mut *guard;
-        if wire.from() != from || wire.to() != here.number() {
-            return Err(Refusal::NoNode);
-        }
+        let mut wire = lock_soon(self.rt, &line.wire);
         let mut board = lock_soon(self.rt, &self.locks.board);
-        let Some(parcel) = here.receive(wire, &mut board)? else {
-            return Ok(false);
-        };
+        let received = receive_next(here, &mut wire, &mut board, from);
         line.length.store(wire.len() as u64, Ordering::SeqCst);
-        site.mail.fetch_sub(1, Ordering::SeqCst);
-        drop(guard);
-        match here.deliver(&mut board, parcel) {
-            Ok(()) => Ok(true),
-            Err((refusal, _)) => Err(refusal),
+        if matches!(received, Ok(true)) {
+            site.mail.fetch_sub(1, Ordering::SeqCst);
         }
+        received
     }
 
     /// Makes a control step, where the node can make one.
@@ -350,13 +328,31 @@ impl<'a, G: Graph, K: Ledgers, A: Gate, R: Wait> Worker<'a, G, K, A, R> {
             };
             let mut guard = lock_soon(self.rt, &site.node);
             let node = &mut *guard;
-            self.check_node(node, NodeId(place))?;
+            check_node(node, NodeId(place), &self.graph)?;
             let mut board = lock_soon(self.rt, &self.locks.board);
             node.quiet_under(&mut ended, &mut board);
         }
         self.locks.is_stopped.store(true, Ordering::SeqCst);
         Ok(())
     }
+}
+
+/// Whether a node is the one of a place, of a graph.
+fn check_node<G: Graph, K: Ledgers>(
+    node: &Node<G, K>,
+    place: NodeId,
+    graph: &G,
+) -> Result<(), Refusal>
+    ensures place { OnOk result (node.now.numbers.node ≡ place.0) }
+    ensures graph { OnOk result (node.now.graph ≡ graph.now) }
+{
+    if node.number() != place {
+        return Err(Refusal::NoNode);
+    }
+    if !is_same(&node.graph(), graph) {
+        return Err(Refusal::Stranger);
+    }
+    Ok(())
 }
 
 /// Sets the pool's fault, where it is the first, and stops the workers.
@@ -367,6 +363,25 @@ pub(crate) fn set_fault<G: Graph, K: Ledgers, R: Wait>(
 ) {
     locks.board.lock(rt).set_fault(refusal);
     locks.is_stopped.store(true, Ordering::SeqCst);
+}
+
+/// Receives the next message of a wire from a node, and delivers its value, where there is one.
+fn receive_next<G: Graph, K: Ledgers>(
+    here: &mut Node<G, K>,
+    wire: &mut Wire<G, K>,
+    board: &mut Board<K>,
+    from: NodeId,
+) -> Result<bool, Refusal> {
+    if wire.from() != from || wire.to() != here.number() {
+        return Err(Refusal::NoNode);
+    }
+    let Some(parcel) = here.receive(wire, board)? else {
+        return Ok(false);
+    };
+    match here.deliver(board, parcel) {
+        Ok(()) => Ok(true),
+        Err((refusal, _)) => Err(refusal),
+    }
 }
 
 /// The node, of so many, that the next feed goes to, where one is left.
