@@ -1,4 +1,4 @@
-use Rattle.std.proofs.Common.{◌≡◌, List, sym, subst}
+use Rattle.std.proofs.Common.{◌≡◌, List, sym, subst, rules}
 use Rattle.std.specs.List.{All}
 use Rattle.tp_board.specs.Numbers.{LinkNumbers, NodeNumbers, first_numbers}
 use Rattle.tp_node.proofs.Opening.{each_first, each_empty}
@@ -11,3 +11,6 @@ open_nodes-requires-clause-first g c κs within =
 pub open_wires-requires-clause-empty : goal.open_wires-requires-clause-empty
 open_wires-requires-clause-empty g c κs within =
     subst (λ (links : List LinkNumbers). All (λ l. l.under ≡ 0) links) (sym c.in_ok-board.ensures.links) (each_empty c.args.nodes)
+
+pub returns-clause-board : goal.returns-clause-board
+returns-clause-board g c = search rules

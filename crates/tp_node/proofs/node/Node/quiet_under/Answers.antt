@@ -1,4 +1,4 @@
-use Rattle.std.proofs.Common.{◌≡◌, ap, sym, subst, ◌∙◌, arith}
+use Rattle.std.proofs.Common.{◌≡◌, ap, sym, subst, ◌∙◌, arith, rules}
 use Rattle.tp_node.specs.Nodes.{NodeState}
 use Rattle.tp_local.specs.Locals.{EachOnce}
 use Rattle.tp_local.proofs.Idle.{each_once}
@@ -13,3 +13,9 @@ returns-clause-each_once g c =
     let pending : c.self.inside.shares.pending ≡ 0 = c.audit.ensures.pending ∙ ap (λ b. pending_at node b.history) c.audit_ended.ensures.same ∙ idle in
     let none : unfinished c.self.inside.local.store ≡ 0 = omega (arith, pending, c.self.invariant.counted.pending) in
     subst (λ (n : NodeState g.row.G.Denot). EachOnce n.state.store) c.self.view_is (each_once _ c.results-results.ensures.sound none)
+
+pub returns-clause-over : goal.returns-clause-over
+returns-clause-over g c = search rules
+
+pub returns-clause-terminated : goal.returns-clause-terminated
+returns-clause-terminated g c = search rules

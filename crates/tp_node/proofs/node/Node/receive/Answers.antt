@@ -1,4 +1,4 @@
-use Rattle.std.proofs.Common.{◌≡◌, refl, sym, ap, ◌∙◌}
+use Rattle.std.proofs.Common.{◌≡◌, refl, sym, ap, ◌∙◌, rules}
 use Rattle.tp_board.specs.Numbers.{NodeNumbers}
 use Rattle.tp_node.specs.Nodes.{NodeState}
 use Rattle.tp_node.proofs.Answering.{brings, none_first, sent_first}
@@ -20,3 +20,6 @@ returns-clause-brought g c =
     brings (λ graph. g.G.Graph.meaning graph) _ _ _ _ _ c.in-Some.message.now c.take-message.result c.receive-2.result _ new c.number-number.result c.feed-feed.result
     c.in-Some.ensures c.take-message.ensures.first c.receive-2.ensures c.number-number.ensures c.feed-feed.ensures.same c.in_ok-receive.ensures.received c.take-message.ensures.on_way
     graph c.self.invariant.nodes place
+
+pub returns-clause-received : goal.returns-clause-received
+returns-clause-received g c = search rules
