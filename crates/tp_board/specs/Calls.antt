@@ -1,15 +1,16 @@
 -- What a call of a node does to the board, and why it is refused.
-use Rattle.std.specs.Prelude.{ℕ, ◌≡◌, List, ◌++◌, Result, Err, MatchOption, IfErr}
+use Rattle.std.specs.Prelude.{ℕ, ◌+◌, ◌≡◌, ◌≤◌, List, ◌++◌, length, Result, Err, MatchOption, IfErr}
 use Rattle.tp_base.specs.History.{Event}
 use Rattle.tp_base.specs.declared.refusal.Refusal.{Refusal}
 use Rattle.tp_base.specs.declared.refusal.Refusal.TheVariants.{NoMemory}
 use Rattle.tp_board.specs.States.{BoardState}
 use Rattle.tp_base.specs.Checks.{Check, first_refusal}
 
--- The board has these events more, the newest first, and else is as it was. What is reserved is left open.
+-- The board has these events more, the newest first, and else is as it was. Each took one of the reserved places at most.
 pub record Appends (events : List Event) (old new : BoardState) : Type 0 where
   pub history : new.history ≡ events ++ old.history
   pub limit : new.limit ≡ old.limit
+  pub reserved : old.reserved ≤ new.reserved + length events
   pub fault : new.fault ≡ old.fault
 
 -- A call that makes these checks answers the first of them that holds. Otherwise it succeeds, or finds no memory.

@@ -24,10 +24,10 @@ use Rattle.tp_wave.specs.Sums.{judgement}
 
 -- ---- the turn of a node
 nothing : (old new : BoardState) → new ≡ old → Appends [] old new
-nothing old new same = record { history = ap (λ b. b.history) same; limit = ap (λ b. b.limit) same; fault = ap (λ b. b.fault) same }
+nothing old new same = record { history = ap (λ b. b.history) same; limit = ap (λ b. b.limit) same; reserved = let e = ap (λ b. b.reserved) same in omega (arith, e); fault = ap (λ b. b.fault) same }
 
 one_event : (e : Event) (old new : BoardState) → new ≡ with_event e old → Appends (e ∷ []) old new
-one_event e old new is = record { history = ap (λ b. b.history) is; limit = ap (λ b. b.limit) is; fault = ap (λ b. b.fault) is }
+one_event e old new is = record { history = ap (λ b. b.history) is; limit = ap (λ b. b.limit) is; reserved = let e = ap (λ b. b.reserved) is in omega (arith, e); fault = ap (λ b. b.fault) is }
 
 when_none : {A : Type 0} (o : Option A) (P : Type 0) → (o ≡ None → P) → IfNone o P
 when_none None P f = f refl
