@@ -37,14 +37,7 @@ fn first_message(alloc: Global, chain: Chain) -> Result<Message<Chain>, Refusal>
 {
     let value = run_body(alloc, &chain, TaskId(0), &[])?;
     let feed = feed_of(&chain, TaskId(0), 0);
-    Ok(Message::new(
-        chain,
-        MessageId(5),
-        NodeId(0),
-        NodeId(1),
-        feed,
-        value,
-    ))
+    Ok(Message::new(chain, MessageId(5), NodeId(0), NodeId(1), feed, value))
 }
 
 /// Carries a message over the link from node 0 to node 1.
