@@ -65,6 +65,15 @@ def try_program(crate):
     return f"{crate}: the program {'wrote what is stored' if is_well else 'FAILED'}", int(is_well), int(not is_well), why
 
 
+def try_statuses(crate):
+    """Runs the program on each case of tools/statuses, whose names begin with the status that has to come."""
+    ran = subprocess.run(["rt", "try", "--seconds", "120", "--cases", "../../tools/statuses"], cwd=f"crates/{crate}", stdin=subprocess.DEVNULL, stdout=subprocess.PIPE, stderr=subprocess.STDOUT, text=True)
+    names = {it for it in os.listdir("tools/statuses") if not it.endswith(".args")}
+    came = dict(re.findall(r"^case=(\S+) .*?\bstatus=(\d+)", ran.stdout, re.M))
+    well = sum(came.get(it) == it[0] for it in names)
+    return f"{crate}: {well} of {len(names)} exit statuses came as they should", well, len(names) - well, ran.stdout
+
+
 def lanes():
     with open("/proc/meminfo", encoding="utf-8") as text:
         free = int(re.search(r"MemAvailable:\s+(\d+)", text.read())[1])
@@ -79,6 +88,8 @@ def main(named):
             work.append((try_tests, crate))
         if os.path.exists(f"crates/{crate}/src/main.rt"):
             work.append((try_program, crate))
+        if crate == "tp":
+            work.append((try_statuses, crate))
     print(f"Runs the tests and programs of {len(work)} crates unproved: some minutes.", flush=True)
     passed = failed = 0
     # the crates at the top take longest

@@ -232,6 +232,15 @@ fn a_body_that_may_not_run_ends_the_pool(rt: HostRuntime) -> Result<(), Fail> {
     Ok(())
 }
 
+// The other worker would have a thousand million idle turns before it ended by itself.
+#[test]
+fn a_fault_stops_the_other_worker(rt: HostRuntime) -> Result<(), Fail> {
+    let gate = TestGate::AllBut(TaskId(0));
+    let (refusal, _) = stop_behind(&rt, rt.alloc(), TREE, 2, 1_000_000_000, &gate)?;
+    assert_eq!(rt; refusal, Refusal::Stalled(0));
+    Ok(())
+}
+
 // Of two workers of a node one inserts the task, and one begins it and waits: two turns. The other's turns are then idle.
 #[test]
 fn idle_turns_in_a_row_are_counted(rt: HostRuntime) -> Result<(), Fail> {
