@@ -1,5 +1,6 @@
 pub mod Carried
 pub mod Graphs
+pub mod Numbers
 pub mod Producers
 pub mod Serial
 pub mod Values

@@ -10,6 +10,7 @@ mod feed;
 mod graph;
 mod laws;
 mod message;
+mod numbers;
 mod one_thread;
 mod value;
 

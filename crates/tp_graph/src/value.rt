@@ -1,42 +1,48 @@
-ghost use Rattle.std.specs.Prelude.{◌≡◌, ◌+ℤ◌, [], ◌∷◌, true, if◌then◌else◌, Some, None, IfOk, MatchResult};
+ghost use Rattle.std.specs.Prelude.{◌≡◌, ◌<◌, ◌+ℤ◌, [], ◌∷◌, true, false, length, Some, None, IsOk, OnErr, IfOk, IfErr, MatchResult};
 ghost use Rattle.std.specs.Cmp.{int_eq_equiv, on_equiv, on_per, partial_equiv_from_equiv};
 ghost use Rattle.std.specs.Cmp.Lexicographic.{pointwise, lists_equiv};
 ghost use Rattle.std.specs.Ordering.{int_eq};
-ghost use Rattle.tp_base.specs.declared.Refusal.TheVariants.{BodyFailed, NoMemory};
+ghost use Rattle.tp_base.specs.declared.Refusal.TheVariants.{BodyFailed};
 ghost use Rattle.tp_graph.specs.Values.{fits, lone_of};
 
-use std::alloc::{AllocError, Global};
+use crate::numbers::Numbers;
+use std::alloc::{AllocError, AllocFailed, Global};
 use std::default::MadeWith;
+use std::fmt::{self, Debug, Formatter, Write};
 use std::marker::Model;
+use std::slice;
+use std::sync::Arc;
 use tp_base::Refusal;
 
-/// What a task makes: some numbers. Contracts see the list of them.
-#[derive(Debug, Drop)]
+/// What a task makes: some numbers, of which contracts see the list. All copies of a value share them, so a copy takes no memory, and takes as long for many numbers as for one.
+#[derive(Drop)]
 pub struct Value {
-    numbers: Vec<i64>,
+    numbers: Numbers,
 }
 
 impl Model for Value {
     ghost use Rattle.std.specs.Prelude.{List, ℤ};
+    ghost use Rattle.tp_graph.specs.Numbers.{listed};
 
     ghost Value = { List ℤ };
 
-    ghost view = { λ v. v.numbers.items };
+    ghost view = { λ v. listed v.numbers };
 }
 
 impl Value {
-    /// One number.
-    pub fn one(alloc: Global, number: i64) -> Result<Self, AllocError>
-        ensures { IfOk result (λ value. value ≡ number ∷ []) }
+    /// One number. It takes no memory.
+    pub fn one(_alloc: Global, number: i64) -> Result<Self, AllocError>
+        ensures value { IfOk result (λ value. value ≡ number ∷ []) }
+        ensures made { IsOk result }
     {
         Ok(Value {
-            numbers: vec![in alloc; number]?,
+            numbers: Numbers::Lone(number),
         })
     }
 
-    /// One number, the sum of two. Refused with `BodyFailed` where it leaves `i64`, and then with `NoMemory`.
+    /// One number, the sum of two, which takes no memory. Refused with `BodyFailed` where it leaves `i64`.
     pub fn sum(alloc: Global, a: i64, b: i64) -> Result<Self, Refusal>
-        ensures { MatchResult result (λ value. (value ≡ (a +ℤ b) ∷ []) × (fits (a +ℤ b) ≡ true)) (λ refusal. refusal ≡ (if fits (a +ℤ b) then NoMemory else BodyFailed)) }
+        ensures { MatchResult result (λ value. (value ≡ (a +ℤ b) ∷ []) × (fits (a +ℤ b) ≡ true)) (λ refusal. (refusal ≡ BodyFailed) × (fits (a +ℤ b) ≡ false)) }
     {
         match a.checked_add(b) {
             Some(sum) => Ok(Value::one(alloc, sum)?),
@@ -44,11 +50,25 @@ impl Value {
         }
     }
 
+    /// The numbers of a list. Refused, with the list, where there are more than one and no memory for the count of its owners.
+    pub fn from_vec(numbers: Vec<i64>) -> Result<Self, AllocFailed<Vec<i64>>>
+        ensures value { IfOk result (λ value. value ≡ numbers.items) }
+        ensures returned { IfErr result (λ failed. failed.value ≡ numbers) }
+        ensures no_growth { OnErr result (1 < length numbers.items) }
+    {
+        let numbers = match numbers.as_slice() {
+            [] => Numbers::Empty,
+            [number] => Numbers::Lone(*number),
+            _ => Numbers::Shared(Arc::new(*numbers.allocator(), numbers)?),
+        };
+        Ok(Value { numbers })
+    }
+
     /// The number of a value that has just one. Refused with `BodyFailed` where it has another count.
     pub fn lone(&self) -> Result<i64, Refusal>
         ensures { MatchResult result (λ number. lone_of self.now ≡ Some number) (λ refusal. (refusal ≡ BodyFailed) × (lone_of self.now ≡ None)) }
     {
-        match self.numbers.as_slice() {
+        match self.as_slice() {
             [number] => Ok(*number),
             _ => Err(Refusal::BodyFailed),
         }
@@ -58,33 +78,31 @@ impl Value {
     pub fn as_slice(&self) -> &[i64]
         ensures { result.now ≡ self.now }
     {
-        self.numbers.as_slice()
-    }
-
-    /// The numbers, which are moved out. It takes no memory.
-    pub fn into_vec(self) -> Vec<i64>
-        ensures { result.items ≡ self }
-    {
-        self.numbers
+        match &self.numbers {
+            Numbers::Empty => &[],
+            Numbers::Lone(number) => slice::from_ref(number),
+            Numbers::Shared(numbers) => numbers.as_slice(),
+        }
     }
 }
 
-/// It takes no memory.
-impl From<Vec<i64>> for Value {
-    ghost from_gives = { λ numbers value. value ≡ numbers.items };
-
-    fn from(numbers: Vec<i64>) -> Self {
-        Value { numbers }
+impl Debug for Value {
+    fn fmt<W: Write>(&self, f: &mut Formatter<W>) -> fmt::Result {
+        Debug::fmt(self.as_slice(), f)
     }
 }
 
+/// It takes no memory, and is refused where the numbers have as many owners as can be counted.
 impl Clone for Value {
     ghost is_clone = { λ value copy. copy ≡ value };
 
     fn clone(&self) -> Result<Self, AllocError> {
-        Ok(Value {
-            numbers: self.numbers.clone()?,
-        })
+        let numbers = match &self.numbers {
+            Numbers::Empty => Numbers::Empty,
+            Numbers::Lone(number) => Numbers::Lone(*number),
+            Numbers::Shared(numbers) => Numbers::Shared(Arc::try_clone(numbers)?),
+        };
+        Ok(Value { numbers })
     }
 }
 
@@ -92,9 +110,9 @@ impl Clone for Value {
 impl MadeWith<Global> for Value {
     ghost is_made_with = { λ value. value ≡ [] };
 
-    fn made_with(alloc: Global) -> Self {
+    fn made_with(_alloc: Global) -> Self {
         Value {
-            numbers: Vec::new(alloc),
+            numbers: Numbers::Empty,
         }
     }
 }

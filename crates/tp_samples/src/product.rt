@@ -122,10 +122,10 @@ impl Graph for Product {
         let j = task.0 / self.tiles % self.tiles;
         let mut made = make_tile(alloc, self.side, self.seed, i, j, task.0 % self.tiles)?;
         match inputs {
-            [] => Ok(Value::from(made)),
+            [] => Ok(Value::from_vec(made)?),
             [input] => {
                 add_to(&mut made, input.as_slice())?;
-                Ok(Value::from(made))
+                Ok(Value::from_vec(made)?)
             }
             _ => Err(Refusal::BodyFailed),
         }

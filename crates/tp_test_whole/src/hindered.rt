@@ -42,3 +42,44 @@ impl Write for Narrow {
         Ok(())
     }
 }
+
+/// Takes every byte, and fails where it is told to hand them on.
+#[derive(Drop)]
+pub(crate) struct Unflushed;
+
+impl Write for Unflushed {
+    fn write(&mut self, buf: &[u8]) -> io::Result<usize> {
+        Ok(buf.len())
+    }
+
+    fn flush(&mut self) -> io::Result<()> {
+        Err(ErrorKind::StorageFull.into())
+    }
+}
+
+/// How many bytes a `Dripping` reader has.
+const DRIPS: usize = 100_000;
+
+/// Gives one byte a read: the line `nodes 1`, and then `ready 0` again and again, 12,500 lines in all.
+#[derive(Drop)]
+pub(crate) struct Dripping {
+    pub(crate) given: usize,
+}
+
+impl Read for Dripping {
+    fn read(&mut self, buf: &mut [u8]) -> io::Result<usize> {
+        let line = if self.given < 8 {
+            b"nodes 1\n"
+        } else {
+            b"ready 0\n"
+        };
+        match buf.first_mut() {
+            Some(place) if self.given < DRIPS => {
+                *place = line[self.given % 8];
+                self.given += 1;
+                Ok(1)
+            }
+            _ => Ok(0),
+        }
+    }
+}

@@ -1,6 +1,6 @@
-use crate::hindered::{Hindered, Narrow};
+use crate::hindered::{Hindered, Narrow, Unflushed};
 use std::alloc::Global;
-use std::io::{self, ErrorKind, Read};
+use std::io::{self, ErrorKind, Read, Write};
 use std::sync::Wait;
 use std::thread::Threads;
 use tp_cli::main_with;
@@ -19,20 +19,16 @@ fn is_told<R: Threads + Wait + Sync, I: Read>(
     status == 1 && out.is_empty() && err.as_slice() == complaint
 }
 
-/// Whether it is told, with status 1, that the answer to these words and this input could not be written.
-fn is_told_unwritten<R: Threads + Wait + Sync>(
+/// Whether it is told, with status 1, that the answer to these words and a script of one line could not be written.
+fn is_told_unwritten<R: Threads + Wait + Sync, W: Write>(
     rt: &R,
     alloc: Global,
     words: &[&str],
-    input: &str,
+    writer: &mut W,
 ) -> bool {
-    let mut reader = input.as_bytes();
-    let mut writer = Narrow {
-        room: 0,
-        fault: ErrorKind::StorageFull,
-    };
+    let mut reader = b"nodes 1\n".as_slice();
     let mut err = Vec::new(alloc);
-    let status = main_with(rt, alloc, words, &mut reader, &mut writer, &mut err);
+    let status = main_with(rt, alloc, words, &mut reader, writer, &mut err);
     status == 1 && err.as_slice() == b"fault write\n".as_slice()
 }
 
@@ -50,6 +46,16 @@ fn faults_of_reading(rt: HostRuntime) {
 
 #[test]
 fn faults_of_writing(rt: HostRuntime) {
-    assert!(rt; is_told_unwritten(&rt, rt.alloc(), &["tp", "sim"], "nodes 1\n"));
-    assert!(rt; is_told_unwritten(&rt, rt.alloc(), &["tp", "run", "reduce:4:0"], ""));
+    for words in [
+        ["tp", "sim"].as_slice(),
+        &["tp", "run", "reduce:4:0"],
+        &["tp", "--help"],
+    ] {
+        let mut full = Narrow {
+            room: 0,
+            fault: ErrorKind::StorageFull,
+        };
+        assert!(rt; is_told_unwritten(&rt, rt.alloc(), words, &mut full));
+        assert!(rt; is_told_unwritten(&rt, rt.alloc(), words, &mut Unflushed));
+    }
 }

@@ -1,4 +1,4 @@
-use crate::hindered::{Hindered, Narrow};
+use crate::hindered::{Dripping, Hindered, Narrow, Unflushed};
 use std::alloc::Global;
 use std::io::{self, ErrorKind, Read};
 use tp_text::{TextFault, Verdict, sim};
@@ -62,5 +62,24 @@ fn a_write_that_fails_is_told(rt: HostRuntime) {
     assert_eq!(rt;
         sim(rt.alloc(), &mut reader, &mut writer),
         Err(TextFault::Write)
+    );
+}
+
+#[test]
+fn a_flush_that_fails_is_told(rt: HostRuntime) {
+    let mut reader = b"nodes 1\n".as_slice();
+    assert_eq!(rt;
+        sim(rt.alloc(), &mut reader, &mut Unflushed),
+        Err(TextFault::Write)
+    );
+}
+
+// One line `ok`, 12,498 lines `refused 8 NoAction`, and 87 bytes of closing lines.
+#[test]
+fn a_text_may_come_in_a_hundred_thousand_reads(rt: HostRuntime) {
+    let (answer, written) = answer_to(rt.alloc(), &mut Dripping { given: 0 });
+    assert_eq!(rt;
+        (answer, written.len()),
+        (Ok(Verdict::Sound), 3 + 12_498 * 19 + 87)
     );
 }

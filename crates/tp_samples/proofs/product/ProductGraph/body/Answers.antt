@@ -21,11 +21,11 @@ returns-in_err-add_to-in-len1 c =
     let none = ruled ∙ refused.1 in
     search rules
 
-pub returns-in_ok-add_to-in-len1 : goal.returns-in_ok-add_to-in-len1
-returns-in_ok-add_to-in-len1 c =
+pub returns-in_ok-from_vec-in-len1 : goal.returns-in_ok-from_vec-in-len1
+returns-in_ok-from_vec-in-len1 c =
     let p = c.args.self.now in
     let one = one_item c.args.inputs.now c.input-item.result (omega arith) c.input-item.is in
     let ruled = by_sums p.tiles p.side p.seed c.args.task.0 c.args.inputs.now c.input-item.result c.in_ok-made.made.items c.as_slice.result.now c.deref_mut.result.now one c.in_ok-made.ensures.0 c.as_slice.ensures c.deref_mut.ensures.value in
     let kept : length c.add_to.new.sums ≡ c.in_ok-made.made.len = omega arith in
     let whole = take_at c.add_to.new.sums _ c.in_ok-made.made.len kept in
-    ruled ∙ c.in_ok-add_to-in-len1.ensures ∙ ap Some (sym (c.from-in-len1.ensures ∙ whole))
+    ruled ∙ c.in_ok-add_to-in-len1.ensures ∙ ap Some (sym (c.in_ok-from_vec-in-len1.ensures.value ∙ whole))
