@@ -14,7 +14,7 @@ use Rattle.tp_slots.proofs.Lists.{same_each, with_last-each}
 use Rattle.tp_store.specs.Content.{Task, fresh, with_value}
 use Rattle.tp_store.specs.Items.{Item}
 use Rattle.tp_store.specs.Entries.{Entries, entry_at}
-use Rattle.tp_store.specs.Kept.{task_under, with_found, tasks_below, tasks_of, number_at}
+use Rattle.tp_store.specs.Kept.{task_under, with_found, tasks_below, tasks_of, number_of, number_at}
 use Rattle.tp_store.specs.declared.index.Entry.{Entry}
 use Rattle.tp_store.specs.declared.index.Entry.TheVariants.{Live, Done}
 
@@ -78,7 +78,7 @@ module _ {V : Type 0} where
 
   -- the numbers at listed places, where only an unlisted place is changed
   pub numbers_same : (c d : slots.Content (Item V)) (p : ℕ) (lists : List (List ℕ)) → ((q : ℕ) → q ≢ p → slots.item_at d q ≡ slots.item_at c q) → slots.times p lists ≡ 0 → map (map (number_at d)) lists ≡ map (map (number_at c)) lists
-  numbers_same c d p lists items none = same_each (number_at d) (number_at c) lists (λ q more. ap (λ o. unwrap_or (option_map (λ i. i.number) o) (record { 0 = 0 })) (items q (λ same. let some : 0 < slots.times p lists = subst (λ k. 0 < slots.times k lists) same more in absurd (omega arith))))
+  numbers_same c d p lists items none = same_each (number_at d) (number_at c) lists (λ q more. ap number_of (items q (λ same. let some : 0 < slots.times p lists = subst (λ k. 0 < slots.times k lists) same more in absurd (omega arith))))
 
   -- or it keeps its number
   pub numbers_kept : (c d : slots.Content (Item V)) (lists : List (List ℕ)) → ((q : ℕ) → number_at d q ≡ number_at c q) → map (map (number_at d)) lists ≡ map (map (number_at c)) lists

@@ -8,61 +8,57 @@ use Rattle.tp_slots.specs.Content as slots
 use Rattle.tp_store.specs.Content.{Content, fresh, with_value, with_task, with_inserted, with_delivered, delivered_to, task_of, unfinished, is_ready, is_waiting}
 use Rattle.tp_store.specs.Items.{Item}
 use Rattle.tp_store.specs.Entries.{Entries, entry_at}
-use Rattle.tp_store.specs.Kept.{content_of, with_listed, entered, IsKept}
+use Rattle.tp_store.specs.Kept.{Parts, content_of, with_listed, with_supplied, entered, IsEntered, IsKept, IsGrown, Leaves}
 use Rattle.tp_store.specs.declared.life.Counts.{Counts}
 use Rattle.tp_store.specs.declared.life.Delivered.TheVariants.{Inserted}
 use Rattle.tp_store.specs.declared.index.Entry.TheVariants.{Live}
 use Rattle.tp_store.proofs.Filling.{IsTask-fresh, not_begun_life}
 use Rattle.tp_store.proofs.Supplying.{first_value}
 use Rattle.tp_store.proofs.Reading.{live_held}
-use Rattle.tp_store.proofs.Reserving.{content_same, IsKept-same}
+use Rattle.tp_store.proofs.Reserving.{content_same, IsKept-grown}
 use Rattle.tp_store.proofs.Entering.{entered_all}
 
 pub inserts : {V : Type 0} (s : Content V) (t : TaskId) (arity : ℕ) → task_of s t ≡ None → Inserted (arity - 1) ≡ delivered_to s t arity
 inserts s t arity none = rw none refl
 
-module _ {V A : Type 0} {c : slots.Content (Item V)} {index : Entries} {results : Vec (TaskId × V) A} {counts : Counts} (kept : IsKept {V = V} {A = A} c index results counts) {s : Content V} (view : content_of c index results.items ≡ s)
-    (t : TaskId) (none : task_of s t ≡ None)
-    (d : slots.Content (Item V)) (new : Entries) (after : Vec (TaskId × V) A) (same : d ≡ c) (entries : (q : ℕ) → entry_at new q ≡ entry_at index q) (items : after.items ≡ results.items)
-    (low : slots.held_count c < 65536) (space : vec_len results + (counts.waiting + counts.ready + counts.running + 1) ≤ vec_capacity after) (long : vec_len after ≡ vec_len results) where
-  grown : vec_len after + slots.held_count c + 1 ≤ vec_capacity after
-  grown = omega (arith, space, long, live_held kept view)
+module _ {V A : Type 0} {parts : Parts V A} (kept : IsKept parts) {s : Content V} (view : content_of parts ≡ s)
+    {e : slots.Content (Item V)} {index : Entries} {results : Vec (TaskId × V) A} (grown : IsGrown parts.places e parts.index index parts.results results) (t : TaskId) (none : task_of s t ≡ None)
+    (low : slots.held_count parts.places < 65536) (space : vec_len parts.results + (parts.counts.waiting + parts.counts.ready + parts.counts.running + 1) ≤ vec_capacity results) where
+  abbrev new : Parts V A
+  new = record parts { places = e; index = index; results = results }
 
-  roomy : IsKept {V = V} {A = A} d new after counts
-  roomy = IsKept-same kept view d new after same entries items (omega (arith, grown))
+  roomy : IsKept new
+  roomy = IsKept-grown kept view grown
 
-  unchanged : content_of d new after.items ≡ s
-  unchanged = content_same kept view d new after same entries items
+  unchanged : content_of new ≡ s
+  unchanged = content_same kept view grown
 
-  all_counted : counts.waiting + counts.ready + counts.running ≡ slots.held_count d
+  pub all_counted : new.counts.waiting + new.counts.ready + new.counts.running ≡ slots.held_count new.places
   all_counted = live_held roomy unchanged
 
-  module _ (arity class : ℕ) (h : arity ≤ 16) (l : class < 4) (i : Item V) (is : ◌≡◌ {A = Item V} i (record { number = t; task = fresh arity class })) (place : IsSome (lookup new t.0)) where
-    has_place : IsSome (lookup new i.number.0)
-    has_place = subst (λ (j : Item V). IsSome (lookup new j.number.0)) (sym is) place
+  more : vec_len new.results + slots.held_count new.places + 1 ≤ vec_capacity new.results
+  more = omega (arith, space, grown.long, live_held kept view, ap (λ d. slots.held_count d) grown.places)
 
-    -- ---- with none of its inputs
-    pub made_enters : IsSome (lookup new i.number.0) × (counts.waiting + counts.ready + counts.running ≡ slots.held_count d)
-    made_enters = (has_place, all_counted)
+  module _ (arity class : ℕ) (h : arity ≤ 16) (l : class < 4) (i : Item V) (is : ◌≡◌ {A = Item V} i (record { number = t; task = fresh arity class })) (d : slots.Content (Item V)) (end : Entries) (now : Counts) (few : slots.held_count new.places < 65536) where
+    -- with none of its inputs
+    pub made_entered : IsEntered new.places d new.index end i → now ≡ entered new.counts (is_ready i.task.life) → Leaves (record new { places = d; index = end; counts = now }) (with_task s t (fresh arity class)) (unfinished s + 1)
+    made_entered placed counted =
+        entered_all roomy unchanged t none more d end now i (fresh arity class) is (IsTask-fresh arity class h l) (not_begun_life arity) placed counted few
 
-    pub made_entered : (e : slots.Content (Item V)) (end : Entries) (now : Counts)
-        → ((p : ℕ) × (slots.item_at d p ≡ None) × (e ≡ with_listed (slots.with_item d p i) p i.task) × ((q : ℕ) → entry_at end q ≡ (if q == i.number.0 then Some (Live p) else entry_at new q)))
-        → now ≡ entered counts (is_ready i.task.life) → slots.held_count d < 65536
-        → (content_of e end after.items ≡ with_task s t (fresh arity class)) × (unfinished (content_of e end after.items) ≡ unfinished s + 1) × IsKept {V = V} {A = A} e end after now
-    made_entered e end now placed counted few =
-        entered_all roomy unchanged t none (rw same grown) e end now i (fresh arity class) is (IsTask-fresh arity class h l) (not_begun_life arity) placed counted few
+    -- with its first
+    pub made_delivered : (slot : ℕ) (value : V) → slot < arity → IsEntered new.places d new.index end (record i { task = with_value i.task slot value }) → now ≡ entered new.counts (is_ready (with_value i.task slot value).life)
+        → Leaves (record new { places = d; index = end; counts = now }) (with_delivered s t arity class slot value) (unfinished s + 1)
+    made_delivered slot value in_range placed counted =
+        let first = first_value {V = V} arity class slot value h l in_range in
+        let filled : ◌≡◌ {A = Item V} (record i { task = with_value i.task slot value }) (record { number = t; task = with_value (fresh arity class) slot value }) =
+        ap {A = Item V} {B = Item V} (λ j. record { number = j.number; task = with_value j.task slot value }) is in
+        let all = entered_all roomy unchanged t none more d end now (record i { task = with_value i.task slot value }) (with_value (fresh arity class) slot value) filled first.2 first.3 placed counted few in
+        record { content = all.content ∙ ap (λ o. with_task s t (with_value (unwrap_or o (fresh arity class)) slot value)) (sym none); count = all.count; kept = all.kept }
 
-    -- ---- with its first
-    module _ (slot : ℕ) (value : V) (in_range : slot < arity) where
-      pub made_fills : IsSome (lookup new i.number.0) × ((counts.waiting + counts.ready + counts.running ≡ slots.held_count d) × ((is_waiting i.task.life ≡ true) × ((slot < i.task.arity) × (get_or i.task.values slot None ≡ None))))
-      made_fills = let first = first_value {V = V} arity class slot value h l in_range in (has_place, (all_counted, rw is (first.0, (in_range, first.1))))
+-- the item of a new task can be filled
+module _ {V : Type 0} (index : Entries) (t : TaskId) (arity class : ℕ) (h : arity ≤ 16) (l : class < 4) (i : Item V) (is : ◌≡◌ {A = Item V} i (record { number = t; task = fresh arity class })) where
+  pub has_place : IsSome (lookup index t.0) → IsSome (lookup index i.number.0)
+  has_place place = subst (λ (j : Item V). IsSome (lookup index j.number.0)) (sym is) place
 
-      pub made_delivered : (e : slots.Content (Item V)) (end : Entries) (now : Counts)
-          → ((p : ℕ) × (slots.item_at d p ≡ None) × (e ≡ with_listed (slots.with_item d p (record i { task = with_value i.task slot value })) p (with_value i.task slot value)) × ((q : ℕ) → entry_at end q ≡ (if q == i.number.0 then Some (Live p) else entry_at new q)))
-          → now ≡ entered counts (is_ready (with_value i.task slot value).life) → slots.held_count d < 65536
-          → (content_of e end after.items ≡ with_delivered s t arity class slot value) × (unfinished (content_of e end after.items) ≡ unfinished s + 1) × IsKept {V = V} {A = A} e end after now
-      made_delivered e end now placed counted few =
-          let first = first_value {V = V} arity class slot value h l in_range in
-          let filled : ◌≡◌ {A = Item V} (record i { task = with_value i.task slot value }) (record { number = t; task = with_value (fresh arity class) slot value }) = ap {A = Item V} {B = Item V} (λ j. record { number = j.number; task = with_value j.task slot value }) is in
-          let all = entered_all roomy unchanged t none (rw same grown) e end now (record i { task = with_value i.task slot value }) (with_value (fresh arity class) slot value) filled first.2 first.3 placed counted few in
-          (all.0 ∙ ap (λ o. with_task s t (with_value (unwrap_or o (fresh arity class)) slot value)) (sym none), all.1, all.2)
+  pub can_fill : (slot : ℕ) (value : V) → slot < arity → (is_waiting i.task.life ≡ true) × ((slot < i.task.arity) × (get_or i.task.values slot None ≡ None))
+  can_fill slot value in_range = let first = first_value {V = V} arity class slot value h l in_range in rw is (first.0, (in_range, first.1))

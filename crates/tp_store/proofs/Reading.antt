@@ -11,7 +11,7 @@ use Rattle.tp_slots.specs.Content as slots
 use Rattle.tp_store.specs.Content.{Task, Content, task_of, unfinished, refusal_of_new, refusal_of_insert, refusal_of_deliver, refusal_of_value, has_begun}
 use Rattle.tp_store.specs.Items.{Item}
 use Rattle.tp_store.specs.Entries.{Entries, entry_at}
-use Rattle.tp_store.specs.Kept.{task_under, content_of, IsKept}
+use Rattle.tp_store.specs.Kept.{task_under, Parts, content_of, IsKept}
 use Rattle.tp_store.specs.declared.life.Life.TheVariants.{Done as over}
 use Rattle.tp_store.specs.declared.life.Counts.{Counts}
 use Rattle.tp_store.specs.declared.index.Entry.{Entry}
@@ -19,28 +19,28 @@ use Rattle.tp_store.specs.declared.index.Entry.TheVariants.{Live, Done}
 use Rattle.tp_store.proofs.Counting.{unfinished_counted}
 use Rattle.tp_store.proofs.Keeping.{get-tasks_of}
 
-module _ {V A : Type 0} {c : slots.Content (Item V)} {index : Entries} {results : Vec (TaskId × V) A} {counts : Counts} (kept : IsKept {V = V} {A = A} c index results counts) {s : Content V} (view : content_of c index results.items ≡ s) (t : TaskId) where
-  pub seen : (e : Option Entry) → entry_at index t.0 ≡ e → task_of s t ≡ task_under c e
-  seen e is = ap (λ v. task_of v t) (sym view) ∙ get-tasks_of c index t.0 ∙ ap (task_under c) is
+module _ {V A : Type 0} {parts : Parts V A} (kept : IsKept parts) {s : Content V} (view : content_of parts ≡ s) (t : TaskId) where
+  pub seen : (e : Option Entry) → entry_at parts.index t.0 ≡ e → task_of s t ≡ task_under parts.places e
+  seen e is = ap (λ v. task_of v t) (sym view) ∙ get-tasks_of parts.places parts.index t.0 ∙ ap (task_under parts.places) is
 
-  pub seen_live : (place : ℕ) (i : Item V) → entry_at index t.0 ≡ Some (Live place) → slots.item_at c place ≡ Some i → task_of s t ≡ Some i.task
+  pub seen_live : (place : ℕ) (i : Item V) → entry_at parts.index t.0 ≡ Some (Live place) → slots.item_at parts.places place ≡ Some i → task_of s t ≡ Some i.task
   seen_live place i e at = seen (Some (Live place)) e ∙ ap (option_map (λ j. j.task)) at
 
-module _ {V A : Type 0} {c : slots.Content (Item V)} {index : Entries} {results : Vec (TaskId × V) A} {counts : Counts} (kept : IsKept {V = V} {A = A} c index results counts) {s : Content V} (view : content_of c index results.items ≡ s) where
-  pub live_count : unfinished s ≡ counts.waiting + counts.ready + counts.running
-  live_count = ap (λ v. unfinished v) (sym view) ∙ unfinished_counted (content_of c index results.items) counts kept.counted
+module _ {V A : Type 0} {parts : Parts V A} (kept : IsKept parts) {s : Content V} (view : content_of parts ≡ s) where
+  pub live_count : unfinished s ≡ parts.counts.waiting + parts.counts.ready + parts.counts.running
+  live_count = ap (λ v. unfinished v) (sym view) ∙ unfinished_counted (content_of parts) parts.counts kept.counted
 
-  pub live_held : counts.waiting + counts.ready + counts.running ≡ slots.held_count c
-  live_held = sym (unfinished_counted (content_of c index results.items) counts kept.counted) ∙ sym kept.held
+  pub live_held : parts.counts.waiting + parts.counts.ready + parts.counts.running ≡ slots.held_count parts.places
+  live_held = sym (unfinished_counted (content_of parts) parts.counts kept.counted) ∙ sym kept.held
 
-  pub few_live : counts.waiting + counts.ready + counts.running ≤ 65536
+  pub few_live : parts.counts.waiting + parts.counts.ready + parts.counts.running ≤ 65536
   few_live = omega (arith, live_held, kept.within)
 
   -- a number with an entry has a task
-  pub known : (t : TaskId) (e : Entry) → entry_at index t.0 ≡ Some e → (x : Task V) × (task_of s t ≡ Some x)
+  pub known : (t : TaskId) (e : Entry) → entry_at parts.index t.0 ≡ Some e → (x : Task V) × (task_of s t ≡ Some x)
   known t (Done arity class) is = (record { life = over; arity = arity; class = class; values = [] }, seen kept view t (Some (Done arity class)) is)
   known t (Live place) is =
-      let i = some_of (slots.item_at c place) (kept.live t.0 place is) in
+      let i = some_of (slots.item_at parts.places place) (kept.live t.0 place is) in
       (i.0.task, seen_live kept view t place i.0 is i.1)
     where
       some_of : (o : Option (Item V)) → IsSomeAnd o (λ i. i.number.0 ≡ t.0) → (i : Item V) × (o ≡ Some i)
@@ -48,7 +48,7 @@ module _ {V A : Type 0} {c : slots.Content (Item V)} {index : Entries} {results 
       some_of (Some i) h = (i, refl)
 
   -- whether a new task is taken
-  pub new_answer : (r : Result (Unit {0}) Refusal) → OnOk r (counts.waiting + counts.ready + counts.running < 65536) → IfErr r (λ e. (e ≡ StoreFull) × (counts.waiting + counts.ready + counts.running ≡ 65536)) → MatchOption (refusal_of_new s) (r ≡ Ok tt) (λ e. r ≡ Err e)
+  pub new_answer : (r : Result (Unit {0}) Refusal) → OnOk r (parts.counts.waiting + parts.counts.ready + parts.counts.running < 65536) → IfErr r (λ e. (e ≡ StoreFull) × (parts.counts.waiting + parts.counts.ready + parts.counts.running ≡ 65536)) → MatchOption (refusal_of_new s) (r ≡ Ok tt) (λ e. r ≡ Err e)
   new_answer (Ok x) ok err = let e : (unfinished s == 65536) ≡ false = grind (arith, nat_tests, live_count, ok) in rw e refl
   new_answer (Err x) ok err = let e : (unfinished s == 65536) ≡ true = grind (arith, nat_tests, live_count, err.1) in rw e (ap Err err.0)
 

@@ -13,63 +13,68 @@ use Rattle.tp_slots.specs.Content as slots
 use Rattle.tp_store.specs.Content.{Content, task_of, unfinished, counts_of, refusal_of_new}
 use Rattle.tp_store.specs.Items.{Item}
 use Rattle.tp_store.specs.Entries.{Entries, entry_at}
-use Rattle.tp_store.specs.Kept.{task_under, content_of, IsKept}
+use Rattle.tp_store.specs.Kept.{task_under, Parts, content_of, IsKept, IsGrown}
 use Rattle.tp_store.specs.declared.life.Counts.{Counts}
 use Rattle.tp_store.specs.declared.index.Entry.{Entry}
 use Rattle.tp_store.proofs.Keeping.{tasks-same}
 use Rattle.tp_store.proofs.Reading.{seen, known}
 
-module _ {V A : Type 0} {c : slots.Content (Item V)} {index : Entries} {results : Vec (TaskId × V) A} {counts : Counts} (kept : IsKept {V = V} {A = A} c index results counts)
-    {s : Content V} (view : content_of c index results.items ≡ s) where
+module _ {V A : Type 0} {parts : Parts V A} (kept : IsKept parts)
+    {s : Content V} (view : content_of parts ≡ s) where
   -- ---- what is kept with other room
-  module _ (d : slots.Content (Item V)) (new : Entries) (after : Vec (TaskId × V) A) (same : d ≡ c) (entries : (q : ℕ) → entry_at new q ≡ entry_at index q) (items : after.items ≡ results.items) where
-    same_content : content_of c new after.items ≡ content_of c index results.items
-    same_content = let tasks = tasks-same c index new (λ q. ap (task_under c) (entries q)) in λ k. record { tasks = tasks k; ready = (content_of c index results.items).ready; results = items k }
+  module _ {d : slots.Content (Item V)} {new : Entries} {after : Vec (TaskId × V) A} (grown : IsGrown parts.places d parts.index new parts.results after) where
+    abbrev roomy : Parts V A
+    roomy = record parts { places = d; index = new; results = after }
 
-    pub content_same : content_of d new after.items ≡ s
-    content_same = ap (λ e. content_of e new after.items) same ∙ same_content ∙ view
+    same_content : content_of (record roomy { places = parts.places }) ≡ content_of parts
+    same_content =
+        let tasks = tasks-same parts.places parts.index new (λ q. ap (task_under parts.places) (grown.entries q)) in
+        λ k. record { tasks = tasks k; ready = (content_of parts).ready; results = grown.items k }
 
-    pub IsKept-same : vec_len after + slots.held_count c ≤ vec_capacity after → IsKept {V = V} {A = A} d new after counts
-    IsKept-same space = rw same (record {
-      lists = kept.lists;
-      live = λ t place e. kept.live t place (sym (entries t) ∙ e);
-      owner = λ place i e. entries i.number.0 ∙ kept.owner place i e;
-      sound = rw same_content kept.sound;
-      held = kept.held ∙ ap (λ (v : Content V). unfinished v) (sym same_content);
-      within = kept.within;
-      counted = kept.counted ∙ ap (λ (v : Content V). counts_of v) (sym same_content);
-      space = space;
-    })
+    pub content_same : content_of roomy ≡ s
+    content_same = ap (λ e. content_of (record roomy { places = e })) grown.places ∙ same_content ∙ view
 
-    pub IsKept-grown : vec_len after ≡ vec_len results → vec_capacity results ≤ vec_capacity after → IsKept {V = V} {A = A} d new after counts
-    IsKept-grown long capacity = IsKept-same (omega (arith, kept.space, long, capacity))
+    pub IsKept-grown : IsKept roomy
+    IsKept-grown = rw grown.places at_same
+      where
+        at_same : IsKept (record roomy { places = parts.places })
+        at_same = record {
+          lists = kept.lists;
+          live = λ t place e. kept.live t place (sym (grown.entries t) ∙ e);
+          owner = λ place i e. grown.entries i.number.0 ∙ kept.owner place i e;
+          sound = rw same_content kept.sound;
+          held = kept.held ∙ ap (λ (v : Content V). unfinished v) (sym same_content);
+          within = kept.within;
+          counted = kept.counted ∙ ap (λ (v : Content V). counts_of v) (sym same_content);
+          space = omega (arith, kept.space, grown.long, grown.capacity);
+        }
 
   -- ---- a task that may be made room for
   module _ (t : TaskId) where
     -- what is known of the task tells what stands under its number
-    pub unknown : entry_at index t.0 ≡ None → task_of s t ≡ None
+    pub unknown : entry_at parts.index t.0 ≡ None → task_of s t ≡ None
     unknown e = seen kept view t None e
 
-    pub nothing_there : task_of s t ≡ None → entry_at index t.0 ≡ None
-    nothing_there none = at_entry (entry_at index t.0) refl
+    pub nothing_there : task_of s t ≡ None → entry_at parts.index t.0 ≡ None
+    nothing_there none = at_entry (entry_at parts.index t.0) refl
       where
-        at_entry : (o : Option Entry) → entry_at index t.0 ≡ o → entry_at index t.0 ≡ None
+        at_entry : (o : Option Entry) → entry_at parts.index t.0 ≡ o → entry_at parts.index t.0 ≡ None
         at_entry None is = is
         at_entry (Some e) is = let x = known kept view t e is in let clash : Some x.0 ≡ None = sym x.1 ∙ none in cc
 
-    pub is_there : is_some (entry_at index t.0) ≡ is_some (task_of s t)
-    is_there = at_entry (entry_at index t.0) refl
+    pub is_there : is_some (entry_at parts.index t.0) ≡ is_some (task_of s t)
+    is_there = at_entry (entry_at parts.index t.0) refl
       where
-        at_entry : (o : Option Entry) → entry_at index t.0 ≡ o → is_some (entry_at index t.0) ≡ is_some (task_of s t)
+        at_entry : (o : Option Entry) → entry_at parts.index t.0 ≡ o → is_some (entry_at parts.index t.0) ≡ is_some (task_of s t)
         at_entry None is = ap is_some is ∙ sym (ap is_some (unknown is))
         at_entry (Some e) is = let x = known kept view t e is in ap is_some is ∙ sym (ap is_some x.1)
 
-    pub low_not_full : slots.held_count c < 65536 → refusal_of_new s ≡ None
+    pub low_not_full : slots.held_count parts.places < 65536 → refusal_of_new s ≡ None
     low_not_full low = let e : (unfinished s == 65536) ≡ false = grind (arith, nat_tests, ap (λ v. unfinished v) view, kept.held, low) in rw e refl
 
-    pub refusals : slots.refusal_of_take c ≡ unwrap_or (refusal_of_new s) NoMemory
+    pub refusals : slots.refusal_of_take parts.places ≡ unwrap_or (refusal_of_new s) NoMemory
     refusals =
-        (elim (slots.held_count c == 65536) as (λ b. (if b then StoreFull else NoMemory) ≡ unwrap_or (if b then Some StoreFull else None) NoMemory) [ true ↦ refl | false ↦ refl ])
+        (elim (slots.held_count parts.places == 65536) as (λ b. (if b then StoreFull else NoMemory) ≡ unwrap_or (if b then Some StoreFull else None) NoMemory) [ true ↦ refl | false ↦ refl ])
         ∙ ap (λ n. unwrap_or (if n == 65536 then Some StoreFull else None) NoMemory) (kept.held ∙ ap (λ v. unfinished v) view)
 
 -- ---- what a refusal says

@@ -11,22 +11,22 @@ use Rattle.tp_slots.specs.Content as slots
 use Rattle.tp_store.specs.Items.{Item}
 use Rattle.tp_store.specs.Entries.{Entries, entry_at}
 use Rattle.tp_store.specs.Sound.{is_task, times_ready}
-use Rattle.tp_store.specs.Kept.{task_under, tasks_of, number_at, content_of, IsKept}
+use Rattle.tp_store.specs.Kept.{task_under, tasks_of, number_of, number_at, Parts, content_of, IsKept}
 use Rattle.tp_store.specs.declared.life.Counts.{Counts}
 use Rattle.tp_store.specs.declared.index.Entry.TheVariants.{Live}
 use Rattle.tp_store.proofs.Contents.{is_itself}
 use Rattle.tp_store.proofs.Keeping.{tasks-put}
 
-module _ {V A : Type 0} {c : slots.Content (Item V)} {index : Entries} {results : Vec (TaskId × V) A} {counts : Counts} (kept : IsKept {V = V} {A = A} c index results counts) (d : slots.Content (Item V)) (i y : Item V) (p : ℕ)
-    (at : slots.item_at c p ≡ Some i) (here : slots.item_at d p ≡ Some y) (there : (q : ℕ) → q ≢ p → slots.item_at d q ≡ slots.item_at c q) (same : y.number ≡ i.number) where
-  pub entry : entry_at index i.number.0 ≡ Some (Live p)
+module _ {V A : Type 0} {parts : Parts V A} (kept : IsKept parts) (d : slots.Content (Item V)) (i y : Item V) (p : ℕ)
+    (at : slots.item_at parts.places p ≡ Some i) (here : slots.item_at d p ≡ Some y) (there : (q : ℕ) → q ≢ p → slots.item_at d q ≡ slots.item_at parts.places q) (same : y.number ≡ i.number) where
+  pub entry : entry_at parts.index i.number.0 ≡ Some (Live p)
   entry = kept.owner p i at
 
   -- no other task has the place
-  own : (q : ℕ) → entry_at index q ≡ Some (Live p) → i.number.0 ≡ q
+  own : (q : ℕ) → entry_at parts.index q ≡ Some (Live p) → i.number.0 ≡ q
   own q e = let is = kept.live q p e in rw at at is
 
-  pub live : (t place : ℕ) → entry_at index t ≡ Some (Live place) → IsSomeAnd (slots.item_at d place) (λ j. j.number.0 ≡ t)
+  pub live : (t place : ℕ) → entry_at parts.index t ≡ Some (Live place) → IsSomeAnd (slots.item_at d place) (λ j. j.number.0 ≡ t)
   live t place e = elim (cases_eq place p) [
     | inl is ↦
         let mine : i.number.0 ≡ t = own t (e ∙ ap (λ q. Some (Live q)) is) in
@@ -34,22 +34,22 @@ module _ {V A : Type 0} {c : slots.Content (Item V)} {index : Entries} {results 
     | inr apart ↦ subst (λ (o : Option (Item V)). IsSomeAnd o (λ j. j.number.0 ≡ t)) (sym (there place apart)) (kept.live t place e)
   ]
 
-  pub owner : (place : ℕ) (j : Item V) → slots.item_at d place ≡ Some j → entry_at index j.number.0 ≡ Some (Live place)
+  pub owner : (place : ℕ) (j : Item V) → slots.item_at d place ≡ Some j → entry_at parts.index j.number.0 ≡ Some (Live place)
   owner place j e = elim (cases_eq place p) [
     | inl is ↦
         let both : Some y ≡ Some j = sym here ∙ ap (slots.item_at d) (sym is) ∙ e in
         let yj : y ≡ j = cc in
-        ap (λ k. entry_at index k.number.0) (sym yj) ∙ ap (λ n. entry_at index n.0) same ∙ entry ∙ ap (λ q. Some (Live q)) (sym is)
+        ap (λ k. entry_at parts.index k.number.0) (sym yj) ∙ ap (λ n. entry_at parts.index n.0) same ∙ entry ∙ ap (λ q. Some (Live q)) (sym is)
     | inr apart ↦ kept.owner place j (sym (there place apart) ∙ e)
   ]
 
-  pub tasks : tasks_of d index ≡ finite.insert (tasks_of c index) i.number.0 y.task
-  tasks = tasks-put c d index index i.number.0 p y.task there (λ q apart. refl) (λ q apart e. apart (sym (own q e))) (ap (task_under d) entry ∙ ap (option_map (λ j. j.task)) here)
+  pub tasks : tasks_of d parts.index ≡ finite.insert (tasks_of parts.places parts.index) i.number.0 y.task
+  tasks = tasks-put parts.places d parts.index parts.index i.number.0 p y.task there (λ q apart. refl) (λ q apart e. apart (sym (own q e))) (ap (task_under d) entry ∙ ap (option_map (λ j. j.task)) here)
 
-  pub numbers : (q : ℕ) → number_at d q ≡ number_at c q
+  pub numbers : (q : ℕ) → number_at d q ≡ number_at parts.places q
   numbers q = elim (cases_eq q p) [
-    | inl is ↦ ap (number_at d) is ∙ ap (λ o. unwrap_or (option_map (λ j. j.number) o) (record { 0 = 0 })) here ∙ same ∙ sym (ap (λ o. unwrap_or (option_map (λ j. j.number) o) (record { 0 = 0 })) at) ∙ ap (number_at c) (sym is)
-    | inr apart ↦ ap (λ o. unwrap_or (option_map (λ j. j.number) o) (record { 0 = 0 })) (there q apart)
+    | inl is ↦ ap (number_at d) is ∙ ap number_of here ∙ same ∙ sym (ap number_of at) ∙ ap (number_at parts.places) (sym is)
+    | inr apart ↦ ap number_of (there q apart)
   ]
 
 -- ---- a place is listed only where its task is
@@ -68,9 +68,9 @@ module _ (f : ℕ → TaskId) (p : ℕ) where
   none_listed [] h = refl
   none_listed (r ∷ rs) h = omega (arith, h 0, times_below r, none_listed rs (λ class. h (suc class)))
 
-module _ {V : Type 0} (c : slots.Content (Item V)) (index : Entries) (results : List (TaskId × V)) (p : ℕ) (i : Item V) (at : slots.item_at c p ≡ Some i) where
-  number_is : number_at c p ≡ i.number
-  number_is = ap (λ o. unwrap_or (option_map (λ j. j.number) o) (record { 0 = 0 })) at
+module _ {V A : Type 0} (parts : Parts V A) (p : ℕ) (i : Item V) (at : slots.item_at parts.places p ≡ Some i) where
+  number_is : number_at parts.places p ≡ i.number
+  number_is = ap number_of at
 
-  pub unlisted : ((class : ℕ) → times_ready (content_of c index results) class i.number ≡ 0) → slots.times p c.ready ≡ 0
-  unlisted none = none_listed (number_at c) p c.ready (λ class. ap (λ n. count_by (is_task n) (get_or (map (map (number_at c)) c.ready) class [])) number_is ∙ none class)
+  pub unlisted : ((class : ℕ) → times_ready (content_of parts) class i.number ≡ 0) → slots.times p parts.places.ready ≡ 0
+  unlisted none = none_listed (number_at parts.places) p parts.places.ready (λ class. ap (λ n. count_by (is_task n) (get_or (content_of parts).ready class [])) number_is ∙ none class)

@@ -1,11 +1,10 @@
 //! What the store does to the items in its slots.
-ghost use Rattle.std.specs.Prelude.{◌≡◌, ◌<◌, ◌≤◌, ℕ, None, Some, ◌+◌, IfSome, IsSome, map, slice_index_or, true, ◌==◌, if◌then◌else◌};
+ghost use Rattle.std.specs.Prelude.{◌≡◌, ◌<◌, ◌≤◌, None, Some, ◌+◌, IfSome, IsSome, map, slice_index_or, true};
 ghost use Rattle.std.specs.Mem.{FitsInMemory};
 ghost use Rattle.tp_base.specs.Table.{lookup};
 ghost use Rattle.tp_slots.specs.Content.{item_at, IsTaken, IsIdle, held_count, with_item};
 ghost use Rattle.tp_store.specs.Content.{is_waiting, is_ready, with_value, begun};
-ghost use Rattle.tp_store.specs.Entries.{entry_at};
-ghost use Rattle.tp_store.specs.Kept.{with_listed, entered, supplied_counts};
+ghost use Rattle.tp_store.specs.Kept.{with_listed, with_supplied, entered, supplied_counts, IsEntered};
 ghost use Rattle.tp_store.specs.contracts.item.TaskItem.{the_row};
 
 use crate::index::{Entry, Index, set_entry};
@@ -32,7 +31,7 @@ pub(crate) fn supply<S: Slots<TaskItem<V>>, V: MadeWith<Global> + Drop>(
     requires free { IfSome (item_at (S.content slots.old) place) (λ i. slice_index_or i.task.values slot None ≡ None) }
     requires some_wait { 0 < counts.old.waiting }
     requires counted { counts.old.waiting + counts.old.ready + counts.old.running ≤ MAX_LIVE_TASKS }
-    ensures content { IfSome (item_at (S.content slots.old) place) (λ i. S.content slots.new ≡ with_listed (with_item (S.content slots.old) place (record i { task = with_value i.task slot value })) place (with_value i.task slot value)) }
+    ensures content { IfSome (item_at (S.content slots.old) place) (λ i. S.content slots.new ≡ with_supplied (S.content slots.old) place i slot value) }
     ensures counts { IfSome (item_at (S.content slots.old) place) (λ i. counts.new ≡ supplied_counts counts.old (is_ready (with_value i.task slot value).life)) }
 {
     slots.get_mut(place).fill(slot, value);
@@ -83,7 +82,7 @@ pub(crate) fn enter<S: Slots<TaskItem<V>>, V>(
     requires room { 0 < S.room slots.old }
     requires entry { IsSome (lookup index.old item.number.0) }
     requires counted { counts.old.waiting + counts.old.ready + counts.old.running ≡ held_count (S.content slots.old) }
-    ensures place { (place : ℕ) × (item_at (S.content slots.old) place ≡ None) × (S.content slots.new ≡ with_listed (with_item (S.content slots.old) place item) place item.task) × ((q : ℕ) → entry_at index.new q ≡ (if q == item.number.0 then Some (Entry.Live place) else entry_at index.old q)) }
+    ensures entered { IsEntered (S.content slots.old) (S.content slots.new) index.old index.new item }
     ensures counts { counts.new ≡ entered counts.old (is_ready item.task.life) }
     ensures not_full { held_count (S.content slots.old) < MAX_LIVE_TASKS }
 {
@@ -108,7 +107,7 @@ pub(crate) fn enter_with<S: Slots<TaskItem<V>>, V: MadeWith<Global> + Drop>(
     requires waiting { is_waiting item.task.life ≡ true }
     requires slot_in_range { slot < item.task.arity }
     requires free { slice_index_or item.task.values slot None ≡ None }
-    ensures place { (place : ℕ) × (item_at (S.content slots.old) place ≡ None) × (S.content slots.new ≡ with_listed (with_item (S.content slots.old) place (record item { task = with_value item.task slot value })) place (with_value item.task slot value)) × ((q : ℕ) → entry_at index.new q ≡ (if q == item.number.0 then Some (Entry.Live place) else entry_at index.old q)) }
+    ensures entered { IsEntered (S.content slots.old) (S.content slots.new) index.old index.new (record item { task = with_value item.task slot value }) }
     ensures counts { counts.new ≡ entered counts.old (is_ready (with_value item.task slot value).life) }
     ensures not_full { held_count (S.content slots.old) < MAX_LIVE_TASKS }
 {

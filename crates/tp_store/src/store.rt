@@ -50,9 +50,9 @@ impl<S: Slots<TaskItem<V>>, V> Model for TaskStore<S, V> {
 
     ghost use Rattle.tp_store.specs.Kept.{content_of, IsKept};
 
-    ghost view = { λ s. content_of (S.content s.slots) s.index s.results.items };
+    ghost view = { λ s. content_of (record { places = S.content s.slots; index = s.index; results = s.results; counts = s.counts }) };
 
-    ghost invariant = { λ s. IsKept (S.content s.slots) s.index s.results s.counts };
+    ghost invariant = { λ s. IsKept (record { places = S.content s.slots; index = s.index; results = s.results; counts = s.counts }) };
 }
 
 impl<S: Slots<TaskItem<V>>, V> TaskStore<S, V> {
