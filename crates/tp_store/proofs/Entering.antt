@@ -1,23 +1,22 @@
 -- A new task enters the slots.
-use Rattle.std.proofs.Common.{◌≡◌, ◌≢◌, ℕ, ◌+◌, ◌<◌, ◌≤◌, ◌==◌, true, false, cond, length, map, Option, Some, None, is_some, IsSome, unwrap_or, refl, sym, ap, subst, ◌∙◌, inl, inr, arith, vec_len, vec_capacity}
+use Rattle.std.proofs.Common.{◌≡◌, ◌≢◌, ℕ, ◌+◌, ◌<◌, ◌≤◌, ◌==◌, true, false, cond, length, map, Option, Some, None, is_some, refl, sym, ap, subst, ◌∙◌, inl, inr, arith, vec_len, vec_capacity}
 use Rattle.std.specs.Prelude.{if◌then◌else◌}
 use Rattle.std.specs.Option.{option_map, IsSomeAnd}
 use Rattle.std.specs.Cmp.{nat_cmp_total}
 use Rattle.std.specs.FinMap as finite
-use Rattle.std.specs.declared.vec.Vec.{Vec}
 use Rattle.std.proofs.lemmas.Bool.{cases_eq}
 use Rattle.std.proofs.lemmas.Bool.Decides.{nat_tests}
 use Rattle.tp_base.specs.declared.ids.TaskId.{TaskId}
 use Rattle.tp_slots.specs.Content as slots
 use Rattle.tp_slots.proofs.Sound.{IsSound-with_item, idle_when_taken}
-use Rattle.tp_store.specs.Content.{Task, Content, task_of, with_task, unfinished, counts_of, is_ready, has_begun}
+use Rattle.tp_store.specs.Content.{Task, Content, task_of, life_of, with_task, unfinished, counts_of, is_ready, has_begun}
 use Rattle.tp_store.specs.Items.{Item}
 use Rattle.tp_store.specs.Entries.{Entries, entry_at}
 use Rattle.tp_store.specs.Sound.{IsTask}
-use Rattle.tp_store.specs.Kept.{task_under, tasks_of, Parts, number_of, number_at, content_of, with_listed, entered, IsEntered, IsKept, Leaves}
+use Rattle.tp_store.specs.Kept.{task_under, tasks_of, Parts, number_of, number_at, content_of, with_listed, moved_counts, IsEntered, IsKept, Leaves}
 use Rattle.tp_store.specs.declared.life.Counts.{Counts}
 use Rattle.tp_store.specs.declared.index.Entry.TheVariants.{Live}
-use Rattle.tp_store.proofs.Contents.{NotReady, unknown, IsSound-put, counts-new}
+use Rattle.tp_store.proofs.Contents.{NotReady, unknown, IsSound-put, counts-moved, unfinished-new}
 use Rattle.tp_store.proofs.Keeping.{get-tasks_of, tasks-put, numbers_same, item_here, item_there, listed_item, listed_count, listed_sound, listed_lists}
 use Rattle.tp_store.proofs.Reserving.{nothing_there}
 
@@ -83,7 +82,7 @@ module _ {V A : Type 0} {parts : Parts V A} (kept : IsKept parts) (d : slots.Con
 
   -- the store once the item is in
   abbrev pub entered_parts : Parts V A
-  entered_parts = record parts { places = after; index = new; counts = entered parts.counts (is_ready i.task.life) }
+  entered_parts = record parts { places = after; index = new; counts = moved_counts parts.counts None i.task.life }
 
   pub entered_content : content_of entered_parts ≡ with_task old i.number i.task
   entered_content = λ k. record { tasks = tasks k; ready = ready k; results = parts.results.items }
@@ -91,8 +90,10 @@ module _ {V A : Type 0} {parts : Parts V A} (kept : IsKept parts) (d : slots.Con
   count : slots.held_count after ≡ slots.held_count parts.places + 1
   count = listed_count (is_ready i.task.life) with p i.task.class ∙ finite.len-insert nat_cmp_total parts.places.items p i ∙ ap (λ (o : Option (Item V)). cond (is_some o) (slots.held_count parts.places) (slots.held_count parts.places + 1)) free
 
-  pub counted : (unfinished (with_task old i.number i.task) ≡ unfinished old + 1) × (entered parts.counts (is_ready i.task.life) ≡ counts_of (with_task old i.number i.task))
-  counted = counts-new old i.number i.task parts.counts was_unknown before kept.counted
+  pub counted : (unfinished (with_task old i.number i.task) ≡ unfinished old + 1) × (moved_counts parts.counts None i.task.life ≡ counts_of (with_task old i.number i.task))
+  counted =
+      let none : life_of old i.number ≡ None = ap (option_map (λ x. x.life)) was_unknown in
+      (unfinished-new old i.number i.task none before, counts-moved old i.number i.task (with_task old i.number i.task).ready old.results None none parts.counts kept.counted)
 
   pub IsKept-entered : IsKept entered_parts
   IsKept-entered = record {
@@ -126,7 +127,7 @@ module _ {V A : Type 0} {parts : Parts V A} (kept : IsKept parts) {s : Content V
     (t : TaskId) (unknown_task : task_of s t ≡ None) (space : vec_len parts.results + slots.held_count parts.places + 1 ≤ vec_capacity parts.results) where
   -- what the store is once the task entered
   pub entered_all : (d : slots.Content (Item V)) (new : Entries) (now : Counts) (i : Item V) (x : Task V) → ◌≡◌ {A = Item V} i (record { number = t; task = x })
-      → IsTask x → has_begun x.life ≡ false → IsEntered parts.places d parts.index new i → now ≡ entered parts.counts (is_ready i.task.life) → slots.held_count parts.places < 65536
+      → IsTask x → has_begun x.life ≡ false → IsEntered parts.places d parts.index new i → now ≡ moved_counts parts.counts None i.task.life → slots.held_count parts.places < 65536
       → Leaves (record parts { places = d; index = new; counts = now }) (with_task s t x) (unfinished s + 1)
   entered_all d new now i x is task before placed counts_are low =
       let nothing : entry_at parts.index i.number.0 ≡ None = ap (λ (j : Item V). entry_at parts.index j.number.0) is ∙ nothing_there kept view t unknown_task in

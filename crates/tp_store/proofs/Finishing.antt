@@ -1,5 +1,5 @@
 -- A running task is done.
-use Rattle.std.proofs.Common.{◌≡◌, ◌≢◌, ℕ, ◌+◌, ◌-◌, ◌<◌, ◌≤◌, ◌==◌, true, false, [], ◌∷◌, ◌++◌, map, Option, Some, None, is_some, IfSome, unwrap_or, refl, sym, ap, subst, ◌∙◌, inl, inr, arith, vec_len, vec_capacity}
+use Rattle.std.proofs.Common.{◌≡◌, ◌≢◌, ℕ, ◌+◌, ◌-◌, ◌<◌, ◌==◌, true, false, [], ◌∷◌, ◌++◌, map, Option, Some, None, is_some, unwrap_or, refl, sym, ap, subst, ◌∙◌, inl, inr, arith, vec_len, vec_capacity}
 use Rattle.std.specs.Prelude.{if◌then◌else◌}
 use Rattle.std.specs.Option.{option_map, IsSome, IsSomeAnd}
 use Rattle.std.specs.Cmp.{nat_cmp_total}
@@ -16,16 +16,15 @@ use Rattle.tp_store.specs.Content.{Task, Content, task_of, life_of, unfinished, 
 use Rattle.tp_store.specs.Items.{Item}
 use Rattle.tp_store.specs.Entries.{Entries, entry_at}
 use Rattle.tp_store.specs.Sound.{IsTask, times_ready}
-use Rattle.tp_store.specs.Kept.{task_under, tasks_of, Parts, number_at, content_of, IsKept, Leaves}
+use Rattle.tp_store.specs.Kept.{task_under, tasks_of, Parts, number_at, content_of, moved_counts, IsCounted, IsKept, Leaves}
 use Rattle.tp_store.specs.declared.life.Life.{Life}
 use Rattle.tp_store.specs.declared.life.Life.TheVariants.{Waiting, Ready, Running, Done as Over}
-use Rattle.tp_store.specs.declared.life.Counts.{Counts}
 use Rattle.tp_store.specs.declared.index.Entry.{Entry}
 use Rattle.tp_store.specs.declared.index.Entry.TheVariants.{Live, Done}
-use Rattle.tp_store.proofs.Contents.{same_number, ready_in, runs_not, IsSound-done, counts-done, some_counted}
+use Rattle.tp_store.proofs.Contents.{same_number, ready_in, runs_not, IsSound-done, counts-moved, moves, is_counted, some_counted}
 use Rattle.tp_store.proofs.Keeping.{room_under, get-tasks_of, tasks-put, numbers_same, gone_here, gone_there}
 use Rattle.tp_store.proofs.Rewriting.{unlisted}
-use Rattle.tp_store.proofs.Reading.{seen_live}
+use Rattle.tp_store.proofs.Reading.{seen_live, few_live}
 
 module _ {V A : Type 0} {parts : Parts V A} (kept : IsKept parts)
     (i : Item V) (p : ℕ) (at : slots.item_at parts.places p ≡ Some i) (runs : i.task.life ≡ Running) (t : TaskId) (number : i.number ≡ t) where
@@ -82,7 +81,7 @@ module _ {V A : Type 0} {parts : Parts V A} (kept : IsKept parts)
 
     -- the store once it is done
     abbrev pub done_parts : Parts V A
-    done_parts = record { places = without; index = new; results = after; counts = record parts.counts { running = parts.counts.running - 1 } }
+    done_parts = record { places = without; index = new; results = after; counts = moved_counts parts.counts (Some Running) Over }
 
     pub done_content : content_of done_parts ≡ changed
     done_content =
@@ -91,7 +90,10 @@ module _ {V A : Type 0} {parts : Parts V A} (kept : IsKept parts)
         λ k. record { tasks = tasks k; ready = ready k; results = items k }
 
     pub done_moves : (unfinished changed + 1 ≡ unfinished old) × (done_parts.counts ≡ counts_of changed)
-    done_moves = counts-done old t i.task parts.counts (parts.results.items ++ (t, value) ∷ []) was running kept.counted
+    done_moves =
+        let known : life_of old t ≡ Some Running = ap (option_map (λ x. x.life)) was ∙ ap (λ l. Some l) runs in
+        let more = parts.results.items ++ (t, value) ∷ [] in
+        (omega (arith, moves old t (done i.task) old.ready more (Some Running) known is_unfinished), counts-moved old t (done i.task) old.ready more (Some Running) known parts.counts kept.counted)
 
     count : slots.held_count without + 1 ≡ slots.held_count parts.places
     count =
@@ -136,18 +138,18 @@ module _ {V A : Type 0} {parts : Parts V A} (kept : IsKept parts)
   life_is = ap (option_map (λ x. x.life)) (seen_live kept view t p i stands at)
 
   module _ (runs : i.task.life ≡ Running) where
-    pub can_finish : slots.IsIdle parts.places p × (entry_at parts.index t.0 ≡ Some (Live p)) × (vec_len parts.results < vec_capacity parts.results) × (0 < parts.counts.running)
+    pub can_finish : slots.IsIdle parts.places p × (entry_at parts.index t.0 ≡ Some (Live p)) × (vec_len parts.results < vec_capacity parts.results) × IsCounted (Some Running) parts.counts
     can_finish = (
       idle kept i p at runs t own_number,
       stands,
       omega (arith, some_held kept i p at runs t own_number, kept.space),
-      omega (arith, some_counted is_running (content_of parts) t i.task (was kept i p at runs t own_number) (ap is_running runs) refl, ap (λ n. n.running) kept.counted),
+      subst (λ (l : Life). IsCounted (Some l) parts.counts) runs (is_counted (content_of parts) t i.task parts.counts (was kept i p at runs t own_number) kept.counted (few_live kept view)),
     )
 
     pub done_all : (d : slots.Content (Item V)) (new : Entries) (after : Vec (TaskId × V) A) (value : V) (entry : Entry) → d ≡ slots.without_item parts.places p → entry ≡ Done i.task.arity i.task.class
         → ((q : ℕ) → entry_at new q ≡ (if q == t.0 then Some entry else entry_at parts.index q))
         → after.items ≡ parts.results.items ++ (t, value) ∷ [] → vec_len after ≡ vec_len parts.results + 1 → vec_capacity after ≡ vec_capacity parts.results
-        → (0 < unfinished s) × Leaves (record { places = d; index = new; results = after; counts = record parts.counts { running = parts.counts.running - 1 } }) (with_done s t value) (unfinished s - 1)
+        → (0 < unfinished s) × Leaves (record { places = d; index = new; results = after; counts = moved_counts parts.counts (Some Running) Over }) (with_done s t value) (unfinished s - 1)
     done_all d new after value entry gone is put items long capacity =
         let entries : (q : ℕ) → entry_at new q ≡ (if q == t.0 then Some (Done i.task.arity i.task.class) else entry_at parts.index q) = λ q. put q ∙ ap (λ e. if q == t.0 then Some e else entry_at parts.index q) is in
         let content = done_content kept i p at runs t own_number new after value entries items long capacity in

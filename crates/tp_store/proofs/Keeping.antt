@@ -1,5 +1,5 @@
 -- How the slots and the index give the content, and how a change of one task moves it.
-use Rattle.std.proofs.Common.{◌≡◌, ◌≢◌, ℕ, zero, suc, ◌<◌, ◌≤◌, ◌==◌, ◌^◌, Bool, true, false, cond, List, length, map, Option, Some, None, IsSome, unwrap_or, IfSome, refl, sym, ap, subst, ◌∙◌, inl, inr, arith}
+use Rattle.std.proofs.Common.{◌≡◌, ◌≢◌, ℕ, zero, suc, ◌<◌, ◌==◌, ◌^◌, Bool, true, false, cond, List, length, map, Option, Some, None, IsSome, unwrap_or, IfSome, refl, sym, ap, subst, ◌∙◌, inl, inr, arith}
 use Rattle.std.specs.Prelude.{nat_lt, if◌then◌else◌}
 use Rattle.std.specs.Option.{option_map}
 use Rattle.std.specs.Ordering.{nat_cmp}
@@ -11,7 +11,7 @@ use Rattle.tp_base.specs.Table.{lookup}
 use Rattle.tp_slots.specs.Content as slots
 use Rattle.tp_slots.proofs.Sound.{get_inserted, get_removed, IsSound-with_ready}
 use Rattle.tp_slots.proofs.Lists.{same_each, with_last-each}
-use Rattle.tp_store.specs.Content.{Task, fresh, with_value}
+use Rattle.tp_store.specs.Content.{Task, with_value}
 use Rattle.tp_store.specs.Items.{Item}
 use Rattle.tp_store.specs.Entries.{Entries, entry_at}
 use Rattle.tp_store.specs.Kept.{task_under, with_found, tasks_below, tasks_of, number_of, number_at}

@@ -1,17 +1,15 @@
 -- A new task enters the slots right after room was made for it.
-use Rattle.std.proofs.Common.{◌≡◌, ℕ, ◌+◌, ◌-◌, ◌<◌, ◌≤◌, ◌==◌, true, get_or, Option, Some, None, IsSome, unwrap_or, refl, sym, ap, subst, ◌∙◌, arith, vec_len, vec_capacity}
-use Rattle.std.specs.Prelude.{if◌then◌else◌}
+use Rattle.std.proofs.Common.{◌≡◌, ℕ, ◌+◌, ◌-◌, ◌<◌, ◌≤◌, true, get_or, None, IsSome, unwrap_or, refl, sym, ap, subst, ◌∙◌, arith, vec_len, vec_capacity}
 use Rattle.std.specs.declared.vec.Vec.{Vec}
 use Rattle.tp_base.specs.declared.ids.TaskId.{TaskId}
 use Rattle.tp_base.specs.Table.{lookup}
 use Rattle.tp_slots.specs.Content as slots
-use Rattle.tp_store.specs.Content.{Content, fresh, with_value, with_task, with_inserted, with_delivered, delivered_to, task_of, unfinished, is_ready, is_waiting}
+use Rattle.tp_store.specs.Content.{Content, fresh, with_value, with_task, with_delivered, delivered_to, task_of, unfinished, is_waiting}
 use Rattle.tp_store.specs.Items.{Item}
-use Rattle.tp_store.specs.Entries.{Entries, entry_at}
-use Rattle.tp_store.specs.Kept.{Parts, content_of, with_listed, with_supplied, entered, IsEntered, IsKept, IsGrown, Leaves}
+use Rattle.tp_store.specs.Entries.{Entries}
+use Rattle.tp_store.specs.Kept.{Parts, content_of, moved_counts, IsEntered, IsKept, IsGrown, Leaves}
 use Rattle.tp_store.specs.declared.life.Counts.{Counts}
 use Rattle.tp_store.specs.declared.life.Delivered.TheVariants.{Inserted}
-use Rattle.tp_store.specs.declared.index.Entry.TheVariants.{Live}
 use Rattle.tp_store.proofs.Filling.{IsTask-fresh, not_begun_life}
 use Rattle.tp_store.proofs.Supplying.{first_value}
 use Rattle.tp_store.proofs.Reading.{live_held}
@@ -41,12 +39,12 @@ module _ {V A : Type 0} {parts : Parts V A} (kept : IsKept parts) {s : Content V
 
   module _ (arity class : ℕ) (h : arity ≤ 16) (l : class < 4) (i : Item V) (is : ◌≡◌ {A = Item V} i (record { number = t; task = fresh arity class })) (d : slots.Content (Item V)) (end : Entries) (now : Counts) (few : slots.held_count new.places < 65536) where
     -- with none of its inputs
-    pub made_entered : IsEntered new.places d new.index end i → now ≡ entered new.counts (is_ready i.task.life) → Leaves (record new { places = d; index = end; counts = now }) (with_task s t (fresh arity class)) (unfinished s + 1)
+    pub made_entered : IsEntered new.places d new.index end i → now ≡ moved_counts new.counts None i.task.life → Leaves (record new { places = d; index = end; counts = now }) (with_task s t (fresh arity class)) (unfinished s + 1)
     made_entered placed counted =
         entered_all roomy unchanged t none more d end now i (fresh arity class) is (IsTask-fresh arity class h l) (not_begun_life arity) placed counted few
 
     -- with its first
-    pub made_delivered : (slot : ℕ) (value : V) → slot < arity → IsEntered new.places d new.index end (record i { task = with_value i.task slot value }) → now ≡ entered new.counts (is_ready (with_value i.task slot value).life)
+    pub made_delivered : (slot : ℕ) (value : V) → slot < arity → IsEntered new.places d new.index end (record i { task = with_value i.task slot value }) → now ≡ moved_counts new.counts None (with_value i.task slot value).life
         → Leaves (record new { places = d; index = end; counts = now }) (with_delivered s t arity class slot value) (unfinished s + 1)
     made_delivered slot value in_range placed counted =
         let first = first_value {V = V} arity class slot value h l in_range in

@@ -1,19 +1,17 @@
 -- What the slots and the index tell of one task.
-use Rattle.std.proofs.Common.{◌≡◌, ℕ, ◌+◌, ◌<◌, ◌≤◌, ◌==◌, true, false, List, [], Option, Some, None, is_some, MatchOption, Result, Ok, Err, OnOk, IfErr, refl, sym, ap, ◌∙◌, arith}
+use Rattle.std.proofs.Common.{◌≡◌, ℕ, ◌+◌, ◌<◌, ◌≤◌, ◌==◌, true, false, [], Option, Some, None, is_some, MatchOption, Result, Ok, Err, OnOk, IfErr, refl, sym, ap, ◌∙◌, arith}
 use Rattle.std.specs.Prelude.{if◌then◌else◌}
 use Rattle.std.specs.Option.{option_map, IsSomeAnd}
-use Rattle.std.specs.declared.vec.Vec.{Vec}
 use Rattle.std.proofs.lemmas.Bool.Decides.{nat_tests}
 use Rattle.tp_base.specs.declared.ids.TaskId.{TaskId}
 use Rattle.tp_base.specs.declared.refusal.Refusal.{Refusal}
 use Rattle.tp_base.specs.declared.refusal.Refusal.TheVariants.{TaskKnown, StoreFull}
 use Rattle.tp_slots.specs.Content as slots
-use Rattle.tp_store.specs.Content.{Task, Content, task_of, unfinished, refusal_of_new, refusal_of_insert, refusal_of_deliver, refusal_of_value, has_begun}
+use Rattle.tp_store.specs.Content.{Task, Content, task_of, unfinished, refusal_of_new, refusal_of_insert, refusal_of_deliver, refusal_of_value}
 use Rattle.tp_store.specs.Items.{Item}
-use Rattle.tp_store.specs.Entries.{Entries, entry_at}
+use Rattle.tp_store.specs.Entries.{entry_at}
 use Rattle.tp_store.specs.Kept.{task_under, Parts, content_of, IsKept}
 use Rattle.tp_store.specs.declared.life.Life.TheVariants.{Done as over}
-use Rattle.tp_store.specs.declared.life.Counts.{Counts}
 use Rattle.tp_store.specs.declared.index.Entry.{Entry}
 use Rattle.tp_store.specs.declared.index.Entry.TheVariants.{Live, Done}
 use Rattle.tp_store.proofs.Counting.{unfinished_counted}

@@ -1,18 +1,16 @@
 -- The item at one place is changed, and keeps its number.
-use Rattle.std.proofs.Common.{◌≡◌, ◌≢◌, ℕ, suc, ◌≤◌, ◌==◌, true, cond, List, [], ◌∷◌, get_or, map, Option, Some, unwrap_or, count_by, refl, sym, ap, subst, ◌∙◌, inl, inr, arith}
+use Rattle.std.proofs.Common.{◌≡◌, ◌≢◌, ℕ, suc, ◌≤◌, ◌==◌, true, cond, List, [], ◌∷◌, get_or, map, Option, Some, count_by, refl, sym, ap, subst, ◌∙◌, inl, inr, arith}
 use Rattle.std.specs.Option.{option_map, IsSomeAnd}
 use Rattle.std.specs.FinMap as finite
-use Rattle.std.specs.declared.vec.Vec.{Vec}
 use Rattle.std.proofs.lemmas.Bool.{cases_eq}
 use Rattle.std.proofs.lemmas.Bool.Decides.{nat_tests}
 use Rattle.std.proofs.lemmas.List.Sums.{sum_by-cons}
 use Rattle.tp_base.specs.declared.ids.TaskId.{TaskId}
 use Rattle.tp_slots.specs.Content as slots
 use Rattle.tp_store.specs.Items.{Item}
-use Rattle.tp_store.specs.Entries.{Entries, entry_at}
+use Rattle.tp_store.specs.Entries.{entry_at}
 use Rattle.tp_store.specs.Sound.{is_task, times_ready}
 use Rattle.tp_store.specs.Kept.{task_under, tasks_of, number_of, number_at, Parts, content_of, IsKept}
-use Rattle.tp_store.specs.declared.life.Counts.{Counts}
 use Rattle.tp_store.specs.declared.index.Entry.TheVariants.{Live}
 use Rattle.tp_store.proofs.Contents.{is_itself}
 use Rattle.tp_store.proofs.Keeping.{tasks-put}

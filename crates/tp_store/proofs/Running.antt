@@ -1,21 +1,18 @@
 -- The next ready task begins.
-use Rattle.std.proofs.Common.{◌≡◌, ◌≢◌, ℕ, ◌+◌, ◌<◌, ◌≤◌, true, cond, List, map, Option, Some, None, is_some, IfSome, unwrap_or, refl, sym, ap, ◌∙◌, arith}
+use Rattle.std.proofs.Common.{◌≡◌, ◌≢◌, ℕ, ◌+◌, true, cond, List, map, Option, Some, None, is_some, IfSome, unwrap_or, refl, sym, ap, subst, ◌∙◌, arith}
 use Rattle.std.specs.Option.{option_map}
 use Rattle.std.specs.Cmp.{nat_cmp_total}
 use Rattle.std.specs.FinMap as finite
-use Rattle.std.specs.declared.vec.Vec.{Vec}
 use Rattle.tp_base.specs.declared.ids.TaskId.{TaskId}
 use Rattle.tp_slots.specs.Content as slots
 use Rattle.tp_slots.proofs.Sound.{IsSound-with_item, IsSound-without_next, IsIdle-front, without_front-empty}
 use Rattle.tp_slots.proofs.Lists.{front-each, front_none-each, without_front-each}
 use Rattle.tp_store.specs.Content.{Content, task_of, life_of, values_of, unfinished, counts_of, is_ready, begun, with_begun}
 use Rattle.tp_store.specs.Items.{Item}
-use Rattle.tp_store.specs.Entries.{Entries}
-use Rattle.tp_store.specs.Kept.{task_under, Parts, number_of, number_at, content_of, begun_counts, IsKept, Leaves}
+use Rattle.tp_store.specs.Kept.{task_under, Parts, number_of, number_at, content_of, moved_counts, IsCounted, IsKept, Leaves}
 use Rattle.tp_store.specs.declared.life.Life.{Life}
 use Rattle.tp_store.specs.declared.life.Life.TheVariants.{Waiting, Ready, Running, Done}
-use Rattle.tp_store.specs.declared.life.Counts.{Counts}
-use Rattle.tp_store.proofs.Contents.{front_ready, IsSound-begun, counts-begun, some_counted}
+use Rattle.tp_store.proofs.Contents.{front_ready, IsSound-begun, counts-moved, is_counted, unfinished-same}
 use Rattle.tp_store.proofs.Keeping.{get-tasks_of, numbers_kept, item_here, item_there, at_item}
 use Rattle.tp_store.proofs.Reading.{few_live}
 use Rattle.tp_store.proofs.Rewriting.{live, owner, tasks, numbers}
@@ -48,7 +45,7 @@ module _ {V A : Type 0} {parts : Parts V A} (kept : IsKept parts)
 
   -- the store once it runs
   abbrev pub begun_parts : Parts V A
-  begun_parts = record parts { places = after; counts = begun_counts parts.counts }
+  begun_parts = record parts { places = after; counts = moved_counts parts.counts (Some Ready) Running }
 
   pub begun_content : content_of begun_parts ≡ changed
   begun_content =
@@ -60,8 +57,11 @@ module _ {V A : Type 0} {parts : Parts V A} (kept : IsKept parts)
         results = parts.results.items;
       }
 
-  pub begun_moves : (unfinished changed ≡ unfinished before) × (begun_counts parts.counts ≡ counts_of changed)
-  begun_moves = counts-begun before i.number i.task parts.counts (slots.without_front before.ready) was is kept.counted
+  pub begun_moves : (unfinished changed ≡ unfinished before) × (moved_counts parts.counts (Some Ready) Running ≡ counts_of changed)
+  begun_moves =
+      let known : life_of before i.number ≡ Some Ready = ap (option_map (λ x. x.life)) was ∙ ap (λ l. Some l) (ready_is i.task.life is) in
+      let next = slots.without_front before.ready in
+      (unfinished-same before i.number (begun i.task) next Ready known refl refl, counts-moved before i.number (begun i.task) next before.results (Some Ready) known parts.counts kept.counted)
 
   pub IsKept-begun : slots.front before.ready ≡ Some i.number → IsKept begun_parts
   IsKept-begun first =
@@ -124,10 +124,10 @@ module _ {V A : Type 0} {parts : Parts V A} (kept : IsKept parts)
     pub can_begin : slots.IsTaken (slots.without_next parts.places) p × IfSome (slots.item_at (slots.without_next parts.places) p) (λ i. i.task.life ≡ Ready)
     can_begin = let k = next_item in (ap is_some k.1.at, rw k.1.at (ready_is k.0.task.life k.1.is))
 
-    pub some_ready : (0 < parts.counts.ready) × (parts.counts.waiting + parts.counts.ready + parts.counts.running ≤ 65536)
+    pub some_ready : IsCounted (Some Ready) parts.counts
     some_ready =
         let k = next_item in
-        (omega (arith, some_counted is_ready s k.0.number k.0.task k.1.known k.1.is refl, ap (λ n. n.ready) kept.counted, ap (λ v. (counts_of v).ready) view), few_live kept view)
+        subst (λ (l : Life). IsCounted (Some l) parts.counts) (ready_is k.0.task.life k.1.is) (is_counted s k.0.number k.0.task parts.counts k.1.known (kept.counted ∙ ap (λ v. counts_of v) view) (few_live kept view))
 
     module _ (d : slots.Content (Item V)) (t : TaskId) (inputs : List V)
         (number : IfSome (slots.item_at (slots.without_next parts.places) p) (λ i. t ≡ i.number))
@@ -145,7 +145,7 @@ module _ {V A : Type 0} {parts : Parts V A} (kept : IsKept parts)
           let known : task_of s t ≡ Some k.0.task = ap (task_of s) own ∙ k.1.known in
           (ap (λ n. Some n) own ∙ k.1.next, rw known (ap (λ l. Some l) (ready_is k.0.task.life k.1.is)), rw known (at_item _ _ _ at values))
 
-      pub begun_all : Leaves (record parts { places = d; counts = begun_counts parts.counts }) (with_begun s t) (unfinished s)
+      pub begun_all : Leaves (record parts { places = d; counts = moved_counts parts.counts (Some Ready) Running }) (with_begun s t) (unfinished s)
       begun_all =
           let k = next_item in
           let i = k.0 in

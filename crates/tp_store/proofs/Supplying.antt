@@ -5,17 +5,16 @@ use Rattle.std.proofs.lemmas.Bool.Decides.{nat_tests}
 use Rattle.std.specs.Option.{option_map, IsSomeAnd}
 use Rattle.std.specs.Cmp.{nat_cmp_total}
 use Rattle.std.specs.FinMap as finite
-use Rattle.std.specs.declared.vec.Vec.{Vec}
 use Rattle.std.proofs.lemmas.List.{length-set, get_or-replicate}
 use Rattle.std.proofs.lemmas.List.Sums.{sum_by-cons, sum_by-set}
 use Rattle.tp_base.specs.declared.ids.TaskId.{TaskId}
 use Rattle.tp_slots.specs.Content as slots
 use Rattle.tp_slots.proofs.Sound.{IsSound-with_item, idle_with_item}
-use Rattle.tp_store.specs.Content.{Task, Content, fresh, with_value, supplied, life_lacking, refusal_of_value, refusal_of_deliver, with_delivered, delivered_to, task_of, with_task, unfinished, counts_of, is_ready, is_waiting, has_begun}
+use Rattle.tp_store.specs.Content.{Task, Content, fresh, with_value, supplied, life_lacking, refusal_of_value, refusal_of_deliver, with_delivered, delivered_to, task_of, life_of, with_task, unfinished, counts_of, is_ready, is_waiting, has_begun}
 use Rattle.tp_store.specs.Items.{Item}
-use Rattle.tp_store.specs.Entries.{Entries, entry_at}
+use Rattle.tp_store.specs.Entries.{entry_at}
 use Rattle.tp_store.specs.Sound.{IsTask, LacksSome, lacking}
-use Rattle.tp_store.specs.Kept.{task_under, number_at, content_of, with_listed, with_supplied, supplied_counts, Parts, number_of, IsKept, Leaves}
+use Rattle.tp_store.specs.Kept.{task_under, number_at, content_of, with_listed, with_supplied, moved_counts, IsCounted, Parts, number_of, IsKept, Leaves}
 use Rattle.tp_base.specs.declared.refusal.Refusal.TheVariants.{TaskKnown, SlotTaken}
 use Rattle.tp_store.specs.declared.life.Life.{Life}
 use Rattle.tp_store.specs.declared.life.Life.TheVariants.{Waiting, Ready, Running, Done}
@@ -24,7 +23,7 @@ use Rattle.tp_store.specs.declared.life.Counts.{Counts}
 use Rattle.tp_store.specs.declared.index.Entry.TheVariants.{Live}
 use Rattle.tp_store.proofs.Filling.{lacks_life, lacking_life, not_begun_life, waiting_life, IsTask-fresh}
 use Rattle.tp_store.proofs.Reading.{seen_live, few_live}
-use Rattle.tp_store.proofs.Contents.{same_number, NotReady, waiting, IsSound-put, some_counted, counts-supplied, not_listed}
+use Rattle.tp_store.proofs.Contents.{same_number, NotReady, waiting, IsSound-put, counts-moved, is_counted, unfinished-same, unfinished_life, waiting_unfinished, not_listed}
 use Rattle.tp_store.proofs.Keeping.{at_item, get-tasks_of, numbers_kept, item_here, item_there, listed_item, listed_count, listed_sound, listed_lists}
 use Rattle.tp_store.proofs.Rewriting.{live, owner, tasks, numbers, unlisted}
 
@@ -81,13 +80,18 @@ module _ {V A : Type 0} {parts : Parts V A} (kept : IsKept parts)
 
     -- the store once the value is in
     abbrev pub supplied_parts : Parts V A
-    supplied_parts = record parts { places = after; counts = supplied_counts parts.counts (is_ready x.life) }
+    supplied_parts = record parts { places = after; counts = moved_counts parts.counts (Some i.task.life) x.life }
 
     pub supplied_content : content_of supplied_parts ≡ with_task old i.number x
     supplied_content = λ k. record { tasks = tasks kept after i y p at here there refl k; ready = ready k; results = parts.results.items }
 
-    pub supplied_counted : (unfinished (with_task old i.number x) ≡ unfinished old) × (supplied_counts parts.counts (is_ready x.life) ≡ counts_of (with_task old i.number x))
-    supplied_counted = counts-supplied old i.number i.task x parts.counts was waits before kept.counted
+    pub supplied_counted : (unfinished (with_task old i.number x) ≡ unfinished old) × (moved_counts parts.counts (Some i.task.life) x.life ≡ counts_of (with_task old i.number x))
+    supplied_counted =
+        let known : life_of old i.number ≡ Some i.task.life = ap (option_map (λ y. y.life)) was in
+        let next = (with_task old i.number x).ready in (
+          unfinished-same old i.number x next i.task.life known (waiting_unfinished i.task.life waits) (unfinished_life x.life before),
+          counts-moved old i.number x next old.results (Some i.task.life) known parts.counts kept.counted,
+        )
 
     pub IsKept-supplied : IsKept supplied_parts
     IsKept-supplied = record {
@@ -185,19 +189,18 @@ module _ {V A : Type 0} {parts : Parts V A} (kept : IsKept parts)
           (i, record { at = e; number = same_number t i.number h; known = known; waits = waits; in_range = omega (arith, its.1); free = its.2; task = next.0; before = next.1 })
 
   -- the call can be made
-  pub can_supply : slots.IsIdle parts.places p × (0 < parts.counts.waiting) × (parts.counts.waiting + parts.counts.ready + parts.counts.running ≤ 65536)
+  pub can_supply : slots.IsIdle parts.places p × IsCounted (Some known_item.0.task.life) parts.counts
   can_supply =
       let k = known_item in
       let known : task_of (content_of parts) t ≡ Some k.0.task = ap (λ v. task_of v t) view ∙ k.1.known in (
         idle kept k.0 k.0.task p k.1.at k.1.waits,
-        omega (arith, some_counted is_waiting (content_of parts) t k.0.task known k.1.waits refl, ap (λ n. n.waiting) kept.counted),
-        few_live kept view,
+        is_counted (content_of parts) t k.0.task parts.counts known kept.counted (few_live kept view),
       )
 
   -- and what it leaves
   pub supplied_all : (d : slots.Content (Item V)) (now : Counts)
       → IfSome (slots.item_at parts.places p) (λ i. d ≡ with_supplied parts.places p i slot value)
-      → IfSome (slots.item_at parts.places p) (λ i. now ≡ supplied_counts parts.counts (is_ready (with_value i.task slot value).life))
+      → IfSome (slots.item_at parts.places p) (λ i. now ≡ moved_counts parts.counts (Some i.task.life) (with_value i.task slot value).life)
       → Leaves (record parts { places = d; counts = now }) (with_delivered s t arity class slot value) (unfinished s)
   supplied_all d now placed counted =
       let k = known_item in

@@ -1,5 +1,5 @@
 -- How a store keeps its content.
-use Rattle.std.specs.Prelude.{◌≡◌, ℕ, zero, suc, ◌+◌, ◌-◌, ◌^◌, ◌<◌, ◌≤◌, ◌==◌, Bool, List, [], map as each, Option, None, Some, is_some, unwrap_or, IfSome, vec_len, vec_capacity, if◌then◌else◌}
+use Rattle.std.specs.Prelude.{◌≡◌, ℕ, zero, suc, ◌+◌, ◌-◌, ◌^◌, ◌≤◌, ◌==◌, Bool, [], map as each, Option, None, Some, unwrap_or, vec_len, vec_capacity, if◌then◌else◌}
 use Rattle.std.specs.Option.{option_map, IsSomeAnd}
 use Rattle.std.specs.Ordering.{nat_cmp}
 use Rattle.std.specs.FinMap as map
@@ -8,26 +8,35 @@ use Rattle.tp_base.specs.declared.limits.TheConstants.{MAX_LIVE_TASKS}
 use Rattle.tp_base.specs.declared.ids.TaskId.{TaskId}
 use Rattle.tp_base.specs.Table.{lookup}
 use Rattle.tp_slots.specs.Content as slots
-use Rattle.tp_store.specs.Content.{Task, Content, with_value, is_ready, unfinished, counts_of}
+use Rattle.tp_store.specs.Content.{Task, Content, with_value, is_waiting, is_ready, is_running, unfinished, counts_of}
 use Rattle.tp_store.specs.Items.{Item}
 use Rattle.tp_store.specs.Entries.{Entries, entry_at}
 use Rattle.tp_store.specs.Sound.{IsSound}
+use Rattle.tp_store.specs.declared.life.Life.{Life}
 use Rattle.tp_store.specs.declared.life.Life.TheVariants.{Done as is_over}
 use Rattle.tp_store.specs.declared.life.Counts.{Counts}
 use Rattle.tp_store.specs.declared.index.Entry.{Entry}
 use Rattle.tp_store.specs.declared.index.Entry.TheVariants.{Live, Done}
 
--- the counts with one more task, which is ready or waits
-abbrev pub entered : Counts → Bool → Counts
-entered counts is_ready = if is_ready then record counts { ready = counts.ready + 1 } else record counts { waiting = counts.waiting + 1 }
+-- how much one task adds to the count of such lives, if there is one
+abbrev pub one : (Life → Bool) → Option Life → ℕ
+one test None = 0
+one test (Some life) = if test life then 1 else 0
 
--- the counts where a waiting task gets an input, and is ready or waits for another
-abbrev pub supplied_counts : Counts → Bool → Counts
-supplied_counts counts is_ready = if is_ready then record counts { waiting = counts.waiting - 1; ready = counts.ready + 1 } else counts
+-- the counts where a task goes from one life to another; a new one had none
+abbrev pub moved_counts : Counts → Option Life → Life → Counts
+moved_counts counts was life = record {
+  waiting = counts.waiting + one is_waiting (Some life) - one is_waiting was;
+  ready = counts.ready + one is_ready (Some life) - one is_ready was;
+  running = counts.running + one is_running (Some life) - one is_running was;
+}
 
--- the counts where a ready task begins
-abbrev pub begun_counts : Counts → Counts
-begun_counts counts = record counts { ready = counts.ready - 1; running = counts.running + 1 }
+-- the task is among those that are counted
+pub record IsCounted (was : Option Life) (counts : Counts) : Type 0 where
+  pub waiting : one is_waiting was ≤ counts.waiting
+  pub ready : one is_ready was ≤ counts.ready
+  pub running : one is_running was ≤ counts.running
+  pub few : counts.waiting + counts.ready + counts.running ≤ MAX_LIVE_TASKS
 
 -- what a store is made of: the items at their places, what stands under each number, the results, and how many tasks of
 -- each life there are

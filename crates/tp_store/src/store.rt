@@ -165,21 +165,6 @@ fn check_new(counts: &Counts) -> Result<(), Refusal>
 impl<S: Slots<TaskItem<V>> + Drop, V: Drop> TaskStore<S, V> {
     ghost use Rattle.tp_store.specs.Content.{nothing_stored};
 
-    /// Each task that is done with its result, in the order in which they were done. The rest is dropped.
-    pub fn into_results(self) -> Vec<(TaskId, V)>
-        ensures { result.items ≡ self.results }
-    {
-        let TaskStore {
-            slots: _,
-            index: _,
-            results,
-            counts: _,
-            no_item: _,
-            alloc: _,
-        } = self;
-        results
-    }
-
     /// Hands out each task that is done with its result, in the order in which they were done. The store is then as a new
     /// one. It takes no memory.
     pub fn take_results(&mut self) -> Vec<(TaskId, V)>
@@ -346,7 +331,7 @@ impl<S: Slots<TaskItem<V>>, V: MadeWith<Global> + Drop> TaskStore<S, V> {
             return None;
         };
         let (task, inputs) = begin_at(&mut self.slots, place);
-        self.counts.begin();
+        self.counts.moved(Some(Life::Ready), Life::Running);
         Some(Begun { task, inputs })
     }
 
@@ -376,7 +361,7 @@ impl<S: Slots<TaskItem<V>>, V: MadeWith<Global> + Drop> TaskStore<S, V> {
         let _ = self.slots.give_back(place);
         set_entry(&mut self.index, task, entry);
         self.results.push_reserved((task, value));
-        self.counts.running -= 1;
+        self.counts.moved(Some(Life::Running), Life::Done);
         Ok(())
     }
 }

@@ -30,14 +30,12 @@ begin_at-inputs-requires g c =
     let can = can_begin c.self.invariant c.self.view_is c.in-Some.place c.in-Some.ensures.next in
     (search rules, (search rules, rw c.in-Some.ensures.content (can.0, can.1)))
 
-pub begin-requires : goal.begin-requires
-begin-requires g c =
-    let some = some_ready c.self.invariant c.self.view_is c.in-Some.place c.in-Some.ensures.next in
-    record { some_ready = some.0; limit = some.1 }
+pub moved-requires : goal.moved-requires
+moved-requires g c = some_ready c.self.invariant c.self.view_is c.in-Some.place c.in-Some.ensures.next
 
 pub invariant_of-self-2 : goal.invariant_of-self-2
 invariant_of-self-2 g c =
-    rw c.begin.ensures (begun_all c.self.invariant c.self.view_is c.in-Some.place c.in-Some.ensures.next (g.S.Slots.content c.begin_at-inputs.new.slots) c.begin_at-inputs.result.0 c.begin_at-inputs.result.1.items (rw c.in-Some.ensures.content at c.begin_at-inputs.ensures.number) (rw c.in-Some.ensures.content at c.begin_at-inputs.ensures.inputs) (rw c.in-Some.ensures.content at c.begin_at-inputs.ensures.content)).kept
+    rw c.moved.ensures (begun_all c.self.invariant c.self.view_is c.in-Some.place c.in-Some.ensures.next (g.S.Slots.content c.begin_at-inputs.new.slots) c.begin_at-inputs.result.0 c.begin_at-inputs.result.1.items (rw c.in-Some.ensures.content at c.begin_at-inputs.ensures.number) (rw c.in-Some.ensures.content at c.begin_at-inputs.ensures.inputs) (rw c.in-Some.ensures.content at c.begin_at-inputs.ensures.content)).kept
 
 pub returns : goal.returns
 returns g c =

@@ -1,4 +1,4 @@
-use Rattle.std.proofs.Common.{None, ap, sym, refl, ◌∙◌}
+use Rattle.std.proofs.Common.{None, sym, refl, ◌∙◌}
 use Rattle.tp_store.proofs.Reading.{seen, known, few_live, new_answer, insert_known, insert_unknown}
 use Rattle.tp_store.proofs.store.TaskStore.check_insert.Goals as goal
 

@@ -85,8 +85,7 @@ supply-requires g c =
       waiting = rw k.1.at k.1.waits;
       slot_in_range = rw k.1.at k.1.in_range;
       free = rw k.1.at k.1.free;
-      some_wait = can.1;
-      counted = can.2;
+      counted = rw k.1.at can.1;
     }
 
 -- what the store is with the value

@@ -56,17 +56,17 @@ pub push_reserved-requires : goal.push_reserved-requires
 push_reserved-requires g c =
     (can_finish c.self.invariant c.self.view_is c.args.task c.get-item.result.now c.in-Some-Live.place (sym c.entry_of.ensures ∙ c.in-Some-Live.is ∙ ap Some c.in-Some-Live.field-0-is) c.get-item.ensures (sym c.life.ensures ∙ c.in-Running.is)).2
 
-pub overflow_sub-self : goal.overflow_sub-self
-overflow_sub-self g c =
+pub moved-requires : goal.moved-requires
+moved-requires g c =
     (can_finish c.self.invariant c.self.view_is c.args.task c.get-item.result.now c.in-Some-Live.place (sym c.entry_of.ensures ∙ c.in-Some-Live.is ∙ ap Some c.in-Some-Live.field-0-is) c.get-item.ensures (sym c.life.ensures ∙ c.in-Running.is)).3
 
 -- what the store is with the task done
-done_now : (g : given.Over) (c : goal.After-self-1 g)
-    → (0 < unfinished c.args.self.now) × Leaves (record { places = g.S.Slots.content c.give_back.new.self; index = c.set_entry.new.index; results = c.push_reserved.new.self; counts = record c.self.inside.counts { running = c.self.inside.counts.running - 1 } }) (with_done c.args.self.now c.args.task c.args.value) (unfinished c.args.self.now - 1)
+done_now : (g : given.Over) (c : goal.After-moved g)
+    → (0 < unfinished c.args.self.now) × Leaves (record { places = g.S.Slots.content c.give_back.new.self; index = c.set_entry.new.index; results = c.push_reserved.new.self; counts = c.moved.new.self }) (with_done c.args.self.now c.args.task c.args.value) (unfinished c.args.self.now - 1)
 done_now g c =
-    done_all c.self.invariant c.self.view_is c.args.task c.get-item.result.now c.in-Some-Live.place (sym c.entry_of.ensures ∙ c.in-Some-Live.is ∙ ap Some c.in-Some-Live.field-0-is) c.get-item.ensures (sym c.life.ensures ∙ c.in-Running.is)
+    rw c.moved.ensures (done_all c.self.invariant c.self.view_is c.args.task c.get-item.result.now c.in-Some-Live.place (sym c.entry_of.ensures ∙ c.in-Some-Live.is ∙ ap Some c.in-Some-Live.field-0-is) c.get-item.ensures (sym c.life.ensures ∙ c.in-Running.is)
     (g.S.Slots.content c.give_back.new.self) c.set_entry.new.index c.push_reserved.new.self c.args.value (Done c.arity.result c.class.result) c.give_back.ensures.content
-    (ap (λ n. Done n c.class.result) c.arity.ensures ∙ ap (λ n. Done c.get-item.result.now.task.arity n) c.class.ensures.value) c.set_entry.ensures.entries c.push_reserved.ensures.items c.push_reserved.ensures.len c.push_reserved.ensures.capacity
+    (ap (λ n. Done n c.class.result) c.arity.ensures ∙ ap (λ n. Done c.get-item.result.now.task.arity n) c.class.ensures.value) c.set_entry.ensures.entries c.push_reserved.ensures.items c.push_reserved.ensures.len c.push_reserved.ensures.capacity)
 
 pub invariant_of-self : goal.invariant_of-self
 invariant_of-self g c = (done_now g c).1.kept
