@@ -22,8 +22,7 @@ use Rattle.tp_store.specs.declared.life.Life.TheVariants.{Waiting, Ready, Runnin
 use Rattle.tp_store.specs.declared.index.Entry.{Entry}
 use Rattle.tp_store.specs.declared.index.Entry.TheVariants.{Live, Done}
 use Rattle.tp_store.proofs.Contents.{same_number, ready_in, runs_not, IsSound-done, counts-moved, moves, is_counted, some_counted}
-use Rattle.tp_store.proofs.Keeping.{room_under, get-tasks_of, tasks-put, numbers_same, gone_here, gone_there}
-use Rattle.tp_store.proofs.Rewriting.{unlisted}
+use Rattle.tp_store.proofs.Keeping.{room_under, get-tasks_of, tasks-put, numbers_same, gone_here, gone_there, unlisted}
 use Rattle.tp_store.proofs.Reading.{seen_live, few_live}
 
 module _ {V A : Type 0} {parts : Parts V A} (kept : IsKept parts)

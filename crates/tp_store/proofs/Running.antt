@@ -13,9 +13,8 @@ use Rattle.tp_store.specs.Kept.{task_under, Parts, number_of, number_at, content
 use Rattle.tp_store.specs.declared.life.Life.{Life}
 use Rattle.tp_store.specs.declared.life.Life.TheVariants.{Waiting, Ready, Running, Done}
 use Rattle.tp_store.proofs.Contents.{front_ready, IsSound-begun, counts-moved, is_counted, unfinished-same}
-use Rattle.tp_store.proofs.Keeping.{get-tasks_of, numbers_kept, item_here, item_there, at_item}
+use Rattle.tp_store.proofs.Keeping.{get-tasks_of, numbers_kept, item_here, item_there, at_item, live, owner, tasks, numbers}
 use Rattle.tp_store.proofs.Reading.{few_live}
-use Rattle.tp_store.proofs.Rewriting.{live, owner, tasks, numbers}
 
 ready_is : (life : Life) → is_ready life ≡ true → life ≡ Ready
 ready_is (Waiting k) e = cc

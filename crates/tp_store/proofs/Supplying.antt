@@ -24,8 +24,7 @@ use Rattle.tp_store.specs.declared.index.Entry.TheVariants.{Live}
 use Rattle.tp_store.proofs.Filling.{lacks_life, lacking_life, not_begun_life, waiting_life, IsTask-fresh}
 use Rattle.tp_store.proofs.Reading.{seen_live, few_live}
 use Rattle.tp_store.proofs.Contents.{same_number, NotReady, waiting, IsSound-put, counts-moved, is_counted, unfinished-same, unfinished_life, waiting_unfinished, not_listed}
-use Rattle.tp_store.proofs.Keeping.{at_item, get-tasks_of, numbers_kept, item_here, item_there, listed_item, listed_count, listed_sound, listed_lists}
-use Rattle.tp_store.proofs.Rewriting.{live, owner, tasks, numbers, unlisted}
+use Rattle.tp_store.proofs.Keeping.{at_item, get-tasks_of, numbers_kept, item_here, item_there, listed_item, listed_count, listed_sound, listed_lists, live, owner, tasks, numbers, unlisted}
 
 module _ {V A : Type 0} {parts : Parts V A} (kept : IsKept parts)
     (i : Item V) (x : Task V) (p : ℕ) (at : slots.item_at parts.places p ≡ Some i)

@@ -6,9 +6,8 @@ use Rattle.tp_store.specs.declared.life.Delivered.TheVariants.{Filled}
 use Rattle.tp_store.specs.declared.index.Entry.TheVariants.{Done}
 use Rattle.tp_store.proofs.Stages.{delivered_goes_on}
 use Rattle.tp_store.proofs.Finishing.{taken_there}
-use Rattle.tp_store.proofs.Reading.{seen, seen_live, known_refusal, unknown_refusal, accepts, refuses}
-use Rattle.tp_store.proofs.Making.{inserts}
-use Rattle.tp_store.proofs.Reserving.{not_some, on_err, told_first}
+use Rattle.tp_store.proofs.Reading.{seen, seen_live, known_refusal, unknown_refusal, accepts, refuses, not_some, on_err, told_first}
+use Rattle.tp_store.proofs.Entering.{inserts}
 use Rattle.tp_store.proofs.Supplying.{known_item, can_supply, supplied_all, fills}
 use Rattle.tp_store.proofs.store.TaskStore.deliver.Given as given
 use Rattle.tp_store.proofs.store.TaskStore.deliver.Goals as goal

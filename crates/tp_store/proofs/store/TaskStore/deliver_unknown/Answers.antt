@@ -1,9 +1,8 @@
 use Rattle.std.proofs.Common.{◌+◌, rules, refl, ◌∙◌, arith}
 use Rattle.tp_store.specs.Content.{unfinished, with_delivered}
 use Rattle.tp_store.specs.Kept.{Leaves}
-use Rattle.tp_store.proofs.Reading.{few_live}
-use Rattle.tp_store.proofs.Reserving.{nothing_there, low_not_full, refusals, content_same, IsKept-grown}
-use Rattle.tp_store.proofs.Making.{has_place, can_fill, all_counted, made_delivered}
+use Rattle.tp_store.proofs.Reading.{few_live, nothing_there, low_not_full, refusals, content_same, IsKept-grown}
+use Rattle.tp_store.proofs.Entering.{has_place, can_fill, all_counted, made_delivered}
 use Rattle.tp_store.proofs.store.TaskStore.deliver_unknown.Given as given
 use Rattle.tp_store.proofs.store.TaskStore.deliver_unknown.Goals as goal
 

@@ -2,9 +2,8 @@ use Rattle.std.proofs.Common.{◌+◌, rules, sym, subst, ◌∙◌, arith}
 use Rattle.tp_store.specs.Content.{unfinished, with_inserted, NoneGoesBack}
 use Rattle.tp_store.specs.Kept.{Leaves}
 use Rattle.tp_store.proofs.Stages.{inserted_goes_on}
-use Rattle.tp_store.proofs.Reading.{few_live}
-use Rattle.tp_store.proofs.Reserving.{nothing_there, low_not_full, refusals, content_same, IsKept-grown, on_err, told}
-use Rattle.tp_store.proofs.Making.{has_place, all_counted, made_entered}
+use Rattle.tp_store.proofs.Reading.{few_live, nothing_there, low_not_full, refusals, content_same, IsKept-grown, on_err, told}
+use Rattle.tp_store.proofs.Entering.{has_place, all_counted, made_entered}
 use Rattle.tp_store.proofs.store.TaskStore.insert_unknown.Given as given
 use Rattle.tp_store.proofs.store.TaskStore.insert_unknown.Goals as goal
 
