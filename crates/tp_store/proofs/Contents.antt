@@ -121,7 +121,8 @@ module _ {V : Type 0} where
       | inr apart ↦ rw (task_there s t u x apart) (sound.tasks u)
     ];
     ready = λ class u. elim (cases_eq u.0 t.0) [
-      | inl same ↦ subst (λ (w : TaskId). count_by (is_task w) (get_or ready class []) ≡ ready_in (finite.get (finite.insert s.tasks t.0 x) w.0) class) (sym (same_number t u same)) (here class ∙ ap (λ o. ready_in o class) (sym (task_here s t x)))
+      | inl same ↦ subst (λ (w : TaskId). count_by (is_task w) (get_or ready class []) ≡ ready_in (finite.get (finite.insert s.tasks t.0 x) w.0) class) (sym (same_number t u same))
+          (here class ∙ ap (λ o. ready_in o class) (sym (task_here s t x)))
       | inr apart ↦ others class u apart ∙ sound.ready class u ∙ ap (λ o. ready_in o class) (sym (task_there s t u x apart))
     ];
     done = λ u. elim (cases_eq u.0 t.0) [
@@ -185,7 +186,8 @@ module _ {V : Type 0} where
       let x = ready_when (task_of s t) at.0 (subst (λ n. 0 < n) (sound.ready at.0 t) some) in
       (x.0, x.1, x.2)
 
-  pub IsSound-begun : (s : Content V) (t : TaskId) (x : Task V) → IsSound s → front s.ready ≡ Some t → task_of s t ≡ Some x → is_ready x.life ≡ true → IsSound (record { tasks = finite.insert s.tasks t.0 (begun x); ready = without_front s.ready; results = s.results })
+  pub IsSound-begun : (s : Content V) (t : TaskId) (x : Task V) → IsSound s → front s.ready ≡ Some t → task_of s t ≡ Some x → is_ready x.life ≡ true
+      → IsSound (record { tasks = finite.insert s.tasks t.0 (begun x); ready = without_front s.ready; results = s.results })
   IsSound-begun s t x sound first known ready =
       changed s t (begun x) (without_front s.ready) s.results sound
       (record { arity = task.arity; class = task.class; lacks = tt; slots = refl })
@@ -239,7 +241,8 @@ module _ {V : Type 0} where
             omega (arith, count, is)
       ]
 
-  pub IsSound-done : (s : Content V) (t : TaskId) (x : Task V) (value : V) → IsSound s → task_of s t ≡ Some x → is_running x.life ≡ true → IsSound (record { tasks = finite.insert s.tasks t.0 (done x); ready = s.ready; results = s.results ++ (t, value) ∷ [] })
+  pub IsSound-done : (s : Content V) (t : TaskId) (x : Task V) (value : V) → IsSound s → task_of s t ≡ Some x → is_running x.life ≡ true
+      → IsSound (record { tasks = finite.insert s.tasks t.0 (done x); ready = s.ready; results = s.results ++ (t, value) ∷ [] })
   IsSound-done s t x value sound known running =
       let no = runs_not x.life running in
       let task : IsTask x = rw known at (sound.tasks t) in
@@ -256,7 +259,8 @@ module _ {V : Type 0} where
   abbrev pub counts_if : (Life → Bool) → Option (Task V) → ℕ
   counts_if test = one_if (λ (x : Task V). test x.life)
 
-  pub count-put : (test : Life → Bool) (s : Content V) (t : TaskId) (x : Task V) (ready : List (List TaskId)) (results : List (TaskId × V)) → count_lives test (record { tasks = finite.insert s.tasks t.0 x; ready = ready; results = results }) + counts_if test (task_of s t) ≡ count_lives test s + cond (test x.life) 1 0
+  pub count-put : (test : Life → Bool) (s : Content V) (t : TaskId) (x : Task V) (ready : List (List TaskId)) (results : List (TaskId × V))
+      → count_lives test (record { tasks = finite.insert s.tasks t.0 x; ready = ready; results = results }) + counts_if test (task_of s t) ≡ count_lives test s + cond (test x.life) 1 0
   count-put test s t x ready results = passing-insert (λ (y : Task V). test y.life) s.tasks t.0 x
 
   -- a task that may be known goes on to this one
@@ -272,7 +276,8 @@ module _ {V : Type 0} where
         same (Some y) = refl
 
     pub counts-moved : (counts : Counts) → counts ≡ counts_of s → moved_counts counts was x.life ≡ counts_of after
-    counts-moved counts is = same_counts (moved_counts counts was x.life) (counts_of after) (omega (arith, moves is_waiting, ap (λ c. c.waiting) is)) (omega (arith, moves is_ready, ap (λ c. c.ready) is)) (omega (arith, moves is_running, ap (λ c. c.running) is))
+    counts-moved counts is = same_counts (moved_counts counts was x.life) (counts_of after) (omega (arith, moves is_waiting, ap (λ c. c.waiting) is))
+        (omega (arith, moves is_ready, ap (λ c. c.ready) is)) (omega (arith, moves is_running, ap (λ c. c.running) is))
 
   -- a task of a life is counted
   pub some_counted : (test : Life → Bool) (s : Content V) (t : TaskId) (w : Task V) → task_of s t ≡ Some w → test w.life ≡ true → test Done ≡ false → 0 < count_lives test s
@@ -294,5 +299,6 @@ module _ {V : Type 0} where
   pub unfinished-new : (s : Content V) (t : TaskId) (x : Task V) → life_of s t ≡ None → has_begun x.life ≡ false → unfinished (with_task s t x) ≡ unfinished s + 1
   unfinished-new s t x none before = let live = unfinished_life x.life before in let n = rw live at (moves s t x (with_task s t x).ready s.results None none is_unfinished) in omega (arith, n)
 
-  pub unfinished-same : (s : Content V) (t : TaskId) (x : Task V) (ready : List (List TaskId)) (life : Life) → life_of s t ≡ Some life → is_unfinished life ≡ true → is_unfinished x.life ≡ true → unfinished (record { tasks = finite.insert s.tasks t.0 x; ready = ready; results = s.results }) ≡ unfinished s
+  pub unfinished-same : (s : Content V) (t : TaskId) (x : Task V) (ready : List (List TaskId)) (life : Life) → life_of s t ≡ Some life → is_unfinished life ≡ true → is_unfinished x.life ≡ true
+      → unfinished (record { tasks = finite.insert s.tasks t.0 x; ready = ready; results = s.results }) ≡ unfinished s
   unfinished-same s t x ready life known was is = let n = rw (was, is) at (moves s t x ready s.results (Some life) known is_unfinished) in omega (arith, n)

@@ -93,7 +93,8 @@ module _ {V A : Type 0} {parts : Parts V A} (kept : IsKept parts) (d : slots.Con
   entered_content = λ k. record { tasks = tasks k; ready = ready k; results = parts.results.items }
 
   count : slots.held_count after ≡ slots.held_count parts.places + 1
-  count = listed_count (is_ready i.task.life) with p i.task.class ∙ finite.len-insert nat_cmp_total parts.places.items p i ∙ ap (λ (o : Option (Item V)). cond (is_some o) (slots.held_count parts.places) (slots.held_count parts.places + 1)) free
+  count = listed_count (is_ready i.task.life) with p i.task.class ∙ finite.len-insert nat_cmp_total parts.places.items p i
+      ∙ ap (λ (o : Option (Item V)). cond (is_some o) (slots.held_count parts.places) (slots.held_count parts.places + 1)) free
 
   pub counted : (unfinished (with_task old i.number i.task) ≡ unfinished old + 1) × (moved_counts parts.counts None i.task.life ≡ counts_of (with_task old i.number i.task))
   counted =
@@ -170,7 +171,8 @@ module _ {V A : Type 0} {parts : Parts V A} (kept : IsKept parts) {s : Content V
   more : vec_len new.results + slots.held_count new.places + 1 ≤ vec_capacity new.results
   more = omega (arith, space, grown.long, live_held kept view, ap (λ d. slots.held_count d) grown.places)
 
-  module _ (arity class : ℕ) (h : arity ≤ 16) (l : class < 4) (i : Item V) (is : ◌≡◌ {A = Item V} i (record { number = t; task = fresh arity class })) (d : slots.Content (Item V)) (end : Entries) (now : Counts) (few : slots.held_count new.places < 65536) where
+  module _ (arity class : ℕ) (h : arity ≤ 16) (l : class < 4) (i : Item V) (is : ◌≡◌ {A = Item V} i (record { number = t; task = fresh arity class })) (d : slots.Content (Item V)) (end : Entries)
+      (now : Counts) (few : slots.held_count new.places < 65536) where
     -- with none of its inputs
     pub made_entered : IsEntered new.places d new.index end i → now ≡ moved_counts new.counts None i.task.life → Leaves (record new { places = d; index = end; counts = now }) (with_task s t (fresh arity class)) (unfinished s + 1)
     made_entered placed counted =

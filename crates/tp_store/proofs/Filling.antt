@@ -133,7 +133,8 @@ module _ {V : Type 0} where
     slots = rw (not_begun_life arity) (length-replicate arity None, ap (λ (l : List (Option V)). count_by is_none l) (sym (spread_none {V = V} arity)) ∙ count_none-fresh V arity ∙ sym (lacking_life arity));
   }
 
-  pub fresh_item : (arity class : ℕ) (values : List V) → arity ≤ 16 → values ≡ [] → record { life = life_lacking arity; arity = arity; class = class; values = slots_of (life_lacking arity) arity (replicate 16 false) values } ≡ fresh arity class
+  pub fresh_item : (arity class : ℕ) (values : List V) → arity ≤ 16 → values ≡ []
+      → record { life = life_lacking arity; arity = arity; class = class; values = slots_of (life_lacking arity) arity (replicate 16 false) values } ≡ fresh arity class
   fresh_item arity class values h none = λ i. record { life = life_lacking arity; arity = arity; class = class; values = (ap (slots_of (life_lacking arity) arity (replicate 16 false)) none ∙ slots_fresh arity h) i }
 
   pub IsFilled-fresh : (arity class : ℕ) (values : SmallVec V) → arity ≤ 16 → class < 4 → values.items ≡ [] → arity ≤ values.capacity → IsFilled (fresh {V = V} arity class) (replicate 16 false) values
@@ -194,7 +195,9 @@ module _ {V : Type 0} where
         }
 
   -- ---- a ready task begins
-  pub all_inputs : (arity class : ℕ) (filled : List Bool) (values : SmallVec V) → IsFilled {V = V} (record { life = Ready; arity = arity; class = class; values = spread (take arity filled) values.items }) filled values → map (λ v. Some v) values.items ≡ spread (take arity filled) values.items
+  pub all_inputs : (arity class : ℕ) (filled : List Bool) (values : SmallVec V)
+      → IsFilled {V = V} (record { life = Ready; arity = arity; class = class; values = spread (take arity filled) values.items }) filled values
+      → map (λ v. Some v) values.items ≡ spread (take arity filled) values.items
   all_inputs arity class filled values is = spread-all (take arity filled) values.items is.each is.task.slots.1
 
   pub IsFilled-begun : (arity class : ℕ) (values : SmallVec V) → arity ≤ 16 → class < 4 → values.items ≡ [] → IsFilled {V = V} (record { life = Running; arity = arity; class = class; values = [] }) (replicate 16 false) values
@@ -205,7 +208,9 @@ module _ {V : Type 0} where
   }
 
   -- whether a slot has its value
-  pub has_slot : (life : Life) (arity class slot : ℕ) (filled : List Bool) (values : SmallVec V) → has_begun life ≡ false → IsFilled {V = V} (record { life = life; arity = arity; class = class; values = slots_of life arity filled values.items }) filled values → slot < arity → get_or filled slot false ≡ is_some (get_or (slots_of life arity filled values.items) slot None)
+  pub has_slot : (life : Life) (arity class slot : ℕ) (filled : List Bool) (values : SmallVec V) → has_begun life ≡ false
+      → IsFilled {V = V} (record { life = life; arity = arity; class = class; values = slots_of life arity filled values.items }) filled values → slot < arity
+      → get_or filled slot false ≡ is_some (get_or (slots_of life arity filled values.items) slot None)
   has_slot life arity class slot filled values e is low =
       rw e (sym (get_or-take arity filled slot false low) ∙ sym (spread-get (take arity filled) values.items slot is.each))
 
@@ -213,7 +218,8 @@ module _ {V : Type 0} where
   abbrev pub item_task : Life → ℕ → ℕ → List Bool → List V → Task V
   item_task life arity class filled values = record { life = life; arity = arity; class = class; values = slots_of life arity filled values }
 
-  pub can_insert : (life : Life) (arity class slot : ℕ) (filled : List Bool) (values : SmallVec V) → is_waiting life ≡ true → IsFilled (item_task life arity class filled values.items) filled values → slot < arity → (count_set (take slot filled) ≤ small_vec_len values) × HasRoomFor values 1
+  pub can_insert : (life : Life) (arity class slot : ℕ) (filled : List Bool) (values : SmallVec V) → is_waiting life ≡ true → IsFilled (item_task life arity class filled values.items) filled values
+      → slot < arity → (count_set (take slot filled) ≤ small_vec_len values) × HasRoomFor values 1
   can_insert (Waiting k) arity class slot filled values e is low =
       let waits : 0 < k = is.task.lacks in
       (omega (arith, is.each, count_set-take (take arity filled) slot, ap count_set (take-take filled slot arity (omega arith))), omega (arith, is.room))
@@ -221,8 +227,11 @@ module _ {V : Type 0} where
   can_insert Running arity class slot filled values e is low = cc
   can_insert Done arity class slot filled values e is low = cc
 
-  pub item_filled : (life : Life) (arity class slot : ℕ) (filled : List Bool) (values new : SmallVec V) (value : V) → is_waiting life ≡ true → IsFilled (item_task life arity class filled values.items) filled values → arity ≤ length filled → slot < arity → get_or (slots_of life arity filled values.items) slot None ≡ None → new.items ≡ insert values.items (count_set (take slot filled)) value → new.capacity ≡ values.capacity
-      → (item_task (supplied life) arity class (set filled slot true) new.items ≡ with_value (item_task life arity class filled values.items) slot value) × IsFilled (item_task (supplied life) arity class (set filled slot true) new.items) (set filled slot true) new
+  pub item_filled : (life : Life) (arity class slot : ℕ) (filled : List Bool) (values new : SmallVec V) (value : V) → is_waiting life ≡ true
+      → IsFilled (item_task life arity class filled values.items) filled values → arity ≤ length filled → slot < arity → get_or (slots_of life arity filled values.items) slot None ≡ None
+      → new.items ≡ insert values.items (count_set (take slot filled)) value → new.capacity ≡ values.capacity
+      → (item_task (supplied life) arity class (set filled slot true) new.items ≡ with_value (item_task life arity class filled values.items) slot value)
+      × IsFilled (item_task (supplied life) arity class (set filled slot true) new.items) (set filled slot true) new
   item_filled (Waiting k) arity class slot filled values new value e is long low free items capacity =
       let same = filled_task k arity class slot filled values new value is long low free items capacity in
       (same, rw same (IsFilled-filled k arity class slot filled values new value is long low free items capacity))

@@ -84,8 +84,10 @@ module _ {V A : Type 0} {parts : Parts V A} (kept : IsKept parts)
 
     pub done_content : content_of done_parts ≡ changed
     done_content =
-        let tasks : tasks_of without new ≡ finite.insert old.tasks t.0 (done i.task) = tasks-put parts.places without parts.index new t.0 p (done i.task) (λ q apart. gone_there parts.places p q apart) entry_there (λ q apart e. apart (sym (own q e))) (ap (task_under without) entry_here ∙ ap (λ x. Some x) its) in
-        let ready : map (map (number_at without)) parts.places.ready ≡ map (map (number_at parts.places)) parts.places.ready = numbers_same parts.places without p parts.places.ready (λ q apart. gone_there parts.places p q apart) idle.unlisted in
+        let tasks : tasks_of without new ≡ finite.insert old.tasks t.0 (done i.task) = tasks-put parts.places without parts.index new t.0 p (done i.task)
+        (λ q apart. gone_there parts.places p q apart) entry_there (λ q apart e. apart (sym (own q e))) (ap (task_under without) entry_here ∙ ap (λ x. Some x) its) in
+        let ready : map (map (number_at without)) parts.places.ready ≡ map (map (number_at parts.places)) parts.places.ready = numbers_same parts.places without p parts.places.ready
+        (λ q apart. gone_there parts.places p q apart) idle.unlisted in
         λ k. record { tasks = tasks k; ready = ready k; results = items k }
 
     pub done_moves : (unfinished changed + 1 ≡ unfinished old) × (done_parts.counts ≡ counts_of changed)

@@ -66,7 +66,8 @@ module _ {V : Type 0} where
   under_same c d p (Some (Done a b)) items apart = refl
 
   -- one task is changed, with the item at one place or the entry under its number
-  pub tasks-put : (c d : slots.Content (Item V)) (index new : Entries) (t p : ℕ) (x : Task V) → ((q : ℕ) → q ≢ p → slots.item_at d q ≡ slots.item_at c q) → ((q : ℕ) → q ≢ t → entry_at new q ≡ entry_at index q) → ((q : ℕ) → q ≢ t → entry_at index q ≡ Some (Live p) → ⊥) → task_under d (entry_at new t) ≡ Some x
+  pub tasks-put : (c d : slots.Content (Item V)) (index new : Entries) (t p : ℕ) (x : Task V) → ((q : ℕ) → q ≢ p → slots.item_at d q ≡ slots.item_at c q)
+      → ((q : ℕ) → q ≢ t → entry_at new q ≡ entry_at index q) → ((q : ℕ) → q ≢ t → entry_at index q ≡ Some (Live p) → ⊥) → task_under d (entry_at new t) ≡ Some x
       → tasks_of d new ≡ finite.insert (tasks_of c index) t x
   tasks-put c d index new t p x items entries apart here = finite.same_map nat_cmp_total finite.nat_cmp-IsAntisymmetric _ _ (λ q.
       get-tasks_of d new q ∙ (elim (cases_eq q t) [
@@ -96,7 +97,10 @@ module _ {V : Type 0} where
   pub item_again : (c : slots.Content (Item V)) (p : ℕ) (i j : Item V) → slots.with_item (slots.with_item c p i) p j ≡ slots.with_item c p j
   item_again c p i j =
       let items : finite.insert (finite.insert c.items p i) p j ≡ finite.insert c.items p j =
-      finite.same_map nat_cmp_total finite.nat_cmp-IsAntisymmetric _ _ (λ q. get_inserted (finite.insert c.items p i) p j q ∙ ap (cond (q == p) (Some j)) (get_inserted c.items p i q) ∙ elim (q == p) as (λ b. cond b (Some j) (cond b (Some i) (finite.get c.items q)) ≡ cond b (Some j) (finite.get c.items q)) [ true ↦ refl | false ↦ refl ] ∙ sym (get_inserted c.items p j q)) in
+      finite.same_map nat_cmp_total finite.nat_cmp-IsAntisymmetric _ _
+      (λ q. get_inserted (finite.insert c.items p i) p j q ∙ ap (cond (q == p) (Some j)) (get_inserted c.items p i q)
+      ∙ elim (q == p) as (λ b. cond b (Some j) (cond b (Some i) (finite.get c.items q)) ≡ cond b (Some j) (finite.get c.items q)) [ true ↦ refl | false ↦ refl ]
+      ∙ sym (get_inserted c.items p j q)) in
       λ k. record { items = items k; ready = c.ready }
 
   pub item_there : (c : slots.Content (Item V)) (p q : ℕ) (i : Item V) → q ≢ p → slots.item_at (slots.with_item c p i) q ≡ slots.item_at c q
@@ -124,7 +128,8 @@ module _ {V : Type 0} where
   listed_sound true c p class sound idle low = IsSound-with_ready c class p sound idle low
   listed_sound false c p class sound idle low = sound
 
-  pub listed_lists : (b : Bool) (c : slots.Content (Item V)) (p class : ℕ) → class < length c.ready → map (map (number_at (listed b c p class))) (listed b c p class).ready ≡ (if b then slots.with_last (map (map (number_at c)) c.ready) class (number_at c p) else map (map (number_at c)) c.ready)
+  pub listed_lists : (b : Bool) (c : slots.Content (Item V)) (p class : ℕ) → class < length c.ready
+      → map (map (number_at (listed b c p class))) (listed b c p class).ready ≡ (if b then slots.with_last (map (map (number_at c)) c.ready) class (number_at c p) else map (map (number_at c)) c.ready)
   listed_lists true c p class low = sym (with_last-each (number_at c) c.ready class p (number_at c p) low refl)
   listed_lists false c p class low = refl
 

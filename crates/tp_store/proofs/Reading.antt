@@ -48,7 +48,8 @@ module _ {V A : Type 0} {parts : Parts V A} (kept : IsKept parts) {s : Content V
       some_of (Some i) h = (i, refl)
 
   -- whether a new task is taken
-  pub new_answer : (r : Result (Unit {0}) Refusal) → OnOk r (parts.counts.waiting + parts.counts.ready + parts.counts.running < 65536) → IfErr r (λ e. (e ≡ StoreFull) × (parts.counts.waiting + parts.counts.ready + parts.counts.running ≡ 65536)) → MatchOption (refusal_of_new s) (r ≡ Ok tt) (λ e. r ≡ Err e)
+  pub new_answer : (r : Result (Unit {0}) Refusal) → OnOk r (parts.counts.waiting + parts.counts.ready + parts.counts.running < 65536)
+      → IfErr r (λ e. (e ≡ StoreFull) × (parts.counts.waiting + parts.counts.ready + parts.counts.running ≡ 65536)) → MatchOption (refusal_of_new s) (r ≡ Ok tt) (λ e. r ≡ Err e)
   new_answer (Ok x) ok err = let e : (unfinished s == 65536) ≡ false = grind (arith, nat_tests, live_count, ok) in rw e refl
   new_answer (Err x) ok err = let e : (unfinished s == 65536) ≡ true = grind (arith, nat_tests, live_count, err.1) in rw e (ap Err err.0)
 

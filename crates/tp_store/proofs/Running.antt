@@ -65,7 +65,8 @@ module _ {V A : Type 0} {parts : Parts V A} (kept : IsKept parts)
   pub IsKept-begun : slots.front before.ready ≡ Some i.number → IsKept begun_parts
   IsKept-begun first =
       let here = item_here (slots.without_next parts.places) p y in
-      let count : slots.held_count after ≡ slots.held_count parts.places = finite.len-insert nat_cmp_total parts.places.items p y ∙ ap (λ (o : Option (Item V)). cond (is_some o) (slots.held_count parts.places) (slots.held_count parts.places + 1)) at in
+      let count : slots.held_count after ≡ slots.held_count parts.places = finite.len-insert nat_cmp_total parts.places.items p y
+      ∙ ap (λ (o : Option (Item V)). cond (is_some o) (slots.held_count parts.places) (slots.held_count parts.places + 1)) at in
       record {
         lists = IsSound-with_item (slots.without_next parts.places) p y (IsSound-without_next parts.places kept.lists);
         live = live kept after i y p at here there refl;

@@ -71,7 +71,8 @@ module _ {V A : Type 0} {parts : Parts V A} (kept : IsKept parts)
   module _ (task : IsTask x) (before : has_begun x.life ≡ false) where
     ready : map (map (number_at after)) after.ready ≡ (if is_ready x.life then slots.with_last (map (map (number_at parts.places)) parts.places.ready) x.class i.number else map (map (number_at parts.places)) parts.places.ready)
     ready =
-        let same : map (map (number_at with)) parts.places.ready ≡ map (map (number_at parts.places)) parts.places.ready = numbers_kept parts.places with parts.places.ready (numbers kept with i y p at (item_here parts.places p y) (λ q apart. item_there parts.places p q y apart) refl) in
+        let same : map (map (number_at with)) parts.places.ready ≡ map (map (number_at parts.places)) parts.places.ready = numbers_kept parts.places with parts.places.ready
+        (numbers kept with i y p at (item_here parts.places p y) (λ q apart. item_there parts.places p q y apart) refl) in
         let own : number_at with p ≡ i.number = ap number_of (item_here parts.places p y) in
         listed_lists (is_ready x.life) with p x.class (omega (arith, task.class, four))
         ∙ ap (λ l. if is_ready x.life then slots.with_last l x.class (number_at with p) else l) same
@@ -115,7 +116,8 @@ module _ {V : Type 0} where
   accepted : (x : Task V) (arity slot : ℕ) → refusal_of_value x arity slot ≡ None → (has_begun x.life ≡ false) × (x.arity ≡ arity) × (get_or x.values slot None ≡ None)
   accepted x arity slot e = go (has_begun x.life) (x.arity == arity) (get_or x.values slot None) refl refl refl e
     where
-      go : (a b : Bool) (o : Option V) → has_begun x.life ≡ a → (x.arity == arity) ≡ b → get_or x.values slot None ≡ o → (if a || not b then Some TaskKnown else (if is_some o then Some SlotTaken else None)) ≡ None → (has_begun x.life ≡ false) × (x.arity ≡ arity) × (get_or x.values slot None ≡ None)
+      go : (a b : Bool) (o : Option V) → has_begun x.life ≡ a → (x.arity == arity) ≡ b → get_or x.values slot None ≡ o
+          → (if a || not b then Some TaskKnown else (if is_some o then Some SlotTaken else None)) ≡ None → (has_begun x.life ≡ false) × (x.arity ≡ arity) × (get_or x.values slot None ≡ None)
       go true b o f g h r = cc
       go false false o f g h r = cc
       go false true (Some v) f g h r = cc
@@ -154,7 +156,8 @@ module _ {V : Type 0} where
 
   -- the first value of a new task
   pub first_value : (arity class slot : ℕ) (value : V) → arity ≤ 16 → class < 4 → slot < arity
-      → (is_waiting (fresh {V = V} arity class).life ≡ true) × (get_or (fresh {V = V} arity class).values slot None ≡ None) × IsTask (with_value (fresh arity class) slot value) × (has_begun (with_value (fresh {V = V} arity class) slot value).life ≡ false)
+      → (is_waiting (fresh {V = V} arity class).life ≡ true) × (get_or (fresh {V = V} arity class).values slot None ≡ None) × IsTask (with_value (fresh arity class) slot value)
+      × (has_begun (with_value (fresh {V = V} arity class) slot value).life ≡ false)
   first_value arity class slot value h l low =
       let waits : is_waiting (life_lacking arity) ≡ true = ap is_waiting (sym (waiting_life arity (omega arith))) in
       let free : get_or (replicate {A = Option V} arity None) slot None ≡ None = get_or-replicate arity slot None None low in

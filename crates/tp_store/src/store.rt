@@ -56,7 +56,7 @@ impl<S: Slots<TaskItem<V>>, V> Model for TaskStore<S, V> {
 }
 
 impl<S: Slots<TaskItem<V>>, V> TaskStore<S, V> {
-    ghost use Rattle.tp_store.specs.Content.{nothing_stored, task_of, life_of, values_of, unfinished, counts_of, refusal_of_new, refusal_of_insert, refusal_of_deliver, refusal_of_done, with_inserted, with_delivered, with_begun, with_done, delivered_to};
+    ghost use Rattle.tp_store.specs.Content.{nothing_stored, task_of, life_of, values_of, unfinished, counts_of, refusal_of_new, refusal_of_insert, refusal_of_deliver};
     ghost use Rattle.tp_store.specs.Sound.{IsSound};
 
     /// A store with no task. It takes no memory yet.
@@ -183,7 +183,8 @@ impl<S: Slots<TaskItem<V>> + Drop, V: Drop> TaskStore<S, V> {
 }
 
 impl<S: Slots<TaskItem<V>>, V: MadeWith<Global> + Drop> TaskStore<S, V> {
-    ghost use Rattle.tp_store.specs.Content.{task_of, life_of, values_of, unfinished, refusal_of_new, refusal_of_insert, refusal_of_deliver, refusal_of_done, with_inserted, with_delivered, with_begun, with_done, delivered_to, inserted_by, NoneGoesBack};
+    ghost use Rattle.tp_store.specs.Content.{task_of, life_of, values_of, unfinished, refusal_of_new, refusal_of_insert, refusal_of_deliver, refusal_of_done};
+    ghost use Rattle.tp_store.specs.Content.{with_inserted, with_delivered, with_begun, with_done, delivered_to, inserted_by, NoneGoesBack};
 
     /// Inserts an input-free task, ready at once. Its class is 0 to 3.
     ///

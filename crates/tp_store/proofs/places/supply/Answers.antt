@@ -23,4 +23,5 @@ returns-clause-content g c =
 pub returns-clause-counts : goal.returns-clause-counts
 returns-clause-counts g c =
     rw c.get_mut-item.ensures.value
-    (c.moved.ensures ∙ ap (λ l. moved_counts c.args.counts.now (Some l) c.list_if_ready.result) c.life-was.ensures ∙ ap (moved_counts c.args.counts.now (Some c.get_mut-item.result.now.task.life)) (at_item _ _ _ (filled g c) c.list_if_ready.ensures.life ∙ ap (λ j. j.task.life) c.fill.ensures))
+    (c.moved.ensures ∙ ap (λ l. moved_counts c.args.counts.now (Some l) c.list_if_ready.result) c.life-was.ensures
+    ∙ ap (moved_counts c.args.counts.now (Some c.get_mut-item.result.now.task.life)) (at_item _ _ _ (filled g c) c.list_if_ready.ensures.life ∙ ap (λ j. j.task.life) c.fill.ensures))

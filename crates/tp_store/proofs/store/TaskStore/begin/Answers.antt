@@ -39,8 +39,12 @@ invariant_of-self-2 g c =
 
 pub returns : goal.returns
 returns g c =
-    let all = begun_all c.self.invariant c.self.view_is c.in-Some.place c.in-Some.ensures.next (g.S.Slots.content c.begin_at-inputs.new.slots) c.begin_at-inputs.result.0 c.begin_at-inputs.result.1.items (rw c.in-Some.ensures.content at c.begin_at-inputs.ensures.number) (rw c.in-Some.ensures.content at c.begin_at-inputs.ensures.inputs) (rw c.in-Some.ensures.content at c.begin_at-inputs.ensures.content) in
-    let told = begins c.self.invariant c.self.view_is c.in-Some.place c.in-Some.ensures.next (g.S.Slots.content c.begin_at-inputs.new.slots) c.begin_at-inputs.result.0 c.begin_at-inputs.result.1.items (rw c.in-Some.ensures.content at c.begin_at-inputs.ensures.number) (rw c.in-Some.ensures.content at c.begin_at-inputs.ensures.inputs) (rw c.in-Some.ensures.content at c.begin_at-inputs.ensures.content) in
+    let all = begun_all c.self.invariant c.self.view_is c.in-Some.place c.in-Some.ensures.next
+    (g.S.Slots.content c.begin_at-inputs.new.slots) c.begin_at-inputs.result.0 c.begin_at-inputs.result.1.items (rw c.in-Some.ensures.content at c.begin_at-inputs.ensures.number)
+    (rw c.in-Some.ensures.content at c.begin_at-inputs.ensures.inputs) (rw c.in-Some.ensures.content at c.begin_at-inputs.ensures.content) in
+    let told = begins c.self.invariant c.self.view_is c.in-Some.place c.in-Some.ensures.next (g.S.Slots.content c.begin_at-inputs.new.slots) c.begin_at-inputs.result.0 c.begin_at-inputs.result.1.items
+    (rw c.in-Some.ensures.content at c.begin_at-inputs.ensures.number) (rw c.in-Some.ensures.content at c.begin_at-inputs.ensures.inputs)
+    (rw c.in-Some.ensures.content at c.begin_at-inputs.ensures.content) in
     record {
       next = told.0;
       life = told.1;

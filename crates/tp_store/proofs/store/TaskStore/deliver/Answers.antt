@@ -36,7 +36,8 @@ returns-in_default g c =
 pub returns-in_err-deliver_unknown-clause-refusal : goal.returns-in_err-deliver_unknown-clause-refusal
 returns-in_err-deliver_unknown-clause-refusal g c =
     let none = seen c.self.invariant c.self.view_is c.args.task None (sym c.entry_of.ensures ∙ c.in_default.is) in
-    told_first c.from_residual.result c.in_err-deliver_unknown.field-0.0 _ c.from_residual.ensures.1 (c.in_err-deliver_unknown.ensures.refusal ∙ sym (ap (λ o. unwrap_or o NoMemory) (unknown_refusal c.args.self.now c.args.task c.args.arity c.args.slot none)))
+    told_first c.from_residual.result c.in_err-deliver_unknown.field-0.0 _ c.from_residual.ensures.1
+    (c.in_err-deliver_unknown.ensures.refusal ∙ sym (ap (λ o. unwrap_or o NoMemory) (unknown_refusal c.args.self.now c.args.task c.args.arity c.args.slot none)))
 
 pub returns-in_err-deliver_unknown-clause-no_growth : goal.returns-in_err-deliver_unknown-clause-no_growth
 returns-in_err-deliver_unknown-clause-no_growth g c =
@@ -90,14 +91,16 @@ supply-requires g c =
 -- what the store is with the value
 supplied_now : (g : given.Over) (c : goal.After-supply g)
     → (refusal_of_deliver c.args.self.now c.args.task c.args.arity c.args.slot ≡ None) × (Filled ≡ delivered_to c.args.self.now c.args.task c.args.arity)
-    × Leaves (record { places = g.S.Slots.content c.supply.new.slots; index = c.self.inside.index; results = c.self.inside.results; counts = c.supply.new.counts }) (with_delivered c.args.self.now c.args.task c.args.arity c.args.class c.args.slot c.args.value) (unfinished c.args.self.now)
+    × Leaves (record { places = g.S.Slots.content c.supply.new.slots; index = c.self.inside.index; results = c.self.inside.results; counts = c.supply.new.counts })
+    (with_delivered c.args.self.now c.args.task c.args.arity c.args.class c.args.slot c.args.value) (unfinished c.args.self.now)
 supplied_now g c =
     let stands = sym c.entry_of.ensures ∙ c.in-Some.is ∙ ap Some c.in-Live.is in
     let x = seen_live c.self.invariant c.self.view_is c.args.task c.in-Live.place c.get.result.now stands c.get.ensures in
     let checked = known_refusal c.args.self.now c.args.task c.args.arity c.args.slot _ x ∙ accepts _ c.check.result c.in_default-check.field-0 c.check.ensures c.in_default-check.is in (
       checked,
       fills c.self.invariant c.self.view_is c.args.task c.args.arity c.args.class c.args.slot c.args.value c.in-Live.place stands checked c.requires.slot_in_range,
-      supplied_all c.self.invariant c.self.view_is c.args.task c.args.arity c.args.class c.args.slot c.args.value c.in-Live.place stands checked c.requires.slot_in_range (g.S.Slots.content c.supply.new.slots) c.supply.new.counts c.supply.ensures.content c.supply.ensures.counts,
+      supplied_all c.self.invariant c.self.view_is c.args.task c.args.arity c.args.class c.args.slot c.args.value c.in-Live.place stands checked c.requires.slot_in_range
+          (g.S.Slots.content c.supply.new.slots) c.supply.new.counts c.supply.ensures.content c.supply.ensures.counts,
     )
 
 pub invariant_of-self : goal.invariant_of-self

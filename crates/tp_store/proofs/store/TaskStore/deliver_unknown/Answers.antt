@@ -47,7 +47,9 @@ enter_with-requires g c =
     )
 
 -- what the store is with the task
-delivered_now : (g : given.Over) (c : goal.After-enter_with g) → Leaves (record { places = g.S.Slots.content c.enter_with.new.slots; index = c.enter_with.new.index; results = c.make_item.new.results; counts = c.enter_with.new.counts }) (with_delivered c.args.self.now c.args.task c.args.arity c.args.class c.args.slot c.args.value) (unfinished c.args.self.now + 1)
+delivered_now : (g : given.Over) (c : goal.After-enter_with g)
+    → Leaves (record { places = g.S.Slots.content c.enter_with.new.slots; index = c.enter_with.new.index; results = c.make_item.new.results; counts = c.enter_with.new.counts })
+    (with_delivered c.args.self.now c.args.task c.args.arity c.args.class c.args.slot c.args.value) (unfinished c.args.self.now + 1)
 delivered_now g c =
     let ok = c.in-Ok.ensures in
     made_delivered c.self.invariant c.self.view_is c.make_item.ensures.grown c.args.task c.requires.unknown ok.not_full ok.space c.args.arity c.args.class c.requires.arity_in_range c.requires.class_in_range c.in-Ok.item ok.item

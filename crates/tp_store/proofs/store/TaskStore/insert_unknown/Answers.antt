@@ -44,7 +44,9 @@ enter-requires g c =
     )
 
 -- what the store is with the task
-entered_now : (g : given.Over) (c : goal.After-enter g) → Leaves (record { places = g.S.Slots.content c.enter.new.slots; index = c.enter.new.index; results = c.make_item.new.results; counts = c.enter.new.counts }) (with_inserted c.args.self.now c.args.task c.args.class) (unfinished c.args.self.now + 1)
+entered_now : (g : given.Over) (c : goal.After-enter g)
+    → Leaves (record { places = g.S.Slots.content c.enter.new.slots; index = c.enter.new.index; results = c.make_item.new.results; counts = c.enter.new.counts })
+    (with_inserted c.args.self.now c.args.task c.args.class) (unfinished c.args.self.now + 1)
 entered_now g c =
     let ok = c.in_ok-item.ensures in
     made_entered c.self.invariant c.self.view_is c.make_item.ensures.grown c.args.task c.requires.unknown ok.not_full ok.space 0 c.args.class (omega arith) c.requires.class_in_range c.in_ok-item.item ok.item
