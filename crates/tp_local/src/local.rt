@@ -115,6 +115,7 @@ impl Local {
         ensures delivered { OnOk result (self.new ≡ record self.old { store = with_delivered self.old.store task arity class slot value }) }
         ensures counted { IfOk result (λ d. pending self.new ≡ pending self.old + inserted_by d) }
         ensures refused { IfErr result (λ e. e.0 ≡ unwrap_or (refusal_of_delivery self.old task arity slot) Refusal.NoMemory) }
+        ensures no_growth { OnErr result (IsTrue (is_some (task_of self.old.store task)) → IsTrue (is_some (refusal_of_delivery self.old task arity slot))) }
         ensures value_returned { IfErr result (λ e. e.1 ≡ value) }
         ensures kept { OnErr result (self.new ≡ self.old) }
     {
@@ -146,6 +147,7 @@ impl Local {
         ensures delivered { OnOk result (self.new ≡ record self.old { store = with_delivered self.old.store task arity class slot value }) }
         ensures counted { IfOk result (λ d. pending self.new ≡ pending self.old + inserted_by d) }
         ensures refused { IfErr result (λ e. e.0 ≡ unwrap_or (refusal_of_delivery self.old task arity slot) Refusal.NoMemory) }
+        ensures no_growth { OnErr result (IsTrue (is_some (task_of self.old.store task)) → IsTrue (is_some (refusal_of_delivery self.old task arity slot))) }
         ensures value_returned { IfErr result (λ e. e.1 ≡ value) }
         ensures kept { OnErr result (self.new ≡ self.old) }
     {

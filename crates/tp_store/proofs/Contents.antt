@@ -1,6 +1,6 @@
 -- How the changes of a store's content keep it sound, and how its counts move.
-use Rattle.std.proofs.Common.{◌≡◌, ◌≢◌, ℕ, suc, ◌+◌, ◌-◌, ◌<◌, ◌==◌, Bool, true, false, cond, List, [], ◌∷◌, ◌++◌, length, get_or, set, Option, Some, None, unwrap_or, count_by, refl, sym, ap, subst, ◌∙◌, inl, inr, arith}
-use Rattle.std.specs.Prelude.{◌&&◌, if◌then◌else◌}
+use Rattle.std.proofs.Common.{◌≡◌, ◌≢◌, ℕ, suc, ◌+◌, ◌<◌, ◌≤◌, ◌==◌, Bool, true, false, cond, List, [], ◌∷◌, ◌++◌, length, get_or, set, Option, Some, None, unwrap_or, count_by, refl, sym, ap, subst, ◌∙◌, inl, inr, arith}
+use Rattle.std.specs.Prelude.{◌&&◌, not, if◌then◌else◌}
 use Rattle.std.specs.Option.{option_map}
 use Rattle.std.specs.FinMap as finite
 use Rattle.std.proofs.lemmas.Bool.{cases_eq}
@@ -10,8 +10,8 @@ use Rattle.std.proofs.lemmas.List.Sums.{sum_by-cons, sum_by-append}
 use Rattle.tp_base.specs.declared.ids.TaskId.{TaskId}
 use Rattle.tp_slots.specs.Content.{front, without_front, with_last}
 use Rattle.tp_slots.proofs.Sound.{get_inserted}
-use Rattle.tp_store.specs.Content.{Task, Content, task_of, with_task, begun, done, count_lives, unfinished, counts_of, is_unfinished, is_waiting, is_ready, is_running, is_done, has_begun}
-use Rattle.tp_store.specs.Kept.{entered, supplied_counts, begun_counts}
+use Rattle.tp_store.specs.Content.{Task, Content, task_of, life_of, with_task, begun, done, count_lives, unfinished, counts_of, is_unfinished, is_waiting, is_ready, is_running, is_done, has_begun}
+use Rattle.tp_store.specs.Kept.{one, moved_counts, IsCounted}
 use Rattle.tp_store.specs.declared.life.Counts.{Counts}
 use Rattle.tp_store.proofs.Counting.{one_if, passing-insert}
 use Rattle.tp_store.specs.Sound.{IsTask, IsSound, is_task, times_ready, times_done}
@@ -70,6 +70,12 @@ not_begun Ready e = refl
 not_begun Running e = cc
 not_begun Done e = cc
 
+pub unfinished_life : (life : Life) → has_begun life ≡ false → is_unfinished life ≡ true
+unfinished_life life e = ap (λ b. not b) (not_begun life e)
+
+pub waiting_unfinished : (life : Life) → is_waiting life ≡ true → is_unfinished life ≡ true
+waiting_unfinished life e = ap (λ b. not b) (waits_not life e).1
+
 ready_not : (life : Life) → is_ready life ≡ true → is_done life ≡ false
 ready_not (Waiting k) e = cc
 ready_not Ready e = refl
@@ -115,7 +121,8 @@ module _ {V : Type 0} where
       | inr apart ↦ rw (task_there s t u x apart) (sound.tasks u)
     ];
     ready = λ class u. elim (cases_eq u.0 t.0) [
-      | inl same ↦ subst (λ (w : TaskId). count_by (is_task w) (get_or ready class []) ≡ ready_in (finite.get (finite.insert s.tasks t.0 x) w.0) class) (sym (same_number t u same)) (here class ∙ ap (λ o. ready_in o class) (sym (task_here s t x)))
+      | inl same ↦ subst (λ (w : TaskId). count_by (is_task w) (get_or ready class []) ≡ ready_in (finite.get (finite.insert s.tasks t.0 x) w.0) class) (sym (same_number t u same))
+          (here class ∙ ap (λ o. ready_in o class) (sym (task_here s t x)))
       | inr apart ↦ others class u apart ∙ sound.ready class u ∙ ap (λ o. ready_in o class) (sym (task_there s t u x apart))
     ];
     done = λ u. elim (cases_eq u.0 t.0) [
@@ -179,7 +186,8 @@ module _ {V : Type 0} where
       let x = ready_when (task_of s t) at.0 (subst (λ n. 0 < n) (sound.ready at.0 t) some) in
       (x.0, x.1, x.2)
 
-  pub IsSound-begun : (s : Content V) (t : TaskId) (x : Task V) → IsSound s → front s.ready ≡ Some t → task_of s t ≡ Some x → is_ready x.life ≡ true → IsSound (record { tasks = finite.insert s.tasks t.0 (begun x); ready = without_front s.ready; results = s.results })
+  pub IsSound-begun : (s : Content V) (t : TaskId) (x : Task V) → IsSound s → front s.ready ≡ Some t → task_of s t ≡ Some x → is_ready x.life ≡ true
+      → IsSound (record { tasks = finite.insert s.tasks t.0 (begun x); ready = without_front s.ready; results = s.results })
   IsSound-begun s t x sound first known ready =
       changed s t (begun x) (without_front s.ready) s.results sound
       (record { arity = task.arity; class = task.class; lacks = tt; slots = refl })
@@ -233,7 +241,8 @@ module _ {V : Type 0} where
             omega (arith, count, is)
       ]
 
-  pub IsSound-done : (s : Content V) (t : TaskId) (x : Task V) (value : V) → IsSound s → task_of s t ≡ Some x → is_running x.life ≡ true → IsSound (record { tasks = finite.insert s.tasks t.0 (done x); ready = s.ready; results = s.results ++ (t, value) ∷ [] })
+  pub IsSound-done : (s : Content V) (t : TaskId) (x : Task V) (value : V) → IsSound s → task_of s t ≡ Some x → is_running x.life ≡ true
+      → IsSound (record { tasks = finite.insert s.tasks t.0 (done x); ready = s.ready; results = s.results ++ (t, value) ∷ [] })
   IsSound-done s t x value sound known running =
       let no = runs_not x.life running in
       let task : IsTask x = rw known at (sound.tasks t) in
@@ -250,65 +259,46 @@ module _ {V : Type 0} where
   abbrev pub counts_if : (Life → Bool) → Option (Task V) → ℕ
   counts_if test = one_if (λ (x : Task V). test x.life)
 
-  pub count-put : (test : Life → Bool) (s : Content V) (t : TaskId) (x : Task V) (ready : List (List TaskId)) (results : List (TaskId × V)) → count_lives test (record { tasks = finite.insert s.tasks t.0 x; ready = ready; results = results }) + counts_if test (task_of s t) ≡ count_lives test s + cond (test x.life) 1 0
+  pub count-put : (test : Life → Bool) (s : Content V) (t : TaskId) (x : Task V) (ready : List (List TaskId)) (results : List (TaskId × V))
+      → count_lives test (record { tasks = finite.insert s.tasks t.0 x; ready = ready; results = results }) + counts_if test (task_of s t) ≡ count_lives test s + cond (test x.life) 1 0
   count-put test s t x ready results = passing-insert (λ (y : Task V). test y.life) s.tasks t.0 x
 
-  -- a new task that has not begun
-  pub counts-new : (s : Content V) (t : TaskId) (x : Task V) (counts : Counts) → task_of s t ≡ None → has_begun x.life ≡ false → counts ≡ counts_of s → (unfinished (with_task s t x) ≡ unfinished s + 1) × (entered counts (is_ready x.life) ≡ counts_of (with_task s t x))
-  counts-new s t x counts none fresh is = go x.life (λ test. omega (arith, rw none at (count-put test s t x (with_task s t x).ready s.results))) fresh
-    where
-      go : (life : Life) → ((test : Life → Bool) → count_lives test (with_task s t x) ≡ count_lives test s + cond (test life) 1 0) → has_begun life ≡ false → (unfinished (with_task s t x) ≡ unfinished s + 1) × (entered counts (is_ready life) ≡ counts_of (with_task s t x))
-      go (Waiting k) n f = (n is_unfinished, same_counts (entered counts false) (counts_of (with_task s t x)) (omega (arith, n is_waiting, ap (λ c. c.waiting) is)) (omega (arith, n is_ready, ap (λ c. c.ready) is)) (omega (arith, n is_running, ap (λ c. c.running) is)))
-      go Ready n f = (n is_unfinished, same_counts (entered counts true) (counts_of (with_task s t x)) (omega (arith, n is_waiting, ap (λ c. c.waiting) is)) (omega (arith, n is_ready, ap (λ c. c.ready) is)) (omega (arith, n is_running, ap (λ c. c.running) is)))
-      go Running n f = cc
-      go Done n f = cc
+  -- a task that may be known goes on to this one
+  module _ (s : Content V) (t : TaskId) (x : Task V) (ready : List (List TaskId)) (results : List (TaskId × V)) (was : Option Life) (known : life_of s t ≡ was) where
+    abbrev after : Content V
+    after = record { tasks = finite.insert s.tasks t.0 x; ready = ready; results = results }
 
-  -- a task goes from one life to another
-  pub moved : (test : Life → Bool) (s : Content V) (t : TaskId) (w x : Task V) (ready : List (List TaskId)) (results : List (TaskId × V)) → task_of s t ≡ Some w → count_lives test (record { tasks = finite.insert s.tasks t.0 x; ready = ready; results = results }) + cond (test w.life) 1 0 ≡ count_lives test s + cond (test x.life) 1 0
-  moved test s t w x ready results known = rw known at (count-put test s t x ready results)
+    pub moves : (test : Life → Bool) → count_lives test after + one test was ≡ count_lives test s + one test (Some x.life)
+    moves test = omega (arith, count-put test s t x ready results, same (task_of s t), ap (one test) known)
+      where
+        same : (o : Option (Task V)) → counts_if test o ≡ one test (option_map (λ y. y.life) o)
+        same None = refl
+        same (Some y) = refl
+
+    pub counts-moved : (counts : Counts) → counts ≡ counts_of s → moved_counts counts was x.life ≡ counts_of after
+    counts-moved counts is = same_counts (moved_counts counts was x.life) (counts_of after) (omega (arith, moves is_waiting, ap (λ c. c.waiting) is))
+        (omega (arith, moves is_ready, ap (λ c. c.ready) is)) (omega (arith, moves is_running, ap (λ c. c.running) is))
 
   -- a task of a life is counted
   pub some_counted : (test : Life → Bool) (s : Content V) (t : TaskId) (w : Task V) → task_of s t ≡ Some w → test w.life ≡ true → test Done ≡ false → 0 < count_lives test s
-  some_counted test s t w known is not = let move = rw (is, not) at (moved test s t w (done w) s.ready s.results known) in omega (arith, move)
+  some_counted test s t w known is not =
+      let move = rw (is, not) at (moves s t (done w) s.ready s.results (Some w.life) (ap (option_map (λ y. y.life)) known) test) in omega (arith, move)
 
-  -- a waiting task gets an input: it waits for another one, or is ready
-  pub counts-supplied : (s : Content V) (t : TaskId) (w x : Task V) (counts : Counts) → task_of s t ≡ Some w → is_waiting w.life ≡ true → has_begun x.life ≡ false → counts ≡ counts_of s
-      → (unfinished (with_task s t x) ≡ unfinished s) × (supplied_counts counts (is_ready x.life) ≡ counts_of (with_task s t x))
-  counts-supplied s t w x counts known waits fresh is = go w.life x.life (λ test. moved test s t w x (with_task s t x).ready s.results known) waits fresh
-    where
-      go : (old life : Life) → ((test : Life → Bool) → count_lives test (with_task s t x) + cond (test old) 1 0 ≡ count_lives test s + cond (test life) 1 0) → is_waiting old ≡ true → has_begun life ≡ false
-          → (unfinished (with_task s t x) ≡ unfinished s) × (supplied_counts counts (is_ready life) ≡ counts_of (with_task s t x))
-      go (Waiting j) (Waiting k) n o f = (omega (arith, n is_unfinished), same_counts counts (counts_of (with_task s t x)) (omega (arith, n is_waiting, ap (λ c. c.waiting) is)) (omega (arith, n is_ready, ap (λ c. c.ready) is)) (omega (arith, n is_running, ap (λ c. c.running) is)))
-      go (Waiting j) Ready n o f = (
-        omega (arith, n is_unfinished),
-        same_counts (supplied_counts counts true) (counts_of (with_task s t x)) (omega (arith, n is_waiting, ap (λ c. c.waiting) is)) (omega (arith, n is_ready, ap (λ c. c.ready) is)) (omega (arith, n is_running, ap (λ c. c.running) is)),
-      )
-      go (Waiting j) Running n o f = cc
-      go (Waiting j) Done n o f = cc
-      go Ready life n o f = cc
-      go Running life n o f = cc
-      go Done life n o f = cc
+  -- whatever it is
+  pub is_counted : (s : Content V) (t : TaskId) (w : Task V) (counts : Counts) → task_of s t ≡ Some w → counts ≡ counts_of s → counts.waiting + counts.ready + counts.running ≤ 65536 → IsCounted (Some w.life) counts
+  is_counted s t w counts known is few =
+      let move = moves s t (done w) s.ready s.results (Some w.life) (ap (option_map (λ y. y.life)) known) in
+      record {
+        waiting = omega (arith, move is_waiting, ap (λ c. c.waiting) is);
+        ready = omega (arith, move is_ready, ap (λ c. c.ready) is);
+        running = omega (arith, move is_running, ap (λ c. c.running) is);
+        few = few;
+      }
 
-  -- a ready task begins
-  pub counts-begun : (s : Content V) (t : TaskId) (w : Task V) (counts : Counts) (ready : List (List TaskId)) → task_of s t ≡ Some w → is_ready w.life ≡ true → counts ≡ counts_of s
-      → (unfinished (record { tasks = finite.insert s.tasks t.0 (begun w); ready = ready; results = s.results }) ≡ unfinished s) × (begun_counts counts ≡ counts_of (record { tasks = finite.insert s.tasks t.0 (begun w); ready = ready; results = s.results }))
-  counts-begun s t w counts ready known was is = go w.life (λ test. moved test s t w (begun w) ready s.results known) was
-    where
-      go : (old : Life) → ((test : Life → Bool) → count_lives test (record { tasks = finite.insert s.tasks t.0 (begun w); ready = ready; results = s.results }) + cond (test old) 1 0 ≡ count_lives test s + cond (test Running) 1 0) → is_ready old ≡ true
-          → (unfinished (record { tasks = finite.insert s.tasks t.0 (begun w); ready = ready; results = s.results }) ≡ unfinished s) × (begun_counts counts ≡ counts_of (record { tasks = finite.insert s.tasks t.0 (begun w); ready = ready; results = s.results }))
-      go Ready n o = (omega (arith, n is_unfinished), same_counts _ _ (omega (arith, n is_waiting, ap (λ c. c.waiting) is)) (omega (arith, n is_ready, ap (λ c. c.ready) is)) (omega (arith, n is_running, ap (λ c. c.running) is)))
-      go (Waiting k) n o = cc
-      go Running n o = cc
-      go Done n o = cc
+  -- how many are not done: one more with a new task, and as many where a task goes on
+  pub unfinished-new : (s : Content V) (t : TaskId) (x : Task V) → life_of s t ≡ None → has_begun x.life ≡ false → unfinished (with_task s t x) ≡ unfinished s + 1
+  unfinished-new s t x none before = let live = unfinished_life x.life before in let n = rw live at (moves s t x (with_task s t x).ready s.results None none is_unfinished) in omega (arith, n)
 
-  -- a running task is done
-  pub counts-done : (s : Content V) (t : TaskId) (w : Task V) (counts : Counts) (results : List (TaskId × V)) → task_of s t ≡ Some w → is_running w.life ≡ true → counts ≡ counts_of s
-      → (unfinished (record { tasks = finite.insert s.tasks t.0 (done w); ready = s.ready; results = results }) + 1 ≡ unfinished s) × (record { waiting = counts.waiting; ready = counts.ready; running = counts.running - 1 } ≡ counts_of (record { tasks = finite.insert s.tasks t.0 (done w); ready = s.ready; results = results }))
-  counts-done s t w counts results known was is = go w.life (λ test. moved test s t w (done w) s.ready results known) was
-    where
-      go : (old : Life) → ((test : Life → Bool) → count_lives test (record { tasks = finite.insert s.tasks t.0 (done w); ready = s.ready; results = results }) + cond (test old) 1 0 ≡ count_lives test s + cond (test Done) 1 0) → is_running old ≡ true
-          → (unfinished (record { tasks = finite.insert s.tasks t.0 (done w); ready = s.ready; results = results }) + 1 ≡ unfinished s) × (record { waiting = counts.waiting; ready = counts.ready; running = counts.running - 1 } ≡ counts_of (record { tasks = finite.insert s.tasks t.0 (done w); ready = s.ready; results = results }))
-      go Running n o = (omega (arith, n is_unfinished), same_counts _ _ (omega (arith, n is_waiting, ap (λ c. c.waiting) is)) (omega (arith, n is_ready, ap (λ c. c.ready) is)) (omega (arith, n is_running, ap (λ c. c.running) is)))
-      go (Waiting k) n o = cc
-      go Ready n o = cc
-      go Done n o = cc
+  pub unfinished-same : (s : Content V) (t : TaskId) (x : Task V) (ready : List (List TaskId)) (life : Life) → life_of s t ≡ Some life → is_unfinished life ≡ true → is_unfinished x.life ≡ true
+      → unfinished (record { tasks = finite.insert s.tasks t.0 x; ready = ready; results = s.results }) ≡ unfinished s
+  unfinished-same s t x ready life known was is = let n = rw (was, is) at (moves s t x ready s.results (Some life) known is_unfinished) in omega (arith, n)

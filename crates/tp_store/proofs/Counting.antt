@@ -21,7 +21,8 @@ module _ {X : Type 0} where
   -- a key below the first is not found
   not_found : (k : ℕ) (v : X) (e : ℕ × X) (es : List (ℕ × X)) → T (is_sorted nat_cmp (e ∷ es)) → nat_cmp k e.0 ≡ Less → find nat_cmp k es ≡ None
   not_found k v e es h less =
-      let long : length (by_order (nat_cmp k e.0) ((k, v) ∷ e ∷ es) ((e.0, v) ∷ es) (e ∷ put nat_cmp k v es)) ≡ cond (is_some (find nat_cmp k (e ∷ es))) (suc (length es)) (suc (length es) + 1) = length-put nat_cmp nat_cmp_total k v (e ∷ es) h in
+      let long : length (by_order (nat_cmp k e.0) ((k, v) ∷ e ∷ es) ((e.0, v) ∷ es) (e ∷ put nat_cmp k v es)) ≡ cond (is_some (find nat_cmp k (e ∷ es))) (suc (length es)) (suc (length es) + 1) =
+      length-put nat_cmp nat_cmp_total k v (e ∷ es) h in
       let longer : suc (suc (length es)) ≡ cond (is_some (find nat_cmp k es)) (suc (length es)) (suc (length es) + 1) = rw less at long in
       (elim (find nat_cmp k es) as (λ (o : Option X). suc (suc (length es)) ≡ cond (is_some o) (suc (length es)) (suc (length es) + 1) → o ≡ None) [
         | None ↦ λ _. refl

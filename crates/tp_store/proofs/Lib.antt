@@ -1,4 +1,3 @@
-pub mod Spread
 pub mod Filling
 pub mod Counting
 pub mod Contents
@@ -7,10 +6,7 @@ pub mod Keeping
 pub mod Entering
 pub mod Reading
 pub mod Starting
-pub mod Rewriting
 pub mod Supplying
 pub mod Running
 pub mod Finishing
-mod Reserving
-mod Making
 mod Stages

@@ -1,24 +1,20 @@
 -- The next ready task begins.
-use Rattle.std.proofs.Common.{◌≡◌, ◌≢◌, ℕ, ◌+◌, ◌<◌, ◌≤◌, true, cond, List, map, Option, Some, None, is_some, IfSome, unwrap_or, refl, sym, ap, ◌∙◌, arith}
+use Rattle.std.proofs.Common.{◌≡◌, ◌≢◌, ℕ, ◌+◌, true, cond, List, map, Option, Some, None, is_some, IfSome, unwrap_or, refl, sym, ap, subst, ◌∙◌, arith}
 use Rattle.std.specs.Option.{option_map}
 use Rattle.std.specs.Cmp.{nat_cmp_total}
 use Rattle.std.specs.FinMap as finite
-use Rattle.std.specs.declared.vec.Vec.{Vec}
 use Rattle.tp_base.specs.declared.ids.TaskId.{TaskId}
 use Rattle.tp_slots.specs.Content as slots
 use Rattle.tp_slots.proofs.Sound.{IsSound-with_item, IsSound-without_next, IsIdle-front, without_front-empty}
 use Rattle.tp_slots.proofs.Lists.{front-each, front_none-each, without_front-each}
 use Rattle.tp_store.specs.Content.{Content, task_of, life_of, values_of, unfinished, counts_of, is_ready, begun, with_begun}
 use Rattle.tp_store.specs.Items.{Item}
-use Rattle.tp_store.specs.Entries.{Entries}
-use Rattle.tp_store.specs.Kept.{task_under, number_at, content_of, begun_counts, IsKept}
+use Rattle.tp_store.specs.Kept.{task_under, Parts, number_of, number_at, content_of, moved_counts, IsCounted, IsKept, Leaves}
 use Rattle.tp_store.specs.declared.life.Life.{Life}
 use Rattle.tp_store.specs.declared.life.Life.TheVariants.{Waiting, Ready, Running, Done}
-use Rattle.tp_store.specs.declared.life.Counts.{Counts}
-use Rattle.tp_store.proofs.Contents.{front_ready, IsSound-begun, counts-begun, some_counted}
-use Rattle.tp_store.proofs.Keeping.{get-tasks_of, numbers_kept, item_here, item_there, at_item}
+use Rattle.tp_store.proofs.Contents.{front_ready, IsSound-begun, counts-moved, is_counted, unfinished-same}
+use Rattle.tp_store.proofs.Keeping.{get-tasks_of, numbers_kept, item_here, item_there, at_item, live, owner, tasks, numbers}
 use Rattle.tp_store.proofs.Reading.{few_live}
-use Rattle.tp_store.proofs.Rewriting.{live, owner, tasks, numbers}
 
 ready_is : (life : Life) → is_ready life ≡ true → life ≡ Ready
 ready_is (Waiting k) e = cc
@@ -26,45 +22,53 @@ ready_is Ready e = refl
 ready_is Running e = cc
 ready_is Done e = cc
 
-module _ {V A : Type 0} {c : slots.Content (Item V)} {index : Entries} {results : Vec (TaskId × V) A} {counts : Counts} (kept : IsKept {V = V} {A = A} c index results counts)
-    (i : Item V) (p : ℕ) (at : slots.item_at c p ≡ Some i) (is : is_ready i.task.life ≡ true) where
+module _ {V A : Type 0} {parts : Parts V A} (kept : IsKept parts)
+    (i : Item V) (p : ℕ) (at : slots.item_at parts.places p ≡ Some i) (is : is_ready i.task.life ≡ true) where
   abbrev before : Content V
-  before = content_of c index results.items
+  before = content_of parts
 
   abbrev y : Item V
   y = record { number = i.number; task = begun i.task }
 
   abbrev after : slots.Content (Item V)
-  after = slots.with_item (slots.without_next c) p y
+  after = slots.with_item (slots.without_next parts.places) p y
 
   pub was : task_of before i.number ≡ Some i.task
-  was = get-tasks_of c index i.number.0 ∙ ap (task_under c) (kept.owner p i at) ∙ ap (option_map (λ j. j.task)) at
+  was = get-tasks_of parts.places parts.index i.number.0 ∙ ap (task_under parts.places) (kept.owner p i at) ∙ ap (option_map (λ j. j.task)) at
 
-  there : (q : ℕ) → q ≢ p → slots.item_at after q ≡ slots.item_at c q
-  there q apart = item_there (slots.without_next c) p q y apart
+  there : (q : ℕ) → q ≢ p → slots.item_at after q ≡ slots.item_at parts.places q
+  there q apart = item_there (slots.without_next parts.places) p q y apart
 
   abbrev changed : Content V
   changed = record { tasks = finite.insert before.tasks i.number.0 (begun i.task); ready = slots.without_front before.ready; results = before.results }
 
-  pub begun_content : content_of after index results.items ≡ changed
+  -- the store once it runs
+  abbrev pub begun_parts : Parts V A
+  begun_parts = record parts { places = after; counts = moved_counts parts.counts (Some Ready) Running }
+
+  pub begun_content : content_of begun_parts ≡ changed
   begun_content =
-      let here = item_here (slots.without_next c) p y in
-      let kept_numbers = numbers_kept c after (slots.without_front c.ready) (numbers kept after i y p at here there refl) in
+      let here = item_here (slots.without_next parts.places) p y in
+      let kept_numbers = numbers_kept parts.places after (slots.without_front parts.places.ready) (numbers kept after i y p at here there refl) in
       λ k. record {
         tasks = tasks kept after i y p at here there refl k;
-        ready = (kept_numbers ∙ sym (without_front-each (number_at c) c.ready)) k;
-        results = results.items;
+        ready = (kept_numbers ∙ sym (without_front-each (number_at parts.places) parts.places.ready)) k;
+        results = parts.results.items;
       }
 
-  pub begun_moves : (unfinished changed ≡ unfinished before) × (begun_counts counts ≡ counts_of changed)
-  begun_moves = counts-begun before i.number i.task counts (slots.without_front before.ready) was is kept.counted
+  pub begun_moves : (unfinished changed ≡ unfinished before) × (moved_counts parts.counts (Some Ready) Running ≡ counts_of changed)
+  begun_moves =
+      let known : life_of before i.number ≡ Some Ready = ap (option_map (λ x. x.life)) was ∙ ap (λ l. Some l) (ready_is i.task.life is) in
+      let next = slots.without_front before.ready in
+      (unfinished-same before i.number (begun i.task) next Ready known refl refl, counts-moved before i.number (begun i.task) next before.results (Some Ready) known parts.counts kept.counted)
 
-  pub IsKept-begun : slots.front before.ready ≡ Some i.number → IsKept {V = V} {A = A} after index results (begun_counts counts)
+  pub IsKept-begun : slots.front before.ready ≡ Some i.number → IsKept begun_parts
   IsKept-begun first =
-      let here = item_here (slots.without_next c) p y in
-      let count : slots.held_count after ≡ slots.held_count c = finite.len-insert nat_cmp_total c.items p y ∙ ap (λ (o : Option (Item V)). cond (is_some o) (slots.held_count c) (slots.held_count c + 1)) at in
+      let here = item_here (slots.without_next parts.places) p y in
+      let count : slots.held_count after ≡ slots.held_count parts.places = finite.len-insert nat_cmp_total parts.places.items p y
+      ∙ ap (λ (o : Option (Item V)). cond (is_some o) (slots.held_count parts.places) (slots.held_count parts.places + 1)) at in
       record {
-        lists = IsSound-with_item (slots.without_next c) p y (IsSound-without_next c kept.lists);
+        lists = IsSound-with_item (slots.without_next parts.places) p y (IsSound-without_next parts.places kept.lists);
         live = live kept after i y p at here there refl;
         owner = owner kept after i y p at here there refl;
         sound = rw begun_content (IsSound-begun before i.number i.task kept.sound first was is);
@@ -74,36 +78,36 @@ module _ {V A : Type 0} {c : slots.Content (Item V)} {index : Entries} {results 
         space = omega (arith, count, kept.space);
       }
 
-module _ {V A : Type 0} {c : slots.Content (Item V)} {index : Entries} {results : Vec (TaskId × V) A} {counts : Counts} (kept : IsKept {V = V} {A = A} c index results counts)
-    {s : Content V} (view : content_of c index results.items ≡ s) where
+module _ {V A : Type 0} {parts : Parts V A} (kept : IsKept parts)
+    {s : Content V} (view : content_of parts ≡ s) where
   -- ---- none is ready
-  module _ (none : slots.front c.ready ≡ None) where
+  module _ (none : slots.front parts.places.ready ≡ None) where
     pub none_next : None ≡ slots.front s.ready
-    none_next = sym (ap (λ v. slots.front v.ready) (sym view) ∙ front_none-each (number_at c) c.ready none)
+    none_next = sym (ap (λ v. slots.front v.ready) (sym view) ∙ front_none-each (number_at parts.places) parts.places.ready none)
 
-    pub same_slots : slots.without_next c ≡ c
-    same_slots = λ k. record { items = c.items; ready = without_front-empty c.ready none k }
+    pub same_slots : slots.without_next parts.places ≡ parts.places
+    same_slots = λ k. record { items = parts.places.items; ready = without_front-empty parts.places.ready none k }
 
   -- ---- the place of the next one
-  module _ (p : ℕ) (first : Some p ≡ slots.front c.ready) where
+  module _ (p : ℕ) (first : Some p ≡ slots.front parts.places.ready) where
     abbrev old : Content V
-    old = content_of c index results.items
+    old = content_of parts
 
     pub record Next (i : Item V) : Type 0 where
-      pub at : slots.item_at c p ≡ Some i
+      pub at : slots.item_at parts.places p ≡ Some i
       pub next : Some i.number ≡ slots.front s.ready
       pub known : task_of s i.number ≡ Some i.task
       pub is : is_ready i.task.life ≡ true
 
     pub next_item : (i : Item V) × Next i
-    next_item = some_item (slots.item_at c p) refl (IsIdle-front c p kept.lists (sym first)).taken
+    next_item = some_item (slots.item_at parts.places p) refl (IsIdle-front parts.places p kept.lists (sym first)).taken
       where
-        some_item : (o : Option (Item V)) → slots.item_at c p ≡ o → is_some o ≡ true → (i : Item V) × Next i
+        some_item : (o : Option (Item V)) → slots.item_at parts.places p ≡ o → is_some o ≡ true → (i : Item V) × Next i
         some_item None e h = cc
         some_item (Some i) e h =
-            let own : number_at c p ≡ i.number = ap (λ o. unwrap_or (option_map (λ j. j.number) o) (record { 0 = 0 })) e in
-            let front : slots.front old.ready ≡ Some i.number = front-each (number_at c) c.ready p (sym first) ∙ ap (λ n. Some n) own in
-            let known : task_of old i.number ≡ Some i.task = get-tasks_of c index i.number.0 ∙ ap (task_under c) (kept.owner p i e) ∙ ap (option_map (λ j. j.task)) e in
+            let own : number_at parts.places p ≡ i.number = ap number_of e in
+            let front : slots.front old.ready ≡ Some i.number = front-each (number_at parts.places) parts.places.ready p (sym first) ∙ ap (λ n. Some n) own in
+            let known : task_of old i.number ≡ Some i.task = get-tasks_of parts.places parts.index i.number.0 ∙ ap (task_under parts.places) (kept.owner p i e) ∙ ap (option_map (λ j. j.task)) e in
             let x = front_ready old i.number kept.sound front in
             let both : Some i.task ≡ Some x.0 = sym known ∙ x.1 in
             let same : i.task ≡ x.0 = cc in (
@@ -117,19 +121,19 @@ module _ {V A : Type 0} {c : slots.Content (Item V)} {index : Entries} {results 
             )
 
     -- it can begin
-    pub can_begin : slots.IsTaken (slots.without_next c) p × IfSome (slots.item_at (slots.without_next c) p) (λ i. i.task.life ≡ Ready)
+    pub can_begin : slots.IsTaken (slots.without_next parts.places) p × IfSome (slots.item_at (slots.without_next parts.places) p) (λ i. i.task.life ≡ Ready)
     can_begin = let k = next_item in (ap is_some k.1.at, rw k.1.at (ready_is k.0.task.life k.1.is))
 
-    pub some_ready : (0 < counts.ready) × (counts.waiting + counts.ready + counts.running ≤ 65536)
+    pub some_ready : IsCounted (Some Ready) parts.counts
     some_ready =
         let k = next_item in
-        (omega (arith, some_counted is_ready s k.0.number k.0.task k.1.known k.1.is refl, ap (λ n. n.ready) kept.counted, ap (λ v. (counts_of v).ready) view), few_live kept view)
+        subst (λ (l : Life). IsCounted (Some l) parts.counts) (ready_is k.0.task.life k.1.is) (is_counted s k.0.number k.0.task parts.counts k.1.known (kept.counted ∙ ap (λ v. counts_of v) view) (few_live kept view))
 
     module _ (d : slots.Content (Item V)) (t : TaskId) (inputs : List V)
-        (number : IfSome (slots.item_at (slots.without_next c) p) (λ i. t ≡ i.number))
-        (values : IfSome (slots.item_at (slots.without_next c) p) (λ i. map (λ v. Some v) inputs ≡ i.task.values))
-        (placed : IfSome (slots.item_at (slots.without_next c) p) (λ i. d ≡ slots.with_item (slots.without_next c) p (record i { task = begun i.task }))) where
-      at : slots.item_at (slots.without_next c) p ≡ Some next_item.0
+        (number : IfSome (slots.item_at (slots.without_next parts.places) p) (λ i. t ≡ i.number))
+        (values : IfSome (slots.item_at (slots.without_next parts.places) p) (λ i. map (λ v. Some v) inputs ≡ i.task.values))
+        (placed : IfSome (slots.item_at (slots.without_next parts.places) p) (λ i. d ≡ slots.with_item (slots.without_next parts.places) p (record i { task = begun i.task }))) where
+      at : slots.item_at (slots.without_next parts.places) p ≡ Some next_item.0
       at = next_item.1.at
 
       own : t ≡ next_item.0.number
@@ -141,7 +145,7 @@ module _ {V A : Type 0} {c : slots.Content (Item V)} {index : Entries} {results 
           let known : task_of s t ≡ Some k.0.task = ap (task_of s) own ∙ k.1.known in
           (ap (λ n. Some n) own ∙ k.1.next, rw known (ap (λ l. Some l) (ready_is k.0.task.life k.1.is)), rw known (at_item _ _ _ at values))
 
-      pub begun_all : (content_of d index results.items ≡ with_begun s t) × (unfinished (content_of d index results.items) ≡ unfinished s) × IsKept {V = V} {A = A} d index results (begun_counts counts)
+      pub begun_all : Leaves (record parts { places = d; counts = moved_counts parts.counts (Some Ready) Running }) (with_begun s t) (unfinished s)
       begun_all =
           let k = next_item in
           let i = k.0 in
@@ -150,11 +154,11 @@ module _ {V A : Type 0} {c : slots.Content (Item V)} {index : Entries} {results 
           let moves = begun_moves kept i p k.1.at k.1.is in
           let all = IsKept-begun kept i p k.1.at k.1.is front in
           let known : task_of s t ≡ Some i.task = ap (task_of s) own ∙ k.1.known in
-          rw (at_item _ _ _ at placed) (
-            content
+          rw (at_item _ _ _ at placed) (record {
+            content = content
                 ∙ ap (λ v. record { tasks = finite.insert v.tasks i.number.0 (begun i.task); ready = slots.without_front v.ready; results = v.results }) view
                 ∙ ap (λ n. record { tasks = finite.insert s.tasks n.0 (begun i.task); ready = slots.without_front s.ready; results = s.results }) (sym own)
-                ∙ ap (λ o. record { tasks = unwrap_or (option_map (λ x. finite.insert s.tasks t.0 (begun x)) o) s.tasks; ready = slots.without_front s.ready; results = s.results }) (sym known),
-            ap unfinished content ∙ moves.0 ∙ ap unfinished view,
-            all,
-          )
+                ∙ ap (λ o. record { tasks = unwrap_or (option_map (λ x. finite.insert s.tasks t.0 (begun x)) o) s.tasks; ready = slots.without_front s.ready; results = s.results }) (sym known);
+            count = ap unfinished content ∙ moves.0 ∙ ap unfinished view;
+            kept = all;
+          })

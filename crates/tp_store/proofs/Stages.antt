@@ -43,7 +43,8 @@ module _ {V : Type 0} (s : Content V) (t : TaskId) where
   ]
 
   -- where it is known
-  changed_goes_on : (change : Task V → Task V) → ((x : Task V) → task_of s t ≡ Some x → stage (Some x.life) ≤ stage (Some (change x).life)) → (u : TaskId) → stage (life_of s u) ≤ stage (option_map (λ y. y.life) (finite.get (changed_tasks s t change) u.0))
+  changed_goes_on : (change : Task V → Task V) → ((x : Task V) → task_of s t ≡ Some x → stage (Some x.life) ≤ stage (Some (change x).life)) → (u : TaskId)
+      → stage (life_of s u) ≤ stage (option_map (λ y. y.life) (finite.get (changed_tasks s t change) u.0))
   changed_goes_on change on u = at (task_of s t) refl
     where
       at : (o : Option (Task V)) → task_of s t ≡ o → stage (life_of s u) ≤ stage (option_map (λ y. y.life) (finite.get (unwrap_or (option_map (λ x. finite.insert s.tasks t.0 (change x)) o) s.tasks) u.0))

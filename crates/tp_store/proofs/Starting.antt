@@ -13,7 +13,7 @@ use Rattle.tp_store.specs.Content.{Task, Content, nothing_stored, unfinished, co
 use Rattle.tp_store.specs.Items.{Item}
 use Rattle.tp_store.specs.Entries.{Entries, entry_at}
 use Rattle.tp_store.specs.Sound.{IsSound, is_task}
-use Rattle.tp_store.specs.Kept.{task_under, tasks_of, number_at, content_of, IsKept}
+use Rattle.tp_store.specs.Kept.{task_under, tasks_of, Parts, number_at, content_of, IsKept}
 use Rattle.tp_store.proofs.Keeping.{get-tasks_of}
 use Rattle.tp_store.specs.declared.index.Entry.{Entry}
 use Rattle.tp_store.specs.declared.index.Entry.TheVariants.{Live}
@@ -45,19 +45,22 @@ module _ {V : Type 0} where
   }
 
 module _ {V A : Type 0} (c : slots.Content (Item V)) (index : Entries) (results : Vec (TaskId × V) A) (held : c ≡ slots.nothing_held) (none : (k : ℕ) → lookup index k ≡ None) (items : results.items ≡ []) where
+  abbrev pub new_parts : Parts V A
+  new_parts = record { places = c; index = index; results = results; counts = record { waiting = 0; ready = 0; running = 0 } }
+
   no_entry : (t : ℕ) → entry_at index t ≡ None
   no_entry t = rw (none t) (elim (nat_lt t (2 ^ 32)) as (λ b. ◌≡◌ {A = Option Entry} (if b then None else None) None) [ true ↦ refl | false ↦ refl ])
 
   no_tasks : ◌≡◌ {A = finite.FinMap nat_cmp (Task V)} (tasks_of c index) finite.empty
   no_tasks = finite.same_map nat_cmp_total finite.nat_cmp-IsAntisymmetric _ _ (λ q. get-tasks_of c index q ∙ ap (task_under c) (no_entry q) ∙ sym (finite.get-empty nat_cmp q))
 
-  pub nothing_kept : content_of c index results.items ≡ nothing_stored
+  pub nothing_kept : content_of new_parts ≡ nothing_stored
   nothing_kept = let lists : map (map (number_at c)) c.ready ≡ [] ∷ [] ∷ [] ∷ [] ∷ [] = rw held refl in λ k. record { tasks = no_tasks k; ready = lists k; results = items k }
 
   no_item : (place : ℕ) → slots.item_at c place ≡ None
   no_item place = rw held (finite.get-empty nat_cmp place)
 
-  pub IsKept-new : vec_len results ≡ 0 → IsKept {V = V} {A = A} c index results (record { waiting = 0; ready = 0; running = 0 })
+  pub IsKept-new : vec_len results ≡ 0 → IsKept new_parts
   IsKept-new long =
       let count : slots.held_count c ≡ 0 = rw held (finite.len-empty nat_cmp (Item V)) in
       record {

@@ -5,17 +5,16 @@ use Rattle.std.proofs.lemmas.Bool.Decides.{nat_tests}
 use Rattle.std.specs.Option.{option_map, IsSomeAnd}
 use Rattle.std.specs.Cmp.{nat_cmp_total}
 use Rattle.std.specs.FinMap as finite
-use Rattle.std.specs.declared.vec.Vec.{Vec}
 use Rattle.std.proofs.lemmas.List.{length-set, get_or-replicate}
 use Rattle.std.proofs.lemmas.List.Sums.{sum_by-cons, sum_by-set}
 use Rattle.tp_base.specs.declared.ids.TaskId.{TaskId}
 use Rattle.tp_slots.specs.Content as slots
 use Rattle.tp_slots.proofs.Sound.{IsSound-with_item, idle_with_item}
-use Rattle.tp_store.specs.Content.{Task, Content, fresh, with_value, supplied, life_lacking, refusal_of_value, refusal_of_deliver, with_delivered, delivered_to, task_of, with_task, unfinished, counts_of, is_ready, is_waiting, has_begun}
+use Rattle.tp_store.specs.Content.{Task, Content, fresh, with_value, supplied, life_lacking, refusal_of_value, refusal_of_deliver, with_delivered, delivered_to, task_of, life_of, with_task, unfinished, counts_of, is_ready, is_waiting, has_begun}
 use Rattle.tp_store.specs.Items.{Item}
-use Rattle.tp_store.specs.Entries.{Entries, entry_at}
+use Rattle.tp_store.specs.Entries.{entry_at}
 use Rattle.tp_store.specs.Sound.{IsTask, LacksSome, lacking}
-use Rattle.tp_store.specs.Kept.{task_under, number_at, content_of, with_listed, supplied_counts, IsKept}
+use Rattle.tp_store.specs.Kept.{task_under, number_at, content_of, with_listed, with_supplied, moved_counts, IsCounted, Parts, number_of, IsKept, Leaves}
 use Rattle.tp_base.specs.declared.refusal.Refusal.TheVariants.{TaskKnown, SlotTaken}
 use Rattle.tp_store.specs.declared.life.Life.{Life}
 use Rattle.tp_store.specs.declared.life.Life.TheVariants.{Waiting, Ready, Running, Done}
@@ -24,70 +23,79 @@ use Rattle.tp_store.specs.declared.life.Counts.{Counts}
 use Rattle.tp_store.specs.declared.index.Entry.TheVariants.{Live}
 use Rattle.tp_store.proofs.Filling.{lacks_life, lacking_life, not_begun_life, waiting_life, IsTask-fresh}
 use Rattle.tp_store.proofs.Reading.{seen_live, few_live}
-use Rattle.tp_store.proofs.Contents.{same_number, NotReady, waiting, IsSound-put, some_counted, counts-supplied, not_listed}
-use Rattle.tp_store.proofs.Keeping.{at_item, get-tasks_of, numbers_kept, item_here, item_there, listed_item, listed_count, listed_sound, listed_lists}
-use Rattle.tp_store.proofs.Rewriting.{live, owner, tasks, numbers, unlisted}
+use Rattle.tp_store.proofs.Contents.{same_number, NotReady, waiting, IsSound-put, counts-moved, is_counted, unfinished-same, unfinished_life, waiting_unfinished, not_listed}
+use Rattle.tp_store.proofs.Keeping.{at_item, get-tasks_of, numbers_kept, item_here, item_there, listed_item, listed_count, listed_sound, listed_lists, live, owner, tasks, numbers, unlisted}
 
-module _ {V A : Type 0} {c : slots.Content (Item V)} {index : Entries} {results : Vec (TaskId × V) A} {counts : Counts} (kept : IsKept {V = V} {A = A} c index results counts)
-    (i : Item V) (x : Task V) (p : ℕ) (at : slots.item_at c p ≡ Some i)
+module _ {V A : Type 0} {parts : Parts V A} (kept : IsKept parts)
+    (i : Item V) (x : Task V) (p : ℕ) (at : slots.item_at parts.places p ≡ Some i)
     (waits : is_waiting i.task.life ≡ true) where
   abbrev old : Content V
-  old = content_of c index results.items
+  old = content_of parts
 
   abbrev y : Item V
   y = record { number = i.number; task = x }
 
   abbrev with : slots.Content (Item V)
-  with = slots.with_item c p y
+  with = slots.with_item parts.places p y
 
   abbrev after : slots.Content (Item V)
   after = with_listed with p x
 
-  own_entry : entry_at index i.number.0 ≡ Some (Live p)
+  own_entry : entry_at parts.index i.number.0 ≡ Some (Live p)
   own_entry = kept.owner p i at
 
   pub was : task_of old i.number ≡ Some i.task
-  was = get-tasks_of c index i.number.0 ∙ ap (task_under c) own_entry ∙ ap (option_map (λ j. j.task)) at
+  was = get-tasks_of parts.places parts.index i.number.0 ∙ ap (task_under parts.places) own_entry ∙ ap (option_map (λ j. j.task)) at
 
   not_ready : NotReady (task_of old i.number)
   not_ready = subst (NotReady {V = V}) (sym was) (waiting i.task waits)
 
-  pub idle : slots.IsIdle c p
-  idle = record { taken = ap is_some at; unlisted = unlisted c index results.items p i at (λ class. kept.sound.ready class i.number ∙ not_listed (task_of old i.number) class not_ready) }
+  pub idle : slots.IsIdle parts.places p
+  idle = record { taken = ap is_some at; unlisted = unlisted parts p i at (λ class. kept.sound.ready class i.number ∙ not_listed (task_of old i.number) class not_ready) }
 
   with_idle : slots.IsIdle with p
-  with_idle = idle_with_item c p y idle
+  with_idle = idle_with_item parts.places p y idle
 
   here : slots.item_at after p ≡ Some y
-  here = listed_item (is_ready x.life) with p x.class p ∙ item_here c p y
+  here = listed_item (is_ready x.life) with p x.class p ∙ item_here parts.places p y
 
-  there : (q : ℕ) → q ≢ p → slots.item_at after q ≡ slots.item_at c q
-  there q apart = listed_item (is_ready x.life) with p x.class q ∙ item_there c p q y apart
+  there : (q : ℕ) → q ≢ p → slots.item_at after q ≡ slots.item_at parts.places q
+  there q apart = listed_item (is_ready x.life) with p x.class q ∙ item_there parts.places p q y apart
 
-  four : length c.ready ≡ 4
+  four : length parts.places.ready ≡ 4
   four = kept.lists.four
 
-  count : slots.held_count after ≡ slots.held_count c
-  count = listed_count (is_ready x.life) with p x.class ∙ finite.len-insert nat_cmp_total c.items p y ∙ ap (λ (o : Option (Item V)). cond (is_some o) (slots.held_count c) (slots.held_count c + 1)) at
+  count : slots.held_count after ≡ slots.held_count parts.places
+  count = listed_count (is_ready x.life) with p x.class ∙ finite.len-insert nat_cmp_total parts.places.items p y ∙ ap (λ (o : Option (Item V)). cond (is_some o) (slots.held_count parts.places) (slots.held_count parts.places + 1)) at
 
   module _ (task : IsTask x) (before : has_begun x.life ≡ false) where
-    ready : map (map (number_at after)) after.ready ≡ (if is_ready x.life then slots.with_last (map (map (number_at c)) c.ready) x.class i.number else map (map (number_at c)) c.ready)
+    ready : map (map (number_at after)) after.ready ≡ (if is_ready x.life then slots.with_last (map (map (number_at parts.places)) parts.places.ready) x.class i.number else map (map (number_at parts.places)) parts.places.ready)
     ready =
-        let same : map (map (number_at with)) c.ready ≡ map (map (number_at c)) c.ready = numbers_kept c with c.ready (numbers kept with i y p at (item_here c p y) (λ q apart. item_there c p q y apart) refl) in
-        let own : number_at with p ≡ i.number = ap (λ o. unwrap_or (option_map (λ j. j.number) o) (record { 0 = 0 })) (item_here c p y) in
+        let same : map (map (number_at with)) parts.places.ready ≡ map (map (number_at parts.places)) parts.places.ready = numbers_kept parts.places with parts.places.ready
+        (numbers kept with i y p at (item_here parts.places p y) (λ q apart. item_there parts.places p q y apart) refl) in
+        let own : number_at with p ≡ i.number = ap number_of (item_here parts.places p y) in
         listed_lists (is_ready x.life) with p x.class (omega (arith, task.class, four))
         ∙ ap (λ l. if is_ready x.life then slots.with_last l x.class (number_at with p) else l) same
-        ∙ ap (λ n. if is_ready x.life then slots.with_last (map (map (number_at c)) c.ready) x.class n else map (map (number_at c)) c.ready) own
+        ∙ ap (λ n. if is_ready x.life then slots.with_last (map (map (number_at parts.places)) parts.places.ready) x.class n else map (map (number_at parts.places)) parts.places.ready) own
 
-    pub supplied_content : content_of after index results.items ≡ with_task old i.number x
-    supplied_content = λ k. record { tasks = tasks kept after i y p at here there refl k; ready = ready k; results = results.items }
+    -- the store once the value is in
+    abbrev pub supplied_parts : Parts V A
+    supplied_parts = record parts { places = after; counts = moved_counts parts.counts (Some i.task.life) x.life }
 
-    pub supplied_counted : (unfinished (with_task old i.number x) ≡ unfinished old) × (supplied_counts counts (is_ready x.life) ≡ counts_of (with_task old i.number x))
-    supplied_counted = counts-supplied old i.number i.task x counts was waits before kept.counted
+    pub supplied_content : content_of supplied_parts ≡ with_task old i.number x
+    supplied_content = λ k. record { tasks = tasks kept after i y p at here there refl k; ready = ready k; results = parts.results.items }
 
-    pub IsKept-supplied : IsKept {V = V} {A = A} after index results (supplied_counts counts (is_ready x.life))
+    pub supplied_counted : (unfinished (with_task old i.number x) ≡ unfinished old) × (moved_counts parts.counts (Some i.task.life) x.life ≡ counts_of (with_task old i.number x))
+    supplied_counted =
+        let known : life_of old i.number ≡ Some i.task.life = ap (option_map (λ y. y.life)) was in
+        let next = (with_task old i.number x).ready in (
+          unfinished-same old i.number x next i.task.life known (waiting_unfinished i.task.life waits) (unfinished_life x.life before),
+          counts-moved old i.number x next old.results (Some i.task.life) known parts.counts kept.counted,
+        )
+
+    pub IsKept-supplied : IsKept supplied_parts
     IsKept-supplied = record {
-      lists = listed_sound (is_ready x.life) with p x.class (IsSound-with_item c p y kept.lists) with_idle task.class;
+      lists = listed_sound (is_ready x.life) with p x.class (IsSound-with_item parts.places p y kept.lists) with_idle task.class;
       live = live kept after i y p at here there refl;
       owner = owner kept after i y p at here there refl;
       sound = rw supplied_content (IsSound-put old i.number x kept.sound task before not_ready);
@@ -108,7 +116,8 @@ module _ {V : Type 0} where
   accepted : (x : Task V) (arity slot : ℕ) → refusal_of_value x arity slot ≡ None → (has_begun x.life ≡ false) × (x.arity ≡ arity) × (get_or x.values slot None ≡ None)
   accepted x arity slot e = go (has_begun x.life) (x.arity == arity) (get_or x.values slot None) refl refl refl e
     where
-      go : (a b : Bool) (o : Option V) → has_begun x.life ≡ a → (x.arity == arity) ≡ b → get_or x.values slot None ≡ o → (if a || not b then Some TaskKnown else (if is_some o then Some SlotTaken else None)) ≡ None → (has_begun x.life ≡ false) × (x.arity ≡ arity) × (get_or x.values slot None ≡ None)
+      go : (a b : Bool) (o : Option V) → has_begun x.life ≡ a → (x.arity == arity) ≡ b → get_or x.values slot None ≡ o
+          → (if a || not b then Some TaskKnown else (if is_some o then Some SlotTaken else None)) ≡ None → (has_begun x.life ≡ false) × (x.arity ≡ arity) × (get_or x.values slot None ≡ None)
       go true b o f g h r = cc
       go false false o f g h r = cc
       go false true (Some v) f g h r = cc
@@ -147,7 +156,8 @@ module _ {V : Type 0} where
 
   -- the first value of a new task
   pub first_value : (arity class slot : ℕ) (value : V) → arity ≤ 16 → class < 4 → slot < arity
-      → (is_waiting (fresh {V = V} arity class).life ≡ true) × (get_or (fresh {V = V} arity class).values slot None ≡ None) × IsTask (with_value (fresh arity class) slot value) × (has_begun (with_value (fresh {V = V} arity class) slot value).life ≡ false)
+      → (is_waiting (fresh {V = V} arity class).life ≡ true) × (get_or (fresh {V = V} arity class).values slot None ≡ None) × IsTask (with_value (fresh arity class) slot value)
+      × (has_begun (with_value (fresh {V = V} arity class) slot value).life ≡ false)
   first_value arity class slot value h l low =
       let waits : is_waiting (life_lacking arity) ≡ true = ap is_waiting (sym (waiting_life arity (omega arith))) in
       let free : get_or (replicate {A = Option V} arity None) slot None ≡ None = get_or-replicate arity slot None None low in
@@ -155,10 +165,10 @@ module _ {V : Type 0} where
       (waits, free, next.0, next.1)
 
 -- ---- the store
-module _ {V A : Type 0} {c : slots.Content (Item V)} {index : Entries} {results : Vec (TaskId × V) A} {counts : Counts} (kept : IsKept {V = V} {A = A} c index results counts)
-    {s : Content V} (view : content_of c index results.items ≡ s) (t : TaskId) (arity class slot : ℕ) (value : V) (p : ℕ) (stands : entry_at index t.0 ≡ Some (Live p)) (checked : refusal_of_deliver s t arity slot ≡ None) (low : slot < arity) where
+module _ {V A : Type 0} {parts : Parts V A} (kept : IsKept parts)
+    {s : Content V} (view : content_of parts ≡ s) (t : TaskId) (arity class slot : ℕ) (value : V) (p : ℕ) (stands : entry_at parts.index t.0 ≡ Some (Live p)) (checked : refusal_of_deliver s t arity slot ≡ None) (low : slot < arity) where
   pub record Known (i : Item V) : Type 0 where
-    pub at : slots.item_at c p ≡ Some i
+    pub at : slots.item_at parts.places p ≡ Some i
     pub number : i.number ≡ t
     pub known : task_of s t ≡ Some i.task
     pub waits : is_waiting i.task.life ≡ true
@@ -168,9 +178,9 @@ module _ {V A : Type 0} {c : slots.Content (Item V)} {index : Entries} {results 
     pub before : has_begun (with_value i.task slot value).life ≡ false
 
   pub known_item : (i : Item V) × Known i
-  known_item = go (slots.item_at c p) refl (kept.live t.0 p stands)
+  known_item = go (slots.item_at parts.places p) refl (kept.live t.0 p stands)
     where
-      go : (o : Option (Item V)) → slots.item_at c p ≡ o → IsSomeAnd o (λ i. i.number.0 ≡ t.0) → (i : Item V) × Known i
+      go : (o : Option (Item V)) → slots.item_at parts.places p ≡ o → IsSomeAnd o (λ i. i.number.0 ≡ t.0) → (i : Item V) × Known i
       go None e h = absurd h
       go (Some i) e h =
           let known : task_of s t ≡ Some i.task = seen_live kept view t p i stands e in
@@ -181,20 +191,19 @@ module _ {V A : Type 0} {c : slots.Content (Item V)} {index : Entries} {results 
           (i, record { at = e; number = same_number t i.number h; known = known; waits = waits; in_range = omega (arith, its.1); free = its.2; task = next.0; before = next.1 })
 
   -- the call can be made
-  pub can_supply : slots.IsIdle c p × (0 < counts.waiting) × (counts.waiting + counts.ready + counts.running ≤ 65536)
+  pub can_supply : slots.IsIdle parts.places p × IsCounted (Some known_item.0.task.life) parts.counts
   can_supply =
       let k = known_item in
-      let known : task_of (content_of c index results.items) t ≡ Some k.0.task = ap (λ v. task_of v t) view ∙ k.1.known in (
+      let known : task_of (content_of parts) t ≡ Some k.0.task = ap (λ v. task_of v t) view ∙ k.1.known in (
         idle kept k.0 k.0.task p k.1.at k.1.waits,
-        omega (arith, some_counted is_waiting (content_of c index results.items) t k.0.task known k.1.waits refl, ap (λ n. n.waiting) kept.counted),
-        few_live kept view,
+        is_counted (content_of parts) t k.0.task parts.counts known kept.counted (few_live kept view),
       )
 
   -- and what it leaves
   pub supplied_all : (d : slots.Content (Item V)) (now : Counts)
-      → IfSome (slots.item_at c p) (λ i. d ≡ with_listed (slots.with_item c p (record i { task = with_value i.task slot value })) p (with_value i.task slot value))
-      → IfSome (slots.item_at c p) (λ i. now ≡ supplied_counts counts (is_ready (with_value i.task slot value).life))
-      → (content_of d index results.items ≡ with_delivered s t arity class slot value) × (unfinished (content_of d index results.items) ≡ unfinished s) × IsKept {V = V} {A = A} d index results now
+      → IfSome (slots.item_at parts.places p) (λ i. d ≡ with_supplied parts.places p i slot value)
+      → IfSome (slots.item_at parts.places p) (λ i. now ≡ moved_counts parts.counts (Some i.task.life) (with_value i.task slot value).life)
+      → Leaves (record parts { places = d; counts = now }) (with_delivered s t arity class slot value) (unfinished s)
   supplied_all d now placed counted =
       let k = known_item in
       let i = k.0 in
@@ -202,11 +211,11 @@ module _ {V A : Type 0} {c : slots.Content (Item V)} {index : Entries} {results 
       let content = supplied_content kept i x p k.1.at k.1.waits k.1.task k.1.before in
       let moves = supplied_counted kept i x p k.1.at k.1.waits k.1.task k.1.before in
       let all = IsKept-supplied kept i x p k.1.at k.1.waits k.1.task k.1.before in
-      rw (at_item _ _ _ k.1.at placed, at_item _ _ _ k.1.at counted) (
-        content ∙ ap (λ n. with_task (content_of c index results.items) n x) k.1.number ∙ ap (λ v. with_task v t x) view ∙ ap (λ o. with_task s t (with_value (unwrap_or o (fresh arity class)) slot value)) (sym k.1.known),
-        ap unfinished content ∙ moves.0 ∙ ap unfinished view,
-        all,
-      )
+      rw (at_item _ _ _ k.1.at placed, at_item _ _ _ k.1.at counted) (record {
+        content = content ∙ ap (λ n. with_task (content_of parts) n x) k.1.number ∙ ap (λ v. with_task v t x) view ∙ ap (λ o. with_task s t (with_value (unwrap_or o (fresh arity class)) slot value)) (sym k.1.known);
+        count = ap unfinished content ∙ moves.0 ∙ ap unfinished view;
+        kept = all;
+      })
 
   pub fills : Filled ≡ delivered_to s t arity
   fills = let k = known_item in rw k.1.known refl

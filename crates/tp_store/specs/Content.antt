@@ -1,10 +1,11 @@
 -- What a store keeps: its tasks, the ready ones in four lists, and the results.
-use Rattle.std.specs.Prelude.{◌≡◌, ℕ, zero, suc, ◌-◌, ◌≤◌, ◌==◌, ◌||◌, Bool, true, false, not, List, [], ◌∷◌, ◌++◌, count_by, replicate, slice_index_or, slice_set, Option, None, Some, is_some, unwrap_or, if◌then◌else◌}
+use Rattle.std.specs.Prelude.{ℕ, zero, suc, ◌-◌, ◌≤◌, ◌==◌, ◌||◌, Bool, true, false, not, List, [], ◌∷◌, ◌++◌, count_by, replicate, slice_index_or, slice_set, Option, None, Some, is_some, unwrap_or, if◌then◌else◌}
 use Rattle.std.specs.Option.{option_map}
 use Rattle.std.specs.Ordering.{nat_cmp}
 use Rattle.std.specs.FinMap as map
 use Rattle.tp_base.specs.declared.limits.TheConstants.{MAX_LIVE_TASKS}
 use Rattle.tp_base.specs.declared.ids.TaskId.{TaskId}
+use Rattle.tp_base.specs.Checks.{Check, first_refusal}
 use Rattle.tp_base.specs.declared.refusal.Refusal.{Refusal}
 use Rattle.tp_base.specs.declared.refusal.Refusal.TheVariants.{TaskKnown, NoTask, WrongLife, SlotTaken, StoreFull}
 use Rattle.tp_slots.specs.Content.{without_front, with_last}
@@ -70,11 +71,13 @@ stage (Some Ready) = 2
 stage (Some Running) = 3
 stage (Some Done) = 4
 
+-- a task is recorded as done where it was inserted and runs
+abbrev pub done_checks : Option Life → List Check
+done_checks life = (not (is_some life), NoTask) ∷ (not (unwrap_or (option_map is_running life) false), WrongLife) ∷ []
+
 -- why a task of this life is not recorded as done
 abbrev pub refusal_of_done : Option Life → Option Refusal
-refusal_of_done None = Some NoTask
-refusal_of_done (Some Running) = None
-refusal_of_done (Some _) = Some WrongLife
+refusal_of_done life = first_refusal (done_checks life)
 
 -- how many tasks a delivery inserts
 abbrev pub inserted_by : Delivered → ℕ
@@ -124,17 +127,26 @@ module _ {V : Type 0} where
   counts_of c = record { waiting = count_lives is_waiting c; ready = count_lives is_ready c; running = count_lives is_running c }
 
   -- ---- why a call is refused, want of memory apart
-  -- an unknown task is not inserted
-  abbrev pub refusal_of_new : Content V → Option Refusal
-  refusal_of_new c = if unfinished c == MAX_LIVE_TASKS then Some StoreFull else None
+  -- an unknown task is inserted where the store is not full
+  abbrev pub new_checks : Content V → List Check
+  new_checks c = (unfinished c == MAX_LIVE_TASKS, StoreFull) ∷ []
 
-  -- a known task does not take a value, in the order of the checks
+  -- a known task takes a value before it begins, and each slot takes one
+  abbrev pub value_checks : Task V → ℕ → ℕ → List Check
+  value_checks x arity slot = (has_begun x.life || not (x.arity == arity), TaskKnown) ∷ (is_some (slice_index_or x.values slot None), SlotTaken) ∷ []
+
+  -- a task is inserted once
+  abbrev pub insert_checks : Content V → TaskId → List Check
+  insert_checks c t = (is_some (task_of c t), TaskKnown) ∷ new_checks c
+
+  abbrev pub refusal_of_new : Content V → Option Refusal
+  refusal_of_new c = first_refusal (new_checks c)
+
   abbrev pub refusal_of_value : Task V → ℕ → ℕ → Option Refusal
-  refusal_of_value x arity slot =
-      if has_begun x.life || not (x.arity == arity) then Some TaskKnown else (if is_some (slice_index_or x.values slot None) then Some SlotTaken else None)
+  refusal_of_value x arity slot = first_refusal (value_checks x arity slot)
 
   abbrev pub refusal_of_insert : Content V → TaskId → Option Refusal
-  refusal_of_insert c t = if is_some (task_of c t) then Some TaskKnown else refusal_of_new c
+  refusal_of_insert c t = first_refusal (insert_checks c t)
 
   abbrev pub refusal_of_deliver : Content V → TaskId → ℕ → ℕ → Option Refusal
   refusal_of_deliver c t arity slot = unwrap_or (option_map (λ x. refusal_of_value x arity slot) (task_of c t)) (refusal_of_new c)

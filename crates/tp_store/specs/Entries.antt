@@ -1,5 +1,5 @@
 -- What stands under the numbers of tasks.
-use Rattle.std.specs.Prelude.{◌≡◌, ◌^◌, ℕ, nat_lt, Option, None, IsSome, unwrap_or, if◌then◌else◌}
+use Rattle.std.specs.Prelude.{◌^◌, ℕ, nat_lt, Option, None, unwrap_or, if◌then◌else◌}
 use Rattle.tp_base.specs.declared.table.Table.{Table}
 use Rattle.tp_base.specs.Table.{lookup}
 use Rattle.tp_store.specs.declared.index.Entry.{Entry}

@@ -1,5 +1,5 @@
 -- How a store keeps its content.
-use Rattle.std.specs.Prelude.{◌≡◌, ℕ, zero, suc, ◌+◌, ◌-◌, ◌^◌, ◌<◌, ◌≤◌, Bool, List, [], map as each, Option, None, Some, is_some, unwrap_or, IfSome, vec_len, vec_capacity, if◌then◌else◌}
+use Rattle.std.specs.Prelude.{◌≡◌, ℕ, zero, suc, ◌+◌, ◌-◌, ◌^◌, ◌≤◌, ◌==◌, Bool, [], map as each, Option, None, Some, unwrap_or, vec_len, vec_capacity, if◌then◌else◌}
 use Rattle.std.specs.Option.{option_map, IsSomeAnd}
 use Rattle.std.specs.Ordering.{nat_cmp}
 use Rattle.std.specs.FinMap as map
@@ -8,26 +8,43 @@ use Rattle.tp_base.specs.declared.limits.TheConstants.{MAX_LIVE_TASKS}
 use Rattle.tp_base.specs.declared.ids.TaskId.{TaskId}
 use Rattle.tp_base.specs.Table.{lookup}
 use Rattle.tp_slots.specs.Content as slots
-use Rattle.tp_store.specs.Content.{Task, Content, is_ready, unfinished, counts_of}
+use Rattle.tp_store.specs.Content.{Task, Content, with_value, is_waiting, is_ready, is_running, unfinished, counts_of}
 use Rattle.tp_store.specs.Items.{Item}
 use Rattle.tp_store.specs.Entries.{Entries, entry_at}
 use Rattle.tp_store.specs.Sound.{IsSound}
+use Rattle.tp_store.specs.declared.life.Life.{Life}
 use Rattle.tp_store.specs.declared.life.Life.TheVariants.{Done as is_over}
 use Rattle.tp_store.specs.declared.life.Counts.{Counts}
 use Rattle.tp_store.specs.declared.index.Entry.{Entry}
 use Rattle.tp_store.specs.declared.index.Entry.TheVariants.{Live, Done}
 
--- the counts with one more task, which is ready or waits
-abbrev pub entered : Counts → Bool → Counts
-entered counts is_ready = if is_ready then record counts { ready = counts.ready + 1 } else record counts { waiting = counts.waiting + 1 }
+-- how much one task adds to the count of such lives, if there is one
+abbrev pub one : (Life → Bool) → Option Life → ℕ
+one test None = 0
+one test (Some life) = if test life then 1 else 0
 
--- the counts where a waiting task gets an input, and is ready or waits for another
-abbrev pub supplied_counts : Counts → Bool → Counts
-supplied_counts counts is_ready = if is_ready then record counts { waiting = counts.waiting - 1; ready = counts.ready + 1 } else counts
+-- the counts where a task goes from one life to another; a new one had none
+abbrev pub moved_counts : Counts → Option Life → Life → Counts
+moved_counts counts was life = record {
+  waiting = counts.waiting + one is_waiting (Some life) - one is_waiting was;
+  ready = counts.ready + one is_ready (Some life) - one is_ready was;
+  running = counts.running + one is_running (Some life) - one is_running was;
+}
 
--- the counts where a ready task begins
-abbrev pub begun_counts : Counts → Counts
-begun_counts counts = record counts { ready = counts.ready - 1; running = counts.running + 1 }
+-- the task is among those that are counted
+pub record IsCounted (was : Option Life) (counts : Counts) : Type 0 where
+  pub waiting : one is_waiting was ≤ counts.waiting
+  pub ready : one is_ready was ≤ counts.ready
+  pub running : one is_running was ≤ counts.running
+  pub few : counts.waiting + counts.ready + counts.running ≤ MAX_LIVE_TASKS
+
+-- what a store is made of: the items at their places, what stands under each number, the results, and how many tasks of
+-- each life there are
+pub record Parts (V A : Type 0) : Type 0 where
+  pub places : slots.Content (Item V)
+  pub index : Entries
+  pub results : Vec (TaskId × V) A
+  pub counts : Counts
 
 module _ {V : Type 0} where
   -- what the entry under a number says of its task
@@ -51,24 +68,53 @@ module _ {V : Type 0} where
   tasks_of c index = tasks_below c index (2 ^ 32)
 
   -- the number of the task at a place
-  abbrev pub number_at : slots.Content (Item V) → ℕ → TaskId
-  number_at c place = unwrap_or (option_map (λ i. i.number) (slots.item_at c place)) (record { 0 = 0 })
+  abbrev pub number_of : Option (Item V) → TaskId
+  number_of item = unwrap_or (option_map (λ i. i.number) item) (record { 0 = 0 })
 
-  abbrev pub content_of : slots.Content (Item V) → Entries → List (TaskId × V) → Content V
-  content_of c index results = record { tasks = tasks_of c index; ready = each (each (number_at c)) c.ready; results = results }
+  abbrev pub number_at : slots.Content (Item V) → ℕ → TaskId
+  number_at c place = number_of (slots.item_at c place)
+
+  abbrev pub content_of : {A : Type 0} → Parts V A → Content V
+  content_of s = record { tasks = tasks_of s.places s.index; ready = each (each (number_at s.places)) s.places.ready; results = s.results.items }
 
   -- the same with the place of a ready task at the end of its list
   abbrev pub with_listed : slots.Content (Item V) → ℕ → Task V → slots.Content (Item V)
   with_listed c place x = if is_ready x.life then slots.with_ready c x.class place else c
 
+  -- the item lies at a place that was free, in the list of its class where its task is ready, and that place is its entry
+  pub record IsEntered (c d : slots.Content (Item V)) (index new : Entries) (item : Item V) : Type 0 where
+    pub place : ℕ
+    pub free : slots.item_at c place ≡ None
+    pub places : d ≡ with_listed (slots.with_item c place item) place item.task
+    pub entries : (t : ℕ) → entry_at new t ≡ (if t == item.number.0 then Some (Live place) else entry_at index t)
+
+  -- the item at a place has one more value, and the place is in the list of its class where that makes its task ready
+  abbrev pub with_supplied : slots.Content (Item V) → ℕ → Item V → ℕ → V → slots.Content (Item V)
+  with_supplied c place i slot value =
+      with_listed (slots.with_item c place (record i { task = with_value i.task slot value })) place (with_value i.task slot value)
+
   module _ {A : Type 0} where
     -- each task that is not done has its own place, and each item its entry; there is room for the result of each such task
-    pub record IsKept (c : slots.Content (Item V)) (index : Entries) (results : Vec (TaskId × V) A) (counts : Counts) : Type 0 where
-      pub lists : slots.IsSound c
-      pub live : (t place : ℕ) → entry_at index t ≡ Some (Live place) → IsSomeAnd (slots.item_at c place) (λ i. i.number.0 ≡ t)
-      pub owner : (place : ℕ) (i : Item V) → slots.item_at c place ≡ Some i → entry_at index i.number.0 ≡ Some (Live place)
-      pub sound : IsSound (content_of c index results.items)
-      pub held : slots.held_count c ≡ unfinished (content_of c index results.items)
-      pub within : slots.held_count c ≤ MAX_LIVE_TASKS
-      pub counted : counts ≡ counts_of (content_of c index results.items)
-      pub space : vec_len results + slots.held_count c ≤ vec_capacity results
+    pub record IsKept (s : Parts V A) : Type 0 where
+      pub lists : slots.IsSound s.places
+      pub live : (t place : ℕ) → entry_at s.index t ≡ Some (Live place) → IsSomeAnd (slots.item_at s.places place) (λ i. i.number.0 ≡ t)
+      pub owner : (place : ℕ) (i : Item V) → slots.item_at s.places place ≡ Some i → entry_at s.index i.number.0 ≡ Some (Live place)
+      pub sound : IsSound (content_of s)
+      pub held : slots.held_count s.places ≡ unfinished (content_of s)
+      pub within : slots.held_count s.places ≤ MAX_LIVE_TASKS
+      pub counted : s.counts ≡ counts_of (content_of s)
+      pub space : vec_len s.results + slots.held_count s.places ≤ vec_capacity s.results
+
+    -- the same with more room
+    pub record IsGrown (c d : slots.Content (Item V)) (index new : Entries) (results after : Vec (TaskId × V) A) : Type 0 where
+      pub places : d ≡ c
+      pub entries : (t : ℕ) → entry_at new t ≡ entry_at index t
+      pub items : after.items ≡ results.items
+      pub long : vec_len after ≡ vec_len results
+      pub capacity : vec_capacity results ≤ vec_capacity after
+
+    -- the store is kept with this content, and so many of its tasks are not done
+    pub record Leaves (new : Parts V A) (c : Content V) (live : ℕ) : Type 0 where
+      pub content : content_of new ≡ c
+      pub count : unfinished (content_of new) ≡ live
+      pub kept : IsKept new

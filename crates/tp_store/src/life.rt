@@ -1,7 +1,6 @@
-ghost use Rattle.std.specs.Prelude.{◌≡◌, ◌+◌, ◌<◌, ◌≤◌};
-ghost use Rattle.tp_store.specs.Content.{life_lacking, supplied};
-
-use tp_base::MAX_LIVE_TASKS;
+ghost use Rattle.std.specs.Prelude.{◌≡◌};
+ghost use Rattle.tp_store.specs.Content.{life_lacking, supplied, is_waiting, is_ready, is_running};
+ghost use Rattle.tp_store.specs.Kept.{one};
 
 /// What a task has come to. It goes from each of these to the next, and never back.
 #[derive(Clone, Copy, Debug, PartialEq, Eq)]
@@ -60,40 +59,34 @@ pub struct Counts {
     pub running: u32,
 }
 
+// How much a task adds to the counts, if there is one: of those that wait, are ready, and run.
+#[inline(always)]
+fn shares(life: Option<Life>) -> (u32, u32, u32)
+    ensures waiting { result.0 ≡ one is_waiting life }
+    ensures ready { result.1 ≡ one is_ready life }
+    ensures running { result.2 ≡ one is_running life }
+{
+    match life {
+        Some(Life::Waiting(_)) => (1, 0, 0),
+        Some(Life::Ready) => (0, 1, 0),
+        Some(Life::Running) => (0, 0, 1),
+        Some(Life::Done) | None => (0, 0, 0),
+    }
+}
+
 impl Counts {
-    ghost use Rattle.tp_store.specs.Kept.{entered, supplied_counts, begun_counts};
+    ghost use Rattle.tp_store.specs.Kept.{moved_counts, IsCounted};
 
-    /// One more task, which is ready or waits.
-    pub(crate) fn enter(&mut self, is_ready: bool)
-        requires { self.old.waiting + self.old.ready + self.old.running < MAX_LIVE_TASKS }
-        ensures { self.new ≡ entered self.old is_ready }
+    /// A task goes from one life to another; a new one had none.
+    #[inline(always)]
+    pub(crate) fn moved(&mut self, was: Option<Life>, life: Life)
+        requires { IsCounted was self.old }
+        ensures { self.new ≡ moved_counts self.old was life }
     {
-        if is_ready {
-            self.ready += 1;
-        } else {
-            self.waiting += 1;
-        }
-    }
-
-    /// A waiting task has one more input, and is ready or waits for another.
-    pub(crate) fn supply(&mut self, is_ready: bool)
-        requires some_wait { 0 < self.old.waiting }
-        requires limit { self.old.waiting + self.old.ready + self.old.running ≤ MAX_LIVE_TASKS }
-        ensures { self.new ≡ supplied_counts self.old is_ready }
-    {
-        if is_ready {
-            self.waiting -= 1;
-            self.ready += 1;
-        }
-    }
-
-    /// A ready task begins.
-    pub(crate) fn begin(&mut self)
-        requires some_ready { 0 < self.old.ready }
-        requires limit { self.old.waiting + self.old.ready + self.old.running ≤ MAX_LIVE_TASKS }
-        ensures { self.new ≡ begun_counts self.old }
-    {
-        self.ready -= 1;
-        self.running += 1;
+        let less = shares(was);
+        let more = shares(Some(life));
+        self.waiting = self.waiting + more.0 - less.0;
+        self.ready = self.ready + more.1 - less.1;
+        self.running = self.running + more.2 - less.2;
     }
 }

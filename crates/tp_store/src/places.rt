@@ -1,11 +1,10 @@
 //! What the store does to the items in its slots.
-ghost use Rattle.std.specs.Prelude.{◌≡◌, ◌<◌, ◌≤◌, ℕ, None, Some, ◌+◌, IfSome, IsSome, map, slice_index_or, true, ◌==◌, if◌then◌else◌};
+ghost use Rattle.std.specs.Prelude.{◌≡◌, ◌<◌, ◌≤◌, None, Some, ◌+◌, IfSome, IsSome, map, slice_index_or, true};
 ghost use Rattle.std.specs.Mem.{FitsInMemory};
 ghost use Rattle.tp_base.specs.Table.{lookup};
 ghost use Rattle.tp_slots.specs.Content.{item_at, IsTaken, IsIdle, held_count, with_item};
-ghost use Rattle.tp_store.specs.Content.{is_waiting, is_ready, with_value, begun};
-ghost use Rattle.tp_store.specs.Entries.{entry_at};
-ghost use Rattle.tp_store.specs.Kept.{with_listed, entered, supplied_counts};
+ghost use Rattle.tp_store.specs.Content.{is_waiting, with_value, begun};
+ghost use Rattle.tp_store.specs.Kept.{with_listed, with_supplied, moved_counts, IsCounted, IsEntered};
 ghost use Rattle.tp_store.specs.contracts.item.TaskItem.{the_row};
 
 use crate::index::{Entry, Index, set_entry};
@@ -30,13 +29,14 @@ pub(crate) fn supply<S: Slots<TaskItem<V>>, V: MadeWith<Global> + Drop>(
     requires waiting { IfSome (item_at (S.content slots.old) place) (λ i. is_waiting i.task.life ≡ true) }
     requires slot_in_range { IfSome (item_at (S.content slots.old) place) (λ i. slot < i.task.arity) }
     requires free { IfSome (item_at (S.content slots.old) place) (λ i. slice_index_or i.task.values slot None ≡ None) }
-    requires some_wait { 0 < counts.old.waiting }
-    requires counted { counts.old.waiting + counts.old.ready + counts.old.running ≤ MAX_LIVE_TASKS }
-    ensures content { IfSome (item_at (S.content slots.old) place) (λ i. S.content slots.new ≡ with_listed (with_item (S.content slots.old) place (record i { task = with_value i.task slot value })) place (with_value i.task slot value)) }
-    ensures counts { IfSome (item_at (S.content slots.old) place) (λ i. counts.new ≡ supplied_counts counts.old (is_ready (with_value i.task slot value).life)) }
+    requires counted { IfSome (item_at (S.content slots.old) place) (λ i. IsCounted (Some i.task.life) counts.old) }
+    ensures content { IfSome (item_at (S.content slots.old) place) (λ i. S.content slots.new ≡ with_supplied (S.content slots.old) place i slot value) }
+    ensures counts { IfSome (item_at (S.content slots.old) place) (λ i. counts.new ≡ moved_counts counts.old (Some i.task.life) (with_value i.task slot value).life) }
 {
-    slots.get_mut(place).fill(slot, value);
-    counts.supply(list_if_ready(slots, place));
+    let item = slots.get_mut(place);
+    let was = item.life();
+    item.fill(slot, value);
+    counts.moved(Some(was), list_if_ready(slots, place));
 }
 
 /// The ready task at a place begins: its number, and its inputs in the order of the slots.
@@ -55,21 +55,22 @@ pub(crate) fn begin_at<S: Slots<TaskItem<V>>, V: MadeWith<Global> + Drop>(
     (item.number(), item.begin())
 }
 
-/// Puts an idle place at the end of the list of its task's class, where the task is ready, and answers whether it is.
+/// Puts an idle place at the end of the list of its task's class, where the task is ready, and answers the task's life.
 #[inline(always)]
-pub(crate) fn list_if_ready<S: Slots<TaskItem<V>>, V>(slots: &mut S, place: Place) -> bool
+pub(crate) fn list_if_ready<S: Slots<TaskItem<V>>, V>(slots: &mut S, place: Place) -> Life
     requires fits { FitsInMemory (the_row V.row) }
     requires idle { IsIdle (S.content slots.old) place }
-    ensures ready { IfSome (item_at (S.content slots.old) place) (λ i. result ≡ is_ready i.task.life) }
+    ensures life { IfSome (item_at (S.content slots.old) place) (λ i. result ≡ i.task.life) }
     ensures content { IfSome (item_at (S.content slots.old) place) (λ i. S.content slots.new ≡ with_listed (S.content slots.old) place i.task) }
 {
     let item = slots.get(place);
-    if item.life() != Life::Ready {
-        return false;
+    let life = item.life();
+    if life != Life::Ready {
+        return life;
     }
     let class = item.class();
     slots.push_ready(place, class);
-    true
+    life
 }
 
 /// Takes a task that has not begun into the slots, and lists it where it is ready.
@@ -83,14 +84,14 @@ pub(crate) fn enter<S: Slots<TaskItem<V>>, V>(
     requires room { 0 < S.room slots.old }
     requires entry { IsSome (lookup index.old item.number.0) }
     requires counted { counts.old.waiting + counts.old.ready + counts.old.running ≡ held_count (S.content slots.old) }
-    ensures place { (place : ℕ) × (item_at (S.content slots.old) place ≡ None) × (S.content slots.new ≡ with_listed (with_item (S.content slots.old) place item) place item.task) × ((q : ℕ) → entry_at index.new q ≡ (if q == item.number.0 then Some (Entry.Live place) else entry_at index.old q)) }
-    ensures counts { counts.new ≡ entered counts.old (is_ready item.task.life) }
+    ensures entered { IsEntered (S.content slots.old) (S.content slots.new) index.old index.new item }
+    ensures counts { counts.new ≡ moved_counts counts.old None item.task.life }
     ensures not_full { held_count (S.content slots.old) < MAX_LIVE_TASKS }
 {
     let number = item.number();
     let place = slots.take_reserved(item);
     set_entry(index, number, Entry::Live(place));
-    counts.enter(list_if_ready(slots, place));
+    counts.moved(None, list_if_ready(slots, place));
 }
 
 /// Takes a task that waits into the slots, puts a value into its free slot there, and lists it where that was its last.
@@ -108,8 +109,8 @@ pub(crate) fn enter_with<S: Slots<TaskItem<V>>, V: MadeWith<Global> + Drop>(
     requires waiting { is_waiting item.task.life ≡ true }
     requires slot_in_range { slot < item.task.arity }
     requires free { slice_index_or item.task.values slot None ≡ None }
-    ensures place { (place : ℕ) × (item_at (S.content slots.old) place ≡ None) × (S.content slots.new ≡ with_listed (with_item (S.content slots.old) place (record item { task = with_value item.task slot value })) place (with_value item.task slot value)) × ((q : ℕ) → entry_at index.new q ≡ (if q == item.number.0 then Some (Entry.Live place) else entry_at index.old q)) }
-    ensures counts { counts.new ≡ entered counts.old (is_ready (with_value item.task slot value).life) }
+    ensures entered { IsEntered (S.content slots.old) (S.content slots.new) index.old index.new (record item { task = with_value item.task slot value }) }
+    ensures counts { counts.new ≡ moved_counts counts.old None (with_value item.task slot value).life }
     ensures not_full { held_count (S.content slots.old) < MAX_LIVE_TASKS }
 {
     let number = item.number();
@@ -117,5 +118,5 @@ pub(crate) fn enter_with<S: Slots<TaskItem<V>>, V: MadeWith<Global> + Drop>(
     // The value comes once the item lies where it stays, so that the item moves once.
     slots.get_mut(place).fill(slot, value);
     set_entry(index, number, Entry::Live(place));
-    counts.enter(list_if_ready(slots, place));
+    counts.moved(None, list_if_ready(slots, place));
 }

@@ -1,9 +1,10 @@
 //! The room that is made for a new task.
-ghost use Rattle.std.specs.Prelude.{◌≡◌, ◌<◌, ◌≤◌, ◌+◌, ℕ, None, IsSome, IsTrue, IsOk, OnOk, IfOk, IfErr, vec_len, vec_capacity};
+ghost use Rattle.std.specs.Prelude.{◌≡◌, ◌<◌, ◌≤◌, ◌+◌, None, IsSome, IsTrue, IsOk, OnOk, IfOk, IfErr, vec_len, vec_capacity};
 ghost use Rattle.tp_base.specs.Table.{lookup, has_place};
 ghost use Rattle.tp_slots.specs.Content.{held_count, refusal_of_take};
 ghost use Rattle.tp_store.specs.Content.{fresh};
 ghost use Rattle.tp_store.specs.Entries.{entry_at};
+ghost use Rattle.tp_store.specs.Kept.{IsGrown};
 
 use crate::index::{Index, make_room};
 use crate::item::TaskItem;
@@ -28,14 +29,10 @@ pub(crate) fn make_item<S: Slots<TaskItem<V>>, V: MadeWith<Global> + Drop>(
     requires class_in_range { class < CLASSES }
     requires unknown { entry_at index.old task.0 ≡ None }
     ensures item { IfOk result (λ i. i ≡ record { number = task; task = fresh arity class }) }
-    ensures slots { S.content slots.new ≡ S.content slots.old }
+    ensures grown { IsGrown (S.content slots.old) (S.content slots.new) index.old index.new results.old results.new }
     ensures room { OnOk result (0 < S.room slots.new) }
     ensures not_full { OnOk result (held_count (S.content slots.old) < MAX_LIVE_TASKS) }
-    ensures results { results.new.items ≡ results.old.items }
-    ensures len { vec_len results.new ≡ vec_len results.old }
-    ensures capacity { vec_capacity results.old ≤ vec_capacity results.new }
     ensures space { OnOk result (vec_len results.old + more ≤ vec_capacity results.new) }
-    ensures entries { (q : ℕ) → entry_at index.new q ≡ entry_at index.old q }
     ensures entry { OnOk result (IsSome (lookup index.new task.0)) }
     ensures refusal { IfErr result (λ e. e ≡ refusal_of_take (S.content slots.old)) }
     ensures had_room { 0 < S.room slots.old → vec_len results.old + more ≤ vec_capacity results.old → IsTrue (has_place index.old task.0) → arity ≤ 4 → IsOk result }

@@ -50,13 +50,13 @@ impl<S: Slots<TaskItem<V>>, V> Model for TaskStore<S, V> {
 
     ghost use Rattle.tp_store.specs.Kept.{content_of, IsKept};
 
-    ghost view = { λ s. content_of (S.content s.slots) s.index s.results.items };
+    ghost view = { λ s. content_of (record { places = S.content s.slots; index = s.index; results = s.results; counts = s.counts }) };
 
-    ghost invariant = { λ s. IsKept (S.content s.slots) s.index s.results s.counts };
+    ghost invariant = { λ s. IsKept (record { places = S.content s.slots; index = s.index; results = s.results; counts = s.counts }) };
 }
 
 impl<S: Slots<TaskItem<V>>, V> TaskStore<S, V> {
-    ghost use Rattle.tp_store.specs.Content.{nothing_stored, task_of, life_of, values_of, unfinished, counts_of, refusal_of_new, refusal_of_insert, refusal_of_deliver, refusal_of_done, with_inserted, with_delivered, with_begun, with_done, delivered_to};
+    ghost use Rattle.tp_store.specs.Content.{nothing_stored, task_of, life_of, values_of, unfinished, counts_of, refusal_of_new, refusal_of_insert, refusal_of_deliver};
     ghost use Rattle.tp_store.specs.Sound.{IsSound};
 
     /// A store with no task. It takes no memory yet.
@@ -165,21 +165,6 @@ fn check_new(counts: &Counts) -> Result<(), Refusal>
 impl<S: Slots<TaskItem<V>> + Drop, V: Drop> TaskStore<S, V> {
     ghost use Rattle.tp_store.specs.Content.{nothing_stored};
 
-    /// Each task that is done with its result, in the order in which they were done. The rest is dropped.
-    pub fn into_results(self) -> Vec<(TaskId, V)>
-        ensures { result.items ≡ self.results }
-    {
-        let TaskStore {
-            slots: _,
-            index: _,
-            results,
-            counts: _,
-            no_item: _,
-            alloc: _,
-        } = self;
-        results
-    }
-
     /// Hands out each task that is done with its result, in the order in which they were done. The store is then as a new
     /// one. It takes no memory.
     pub fn take_results(&mut self) -> Vec<(TaskId, V)>
@@ -198,7 +183,8 @@ impl<S: Slots<TaskItem<V>> + Drop, V: Drop> TaskStore<S, V> {
 }
 
 impl<S: Slots<TaskItem<V>>, V: MadeWith<Global> + Drop> TaskStore<S, V> {
-    ghost use Rattle.tp_store.specs.Content.{task_of, life_of, values_of, unfinished, refusal_of_new, refusal_of_insert, refusal_of_deliver, refusal_of_done, with_inserted, with_delivered, with_begun, with_done, delivered_to, inserted_by, NoneGoesBack};
+    ghost use Rattle.tp_store.specs.Content.{task_of, life_of, values_of, unfinished, refusal_of_new, refusal_of_insert, refusal_of_deliver, refusal_of_done};
+    ghost use Rattle.tp_store.specs.Content.{with_inserted, with_delivered, with_begun, with_done, delivered_to, inserted_by, NoneGoesBack};
 
     /// Inserts an input-free task, ready at once. Its class is 0 to 3.
     ///
@@ -346,7 +332,7 @@ impl<S: Slots<TaskItem<V>>, V: MadeWith<Global> + Drop> TaskStore<S, V> {
             return None;
         };
         let (task, inputs) = begin_at(&mut self.slots, place);
-        self.counts.begin();
+        self.counts.moved(Some(Life::Ready), Life::Running);
         Some(Begun { task, inputs })
     }
 
@@ -376,7 +362,7 @@ impl<S: Slots<TaskItem<V>>, V: MadeWith<Global> + Drop> TaskStore<S, V> {
         let _ = self.slots.give_back(place);
         set_entry(&mut self.index, task, entry);
         self.results.push_reserved((task, value));
-        self.counts.running -= 1;
+        self.counts.moved(Some(Life::Running), Life::Done);
         Ok(())
     }
 }

@@ -1,5 +1,5 @@
 use Rattle.std.proofs.Common.{false, arith}
-use Rattle.tp_store.proofs.Spread.{count_set-take_more}
+use Rattle.tp_store.proofs.Filling.{count_set-take_more}
 use Rattle.tp_store.proofs.item.count_set.Goals as goal
 use Rattle.tp_store.proofs.item.count_set.Goals.{then-is_set, else-is_set}
 

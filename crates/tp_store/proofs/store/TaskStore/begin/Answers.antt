@@ -14,7 +14,7 @@ pub returns-in_default : goal.returns-in_default
 returns-in_default g c =
     let s = c.self.inside in
     let same = c.in_default.ensures.content ∙ same_slots c.self.invariant c.self.view_is (sym c.in_default.ensures.next) in
-    let content = ap (λ d. content_of d s.index s.results.items) same ∙ c.self.view_is in
+    let content = ap (λ d. content_of (record { places = d; index = s.index; results = s.results; counts = s.counts })) same ∙ c.self.view_is in
     record {
       next = none_next c.self.invariant c.self.view_is (sym c.in_default.ensures.next);
       life = tt;
@@ -30,24 +30,26 @@ begin_at-inputs-requires g c =
     let can = can_begin c.self.invariant c.self.view_is c.in-Some.place c.in-Some.ensures.next in
     (search rules, (search rules, rw c.in-Some.ensures.content (can.0, can.1)))
 
-pub begin-requires : goal.begin-requires
-begin-requires g c =
-    let some = some_ready c.self.invariant c.self.view_is c.in-Some.place c.in-Some.ensures.next in
-    record { some_ready = some.0; limit = some.1 }
+pub moved-requires : goal.moved-requires
+moved-requires g c = some_ready c.self.invariant c.self.view_is c.in-Some.place c.in-Some.ensures.next
 
 pub invariant_of-self-2 : goal.invariant_of-self-2
 invariant_of-self-2 g c =
-    rw c.begin.ensures (begun_all c.self.invariant c.self.view_is c.in-Some.place c.in-Some.ensures.next (g.S.Slots.content c.begin_at-inputs.new.slots) c.begin_at-inputs.result.0 c.begin_at-inputs.result.1.items (rw c.in-Some.ensures.content at c.begin_at-inputs.ensures.number) (rw c.in-Some.ensures.content at c.begin_at-inputs.ensures.inputs) (rw c.in-Some.ensures.content at c.begin_at-inputs.ensures.content)).2
+    rw c.moved.ensures (begun_all c.self.invariant c.self.view_is c.in-Some.place c.in-Some.ensures.next (g.S.Slots.content c.begin_at-inputs.new.slots) c.begin_at-inputs.result.0 c.begin_at-inputs.result.1.items (rw c.in-Some.ensures.content at c.begin_at-inputs.ensures.number) (rw c.in-Some.ensures.content at c.begin_at-inputs.ensures.inputs) (rw c.in-Some.ensures.content at c.begin_at-inputs.ensures.content)).kept
 
 pub returns : goal.returns
 returns g c =
-    let all = begun_all c.self.invariant c.self.view_is c.in-Some.place c.in-Some.ensures.next (g.S.Slots.content c.begin_at-inputs.new.slots) c.begin_at-inputs.result.0 c.begin_at-inputs.result.1.items (rw c.in-Some.ensures.content at c.begin_at-inputs.ensures.number) (rw c.in-Some.ensures.content at c.begin_at-inputs.ensures.inputs) (rw c.in-Some.ensures.content at c.begin_at-inputs.ensures.content) in
-    let told = begins c.self.invariant c.self.view_is c.in-Some.place c.in-Some.ensures.next (g.S.Slots.content c.begin_at-inputs.new.slots) c.begin_at-inputs.result.0 c.begin_at-inputs.result.1.items (rw c.in-Some.ensures.content at c.begin_at-inputs.ensures.number) (rw c.in-Some.ensures.content at c.begin_at-inputs.ensures.inputs) (rw c.in-Some.ensures.content at c.begin_at-inputs.ensures.content) in
+    let all = begun_all c.self.invariant c.self.view_is c.in-Some.place c.in-Some.ensures.next
+    (g.S.Slots.content c.begin_at-inputs.new.slots) c.begin_at-inputs.result.0 c.begin_at-inputs.result.1.items (rw c.in-Some.ensures.content at c.begin_at-inputs.ensures.number)
+    (rw c.in-Some.ensures.content at c.begin_at-inputs.ensures.inputs) (rw c.in-Some.ensures.content at c.begin_at-inputs.ensures.content) in
+    let told = begins c.self.invariant c.self.view_is c.in-Some.place c.in-Some.ensures.next (g.S.Slots.content c.begin_at-inputs.new.slots) c.begin_at-inputs.result.0 c.begin_at-inputs.result.1.items
+    (rw c.in-Some.ensures.content at c.begin_at-inputs.ensures.number) (rw c.in-Some.ensures.content at c.begin_at-inputs.ensures.inputs)
+    (rw c.in-Some.ensures.content at c.begin_at-inputs.ensures.content) in
     record {
       next = told.0;
       life = told.1;
       inputs = told.2;
-      content = all.0;
-      unfinished = all.1;
-      lives = subst (λ v. NoneGoesBack c.args.self.now v) (sym all.0) (begun_goes_on c.args.self.now c.begin_at-inputs.result.0 told.1);
+      content = all.content;
+      unfinished = all.count;
+      lives = subst (λ v. NoneGoesBack c.args.self.now v) (sym all.content) (begun_goes_on c.args.self.now c.begin_at-inputs.result.0 told.1);
     }

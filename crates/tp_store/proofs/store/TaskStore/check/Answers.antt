@@ -20,7 +20,8 @@ returns-in-Some-Done g c =
 
 pub returns-in-None : goal.returns-in-None
 returns-in-None g c =
-    deliver_unknown c.args.self.now c.args.task c.check_new.result c.args.arity c.args.slot (seen c.self.invariant c.self.view_is c.args.task None (sym c.entry_of.ensures ∙ c.in-None.is)) (new_answer c.self.invariant c.self.view_is c.check_new.result c.check_new.ensures.ok c.check_new.ensures.err)
+    deliver_unknown c.args.self.now c.args.task c.check_new.result c.args.arity c.args.slot (seen c.self.invariant c.self.view_is c.args.task None (sym c.entry_of.ensures ∙ c.in-None.is))
+    (new_answer c.self.invariant c.self.view_is c.check_new.result c.check_new.ensures.ok c.check_new.ensures.err)
 
 pub get-requires : goal.get-requires
 get-requires g c =

@@ -1,4 +1,4 @@
-use Rattle.std.proofs.Common.{None, ap, sym, refl, ◌∙◌}
+use Rattle.std.proofs.Common.{None, sym, refl, ◌∙◌}
 use Rattle.tp_store.proofs.Reading.{seen, known, few_live, new_answer, insert_known, insert_unknown}
 use Rattle.tp_store.proofs.store.TaskStore.check_insert.Goals as goal
 
@@ -12,4 +12,5 @@ returns-in-Some g c =
 
 pub returns-in-None : goal.returns-in-None
 returns-in-None g c =
-    insert_unknown c.args.self.now c.args.task c.check_new.result (seen c.self.invariant c.self.view_is c.args.task None (sym c.entry_of.ensures ∙ c.in-None.is)) (new_answer c.self.invariant c.self.view_is c.check_new.result c.check_new.ensures.ok c.check_new.ensures.err)
+    insert_unknown c.args.self.now c.args.task c.check_new.result (seen c.self.invariant c.self.view_is c.args.task None (sym c.entry_of.ensures ∙ c.in-None.is))
+    (new_answer c.self.invariant c.self.view_is c.check_new.result c.check_new.ensures.ok c.check_new.ensures.err)

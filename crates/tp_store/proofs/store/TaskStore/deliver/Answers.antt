@@ -1,13 +1,15 @@
-use Rattle.std.proofs.Common.{Some, None, unwrap_or, rules, refl, subst, ap, sym, ◌∙◌, arith}
+use Rattle.std.proofs.Common.{◌≡◌, Some, None, unwrap_or, rules, refl, subst, ap, sym, ◌∙◌, arith}
 use Rattle.tp_base.specs.declared.refusal.Refusal.TheVariants.{NoMemory}
-use Rattle.tp_store.specs.Content.{NoneGoesBack}
+use Rattle.tp_store.specs.Content.{unfinished, refusal_of_deliver, delivered_to, with_delivered, NoneGoesBack}
+use Rattle.tp_store.specs.Kept.{Leaves}
+use Rattle.tp_store.specs.declared.life.Delivered.TheVariants.{Filled}
 use Rattle.tp_store.specs.declared.index.Entry.TheVariants.{Done}
 use Rattle.tp_store.proofs.Stages.{delivered_goes_on}
 use Rattle.tp_store.proofs.Finishing.{taken_there}
-use Rattle.tp_store.proofs.Reading.{seen, seen_live, known_refusal, unknown_refusal, accepts, refuses}
-use Rattle.tp_store.proofs.Making.{inserts}
-use Rattle.tp_store.proofs.Reserving.{not_some, on_err, told_first}
+use Rattle.tp_store.proofs.Reading.{seen, seen_live, known_refusal, unknown_refusal, accepts, refuses, not_some, on_err, told_first}
+use Rattle.tp_store.proofs.Entering.{inserts}
 use Rattle.tp_store.proofs.Supplying.{known_item, can_supply, supplied_all, fills}
+use Rattle.tp_store.proofs.store.TaskStore.deliver.Given as given
 use Rattle.tp_store.proofs.store.TaskStore.deliver.Goals as goal
 
 -- ---- an unknown task
@@ -34,7 +36,8 @@ returns-in_default g c =
 pub returns-in_err-deliver_unknown-clause-refusal : goal.returns-in_err-deliver_unknown-clause-refusal
 returns-in_err-deliver_unknown-clause-refusal g c =
     let none = seen c.self.invariant c.self.view_is c.args.task None (sym c.entry_of.ensures ∙ c.in_default.is) in
-    told_first c.from_residual.result c.in_err-deliver_unknown.field-0.0 _ c.from_residual.ensures.1 (c.in_err-deliver_unknown.ensures.refusal ∙ sym (ap (λ o. unwrap_or o NoMemory) (unknown_refusal c.args.self.now c.args.task c.args.arity c.args.slot none)))
+    told_first c.from_residual.result c.in_err-deliver_unknown.field-0.0 _ c.from_residual.ensures.1
+    (c.in_err-deliver_unknown.ensures.refusal ∙ sym (ap (λ o. unwrap_or o NoMemory) (unknown_refusal c.args.self.now c.args.task c.args.arity c.args.slot none)))
 
 pub returns-in_err-deliver_unknown-clause-no_growth : goal.returns-in_err-deliver_unknown-clause-no_growth
 returns-in_err-deliver_unknown-clause-no_growth g c =
@@ -71,37 +74,47 @@ returns-in-Err-clause-no_growth g c h =
 
 pub supply-requires : goal.supply-requires
 supply-requires g c =
-    let x = seen_live c.self.invariant c.self.view_is c.args.task c.in-Live.place c.get.result.now (sym c.entry_of.ensures ∙ c.in-Some.is ∙ ap Some c.in-Live.is) c.get.ensures in
+    let stands = sym c.entry_of.ensures ∙ c.in-Some.is ∙ ap Some c.in-Live.is in
+    let x = seen_live c.self.invariant c.self.view_is c.args.task c.in-Live.place c.get.result.now stands c.get.ensures in
     let checked = known_refusal c.args.self.now c.args.task c.args.arity c.args.slot _ x ∙ accepts _ c.check.result c.in_default-check.field-0 c.check.ensures c.in_default-check.is in
-    let k = known_item c.self.invariant c.self.view_is c.args.task c.args.arity c.args.class c.args.slot c.args.value c.in-Live.place (sym c.entry_of.ensures ∙ c.in-Some.is ∙ ap Some c.in-Live.is) checked c.requires.slot_in_range in
-    let can = can_supply c.self.invariant c.self.view_is c.args.task c.args.arity c.args.class c.args.slot c.args.value c.in-Live.place (sym c.entry_of.ensures ∙ c.in-Some.is ∙ ap Some c.in-Live.is) checked c.requires.slot_in_range in
+    let k = known_item c.self.invariant c.self.view_is c.args.task c.args.arity c.args.class c.args.slot c.args.value c.in-Live.place stands checked c.requires.slot_in_range in
+    let can = can_supply c.self.invariant c.self.view_is c.args.task c.args.arity c.args.class c.args.slot c.args.value c.in-Live.place stands checked c.requires.slot_in_range in
     record {
       fits = search rules;
       idle = can.0;
       waiting = rw k.1.at k.1.waits;
       slot_in_range = rw k.1.at k.1.in_range;
       free = rw k.1.at k.1.free;
-      some_wait = can.1;
-      counted = can.2;
+      counted = rw k.1.at can.1;
     }
 
+-- what the store is with the value
+supplied_now : (g : given.Over) (c : goal.After-supply g)
+    → (refusal_of_deliver c.args.self.now c.args.task c.args.arity c.args.slot ≡ None) × (Filled ≡ delivered_to c.args.self.now c.args.task c.args.arity)
+    × Leaves (record { places = g.S.Slots.content c.supply.new.slots; index = c.self.inside.index; results = c.self.inside.results; counts = c.supply.new.counts })
+    (with_delivered c.args.self.now c.args.task c.args.arity c.args.class c.args.slot c.args.value) (unfinished c.args.self.now)
+supplied_now g c =
+    let stands = sym c.entry_of.ensures ∙ c.in-Some.is ∙ ap Some c.in-Live.is in
+    let x = seen_live c.self.invariant c.self.view_is c.args.task c.in-Live.place c.get.result.now stands c.get.ensures in
+    let checked = known_refusal c.args.self.now c.args.task c.args.arity c.args.slot _ x ∙ accepts _ c.check.result c.in_default-check.field-0 c.check.ensures c.in_default-check.is in (
+      checked,
+      fills c.self.invariant c.self.view_is c.args.task c.args.arity c.args.class c.args.slot c.args.value c.in-Live.place stands checked c.requires.slot_in_range,
+      supplied_all c.self.invariant c.self.view_is c.args.task c.args.arity c.args.class c.args.slot c.args.value c.in-Live.place stands checked c.requires.slot_in_range
+          (g.S.Slots.content c.supply.new.slots) c.supply.new.counts c.supply.ensures.content c.supply.ensures.counts,
+    )
+
 pub invariant_of-self : goal.invariant_of-self
-invariant_of-self g c =
-    let x = seen_live c.self.invariant c.self.view_is c.args.task c.in-Live.place c.get.result.now (sym c.entry_of.ensures ∙ c.in-Some.is ∙ ap Some c.in-Live.is) c.get.ensures in
-    let checked = known_refusal c.args.self.now c.args.task c.args.arity c.args.slot _ x ∙ accepts _ c.check.result c.in_default-check.field-0 c.check.ensures c.in_default-check.is in
-    (supplied_all c.self.invariant c.self.view_is c.args.task c.args.arity c.args.class c.args.slot c.args.value c.in-Live.place (sym c.entry_of.ensures ∙ c.in-Some.is ∙ ap Some c.in-Live.is) checked c.requires.slot_in_range (g.S.Slots.content c.supply.new.slots) c.supply.new.counts c.supply.ensures.content c.supply.ensures.counts).2
+invariant_of-self g c = (supplied_now g c).2.kept
 
 pub returns : goal.returns
 returns g c =
-    let x = seen_live c.self.invariant c.self.view_is c.args.task c.in-Live.place c.get.result.now (sym c.entry_of.ensures ∙ c.in-Some.is ∙ ap Some c.in-Live.is) c.get.ensures in
-    let checked = known_refusal c.args.self.now c.args.task c.args.arity c.args.slot _ x ∙ accepts _ c.check.result c.in_default-check.field-0 c.check.ensures c.in_default-check.is in
-    let all = supplied_all c.self.invariant c.self.view_is c.args.task c.args.arity c.args.class c.args.slot c.args.value c.in-Live.place (sym c.entry_of.ensures ∙ c.in-Some.is ∙ ap Some c.in-Live.is) checked c.requires.slot_in_range (g.S.Slots.content c.supply.new.slots) c.supply.new.counts c.supply.ensures.content c.supply.ensures.counts in
+    let all = supplied_now g c in
     record {
-      checked = checked;
-      answer = fills c.self.invariant c.self.view_is c.args.task c.args.arity c.args.class c.args.slot c.args.value c.in-Live.place (sym c.entry_of.ensures ∙ c.in-Some.is ∙ ap Some c.in-Live.is) checked c.requires.slot_in_range;
-      content = all.0;
-      unfinished = omega (arith, all.1);
-      lives = subst (λ v. NoneGoesBack c.args.self.now v) (sym all.0) (delivered_goes_on c.args.self.now c.args.task c.args.arity c.args.class c.args.slot c.args.value);
+      checked = all.0;
+      answer = all.1;
+      content = all.2.content;
+      unfinished = omega (arith, all.2.count);
+      lives = subst (λ v. NoneGoesBack c.args.self.now v) (sym all.2.content) (delivered_goes_on c.args.self.now c.args.task c.args.arity c.args.class c.args.slot c.args.value);
       refusal = tt;
       no_growth = tt;
       value_returned = tt;

@@ -1,10 +1,12 @@
-use Rattle.std.proofs.Common.{Some, None, subst, arith, ap, sym, refl, ◌∙◌}
+use Rattle.std.proofs.Common.{◌<◌, ◌-◌, Some, None, subst, arith, ap, sym, refl, ◌∙◌}
 use Rattle.std.specs.Option.{option_map}
-use Rattle.tp_store.specs.Content.{refusal_of_done, NoneGoesBack}
+use Rattle.tp_store.specs.Content.{unfinished, refusal_of_done, with_done, NoneGoesBack}
+use Rattle.tp_store.specs.Kept.{Leaves}
 use Rattle.tp_store.proofs.Stages.{done_goes_on}
 use Rattle.tp_store.specs.declared.index.Entry.TheVariants.{Done}
 use Rattle.tp_store.proofs.Reading.{seen}
 use Rattle.tp_store.proofs.Finishing.{life_is, can_finish, done_all, wrong_life, taken_there, has_entry}
+use Rattle.tp_store.proofs.store.TaskStore.done.Given as given
 use Rattle.tp_store.proofs.store.TaskStore.done.Goals as goal
 
 -- ---- the task does not run
@@ -27,16 +29,19 @@ returns-in-None-clause-refusal g c =
 
 pub get-item-requires : goal.get-item-requires
 get-item-requires g c =
-    taken_there c.self.invariant c.args.task c.in-Some-Live.place (sym c.entry_of.ensures ∙ c.in-Some-Live.is ∙ ap Some c.in-Some-Live.field-0-is)
+    let stands = sym c.entry_of.ensures ∙ c.in-Some-Live.is ∙ ap Some c.in-Some-Live.field-0-is in
+    taken_there c.self.invariant c.args.task c.in-Some-Live.place stands
 
 pub returns-in_default : goal.returns-in_default
 returns-in_default g c =
+    let stands = sym c.entry_of.ensures ∙ c.in-Some-Live.is ∙ ap Some c.in-Some-Live.field-0-is in
     record {
       checked = tt;
       content = tt;
       unfinished = tt;
       lives = λ t. omega arith;
-      refusal = wrong_life c.life.result c.in_default.not-Running ∙ ap (λ l. refusal_of_done (Some l)) c.life.ensures ∙ sym (ap refusal_of_done (life_is c.self.invariant c.self.view_is c.args.task c.get-item.result.now c.in-Some-Live.place (sym c.entry_of.ensures ∙ c.in-Some-Live.is ∙ ap Some c.in-Some-Live.field-0-is) c.get-item.ensures));
+      refusal = wrong_life c.life.result c.in_default.not-Running ∙ ap (λ l. refusal_of_done (Some l)) c.life.ensures
+          ∙ sym (ap refusal_of_done (life_is c.self.invariant c.self.view_is c.args.task c.get-item.result.now c.in-Some-Live.place stands c.get-item.ensures));
       value_returned = refl;
       unchanged = refl;
     }
@@ -44,32 +49,56 @@ returns-in_default g c =
 -- ---- it runs
 pub give_back-requires : goal.give_back-requires
 give_back-requires g c =
-    (can_finish c.self.invariant c.self.view_is c.args.task c.get-item.result.now c.in-Some-Live.place (sym c.entry_of.ensures ∙ c.in-Some-Live.is ∙ ap Some c.in-Some-Live.field-0-is) c.get-item.ensures (sym c.life.ensures ∙ c.in-Running.is)).0
+    let stands = sym c.entry_of.ensures ∙ c.in-Some-Live.is ∙ ap Some c.in-Some-Live.field-0-is in
+    let runs = sym c.life.ensures ∙ c.in-Running.is in
+    (can_finish c.self.invariant c.self.view_is c.args.task c.get-item.result.now c.in-Some-Live.place stands c.get-item.ensures runs).0
 
 pub set_entry-requires : goal.set_entry-requires
 set_entry-requires g c =
-    has_entry c.self.invariant c.args.task c.in-Some-Live.place (can_finish c.self.invariant c.self.view_is c.args.task c.get-item.result.now c.in-Some-Live.place (sym c.entry_of.ensures ∙ c.in-Some-Live.is ∙ ap Some c.in-Some-Live.field-0-is) c.get-item.ensures (sym c.life.ensures ∙ c.in-Running.is)).1
+    let stands = sym c.entry_of.ensures ∙ c.in-Some-Live.is ∙ ap Some c.in-Some-Live.field-0-is in
+    let runs = sym c.life.ensures ∙ c.in-Running.is in
+    has_entry c.self.invariant c.args.task c.in-Some-Live.place
+    (can_finish c.self.invariant c.self.view_is c.args.task c.get-item.result.now c.in-Some-Live.place stands c.get-item.ensures runs).1
 
 pub push_reserved-requires : goal.push_reserved-requires
 push_reserved-requires g c =
-    (can_finish c.self.invariant c.self.view_is c.args.task c.get-item.result.now c.in-Some-Live.place (sym c.entry_of.ensures ∙ c.in-Some-Live.is ∙ ap Some c.in-Some-Live.field-0-is) c.get-item.ensures (sym c.life.ensures ∙ c.in-Running.is)).2
+    let stands = sym c.entry_of.ensures ∙ c.in-Some-Live.is ∙ ap Some c.in-Some-Live.field-0-is in
+    let runs = sym c.life.ensures ∙ c.in-Running.is in
+    (can_finish c.self.invariant c.self.view_is c.args.task c.get-item.result.now c.in-Some-Live.place stands c.get-item.ensures runs).2
 
-pub overflow_sub-self : goal.overflow_sub-self
-overflow_sub-self g c =
-    (can_finish c.self.invariant c.self.view_is c.args.task c.get-item.result.now c.in-Some-Live.place (sym c.entry_of.ensures ∙ c.in-Some-Live.is ∙ ap Some c.in-Some-Live.field-0-is) c.get-item.ensures (sym c.life.ensures ∙ c.in-Running.is)).3
+pub moved-requires : goal.moved-requires
+moved-requires g c =
+    let stands = sym c.entry_of.ensures ∙ c.in-Some-Live.is ∙ ap Some c.in-Some-Live.field-0-is in
+    let runs = sym c.life.ensures ∙ c.in-Running.is in
+    (can_finish c.self.invariant c.self.view_is c.args.task c.get-item.result.now c.in-Some-Live.place stands c.get-item.ensures runs).3
+
+-- what the store is with the task done
+done_now : (g : given.Over) (c : goal.After-moved g)
+    → (0 < unfinished c.args.self.now) × Leaves
+    (record { places = g.S.Slots.content c.give_back.new.self; index = c.set_entry.new.index; results = c.push_reserved.new.self; counts = c.moved.new.self })
+    (with_done c.args.self.now c.args.task c.args.value) (unfinished c.args.self.now - 1)
+done_now g c =
+    let stands = sym c.entry_of.ensures ∙ c.in-Some-Live.is ∙ ap Some c.in-Some-Live.field-0-is in
+    let runs = sym c.life.ensures ∙ c.in-Running.is in
+    rw c.moved.ensures (done_all c.self.invariant c.self.view_is c.args.task c.get-item.result.now c.in-Some-Live.place stands c.get-item.ensures runs
+    (g.S.Slots.content c.give_back.new.self) c.set_entry.new.index c.push_reserved.new.self c.args.value (Done c.arity.result c.class.result) c.give_back.ensures.content
+    (ap (λ n. Done n c.class.result) c.arity.ensures
+    ∙ ap (λ n. Done c.get-item.result.now.task.arity n) c.class.ensures.value) c.set_entry.ensures.entries c.push_reserved.ensures.items c.push_reserved.ensures.len c.push_reserved.ensures.capacity)
 
 pub invariant_of-self : goal.invariant_of-self
-invariant_of-self g c =
-    (done_all c.self.invariant c.self.view_is c.args.task c.get-item.result.now c.in-Some-Live.place (sym c.entry_of.ensures ∙ c.in-Some-Live.is ∙ ap Some c.in-Some-Live.field-0-is) c.get-item.ensures (sym c.life.ensures ∙ c.in-Running.is) (g.S.Slots.content c.give_back.new.self) c.set_entry.new.index c.push_reserved.new.self c.args.value (Done c.arity.result c.class.result) c.give_back.ensures.content (ap (λ n. Done n c.class.result) c.arity.ensures ∙ ap (λ n. Done c.get-item.result.now.task.arity n) c.class.ensures.value) c.set_entry.ensures.entries c.push_reserved.ensures.items c.push_reserved.ensures.len c.push_reserved.ensures.capacity).2
+invariant_of-self g c = (done_now g c).1.kept
 
 pub returns : goal.returns
 returns g c =
-    let all = done_all c.self.invariant c.self.view_is c.args.task c.get-item.result.now c.in-Some-Live.place (sym c.entry_of.ensures ∙ c.in-Some-Live.is ∙ ap Some c.in-Some-Live.field-0-is) c.get-item.ensures (sym c.life.ensures ∙ c.in-Running.is) (g.S.Slots.content c.give_back.new.self) c.set_entry.new.index c.push_reserved.new.self c.args.value (Done c.arity.result c.class.result) c.give_back.ensures.content (ap (λ n. Done n c.class.result) c.arity.ensures ∙ ap (λ n. Done c.get-item.result.now.task.arity n) c.class.ensures.value) c.set_entry.ensures.entries c.push_reserved.ensures.items c.push_reserved.ensures.len c.push_reserved.ensures.capacity in
+    let stands = sym c.entry_of.ensures ∙ c.in-Some-Live.is ∙ ap Some c.in-Some-Live.field-0-is in
+    let runs = sym c.life.ensures ∙ c.in-Running.is in
+    let all = done_now g c in
     record {
-      checked = ap refusal_of_done (life_is c.self.invariant c.self.view_is c.args.task c.get-item.result.now c.in-Some-Live.place (sym c.entry_of.ensures ∙ c.in-Some-Live.is ∙ ap Some c.in-Some-Live.field-0-is) c.get-item.ensures ∙ ap Some (sym c.life.ensures ∙ c.in-Running.is));
-      content = all.0;
-      unfinished = all.1;
-      lives = subst (λ v. NoneGoesBack c.args.self.now v) (sym all.0) (done_goes_on c.args.self.now c.args.task c.args.value);
+      checked = ap refusal_of_done
+          (life_is c.self.invariant c.self.view_is c.args.task c.get-item.result.now c.in-Some-Live.place stands c.get-item.ensures ∙ ap Some runs);
+      content = all.1.content;
+      unfinished = omega (arith, all.0, all.1.count);
+      lives = subst (λ v. NoneGoesBack c.args.self.now v) (sym all.1.content) (done_goes_on c.args.self.now c.args.task c.args.value);
       refusal = tt;
       value_returned = tt;
       unchanged = tt;

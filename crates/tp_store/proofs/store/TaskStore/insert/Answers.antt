@@ -1,7 +1,6 @@
 use Rattle.std.proofs.Common.{◌≡◌, unwrap_or, IfErr, subst, ap, sym, refl, ◌∙◌, rules, arith}
 use Rattle.tp_base.specs.declared.refusal.Refusal.TheVariants.{NoMemory}
-use Rattle.tp_store.proofs.Reading.{accepts, refuses, insertable}
-use Rattle.tp_store.proofs.Reserving.{on_ok, on_err, no_ok, told}
+use Rattle.tp_store.proofs.Reading.{accepts, refuses, insertable, on_ok, on_err, no_ok, told}
 use Rattle.tp_store.proofs.store.TaskStore.insert.Goals as goal
 
 pub insert_unknown-requires : goal.insert_unknown-requires
