@@ -1,0 +1,5 @@
+pub mod Standing
+pub mod CellsSharing
+pub mod CellsMemory
+pub mod CellsLeases
+pub mod ChainLemmas
