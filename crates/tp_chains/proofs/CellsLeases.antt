@@ -1,9 +1,9 @@
 -- The layout of a block of cells. Assumes `Logic`.
-use mathlib.Core.Path.{◌≡◌, sym, ap, ◌∙◌}
+use mathlib.Core.Path.{◌≡◌, refl, sym, ap, ◌∙◌}
 use Prim.Native.Nat.{ℕ, zero, suc, ◌+◌, ◌*◌, ◌<◌, ◌^◌}
 use native.Mathlib.Nat.{zero-mul, suc-mul}
 use native.Mathlib.Omega.{arith}
-use mathlib.Core.List.{[], ◌∷◌}
+use mathlib.Core.List.{List, [], ◌∷◌}
 use seplogic.Ra.Ura.{Ura}
 use mir.Syntax.{Ty, Args, a_type, ty_array, dcons, dnil}
 use mir.Raw.{raw as bare}
@@ -16,11 +16,12 @@ use types.Logic.{Logic, sem}
 use types.Kit.{‵, move, ◌⊛◌, ◌$◌, ◌∵◌, !, qed, by, keep, use1, split, frame, done}
 use denote.RattleType.{RattleType}
 use denote.Param.{param, bounded}
-use denote.RawPtr.{block_ptr, null_ptr}
+use denote.RawPtr.{Ptr, block_ptr, null_ptr, ◌+ₚ◌}
 use Rattle.std.specs.Prelude.{None}
 use Rattle.std.specs.Mem.{type_size}
 use Rattle.std.proofs.mem.Param.{El, R, elτ}
 use Rattle.std.proofs.alloc.Calls.{Al}
+use Rattle.tp_chains.specs.Cells.{empty_at}
 use Rattle.tp_chains.specs.CellsOwnership.{cell_owns, cells_own, row_from}
 
 -- where the product fits a word, the count is zero or the size fits too
@@ -31,6 +32,15 @@ uncapped (suc i) k h = let up = suc-mul i k in ap (λ (j : ℕ). suc i * j) (cap
 module _ (E : El) where
   abbrev pub sz : ℕ
   sz = type_size (R E)
+
+  -- where so many cells side by side lie
+  abbrev pub pointers_from : Ptr → ℕ → List Ptr
+  pointers_from p zero = []
+  pointers_from p (suc n) = p ∷ pointers_from (p +ₚ sz) n
+
+  pub row_is : (p : Ptr) (n : ℕ) → row_from (R E) p n ≡ empty_at (pointers_from p n)
+  row_is p zero = refl
+  row_is p (suc n) = ap (λ l. (p, None) ∷ l) (row_is (p +ₚ sz) n)
 
   -- the type that a block of n cells is allocated for
   abbrev pub block_ty : ℕ → Ty

@@ -4,7 +4,7 @@ use mathlib.Core.Path.{◌≡◌, refl, ap, subst}
 use Prim.Native.Nat.{ℕ, zero, suc, ◌<◌}
 use native.Mathlib.Omega.{arith}
 use mathlib.Core.List.{List, [], ◌∷◌, ◌++◌}
-use lib.ListN.{length, set}
+use lib.ListN.{length, set, take, drop}
 use seplogic.Ra.Ura.{Ura}
 use base.Fraction.{full_share}
 use mir.Val.{Val, vstruct, vcons, vnil, of_list}
@@ -154,3 +154,9 @@ module _ (E : El) {M : Type 1} {𝓤 : Ura M} (𝓛 : Logic 𝓤) where
   cells_glue [] ys = qed 𝓛 (‵ ftrue ∷ ‵ (cells_own (R E) ys) ∷ []) ∵ skip ! $ done !
   cells_glue (x ∷ xs) ys = qed 𝓛 (‵ (cells_own (R E) (x ∷ xs)) ∷ ‵ (cells_own (R E) ys) ∷ []) ∵ fsplit ! $ move ! (1 ∷ 2 ∷ []) $
       use2 𝓛 (‵ (cells_own (R E) (xs ++ ys))) (cells_glue xs ys) $ move ! (1 ∷ 0 ∷ []) $ fjoin ! $ done !
+
+  pub cells_cut : (n : ℕ) (cs : List (Cell E)) → ent 𝓤 (sem 𝓛 (cells_own (R E) cs)) (sep 𝓤 (sem 𝓛 (cells_own (R E) (take n cs))) (sem 𝓛 (cells_own (R E) (drop n cs))))
+  cells_cut zero cs = qed 𝓛 (‵ (cells_own (R E) cs) ∷ []) ∵ nothing ! $ done !
+  cells_cut (suc n) [] = qed 𝓛 (‵ ftrue ∷ []) ∵ nothing ! $ done !
+  cells_cut (suc n) (c ∷ cs) = qed 𝓛 (‵ (cells_own (R E) (c ∷ cs)) ∷ []) ∵ fsplit ! $ move ! (1 ∷ []) $
+      use1 𝓛 (‵ (cells_own (R E) (take n cs)) ⊛ ‵ (cells_own (R E) (drop n cs))) (cells_cut n cs) $ split ! $ move ! (2 ∷ 0 ∷ []) $ fjoin ! $ done !

@@ -3,3 +3,4 @@ pub mod CellsSharing
 pub mod CellsMemory
 pub mod CellsLeases
 pub mod ChainLemmas
+pub mod CellsCrossing

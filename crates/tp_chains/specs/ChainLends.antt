@@ -21,6 +21,14 @@ module _ {T : Type 0} where
   abbrev pub with_item_at : List (Ptr × Option (Slot T)) → ℕ → T → List (Ptr × Option (Slot T))
   with_item_at cells i w = slice_set cells i ((cell_at cells i).0, holding w (cell_at cells i).1)
 
+  abbrev pub vacated : Option (Slot T) → Option (Slot T)
+  vacated None = None
+  vacated (Some s) = Some (record s { item = None })
+
+  -- the cells with no item in the slot of this number
+  abbrev pub without_item_at : List (Ptr × Option (Slot T)) → ℕ → List (Ptr × Option (Slot T))
+  without_item_at cells i = slice_set cells i ((cell_at cells i).0, vacated (cell_at cells i).1)
+
 abbrev pub lends_slot_item : (R : RattleType) → MutBor (Slot R.Denot) → MutBor R.Denot → Fml
 lends_slot_item R s r = Lends (slot_row R) R s r (slot_with s.now)
 

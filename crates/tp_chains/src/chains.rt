@@ -1,12 +1,14 @@
 //! Lists that run through the slots: each slot has a pointer to the next.
-ghost use Rattle.std.specs.Prelude.{◌≡◌, ◌==◌, ℕ, List, [], ◌∷◌, ◌++◌, count_by, MatchOption, IsSome, Some, ⊤};
+ghost use Rattle.std.specs.Prelude.{◌≡◌, ◌==◌, ℕ, List, [], ◌∷◌, ◌++◌, count_by, MatchOption, IsSome, None, Some, ⊤};
 ghost use Rattle.std.specs.Borrow.{sem};
 ghost use Rattle.tp_chains.specs.Cells.{cell_at};
-ghost use Rattle.tp_chains.specs.ChainLends.{lends_slot_item, lends_item};
+ghost use Rattle.tp_chains.specs.ChainLends.{lends_slot_item, lends_item, with_item_at, without_item_at};
 ghost use Rattle.tp_chains.specs.Chains.{IsLink, item_in, with_next, IsChain, KeepsOthers};
 
 use crate::cells::{At, Cells};
 use std::alloc::AllocError;
+use std::marker::{Send, Sync};
+use std::mem::replace;
 
 /// A slot and its number.
 pub struct Link<T> {
@@ -25,6 +27,10 @@ impl<T> Clone for Link<T> {
 }
 
 impl<T> Copy for Link<T> {}
+
+unsafe impl<T> Send for Link<T> {}
+
+unsafe impl<T> Sync for Link<T> {}
 
 impl<T> Link<T> {
     pub fn at(self) -> At<Slot<T>>
@@ -76,6 +82,32 @@ pub fn item<T>(cells: &Cells<Slot<T>>, link: Link<T>) -> &T
     ensures { item_in (cell_at cells.now.cells link.place).1 ≡ Some result.now }
 {
     match &cells.get(link.at(), link.place).item {
+        Some(item) => item,
+        None => unreachable!(),
+    }
+}
+
+/// Puts the item into a slot that has none.
+pub fn put_item<T>(cells: &mut Cells<Slot<T>>, link: Link<T>, item: T)
+    requires link { IsLink cells.old.cells link }
+    requires vacant { item_in (cell_at cells.old.cells link.place).1 ≡ None }
+    ensures { cells.new.cells ≡ with_item_at cells.old.cells link.place item }
+{
+    let slot = cells.get_mut(link.at(), link.place);
+    match replace(&mut slot.item, Some(item)) {
+        None => {}
+        Some(_) => unreachable!(),
+    }
+}
+
+/// Takes the item out of a slot.
+pub fn take_item<T>(cells: &mut Cells<Slot<T>>, link: Link<T>) -> T
+    requires link { IsLink cells.old.cells link }
+    requires item { IsSome (item_in (cell_at cells.old.cells link.place).1) }
+    ensures value { item_in (cell_at cells.old.cells link.place).1 ≡ Some result }
+    ensures cells { cells.new.cells ≡ without_item_at cells.old.cells link.place }
+{
+    match cells.get_mut(link.at(), link.place).item.take() {
         Some(item) => item,
         None => unreachable!(),
     }

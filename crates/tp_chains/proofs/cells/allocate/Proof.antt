@@ -37,7 +37,7 @@ use denote.Triple.Table.{entered}
 use denote.Triple.Walked.{says, needs, Stays, stay_dropped, walk_of, ends_at, Goes-dropped, walk_Meets}
 use Rattle.std.proofs.VecSteps.Shapes.{after}
 use Rattle.std.proofs.RcSteps.{Good, word, word-Good}
-use types.Kit.{flt_l}
+use types.Kit.{flt_l, flt_i, feq_i}
 use types.Run.{bin}
 use denote.Builtin.{usize}
 use Rattle.std.proofs.mem.Param.{El, R, elτ}
@@ -63,7 +63,7 @@ use denote.Struct.Struct.{Struct, Struct-Makes}
 use denote.Struct.Declared as Declared
 use denote.Triple.Statement.{Triple}
 use denote.Triple.Call.{calls_at}
-use Rattle.std.specs.Prelude.{IfOk, Ok, Err}
+use Rattle.std.specs.Prelude.{Option, IfOk, Ok, Err}
 use Rattle.std.specs.Vec.Ownership.{FitsInBlock}
 use Rattle.std.specs.contracts.result.Result as RS
 use Rattle.std.specs.contracts.alloc.AllocError as AE
@@ -73,7 +73,8 @@ use Rattle.std.proofs.VecSteps.Shapes.{head, arm_body}
 use Rattle.std.proofs.ResultValues.{ok_of, err_of}
 use Rattle.std.proofs.RcSteps.{first_Good}
 use Rattle.tp_chains.proofs.CellsMemory.{three_val, three_of}
-use Rattle.tp_chains.proofs.CellsLeases.{sz, of_room}
+use Rattle.tp_chains.proofs.CellsLeases.{sz, of_room, pointers_from, row_is}
+use Rattle.tp_chains.specs.Cells.{empty_at}
 use Rattle.tp_chains.specs.contracts.cells.Deed as D-type
 use Rattle.tp_chains.specs.contracts.cells.allocate as F
 use Rattle.tp_chains.specs.contracts.cells.allocate.Key.{name as #self}
@@ -118,7 +119,7 @@ module _ (E : El) (Z : Al) {M : Type 1} {𝓤 : Ura M} (𝓛 : Logic 𝓤) (at_m
   abbrev Post : Val → SProp 𝓤
   Post = (walk_of 𝓛 (ended E Z) (stayed E Z) (clauses E Z 𝓛 at_mem run)).post bound
 
-  exits : (r : (Out E Z).Denot) (v : Val) → IfOk r (λ t. (t.1.cells ≡ row_from (R E) t.0.ptr len) × (t.2.at ≡ t.0.ptr) × (t.2.len ≡ len) × (t.2.alloc ≡ a) × InBlock t.0.ptr)
+  exits : (r : (Out E Z).Denot) (v : Val) → IfOk r (λ t. (t.1.cells ≡ row_from (R E) t.0.ptr len) × (t.1.cells ≡ empty_at t.2.row) × (t.2.at ≡ t.0.ptr) × (t.2.len ≡ len) × (t.2.alloc ≡ a) × InBlock t.0.ptr)
       → ent 𝓤 (⋆ 𝓛 (‵ ((Out E Z).own_val r (v ∷ [])) ∷ ‵ (flft κ q) ∷ others ∷ [])) (Post v)
   exits r v g =
       qed 𝓛 (‵ ((Out E Z).own_val r (v ∷ [])) ∷ ‵ (flft κ q) ∷ others ∷ []) ∵
@@ -146,7 +147,7 @@ module _ (E : El) (Z : Al) {M : Type 1} {𝓤 : Ura M} (𝓛 : Logic 𝓤) (at_m
       let p : Ptr = block_ptr b o in
       let base : (Bs E).Denot = record { ptr = p } in
       let cells : (Cr E).Denot = record { mark = record {}; cells = row_from (R E) p len } in
-      let deed : (Dd E Z).Denot = record { mark = record {}; at = p; len = len; alloc = a } in
+      let deed : (Dd E Z).Denot = record { mark = record {}; at = p; len = len; alloc = a; row = pointers_from E p len } in
       let made : Val = three_val (word p) mark mark in
       let typed : Good (layout (Three E Z)) made = (tt, ((tt, tt), ((tt, tt), ((tt, tt), tt)))) in
       let ok = first_Good (layout (Three E Z)) made typed in
@@ -158,12 +159,13 @@ module _ (E : El) (Z : Al) {M : Type 1} {𝓤 : Ura M} (𝓛 : Logic 𝓤) (at_m
       sets ! (agg ! (and_then ! (get ! refl) (and_then ! (get ! refl) (and_then ! (get ! refl) (no_more !))))) refl typed $
       sets_last ! (agg ! (and_then ! (lit ! tt) (and_then ! (get ! refl) (no_more !)))) refl ok $
       exec ! C Λ En (after 3 (function E Z).body) (at_ret En Post) $ sets ! (of_opd ! (get ! refl)) refl ok $
-      move ! (1 ∷ []) $ use0 𝓛 (‵ ((Mark E).own_val (tt, tt) (mark ∷ []))) (mark_made E 𝓛) $ fjoin ! $ move ! (1 ∷ []) $
+      move ! (1 ∷ []) $ feq_i ! (List (Ptr × Option (R E).Denot)) (row_from (R E) p len) (empty_at (pointers_from E p len)) (row_is E p len) $ flt_i ! (len * s) (2 ^ 63) small $ fjoin ! $ move ! (1 ∷ []) $ fjoin ! $
+      use0 𝓛 (‵ ((Mark E).own_val (tt, tt) (mark ∷ []))) (mark_made E 𝓛) $ fjoin ! $ move ! (1 ∷ []) $
       as_written ! (ty_array (elτ E) len) b o $ use1 𝓛 (‵ (cells_own (R E) cells.cells)) (of_room E 𝓛 b len o) $
       use0 𝓛 (‵ ((Mark E).own_val (tt, tt) (mark ∷ []))) (mark_made E 𝓛) $ fjoin ! $ word_made ! p $
       use3 𝓛 (‵ ((Three E Z).own_val (base, cells, deed) (made ∷ []))) (three_of 𝓛 (Bs E) (Cr E) (Dd E Z) base cells deed (word p) mark mark) $
       use1 𝓛 (‵ ((Out E Z).own_val (Ok (base, cells, deed)) (live 0 (vcons made vnil) ∷ []))) (ok_of 𝓛 (Three E Z) AE.the_row (base, cells, deed) made) $
-      returns ! (look_at ! 0 refl) $ free_all ! refl $ keep ! (0 ∷ 1 ∷ 2 ∷ []) $ by ! (exits (Ok (base, cells, deed)) (live 0 (vcons made vnil)) (refl, refl, refl, refl, tt)))
+      returns ! (look_at ! 0 refl) $ free_all ! refl $ keep ! (0 ∷ 1 ∷ 2 ∷ []) $ by ! (exits (Ok (base, cells, deed)) (live 0 (vcons made vnil)) (refl, row_is E p len, refl, refl, refl, tt)))
       (λ e.
       let Refusal : RattleType = Struct (Declared.shape AE.the_type) in
       let none : Val = live 1 (vcons (vstruct vnil) vnil) in
