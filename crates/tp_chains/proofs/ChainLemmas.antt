@@ -1,5 +1,5 @@
 -- How the changes of a chain keep it one.
-use Rattle.std.proofs.Common.{◌≡◌, ◌≢◌, ℕ, zero, suc, ◌<◌, ◌≤◌, List, [], ◌∷◌, ◌++◌, length, Option, Some, None, refl, sym, ap, subst, ◌∙◌, inl, inr, arith, append_assoc}
+use Rattle.std.proofs.Common.{◌≡◌, ◌≢◌, ℕ, zero, suc, ◌<◌, ◌≤◌, List, [], ◌∷◌, ◌++◌, length, Option, Some, None, is_some, refl, sym, ap, subst, ◌∙◌, inl, inr, arith, append_assoc}
 use Rattle.std.proofs.lemmas.Bool.{cases_eq}
 use Rattle.std.proofs.lemmas.Bool.Decides.{nat_tests}
 use Rattle.std.proofs.lemmas.List.{length-set, get_or-set_same, get_or-set_other}
@@ -79,6 +79,10 @@ module _ {T : Type 0} where
       items = λ j. elim (cases_eq j i) [
         | inl same ↦ ap (λ (c : Ptr × Option (Slot T)). item_in c.1) (ap (cell_at new) same ∙ this_cell p f) ∙ sym (ap (λ (c : Ptr × Option (Slot T)). item_in c.1) (ap (cell_at cs) same ∙ f.1))
         | inr other ↦ ap (λ (c : Ptr × Option (Slot T)). item_in c.1) (other_cell j other)
+      ];
+      full = λ j. elim (cases_eq j i) [
+        | inl same ↦ ap (λ (c : Ptr × Option (Slot T)). is_some c.1) (ap (cell_at new) same ∙ this_cell p f) ∙ sym (ap (λ (c : Ptr × Option (Slot T)). is_some c.1) (ap (cell_at cs) same ∙ f.1))
+        | inr other ↦ ap (λ (c : Ptr × Option (Slot T)). is_some c.1) (other_cell j other)
       ];
     }
 

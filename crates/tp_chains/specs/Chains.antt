@@ -1,5 +1,5 @@
 -- Lists that run through the slots.
-use Rattle.std.specs.Prelude.{◌≡◌, ℕ, ◌≤◌, ◌==◌, List, [], ◌∷◌, ◌++◌, length, count_by, slice_set, Option, None, Some}
+use Rattle.std.specs.Prelude.{◌≡◌, ℕ, ◌≤◌, ◌==◌, List, [], ◌∷◌, ◌++◌, length, count_by, slice_set, Option, None, Some, is_some}
 use denote.RawPtr.{Ptr}
 use Rattle.tp_chains.specs.Cells.{cell_at, IsFull}
 use Rattle.tp_chains.specs.declared.chains.Link.{Link}
@@ -47,9 +47,10 @@ module _ {T : Type 0} where
     pub back : IsBack cells chain.back places
     pub once : (place : ℕ) → count_by (λ x. x == place) places ≤ 1
 
-  -- the slots of the other places stay as they are, and every slot keeps its pointer and its item
+  -- the slots of the other places stay as they are, and every slot keeps its pointer and its item, if it has one
   pub record KeepsOthers (old new : List (Ptr × Option (Slot T))) (places : List ℕ) : Type 0 where
     pub long : length new ≡ length old
     pub others : (i : ℕ) → count_by (λ x. x == i) places ≡ 0 → cell_at new i ≡ cell_at old i
     pub ptrs : (i : ℕ) → (cell_at new i).0 ≡ (cell_at old i).0
     pub items : (i : ℕ) → item_in (cell_at new i).1 ≡ item_in (cell_at old i).1
+    pub full : (i : ℕ) → is_some (cell_at new i).1 ≡ is_some (cell_at old i).1
