@@ -41,6 +41,7 @@ impl<T> Link<T> {
 }
 
 /// What lies at a place.
+#[derive(Drop)]
 pub struct Slot<T> {
     pub next: Option<Link<T>>,
     pub item: Option<T>,
