@@ -48,6 +48,7 @@ pub struct Slot<T> {
 }
 
 /// The ends of a list of slots.
+#[derive(Drop)]
 pub struct Chain<T> {
     pub front: Option<Link<T>>,
     pub back: Option<Link<T>>,
