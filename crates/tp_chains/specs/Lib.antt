@@ -1,0 +1,5 @@
+pub mod Cells
+pub mod CellsOwnership
+pub mod CellsLends
+pub mod Chains
+pub mod ChainLends
