@@ -1,5 +1,6 @@
 ghost use Rattle.std.specs.Prelude.{◌≡◌, string_bytes};
 ghost use Rattle.tp_pools.specs.Pools.{registered};
+ghost use Rattle.tp_pools.specs.Runs.{is_waiting, standing_after};
 
 use std::marker::Model;
 use tp_samples::AnyGraph;
@@ -15,6 +16,18 @@ pub enum Standing {
     Over,
     /// It has ended with a fault.
     Failed,
+}
+
+impl Standing {
+    /// Where a pool stands after an answer.
+    pub(crate) fn after<T, E>(answer: &Result<T, E>) -> Self
+        ensures { result ≡ standing_after answer.now }
+    {
+        match answer {
+            Ok(_) => Standing::Over,
+            Err(_) => Standing::Failed,
+        }
+    }
 }
 
 /// A pool of a registry: its name, the graph that it works out, and where it stands.
@@ -65,5 +78,12 @@ impl Entry {
         ensures { result ≡ self.now.standing }
     {
         self.standing
+    }
+
+    /// Whether it can be run.
+    pub(crate) fn is_waiting(&self) -> bool
+        ensures { result ≡ is_waiting self.now }
+    {
+        self.standing == Standing::Registered
     }
 }

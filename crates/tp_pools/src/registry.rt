@@ -1,18 +1,20 @@
 ghost use Rattle.std.specs.Prelude.{◌≡◌, ◌≤◌, ◌++◌, ◌∷◌, [], IfErr, IfOk, MatchOption, OnErr, OnOk, length};
+ghost use Rattle.std.specs.List.{count_by};
 ghost use Rattle.std.specs.Result.{result_err};
 ghost use Rattle.tp_base.specs.Checks.{first_refusal};
 ghost use Rattle.tp_base.specs.declared.refusal.Refusal.TheVariants.{BadSpec, NoMemory, NoPool, PoolKnown, WrongLife};
 ghost use Rattle.tp_base.specs.declared.limits.TheConstants.{MAX_POOLS};
 ghost use Rattle.tp_pools.specs.Pools.{is_named, register_checks, registered, standing_checks, standing_of, with_standing};
+ghost use Rattle.tp_pools.specs.Runs.{AreSettled, graphs_to_run, is_waiting};
 ghost use Rattle.tp_pools.specs.declared.entry.Standing.TheVariants as stand;
 ghost use Rattle.tp_samples.specs.Words.{word_of};
 ghost use Rattle.tp_samples.specs.declared.any.AnyGraph.{AnyGraph};
 
 use crate::entry::{Entry, Standing};
-use std::alloc::Global;
+use std::alloc::{AllocError, Global};
 use std::marker::Model;
 use tp_base::{MAX_POOLS, PoolId, Refusal};
-use tp_samples::checked;
+use tp_samples::{AnyGraph, checked};
 
 /// At most 8 pools, in the order of registration. A pool's number is its position. A refused call changes nothing.
 #[derive(Drop)]
@@ -137,6 +139,44 @@ impl Registry {
         ensures few { length result.now ≤ MAX_POOLS }
     {
         self.pools.as_slice()
+    }
+}
+
+// A run of all registered pools.
+impl Registry {
+    /// The graphs of the registered pools, in the order of registration.
+    pub fn graphs_to_run(&self) -> Result<Vec<AnyGraph>, AllocError>
+        ensures { IfOk result (λ graphs. graphs.items ≡ graphs_to_run self.now) }
+    {
+        self.pools
+            .iter()
+            .filter(|entry| entry.is_waiting())
+            .map(|entry| entry.graph())
+            .collect(self.alloc)
+    }
+
+    /// Tells how the registered pools ended: each has an answer, in the order of registration. It is over where that is `Ok`,
+    /// and else failed. The other pools stay as they are. It takes no memory.
+    pub fn settle<T, E>(&mut self, answers: &[Result<T, E>])
+        requires { length answers.now ≡ count_by is_waiting self.old }
+        ensures { AreSettled answers.now self.old self.new }
+    {
+        settle_each(self.pools.as_mut_slice(), answers);
+    }
+}
+
+/// Tells how each registered pool ended, by the answer of its rank.
+fn settle_each<T, E>(pools: &mut [Entry], answers: &[Result<T, E>])
+    requires { length answers.now ≡ count_by is_waiting pools.old }
+    ensures { AreSettled answers.now pools.old pools.new }
+{
+    let mut answers = answers.iter();
+    for entry in pools.iter_mut() {
+        if entry.is_waiting() {
+            if let Some(answer) = answers.next() {
+                entry.standing = Standing::after(answer);
+            }
+        }
     }
 }
 

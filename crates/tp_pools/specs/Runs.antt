@@ -1,0 +1,39 @@
+-- A run of all pools that are registered: one answer for each, in their order, and how the pools stand by these afterwards.
+use Rattle.std.specs.Prelude.{ℕ, ◌≡◌, Bool, true, false, List, Option, Some, Result, Ok, Err, length, map, slice_get, take}
+use Rattle.std.specs.List.{count_by, filter}
+use Rattle.std.specs.Option.{option_map}
+use Rattle.tp_pools.specs.Pools.{Entered, Pools, is_same}
+use Rattle.tp_pools.specs.declared.entry.Standing.{Standing}
+use Rattle.tp_pools.specs.declared.entry.Standing.TheVariants.{Registered, Over, Failed}
+use Rattle.tp_samples.specs.declared.any.AnyGraph.{AnyGraph}
+
+-- it can be run
+abbrev pub is_waiting : Entered → Bool
+is_waiting p = is_same p.standing Registered
+
+-- the graphs of the pools that can be run, in the order of registration
+abbrev pub graphs_to_run : Pools → List AnyGraph
+graphs_to_run pools = map (λ p. p.graph) (filter is_waiting pools)
+
+-- how many of the pools before this position can be run: so many answers stand before that of the pool there
+abbrev pub rank : Pools → ℕ → ℕ
+rank pools i = count_by is_waiting (take i pools)
+
+module _ {X E : Type 0} where
+  -- where a pool stands after this answer
+  abbrev pub standing_after : Result X E → Standing
+  standing_after (Ok outcome) = Over
+  standing_after (Err fault) = Failed
+
+  -- the pool with the standing that this answer tells
+  abbrev pub after : Entered → Result X E → Entered
+  after p answer = record p { standing = standing_after answer }
+
+  -- There is an answer for each pool that could be run. Each of those pools stands as its answer tells, and each other as it
+  -- stood. Names and graphs are as they were.
+  pub record AreSettled (answers : List (Result X E)) (old new : Pools) : Type 0 where
+    pub each : length answers ≡ count_by is_waiting old
+    pub pools : length new ≡ length old
+    pub ran : (i : ℕ) (p : Entered) → slice_get old i ≡ Some p → is_waiting p ≡ true
+        → slice_get new i ≡ option_map (after p) (slice_get answers (rank old i))
+    pub others : (i : ℕ) (p : Entered) → slice_get old i ≡ Some p → is_waiting p ≡ false → slice_get new i ≡ Some p

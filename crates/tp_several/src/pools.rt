@@ -1,0 +1,77 @@
+ghost use Rattle.std.specs.Prelude.{◌≡◌, IfErr, IfOk, OnErr};
+ghost use Rattle.tp_base.specs.declared.refusal.Refusal.TheVariants.{NoMemory};
+ghost use Rattle.tp_several.specs.Answers.{AreRun, AreRunAnswers, IsRunAnswer};
+ghost use Rattle.tp_work.specs.Outcomes.{IsWithinLimits};
+
+use std::alloc::{AllocError, Global};
+use std::sync::Wait;
+use std::thread::{self, Threads};
+use tp_base::Refusal;
+use tp_pools::Registry;
+use tp_samples::AnyGraph;
+use tp_work::{Config, Fault, Gate, Outcome, run_pool};
+
+/// Runs each registered pool of a registry, all at once, each by threads of its own, and waits for all. The answers are those
+/// of `run_pool`, in the order of registration; the fault of one pool stops no other. Afterwards a pool that was run stands
+/// `Over` where its answer is `Ok`, and else `Failed`; the others stand as they stood.
+///
+/// Refused: `NoMemory` where there is no room for the graphs or the answers. The answers are dropped then, and the registry is
+/// as before.
+pub fn run_pools<A: Gate, R: Threads + Wait + Sync>(
+    rt: &R,
+    alloc: Global,
+    registry: &mut Registry,
+    config: Config,
+    gate: &A,
+) -> Result<Vec<Result<Outcome, Fault>>, Refusal>
+    requires limits { IsWithinLimits config }
+    ensures ran { IfOk result (λ answers. AreRun config.nodes answers.items registry.old registry.new) }
+    ensures refused { OnErr result (registry.new ≡ registry.old) }
+    ensures refusal { IfErr result (λ e. e ≡ NoMemory) }
+{
+    let graphs = registry.graphs_to_run()?;
+    let answers = run_each(rt, alloc, graphs, config, gate)?;
+    registry.settle(&answers);
+    Ok(answers)
+}
+
+/// Runs a pool of each graph, all at once.
+fn run_each<A: Gate, R: Threads + Wait + Sync>(
+    rt: &R,
+    alloc: Global,
+    graphs: Vec<AnyGraph>,
+    config: Config,
+    gate: &A,
+) -> Result<Vec<Result<Outcome, Fault>>, AllocError>
+    requires limits { IsWithinLimits config }
+    ensures { IfOk result (λ answers. AreRunAnswers config.nodes graphs.items answers.items) }
+{
+    let runner = Runner {
+        rt,
+        alloc,
+        config,
+        gate,
+    };
+    thread::map_vec(rt, graphs, &|graph| -> Result<Outcome, Fault>
+        requires { IsWithinLimits runner.config }
+        ensures { IsRunAnswer runner.entry.config.nodes graph result }
+    { runner.run(graph) })
+}
+
+/// How each pool is run.
+#[derive(Drop)]
+struct Runner<'a, A, R> {
+    rt: &'a R,
+    alloc: Global,
+    config: Config,
+    gate: &'a A,
+}
+
+impl<A: Gate, R: Threads + Wait + Sync> Runner<'_, A, R> {
+    fn run(&self, graph: AnyGraph) -> Result<Outcome, Fault>
+        requires { IsWithinLimits self.now.config }
+        ensures { IsRunAnswer self.now.config.nodes graph result }
+    {
+        run_pool(self.rt, self.alloc, graph, self.config, self.gate)
+    }
+}
