@@ -1,8 +1,10 @@
-ghost use Rattle.std.specs.Prelude.{◌≡◌, ◌<◌, ◌++◌, ◌∷◌, [], ℕ, List, length, codes, decimal, OnOk};
+ghost use Rattle.std.specs.Prelude.{◌≡◌, ◌≢◌, ◌<◌, ◌++◌, ◌∷◌, [], ℕ, List, length, codes, decimal, OnOk};
 ghost use Rattle.tp_base.specs.declared.Step.{Step};
+ghost use Rattle.tp_base.specs.declared.Step.TheVariants.{Judge};
 ghost use Rattle.tp_base.specs.declared.limits.TheConstants.{MAX_STEPS};
 ghost use Rattle.tp_text.specs.AuditText.{account, end_words, step_in, summary, IsJustified};
 ghost use Rattle.tp_text.specs.Spelling.{line};
+ghost use Rattle.tp_text.specs.Trace.{IsWritten};
 
 use crate::printing::push_count;
 use crate::traced::TraceLine;
@@ -40,19 +42,46 @@ impl Account {
     /// One line more.
     pub(crate) fn with(self, line: TraceLine) -> Account
         requires { (n : ℕ) × (past : List Step) × (self ≡ account n past) × (length past < MAX_STEPS) }
-        ensures { (n : ℕ) (past : List Step) → self ≡ account n past → IsJustified n past line → result ≡ account n (step_in line ∷ past) }
+        ensures { (n : ℕ) (past : List Step) → self ≡ account n past → IsWritten line → IsJustified n past line → result ≡ account n (step_in line ∷ past) }
     {
-        let mut more = self;
-        more.steps += 1;
         match line {
-            TraceLine::Plain(Step::Insert(_, _, _)) => more.tasks += 1,
-            TraceLine::Plain(Step::Done(_)) => more.done += 1,
-            TraceLine::Plain(Step::Send(_, _, _)) => more.messages += 1,
-            TraceLine::Plain(Step::Recv(_, _)) => more.received += 1,
-            TraceLine::Plain(_) => {}
-            TraceLine::Judged(wave) => more.ended = wave,
+            TraceLine::Plain(step) => self.with_step(step),
+            TraceLine::Judged(wave) => Account {
+                steps: self.steps + 1,
+                ended: wave,
+                ..self
+            },
         }
-        more
+    }
+
+    /// One step more, which is no judgement.
+    fn with_step(self, step: Step) -> Account
+        requires { (n : ℕ) × (past : List Step) × (self ≡ account n past) × (length past < MAX_STEPS) }
+        ensures { (n : ℕ) (past : List Step) → self ≡ account n past → step ≢ Judge → result ≡ account n (step ∷ past) }
+    {
+        let more = Account {
+            steps: self.steps + 1,
+            ..self
+        };
+        match step {
+            Step::Insert(_, _, _) => Account {
+                tasks: self.tasks + 1,
+                ..more
+            },
+            Step::Done(_) => Account {
+                done: self.done + 1,
+                ..more
+            },
+            Step::Send(_, _, _) => Account {
+                messages: self.messages + 1,
+                ..more
+            },
+            Step::Recv(_, _) => Account {
+                received: self.received + 1,
+                ..more
+            },
+            _ => more,
+        }
     }
 
     /// Writes it as four lines.

@@ -2,6 +2,7 @@ ghost use Rattle.std.specs.Prelude.{◌≡◌, ◌+◌, ◌≤◌, ◌++◌, ◌
 ghost use Rattle.tp_base.specs.declared.limits.TheConstants.{MAX_NODES};
 ghost use Rattle.tp_text.specs.AuditText.{flaw_line, summary};
 ghost use Rattle.tp_text.specs.Auditing.{IsTold, Knows};
+ghost use Rattle.tp_text.specs.Trace.{IsWritten};
 
 use crate::account::Account;
 use crate::fault::TextFault;
@@ -46,14 +47,17 @@ impl Auditor {
     /// Takes the next line, which has this number.
     pub(crate) fn take(&mut self, line: TraceLine, number: u64) -> Result<(), TextFault>
         requires { (n : ℕ) × (lines : List TraceLine) × Knows n lines self.old }
-        ensures ok { (n : ℕ) (lines : List TraceLine) → Knows n lines self.old → number ≡ length lines + 3 → OnOk result (Knows n (line ∷ lines) self.new) }
+        ensures ok { (n : ℕ) (lines : List TraceLine) → Knows n lines self.old → IsWritten line → number ≡ length lines + 3 → OnOk result (Knows n (line ∷ lines) self.new) }
         ensures err { IfErr result (λ fault. fault ≡ TextFault.Memory) }
     {
         if self.flaw.is_some() {
             return Ok(());
         }
-        match self.core.step(line.step()) {
-            Err(Refusal::NoMemory) => return Err(TextFault::Memory),
+        let answer = self.core.step(line.step());
+        if answer == Err(Refusal::NoMemory) {
+            return Err(TextFault::Memory);
+        }
+        match answer {
             Err(refusal) => self.flaw = Some((number, Flaw::Refused(refusal))),
             Ok(reply) if is_told(line, reply) => self.account = self.account.with(line),
             Ok(_) => self.flaw = Some((number, Flaw::Unjustified)),

@@ -1,4 +1,4 @@
-ghost use Rattle.std.specs.Prelude.{◌≡◌, ◌≢◌, ◌++◌, ◌∷◌, [], ℕ, List, codes, Option, MatchOption};
+ghost use Rattle.std.specs.Prelude.{◌≡◌, ◌≢◌, ◌≤◌, ◌++◌, ◌∷◌, [], ℕ, List, codes, Option, MatchOption};
 ghost use Rattle.std.specs.List.{All};
 ghost use Rattle.tp_base.specs.declared.Step.{Step};
 ghost use Rattle.tp_text.specs.Keywords.{keyword_text};
@@ -108,8 +108,17 @@ fn judge_words(text: &[u8]) -> Option<(Option<u32>, &[u8])>
         return Some((None, rest));
     }
     let (operands, rest) = operands_of(text.strip_prefix(b" ended")?)?;
+    Some((Some(wave_number(operands)?), rest))
+}
+
+/// The number of a wave, where there is this number alone. Waves are counted from 1.
+fn wave_number(operands: Operands) -> Option<u32>
+    ensures { MatchOption result
+        ((w : ℕ) → 1 ≤ w → numbers_in operands ≢ w ∷ [])
+        (λ w. (1 ≤ w) × (numbers_in operands ≡ w ∷ [])) }
+{
     match operands {
-        Operands::One(wave) if wave > 0 => Some((Some(wave), rest)),
+        Operands::One(wave) if wave > 0 => Some(wave),
         _ => None,
     }
 }
