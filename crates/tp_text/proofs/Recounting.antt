@@ -1,19 +1,15 @@
 -- The lines of a trace, taken one by one.
-use Rattle.std.proofs.Common.{◌≡◌, ◌≢◌, ℕ, ◌+◌, ◌≤◌, ◌<◌, ◌==◌, Bool, true, false, List, [], ◌∷◌, ◌++◌, length, Option, Some, None, Result, Ok, Err, refl, sym, ap, subst, ◌∙◌, append_assoc, append-nil, length-append, arith, inl, inr, codes, decimal, is_some, IsTrue, IsFalse}
-use Rattle.std.specs.Prelude.{◌↔◌, MatchOption}
+use Rattle.std.proofs.Common.{◌≡◌, ◌≢◌, ℕ, ◌+◌, ◌≤◌, ◌<◌, Bool, true, false, List, [], ◌∷◌, ◌++◌, length, Option, Some, None, Result, Ok, Err, refl, sym, ap, subst, ◌∙◌, append_assoc, append-nil, length-append, arith, inl, inr, codes, decimal, is_some}
+use Rattle.std.specs.Prelude.{MatchOption}
 use Rattle.std.specs.List.{All}
-use Rattle.tp_base.specs.declared.limits.TheConstants.{MAX_STEPS}
 use Rattle.tp_base.specs.declared.Refusal.{Refusal}
 use Rattle.tp_base.specs.declared.Refusal.TheVariants.{NoMemory}
 use Rattle.tp_base.specs.declared.Step.{Step}
 use Rattle.tp_base.specs.declared.Step.TheVariants as steps
-use Rattle.tp_wave.specs.Steps.{count}
 use Rattle.tp_wave.specs.Sums.{judgement}
 use Rattle.tp_core.specs.declared.Reply.{Reply}
-use Rattle.tp_core.specs.declared.Reply.TheVariants.{Not, Over}
 use Rattle.tp_core.specs.Accepted.{Accepted, Answers, IsRefusedFor, asks_memory, judged, refusal, reply_to}
 use Rattle.tp_core.proofs.Exact.{lawful_where_none}
-use Rattle.tp_text.specs.declared.account.Account.{Account}
 use Rattle.tp_text.specs.declared.auditor.Auditor.{Auditor}
 use Rattle.tp_text.specs.declared.auditor.Flaw.{Flaw}
 use Rattle.tp_text.specs.declared.auditor.Flaw.TheVariants as flaws
@@ -21,7 +17,7 @@ use Rattle.tp_text.specs.declared.traced.TraceLine.{TraceLine}
 use Rattle.tp_text.specs.declared.traced.TraceLine.TheVariants.{Plain, Judged}
 use Rattle.tp_text.specs.declared.verdict.Verdict.{Verdict}
 use Rattle.tp_text.specs.declared.verdict.Verdict.TheVariants.{Sound, Refused}
-use Rattle.tp_text.specs.AuditText.{account, flaw_line, steps_in, step_in, summary, taken, HasFlawAt, IsAuditText, IsFlaw, IsJustified, IsSound}
+use Rattle.tp_text.specs.AuditText.{account, flaw_line, steps_in, step_in, summary, taken, HasFlawAt, IsAuditText, IsJustified, IsSound}
 use Rattle.tp_text.specs.Auditing.{AreTaken, IsFound, IsTold, Knows}
 use Rattle.tp_text.specs.Script.{nodes_line, IsNodeCount, BeginsWithNodes}
 use Rattle.tp_text.specs.Spelling.{line}

@@ -13,10 +13,10 @@ use Rattle.tp_text.specs.declared.traced.TraceLine.TheVariants.{Plain, Judged}
 use Rattle.tp_text.specs.declared.words.Operands.{Operands}
 use Rattle.tp_text.specs.Keywords.{keyword_text}
 use Rattle.tp_text.specs.Script.{step_line, BeginsWithStep}
-use Rattle.tp_text.specs.Spelling.{IsNumber, IsSpelled, line, spaced, word_of, numbers_of}
+use Rattle.tp_text.specs.Spelling.{IsNumber, IsSpelled, spaced, word_of, numbers_of}
 use Rattle.tp_text.specs.Trace.{trace_line, words, AreWords, BeginsWithLine, IsWritten}
 use Rattle.tp_text.specs.Words.{IsWordByte, BeginsWithout, Splits, numbers_in}
-use Rattle.tp_text.proofs.NoLine.{few_numbers, is_number}
+use Rattle.tp_text.proofs.NoLine.{few_numbers}
 use Rattle.tp_text.proofs.Spelled.{line_parts, one_word, same_numbers, step_word, word_bytes, keyword_of_step, step_spelled, step_again}
 use Rattle.tp_text.proofs.Splits.{split_unique, All-nil, All-cons}
 

@@ -1,19 +1,18 @@
 -- What a sound trace says of the end.
 use Rattle.std.proofs.Common.{◌≡◌, ◌≢◌, ℕ, ◌+◌, ◌-◌, ◌≤◌, Bool, true, false, cond, ◌||◌, ◌&&◌, nat_le, if◌then◌else◌, append_assoc, List, [], ◌∷◌, ◌++◌, Option, Some, None, refl, sym, ap, subst, ◌∙◌, arith, is_some, length}
-use Rattle.std.specs.Prelude.{IsTrue, IsFalse}
+use Rattle.std.specs.Prelude.{IsFalse}
 use Rattle.std.proofs.lemmas.Bool.Decides.{nat_tests}
 use Rattle.tp_base.specs.declared.Step.{Step}
 use Rattle.tp_base.specs.declared.Step.TheVariants as steps
-use Rattle.tp_wave.specs.Cut.{visited_at}
-use Rattle.tp_wave.specs.Steps.{count, is_judge, is_start}
+use Rattle.tp_wave.specs.Steps.{is_judge, is_start}
 use Rattle.tp_wave.specs.Sums.{four_equal, judgement, is_ended, until, visit, waves}
 use Rattle.std.proofs.lemmas.Bool.{lt-leb}
 use Rattle.tp_core.specs.NeverEarly.{IsOverFrom}
 use Rattle.tp_core.specs.Run.{IsRun}
 use Rattle.tp_core.proofs.Early.{never_early}
 use Rattle.tp_text.specs.declared.traced.TraceLine.{TraceLine}
-use Rattle.tp_text.specs.declared.traced.TraceLine.TheVariants.{Plain, Judged}
-use Rattle.tp_text.specs.AuditText.{steps_in, step_in, last_judgement, AreJustified, IsSound}
+use Rattle.tp_text.specs.declared.traced.TraceLine.TheVariants.{Judged}
+use Rattle.tp_text.specs.AuditText.{steps_in, step_in, last_judgement, AreJustified}
 use Rattle.tp_text.specs.TracedEnd.{EndedIsOver, NotEndedClaimsNoEnd}
 
 -- ---- the last judge

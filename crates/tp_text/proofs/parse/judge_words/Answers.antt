@@ -1,4 +1,3 @@
-use Rattle.std.proofs.Common.{ap, sym, ◌∙◌, ◌++◌, codes}
 use Rattle.tp_text.proofs.TraceLines.{not_plain, no_words, no_operands_words, no_wave_words, ended_is}
 use Rattle.tp_text.proofs.parse.judge_words.Goals as goal
 
