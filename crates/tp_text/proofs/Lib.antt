@@ -7,3 +7,6 @@ pub mod Unique
 pub mod Printed
 pub mod Taking
 pub mod Judged
+pub mod TraceLines
+pub mod Recounting
+pub mod TracedEnds

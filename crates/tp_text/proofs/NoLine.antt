@@ -31,7 +31,7 @@ no_keyword text word a h none (s, rest, p, e) =
     let key = keyword_of_step s in
     none key.0 (words.0 ∙ key.1)
 
-few_numbers : (s : Step) → length (numbers_of s) ≤ 3
+pub few_numbers : (s : Step) → length (numbers_of s) ≤ 3
 few_numbers (steps.Insert i t k) = lit≤ tt
 few_numbers (steps.Supply t) = lit≤ tt
 few_numbers (steps.Begin t) = lit≤ tt

@@ -93,7 +93,7 @@ same_numbers (j ∷ js) (k ∷ ks) a b p q e =
     (cc, rest.1)
 
 -- the step that a word and numbers spell
-abbrev step_spelled : List ℕ → List ℕ → Step
+abbrev pub step_spelled : List ℕ → List ℕ → Step
 step_spelled w ks =
     let a = get_or ks 0 0 in let b = get_or ks 1 0 in let d = get_or ks 2 0 in
     cond (bytes_eq w (codes "insert")) (steps.Insert (record { 0 = a }) (record { 0 = b }) (record { count = d }))
@@ -111,7 +111,7 @@ step_spelled w ks =
     (cond (bytes_eq w (codes "give")) (steps.Give (record { 0 = a }))
     (cond (bytes_eq w (codes "up")) (steps.Up (record { 0 = a })) steps.Judge)))))))))))))
 
-step_again : (s : Step) → step_spelled (word_of s) (numbers_of s) ≡ s
+pub step_again : (s : Step) → step_spelled (word_of s) (numbers_of s) ≡ s
 step_again (steps.Insert i t k) = refl
 step_again (steps.Supply t) = refl
 step_again (steps.Begin t) = refl

@@ -61,14 +61,14 @@ takes_none text n rest core out found c o = record {
   short = omega (arith, ap length found.1, length-append (nodes_line n) rest);
 }
 
-step_counts : (s : Step) (behind : List ℕ) → length behind + 1 ≤ length (step_line s ++ behind)
+pub step_counts : (s : Step) (behind : List ℕ) → length behind + 1 ≤ length (step_line s ++ behind)
 step_counts s behind = omega (arith, length-append (spelling s) (10 ∷ []), length-append (step_line s) behind)
 
 pub shorter : (s : Step) (rest behind : List ℕ) → rest ≡ step_line s ++ behind → length behind < length rest
 shorter s rest behind e = omega (arith, ap length e, step_counts s behind)
 
 -- nothing is left of the text
-is_over : (rest : List ℕ) → length rest ≡ 0 → rest ≡ []
+pub is_over : (rest : List ℕ) → length rest ≡ 0 → rest ≡ []
 is_over [] e = refl
 is_over (b ∷ rest) e = absurd (omega arith)
 

@@ -6,3 +6,7 @@ pub mod Input
 pub mod SimText
 pub mod Printed
 pub mod Ended
+pub mod Trace
+pub mod AuditText
+pub mod TracedEnd
+pub mod Auditing

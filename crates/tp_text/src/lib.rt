@@ -1,6 +1,8 @@
-//! Scripts of steps as text, and what is answered to them.
+//! Scripts and traces of steps as text, and what is answered to them.
 #![tactic(auto)]
 
+mod account;
+mod auditor;
 mod fault;
 mod input;
 mod keyword;
@@ -8,13 +10,16 @@ mod laws;
 mod number;
 mod parse;
 mod printing;
+mod recount;
 mod simulation;
+mod traced;
 mod verdict;
 mod words;
 
 pub use fault::TextFault;
 pub use input::{MAX_READS, MAX_TEXT};
 pub use laws::{scripts_are_determined, texts_are_determined};
+pub use recount::audit;
 pub use simulation::sim;
 pub use tp_table::print_table;
 pub use verdict::Verdict;

@@ -1,12 +1,14 @@
-ghost use Rattle.std.specs.Prelude.{◌≡◌, ◌≢◌, ◌++◌, ◌∷◌, [], ℕ, List, codes, MatchOption};
+ghost use Rattle.std.specs.Prelude.{◌≡◌, ◌≢◌, ◌≤◌, ◌++◌, ◌∷◌, [], ℕ, List, codes, Option, MatchOption};
 ghost use Rattle.std.specs.List.{All};
 ghost use Rattle.tp_base.specs.declared.Step.{Step};
 ghost use Rattle.tp_text.specs.Keywords.{keyword_text};
-ghost use Rattle.tp_text.specs.Spelling.{word_of, numbers_of, IsNumber, IsSpelled};
+ghost use Rattle.tp_text.specs.Spelling.{spaced, word_of, numbers_of, IsNumber, IsSpelled};
 ghost use Rattle.tp_text.specs.Script.{nodes_line, step_line, IsNodeCount, BeginsWithNodes, BeginsWithStep};
+ghost use Rattle.tp_text.specs.Trace.{format_line, trace_line, words, AreWords, BeginsWithFormat, BeginsWithLine, IsWritten};
 ghost use Rattle.tp_text.specs.Words.{numbers_in};
 
 use crate::keyword::{Keyword, keyword_of};
+use crate::traced::TraceLine;
 use crate::words::{Operands, first_word, operands_of};
 use tp_base::{ActionId, Inputs, MAX_NODES, MessageId, NodeId, Step, TaskId};
 
@@ -66,6 +68,17 @@ pub(crate) fn first_line(text: &[u8]) -> Option<(u32, &[u8])>
     Some((node_count(operands)?, rest))
 }
 
+/// The step of a keyword, whose numbers stand at the front, and what stands behind its line.
+fn step_behind(keyword: Keyword, text: &[u8]) -> Option<(Step, &[u8])>
+    ensures { MatchOption result
+        ((s : Step) (rest : List ℕ) → IsSpelled s → word_of s ≡ keyword_text keyword → text.now ≢ spaced (numbers_of s) ++ 10 ∷ rest)
+        (λ found. IsSpelled found.0 × (word_of found.0 ≡ keyword_text keyword)
+        × (text.now ≡ spaced (numbers_of found.0) ++ 10 ∷ found.1.now)) }
+{
+    let (operands, rest) = operands_of(text)?;
+    Some((step_named(keyword, operands)?, rest))
+}
+
 /// The step of the first line, and what stands behind that line.
 pub(crate) fn next_step(text: &[u8]) -> Option<(Step, &[u8])>
     ensures { MatchOption result
@@ -73,7 +86,58 @@ pub(crate) fn next_step(text: &[u8]) -> Option<(Step, &[u8])>
         (λ found. IsSpelled found.0 × (text.now ≡ step_line found.0 ++ found.1.now)) }
 {
     let (word, text) = first_word(text);
-    let keyword = keyword_of(word)?;
-    let (operands, rest) = operands_of(text)?;
-    Some((step_named(keyword, operands)?, rest))
+    step_behind(keyword_of(word)?, text)
+}
+
+/// What stands behind the line for the format of a trace.
+pub(crate) fn behind_format(text: &[u8]) -> Option<&[u8]>
+    ensures { MatchOption result
+        (¬ BeginsWithFormat text.now)
+        (λ rest. text.now ≡ format_line ++ rest.now) }
+{
+    text.strip_prefix(b"trace 1\n")
+}
+
+/// A judge's words, to the end of the line, and what stands behind that line.
+fn judge_words(text: &[u8]) -> Option<(Option<u32>, &[u8])>
+    ensures { MatchOption result
+        ((o : Option ℕ) (rest : List ℕ) → AreWords o → text.now ≢ words o ++ 10 ∷ rest)
+        (λ found. AreWords found.0 × (text.now ≡ words found.0 ++ 10 ∷ found.1.now)) }
+{
+    if let Some(rest) = text.strip_prefix(b" not\n") {
+        return Some((None, rest));
+    }
+    let (operands, rest) = operands_of(text.strip_prefix(b" ended")?)?;
+    Some((Some(wave_number(operands)?), rest))
+}
+
+/// The number of a wave, where there is this number alone. Waves are counted from 1.
+fn wave_number(operands: Operands) -> Option<u32>
+    ensures { MatchOption result
+        ((w : ℕ) → 1 ≤ w → numbers_in operands ≢ w ∷ [])
+        (λ w. (1 ≤ w) × (numbers_in operands ≡ w ∷ [])) }
+{
+    match operands {
+        Operands::One(wave) if wave > 0 => Some(wave),
+        _ => None,
+    }
+}
+
+/// The first line of those for the steps of a trace, and what stands behind it.
+pub(crate) fn next_line(text: &[u8]) -> Option<(TraceLine, &[u8])>
+    ensures { MatchOption result
+        (¬ BeginsWithLine text.now)
+        (λ found. IsWritten found.0 × (text.now ≡ trace_line found.0 ++ found.1.now)) }
+{
+    let (word, text) = first_word(text);
+    match keyword_of(word)? {
+        Keyword::Judge => {
+            let (wave, rest) = judge_words(text)?;
+            Some((TraceLine::Judged(wave), rest))
+        }
+        keyword => {
+            let (step, rest) = step_behind(keyword, text)?;
+            Some((TraceLine::Plain(step), rest))
+        }
+    }
 }

@@ -1,4 +1,4 @@
-ghost use Rattle.std.specs.Prelude.{◌≡◌, ◌++◌, ◌+◌, ◌^◌, ◌<◌, ◌≤◌, ℕ, length, decimal, codes, if◌then◌else◌, OnOk, IfOk};
+ghost use Rattle.std.specs.Prelude.{◌≡◌, ◌++◌, ◌+◌, ◌^◌, ◌<◌, ◌≤◌, ℕ, length, decimal, codes, if◌then◌else◌, OnOk, IfOk, Err};
 ghost use Rattle.tp_base.specs.declared.limits.TheConstants.{MAX_NODES};
 ghost use Rattle.tp_wave.specs.Sums.{total};
 ghost use Rattle.tp_text.specs.Printed.{listed};
@@ -11,7 +11,7 @@ use tp_base::Refusal;
 use tp_core::{Core, NodeNumbers, Reply};
 
 /// A label and a number.
-fn push_count(out: &mut Vec<u8>, label: &[u8], number: u64) -> Result<(), AllocError>
+pub(crate) fn push_count(out: &mut Vec<u8>, label: &[u8], number: u64) -> Result<(), AllocError>
     ensures { OnOk result (out.new.items ≡ out.old.items ++ (label.now ++ decimal number)) }
 {
     out.extend_from_slice(label)?;
@@ -38,13 +38,18 @@ pub(crate) fn push_answer(
             push_count(out, b"ended ", u64::from(wave))?;
             out.extend_from_slice(b"\n")
         }
-        Err(refusal) => {
-            push_count(out, b"refused ", u64::from(refusal.number()))?;
-            out.extend_from_slice(b" ")?;
-            out.extend_from_slice(refusal.name().as_bytes())?;
-            out.extend_from_slice(b"\n")
-        }
+        Err(refusal) => push_refusal(out, refusal),
     }
+}
+
+/// A refusal and the end of its line.
+pub(crate) fn push_refusal(out: &mut Vec<u8>, refusal: Refusal) -> Result<(), AllocError>
+    ensures { OnOk result (out.new.items ≡ out.old.items ++ answer_line (Err refusal)) }
+{
+    push_count(out, b"refused ", u64::from(refusal.number()))?;
+    out.extend_from_slice(b" ")?;
+    out.extend_from_slice(refusal.name().as_bytes())?;
+    out.extend_from_slice(b"\n")
 }
 
 /// The counters of a node, or those of all nodes added up.

@@ -78,7 +78,7 @@ pub fn sim<R: Read, W: Write>(
     Ok(verdict)
 }
 
-fn write_answer<W: Write>(writer: &mut W, answer: &[u8]) -> Result<(), TextFault>
+pub(crate) fn write_answer<W: Write>(writer: &mut W, answer: &[u8]) -> Result<(), TextFault>
     ensures ok { OnOk result (Appends (W.contents writer.old) (W.contents writer.new) answer.now) }
     ensures err { IfErr result (λ fault. fault ≡ TextFault.Write) }
 {

@@ -1,0 +1,149 @@
+-- The lines of a trace are told apart.
+use Rattle.std.proofs.Common.{◌≡◌, ◌≢◌, ℕ, ◌≤◌, nat_eq, true, false, List, [], ◌∷◌, ◌++◌, Option, Some, None, length, drop, take, codes, refl, sym, ap, ◌∙◌, append_assoc, arith}
+use Rattle.std.specs.Borrow.{Bor}
+use Rattle.std.specs.Prelude.{MatchOption, slice_index_or}
+use Rattle.std.specs.Cmp.Lexicographic.{same_text, pointwise}
+use Rattle.std.proofs.lemmas.List.{take-append-drop}
+use Rattle.std.specs.List.{All}
+use Rattle.tp_base.specs.declared.Step.{Step}
+use Rattle.tp_base.specs.declared.Step.TheVariants as steps
+use Rattle.tp_text.specs.declared.keyword.Keyword.{Keyword}
+use Rattle.tp_text.specs.declared.keyword.Keyword.TheVariants as keywords
+use Rattle.tp_text.specs.declared.traced.TraceLine.TheVariants.{Plain, Judged}
+use Rattle.tp_text.specs.declared.words.Operands.{Operands}
+use Rattle.tp_text.specs.Keywords.{keyword_text}
+use Rattle.tp_text.specs.Script.{step_line, BeginsWithStep}
+use Rattle.tp_text.specs.Spelling.{IsNumber, IsSpelled, spaced, word_of, numbers_of}
+use Rattle.tp_text.specs.Trace.{trace_line, words, AreWords, BeginsWithLine, IsWritten}
+use Rattle.tp_text.specs.Words.{IsWordByte, BeginsWithout, Splits, numbers_in}
+use Rattle.tp_text.proofs.NoLine.{few_numbers}
+use Rattle.tp_text.proofs.Spelled.{line_parts, one_word, same_numbers, step_word, word_bytes, keyword_of_step, step_spelled, step_again}
+use Rattle.tp_text.proofs.Splits.{split_unique, All-nil, All-cons}
+
+-- ---- a judge's words
+
+pub not_plain : (text : List ℕ) → pointwise nat_eq (take 5 text) (codes " not\n") ≡ false → (rest : List ℕ) → text ≢ codes " not" ++ 10 ∷ rest
+not_plain text h rest e = let bad : true ≡ false = ap (λ t. pointwise nat_eq (take 5 t) (codes " not\n")) (sym e) ∙ h in cc
+
+-- what stands behind a prefix
+pub ended_is : (text a : List ℕ) → pointwise nat_eq (take 6 text) (codes " ended") ≡ true → a ≡ drop 6 text → text ≡ codes " ended" ++ a
+ended_is text a h e = sym (take-append-drop 6 text) ∙ ap (λ l. l ++ drop 6 text) (same_text (take 6 text) (codes " ended") (sym h)) ∙ ap (λ l. codes " ended" ++ l) (sym e)
+
+pub no_words : (text a : List ℕ) → ((rest : List ℕ) → text ≢ codes " not" ++ 10 ∷ rest) → text ≡ codes " ended" ++ a
+    → ((w : ℕ) (rest : List ℕ) → AreWords (Some w) → a ≢ spaced (w ∷ []) ++ 10 ∷ rest) → (o : Option ℕ) (rest : List ℕ) → AreWords o → text ≢ words o ++ 10 ∷ rest
+no_words text a plain is none None rest p e = plain rest e
+no_words text a plain is none (Some w) rest p e =
+    let whole : codes " ended" ++ a ≡ codes " ended" ++ (spaced (w ∷ []) ++ 10 ∷ rest) =
+    sym is ∙ e ∙ append_assoc (codes " ended") (spaced (w ∷ [])) (10 ∷ rest) in
+    none w rest p (ap (λ l. drop 6 l) whole)
+
+one_wave : (w : ℕ) → AreWords (Some w) → All IsNumber (w ∷ [])
+one_wave w p = All-cons IsNumber w [] p.1 (All-nil IsNumber)
+
+pub no_operands_words : (a : List ℕ) → ((ks rest : List ℕ) → All IsNumber ks → length ks ≤ 3 → a ≢ spaced ks ++ 10 ∷ rest)
+    → (w : ℕ) (rest : List ℕ) → AreWords (Some w) → a ≢ spaced (w ∷ []) ++ 10 ∷ rest
+no_operands_words a none w rest p e = none (w ∷ []) rest (one_wave w p) (omega arith) e
+
+pub no_wave_words : (a : List ℕ) (os : Operands) (after : List ℕ) → All IsNumber (numbers_in os) × (a ≡ spaced (numbers_in os) ++ 10 ∷ after)
+    → ((w : ℕ) → 1 ≤ w → numbers_in os ≢ w ∷ []) → (w : ℕ) (rest : List ℕ) → AreWords (Some w) → a ≢ spaced (w ∷ []) ++ 10 ∷ rest
+no_wave_words a os after found none w rest p e =
+    none w p.0 (same_numbers (numbers_in os) (w ∷ []) after rest found.0 (one_wave w p) (sym found.1 ∙ e)).0
+
+-- ---- the numbers of a step
+
+pub no_numbers_behind : (a : List ℕ) (k : Keyword) → ((ks rest : List ℕ) → All IsNumber ks → length ks ≤ 3 → a ≢ spaced ks ++ 10 ∷ rest)
+    → (s : Step) (rest : List ℕ) → IsSpelled s → word_of s ≡ keyword_text k → a ≢ spaced (numbers_of s) ++ 10 ∷ rest
+no_numbers_behind a k none s rest p is e = none (numbers_of s) rest p.0 (few_numbers s) e
+
+pub no_step_behind : (a : List ℕ) (k : Keyword) (os : Operands) (after : List ℕ) → All IsNumber (numbers_in os) × (a ≡ spaced (numbers_in os) ++ 10 ∷ after)
+    → ((s : Step) → IsSpelled s → word_of s ≡ keyword_text k → numbers_of s ≢ numbers_in os)
+    → (s : Step) (rest : List ℕ) → IsSpelled s → word_of s ≡ keyword_text k → a ≢ spaced (numbers_of s) ++ 10 ∷ rest
+no_step_behind a k os after found none s rest p is e =
+    none s p is (same_numbers (numbers_of s) (numbers_in os) rest after p.0 found.0 (sym e ∙ found.1)).0
+
+-- ---- a line for a step
+
+abbrev NoStep : List ℕ → Keyword → Type 0
+NoStep a k = (s : Step) (rest : List ℕ) → IsSpelled s → word_of s ≡ keyword_text k → a ≢ spaced (numbers_of s) ++ 10 ∷ rest
+
+abbrev StepFound : List ℕ → Keyword → Step → List ℕ → Type 0
+StepFound a k s after = IsSpelled s × (word_of s ≡ keyword_text k) × (a ≡ spaced (numbers_of s) ++ 10 ∷ after)
+
+pub no_line_of : (text word a : List ℕ) (k : Keyword) → Splits IsWordByte text word a → word ≡ keyword_text k → NoStep a k → ¬ BeginsWithStep text
+no_line_of text word a k h is none (s, rest, p, e) =
+    let parts = one_word text word a (word_of s) (numbers_of s) rest h (step_word s) e in
+    none s rest p (sym parts.0 ∙ is) parts.1
+
+pub line_of : (text word a : List ℕ) (k : Keyword) (s : Step) (after : List ℕ) → Splits IsWordByte text word a → word ≡ keyword_text k → StepFound a k s after
+    → text ≡ step_line s ++ after
+line_of text word a k s after h is found =
+    h.0 ∙ ap (λ w. w ++ a) (is ∙ sym found.1) ∙ ap (λ l. word_of s ++ l) found.2 ∙ sym (line_parts (word_of s) (numbers_of s) after)
+
+pub step_found : (text word a : List ℕ) (k : Keyword) (r : Option (Step × Bor (List ℕ))) → Splits IsWordByte text word a → word ≡ keyword_text k
+    → MatchOption r (NoStep a k) (λ found. StepFound a k found.0 found.1.now)
+    → MatchOption r (¬ BeginsWithStep text) (λ found. IsSpelled found.0 × (text ≡ step_line found.0 ++ found.1.now))
+step_found text word a k None h is none = no_line_of text word a k h is none
+step_found text word a k (Some found) h is f = (f.0, line_of text word a k found.0 found.1.now h is f)
+
+-- ---- a line of a trace
+
+ends_judge : (o : Option ℕ) (rest : List ℕ) → BeginsWithout IsWordByte (words o ++ 10 ∷ rest)
+ends_judge None rest = λ h. h.0 refl
+ends_judge (Some w) rest = λ h. h.0 refl
+
+pub judge_parts : (o : Option ℕ) (rest : List ℕ) → trace_line (Judged o) ++ rest ≡ codes "judge" ++ (words o ++ 10 ∷ rest)
+judge_parts o rest = append_assoc (codes "judge" ++ words o) (10 ∷ []) rest ∙ append_assoc (codes "judge") (words o) (10 ∷ rest)
+
+-- the word and the rest of a judgement
+pub judge_word : (text word a : List ℕ) (o : Option ℕ) (rest : List ℕ) → Splits IsWordByte text word a → text ≡ trace_line (Judged o) ++ rest
+    → (word ≡ codes "judge") × (a ≡ words o ++ 10 ∷ rest)
+judge_word text word a o rest h e =
+    split_unique IsWordByte word (codes "judge") a (words o ++ 10 ∷ rest) h.1 (word_bytes (codes "judge") refl) h.2 (ends_judge o rest)
+    (sym h.0 ∙ e ∙ judge_parts o rest)
+
+pub is_judgement : (s : Step) → word_of s ≡ codes "judge" → s ≡ steps.Judge
+is_judgement s e = sym (step_again s) ∙ ap (λ w. step_spelled w (numbers_of s)) e
+
+pub keyword_judge : (k : Keyword) → keyword_text k ≡ codes "judge" → k ≡ keywords.Judge
+keyword_judge keywords.Judge e = refl
+keyword_judge keywords.Insert e = absurd (omega (arith, ap (λ l. slice_index_or l 0 0) e))
+keyword_judge keywords.Supply e = absurd (omega (arith, ap (λ l. slice_index_or l 0 0) e))
+keyword_judge keywords.Begin e = absurd (omega (arith, ap (λ l. slice_index_or l 0 0) e))
+keyword_judge keywords.Done e = absurd (omega (arith, ap (λ l. slice_index_or l 0 0) e))
+keyword_judge keywords.Open e = absurd (omega (arith, ap (λ l. slice_index_or l 0 0) e))
+keyword_judge keywords.Close e = absurd (omega (arith, ap (λ l. slice_index_or l 0 0) e))
+keyword_judge keywords.Ready e = absurd (omega (arith, ap (λ l. slice_index_or l 0 0) e))
+keyword_judge keywords.Send e = absurd (omega (arith, ap (λ l. slice_index_or l 0 0) e))
+keyword_judge keywords.Recv e = absurd (omega (arith, ap (λ l. slice_index_or l 0 0) e))
+keyword_judge keywords.End e = absurd (omega (arith, ap (λ l. slice_index_or l 0 0) e))
+keyword_judge keywords.Start e = absurd (omega (arith, ap (λ l. slice_index_or l 0 0) e))
+keyword_judge keywords.Down e = absurd (omega (arith, ap (λ l. slice_index_or l 0 0) e))
+keyword_judge keywords.Give e = absurd (omega (arith, ap (λ l. slice_index_or l 0 0) e))
+keyword_judge keywords.Up e = absurd (omega (arith, ap (λ l. slice_index_or l 0 0) e))
+
+pub no_line_keyword : (text word a : List ℕ) → Splits IsWordByte text word a → ((k : Keyword) → word ≢ keyword_text k) → ¬ BeginsWithLine text
+no_line_keyword text word a h none (Plain s, rest, p, e) =
+    let parts = one_word text word a (word_of s) (numbers_of s) rest h (step_word s) e in
+    let key = keyword_of_step s in
+    none key.0 (parts.0 ∙ key.1)
+no_line_keyword text word a h none (Judged o, rest, p, e) = none keywords.Judge (judge_word text word a o rest h e).0
+
+pub no_judge_line : (text word a : List ℕ) → Splits IsWordByte text word a → word ≡ codes "judge"
+    → ((o : Option ℕ) (rest : List ℕ) → AreWords o → a ≢ words o ++ 10 ∷ rest) → ¬ BeginsWithLine text
+no_judge_line text word a h is none (Plain s, rest, p, e) =
+    p.1 (is_judgement s (sym (one_word text word a (word_of s) (numbers_of s) rest h (step_word s) e).0 ∙ is))
+no_judge_line text word a h is none (Judged o, rest, p, e) = none o rest p (judge_word text word a o rest h e).1
+
+pub no_plain_line : (text word a : List ℕ) (k : Keyword) → Splits IsWordByte text word a → word ≡ keyword_text k → k ≢ keywords.Judge → NoStep a k → ¬ BeginsWithLine text
+no_plain_line text word a k h is other none (Plain s, rest, p, e) = no_line_of text word a k h is none (s, rest, p.0, e)
+no_plain_line text word a k h is other none (Judged o, rest, p, e) = other (keyword_judge k (sym is ∙ (judge_word text word a o rest h e).0))
+
+pub judge_line : (text word a : List ℕ) (o : Option ℕ) (after : List ℕ) → Splits IsWordByte text word a → word ≡ codes "judge" → AreWords o × (a ≡ words o ++ 10 ∷ after)
+    → IsWritten (Judged o) × (text ≡ trace_line (Judged o) ++ after)
+judge_line text word a o after h is found =
+    (found.0, h.0 ∙ ap (λ w. w ++ a) is ∙ ap (λ l. codes "judge" ++ l) found.1 ∙ sym (judge_parts o after))
+
+pub plain_line : (text word a : List ℕ) (k : Keyword) (s : Step) (after : List ℕ) → Splits IsWordByte text word a → word ≡ keyword_text k → k ≢ keywords.Judge
+    → StepFound a k s after → IsWritten (Plain s) × (text ≡ trace_line (Plain s) ++ after)
+plain_line text word a k s after h is other found =
+    ((found.0, λ e. other (keyword_judge k (sym found.1 ∙ ap word_of e))), line_of text word a k s after h is found)

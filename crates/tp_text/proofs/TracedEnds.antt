@@ -1,0 +1,106 @@
+-- What a sound trace says of the end.
+use Rattle.std.proofs.Common.{◌≡◌, ◌≢◌, ℕ, ◌+◌, ◌-◌, ◌≤◌, Bool, true, false, cond, ◌||◌, ◌&&◌, nat_le, if◌then◌else◌, append_assoc, List, [], ◌∷◌, ◌++◌, Option, Some, None, refl, sym, ap, subst, ◌∙◌, arith, is_some, length}
+use Rattle.std.specs.Prelude.{IsFalse}
+use Rattle.std.proofs.lemmas.Bool.Decides.{nat_tests}
+use Rattle.tp_base.specs.declared.Step.{Step}
+use Rattle.tp_base.specs.declared.Step.TheVariants as steps
+use Rattle.tp_wave.specs.Steps.{is_judge, is_start}
+use Rattle.tp_wave.specs.Sums.{four_equal, judgement, is_ended, until, visit, waves}
+use Rattle.std.proofs.lemmas.Bool.{lt-leb}
+use Rattle.tp_core.specs.NeverEarly.{IsOverFrom}
+use Rattle.tp_core.specs.Run.{IsRun}
+use Rattle.tp_core.proofs.Early.{never_early}
+use Rattle.tp_text.specs.declared.traced.TraceLine.{TraceLine}
+use Rattle.tp_text.specs.declared.traced.TraceLine.TheVariants.{Judged}
+use Rattle.tp_text.specs.AuditText.{steps_in, step_in, last_judgement, AreJustified}
+use Rattle.tp_text.specs.TracedEnd.{EndedIsOver, NotEndedClaimsNoEnd}
+
+-- ---- the last judge
+
+-- there the last judge judged
+abbrev pub LastJudge : List Step → ℕ → ℕ → Type 0
+LastJudge ss n w = (later : List Step) × (past : List Step) × (ss ≡ later ++ steps.Judge ∷ past) × (judgement n past ≡ Some w)
+
+one_later : (n w : ℕ) (s : Step) (ss : List Step) → LastJudge ss n w → LastJudge (s ∷ ss) n w
+one_later n w s ss (later, past, e, is) = (s ∷ later, past, ap (λ x. s ∷ x) e, is)
+
+last_judge : (n w : ℕ) (ss : List Step) → last_judgement n ss ≡ Some w → LastJudge ss n w
+last_judge n w [] e = cc
+last_judge n w (steps.Judge ∷ past) e = ([], past, refl, e)
+last_judge n w (s ∷ past) e = one_later n w s past (last_judge n w past e)
+
+enough : (b f : Bool) (v w : ℕ) → (if b && f then Some v else None) ≡ Some w → (b ≡ true) × (v ≡ w)
+enough true true v w e = (refl, cc)
+enough true false v w e = cc
+enough false f v w e = cc
+
+-- the wave that is named was followed by another
+judged_wave : (n w : ℕ) (past : List Step) → judgement n past ≡ Some w → w + 1 ≤ waves past
+judged_wave n w past e =
+    let both = enough (nat_le 2 (waves past)) (four_equal n past) (waves past - 1) w e in
+    let two : 2 ≤ waves past = grind (arith, nat_tests, both.0) in
+    omega (arith, both.1)
+
+waves_grow : (later past : List Step) → waves past ≤ waves (later ++ past)
+waves_grow [] past = omega arith
+waves_grow (s ∷ later) past =
+    elim (is_start s) as (λ b. waves past ≤ cond b (waves (later ++ past) + 1) (waves (later ++ past))) [
+      | true ↦ omega (arith, waves_grow later past)
+      | false ↦ waves_grow later past
+    ]
+
+until_past : (w : ℕ) (s : Step) (past : List Step) → w + 1 ≤ waves (s ∷ past) → until w (s ∷ past) ≡ until w past
+until_past w s past l = rw (lt-leb (waves (s ∷ past)) w (omega arith))
+
+until_kept : (w : ℕ) (later past : List Step) → w + 1 ≤ waves past → until w (later ++ past) ≡ until w past
+until_kept w [] past h = refl
+until_kept w (s ∷ later) past h = until_past w s (later ++ past) (omega (arith, h, waves_grow (s ∷ later) past)) ∙ until_kept w later past h
+
+pub ended_over : EndedIsOver
+ended_over n lines w h e =
+    let ss = steps_in lines in
+    let last = last_judge n w ss e in
+    let past = last.1 in
+    let same : until w ss ≡ until w past =
+    ap (until w) (last.2 ∙ sym (append_assoc last.0 (steps.Judge ∷ []) past)) ∙ until_kept w (last.0 ++ steps.Judge ∷ []) past (judged_wave n w past last.3) in
+    subst (λ (p : ℕ). IsOverFrom n p ss) (ap (λ u. length (visit 0 u)) (sym same)) (never_early n ss h.run w last.0 past last.2 last.3)
+
+-- ---- where no end was judged last
+
+or_kept : (a b : Bool) → b ≡ true → (a || b) ≡ true
+or_kept true b e = refl
+or_kept false b e = e
+
+ended_kept : (n : ℕ) (later past : List Step) → is_ended n past ≡ true → is_ended n (later ++ past) ≡ true
+ended_kept n [] past e = e
+ended_kept n (s ∷ later) past e = or_kept (is_judge s && is_some (judgement n (later ++ past))) (is_ended n (later ++ past)) (ended_kept n later past e)
+
+not_none : (o : Option ℕ) (b : Bool) → IsFalse b → ((true && is_some o) || b) ≡ true → o ≢ None
+not_none (Some w) b f e = λ none. cc
+not_none None true f e = λ none. cc
+not_none None false f e = λ none. cc
+
+ended_last : (n : ℕ) (ss : List Step) → IsRun n ss → is_ended n ss ≡ true → last_judgement n ss ≢ None
+ended_last n [] r e = λ none. cc
+ended_last n (steps.Judge ∷ past) r e = not_none (judgement n past) (is_ended n past) r.0.0 e
+ended_last n (s ∷ past) r e = ended_last n past r.1 e
+
+some_ended : (o : Option ℕ) (b : Bool) (w : ℕ) → o ≡ Some w → ((true && is_some o) || b) ≡ true
+some_ended (Some v) b w e = refl
+some_ended None b w e = cc
+
+justified_there : (n : ℕ) (later : List TraceLine) (o : Option ℕ) (past : List TraceLine) → AreJustified n (later ++ Judged o ∷ past) → o ≡ judgement n (steps_in past)
+justified_there n [] o past h = h.0
+justified_there n (l ∷ later) o past h = justified_there n later o past h.1
+
+steps-append : (later past : List TraceLine) → steps_in (later ++ past) ≡ steps_in later ++ steps_in past
+steps-append [] past = refl
+steps-append (l ∷ later) past = ap (λ x. step_in l ∷ x) (steps-append later past)
+
+pub not_ended_claims : NotEndedClaimsNoEnd
+not_ended_claims n lines h none later w past e =
+    let right : Some w ≡ judgement n (steps_in past) = justified_there n later (Some w) past (subst (AreJustified n) e h.justified) in
+    let there : is_ended n (steps.Judge ∷ steps_in past) ≡ true = some_ended (judgement n (steps_in past)) (is_ended n (steps_in past)) w (sym right) in
+    let all : steps_in lines ≡ steps_in later ++ steps.Judge ∷ steps_in past = ap steps_in e ∙ steps-append later (Judged (Some w) ∷ past) in
+    let ended : is_ended n (steps_in lines) ≡ true = ap (is_ended n) all ∙ ended_kept n (steps_in later) (steps.Judge ∷ steps_in past) there in
+    ended_last n (steps_in lines) h.run ended none

@@ -1,0 +1,17 @@
+use Rattle.std.proofs.Common.{arith, ap}
+use Rattle.tp_wave.proofs.Given.{count-le}
+use Rattle.tp_text.specs.declared.account.Account.{Account}
+use Rattle.tp_text.specs.AuditText.{is_insert, is_done, is_send, is_recv}
+use Rattle.tp_text.proofs.account.Account.with_step.Goals as goal
+
+pub overflow_add-result : goal.overflow_add-result
+overflow_add-result c = omega (arith, ap (λ (a : Account). a.tasks) c.requires.2, count-le is_insert c.requires.1, c.requires.3)
+
+pub overflow_add-result-in-Done : goal.overflow_add-result-in-Done
+overflow_add-result-in-Done c = omega (arith, ap (λ (a : Account). a.done) c.requires.2, count-le is_done c.requires.1, c.requires.3)
+
+pub overflow_add-result-in-Send : goal.overflow_add-result-in-Send
+overflow_add-result-in-Send c = omega (arith, ap (λ (a : Account). a.messages) c.requires.2, count-le is_send c.requires.1, c.requires.3)
+
+pub overflow_add-result-in-Recv : goal.overflow_add-result-in-Recv
+overflow_add-result-in-Recv c = omega (arith, ap (λ (a : Account). a.received) c.requires.2, count-le is_recv c.requires.1, c.requires.3)

@@ -1,0 +1,134 @@
+-- What is answered to a trace.
+use Rattle.std.specs.Prelude.{ℕ, ◌+◌, ◌≡◌, ◌≢◌, ◌≤◌, ◌++◌, ◌⊎◌, List, [], ◌∷◌, Bool, true, false, Option, Some, None, length, codes, decimal}
+use Rattle.tp_base.specs.declared.limits.TheConstants.{MAX_STEPS}
+use Rattle.tp_base.specs.declared.Step.{Step}
+use Rattle.tp_base.specs.declared.Step.TheVariants.{Insert, Done, Send, Recv, Judge}
+use Rattle.tp_base.specs.Refusals.{number_of, name_of}
+use Rattle.tp_wave.specs.Steps.{count}
+use Rattle.tp_wave.specs.Sums.{judgement}
+use Rattle.tp_core.specs.Accepted.{Accepted, refusal}
+use Rattle.tp_core.specs.Run.{IsRun}
+use Rattle.tp_text.specs.declared.account.Account.{Account}
+use Rattle.tp_text.specs.declared.auditor.Flaw.{Flaw}
+use Rattle.tp_text.specs.declared.auditor.Flaw.TheVariants as flaws
+use Rattle.tp_text.specs.declared.traced.TraceLine.{TraceLine}
+use Rattle.tp_text.specs.declared.traced.TraceLine.TheVariants.{Plain, Judged}
+use Rattle.tp_text.specs.declared.verdict.Verdict.{Verdict}
+use Rattle.tp_text.specs.declared.verdict.Verdict.TheVariants.{Sound, Refused}
+use Rattle.tp_text.specs.Spelling.{line}
+use Rattle.tp_text.specs.Trace.{IsTrace, HasTraceFaultAt}
+
+abbrev pub step_in : TraceLine → Step
+step_in (Plain s) = s
+step_in (Judged o) = Judge
+
+-- the steps of the lines, the newest first
+abbrev pub steps_in : List TraceLine → List Step
+steps_in [] = []
+steps_in (l ∷ past) = step_in l ∷ steps_in past
+
+-- ---- sound lines
+
+-- The words of a judge are what is judged over the steps before, by the four counters.
+abbrev pub IsJustified : ℕ → List Step → TraceLine → Type 0
+IsJustified n past (Plain s) = Unit {0}
+IsJustified n past (Judged o) = o ≡ judgement n past
+
+abbrev pub AreJustified : ℕ → List TraceLine → Type 0
+AreJustified n [] = Unit {0}
+AreJustified n (l ∷ past) = IsJustified n (steps_in past) l × AreJustified n past
+
+-- The steps are a run of the core on n nodes, no more than it takes, and each judge's words are justified.
+pub record IsSound (n : ℕ) (lines : List TraceLine) : Type 0 where
+  pub run : IsRun n (steps_in lines)
+  pub few : length lines ≤ MAX_STEPS
+  pub justified : AreJustified n lines
+
+-- ---- a line that is not
+
+-- a core on n nodes that has accepted the steps of these lines
+abbrev pub taken : ℕ → List TraceLine → Accepted
+taken n lines = record { nodes = n; steps = steps_in lines }
+
+-- Behind these lines this one is flawed: its step is refused; or it is a judgement that is accepted, and its words are others.
+abbrev pub IsFlaw : ℕ → List TraceLine → TraceLine → Flaw → Type 0
+IsFlaw n past l (flaws.Refused r) = refusal (taken n past) (step_in l) ≡ Some r
+IsFlaw n past l flaws.Unjustified = (o : Option ℕ) × (l ≡ Judged o) × (refusal (taken n past) Judge ≡ None) × (o ≢ judgement n (steps_in past))
+
+-- Line k is the first that is flawed. The first step stands in line 3.
+abbrev pub HasFlawAt : ℕ → List TraceLine → ℕ → Flaw → Type 0
+HasFlawAt n lines k flaw = (later : List TraceLine) × (l : TraceLine) × (past : List TraceLine)
+    × (lines ≡ later ++ l ∷ past) × IsSound n past × IsFlaw n past l flaw × (k ≡ length past + 3)
+
+abbrev pub flaw_words : Flaw → List ℕ
+flaw_words (flaws.Refused r) = codes "refused " ++ decimal (number_of r) ++ codes " " ++ name_of r
+flaw_words flaws.Unjustified = codes "unjustified"
+
+abbrev pub flaw_line : ℕ → Flaw → List ℕ
+flaw_line k flaw = line (codes "line " ++ decimal k ++ codes " " ++ flaw_words flaw)
+
+-- ---- what sound lines add up to
+
+abbrev pub is_insert : Step → Bool
+is_insert (Insert i t k) = true
+is_insert _ = false
+
+abbrev pub is_done : Step → Bool
+is_done (Done t) = true
+is_done _ = false
+
+abbrev pub is_send : Step → Bool
+is_send (Send i j m) = true
+is_send _ = false
+
+abbrev pub is_recv : Step → Bool
+is_recv (Recv j m) = true
+is_recv _ = false
+
+-- what the last judge judged, if there was one: with which wave the pool had ended
+abbrev pub last_judgement : ℕ → List Step → Option ℕ
+last_judgement n [] = None
+last_judgement n (Judge ∷ past) = judgement n past
+last_judgement n (s ∷ past) = last_judgement n past
+
+abbrev pub account : ℕ → List Step → Account
+account n steps = record {
+  steps = length steps;
+  tasks = count is_insert steps;
+  done = count is_done steps;
+  messages = count is_send steps;
+  received = count is_recv steps;
+  ended = last_judgement n steps;
+}
+
+abbrev pub end_words : Option ℕ → List ℕ
+end_words None = codes "not ended"
+end_words (Some w) = codes "ended " ++ decimal w
+
+-- four lines
+abbrev pub summary : Account → List ℕ
+summary a =
+    line (codes "steps " ++ decimal a.steps)
+    ++ line (codes "tasks " ++ decimal a.tasks ++ codes " done " ++ decimal a.done)
+    ++ line (codes "messages " ++ decimal a.messages ++ codes " received " ++ decimal a.received)
+    ++ line (end_words a.ended)
+
+-- ---- the answer
+
+-- The bytes have a fault of grammar, or they are a trace with a flaw, and the text tells the first such line.
+abbrev pub IsComplaint : List ℕ → List ℕ → Type 0
+IsComplaint bytes text =
+    ((l : ℕ) × HasTraceFaultAt bytes l × (text ≡ line (codes "syntax line " ++ decimal l)))
+    ⊎ ((n : ℕ) × (lines : List TraceLine) × (k : ℕ) × (flaw : Flaw)
+    × IsTrace bytes n lines × HasFlawAt n lines k flaw × (text ≡ flaw_line k flaw))
+
+-- This verdict and this text are what is answered to these bytes: what the lines of a sound trace add up to, or the first line
+-- that is at fault.
+abbrev pub IsAuditText : List ℕ → Verdict → List ℕ → Type 0
+IsAuditText bytes Sound text = (n : ℕ) × (lines : List TraceLine) × IsTrace bytes n lines × IsSound n lines × (text ≡ summary (account n (steps_in lines)))
+IsAuditText bytes Refused text = IsComplaint bytes text
+
+-- One verdict and one text are answered to some bytes.
+abbrev pub AuditsAreDetermined : Type 0
+AuditsAreDetermined = (bytes : List ℕ) (v : Verdict) (text : List ℕ) (w : Verdict) (other : List ℕ)
+    → IsAuditText bytes v text → IsAuditText bytes w other → (v ≡ w) × (text ≡ other)

@@ -1,0 +1,18 @@
+-- What a sound trace says of the end.
+use Rattle.std.specs.Prelude.{ℕ, ◌≡◌, ◌≢◌, List, ◌∷◌, ◌++◌, Some, None}
+use Rattle.tp_wave.specs.Cut.{visited_at}
+use Rattle.tp_core.specs.NeverEarly.{IsOverFrom}
+use Rattle.tp_text.specs.declared.traced.TraceLine.{TraceLine}
+use Rattle.tp_text.specs.declared.traced.TraceLine.TheVariants.{Judged}
+use Rattle.tp_text.specs.AuditText.{steps_in, IsSound, account}
+
+-- Where `ended W` is answered, nothing was left from the end of wave W on, its visit to the root, and each task that any line
+-- inserts had run once by then.
+abbrev pub EndedIsOver : Type 0
+EndedIsOver = (n : ℕ) (lines : List TraceLine) (w : ℕ) → IsSound n lines → (account n (steps_in lines)).ended ≡ Some w
+    → IsOverFrom n (visited_at w 0 (steps_in lines)) (steps_in lines)
+
+-- Where `not ended` is answered, no line says `judge ended`.
+abbrev pub NotEndedClaimsNoEnd : Type 0
+NotEndedClaimsNoEnd = (n : ℕ) (lines : List TraceLine) → IsSound n lines → (account n (steps_in lines)).ended ≡ None
+    → (later : List TraceLine) (w : ℕ) (past : List TraceLine) → lines ≢ later ++ Judged (Some w) ∷ past

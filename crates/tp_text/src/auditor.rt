@@ -1,0 +1,109 @@
+ghost use Rattle.std.specs.Prelude.{◌≡◌, ◌+◌, ◌≤◌, ◌++◌, ◌∷◌, [], ℕ, List, length, ◌↔◌, IfErr, IfOk, IsTrue, OnOk, MatchOption};
+ghost use Rattle.tp_base.specs.declared.limits.TheConstants.{MAX_NODES};
+ghost use Rattle.tp_text.specs.AuditText.{flaw_line, summary};
+ghost use Rattle.tp_text.specs.Auditing.{IsTold, Knows};
+ghost use Rattle.tp_text.specs.Trace.{IsWritten};
+
+use crate::account::Account;
+use crate::fault::TextFault;
+use crate::printing::{push_count, push_refusal};
+use crate::traced::TraceLine;
+use crate::verdict::Verdict;
+use std::alloc::{AllocError, Global};
+use tp_base::Refusal;
+use tp_core::{Core, Reply};
+
+/// What is wrong with a line.
+#[derive(Clone, Copy)]
+pub(crate) enum Flaw {
+    /// Its step is refused.
+    Refused(Refusal),
+    /// It is a judgement with other words.
+    Unjustified,
+}
+
+/// Takes the lines of a trace in turn, with a core of its own, up to the first flaw.
+#[derive(Drop)]
+pub(crate) struct Auditor {
+    core: Core,
+    account: Account,
+    // the first line that is flawed
+    flaw: Option<(u64, Flaw)>,
+}
+
+impl Auditor {
+    /// Nothing was taken yet over so many nodes, 1 to 8.
+    pub(crate) fn new(alloc: Global, nodes: u32) -> Auditor
+        requires { (1 ≤ nodes) × (nodes ≤ MAX_NODES) }
+        ensures { Knows nodes [] result }
+    {
+        Auditor {
+            core: Core::new(alloc, nodes),
+            account: Account::new(),
+            flaw: None,
+        }
+    }
+
+    /// Takes the next line, which has this number.
+    pub(crate) fn take(&mut self, line: TraceLine, number: u64) -> Result<(), TextFault>
+        requires { (n : ℕ) × (lines : List TraceLine) × Knows n lines self.old }
+        ensures ok { (n : ℕ) (lines : List TraceLine) → Knows n lines self.old → IsWritten line → number ≡ length lines + 3 → OnOk result (Knows n (line ∷ lines) self.new) }
+        ensures err { IfErr result (λ fault. fault ≡ TextFault.Memory) }
+    {
+        if self.flaw.is_some() {
+            return Ok(());
+        }
+        let answer = self.core.step(line.step());
+        if answer == Err(Refusal::NoMemory) {
+            return Err(TextFault::Memory);
+        }
+        match answer {
+            Err(refusal) => self.flaw = Some((number, Flaw::Refused(refusal))),
+            Ok(reply) if is_told(line, reply) => self.account = self.account.with(line),
+            Ok(_) => self.flaw = Some((number, Flaw::Unjustified)),
+        }
+        Ok(())
+    }
+
+    /// The verdict and the answer: what the lines add up to, or the first that is flawed.
+    pub(crate) fn answer(&self, alloc: Global) -> Result<(Verdict, Vec<u8>), AllocError>
+        ensures { IfOk result (λ answer. MatchOption self.now.flaw
+            ((answer.0 ≡ Verdict.Sound) × (answer.1.items ≡ summary self.now.account))
+            (λ found. (answer.0 ≡ Verdict.Refused) × (answer.1.items ≡ flaw_line found.0 found.1))) }
+    {
+        let mut out = Vec::new(alloc);
+        match self.flaw {
+            None => {
+                self.account.push(&mut out)?;
+                Ok((Verdict::Sound, out))
+            }
+            Some((number, flaw)) => {
+                push_flaw(&mut out, number, flaw)?;
+                Ok((Verdict::Refused, out))
+            }
+        }
+    }
+}
+
+/// Whether a line tells what its step was answered.
+fn is_told(line: TraceLine, reply: Reply) -> bool
+    ensures { IsTrue result ↔ IsTold line reply }
+{
+    match line {
+        TraceLine::Plain(_) => true,
+        TraceLine::Judged(None) => reply == Reply::Not,
+        TraceLine::Judged(Some(wave)) => reply == Reply::Over(wave),
+    }
+}
+
+/// The line that tells the first line that is flawed.
+fn push_flaw(out: &mut Vec<u8>, number: u64, flaw: Flaw) -> Result<(), AllocError>
+    ensures { OnOk result (out.new.items ≡ out.old.items ++ flaw_line number flaw) }
+{
+    push_count(out, b"line ", number)?;
+    out.extend_from_slice(b" ")?;
+    match flaw {
+        Flaw::Refused(refusal) => push_refusal(out, refusal),
+        Flaw::Unjustified => out.extend_from_slice(b"unjustified\n"),
+    }
+}

@@ -1,0 +1,81 @@
+ghost use Rattle.std.specs.Prelude.{◌≡◌, ◌≢◌, ◌+◌, ◌≤◌, ℕ, List, length, IfOk, IfErr, IsErrOf};
+ghost use Rattle.std.specs.Io.KnownBytes.{Consumes, Appends};
+ghost use Rattle.tp_text.specs.AuditText.{IsAuditText};
+ghost use Rattle.tp_text.specs.Input.{ReadsAll};
+ghost use Rattle.tp_text.specs.TracedEnd.{EndedIsOver, NotEndedClaimsNoEnd};
+ghost use Rattle.tp_text.specs.declared.verdict.Verdict.{Verdict};
+ghost use Rattle.tp_text.specs.declared.input.TheConstants.{MAX_TEXT};
+
+use crate::auditor::Auditor;
+use crate::fault::TextFault;
+use crate::input::read_text;
+use crate::parse::{behind_format, first_line, next_line};
+use crate::printing::syntax_line;
+use crate::simulation::write_answer;
+use crate::verdict::Verdict;
+use std::alloc::Global;
+use std::io::{Read, Write};
+
+/// What the lines of a trace add up to, or the first of them that is at fault.
+fn audited(alloc: Global, text: &[u8]) -> Result<(Verdict, Vec<u8>), TextFault>
+    ensures ok { IfOk result (λ answer. IsAuditText text.now answer.0 answer.1.items) }
+    ensures err { IfErr result (λ fault. fault ≡ TextFault.Memory) }
+{
+    let Some(behind) = behind_format(text) else {
+        return Ok((Verdict::Refused, syntax_line(alloc, 1)?));
+    };
+    let Some((nodes, lines)) = first_line(behind) else {
+        return Ok((Verdict::Refused, syntax_line(alloc, 2)?));
+    };
+    let mut auditor = Auditor::new(alloc, nodes);
+    let mut rest = lines;
+    let mut number = 3;
+    while !rest.is_empty() {
+        let Some((line, behind)) = next_line(rest) else {
+            return Ok((Verdict::Refused, syntax_line(alloc, number)?));
+        };
+        auditor.take(line, number)?;
+        rest = behind;
+        number += 1;
+    }
+    Ok(auditor.answer(alloc)?)
+}
+
+/// Judges a trace: reads all of the reader, takes the steps of the trace in turn with a new core, and counts messages afresh,
+/// so that no line is believed. Written are either four lines, for a sound trace: how many steps there are, how many tasks
+/// were inserted and done, how many messages were sent and received, and with which wave the pool had ended; or one line, that
+/// of the first line that is not of the grammar, or else of the first that is refused or is a judgement with other words.
+/// Nothing is written before all of it is known. It takes as much memory as the text and a core of its steps.
+///
+/// It is refused as `Read` where a read fails, an interrupted one apart, which is tried again, and where 67,108,864 reads
+/// were made; as `TooLong` where there are more than 33,554,432 bytes; as `Memory` where a growth of memory was refused;
+/// and as `Write` where the writing fails.
+///
+/// The judgement is that of the four counters: F. Mattern, "Algorithms for Distributed Termination Detection" (1987).
+pub fn audit<R: Read, W: Write>(
+    alloc: Global,
+    reader: &mut R,
+    writer: &mut W,
+) -> Result<Verdict, TextFault>
+    // All that there was was read, and what is answered to it was written, and nothing else.
+    ensures ok { IfOk result (λ verdict. (bytes : List ℕ) × (text : List ℕ)
+        × ReadsAll (R.remaining reader.old) (R.remaining reader.new) bytes × (length bytes ≤ MAX_TEXT)
+        × IsAuditText bytes verdict text × Appends (W.contents writer.old) (W.contents writer.new) text) }
+    // Where a sound trace is answered `ended W`, nothing was left from the end of wave W on, and each task had run once by then;
+    ensures ended { IfOk result (λ _. EndedIsOver) }
+    // where it is answered `not ended`, none of its lines says that the pool had ended.
+    ensures not_ended { IfOk result (λ _. NotEndedClaimsNoEnd) }
+    // Where the answer could not be written, it was made, from all that there was.
+    ensures made { IsErrOf result TextFault.Write → (verdict : Verdict) × (bytes : List ℕ) × (text : List ℕ)
+        × ReadsAll (R.remaining reader.old) (R.remaining reader.new) bytes × IsAuditText bytes verdict text }
+    // One byte more than a text may have was read.
+    ensures too_long { IsErrOf result TextFault.TooLong → (bytes : List ℕ)
+        × Consumes (R.remaining reader.old) (R.remaining reader.new) bytes × (length bytes ≡ MAX_TEXT + 1) }
+    // Where no answer was made, nothing was written.
+    ensures unwritten { IfErr result (λ fault. fault ≢ TextFault.Write → writer.new ≡ writer.old) }
+{
+    let text = read_text(alloc, reader)?;
+    let (verdict, answer) = audited(alloc, &text)?;
+    write_answer(writer, &answer)?;
+    Ok(verdict)
+}
