@@ -50,7 +50,7 @@ messages_bound : (n : ℕ) (steps : List Step) → length (world n steps).messag
 messages_bound n [] = zero-le
 messages_bound n (s ∷ past) = let one = messages_after s (world n past) in let rest = messages_bound n past in omega arith
 
-count_bound : (test : Step → Bool) (steps : List Step) → count test steps ≤ length steps
+pub count_bound : (test : Step → Bool) (steps : List Step) → count test steps ≤ length steps
 count_bound test [] = zero-le
 count_bound test (s ∷ past) = grind (arith, count_bound test past)
 

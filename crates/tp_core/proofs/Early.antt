@@ -46,16 +46,21 @@ IsRun-before n p (s ∷ past) r =
     ]
 
 -- the events of the later steps
-events_after : ℕ → List Step → List Step → History
+pub events_after : ℕ → List Step → List Step → History
 events_after n [] past = []
 events_after n (s ∷ later) past = (record { 0 = node_of (world n (later ++ past)) s }, s) ∷ events_after n later past
 
-history-append : (n : ℕ) (later past : List Step) → history n (later ++ past) ≡ events_after n later past ++ history n past
+pub history-append : (n : ℕ) (later past : List Step) → history n (later ++ past) ≡ events_after n later past ++ history n past
 unfolding events_after
 history-append n [] past = refl
 history-append n (s ∷ later) past = ap (λ h. (record { 0 = node_of (world n (later ++ past)) s }, s) ∷ h) (history-append n later past)
 
-IsRun-past : (n : ℕ) (later past : List Step) → IsRun n (later ++ past) → IsRun n past
+pub length-after : (n : ℕ) (later past : List Step) → length (events_after n later past) ≡ length later
+unfolding events_after
+length-after n [] past = refl
+length-after n (s ∷ later) past = ap suc (length-after n later past)
+
+pub IsRun-past : (n : ℕ) (later past : List Step) → IsRun n (later ++ past) → IsRun n past
 IsRun-past n [] past r = r
 IsRun-past n (s ∷ later) past r = IsRun-past n later past r.1
 

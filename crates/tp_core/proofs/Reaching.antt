@@ -1,10 +1,9 @@
 -- What is accepted is a run.
-use Rattle.std.proofs.Common.{ℕ, ◌≡◌, List, [], ◌∷◌, Option, None, Some, refl, ◌∙◌, arith, sym, subst}
+use Rattle.std.proofs.Common.{ℕ, ◌≡◌, List, [], ◌∷◌, Option, None, Some, refl, subst}
 use Rattle.std.specs.Prelude.{is_some, if◌then◌else◌}
 use Rattle.tp_base.specs.declared.Step.{Step}
 use Rattle.tp_base.specs.declared.Refusal.{Refusal}
 use Rattle.tp_core.specs.Accepted.{Accepted, refusal, next, with_step, after_all}
-use Rattle.tp_core.specs.NeverEarly.{IsNeverEarly}
 use Rattle.tp_core.specs.Reached.{AcceptedIsNeverEarly}
 use Rattle.tp_core.specs.Run.{IsRun}
 use Rattle.tp_core.proofs.Exact.{lawful_where_none}

@@ -8,3 +8,5 @@ pub mod Accepted
 pub mod Kept
 pub mod NeverEarly
 pub mod Reached
+pub mod Settled
+pub mod Settling

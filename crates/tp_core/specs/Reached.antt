@@ -1,5 +1,5 @@
 -- What a core reaches from nothing, whatever steps it is handed.
-use Rattle.std.specs.Prelude.{ℕ, List, [], ◌≡◌}
+use Rattle.std.specs.Prelude.{List, [], ◌≡◌}
 use Rattle.tp_base.specs.declared.Step.{Step}
 use Rattle.tp_core.specs.Accepted.{Accepted, after_all}
 use Rattle.tp_core.specs.NeverEarly.{IsNeverEarly}

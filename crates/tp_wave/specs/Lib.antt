@@ -5,3 +5,4 @@ pub mod Machine
 pub mod Cut
 pub mod Checks
 pub mod Wave
+pub mod Settling

@@ -4,6 +4,7 @@ ghost use Rattle.tp_base.specs.declared.limits.TheConstants.{MAX_NODES, MAX_STEP
 use tp_base::{MAX_NODES, Sums};
 
 mod calls;
+mod next;
 
 /// How many places an array has: one for each node that there may be.
 const PLACES: usize = MAX_NODES as usize;

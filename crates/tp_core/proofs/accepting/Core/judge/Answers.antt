@@ -4,12 +4,18 @@ use Rattle.std.proofs.lemmas.Result.{err_from_is_err_and}
 use Rattle.tp_base.specs.declared.Step.TheVariants.{Judge}
 use Rattle.tp_wave.proofs.Exact.{checks_exact}
 use Rattle.tp_core.specs.Run.{IsLawful}
-use Rattle.tp_core.specs.Accepted.{judged}
-use Rattle.tp_core.specs.Kept.{accepted}
+use Rattle.tp_wave.specs.Cut.{DoTwoTell}
+use Rattle.tp_core.specs.Accepted.{Accepted, judged}
+use Rattle.tp_core.specs.Kept.{accepted, Agree}
+use Rattle.tp_core.specs.declared.accepting.Core.TheInside.{Inside}
+use Rattle.tp_core.proofs.Counting.{two_told}
 use Rattle.tp_core.proofs.Keeping.{agree_after, numbers_stay}
 use Rattle.tp_core.proofs.Taking.{taken, no_room, by_wave}
 use Rattle.tp_core.proofs.accepting.Core.judge.Goals as goal
 use Rattle.tp_core.proofs.accepting.Core.judge.Goals.{After-make_room, in-Some, in-None}
+
+told : {a : Accepted} {c : Inside} → Agree a c → DoTwoTell a.nodes a.steps
+told {a} {c} agree = two_told a.nodes a.steps agree.some_node agree.is_run
 
 lawful : (c : After-make_room) → IsLawful c.self.inside.nodes (accepted c.self.inside).steps Judge
 lawful c =
@@ -34,19 +40,19 @@ invariant_of-self-2 c =
     let at = (goal.at.invariant_of-self-2 c).After-make_room in
     agree_after Judge agree (lawful at) (c.in_ok-make_room.ensures.ok).0 c.in_ok-make_room.ensures.pieces refl c.make_room.ensures.items c.push_reserved.ensures.items c.push_reserved.ensures.capacity
     (numbers_stay Judge agree.numbers (lawful at) (λ x. refl)) refl refl agree.tasks agree.actions agree.messages
-    (c.in_ok-judged.ensures.follows c.self.inside.nodes (accepted c.self.inside).steps agree.wave)
+    (c.in_ok-judged.ensures.follows c.self.inside.nodes (accepted c.self.inside).steps agree.wave (told agree))
 
 pub returns : goal.returns
 returns c =
     let a = accepted c.self.inside in
-    let told = c.in_ok-judged.ensures.judged a.nodes a.steps c.self.invariant.wave in
+    let word = c.in_ok-judged.ensures.judged a.nodes a.steps c.self.invariant.wave (told c.self.invariant) in
     elim c.match-judged.branch [
       | in-Some w ↦
           rw w.result-is
           (taken Judge c.self.invariant c.self.view_is (lawful (goal.at.returns c).After-make_room) (c.in_ok-make_room.ensures.ok).0 c.make_room.ensures.items
-          c.push_reserved.ensures.items (ap judged (sym w.in-Some.is ∙ told)))
+          c.push_reserved.ensures.items (ap judged (sym w.in-Some.is ∙ word)))
       | in-None w ↦
           rw w.result-is
           (taken Judge c.self.invariant c.self.view_is (lawful (goal.at.returns c).After-make_room) (c.in_ok-make_room.ensures.ok).0 c.make_room.ensures.items
-          c.push_reserved.ensures.items (ap judged (sym w.in-None.is ∙ told)))
+          c.push_reserved.ensures.items (ap judged (sym w.in-None.is ∙ word)))
     ]

@@ -9,19 +9,19 @@ pub returns-clause-answer : goal.returns-clause-answer
 returns-clause-answer c = grind (arith, common_steps)
 
 pub returns-clause-judged : goal.returns-clause-judged
-returns-clause-judged c = λ n steps f.
+returns-clause-judged c = λ n steps f tell.
     let ended : IsTrue (has_ended steps) = grind (arith, common_steps, f.stands.given 0) in
-    returns-clause-answer c ∙ judged_following n steps c.args.self.now f ended
+    returns-clause-answer c ∙ judged_following n steps c.args.self.now f tell ended
 
 pub returns-clause-follows : goal.returns-clause-follows
-returns-clause-follows c = λ n steps f.
+returns-clause-follows c = λ n steps f tell.
     let over : IsFalse (is_ended n steps) = sym f.stands.over ∙ c.if-self.false in
-    let word = returns-clause-judged c n steps f in
+    let word = returns-clause-judged c n steps f tell in
     record {
       lawful = grind (arith, common_steps, f.stands.given 0);
       stands = record {
         nodes = f.stands.nodes;
-        over = over_after c.if-self-4.self (is_ended n steps) c.args.self.now.last.wave (judgement n steps) (sym c.then_some.ensures ∙ word) over;
+        over = over_after _ (is_ended n steps) _ (judgement n steps) (sym c.then_some.ensures ∙ word) over;
         judged = refl;
         reached = f.stands.reached;
         given = f.stands.given;

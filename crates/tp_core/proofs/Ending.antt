@@ -1,0 +1,156 @@
+-- What a core answers that takes control steps to the end, and what it is then.
+use Rattle.std.proofs.Common.{Global, ℕ, ◌+◌, ◌*◌, ◌≡◌, ◌≤◌, ◌↔◌, List, [], ◌∷◌, ◌++◌, Bool, true, false, None, length, reverse, refl, ap, sym, subst, ◌∙◌, inl, inr, arith, IsTrue, IsFalse, length-append}
+use Rattle.std.proofs.lemmas.Bool.{cases_Bool, both_ways}
+use Rattle.std.proofs.lemmas.Bool.Decides.{nat_tests}
+use Rattle.std.proofs.lemmas.List.{length-reverse}
+use Rattle.std.specs.declared.vec.Vec.{Vec}
+use Rattle.std.specs.Prelude.{vec_capacity}
+use Rattle.std.specs.List.{list_all}
+use Rattle.tp_base.specs.declared.Refusal.{Refusal}
+use Rattle.tp_base.specs.declared.Refusal.TheVariants.{Ended, NotIdle}
+use Rattle.tp_base.specs.declared.Step.{Step}
+use Rattle.tp_base.specs.declared.Step.TheVariants.{Judge}
+use Rattle.tp_base.specs.declared.limits.TheConstants.{MAX_STEPS}
+use Rattle.tp_base.specs.Checks.{first_refusal}
+use Rattle.tp_wave.specs.Sums.{waves, is_ended}
+use Rattle.tp_wave.specs.Control.{is_control}
+use Rattle.tp_wave.specs.Wave.{nodes_of}
+use Rattle.tp_wave.specs.declared.Wave.{Wave}
+use Rattle.tp_core.specs.declared.accepting.Core.TheInside.{Inside}
+use Rattle.tp_core.specs.declared.numbers.NodeNumbers.{NodeNumbers}
+use Rattle.tp_core.specs.World.{World, IsQuiet, is_quiet}
+use Rattle.tp_core.specs.Run.{world, IsRun}
+use Rattle.tp_core.specs.Accepted.{Accepted, IsRefusedFor, world_of}
+use Rattle.tp_core.specs.Kept.{accepted, Agree, IsKept, HasNumbers, HasPieces}
+use Rattle.tp_core.specs.Settled.{settle_checks, rooms_check, ends_before, IsSettled}
+use Rattle.tp_core.specs.Settling.{AreTaken, MaySettle}
+use Rattle.tp_core.proofs.Keeping.{numbers_stay}
+use Rattle.tp_core.proofs.Quiet.{none_from_length}
+use Rattle.tp_core.proofs.Settling.{judged_soon}
+use Rattle.tp_core.proofs.Due.{world_stays, moved_stays}
+
+-- ---- the test of quiet
+quiet_shown : (w : World) → IsTrue (is_quiet w) → IsQuiet w
+quiet_shown w q =
+    (grind (arith, nat_tests, q), none_from_length w.actions (grind (arith, nat_tests, q)), none_from_length w.messages (grind (arith, nat_tests, q)))
+
+quiet_told : (w : World) → IsQuiet w → IsTrue (is_quiet w)
+quiet_told w q = rw (q.0, q.1, q.2) refl
+
+pub same_quiet : (b : Bool) (w : World) → (IsTrue b ↔ IsQuiet w) → is_quiet w ≡ b
+same_quiet true w h = quiet_told w (h.0 refl)
+same_quiet false w h =
+    elim (cases_Bool (is_quiet w)) [
+      | inl q ↦ absurd (both_ways false refl (h.1 (quiet_shown w q)))
+      | inr n ↦ n
+    ]
+
+-- ---- the refusals
+abbrev IsRefusal : Accepted → Refusal → Type 0
+IsRefusal a r = IsRefusedFor (first_refusal (settle_checks a)) (ends_before (length a.steps) (9 * a.nodes)) r
+
+pub by_end : (a : Accepted) → IsTrue (is_ended a.nodes a.steps) → IsRefusal a Ended
+by_end a e = rw e refl
+
+pub by_quiet : (a : Accepted) → IsFalse (is_ended a.nodes a.steps) → IsFalse (is_quiet (world_of a)) → IsRefusal a NotIdle
+by_quiet a e q = rw (e, q) refl
+
+pub by_room : (a : Accepted) (r : Refusal) → IsFalse (is_ended a.nodes a.steps) → IsTrue (is_quiet (world_of a))
+    → IsRefusedFor (first_refusal (rooms_check (length a.steps) (9 * a.nodes))) (ends_before (length a.steps) (9 * a.nodes)) r → IsRefusal a r
+by_room a r e q told = rw (e, q) told
+
+pub no_rooms : (c : Inside) {old : Accepted} (mid : List Step) (r : Refusal) → accepted c ≡ old → IsFalse (is_ended c.nodes (accepted c).steps) → IsTrue (is_quiet (world_of (accepted c)))
+    → IsRefusedFor (first_refusal (rooms_check (length c.steps.items) (9 * c.nodes))) (ends_before (length c.steps.items) (9 * c.nodes)) r → mid ≡ c.steps.items
+    → IsRefusal old r × (record { nodes = c.nodes; steps = reverse mid } ≡ old)
+no_rooms c {old} mid r is e q told stay =
+    (subst (λ (a : Accepted). IsRefusal a r) is (by_room (accepted c) r e q (rw (length-reverse c.steps.items) told)), rw stay is)
+
+pub by_none : (a : Accepted) → IsFalse (is_ended a.nodes a.steps) → IsTrue (is_quiet (world_of a)) → length a.steps + 9 * a.nodes ≤ MAX_STEPS
+    → first_refusal (settle_checks a) ≡ None
+by_none a e q room = rw (e, q) (grind (arith, nat_tests, room))
+
+-- ---- before the steps are taken
+may_settle : {c : Inside} → IsKept c → IsFalse (is_ended c.nodes (accepted c).steps) → IsTrue (is_quiet (world_of (accepted c)))
+    → MaySettle c.nodes c.numbers (accepted c).steps c.wave
+may_settle {c} agree e q = record {
+  some_node = agree.some_node;
+  few_nodes = agree.few_nodes;
+  is_run = agree.is_run;
+  within = agree.within;
+  quiet = quiet_shown (world_of (accepted c)) q;
+  not_ended = e;
+  numbers_are = agree.numbers;
+  follows = agree.wave;
+}
+
+pub ready_there : (c : Inside) (mid : List Step) → IsKept c → IsFalse (is_ended c.nodes (accepted c).steps) → IsTrue (is_quiet (world_of (accepted c)))
+    → mid ≡ c.steps.items → MaySettle (nodes_of c.wave) c.numbers (reverse mid) c.wave
+ready_there c mid agree e q stay =
+    subst (λ (n : ℕ). MaySettle n c.numbers (reverse mid) c.wave) (sym agree.wave.stands.nodes)
+    (subst (λ (xs : List Step). MaySettle c.nodes c.numbers (reverse xs) c.wave) (sym stay) (may_settle agree e q))
+
+-- ---- after they were taken
+same_world : (n : ℕ) (later old : List Step) → IsTrue (list_all is_control later) → world n (later ++ old) ≡ world n old
+same_world n [] old c = refl
+same_world n (s ∷ later) old c =
+    let parts : IsTrue (is_control s) × IsTrue (list_all is_control later) = both (is_control s) (list_all is_control later) c in
+    world_stays s (world n (later ++ old)) parts.0 ∙ same_world n later old parts.1
+  where
+    both : (a b : Bool) → IsTrue (Rattle.std.specs.Prelude.◌&&◌ a b) → IsTrue a × IsTrue b
+    both true b h = (refl, h)
+    both false b h = cc
+
+same_numbers : (n : ℕ) (xs : List NodeNumbers) (later old : List Step) → IsTrue (list_all is_control later) → IsRun n (later ++ old)
+    → HasNumbers xs (record { nodes = n; steps = old }) → HasNumbers xs (record { nodes = n; steps = later ++ old })
+same_numbers n xs [] old c r h = h
+same_numbers n xs (s ∷ later) old c r h =
+    let parts : IsTrue (is_control s) × IsTrue (list_all is_control later) = both (is_control s) (list_all is_control later) c in
+    numbers_stay s (same_numbers n xs later old parts.1 r.1 h) r.0 (λ x. moved_stays s x parts.0)
+  where
+    both : (a b : Bool) → IsTrue (Rattle.std.specs.Prelude.◌&&◌ a b) → IsTrue a × IsTrue b
+    both true b h = (refl, h)
+    both false b h = cc
+
+-- fewer steps fit where more do
+pub fewer_pieces : (few many capacity : ℕ) → few ≤ many → HasPieces many capacity → HasPieces few capacity
+fewer_pieces few many capacity l h = omega (arith, l, h)
+
+pub agree_settled : {c : Inside} {w count : ℕ} (steps : Vec Step Global) (wave : Wave) → IsKept c → AreTaken c.nodes (accepted c).steps (reverse steps.items) wave w count
+    → length (accepted c).steps + 9 * c.nodes ≤ MAX_STEPS → HasPieces (length (accepted c).steps + 9 * c.nodes) (vec_capacity steps) → IsKept (record c { steps = steps; wave = wave })
+agree_settled {c} steps wave agree t room pieces =
+    let later : List Step = Judge ∷ t.taken in
+    let old : List Step = (accepted c).steps in
+    let size : length (later ++ old) ≡ length later + length old = length-append later old in
+    let few : length later + length old ≤ length old + 9 * c.nodes = let a = t.counted in omega (arith, t.few) in
+    let stay : world c.nodes (later ++ old) ≡ world c.nodes old = same_world c.nodes later old t.control in
+    let d : Inside = record c { steps = steps; wave = wave } in
+    subst (λ (xs : List Step). Agree (record { nodes = c.nodes; steps = xs }) d) (sym t.steps) record {
+      some_node = agree.some_node;
+      few_nodes = agree.few_nodes;
+      is_run = t.run;
+      within = omega (arith, size, few, room);
+      pieces = fewer_pieces (length steps.items) (length old + 9 * c.nodes) (vec_capacity steps)
+          (omega (arith, few, size, length-reverse steps.items, ap length t.steps)) pieces;
+      numbers = same_numbers c.nodes c.numbers later old t.control t.run agree.numbers;
+      left = rw stay agree.left;
+      under = rw stay agree.under;
+      tasks = rw stay agree.tasks;
+      actions = rw stay agree.actions;
+      messages = rw stay agree.messages;
+      wave = t.follows;
+    }
+
+pub settled : {c : Inside} {w count : ℕ} {new : List Step} {wave : Wave} → IsKept c → IsTrue (is_quiet (world_of (accepted c)))
+    → AreTaken c.nodes (accepted c).steps new wave w count → IsSettled (accepted c) (record { nodes = c.nodes; steps = new }) w count
+settled {c} {w} {count} {new} agree q t = record {
+  nodes = refl;
+  taken = t.taken;
+  steps = t.steps;
+  control = t.control;
+  run = t.run;
+  judged = t.judged;
+  counted = let a = t.counted in omega arith;
+  few = t.few;
+  started = subst (λ (xs : List Step). waves xs ≤ waves (accepted c).steps + 2) (sym t.steps)
+      (judged_soon c.nodes (Judge ∷ t.taken) (accepted c).steps agree.some_node t.run (quiet_shown (world_of (accepted c)) q)).1;
+}

@@ -1,0 +1,5 @@
+use Rattle.tp_core.proofs.Settling.{judged_soon}
+use Rattle.tp_core.proofs.laws.judged_soon.Goals as goal
+
+pub returns : goal.returns
+returns c = judged_soon

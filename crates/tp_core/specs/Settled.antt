@@ -1,0 +1,45 @@
+-- What `settle` answers: it takes control steps until the end is judged.
+use Rattle.std.specs.Prelude.{ℕ, ◌+◌, ◌-◌, ◌*◌, ◌/◌, ◌≡◌, ◌≤◌, List, [], ◌∷◌, ◌++◌, Bool, not, nat_lt, length, IsTrue, None, Some, Result, Ok, Err}
+use Rattle.std.specs.List.{list_all}
+use Rattle.tp_base.specs.declared.limits.TheConstants.{MAX_STEPS}
+use Rattle.tp_base.specs.declared.Refusal.TheVariants.{Ended, NotIdle, HistoryFull}
+use Rattle.tp_base.specs.declared.Step.{Step}
+use Rattle.tp_base.specs.declared.Step.TheVariants.{Judge}
+use Rattle.tp_base.specs.Checks.{Check, first_refusal}
+use Rattle.tp_base.specs.declared.Refusal.{Refusal}
+use Rattle.tp_wave.specs.Sums.{waves, is_ended, judgement}
+use Rattle.tp_wave.specs.Control.{is_control}
+use Rattle.tp_core.specs.declared.accepting.TheConstants.{PIECE}
+use Rattle.tp_core.specs.World.{is_quiet}
+use Rattle.tp_core.specs.Run.{IsRun}
+use Rattle.tp_core.specs.Accepted.{Accepted, IsRefusedFor, world_of}
+
+-- There is no room for so many steps more after so many.
+abbrev pub rooms_check : ℕ → ℕ → List Check
+rooms_check taken more = (nat_lt MAX_STEPS (taken + more), HistoryFull taken) ∷ []
+
+-- The checks in their order: the end was judged; something is left; there is no room for nine steps a node.
+abbrev pub settle_checks : Accepted → List Check
+settle_checks a =
+    (is_ended a.nodes a.steps, Ended) ∷ (not (is_quiet (world_of a)), NotIdle) ∷ rooms_check (length a.steps) (9 * a.nodes)
+
+-- The room that was made for so many steps ends before there is place for so many more: memory is asked for.
+abbrev pub ends_before : ℕ → ℕ → Bool
+ends_before taken more = nat_lt ((taken + (PIECE - 1)) / PIECE * PIECE) (taken + more)
+
+-- So many control steps were taken, each lawful when it was taken, the last of which judged that the pool had ended with wave w.
+pub record IsSettled (old new : Accepted) (w count : ℕ) : Type 0 where
+  pub nodes : new.nodes ≡ old.nodes
+  pub taken : List Step
+  pub steps : new.steps ≡ (Judge ∷ taken) ++ old.steps
+  pub control : IsTrue (list_all is_control taken)
+  pub run : IsRun old.nodes ((Judge ∷ taken) ++ old.steps)
+  pub judged : judgement old.nodes (taken ++ old.steps) ≡ Some w
+  pub counted : count ≡ length (Judge ∷ taken)
+  pub few : count ≤ 9 * old.nodes
+  pub started : waves new.steps ≤ waves old.steps + 2
+
+-- What a core that had accepted the old steps answers to `settle`, and what it has accepted then.
+abbrev pub Settles : Accepted → Result (ℕ × ℕ) Refusal → Accepted → Type 0
+Settles old (Ok answer) new = (first_refusal (settle_checks old) ≡ None) × IsSettled old new answer.0 answer.1
+Settles old (Err r) new = IsRefusedFor (first_refusal (settle_checks old)) (ends_before (length old.steps) (9 * old.nodes)) r × (new ≡ old)

@@ -1,0 +1,58 @@
+-- What the code of a core keeps while control steps are taken until the end is judged.
+use Rattle.std.specs.Prelude.{ℕ, ◌+◌, ◌*◌, ◌≡◌, ◌<◌, ◌≤◌, List, ◌∷◌, ◌++◌, length, IsTrue, IsFalse, Option, Some, None}
+use Rattle.std.specs.List.{list_all}
+use Rattle.tp_base.specs.declared.limits.TheConstants.{MAX_STEPS, MAX_NODES}
+use Rattle.tp_base.specs.declared.Step.{Step}
+use Rattle.tp_base.specs.declared.Step.TheVariants.{Judge}
+use Rattle.tp_wave.specs.Sums.{is_ended, judgement}
+use Rattle.tp_wave.specs.Control.{is_control}
+use Rattle.tp_wave.specs.Wave.{Follows}
+use Rattle.tp_wave.specs.declared.Wave.{Wave}
+use Rattle.tp_core.specs.declared.numbers.NodeNumbers.{NodeNumbers}
+use Rattle.tp_core.specs.World.{IsQuiet}
+use Rattle.tp_core.specs.Run.{world, IsLawful, IsRun}
+use Rattle.tp_core.specs.Kept.{HasNumbers}
+
+-- The steps on n nodes are a run after which nothing is left and the end was not judged; the numbers and the wave are what they say.
+pub record MaySettle (n : ℕ) (numbers : List NodeNumbers) (steps : List Step) (wave : Wave) : Type 0 where
+  pub some_node : 0 < n
+  pub few_nodes : n ≤ MAX_NODES
+  pub is_run : IsRun n steps
+  pub within : length steps ≤ MAX_STEPS
+  pub quiet : IsQuiet (world n steps)
+  pub not_ended : IsFalse (is_ended n steps)
+  pub numbers_are : HasNumbers numbers (record { nodes = n; steps = steps })
+  pub follows : Follows n steps wave
+
+-- A step is told to have judged that the pool had ended with a wave exactly where it did.
+abbrev pub IsTold : ℕ → List Step → Step → Option ℕ → Type 0
+IsTold n past s None = IsFalse (is_ended n (s ∷ past))
+IsTold n past s (Some w) = (s ≡ Judge) × (judgement n past ≡ Some w)
+
+-- One control step was taken, the wave went on by it, and it is told whether it judged the end.
+pub record IsTaken (n : ℕ) (past now : List Step) (wave : Wave) (told : Option ℕ) : Type 0 where
+  pub step : Step
+  pub control : IsTrue (is_control step)
+  pub lawful : IsLawful n past step
+  pub steps : now ≡ step ∷ past
+  pub follows : Follows n (step ∷ past) wave
+  pub is_told : IsTold n past step told
+
+-- So many control steps were taken until the end was judged.
+pub record AreTaken (n : ℕ) (old new : List Step) (wave : Wave) (w count : ℕ) : Type 0 where
+  pub taken : List Step
+  pub steps : new ≡ (Judge ∷ taken) ++ old
+  pub control : IsTrue (list_all is_control taken)
+  pub run : IsRun n ((Judge ∷ taken) ++ old)
+  pub judged : judgement n (taken ++ old) ≡ Some w
+  pub counted : count ≡ length taken + 1
+  pub few : count ≤ 9 * n
+  pub follows : Follows n ((Judge ∷ taken) ++ old) wave
+
+-- So many control steps were taken, and the end was not judged.
+pub record GoesOn (n : ℕ) (numbers : List NodeNumbers) (old now : List Step) (wave : Wave) (count : ℕ) : Type 0 where
+  pub taken : List Step
+  pub steps : now ≡ taken ++ old
+  pub control : IsTrue (list_all is_control taken)
+  pub counted : count ≡ length taken
+  pub settling : MaySettle n numbers now wave

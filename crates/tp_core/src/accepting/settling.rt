@@ -1,0 +1,110 @@
+ghost use Rattle.std.specs.Prelude.{◌≡◌, ◌≤◌, ◌<◌, ◌+◌, ◌*◌, OnOk, IfErr, length, reverse, vec_len, vec_capacity};
+ghost use Rattle.tp_base.specs.declared.limits.TheConstants.{MAX_STEPS};
+ghost use Rattle.tp_base.specs.Checks.{first_refusal};
+ghost use Rattle.tp_wave.specs.Wave.{nodes_of};
+ghost use Rattle.tp_core.specs.Accepted.{IsRefusedFor};
+ghost use Rattle.tp_core.specs.Kept.{HasPieces};
+ghost use Rattle.tp_core.specs.Settled.{ends_before, rooms_check};
+ghost use Rattle.tp_core.specs.Settling.{AreTaken, IsTaken, MaySettle};
+
+use super::{Core, PIECE};
+use crate::numbers::NodeNumbers;
+use tp_base::{MAX_STEPS, Refusal, Step};
+use tp_wave::Wave;
+
+impl Core {
+    ghost use Rattle.tp_core.specs.NeverEarly.{IsNeverEarly};
+    ghost use Rattle.tp_core.specs.Settled.{Settles};
+
+    /// Takes control steps until the end is judged, where nothing is left. It answers the number of the wave with which the
+    /// pool had ended, and how many steps were taken, at most nine for each node. At most two waves are started.
+    ///
+    /// Refused, and nothing is changed: `Ended` where the end was judged; `NotIdle` where a task is unfinished, an action is
+    /// open or a message is under way; `HistoryFull`, with the number of the steps, where fewer than nine steps a node can be
+    /// taken until there are 1,048,576; `NoMemory` where room for them was refused, which is asked for by 1,024 steps at once.
+    pub fn settle(&mut self) -> Result<(u32, u32), Refusal>
+        // It is refused for the first check that holds, and else it takes the steps.
+        ensures answers { Settles self.old result self.new }
+        // Wherever it was judged that the pool had ended, it had.
+        ensures never_early { IsNeverEarly self.new.nodes self.new.steps }
+    {
+        let settled = self.take_steps();
+        let _ = &self.steps; // they are a run
+        settled
+    }
+
+    fn take_steps(&mut self) -> Result<(u32, u32), Refusal>
+        ensures { Settles self.old result self.new }
+    {
+        if self.wave.is_over() {
+            return Err(Refusal::Ended);
+        }
+        if !self.quiet() {
+            return Err(Refusal::NotIdle);
+        }
+        make_rooms(&mut self.steps, 9 * self.nodes as usize)?;
+        Ok(take_to_end(&self.numbers, &mut self.steps, &mut self.wave))
+    }
+}
+
+// Room for so many steps more: refused where they are too many, and else where a new piece finds no memory.
+fn make_rooms(steps: &mut Vec<Step>, more: usize) -> Result<(), Refusal>
+    requires full { length steps.old.items ≤ MAX_STEPS }
+    requires few { more ≤ PIECE }
+    requires pieces { HasPieces (length steps.old.items) (vec_capacity steps.old) }
+    ensures items { steps.new.items ≡ steps.old.items }
+    ensures room { OnOk result (length steps.old.items + more ≤ MAX_STEPS) }
+    ensures pieces { OnOk result (HasPieces (length steps.old.items + more) (vec_capacity steps.new)) }
+    ensures kept { HasPieces (length steps.old.items) (vec_capacity steps.new) }
+    ensures err { IfErr result (IsRefusedFor (first_refusal (rooms_check (length steps.old.items) more)) (ends_before (length steps.old.items) more)) }
+{
+    let taken = steps.len();
+    if taken + more > MAX_STEPS as usize {
+        return Err(Refusal::HistoryFull(taken as u32));
+    }
+    let end = (taken + (PIECE - 1)) / PIECE * PIECE;
+    if end < taken + more {
+        steps.reserve(end + PIECE - taken)?;
+    }
+    Ok(())
+}
+
+// Takes the control steps that are due until the end is judged: the wave with which the pool had ended, and their number.
+fn take_to_end(numbers: &[NodeNumbers; 8], steps: &mut Vec<Step>, wave: &mut Wave) -> (u32, u32)
+    requires settling { MaySettle (nodes_of wave.old) numbers.now (reverse steps.old.items) wave.old }
+    requires room { length steps.old.items + 9 * nodes_of wave.old ≤ vec_capacity steps.old }
+    requires few { length steps.old.items + 9 * nodes_of wave.old ≤ MAX_STEPS }
+    ensures taken { AreTaken (nodes_of wave.old) (reverse steps.old.items) (reverse steps.new.items) wave.new result.0 result.1 }
+    ensures capacity { vec_capacity steps.new ≡ vec_capacity steps.old }
+{
+    let mut count = 0;
+    loop {
+        count += 1;
+        if let Some(ended) = take_due(numbers, steps, wave) {
+            return (ended, count);
+        }
+    }
+}
+
+// Takes the control step that is due: the wave with which the pool had ended, where it judges so.
+fn take_due(numbers: &[NodeNumbers; 8], steps: &mut Vec<Step>, wave: &mut Wave) -> Option<u32>
+    requires settling { MaySettle (nodes_of wave.old) numbers.now (reverse steps.old.items) wave.old }
+    requires room { vec_len steps.old < vec_capacity steps.old }
+    ensures taken { IsTaken (nodes_of wave.old) (reverse steps.old.items) (reverse steps.new.items) wave.new result }
+    ensures capacity { vec_capacity steps.new ≡ vec_capacity steps.old }
+{
+    let step = wave.next_step();
+    steps.push_reserved(step);
+    match step {
+        Step::Start => wave.start().unwrap(),
+        Step::Down(node) => wave.down(node).unwrap(),
+        Step::Give(node) => {
+            let own = numbers[node.0 as usize];
+            let _ = wave.give(node, own.sent, own.received).unwrap();
+        }
+        Step::Up(node) => wave.up(node).unwrap(),
+        Step::Judge => return wave.judge().unwrap(),
+        _ => unreachable!(),
+    }
+    None
+}
