@@ -47,7 +47,8 @@ none_first [] e = refl
 none_first (m ∷ messages) e = cc
 
 -- the first message is the one that was looked at
-pub sent_first : {G : Type 0} (messages : List (Carried G)) (first : Carried G) (to : ℕ) (h k : List Event) → Some first ≡ slice_get messages 0 → k ≡ h → IsTrue (any (is_send_to to first.number.0) (steps_of h)) → (m : Carried G) → slice_get messages 0 ≡ Some m → IsTrue (any (is_send_to to m.number.0) (steps_of k))
+pub sent_first : {G : Type 0} (messages : List (Carried G)) (first : Carried G) (to : ℕ) (h k : List Event) → Some first ≡ slice_get messages 0 → k ≡ h
+    → IsTrue (any (is_send_to to first.number.0) (steps_of h)) → (m : Carried G) → slice_get messages 0 ≡ Some m → IsTrue (any (is_send_to to m.number.0) (steps_of k))
 sent_first messages first to h k is same sent m e =
     let it : first ≡ m = (let both : Some first ≡ Some m = is ∙ e in cc) in
     subst (λ (z : List Event). IsTrue (any (is_send_to to m.number.0) (steps_of z))) (sym same) (ap (λ z. any (is_send_to to z.number.0) (steps_of h)) (sym it) ∙ sent)

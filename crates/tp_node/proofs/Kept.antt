@@ -82,7 +82,8 @@ module _ (pool : ℕ) (g : TaskGraph) {G : Type 0} (graph : G) (nodes next : ℕ
         (ap (λ z. z.node) en)
         (subst (λ (z : LocalState Numbers). KeepsKnown l.store z.store) (sym ek) (known-done l.store t value))
 
-    pub seed_keeps : (step : Step) (class : ℕ) → t.0 < g.tasks → g.arity t.0 ≡ 0 → k ≡ with_store (with_inserted l.store t class) l → step ≡ inserting m.node t 0 → n ≡ numbers_after step m → pending k ≡ pending l + 1 → IsNode pool g (node k n) next
+    pub seed_keeps : (step : Step) (class : ℕ) → t.0 < g.tasks → g.arity t.0 ≡ 0 → k ≡ with_store (with_inserted l.store t class) l → step ≡ inserting m.node t 0 → n ≡ numbers_after step m
+        → pending k ≡ pending l + 1 → IsNode pool g (node k n) next
     seed_keeps step class known free ek es en ep =
         let em : n ≡ numbers_after (inserting m.node t 0) m = en ∙ ap (λ z. numbers_after z m) es in
         keeps k n kept
@@ -115,7 +116,8 @@ module _ (pool : ℕ) (g : TaskGraph) {G : Type 0} (graph : G) (nodes next : ℕ
     put_done true i = refl
     put_done false i = refl
 
-    pub put_keeps : (step : Step) (known : Bool) (inputs class slot : ℕ) (value : Numbers) → IsInput g t.0 slot value → k ≡ with_store (with_delivered l.store t (g.arity t.0) class slot value) l → step ≡ put_step known inputs → n ≡ numbers_after step m → pending k ≡ pending l + (if known then 0 else 1) → IsNode pool g (node k n) next
+    pub put_keeps : (step : Step) (known : Bool) (inputs class slot : ℕ) (value : Numbers) → IsInput g t.0 slot value → k ≡ with_store (with_delivered l.store t (g.arity t.0) class slot value) l
+        → step ≡ put_step known inputs → n ≡ numbers_after step m → pending k ≡ pending l + (if known then 0 else 1) → IsNode pool g (node k n) next
     put_keeps step known inputs class slot value input ek es en ep =
         let em : n ≡ numbers_after (put_step known inputs) m = en ∙ ap (λ z. numbers_after z m) es in
         keeps k n kept

@@ -2,5 +2,4 @@ pub mod Right
 pub mod Putting
 pub mod Kept
 pub mod Answering
-pub mod Opening
 pub mod Turns

@@ -1,5 +1,6 @@
 -- What the changes of a store leave right.
-use Rattle.std.proofs.Common.{◌≡◌, ◌≢◌, ℕ, zero, suc, ◌+◌, ◌-◌, ◌<◌, ◌≤◌, ◌==◌, Bool, true, false, cond, List, [], ◌∷◌, ◌++◌, length, get_or, set, map, Option, Some, None, is_some, unwrap_or, MatchOption, MatchBool, count_by, refl, sym, ap, subst, ◌∙◌, inl, inr, arith}
+use Rattle.std.proofs.Common.{◌≡◌, ◌≢◌, ℕ, zero, suc, ◌+◌, ◌-◌, ◌<◌, ◌≤◌, ◌==◌, Bool, true, false, cond, List, [], ◌∷◌, ◌++◌, length, get_or, set, map, Option, Some, None, is_some, unwrap_or}
+use Rattle.std.proofs.Common.{MatchOption, MatchBool, count_by, refl, sym, ap, subst, ◌∙◌, inl, inr, arith}
 use Rattle.std.specs.Prelude.{ℤ, All, replicate, is_none, ◌⊎◌}
 use Rattle.std.specs.Option.{option_map}
 use Rattle.std.specs.Ordering.{nat_cmp}
@@ -74,7 +75,9 @@ module _ (g : TaskGraph) (s : Content Numbers) (t : TaskId) where
   )
 
   pub right-delivered : (class slot : ℕ) (value : Numbers) → AreRightValues g s → IsInput g t.0 slot value → AreRightValues g (with_delivered s t (g.arity t.0) class slot value)
-  right-delivered class slot value right input = right-put (with_value (unwrap_or (task_of s t) (fresh (g.arity t.0) class)) slot value) right (right-value (unwrap_or (task_of s t) (fresh (g.arity t.0) class)) slot value (old (task_of s t) refl) input)
+  right-delivered class slot value right input =
+      let task = unwrap_or (task_of s t) (fresh (g.arity t.0) class) in
+      right-put (with_value task slot value) right (right-value task slot value (old (task_of s t) refl) input)
     where
       old : (o : Option (Task Numbers)) → task_of s t ≡ o → IsRightTask g t.0 (unwrap_or o (fresh (g.arity t.0) class))
       old None e = right-fresh (g.arity t.0) class input.known refl
@@ -116,7 +119,8 @@ inputs_of g t x inputs right is ready same =
       right = λ s l. right.2 s (get_or inputs s []) (ap (λ vs. get_or vs s None) (sym same) ∙ some_at inputs s (omega arith));
     }
   where
-    rest : (life : Life) (values : List (Option Numbers)) (arity : ℕ) → life ≡ Ready → MatchBool (has_begun life) (values ≡ []) ((length values ≡ arity) × (count_by is_none values ≡ lacking life)) → (length values ≡ arity) × (count_by is_none values ≡ lacking life)
+    rest : (life : Life) (values : List (Option Numbers)) (arity : ℕ) → life ≡ Ready → MatchBool (has_begun life) (values ≡ []) ((length values ≡ arity) × (count_by is_none values ≡ lacking life))
+        → (length values ≡ arity) × (count_by is_none values ≡ lacking life)
     rest (Waiting k) values arity e is = is
     rest Ready values arity e is = is
     rest Running values arity e is = cc

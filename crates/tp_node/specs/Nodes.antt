@@ -1,5 +1,5 @@
 -- What contracts see of a node, and how its calls change it.
-use Rattle.std.specs.Prelude.{ℕ, ℤ, ◌+◌, ◌-◌, ◌≡◌, ◌≢◌, ◌<◌, ◌≤◌, ◌==◌, List, [], ◌∷◌, Bool, true, IsTrue, Option, None, Some, length, is_some, if◌then◌else◌, slice_index_or, All, refl}
+use Rattle.std.specs.Prelude.{ℕ, ℤ, ◌+◌, ◌-◌, ◌≡◌, ◌≢◌, ◌<◌, ◌≤◌, ◌==◌, List, [], ◌∷◌, Bool, true, IsTrue, Option, None, Some, length, is_some, MatchOption, if◌then◌else◌, slice_index_or, All, refl}
 use Rattle.std.specs.Coded.{Coded, code_by, coded×, coded_ℕ, coded_ℤ, coded_list}
 use Rattle.tp_base.specs.History.{Event}
 use Rattle.tp_base.specs.declared.ids.TaskId.{TaskId}
@@ -58,6 +58,11 @@ abbrev pub putting : TaskGraph → ℕ → Content Numbers → TaskId → Step
 putting g i c t = if is_some (task_of c t) then steps.Supply t else inserting i t (g.arity t.0 - 1)
 
 -- ---- what is left to insert
+-- the first number from one on that has a property, where there is one
+abbrev pub IsFirst : (ℕ → Type 0) → ℕ → Option ℕ → Type 0
+IsFirst has from found =
+    MatchOption found ((t : ℕ) → from ≤ t → has t → ⊥) (λ t. has t × (from ≤ t) × ((u : ℕ) → from ≤ u → u < t → has u → ⊥))
+
 -- task t is an input-free one of this node, of so many, and was never inserted
 pub record IsSeed (g : TaskGraph) (nodes node : ℕ) (c : Content Numbers) (t : ℕ) : Type 0 where
   pub known : t < g.tasks

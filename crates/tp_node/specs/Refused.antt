@@ -52,6 +52,10 @@ abbrev pub was_given : BoardState → {G : Type 0} → WireState G → MessageId
 was_given b w m = any (is_send_between w.from w.to m.0) (steps_of b.history)
 
 -- ---- checks
+-- what a value that is put to where a feed ends is refused for, room apart
+abbrev pub slot_checks : {V : Type 0} → TaskGraph → Content V → Feed → List Check
+slot_checks g c f = (takes_nothing c f.target (g.arity f.target.0), TaskKnown) ∷ (is_taken c f.target f.slot, SlotTaken) ∷ []
+
 abbrev pub begin_checks : BoardState → List Check
 begin_checks b = full_check 1 b ∷ []
 
@@ -81,6 +85,10 @@ module _ {G : Type 0} where
   -- the action of that number is open.
   abbrev pub is_stranger : NodeState G → BoardState → WireState G → Bool → MessageId → Bool
   is_stranger n b w is_same m = not is_same || (not (was_given b w m) || has_message n.state.actions m.0)
+
+  -- what a message is refused for, room apart
+  abbrev pub message_checks : NodeState G → BoardState → WireState G → Bool → MessageId → List Check
+  message_checks n b w is_same m = (n.state.ended, WrongLife) ∷ (is_stranger n b w is_same m, Stranger) ∷ []
 
   abbrev pub receive_checks : NodeState G → BoardState → WireState G → Bool → MessageId → List Check
   receive_checks n b w is_same m = (n.state.ended, WrongLife) ∷ (is_stranger n b w is_same m, Stranger) ∷ full_check 1 b ∷ []

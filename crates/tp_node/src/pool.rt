@@ -48,11 +48,30 @@ pub fn open_pool<G: Graph, K: Ledgers>(
         shares,
         links,
     } = open_books::<K>(alloc, blanks, nodes, limit)?;
+    let (nodes, links) = open_parts(alloc, graph, nodes, shares, links)?;
     Ok(Pool {
-        nodes: open_nodes(alloc, graph, nodes, shares)?,
-        links: open_wires(alloc, links)?,
+        nodes,
+        links,
         board,
     })
+}
+
+/// The nodes of first shares, and the wires of empty links.
+fn open_parts<G: Graph, K: Ledgers>(
+    alloc: Global,
+    graph: G,
+    count: u32,
+    shares: Vec<Shares<K>>,
+    links: Vec<LinkShare<K>>,
+) -> Result<(Vec<Node<G, K>>, Vec<Wire<G, K>>), AllocError>
+    requires pool { (count ≡ K.names.nodes) × (1 ≤ count) × (count ≤ 8) }
+    requires first { All (λ s. s ≡ first_numbers s.node) shares.items }
+    requires empty { All (λ l. l.under ≡ 0) links.items }
+    ensures nodes { IfOk result (λ parts. parts.0.items ≡ map (λ s. first_node graph count s.node) shares.items) }
+    ensures links { IfOk result (λ parts. parts.1.items ≡ map empty_wire links.items) }
+{
+    let nodes = open_nodes(alloc, graph, count, shares)?;
+    Ok((nodes, open_wires(alloc, links)?))
 }
 
 /// The nodes of first shares.

@@ -1,4 +1,4 @@
-ghost use Rattle.std.specs.Prelude.{◌≡◌, ◌==◌, ◌+◌, ◌<◌, [], ◌∷◌, ◌++◌, length, option_copied, slice_get, IfOk, OnErr, OnOk, Some, IsTrue};
+ghost use Rattle.std.specs.Prelude.{◌≡◌, ◌+◌, ◌<◌, [], ◌∷◌, ◌++◌, length, option_copied, slice_get, IfOk, OnErr, OnOk, Some, IsTrue};
 ghost use Rattle.tp_board.specs.Numbers.{event, is_send, numbers_after, receiving, sending};
 ghost use Rattle.tp_board.specs.States.{full_check};
 ghost use Rattle.tp_graph.specs.Carried.{Carried, IsFeed};
@@ -65,13 +65,6 @@ impl<G: Graph, K: Ledgers> Wire<G, K> {
         ensures { result ≡ length self.now.messages }
     {
         self.link.len()
-    }
-
-    /// Whether no message is on it.
-    pub fn is_empty(&self) -> bool
-        ensures { result ≡ (length self.now.messages == 0) }
-    {
-        self.link.is_empty()
     }
 
     /// The oldest message, which stays.

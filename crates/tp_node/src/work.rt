@@ -1,6 +1,7 @@
-ghost use Rattle.std.specs.Prelude.{◌≡◌, ◌<◌, ◌≤◌, ◌+◌, ◌↔◌, IsTrue, Some, IfOk, IfErr};
-ghost use Rattle.tp_graph.specs.Carried.{feed_at, IsFeed};
+ghost use Rattle.std.specs.Prelude.{◌≡◌, ◌<◌, ◌≤◌, ◌↔◌, IsTrue, Some, IfOk, IfErr};
+ghost use Rattle.tp_graph.specs.Carried.{IsFeed};
 ghost use Rattle.tp_graph.specs.Values.{value_of, AreInputs, IsInput, IsRefusal};
+ghost use Rattle.tp_node.specs.Feeds.{HasFeed, next_feed_of, passed_on};
 
 use smallvec::SmallVec;
 use std::alloc::Global;
@@ -72,12 +73,7 @@ impl<G: Graph> Work<G> {
         ensures kept { IfErr result (λ refusal. refusal.1 ≡ self) }
     {
         match run_body(alloc, &self.graph, self.task, self.inputs.as_slice()) {
-            Ok(value) => Ok(Finished {
-                graph: self.graph,
-                task: self.task,
-                value,
-                fed: 0,
-            }),
+            Ok(value) => Ok(Finished::new(self.graph, self.task, value)),
             Err(refusal) => Err((refusal, self)),
         }
     }
@@ -167,8 +163,8 @@ impl<G: Graph> Finished<G> {
 
     /// The next feed, which has to be passed on.
     pub fn next_feed(&self) -> Feed
-        requires { self.now.fed < (G.meaning self.now.graph).feeds self.now.task.0 }
-        ensures same { result ≡ feed_at (G.meaning self.now.graph) self.now.task.0 self.now.fed }
+        requires { HasFeed (G.meaning self.now.graph) self.now }
+        ensures same { result ≡ next_feed_of (G.meaning self.now.graph) self.now }
         ensures right { IsFeed (G.meaning self.now.graph) result }
         ensures input { IsInput (G.meaning self.now.graph) result.target.0 result.slot self.now.value }
     {
@@ -177,8 +173,8 @@ impl<G: Graph> Finished<G> {
 
     /// Counts the next feed as passed on. The node alone counts, as the last part of a call that passed the value on.
     pub(crate) fn pass_on(&mut self)
-        requires { self.old.fed < (G.meaning self.old.graph).feeds self.old.task.0 }
-        ensures { self.new ≡ record self.old { fed = self.old.fed + 1 } }
+        requires { HasFeed (G.meaning self.old.graph) self.old }
+        ensures { self.new ≡ passed_on self.old }
     {
         let feeds = self.graph.feeds(self.task);
         prove!(self.fed < feeds);

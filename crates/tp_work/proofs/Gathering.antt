@@ -2,7 +2,7 @@
 use Rattle.std.proofs.Common.{◌≡◌, ℕ, ◌+◌, List, [], ◌∷◌, ◌++◌, length, map, refl, sym, ap, subst, ◌∙◌, arith}
 use Rattle.std.specs.Prelude.{Some, sum_by}
 use Rattle.std.specs.List.{All, flat_map}
-use Rattle.std.proofs.lemmas.List.{get_or-map, get_or_append_left, length-append, length-map}
+use Rattle.std.proofs.lemmas.List.{flat_map_more, get_or-map, get_or_append_left, length-append, length-map, map-append}
 use Rattle.std.proofs.Math.Seq.{get_or-append_seam}
 use Rattle.std.proofs.lemmas.List.Elements.{All-append}
 use Rattle.std.proofs.lemmas.List.Sums.{sum_by-cons}
@@ -25,6 +25,18 @@ module _ {G : Type 0} where
       sum_by-cons (λ (s : NodeNumbers). s.done) (counted_of n) (map counted_of nodes)
       ∙ ap (λ k. length (results_of n) + k) (done_by nodes)
       ∙ sym (length-append (results_of n) (flat_map results_of nodes))
+
+  -- the shares and the results of one more node
+  pub shares-more : (nodes : List (NodeState G)) (n : NodeState G) (shares new : List NodeNumbers) (share : NodeNumbers)
+      → shares ≡ map counted_of nodes → share ≡ counted_of n → new ≡ shares ++ share ∷ [] → new ≡ map counted_of (nodes ++ n ∷ [])
+  shares-more nodes n shares new share before is pushed =
+      pushed ∙ ap (λ (s : NodeNumbers). shares ++ s ∷ []) is ∙ ap (λ (ss : List NodeNumbers). ss ++ counted_of n ∷ []) before
+      ∙ sym (map-append counted_of nodes (n ∷ []))
+
+  pub results-more : (nodes : List (NodeState G)) (n : NodeState G) (results new more : Results)
+      → results ≡ flat_map results_of nodes → more ≡ results_of n → new ≡ results ++ more → new ≡ flat_map results_of (nodes ++ n ∷ [])
+  results-more nodes n results new more before is joined =
+      joined ∙ ap (λ (rs : Results). results ++ rs) is ∙ ap (λ (rs : Results). rs ++ results_of n) before ∙ flat_map_more results_of [] nodes n
 
   -- The results of one more node are right, where it is of the graph.
   pub right-more : (meaning : G → TaskGraph) (graph : G) (nodes : List (NodeState G)) (n : NodeState G) (results more : Results)

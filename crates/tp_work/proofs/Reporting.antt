@@ -32,6 +32,7 @@ module _ {G : Type 0} where
   is_report n g nodes links board r gathered run agree each order right =
       record {
         of_run = run;
+        balance = gathered.balance;
         pending = gathered.pending ∙ pending_of_run n nodes r each order agree;
         done = gathered.done;
         right = right;

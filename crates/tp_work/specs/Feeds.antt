@@ -1,17 +1,14 @@
--- Where the feeds of a finished task go.
+-- What a worker knows of a finished task and of its node while it passes feeds on.
 use Rattle.std.specs.Prelude.{ℕ, ◌≡◌, ◌<◌}
-use Rattle.tp_graph.specs.Carried.{Ran, feed_at}
+use Rattle.tp_graph.specs.Carried.{Ran}
 use Rattle.tp_graph.specs.Graphs.{TaskGraph}
+use Rattle.tp_node.specs.Feeds.{HasFeed, next_home}
 use Rattle.tp_node.specs.Nodes.{NodeState}
 
 module _ {G : Type 0} where
-  -- a feed was not passed on
-  abbrev pub HasFeed : TaskGraph → Ran G → Type 0
-  HasFeed g f = f.fed < g.feeds f.task.0
-
-  -- the node that the next feed goes to, of so many
-  abbrev pub next_home : TaskGraph → Ran G → ℕ → ℕ
-  next_home g f nodes = g.home (feed_at g f.task.0 f.fed).target.0 nodes
+  -- the next feed goes to this node, of so many
+  abbrev pub GoesTo : TaskGraph → Ran G → ℕ → ℕ → Type 0
+  GoesTo g f nodes home = HasFeed g f × (home ≡ next_home g f nodes) × (home < nodes)
 
   -- the same task, with more feeds passed on
   pub record IsFarther (old new : Ran G) : Type 0 where

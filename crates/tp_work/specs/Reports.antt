@@ -42,10 +42,11 @@ pub record IsOfItsRun (n : ℕ) (r : Report) : Type 0 where
 abbrev pub AreOfTheRun : {G : Type 0} → List (NodeState G) → Report → Type 0
 AreOfTheRun nodes r = All (λ n. pending n.state ≡ pending_at n.numbers.node r.history.events) nodes
 
--- A report of a pool of n nodes, each at its place, that works a graph out: its numbers are those of a run, and its results
--- are values of the graph.
+-- A report of a pool of n nodes, each at its place, that works a graph out: its numbers are those of a run, what was sent less
+-- what was received is under way, and its results are values of the graph.
 pub record IsReport (n : ℕ) (g : TaskGraph) (r : Report) : Type 0 where
   pub of_run : IsOfItsRun n r
+  pub balance : r.sent ≡ r.received + r.under
   pub pending : r.pending ≡ total n (λ i. pending_at i r.history.events)
   pub done : r.done ≡ vec_len r.results
   pub right : AreRight g r.results.items

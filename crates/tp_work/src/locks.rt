@@ -153,6 +153,20 @@ impl<G: Graph, K: Ledgers> Locks<G, K> {
     }
 }
 
+/// Puts the parts of a pool, which may have as many events as any, under locks, and makes room to take them out again.
+pub(crate) fn lock_pool<G: Graph, K: Ledgers>(
+    alloc: Global,
+    pool: Pool<G, K>,
+) -> Result<(Locks<G, K>, Room<G, K>), Refusal>
+    requires limit { pool.board.limit ≡ MAX_STEPS }
+    ensures nodes { IfOk result (λ r. (vec_len r.0.sites ≡ vec_len pool.nodes) × (r.1.nodes.items ≡ []) × (vec_len r.0.sites ≤ vec_capacity r.1.nodes)) }
+    ensures links { IfOk result (λ r. (vec_len r.0.lines ≡ vec_len pool.links) × (r.1.links.items ≡ []) × (vec_len r.0.lines ≤ vec_capacity r.1.links)) }
+    ensures refusal { IfErr result (λ e. e ≡ NoMemory) }
+{
+    let room = Room::new(alloc, pool.nodes.len(), pool.links.len())?;
+    Ok((Locks::new(alloc, pool)?, room))
+}
+
 fn lock_nodes<N: Drop>(alloc: Global, nodes: Vec<N>) -> Result<Vec<Site<N>>, Refusal>
     ensures each { IfOk result (λ sites. vec_len sites ≡ vec_len nodes) }
     ensures refusal { IfErr result (λ e. e ≡ NoMemory) }

@@ -1,4 +1,4 @@
-ghost use Rattle.std.specs.Prelude.{◌≡◌, ◌≤◌, ◌↔◌, length, IfErr, IfOk, IsTrue, MatchOption, None};
+ghost use Rattle.std.specs.Prelude.{◌≡◌, ◌≤◌, ◌↔◌, ◌*◌, ◌-◌, length, vec_len, IfErr, IfOk, IsTrue, MatchOption, None};
 ghost use Rattle.tp_work.specs.Outcomes.{HasEachOnce, IsAnswer, IsComplete, IsFault, IsLack, IsOutcome, IsUngathered, IsWithinLimits};
 ghost use Rattle.tp_wave.specs.Machine.{steps_of};
 ghost use Rattle.tp_work.specs.Lives.{LivesOnce};
@@ -8,7 +8,7 @@ use crate::config::{Config, Fault, Outcome};
 use crate::gate::Gate;
 use crate::gathered::{Report, finish};
 use crate::lives::each_lives;
-use crate::locks::{Locks, Room, check_places};
+use crate::locks::{Locks, check_places, lock_pool};
 use crate::once::each_once;
 use crate::worker::{Worker, set_fault};
 use std::alloc::{AllocError, Global};
@@ -18,7 +18,7 @@ use std::thread::Threads;
 use tp_base::{MAX_STEPS, NodeId, Refusal};
 use tp_board::{Blanks, Brand, Ledgers};
 use tp_graph::Graph;
-use tp_node::open_pool;
+use tp_node::{Pool, open_pool};
 
 /// Runs a pool that works a graph out, by so many threads at each node, and gathers what it has made when all have ended.
 ///
@@ -125,11 +125,23 @@ fn run<G: Graph, K: Ledgers + Send + Sync, A: Gate, R: Threads + Wait + Sync>(
     ensures refusal { IfErr result IsUngathered }
 {
     let pool = open_pool::<G, K>(alloc, blanks, graph, config.nodes, MAX_STEPS)?;
-    let room = Room::new(alloc, pool.nodes.len(), pool.links.len())?;
-    let locks = Locks::new(alloc, pool)?;
+    let (locks, room) = lock_pool(alloc, pool)?;
     start_workers(rt, alloc, graph, config, &locks, gate);
-    let pool = locks.into_pool(room);
-    check_places(&pool, &graph)?;
+    report_of(alloc, &graph, locks.into_pool(room))
+}
+
+/// Gathers a pool, where each of its parts is at its place.
+fn report_of<G: Graph, K: Ledgers>(
+    alloc: Global,
+    graph: &G,
+    pool: Pool<G, K>,
+) -> Result<Report, Refusal>
+    requires nodes { vec_len pool.nodes ≡ K.names.nodes }
+    requires links { vec_len pool.links ≡ K.names.nodes * (K.names.nodes - 1) }
+    ensures report { IfOk result (IsReport K.names.nodes (G.meaning graph.now)) }
+    ensures refusal { IfErr result IsUngathered }
+{
+    check_places(&pool, graph)?;
     match finish(alloc, pool) {
         Ok(report) => Ok(report),
         Err((refusal, _)) => Err(refusal),

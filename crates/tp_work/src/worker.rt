@@ -1,6 +1,7 @@
 ghost use Rattle.std.specs.Prelude.{◌≡◌, ◌<◌, ◌≤◌, MatchOption, OnOk};
-ghost use Rattle.tp_work.specs.Feeds.{HasFeed, IsFarther, IsSameNode};
-ghost use Rattle.tp_work.specs.Feeds as feeds;
+ghost use Rattle.tp_node.specs.Feeds as feeds;
+ghost use Rattle.tp_node.specs.Feeds.{HasFeed};
+ghost use Rattle.tp_work.specs.Feeds.{GoesTo, IsFarther, IsSameNode};
 
 use crate::gate::Gate;
 use crate::locks::{Line, Locks, Site, link_place, lock_soon};
@@ -134,8 +135,20 @@ impl<'a, G: Graph, K: Ledgers, A: Gate, R: Wait> Worker<'a, G, K, A, R> {
         let Some(site) = self.locks.sites.get(self.place.0 as usize) else {
             return Err(Refusal::NoNode);
         };
-        let mut guard = lock_soon(self.rt, &site.node);
-        let here = &mut *guard;
+        let mut here = lock_soon(self.rt, &site.node);
+        self.turn_at(&mut here, site, finished, idle, seen)
+    }
+
+    /// Passes on what the worker's last task has made, and takes a turn of the node.
+    #[inline(always)]
+    fn turn_at(
+        &self,
+        here: &mut Node<G, K>,
+        site: &Site<Node<G, K>>,
+        finished: Option<Finished<G>>,
+        idle: u32,
+        seen: &mut Option<Seen>,
+    ) -> Result<Turn<G, K>, Refusal> {
         check_node(here, self.place, &self.graph)?;
         if let Some(finished) = finished {
             self.pass_on(here, finished)?;
@@ -156,13 +169,10 @@ impl<'a, G: Graph, K: Ledgers, A: Gate, R: Wait> Worker<'a, G, K, A, R> {
     /// Inserts input-free tasks, and closes the opening action after the last.
     fn open(&self, here: &mut Node<G, K>, site: &Site<Node<G, K>>) -> Result<Turn<G, K>, Refusal> {
         let mut board = lock_soon(self.rt, &self.locks.board);
-        for _ in 0..SEEDS_IN_A_HOLD {
-            if !here.seed(&mut board)? {
-                here.ready(&mut board)?;
-                break;
-            }
-        }
+        let opened = open_tasks(here, &mut board);
+        drop(board);
         site.tell_ready(here.counts().ready);
+        opened?;
         Ok(Turn::Moved)
     }
 
@@ -180,13 +190,19 @@ impl<'a, G: Graph, K: Ledgers, A: Gate, R: Wait> Worker<'a, G, K, A, R> {
         }
         let ready = here.counts().ready;
         site.tell_ready(ready.saturating_sub(1));
-        if ready > 0 {
-            let mut board = lock_soon(self.rt, &self.locks.board);
-            if let Some(work) = here.begin(&mut board)? {
-                return Ok(Turn::Begun(work));
-            }
+        if ready > 0
+            && let Some(work) = self.begin(here)?
+        {
+            return Ok(Turn::Begun(work));
         }
         self.control(here, seen)
+    }
+
+    /// Begins the node's next ready task.
+    #[inline(always)]
+    fn begin(&self, here: &mut Node<G, K>) -> Result<Option<Work<G>>, Refusal> {
+        let mut board = lock_soon(self.rt, &self.locks.board);
+        here.begin(&mut board)
     }
 
     /// Receives a message and delivers its value, where there is one.
@@ -236,8 +252,7 @@ impl<'a, G: Graph, K: Ledgers, A: Gate, R: Wait> Worker<'a, G, K, A, R> {
         if *seen == now {
             return Ok(Turn::Idle);
         }
-        let mut board = lock_soon(self.rt, &self.locks.board);
-        match here.control_turn(&mut board)? {
+        match self.control_turn(here)? {
             ControlTurn::Idle => {
                 *seen = now;
                 Ok(Turn::Idle)
@@ -248,6 +263,12 @@ impl<'a, G: Graph, K: Ledgers, A: Gate, R: Wait> Worker<'a, G, K, A, R> {
             }
             ControlTurn::Over(ended) => Ok(Turn::Over(ended)),
         }
+    }
+
+    #[inline(always)]
+    fn control_turn(&self, here: &mut Node<G, K>) -> Result<ControlTurn<K>, Refusal> {
+        let mut board = lock_soon(self.rt, &self.locks.board);
+        here.control_turn(&mut board)
     }
 
     /// Runs the body of a task, under no lock.
@@ -304,19 +325,17 @@ impl<'a, G: Graph, K: Ledgers, A: Gate, R: Wait> Worker<'a, G, K, A, R> {
         let Some(line) = self.locks.lines.get(link_place(number.0, to.0, nodes)) else {
             return Err(Refusal::NoNode);
         };
-        let mut guard = lock_soon(self.rt, &line.wire);
-        let wire = &mut *guard;
-        if wire.from() != number || wire.to() != to {
-            return Err(Refusal::NoNode);
-        }
+        let mut wire = lock_soon(self.rt, &line.wire);
         let mut board = lock_soon(self.rt, &self.locks.board);
-        here.send(wire, &mut board, finished)?;
+        let sent = send_next(here, &mut wire, &mut board, to, finished);
         drop(board);
         line.length.store(wire.len() as u64, Ordering::SeqCst);
-        if let Some(site) = self.locks.sites.get(to.0 as usize) {
+        if let Some(site) = self.locks.sites.get(to.0 as usize)
+            && sent.is_ok()
+        {
             site.mail.fetch_add(1, Ordering::SeqCst);
         }
-        Ok(())
+        sent
     }
 
     /// Announces the end to each node.
@@ -326,15 +345,39 @@ impl<'a, G: Graph, K: Ledgers, A: Gate, R: Wait> Worker<'a, G, K, A, R> {
             let Some(site) = self.locks.sites.get(place as usize) else {
                 break;
             };
-            let mut guard = lock_soon(self.rt, &site.node);
-            let node = &mut *guard;
-            check_node(node, NodeId(place), &self.graph)?;
-            let mut board = lock_soon(self.rt, &self.locks.board);
-            node.quiet_under(&mut ended, &mut board);
+            self.announce_at(site, NodeId(place), &mut ended)?;
         }
         self.locks.is_stopped.store(true, Ordering::SeqCst);
         Ok(())
     }
+
+    fn announce_at(
+        &self,
+        site: &Site<Node<G, K>>,
+        place: NodeId,
+        ended: &mut Ended<K>,
+    ) -> Result<(), Refusal> {
+        let mut node = lock_soon(self.rt, &site.node);
+        let checked = check_node(&node, place, &self.graph);
+        if checked.is_ok() {
+            let mut board = lock_soon(self.rt, &self.locks.board);
+            node.quiet_under(ended, &mut board);
+        }
+        checked
+    }
+}
+
+/// Inserts input-free tasks, and closes the opening action after the last.
+fn open_tasks<G: Graph, K: Ledgers>(
+    here: &mut Node<G, K>,
+    board: &mut Board<K>,
+) -> Result<(), Refusal> {
+    for _ in 0..SEEDS_IN_A_HOLD {
+        if !here.seed(board)? {
+            return here.ready(board);
+        }
+    }
+    Ok(())
 }
 
 /// Whether a node is the one of a place, of a graph.
@@ -365,6 +408,27 @@ pub(crate) fn set_fault<G: Graph, K: Ledgers, R: Wait>(
     locks.is_stopped.store(true, Ordering::SeqCst);
 }
 
+/// Passes the next feed on over a wire, where that goes from the node to another.
+fn send_next<G: Graph, K: Ledgers>(
+    here: &mut Node<G, K>,
+    wire: &mut Wire<G, K>,
+    board: &mut Board<K>,
+    to: NodeId,
+    finished: &mut Finished<G>,
+) -> Result<(), Refusal>
+    requires graph { finished.old.graph ≡ here.old.graph }
+    requires next { HasFeed (G.meaning here.old.graph) finished.old }
+    requires there { feeds.next_home (G.meaning here.old.graph) finished.old here.old.nodes ≡ to.0 }
+    ensures node { OnOk result (IsSameNode here.old here.new) }
+    ensures passed { OnOk result (IsFarther finished.old finished.new) }
+{
+    if wire.from() != here.number() || wire.to() != to {
+        return Err(Refusal::NoNode);
+    }
+    here.send(wire, board, finished)?;
+    Ok(())
+}
+
 /// Receives the next message of a wire from a node, and delivers its value, where there is one.
 fn receive_next<G: Graph, K: Ledgers>(
     here: &mut Node<G, K>,
@@ -388,7 +452,7 @@ fn receive_next<G: Graph, K: Ledgers>(
 #[inline(always)]
 fn next_home<G: Graph>(finished: &Finished<G>, nodes: u32) -> Option<NodeId>
     requires { (1 ≤ nodes) × (nodes ≤ 8) }
-    ensures next { MatchOption result (finished.now.fed ≡ (G.meaning finished.now.graph).feeds finished.now.task.0) (λ home. HasFeed (G.meaning finished.now.graph) finished.now × (home.0 ≡ feeds.next_home (G.meaning finished.now.graph) finished.now nodes) × (home.0 < nodes)) }
+    ensures next { MatchOption result (finished.now.fed ≡ (G.meaning finished.now.graph).feeds finished.now.task.0) (λ home. GoesTo (G.meaning finished.now.graph) finished.now nodes home.0) }
 {
     let _passed = finished.fed();
     if finished.all_fed() {

@@ -1,16 +1,17 @@
 ghost use Rattle.std.specs.Prelude.{◌≡◌, ◌≤◌, ◌<◌, ◌+◌, [], ◌∷◌, false, Some, None, slice_get, IfOk, IsTrue, MatchOption, OnErr, OnOk};
 ghost use Rattle.tp_board.specs.Numbers.{is_send, receiving, sending};
-ghost use Rattle.tp_graph.specs.Carried.{IsFeed, feed_at};
+ghost use Rattle.tp_graph.specs.Carried.{IsFeed};
 ghost use Rattle.tp_local.specs.Actions.{has_message, without_message};
 ghost use Rattle.tp_store.specs.Content.{refusal_of_deliver};
 ghost use Rattle.tp_board.specs.Calls.{Answers, AnswersWith, Appends};
-ghost use Rattle.tp_node.specs.Nodes.{HasBrought, after, delivered_with, ending, event_of, putting_at, with_actions, with_received, with_sent};
-ghost use Rattle.tp_node.specs.Refused.{deliver_checks, is_stranger, receive_checks, send_checks};
+ghost use Rattle.tp_node.specs.Calls.{Receives, Rests};
+ghost use Rattle.tp_node.specs.Feeds.{HasFeed, next_feed_of, next_home, passed_on};
+ghost use Rattle.tp_node.specs.Nodes.{HasBrought, after, delivered_with, ending, event_of, putting_at, with_actions, with_sent};
+ghost use Rattle.tp_node.specs.Refused.{deliver_checks, message_checks, receive_checks, send_checks};
 ghost use Rattle.tp_node.specs.Wires.{message_on, with_message};
 ghost use Rattle.tp_wave.specs.Machine.{is_send_to, steps_of};
 ghost use Rattle.tp_wave.specs.Steps.{any, count};
 ghost use Rattle.tp_base.specs.Checks.{first_refusal};
-ghost use Rattle.tp_base.specs.declared.refusal.Refusal.TheVariants.{Stranger, WrongLife};
 
 use crate::node::Node;
 use crate::node::tasks::make_room;
@@ -33,14 +34,14 @@ impl<G: Graph, K: Ledgers> Node<G, K> {
         finished: &mut Finished<G>,
     ) -> Result<MessageId, Refusal>
         requires graph { finished.old.graph ≡ self.old.graph }
-        requires next { finished.old.fed < (G.meaning self.old.graph).feeds finished.old.task.0 }
+        requires next { HasFeed (G.meaning self.old.graph) finished.old }
         requires from_here { wire.old.from ≡ self.old.numbers.node }
-        requires there { (G.meaning self.old.graph).home (feed_at (G.meaning self.old.graph) finished.old.task.0 finished.old.fed).target.0 self.old.nodes ≡ wire.old.to }
+        requires there { next_home (G.meaning self.old.graph) finished.old self.old.nodes ≡ wire.old.to }
         ensures number { IfOk result (λ m. m.0 ≡ count is_send (steps_of board.old.history)) }
         ensures event { IfOk result (λ m. Appends (event_of self.old (sending self.old.numbers.node wire.old.to m.0) ∷ []) board.old board.new) }
         ensures sent { IfOk result (λ m. self.new ≡ after (sending self.old.numbers.node wire.old.to m.0) (with_sent self.old.state) self.old) }
-        ensures last { IfOk result (λ m. wire.new ≡ with_message (message_on wire.old self.old.graph m.0 (feed_at (G.meaning self.old.graph) finished.old.task.0 finished.old.fed) finished.old.value) wire.old) }
-        ensures passed { OnOk result (finished.new ≡ record finished.old { fed = finished.old.fed + 1 }) }
+        ensures last { IfOk result (λ m. wire.new ≡ with_message (message_on wire.old self.old.graph m.0 (next_feed_of (G.meaning self.old.graph) finished.old) finished.old.value) wire.old) }
+        ensures passed { OnOk result (finished.new ≡ passed_on finished.old) }
         ensures refusal { Answers (send_checks self.old board.old finished.old.task) result }
         ensures refused { OnErr result (Appends [] board.old board.new × (self.new ≡ self.old) × (wire.new ≡ wire.old) × (finished.new ≡ finished.old)) }
     {
@@ -70,7 +71,7 @@ impl<G: Graph, K: Ledgers> Node<G, K> {
     ) -> Result<Option<Parcel<G>>, Refusal>
         requires to_here { wire.old.to ≡ self.old.numbers.node }
         ensures none { wire.old.messages ≡ [] → result ≡ Ok None }
-        ensures received { IfOk result (λ parcel. MatchOption parcel ((wire.old.messages ≡ []) × Appends [] board.old board.new × (self.new ≡ self.old) × (wire.new ≡ wire.old)) (λ p. (p.graph ≡ self.old.graph) × (wire.old.messages ≡ p ∷ wire.new.messages) × (wire.new.from ≡ wire.old.from) × (wire.new.to ≡ wire.old.to) × Appends (event_of self.old (receiving self.old.numbers.node p.number.0) ∷ []) board.old board.new × (self.new ≡ after (receiving self.old.numbers.node p.number.0) (with_received p.number.0 p.feed self.old.state) self.old))) }
+        ensures received { IfOk result (λ parcel. MatchOption parcel ((wire.old.messages ≡ []) × Rests self.old self.new board.old board.new × (wire.new ≡ wire.old)) (Receives self.old self.new board.old board.new wire.old wire.new)) }
         ensures brought { IfOk result (λ parcel. MatchOption parcel (Unit {0}) (HasBrought (G.meaning self.new.graph) self.new)) }
         ensures refusal { MatchOption (slice_get wire.old.messages 0) (Unit {0}) (λ m. Answers (receive_checks self.old board.old wire.old (G.eq m.graph self.old.graph) m.number) result) }
         ensures refused { OnErr result (Appends [] board.old board.new × (self.new ≡ self.old) × (wire.new ≡ wire.old)) }
@@ -134,7 +135,7 @@ impl<G: Graph, K: Ledgers> Node<G, K> {
         board: &Board<K>,
         message: &Message<G>,
     ) -> Result<(), Refusal>
-        ensures refusal { MatchOption (first_refusal ((self.now.state.ended, WrongLife) ∷ (is_stranger self.now board.now wire.now (G.eq message.now.graph self.now.graph) message.now.number, Stranger) ∷ [])) (result ≡ Ok tt) (λ e. result ≡ Err e) }
+        ensures refusal { MatchOption (first_refusal (message_checks self.now board.now wire.now (G.eq message.now.graph self.now.graph) message.now.number)) (result ≡ Ok tt) (λ e. result ≡ Err e) }
         ensures graph { OnOk result (message.now.graph ≡ self.now.graph) }
         ensures sent { OnOk result (IsTrue (any (is_send_to wire.now.to message.now.number.0) (steps_of board.now.history))) }
         ensures closed { OnOk result ((self.now.state.ended ≡ false) × (has_message self.now.state.actions message.now.number.0 ≡ false)) }

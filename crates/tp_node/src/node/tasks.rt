@@ -1,13 +1,15 @@
-ghost use Rattle.std.specs.Prelude.{◌≡◌, ◌≤◌, ◌<◌, ◌+◌, ◌-◌, ℕ, [], ◌∷◌, false, map, Some, None, if◌then◌else◌, is_some, IfErr, IfOk, IsTrue, MatchBool, MatchOption, OnErr, OnOk};
-ghost use Rattle.tp_base.specs.declared.refusal.Refusal.TheVariants.{NoMemory, SlotTaken, StoreFull, TaskKnown, WrongLife};
+ghost use Rattle.std.specs.Prelude.{◌≡◌, ◌≤◌, ◌<◌, ◌+◌, ◌-◌, ℕ, [], ◌∷◌, false, Some, None, if◌then◌else◌, is_some, IfErr, IfOk, IsTrue, MatchBool, MatchOption, OnErr, OnOk};
+ghost use Rattle.tp_base.specs.declared.refusal.Refusal.TheVariants.{NoMemory, StoreFull, WrongLife};
 ghost use Rattle.tp_board.specs.States.{full_check};
-ghost use Rattle.tp_graph.specs.Carried.{IsFeed, feed_at};
+ghost use Rattle.tp_graph.specs.Carried.{IsFeed};
 ghost use Rattle.tp_graph.specs.Values.{IsInput};
 ghost use Rattle.tp_board.specs.Calls.{Answers, AnswersWith, Appends};
-ghost use Rattle.tp_node.specs.Nodes.{HasNoSeed, IsNextSeed, IsSeed, IsSeedOf, begun_with, done_with, event_of, fed_with, inserting, putting_at, seeded, seeding, task_at};
-ghost use Rattle.tp_node.specs.Refused.{begin_checks, done_checks, feed_checks, is_taken, lacks_place, runs, seed_checks, takes_nothing};
+ghost use Rattle.tp_node.specs.Calls.{Begins, Rests, SeedsIf};
+ghost use Rattle.tp_node.specs.Feeds.{HasFeed, next_feed_of, next_home, passed_on};
+ghost use Rattle.tp_node.specs.Nodes.{HasNoSeed, IsFirst, IsNextSeed, IsSeed, IsSeedOf, done_with, event_of, fed_with, inserting, putting_at, seeded, seeding, task_at};
+ghost use Rattle.tp_node.specs.Refused.{begin_checks, done_checks, feed_checks, lacks_place, runs, seed_checks, slot_checks};
 ghost use Rattle.tp_slots.specs.Content.{front};
-ghost use Rattle.tp_store.specs.Content.{refusal_of_deliver, task_of, values_of};
+ghost use Rattle.tp_store.specs.Content.{refusal_of_deliver, task_of};
 ghost use Rattle.tp_base.specs.declared.step.Step.TheVariants as steps;
 ghost use Rattle.tp_base.specs.Checks.{first_refusal};
 
@@ -26,7 +28,7 @@ impl<G: Graph, K: Ledgers> Node<G, K> {
     /// limit; `StoreFull` where 65,536 tasks are not done; `NoMemory`.
     pub fn seed(&mut self, board: &mut Board<K>) -> Result<bool, Refusal>
         ensures none { HasNoSeed (G.meaning self.old.graph) self.old → result ≡ Ok false }
-        ensures seeded { IfOk result (λ found. MatchBool found ((t : ℕ) × IsNextSeed (G.meaning self.old.graph) self.old t × Appends (event_of self.old (seeding self.old t) ∷ []) board.old board.new × (self.new ≡ seeded (G.meaning self.old.graph) t self.old)) (HasNoSeed (G.meaning self.old.graph) self.old × Appends [] board.old board.new × (self.new ≡ self.old))) }
+        ensures seeded { IfOk result (SeedsIf self.old self.new board.old board.new (G.meaning self.old.graph)) }
         ensures refusal { (t : ℕ) → IsNextSeed (G.meaning self.old.graph) self.old t → Answers (seed_checks self.old board.old (task_at t)) result }
         ensures refused { OnErr result (Appends [] board.old board.new × (self.new ≡ self.old)) }
     {
@@ -43,7 +45,7 @@ impl<G: Graph, K: Ledgers> Node<G, K> {
     /// Refused, where a task is ready: `HistoryFull` where the history has reached its limit; `NoMemory`.
     pub fn begin(&mut self, board: &mut Board<K>) -> Result<Option<Work<G>>, Refusal>
         ensures none { front self.old.state.store.ready ≡ None → result ≡ Ok None }
-        ensures begun { IfOk result (λ work. MatchOption work ((front self.old.state.store.ready ≡ None) × Appends [] board.old board.new × (self.new ≡ self.old)) (λ w. (front self.old.state.store.ready ≡ Some w.task) × (w.graph ≡ self.old.graph) × (map (λ v. Some v) w.inputs ≡ values_of self.old.state.store w.task) × Appends (event_of self.old (steps.Begin w.task) ∷ []) board.old board.new × (self.new ≡ begun_with w.task self.old))) }
+        ensures begun { IfOk result (λ work. MatchOption work ((front self.old.state.store.ready ≡ None) × Rests self.old self.new board.old board.new) (Begins self.old self.new board.old board.new)) }
         ensures refusal { MatchOption (front self.old.state.store.ready) (Unit {0}) (λ t. Answers (begin_checks board.old) result) }
         ensures refused { OnErr result (Appends [] board.old board.new × (self.new ≡ self.old)) }
     {
@@ -68,12 +70,12 @@ impl<G: Graph, K: Ledgers> Node<G, K> {
     /// the target is unknown and 65,536 tasks are not done; `NoMemory`.
     pub fn feed(&mut self, board: &mut Board<K>, finished: &mut Finished<G>) -> Result<(), Refusal>
         requires graph { finished.old.graph ≡ self.old.graph }
-        requires next { finished.old.fed < (G.meaning self.old.graph).feeds finished.old.task.0 }
-        requires here { (G.meaning self.old.graph).home (feed_at (G.meaning self.old.graph) finished.old.task.0 finished.old.fed).target.0 self.old.nodes ≡ self.old.numbers.node }
-        ensures event { OnOk result (Appends (event_of self.old (putting_at (G.meaning self.old.graph) (feed_at (G.meaning self.old.graph) finished.old.task.0 finished.old.fed) self.old) ∷ []) board.old board.new) }
-        ensures put { OnOk result (self.new ≡ fed_with (G.meaning self.old.graph) (feed_at (G.meaning self.old.graph) finished.old.task.0 finished.old.fed) finished.old.value self.old) }
-        ensures passed { OnOk result (finished.new ≡ record finished.old { fed = finished.old.fed + 1 }) }
-        ensures refusal { Answers (feed_checks (G.meaning self.old.graph) self.old board.old finished.old.task (feed_at (G.meaning self.old.graph) finished.old.task.0 finished.old.fed)) result }
+        requires next { HasFeed (G.meaning self.old.graph) finished.old }
+        requires here { next_home (G.meaning self.old.graph) finished.old self.old.nodes ≡ self.old.numbers.node }
+        ensures event { OnOk result (Appends (event_of self.old (putting_at (G.meaning self.old.graph) (next_feed_of (G.meaning self.old.graph) finished.old) self.old) ∷ []) board.old board.new) }
+        ensures put { OnOk result (self.new ≡ fed_with (G.meaning self.old.graph) (next_feed_of (G.meaning self.old.graph) finished.old) finished.old.value self.old) }
+        ensures passed { OnOk result (finished.new ≡ passed_on finished.old) }
+        ensures refusal { Answers (feed_checks (G.meaning self.old.graph) self.old board.old finished.old.task (next_feed_of (G.meaning self.old.graph) finished.old)) result }
         ensures refused { OnErr result (Appends [] board.old board.new × (self.new ≡ self.old) × (finished.new ≡ finished.old)) }
     {
         self.check_runs(finished.task())?;
@@ -178,7 +180,7 @@ impl<G: Graph, K: Ledgers> Node<G, K> {
     pub(crate) fn check_put(&self, feed: Feed) -> Result<bool, Refusal>
         requires active { 0 < self.now.numbers.pending }
         requires feed { IsFeed (G.meaning self.now.graph) feed }
-        ensures refusal { MatchOption (first_refusal ((takes_nothing self.now.state.store feed.target ((G.meaning self.now.graph).arity feed.target.0), TaskKnown) ∷ (is_taken self.now.state.store feed.target feed.slot, SlotTaken) ∷ [])) (result ≡ Ok (lacks_place self.now.state.store feed.target)) (λ e. result ≡ Err e) }
+        ensures refusal { MatchOption (first_refusal (slot_checks (G.meaning self.now.graph) self.now.state.store feed)) (result ≡ Ok (lacks_place self.now.state.store feed.target)) (λ e. result ≡ Err e) }
         ensures free { IfOk result (λ is_full. is_full ≡ false → refusal_of_deliver self.now.state.store feed.target ((G.meaning self.now.graph).arity feed.target.0) feed.slot ≡ None) }
     {
         match self
@@ -241,7 +243,7 @@ impl<G: Graph, K: Ledgers> Node<G, K> {
 /// The lowest input-free task of a node, from a number on, that was not inserted.
 fn find_seed<G: Graph>(graph: &G, nodes: u32, node: NodeId, local: &Local, from: u32) -> Option<u32>
     requires nodes { (1 ≤ nodes) × (nodes ≤ 8) }
-    ensures next { MatchOption result ((t : ℕ) → from ≤ t → IsSeed (G.meaning graph.now) nodes node.0 local.now.store t → ⊥) (λ t. IsSeed (G.meaning graph.now) nodes node.0 local.now.store t × (from ≤ t) × ((u : ℕ) → from ≤ u → u < t → IsSeed (G.meaning graph.now) nodes node.0 local.now.store u → ⊥)) }
+    ensures next { IsFirst (IsSeed (G.meaning graph.now) nodes node.0 local.now.store) from result }
 {
     for task in from..graph.tasks() {
         if is_seed(graph, nodes, node, local, task) {

@@ -1,16 +1,20 @@
-use Rattle.std.proofs.Common.{◌≡◌, List, sym, subst, rules}
-use Rattle.std.specs.List.{All}
-use Rattle.tp_board.specs.Numbers.{LinkNumbers, NodeNumbers, first_numbers}
-use Rattle.tp_node.proofs.Opening.{each_first, each_empty}
+use Rattle.std.proofs.Common.{◌∙◌, ap, map}
+use Rattle.tp_board.specs.Numbers.{LinkNumbers, NodeNumbers}
+use Rattle.tp_node.specs.Nodes.{first_node}
+use Rattle.tp_node.specs.Wires.{empty_wire}
 use Rattle.tp_node.proofs.pool.open_pool.Goals as goal
 
-pub open_nodes-requires-clause-first : goal.open_nodes-requires-clause-first
-open_nodes-requires-clause-first g c κs within =
-    subst (λ (shares : List NodeNumbers). All (λ s. s ≡ first_numbers s.node) shares) (sym c.in_ok-board.ensures.shares) (each_first c.args.nodes)
+pub open_parts-requires-clause-first : goal.open_parts-requires-clause-first
+open_parts-requires-clause-first g c κs within = c.in_ok-board.ensures.all_first
 
-pub open_wires-requires-clause-empty : goal.open_wires-requires-clause-empty
-open_wires-requires-clause-empty g c κs within =
-    subst (λ (links : List LinkNumbers). All (λ l. l.under ≡ 0) links) (sym c.in_ok-board.ensures.links) (each_empty c.args.nodes)
+pub open_parts-requires-clause-empty : goal.open_parts-requires-clause-empty
+open_parts-requires-clause-empty g c κs within = c.in_ok-board.ensures.all_empty
+
+pub returns-clause-nodes : goal.returns-clause-nodes
+returns-clause-nodes g c = c.in_ok-nodes.ensures.nodes ∙ ap (map (λ (s : NodeNumbers). first_node c.args.graph c.args.nodes s.node)) c.in_ok-board.ensures.shares
+
+pub returns-clause-links : goal.returns-clause-links
+returns-clause-links g c = c.in_ok-nodes.ensures.links ∙ ap (map (λ (l : LinkNumbers). empty_wire l)) c.in_ok-board.ensures.links
 
 pub returns-clause-board : goal.returns-clause-board
-returns-clause-board g c = search rules
+returns-clause-board g c = c.in_ok-board.ensures.board

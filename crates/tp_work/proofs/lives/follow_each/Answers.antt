@@ -8,7 +8,8 @@ pub loop-place-preserved : goal.loop-place-preserved
 loop-place-preserved c =
     let next = oldest_next c.args.history.now.events c.loop-place.place (c.in-Some.field-0-0, c.in-Some.step) (search rules) (sym c.at.ensures ∙ c.in-Some.is) in
     subst (λ h. AreStages (steps_of h) c.follow.new.stages) (sym next)
-    (stages-next c.in-Some.step (steps_of (oldest c.loop-place.place c.args.history.now.events)) c.loop-place.stages c.follow.new.stages c.follow.result c.if-not-follow.false (c.follow.ensures.none, c.follow.ensures.moment) c.loop-place.invariant)
+    (stages-next c.in-Some.step (steps_of (oldest c.loop-place.place c.args.history.now.events)) c.loop-place.stages c.follow.new.stages c.follow.result
+    c.if-not-follow.false (c.follow.ensures.none, c.follow.ensures.moment) c.loop-place.invariant)
 
 pub returns-then-not-follow-clause-no : goal.returns-then-not-follow-clause-no
 returns-then-not-follow-clause-no c =

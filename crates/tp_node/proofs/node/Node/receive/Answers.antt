@@ -5,7 +5,7 @@ use Rattle.tp_node.proofs.Answering.{brings, none_first, sent_first}
 use Rattle.tp_node.proofs.node.Node.receive.Goals as goal
 
 pub returns-in_default-clause-received : goal.returns-in_default-clause-received
-returns-in_default-clause-received g c = (none_first _ c.in_default.ensures, record { history = refl; limit = refl; reserved = omega arith; fault = refl }, refl, refl)
+returns-in_default-clause-received g c = (none_first _ c.in_default.ensures, (record { history = refl; limit = refl; reserved = omega arith; fault = refl }, refl), refl)
 
 pub take-message-requires-clause-sent : goal.take-message-requires-clause-sent
 take-message-requires-clause-sent g c κs within = sent_first _ c.in-Some.message.now _ _ _ c.in-Some.ensures (ap (λ b. b.history) c.audit.ensures.same.0 ∙ ap (λ b. b.history) c.in_ok-reserve.ensures.ok) c.in_ok-check_message.ensures.sent
