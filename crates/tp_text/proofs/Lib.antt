@@ -10,3 +10,4 @@ pub mod Judged
 pub mod TraceLines
 pub mod Recounting
 pub mod TracedEnds
+pub mod UniqueTraces

@@ -1,5 +1,6 @@
 ghost use Rattle.tp_text.specs.Script.{ScriptsAreDetermined};
 ghost use Rattle.tp_text.specs.SimText.{TextsAreDetermined};
+ghost use Rattle.tp_text.specs.Trace.{TracesAreDetermined};
 
 /// One script is spelled in one way, and one text spells one script.
 #[tactic(auto, using(crate::proofs::Unique::scripts_determined))]
@@ -11,4 +12,10 @@ pub fn scripts_are_determined()
 #[tactic(auto, using(crate::proofs::Unique::texts_determined))]
 pub fn texts_are_determined()
     ensures { TextsAreDetermined }
+{}
+
+/// One trace is spelled in one way, and one text spells one trace.
+#[tactic(auto, using(crate::proofs::UniqueTraces::traces_determined))]
+pub fn traces_are_determined()
+    ensures { TracesAreDetermined }
 {}
