@@ -11,3 +11,4 @@ pub mod TraceLines
 pub mod Recounting
 pub mod TracedEnds
 pub mod UniqueTraces
+pub mod UniqueAudits

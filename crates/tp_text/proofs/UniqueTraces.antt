@@ -1,14 +1,14 @@
 -- A trace is read in one way.
-use Rattle.std.proofs.Common.{◌≡◌, ℕ, ◌+◌, List, [], ◌∷◌, ◌++◌, Option, Some, None, length, drop, codes, refl, sym, ap, ◌∙◌, arith, append_assoc, append-nil, length-append}
+use Rattle.std.proofs.Common.{◌≡◌, ℕ, List, [], ◌∷◌, ◌++◌, Option, Some, None, length, drop, codes, refl, sym, ap, ◌∙◌, arith, append_assoc, append-nil, length-append}
 use Rattle.std.specs.Prelude.{slice_index_or}
 use Rattle.std.specs.List.{All, flat_map}
 use Rattle.tp_text.specs.declared.traced.TraceLine.{TraceLine}
 use Rattle.tp_text.specs.declared.traced.TraceLine.TheVariants.{Plain, Judged}
 use Rattle.tp_text.specs.Script.{nodes_line, step_line, IsNodeCount}
 use Rattle.tp_text.specs.Spelling.{spaced, word_of, numbers_of}
-use Rattle.tp_text.specs.Trace.{format_line, trace, trace_line, words, AreWords, IsTrace, IsWritten, BeginsWithLine, TracesAreDetermined}
+use Rattle.tp_text.specs.Trace.{format_line, trace, trace_line, words, AreWords, IsWritten, BeginsWithLine, TracesAreDetermined}
 use Rattle.tp_text.proofs.Spelled.{line_parts, same_numbers, same_step, step_word, word_bytes, ends_word}
-use Rattle.tp_text.proofs.Splits.{All-nil, All-head, All-tail}
+use Rattle.tp_text.proofs.Splits.{All-head, All-tail}
 use Rattle.tp_text.proofs.Taking.{All-more}
 use Rattle.tp_text.proofs.TraceLines.{is_judgement, judge_parts, judge_word, one_wave}
 use Rattle.tp_text.proofs.Unique.{same_count}
@@ -42,7 +42,7 @@ same_line (Judged o) m a b h g e = let both = no_both m o b a g (sym e) h in (sy
 
 -- ---- all lines, the oldest first
 
-abbrev oldest_first : List TraceLine → List TraceLine
+abbrev pub oldest_first : List TraceLine → List TraceLine
 oldest_first [] = []
 oldest_first (l ∷ past) = oldest_first past ++ l ∷ []
 
@@ -71,7 +71,7 @@ line_last : (xs : List TraceLine) (l : TraceLine) → flat_map trace_line (xs ++
 line_last [] l = append-nil (trace_line l)
 line_last (x ∷ xs) l = ap (λ z. trace_line x ++ z) (line_last xs l) ∙ sym (append_assoc (trace_line x) (flat_map trace_line xs) (trace_line l))
 
-trace_is : (n : ℕ) (lines : List TraceLine) → trace n lines ≡ format_line ++ (nodes_line n ++ flat_map trace_line (oldest_first lines))
+pub trace_is : (n : ℕ) (lines : List TraceLine) → trace n lines ≡ format_line ++ (nodes_line n ++ flat_map trace_line (oldest_first lines))
 trace_is n [] = ap (λ l. format_line ++ l) (sym (append-nil (nodes_line n)))
 trace_is n (l ∷ past) =
     ap (λ z. z ++ trace_line l) (trace_is n past)

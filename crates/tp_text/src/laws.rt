@@ -1,3 +1,4 @@
+ghost use Rattle.tp_text.specs.AuditText.{AuditsAreDetermined};
 ghost use Rattle.tp_text.specs.Script.{ScriptsAreDetermined};
 ghost use Rattle.tp_text.specs.SimText.{TextsAreDetermined};
 ghost use Rattle.tp_text.specs.Trace.{TracesAreDetermined};
@@ -18,4 +19,10 @@ pub fn texts_are_determined()
 #[tactic(auto, using(crate::proofs::UniqueTraces::traces_determined))]
 pub fn traces_are_determined()
     ensures { TracesAreDetermined }
+{}
+
+/// One verdict and one text are answered to a trace, or to what is none.
+#[tactic(auto, using(crate::proofs::UniqueAudits::audits_determined))]
+pub fn audits_are_determined()
+    ensures { AuditsAreDetermined }
 {}
