@@ -10,3 +10,5 @@ pub mod Judged
 pub mod TraceLines
 pub mod Recounting
 pub mod TracedEnds
+pub mod UniqueTraces
+pub mod UniqueAudits

@@ -12,7 +12,7 @@ use Rattle.tp_text.specs.Spelling.{IsSpelled, line, spelling}
 use Rattle.tp_text.proofs.Splits.{All-nil, All-cons, All-head, All-tail}
 
 -- one more at the end
-All-more : {X : Type 0} (P : X → Type 0) (xs : List X) (x : X) → All P xs → P x → All P (xs ++ x ∷ [])
+pub All-more : {X : Type 0} (P : X → Type 0) (xs : List X) (x : X) → All P xs → P x → All P (xs ++ x ∷ [])
 All-more P [] x h p = All-cons P x [] p (All-nil P)
 All-more P (y ∷ xs) x h p = All-cons P y (xs ++ x ∷ []) (All-head P y xs h) (All-more P xs x (All-tail P y xs h) p)
 

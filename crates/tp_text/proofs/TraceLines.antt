@@ -37,7 +37,7 @@ no_words text a plain is none (Some w) rest p e =
     sym is ∙ e ∙ append_assoc (codes " ended") (spaced (w ∷ [])) (10 ∷ rest) in
     none w rest p (ap (λ l. drop 6 l) whole)
 
-one_wave : (w : ℕ) → AreWords (Some w) → All IsNumber (w ∷ [])
+pub one_wave : (w : ℕ) → AreWords (Some w) → All IsNumber (w ∷ [])
 one_wave w p = All-cons IsNumber w [] p.1 (All-nil IsNumber)
 
 pub no_operands_words : (a : List ℕ) → ((ks rest : List ℕ) → All IsNumber ks → length ks ≤ 3 → a ≢ spaced ks ++ 10 ∷ rest)

@@ -10,7 +10,7 @@ use Rattle.tp_text.proofs.NoLine.{is_number}
 use Rattle.tp_text.proofs.Spelled.{one_word, line_parts, word_bytes, ends_word, same_numbers, same_step}
 use Rattle.tp_text.proofs.Splits.{All-head, All-tail}
 
-same_count : (n m : ℕ) (a b : List ℕ) → IsNodeCount n → IsNodeCount m → nodes_line n ++ a ≡ nodes_line m ++ b → (n ≡ m) × (a ≡ b)
+pub same_count : (n m : ℕ) (a b : List ℕ) → IsNodeCount n → IsNodeCount m → nodes_line n ++ a ≡ nodes_line m ++ b → (n ≡ m) × (a ≡ b)
 same_count n m a b p q e =
     let words = one_word (nodes_line n ++ a) (codes "nodes") (spaced (n ∷ []) ++ 10 ∷ a) (codes "nodes") (m ∷ []) b
     (line_parts (codes "nodes") (n ∷ []) a, word_bytes (codes "nodes") refl, ends_word (n ∷ []) a) refl e in

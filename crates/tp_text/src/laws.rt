@@ -1,5 +1,7 @@
+ghost use Rattle.tp_text.specs.AuditText.{AuditsAreDetermined};
 ghost use Rattle.tp_text.specs.Script.{ScriptsAreDetermined};
 ghost use Rattle.tp_text.specs.SimText.{TextsAreDetermined};
+ghost use Rattle.tp_text.specs.Trace.{TracesAreDetermined};
 
 /// One script is spelled in one way, and one text spells one script.
 #[tactic(auto, using(crate::proofs::Unique::scripts_determined))]
@@ -11,4 +13,16 @@ pub fn scripts_are_determined()
 #[tactic(auto, using(crate::proofs::Unique::texts_determined))]
 pub fn texts_are_determined()
     ensures { TextsAreDetermined }
+{}
+
+/// One trace is spelled in one way, and one text spells one trace.
+#[tactic(auto, using(crate::proofs::UniqueTraces::traces_determined))]
+pub fn traces_are_determined()
+    ensures { TracesAreDetermined }
+{}
+
+/// One verdict and one text are answered to a trace, or to what is none.
+#[tactic(auto, using(crate::proofs::UniqueAudits::audits_determined))]
+pub fn audits_are_determined()
+    ensures { AuditsAreDetermined }
 {}

@@ -18,7 +18,9 @@ mod words;
 
 pub use fault::TextFault;
 pub use input::{MAX_READS, MAX_TEXT};
-pub use laws::{scripts_are_determined, texts_are_determined};
+pub use laws::{
+    audits_are_determined, scripts_are_determined, texts_are_determined, traces_are_determined,
+};
 pub use recount::audit;
 pub use simulation::sim;
 pub use tp_table::print_table;
