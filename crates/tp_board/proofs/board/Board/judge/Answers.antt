@@ -1,9 +1,10 @@
-use Rattle.std.proofs.Common.{[], ◌∷◌, Err, ap, sym, ◌∙◌}
+use Rattle.std.proofs.Common.{[], ◌∷◌, Err, ap, sym, ◌∙◌, rules}
 use Rattle.std.specs.Result.{result_err}
 use Rattle.std.proofs.lemmas.Result.{err_from_is_err_and}
 use Rattle.tp_base.specs.declared.step.Step.TheVariants.{Judge}
 use Rattle.tp_board.specs.States.{BoardState, full_check}
 use Rattle.tp_wave.specs.Machine.{steps_of}
+use Rattle.tp_wave.proofs.Judged.{two_tell_law}
 use Rattle.tp_board.proofs.Answering.{refused}
 use Rattle.tp_board.proofs.Boards.{quiet_judged}
 use Rattle.tp_board.proofs.board.Board.judge.Goals as goal
@@ -19,4 +20,39 @@ returns-in-Some-clause-quiet g c =
     let n = g.K.Ledgers.names.nodes in
     let past = steps_of c.self.inside.log.history in
     let follows = c.self.invariant.follows in
-    λ over. quiet_judged _ _ c.in-Some.field-0 _ _ _ _ _ c.self.invariant history (c.in_ok-ended_with.ensures.follows n past follows) (sym (c.in_ok-ended_with.ensures.judged n past follows) ∙ c.in-Some.is)
+    let tell = two_tell_law n c.self.inside.log.history c.self.invariant.run in
+    λ over. quiet_judged _ _ c.in-Some.field-0 _ _ _ _ _ c.self.invariant history (c.in_ok-ended_with.ensures.follows n past follows tell) (sym (c.in_ok-ended_with.ensures.judged n past follows tell) ∙ c.in-Some.is)
+
+pub invariant_of-self-in-Some : goal.invariant_of-self-in-Some
+invariant_of-self-in-Some g c =
+    let n = g.K.Ledgers.names.nodes in
+    let past = steps_of c.self.inside.log.history in
+    let tell = two_tell_law n c.self.inside.log.history c.self.invariant.run in
+    let goes = c.in_ok-ended_with.ensures.follows n past c.self.invariant.follows tell in
+    let word = sym (c.in_ok-ended_with.ensures.judged n past c.self.invariant.follows tell) ∙ c.in-Some.is in
+    search rules
+
+pub invariant_of-self-in-None : goal.invariant_of-self-in-None
+invariant_of-self-in-None g c =
+    let n = g.K.Ledgers.names.nodes in
+    let past = steps_of c.self.inside.log.history in
+    let tell = two_tell_law n c.self.inside.log.history c.self.invariant.run in
+    let goes = c.in_ok-ended_with.ensures.follows n past c.self.invariant.follows tell in
+    let word = sym (c.in_ok-ended_with.ensures.judged n past c.self.invariant.follows tell) ∙ c.in-None.is in
+    search rules
+
+pub returns-in-Some-clause-over : goal.returns-in-Some-clause-over
+returns-in-Some-clause-over g c =
+    let n = g.K.Ledgers.names.nodes in
+    let past = steps_of c.self.inside.log.history in
+    let tell = two_tell_law n c.self.inside.log.history c.self.invariant.run in
+    let word = sym (c.in_ok-ended_with.ensures.judged n past c.self.invariant.follows tell) ∙ c.in-Some.is in
+    search rules
+
+pub returns-in-Some-clause-ended : goal.returns-in-Some-clause-ended
+returns-in-Some-clause-ended g c =
+    let n = g.K.Ledgers.names.nodes in
+    let past = steps_of c.self.inside.log.history in
+    let tell = two_tell_law n c.self.inside.log.history c.self.invariant.run in
+    let word = sym (c.in_ok-ended_with.ensures.judged n past c.self.invariant.follows tell) ∙ c.in-Some.is in
+    search rules
