@@ -12,7 +12,7 @@ use denote.Param.Send.{IsSend, IsSync, Quiet, Common, AllSend, Frees, part_keyle
 use base.Fraction.{full_share}
 use base.Fml.{Fml, ftrue}
 use Rattle.std.specs.declared.alloc.Allocator.{Ghosts}
-use Rattle.tp_chains.specs.CellsOwnership.{cell_owns, cells_own, cell_lent, cells_lent}
+use Rattle.tp_chains.specs.CellsOwnership.{cells_own, cells_lent}
 use Rattle.tp_chains.specs.contracts.cells.Cells as Cells
 use Rattle.tp_chains.specs.contracts.cells.Deed as Deed
 

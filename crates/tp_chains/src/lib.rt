@@ -5,4 +5,6 @@ mod cells;
 mod chains;
 
 pub use cells::{At, Cells, Deed, allocate, deallocate};
-pub use chains::{Chain, Link, Slot, append, item, item_mut, put_front, put_item, take_front, take_item};
+pub use chains::{
+    Chain, Link, Slot, append, item, item_mut, put_front, put_item, take_front, take_item,
+};

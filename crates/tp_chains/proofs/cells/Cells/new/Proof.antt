@@ -1,39 +1,31 @@
 -- `new` makes the owner of no cells. Assumes `Logic`.
-use mathlib.Core.Path.{◌≡◌, refl, sym, subst}
-use Prim.Native.Nat.{ℕ}
-use mathlib.Core.List.{List, [], ◌∷◌, ◌++◌}
+use mathlib.Core.Path.{◌≡◌, refl}
+use mathlib.Core.List.{[], ◌∷◌}
 use seplogic.Ra.Ura.{Ura}
-use mir.Syntax.{Fn, named}
+use mir.Syntax.{Fn}
 use mir.MapTy.{inst_fn}
-use mir.Val.{Val, vptr, vunit}
-use Rattle.std.proofs.alloc.Calls.{Goes-blank}
+use mir.Val.{Val}
 use base.Logic.{emp, SProp, ent, via, fst∗}
-use base.Fml.{Lft, GName, Share, ftrue, flft, fobs, fbor}
-use prog.Wp.{Env, Calls, Loops, WpFn, Tables}
+use base.Fml.{ftrue}
+use prog.Wp.{Calls, Loops, WpFn, Tables}
 use types.Logic.{Logic}
 use contract.Monad.{fact}
 use contract.Running.{tables, tables_of}
 use sound.WpLaws.{WpFn-mono}
 use types.Part.{agg}
-use types.Kit.{use0, Item, ⋆, ‵, ◌⊛◌, ◌$◌, ◌∵◌, !, qed, by, move, keep, use2, split, join, fsplit, fsplit3, fjoin, fjoin3, feq_i, feq_l, suffices, frame, done}
+use types.Kit.{use0, ⋆, ‵, ◌$◌, ◌∵◌, !, qed, by, keep, fjoin, suffices, frame, done}
 use types.Run.{and_then, no_more, returns, enter}
 use types.ByLocal.{alloc_all, pass_all, free_all, look_at, get, sets}
-use types.SemTy.{Body as Borrowed}
-use denote.Exit.{yes, no}
 use denote.RattleType.{owns}
-use denote.Memory.{mem}
-use denote.Ref.{MutBor, MutRef}
-use denote.Builtin.{RefMutOf, unit}
 use denote.Signature.{plain}
-use denote.Steps.{nothing, opens, closes}
+use denote.Steps.{nothing}
 use denote.Triple.Carry.{spared}
 use denote.Triple.Clauses.{Clauses, Ended, closing}
 use denote.Triple.Entry.{on_entry}
 use denote.Triple.Spec.{Meets, triple_of}
 use denote.Triple.Table.{entered, run_framed}
-use denote.Triple.Walked.{says, Stays, stay_dropped, stay_ref, walk_of, ends_at, Goes-ref, walk_Meets}
-use Rattle.std.proofs.mem.Param.{El, R, args}
-use Rattle.tp_chains.specs.CellsOwnership.{cells_own}
+use denote.Triple.Walked.{says, Stays, walk_of, ends_at, walk_Meets}
+use Rattle.std.proofs.mem.Param.{El, args}
 use Rattle.tp_chains.proofs.CellsMemory.{Cr, Mark, mark, mark_made}
 use Rattle.tp_chains.specs.contracts.cells.Cells.new.Key.{name as #self}
 use Rattle.tp_chains.proofs.cells.Cells.new.Statement as stated

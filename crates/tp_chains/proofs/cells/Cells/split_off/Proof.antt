@@ -3,28 +3,24 @@ use mathlib.Core.Path.{◌≡◌, refl, sym, subst}
 use Prim.Native.Nat.{ℕ, ◌<◌, ◌^◌}
 use mathlib.Core.List.{List, [], ◌∷◌, ◌++◌}
 use seplogic.Ra.Ura.{Ura}
-use base.Fraction.{full_share}
 use mir.Syntax.{Fn, named, w64}
 use mir.MapTy.{inst_fn}
 use mir.Val.{Val, vptr, vint}
 use base.Logic.{SProp, ent, sep, emp, via, fst∗}
-use base.Fml.{Lft, GName, Share, ftrue, fat, froom, flft, fobs, fbor}
-use prog.Wp.{Env, Calls, Loops, WpFn, Tables}
+use base.Fml.{Lft, GName, Share, ftrue, flft, fobs, fbor}
+use prog.Wp.{Calls, Loops, WpFn, Tables}
 use types.Logic.{Logic}
 use contract.Monad.{fact}
 use contract.Running.{tables, tables_of}
 use sound.WpLaws.{WpFn-mono}
 use types.Part.{agg}
-use types.Kit.{use0, Item, ⋆, ‵, ◌⊛◌, some, given, pick, learn, at_ret, ◌$◌, ◌∵◌, !, qed, by, move, keep, use1, use2, split, join, rewrite, fsplit, fsplit3, fjoin, fjoin3, feq_i, feq_l, suffices, frame, done}
-use types.Part.{whole, sub}
+use types.Kit.{use0, Item, ⋆, ‵, ◌⊛◌, ◌$◌, ◌∵◌, !, qed, by, move, keep, use1, split, join, fsplit, fsplit3, fjoin, fjoin3, feq_i, feq_l, suffices, frame, done}
 use types.Run.{and_then, no_more, returns, enter}
 use types.ByLocal.{alloc_all, pass_all, free_all, look_at, get, sets}
 use types.SemTy.{Body as Borrowed}
 use denote.Exit.{yes, no}
 use denote.RattleType.{owns}
 use denote.Memory.{mem}
-use denote.Param.{layout}
-use denote.RawPtr.{Ptr, in_a_block, lies_at}
 use denote.Ref.{MutBor, MutRef}
 use denote.Builtin.{RefMutOf}
 use denote.Signature.{plain}
@@ -34,17 +30,11 @@ use denote.Triple.Clauses.{Clauses, Ended, closing}
 use denote.Triple.Entry.{on_entry}
 use denote.Triple.Spec.{Meets, triple_of}
 use denote.Triple.Table.{entered, run_framed}
-use denote.Triple.Walked.{needs, Stays, stay_dropped, stay_ref, walk_of, ends_at, Goes-dropped, Goes-ref, walk_Meets}
-use Rattle.std.proofs.VecSteps.Shapes.{after}
-use Rattle.std.proofs.RcSteps.{Good, word, word-Good}
+use denote.Triple.Walked.{Stays, stay_dropped, stay_ref, walk_of, ends_at, Goes-dropped, Goes-ref, walk_Meets}
 use lib.ListN.{take, drop}
 use types.Kit.{flt_l}
-use types.ByLocal.{take_at, give_at}
 use denote.Builtin.{usize}
-use Rattle.std.specs.Prelude.{Option, Some, None}
-use Rattle.std.proofs.mem.Param.{El, R, args, elτ, el_x}
-use Rattle.std.proofs.RawLayout.{as_raw}
-use Rattle.tp_chains.specs.Cells.{cell_at as cell_of, IsFull}
+use Rattle.std.proofs.mem.Param.{El, R, args}
 use Rattle.tp_chains.specs.CellsOwnership.{cells_own}
 use Rattle.tp_chains.proofs.CellsMemory.{Cr, Mark, mark, mark_made, cells_cut, says_both}
 use Rattle.tp_chains.specs.contracts.cells.Cells.split_off.Key.{name as #self}

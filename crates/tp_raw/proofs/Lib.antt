@@ -1,0 +1,4 @@
+pub mod Chained
+pub mod Keeping
+pub mod Moves
+pub mod Housed
