@@ -58,7 +58,15 @@ module _ {X : Type 0} (test : X → Bool) where
 pub unfinished_sum : {V : Type 0} (es : List (ℕ × Task V)) → count_by (λ e. is_unfinished e.1.life) es ≡ count_by (λ e. is_waiting e.1.life) es + count_by (λ e. is_ready e.1.life) es + count_by (λ e. is_running e.1.life) es
 unfinished_sum [] = refl
 unfinished_sum {V} (e ∷ es) =
-    omega (arith, unfinished_sum es, passing-cons (λ (x : Task V). is_unfinished x.life) e es, passing-cons (λ (x : Task V). is_waiting x.life) e es, passing-cons (λ (x : Task V). is_ready x.life) e es, passing-cons (λ (x : Task V). is_running x.life) e es, one_of e.1.life)
+    omega (
+      arith,
+      unfinished_sum es,
+      passing-cons (λ (x : Task V). is_unfinished x.life) e es,
+      passing-cons (λ (x : Task V). is_waiting x.life) e es,
+      passing-cons (λ (x : Task V). is_ready x.life) e es,
+      passing-cons (λ (x : Task V). is_running x.life) e es,
+      one_of e.1.life,
+    )
   where
     one_of : (life : Life) → cond (is_unfinished life) 1 0 ≡ cond (is_waiting life) 1 0 + cond (is_ready life) 1 0 + cond (is_running life) 1 0
     one_of (Waiting k) = refl

@@ -12,3 +12,6 @@ pub returns-clause-emptied : goal.returns-clause-emptied
 returns-clause-emptied g c =
     nothing_kept (g.S.Slots.content c.new.result) c.new-2.result c.replace.new.dest c.new.ensures c.new-2.ensures
     (ap (λ v. v.items) c.replace.ensures.after ∙ c.new-3.ensures.items)
+
+pub returns-clause-results : goal.returns-clause-results
+returns-clause-results g c = ap (λ v. v.items) c.replace.ensures.value ∙ ap (λ v. v.results) c.self.view_is
