@@ -54,9 +54,9 @@ module _ {X E : Type 0} where
     before = λ i p lt at. elim (cases_lt i n) [
       | inl less ↦ others i (omega (arith, less)) ∙ h.before i p less at
       | inr ge ↦
-        let same : i ≡ n = omega (arith, lt, ge) in
-        let is : p ≡ e = ap (λ (o : Option Entered). unwrap_or o p) (sym at ∙ ap (slice_get old) same ∙ was) in
-        ap (slice_get new') same ∙ here ∙ sym (ap₂ (settled answers old) same is)
+          let same : i ≡ n = omega (arith, lt, ge) in
+          let is : p ≡ e = ap (λ (o : Option Entered). unwrap_or o p) (sym at ∙ ap (slice_get old) same ∙ was) in
+          ap (slice_get new') same ∙ here ∙ sym (ap₂ (settled answers old) same is)
     ];
     from = λ i ge. others i (omega (arith, ge)) ∙ h.from i (omega (arith, ge));
   }

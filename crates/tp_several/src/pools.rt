@@ -52,10 +52,14 @@ fn run_each<A: Gate, R: Threads + Wait + Sync>(
         config,
         gate,
     };
-    thread::map_vec(rt, graphs, &|graph| -> Result<Outcome, Fault>
-        requires { IsWithinLimits runner.config }
-        ensures { IsRunAnswer runner.entry.config.nodes graph result }
-    { runner.run(graph) })
+    thread::map_vec(
+        rt,
+        graphs,
+        &|graph| -> Result<Outcome, Fault>
+            requires { IsWithinLimits runner.config }
+            ensures { IsRunAnswer runner.entry.config.nodes graph result }
+        { runner.run(graph) },
+    )
 }
 
 /// How each pool is run.
