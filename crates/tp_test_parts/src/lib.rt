@@ -15,6 +15,8 @@ mod pools;
 #[cfg(test)]
 mod samples;
 #[cfg(test)]
+mod settling;
+#[cfg(test)]
 mod slots;
 #[cfg(test)]
 mod store;

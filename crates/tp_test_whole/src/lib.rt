@@ -19,4 +19,6 @@ mod pools;
 #[cfg(test)]
 mod program;
 #[cfg(test)]
+mod several;
+#[cfg(test)]
 mod text;

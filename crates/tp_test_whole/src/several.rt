@@ -1,0 +1,92 @@
+use std::alloc::Global;
+use std::sync::Wait;
+use std::test::Fail;
+use std::thread::Threads;
+use tp_base::{NodeId, PoolId, Refusal, TaskId};
+use tp_pools::{Registry, Standing};
+use tp_several::run_pools;
+use tp_work::{Config, Gate};
+
+const TWO_NODES: Config = Config {
+    nodes: 2,
+    workers: 2,
+    idle_turns: 100_000_000,
+};
+
+/// All bodies but that of one task may run.
+struct AllBut(TaskId);
+
+impl Gate for AllBut {
+    fn before(&self, task: TaskId) -> bool {
+        task != self.0
+    }
+
+    fn inside(&self, _node: NodeId) -> bool {
+        true
+    }
+}
+
+/// A registry of a tree of 7 tasks, a tree of 1 that is active already, and a wavefront of 6.
+fn three_pools(alloc: Global) -> Result<Registry, Refusal> {
+    let mut registry = Registry::new(alloc);
+    registry.register("tree", "reduce:4:0")?;
+    let leaf = registry.register("leaf", "reduce:1:0")?;
+    registry.register("wavefront", "wavefront:2:3:0")?;
+    registry.monitor(leaf)?;
+    Ok(registry)
+}
+
+/// What is answered for each pool that was run, the number of its tasks or its refusal, and how all pools stand.
+#[derive(Debug, PartialEq, Eq, Drop)]
+struct Told {
+    tasks: Vec<Result<u32, Refusal>>,
+    standings: [Result<Standing, Refusal>; 3],
+}
+
+fn run_behind<A: Gate, R: Threads + Wait + Sync>(
+    rt: &R,
+    alloc: Global,
+    gate: &A,
+) -> Result<Told, Refusal> {
+    let mut registry = three_pools(alloc)?;
+    let answers = run_pools(rt, alloc, &mut registry, TWO_NODES, gate)?;
+    let mut tasks = Vec::new(alloc);
+    for answer in &answers {
+        tasks.push(match answer {
+            Ok(outcome) => Ok(outcome.tasks),
+            Err(fault) => Err(fault.refusal),
+        })?;
+    }
+    let standings = [PoolId(0), PoolId(1), PoolId(2)].map(|pool| registry.state(pool));
+    Ok(Told { tasks, standings })
+}
+
+#[test]
+fn registered_pools_are_run_and_no_others(rt: HostRuntime) -> Result<(), Fail> {
+    let made = run_behind(&rt, rt.alloc(), &AllBut(TaskId(100)))?;
+    assert_eq!(rt; made.tasks.as_slice(), [Ok(7), Ok(6)].as_slice());
+    assert_eq!(rt;
+        made.standings,
+        [Ok(Standing::Over), Ok(Standing::Active), Ok(Standing::Over)]
+    );
+    Ok(())
+}
+
+// The wavefront has no task 6.
+#[test]
+fn the_fault_of_one_pool_stops_no_other(rt: HostRuntime) -> Result<(), Fail> {
+    let made = run_behind(&rt, rt.alloc(), &AllBut(TaskId(6)))?;
+    assert_eq!(rt;
+        made.tasks.as_slice(),
+        [Err(Refusal::Stalled(0)), Ok(6)].as_slice()
+    );
+    assert_eq!(rt;
+        made.standings,
+        [
+            Ok(Standing::Failed),
+            Ok(Standing::Active),
+            Ok(Standing::Over)
+        ]
+    );
+    Ok(())
+}
