@@ -25,7 +25,7 @@ pub struct PoolId(pub u32);
 /// How many inputs a task waits for: 0 to 16.
 #[derive(Clone, Copy, Debug, PartialEq, Eq)]
 pub struct Inputs {
-    count: u8,
+    pub(crate) count: u8,
 }
 
 impl Inputs {

@@ -5,6 +5,7 @@ mod history;
 mod ids;
 mod laws;
 mod limits;
+mod packed;
 mod refusal;
 mod step;
 mod sums;
