@@ -1,5 +1,5 @@
 -- How an event lies in a few bytes.
-use Rattle.std.specs.Prelude.{ℕ, ◌<◌}
+use Rattle.std.specs.Prelude.{ℕ}
 use Rattle.tp_base.specs.History.{Event}
 use Rattle.tp_base.specs.declared.packed.Kind.{Kind}
 use Rattle.tp_base.specs.declared.packed.Kind.TheVariants as kind

@@ -29,8 +29,6 @@ pub(crate) enum Kind {
 /// A step beside its node, in eight bytes where the pair has twenty. Contracts see the pair.
 #[derive(Drop)]
 pub(crate) struct Packed {
-    /// The number of the task, the action or the message.
-    number: u32,
     kind: Kind,
     /// The node beside the step.
     node: u8,
@@ -38,6 +36,8 @@ pub(crate) struct Packed {
     first: u8,
     /// The inputs of an insert, and the other node of a sending.
     second: u8,
+    /// The number of the task, the action or the message.
+    number: u32,
 }
 
 impl Model for Packed {
@@ -78,11 +78,11 @@ impl Packed {
             Step::Judge => (Kind::Judge, 0, 0, 0),
         };
         Packed {
-            number,
             kind,
             node: node.0 as u8,
             first,
             second,
+            number,
         }
     }
 
