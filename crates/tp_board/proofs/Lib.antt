@@ -1,4 +1,5 @@
 pub mod Counting
+pub mod Naming
 pub mod Routing
 pub mod Boards
 pub mod Answering

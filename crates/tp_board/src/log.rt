@@ -71,6 +71,7 @@ impl Log {
     }
 
     /// Adds an event that sends no message.
+    #[tactic(auto, using(crate::proofs::Naming::names_small))]
     #[inline(always)]
     pub fn add(&mut self, node: NodeId, step: Step) -> Result<(), Refusal>
         requires node { node.0 < 8 }
@@ -95,7 +96,8 @@ impl Log {
 
     /// Adds the sending of the next message.
     pub fn add_send(&mut self, from: NodeId, to: NodeId) -> Result<MessageId, Refusal>
-        requires { from.0 < 8 }
+        requires from { from.0 < 8 }
+        requires to { to.0 < 8 }
         ensures number { IfOk result (λ m. m.0 ≡ count is_send (steps_of self.old.history)) }
         ensures ok { IfOk result (λ m. self.new ≡ with_event (event from.0 (sending from.0 to.0 m.0)) self.old) }
         ensures fresh { IfOk result (λ m. IsFalse (any (is_send_numbered m.0) (steps_of self.old.history))) }
