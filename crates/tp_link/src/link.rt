@@ -1,4 +1,4 @@
-ghost use Rattle.std.specs.Prelude.{◌≡◌, ◌==◌, ◌+◌, ◌<◌, ◌≤◌, ◌↔◌, ℕ, [], ◌∷◌, ◌++◌, length, option_to_list, option_copied, slice_get, IsSome, IfErr, OnOk, OnErr};
+ghost use Rattle.std.specs.Prelude.{◌≡◌, ◌==◌, ◌+◌, ◌<◌, ◌≤◌, ◌↔◌, ℕ, [], ◌∷◌, ◌++◌, length, option_to_list, option_copied, slice_get, drop, IsOk, IsSome, IfErr, IfOk, OnOk, OnErr};
 ghost use Rattle.tp_base.specs.declared.Refusal.TheVariants.{NoMemory};
 ghost use Rattle.tp_link.specs.Link.{IsUnchanged};
 
@@ -120,6 +120,26 @@ impl<M: Routed> Link<M> {
         ensures keeps { self.old.room ≤ self.new.room }
     {
         self.messages.pop_front()
+    }
+
+    /// Puts a message in the place of the oldest, which comes back. On a link with no message it comes back itself, as the
+    /// error. It takes no memory, and the number of messages does not move.
+    pub fn replace_front(&mut self, message: M) -> Result<M, M>
+        requires of_pair { (M.sender message ≡ self.old.from) × (M.receiver message ≡ self.old.to) }
+        ensures ends { (self.new.from ≡ self.old.from) × (self.new.to ≡ self.old.to) }
+        ensures ok { IsOk result ↔ (0 < length self.old.messages) }
+        ensures first { IfOk result (λ oldest. self.old.messages ≡ oldest ∷ drop 1 self.old.messages) }
+        ensures replaced { OnOk result (self.new.messages ≡ message ∷ drop 1 self.old.messages) }
+        ensures refused { IfErr result (λ e. e ≡ message) }
+        ensures kept { OnErr result (self.new.messages ≡ self.old.messages) }
+        ensures number { length self.new.messages ≡ length self.old.messages }
+        ensures room { self.new.room ≡ self.old.room }
+    {
+        let Some(oldest) = self.messages.pop_front() else {
+            return Err(message);
+        };
+        self.messages.push_front_reserved(message);
+        Ok(oldest)
     }
 
     /// The oldest message, which stays.
