@@ -22,7 +22,7 @@ use tp_base::{
 };
 use tp_graph::{Feed, Value};
 use tp_monitor::{MAX_ACTIONS, TaskpoolState};
-use tp_slots::SlabSlots;
+use tp_raw::RawSlots;
 use tp_store::{Begun, Counts, Delivered, Life, TaskItem, TaskStore};
 
 /// A node's tasks and open actions for one pool, beside a monitor that counts them.
@@ -33,7 +33,7 @@ use tp_store::{Begun, Counts, Delivered, Life, TaskItem, TaskStore};
 /// call names, in their order.
 #[derive(Drop)]
 pub struct Local {
-    store: Held<TaskStore<SlabSlots<TaskItem<Value>>, Value>>,
+    store: Held<TaskStore<RawSlots<TaskItem<Value>>, Value>>,
     actions: OpenActions,
     tally: Tally,
 }

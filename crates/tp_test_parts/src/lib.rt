@@ -15,6 +15,8 @@ mod own;
 #[cfg(test)]
 mod pools;
 #[cfg(test)]
+mod raw;
+#[cfg(test)]
 mod samples;
 #[cfg(test)]
 mod settling;

@@ -1,7 +1,25 @@
 use std::alloc::Global;
 use std::test::Fail;
 use tp_base::Refusal;
+use tp_raw::RawSlots;
 use tp_slots::{Command, Reply, SlabSlots, Slots, run_slots};
+
+/// A kind of slots.
+#[derive(Clone, Copy, Debug)]
+pub(crate) enum Body {
+    Slab,
+    Raw,
+}
+
+pub(crate) const BODIES: [Body; 2] = [Body::Slab, Body::Raw];
+
+/// The replies of this kind of slots.
+pub(crate) fn run(alloc: Global, body: Body, commands: &[Command]) -> Result<Vec<Reply>, Refusal> {
+    match body {
+        Body::Slab => run_slots::<SlabSlots<u64>>(alloc, commands),
+        Body::Raw => run_slots::<RawSlots<u64>>(alloc, commands),
+    }
+}
 
 /// What slots answer of an item that is taken in, changed, listed and given back.
 #[derive(Drop)]
@@ -15,7 +33,7 @@ struct Visit {
 
 /// Takes an item in and gives it back.
 #[tactic(auto, using(tp_slots::proofs::Sound::taken_with_item, tp_slots::proofs::Sound::idle_with_item))]
-fn take_and_return(alloc: Global, slots: &mut SlabSlots<Vec<u64>>) -> Result<Visit, Refusal> {
+fn take_and_return<S: Slots<Vec<u64>>>(alloc: Global, slots: &mut S) -> Result<Visit, Refusal> {
     let item = vec![in alloc; 7u64]?;
     slots.reserve()?;
     let place = slots.take_reserved(item);
@@ -34,22 +52,27 @@ fn take_and_return(alloc: Global, slots: &mut SlabSlots<Vec<u64>>) -> Result<Vis
 
 #[test]
 fn an_item_comes_back_as_it_was_left(rt: HostRuntime) -> Result<(), Fail> {
-    let mut slots = SlabSlots::new(rt.alloc());
-    let visit = take_and_return(rt.alloc(), &mut slots)?;
-    assert!(rt; visit.kept && visit.next);
-    assert_eq!(rt; visit.returned.as_slice(), [7, 8].as_slice());
-    assert!(rt; slots.take(Vec::new(rt.alloc())).is_ok());
+    let mut slab = SlabSlots::new(rt.alloc());
+    let mut raw = RawSlots::new(rt.alloc());
+    let visits = [
+        take_and_return(rt.alloc(), &mut slab)?,
+        take_and_return(rt.alloc(), &mut raw)?,
+    ];
+    for visit in visits {
+        assert!(rt; visit.kept && visit.next);
+        assert_eq!(rt; visit.returned.as_slice(), [7, 8].as_slice());
+    }
     Ok(())
 }
 
 /// The replies to so many takes, of the items 0, 1 and so on, and then to some commands.
-fn replies(alloc: Global, takes: u64, last: &[Command]) -> Result<Vec<Reply>, Refusal> {
+fn replies(alloc: Global, body: Body, takes: u64, last: &[Command]) -> Result<Vec<Reply>, Refusal> {
     let mut commands = Vec::new(alloc);
     for value in 0..takes {
         commands.push(Command::Take(value))?;
     }
     commands.extend_from_slice(last)?;
-    run_slots::<SlabSlots<u64>>(alloc, commands.as_slice())
+    run(alloc, body, commands.as_slice())
 }
 
 #[test]
@@ -63,7 +86,6 @@ fn the_lower_class_comes_first(rt: HostRuntime) -> Result<(), Fail> {
         Command::PopReady,
         Command::PopReady,
     ];
-    let got = replies(rt.alloc(), 0, commands.as_slice())?;
     let want = [
         Reply::Taken(0),
         Reply::Taken(1),
@@ -73,7 +95,10 @@ fn the_lower_class_comes_first(rt: HostRuntime) -> Result<(), Fail> {
         Reply::Next(Some(1)),
         Reply::Next(None),
     ];
-    assert_eq!(rt; got.as_slice(), want.as_slice());
+    for body in BODIES {
+        let got = replies(rt.alloc(), body, 0, commands.as_slice())?;
+        assert_eq!(rt; got.as_slice(), want.as_slice(), "by {body:?}");
+    }
     Ok(())
 }
 
@@ -90,7 +115,6 @@ fn a_number_is_never_given_twice(rt: HostRuntime) -> Result<(), Fail> {
         Command::Get(0),
         Command::Get(257),
     ];
-    let got = replies(rt.alloc(), 257, last.as_slice())?;
     let want = [
         Reply::Taken(256),
         Reply::Plain,
@@ -103,22 +127,25 @@ fn a_number_is_never_given_twice(rt: HostRuntime) -> Result<(), Fail> {
         Reply::Refused(Refusal::NoTask),
         Reply::Item(900),
     ];
-    assert_eq!(rt; got.len(), 266);
-    assert_eq!(rt; &got[256..], want.as_slice());
+    for body in BODIES {
+        let got = replies(rt.alloc(), body, 257, last.as_slice())?;
+        assert_eq!(rt; got.get(256..), Some(want.as_slice()), "by {body:?}");
+    }
     Ok(())
 }
 
 #[test]
 fn the_65_537th_item_is_refused(rt: HostRuntime) -> Result<(), Fail> {
     let last = [Command::Get(65_536), Command::Get(65_535)];
-    let got = replies(rt.alloc(), 65_537, last.as_slice())?;
     let want = [
         Reply::Taken(65_535),
         Reply::Refused(Refusal::StoreFull),
         Reply::Refused(Refusal::NoTask),
         Reply::Item(65_535),
     ];
-    assert_eq!(rt; got.len(), 65_539);
-    assert_eq!(rt; &got[65_535..], want.as_slice());
+    for body in BODIES {
+        let got = replies(rt.alloc(), body, 65_537, last.as_slice())?;
+        assert_eq!(rt; got.get(65_535..), Some(want.as_slice()), "by {body:?}");
+    }
     Ok(())
 }
