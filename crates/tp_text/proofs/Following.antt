@@ -1,5 +1,5 @@
 -- The lines of a run that is followed.
-use Rattle.std.proofs.Common.{◌≡◌, ◌≢◌, ◌⊎◌, ℕ, zero, suc, ◌+◌, ◌-◌, ◌*◌, ◌<◌, ◌≤◌, Bool, true, false, not, ◌||◌, ◌&&◌, ◌==◌, IsTrue, IsFalse, List, [], ◌∷◌, ◌++◌, length, reverse, drop, get_or, Option, Some, None, slice_get, slice_set, slice_index_or, nat_le, if◌then◌else◌, refl, sym, ap, subst, ◌∙◌, inl, inr, arith}
+use Rattle.std.proofs.Common.{◌≡◌, ◌≢◌, ℕ, zero, suc, ◌+◌, ◌-◌, ◌*◌, ◌<◌, ◌≤◌, Bool, true, false, not, ◌||◌, ◌&&◌, ◌==◌, IsTrue, List, [], ◌∷◌, ◌++◌, length, reverse, drop, get_or, Option, Some, None, slice_get, slice_set, slice_index_or, nat_le, if◌then◌else◌, refl, sym, ap, subst, ◌∙◌, inl, inr, arith}
 use Rattle.std.specs.List.{All}
 use Rattle.std.specs.Prelude.{OnOk, Result, Ok, Err}
 use Rattle.std.specs.Result.{result_err}
@@ -10,12 +10,12 @@ use Rattle.std.proofs.lemmas.Option.{get_or_from_slice_get}
 use Rattle.tp_base.specs.History.{Event}
 use Rattle.tp_base.specs.declared.ids.MessageId.{MessageId}
 use Rattle.tp_base.specs.declared.ids.NodeId.{NodeId}
-use Rattle.tp_base.specs.declared.limits.TheConstants.{MAX_NODES, MAX_STEPS}
+use Rattle.tp_base.specs.declared.limits.TheConstants.{MAX_STEPS}
 use Rattle.tp_base.specs.declared.Step.{Step}
 use Rattle.tp_base.specs.declared.Step.TheVariants.{Send, Recv, Start, Down, Give, Up, Judge}
 use Rattle.tp_base.specs.declared.Refusal.{Refusal}
 use Rattle.tp_wave.specs.Checks.{control_refusal}
-use Rattle.tp_wave.specs.Control.{in_wave, is_control, AreLawfulWaves, IsControlStep}
+use Rattle.tp_wave.specs.Control.{in_wave, is_control, AreLawfulWaves}
 use Rattle.tp_wave.specs.Machine.{History, steps_of, IsNext, IsRun}
 use Rattle.tp_wave.specs.Steps.{any, count, is_judge, is_recv_at, is_send_of, is_start}
 use Rattle.tp_wave.specs.Sums.{four_equal, judgement, waves}

@@ -29,7 +29,6 @@ pub fn audits_are_determined()
 {}
 
 /// Printing and reading meet: the trace of some steps is read as these steps and as what is judged of them.
-#[tactic(auto, using(crate::proofs::Following::traces_read_back))]
 pub fn traces_are_read_back()
     ensures { TracesAreReadBack }
 {}

@@ -1,4 +1,4 @@
-use Rattle.std.proofs.Common.{◌∙◌, arith, refl, subst, sym, rules}
+use Rattle.std.proofs.Common.{◌∙◌, refl, subst, sym, rules}
 use Rattle.std.specs.List.{All}
 use Rattle.tp_wave.specs.Machine.{steps_of}
 use Rattle.tp_text.specs.Spelling.{IsSpelled}

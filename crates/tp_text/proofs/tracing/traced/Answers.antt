@@ -1,4 +1,4 @@
-use Rattle.std.proofs.Common.{◌≡◌, ◌∙◌, arith, ap, refl, subst, sym, rules}
+use Rattle.std.proofs.Common.{◌∙◌, ap, subst, sym, rules}
 use Rattle.tp_wave.specs.Machine.{steps_of}
 use Rattle.tp_text.specs.Following.{HasFollowed}
 use Rattle.tp_text.specs.Trace.{trace}
