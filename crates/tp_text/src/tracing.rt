@@ -12,7 +12,7 @@ use std::alloc::{AllocError, Global};
 use tp_base::{History, MAX_STEPS, Refusal};
 
 /// The trace of a pool's history over so many nodes, 1 to 8: its steps, the oldest first, each judge's words being what was
-/// judged over the steps before. Messages are counted afresh. It takes memory for the text alone, in pieces.
+/// judged over the steps before. Messages are counted afresh. It takes memory for the text alone.
 ///
 /// Refused: `BadSpec` where the history has more than 1,048,576 steps, a number of more than six digits, or a task of more
 /// than 16 inputs; then `NoMemory`.
