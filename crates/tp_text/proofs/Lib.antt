@@ -12,3 +12,4 @@ pub mod Recounting
 pub mod TracedEnds
 pub mod UniqueTraces
 pub mod UniqueAudits
+pub mod Following

@@ -9,4 +9,6 @@ pub mod Ended
 pub mod Trace
 pub mod AuditText
 pub mod TracedEnd
+pub mod TraceOf
+pub mod Following
 pub mod Auditing

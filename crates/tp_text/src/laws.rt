@@ -2,6 +2,7 @@ ghost use Rattle.tp_text.specs.AuditText.{AuditsAreDetermined};
 ghost use Rattle.tp_text.specs.Script.{ScriptsAreDetermined};
 ghost use Rattle.tp_text.specs.SimText.{TextsAreDetermined};
 ghost use Rattle.tp_text.specs.Trace.{TracesAreDetermined};
+ghost use Rattle.tp_text.specs.TraceOf.{TracesAreReadBack};
 
 /// One script is spelled in one way, and one text spells one script.
 #[tactic(auto, using(crate::proofs::Unique::scripts_determined))]
@@ -25,4 +26,9 @@ pub fn traces_are_determined()
 #[tactic(auto, using(crate::proofs::UniqueAudits::audits_determined))]
 pub fn audits_are_determined()
     ensures { AuditsAreDetermined }
+{}
+
+/// Printing and reading meet: the trace of some steps is read as these steps and as what is judged of them.
+pub fn traces_are_read_back()
+    ensures { TracesAreReadBack }
 {}

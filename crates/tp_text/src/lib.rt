@@ -12,7 +12,10 @@ mod parse;
 mod printing;
 mod recount;
 mod simulation;
+mod step_lines;
 mod traced;
+mod tracer;
+mod tracing;
 mod verdict;
 mod words;
 
@@ -20,8 +23,10 @@ pub use fault::TextFault;
 pub use input::{MAX_READS, MAX_TEXT};
 pub use laws::{
     audits_are_determined, scripts_are_determined, texts_are_determined, traces_are_determined,
+    traces_are_read_back,
 };
 pub use recount::audit;
 pub use simulation::sim;
 pub use tp_table::print_table;
+pub use tracing::print_trace;
 pub use verdict::Verdict;

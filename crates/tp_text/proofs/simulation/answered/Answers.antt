@@ -9,6 +9,9 @@ use Rattle.tp_text.proofs.simulation.answered.Goals as goal
 pub returns-in_default-clause-ok : goal.returns-in_default-clause-ok
 returns-in_default-clause-ok c = fault_first c.args.text.now _ c.in_default.ensures c.in_ok-syntax_line.ensures
 
+pub returns-then-eq-clause-ok : goal.returns-then-eq-clause-ok
+returns-then-eq-clause-ok c = tt
+
 pub loop-rest-init : goal.loop-rest-init
 loop-rest-init c = ([], takes_none _ _ _ _ _ c.in-Some.ensures c.new-core.ensures c.new-out.ensures.items)
 

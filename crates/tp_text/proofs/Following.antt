@@ -1,0 +1,249 @@
+-- The lines of a run that is followed.
+use Rattle.std.proofs.Common.{◌≡◌, ◌≢◌, ℕ, zero, suc, ◌+◌, ◌-◌, ◌*◌, ◌<◌, ◌≤◌, Bool, true, false, not, ◌||◌, ◌&&◌, ◌==◌, IsTrue, List, [], ◌∷◌, ◌++◌, length, reverse, drop, get_or, Option, Some, None, slice_get, slice_set, slice_index_or, nat_le, if◌then◌else◌, refl, sym, ap, subst, ◌∙◌, inl, inr, arith}
+use Rattle.std.specs.List.{All}
+use Rattle.std.specs.Prelude.{OnOk, Result, Ok, Err}
+use Rattle.std.specs.Result.{result_err}
+use Rattle.std.proofs.Math.Seq.{drop-cons}
+use Rattle.std.proofs.lemmas.Bool.{and_parts, leb-true, cases_eq, eq-eqb, ne_eqb}
+use Rattle.std.proofs.lemmas.List.{drop_all, length-drop, get_or-reverse, get_or-set_same, get_or-set_other}
+use Rattle.std.proofs.lemmas.Option.{get_or_from_slice_get}
+use Rattle.tp_base.specs.History.{Event}
+use Rattle.tp_base.specs.declared.ids.MessageId.{MessageId}
+use Rattle.tp_base.specs.declared.ids.NodeId.{NodeId}
+use Rattle.tp_base.specs.declared.limits.TheConstants.{MAX_STEPS}
+use Rattle.tp_base.specs.declared.Step.{Step}
+use Rattle.tp_base.specs.declared.Step.TheVariants.{Send, Recv, Start, Down, Give, Up, Judge}
+use Rattle.tp_base.specs.declared.Refusal.{Refusal}
+use Rattle.tp_wave.specs.Checks.{control_refusal}
+use Rattle.tp_wave.specs.Control.{in_wave, is_control, AreLawfulWaves}
+use Rattle.tp_wave.specs.Machine.{History, steps_of, IsNext, IsRun}
+use Rattle.tp_wave.specs.Steps.{any, count, is_judge, is_recv_at, is_send_of, is_start}
+use Rattle.tp_wave.specs.Sums.{four_equal, judgement, waves}
+use Rattle.tp_wave.proofs.Exact.{checks_exact}
+use Rattle.tp_wave.proofs.Given.{count-le, pool_step}
+use Rattle.tp_wave.proofs.Judged.{two_tell_law}
+use Rattle.tp_wave.proofs.Positions.{length-steps_of}
+use Rattle.tp_wave.proofs.Visits.{lawful_waves}
+use Rattle.tp_text.specs.declared.tracer.Tracer.{Tracer}
+use Rattle.tp_text.specs.declared.traced.TraceLine.{TraceLine}
+use Rattle.tp_text.specs.declared.traced.TraceLine.TheVariants.{Plain, Judged}
+use Rattle.tp_text.specs.AuditText.{step_in, steps_in, AreJustified, IsJustified}
+use Rattle.tp_text.specs.Script.{IsNodeCount}
+use Rattle.tp_text.specs.Spelling.{IsSpelled}
+use Rattle.tp_text.specs.Trace.{trace, trace_line, AreWords, IsWritten}
+use Rattle.tp_text.specs.TraceOf.{line_of, lines_of, CanBeTraced, IsTraceOf, TracesAreReadBack}
+use Rattle.tp_text.specs.Following.{HasFollowed, HasNode, MayFollow}
+use Rattle.tp_text.proofs.Splits.{All-nil, All-cons, All-head, All-tail}
+use Rattle.tp_text.proofs.UniqueTraces.{traces_determined}
+
+-- ---- what is read back
+
+step_of_line : (n : ℕ) (past : List Step) (s : Step) → step_in (line_of n past s) ≡ s
+step_of_line n past Judge = refl
+step_of_line n past _ = refl
+
+steps_in_lines : (n : ℕ) (ss : List Step) → steps_in (lines_of n ss) ≡ ss
+steps_in_lines n [] = refl
+steps_in_lines n (s ∷ past) =
+    ap (λ x. x ∷ steps_in (lines_of n past)) (step_of_line n past s) ∙ ap (λ l. s ∷ l) (steps_in_lines n past)
+
+justified_line : (n : ℕ) (past known : List Step) (s : Step) → past ≡ known → IsJustified n known (line_of n past s)
+justified_line n past known Judge e = ap (judgement n) e
+justified_line n past known _ e = tt
+
+lines_justified : (n : ℕ) (ss : List Step) → AreJustified n (lines_of n ss)
+lines_justified n [] = tt
+lines_justified n (s ∷ past) = (justified_line n past (steps_in (lines_of n past)) s (sym (steps_in_lines n past)), lines_justified n past)
+
+pub traces_read_back : TracesAreReadBack
+traces_read_back n ss bytes m lines printed read =
+    let same = traces_determined bytes n m (lines_of n ss) lines printed read in
+    (sym same.0, ap steps_in (sym same.1) ∙ steps_in_lines n ss, subst (AreJustified n) same.1 (lines_justified n ss))
+
+-- ---- lines of the grammar
+
+-- Each wave but the newest was judged, so there are at most half as many as steps.
+record AreFewWaves (ss : List Step) : Type 0 where
+  most : 2 * waves ss ≤ length ss + 1
+  due : IsTrue (not (any is_start ss) || in_wave is_judge ss) → 2 * waves ss ≤ length ss
+
+few_waves : (n : ℕ) (ss : List Step) → AreLawfulWaves n ss → AreFewWaves ss
+few_waves n [] h = record { most = omega arith; due = λ e. omega arith }
+few_waves n (Start ∷ past) h = record { most = omega (arith, (few_waves n past h.1).due (h.0 refl).1); due = λ e. cc }
+few_waves n (Judge ∷ past) h = record { most = omega (arith, (few_waves n past h.1).most); due = λ e. omega (arith, (few_waves n past h.1).most) }
+few_waves n (s ∷ past) h = record { most = omega (arith, (few_waves n past h.1).most); due = λ e. omega (arith, (few_waves n past h.1).due e) }
+
+are_words : (b : Bool) (w : ℕ) → (IsTrue b → AreWords (Some w)) → AreWords (if b then Some w else None)
+are_words true w h = h refl
+are_words false w h = tt
+
+written_words : (n : ℕ) (past : List Step) → AreLawfulWaves n past → length past < MAX_STEPS → AreWords (judgement n past)
+written_words n past h l = are_words (nat_le 2 (waves past) && four_equal n past) (waves past - 1) (λ e.
+    let two : 2 ≤ waves past = leb-true 2 (waves past) (and_parts (nat_le 2 (waves past)) (four_equal n past) e).0 in
+    (omega (arith, two), omega (arith, l, (few_waves n past h).most)))
+
+written_line : (n : ℕ) (past : List Step) (s : Step) → AreLawfulWaves n past → length past < MAX_STEPS → IsSpelled s → IsWritten (line_of n past s)
+written_line n past Judge h l p = written_words n past h l
+written_line n past _ h l p = (p, λ e. cc)
+
+written_lines : (n : ℕ) (ss : List Step) → AreLawfulWaves n ss → length ss ≤ MAX_STEPS → All IsSpelled ss → All IsWritten (lines_of n ss)
+written_lines n [] h l p = All-nil IsWritten
+written_lines n (s ∷ past) h l p =
+    All-cons IsWritten (line_of n past s) (lines_of n past) (written_line n past s h.1 (omega (arith, l)) (All-head IsSpelled s past p))
+    (written_lines n past h.1 (omega (arith, l)) (All-tail IsSpelled s past p))
+
+pub is_trace_of : (n : ℕ) (h : History) (text : List ℕ) → IsNodeCount n → IsRun n h → CanBeTraced (steps_of h) → text ≡ trace n (lines_of n (steps_of h))
+    → IsTraceOf n (steps_of h) text
+is_trace_of n h text count run can e = record { nodes = count; written = written_lines n (steps_of h) (lawful_waves n h run) can.0 can.1; text = e }
+
+-- ---- the steps in the order of time
+
+-- the oldest events, so many, the newest first
+abbrev pub oldest : ℕ → List Event → List Event
+oldest k h = drop (length h - k) h
+
+pub oldest_none : (h : List Event) → oldest 0 h ≡ []
+oldest_none h = drop_all (length h - 0) h (omega arith)
+
+pub oldest_all : (h : List Event) (k : ℕ) → k ≡ length h → oldest k h ≡ h
+oldest_all h k all = let none : length h - k ≡ 0 = omega (arith, all) in ap (λ i. drop i h) none
+
+pub oldest_next : (h : List Event) (k : ℕ) (e : Event) → k < length h → slice_get (reverse h) k ≡ Some e → oldest (k + 1) h ≡ e ∷ oldest k h
+oldest_next h k e within at =
+    let place : suc (length h - (k + 1)) ≡ length h - k = omega (arith, within) in
+    let same : length h - 1 - k ≡ length h - (k + 1) = omega (arith, within) in
+    let found : get_or h (length h - (k + 1)) e ≡ e =
+    ap (λ i. get_or h i e) (sym same) ∙ sym (get_or-reverse h k e within) ∙ get_or_from_slice_get (reverse h) k e e at in
+    drop-cons h (length h - (k + 1)) e (omega (arith, within)) ∙ ap (λ x. x ∷ drop (suc (length h - (k + 1))) h) found ∙ ap (λ i. e ∷ drop i h) place
+
+run-drop : (n i : ℕ) (h : List Event) → IsRun n h → IsRun n (drop i h)
+run-drop n zero h r = r
+run-drop n (suc i) [] r = tt
+run-drop n (suc i) (e ∷ h) r = run-drop n i h r.1
+
+spelled-drop : (i : ℕ) (h : List Event) → All IsSpelled (steps_of h) → All IsSpelled (steps_of (drop i h))
+spelled-drop zero h p = p
+spelled-drop (suc i) [] p = p
+spelled-drop (suc i) (e ∷ h) p = spelled-drop i h (All-tail IsSpelled e.1 (steps_of h) p)
+
+-- the step of an event is spelled
+pub spelled_there : (h : List Event) (k : ℕ) (e : Event) → k < length h → slice_get (reverse h) k ≡ Some e → All IsSpelled (steps_of h) → IsSpelled e.1
+spelled_there h k e within at p =
+    All-head IsSpelled e.1 (steps_of (oldest k h))
+    (subst (λ x. All IsSpelled (steps_of x)) (oldest_next h k e within at) (spelled-drop (length h - (k + 1)) h p))
+
+pub spelled_none : (h : List Event) → All IsSpelled (steps_of (oldest 0 h))
+spelled_none h = subst (λ x. All IsSpelled (steps_of x)) (sym (oldest_none h)) (All-nil IsSpelled)
+
+pub spelled_next : (h : List Event) (k : ℕ) (e : Event) → k < length h → slice_get (reverse h) k ≡ Some e → IsSpelled e.1
+    → All IsSpelled (steps_of (oldest k h)) → All IsSpelled (steps_of (oldest (k + 1) h))
+spelled_next h k e within at p before =
+    subst (λ x. All IsSpelled (steps_of x)) (sym (oldest_next h k e within at)) (All-cons IsSpelled e.1 (steps_of (oldest k h)) p before)
+
+-- ---- the next step
+
+has_node : (n : ℕ) (past : History) (i : NodeId) (s : Step) → IsNext n past (i, s) → HasNode n s
+has_node n past i (Send j k m) x = omega (arith, x.known, x.beside)
+has_node n past i (Recv j m) x = omega (arith, x.known, x.beside)
+has_node n past i _ x = tt
+
+may_follow : (n : ℕ) (past : History) (e : Event) → IsRun n (e ∷ past) → length past < MAX_STEPS → MayFollow n (steps_of past) e.1
+may_follow n past e r l = record {
+  few = omega (arith, l, length-steps_of past);
+  node = has_node n past e.0 e.1 r.0;
+  control = r.0.control;
+  two_tell = two_tell_law n past r.1;
+}
+
+pub may_follow_next : (n : ℕ) (h : History) (k : ℕ) (e : Event) → k < length h → slice_get (reverse h) k ≡ Some e → IsRun n h → length h ≤ MAX_STEPS
+    → MayFollow n (steps_of (oldest k h)) e.1
+may_follow_next n h k e within at r l =
+    may_follow n (oldest k h) e (subst (IsRun n) (oldest_next h k e within at) (run-drop n (length h - (k + 1)) h r))
+    (omega (arith, within, l, length-drop (length h - k) h))
+
+pub begun : (n : ℕ) (h : History) (old new : List ℕ) → old ≡ [] → new ≡ old ++ trace n [] → new ≡ trace n (lines_of n (steps_of (oldest 0 h)))
+begun n h old new none head =
+    head ∙ ap (λ x. x ++ trace n []) none ∙ ap (λ x. trace n (lines_of n (steps_of x))) (sym (oldest_none h))
+
+-- one line more is written
+pub traced_next : (n : ℕ) (h : History) (k : ℕ) (e : Event) (l : TraceLine) (old new : List ℕ) → k < length h → slice_get (reverse h) k ≡ Some e
+    → l ≡ line_of n (steps_of (oldest k h)) e.1 → old ≡ trace n (lines_of n (steps_of (oldest k h))) → new ≡ old ++ trace_line l
+    → new ≡ trace n (lines_of n (steps_of (oldest (k + 1) h)))
+traced_next n h k e l old new within at is before written =
+    written ∙ ap (λ x. old ++ trace_line x) is ∙ ap (λ x. x ++ trace_line (line_of n (steps_of (oldest k h)) e.1)) before
+    ∙ ap (λ x. trace n (lines_of n (steps_of x))) (sym (oldest_next h k e within at))
+
+-- ---- messages are counted
+
+-- one more at place j
+pub one_more : (n j : ℕ) (xs new : List ℕ) (f : ℕ → ℕ) → ((i : ℕ) → i < n → slice_index_or xs i 0 ≡ f i) → j < n → j < length xs
+    → new ≡ slice_set xs j (slice_index_or xs j 0 + 1) → (i : ℕ) → i < n → slice_index_or new i 0 ≡ (if j == i then f i + 1 else f i)
+one_more n j xs new f each known within is i below = elim (cases_eq j i) [
+  | inl same ↦
+      rw (eq-eqb j i same) (ap (λ ys. slice_index_or ys i 0) is ∙ ap (λ k. slice_index_or (slice_set xs j (slice_index_or xs j 0 + 1)) k 0) (sym same)
+      ∙ get_or-set_same xs j (slice_index_or xs j 0 + 1) 0 within ∙ ap (λ m. m + 1) (ap (λ k. slice_index_or xs k 0) same ∙ each i below))
+  | inr other ↦
+      rw (ne_eqb j i other) (ap (λ ys. slice_index_or ys i 0) is ∙ get_or-set_other xs j i (slice_index_or xs j 0 + 1) 0 (λ e. other (sym e)) ∙ each i below)
+]
+
+pub few_sent : (n : ℕ) (past : List Step) (t : Tracer) (i : ℕ) → HasFollowed n past t → i < n → length past < MAX_STEPS → slice_index_or t.sent i 0 < MAX_STEPS
+few_sent n past t i h below l = omega (arith, h.sent i below, count-le (is_send_of i) past, l)
+
+pub few_received : (n : ℕ) (past : List Step) (t : Tracer) (i : ℕ) → HasFollowed n past t → i < n → length past < MAX_STEPS → slice_index_or t.received i 0 < MAX_STEPS
+few_received n past t i h below l = omega (arith, h.received i below, count-le (is_recv_at i) past, l)
+
+pub sender : (n : ℕ) (past : List Step) (s : Step) (i j : NodeId) (m : MessageId) → s ≡ Send i j m → MayFollow n past s → i.0 < n
+sender n past s i j m is h = subst (HasNode n) is h.node
+
+pub receiver : (n : ℕ) (past : List Step) (s : Step) (j : NodeId) (m : MessageId) → s ≡ Recv j m → MayFollow n past s → j.0 < n
+receiver n past s j m is h = subst (HasNode n) is h.node
+
+pub sent_one : (n : ℕ) (past : List Step) (s : Step) (i j : NodeId) (m : MessageId) (t : Tracer) (new : List ℕ) → s ≡ Send i j m
+    → HasFollowed n past t → MayFollow n past s → i.0 < length t.sent → new ≡ slice_set t.sent i.0 (slice_index_or t.sent i.0 0 + 1)
+    → HasFollowed n (s ∷ past) (record { wave = t.wave; sent = new; received = t.received })
+sent_one n past s i j m t new is h may within e = subst (λ x. HasFollowed n (x ∷ past) (record { wave = t.wave; sent = new; received = t.received })) (sym is) (record {
+  nodes = h.nodes;
+  wave = pool_step n past (Send i j m) t.wave refl h.wave;
+  sent = one_more n i.0 t.sent new (λ k. count (is_send_of k) past) h.sent (sender n past s i j m is may) within e;
+  received = h.received;
+})
+
+pub received_one : (n : ℕ) (past : List Step) (s : Step) (j : NodeId) (m : MessageId) (t : Tracer) (new : List ℕ) → s ≡ Recv j m
+    → HasFollowed n past t → MayFollow n past s → j.0 < length t.received → new ≡ slice_set t.received j.0 (slice_index_or t.received j.0 0 + 1)
+    → HasFollowed n (s ∷ past) (record { wave = t.wave; sent = t.sent; received = new })
+received_one n past s j m t new is h may within e = subst (λ x. HasFollowed n (x ∷ past) (record { wave = t.wave; sent = t.sent; received = new })) (sym is) (record {
+  nodes = h.nodes;
+  wave = pool_step n past (Recv j m) t.wave refl h.wave;
+  sent = h.sent;
+  received = one_more n j.0 t.received new (λ k. count (is_recv_at k) past) h.received (receiver n past s j m is may) within e;
+})
+
+-- ---- the waves go along
+
+-- a control step that may come next is not refused
+pub not_refused : {A : Type 0} (n : ℕ) (past : List Step) (s : Step) (r : Result A Refusal) (P : Type 0) → IsTrue (is_control s) → MayFollow n past s
+    → result_err r ≡ control_refusal n past s → OnOk r P → P
+not_refused n past s (Ok x) P control may exact goes = goes
+not_refused n past s (Err e) P control may exact goes = let none = (checks_exact n past s control).1 (may.control control) in cc
+
+pub judged_line : (n : ℕ) (past : List Step) (s : Step) (o : Option ℕ) → s ≡ Judge → o ≡ judgement n past → Judged o ≡ line_of n past s
+judged_line n past s o is told = ap (λ x. Judged x) told ∙ ap (line_of n past) (sym is)
+
+-- ---- any other step
+
+pub other_line : (n : ℕ) (past : List Step) (s : Step) → s ≢ Judge → Plain s ≡ line_of n past s
+other_line n past Judge other = absurd (other refl)
+other_line n past _ other = refl
+
+pub other_step : (n : ℕ) (past : List Step) (s : Step) (t : Tracer) → HasFollowed n past t → ((i j : NodeId) (m : MessageId) → s ≢ Send i j m)
+    → ((j : NodeId) (m : MessageId) → s ≢ Recv j m) → (s ≢ Start) → ((i : NodeId) → s ≢ Down i) → ((i : NodeId) → s ≢ Give i) → ((i : NodeId) → s ≢ Up i) → (s ≢ Judge)
+    → HasFollowed n (s ∷ past) t
+other_step n past (Send i j m) t h send recv start down give up judge = absurd (send i j m refl)
+other_step n past (Recv j m) t h send recv start down give up judge = absurd (recv j m refl)
+other_step n past Start t h send recv start down give up judge = absurd (start refl)
+other_step n past (Down i) t h send recv start down give up judge = absurd (down i refl)
+other_step n past (Give i) t h send recv start down give up judge = absurd (give i refl)
+other_step n past (Up i) t h send recv start down give up judge = absurd (up i refl)
+other_step n past Judge t h send recv start down give up judge = absurd (judge refl)
+other_step n past s t h send recv start down give up judge =
+    record { nodes = h.nodes; wave = pool_step n past s t.wave refl h.wave; sent = h.sent; received = h.received }

@@ -1,0 +1,12 @@
+use Rattle.std.proofs.Common.{refl}
+use Rattle.tp_base.specs.declared.Step.TheVariants.{Judge}
+use Rattle.tp_text.proofs.Following.{not_refused}
+use Rattle.tp_text.proofs.tracer.Tracer.judge.Goals as goal
+
+pub returns-clause-followed : goal.returns-clause-followed
+returns-clause-followed c = λ n past h may. record {
+  nodes = h.nodes;
+  wave = not_refused n past Judge c.judge.result _ refl may (c.judge.ensures.exact n past h.wave) (c.judge.ensures.follows n past h.wave may.two_tell);
+  sent = h.sent;
+  received = h.received;
+}

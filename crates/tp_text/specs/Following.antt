@@ -1,0 +1,31 @@
+-- What is known of steps that were followed one by one.
+use Rattle.std.specs.Prelude.{ℕ, ◌≡◌, ◌<◌, ◌≤◌, List, IsTrue, length}
+use Rattle.std.specs.List.{slice_index_or}
+use Rattle.tp_base.specs.declared.limits.TheConstants.{MAX_NODES, MAX_STEPS}
+use Rattle.tp_base.specs.declared.Step.{Step}
+use Rattle.tp_base.specs.declared.Step.TheVariants.{Send, Recv}
+use Rattle.tp_wave.specs.Control.{is_control, IsControlStep}
+use Rattle.tp_wave.specs.Cut.{DoTwoTell}
+use Rattle.tp_wave.specs.Steps.{count, is_send_of, is_recv_at}
+use Rattle.tp_wave.specs.Wave.{Follows}
+use Rattle.tp_text.specs.declared.tracer.Tracer.{Tracer}
+
+-- The waves stand where these steps on n nodes led them, and the messages of each node were counted.
+pub record HasFollowed (n : ℕ) (steps : List Step) (t : Tracer) : Type 0 where
+  pub nodes : n ≤ MAX_NODES
+  pub wave : Follows n steps t.wave
+  pub sent : (i : ℕ) → i < n → slice_index_or t.sent i 0 ≡ count (is_send_of i) steps
+  pub received : (i : ℕ) → i < n → slice_index_or t.received i 0 ≡ count (is_recv_at i) steps
+
+-- The node that sends or receives a message is one of n.
+abbrev pub HasNode : ℕ → Step → Type 0
+HasNode n (Send i j m) = i.0 < n
+HasNode n (Recv j m) = j.0 < n
+HasNode n _ = Unit {0}
+
+-- This step may follow these, in a run on n nodes that goes no further than a core would.
+pub record MayFollow (n : ℕ) (past : List Step) (s : Step) : Type 0 where
+  pub few : length past < MAX_STEPS
+  pub node : HasNode n s
+  pub control : IsTrue (is_control s) → IsControlStep n past s
+  pub two_tell : DoTwoTell n past

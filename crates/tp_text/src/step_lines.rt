@@ -1,0 +1,124 @@
+ghost use Rattle.std.specs.Prelude.{◌≡◌, ◌++◌, ◌↔◌, [], IsTrue, OnOk};
+ghost use Rattle.tp_text.specs.Script.{step_line};
+ghost use Rattle.tp_text.specs.Spelling.{line, spaced, IsNumber, IsSpelled};
+ghost use Rattle.tp_text.specs.Trace.{trace, trace_line};
+ghost use Rattle.tp_text.specs.Words.{numbers_in};
+
+use crate::printing::push_count;
+use crate::traced::TraceLine;
+use crate::words::Operands;
+use std::alloc::AllocError;
+use tp_base::{MAX_INPUTS, Step};
+
+/// Whether a number has at most six digits.
+fn is_number(number: u32) -> bool
+    ensures { IsTrue result ↔ IsNumber number }
+{
+    number < 1_000_000
+}
+
+/// Whether the grammar has a line for a step.
+pub(crate) fn has_line(step: Step) -> bool
+    ensures { IsTrue result ↔ IsSpelled step }
+{
+    match step {
+        Step::Insert(node, task, inputs) => {
+            is_number(node.0) && is_number(task.0) && inputs.get() <= MAX_INPUTS
+        }
+        Step::Supply(task) | Step::Begin(task) | Step::Done(task) => is_number(task.0),
+        Step::ActionOpen(node, action) | Step::ActionClose(node, action) => {
+            is_number(node.0) && is_number(action.0)
+        }
+        Step::Send(from, to, message) => {
+            is_number(from.0) && is_number(to.0) && is_number(message.0)
+        }
+        Step::Recv(node, message) | Step::MessageEnd(node, message) => {
+            is_number(node.0) && is_number(message.0)
+        }
+        Step::Ready(node) | Step::Down(node) | Step::Give(node) | Step::Up(node) => {
+            is_number(node.0)
+        }
+        Step::Start | Step::Judge => true,
+    }
+}
+
+/// Numbers, each behind a space.
+fn push_numbers(out: &mut Vec<u8>, numbers: Operands) -> Result<(), AllocError>
+    ensures { OnOk result (out.new.items ≡ out.old.items ++ spaced (numbers_in numbers)) }
+{
+    match numbers {
+        Operands::None => Ok(()),
+        Operands::One(first) => push_count(out, b" ", u64::from(first)),
+        Operands::Two(first, second) => {
+            push_count(out, b" ", u64::from(first))?;
+            push_count(out, b" ", u64::from(second))
+        }
+        Operands::Three(first, second, third) => {
+            push_count(out, b" ", u64::from(first))?;
+            push_count(out, b" ", u64::from(second))?;
+            push_count(out, b" ", u64::from(third))
+        }
+    }
+}
+
+/// A line of a word and numbers.
+fn push_words(out: &mut Vec<u8>, word: &[u8], numbers: Operands) -> Result<(), AllocError>
+    ensures { OnOk result (out.new.items ≡ out.old.items ++ line (word.now ++ spaced (numbers_in numbers))) }
+{
+    out.extend_from_slice(word)?;
+    push_numbers(out, numbers)?;
+    out.extend_from_slice(b"\n")
+}
+
+/// The lines with which a trace begins: for the format, and for the number of nodes.
+pub(crate) fn push_head(out: &mut Vec<u8>, nodes: u32) -> Result<(), AllocError>
+    ensures { OnOk result (out.new.items ≡ out.old.items ++ trace nodes []) }
+{
+    push_words(out, b"trace 1", Operands::None)?;
+    push_words(out, b"nodes", Operands::One(nodes))
+}
+
+/// The line of a step.
+fn push_step(out: &mut Vec<u8>, step: Step) -> Result<(), AllocError>
+    ensures { OnOk result (out.new.items ≡ out.old.items ++ step_line step) }
+{
+    match step {
+        Step::Insert(node, task, inputs) => {
+            let inputs = u32::from(inputs.get());
+            push_words(out, b"insert", Operands::Three(node.0, task.0, inputs))
+        }
+        Step::Supply(task) => push_words(out, b"supply", Operands::One(task.0)),
+        Step::Begin(task) => push_words(out, b"begin", Operands::One(task.0)),
+        Step::Done(task) => push_words(out, b"done", Operands::One(task.0)),
+        Step::ActionOpen(node, action) => {
+            push_words(out, b"open", Operands::Two(node.0, action.0))
+        }
+        Step::ActionClose(node, action) => {
+            push_words(out, b"close", Operands::Two(node.0, action.0))
+        }
+        Step::Ready(node) => push_words(out, b"ready", Operands::One(node.0)),
+        Step::Send(from, to, message) => {
+            push_words(out, b"send", Operands::Three(from.0, to.0, message.0))
+        }
+        Step::Recv(node, message) => push_words(out, b"recv", Operands::Two(node.0, message.0)),
+        Step::MessageEnd(node, message) => {
+            push_words(out, b"end", Operands::Two(node.0, message.0))
+        }
+        Step::Start => push_words(out, b"start", Operands::None),
+        Step::Down(node) => push_words(out, b"down", Operands::One(node.0)),
+        Step::Give(node) => push_words(out, b"give", Operands::One(node.0)),
+        Step::Up(node) => push_words(out, b"up", Operands::One(node.0)),
+        Step::Judge => push_words(out, b"judge", Operands::None),
+    }
+}
+
+/// A line of a trace.
+pub(crate) fn push_line(out: &mut Vec<u8>, line: TraceLine) -> Result<(), AllocError>
+    ensures { OnOk result (out.new.items ≡ out.old.items ++ trace_line line) }
+{
+    match line {
+        TraceLine::Plain(step) => push_step(out, step),
+        TraceLine::Judged(None) => push_words(out, b"judge not", Operands::None),
+        TraceLine::Judged(Some(wave)) => push_words(out, b"judge ended", Operands::One(wave)),
+    }
+}
