@@ -1,8 +1,15 @@
 -- How the changes of a store's content keep it sound, and how its counts move.
-use Rattle.std.proofs.Common.{◌≡◌, ◌≢◌, ℕ, suc, ◌+◌, ◌<◌, ◌≤◌, ◌==◌, Bool, true, false, cond, List, [], ◌∷◌, ◌++◌, length, get_or, set, Option, Some, None, unwrap_or, count_by, refl, sym, ap, subst, ◌∙◌, inl, inr, arith}
-use Rattle.std.specs.Prelude.{◌&&◌, not, if◌then◌else◌}
+use Rattle.std.proofs.Common.{◌≡◌, ◌≢◌, ℕ, zero, suc, ◌+◌, ◌<◌, ◌≤◌, ◌==◌, Bool, true, false, cond, List, [], ◌∷◌, ◌++◌, length, get_or, set, Option, Some, None, is_some, unwrap_or}
+use Rattle.std.proofs.Common.{count_by, refl, sym, ap, subst, ◌∙◌, inl, inr, arith}
+use Rattle.std.specs.Prelude.{nat_lt, ◌&&◌, not, if◌then◌else◌}
 use Rattle.std.specs.Option.{option_map}
+use Rattle.std.specs.Ordering.{nat_cmp, is_lt, is_eq}
+use Rattle.std.specs.declared.cmp.Ordering.{Ordering}
+use Rattle.std.specs.declared.cmp.Ordering.TheVariants.{Less, Equal, Greater}
+use Rattle.std.specs.Cmp.{unsigned_tied}
 use Rattle.std.specs.FinMap as finite
+use Rattle.std.specs.FinMap.Entries.{find, is_sorted, below_all}
+use Rattle.std.proofs.Math.Dec.{T}
 use Rattle.std.proofs.lemmas.Bool.{cases_eq}
 use Rattle.std.proofs.lemmas.Bool.Decides.{nat_tests}
 use Rattle.std.proofs.lemmas.List.{length-set, get_or-set_same, get_or-set_other}
@@ -10,18 +17,16 @@ use Rattle.std.proofs.lemmas.List.Sums.{sum_by-cons, sum_by-append}
 use Rattle.tp_base.specs.declared.ids.TaskId.{TaskId}
 use Rattle.tp_slots.specs.Content.{front, without_front, with_last}
 use Rattle.tp_slots.proofs.Sound.{get_inserted}
-use Rattle.tp_store.specs.Content.{Task, Content, task_of, life_of, with_task, begun, done, count_lives, unfinished, counts_of, is_unfinished, is_waiting, is_ready, is_running, is_done, has_begun}
+use Rattle.tp_store.specs.Content.{Task, Content, task_of, life_of, stage, NoneGoesBack, supplied, life_lacking, fresh, begun, done, changed_tasks, with_task, with_inserted, with_delivered}
+use Rattle.tp_store.specs.Content.{with_begun, with_done, count_lives, unfinished, counts_of, is_unfinished, is_waiting, is_ready, is_running, is_done, has_begun}
 use Rattle.tp_store.specs.Kept.{one, moved_counts, IsCounted}
 use Rattle.tp_store.specs.declared.life.Counts.{Counts}
-use Rattle.tp_store.proofs.Counting.{one_if, passing-insert}
+use Rattle.tp_store.proofs.Counting.{one_if, later_sorted, passing, passing-cons, passing-insert}
 use Rattle.tp_store.specs.Sound.{IsTask, IsSound, is_task, times_ready, times_done}
 use Rattle.tp_store.specs.declared.life.Life.{Life}
 use Rattle.tp_store.specs.declared.life.Life.TheVariants.{Waiting, Ready, Running, Done}
 
 -- ---- the lists
-pub times : TaskId → List TaskId → ℕ
-times t = count_by (is_task t)
-
 module _ {X : Type 0} where
   pub count-push : (p : X → Bool) (xs : List X) (y : X) → count_by p (xs ++ y ∷ []) ≡ count_by p xs + cond (p y) 1 0
   count-push p xs y = omega (arith, sum_by-append (λ x. cond (p x) 1 0) xs (y ∷ []), sum_by-cons (λ x. cond (p x) 1 0) y [])
@@ -33,17 +38,14 @@ module _ {X : Type 0} where
       let at = front_place rest x e in (suc at.0, at.1, omega (arith, at.2), at.3, ap (λ l. [] ∷ l) at.4)
   front_place ((y ∷ later) ∷ rest) x e = let same : y ≡ x = cc in (0, later, omega arith, ap (λ z. z ∷ later) same, refl)
 
--- another list than the one that is set
-pub set_elsewhere : (rs : List (List TaskId)) (k j : ℕ) (xs : List TaskId) → j ≢ k → get_or (set rs k xs) j [] ≡ get_or rs j []
-set_elsewhere rs k j xs apart = get_or-set_other rs k j xs [] apart
-
 pub is_itself : (t : TaskId) → is_task t t ≡ true
 is_itself t = grind (arith, nat_tests)
 
 pub is_other : (t u : TaskId) → u.0 ≢ t.0 → is_task u t ≡ false
 is_other t u apart = grind (arith, nat_tests)
 
-pub with_last-count : (rs : List (List TaskId)) (k j : ℕ) (t u : TaskId) → k < length rs → count_by (is_task u) (get_or (with_last rs k t) j []) ≡ count_by (is_task u) (get_or rs j []) + cond (j == k) (cond (is_task u t) 1 0) 0
+pub with_last-count : (rs : List (List TaskId)) (k j : ℕ) (t u : TaskId) → k < length rs
+    → count_by (is_task u) (get_or (with_last rs k t) j []) ≡ count_by (is_task u) (get_or rs j []) + cond (j == k) (cond (is_task u t) 1 0) 0
 with_last-count rs k j t u h = elim (cases_eq j k) [
   | inl same ↦
       let e : (j == k) ≡ true = grind (arith, nat_tests) in
@@ -58,35 +60,28 @@ pub same_number : (t u : TaskId) → u.0 ≡ t.0 → u ≡ t
 same_number t u e = λ i. record { 0 = e i }
 
 -- ---- lives
-waits_not : (life : Life) → is_waiting life ≡ true → (is_ready life ≡ false) × (is_done life ≡ false)
+pub waits_not : (life : Life) → is_waiting life ≡ true → (is_ready life ≡ false) × (is_done life ≡ false)
 waits_not (Waiting k) e = (refl, refl)
-waits_not Ready e = cc
-waits_not Running e = cc
-waits_not Done e = cc
+waits_not _ e = cc
 
 not_begun : (life : Life) → has_begun life ≡ false → is_done life ≡ false
 not_begun (Waiting k) e = refl
 not_begun Ready e = refl
-not_begun Running e = cc
-not_begun Done e = cc
+not_begun _ e = cc
 
 pub unfinished_life : (life : Life) → has_begun life ≡ false → is_unfinished life ≡ true
-unfinished_life life e = ap (λ b. not b) (not_begun life e)
+unfinished_life life e = ap not (not_begun life e)
 
 pub waiting_unfinished : (life : Life) → is_waiting life ≡ true → is_unfinished life ≡ true
-waiting_unfinished life e = ap (λ b. not b) (waits_not life e).1
+waiting_unfinished life e = ap not (waits_not life e).1
 
 ready_not : (life : Life) → is_ready life ≡ true → is_done life ≡ false
-ready_not (Waiting k) e = cc
 ready_not Ready e = refl
-ready_not Running e = cc
-ready_not Done e = cc
+ready_not _ e = cc
 
-pub runs_not : (life : Life) → is_running life ≡ true → (is_ready life ≡ false) × (is_done life ≡ false) × (has_begun life ≡ true)
-runs_not (Waiting k) e = cc
-runs_not Ready e = cc
+runs_not : (life : Life) → is_running life ≡ true → (is_ready life ≡ false) × (is_done life ≡ false) × (has_begun life ≡ true)
 runs_not Running e = (refl, refl, refl)
-runs_not Done e = cc
+runs_not _ e = cc
 
 same_counts : (a b : Counts) → a.waiting ≡ b.waiting → a.ready ≡ b.ready → a.running ≡ b.running → a ≡ b
 same_counts a b waiting ready running = λ i. record { waiting = waiting i; ready = ready i; running = running i }
@@ -96,7 +91,7 @@ module _ {V : Type 0} where
   pub task_of-put : (s : Content V) (t u : TaskId) (x : Task V) → finite.get (finite.insert s.tasks t.0 x) u.0 ≡ cond (u.0 == t.0) (Some x) (task_of s u)
   task_of-put s t u x = get_inserted s.tasks t.0 x u.0
 
-  task_here : (s : Content V) (t : TaskId) (x : Task V) → finite.get (finite.insert s.tasks t.0 x) t.0 ≡ Some x
+  pub task_here : (s : Content V) (t : TaskId) (x : Task V) → finite.get (finite.insert s.tasks t.0 x) t.0 ≡ Some x
   task_here s t x = let e : (t.0 == t.0) ≡ true = grind (arith, nat_tests) in task_of-put s t t x ∙ ap (λ b. cond b (Some x) (task_of s t)) e
 
   task_there : (s : Content V) (t u : TaskId) (x : Task V) → u.0 ≢ t.0 → finite.get (finite.insert s.tasks t.0 x) u.0 ≡ task_of s u
@@ -126,7 +121,8 @@ module _ {V : Type 0} where
       | inr apart ↦ others class u apart ∙ sound.ready class u ∙ ap (λ o. ready_in o class) (sym (task_there s t u x apart))
     ];
     done = λ u. elim (cases_eq u.0 t.0) [
-      | inl same ↦ subst (λ (w : TaskId). count_by (λ r. is_task w r.0) results ≡ done_in (finite.get (finite.insert s.tasks t.0 x) w.0)) (sym (same_number t u same)) (done_here ∙ ap done_in (sym (task_here s t x)))
+      | inl same ↦ subst (λ (w : TaskId). count_by (λ r. is_task w r.0) results ≡ done_in (finite.get (finite.insert s.tasks t.0 x) w.0)) (sym (same_number t u same))
+          (done_here ∙ ap done_in (sym (task_here s t x)))
       | inr apart ↦ done_others u apart ∙ sound.done u ∙ ap done_in (sym (task_there s t u x apart))
     ];
   }
@@ -203,14 +199,15 @@ module _ {V : Type 0} where
       task : IsTask x
       task = rw known at (sound.tasks t)
 
-      list : (class : ℕ) (u : TaskId) → count_by (is_task u) (get_or s.ready class []) ≡ count_by (is_task u) (get_or (without_front s.ready) class []) + cond (class == at.0) (cond (is_task u t) 1 0) 0
+      list : (class : ℕ) (u : TaskId) → count_by (is_task u) (get_or s.ready class []) ≡ count_by (is_task u) (get_or (without_front s.ready) class []) + cond (class == at.0)
+          (cond (is_task u t) 1 0) 0
       list class u = rw at.4 (elim (cases_eq class at.0) [
         | inl same ↦
             let e : (class == at.0) ≡ true = grind (arith, nat_tests) in
             rw (e, same, get_or-set_same s.ready at.0 at.1 [] at.2, at.3) (omega (arith, sum_by-cons (λ w. cond (is_task u w) 1 0) t at.1))
         | inr apart ↦
             let e : (class == at.0) ≡ false = grind (arith, nat_tests) in
-            rw (e, set_elsewhere s.ready at.0 class at.1 apart) (omega arith)
+            rw (e, get_or-set_other s.ready at.0 class at.1 [] apart) (omega arith)
       ])
 
       -- it stood in the list of its own class
@@ -252,7 +249,8 @@ module _ {V : Type 0} where
       (λ class u apart. refl)
       (λ class. let none : ready_in (Some x) class ≡ 0 = rw no.0 refl in sound.ready class t ∙ ap (λ o. ready_in o class) known ∙ none)
       (λ u apart. let more = count-push (λ r. is_task u r.0) s.results (t, value) in grind (arith, nat_tests, more, is_other t u apart))
-      (let none : done_in (Some x) ≡ 0 = rw no.1 refl in let was = sound.done t ∙ ap done_in known ∙ none in rw (is_itself t) at (count-push (λ r. is_task t r.0) s.results (t, value)) ∙ ap (λ n. n + 1) was)
+      (let none : done_in (Some x) ≡ 0 = rw no.1 refl in let was = sound.done t ∙ ap done_in known ∙ none in rw (is_itself t) at (count-push (λ r. is_task t r.0) s.results (t, value)) ∙ ap
+      (λ n. n + 1) was)
 
   -- ---- the counts
   -- what a task that may be known counts
@@ -285,7 +283,8 @@ module _ {V : Type 0} where
       let move = rw (is, not) at (moves s t (done w) s.ready s.results (Some w.life) (ap (option_map (λ y. y.life)) known) test) in omega (arith, move)
 
   -- whatever it is
-  pub is_counted : (s : Content V) (t : TaskId) (w : Task V) (counts : Counts) → task_of s t ≡ Some w → counts ≡ counts_of s → counts.waiting + counts.ready + counts.running ≤ 65536 → IsCounted (Some w.life) counts
+  pub is_counted : (s : Content V) (t : TaskId) (w : Task V) (counts : Counts) → task_of s t ≡ Some w → counts ≡ counts_of s → counts.waiting + counts.ready + counts.running ≤ 65536
+      → IsCounted (Some w.life) counts
   is_counted s t w counts known is few =
       let move = moves s t (done w) s.ready s.results (Some w.life) (ap (option_map (λ y. y.life)) known) in
       record {
@@ -295,10 +294,118 @@ module _ {V : Type 0} where
         few = few;
       }
 
-  -- how many are not done: one more with a new task, and as many where a task goes on
-  pub unfinished-new : (s : Content V) (t : TaskId) (x : Task V) → life_of s t ≡ None → has_begun x.life ≡ false → unfinished (with_task s t x) ≡ unfinished s + 1
-  unfinished-new s t x none before = let live = unfinished_life x.life before in let n = rw live at (moves s t x (with_task s t x).ready s.results None none is_unfinished) in omega (arith, n)
+-- ---- No task goes back
+-- one more input
+lacks_less : (k : ℕ) → 1 ≤ stage (Some (life_lacking k))
+lacks_less zero = omega arith
+lacks_less (suc k) = omega arith
 
-  pub unfinished-same : (s : Content V) (t : TaskId) (x : Task V) (ready : List (List TaskId)) (life : Life) → life_of s t ≡ Some life → is_unfinished life ≡ true → is_unfinished x.life ≡ true
-      → unfinished (record { tasks = finite.insert s.tasks t.0 x; ready = ready; results = s.results }) ≡ unfinished s
-  unfinished-same s t x ready life known was is = let n = rw (was, is) at (moves s t x ready s.results (Some life) known is_unfinished) in omega (arith, n)
+supplied_stage : (life : Life) → stage (Some life) ≤ stage (Some (supplied life))
+supplied_stage (Waiting k) = lacks_less _
+supplied_stage _ = omega arith
+
+last_stage : (o : Option Life) → stage o ≤ 4
+last_stage None = omega arith
+last_stage (Some (Waiting k)) = omega arith
+last_stage (Some _) = omega arith
+
+module _ {V : Type 0} (s : Content V) (t : TaskId) where
+  -- one task goes on
+  put_goes_on : (x : Task V) → stage (life_of s t) ≤ stage (Some x.life) → (u : TaskId) → stage (life_of s u) ≤ stage (option_map (λ y. y.life) (finite.get (finite.insert s.tasks t.0 x) u.0))
+  put_goes_on x on u = elim (cases_eq u.0 t.0) [
+    | inl same ↦
+        let here = ap (finite.get (finite.insert s.tasks t.0 x)) same ∙ task_here s t x in
+        omega (arith, on, ap (λ q. stage (option_map (λ y. y.life) (finite.get s.tasks q))) same, ap (λ o. stage (option_map (λ y. y.life) o)) here)
+    | inr apart ↦ omega (arith, ap (λ o. stage (option_map (λ y. y.life) o)) (task_there s t u x apart))
+  ]
+
+  -- where it is known
+  changed_goes_on : (change : Task V → Task V) → ((x : Task V) → task_of s t ≡ Some x → stage (Some x.life) ≤ stage (Some (change x).life)) → (u : TaskId)
+      → stage (life_of s u) ≤ stage (option_map (λ y. y.life) (finite.get (changed_tasks s t change) u.0))
+  changed_goes_on change on u = at (task_of s t) refl
+    where
+      at : (o : Option (Task V)) → task_of s t ≡ o
+          → stage (life_of s u) ≤ stage (option_map (λ y. y.life) (finite.get (unwrap_or (option_map (λ x. finite.insert s.tasks t.0 (change x)) o) s.tasks) u.0))
+      at None e = omega arith
+      at (Some x) e = put_goes_on (change x) (rw e (on x e)) u
+
+  pub inserted_goes_on : (class : ℕ) → task_of s t ≡ None → NoneGoesBack s (with_inserted s t class)
+  inserted_goes_on class none = put_goes_on (fresh 0 class) (rw none (omega arith))
+
+  pub delivered_goes_on : (arity class slot : ℕ) (value : V) → NoneGoesBack s (with_delivered s t arity class slot value)
+  delivered_goes_on arity class slot value = put_goes_on _ (supplied_from (task_of s t))
+    where
+      supplied_from : (o : Option (Task V)) → stage (option_map (λ y. y.life) o) ≤ stage (Some (supplied (unwrap_or o (fresh arity class)).life))
+      supplied_from None = omega arith
+      supplied_from (Some x) = supplied_stage x.life
+
+  pub begun_goes_on : life_of s t ≡ Some Ready → NoneGoesBack s (with_begun s t)
+  begun_goes_on ready = changed_goes_on begun (λ x e. let is : Some x.life ≡ Some Ready = sym (ap (option_map (λ y. y.life)) e) ∙ ready in omega (arith, ap stage is))
+
+  pub done_goes_on : (value : V) → NoneGoesBack s (with_done s t value)
+  done_goes_on value = changed_goes_on done (λ x e. last_stage (Some x.life))
+
+-- ---- Whether a task is ready: the counts tell
+-- none has a front where all are empty
+no_front : {X : Type 0} (rs : List (List X)) (k : ℕ) → front rs ≡ None → get_or rs k [] ≡ []
+no_front [] k e = refl
+no_front ([] ∷ rest) zero e = refl
+no_front ([] ∷ rest) (suc k) e = no_front rest k e
+no_front ((x ∷ later) ∷ rest) k e = cc
+
+module _ {X : Type 0} where
+  -- a key below all others is not found
+  not_found_below : (k : ℕ) (es : List (ℕ × X)) → T (below_all nat_cmp k es) → find nat_cmp k es ≡ None
+  not_found_below k [] h = refl
+  not_found_below k (e ∷ es) h =
+      (elim (nat_cmp k e.0) as (λ (r : Ordering). T (is_lt r && below_all nat_cmp k es) → cond (is_eq r) (Some e.1) (find nat_cmp k es) ≡ None) [
+        | Less ↦ λ later. not_found_below k es later
+        | Equal ↦ λ later. absurd later
+        | Greater ↦ λ later. absurd later
+      ]) h
+
+  -- where the test fails at each key, it counts none
+  none_passing : (test : X → Bool) (es : List (ℕ × X)) → T (is_sorted nat_cmp es) → ((k : ℕ) (x : X) → find nat_cmp k es ≡ Some x → test x ≡ false) → passing test es ≡ 0
+  none_passing test [] h fails = refl
+  none_passing test (e ∷ es) h fails =
+      let here : test e.1 ≡ false = fails e.0 e.1 (tied e.0 refl) in
+      let rest : passing test es ≡ 0 = none_passing test es (later_sorted (below_all nat_cmp e.0 es) (is_sorted nat_cmp es) h) (λ k x at. elim (cases_eq k e.0) [
+        | inl same ↦ let gone : Some x ≡ None = sym at ∙ ap (λ q. find nat_cmp q es) same ∙ not_found_below e.0 es (first_below (below_all nat_cmp e.0 es) (is_sorted nat_cmp es) h) in cc
+        | inr apart ↦ fails k x (untied k apart ∙ at)
+      ]) in
+      passing-cons test e es ∙ ap (λ b. cond b 1 0 + passing test es) here ∙ omega (arith, rest)
+    where
+      first_below : (a b : Bool) → T (a && b) → T a
+      first_below true b p = tt
+      first_below false b p = p
+
+      tied : (k : ℕ) → k ≡ e.0 → find nat_cmp k (e ∷ es) ≡ Some e.1
+      tied k same = let is : (k == e.0) ≡ true = grind (arith, nat_tests) in rw (unsigned_tied k e.0, is) refl
+
+      untied : (k : ℕ) → k ≢ e.0 → find nat_cmp k (e ∷ es) ≡ find nat_cmp k es
+      untied k apart = let is : (k == e.0) ≡ false = grind (arith, nat_tests) in rw (unsigned_tied k e.0, is) refl
+
+-- a task is ready where one is counted
+pub available : {V : Type 0} (c : Content V) → IsSound c → is_some (front c.ready) ≡ nat_lt 0 (count_lives is_ready c)
+available {V} c sound = go (front c.ready) refl
+  where
+    -- a ready task would stand in a list
+    none_ready : front c.ready ≡ None → (k : ℕ) (x : Task V) → find nat_cmp k (finite.entries c.tasks) ≡ Some x → is_ready x.life ≡ false
+    none_ready empty k x at = elim (is_ready x.life) as (λ b. is_ready x.life ≡ b → b ≡ false) [
+      | false ↦ λ e. refl
+      | true ↦ λ e.
+          let t : TaskId = record { 0 = k } in
+          let known : task_of c t ≡ Some x = finite.get-entries c.tasks k ∙ at in
+          let same : (x.class == x.class) ≡ true = grind (arith, nat_tests) in
+          let once : ready_in (task_of c t) x.class ≡ 1 = rw (known, e, same) refl in
+          let listed = sound.ready x.class t ∙ once in
+          let none = rw (no_front c.ready x.class empty) at listed in
+          absurd (omega arith)
+    ] refl
+
+    go : (o : Option TaskId) → front c.ready ≡ o → is_some o ≡ nat_lt 0 (count_lives is_ready c)
+    go None e = let none : count_lives is_ready c ≡ 0 = none_passing (λ (x : Task V). is_ready x.life) (finite.entries c.tasks) (finite.entries_sorted c.tasks) (none_ready e) in rw none refl
+    go (Some t) e =
+        let x = front_ready c t sound e in
+        let some : 0 < count_lives is_ready c = some_counted is_ready c t x.0 x.1 x.2 refl in
+        grind (arith, nat_tests)

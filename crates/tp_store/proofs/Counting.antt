@@ -44,7 +44,8 @@ module _ {X : Type 0} (test : X → Bool) where
   passing-put : (k : ℕ) (v : X) (es : List (ℕ × X)) → T (is_sorted nat_cmp es) → passing (put nat_cmp k v es) + one_if (find nat_cmp k es) ≡ passing es + cond (test v) 1 0
   passing-put k v [] h = omega (arith, passing-cons (k, v) [])
   passing-put k v (e ∷ es) h =
-      elim (nat_cmp k e.0) as (λ r. nat_cmp k e.0 ≡ r → passing (by_order r ((k, v) ∷ e ∷ es) ((e.0, v) ∷ es) (e ∷ put nat_cmp k v es)) + one_if (cond (is_eq r) (Some e.1) (find nat_cmp k es)) ≡ passing (e ∷ es) + cond (test v) 1 0) [
+      elim (nat_cmp k e.0) as (λ r. nat_cmp k e.0 ≡ r → passing (by_order r ((k, v) ∷ e ∷ es) ((e.0, v) ∷ es) (e ∷ put nat_cmp k v es)) + one_if (cond (is_eq r) (Some e.1)
+      (find nat_cmp k es)) ≡ passing (e ∷ es) + cond (test v) 1 0) [
         | Less ↦ λ less.
             rw (not_found k v e es h less) (omega (arith, passing-cons (k, v) (e ∷ es)))
         | Equal ↦ λ same. omega (arith, passing-cons (e.0, v) es, passing-cons e es)
@@ -55,7 +56,8 @@ module _ {X : Type 0} (test : X → Bool) where
   passing-insert m k v = rw (map.entries-insert nat_cmp_total m k v, map.get-entries m k) (passing-put k v (map.entries m) (map.entries_sorted m))
 
 -- tasks that are not done wait, are ready or run
-pub unfinished_sum : {V : Type 0} (es : List (ℕ × Task V)) → count_by (λ e. is_unfinished e.1.life) es ≡ count_by (λ e. is_waiting e.1.life) es + count_by (λ e. is_ready e.1.life) es + count_by (λ e. is_running e.1.life) es
+pub unfinished_sum : {V : Type 0} (es : List (ℕ × Task V))
+    → count_by (λ e. is_unfinished e.1.life) es ≡ count_by (λ e. is_waiting e.1.life) es + count_by (λ e. is_ready e.1.life) es + count_by (λ e. is_running e.1.life) es
 unfinished_sum [] = refl
 unfinished_sum {V} (e ∷ es) =
     omega (

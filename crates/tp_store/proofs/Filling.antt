@@ -1,5 +1,6 @@
 -- How a task's item keeps what it says.
-use Rattle.std.proofs.Common.{◌≡◌, ℕ, zero, suc, ◌+◌, ◌-◌, ◌<◌, ◌≤◌, Bool, true, false, cond, List, [], length, take, set, get_or, map, replicate, insert, Option, Some, None, is_some, is_none, count_by, refl, sym, ap, ◌∙◌, arith, ◌∷◌, add-one}
+use Rattle.std.proofs.Common.{◌≡◌, ℕ, zero, suc, ◌+◌, ◌-◌, ◌<◌, ◌≤◌, Bool, true, false, cond, List, [], length, take, set, get_or, map, replicate, insert, Option, Some, None, is_some}
+use Rattle.std.proofs.Common.{is_none, count_by, refl, sym, ap, ◌∙◌, arith, ◌∷◌, add-one}
 use Rattle.std.proofs.lemmas.List.{take-replicate, length-take-le, length-replicate, length-set, get_or-take}
 use Rattle.std.proofs.lemmas.List.Edits.{length-insert}
 use Rattle.std.proofs.lemmas.List.Sums.{sum_by-set, sum_by-cons}
@@ -22,11 +23,6 @@ count_set-take_suc (true ∷ fs) (suc i) d h = omega (arith, count_set-take_suc 
 
 pub count_set-take_more : (fs : List Bool) (i : ℕ) (d : Bool) → i < length fs → count_set (take (i + 1) fs) ≡ count_set (take i fs) + cond (get_or fs i d) 1 0
 count_set-take_more fs i d h = rw add-one (count_set-take_suc fs i d h)
-
-pub count_set-bound : (fs : List Bool) → count_set fs ≤ length fs
-count_set-bound [] = omega arith
-count_set-bound (false ∷ fs) = omega (arith, count_set-bound fs)
-count_set-bound (true ∷ fs) = omega (arith, count_set-bound fs)
 
 pub count_set-set : (fs : List Bool) (k : ℕ) → k < length fs → get_or fs k false ≡ false → count_set (set fs k true) ≡ count_set fs + 1
 count_set-set [] k h e = absurd (omega arith)
@@ -53,7 +49,7 @@ take-take (f ∷ fs) (suc j) zero h = absurd (omega arith)
 take-take (f ∷ fs) (suc j) (suc k) h = ap (λ l. f ∷ l) (take-take fs j k (omega arith))
 
 module _ {V : Type 0} where
-  no_values : (vs : List V) → 0 ≡ length vs → vs ≡ []
+  pub no_values : (vs : List V) → 0 ≡ length vs → vs ≡ []
   no_values [] e = refl
   no_values (v ∷ vs) e = absurd (omega arith)
 
@@ -73,7 +69,8 @@ module _ {V : Type 0} where
   spread-get (true ∷ fs) (v ∷ vs) (suc k) e = spread-get fs vs k (omega arith)
 
   -- one more value
-  pub spread-set : (fs : List Bool) (vs : List V) (k : ℕ) (v : V) → k < length fs → get_or fs k false ≡ false → count_set fs ≡ length vs → spread (set fs k true) (insert vs (count_set (take k fs)) v) ≡ set (spread fs vs) k (Some v)
+  pub spread-set : (fs : List Bool) (vs : List V) (k : ℕ) (v : V) → k < length fs → get_or fs k false ≡ false → count_set fs ≡ length vs
+      → spread (set fs k true) (insert vs (count_set (take k fs)) v) ≡ set (spread fs vs) k (Some v)
   spread-set [] vs k v h e n = absurd (omega arith)
   spread-set (false ∷ fs) vs zero v h e n = refl
   spread-set (false ∷ fs) vs (suc k) v h e n = ap (λ l. None ∷ l) (spread-set fs vs k v (omega arith) e n)
@@ -130,14 +127,25 @@ module _ {V : Type 0} where
     arity = h;
     class = l;
     lacks = lacks_life arity;
-    slots = rw (not_begun_life arity) (length-replicate arity None, ap (λ (l : List (Option V)). count_by is_none l) (sym (spread_none {V = V} arity)) ∙ count_none-fresh V arity ∙ sym (lacking_life arity));
+    slots = rw (not_begun_life arity) (
+      length-replicate arity None,
+      ap (λ (l : List (Option V)). count_by is_none l) (sym (spread_none {V = V} arity)) ∙ count_none-fresh V arity ∙ sym
+          (lacking_life arity),
+    );
   }
 
   pub fresh_item : (arity class : ℕ) (values : List V) → arity ≤ 16 → values ≡ []
       → record { life = life_lacking arity; arity = arity; class = class; values = slots_of (life_lacking arity) arity (replicate 16 false) values } ≡ fresh arity class
-  fresh_item arity class values h none = λ i. record { life = life_lacking arity; arity = arity; class = class; values = (ap (slots_of (life_lacking arity) arity (replicate 16 false)) none ∙ slots_fresh arity h) i }
+  fresh_item arity class values h none = λ i. record {
+    life = life_lacking arity;
+    arity = arity;
+    class = class;
+    values = (ap (slots_of (life_lacking arity) arity
+        (replicate 16 false)) none ∙ slots_fresh arity h) i;
+  }
 
-  pub IsFilled-fresh : (arity class : ℕ) (values : SmallVec V) → arity ≤ 16 → class < 4 → values.items ≡ [] → arity ≤ values.capacity → IsFilled (fresh {V = V} arity class) (replicate 16 false) values
+  pub IsFilled-fresh : (arity class : ℕ) (values : SmallVec V) → arity ≤ 16 → class < 4 → values.items ≡ [] → arity ≤ values.capacity
+      → IsFilled (fresh {V = V} arity class) (replicate 16 false) values
   IsFilled-fresh arity class values h l none room = record {
     task = IsTask-fresh arity class h l;
     each = rw (take-replicate arity 16 false h) (count_set-none arity ∙ sym (ap length none));
@@ -167,13 +175,20 @@ module _ {V : Type 0} where
     slots_after = rw (not_begun_life (k - 1)) values_after
 
     -- its item is the task with that value
-    pub filled_task : record { life = supplied (Waiting k); arity = arity; class = class; values = slots_of (supplied (Waiting k)) arity (set filled slot true) new.items } ≡ with_value task slot value
+    pub filled_task : record {
+      life = supplied (Waiting k);
+      arity = arity;
+      class = class;
+      values = slots_of (supplied (Waiting k)) arity
+          (set filled slot true) new.items;
+    } ≡ with_value task slot value
     filled_task = λ i. record { life = supplied (Waiting k); arity = arity; class = class; values = slots_after i }
 
     lacks_one_less : count_by is_none (set (spread (take arity filled) values.items) slot (Some value)) ≡ k - 1
     lacks_one_less =
         let was : is_none (get_or (spread (take arity filled) values.items) slot None) ≡ true = ap is_none free in
-        let count = sum_by-set (λ (o : Option V). cond (is_none o) 1 0) (spread (take arity filled) values.items) slot (Some value) None (omega (arith, length-spread (take arity filled) values.items, length-take-le arity filled long)) in
+        let count = sum_by-set (λ (o : Option V). cond (is_none o) 1 0) (spread (take arity filled) values.items) slot (Some value) None
+        (omega (arith, length-spread (take arity filled) values.items, length-take-le arity filled long)) in
         let now = rw was at count in
         omega (arith, now, is.task.slots.1)
 
@@ -181,7 +196,8 @@ module _ {V : Type 0} where
     IsFilled-filled =
         let count : length new.items ≡ length values.items + 1 = ap length items ∙ length-insert values.items (count_set (take slot filled)) value before in
         let set_count : count_set (take arity (set filled slot true)) ≡ count_set (take arity filled) + 1 =
-        ap count_set (take-set-lt arity filled slot true low) ∙ count_set-set (take arity filled) slot (omega (arith, length-take-le arity filled long)) (get_or-take arity filled slot false low ∙ not_set) in
+        ap count_set (take-set-lt arity filled slot true low)
+        ∙ count_set-set (take arity filled) slot (omega (arith, length-take-le arity filled long)) (get_or-take arity filled slot false low ∙ not_set) in
         let waits : 0 < k = is.task.lacks in
         record {
           task = record {
@@ -200,7 +216,8 @@ module _ {V : Type 0} where
       → map (λ v. Some v) values.items ≡ spread (take arity filled) values.items
   all_inputs arity class filled values is = spread-all (take arity filled) values.items is.each is.task.slots.1
 
-  pub IsFilled-begun : (arity class : ℕ) (values : SmallVec V) → arity ≤ 16 → class < 4 → values.items ≡ [] → IsFilled {V = V} (record { life = Running; arity = arity; class = class; values = [] }) (replicate 16 false) values
+  pub IsFilled-begun : (arity class : ℕ) (values : SmallVec V) → arity ≤ 16 → class < 4 → values.items ≡ []
+      → IsFilled {V = V} (record { life = Running; arity = arity; class = class; values = [] }) (replicate 16 false) values
   IsFilled-begun arity class values h l none = record {
     task = record { arity = h; class = l; lacks = tt; slots = refl };
     each = rw (take-replicate arity 16 false h) (count_set-none arity ∙ sym (ap length none));
@@ -223,9 +240,7 @@ module _ {V : Type 0} where
   can_insert (Waiting k) arity class slot filled values e is low =
       let waits : 0 < k = is.task.lacks in
       (omega (arith, is.each, count_set-take (take arity filled) slot, ap count_set (take-take filled slot arity (omega arith))), omega (arith, is.room))
-  can_insert Ready arity class slot filled values e is low = cc
-  can_insert Running arity class slot filled values e is low = cc
-  can_insert Done arity class slot filled values e is low = cc
+  can_insert _ arity class slot filled values e is low = cc
 
   pub item_filled : (life : Life) (arity class slot : ℕ) (filled : List Bool) (values new : SmallVec V) (value : V) → is_waiting life ≡ true
       → IsFilled (item_task life arity class filled values.items) filled values → arity ≤ length filled → slot < arity → get_or (slots_of life arity filled values.items) slot None ≡ None
@@ -235,6 +250,4 @@ module _ {V : Type 0} where
   item_filled (Waiting k) arity class slot filled values new value e is long low free items capacity =
       let same = filled_task k arity class slot filled values new value is long low free items capacity in
       (same, rw same (IsFilled-filled k arity class slot filled values new value is long low free items capacity))
-  item_filled Ready arity class slot filled values new value e is long low free items capacity = cc
-  item_filled Running arity class slot filled values new value e is long low free items capacity = cc
-  item_filled Done arity class slot filled values new value e is long low free items capacity = cc
+  item_filled _ arity class slot filled values new value e is long low free items capacity = cc

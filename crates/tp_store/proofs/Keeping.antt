@@ -1,7 +1,8 @@
--- How the slots and the index give the content, and how a change of one task moves it.
-use Rattle.std.proofs.Common.{◌≡◌, ◌≢◌, ℕ, zero, suc, ◌<◌, ◌==◌, ◌^◌, Bool, true, false, cond, List, length, map, Option, Some, None, IsSome, unwrap_or, IfSome, refl, sym, ap, subst, ◌∙◌, inl, inr, arith, ◌≤◌, [], ◌∷◌, get_or, count_by}
+-- How the slots and the index give the content, what they tell of one task, and how a change of one task moves it.
+use Rattle.std.proofs.Common.{◌≡◌, ◌≢◌, ℕ, zero, suc, ◌<◌, ◌==◌, ◌^◌, Bool, true, false, cond, List, length, map, Option, Some, None, IsSome, unwrap_or, IfSome, refl, sym, ap, subst, ◌∙◌}
+use Rattle.std.proofs.Common.{inl, inr, arith, ◌≤◌, [], ◌∷◌, get_or, count_by, ◌+◌, is_some, MatchOption, Result, Ok, Err, OnOk, IfErr, OnErr}
 use Rattle.std.specs.Prelude.{nat_lt, if◌then◌else◌}
-use Rattle.std.specs.Option.{option_map, IsSomeAnd}
+use Rattle.std.specs.Option.{option_map, IsSomeAnd, IsSome}
 use Rattle.std.specs.Ordering.{nat_cmp}
 use Rattle.std.specs.Cmp.{nat_cmp_total}
 use Rattle.std.specs.FinMap as finite
@@ -11,16 +12,22 @@ use Rattle.tp_base.specs.Table.{lookup}
 use Rattle.tp_slots.specs.Content as slots
 use Rattle.tp_slots.proofs.Sound.{get_inserted, get_removed, IsSound-with_ready}
 use Rattle.tp_slots.proofs.Lists.{same_each, with_last-each}
-use Rattle.tp_store.specs.Content.{Task, with_value}
+use Rattle.tp_store.specs.Content.{Task, with_value, Content, task_of, unfinished, refusal_of_new, refusal_of_insert, refusal_of_deliver, refusal_of_value, counts_of, NoneGoesBack}
 use Rattle.tp_store.specs.Items.{Item}
 use Rattle.tp_store.specs.Entries.{Entries, entry_at}
-use Rattle.tp_store.specs.Kept.{task_under, with_found, tasks_below, tasks_of, number_of, number_at, Parts, content_of, IsKept}
+use Rattle.tp_store.specs.Kept.{task_under, with_found, tasks_below, tasks_of, number_of, number_at, Parts, content_of, IsKept, IsGrown}
 use Rattle.tp_store.specs.declared.index.Entry.{Entry}
 use Rattle.tp_store.specs.declared.index.Entry.TheVariants.{Live, Done}
 use Rattle.std.proofs.lemmas.List.Sums.{sum_by-cons}
 use Rattle.tp_base.specs.declared.ids.TaskId.{TaskId}
 use Rattle.tp_store.specs.Sound.{is_task, times_ready}
 use Rattle.tp_store.proofs.Contents.{is_itself}
+use Rattle.tp_base.specs.declared.refusal.Refusal.{Refusal}
+use Rattle.tp_base.specs.declared.refusal.Refusal.TheVariants.{TaskKnown, StoreFull, NoMemory}
+use Rattle.tp_store.specs.declared.life.Life.TheVariants.{Done as over}
+use Rattle.tp_store.proofs.Counting.{unfinished_counted}
+use Rattle.std.specs.Result.{IsErrAnd}
+use Rattle.std.specs.declared.vec.Vec.{Vec}
 
 -- there is room where something stands
 pub room_under : (index : Entries) (t : ℕ) (e : Entry) → entry_at index t ≡ Some e → IsSome (lookup index t)
@@ -57,7 +64,8 @@ module _ {V : Type 0} where
   pub get-tasks_of : (c : slots.Content (Item V)) (index : Entries) (q : ℕ) → finite.get (tasks_of c index) q ≡ task_under c (entry_at index q)
   get-tasks_of c index q =
       get-tasks_below c index (2 ^ 32) q
-      ∙ elim (nat_lt q (2 ^ 32)) as (λ b. (if b then task_under c (unwrap_or (lookup index q) None) else None) ≡ task_under c (if b then unwrap_or (lookup index q) None else None)) [ true ↦ refl | false ↦ refl ]
+      ∙ elim (nat_lt q (2 ^ 32)) as (λ b. (if b then task_under c (unwrap_or (lookup index q) None) else None) ≡ task_under c (if b then unwrap_or
+      (lookup index q) None else None)) [ true ↦ refl | false ↦ refl ]
 
   -- an entry says the same where the item at its place, if it has one, stays
   under_same : (c d : slots.Content (Item V)) (p : ℕ) (e : Option Entry) → ((q : ℕ) → q ≢ p → slots.item_at d q ≡ slots.item_at c q) → (e ≡ Some (Live p) → ⊥) → task_under d e ≡ task_under c e
@@ -74,7 +82,8 @@ module _ {V : Type 0} where
         | inl same ↦ let e : (q == t) ≡ true = grind (arith, nat_tests) in ap (λ k. task_under d (entry_at new k)) same ∙ here ∙ sym (ap (λ b. cond b (Some x) (finite.get (tasks_of c index) q)) e)
         | inr differs ↦
             let e : (q == t) ≡ false = grind (arith, nat_tests) in
-            ap (task_under d) (entries q differs) ∙ under_same c d p (entry_at index q) items (apart q differs) ∙ sym (get-tasks_of c index q) ∙ sym (ap (λ b. cond b (Some x) (finite.get (tasks_of c index) q)) e)
+            ap (task_under d) (entries q differs) ∙ under_same c d p (entry_at index q) items (apart q differs) ∙ sym (get-tasks_of c index q)
+            ∙ sym (ap (λ b. cond b (Some x) (finite.get (tasks_of c index) q)) e)
       ]) ∙ sym (get_inserted (tasks_of c index) t x q))
 
   -- no task is changed
@@ -82,26 +91,14 @@ module _ {V : Type 0} where
   tasks-same c index new same = finite.same_map nat_cmp_total finite.nat_cmp-IsAntisymmetric _ _ (λ q. get-tasks_of c new q ∙ same q ∙ sym (get-tasks_of c index q))
 
   -- the numbers at listed places, where only an unlisted place is changed
-  pub numbers_same : (c d : slots.Content (Item V)) (p : ℕ) (lists : List (List ℕ)) → ((q : ℕ) → q ≢ p → slots.item_at d q ≡ slots.item_at c q) → slots.times p lists ≡ 0 → map (map (number_at d)) lists ≡ map (map (number_at c)) lists
-  numbers_same c d p lists items none = same_each (number_at d) (number_at c) lists (λ q more. ap number_of (items q (λ same. let some : 0 < slots.times p lists = subst (λ k. 0 < slots.times k lists) same more in absurd (omega arith))))
-
-  -- or it keeps its number
-  pub numbers_kept : (c d : slots.Content (Item V)) (lists : List (List ℕ)) → ((q : ℕ) → number_at d q ≡ number_at c q) → map (map (number_at d)) lists ≡ map (map (number_at c)) lists
-  numbers_kept c d lists same = same_each (number_at d) (number_at c) lists (λ q more. same q)
+  pub numbers_same : (c d : slots.Content (Item V)) (p : ℕ) (lists : List (List ℕ)) → ((q : ℕ) → q ≢ p → slots.item_at d q ≡ slots.item_at c q) → slots.times p lists ≡ 0
+      → map (map (number_at d)) lists ≡ map (map (number_at c)) lists
+  numbers_same c d p lists items none = same_each (number_at d) (number_at c) lists
+      (λ q more. ap number_of (items q (λ same. let some : 0 < slots.times p lists = subst (λ k. 0 < slots.times k lists) same more in absurd (omega arith))))
 
   -- ---- what is at a place after a change
   pub item_here : (c : slots.Content (Item V)) (p : ℕ) (i : Item V) → slots.item_at (slots.with_item c p i) p ≡ Some i
   item_here c p i = let e : (p == p) ≡ true = grind (arith, nat_tests) in get_inserted c.items p i p ∙ ap (λ b. cond b (Some i) (finite.get c.items p)) e
-
-  -- the last item that came to a place is what counts
-  pub item_again : (c : slots.Content (Item V)) (p : ℕ) (i j : Item V) → slots.with_item (slots.with_item c p i) p j ≡ slots.with_item c p j
-  item_again c p i j =
-      let items : finite.insert (finite.insert c.items p i) p j ≡ finite.insert c.items p j =
-      finite.same_map nat_cmp_total finite.nat_cmp-IsAntisymmetric _ _
-      (λ q. get_inserted (finite.insert c.items p i) p j q ∙ ap (cond (q == p) (Some j)) (get_inserted c.items p i q)
-      ∙ elim (q == p) as (λ b. cond b (Some j) (cond b (Some i) (finite.get c.items q)) ≡ cond b (Some j) (finite.get c.items q)) [ true ↦ refl | false ↦ refl ]
-      ∙ sym (get_inserted c.items p j q)) in
-      λ k. record { items = items k; ready = c.ready }
 
   pub item_there : (c : slots.Content (Item V)) (p q : ℕ) (i : Item V) → q ≢ p → slots.item_at (slots.with_item c p i) q ≡ slots.item_at c q
   item_there c p q i apart = let e : (q == p) ≡ false = grind (arith, nat_tests) in get_inserted c.items p i q ∙ ap (λ b. cond b (Some i) (finite.get c.items q)) e
@@ -116,69 +113,23 @@ module _ {V : Type 0} where
   abbrev pub listed : Bool → slots.Content (Item V) → ℕ → ℕ → slots.Content (Item V)
   listed b c p class = if b then slots.with_ready c class p else c
 
-  pub listed_item : (b : Bool) (c : slots.Content (Item V)) (p class q : ℕ) → slots.item_at (listed b c p class) q ≡ slots.item_at c q
-  listed_item true c p class q = refl
-  listed_item false c p class q = refl
-
-  pub listed_count : (b : Bool) (c : slots.Content (Item V)) (p class : ℕ) → slots.held_count (listed b c p class) ≡ slots.held_count c
-  listed_count true c p class = refl
-  listed_count false c p class = refl
+  pub listed_items : (b : Bool) (c : slots.Content (Item V)) (p class : ℕ) → (listed b c p class).items ≡ c.items
+  listed_items true c p class = refl
+  listed_items false c p class = refl
 
   pub listed_sound : (b : Bool) (c : slots.Content (Item V)) (p class : ℕ) → slots.IsSound c → slots.IsIdle c p → class < 4 → slots.IsSound (listed b c p class)
   listed_sound true c p class sound idle low = IsSound-with_ready c class p sound idle low
   listed_sound false c p class sound idle low = sound
 
   pub listed_lists : (b : Bool) (c : slots.Content (Item V)) (p class : ℕ) → class < length c.ready
-      → map (map (number_at (listed b c p class))) (listed b c p class).ready ≡ (if b then slots.with_last (map (map (number_at c)) c.ready) class (number_at c p) else map (map (number_at c)) c.ready)
+      → map (map (number_at (listed b c p class))) (listed b c p class).ready ≡
+      (if b then slots.with_last (map (map (number_at c)) c.ready) class (number_at c p) else map (map (number_at c)) c.ready)
   listed_lists true c p class low = sym (with_last-each (number_at c) c.ready class p (number_at c p) low refl)
   listed_lists false c p class low = refl
-
-  -- what is said of the item that may be there
-  pub same_item : (o : Option (Item V)) (i j : Item V) → o ≡ Some i → o ≡ Some j → i ≡ j
-  same_item o i j e h = let both : Some i ≡ Some j = sym e ∙ h in cc
-
-  pub filled_same : (slot : ℕ) (value : V) (i j : Item V) → i ≡ j → ◌≡◌ {A = Item V} (record i { task = with_value i.task slot value }) (record j { task = with_value j.task slot value })
-  filled_same slot value i j e = λ k. record { number = (e k).number; task = with_value (e k).task slot value }
 
   pub at_item : (o : Option (Item V)) (i : Item V) (P : Item V → Type 0) → o ≡ Some i → IfSome o P → P i
   at_item None i P e h = let clash : None ≡ Some i = e in cc
   at_item (Some j) i P e h = let same : j ≡ i = cc in subst P same h
-
--- ---- The item at one place is changed, and keeps its number
-module _ {V A : Type 0} {parts : Parts V A} (kept : IsKept parts) (d : slots.Content (Item V)) (i y : Item V) (p : ℕ)
-    (at : slots.item_at parts.places p ≡ Some i) (here : slots.item_at d p ≡ Some y) (there : (q : ℕ) → q ≢ p → slots.item_at d q ≡ slots.item_at parts.places q) (same : y.number ≡ i.number) where
-  pub entry : entry_at parts.index i.number.0 ≡ Some (Live p)
-  entry = kept.owner p i at
-
-  -- no other task has the place
-  own : (q : ℕ) → entry_at parts.index q ≡ Some (Live p) → i.number.0 ≡ q
-  own q e = let is = kept.live q p e in rw at at is
-
-  pub live : (t place : ℕ) → entry_at parts.index t ≡ Some (Live place) → IsSomeAnd (slots.item_at d place) (λ j. j.number.0 ≡ t)
-  live t place e = elim (cases_eq place p) [
-    | inl is ↦
-        let mine : i.number.0 ≡ t = own t (e ∙ ap (λ q. Some (Live q)) is) in
-        subst (λ (o : Option (Item V)). IsSomeAnd o (λ j. j.number.0 ≡ t)) (sym (ap (slots.item_at d) is ∙ here)) (ap (λ n. n.0) same ∙ mine)
-    | inr apart ↦ subst (λ (o : Option (Item V)). IsSomeAnd o (λ j. j.number.0 ≡ t)) (sym (there place apart)) (kept.live t place e)
-  ]
-
-  pub owner : (place : ℕ) (j : Item V) → slots.item_at d place ≡ Some j → entry_at parts.index j.number.0 ≡ Some (Live place)
-  owner place j e = elim (cases_eq place p) [
-    | inl is ↦
-        let both : Some y ≡ Some j = sym here ∙ ap (slots.item_at d) (sym is) ∙ e in
-        let yj : y ≡ j = cc in
-        ap (λ k. entry_at parts.index k.number.0) (sym yj) ∙ ap (λ n. entry_at parts.index n.0) same ∙ entry ∙ ap (λ q. Some (Live q)) (sym is)
-    | inr apart ↦ kept.owner place j (sym (there place apart) ∙ e)
-  ]
-
-  pub tasks : tasks_of d parts.index ≡ finite.insert (tasks_of parts.places parts.index) i.number.0 y.task
-  tasks = tasks-put parts.places d parts.index parts.index i.number.0 p y.task there (λ q apart. refl) (λ q apart e. apart (sym (own q e))) (ap (task_under d) entry ∙ ap (option_map (λ j. j.task)) here)
-
-  pub numbers : (q : ℕ) → number_at d q ≡ number_at parts.places q
-  numbers q = elim (cases_eq q p) [
-    | inl is ↦ ap (number_at d) is ∙ ap number_of here ∙ same ∙ sym (ap number_of at) ∙ ap (number_at parts.places) (sym is)
-    | inr apart ↦ ap number_of (there q apart)
-  ]
 
 -- ---- a place is listed only where its task is
 module _ (f : ℕ → TaskId) (p : ℕ) where
@@ -196,9 +147,149 @@ module _ (f : ℕ → TaskId) (p : ℕ) where
   none_listed [] h = refl
   none_listed (r ∷ rs) h = omega (arith, h 0, times_below r, none_listed rs (λ class. h (suc class)))
 
-module _ {V A : Type 0} (parts : Parts V A) (p : ℕ) (i : Item V) (at : slots.item_at parts.places p ≡ Some i) where
-  number_is : number_at parts.places p ≡ i.number
-  number_is = ap number_of at
+-- ---- What is told of one task
+module _ {V A : Type 0} {parts : Parts V A} (kept : IsKept parts) {s : Content V} (view : content_of parts ≡ s) (t : TaskId) where
+  pub seen : (e : Option Entry) → entry_at parts.index t.0 ≡ e → task_of s t ≡ task_under parts.places e
+  seen e is = ap (λ v. task_of v t) (sym view) ∙ get-tasks_of parts.places parts.index t.0 ∙ ap (task_under parts.places) is
 
-  pub unlisted : ((class : ℕ) → times_ready (content_of parts) class i.number ≡ 0) → slots.times p parts.places.ready ≡ 0
-  unlisted none = none_listed (number_at parts.places) p parts.places.ready (λ class. ap (λ n. count_by (is_task n) (get_or (content_of parts).ready class [])) number_is ∙ none class)
+  pub seen_live : (place : ℕ) (i : Item V) → entry_at parts.index t.0 ≡ Some (Live place) → slots.item_at parts.places place ≡ Some i → task_of s t ≡ Some i.task
+  seen_live place i e at = seen (Some (Live place)) e ∙ ap (option_map (λ j. j.task)) at
+
+module _ {V A : Type 0} {parts : Parts V A} (kept : IsKept parts) {s : Content V} (view : content_of parts ≡ s) where
+  pub live_count : unfinished s ≡ parts.counts.waiting + parts.counts.ready + parts.counts.running
+  live_count = ap (λ v. unfinished v) (sym view) ∙ unfinished_counted (content_of parts) parts.counts kept.counted
+
+  pub live_held : parts.counts.waiting + parts.counts.ready + parts.counts.running ≡ slots.held_count parts.places
+  live_held = sym (unfinished_counted (content_of parts) parts.counts kept.counted) ∙ sym kept.held
+
+  pub few_live : parts.counts.waiting + parts.counts.ready + parts.counts.running ≤ 65536
+  few_live = omega (arith, live_held, kept.within)
+
+  -- a number with an entry has a task
+  pub known : (t : TaskId) (e : Entry) → entry_at parts.index t.0 ≡ Some e → (x : Task V) × (task_of s t ≡ Some x)
+  known t (Done arity class) is = (record { life = over; arity = arity; class = class; values = [] }, seen kept view t (Some (Done arity class)) is)
+  known t (Live place) is =
+      let i = some_of (slots.item_at parts.places place) (kept.live t.0 place is) in
+      (i.0.task, seen_live kept view t place i.0 is i.1)
+    where
+      some_of : (o : Option (Item V)) → IsSomeAnd o (λ i. i.number.0 ≡ t.0) → (i : Item V) × (o ≡ Some i)
+      some_of None h = absurd h
+      some_of (Some i) h = (i, refl)
+
+  -- whether a new task is taken
+  pub new_answer : (r : Result (Unit {0}) Refusal) → OnOk r (parts.counts.waiting + parts.counts.ready + parts.counts.running < 65536)
+      → IfErr r (λ e. (e ≡ StoreFull) × (parts.counts.waiting + parts.counts.ready + parts.counts.running ≡ 65536)) → MatchOption (refusal_of_new s) (r ≡ Ok tt) (λ e. r ≡ Err e)
+  new_answer (Ok x) ok err = let e : (unfinished s == 65536) ≡ false = grind (arith, nat_tests, live_count, ok) in rw e refl
+  new_answer (Err x) ok err = let e : (unfinished s == 65536) ≡ true = grind (arith, nat_tests, live_count, err.1) in rw e (ap Err err.0)
+
+-- what a call is refused for, by what is known of the task
+pub insert_refusal : {V : Type 0} (s : Content V) (t : TaskId) (o : Option (Task V)) → task_of s t ≡ o → refusal_of_insert s t ≡ (if is_some o then Some TaskKnown else refusal_of_new s)
+insert_refusal s t o e = rw e refl
+
+module _ {V : Type 0} (s : Content V) (t : TaskId) (arity slot : ℕ) where
+  pub unknown_refusal : task_of s t ≡ None → refusal_of_deliver s t arity slot ≡ refusal_of_new s
+  unknown_refusal e = rw e refl
+
+  pub known_refusal : (x : Task V) → task_of s t ≡ Some x → refusal_of_deliver s t arity slot ≡ refusal_of_value x arity slot
+  known_refusal x e = rw e refl
+
+-- what a check answers
+pub answers : {o w : Option Refusal} (r : Result (Unit {0}) Refusal) → o ≡ w → MatchOption w (r ≡ Ok tt) (λ e. r ≡ Err e) → MatchOption o (r ≡ Ok tt) (λ e. r ≡ Err e)
+answers r e is = rw e is
+
+pub accepts : (o : Option Refusal) (r : Result (Unit {0}) Refusal) (x : Unit {0}) → MatchOption o (r ≡ Ok tt) (λ e. r ≡ Err e) → r ≡ Ok x → o ≡ None
+accepts None r x h e = refl
+accepts (Some y) r x h e = let clash : Err y ≡ Ok x = sym h ∙ e in cc
+
+pub refuses : (o : Option Refusal) (r : Result (Unit {0}) Refusal) (y : Refusal) → MatchOption o (r ≡ Ok tt) (λ e. r ≡ Err e) → r ≡ Err y → o ≡ Some y
+refuses None r y h e = let clash : Ok tt ≡ Err y = sym h ∙ e in cc
+refuses (Some z) r y h e = let both : Err z ≡ Err y = sym h ∙ e in cc
+
+-- a task that is inserted is unknown, and there is room for it
+pub insertable : {V : Type 0} (s : Content V) (t : TaskId) → refusal_of_insert s t ≡ None → (task_of s t ≡ None) × (refusal_of_new s ≡ None)
+insertable {V} s t e = go (task_of s t) (refusal_of_new s) e
+  where
+    go : (o : Option (Task V)) (w : Option Refusal) → (if is_some o then Some TaskKnown else w) ≡ None → (o ≡ None) × (w ≡ None)
+    go None w h = (refl, h)
+    go (Some x) w h = cc
+
+-- ---- Room is made for a task
+module _ {V A : Type 0} {parts : Parts V A} (kept : IsKept parts)
+    {s : Content V} (view : content_of parts ≡ s) where
+  -- ---- what is kept with other room
+  module _ {d : slots.Content (Item V)} {new : Entries} {after : Vec (TaskId × V) A} (grown : IsGrown parts.places d parts.index new parts.results after) where
+    abbrev roomy : Parts V A
+    roomy = record parts { places = d; index = new; results = after }
+
+    same_content : content_of (record roomy { places = parts.places }) ≡ content_of parts
+    same_content =
+        let tasks = tasks-same parts.places parts.index new (λ q. ap (task_under parts.places) (grown.entries q)) in
+        λ k. record { tasks = tasks k; ready = (content_of parts).ready; results = grown.items k }
+
+    pub content_same : content_of roomy ≡ s
+    content_same = ap (λ e. content_of (record roomy { places = e })) grown.places ∙ same_content ∙ view
+
+    pub IsKept-grown : IsKept roomy
+    IsKept-grown = rw grown.places at_same
+      where
+        at_same : IsKept (record roomy { places = parts.places })
+        at_same = record {
+          lists = kept.lists;
+          live = λ t place e. kept.live t place (sym (grown.entries t) ∙ e);
+          owner = λ place i e. grown.entries i.number.0 ∙ kept.owner place i e;
+          sound = rw same_content kept.sound;
+          held = kept.held ∙ ap (λ (v : Content V). unfinished v) (sym same_content);
+          within = kept.within;
+          counted = kept.counted ∙ ap (λ (v : Content V). counts_of v) (sym same_content);
+          space = omega (arith, kept.space, grown.long, grown.capacity);
+        }
+
+  -- ---- a task that may be made room for
+  module _ (t : TaskId) where
+    -- what is known of the task tells what stands under its number
+    pub unknown : entry_at parts.index t.0 ≡ None → task_of s t ≡ None
+    unknown e = seen kept view t None e
+
+    pub nothing_there : task_of s t ≡ None → entry_at parts.index t.0 ≡ None
+    nothing_there none = at_entry (entry_at parts.index t.0) refl
+      where
+        at_entry : (o : Option Entry) → entry_at parts.index t.0 ≡ o → entry_at parts.index t.0 ≡ None
+        at_entry None is = is
+        at_entry (Some e) is = let x = known kept view t e is in let clash : Some x.0 ≡ None = sym x.1 ∙ none in cc
+
+    pub is_there : is_some (entry_at parts.index t.0) ≡ is_some (task_of s t)
+    is_there = at_entry (entry_at parts.index t.0) refl
+      where
+        at_entry : (o : Option Entry) → entry_at parts.index t.0 ≡ o → is_some (entry_at parts.index t.0) ≡ is_some (task_of s t)
+        at_entry None is = ap is_some is ∙ sym (ap is_some (unknown is))
+        at_entry (Some e) is = let x = known kept view t e is in ap is_some is ∙ sym (ap is_some x.1)
+
+    pub low_not_full : slots.held_count parts.places < 65536 → refusal_of_new s ≡ None
+    low_not_full low = let e : (unfinished s == 65536) ≡ false = grind (arith, nat_tests, ap (λ v. unfinished v) view, kept.held, low) in rw e refl
+
+    pub refusals : slots.refusal_of_take parts.places ≡ unwrap_or (refusal_of_new s) NoMemory
+    refusals =
+        (elim (slots.held_count parts.places == 65536) as (λ b. (if b then StoreFull else NoMemory) ≡ unwrap_or (if b then Some StoreFull else None) NoMemory) [ true ↦ refl | false ↦ refl ])
+        ∙ ap (λ n. unwrap_or (if n == 65536 then Some StoreFull else None) NoMemory) (kept.held ∙ ap (λ v. unfinished v) view)
+
+-- ---- what a refusal says
+pub on_err : {X E : Type 0} (r : Result X E) (P : Type 0) → P → OnErr r P
+on_err (Ok x) P h = tt
+on_err (Err e) P h = h
+
+pub no_ok : {X : Type 0} (r : Result X Refusal) (was : Refusal) (P : Type 0) → IsErrAnd r (λ e. e ≡ was) → OnOk r P
+no_ok (Ok x) was P h = absurd h
+no_ok (Err e) was P h = tt
+
+pub told : {X : Type 0} (r : Result X Refusal) (was w : Refusal) → IsErrAnd r (λ e. e ≡ was) → was ≡ w → IfErr r (λ e. e ≡ w)
+told (Ok x) was w h is = tt
+told (Err e) was w h is = h ∙ is
+
+pub not_some : {X : Type 0} (o : Option X) → o ≡ None → IsSome o → ⊥
+not_some None none h = cc
+not_some (Some x) none h = cc
+
+-- no task goes back, whether the call did something or not
+pub goes_on : {V X E : Type 0} (r : Result X E) (s new c : Content V) → OnOk r (new ≡ c) → OnErr r (new ≡ s) → NoneGoesBack s c → NoneGoesBack s new
+goes_on (Ok x) s new c is same on = subst (NoneGoesBack s) (sym is) on
+goes_on (Err e) s new c is same on = subst (NoneGoesBack s) (sym same) (λ t. omega arith)

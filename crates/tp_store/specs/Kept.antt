@@ -46,6 +46,9 @@ pub record Parts (V A : Type 0) : Type 0 where
   pub results : Vec (TaskId × V) A
   pub counts : Counts
 
+abbrev pub parts_of : {V A : Type 0} → slots.Content (Item V) → Entries → Vec (TaskId × V) A → Counts → Parts V A
+parts_of places index results counts = record { places = places; index = index; results = results; counts = counts }
+
 module _ {V : Type 0} where
   -- what the entry under a number says of its task
   abbrev pub task_under : slots.Content (Item V) → Option Entry → Option (Task V)
@@ -80,13 +83,6 @@ module _ {V : Type 0} where
   -- the same with the place of a ready task at the end of its list
   abbrev pub with_listed : slots.Content (Item V) → ℕ → Task V → slots.Content (Item V)
   with_listed c place x = if is_ready x.life then slots.with_ready c x.class place else c
-
-  -- the item lies at a place that was free, in the list of its class where its task is ready, and that place is its entry
-  pub record IsEntered (c d : slots.Content (Item V)) (index new : Entries) (item : Item V) : Type 0 where
-    pub place : ℕ
-    pub free : slots.item_at c place ≡ None
-    pub places : d ≡ with_listed (slots.with_item c place item) place item.task
-    pub entries : (t : ℕ) → entry_at new t ≡ (if t == item.number.0 then Some (Live place) else entry_at index t)
 
   -- the item at a place has one more value, and the place is in the list of its class where that makes its task ready
   abbrev pub with_supplied : slots.Content (Item V) → ℕ → Item V → ℕ → V → slots.Content (Item V)

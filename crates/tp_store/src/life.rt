@@ -1,6 +1,8 @@
-ghost use Rattle.std.specs.Prelude.{◌≡◌};
+ghost use Rattle.std.specs.Prelude.{◌≡◌, ◌+◌, ◌≤◌};
 ghost use Rattle.tp_store.specs.Content.{life_lacking, supplied, is_waiting, is_ready, is_running};
 ghost use Rattle.tp_store.specs.Kept.{one};
+
+use tp_base::MAX_LIVE_TASKS;
 
 /// What a task has come to. It goes from each of these to the next, and never back.
 #[derive(Clone, Copy, Debug, PartialEq, Eq)]
@@ -76,6 +78,15 @@ fn shares(life: Option<Life>) -> (u32, u32, u32)
 
 impl Counts {
     ghost use Rattle.tp_store.specs.Kept.{moved_counts, IsCounted};
+
+    /// How many tasks are not done.
+    #[inline(always)]
+    pub(crate) fn live(&self) -> u32
+        requires { self.now.waiting + self.now.ready + self.now.running ≤ MAX_LIVE_TASKS }
+        ensures { result ≡ self.now.waiting + self.now.ready + self.now.running }
+    {
+        self.waiting + self.ready + self.running
+    }
 
     /// A task goes from one life to another; a new one had none.
     #[inline(always)]

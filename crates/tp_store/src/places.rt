@@ -1,19 +1,17 @@
 //! What the store does to the items in its slots.
-ghost use Rattle.std.specs.Prelude.{◌≡◌, ◌<◌, ◌≤◌, None, Some, ◌+◌, IfSome, IsSome, map, slice_index_or, true};
+ghost use Rattle.std.specs.Prelude.{◌≡◌, ◌<◌, None, Some, IfSome, map, slice_index_or, true};
 ghost use Rattle.std.specs.Mem.{FitsInMemory};
-ghost use Rattle.tp_base.specs.Table.{lookup};
-ghost use Rattle.tp_slots.specs.Content.{item_at, IsTaken, IsIdle, held_count, with_item};
+ghost use Rattle.tp_slots.specs.Content.{item_at, IsTaken, IsIdle, with_item};
 ghost use Rattle.tp_store.specs.Content.{is_waiting, with_value, begun};
-ghost use Rattle.tp_store.specs.Kept.{with_listed, with_supplied, moved_counts, IsCounted, IsEntered};
+ghost use Rattle.tp_store.specs.Kept.{with_listed, with_supplied, moved_counts, IsCounted};
 ghost use Rattle.tp_store.specs.contracts.item.TaskItem.{the_row};
 
-use crate::index::{Entry, Index, set_entry};
 use crate::item::TaskItem;
 use crate::life::{Counts, Life};
 use smallvec::SmallVec;
 use std::alloc::Global;
 use std::default::MadeWith;
-use tp_base::{MAX_LIVE_TASKS, TaskId};
+use tp_base::TaskId;
 use tp_slots::{Place, Slots};
 
 /// Puts a value into a free slot of the waiting task at a place, and lists it where that was its last.
@@ -71,52 +69,4 @@ pub(crate) fn list_if_ready<S: Slots<TaskItem<V>>, V>(slots: &mut S, place: Plac
     let class = item.class();
     slots.push_ready(place, class);
     life
-}
-
-/// Takes a task that has not begun into the slots, and lists it where it is ready.
-#[inline(always)]
-pub(crate) fn enter<S: Slots<TaskItem<V>>, V>(
-    slots: &mut S,
-    index: &mut Index,
-    counts: &mut Counts,
-    item: TaskItem<V>,
-)
-    requires room { 0 < S.room slots.old }
-    requires entry { IsSome (lookup index.old item.number.0) }
-    requires counted { counts.old.waiting + counts.old.ready + counts.old.running ≡ held_count (S.content slots.old) }
-    ensures entered { IsEntered (S.content slots.old) (S.content slots.new) index.old index.new item }
-    ensures counts { counts.new ≡ moved_counts counts.old None item.task.life }
-    ensures not_full { held_count (S.content slots.old) < MAX_LIVE_TASKS }
-{
-    let number = item.number();
-    let place = slots.take_reserved(item);
-    set_entry(index, number, Entry::Live(place));
-    counts.moved(None, list_if_ready(slots, place));
-}
-
-/// Takes a task that waits into the slots, puts a value into its free slot there, and lists it where that was its last.
-pub(crate) fn enter_with<S: Slots<TaskItem<V>>, V: MadeWith<Global> + Drop>(
-    slots: &mut S,
-    index: &mut Index,
-    counts: &mut Counts,
-    item: TaskItem<V>,
-    slot: u8,
-    value: V,
-)
-    requires room { 0 < S.room slots.old }
-    requires entry { IsSome (lookup index.old item.number.0) }
-    requires counted { counts.old.waiting + counts.old.ready + counts.old.running ≡ held_count (S.content slots.old) }
-    requires waiting { is_waiting item.task.life ≡ true }
-    requires slot_in_range { slot < item.task.arity }
-    requires free { slice_index_or item.task.values slot None ≡ None }
-    ensures entered { IsEntered (S.content slots.old) (S.content slots.new) index.old index.new (record item { task = with_value item.task slot value }) }
-    ensures counts { counts.new ≡ moved_counts counts.old None (with_value item.task slot value).life }
-    ensures not_full { held_count (S.content slots.old) < MAX_LIVE_TASKS }
-{
-    let number = item.number();
-    let place = slots.take_reserved(item);
-    // The value comes once the item lies where it stays, so that the item moves once.
-    slots.get_mut(place).fill(slot, value);
-    set_entry(index, number, Entry::Live(place));
-    counts.moved(None, list_if_ready(slots, place));
 }

@@ -6,8 +6,8 @@ ghost use Rattle.tp_slots.specs.Content.{front};
 use crate::index::{Entry, Index, entry_of, set_entry};
 use crate::item::TaskItem;
 use crate::life::{Counts, Delivered, Life};
-use crate::places::{begin_at, enter, enter_with, supply};
-use crate::room::make_item;
+use crate::places::{begin_at, supply};
+use crate::room::insert_fresh;
 use smallvec::SmallVec;
 use std::alloc::Global;
 use std::default::MadeWith;
@@ -156,7 +156,7 @@ fn check_new(counts: &Counts) -> Result<(), Refusal>
     ensures ok { OnOk result (counts.now.waiting + counts.now.ready + counts.now.running < MAX_LIVE_TASKS) }
     ensures err { IfErr result (λ e. (e ≡ Refusal.StoreFull) × (counts.now.waiting + counts.now.ready + counts.now.running ≡ MAX_LIVE_TASKS)) }
 {
-    if counts.waiting + counts.ready + counts.running == MAX_LIVE_TASKS {
+    if counts.live() == MAX_LIVE_TASKS {
         return Err(Refusal::StoreFull);
     }
     Ok(())
@@ -171,14 +171,8 @@ impl<S: Slots<TaskItem<V>> + Drop, V: Drop> TaskStore<S, V> {
         ensures results { result.items ≡ self.old.results }
         ensures emptied { self.new ≡ nothing_stored }
     {
-        self.slots = S::new(self.alloc);
-        self.index = Table::new(self.alloc);
-        self.counts = Counts {
-            waiting: 0,
-            ready: 0,
-            running: 0,
-        };
-        mem::replace(&mut self.results, Vec::new(self.alloc))
+        let emptied = TaskStore::new(self.alloc);
+        mem::replace(self, emptied).results
     }
 }
 
@@ -201,32 +195,16 @@ impl<S: Slots<TaskItem<V>>, V: MadeWith<Global> + Drop> TaskStore<S, V> {
         ensures unchanged { OnErr result (self.new ≡ self.old) }
     {
         self.check_insert(task)?;
-        self.insert_unknown(task, class)
-    }
-
-    // Inserts an input-free task that is not known.
-    fn insert_unknown(&mut self, task: TaskId, class: u8) -> Result<(), Refusal>
-        requires unknown { task_of self.old task ≡ None }
-        requires class_in_range { class < CLASSES }
-        ensures not_full { OnOk result (refusal_of_new self.old ≡ None) }
-        ensures content { OnOk result (self.new ≡ with_inserted self.old task class) }
-        ensures unfinished { OnOk result (unfinished self.new ≡ unfinished self.old + 1) }
-        ensures lives { NoneGoesBack self.old self.new }
-        ensures refusal { IfErr result (λ e. e ≡ unwrap_or (refusal_of_new self.old) Refusal.NoMemory) }
-        ensures unchanged { OnErr result (self.new ≡ self.old) }
-    {
-        let live = self.counts.waiting + self.counts.ready + self.counts.running;
-        let item = make_item(
+        insert_fresh(
             &mut self.slots,
             &mut self.index,
             &mut self.results,
-            live as usize + 1,
+            &mut self.counts,
             task,
             0,
             class,
             self.alloc,
         )?;
-        enter(&mut self.slots, &mut self.index, &mut self.counts, item);
         Ok(())
     }
 
@@ -261,8 +239,7 @@ impl<S: Slots<TaskItem<V>>, V: MadeWith<Global> + Drop> TaskStore<S, V> {
         ensures unchanged { OnErr result (self.new ≡ self.old) }
     {
         let Some(entry) = entry_of(&self.index, task) else {
-            self.deliver_unknown(task, arity, class, slot, value)?;
-            return Ok(Delivered::Inserted(arity - 1));
+            return self.deliver_unknown(task, arity, class, slot, value);
         };
         let Entry::Live(place) = entry else {
             return Err((Refusal::TaskKnown, value));
@@ -282,41 +259,35 @@ impl<S: Slots<TaskItem<V>>, V: MadeWith<Global> + Drop> TaskStore<S, V> {
         class: u8,
         slot: u8,
         value: V,
-    ) -> Result<(), (Refusal, V)>
+    ) -> Result<Delivered, (Refusal, V)>
         requires unknown { task_of self.old task ≡ None }
         requires arity_in_range { arity ≤ MAX_INPUTS }
         requires class_in_range { class < CLASSES }
         requires slot_in_range { slot < arity }
-        ensures not_full { OnOk result (refusal_of_new self.old ≡ None) }
+        ensures checked { OnOk result (refusal_of_deliver self.old task arity slot ≡ None) }
+        ensures answer { IfOk result (λ d. d ≡ delivered_to self.old task arity) }
         ensures content { OnOk result (self.new ≡ with_delivered self.old task arity class slot value) }
-        ensures unfinished { OnOk result (unfinished self.new ≡ unfinished self.old + 1) }
-        ensures refusal { IfErr result (λ e. e.0 ≡ unwrap_or (refusal_of_new self.old) Refusal.NoMemory) }
+        ensures unfinished { IfOk result (λ d. unfinished self.new ≡ unfinished self.old + inserted_by d) }
+        ensures refusal { IfErr result (λ e. e.0 ≡ unwrap_or (refusal_of_deliver self.old task arity slot) Refusal.NoMemory) }
         ensures value_returned { IfErr result (λ e. e.1 ≡ value) }
         ensures unchanged { OnErr result (self.new ≡ self.old) }
     {
-        let live = self.counts.waiting + self.counts.ready + self.counts.running;
-        let item = match make_item(
+        let new_place = match insert_fresh(
             &mut self.slots,
             &mut self.index,
             &mut self.results,
-            live as usize + 1,
+            &mut self.counts,
             task,
             arity,
             class,
             self.alloc,
         ) {
-            Ok(item) => item,
+            Ok(new_place) => new_place,
             Err(refusal) => return Err((refusal, value)),
         };
-        enter_with(
-            &mut self.slots,
-            &mut self.index,
-            &mut self.counts,
-            item,
-            slot,
-            value,
-        );
-        Ok(())
+        // The value comes once the item lies where it stays, so that the item moves once.
+        supply(&mut self.slots, &mut self.counts, new_place, slot, value);
+        Ok(Delivered::Inserted(arity - 1))
     }
 
     /// The next ready task, of the lowest class that has one, begins: its inputs are moved out.

@@ -4,8 +4,11 @@ use Rattle.tp_store.proofs.item.TaskItem.fill.Goals as goal
 
 pub insert_reserved-requires : goal.insert_reserved-requires
 insert_reserved-requires g c =
-    let s = c.self.inside in
-    (search rules, rw c.count_set-before.ensures.value (can_insert s.life s.arity s.class c.args.slot s.filled s.values (rw (← c.self.view_is) at c.requires.waiting) c.self.invariant (rw (← c.self.view_is) at c.requires.slot_in_range)))
+    let s = c.self.inside in (
+      search rules,
+      rw c.count_set-before.ensures.value (can_insert s.life s.arity s.class c.args.slot s.filled s.values (rw (← c.self.view_is) at c.requires.waiting) c.self.invariant (rw
+          (← c.self.view_is) at c.requires.slot_in_range)),
+    )
 
 pub invariant_of-self : goal.invariant_of-self
 invariant_of-self g c =

@@ -1,8 +1,8 @@
 use Rattle.std.proofs.Common.{subst, ap, sym, rules, ◌∙◌, arith}
 use Rattle.tp_store.specs.Kept.{content_of, Leaves}
 use Rattle.tp_store.specs.Content.{unfinished, with_begun, NoneGoesBack}
-use Rattle.tp_store.proofs.Stages.{begun_goes_on}
-use Rattle.tp_store.proofs.Running.{none_next, same_slots, can_begin, some_ready, begins, begun_all}
+use Rattle.tp_store.proofs.Contents.{begun_goes_on}
+use Rattle.tp_store.proofs.Changes.{none_next, same_slots, can_begin, some_ready, begins, begun_all}
 use Rattle.tp_store.proofs.store.TaskStore.begin.Given as given
 use Rattle.tp_store.proofs.store.TaskStore.begin.Goals as goal
 
@@ -39,8 +39,10 @@ begun_now : (g : given.Over) (c : goal.After-moved g)
     → Leaves (record { places = g.S.Slots.content c.begin_at-inputs.new.slots; index = c.self.inside.index; results = c.self.inside.results; counts = c.moved.new.self })
     (with_begun c.args.self.now c.begin_at-inputs.result.0) (unfinished c.args.self.now)
 begun_now g c =
-    rw c.moved.ensures (begun_all c.self.invariant c.self.view_is c.in-Some.place c.in-Some.ensures.next (g.S.Slots.content c.begin_at-inputs.new.slots) c.begin_at-inputs.result.0 c.begin_at-inputs.result.1.items
-    (rw c.in-Some.ensures.content at c.begin_at-inputs.ensures.number) (rw c.in-Some.ensures.content at c.begin_at-inputs.ensures.inputs) (rw c.in-Some.ensures.content at c.begin_at-inputs.ensures.content))
+    rw c.moved.ensures (begun_all c.self.invariant c.self.view_is c.in-Some.place c.in-Some.ensures.next
+    (g.S.Slots.content c.begin_at-inputs.new.slots) c.begin_at-inputs.result.0 c.begin_at-inputs.result.1.items
+    (rw c.in-Some.ensures.content at c.begin_at-inputs.ensures.number) (rw c.in-Some.ensures.content at c.begin_at-inputs.ensures.inputs)
+    (rw c.in-Some.ensures.content at c.begin_at-inputs.ensures.content))
 
 pub invariant_of-self-2 : goal.invariant_of-self-2
 invariant_of-self-2 g c = (begun_now g c).kept
@@ -48,7 +50,8 @@ invariant_of-self-2 g c = (begun_now g c).kept
 pub returns : goal.returns
 returns g c =
     let all = begun_now g c in
-    let told = begins c.self.invariant c.self.view_is c.in-Some.place c.in-Some.ensures.next (g.S.Slots.content c.begin_at-inputs.new.slots) c.begin_at-inputs.result.0 c.begin_at-inputs.result.1.items
+    let told = begins c.self.invariant c.self.view_is c.in-Some.place c.in-Some.ensures.next
+    (g.S.Slots.content c.begin_at-inputs.new.slots) c.begin_at-inputs.result.0 c.begin_at-inputs.result.1.items
     (rw c.in-Some.ensures.content at c.begin_at-inputs.ensures.number) (rw c.in-Some.ensures.content at c.begin_at-inputs.ensures.inputs)
     (rw c.in-Some.ensures.content at c.begin_at-inputs.ensures.content) in
     record {

@@ -4,45 +4,40 @@ use Rattle.tp_store.specs.Content.{unfinished, refusal_of_deliver, delivered_to,
 use Rattle.tp_store.specs.Kept.{Leaves}
 use Rattle.tp_store.specs.declared.life.Delivered.TheVariants.{Filled}
 use Rattle.tp_store.specs.declared.index.Entry.TheVariants.{Done}
-use Rattle.tp_store.proofs.Stages.{delivered_goes_on}
-use Rattle.tp_store.proofs.Finishing.{taken_there}
-use Rattle.tp_store.proofs.Reading.{seen, seen_live, known_refusal, unknown_refusal, accepts, refuses, not_some, on_err, told_first}
-use Rattle.tp_store.proofs.Entering.{inserts}
-use Rattle.tp_store.proofs.Supplying.{known_item, can_supply, supplied_all, fills}
+use Rattle.tp_store.proofs.Contents.{delivered_goes_on}
+use Rattle.tp_store.proofs.Keeping.{seen, seen_live, known_refusal, accepts, refuses, not_some, on_err, goes_on}
+use Rattle.tp_store.proofs.Changes.{taken_there, can_supply, supplied_all, fills}
 use Rattle.tp_store.proofs.store.TaskStore.deliver.Given as given
 use Rattle.tp_store.proofs.store.TaskStore.deliver.Goals as goal
 
 -- ---- an unknown task
 pub deliver_unknown-requires : goal.deliver_unknown-requires
-deliver_unknown-requires g c =
-    (search rules, (seen c.self.invariant c.self.view_is c.args.task None (sym c.entry_of.ensures ∙ c.in_default.is), (c.requires.arity_in_range, (c.requires.class_in_range, c.requires.slot_in_range))))
+deliver_unknown-requires g c = (
+  search rules,
+  (
+    seen c.self.invariant c.self.view_is c.args.task None (sym c.entry_of.ensures ∙ c.in_default.is),
+    (
+      c.requires.arity_in_range,
+      (c.requires.class_in_range, c.requires.slot_in_range),
+    ),
+  ),
+)
 
 pub returns-in_default : goal.returns-in_default
 returns-in_default g c =
     let none = seen c.self.invariant c.self.view_is c.args.task None (sym c.entry_of.ensures ∙ c.in_default.is) in
-    let content = c.in_ok-deliver_unknown.ensures.content in
+    let told = c.deliver_unknown.ensures in
     record {
-      checked = unknown_refusal c.args.self.now c.args.task c.args.arity c.args.slot none ∙ c.in_ok-deliver_unknown.ensures.not_full;
-      answer = inserts c.args.self.now c.args.task c.args.arity none;
-      content = content;
-      unfinished = c.in_ok-deliver_unknown.ensures.unfinished;
-      lives = subst (λ v. NoneGoesBack c.args.self.now v) (sym content) (delivered_goes_on c.args.self.now c.args.task c.args.arity c.args.class c.args.slot c.args.value);
-      refusal = tt;
-      no_growth = tt;
-      value_returned = tt;
-      unchanged = tt;
+      checked = told.checked;
+      answer = told.answer;
+      content = told.content;
+      unfinished = told.unfinished;
+      lives = goes_on c.deliver_unknown.result _ _ _ told.content told.unchanged (delivered_goes_on c.args.self.now c.args.task c.args.arity c.args.class c.args.slot c.args.value);
+      refusal = told.refusal;
+      no_growth = on_err c.deliver_unknown.result _ (λ h. absurd (not_some _ none h));
+      value_returned = told.value_returned;
+      unchanged = told.unchanged;
     }
-
-pub returns-in_err-deliver_unknown-clause-refusal : goal.returns-in_err-deliver_unknown-clause-refusal
-returns-in_err-deliver_unknown-clause-refusal g c =
-    let none = seen c.self.invariant c.self.view_is c.args.task None (sym c.entry_of.ensures ∙ c.in_default.is) in
-    told_first c.from_residual.result c.in_err-deliver_unknown.field-0.0 _ c.from_residual.ensures.1
-    (c.in_err-deliver_unknown.ensures.refusal ∙ sym (ap (λ o. unwrap_or o NoMemory) (unknown_refusal c.args.self.now c.args.task c.args.arity c.args.slot none)))
-
-pub returns-in_err-deliver_unknown-clause-no_growth : goal.returns-in_err-deliver_unknown-clause-no_growth
-returns-in_err-deliver_unknown-clause-no_growth g c =
-    let none = seen c.self.invariant c.self.view_is c.args.task None (sym c.entry_of.ensures ∙ c.in_default.is) in
-    on_err c.from_residual.result _ (λ h. absurd (not_some _ none h))
 
 -- ---- a task that is done
 pub returns-in_default-entry-clause-refusal : goal.returns-in_default-entry-clause-refusal
@@ -60,7 +55,7 @@ returns-in_default-entry-clause-no_growth g c h =
 -- ---- a task that is not done
 pub get-requires : goal.get-requires
 get-requires g c =
-    taken_there c.self.invariant c.args.task c.in-Live.place (sym c.entry_of.ensures ∙ c.in-Some.is ∙ ap Some c.in-Live.is)
+    taken_there c.self.invariant c.args.task (sym c.entry_of.ensures ∙ c.in-Some.is ∙ ap Some c.in-Live.is)
 
 pub returns-in-Err-clause-refusal : goal.returns-in-Err-clause-refusal
 returns-in-Err-clause-refusal g c =
@@ -77,16 +72,8 @@ supply-requires g c =
     let stands = sym c.entry_of.ensures ∙ c.in-Some.is ∙ ap Some c.in-Live.is in
     let x = seen_live c.self.invariant c.self.view_is c.args.task c.in-Live.place c.get.result.now stands c.get.ensures in
     let checked = known_refusal c.args.self.now c.args.task c.args.arity c.args.slot _ x ∙ accepts _ c.check.result c.in_default-check.field-0 c.check.ensures c.in_default-check.is in
-    let k = known_item c.self.invariant c.self.view_is c.args.task c.args.arity c.args.class c.args.slot c.args.value c.in-Live.place stands checked c.requires.slot_in_range in
-    let can = can_supply c.self.invariant c.self.view_is c.args.task c.args.arity c.args.class c.args.slot c.args.value c.in-Live.place stands checked c.requires.slot_in_range in
-    record {
-      fits = search rules;
-      idle = can.0;
-      waiting = rw k.1.at k.1.waits;
-      slot_in_range = rw k.1.at k.1.in_range;
-      free = rw k.1.at k.1.free;
-      counted = rw k.1.at can.1;
-    }
+    let can = can_supply c.self.invariant c.self.view_is c.args.task c.args.arity c.args.slot c.in-Live.place stands checked c.requires.slot_in_range in
+    record { fits = search rules; idle = can.0; waiting = can.1; slot_in_range = can.2; free = can.3; counted = can.4 }
 
 -- what the store is with the value
 supplied_now : (g : given.Over) (c : goal.After-supply g)
@@ -98,8 +85,8 @@ supplied_now g c =
     let x = seen_live c.self.invariant c.self.view_is c.args.task c.in-Live.place c.get.result.now stands c.get.ensures in
     let checked = known_refusal c.args.self.now c.args.task c.args.arity c.args.slot _ x ∙ accepts _ c.check.result c.in_default-check.field-0 c.check.ensures c.in_default-check.is in (
       checked,
-      fills c.self.invariant c.self.view_is c.args.task c.args.arity c.args.class c.args.slot c.args.value c.in-Live.place stands checked c.requires.slot_in_range,
-      supplied_all c.self.invariant c.self.view_is c.args.task c.args.arity c.args.class c.args.slot c.args.value c.in-Live.place stands checked c.requires.slot_in_range
+      fills c.args.self.now c.args.task c.args.arity _ x,
+      supplied_all c.self.invariant c.self.view_is c.args.task c.args.arity c.args.slot c.in-Live.place stands checked c.requires.slot_in_range c.args.class c.args.value
           (g.S.Slots.content c.supply.new.slots) c.supply.new.counts c.supply.ensures.content c.supply.ensures.counts,
     )
 
@@ -114,7 +101,7 @@ returns g c =
       answer = all.1;
       content = all.2.content;
       unfinished = omega (arith, all.2.count);
-      lives = subst (λ v. NoneGoesBack c.args.self.now v) (sym all.2.content) (delivered_goes_on c.args.self.now c.args.task c.args.arity c.args.class c.args.slot c.args.value);
+      lives = subst (NoneGoesBack c.args.self.now) (sym all.2.content) (delivered_goes_on c.args.self.now c.args.task c.args.arity c.args.class c.args.slot c.args.value);
       refusal = tt;
       no_growth = tt;
       value_returned = tt;

@@ -1,68 +1,60 @@
-use Rattle.std.proofs.Common.{◌+◌, rules, refl, ◌∙◌, arith}
-use Rattle.tp_store.specs.Content.{unfinished, with_delivered}
-use Rattle.tp_store.specs.Kept.{Leaves}
-use Rattle.tp_store.proofs.Reading.{few_live, nothing_there, low_not_full, refusals, content_same, IsKept-grown}
-use Rattle.tp_store.proofs.Entering.{has_place, can_fill, all_counted, made_delivered}
-use Rattle.tp_store.proofs.store.TaskStore.deliver_unknown.Given as given
+use Rattle.std.proofs.Common.{unwrap_or, rules, refl, ap, sym, ◌∙◌, arith}
+use Rattle.tp_base.specs.declared.refusal.Refusal.TheVariants.{NoMemory}
+use Rattle.tp_store.specs.Content.{refusal_of_new}
+use Rattle.tp_store.proofs.Keeping.{nothing_there, unknown_refusal}
+use Rattle.tp_store.proofs.Changes.{can_supply, supplied_all, first_checked, first_all, inserts}
 use Rattle.tp_store.proofs.store.TaskStore.deliver_unknown.Goals as goal
 
-pub overflow_add-live : goal.overflow_add-live
-overflow_add-live g c = omega (arith, few_live c.self.invariant c.self.view_is)
-
-pub overflow_add-live-2 : goal.overflow_add-live-2
-overflow_add-live-2 g c = omega (arith, few_live c.self.invariant c.self.view_is)
-
-pub make_item-requires : goal.make_item-requires
-make_item-requires g c = (search rules, (c.requires.arity_in_range, (c.requires.class_in_range, nothing_there c.self.invariant c.self.view_is c.args.task c.requires.unknown)))
+pub insert_fresh-requires : goal.insert_fresh-requires
+insert_fresh-requires g c = record {
+  fits = search rules;
+  arity_in_range = c.requires.arity_in_range;
+  class_in_range = c.requires.class_in_range;
+  unknown = nothing_there c.self.invariant c.self.view_is c.args.task c.requires.unknown;
+  kept = c.self.invariant;
+}
 
 -- ---- no room was to be had
 pub invariant_of-self : goal.invariant_of-self
-invariant_of-self g c = IsKept-grown c.self.invariant c.self.view_is c.make_item.ensures.grown
+invariant_of-self g c = c.in-Err.ensures.unchanged.kept
 
 pub returns-in-Err : goal.returns-in-Err
 returns-in-Err g c = record {
-  not_full = tt;
+  checked = tt;
+  answer = tt;
   content = tt;
   unfinished = tt;
-  refusal = c.in-Err.ensures.refusal ∙ refusals c.self.invariant c.self.view_is c.args.task;
+  refusal = c.in-Err.ensures.refusal ∙ ap (λ v. unwrap_or (refusal_of_new v) NoMemory) c.self.view_is
+      ∙ sym (ap (λ o. unwrap_or o NoMemory) (unknown_refusal c.args.self.now c.args.task c.args.arity c.args.slot c.requires.unknown));
   value_returned = refl;
-  unchanged = content_same c.self.invariant c.self.view_is c.make_item.ensures.grown;
+  unchanged = c.in-Err.ensures.unchanged.content ∙ c.self.view_is;
 }
 
--- ---- room was made
-pub enter_with-requires : goal.enter_with-requires
-enter_with-requires g c =
-    let ok = c.in-Ok.ensures in (
-      search rules,
-      (
-        ok.room,
-        (
-          has_place c.make_item.new.index c.args.task c.args.arity c.args.class c.requires.arity_in_range c.requires.class_in_range c.in-Ok.item ok.item ok.entry,
-          (
-            all_counted c.self.invariant c.self.view_is c.make_item.ensures.grown c.args.task c.requires.unknown ok.not_full ok.space,
-            can_fill c.make_item.new.index c.args.task c.args.arity c.args.class c.requires.arity_in_range c.requires.class_in_range c.in-Ok.item ok.item c.args.slot c.args.value c.requires.slot_in_range,
-          ),
-        ),
-      ),
-    )
-
--- what the store is with the task
-delivered_now : (g : given.Over) (c : goal.After-enter_with g)
-    → Leaves (record { places = g.S.Slots.content c.enter_with.new.slots; index = c.enter_with.new.index; results = c.make_item.new.results; counts = c.enter_with.new.counts })
-    (with_delivered c.args.self.now c.args.task c.args.arity c.args.class c.args.slot c.args.value) (unfinished c.args.self.now + 1)
-delivered_now g c =
-    let ok = c.in-Ok.ensures in
-    made_delivered c.self.invariant c.self.view_is c.make_item.ensures.grown c.args.task c.requires.unknown ok.not_full ok.space c.args.arity c.args.class c.requires.arity_in_range c.requires.class_in_range c.in-Ok.item ok.item
-    (g.S.Slots.content c.enter_with.new.slots) c.enter_with.new.index c.enter_with.new.counts c.enter_with.ensures.not_full c.args.slot c.args.value c.requires.slot_in_range c.enter_with.ensures.entered c.enter_with.ensures.counts
+-- ---- the task is there, and the value comes to it
+pub supply-requires : goal.supply-requires
+supply-requires g c =
+    let made = c.in-Ok.ensures in
+    let checked = first_checked c.self.invariant c.self.view_is c.args.task c.args.arity c.args.class made.inserted c.requires.unknown c.args.slot c.requires.slot_in_range in
+    let can = can_supply made.inserted.kept refl c.args.task c.args.arity c.args.slot c.in-Ok.new_place made.entry checked c.requires.slot_in_range in
+    record { fits = search rules; idle = can.0; waiting = can.1; slot_in_range = can.2; free = can.3; counted = can.4 }
 
 pub invariant_of-self-2 : goal.invariant_of-self-2
-invariant_of-self-2 g c = (delivered_now g c).kept
+invariant_of-self-2 g c =
+    let made = c.in-Ok.ensures in
+    let checked = first_checked c.self.invariant c.self.view_is c.args.task c.args.arity c.args.class made.inserted c.requires.unknown c.args.slot c.requires.slot_in_range in
+    (supplied_all made.inserted.kept refl c.args.task c.args.arity c.args.slot c.in-Ok.new_place made.entry checked c.requires.slot_in_range c.args.class c.args.value
+    (g.S.Slots.content c.supply.new.slots) c.supply.new.counts c.supply.ensures.content c.supply.ensures.counts).kept
 
 pub returns : goal.returns
 returns g c =
-    let all = delivered_now g c in
+    let made = c.in-Ok.ensures in
+    let checked = first_checked c.self.invariant c.self.view_is c.args.task c.args.arity c.args.class made.inserted c.requires.unknown c.args.slot c.requires.slot_in_range in
+    let all = first_all c.self.invariant c.self.view_is c.args.task c.args.arity c.args.class made.inserted c.requires.unknown c.args.slot c.requires.slot_in_range c.args.value
+    (supplied_all made.inserted.kept refl c.args.task c.args.arity c.args.slot c.in-Ok.new_place made.entry checked c.requires.slot_in_range c.args.class c.args.value
+    (g.S.Slots.content c.supply.new.slots) c.supply.new.counts c.supply.ensures.content c.supply.ensures.counts) in
     record {
-      not_full = low_not_full c.self.invariant c.self.view_is c.args.task c.in-Ok.ensures.not_full;
+      checked = unknown_refusal c.args.self.now c.args.task c.args.arity c.args.slot c.requires.unknown ∙ sym (ap refusal_of_new c.self.view_is) ∙ made.not_full;
+      answer = inserts c.args.self.now c.args.task c.args.arity c.requires.unknown;
       content = all.content;
       unfinished = all.count;
       refusal = tt;

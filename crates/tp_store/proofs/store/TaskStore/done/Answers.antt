@@ -2,10 +2,10 @@ use Rattle.std.proofs.Common.{◌<◌, ◌-◌, Some, None, subst, arith, ap, sy
 use Rattle.std.specs.Option.{option_map}
 use Rattle.tp_store.specs.Content.{unfinished, refusal_of_done, with_done, NoneGoesBack}
 use Rattle.tp_store.specs.Kept.{Leaves}
-use Rattle.tp_store.proofs.Stages.{done_goes_on}
+use Rattle.tp_store.proofs.Contents.{done_goes_on}
 use Rattle.tp_store.specs.declared.index.Entry.TheVariants.{Done}
-use Rattle.tp_store.proofs.Reading.{seen}
-use Rattle.tp_store.proofs.Finishing.{life_is, can_finish, done_all, wrong_life, taken_there, has_entry}
+use Rattle.tp_store.proofs.Keeping.{seen}
+use Rattle.tp_store.proofs.Changes.{taken_there, life_there, can_finish, done_all, wrong_life}
 use Rattle.tp_store.proofs.store.TaskStore.done.Given as given
 use Rattle.tp_store.proofs.store.TaskStore.done.Goals as goal
 
@@ -18,7 +18,8 @@ returns-in-Some-Done g c =
       content = tt;
       unfinished = tt;
       lives = λ t. omega arith;
-      refusal = sym (ap (λ o. refusal_of_done (option_map (λ x. x.life) o)) (seen c.self.invariant c.self.view_is c.args.task (Some (Done at.field-0-0 at.field-0-1)) (sym c.entry_of.ensures ∙ at.is ∙ ap Some at.field-0-is)));
+      refusal = sym (ap (λ o. refusal_of_done (option_map (λ x. x.life) o)) (seen c.self.invariant c.self.view_is c.args.task (Some (Done at.field-0-0 at.field-0-1))
+          (sym c.entry_of.ensures ∙ at.is ∙ ap Some at.field-0-is)));
       value_returned = refl;
       unchanged = refl;
     }
@@ -30,7 +31,7 @@ returns-in-None-clause-refusal g c =
 pub get-item-requires : goal.get-item-requires
 get-item-requires g c =
     let stands = sym c.entry_of.ensures ∙ c.in-Some-Live.is ∙ ap Some c.in-Some-Live.field-0-is in
-    taken_there c.self.invariant c.args.task c.in-Some-Live.place stands
+    taken_there c.self.invariant c.args.task stands
 
 pub returns-in_default : goal.returns-in_default
 returns-in_default g c =
@@ -41,7 +42,7 @@ returns-in_default g c =
       unfinished = tt;
       lives = λ t. omega arith;
       refusal = wrong_life c.life.result c.in_default.not-Running ∙ ap (λ l. refusal_of_done (Some l)) c.life.ensures
-          ∙ sym (ap refusal_of_done (life_is c.self.invariant c.self.view_is c.args.task c.get-item.result.now c.in-Some-Live.place stands c.get-item.ensures));
+          ∙ sym (ap refusal_of_done (life_there c.self.invariant c.self.view_is c.args.task c.get-item.result.now c.in-Some-Live.place stands c.get-item.ensures));
       value_returned = refl;
       unchanged = refl;
     }
@@ -57,7 +58,6 @@ pub set_entry-requires : goal.set_entry-requires
 set_entry-requires g c =
     let stands = sym c.entry_of.ensures ∙ c.in-Some-Live.is ∙ ap Some c.in-Some-Live.field-0-is in
     let runs = sym c.life.ensures ∙ c.in-Running.is in
-    has_entry c.self.invariant c.args.task c.in-Some-Live.place
     (can_finish c.self.invariant c.self.view_is c.args.task c.get-item.result.now c.in-Some-Live.place stands c.get-item.ensures runs).1
 
 pub push_reserved-requires : goal.push_reserved-requires
@@ -95,7 +95,7 @@ returns g c =
     let all = done_now g c in
     record {
       checked = ap refusal_of_done
-          (life_is c.self.invariant c.self.view_is c.args.task c.get-item.result.now c.in-Some-Live.place stands c.get-item.ensures ∙ ap Some runs);
+          (life_there c.self.invariant c.self.view_is c.args.task c.get-item.result.now c.in-Some-Live.place stands c.get-item.ensures ∙ ap Some runs);
       content = all.1.content;
       unfinished = omega (arith, all.0, all.1.count);
       lives = subst (λ v. NoneGoesBack c.args.self.now v) (sym all.1.content) (done_goes_on c.args.self.now c.args.task c.args.value);

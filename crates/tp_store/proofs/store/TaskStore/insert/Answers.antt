@@ -1,14 +1,12 @@
-use Rattle.std.proofs.Common.{◌≡◌, unwrap_or, IfErr, subst, ap, sym, refl, ◌∙◌, rules, arith}
+use Rattle.std.proofs.Common.{unwrap_or, subst, ap, sym, refl, ◌∙◌, rules, arith}
 use Rattle.tp_base.specs.declared.refusal.Refusal.TheVariants.{NoMemory}
-use Rattle.tp_store.proofs.Reading.{accepts, refuses, insertable, on_ok, on_err, no_ok, told}
+use Rattle.tp_store.specs.Content.{refusal_of_new, NoneGoesBack}
+use Rattle.tp_store.proofs.Contents.{inserted_goes_on}
+use Rattle.tp_store.proofs.Keeping.{accepts, refuses, insertable, nothing_there, on_err, no_ok, told}
+use Rattle.tp_store.proofs.Changes.{seen_made}
 use Rattle.tp_store.proofs.store.TaskStore.insert.Goals as goal
 
-pub insert_unknown-requires : goal.insert_unknown-requires
-insert_unknown-requires g c =
-    let checked = accepts _ c.check_insert.result c.in_ok-check_insert.field-0 c.check_insert.ensures c.in_ok-check_insert.was in
-    (search rules, ((insertable c.args.self.now c.args.task checked).0, c.requires))
-
--- ---- it was known, or there is no room for it
+-- ---- it was known, or there is no place for it
 pub returns-in_err-check_insert : goal.returns-in_err-check_insert
 returns-in_err-check_insert g c =
     let refused = refuses _ c.check_insert.result c.in_err-check_insert.field-0.0 c.check_insert.ensures c.in_err-check_insert.was in
@@ -23,14 +21,48 @@ returns-in_err-check_insert g c =
     }
 
 -- ---- it may be inserted
+pub insert_fresh-requires : goal.insert_fresh-requires
+insert_fresh-requires g c =
+    let checked = accepts _ c.check_insert.result c.in_ok-check_insert.field-0 c.check_insert.ensures c.in_ok-check_insert.was in
+    record {
+      fits = search rules;
+      arity_in_range = omega arith;
+      class_in_range = c.requires;
+      unknown = nothing_there c.self.invariant c.self.view_is c.args.task (insertable c.args.self.now c.args.task checked).0;
+      kept = c.self.invariant;
+    }
+
+pub invariant_of-self : goal.invariant_of-self
+invariant_of-self g c = c.in_err-insert_fresh.ensures.unchanged.kept
+
+pub returns-in_err-insert_fresh : goal.returns-in_err-insert_fresh
+returns-in_err-insert_fresh g c =
+    let checked = accepts _ c.check_insert.result c.in_ok-check_insert.field-0 c.check_insert.ensures c.in_ok-check_insert.was in
+    let same = c.in_err-insert_fresh.ensures.unchanged.content ∙ c.self.view_is in
+    let is = c.from_residual-in_err-insert_fresh.ensures.1 in
+    record {
+      checked = no_ok c.from_residual-in_err-insert_fresh.result c.in_err-insert_fresh.field-0.0 _ is;
+      content = no_ok c.from_residual-in_err-insert_fresh.result c.in_err-insert_fresh.field-0.0 _ is;
+      unfinished = no_ok c.from_residual-in_err-insert_fresh.result c.in_err-insert_fresh.field-0.0 _ is;
+      lives = subst (NoneGoesBack c.args.self.now) (sym same) (λ t. omega arith);
+      refusal = told c.from_residual-in_err-insert_fresh.result c.in_err-insert_fresh.field-0.0 _ is
+          (c.in_err-insert_fresh.ensures.refusal ∙ ap (λ v. unwrap_or (refusal_of_new v) NoMemory) c.self.view_is ∙ ap (λ o. unwrap_or o NoMemory)
+          ((insertable c.args.self.now c.args.task checked).1 ∙ sym checked));
+      unchanged = on_err c.from_residual-in_err-insert_fresh.result _ same;
+    }
+
+pub invariant_of-self-2 : goal.invariant_of-self-2
+invariant_of-self-2 g c = c.in_ok-insert_fresh.ensures.inserted.kept
+
 pub returns : goal.returns
 returns g c =
     let checked = accepts _ c.check_insert.result c.in_ok-check_insert.field-0 c.check_insert.ensures c.in_ok-check_insert.was in
+    let all = seen_made c.self.invariant c.self.view_is c.args.task 0 c.args.class c.in_ok-insert_fresh.ensures.inserted in
     record {
-      checked = on_ok c.insert_unknown.result _ checked;
-      content = c.insert_unknown.ensures.content;
-      unfinished = c.insert_unknown.ensures.unfinished;
-      lives = c.insert_unknown.ensures.lives;
-      refusal = subst (λ o. IfErr c.insert_unknown.result (λ e. e ≡ unwrap_or o NoMemory)) ((insertable c.args.self.now c.args.task checked).1 ∙ sym checked) c.insert_unknown.ensures.refusal;
-      unchanged = c.insert_unknown.ensures.unchanged;
+      checked = checked;
+      content = all.content;
+      unfinished = all.count;
+      lives = subst (NoneGoesBack c.args.self.now) (sym all.content) (inserted_goes_on c.args.self.now c.args.task c.args.class (insertable c.args.self.now c.args.task checked).0);
+      refusal = tt;
+      unchanged = tt;
     }

@@ -1,5 +1,5 @@
 use Rattle.std.proofs.Common.{is_some, ap, ◌∙◌}
-use Rattle.tp_store.proofs.Reading.{is_there}
+use Rattle.tp_store.proofs.Keeping.{is_there}
 use Rattle.tp_store.proofs.store.TaskStore.knows.Goals as goal
 
 pub returns : goal.returns

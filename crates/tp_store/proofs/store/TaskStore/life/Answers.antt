@@ -1,14 +1,15 @@
 use Rattle.std.proofs.Common.{Some, None, ap, sym, ◌∙◌}
 use Rattle.std.specs.Option.{option_map}
 use Rattle.tp_store.specs.declared.index.Entry.TheVariants.{Done}
-use Rattle.tp_store.proofs.Finishing.{taken_there}
-use Rattle.tp_store.proofs.Reading.{seen, seen_live}
+use Rattle.tp_store.proofs.Changes.{taken_there}
+use Rattle.tp_store.proofs.Keeping.{seen, seen_live}
 use Rattle.tp_store.proofs.store.TaskStore.life.Goals as goal
 
 pub returns-in-Some-Live-clause-life : goal.returns-in-Some-Live-clause-life
 returns-in-Some-Live-clause-life g c =
     ap Some c.life.ensures
-    ∙ sym (ap (option_map (λ x. x.life)) (seen_live c.self.invariant c.self.view_is c.args.task c.in-Some-Live.place c.get.result.now (sym c.entry_of.ensures ∙ c.in-Some-Live.is ∙ ap Some c.in-Some-Live.field-0-is) c.get.ensures))
+    ∙ sym (ap (option_map (λ x. x.life)) (seen_live c.self.invariant c.self.view_is c.args.task c.in-Some-Live.place c.get.result.now (sym c.entry_of.ensures ∙ c.in-Some-Live.is
+    ∙ ap Some c.in-Some-Live.field-0-is) c.get.ensures))
 
 pub returns-in-Some-Done-clause-life : goal.returns-in-Some-Done-clause-life
 returns-in-Some-Done-clause-life g c =
@@ -21,4 +22,4 @@ returns-in-None-clause-life g c =
 
 pub get-requires : goal.get-requires
 get-requires g c =
-    taken_there c.self.invariant c.args.task c.in-Some-Live.place (sym c.entry_of.ensures ∙ c.in-Some-Live.is ∙ ap Some c.in-Some-Live.field-0-is)
+    taken_there c.self.invariant c.args.task (sym c.entry_of.ensures ∙ c.in-Some-Live.is ∙ ap Some c.in-Some-Live.field-0-is)
