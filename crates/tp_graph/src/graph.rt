@@ -1,13 +1,14 @@
-ghost use Rattle.std.specs.Prelude.{◌≡◌, ◌<◌, ◌≤◌, ◌↔◌, ℕ, true, length, IsTrue, MatchResult, Some};
+ghost use Rattle.std.specs.Prelude.{◌≡◌, ◌<◌, ◌≤◌, ◌↔◌, ℕ, true, IsTrue, MatchResult, Some};
 ghost use Rattle.tp_graph.specs.Graphs.{TaskGraph, IsLawful};
-ghost use Rattle.tp_graph.specs.Values.{outcome, IsRefusal};
+ghost use Rattle.tp_graph.specs.Values.{outcome, AreInputs, IsRefusal};
 
 use crate::value::Value;
 use std::alloc::Global;
 use tp_base::{MAX_NODES, NodeId, Refusal, TaskId};
 
-/// A task graph. Its meaning is plain data, and its laws are said of that.
-pub trait Graph: Copy + Eq + Send + Sync {
+/// A task graph, which is all that a pool is. Its meaning is plain data, and its laws are said of that. It may hold references
+/// to data of its caller.
+pub trait Graph: Copy + Send + Sync {
     ghost meaning: { Self → TaskGraph };
 
     /// How many tasks there are.
@@ -43,22 +44,26 @@ pub trait Graph: Copy + Eq + Send + Sync {
         requires few { nodes ≤ MAX_NODES }
         ensures { result.0 ≡ (meaning self.now).home task.0 nodes };
 
-    /// What a task makes of its inputs, in slot order. Refused with `BodyFailed` exactly where its rule fails or a number
-    /// leaves `i64`, and with `NoMemory` where memory is refused first.
+    /// What a task makes of its inputs, which are its producers' values in slot order. Refused with `BodyFailed` exactly
+    /// where its rule fails or a number leaves `i64`, and with `NoMemory` where memory is refused first.
     fn body(&self, alloc: Global, task: TaskId, inputs: &[Value]) -> Result<Value, Refusal>
         requires known { task.0 < (meaning self.now).tasks }
-        requires full { length inputs.now ≡ (meaning self.now).arity task.0 }
+        requires right { AreInputs (meaning self.now) task.0 inputs.now }
         ensures { MatchResult result (λ value. outcome (meaning self.now) task.0 inputs.now ≡ Some value) (IsRefusal (outcome (meaning self.now) task.0 inputs.now)) };
 
     /// The graph keeps the rules of task graphs.
     ghost lawful: { (graph : Self) → IsLawful (meaning graph) };
+}
 
+/// A graph that can be compared with another: equal ones are the same value. A pool runs over an [`Only`](crate::Only) of its
+/// graph, for which that costs nothing, so no author of a pool has to write it.
+pub trait Comparable: Graph + Eq {
     /// Equal graphs are the same value.
     ghost same: { (a b : Self) → Self.eq a b ≡ true → a ≡ b };
 }
 
 /// Whether two graphs are the same.
-pub fn is_same<G: Graph>(a: &G, b: &G) -> bool
+pub fn is_same<G: Comparable>(a: &G, b: &G) -> bool
     ensures { IsTrue result ↔ (a.now ≡ b.now) }
 {
     *a == *b

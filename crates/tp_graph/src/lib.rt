@@ -12,12 +12,14 @@ mod laws;
 mod message;
 mod numbers;
 mod one_thread;
+mod only;
 mod value;
 
 pub use body::run_body;
 pub use feed::{Feed, feed_of};
-pub use graph::{Graph, is_same};
+pub use graph::{Comparable, Graph, is_same};
 pub use laws::value_is_what_the_rule_makes;
 pub use message::{Message, Parcel};
 pub use one_thread::serial;
+pub use only::{Named, Only};
 pub use value::Value;

@@ -2,7 +2,6 @@
 #![tactic(auto)]
 
 ghost use Rattle.std.specs.Prelude.{◌≡◌};
-ghost use Rattle.std.proofs.Common.{rules};
 ghost use Rattle.tp_own.specs.Chains.{chain_graph, chain_lawful};
 
 use std::alloc::Global;
@@ -10,7 +9,7 @@ use tp_base::{NodeId, Refusal, TaskId};
 use tp_graph::{Graph, Value};
 
 /// A chain of so many tasks. The value of a task is the sum of the numbers up to its own.
-#[derive(Clone, Copy, Debug, PartialEq, Eq)]
+#[derive(Clone, Copy)]
 pub struct Chain {
     /// How many tasks there are.
     pub length: u32,
@@ -20,8 +19,6 @@ impl Graph for Chain {
     ghost meaning = { λ c. chain_graph c.length };
 
     ghost lawful = { λ c. chain_lawful c.length };
-
-    ghost same = { Prim.search rules };
 
     fn tasks(&self) -> u32 {
         self.length

@@ -3,7 +3,7 @@ use crate::reduce::Reduce;
 use crate::wavefront::Wavefront;
 use std::alloc::Global;
 use tp_base::{NodeId, Refusal, TaskId};
-use tp_graph::{Graph, Value};
+use tp_graph::{Comparable, Graph, Value};
 
 /// One of the three pools.
 #[derive(Clone, Copy, Debug, PartialEq, Eq)]
@@ -16,21 +16,25 @@ pub enum AnyGraph {
     Reduce(Reduce),
 }
 
-impl Graph for AnyGraph {
+impl Comparable for AnyGraph {
     ghost use Rattle.std.proofs.Common.{ap};
     ghost use Rattle.tp_samples.specs.declared.any.AnyGraph.TheVariants as pool;
-    ghost use Rattle.tp_samples.specs.Any.{any_graph, any_lawful, product_same, wavefront_same, reduce_same};
+    ghost use Rattle.tp_samples.specs.Any.{product_same, wavefront_same, reduce_same};
     ghost use Rattle.tp_samples.specs.Same.{both_same, three_same};
-
-    ghost meaning = { any_graph };
-
-    ghost lawful = { any_lawful };
 
     ghost same = { elim [
       | pool.Product p ↦ elim [ pool.Product q ↦ λ e. ap pool.Product (product_same p q (three_same _ _ _ _ _ _ e)) | pool.Wavefront q ↦ λ e. Prim.cc | pool.Reduce q ↦ λ e. Prim.cc ]
       | pool.Wavefront p ↦ elim [ pool.Product q ↦ λ e. Prim.cc | pool.Wavefront q ↦ λ e. ap pool.Wavefront (wavefront_same p q (three_same _ _ _ _ _ _ e)) | pool.Reduce q ↦ λ e. Prim.cc ]
       | pool.Reduce p ↦ elim [ pool.Product q ↦ λ e. Prim.cc | pool.Wavefront q ↦ λ e. Prim.cc | pool.Reduce q ↦ λ e. ap pool.Reduce (reduce_same p q (both_same _ _ _ _ e)) ]
     ] };
+}
+
+impl Graph for AnyGraph {
+    ghost use Rattle.tp_samples.specs.Any.{any_graph, any_lawful};
+
+    ghost meaning = { any_graph };
+
+    ghost lawful = { any_lawful };
 
     fn tasks(&self) -> u32 {
         match self {

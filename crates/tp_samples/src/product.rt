@@ -7,7 +7,7 @@ ghost use Rattle.tp_base.specs.declared.Refusal.TheVariants.{BodyFailed};
 
 use std::alloc::{AllocError, Global};
 use tp_base::{NodeId, Refusal, TaskId};
-use tp_graph::{Graph, Value};
+use tp_graph::{Comparable, Graph, Value};
 
 /// The product of two matrices, in tiles.
 #[derive(Clone, Copy, Debug, PartialEq, Eq)]
@@ -80,13 +80,15 @@ fn sum_at(seed: u32, x: u32, y: u32, start: u32, count: u32) -> i64
     sum
 }
 
+impl Comparable for Product {
+    ghost same = { λ a b h. let e = three_same a.tiles b.tiles a.side b.side a.seed b.seed h in λ i. record { tiles = e.0 i; side = e.1 i; seed = e.2 i; in_rules = rule_of_three IsProduct IsProduct-prop e a.in_rules b.in_rules i } };
+}
+
 #[tactic(auto, unfolding(crate::specs::Products::product_graph))]
 impl Graph for Product {
     ghost meaning = { λ p. product_graph p.tiles p.side p.seed };
 
     ghost lawful = { λ p. product_lawful p.tiles p.side p.seed p.in_rules };
-
-    ghost same = { λ a b h. let e = three_same a.tiles b.tiles a.side b.side a.seed b.seed h in λ i. record { tiles = e.0 i; side = e.1 i; seed = e.2 i; in_rules = rule_of_three IsProduct IsProduct-prop e a.in_rules b.in_rules i } };
 
     fn tasks(&self) -> u32 {
         self.tiles * self.tiles * self.tiles

@@ -5,7 +5,7 @@ ghost use Rattle.tp_samples.specs.Same.{both_same, rule_of_two};
 
 use std::alloc::Global;
 use tp_base::{NodeId, Refusal, TaskId};
-use tp_graph::{Graph, Value};
+use tp_graph::{Comparable, Graph, Value};
 
 /// A tree that adds up its leaves.
 #[derive(Clone, Copy, Debug, PartialEq, Eq)]
@@ -17,13 +17,15 @@ pub struct Reduce {
     pub ghost in_rules: { IsReduce leaves seed },
 }
 
+impl Comparable for Reduce {
+    ghost same = { λ a b h. let e = both_same a.leaves b.leaves a.seed b.seed h in λ i. record { leaves = e.0 i; seed = e.1 i; in_rules = rule_of_two IsReduce IsReduce-prop e a.in_rules b.in_rules i } };
+}
+
 #[tactic(auto, unfolding(crate::specs::Trees::reduce_graph))]
 impl Graph for Reduce {
     ghost meaning = { λ r. reduce_graph r.leaves r.seed };
 
     ghost lawful = { λ r. reduce_lawful r.leaves r.seed r.in_rules };
-
-    ghost same = { λ a b h. let e = both_same a.leaves b.leaves a.seed b.seed h in λ i. record { leaves = e.0 i; seed = e.1 i; in_rules = rule_of_two IsReduce IsReduce-prop e a.in_rules b.in_rules i } };
 
     fn tasks(&self) -> u32 {
         2 * self.leaves - 1

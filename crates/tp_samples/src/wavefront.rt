@@ -5,7 +5,7 @@ ghost use Rattle.tp_samples.specs.Same.{three_same, rule_of_three};
 
 use std::alloc::Global;
 use tp_base::{NodeId, Refusal, TaskId};
-use tp_graph::{Graph, Value};
+use tp_graph::{Comparable, Graph, Value};
 
 /// A table of cells, each of which adds its cost to the lesser of the cells above it and to its left.
 #[derive(Clone, Copy, Debug, PartialEq, Eq)]
@@ -31,13 +31,15 @@ impl Wavefront {
     }
 }
 
+impl Comparable for Wavefront {
+    ghost same = { λ a b h. let e = three_same a.rows b.rows a.columns b.columns a.seed b.seed h in λ i. record { rows = e.0 i; columns = e.1 i; seed = e.2 i; in_rules = rule_of_three IsWavefront IsWavefront-prop e a.in_rules b.in_rules i } };
+}
+
 #[tactic(auto, unfolding(crate::specs::Waves::wavefront_graph))]
 impl Graph for Wavefront {
     ghost meaning = { λ w. wavefront_graph w.rows w.columns w.seed };
 
     ghost lawful = { λ w. wavefront_lawful w.rows w.columns w.seed w.in_rules };
-
-    ghost same = { λ a b h. let e = three_same a.rows b.rows a.columns b.columns a.seed b.seed h in λ i. record { rows = e.0 i; columns = e.1 i; seed = e.2 i; in_rules = rule_of_three IsWavefront IsWavefront-prop e a.in_rules b.in_rules i } };
 
     fn tasks(&self) -> u32 {
         self.rows * self.columns

@@ -5,7 +5,7 @@ use std::process::Abort;
 use std::test::Fail;
 use tp_base::{ActionId, Refusal};
 use tp_board::{Blanks, Board, Brand, Ledgers};
-use tp_graph::{Graph, is_same};
+use tp_graph::{Comparable, is_same};
 use tp_node::{Finished, Node, Pool, Turn, Wire, open_pool};
 use tp_samples::Reduce;
 use tp_work::{Report, finish};
@@ -90,7 +90,7 @@ impl<K: Ledgers> Pair<K> {
 }
 
 /// Inserts all input-free tasks of a node, and closes its opening action. How many there were is answered.
-fn seed_all<G: Graph, K: Ledgers>(
+fn seed_all<G: Comparable, K: Ledgers>(
     node: &mut Node<G, K>,
     board: &mut Board<K>,
 ) -> Result<u32, Refusal> {
@@ -104,7 +104,7 @@ fn seed_all<G: Graph, K: Ledgers>(
 }
 
 /// A node's turn: it receives a message, or runs a task, or makes a control step. Whether the end was judged is answered.
-fn turn_of<G: Graph, K: Ledgers>(
+fn turn_of<G: Comparable, K: Ledgers>(
     alloc: Global,
     node: &mut Node<G, K>,
     into: &mut Wire<G, K>,
@@ -118,7 +118,7 @@ fn turn_of<G: Graph, K: Ledgers>(
 }
 
 /// Receives a message and delivers its value.
-fn receive_one<G: Graph, K: Ledgers>(
+fn receive_one<G: Comparable, K: Ledgers>(
     node: &mut Node<G, K>,
     wire: &mut Wire<G, K>,
     board: &mut Board<K>,
@@ -136,7 +136,7 @@ fn receive_one<G: Graph, K: Ledgers>(
 }
 
 /// Begins a task, runs it, passes its one feed on and records it as done.
-fn run_one<G: Graph, K: Ledgers>(
+fn run_one<G: Comparable, K: Ledgers>(
     alloc: Global,
     node: &mut Node<G, K>,
     wire: &mut Wire<G, K>,
@@ -156,7 +156,7 @@ fn run_one<G: Graph, K: Ledgers>(
 }
 
 /// Begins a task and runs it.
-fn run_body<G: Graph, K: Ledgers>(
+fn run_body<G: Comparable, K: Ledgers>(
     alloc: Global,
     node: &mut Node<G, K>,
     board: &mut Board<K>,
@@ -171,7 +171,7 @@ fn run_body<G: Graph, K: Ledgers>(
 }
 
 /// Passes the next feed on, to a task of the node or over the wire.
-fn pass_on<G: Graph, K: Ledgers>(
+fn pass_on<G: Comparable, K: Ledgers>(
     node: &mut Node<G, K>,
     wire: &mut Wire<G, K>,
     board: &mut Board<K>,
@@ -306,7 +306,7 @@ impl<K: Ledgers> Pair<K> {
     }
 }
 
-fn act<G: Graph, K: Ledgers>(node: &mut Node<G, K>, board: &mut Board<K>) -> Acts {
+fn act<G: Comparable, K: Ledgers>(node: &mut Node<G, K>, board: &mut Board<K>) -> Acts {
     let opened = node.action_open(board, ActionId(4));
     let pending = node.pending();
     let again = node.action_open(board, ActionId(4));
@@ -396,7 +396,7 @@ struct Seeds {
     received: u32,
 }
 
-fn seed_four<G: Graph, K: Ledgers>(node: &mut Node<G, K>, board: &mut Board<K>) -> Seeds {
+fn seed_four<G: Comparable, K: Ledgers>(node: &mut Node<G, K>, board: &mut Board<K>) -> Seeds {
     Seeds {
         made: [
             node.seed(board),

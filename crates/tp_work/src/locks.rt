@@ -11,7 +11,7 @@ use std::sync::{Mutex, MutexGuard, Wait};
 use std::thread;
 use tp_base::Refusal;
 use tp_board::{Board, Ledgers};
-use tp_graph::{Graph, is_same};
+use tp_graph::{Comparable, Graph, is_same};
 use tp_node::{Node, Pool, Wire};
 
 /// The locks of a pool. They are taken in this order: a node's, a link's, the board's. The words beside them are hints,
@@ -220,7 +220,7 @@ fn unlock_links<G: Graph, K: Ledgers>(lines: Vec<Line<G, K>>, links: &mut Vec<Wi
 /// Whether each part of a pool is at its place.
 ///
 /// Refused: `NoNode` where a node or a link is not; `Stranger` where a node is of another graph.
-pub(crate) fn check_places<G: Graph, K: Ledgers>(
+pub(crate) fn check_places<G: Comparable, K: Ledgers>(
     pool: &Pool<G, K>,
     graph: &G,
 ) -> Result<(), Refusal>
@@ -233,7 +233,7 @@ pub(crate) fn check_places<G: Graph, K: Ledgers>(
     check_links(&pool.links, pool.board.nodes())
 }
 
-fn check_nodes<G: Graph, K: Ledgers>(nodes: &[Node<G, K>], graph: &G) -> Result<(), Refusal>
+fn check_nodes<G: Comparable, K: Ledgers>(nodes: &[Node<G, K>], graph: &G) -> Result<(), Refusal>
     ensures order { OnOk result (AreInOrder nodes.now) }
     ensures graph { OnOk result (AreOf graph.now nodes.now) }
     ensures refusal { IfErr result IsMisplaced }

@@ -1,4 +1,4 @@
-ghost use Rattle.std.specs.Prelude.{◌≡◌, ◌≤◌, ◌↔◌, ◌*◌, ◌-◌, length, vec_len, IfErr, IfOk, IsTrue, MatchOption, None};
+ghost use Rattle.std.specs.Prelude.{◌≡◌, ◌≤◌, ◌↔◌, ◌*◌, ◌-◌, length, vec_len, IfErr, IfOk, IsTrue, MatchOption, None, Some};
 ghost use Rattle.tp_work.specs.Outcomes.{HasEachOnce, IsAnswer, IsComplete, IsFault, IsLack, IsOutcome, IsUngathered, IsWithinLimits};
 ghost use Rattle.tp_wave.specs.Machine.{steps_of};
 ghost use Rattle.tp_work.specs.Lives.{LivesOnce};
@@ -17,7 +17,7 @@ use std::thread;
 use std::thread::Threads;
 use tp_base::{MAX_STEPS, NodeId, Refusal};
 use tp_board::{Blanks, Brand, Ledgers};
-use tp_graph::Graph;
+use tp_graph::{Comparable, Graph, Named, Only};
 use tp_node::{Pool, open_pool};
 
 /// Runs a pool that works a graph out, by so many threads at each node, and gathers what it has made when all have ended.
@@ -29,6 +29,36 @@ use tp_node::{Pool, open_pool};
 /// one, or was not inserted, begun and done once. The first fault that a worker set is the refusal, also after a judged end;
 /// `HistoryFull` tells the events that there are, where at most one more has a place, and else is `Missing`.
 pub fn run_pool<G: Graph, A: Gate, R: Threads + Wait + Sync>(
+    rt: &R,
+    alloc: Global,
+    graph: G,
+    config: Config,
+    gate: &A,
+) -> Result<Outcome, Fault>
+    requires limits { IsWithinLimits config }
+    ensures outcome { IfOk result (IsOutcome config.nodes (G.meaning graph)) }
+    ensures fault { IfErr result (IsFault config.nodes (G.meaning graph)) }
+{
+    run_only::<G, Brand, A, R>(rt, alloc, graph, config, gate)
+}
+
+/// Runs a pool over the one graph that `D` names, so that no two parts of it have to be compared.
+fn run_only<G: Graph, D: Named<G> + Send + Sync, A: Gate, R: Threads + Wait + Sync>(
+    rt: &R,
+    alloc: Global,
+    graph: G,
+    config: Config,
+    gate: &A,
+) -> Result<Outcome, Fault>
+    requires it { D.it ≡ Some graph }
+    requires limits { IsWithinLimits config }
+    ensures outcome { IfOk result (IsOutcome config.nodes (G.meaning graph)) }
+    ensures fault { IfErr result (IsFault config.nodes (G.meaning graph)) }
+{
+    run_compared(rt, alloc, Only::<G, D>::new(graph), config, gate)
+}
+
+fn run_compared<G: Comparable, A: Gate, R: Threads + Wait + Sync>(
     rt: &R,
     alloc: Global,
     graph: G,
@@ -110,7 +140,7 @@ fn is_made_once(alloc: Global, tasks: u32, report: &Report) -> Result<bool, Allo
 }
 
 /// Opens a pool, runs it, and gathers it when all its threads have ended.
-fn run<G: Graph, K: Ledgers + Send + Sync, A: Gate, R: Threads + Wait + Sync>(
+fn run<G: Comparable, K: Ledgers + Send + Sync, A: Gate, R: Threads + Wait + Sync>(
     rt: &R,
     alloc: Global,
     blanks: Blanks,
@@ -131,7 +161,7 @@ fn run<G: Graph, K: Ledgers + Send + Sync, A: Gate, R: Threads + Wait + Sync>(
 }
 
 /// Gathers a pool, where each of its parts is at its place.
-fn report_of<G: Graph, K: Ledgers>(
+fn report_of<G: Comparable, K: Ledgers>(
     alloc: Global,
     graph: &G,
     pool: Pool<G, K>,
@@ -149,7 +179,7 @@ fn report_of<G: Graph, K: Ledgers>(
 }
 
 /// Starts all workers, and waits for them. Where one cannot be started, that is the pool's fault.
-fn start_workers<G: Graph, K: Ledgers + Send + Sync, A: Gate, R: Threads + Wait + Sync>(
+fn start_workers<G: Comparable, K: Ledgers + Send + Sync, A: Gate, R: Threads + Wait + Sync>(
     rt: &R,
     alloc: Global,
     graph: G,

@@ -11,7 +11,7 @@ use std::sync::atomic::Ordering;
 use std::thread;
 use tp_base::{MAX_NODES, NodeId, Refusal};
 use tp_board::{Board, Ended, Ledgers};
-use tp_graph::{Graph, is_same};
+use tp_graph::{Comparable, Graph, is_same};
 use tp_monitor::TaskpoolState;
 use tp_node::{Finished, Node, Turn as ControlTurn, Wire, Work};
 
@@ -55,7 +55,7 @@ struct Seen {
     pending: u32,
 }
 
-impl<'a, G: Graph, K: Ledgers, A: Gate, R: Wait> Worker<'a, G, K, A, R> {
+impl<'a, G: Comparable, K: Ledgers, A: Gate, R: Wait> Worker<'a, G, K, A, R> {
     /// The same worker, of another node.
     pub fn at(&self, place: NodeId) -> Self {
         Worker {
@@ -381,7 +381,7 @@ fn open_tasks<G: Graph, K: Ledgers>(
 }
 
 /// Whether a node is the one of a place, of a graph.
-fn check_node<G: Graph, K: Ledgers>(
+fn check_node<G: Comparable, K: Ledgers>(
     node: &Node<G, K>,
     place: NodeId,
     graph: &G,
@@ -430,7 +430,7 @@ fn send_next<G: Graph, K: Ledgers>(
 }
 
 /// Receives the next message of a wire from a node, and delivers its value, where there is one.
-fn receive_next<G: Graph, K: Ledgers>(
+fn receive_next<G: Comparable, K: Ledgers>(
     here: &mut Node<G, K>,
     wire: &mut Wire<G, K>,
     board: &mut Board<K>,

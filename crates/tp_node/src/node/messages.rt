@@ -19,7 +19,7 @@ use crate::wire::Wire;
 use crate::work::Finished;
 use tp_base::{MessageId, Refusal, Step};
 use tp_board::{Board, Ledgers};
-use tp_graph::{Feed, Graph, Message, Parcel};
+use tp_graph::{Comparable, Feed, Graph, Message, Parcel};
 
 impl<G: Graph, K: Ledgers> Node<G, K> {
     /// Passes the next feed of a task that runs here on to the node at the end of a wire. The number of the message is
@@ -56,37 +56,6 @@ impl<G: Graph, K: Ledgers> Node<G, K> {
         };
         finished.pass_on();
         Ok(number)
-    }
-
-    /// Receives the oldest message of a wire to this node: it is counted, and its action opens, with the feed that it brings.
-    /// It answers `None` where the wire is empty.
-    ///
-    /// Refused, where there is a message, which stays: `WrongLife` where the end was announced; `Stranger` where the message
-    /// is of another graph, where the board never gave its number to this pair of nodes, and where the action of that number
-    /// is open here; `HistoryFull` where the history has reached its limit; `NoMemory`.
-    pub fn receive(
-        &mut self,
-        wire: &mut Wire<G, K>,
-        board: &mut Board<K>,
-    ) -> Result<Option<Parcel<G>>, Refusal>
-        requires to_here { wire.old.to ≡ self.old.numbers.node }
-        ensures none { wire.old.messages ≡ [] → result ≡ Ok None }
-        ensures received { IfOk result (λ parcel. MatchOption parcel ((wire.old.messages ≡ []) × Rests self.old self.new board.old board.new × (wire.new ≡ wire.old)) (Receives self.old self.new board.old board.new wire.old wire.new)) }
-        ensures brought { IfOk result (λ parcel. MatchOption parcel (Unit {0}) (HasBrought (G.meaning self.new.graph) self.new)) }
-        ensures refusal { MatchOption (slice_get wire.old.messages 0) (Unit {0}) (λ m. Answers (receive_checks self.old board.old wire.old (G.eq m.graph self.old.graph) m.number) result) }
-        ensures refused { OnErr result (Appends [] board.old board.new × (self.new ≡ self.old) × (wire.new ≡ wire.old)) }
-    {
-        let Some(message) = wire.front() else {
-            return Ok(None);
-        };
-        let number = message.number();
-        let feed = message.feed();
-        self.check_message(wire, board, message)?;
-        board.reserve(1)?;
-        board.audit(&mut self.shares);
-        self.local.receive(number, feed)?;
-        let message = wire.take(board, &mut self.shares);
-        Ok(Some(message.receive()))
     }
 
     /// Delivers the value of a received message, whose action is open with this feed, to its task, which lives here and is
@@ -126,8 +95,38 @@ impl<G: Graph, K: Ledgers> Node<G, K> {
     }
 }
 
-// The parts of these calls.
-impl<G: Graph, K: Ledgers> Node<G, K> {
+impl<G: Comparable, K: Ledgers> Node<G, K> {
+    /// Receives the oldest message of a wire to this node: it is counted, and its action opens, with the feed that it brings.
+    /// It answers `None` where the wire is empty.
+    ///
+    /// Refused, where there is a message, which stays: `WrongLife` where the end was announced; `Stranger` where the message
+    /// is of another graph, where the board never gave its number to this pair of nodes, and where the action of that number
+    /// is open here; `HistoryFull` where the history has reached its limit; `NoMemory`.
+    pub fn receive(
+        &mut self,
+        wire: &mut Wire<G, K>,
+        board: &mut Board<K>,
+    ) -> Result<Option<Parcel<G>>, Refusal>
+        requires to_here { wire.old.to ≡ self.old.numbers.node }
+        ensures none { wire.old.messages ≡ [] → result ≡ Ok None }
+        ensures received { IfOk result (λ parcel. MatchOption parcel ((wire.old.messages ≡ []) × Rests self.old self.new board.old board.new × (wire.new ≡ wire.old)) (Receives self.old self.new board.old board.new wire.old wire.new)) }
+        ensures brought { IfOk result (λ parcel. MatchOption parcel (Unit {0}) (HasBrought (G.meaning self.new.graph) self.new)) }
+        ensures refusal { MatchOption (slice_get wire.old.messages 0) (Unit {0}) (λ m. Answers (receive_checks self.old board.old wire.old (G.eq m.graph self.old.graph) m.number) result) }
+        ensures refused { OnErr result (Appends [] board.old board.new × (self.new ≡ self.old) × (wire.new ≡ wire.old)) }
+    {
+        let Some(message) = wire.front() else {
+            return Ok(None);
+        };
+        let number = message.number();
+        let feed = message.feed();
+        self.check_message(wire, board, message)?;
+        board.reserve(1)?;
+        board.audit(&mut self.shares);
+        self.local.receive(number, feed)?;
+        let message = wire.take(board, &mut self.shares);
+        Ok(Some(message.receive()))
+    }
+
     /// Whether a message of a wire can be received, places and memory apart.
     fn check_message(
         &self,
@@ -151,7 +150,10 @@ impl<G: Graph, K: Ledgers> Node<G, K> {
         }
         Ok(())
     }
+}
 
+// The parts of these calls.
+impl<G: Graph, K: Ledgers> Node<G, K> {
     /// Makes sure that a received value can be put, and of both events.
     fn room_to_deliver(&self, board: &mut Board<K>, feed: Feed) -> Result<(), Refusal>
         requires active { 0 < self.now.numbers.pending }
