@@ -1,9 +1,9 @@
 -- What a call answers whose checks are made by two calls in turn.
-use Rattle.std.proofs.Common.{ℕ, ◌≡◌, List, [], ◌∷◌, ◌++◌, Bool, true, false, Some, None, Option, Result, Ok, Err, ◌<◌, refl, sym, ap, ◌∙◌, arith}
+use Rattle.std.proofs.Common.{ℕ, ◌≡◌, List, [], ◌∷◌, ◌++◌, Bool, true, false, Some, None, Option, Result, Ok, Err, ◌<◌, length, ◌+◌, refl, sym, ap, ◌∙◌, arith}
 use Rattle.std.proofs.lemmas.Bool.Decides.{nat_tests}
 use Rattle.std.specs.Prelude.{if◌then◌else◌, MatchOption, IfErr, nat_lt}
 use Rattle.std.specs.Result.{result_err}
-use Rattle.tp_base.specs.declared.refusal.Refusal.TheVariants.{NoMemory, NotIdle}
+use Rattle.tp_base.specs.declared.refusal.Refusal.TheVariants.{HistoryFull, NoMemory, NotIdle}
 use Rattle.tp_base.specs.declared.refusal.Refusal.{Refusal}
 use Rattle.tp_base.specs.declared.step.Step.{Step}
 use Rattle.tp_base.specs.Checks.{Check, first_refusal}
@@ -81,3 +81,10 @@ active_test n some = grind (arith, nat_tests)
 
 pub when_active : {A : Type 0} (i : ℕ) (b : BoardState) (result : Result A Refusal) → 0 < pending_at i b.history → result ≡ Err NotIdle → AnswersBy (visit_rest i b) 1 b result
 when_active i b result active answer = rw (active_test _ active) answer
+
+full_test : (limit count more : ℕ) → limit < count + more → nat_lt limit (count + more) ≡ true
+full_test limit count more less = grind (arith, nat_tests)
+
+-- where no place is free for so many events
+pub full : {A : Type 0} (b : BoardState) (more count : ℕ) (result : Result A Refusal) → count ≡ length b.history → b.limit < length b.history + more → result ≡ Err (HistoryFull count) → AnswersBy (full_check more b ∷ []) more b result
+full b more count result is less answer = rw (full_test b.limit (length b.history) more less) (answer ∙ ap (λ n. Err (HistoryFull n)) is)

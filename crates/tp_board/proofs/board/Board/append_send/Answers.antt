@@ -7,7 +7,8 @@ use Rattle.tp_board.proofs.board.Board.append_send.Goals as goal
 pub invariant_of-self-2 : goal.invariant_of-self-2
 invariant_of-self-2 g c =
     let history = ap (λ (b : BoardState). b.history) c.in_ok-message.ensures.ok in
-    send_follows _ _ _ _ _ _ _ _ _ _ _ _ _ history c.node-node.ensures.number c.to-to.ensures.number c.follow.ensures.books c.follow_link.ensures.books c.self.invariant c.in_ok-message.ensures.places c.follow.ensures.told c.follow.ensures.node c.to-to.ensures.below (λ e. c.to-to.ensures.apart (c.requires.of_link ∙ e)) c.requires.active c.in_ok-message.ensures.fresh
+    send_follows _ _ _ _ _ _ _ _ _ _ _ _ _ history c.node-node.ensures.number c.to-to.ensures.number c.follow.ensures.books c.follow_link.ensures.books c.self.invariant
+    c.in_ok-message.ensures.places c.follow.ensures.told c.follow.ensures.node c.to-to.ensures.below (λ e. c.to-to.ensures.apart (c.requires.of_link ∙ e)) c.requires.active c.in_ok-message.ensures.fresh
 
 pub returns-clause-within : goal.returns-clause-within
 returns-clause-within g c =

@@ -17,7 +17,8 @@ pub returns-in_err-add-clause-refusal : goal.returns-in_err-add-clause-refusal
 returns-in_err-add-clause-refusal g c =
     let p = err_from_is_err_and c.from_residual-in_err-add.result c.from_residual-in_err-add.ensures.1 in
     let full : BoardState → List Check = λ b. full_check 1 b ∷ [] in
-    rw (← c.node-node.ensures.number) (passed _ _ _ _ _ _ (Down c.node-node.result) full _ _ _ c.self.invariant c.self.view_is c.down.ensures.table (ap result_err c.in_ok-down.was) c.add.ensures.refusal (ap result_err (c.in_err-add.was ∙ sym (p.1 ∙ ap Err p.2))))
+    rw (← c.node-node.ensures.number) (passed _ _ _ _ _ _ (Down c.node-node.result) full _ _ _
+    c.self.invariant c.self.view_is c.down.ensures.table (ap result_err c.in_ok-down.was) c.add.ensures.refusal (ap result_err (c.in_err-add.was ∙ sym (p.1 ∙ ap Err p.2))))
 
 pub returns-clause-refusal : goal.returns-clause-refusal
 returns-clause-refusal g c =

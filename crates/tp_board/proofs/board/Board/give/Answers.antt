@@ -12,7 +12,8 @@ use Rattle.tp_board.proofs.board.Board.give.Goals as goal
 pub returns-in_err-sums-clause-refusal : goal.returns-in_err-sums-clause-refusal
 returns-in_err-sums-clause-refusal g c =
     let p = err_from_is_err_and c.from_residual.result c.from_residual.ensures.1 in
-    rw (← c.node-node.ensures.number) (refused _ _ _ _ _ _ (Give c.node-node.result) (visit_rest c.node-node.result.0 c.args.self.now) _ _ _ c.self.invariant c.self.view_is c.give.ensures.table (ap result_err c.in_err-sums.was) (p.1 ∙ ap Err p.2))
+    rw (← c.node-node.ensures.number) (refused _ _ _ _ _ _ (Give c.node-node.result) (visit_rest c.node-node.result.0 c.args.self.now) _ _ _
+    c.self.invariant c.self.view_is c.give.ensures.table (ap result_err c.in_err-sums.was) (p.1 ∙ ap Err p.2))
 
 pub returns-then-counts-gt0-clause-refusal : goal.returns-then-counts-gt0-clause-refusal
 returns-then-counts-gt0-clause-refusal g c =
@@ -26,14 +27,16 @@ returns-in_err-add-clause-refusal g c =
     let p = err_from_is_err_and c.from_residual-in_err-add.result c.from_residual-in_err-add.ensures.1 in
     let pending = ap (λ (x : NodeCounts). x.pending) c.counts-counts.ensures.counts in
     let idle = when_idle c.node-node.result.0 c.self.inside.log c.add.result (omega (arith, pending)) c.add.ensures.refusal in
-    rw (← c.node-node.ensures.number) (passed _ _ _ _ _ _ (Give c.node-node.result) (visit_rest c.node-node.result.0) _ _ _ c.self.invariant c.self.view_is c.give.ensures.table (ap result_err c.in_ok-sums.was) idle (ap result_err c.in_err-add.was ∙ sym (ap result_err (p.1 ∙ ap Err p.2))))
+    rw (← c.node-node.ensures.number) (passed _ _ _ _ _ _ (Give c.node-node.result) (visit_rest c.node-node.result.0) _ _ _
+    c.self.invariant c.self.view_is c.give.ensures.table (ap result_err c.in_ok-sums.was) idle (ap result_err c.in_err-add.was ∙ sym (ap result_err (p.1 ∙ ap Err p.2))))
 
 pub returns-clause-refusal : goal.returns-clause-refusal
 returns-clause-refusal g c =
     let pending = ap (λ (x : NodeCounts). x.pending) c.counts-counts.ensures.counts in
     let answer : Result (Option Sums) Refusal = Ok c.in_ok-sums.sums in
     let idle = when_idle c.node-node.result.0 c.self.inside.log c.add.result (omega (arith, pending)) c.add.ensures.refusal in
-    rw (← c.node-node.ensures.number) (passed _ _ _ _ _ _ (Give c.node-node.result) (visit_rest c.node-node.result.0) _ _ answer c.self.invariant c.self.view_is c.give.ensures.table (ap result_err c.in_ok-sums.was) idle (ap result_err c.in_ok-add.was))
+    rw (← c.node-node.ensures.number) (passed _ _ _ _ _ _ (Give c.node-node.result) (visit_rest c.node-node.result.0) _ _ answer
+    c.self.invariant c.self.view_is c.give.ensures.table (ap result_err c.in_ok-sums.was) idle (ap result_err c.in_ok-add.was))
 
 pub invariant_of-self-2 : goal.invariant_of-self-2
 invariant_of-self-2 g c = search (rules, tests)

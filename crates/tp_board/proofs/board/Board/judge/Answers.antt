@@ -1,11 +1,12 @@
-use Rattle.std.proofs.Common.{[], ◌∷◌, Err, ap, sym, ◌∙◌, rules}
+use Rattle.std.proofs.Common.{List, [], ◌∷◌, Err, ap, sym, ◌∙◌, rules}
 use Rattle.std.specs.Result.{result_err}
 use Rattle.std.proofs.lemmas.Result.{err_from_is_err_and}
 use Rattle.tp_base.specs.declared.step.Step.TheVariants.{Judge}
+use Rattle.tp_base.specs.Checks.{Check}
 use Rattle.tp_board.specs.States.{BoardState, full_check}
 use Rattle.tp_wave.specs.Machine.{steps_of}
 use Rattle.tp_wave.proofs.Judged.{two_tell_law}
-use Rattle.tp_board.proofs.Answering.{refused}
+use Rattle.tp_board.proofs.Answering.{passed, refused}
 use Rattle.tp_board.proofs.Boards.{quiet_judged}
 use Rattle.tp_board.proofs.board.Board.judge.Goals as goal
 
@@ -13,6 +14,13 @@ pub returns-in_err-ended_with-clause-refusal : goal.returns-in_err-ended_with-cl
 returns-in_err-ended_with-clause-refusal g c =
     let p = err_from_is_err_and c.from_residual.result c.from_residual.ensures.1 in
     refused _ _ _ _ _ _ Judge (full_check 1 c.args.self.now ∷ []) _ _ _ c.self.invariant c.self.view_is c.judge.ensures.table (ap result_err c.in_err-ended_with.was) (p.1 ∙ ap Err p.2)
+
+pub returns-in_err-add-clause-refusal : goal.returns-in_err-add-clause-refusal
+returns-in_err-add-clause-refusal g c =
+    let p = err_from_is_err_and c.from_residual-in_err-add.result c.from_residual-in_err-add.ensures.1 in
+    let full : BoardState → List Check = λ b. full_check 1 b ∷ [] in
+    passed _ _ _ _ _ _ Judge full _ _ _ c.self.invariant c.self.view_is c.judge.ensures.table (ap result_err c.in_ok-ended_with.was) c.add.ensures.refusal
+    (ap result_err c.in_err-add.was ∙ sym (ap result_err (p.1 ∙ ap Err p.2)))
 
 pub returns-in-Some-clause-quiet : goal.returns-in-Some-clause-quiet
 returns-in-Some-clause-quiet g c =

@@ -1,9 +1,11 @@
-use Rattle.std.proofs.Common.{[], ◌∷◌, Err, ap, ◌∙◌, rules, tests}
+use Rattle.std.proofs.Common.{List, [], ◌∷◌, Result, Ok, Err, ap, sym, ◌∙◌, rules, tests}
 use Rattle.std.specs.Result.{result_err}
 use Rattle.std.proofs.lemmas.Result.{err_from_is_err_and}
+use Rattle.tp_base.specs.declared.refusal.Refusal.{Refusal}
 use Rattle.tp_base.specs.declared.step.Step.TheVariants.{Start}
-use Rattle.tp_board.specs.States.{full_check}
-use Rattle.tp_board.proofs.Answering.{refused}
+use Rattle.tp_base.specs.Checks.{Check}
+use Rattle.tp_board.specs.States.{BoardState, full_check}
+use Rattle.tp_board.proofs.Answering.{passed, refused}
 use Rattle.tp_board.proofs.Boards.{started-le}
 use Rattle.tp_board.proofs.board.Board.start.Goals as goal
 
@@ -14,6 +16,19 @@ pub returns-in_err-start-clause-refusal : goal.returns-in_err-start-clause-refus
 returns-in_err-start-clause-refusal g c =
     let p = err_from_is_err_and c.from_residual.result c.from_residual.ensures.1 in
     refused _ _ _ _ _ _ Start (full_check 1 c.args.self.now ∷ []) _ _ _ c.self.invariant c.self.view_is c.start.ensures.table (ap result_err c.in_err-start.was) (p.1 ∙ ap Err p.2)
+
+pub returns-in_err-add-clause-refusal : goal.returns-in_err-add-clause-refusal
+returns-in_err-add-clause-refusal g c =
+    let p = err_from_is_err_and c.from_residual-in_err-add.result c.from_residual-in_err-add.ensures.1 in
+    let full : BoardState → List Check = λ b. full_check 1 b ∷ [] in
+    passed _ _ _ _ _ _ Start full _ _ _ c.self.invariant c.self.view_is c.start.ensures.table (ap result_err c.in_ok-start.was) c.add.ensures.refusal
+    (ap result_err (c.in_err-add.was ∙ sym (p.1 ∙ ap Err p.2)))
+
+pub returns-clause-refusal : goal.returns-clause-refusal
+returns-clause-refusal g c =
+    let full : BoardState → List Check = λ b. full_check 1 b ∷ [] in
+    let ok : Result (Unit {0}) Refusal = Ok tt in
+    passed _ _ _ _ _ _ Start full _ _ ok c.self.invariant c.self.view_is c.start.ensures.table (ap result_err c.in_ok-start.was) c.add.ensures.refusal (ap result_err c.in_ok-add.was)
 
 pub invariant_of-self-2 : goal.invariant_of-self-2
 invariant_of-self-2 g c = search (rules, tests)

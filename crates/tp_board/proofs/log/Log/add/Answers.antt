@@ -1,0 +1,14 @@
+use Rattle.std.proofs.Common.{refl, arith}
+use Rattle.tp_board.specs.States.{BoardState}
+use Rattle.tp_board.proofs.Answering.{full}
+use Rattle.tp_board.proofs.log.Log.add.Goals as goal
+
+pub returns-then-count-self-clause-refusal : goal.returns-then-count-self-clause-refusal
+returns-then-count-self-clause-refusal c =
+    let log = c.self.inside in
+    let now : BoardState = record { history = log.history.events; limit = log.limit; reserved = log.reserved; fault = log.fault } in
+    rw (← c.self.view_is) (full now 1 c.len-count.result _ c.len-count.ensures (omega (arith, c.len-count.ensures, c.if-count-self.true)) refl)
+
+pub returns-then-count-self-clause-reserved : goal.returns-then-count-self-clause-reserved
+returns-then-count-self-clause-reserved c =
+    rw (← c.self.view_is) (λ some. absurd (omega (arith, some, c.self.invariant.places, c.len-count.ensures, c.if-count-self.true)))
