@@ -1,4 +1,4 @@
-ghost use Rattle.std.specs.Prelude.{◌≡◌, ◌≤◌, ◌+◌, ◌-◌, ◌*◌, [], IfErr, IfOk, IfSome, length, map, sum_by, vec_capacity, vec_len};
+ghost use Rattle.std.specs.Prelude.{◌≡◌, ◌<◌, ◌≤◌, ◌+◌, ◌-◌, ◌*◌, ◌++◌, ◌∷◌, [], IfErr, IfOk, IfSome, length, map, sum_by, vec_capacity, vec_len};
 ghost use Rattle.std.specs.List.{All, count_by, flat_map};
 ghost use Rattle.tp_base.specs.declared.refusal.Refusal.TheVariants.{NoMemory};
 ghost use Rattle.tp_graph.specs.Serial.{AreRight};
@@ -169,12 +169,28 @@ fn take_nodes<G: Graph, K: Ledgers>(
     ensures right { (g : G) → All (λ n. n.graph ≡ g) nodes.items → AreRight (G.meaning g) results.new.items }
 {
     for node in nodes {
-        let (share, mut more) = node.into_parts();
-        shares.push_reserved(share);
-        let Ok(()) = results.append(&mut more) else {
-            unreachable!()
-        };
+        take_node(node, shares, results);
     }
+}
+
+/// The shares and the results of a node.
+fn take_node<G: Graph, K: Ledgers>(
+    node: Node<G, K>,
+    shares: &mut Vec<Shares<K>>,
+    results: &mut Vec<(TaskId, Value)>,
+)
+    requires shares { vec_len shares.old < vec_capacity shares.old }
+    requires results { vec_len results.old + length node.state.store.results ≤ vec_capacity results.old }
+    ensures shares { shares.new.items ≡ shares.old.items ++ counted_of node ∷ [] }
+    ensures results { results.new.items ≡ results.old.items ++ node.state.store.results }
+    ensures right { AreRight (G.meaning node.graph) node.state.store.results }
+    ensures room { (vec_capacity shares.new ≡ vec_capacity shares.old) × (vec_capacity results.old ≤ vec_capacity results.new) }
+{
+    let (share, mut more) = node.into_parts();
+    shares.push_reserved(share);
+    let Ok(()) = results.append(&mut more) else {
+        unreachable!()
+    };
 }
 
 /// The shares of all links, in their order.

@@ -5,7 +5,7 @@ ghost use Rattle.tp_work.specs.Places as places;
 ghost use Rattle.tp_work.specs.Places.{AreInOrder, AreLinksInOrder, AreOf};
 ghost use Rattle.tp_work.specs.Outcomes.{IsMisplaced};
 
-use std::alloc::Global;
+use std::alloc::{AllocError, Global};
 use std::sync::atomic::{AtomicBool, AtomicU64, Ordering};
 use std::sync::{Mutex, MutexGuard, Wait};
 use std::thread;
@@ -82,19 +82,18 @@ fn lock_late<'l, T, R: Wait>(rt: &R, lock: &'l Mutex<T>) -> MutexGuard<'l, T> {
     lock.lock(rt)
 }
 
-/// Empty lists with room for the parts of a pool.
+/// Empty lists with room for the parts of a pool, as they are or under locks.
 #[derive(Drop)]
-pub(crate) struct Room<G: Graph, K: Ledgers> {
-    nodes: Vec<Node<G, K>>,
-    links: Vec<Wire<G, K>>,
+pub(crate) struct Room<N, W> {
+    nodes: Vec<N>,
+    links: Vec<W>,
 }
 
-impl<G: Graph, K: Ledgers> Room<G, K> {
+impl<N: Drop, W: Drop> Room<N, W> {
     /// Room for so many nodes and links.
-    pub fn new(alloc: Global, nodes: usize, links: usize) -> Result<Self, Refusal>
+    pub fn new(alloc: Global, nodes: usize, links: usize) -> Result<Self, AllocError>
         ensures nodes { IfOk result (λ r. (r.nodes.items ≡ []) × (nodes ≤ vec_capacity r.nodes)) }
         ensures links { IfOk result (λ r. (r.links.items ≡ []) × (links ≤ vec_capacity r.links)) }
-        ensures refusal { IfErr result (λ e. e ≡ NoMemory) }
     {
         Ok(Room {
             nodes: Vec::with_capacity(alloc, nodes)?,
@@ -104,29 +103,36 @@ impl<G: Graph, K: Ledgers> Room<G, K> {
 }
 
 impl<G: Graph, K: Ledgers> Locks<G, K> {
-    /// Puts the parts of a pool, which may have as many events as any, under locks.
-    pub fn new(alloc: Global, pool: Pool<G, K>) -> Result<Self, Refusal>
+    /// Puts the parts of a pool, which may have as many events as any, under locks, into the room that was made for them.
+    pub fn new(pool: Pool<G, K>, room: Room<Site<Node<G, K>>, Line<G, K>>) -> Self
         requires limit { pool.board.limit ≡ MAX_STEPS }
-        ensures nodes { IfOk result (λ l. vec_len l.sites ≡ vec_len pool.nodes) }
-        ensures links { IfOk result (λ l. vec_len l.lines ≡ vec_len pool.links) }
-        ensures refusal { IfErr result (λ e. e ≡ NoMemory) }
+        requires nodes { (room.nodes.items ≡ []) × (vec_len pool.nodes ≤ vec_capacity room.nodes) }
+        requires links { (room.links.items ≡ []) × (vec_len pool.links ≤ vec_capacity room.links) }
+        ensures nodes { vec_len result.sites ≡ vec_len pool.nodes }
+        ensures links { vec_len result.lines ≡ vec_len pool.links }
     {
         let Pool {
             nodes,
             links,
             board,
         } = pool;
-        Ok(Locks {
-            sites: lock_nodes(alloc, nodes)?,
-            lines: lock_links(alloc, links)?,
+        let Room {
+            nodes: mut sites,
+            links: mut lines,
+        } = room;
+        lock_nodes(nodes, &mut sites);
+        lock_links(links, &mut lines);
+        Locks {
+            sites,
+            lines,
             board: Mutex::new(board),
             control_steps: AtomicU64::new(0),
             is_stopped: AtomicBool::new(false),
-        })
+        }
     }
 
     /// Takes the parts out of their locks, into the room that was made for them.
-    pub fn into_pool(self, room: Room<G, K>) -> Pool<G, K>
+    pub fn into_pool(self, room: Room<Node<G, K>, Wire<G, K>>) -> Pool<G, K>
         requires nodes { (room.nodes.items ≡ []) × (vec_len self.sites ≤ vec_capacity room.nodes) }
         requires links { (room.links.items ≡ []) × (vec_len self.lines ≤ vec_capacity room.links) }
         ensures nodes { vec_len result.nodes ≡ vec_len self.sites }
@@ -157,21 +163,37 @@ impl<G: Graph, K: Ledgers> Locks<G, K> {
 pub(crate) fn lock_pool<G: Graph, K: Ledgers>(
     alloc: Global,
     pool: Pool<G, K>,
-) -> Result<(Locks<G, K>, Room<G, K>), Refusal>
+) -> Result<(Locks<G, K>, Room<Node<G, K>, Wire<G, K>>), Refusal>
     requires limit { pool.board.limit ≡ MAX_STEPS }
     ensures nodes { IfOk result (λ r. (vec_len r.0.sites ≡ vec_len pool.nodes) × (r.1.nodes.items ≡ []) × (vec_len r.0.sites ≤ vec_capacity r.1.nodes)) }
     ensures links { IfOk result (λ r. (vec_len r.0.lines ≡ vec_len pool.links) × (r.1.links.items ≡ []) × (vec_len r.0.lines ≤ vec_capacity r.1.links)) }
     ensures refusal { IfErr result (λ e. e ≡ NoMemory) }
 {
-    let room = Room::new(alloc, pool.nodes.len(), pool.links.len())?;
-    Ok((Locks::new(alloc, pool)?, room))
+    let (locked, room) = two_rooms(alloc, pool.nodes.len(), pool.links.len())?;
+    Ok((Locks::new(pool, locked), room))
 }
 
-fn lock_nodes<N: Drop>(alloc: Global, nodes: Vec<N>) -> Result<Vec<Site<N>>, Refusal>
-    ensures each { IfOk result (λ sites. vec_len sites ≡ vec_len nodes) }
-    ensures refusal { IfErr result (λ e. e ≡ NoMemory) }
+/// Room for so many nodes and links, twice.
+fn two_rooms<S: Drop, L: Drop, N: Drop, W: Drop>(
+    alloc: Global,
+    nodes: usize,
+    links: usize,
+) -> Result<(Room<S, L>, Room<N, W>), AllocError>
+    ensures locked_nodes { IfOk result (λ r. (r.0.nodes.items ≡ []) × (nodes ≤ vec_capacity r.0.nodes)) }
+    ensures locked_links { IfOk result (λ r. (r.0.links.items ≡ []) × (links ≤ vec_capacity r.0.links)) }
+    ensures nodes { IfOk result (λ r. (r.1.nodes.items ≡ []) × (nodes ≤ vec_capacity r.1.nodes)) }
+    ensures links { IfOk result (λ r. (r.1.links.items ≡ []) × (links ≤ vec_capacity r.1.links)) }
 {
-    let mut sites = Vec::with_capacity(alloc, nodes.len())?;
+    Ok((
+        Room::new(alloc, nodes, links)?,
+        Room::new(alloc, nodes, links)?,
+    ))
+}
+
+fn lock_nodes<N: Drop>(nodes: Vec<N>, sites: &mut Vec<Site<N>>)
+    requires { (sites.old.items ≡ []) × (vec_len nodes ≤ vec_capacity sites.old) }
+    ensures { vec_len sites.new ≡ vec_len nodes }
+{
     for node in nodes {
         sites.push_reserved(Site {
             node: Mutex::new(node),
@@ -179,24 +201,18 @@ fn lock_nodes<N: Drop>(alloc: Global, nodes: Vec<N>) -> Result<Vec<Site<N>>, Ref
             mail: AtomicU64::new(0),
         });
     }
-    Ok(sites)
 }
 
-fn lock_links<G: Graph, K: Ledgers>(
-    alloc: Global,
-    links: Vec<Wire<G, K>>,
-) -> Result<Vec<Line<G, K>>, Refusal>
-    ensures each { IfOk result (λ lines. vec_len lines ≡ vec_len links) }
-    ensures refusal { IfErr result (λ e. e ≡ NoMemory) }
+fn lock_links<G: Graph, K: Ledgers>(links: Vec<Wire<G, K>>, lines: &mut Vec<Line<G, K>>)
+    requires { (lines.old.items ≡ []) × (vec_len links ≤ vec_capacity lines.old) }
+    ensures { vec_len lines.new ≡ vec_len links }
 {
-    let mut lines = Vec::with_capacity(alloc, links.len())?;
     for wire in links {
         lines.push_reserved(Line {
             wire: Mutex::new(wire),
             length: AtomicU64::new(0),
         });
     }
-    Ok(lines)
 }
 
 fn unlock_nodes<N: Drop>(sites: Vec<Site<N>>, nodes: &mut Vec<N>)

@@ -408,6 +408,24 @@ pub(crate) fn set_fault<G: Graph, K: Ledgers, R: Wait>(
     locks.is_stopped.store(true, Ordering::SeqCst);
 }
 
+/// Whether a wire goes from a node to another.
+fn check_wire<G: Graph, K: Ledgers>(
+    wire: &Wire<G, K>,
+    from: NodeId,
+    to: NodeId,
+) -> Result<(), Refusal>
+    ensures from { OnOk result (wire.now.from ≡ from.0) }
+    ensures to { OnOk result (wire.now.to ≡ to.0) }
+{
+    if wire.from() != from {
+        return Err(Refusal::NoNode);
+    }
+    if wire.to() != to {
+        return Err(Refusal::NoNode);
+    }
+    Ok(())
+}
+
 /// Passes the next feed on over a wire, where that goes from the node to another.
 fn send_next<G: Graph, K: Ledgers>(
     here: &mut Node<G, K>,
@@ -422,9 +440,7 @@ fn send_next<G: Graph, K: Ledgers>(
     ensures node { OnOk result (IsSameNode here.old here.new) }
     ensures passed { OnOk result (IsFarther finished.old finished.new) }
 {
-    if wire.from() != here.number() || wire.to() != to {
-        return Err(Refusal::NoNode);
-    }
+    check_wire(wire, here.number(), to)?;
     here.send(wire, board, finished)?;
     Ok(())
 }
@@ -436,9 +452,7 @@ fn receive_next<G: Comparable, K: Ledgers>(
     board: &mut Board<K>,
     from: NodeId,
 ) -> Result<bool, Refusal> {
-    if wire.from() != from || wire.to() != here.number() {
-        return Err(Refusal::NoNode);
-    }
+    check_wire(wire, from, here.number())?;
     let Some(parcel) = here.receive(wire, board)? else {
         return Ok(false);
     };

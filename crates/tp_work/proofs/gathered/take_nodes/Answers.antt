@@ -1,22 +1,25 @@
-use Rattle.std.proofs.Common.{rules, ◌≡◌, ◌+◌, ◌∙◌, ap, arith, length, vec_len, sym, subst}
+use Rattle.std.proofs.Common.{rules, suc, ◌≡◌, ◌+◌, ◌∙◌, refl, ap, arith, length, length-append, vec_len, sym, subst}
 use Rattle.std.specs.Prelude.{List, sum_by}
 use Rattle.std.specs.List.{All}
 use Rattle.std.specs.Vec.Iter.{into_iter_items}
 use Rattle.std.proofs.lemmas.Iterator.Adapters.{YieldsList-from_vec}
 use Rattle.std.proofs.lemmas.Iterator.Consumers.{YieldsList-end}
 use Rattle.std.proofs.lemmas.List.Sums.{sum_by-cons}
-use Rattle.tp_graph.specs.Serial.{AreRight}
 use Rattle.tp_node.specs.Nodes.{NodeState}
 use Rattle.tp_work.proofs.Gathering.{All-of_map, results-more, results_of, right-more, shares-more}
 use Rattle.tp_work.proofs.gathered.take_nodes.Goals as goal
 
-pub unreachable-requires : goal.unreachable-requires
-unreachable-requires g c =
-    let more : vec_len c.into_parts-share.result.1 ≡ length (results_of c.in-Some.node) = search rules ∙ ap length c.into_parts-share.ensures.results in
+pub take_node-requires-clause-shares : goal.take_node-requires-clause-shares
+take_node-requires-clause-shares g c κs within =
+    let left : length (into_iter_items c.loop-node.node-iterator) ≡ suc (length (into_iter_items c.next.new.self)) = ap length c.in-Some.ensures.steps.0 in
+    omega (arith, left, c.loop-node.invariant.shares_room)
+
+pub take_node-requires-clause-results : goal.take_node-requires-clause-results
+take_node-requires-clause-results g c κs within =
     let left : sum_by (λ (n : NodeState g.row.G.Denot). length (results_of n)) (into_iter_items c.loop-node.node-iterator)
     ≡ length (results_of c.in-Some.node) + sum_by (λ (n : NodeState g.row.G.Denot). length (results_of n)) (into_iter_items c.next.new.self) =
     ap (sum_by (λ (n : NodeState g.row.G.Denot). length (results_of n))) c.in-Some.ensures.steps.0 ∙ sum_by-cons (λ (n : NodeState g.row.G.Denot). length (results_of n)) c.in-Some.node (into_iter_items c.next.new.self) in
-    omega (arith, more, left, c.loop-node.invariant.results_room, c.in_default.ensures.full)
+    omega (arith, left, c.loop-node.invariant.results_room)
 
 pub returns-clause-right : goal.returns-clause-right
 returns-clause-right g c =
@@ -29,18 +32,21 @@ returns-clause-right g c =
 
 pub loop-node-preserved : goal.loop-node-preserved
 loop-node-preserved g c =
-    let more : vec_len c.into_parts-share.result.1 ≡ length (results_of c.in-Some.node) = search rules ∙ ap length c.into_parts-share.ensures.results in
+    let more : vec_len c.take_node.new.results ≡ vec_len c.loop-node.results + length (results_of c.in-Some.node) =
+    search rules ∙ ap length c.take_node.ensures.results ∙ length-append c.loop-node.results.items (results_of c.in-Some.node) ∙ search rules in
     let left : sum_by (λ (n : NodeState g.row.G.Denot). length (results_of n)) (into_iter_items c.loop-node.node-iterator)
     ≡ length (results_of c.in-Some.node) + sum_by (λ (n : NodeState g.row.G.Denot). length (results_of n)) (into_iter_items c.next.new.self) =
     ap (sum_by (λ (n : NodeState g.row.G.Denot). length (results_of n))) c.in-Some.ensures.steps.0 ∙ sum_by-cons (λ (n : NodeState g.row.G.Denot). length (results_of n)) c.in-Some.node (into_iter_items c.next.new.self) in
+    let put : vec_len c.take_node.new.shares ≡ vec_len c.loop-node.shares + 1 =
+    search rules ∙ ap length c.take_node.ensures.shares ∙ length-append c.loop-node.shares.items _ ∙ search rules in
+    let fewer : length (into_iter_items c.loop-node.node-iterator) ≡ suc (length (into_iter_items c.next.new.self)) = ap length c.in-Some.ensures.steps.0 in
     record {
-      shares = shares-more c.loop-node.yielded c.in-Some.node c.loop-node.shares.items _ _ c.loop-node.invariant.shares c.into_parts-share.ensures.counted c.push_reserved.ensures.items;
-      results = results-more c.loop-node.yielded c.in-Some.node c.loop-node.results.items _ _ c.loop-node.invariant.results c.into_parts-share.ensures.results c.in-Ok.ensures.items;
+      shares = shares-more c.loop-node.yielded c.in-Some.node c.loop-node.shares.items _ _ c.loop-node.invariant.shares refl c.take_node.ensures.shares;
+      results = results-more c.loop-node.yielded c.in-Some.node c.loop-node.results.items _ _ c.loop-node.invariant.results refl c.take_node.ensures.results;
       right =
           λ graph all.
-          let own : AreRight (g.G.Graph.meaning c.in-Some.node.graph) c.into_parts-share.result.1.items = rw c.into_parts-share.ensures.results c.into_parts-share.ensures.right in
-          let both = right-more g.G.Graph.meaning graph c.loop-node.yielded c.in-Some.node c.loop-node.results.items c.into_parts-share.result.1.items (c.loop-node.invariant.right graph) own all in
-          rw c.in-Ok.ensures.items both;
-      shares_room = search rules;
-      results_room = omega (arith, more, left, c.loop-node.invariant.results_room, c.in-Ok.ensures.len, c.in-Ok.ensures.capacity);
+          let both = right-more g.G.Graph.meaning graph c.loop-node.yielded c.in-Some.node c.loop-node.results.items (results_of c.in-Some.node) (c.loop-node.invariant.right graph) c.take_node.ensures.right all in
+          rw c.take_node.ensures.results both;
+      shares_room = omega (arith, put, fewer, c.loop-node.invariant.shares_room, c.take_node.ensures.room.0);
+      results_room = omega (arith, more, left, c.loop-node.invariant.results_room, c.take_node.ensures.room.1);
     }

@@ -11,6 +11,6 @@ invariant-loop-node g l =
       shares : l.shares.items ≡ map counted_of l.yielded;
       results : l.results.items ≡ flat_map (λ n. n.state.store.results) l.yielded;
       right : (graph : _) → All (λ n. n.graph ≡ graph) l.yielded → AreRight (g.G.Graph.meaning graph) l.results.items;
-      shares_room : vec_capacity l.shares ≡ vec_capacity l.initial.shares;
+      shares_room : vec_len l.shares + length (into_iter_items l.node-iterator) ≤ vec_capacity l.shares;
       results_room : vec_len l.results + sum_by (λ n. length n.state.store.results) (into_iter_items l.node-iterator) ≤ vec_capacity l.results;
     }

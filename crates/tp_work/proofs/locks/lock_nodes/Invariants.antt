@@ -1,5 +1,5 @@
-use Rattle.std.specs.Prelude.{◌≡◌, ◌≤◌, length, vec_capacity, vec_len}
+use Rattle.std.specs.Prelude.{◌≡◌, length, vec_capacity, vec_len}
 use Rattle.tp_work.proofs.locks.lock_nodes.Given as goal
 
 abbrev pub invariant-loop-node : goal.invariant-loop-node
-invariant-loop-node g l = (vec_len l.sites ≡ length l.yielded) × (vec_len l.fn.nodes ≤ vec_capacity l.sites)
+invariant-loop-node g l = (vec_len l.sites ≡ length l.yielded) × (vec_capacity l.sites ≡ vec_capacity l.initial.sites)

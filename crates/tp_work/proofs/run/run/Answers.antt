@@ -2,10 +2,14 @@ use Rattle.std.proofs.Common.{rules, ◌≡◌, ◌∙◌, ◌*◌, ◌-◌, ℕ
 use Rattle.std.specs.Prelude.{IfOk}
 use Rattle.std.proofs.lemmas.List.{length-map}
 use Rattle.tp_board.specs.Numbers.{first_links, first_shares}
+use Rattle.tp_board.specs.States.{BoardState}
 use Rattle.tp_ledgers.specs.Names.{PoolNames}
 use Rattle.tp_work.proofs.Placing.{length-first_links, length-first_shares}
 use Rattle.tp_work.specs.Reports.{IsReport}
 use Rattle.tp_work.proofs.run.run.Goals as goal
+
+pub lock_pool-requires-clause-limit : goal.lock_pool-requires-clause-limit
+lock_pool-requires-clause-limit g c κs within = ap (λ (b : BoardState). b.limit) c.in_ok-pool.ensures.board
 
 pub report_of-requires-clause-nodes : goal.report_of-requires-clause-nodes
 report_of-requires-clause-nodes g c κs within =
