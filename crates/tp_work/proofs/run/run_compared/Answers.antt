@@ -1,7 +1,7 @@
 use Rattle.std.proofs.Common.{rules, ◌≡◌, ℕ, subst}
 use Rattle.tp_work.specs.Outcomes.{IsComplete}
 use Rattle.tp_work.proofs.Reporting.{is_complete, is_outcome}
-use Rattle.tp_work.proofs.run.run_pool.Goals as goal
+use Rattle.tp_work.proofs.run.run_compared.Goals as goal
 
 pub returns-clause-outcome : goal.returns-clause-outcome
 returns-clause-outcome g c =
