@@ -1,12 +1,12 @@
 -- A registry as the list of its pools, in the order of registration, and the checks of its calls.
-use Rattle.std.specs.Prelude.{ℕ, ◌≡◌, ◌≢◌, ◌≤◌, ⊤, ◌==◌, ◌++◌, List, [], ◌∷◌, Bool, true, false, not, Option, Some, None, is_none, unwrap_or, length, map, slice_get, slice_set}
+use Rattle.std.specs.Prelude.{ℕ, ◌≡◌, ◌≢◌, ⊤, ◌==◌, List, [], ◌∷◌, Bool, true, false, not, Option, is_none, unwrap_or, length, slice_get, slice_set}
 use Rattle.std.specs.Option.{option_map}
 use Rattle.std.specs.List.{list_any}
 use Rattle.std.specs.Str.{bytes_eq}
 use Rattle.tp_base.specs.Checks.{Check}
 use Rattle.tp_base.specs.declared.limits.TheConstants.{MAX_POOLS}
 use Rattle.tp_base.specs.declared.refusal.Refusal.{Refusal}
-use Rattle.tp_base.specs.declared.refusal.Refusal.TheVariants.{BadSpec, NoMemory, NoPool, PoolKnown, StoreFull, WrongLife}
+use Rattle.tp_base.specs.declared.refusal.Refusal.TheVariants.{BadSpec, NoMemory, NoPool, PoolKnown, StoreFull}
 use Rattle.tp_samples.specs.Words.{word_of}
 use Rattle.tp_samples.specs.declared.any.AnyGraph.{AnyGraph}
 use Rattle.tp_pools.specs.declared.entry.Standing.{Standing}
