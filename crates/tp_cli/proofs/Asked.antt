@@ -12,7 +12,9 @@ use Rattle.clap.specs.declared.error.kind.ErrorKind.TheVariants.{OutOfMemory}
 use Rattle.clap.specs.declared.parser.matches.ArgMatches.{ArgMatches}
 use Rattle.clap.specs.declared.parser.matches.ArgMatches.TheViews.{out-SubCommand}
 use Rattle.clap.specs.declared.parser.matches.SubCommand.{SubCommand}
-use Rattle.tp_cli.specs.Command.{AreAtFault, AsksForNothing, FailsAs, IsNeither, IsToBeShown, tp_app}
+use Rattle.tp_cli.specs.Command.{AreAtFault, AsksForNothing, FailsAs, IsNeither, IsToBeShown, reading_word, tp_app}
+use Rattle.tp_cli.specs.declared.text.TextKind.{TextKind}
+use Rattle.tp_cli.specs.declared.text.TextKind.TheVariants.{Script, Trace}
 use Rattle.tp_cli.specs.Ends.{AsksToBeShown}
 
 -- the name and the rows of the subcommand that was found
@@ -23,11 +25,13 @@ pub found_as : {Z : Type 0} (o : Option (Box SubCommand Z)) (name : Text) (rows 
 found_as None name rows is_name is_rows = cc
 found_as (Some b) name rows is_name is_rows = cc
 
-apart : (xs ys : List ℕ) → slice_index xs 0 ≡ 114 → slice_index ys 0 ≡ 115 → xs ≢ ys
-apart xs ys r s e = omega (arith, r, s, ap (λ (l : List ℕ). slice_index l 0) e)
+-- texts with other first letters are others
+apart : (xs ys : List ℕ) (a b : ℕ) → slice_index xs 0 ≡ a → slice_index ys 0 ≡ b → a ≢ b → xs ≢ ys
+apart xs ys a b xs_is ys_is other e = other (sym xs_is ∙ ap (λ (l : List ℕ). slice_index l 0) e ∙ ys_is)
 
-run_is_not_sim : codes "run" ≢ codes "sim"
-run_is_not_sim = apart (codes "run") (codes "sim") refl refl
+run_reads_nothing : (kind : TextKind) → codes "run" ≢ reading_word kind
+run_reads_nothing Script = apart (codes "run") (codes "sim") 114 115 refl refl (omega arith)
+run_reads_nothing Trace = apart (codes "run") (codes "audit") 114 97 refl refl (omega arith)
 
 same_found : (name other : Text) (rows others : List Row)
     → ◌≡◌ {A = Option (Text × List Row)} (Some (name, rows)) (Some (other, others)) → (name ≡ other) × (rows ≡ others)
@@ -40,7 +44,7 @@ same_found name other rows others e = (
 pub lacks_its_word : (found : Option (Text × List Row)) (rows : List Row) → found ≡ Some (codes "run", rows)
     → first_of (codes "SPEC") rows ≡ None → IsNeither found
 lacks_its_word found rows is lacks = (
-  λ sim. run_is_not_sim (same_found (codes "run") (codes "sim") rows sim.0 (sym is ∙ sim.1)).0,
+  λ kind reads. run_reads_nothing kind (same_found (codes "run") (reading_word kind) rows reads.0 (sym is ∙ reads.1)).0,
   λ spec run. let same : rows ≡ run.0 = (same_found (codes "run") (codes "run") rows run.0 (sym is ∙ run.1)).1 in
       let none : None ≡ Some spec = sym lacks ∙ ap (first_of (codes "SPEC")) same ∙ run.2 in cc,
 )

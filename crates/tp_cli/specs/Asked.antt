@@ -1,14 +1,14 @@
 -- A request and the words that make it.
 use Rattle.std.specs.Prelude.{List, Option}
 use Rattle.clap.specs.Words.{Row, Text, subcommand_of}
-use Rattle.tp_cli.specs.Command.{IsRunAt, IsRunNaming, IsSim, tp_app}
+use Rattle.tp_cli.specs.Command.{IsReading, IsRunAt, IsRunNaming, tp_app}
 use Rattle.tp_cli.specs.declared.request.Request.{Request}
-use Rattle.tp_cli.specs.declared.request.Request.TheVariants.{Sim, Run}
+use Rattle.tp_cli.specs.declared.request.Request.TheVariants.{Answer, Run}
 use Rattle.tp_work.specs.Outcomes.{IsWithinLimits}
 
 -- the subcommand that was found, with its matches, makes the request
 abbrev pub IsMadeBy : Option (Text × List Row) → Request → Type 0
-IsMadeBy found Sim = IsSim found
+IsMadeBy found (Answer kind) = IsReading kind found
 IsMadeBy found (Run spec config) =
     IsRunNaming spec.now found × IsWithinLimits config × IsRunAt config.nodes config.workers found
 

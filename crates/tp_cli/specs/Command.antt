@@ -3,6 +3,8 @@
 use Rattle.std.specs.Prelude.{ℕ, ◌≡◌, ◌≤◌, ◌⊎◌, List, [], ◌∷◌, Option, Some, pos, true, codes}
 use Rattle.std.specs.Str.Parse.{IsNumeral, without_leading_plus, digits_value}
 use Rattle.tp_base.specs.declared.limits.TheConstants.{MAX_NODES, MAX_WORKERS}
+use Rattle.tp_cli.specs.declared.text.TextKind.{TextKind}
+use Rattle.tp_cli.specs.declared.text.TextKind.TheVariants.{Script, Trace}
 use Rattle.clap.specs.Faults.{fault_of}
 use Rattle.clap.specs.Kinds.{IsAmong}
 use Rattle.clap.specs.Words.{App, Row, Rule, Text, first_of, one_of, new_app, new_rule, subcommand_of, with_rule, with_subcommand}
@@ -26,6 +28,9 @@ spec_rule = record (new_rule (codes "SPEC")) { required = true }
 abbrev pub sim_app : App
 sim_app = new_app (codes "sim")
 
+abbrev pub audit_app : App
+audit_app = new_app (codes "audit")
+
 abbrev pub run_app : App
 run_app = with_rule (with_rule (with_rule (new_app (codes "run")) spec_rule) (count_rule (codes "nodes"))) (count_rule (codes "workers"))
 
@@ -35,15 +40,24 @@ with_required a = record a { top = record a.top { subcommand_required = true } }
 abbrev pub with_version : App → App
 with_version a = record a { top = record a.top { has_version = true } }
 
--- It has a version, and a subcommand is required: `sim`, or `run` with its arguments.
+-- The subcommands that read a text, `sim` and `audit`. It has a version, and a subcommand is required.
+abbrev pub texts_app : App
+texts_app = with_subcommand (with_subcommand (with_required (with_version (new_app (codes "tp")))) sim_app.top) audit_app.top
+
+-- and `run` with its arguments
 abbrev pub tp_app : App
-tp_app = with_subcommand (with_subcommand (with_required (with_version (new_app (codes "tp")))) sim_app.top) run_app.top
+tp_app = with_subcommand texts_app run_app.top
 
 -- ---- what was found: a subcommand and its matches
 
--- it is `sim`
-abbrev pub IsSim : Option (Text × List Row) → Type 0
-IsSim found = (rows : List Row) × (found ≡ Some (codes "sim", rows))
+-- the subcommand that reads a text of this kind
+abbrev pub reading_word : TextKind → Text
+reading_word Script = codes "sim"
+reading_word Trace = codes "audit"
+
+-- it is the one that reads a text of this kind
+abbrev pub IsReading : TextKind → Option (Text × List Row) → Type 0
+IsReading kind found = (rows : List Row) × (found ≡ Some (reading_word kind, rows))
 
 -- it is `run`, with this word for SPEC
 abbrev pub IsRunNaming : Text → Option (Text × List Row) → Type 0
@@ -59,9 +73,9 @@ abbrev pub IsRunAt : ℕ → ℕ → Option (Text × List Row) → Type 0
 IsRunAt nodes workers found = (rows : List Row) × (found ≡ Some (codes "run", rows))
     × IsCount MAX_NODES (codes "nodes") rows nodes × IsCount MAX_WORKERS (codes "workers") rows workers
 
--- it is neither `sim` nor `run` with its word
+-- it reads no text, and is not `run` with its word
 abbrev pub IsNeither : Option (Text × List Row) → Type 0
-IsNeither found = ¬ IsSim found × ((spec : Text) → ¬ IsRunNaming spec found)
+IsNeither found = ((kind : TextKind) → ¬ IsReading kind found) × ((spec : Text) → ¬ IsRunNaming spec found)
 
 -- ---- what the words ask for
 
@@ -73,9 +87,13 @@ AsksForHelp words = IsAmong DisplayHelp (fault_of tp_app words)
 abbrev pub AsksForVersion : List Text → Type 0
 AsksForVersion words = IsAmong DisplayVersion (fault_of tp_app words)
 
--- the answers to a script
-abbrev pub AsksForSim : List Text → Type 0
-AsksForSim words = IsSim (subcommand_of tp_app words)
+-- the answer to a text of this kind, to a script or to a trace
+abbrev pub AsksForText : TextKind → List Text → Type 0
+AsksForText kind words = IsReading kind (subcommand_of tp_app words)
+
+-- the answer to a script or to a trace
+abbrev pub ReadsAText : List Text → Type 0
+ReadsAText words = (kind : TextKind) × AsksForText kind words
 
 -- a run of the pool that this one of them names
 abbrev pub AsksForRun : List Text → Text → Type 0

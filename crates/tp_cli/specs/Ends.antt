@@ -3,20 +3,16 @@
 use Rattle.std.specs.Prelude.{ℕ, ◌⊎◌, List, Option}
 use Rattle.std.specs.Io.KnownBytes.{Appends}
 use Rattle.clap.specs.Words.{Text}
-use Rattle.tp_cli.specs.Command.{AreAtFault, AsksForHelp, AsksForNodes, AsksForRun, AsksForSim, AsksForVersion}
+use Rattle.tp_cli.specs.Command.{AreAtFault, AsksForHelp, AsksForNodes, AsksForRun, AsksForText, AsksForVersion, ReadsAText}
 use Rattle.tp_cli.specs.Runs.{IsTextFor, NamesNoGraph}
-use Rattle.tp_text.specs.Input.{ReadsAll}
-use Rattle.tp_text.specs.SimText.{IsSimText}
+use Rattle.tp_cli.specs.Texts.{IsAnswerTo}
+use Rattle.tp_cli.specs.declared.text.TextKind.{TextKind}
 use Rattle.tp_text.specs.declared.Verdict.{Verdict}
 use Rattle.tp_text.specs.declared.Verdict.TheVariants.{Sound, Refused}
 
--- All that the reader had was read, and this text is what is answered to it, with this verdict.
-abbrev pub IsAnswerTo : Option (List ℕ) → Option (List ℕ) → Verdict → List ℕ → Type 0
-IsAnswerTo read_old read_new verdict text = (bytes : List ℕ) × ReadsAll read_old read_new bytes × IsSimText bytes verdict text
-
--- The words ask for a script's answers, and all was read and this is answered to it, with this verdict.
-abbrev pub IsScriptText : List Text → Option (List ℕ) → Option (List ℕ) → Verdict → List ℕ → Type 0
-IsScriptText words read_old read_new verdict text = AsksForSim words × IsAnswerTo read_old read_new verdict text
+-- The words ask for the answer to a script or to a trace, and all was read and this is answered to it, with this verdict.
+abbrev pub IsReadText : List Text → Option (List ℕ) → Option (List ℕ) → Verdict → List ℕ → Type 0
+IsReadText words read_old read_new verdict text = (kind : TextKind) × AsksForText kind words × IsAnswerTo kind read_old read_new verdict text
 
 -- The words ask for a run of a pool, and this is the text of such a run to its judged end.
 abbrev pub IsRunText : List Text → List ℕ → Type 0
@@ -26,23 +22,24 @@ IsRunText words text = (word : Text) × (nodes : ℕ) × AsksForRun words word �
 abbrev pub AsksToBeShown : List Text → Type 0
 AsksToBeShown words = AsksForHelp words ⊎ AsksForVersion words
 
--- 0: the answer to a sound script or the text of a pool's run was written and nothing else, or help or the version was shown.
+-- 0: the answer to a sound script or trace or the text of a pool's run was written and nothing else, or help or the version was
+-- shown.
 abbrev pub Succeeded : List Text → Option (List ℕ) → Option (List ℕ) → Option (List ℕ) → Option (List ℕ) → Type 0
 Succeeded words read_old read_new written_old written_new =
-    ((text : List ℕ) × (IsScriptText words read_old read_new Sound text ⊎ IsRunText words text) × Appends written_old written_new text)
+    ((text : List ℕ) × (IsReadText words read_old read_new Sound text ⊎ IsRunText words text) × Appends written_old written_new text)
     ⊎ AsksToBeShown words
 
--- 2: the script is not of the grammar, which was written and nothing else.
-abbrev pub RefusedScript : List Text → Option (List ℕ) → Option (List ℕ) → Option (List ℕ) → Option (List ℕ) → Type 0
-RefusedScript words read_old read_new written_old written_new =
-    (text : List ℕ) × IsScriptText words read_old read_new Refused text × Appends written_old written_new text
+-- 2: the script is not of the grammar, or the trace is not sound, which was written and nothing else.
+abbrev pub RefusedText : List Text → Option (List ℕ) → Option (List ℕ) → Option (List ℕ) → Option (List ℕ) → Type 0
+RefusedText words read_old read_new written_old written_new =
+    (text : List ℕ) × IsReadText words read_old read_new Refused text × Appends written_old written_new text
 
 -- 1, where something may have been written: what was asked for was made, and then the writing failed.
 abbrev pub CouldNotWrite : List Text → Option (List ℕ) → Option (List ℕ) → Type 0
 CouldNotWrite words read_old read_new =
-    ((verdict : Verdict) × (text : List ℕ) × IsScriptText words read_old read_new verdict text)
+    ((verdict : Verdict) × (text : List ℕ) × IsReadText words read_old read_new verdict text)
     ⊎ (((text : List ℕ) × IsRunText words text) ⊎ AsksToBeShown words)
 
--- 1, where nothing was written: the words are at fault, or name no pool, or the script could not be read or is too long.
+-- 1, where nothing was written: the words are at fault, or name no pool, or the text could not be read or is too long.
 abbrev pub Complained : List Text → Type 0
-Complained words = AreAtFault words ⊎ (((word : Text) × AsksForRun words word × NamesNoGraph word) ⊎ AsksForSim words)
+Complained words = AreAtFault words ⊎ (((word : Text) × AsksForRun words word × NamesNoGraph word) ⊎ ReadsAText words)

@@ -3,3 +3,4 @@ pub mod Command
 pub mod Ends
 pub mod Runs
 pub mod Status
+pub mod Texts

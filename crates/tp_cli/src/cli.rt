@@ -3,24 +3,26 @@ ghost use Rattle.std.specs.Io.KnownBytes.{Appends};
 ghost use Rattle.clap.specs.Values.{kind_of};
 ghost use Rattle.clap.specs.declared.error.kind.ErrorKind.TheVariants.{OutOfMemory};
 ghost use Rattle.tp_text.specs.declared.Verdict.{Verdict};
-ghost use Rattle.tp_text.specs.declared.Verdict.TheVariants.{Sound, Refused as RefusedText};
-ghost use Rattle.tp_cli.specs.Command.{AsksForSim, IsToBeShown};
-ghost use Rattle.tp_cli.specs.Ends.{Complained, CouldNotWrite, IsAnswerTo, RefusedScript, Succeeded};
+ghost use Rattle.tp_text.specs.declared.Verdict.TheVariants as verdict;
+ghost use Rattle.tp_cli.specs.Command.{IsToBeShown, ReadsAText};
+ghost use Rattle.tp_cli.specs.Ends.{Complained, CouldNotWrite, RefusedText, Succeeded};
 ghost use Rattle.tp_cli.specs.Runs.{IsTextFor, NamesNoGraph};
 ghost use Rattle.tp_cli.specs.Status.{fault_line};
+ghost use Rattle.tp_cli.specs.Texts.{IsAnswerTo};
 ghost use Rattle.tp_cli.specs.declared.status.Status.TheVariants.{Done, Failed, Fault, Refused};
 ghost use Rattle.tp_work.specs.Outcomes.{IsWithinLimits};
 
 use crate::request::{Request, requested};
 use crate::run::{RunFault, run, write_refusal};
 use crate::status::Status;
+use crate::text::TextKind;
 use clap::Error;
 use clap::error::ErrorKind;
 use std::alloc::Global;
 use std::io::{self, Read, Write};
 use std::sync::Wait;
 use std::thread::Threads;
-use tp_text::{TextFault, sim};
+use tp_text::TextFault;
 use tp_work::Config;
 
 /// Runs the program on the words of its command line, its own name first. It reads from `reader`, writes its output to
@@ -42,41 +44,42 @@ pub fn main_with<R: Threads + Wait + Sync, I: Read, O: Write, E: Write>(
     // 1: the writing failed, of what was made in full; or nothing was written, for a fault of the words or of the reading.
     ensures complained { result ≡ 1 → CouldNotWrite (map (λ w. w.now) words.now) (I.remaining reader.old) (I.remaining reader.new)
         ⊎ ((out.new ≡ out.old) × Complained (map (λ w. w.now) words.now)) }
-    // 2: the line of the script's first fault was written and nothing else, and nothing is complained of.
-    ensures refused { result ≡ 2 → (err.new ≡ err.old) × RefusedScript (map (λ w. w.now) words.now)
+    // 2: the line of the first fault of the script or the trace was written and nothing else, and nothing is complained of.
+    ensures refused { result ≡ 2 → (err.new ≡ err.old) × RefusedText (map (λ w. w.now) words.now)
         (I.remaining reader.old) (I.remaining reader.new) (O.contents out.old) (O.contents out.new) }
     // 3: a run was refused, or memory was, and nothing was written.
     ensures failed { result ≡ 3 → out.new ≡ out.old }
-    // A script alone is read.
-    ensures unread { AsksForSim (map (λ w. w.now) words.now) ⊎ (reader.new ≡ reader.old) }
+    // A script or a trace alone is read.
+    ensures unread { ReadsAText (map (λ w. w.now) words.now) ⊎ (reader.new ≡ reader.old) }
 {
     let status = match requested(alloc, words) {
-        Ok(Request::Sim) => answer_script(alloc, reader, out, err),
+        Ok(Request::Answer(kind)) => answer_text(alloc, kind, reader, out, err),
         Ok(Request::Run(spec, config)) => run_named(rt, alloc, spec, config, out, err),
         Err(error) => explain(&error, out, err),
     };
     status as u8
 }
 
-/// Answers a script.
-fn answer_script<I: Read, O: Write, E: Write>(
+/// Answers a text of a kind.
+fn answer_text<I: Read, O: Write, E: Write>(
     alloc: Global,
+    kind: TextKind,
     reader: &mut I,
     out: &mut O,
     err: &mut E,
 ) -> Status
     ensures done { result ≡ Done → (err.new ≡ err.old) × ((text : List ℕ)
-        × IsAnswerTo (I.remaining reader.old) (I.remaining reader.new) Sound text
+        × IsAnswerTo kind (I.remaining reader.old) (I.remaining reader.new) verdict.Sound text
         × Appends (O.contents out.old) (O.contents out.new) text) }
     ensures refused { result ≡ Refused → (err.new ≡ err.old) × ((text : List ℕ)
-        × IsAnswerTo (I.remaining reader.old) (I.remaining reader.new) RefusedText text
+        × IsAnswerTo kind (I.remaining reader.old) (I.remaining reader.new) verdict.Refused text
         × Appends (O.contents out.old) (O.contents out.new) text) }
     ensures fault { result ≡ Fault →
-        ((verdict : Verdict) × (text : List ℕ) × IsAnswerTo (I.remaining reader.old) (I.remaining reader.new) verdict text)
+        ((verdict : Verdict) × (text : List ℕ) × IsAnswerTo kind (I.remaining reader.old) (I.remaining reader.new) verdict text)
         ⊎ (out.new ≡ out.old) }
     ensures failed { result ≡ Failed → out.new ≡ out.old }
 {
-    match sim(alloc, reader, out) {
+    match kind.answer(alloc, reader, out) {
         Ok(verdict) => Status::of_verdict(verdict),
         Err(fault) => {
             let _ = err.write_all(fault_text(fault).as_bytes());

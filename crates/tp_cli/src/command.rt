@@ -1,7 +1,7 @@
 ghost use Rattle.std.specs.Prelude.{◌≡◌, IfOk, false};
 ghost use Rattle.clap.specs.Words.{app_of, rule_of};
 ghost use Rattle.clap.specs.declared.builder.command.Command.TheViews.{out-Command};
-ghost use Rattle.tp_cli.specs.Command.{count_rule, run_app, sim_app, tp_app};
+ghost use Rattle.tp_cli.specs.Command.{audit_app, count_rule, run_app, sim_app, texts_app, tp_app};
 
 use clap::{Arg, Command, value_parser};
 use std::alloc::{AllocError, Global};
@@ -13,13 +13,20 @@ static VERSION: &str = "0.1.0";
 pub(crate) fn tp_command<'a>(alloc: Global) -> Result<Command<'a>, AllocError>
     ensures { IfOk result (λ command. app_of command ≡ tp_app) }
 {
+    text_commands(alloc)?.subcommand(run_command(alloc)?)
+}
+
+/// The command line as far as it reads texts.
+fn text_commands<'a>(alloc: Global) -> Result<Command<'a>, AllocError>
+    ensures { IfOk result (λ command. app_of command ≡ texts_app) }
+{
     Command::new(alloc, "tp")
         .version(VERSION)
         .about("Task pools on several nodes, and the detector of their end")
         .after_help(TP_HELP)
         .subcommand_required(true)
         .subcommand(sim_command(alloc))?
-        .subcommand(run_command(alloc)?)
+        .subcommand(audit_command(alloc))
 }
 
 fn sim_command<'a>(alloc: Global) -> Command<'a>
@@ -29,6 +36,15 @@ fn sim_command<'a>(alloc: Global) -> Command<'a>
     Command::new(alloc, "sim")
         .about("Takes the steps of a script in turn and answers each")
         .after_help(SIM_HELP)
+}
+
+fn audit_command<'a>(alloc: Global) -> Command<'a>
+    ensures app { app_of result ≡ audit_app }
+    ensures local { (out-Command result).has_globals ≡ false }
+{
+    Command::new(alloc, "audit")
+        .about("Judges a trace, the record of a run, and believes none of its lines")
+        .after_help(AUDIT_HELP)
 }
 
 fn run_command<'a>(alloc: Global) -> Result<Command<'a>, AllocError>
@@ -106,6 +122,43 @@ The exit status is
   1  where the words are at fault, the script could not be read or is longer
      than 33,554,432 bytes, or the answer could not be written;
   2  where a line is not of the grammar: `syntax line L` is the whole answer;
+  3  where memory was refused.";
+
+static AUDIT_HELP: &str =
+    "The trace is read from standard input: the line `trace 1`, a line `nodes N`, 1 to
+8, then a line for each event of the run, in their order. These lines are those
+of `tp sim --help`, but for a judgement, which says what was judged:
+  judge not      the wave that has ended does not tell the end
+  judge ended W  all was done when wave W ended, W from 1 on
+
+The steps are taken by the rules alone, messages are counted afresh, and each
+judgement is worked out again. A trace that is sound is answered by four lines:
+  steps N                how many steps there are
+  tasks I done D         how many tasks were inserted, and how many are done
+  messages S received R  how many messages were sent, and how many received
+  ended W                what the last judgement was, or `not ended`
+
+Any other text is answered by one line, which tells the first mistake:
+  syntax line L           line L is not of the grammar
+  line L refused K Name   the step in line L cannot happen there
+  line L unjustified      the judgement in line L is another
+
+An example:
+  trace 1
+  nodes 1
+  ready 0
+  start
+  give 0
+  judge not
+  start
+  give 0
+  judge ended 1
+
+The exit status is
+  0  where the trace is sound;
+  1  where the words are at fault, the trace could not be read or is longer
+     than 33,554,432 bytes, or the answer could not be written;
+  2  where the answer is a mistake;
   3  where memory was refused.";
 
 static RUN_HELP: &str =

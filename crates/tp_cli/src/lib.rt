@@ -6,6 +6,7 @@ mod command;
 mod request;
 mod run;
 mod status;
+mod text;
 
 pub use cli::main_with;
 pub use status::{Status, without_words};

@@ -6,6 +6,7 @@ ghost use Rattle.tp_cli.specs.Asked.{IsAskedBy, IsMadeBy};
 ghost use Rattle.tp_cli.specs.Command.{FailsAs, IsNeither};
 
 use crate::command::tp_command;
+use crate::text::TextKind;
 use clap::error::ErrorKind;
 use clap::{ArgMatches, Error};
 use std::alloc::Global;
@@ -18,8 +19,8 @@ const IDLE_TURNS: u32 = 100_000_000;
 /// What the words ask for.
 #[derive(Clone, Copy)]
 pub(crate) enum Request<'a> {
-    /// The answers to a script.
-    Sim,
+    /// The answer to a text that is read.
+    Answer(TextKind),
     /// A run of the pool that a word names.
     Run(&'a str, Config),
 }
@@ -42,7 +43,8 @@ fn asked<'a>(matches: &ArgMatches<'a>) -> Option<Request<'a>>
     ensures { MatchOption result (IsNeither (subcommand_rows_of matches.now)) (IsMadeBy (subcommand_rows_of matches.now)) }
 {
     match matches.subcommand()? {
-        ("sim", _) => Some(Request::Sim),
+        ("sim", _) => Some(Request::Answer(TextKind::Script)),
+        ("audit", _) => Some(Request::Answer(TextKind::Trace)),
         ("run", arguments) => {
             let config = Config {
                 nodes: count_of(arguments, "nodes", MAX_NODES),

@@ -5,11 +5,13 @@ mod answer;
 mod rows;
 
 use crate::answer::print_answer;
-use crate::rows::{COMMANDS, SCRIPTS, TEXTS, Told};
+use crate::rows::{COMMANDS, SCRIPTS, TEXTS, TRACE_TEXTS, TRACES, Told};
 use std::fs;
 use std::io::{self, Write};
 
 const SIM: [&str; 2] = ["tp", "sim"];
+
+const AUDIT: [&str; 2] = ["tp", "audit"];
 
 fn main(rt: HostRuntime) -> io::Result<()> {
     let mut out = rt.stdout();
@@ -21,6 +23,15 @@ fn main(rt: HostRuntime) -> io::Result<()> {
     for (name, text) in &TEXTS {
         writeln!(out, "== {name}")?;
         print_answer(&rt, rt.alloc(), &mut out, &SIM, text, Told::Whole)?;
+    }
+    for name in &TRACES {
+        let trace = fs::read_to_string(&rt, *name)?;
+        writeln!(out, "== {name}")?;
+        print_answer(&rt, rt.alloc(), &mut out, &AUDIT, &trace, Told::Whole)?;
+    }
+    for (name, text) in &TRACE_TEXTS {
+        writeln!(out, "== {name}")?;
+        print_answer(&rt, rt.alloc(), &mut out, &AUDIT, text, Told::Whole)?;
     }
     for (name, words, told) in &COMMANDS {
         writeln!(out, "== {name}")?;

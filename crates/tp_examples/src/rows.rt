@@ -45,6 +45,44 @@ pub(crate) static TEXTS: [(&str, &str); 15] = [
     ("a-step-without-its-node", "nodes 1\nready 0\nready 0\nup\n"),
 ];
 
+/// The traces that lie in the data folder, each under its file's name.
+pub(crate) static TRACES: [&str; 6] = [
+    "a-sound-trace",
+    "a-trace-of-an-unknown-task",
+    "a-trace-of-a-message-that-never-comes",
+    "a-trace-of-a-message-received-twice",
+    "a-trace-of-a-task-done-twice",
+    "a-trace-of-an-end-announced-one-wave-early",
+];
+
+/// Short traces, and texts that are no traces, for one fault each.
+pub(crate) static TRACE_TEXTS: [(&str, &str); 9] = [
+    ("a-trace-of-nothing", "trace 1\nnodes 2\n"),
+    (
+        "a-trace-that-stops-before-its-end",
+        "trace 1\nnodes 2\nsend 0 1 5\ninsert 0 3 0\nbegin 3\n",
+    ),
+    ("an-empty-text-is-no-trace", ""),
+    ("a-script-is-no-trace", "nodes 1\nready 0\n"),
+    ("a-trace-of-one-line", "trace 1\n"),
+    (
+        "a-judgement-without-words",
+        "trace 1\nnodes 1\nready 0\nstart\ngive 0\njudge\n",
+    ),
+    (
+        "an-end-with-no-wave",
+        "trace 1\nnodes 1\nready 0\nstart\ngive 0\njudge ended 0\n",
+    ),
+    (
+        "a-number-of-a-trace-with-a-leading-zero",
+        "trace 1\nnodes 1\ninsert 0 01 0\n",
+    ),
+    (
+        "a-fault-of-grammar-behind-a-refused-step",
+        "trace 1\nnodes 1\nbegin 5\nready\n",
+    ),
+];
+
 /// How much of an answer is told.
 #[derive(Clone, Copy)]
 pub(crate) enum Told {
@@ -58,7 +96,7 @@ pub(crate) enum Told {
 
 /// Words of command lines: runs of pools, words that name no pool, words that are of no command line, and words that ask for
 /// help.
-pub(crate) static COMMANDS: [(&str, &[&str], Told); 27] = [
+pub(crate) static COMMANDS: [(&str, &[&str], Told); 29] = [
     (
         "a-product-in-tiles",
         &[
@@ -178,6 +216,11 @@ pub(crate) static COMMANDS: [(&str, &[&str], Told); 27] = [
         Told::WrongWords,
     ),
     ("a-word-too-many", &["tp", "sim", "more"], Told::WrongWords),
+    (
+        "a-word-too-many-for-an-audit",
+        &["tp", "audit", "more"],
+        Told::WrongWords,
+    ),
     ("a-run-of-nothing", &["tp", "run"], Told::WrongWords),
     (
         "a-run-at-nine-nodes",
@@ -208,6 +251,11 @@ pub(crate) static COMMANDS: [(&str, &[&str], Told); 27] = [
         "help-of-sim-goes-to-the-output",
         &["tp", "sim", "--help"],
         Told::Help("insert I T K"),
+    ),
+    (
+        "help-of-audit-goes-to-the-output",
+        &["tp", "audit", "--help"],
+        Told::Help("judge ended W"),
     ),
     (
         "help-of-run-goes-to-the-output",

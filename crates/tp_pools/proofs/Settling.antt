@@ -1,5 +1,5 @@
 -- Pools that are settled one after the other.
-use Rattle.std.proofs.Common.{refl, arith, ap, ap₂, sym, inl, inr, cond, true, false, ℕ, suc, ◌≡◌, ◌≢◌, ◌∙◌, ◌+◌, ◌-◌, ◌<◌, ◌≤◌, ◌∷◌, [], Bool, List, Option, Some, None, Result, drop, length, slice_get, slice_set, take, unwrap_or}
+use Rattle.std.proofs.Common.{refl, arith, ap, ap₂, sym, inl, inr, cond, true, false, ℕ, suc, ◌≡◌, ◌≢◌, ◌∙◌, ◌+◌, ◌<◌, ◌≤◌, ◌∷◌, Bool, List, Option, Some, Result, drop, length, slice_get, slice_set, unwrap_or}
 use Rattle.std.proofs.lemmas.Bool.{cases_lt}
 use Rattle.std.proofs.lemmas.List.{length-drop, length-set, get_or-set_same, get_or-set_other}
 use Rattle.std.proofs.lemmas.List.Sums.{count_by_more_no, count_by_more_yes, sum_by-take-le}

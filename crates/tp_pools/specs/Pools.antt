@@ -1,12 +1,13 @@
 -- A registry as the list of its pools, in the order of registration, and the checks of its calls.
-use Rattle.std.specs.Prelude.{ℕ, ◌≡◌, ◌≤◌, ◌==◌, ◌++◌, List, [], ◌∷◌, Bool, true, false, not, Option, Some, None, is_none, unwrap_or, length, map, slice_get, slice_set}
+use Rattle.std.specs.Prelude.{ℕ, ◌≡◌, ◌≢◌, ⊤, ◌==◌, List, [], ◌∷◌, Bool, true, false, not, Option, is_none, unwrap_or, length, slice_get, slice_set}
 use Rattle.std.specs.Option.{option_map}
 use Rattle.std.specs.List.{list_any}
 use Rattle.std.specs.Str.{bytes_eq}
 use Rattle.tp_base.specs.Checks.{Check}
 use Rattle.tp_base.specs.declared.limits.TheConstants.{MAX_POOLS}
 use Rattle.tp_base.specs.declared.refusal.Refusal.{Refusal}
-use Rattle.tp_base.specs.declared.refusal.Refusal.TheVariants.{NoPool, PoolKnown, StoreFull, WrongLife}
+use Rattle.tp_base.specs.declared.refusal.Refusal.TheVariants.{BadSpec, NoMemory, NoPool, PoolKnown, StoreFull}
+use Rattle.tp_samples.specs.Words.{word_of}
 use Rattle.tp_samples.specs.declared.any.AnyGraph.{AnyGraph}
 use Rattle.tp_pools.specs.declared.entry.Standing.{Standing}
 use Rattle.tp_pools.specs.declared.entry.Standing.TheVariants.{Registered, Active, Over, Failed}
@@ -51,6 +52,14 @@ stands pools i standing = unwrap_or (option_map (λ s. is_same s standing) (stan
 -- A name is registered once, and there are no more than so many pools. (A word that names no graph is refused before.)
 abbrev pub register_checks : Pools → List ℕ → List Check
 register_checks pools name = (is_named pools name, PoolKnown) ∷ (length pools == MAX_POOLS, StoreFull) ∷ []
+
+-- why a pool is not registered under this name, with this specification
+abbrev pub IsUnregistered : Pools → List ℕ → List ℕ → Refusal → Type 0
+IsUnregistered pools name spec BadSpec = (graph : AnyGraph) → spec ≢ word_of graph
+IsUnregistered pools name spec PoolKnown = is_named pools name ≡ true
+IsUnregistered pools name spec StoreFull = length pools ≡ MAX_POOLS
+IsUnregistered pools name spec NoMemory = ⊤
+IsUnregistered pools name spec _ = ⊥
 
 -- A call that moves a pool on wants it to stand so, and is refused with this else.
 abbrev pub standing_checks : Pools → ℕ → Standing → Refusal → List Check

@@ -1,5 +1,5 @@
 -- A run of all pools that are registered: one answer for each, in their order, and how the pools stand by these afterwards.
-use Rattle.std.specs.Prelude.{ℕ, ◌≡◌, Bool, true, false, List, Option, Some, Result, Ok, Err, length, map, slice_get, take}
+use Rattle.std.specs.Prelude.{ℕ, ◌≡◌, Bool, true, false, List, Some, Result, Ok, Err, length, map, slice_get, take}
 use Rattle.std.specs.List.{count_by, filter}
 use Rattle.std.specs.Option.{option_map}
 use Rattle.tp_pools.specs.Pools.{Entered, Pools, is_same}

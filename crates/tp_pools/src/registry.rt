@@ -4,7 +4,7 @@ ghost use Rattle.std.specs.Result.{result_err};
 ghost use Rattle.tp_base.specs.Checks.{first_refusal};
 ghost use Rattle.tp_base.specs.declared.refusal.Refusal.TheVariants.{BadSpec, NoMemory, NoPool, PoolKnown, WrongLife};
 ghost use Rattle.tp_base.specs.declared.limits.TheConstants.{MAX_POOLS};
-ghost use Rattle.tp_pools.specs.Pools.{is_named, register_checks, registered, standing_checks, standing_of, with_standing};
+ghost use Rattle.tp_pools.specs.Pools.{IsUnregistered, is_named, register_checks, registered, standing_checks, standing_of, with_standing};
 ghost use Rattle.tp_pools.specs.Runs.{AreSettled, graphs_to_run, is_waiting};
 ghost use Rattle.tp_pools.specs.declared.entry.Standing.TheVariants as stand;
 ghost use Rattle.tp_samples.specs.Words.{word_of};
@@ -54,6 +54,7 @@ impl Registry {
         ensures registered { IfOk result (λ pool. (graph : AnyGraph) × (spec.now ≡ word_of graph) × (pool.0 ≡ length self.old) × (self.new ≡ self.old ++ registered name.now graph ∷ [])) }
         ensures no_spec { ((graph : AnyGraph) → spec.now ≡ word_of graph → ⊥) → result ≡ Err BadSpec }
         ensures refusal { (graph : AnyGraph) → spec.now ≡ word_of graph → MatchOption (first_refusal (register_checks self.old name.now)) (IfErr result (λ e. e ≡ NoMemory)) (λ e. result ≡ Err e) }
+        ensures why { IfErr result (IsUnregistered self.old name.now spec.now) }
         ensures refused { OnErr result (self.new ≡ self.old) }
     {
         let graph = checked(spec)?;

@@ -1,6 +1,6 @@
 use Rattle.std.proofs.Common.{rules, ◌≡◌, inl, inr, map}
 use Rattle.clap.specs.Values.{kind_of}
-use Rattle.tp_cli.specs.declared.status.Status.TheVariants.{Done, Fault}
+use Rattle.tp_cli.specs.declared.status.Status.TheVariants.{Done, Fault, Refused}
 use Rattle.tp_cli.proofs.Asked.{at_fault, shown_asked}
 use Rattle.tp_cli.proofs.Ending.{run_text}
 use Rattle.tp_cli.proofs.cli.main_with.Goals as goal
@@ -21,14 +21,33 @@ returns-in-Ok-Run-clause-complained g c = λ one.
       | inr vain ↦ inr (vain.0, inr (inl (c.in-Ok-Run.spec.now, asked.0, vain.1)))
     ]
 
-pub returns-in-Ok-Sim-clause-complained : goal.returns-in-Ok-Sim-clause-complained
-returns-in-Ok-Sim-clause-complained g c = λ one.
-    let fault : c.answer_script-status.result ≡ Fault = search rules in
-    let asked = rw c.in-Ok-Sim.field-0-is at c.in-Ok-Sim.ensures.asked in
-    elim (c.answer_script-status.ensures.fault fault) [
-      | inl made ↦ inl (inl (made.0, made.1, (asked, made.2)))
-      | inr same ↦ inr (same, inr (inr asked))
+pub returns-in-Ok-Answer-clause-succeeded : goal.returns-in-Ok-Answer-clause-succeeded
+returns-in-Ok-Answer-clause-succeeded g c = λ zero.
+    let done : c.answer_text-status.result ≡ Done = search rules in
+    let asked = rw c.in-Ok-Answer.field-0-is at c.in-Ok-Answer.ensures.asked in
+    let did = c.answer_text-status.ensures.done done in
+    (did.0, inl (did.1.0, inl (c.in-Ok-Answer.kind, asked, did.1.1), did.1.2))
+
+pub returns-in-Ok-Answer-clause-refused : goal.returns-in-Ok-Answer-clause-refused
+returns-in-Ok-Answer-clause-refused g c = λ two.
+    let refused : c.answer_text-status.result ≡ Refused = search rules in
+    let asked = rw c.in-Ok-Answer.field-0-is at c.in-Ok-Answer.ensures.asked in
+    let did = c.answer_text-status.ensures.refused refused in
+    (did.0, (did.1.0, (c.in-Ok-Answer.kind, asked, did.1.1), did.1.2))
+
+pub returns-in-Ok-Answer-clause-complained : goal.returns-in-Ok-Answer-clause-complained
+returns-in-Ok-Answer-clause-complained g c = λ one.
+    let fault : c.answer_text-status.result ≡ Fault = search rules in
+    let asked = rw c.in-Ok-Answer.field-0-is at c.in-Ok-Answer.ensures.asked in
+    elim (c.answer_text-status.ensures.fault fault) [
+      | inl made ↦ inl (inl (made.0, made.1, (c.in-Ok-Answer.kind, asked, made.2)))
+      | inr same ↦ inr (same, inr (inr (c.in-Ok-Answer.kind, asked)))
     ]
+
+pub returns-in-Ok-Answer-clause-unread : goal.returns-in-Ok-Answer-clause-unread
+returns-in-Ok-Answer-clause-unread g c =
+    let asked = rw c.in-Ok-Answer.field-0-is at c.in-Ok-Answer.ensures.asked in
+    inl (c.in-Ok-Answer.kind, asked)
 
 pub returns-in-Err-clause-complained : goal.returns-in-Err-clause-complained
 returns-in-Err-clause-complained g c = λ one.
