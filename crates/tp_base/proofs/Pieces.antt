@@ -31,7 +31,8 @@ module _ {X : Type 0} where
   length_joined (p ∷ ps) h =
       omega (arith, length-append p.items (joined ps), p.ok.0, All-head IsFull p ps h, length_joined ps (All-tail IsFull p ps h))
 
-  at_piece-from : (pieces : List (Vec X Global)) (last : List X) (i j : ℕ) (p : Vec X Global) → All IsFull pieces → slice_get pieces i ≡ Some p → j < PIECE → slice_get (joined pieces ++ last) (i * PIECE + j) ≡ slice_get p.items j
+  at_piece-from : (pieces : List (Vec X Global)) (last : List X) (i j : ℕ) (p : Vec X Global)
+      → All IsFull pieces → slice_get pieces i ≡ Some p → j < PIECE → slice_get (joined pieces ++ last) (i * PIECE + j) ≡ slice_get p.items j
   at_piece-from [] last i j p h is below = cc
   at_piece-from (q ∷ qs) last zero j p h is below =
       let long : length q.items ≡ PIECE = sym q.ok.0 ∙ All-head IsFull q qs h in

@@ -86,5 +86,6 @@ full_test : (limit count more : ℕ) → limit < count + more → nat_lt limit (
 full_test limit count more less = grind (arith, nat_tests)
 
 -- where no place is free for so many events
-pub full : {A : Type 0} (b : BoardState) (more count : ℕ) (result : Result A Refusal) → count ≡ length b.history → b.limit < length b.history + more → result ≡ Err (HistoryFull count) → AnswersBy (full_check more b ∷ []) more b result
+pub full : {A : Type 0} (b : BoardState) (more count : ℕ) (result : Result A Refusal)
+    → count ≡ length b.history → b.limit < length b.history + more → result ≡ Err (HistoryFull count) → AnswersBy (full_check more b ∷ []) more b result
 full b more count result is less answer = rw (full_test b.limit (length b.history) more less) (answer ∙ ap (λ n. Err (HistoryFull n)) is)
