@@ -1,10 +1,11 @@
-# make          proves every crate and builds the program: bin/tp (some 25 minutes on four cores)
+# make          proves every crate and builds the programs: bin/tp and bin/heat (some 25 minutes on four cores)
 # make demo     two runs of the program, unproved (a minute)
 # make test     every test and every program, unproved (some minutes)
 # make gate     the gate: every proof from nothing, the wrong bodies, each test, each program (see docs/GATE.md)
 # make times    the gate, and its processor seconds by crate
-# make soak     each sample pool 200 times at 8 nodes with 8 workers each, and compares what they make
-# make install PREFIX=/usr/local     puts the proved program in place
+# make soak     each sample pool 200 times at 8 nodes with 8 workers each, compares what they make and audits their traces;
+#               then the program with strange streams and texts, and every stored text cut after each byte
+# make install PREFIX=/usr/local     puts the proved programs in place
 .PHONY: all demo test gate times soak install clean
 
 PREFIX ?= /usr/local
@@ -21,6 +22,7 @@ demo:
 
 test:
 	@tools/try-all.py
+	@tools/memory-table.py
 
 # (one job a check: each further job of a check loads the libraries anew)
 gate:
@@ -31,9 +33,12 @@ times:
 
 soak: bin/tp
 	tools/soak.sh bin/tp 200
+	tools/strange.sh bin/tp
+	tools/cuts.py bin/tp
 
 install: bin/tp
 	install -D -m 755 bin/tp $(DESTDIR)$(PREFIX)/bin/tp
+	install -D -m 755 bin/heat $(DESTDIR)$(PREFIX)/bin/heat
 
 clean:
 	rm -rf bin crates/*/out

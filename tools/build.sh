@@ -1,18 +1,21 @@
 #!/bin/bash
-# Proves every crate and builds bin/tp. Prints a line for each crate, and every fault; the status is that of the proofs.
+# Proves every crate and builds bin/tp and bin/heat. Prints a line for each crate, and every fault; the status is that of the proofs.
 set -u -o pipefail
 cd "$(dirname "$0")/.."
 crates=$(grep -cE '^[a-z]' crates.txt)
 jobs=$(tools/lanes.sh)
-echo "Proves $crates crates, $jobs beside each other, and builds bin/tp. On four cores that takes some 25 minutes the first time, and later only what changed."
+echo "Proves $crates crates, $jobs beside each other, and builds bin/tp and bin/heat. On four cores that takes some 25 minutes the first time, and later only what changed."
 rt all check --jobs "$jobs" 2>&1 | awk -v total="$crates" -f tools/progress.awk || exit $?
 log=$(mktemp)
 trap 'rm -f "$log"' EXIT
-(cd crates/tp && rt run -- --help < /dev/null) > "$log" 2>&1
-status=$?
-if [ $status -ne 0 ]; then
-    cat "$log"
-    exit $status
-fi
-mkdir -p bin && cp crates/tp/out/tp bin/tp
-echo "bin/tp is built."
+mkdir -p bin
+for program in tp heat; do
+    (cd "crates/$program" && rt run -- --help < /dev/null) > "$log" 2>&1
+    status=$?
+    if [ $status -ne 0 ]; then
+        cat "$log"
+        exit $status
+    fi
+    cp "crates/$program/out/$program" "bin/$program"
+    echo "bin/$program is built."
+done

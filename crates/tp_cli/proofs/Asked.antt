@@ -5,7 +5,7 @@ use Rattle.std.specs.Box.{box_value}
 use Rattle.clap.specs.Faults.{fault_of, is_simple_and_free}
 use Rattle.clap.specs.Kinds.{HasKind, IsAmong}
 use Rattle.clap.specs.Values.{kind_of}
-use Rattle.clap.specs.Words.{App, HasMatchesOf, Row, Text, first_of, is_simple, subcommand_of, subcommand_rows, subcommand_rows_of}
+use Rattle.clap.specs.Words.{App, HasMatchesOf, Row, Text, all_of, first_of, is_simple, subcommand_of, subcommand_rows, subcommand_rows_of}
 use Rattle.clap.specs.declared.error.Error.{Error}
 use Rattle.clap.specs.declared.error.kind.ErrorKind.{ErrorKind}
 use Rattle.clap.specs.declared.error.kind.ErrorKind.TheVariants.{OutOfMemory}
@@ -40,14 +40,43 @@ same_found name other rows others e = (
   ap (λ (o : Option (Text × List Row)). (unwrap_or o (name, rows)).1) e,
 )
 
--- `run` without its word is neither
-pub lacks_its_word : (found : Option (Text × List Row)) (rows : List Row) → found ≡ Some (codes "run", rows)
-    → first_of (codes "SPEC") rows ≡ None → IsNeither found
-lacks_its_word found rows is lacks = (
-  λ kind reads. run_reads_nothing kind (same_found (codes "run") (reading_word kind) rows reads.0 (sym is ∙ reads.1)).0,
-  λ spec run. let same : rows ≡ run.0 = (same_found (codes "run") (codes "run") rows run.0 (sym is ∙ run.1)).1 in
-      let none : None ≡ Some spec = sym lacks ∙ ap (first_of (codes "SPEC")) same ∙ run.2 in cc,
+-- A subcommand makes no request where its name is not known, or its words are not there.
+pub unnamed : (name : Text) (rows : List Row) → ((kind : TextKind) → name ≢ reading_word kind)
+    → (name ≡ codes "run" → first_of (codes "SPEC") rows ≡ None) → (name ≡ codes "pools" → all_of (codes "SPEC") rows ≡ None)
+    → IsNeither (Some (name, rows))
+unnamed name rows unread run_lacks pools_lacks = (
+  λ kind reads. unread kind (same_found name (reading_word kind) rows reads.0 reads.1).0,
+  λ spec run. let same = same_found name (codes "run") rows run.0 run.1 in
+      let none : None ≡ Some spec = sym (run_lacks same.0) ∙ ap (first_of (codes "SPEC")) same.1 ∙ run.2 in cc,
+  λ specs pools. let same = same_found name (codes "pools") rows pools.0 pools.1 in
+      let none : None ≡ Some specs = sym (pools_lacks same.0) ∙ ap (all_of (codes "SPEC")) same.1 ∙ pools.2 in cc,
 )
+
+pub run_unnamed : (name : Text) (rows : List Row) → name ≡ codes "run" → first_of (codes "SPEC") rows ≡ None → IsNeither (Some (name, rows))
+run_unnamed name rows is lacks =
+    subst (λ n. IsNeither (Some (n, rows))) (sym is)
+    (unnamed (codes "run") rows run_reads_nothing (λ _. lacks) (λ e. absurd (apart (codes "run") (codes "pools") 114 112 refl refl (omega arith) e)))
+
+pools_reads_nothing : (kind : TextKind) → codes "pools" ≢ reading_word kind
+pools_reads_nothing Script = apart (codes "pools") (codes "sim") 112 115 refl refl (omega arith)
+pools_reads_nothing Trace = apart (codes "pools") (codes "audit") 112 97 refl refl (omega arith)
+
+pub pools_unnamed : (name : Text) (rows : List Row) → name ≡ codes "pools" → all_of (codes "SPEC") rows ≡ None → IsNeither (Some (name, rows))
+pools_unnamed name rows is lacks =
+    subst (λ n. IsNeither (Some (n, rows))) (sym is)
+    (unnamed (codes "pools") rows pools_reads_nothing (λ e. absurd (apart (codes "pools") (codes "run") 112 114 refl refl (omega arith) e)) (λ _. lacks))
+
+pub unknown_name : (name : Text) (rows : List Row) → name ≢ codes "sim" → name ≢ codes "audit" → name ≢ codes "run" → name ≢ codes "pools"
+    → IsNeither (Some (name, rows))
+unknown_name name rows not_sim not_audit not_run not_pools = unnamed name rows unread (λ e. absurd (not_run e)) (λ e. absurd (not_pools e))
+  where
+    unread : (kind : TextKind) → name ≢ reading_word kind
+    unread Script = not_sim
+    unread Trace = not_audit
+
+-- no subcommand makes no request
+pub none_neither : IsNeither None
+none_neither = (λ kind reads. let none = reads.1 in cc, λ spec run. let none = run.1 in cc, λ specs pools. let none = pools.1 in cc)
 
 -- what was found is what the words ask for
 pub neither_asked : (app : App) (words : List Text) (m : ArgMatches) → app ≡ tp_app → HasMatchesOf app words m
@@ -77,6 +106,16 @@ pub at_fault : (words : List Text) (kind : ErrorKind) → FailsAs words kind →
 at_fault words kind (inl no_memory) other unasked = absurd (other no_memory)
 at_fault words kind (inr (inl among)) other unasked = inl (kind, unasked, among)
 at_fault words kind (inr (inr missing)) other unasked = inr missing.1
+
+-- what holds of nothing
+pub none_asked : {X : Type 0} (o : Option X) (P : Type 0) (Q : X → Type 0) → o ≡ None → MatchOption o P Q → P
+none_asked None P Q is p = p
+none_asked (Some x) P Q is p = cc
+
+-- what follows for nothing, and for something
+pub asked_as : {X : Type 0} (o : Option X) (P P' : Type 0) (Q Q' : X → Type 0) → (P → P') → ((x : X) → Q x → Q' x) → MatchOption o P Q → MatchOption o P' Q'
+asked_as None P P' Q Q' nothing something p = nothing p
+asked_as (Some x) P P' Q Q' nothing something p = something x p
 
 -- what `?` passes up of nothing
 pub nothing_passed : {X : Type 0} (r : Option X) (P : Type 0) (Q : X → Type 0) → r ≡ None → P → MatchOption r P Q

@@ -2,3 +2,4 @@ pub mod Asked
 pub mod Counted
 pub mod Ending
 pub mod Printed
+pub mod Several

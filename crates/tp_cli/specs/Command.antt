@@ -3,11 +3,14 @@
 use Rattle.std.specs.Prelude.{ℕ, ◌≡◌, ◌≤◌, ◌⊎◌, List, [], ◌∷◌, Option, Some, pos, true, codes}
 use Rattle.std.specs.Str.Parse.{IsNumeral, without_leading_plus, digits_value}
 use Rattle.tp_base.specs.declared.limits.TheConstants.{MAX_NODES, MAX_WORKERS}
+use Rattle.tp_cli.specs.declared.run.Form.{Form}
+use Rattle.tp_cli.specs.declared.run.Form.TheVariants as forms
 use Rattle.tp_cli.specs.declared.text.TextKind.{TextKind}
 use Rattle.tp_cli.specs.declared.text.TextKind.TheVariants.{Script, Trace}
 use Rattle.clap.specs.Faults.{fault_of}
 use Rattle.clap.specs.Kinds.{IsAmong}
-use Rattle.clap.specs.Words.{App, Row, Rule, Text, first_of, one_of, new_app, new_rule, subcommand_of, with_rule, with_subcommand}
+use Rattle.clap.specs.Words.{App, Row, Rule, Text, all_of, first_of, one_of, new_app, new_rule, subcommand_of, with_rule, with_subcommand}
+use Rattle.clap.specs.declared.builder.action.ArgAction.TheVariants.{Append, SetTrue}
 use Rattle.clap.specs.declared.builder.value_parser.ValueParser.TheVariants.{Signed}
 use Rattle.clap.specs.declared.error.kind.ErrorKind.{ErrorKind}
 use Rattle.clap.specs.declared.error.kind.ErrorKind.TheVariants.{DisplayHelp, DisplayVersion, MissingSubcommand, OutOfMemory}
@@ -21,6 +24,10 @@ count_rule name = record (new_rule name) {
   parser = Some (Signed (pos 1) (pos 8));
 }
 
+-- a flag, which asks for the trace of a run
+abbrev pub trace_rule : Rule
+trace_rule = record (new_rule (codes "trace")) { long = Some (codes "trace"); action = Some SetTrue }
+
 -- the word that names a pool
 abbrev pub spec_rule : Rule
 spec_rule = record (new_rule (codes "SPEC")) { required = true }
@@ -31,8 +38,19 @@ sim_app = new_app (codes "sim")
 abbrev pub audit_app : App
 audit_app = new_app (codes "audit")
 
+-- and the numbers of nodes and of workers
+abbrev pub with_count_rules : App → App
+with_count_rules a = with_rule (with_rule a (count_rule (codes "nodes"))) (count_rule (codes "workers"))
+
 abbrev pub run_app : App
-run_app = with_rule (with_rule (with_rule (new_app (codes "run")) spec_rule) (count_rule (codes "nodes"))) (count_rule (codes "workers"))
+run_app = with_rule (with_count_rules (with_rule (new_app (codes "run")) spec_rule)) trace_rule
+
+-- words that name pools, one or more
+abbrev pub specs_rule : Rule
+specs_rule = record spec_rule { action = Some Append }
+
+abbrev pub pools_app : App
+pools_app = with_count_rules (with_rule (new_app (codes "pools")) specs_rule)
 
 abbrev pub with_required : App → App
 with_required a = record a { top = record a.top { subcommand_required = true } }
@@ -44,9 +62,9 @@ with_version a = record a { top = record a.top { has_version = true } }
 abbrev pub texts_app : App
 texts_app = with_subcommand (with_subcommand (with_required (with_version (new_app (codes "tp")))) sim_app.top) audit_app.top
 
--- and `run` with its arguments
+-- and `run` and `pools` with their arguments
 abbrev pub tp_app : App
-tp_app = with_subcommand texts_app run_app.top
+tp_app = with_subcommand (with_subcommand texts_app run_app.top) pools_app.top
 
 -- ---- what was found: a subcommand and its matches
 
@@ -68,14 +86,31 @@ abbrev pub IsCount : ℕ → Text → List Row → ℕ → Type 0
 IsCount most name rows k = (t : Text) → one_of name rows ≡ Some t → IsNumeral 10 (without_leading_plus t)
     → 1 ≤ digits_value 10 (without_leading_plus t) → digits_value 10 (without_leading_plus t) ≤ most → k ≡ digits_value 10 (without_leading_plus t)
 
--- it is `run`, at so many nodes with so many workers
-abbrev pub IsRunAt : ℕ → ℕ → Option (Text × List Row) → Type 0
-IsRunAt nodes workers found = (rows : List Row) × (found ≡ Some (codes "run", rows))
-    × IsCount MAX_NODES (codes "nodes") rows nodes × IsCount MAX_WORKERS (codes "workers") rows workers
+-- so many nodes with so many workers
+abbrev pub AreCounts : ℕ → ℕ → List Row → Type 0
+AreCounts nodes workers rows = IsCount MAX_NODES (codes "nodes") rows nodes × IsCount MAX_WORKERS (codes "workers") rows workers
 
--- it reads no text, and is not `run` with its word
+-- it is the one of this name, at so many nodes with so many workers
+abbrev pub IsAt : Text → ℕ → ℕ → Option (Text × List Row) → Type 0
+IsAt name nodes workers found = (rows : List Row) × (found ≡ Some (name, rows)) × AreCounts nodes workers rows
+
+-- The trace is printed where the flag was given, and the table where it was not.
+abbrev pub IsFormOf : List Row → Form → Type 0
+IsFormOf rows form = (one_of (codes "trace") rows ≡ Some (codes "true") → form ≡ forms.Trace)
+    × (one_of (codes "trace") rows ≡ Some (codes "false") → form ≡ forms.Table)
+
+-- it is `run`, printed in this form
+abbrev pub IsRunIn : Form → Option (Text × List Row) → Type 0
+IsRunIn form found = (rows : List Row) × (found ≡ Some (codes "run", rows)) × IsFormOf rows form
+
+-- it is `pools`, with these words for SPEC
+abbrev pub IsPoolsNaming : List Text → Option (Text × List Row) → Type 0
+IsPoolsNaming specs found = (rows : List Row) × (found ≡ Some (codes "pools", rows)) × (all_of (codes "SPEC") rows ≡ Some specs)
+
+-- it reads no text, and is neither `run` nor `pools` with their words
 abbrev pub IsNeither : Option (Text × List Row) → Type 0
-IsNeither found = ((kind : TextKind) → ¬ IsReading kind found) × ((spec : Text) → ¬ IsRunNaming spec found)
+IsNeither found = ((kind : TextKind) → ¬ IsReading kind found)
+    × ((spec : Text) → ¬ IsRunNaming spec found) × ((specs : List Text) → ¬ IsPoolsNaming specs found)
 
 -- ---- what the words ask for
 
@@ -101,7 +136,19 @@ AsksForRun words spec = IsRunNaming spec (subcommand_of tp_app words)
 
 -- a run at so many nodes, with some number of workers
 abbrev pub AsksForNodes : List Text → ℕ → Type 0
-AsksForNodes words nodes = (workers : ℕ) × IsRunAt nodes workers (subcommand_of tp_app words)
+AsksForNodes words nodes = (workers : ℕ) × IsAt (codes "run") nodes workers (subcommand_of tp_app words)
+
+-- a run that is printed in this form
+abbrev pub AsksForForm : List Text → Form → Type 0
+AsksForForm words form = IsRunIn form (subcommand_of tp_app words)
+
+-- runs at once of the pools that these of them name
+abbrev pub AsksForPools : List Text → List Text → Type 0
+AsksForPools words specs = IsPoolsNaming specs (subcommand_of tp_app words)
+
+-- these at so many nodes each, with some number of workers
+abbrev pub AsksForPoolsAt : List Text → ℕ → Type 0
+AsksForPoolsAt words nodes = (workers : ℕ) × IsAt (codes "pools") nodes workers (subcommand_of tp_app words)
 
 -- nothing that is known
 abbrev pub AsksForNothing : List Text → Type 0

@@ -6,7 +6,11 @@ use Rattle.tp_samples.specs.Any.{any_graph}
 use Rattle.tp_samples.specs.Tables.{table_of, table_text}
 use Rattle.tp_samples.specs.Words.{word_of}
 use Rattle.tp_samples.specs.declared.any.AnyGraph.{AnyGraph}
+use Rattle.tp_cli.specs.declared.run.Form.{Form}
+use Rattle.tp_cli.specs.declared.run.Form.TheVariants.{Table, Trace}
 use Rattle.tp_text.specs.Spelling.{line}
+use Rattle.tp_text.specs.TraceOf.{IsTraceOf}
+use Rattle.tp_wave.specs.Machine.{steps_of}
 use Rattle.tp_work.specs.Outcomes.{IsOutcome}
 use Rattle.tp_work.specs.declared.config.Outcome.{Outcome}
 
@@ -18,13 +22,18 @@ totals_text tasks messages = line (codes "tasks " ++ decimal tasks) ++ line (cod
 abbrev pub run_text : AnyGraph → ℕ → List ℕ
 run_text g messages = table_text (table_of g) ++ totals_text (any_graph g).tasks messages
 
--- the text of a run of a graph on n nodes to its judged end
-abbrev pub IsTextOf : AnyGraph → ℕ → List ℕ → Type 0
-IsTextOf g n text = (o : Outcome) × IsOutcome n (any_graph g) o × (text ≡ run_text g o.messages)
+-- what is printed of a run of a graph on n nodes: its table with its totals, or the trace of its events alone
+abbrev pub IsPrintOf : Form → AnyGraph → ℕ → Outcome → List ℕ → Type 0
+IsPrintOf Table g n o text = text ≡ run_text g o.messages
+IsPrintOf Trace g n o text = IsTraceOf n (steps_of o.history.events) text
 
--- The word names a graph, and this is the text of a run of it on n nodes to its judged end.
-abbrev pub IsTextFor : List ℕ → ℕ → List ℕ → Type 0
-IsTextFor word n text = (g : AnyGraph) × (word ≡ word_of g) × IsTextOf g n text
+-- the text, in this form, of a run of a graph on n nodes to its judged end
+abbrev pub IsTextOf : Form → AnyGraph → ℕ → List ℕ → Type 0
+IsTextOf form g n text = (o : Outcome) × IsOutcome n (any_graph g) o × IsPrintOf form g n o text
+
+-- The word names a graph, and this is the text, in this form, of a run of it on n nodes to its judged end.
+abbrev pub IsTextFor : Form → List ℕ → ℕ → List ℕ → Type 0
+IsTextFor form word n text = (g : AnyGraph) × (word ≡ word_of g) × IsTextOf form g n text
 
 -- no graph has this word
 abbrev pub NamesNoGraph : List ℕ → Type 0

@@ -1,19 +1,22 @@
-ghost use Rattle.std.specs.Prelude.{◌≡◌, ◌≢◌, ◌≤◌, ◌⊎◌, List, ℕ, map};
+ghost use Rattle.std.specs.Prelude.{◌≡◌, ◌≢◌, ◌≤◌, ◌⊎◌, Bool, true, false, List, ℕ, map};
 ghost use Rattle.std.specs.Io.KnownBytes.{Appends};
 ghost use Rattle.clap.specs.Values.{kind_of};
 ghost use Rattle.clap.specs.declared.error.kind.ErrorKind.TheVariants.{OutOfMemory};
+ghost use Rattle.tp_base.specs.declared.refusal.Refusal.{Refusal};
 ghost use Rattle.tp_text.specs.declared.Verdict.{Verdict};
 ghost use Rattle.tp_text.specs.declared.Verdict.TheVariants as verdict;
 ghost use Rattle.tp_cli.specs.Command.{IsToBeShown, ReadsAText};
-ghost use Rattle.tp_cli.specs.Ends.{Complained, CouldNotWrite, RefusedText, Succeeded};
+ghost use Rattle.tp_cli.specs.Ends.{Complained, CouldNotWrite, RefusedPool, RefusedText, Succeeded};
+ghost use Rattle.tp_cli.specs.Pools.{AreInVain, IsPoolsText};
 ghost use Rattle.tp_cli.specs.Runs.{IsTextFor, NamesNoGraph};
-ghost use Rattle.tp_cli.specs.Status.{fault_line};
+ghost use Rattle.tp_cli.specs.Status.{fault_line, status_of_run_fault};
 ghost use Rattle.tp_cli.specs.Texts.{IsAnswerTo};
 ghost use Rattle.tp_cli.specs.declared.status.Status.TheVariants.{Done, Failed, Fault, Refused};
 ghost use Rattle.tp_work.specs.Outcomes.{IsWithinLimits};
 
+use crate::pools::run_several;
 use crate::request::{Request, requested};
-use crate::run::{RunFault, run, write_refusal};
+use crate::run::{Form, RunFault, run, write_refusal};
 use crate::status::Status;
 use crate::text::TextKind;
 use clap::Error;
@@ -47,14 +50,17 @@ pub fn main_with<R: Threads + Wait + Sync, I: Read, O: Write, E: Write>(
     // 2: the line of the first fault of the script or the trace was written and nothing else, and nothing is complained of.
     ensures refused { result ≡ 2 → (err.new ≡ err.old) × RefusedText (map (λ w. w.now) words.now)
         (I.remaining reader.old) (I.remaining reader.new) (O.contents out.old) (O.contents out.new) }
-    // 3: a run was refused, or memory was, and nothing was written.
-    ensures failed { result ≡ 3 → out.new ≡ out.old }
+    // 3: a run was refused, or memory was, and nothing was written; or of several pools one was refused, and their text was
+    // written and nothing else, and nothing is complained of.
+    ensures failed { result ≡ 3 → (out.new ≡ out.old)
+        ⊎ ((err.new ≡ err.old) × RefusedPool (map (λ w. w.now) words.now) (O.contents out.old) (O.contents out.new)) }
     // A script or a trace alone is read.
     ensures unread { ReadsAText (map (λ w. w.now) words.now) ⊎ (reader.new ≡ reader.old) }
 {
     let status = match requested(alloc, words) {
         Ok(Request::Answer(kind)) => answer_text(alloc, kind, reader, out, err),
-        Ok(Request::Run(spec, config)) => run_named(rt, alloc, spec, config, out, err),
+        Ok(Request::Run(spec, config, form)) => run_named(rt, alloc, spec, config, form, out, err),
+        Ok(Request::Pools(specs, config)) => run_all(rt, alloc, &specs, config, out, err),
         Err(error) => explain(&error, out, err),
     };
     status as u8
@@ -88,33 +94,64 @@ fn answer_text<I: Read, O: Write, E: Write>(
     }
 }
 
-/// Runs the pool that a word names.
+/// Runs the pool that a word names, and writes what is asked for of it.
 fn run_named<R: Threads + Wait + Sync, O: Write, E: Write>(
     rt: &R,
     alloc: Global,
     spec: &str,
+    config: Config,
+    form: Form,
+    out: &mut O,
+    err: &mut E,
+) -> Status
+    requires { IsWithinLimits config }
+    ensures done { result ≡ Done → (err.new ≡ err.old) × ((text : List ℕ)
+        × IsTextFor form spec.now config.nodes text × Appends (O.contents out.old) (O.contents out.new) text) }
+    ensures fault { result ≡ Fault → ((text : List ℕ) × IsTextFor form spec.now config.nodes text)
+        ⊎ ((out.new ≡ out.old) × NamesNoGraph spec.now) }
+    ensures failed { result ≡ Failed → out.new ≡ out.old }
+    ensures never { result ≢ Refused }
+{
+    match run(rt, alloc, spec, config, form, out) {
+        Ok(()) => Status::Done,
+        Err(fault) => complain(fault, err),
+    }
+}
+
+/// Runs the pools that words name, at once.
+fn run_all<R: Threads + Wait + Sync, O: Write, E: Write>(
+    rt: &R,
+    alloc: Global,
+    specs: &[&str],
     config: Config,
     out: &mut O,
     err: &mut E,
 ) -> Status
     requires { IsWithinLimits config }
     ensures done { result ≡ Done → (err.new ≡ err.old) × ((text : List ℕ)
-        × IsTextFor spec.now config.nodes text × Appends (O.contents out.old) (O.contents out.new) text) }
-    ensures fault { result ≡ Fault → ((text : List ℕ) × IsTextFor spec.now config.nodes text)
-        ⊎ ((out.new ≡ out.old) × NamesNoGraph spec.now) }
-    ensures failed { result ≡ Failed → out.new ≡ out.old }
+        × IsPoolsText (map (λ s. s.now) specs.now) config.nodes true text × Appends (O.contents out.old) (O.contents out.new) text) }
+    ensures failed { result ≡ Failed → (out.new ≡ out.old) ⊎ ((err.new ≡ err.old) × ((text : List ℕ)
+        × IsPoolsText (map (λ s. s.now) specs.now) config.nodes false text × Appends (O.contents out.old) (O.contents out.new) text)) }
+    ensures fault { result ≡ Fault → ((each_ended : Bool) × (text : List ℕ) × IsPoolsText (map (λ s. s.now) specs.now) config.nodes each_ended text)
+        ⊎ ((out.new ≡ out.old) × ((refusal : Refusal) × AreInVain (map (λ s. s.now) specs.now) refusal)) }
     ensures never { result ≢ Refused }
 {
-    match run(rt, alloc, spec, config, out) {
-        Ok(()) => Status::Done,
-        Err(fault) => {
-            let _ = match fault {
-                RunFault::Spec(refusal) | RunFault::Run(refusal) => write_refusal(err, refusal),
-                RunFault::Write => err.write_all(fault_text(TextFault::Write).as_bytes()),
-            };
-            Status::of_run_fault(fault)
-        }
+    match run_several(rt, alloc, specs, config, out) {
+        Ok(true) => Status::Done,
+        Ok(false) => Status::Failed,
+        Err(fault) => complain(fault, err),
     }
+}
+
+/// Says why a pool was not run to its end, or pools were not run at all.
+fn complain<E: Write>(fault: RunFault, err: &mut E) -> Status
+    ensures { result ≡ status_of_run_fault fault }
+{
+    let _ = match fault {
+        RunFault::Spec(refusal) | RunFault::Run(refusal) => write_refusal(err, refusal),
+        RunFault::Write => err.write_all(fault_text(TextFault::Write).as_bytes()),
+    };
+    Status::of_run_fault(fault)
 }
 
 /// What is said of a fault.

@@ -1,9 +1,9 @@
 ghost use Rattle.std.specs.Prelude.{◌≡◌, IfOk, false};
 ghost use Rattle.clap.specs.Words.{app_of, rule_of};
 ghost use Rattle.clap.specs.declared.builder.command.Command.TheViews.{out-Command};
-ghost use Rattle.tp_cli.specs.Command.{audit_app, count_rule, run_app, sim_app, texts_app, tp_app};
+ghost use Rattle.tp_cli.specs.Command.{audit_app, count_rule, pools_app, run_app, sim_app, texts_app, tp_app, with_count_rules};
 
-use clap::{Arg, Command, value_parser};
+use clap::{Arg, ArgAction, Command, value_parser};
 use std::alloc::{AllocError, Global};
 
 /// The version of the program.
@@ -13,7 +13,9 @@ static VERSION: &str = "0.1.0";
 pub(crate) fn tp_command<'a>(alloc: Global) -> Result<Command<'a>, AllocError>
     ensures { IfOk result (λ command. app_of command ≡ tp_app) }
 {
-    text_commands(alloc)?.subcommand(run_command(alloc)?)
+    text_commands(alloc)?
+        .subcommand(run_command(alloc)?)?
+        .subcommand(pools_command(alloc)?)
 }
 
 /// The command line as far as it reads texts.
@@ -54,14 +56,40 @@ fn run_command<'a>(alloc: Global) -> Result<Command<'a>, AllocError>
     let spec = Arg::new(alloc, "SPEC").required(true).help(
         "The pool, as product:4:2:0, wavefront:8:8:0 or reduce:16:0",
     );
-    let nodes = count_option(alloc, "nodes").help("N, how many nodes there are");
-    let workers = count_option(alloc, "workers").help("W, how many threads work at each node");
-    Command::new(alloc, "run")
+    let trace = Arg::new(alloc, "trace")
+        .long("trace")
+        .action(ArgAction::SetTrue)
+        .help("Prints the trace of the run and nothing else, as `tp audit` reads it");
+    let command = Command::new(alloc, "run")
         .about("Runs a pool of tasks on worker threads and prints its result")
         .after_help(RUN_HELP)
-        .arg(spec)?
-        .arg(nodes)?
-        .arg(workers)
+        .arg(spec)?;
+    with_counts(alloc, command)?.arg(trace)
+}
+
+fn pools_command<'a>(alloc: Global) -> Result<Command<'a>, AllocError>
+    ensures app { IfOk result (λ command. app_of command ≡ pools_app) }
+    ensures local { IfOk result (λ command. (out-Command command).has_globals ≡ false) }
+{
+    let specs = Arg::new(alloc, "SPEC")
+        .required(true)
+        .action(ArgAction::Append)
+        .help("The pools, 1 to 8, each as product:4:2:0, wavefront:8:8:0 or reduce:16:0");
+    let command = Command::new(alloc, "pools")
+        .about("Runs several pools of tasks at once and prints how each ended")
+        .after_help(POOLS_HELP)
+        .arg(specs)?;
+    with_counts(alloc, command)
+}
+
+/// The command with the options that say how many nodes and workers there are.
+fn with_counts<'a>(alloc: Global, command: Command<'a>) -> Result<Command<'a>, AllocError>
+    ensures app { IfOk result (λ counted. app_of counted ≡ with_count_rules (app_of command.entry)) }
+    ensures local { (out-Command command.entry).has_globals ≡ false → IfOk result (λ counted. (out-Command counted).has_globals ≡ false) }
+{
+    let nodes = count_option(alloc, "nodes").help("N, how many nodes there are");
+    let workers = count_option(alloc, "workers").help("W, how many threads work at each node");
+    command.arg(nodes)?.arg(workers)
 }
 
 /// An option that takes a number from 1 to 8. Its value is named by that range, so that a complaint of any other word says
@@ -178,14 +206,42 @@ table, and then the number of tasks, the number of messages, and `ended`. Where
 the run is not refused, the table and the number of tasks do not depend on N and
 W; the number of messages depends on N.
 
-An example:
+With --trace the record of the run is printed in place of the table: each event
+in its order, as `tp audit --help` says its lines. It depends on N and W, and is
+another at each run.
+
+Examples:
   tp run product:4:2:0 --nodes 2 --workers 2
+  tp run wavefront:8:8:0 --nodes 4 --workers 2 --trace | tp audit
 
 The exit status is
   0  where the pool was run to its end and its text was written;
   1  where the words are at fault, as `refused 26 BadSpec` where SPEC names no
      pool, or the text could not be written;
-  3  where the run was refused, as `refused 16 HistoryFull`, or memory was.
+  3  where the run was refused, as `refused 16 HistoryFull`, or memory was; with
+     --trace also `refused 26 BadSpec`, where a number has more than six digits.
 It is never 2. `HistoryFull` comes where the pool needs more than 1,048,576
 events: a task takes as many as it has inputs and 2 more, or 3 where it has
 none, and each message takes 3 more.";
+
+static POOLS_HELP: &str =
+    "Each SPEC names a pool, as `tp run --help` says them; no two are the same. A pool's
+word is its name, and its number is its place among the words, from 0.
+
+All pools run at once, each at N nodes of its own, by W threads at each, and the
+fault of one stops no other. When all have ended a line is printed for each, in
+the order of the words:
+  pool P SPEC ended tasks T messages M   the end was detected, and each of its T
+                                         tasks has its result
+  pool P SPEC refused K Name             it was refused, as `refused 16 HistoryFull`
+
+An example:
+  tp pools reduce:16:0 wavefront:8:8:0 --nodes 4 --workers 2
+
+The exit status is
+  0  where each pool ended;
+  1  where the words are at fault, as `refused 23 StoreFull` where they are more
+     than 8, `refused 26 BadSpec` where one names no pool, `refused 25 PoolKnown`
+     where one stands twice, or the lines could not be written;
+  3  where a pool was refused, or memory was.
+It is never 2.";

@@ -3,6 +3,7 @@
 
 mod cli;
 mod command;
+mod pools;
 mod request;
 mod run;
 mod status;

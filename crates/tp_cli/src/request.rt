@@ -1,15 +1,17 @@
-ghost use Rattle.std.specs.Prelude.{◌≡◌, ◌≤◌, ℕ, List, Some, IfErr, IfOk, MatchOption, map};
+ghost use Rattle.std.specs.Prelude.{◌≡◌, ◌≤◌, ℕ, List, Some, None, IfErr, IfOk, MatchOption, codes, map};
 ghost use Rattle.std.specs.Str.Parse.{IsNumeral, without_leading_plus, digits_value};
 ghost use Rattle.clap.specs.Values.{kind_of};
-ghost use Rattle.clap.specs.Words.{found_of, one_text, subcommand_rows_of};
+ghost use Rattle.clap.specs.Words.{all_of, first_value, found_of, one_text, rows_of, subcommand_rows_of};
 ghost use Rattle.tp_cli.specs.Asked.{IsAskedBy, IsMadeBy};
-ghost use Rattle.tp_cli.specs.Command.{FailsAs, IsNeither};
+ghost use Rattle.tp_cli.specs.Command.{AreCounts, FailsAs, IsFormOf, IsNeither};
+ghost use Rattle.tp_work.specs.Outcomes.{IsWithinLimits};
 
 use crate::command::tp_command;
+use crate::run::Form;
 use crate::text::TextKind;
 use clap::error::ErrorKind;
 use clap::{ArgMatches, Error};
-use std::alloc::Global;
+use std::alloc::{AllocError, Global};
 use tp_base::{MAX_NODES, MAX_WORKERS};
 use tp_work::Config;
 
@@ -17,12 +19,14 @@ use tp_work::Config;
 const IDLE_TURNS: u32 = 100_000_000;
 
 /// What the words ask for.
-#[derive(Clone, Copy)]
+#[derive(Drop)]
 pub(crate) enum Request<'a> {
     /// The answer to a text that is read.
     Answer(TextKind),
-    /// A run of the pool that a word names.
-    Run(&'a str, Config),
+    /// A run of the pool that a word names, and what is printed of it.
+    Run(&'a str, Config, Form),
+    /// Runs at once of the pools that words name.
+    Pools(Vec<&'a str>, Config),
 }
 
 /// The request that the words make.
@@ -32,28 +36,84 @@ pub(crate) fn requested<'a>(alloc: Global, words: &'a [&'a str]) -> Result<Reque
 {
     let mut command = tp_command(alloc)?;
     let matches = command.try_get_matches_from_mut(words)?;
-    match asked(&matches) {
+    match asked(alloc, &matches)? {
         Some(request) => Ok(request),
         None => Err(command.error(ErrorKind::MissingSubcommand, "a subcommand is required")?),
     }
 }
 
 /// The request that the matches make.
-fn asked<'a>(matches: &ArgMatches<'a>) -> Option<Request<'a>>
-    ensures { MatchOption result (IsNeither (subcommand_rows_of matches.now)) (IsMadeBy (subcommand_rows_of matches.now)) }
+fn asked<'a>(alloc: Global, matches: &ArgMatches<'a>) -> Result<Option<Request<'a>>, AllocError>
+    ensures { IfOk result (λ request. MatchOption request (IsNeither (subcommand_rows_of matches.now)) (IsMadeBy (subcommand_rows_of matches.now))) }
 {
-    match matches.subcommand()? {
-        ("sim", _) => Some(Request::Answer(TextKind::Script)),
-        ("audit", _) => Some(Request::Answer(TextKind::Trace)),
-        ("run", arguments) => {
-            let config = Config {
-                nodes: count_of(arguments, "nodes", MAX_NODES),
-                workers: count_of(arguments, "workers", MAX_WORKERS),
-                idle_turns: IDLE_TURNS,
-            };
-            Some(Request::Run(arguments.get_str("SPEC")?, config))
-        }
-        _ => None,
+    match matches.subcommand() {
+        Some((name, arguments)) => asked_of(alloc, name, arguments),
+        None => Ok(None),
+    }
+}
+
+/// The request that a subcommand makes with its arguments.
+fn asked_of<'a>(
+    alloc: Global,
+    name: &str,
+    arguments: &ArgMatches<'a>,
+) -> Result<Option<Request<'a>>, AllocError>
+    ensures { IfOk result (λ request. MatchOption request
+        (IsNeither (Some (name.now, rows_of (found_of arguments.now)))) (IsMadeBy (Some (name.now, rows_of (found_of arguments.now))))) }
+{
+    match name {
+        "sim" => Ok(Some(Request::Answer(TextKind::Script))),
+        "audit" => Ok(Some(Request::Answer(TextKind::Trace))),
+        "run" => Ok(run_asked(arguments)),
+        "pools" => pools_asked(alloc, arguments),
+        _ => Ok(None),
+    }
+}
+
+/// The run that the arguments of `run` ask for.
+fn run_asked<'a>(arguments: &ArgMatches<'a>) -> Option<Request<'a>>
+    ensures { MatchOption result (first_value (found_of arguments.now) (codes "SPEC") ≡ None)
+        (IsMadeBy (Some (codes "run", rows_of (found_of arguments.now)))) }
+{
+    let spec = arguments.get_str("SPEC")?;
+    Some(Request::Run(spec, config_of(arguments), form_of(arguments)))
+}
+
+/// The runs that the arguments of `pools` ask for.
+fn pools_asked<'a>(
+    alloc: Global,
+    arguments: &ArgMatches<'a>,
+) -> Result<Option<Request<'a>>, AllocError>
+    ensures { IfOk result (λ request. MatchOption request (all_of (codes "SPEC") (rows_of (found_of arguments.now)) ≡ None)
+        (IsMadeBy (Some (codes "pools", rows_of (found_of arguments.now))))) }
+{
+    let Some(words) = arguments.get_strs("SPEC") else {
+        return Ok(None);
+    };
+    let words = words.to_vec(alloc)?;
+    Ok(Some(Request::Pools(words, config_of(arguments))))
+}
+
+/// At how many nodes and with how many workers pools run.
+fn config_of(arguments: &ArgMatches) -> Config
+    ensures limits { IsWithinLimits result }
+    ensures asked { AreCounts result.nodes result.workers (rows_of (found_of arguments.now)) }
+{
+    Config {
+        nodes: count_of(arguments, "nodes", MAX_NODES),
+        workers: count_of(arguments, "workers", MAX_WORKERS),
+        idle_turns: IDLE_TURNS,
+    }
+}
+
+/// What is printed of a run: its trace where the flag is there, and else its table.
+fn form_of(arguments: &ArgMatches) -> Form
+    ensures { IsFormOf (rows_of (found_of arguments.now)) result }
+{
+    if arguments.get_flag("trace") {
+        Form::Trace
+    } else {
+        Form::Table
     }
 }
 

@@ -1,9 +1,11 @@
-ghost use Rattle.std.specs.Prelude.{◌≡◌, ◌≢◌, ◌↔◌, ℕ, List, IfErr, IfOk, OnOk, Err};
+ghost use Rattle.std.specs.Prelude.{◌≡◌, ◌≢◌, ◌≤◌, ◌↔◌, ℕ, List, IfErr, IfOk, OnOk, Err};
 ghost use Rattle.std.specs.Io.KnownBytes.{Appends};
 ghost use Rattle.std.specs.String.{string_bytes};
 ghost use Rattle.tp_base.specs.declared.refusal.Refusal.TheVariants.{BadSpec, NoMemory};
-ghost use Rattle.tp_cli.specs.Runs.{IsTextFor, IsTextOf, NamesNoGraph, refusal_line, totals_text};
-ghost use Rattle.tp_work.specs.Outcomes.{IsWithinLimits};
+ghost use Rattle.tp_base.specs.declared.limits.TheConstants.{MAX_NODES};
+ghost use Rattle.tp_cli.specs.Runs.{IsPrintOf, IsTextFor, IsTextOf, NamesNoGraph, refusal_line, totals_text};
+ghost use Rattle.tp_samples.specs.Any.{any_graph};
+ghost use Rattle.tp_work.specs.Outcomes.{IsOutcome, IsWithinLimits};
 
 use std::alloc::{AllocError, Global};
 use std::io::{self, Write};
@@ -12,42 +14,54 @@ use std::thread::Threads;
 use tp_base::Refusal;
 use tp_samples::{AnyGraph, checked};
 use tp_table::print_table;
-use tp_work::{Config, OpenGate, run_pool};
+use tp_text::print_trace;
+use tp_work::{Config, OpenGate, Outcome, run_pool};
+
+/// What is printed of a run.
+#[derive(Clone, Copy, Debug, PartialEq, Eq)]
+pub(crate) enum Form {
+    /// Its result as a table, and its totals.
+    Table,
+    /// The trace of its events, alone.
+    Trace,
+}
 
 /// Why a pool was not run to its end, or nothing is known of what was written.
 #[derive(Clone, Copy, Debug, PartialEq, Eq)]
 pub(crate) enum RunFault {
     /// The word names no pool.
     Spec(Refusal),
-    /// The run was refused, or there was no memory for its text.
+    /// The run was refused, or its trace, or there was no memory for its text.
     Run(Refusal),
     /// The text could not be written; how much of it was is not known.
     Write,
 }
 
-/// Runs the pool that a word names, and writes its table and its totals. Nothing is written before all of it is known.
+/// Runs the pool that a word names, and writes its table and its totals or its trace. Nothing is written before all of it is known.
 pub(crate) fn run<O: Write, R: Threads + Wait + Sync>(
     rt: &R,
     alloc: Global,
     spec: &str,
     config: Config,
+    form: Form,
     out: &mut O,
 ) -> Result<(), RunFault>
     requires { IsWithinLimits config }
-    ensures ran { OnOk result ((text : List ℕ) × IsTextFor spec.now config.nodes text
+    ensures ran { OnOk result ((text : List ℕ) × IsTextFor form spec.now config.nodes text
         × Appends (O.contents out.old) (O.contents out.new) text) }
     // Where the text could not be written, it was made.
-    ensures made { IfErr result (λ fault. fault ≡ RunFault.Write → (text : List ℕ) × IsTextFor spec.now config.nodes text) }
+    ensures made { IfErr result (λ fault. fault ≡ RunFault.Write → (text : List ℕ) × IsTextFor form spec.now config.nodes text) }
     ensures unnamed { (result ≡ Err (RunFault.Spec BadSpec)) ↔ NamesNoGraph spec.now }
     ensures named { IfErr result (λ fault. (refusal : _) → fault ≡ RunFault.Spec refusal → refusal ≡ BadSpec) }
     ensures unwritten { IfErr result (λ fault. fault ≢ RunFault.Write → out.new ≡ out.old) }
 {
     let graph = checked(spec).map_err(RunFault::Spec)?;
-    let text = text_of_run(rt, alloc, graph, config).map_err(RunFault::Run)?;
+    let text = text_of_run(rt, alloc, graph, config, form).map_err(RunFault::Run)?;
     write_text(out, &text)
 }
 
-fn write_text<O: Write>(out: &mut O, text: &[u8]) -> Result<(), RunFault>
+/// Writes a text and nothing else.
+pub(crate) fn write_text<O: Write>(out: &mut O, text: &[u8]) -> Result<(), RunFault>
     ensures ok { OnOk result (Appends (O.contents out.old) (O.contents out.new) text.now) }
     ensures err { IfErr result (λ fault. fault ≡ RunFault.Write) }
 {
@@ -55,24 +69,45 @@ fn write_text<O: Write>(out: &mut O, text: &[u8]) -> Result<(), RunFault>
     out.flush().map_err(|_| RunFault::Write)
 }
 
-/// Runs a pool of a graph: its table and its totals.
+/// Runs a pool of a graph: what is printed of it.
 fn text_of_run<R: Threads + Wait + Sync>(
     rt: &R,
     alloc: Global,
     graph: AnyGraph,
     config: Config,
+    form: Form,
 ) -> Result<Vec<u8>, Refusal>
     requires { IsWithinLimits config }
-    ensures { IfOk result (λ text. IsTextOf graph config.nodes text.items) }
+    ensures { IfOk result (λ text. IsTextOf form graph config.nodes text.items) }
 {
     let outcome = match run_pool(rt, alloc, graph, config, &OpenGate) {
         Ok(outcome) => outcome,
         Err(fault) => return Err(fault.refusal),
     };
-    let mut text = print_table(alloc, graph, &outcome.results)?;
-    let totals = totals(alloc, outcome.tasks, outcome.messages)?;
-    text.extend_from_slice(totals.as_bytes())?;
-    Ok(text)
+    text_of_outcome(alloc, graph, &outcome, config.nodes, form)
+}
+
+/// What is printed of what a pool of a graph has made on so many nodes.
+fn text_of_outcome(
+    alloc: Global,
+    graph: AnyGraph,
+    outcome: &Outcome,
+    nodes: u32,
+    form: Form,
+) -> Result<Vec<u8>, Refusal>
+    requires nodes { (1 ≤ nodes) × (nodes ≤ MAX_NODES) }
+    requires made { IsOutcome nodes (any_graph graph) outcome.now }
+    ensures { IfOk result (λ text. IsPrintOf form graph nodes outcome.now text.items) }
+{
+    match form {
+        Form::Table => {
+            let mut text = print_table(alloc, graph, &outcome.results)?;
+            let totals = totals(alloc, outcome.tasks, outcome.messages)?;
+            text.extend_from_slice(totals.as_bytes())?;
+            Ok(text)
+        }
+        Form::Trace => print_trace(alloc, &outcome.history, nodes),
+    }
 }
 
 /// The lines below a pool's table.

@@ -5,6 +5,39 @@ use std::sync::Wait;
 use std::thread::Threads;
 use tp_cli::main_with;
 
+const AUDIT: [&str; 2] = ["tp", "audit"];
+
+/// What is answered to words with an input: what was written, what was complained of, and the exit status.
+#[derive(Drop)]
+struct Answer {
+    out: String,
+    err: String,
+    status: u8,
+}
+
+impl Answer {
+    fn to<R: Threads + Wait + Sync>(
+        rt: &R,
+        alloc: Global,
+        words: &[&str],
+        input: &[u8],
+    ) -> io::Result<Self> {
+        let mut reader = input;
+        let mut out = Vec::new(alloc);
+        let mut err = Vec::new(alloc);
+        let status = main_with(rt, alloc, words, &mut reader, &mut out, &mut err);
+        Ok(Answer {
+            out: text_of(out)?,
+            err: text_of(err)?,
+            status,
+        })
+    }
+}
+
+fn text_of(bytes: Vec<u8>) -> io::Result<String> {
+    String::from_utf8(bytes).map_err(|_| ErrorKind::InvalidData.into())
+}
+
 /// Prints what is answered to words with an input: what was written, after `! ` each line of what was complained of, and the
 /// exit status.
 pub(crate) fn print_answer<R: Threads + Wait + Sync, W: Write>(
@@ -15,17 +48,49 @@ pub(crate) fn print_answer<R: Threads + Wait + Sync, W: Write>(
     input: &str,
     told: Told,
 ) -> io::Result<()> {
-    let mut reader = input.as_bytes();
-    let mut out = Vec::new(alloc);
-    let mut err = Vec::new(alloc);
-    let status = main_with(rt, alloc, words, &mut reader, &mut out, &mut err);
-    print_output(printer, &text_of(out)?, told)?;
-    print_complaints(printer, &text_of(err)?, told)?;
-    writeln!(printer, "status {status}")
+    let answer = Answer::to(rt, alloc, words, input.as_bytes())?;
+    print_output(printer, &answer.out, told)?;
+    print_complaints(printer, &answer.err, told)?;
+    writeln!(printer, "status {}", answer.status)
 }
 
-fn text_of(bytes: Vec<u8>) -> io::Result<String> {
-    String::from_utf8(bytes).map_err(|_| ErrorKind::InvalidData.into())
+/// Has the trace of a run judged, and prints of the judgement what does not depend on the order of the events: how many tasks
+/// and messages there are, how it ends, and the exit statuses of both.
+pub(crate) fn print_judgement<R: Threads + Wait + Sync, W: Write>(
+    rt: &R,
+    alloc: Global,
+    printer: &mut W,
+    words: &[&str],
+) -> io::Result<()> {
+    let trace = Answer::to(rt, alloc, words, b"")?;
+    let judgement = Answer::to(rt, alloc, &AUDIT, trace.out.as_bytes())?;
+    for line in judgement.out.lines() {
+        if line.starts_with("ended ") {
+            writeln!(printer, "ended")?;
+        } else if !line.starts_with("steps ") {
+            writeln!(printer, "{line}")?;
+        }
+    }
+    writeln!(printer, "statuses {} {}", trace.status, judgement.status)
+}
+
+/// Has each part of a run's trace judged that ends with a line of it, and prints the last line of each judgement.
+pub(crate) fn print_judgements_of_parts<R: Threads + Wait + Sync, W: Write>(
+    rt: &R,
+    alloc: Global,
+    printer: &mut W,
+    words: &[&str],
+) -> io::Result<()> {
+    let trace = Answer::to(rt, alloc, words, b"")?;
+    let bytes = trace.out.as_bytes();
+    for (place, byte) in bytes.iter().enumerate() {
+        if *byte == b'\n' {
+            let judgement = Answer::to(rt, alloc, &AUDIT, &bytes[..=place])?;
+            let last = judgement.out.lines().last().unwrap_or("");
+            writeln!(printer, "{last}, status {}", judgement.status)?;
+        }
+    }
+    Ok(())
 }
 
 fn print_output<W: Write>(printer: &mut W, text: &str, told: Told) -> io::Result<()> {

@@ -4,8 +4,8 @@
 mod answer;
 mod rows;
 
-use crate::answer::print_answer;
-use crate::rows::{COMMANDS, SCRIPTS, TEXTS, TRACE_TEXTS, TRACES, Told};
+use crate::answer::{print_answer, print_judgement, print_judgements_of_parts};
+use crate::rows::{COMMANDS, ONE_THREAD, RUNS, SCRIPTS, TEXTS, TRACE_TEXTS, TRACES, Told};
 use std::fs;
 use std::io::{self, Write};
 
@@ -37,5 +37,10 @@ fn main(rt: HostRuntime) -> io::Result<()> {
         writeln!(out, "== {name}")?;
         print_answer(&rt, rt.alloc(), &mut out, words, "", *told)?;
     }
-    Ok(())
+    for (name, words) in &RUNS {
+        writeln!(out, "== {name}")?;
+        print_judgement(&rt, rt.alloc(), &mut out, words)?;
+    }
+    writeln!(out, "== each-part-of-a-trace-that-ends-with-a-line")?;
+    print_judgements_of_parts(&rt, rt.alloc(), &mut out, &ONE_THREAD)
 }

@@ -96,7 +96,7 @@ pub(crate) enum Told {
 
 /// Words of command lines: runs of pools, words that name no pool, words that are of no command line, and words that ask for
 /// help.
-pub(crate) static COMMANDS: [(&str, &[&str], Told); 29] = [
+pub(crate) static COMMANDS: [(&str, &[&str], Told); 42] = [
     (
         "a-product-in-tiles",
         &[
@@ -209,6 +209,81 @@ pub(crate) static COMMANDS: [(&str, &[&str], Told); 29] = [
         &["tp", "run", "product:02:1:0"],
         Told::Whole,
     ),
+    (
+        "a-trace-of-one-task",
+        &["tp", "run", "reduce:1:9999", "--trace"],
+        Told::Whole,
+    ),
+    (
+        "a-trace-of-no-pool",
+        &["tp", "run", "reduce:3:0", "--trace"],
+        Told::Whole,
+    ),
+    (
+        "two-pools-at-once",
+        &[
+            "tp",
+            "pools",
+            "reduce:4:0",
+            "wavefront:2:3:0",
+            "--nodes",
+            "2",
+        ],
+        Told::Whole,
+    ),
+    (
+        "one-pool-under-a-registry",
+        &["tp", "pools", "product:2:2:0"],
+        Told::Whole,
+    ),
+    (
+        "eight-pools-at-once-in-the-order-of-their-words",
+        &[
+            "tp",
+            "pools",
+            "reduce:8:0",
+            "reduce:1:1",
+            "wavefront:2:3:0",
+            "product:2:1:0",
+            "wavefront:1:1:0",
+            "reduce:2:0",
+            "product:1:1:0",
+            "reduce:4:0",
+        ],
+        Told::Whole,
+    ),
+    (
+        "a-word-that-stands-twice",
+        &["tp", "pools", "reduce:4:0", "reduce:4:0"],
+        Told::Whole,
+    ),
+    (
+        "a-word-of-no-pool-among-pools",
+        &["tp", "pools", "reduce:4:0", "reduce:3:0"],
+        Told::Whole,
+    ),
+    (
+        "a-word-that-stands-twice-before-one-of-no-pool",
+        &["tp", "pools", "reduce:4:0", "reduce:4:0", "reduce:3:0"],
+        Told::Whole,
+    ),
+    (
+        "nine-words-are-too-many-before-any-is-looked-at",
+        &[
+            "tp",
+            "pools",
+            "reduce:3:0",
+            "reduce:3:0",
+            "reduce:3:0",
+            "reduce:3:0",
+            "reduce:3:0",
+            "reduce:3:0",
+            "reduce:3:0",
+            "reduce:3:0",
+            "reduce:3:0",
+        ],
+        Told::Whole,
+    ),
     ("no-subcommand", &["tp"], Told::WrongWords),
     (
         "an-unknown-subcommand",
@@ -242,6 +317,17 @@ pub(crate) static COMMANDS: [(&str, &[&str], Told); 29] = [
         &["tp", "run", "product:6:4:0", "--nodes", "9"],
         Told::WrongWords,
     ),
+    ("pools-of-no-words", &["tp", "pools"], Told::WrongWords),
+    (
+        "pools-at-nine-nodes",
+        &["tp", "pools", "reduce:4:0", "--nodes", "9"],
+        Told::WrongWords,
+    ),
+    (
+        "a-trace-of-several-pools-is-not-to-be-had",
+        &["tp", "pools", "reduce:4:0", "--trace"],
+        Told::WrongWords,
+    ),
     (
         "help-goes-to-the-output",
         &["tp", "--help"],
@@ -262,4 +348,66 @@ pub(crate) static COMMANDS: [(&str, &[&str], Told); 29] = [
         &["tp", "run", "--help"],
         Told::Help("wavefront:ROWS:COLUMNS:SEED"),
     ),
+    (
+        "help-of-pools-goes-to-the-output",
+        &["tp", "pools", "--help"],
+        Told::Help("pool P SPEC ended tasks T messages M"),
+    ),
 ];
+
+/// Runs of pools whose traces are judged.
+pub(crate) static RUNS: [(&str, &[&str]); 8] = [
+    (
+        "the-trace-of-a-product-in-tiles",
+        &[
+            "tp",
+            "run",
+            "product:2:1:0",
+            "--nodes",
+            "2",
+            "--workers",
+            "2",
+            "--trace",
+        ],
+    ),
+    (
+        "the-trace-of-a-product-in-one-tile",
+        &["tp", "run", "product:2:2:0", "--nodes", "2", "--trace"],
+    ),
+    (
+        "the-trace-of-a-wavefront",
+        &["tp", "run", "wavefront:2:3:0", "--nodes", "2", "--trace"],
+    ),
+    (
+        "the-trace-of-a-tree-of-sums",
+        &[
+            "tp",
+            "run",
+            "reduce:4:0",
+            "--nodes",
+            "2",
+            "--workers",
+            "3",
+            "--trace",
+        ],
+    ),
+    (
+        "the-trace-of-a-tree-of-sums-at-one-node",
+        &["tp", "run", "reduce:4:0", "--trace"],
+    ),
+    (
+        "the-trace-of-a-product-of-one-task",
+        &["tp", "run", "product:1:1:9999", "--trace"],
+    ),
+    (
+        "the-trace-of-a-wavefront-of-one-task",
+        &["tp", "run", "wavefront:1:1:9999", "--trace"],
+    ),
+    (
+        "the-trace-of-a-tree-of-one-task",
+        &["tp", "run", "reduce:1:9999", "--trace"],
+    ),
+];
+
+/// A run on one thread, whose trace is the same each time.
+pub(crate) static ONE_THREAD: [&str; 4] = ["tp", "run", "reduce:2:0", "--trace"];

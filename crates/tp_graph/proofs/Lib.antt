@@ -1,1 +1,6 @@
+pub mod Fits
+pub mod Made
+pub mod Ordered
+pub mod Placed
+pub mod Rows
 pub mod Valued

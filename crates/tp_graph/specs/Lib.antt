@@ -1,4 +1,6 @@
+pub mod Blocks
 pub mod Carried
+pub mod Found
 pub mod Graphs
 pub mod Named
 pub mod Numbers

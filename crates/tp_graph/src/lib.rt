@@ -5,8 +5,11 @@
 //! [`run_body`] performs a task, and [`serial`] works a graph out on one thread.
 #![tactic(auto)]
 
+mod blocks;
 mod body;
+mod copied;
 mod feed;
+mod found;
 mod graph;
 mod laws;
 mod message;
@@ -15,8 +18,10 @@ mod one_thread;
 mod only;
 mod value;
 
+pub use blocks::Blocks;
 pub use body::run_body;
 pub use feed::{Feed, feed_of};
+pub use found::{in_order, places, value_at};
 pub use graph::{Comparable, Graph, is_same};
 pub use laws::value_is_what_the_rule_makes;
 pub use message::{Message, Parcel};

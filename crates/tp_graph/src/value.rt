@@ -3,8 +3,9 @@ ghost use Rattle.std.specs.Cmp.{int_eq_equiv, on_equiv, on_per, partial_equiv_fr
 ghost use Rattle.std.specs.Cmp.Lexicographic.{pointwise, lists_equiv};
 ghost use Rattle.std.specs.Ordering.{int_eq};
 ghost use Rattle.tp_base.specs.declared.Refusal.TheVariants.{BodyFailed};
-ghost use Rattle.tp_graph.specs.Values.{fits, lone_of};
+ghost use Rattle.tp_graph.specs.Values.{all_fit, fits, lone_of};
 
+use crate::copied::copied;
 use crate::numbers::Numbers;
 use std::alloc::{AllocError, AllocFailed, Global};
 use std::default::MadeWith;
@@ -62,6 +63,21 @@ impl Value {
             _ => Numbers::Shared(Arc::new(*numbers.allocator(), numbers)?),
         };
         Ok(Value { numbers })
+    }
+
+    /// The numbers of a list, which are copied. Refused where there are more than one and no memory for them.
+    pub fn of(alloc: Global, numbers: &[i64]) -> Result<Self, AllocError>
+        ensures value { IfOk result (λ value. value ≡ numbers.now) }
+        ensures fit { IfOk result (λ value. all_fit value ≡ true) }
+        ensures no_growth { OnErr result (1 < length numbers.now) }
+    {
+        match numbers {
+            [] => Ok(Value {
+                numbers: Numbers::Empty,
+            }),
+            [number] => Value::one(alloc, *number),
+            _ => Ok(Value::from_vec(copied(alloc, numbers)?)?),
+        }
     }
 
     /// The number of a value that has just one. Refused with `BodyFailed` where it has another count.

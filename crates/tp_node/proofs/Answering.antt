@@ -1,6 +1,7 @@
 -- How the answers of calls in a row come together.
 use Rattle.std.proofs.Common.{◌≡◌, ℕ, suc, ◌+◌, ◌-◌, List, [], ◌∷◌, length, Option, Some, None, MatchOption, cond, refl, sym, ap, subst, ◌∙◌, arith}
-use Rattle.std.specs.Prelude.{Result, Err, slice_get}
+use Rattle.std.specs.Prelude.{Result, Ok, Err, OnErr, OnOk, drop, slice_get}
+use Rattle.std.proofs.lemmas.List.Elements.{All-cons, All-drop}
 use Rattle.tp_base.specs.declared.refusal.Refusal.{Refusal}
 use Rattle.tp_base.specs.declared.refusal.Refusal.TheVariants.{NoMemory}
 use Rattle.tp_board.specs.Calls.{Answers, AnswersWith}
@@ -78,3 +79,19 @@ wire_without {G} meaning pool link rest share left m kept split ends is =
     let less : share.under - 1 ≡ length rest.messages = omega (arith, long, kept.under) in
     subst (λ (z : LinkNumbers). IsWire meaning pool rest z) (sym is)
     (record { from = ends.0 ∙ kept.from; to = ends.1 ∙ kept.to; under = less; each = λ k d l. each (suc k) d (omega arith) })
+
+-- what a wire keeps where a message came in the place of its first
+module _ {G : Type 0} (meaning : G → TaskGraph) (pool : ℕ) (link new : Line (Carried G)) (share : LinkNumbers) (m : Carried G) where
+  -- a message that is on its way over the wire
+  abbrev IsOver : Carried G → Type 0
+  IsOver z = IsOnWay (meaning z.graph) pool share.from share.to z
+
+  each_over : (r : Result (Carried G) (Carried G)) → All IsOver link.messages → IsOver m → OnOk r (new.messages ≡ m ∷ drop 1 link.messages) → OnErr r (new.messages ≡ link.messages)
+      → All IsOver new.messages
+  each_over (Ok oldest) each way is _ = subst (All IsOver) (sym is) (All-cons IsOver m (drop 1 link.messages) way (All-drop IsOver 1 link.messages each))
+  each_over (Err back) each way _ is = subst (All IsOver) (sym is) each
+
+  pub wire_with_front : (r : Result (Carried G) (Carried G)) → IsWire meaning pool link share → (new.from ≡ link.from) × (new.to ≡ link.to)
+      → OnOk r (new.messages ≡ m ∷ drop 1 link.messages) → OnErr r (new.messages ≡ link.messages) → length new.messages ≡ length link.messages → IsOver m → IsWire meaning pool new share
+  wire_with_front r kept ends replaced same number way =
+      record { from = ends.0 ∙ kept.from; to = ends.1 ∙ kept.to; under = kept.under ∙ sym number; each = each_over r kept.each way replaced same }

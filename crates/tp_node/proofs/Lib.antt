@@ -3,3 +3,4 @@ pub mod Putting
 pub mod Kept
 pub mod Answering
 pub mod Turns
+pub mod Begins

@@ -45,25 +45,38 @@ on_err : {A : Type 0} (r : Result A Refusal) (P Q : Type 0) → OnErr r P → (P
 on_err (Ok x) P Q p f = tt
 on_err (Err e) P Q p f = f p
 
--- the node, of so many, stands beside a board that leads from old to new, and the call answers r
-module _ {G K : Type 0} (node : NodeState G) {old new : BoardState} {r : Result (Turn K) Refusal} (turn : MakesFirst node.nodes node.numbers.node (turn_steps node.numbers.node) old new r) where
+-- where nothing was set, nothing is owed
+pub unset : {X : Type 0} (o : Option X) (P : Type 0) → is_some o ≡ false → IfSome o (λ _. P)
+unset None P none = tt
+unset (Some x) P none = absurd cc
+
+-- the node, of so many, stands beside a board that has no fault and leads from old to new, and the call answers r
+module _ {G K : Type 0} (node : NodeState G) {old new : BoardState} {r : Result (Turn K) Refusal} (sound : is_some old.fault ≡ false)
+    (turn : MakesFirst node.nodes node.numbers.node (turn_steps node.numbers.node) old new r) where
+  -- the first of its control steps that it may make
+  abbrev first_step : Option Step
+  first_step = find (may_make node.nodes node.numbers.node old.history) (turn_steps node.numbers.node)
+
+  is_first : first_step ≡ turn_of node old
+  is_first = sym (ap (λ fault. if fault then None else first_step) sound)
+
   pub idle : IfNone (turn_of node old) ((r ≡ Ok Idle) × Appends [] old new)
-  idle = when_none (turn_of node old) ((r ≡ Ok Idle) × Appends [] old new) (λ is. let none = turn.none is in (none.0, nothing old new none.1))
+  idle = when_none (turn_of node old) ((r ≡ Ok Idle) × Appends [] old new) (λ is. let none = turn.none (is_first ∙ is) in (none.0, nothing old new none.1))
 
   pub appended : IfSome (turn_of node old) (λ s. OnOk r (Appends (control_event s ∷ []) old new))
   appended =
       when_some (turn_of node old) (λ s. OnOk r (Appends (control_event s ∷ []) old new))
-      (λ s is. on_ok r (new ≡ with_event (control_event s) old) (Appends (control_event s ∷ []) old new) (turn.some s is).event (one_event (control_event s) old new))
+      (λ s is. on_ok r (new ≡ with_event (control_event s) old) (Appends (control_event s ∷ []) old new) (turn.some s (is_first ∙ is)).event (one_event (control_event s) old new))
 
   pub answered : IfSome (turn_of node old) (λ s. IfOk r (IsMade (ends node.nodes old.history s)))
-  answered = when_some (turn_of node old) (λ s. IfOk r (IsMade (ends node.nodes old.history s))) (λ s is. (turn.some s is).answer)
+  answered = when_some (turn_of node old) (λ s. IfOk r (IsMade (ends node.nodes old.history s))) (λ s is. (turn.some s (is_first ∙ is)).answer)
 
   pub refused : IfSome (turn_of node old) (λ s. Answers (full_check 1 old ∷ []) r)
-  refused = when_some (turn_of node old) (λ s. Answers (full_check 1 old ∷ []) r) (λ s is. (turn.some s is).refusal)
+  refused = when_some (turn_of node old) (λ s. Answers (full_check 1 old ∷ []) r) (λ s is. (turn.some s (is_first ∙ is)).refusal)
 
   unchanged_by : (o : Option Step) → turn_of node old ≡ o → OnErr r (new ≡ old)
-  unchanged_by None is = subst (λ (q : Result (Turn K) Refusal). OnErr q (new ≡ old)) (sym (turn.none is).0) tt
-  unchanged_by (Some s) is = (turn.some s is).refused
+  unchanged_by None is = subst (λ (q : Result (Turn K) Refusal). OnErr q (new ≡ old)) (sym (turn.none (is_first ∙ is)).0) tt
+  unchanged_by (Some s) is = (turn.some s (is_first ∙ is)).refused
 
   pub kept : OnErr r (Appends [] old new)
   kept = on_err r (new ≡ old) (Appends [] old new) (unchanged_by (turn_of node old) refl) (nothing old new)

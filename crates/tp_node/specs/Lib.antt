@@ -5,3 +5,4 @@ pub mod Refused
 pub mod Pools
 pub mod Turns
 pub mod Calls
+pub mod Begins

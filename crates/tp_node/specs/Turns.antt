@@ -1,11 +1,11 @@
 -- The control step that a node makes next.
-use Rattle.std.specs.Prelude.{Option}
+use Rattle.std.specs.Prelude.{Option, None, is_some, if◌then◌else◌}
 use Rattle.std.specs.List.{find}
 use Rattle.tp_base.specs.declared.step.Step.{Step}
 use Rattle.tp_board.specs.States.{BoardState}
 use Rattle.tp_node.specs.Nodes.{NodeState}
 use Rattle.tp_turns.specs.Turns.{may_make, turn_steps}
 
--- the first of its control steps that a node may make
+-- the first of its control steps that a node may make; after a fault it makes none
 abbrev pub turn_of : {G : Type 0} → NodeState G → BoardState → Option Step
-turn_of node b = find (may_make node.nodes node.numbers.node b.history) (turn_steps node.numbers.node)
+turn_of node b = if is_some b.fault then None else find (may_make node.nodes node.numbers.node b.history) (turn_steps node.numbers.node)

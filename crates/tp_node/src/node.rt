@@ -7,6 +7,7 @@ ghost use Rattle.tp_store.specs.Content.{counts_of};
 ghost use Rattle.tp_wave.specs.Machine.{IsRun};
 
 mod actions;
+mod begins;
 mod control;
 mod messages;
 mod tasks;
@@ -33,6 +34,7 @@ pub struct Node<G: Graph, K: Ledgers> {
     next: u32,
     local: Local,
     shares: Shares<K>,
+    alloc: Global,
 }
 
 impl<G: Graph, K: Ledgers> Model for Node<G, K> {
@@ -60,6 +62,7 @@ impl<G: Graph, K: Ledgers> Node<G, K> {
             next: 0,
             local: Local::new(alloc, PoolId(0)),
             shares,
+            alloc,
         }
     }
 
@@ -156,6 +159,7 @@ impl<G: Graph, K: Ledgers> Node<G, K> {
             next: _,
             local,
             shares,
+            alloc: _,
         } = self;
         (shares, local.into_results())
     }

@@ -1,4 +1,4 @@
-ghost use Rattle.std.specs.Prelude.{◌≡◌, ◌+◌, ◌<◌, [], ◌∷◌, ◌++◌, length, option_copied, slice_get, IfOk, OnErr, OnOk, Some, IsTrue};
+ghost use Rattle.std.specs.Prelude.{◌≡◌, ◌+◌, ◌<◌, ◌↔◌, [], ◌∷◌, ◌++◌, drop, length, option_copied, slice_get, IfErr, IfOk, IsOk, OnErr, OnOk, Some, IsTrue};
 ghost use Rattle.tp_board.specs.Numbers.{event, is_send, numbers_after, receiving, sending};
 ghost use Rattle.tp_board.specs.States.{full_check};
 ghost use Rattle.tp_graph.specs.Carried.{Carried, IsFeed};
@@ -72,6 +72,22 @@ impl<G: Graph, K: Ledgers> Wire<G, K> {
         ensures { option_copied result ≡ slice_get self.now.messages 0 }
     {
         self.link.front()
+    }
+
+    /// Puts a message in the place of the oldest, which comes back. On a wire with no message it comes back itself, as the
+    /// error. It takes no memory, and the number of messages does not move. The message may be of another graph or pool.
+    pub fn replace_front(&mut self, message: Message<G>) -> Result<Message<G>, Message<G>>
+        requires of_pair { (message.from.0 ≡ self.old.from) × (message.to.0 ≡ self.old.to) }
+        requires home { (G.meaning message.graph).home message.feed.target.0 K.names.nodes ≡ self.old.to }
+        ensures ends { (self.new.from ≡ self.old.from) × (self.new.to ≡ self.old.to) }
+        ensures ok { IsOk result ↔ (0 < length self.old.messages) }
+        ensures first { IfOk result (λ oldest. self.old.messages ≡ oldest ∷ drop 1 self.old.messages) }
+        ensures replaced { OnOk result (self.new.messages ≡ message ∷ drop 1 self.old.messages) }
+        ensures refused { IfErr result (λ e. e ≡ message) }
+        ensures kept { OnErr result (self.new ≡ self.old) }
+        ensures number { length self.new.messages ≡ length self.old.messages }
+    {
+        self.link.replace_front(message)
     }
 
     /// The share alone. What is on the wire is dropped.

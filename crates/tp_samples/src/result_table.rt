@@ -11,13 +11,13 @@ use tp_base::{Refusal, TaskId};
 use tp_graph::Value;
 
 /// The most tasks whose values a table needs: one for each cell of 64 rows and columns.
-const MAX_NEEDED: usize = 4_096;
+pub const MAX_NEEDED: usize = 4_096;
 
 /// The table of a pool, whose numbers stand among the pool's results. Contracts see its graph.
 #[derive(Drop)]
 pub struct ResultTable<'a> {
     graph: AnyGraph,
-    values: [Option<&'a Value>; MAX_NEEDED],
+    values: &'a [Option<&'a Value>],
 }
 
 impl<'a> Model for ResultTable<'a> {
@@ -28,21 +28,27 @@ impl<'a> Model for ResultTable<'a> {
 
     ghost view = { λ t. t.graph };
 
-    ghost invariant = { λ t. HasValues t.graph t.values };
+    ghost invariant = { λ t. HasValues t.graph t.values.now };
 }
 
 impl<'a> ResultTable<'a> {
     /// Finds the numbers of a graph's table among results, each of which has to be its task's value. Refused with
-    /// `Missing` exactly where a task that the table needs has no result. It takes no memory.
-    pub fn new(graph: AnyGraph, results: &'a [(TaskId, Value)]) -> Result<Self, Refusal>
+    /// `Missing` exactly where a task that the table needs has no result. It takes no memory: what is found is kept in the
+    /// room that is lent, which is large: it is made where it stays, and never moved.
+    pub fn new<'r: 'a>(
+        graph: AnyGraph,
+        results: &'r [(TaskId, Value)],
+        room: &'a mut [Option<&'r Value>; MAX_NEEDED],
+    ) -> Result<Self, Refusal>
         requires { AreRight (any_graph graph) results.now }
         ensures found { IfOk result (λ table. table ≡ graph) }
         ensures missing { IsErr result ↔ LacksCell graph results.now }
         ensures refused { IfErr result (λ refusal. refusal ≡ Missing) }
     {
-        let mut values = nothing();
-        index(graph, results, &mut values);
-        match missing(graph, &values) {
+        room.fill(None);
+        index(graph, results, room);
+        let values = &*room;
+        match missing(graph, values) {
             Some(_) => Err(Refusal::Missing),
             None => Ok(ResultTable { graph, values }),
         }
@@ -69,20 +75,11 @@ impl<'a> ResultTable<'a> {
         ensures { result ≡ (table_of self.now).at i j }
     {
         let (rank, place) = self.graph.cell(i, j);
-        let values = &self.values[..];
-        let Some(value) = values[rank as usize] else {
+        let Some(value) = self.values[rank as usize] else {
             unreachable!()
         };
         value.as_slice()[place]
     }
-}
-
-/// No value.
-fn nothing<'a>() -> [Option<&'a Value>; MAX_NEEDED]
-    ensures long { length result ≡ 4096 }
-    ensures none { (rank : ℕ) → slice_index_or result rank None ≡ None }
-{
-    [None; MAX_NEEDED]
 }
 
 /// Finds the values that a table needs, by the ranks of their tasks.

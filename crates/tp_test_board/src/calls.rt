@@ -38,6 +38,24 @@ pub enum Call {
     TurnOfLeaf,
 }
 
+impl Call {
+    /// The board's call that takes memory.
+    fn name(self) -> &'static str {
+        match self {
+            Call::Reserve(_) | Call::Ready => "Board::reserve",
+            Call::Send => "Board::append_send",
+            Call::Receive => "Board::append_recv",
+            Call::Wave(Step::Start) => "Board::start",
+            Call::Wave(Step::Down) => "Board::down",
+            Call::Wave(Step::Up) => "Board::up",
+            Call::Wave(Step::Give | Step::Visit) => "Board::give",
+            Call::Wave(Step::Judge) => "Board::judge",
+            Call::TurnOfRoot | Call::TurnOfLeaf => "make_first",
+            _ => "a call that takes no memory",
+        }
+    }
+}
+
 /// A step of the waves over two nodes.
 #[derive(Clone, Copy)]
 pub enum Step {
@@ -108,6 +126,8 @@ impl<K: Ledgers> Pair<K> {
     }
 
     fn ready(&mut self) -> Told {
+        // (two events: what follows is not refused memory between them)
+        self.board.reserve(2)?;
         self.zero.make_ready(&mut self.board)?;
         done(self.one.make_ready(&mut self.board))
     }
@@ -127,10 +147,42 @@ impl<K: Ledgers> Pair<K> {
         }
     }
 
+    /// All that can be read of the pool, folded into one number, another one for another pool but by chance.
+    fn content(&self) -> u64 {
+        let mut folded = 1u64;
+        for number in [
+            u64::from(self.zero.pending),
+            u64::from(self.one.pending),
+            self.there.count() as u64,
+            self.back.count() as u64,
+            u64::from(self.board.next_message().0),
+            self.board.len() as u64,
+            fault_code(self.board.fault()),
+        ] {
+            folded = (folded ^ number).wrapping_mul(1_099_511_628_211);
+        }
+        folded
+    }
+
+    /// What a call answers, which is made again where memory was refused and nothing was changed: tools/refuse.sh refuses each
+    /// growth in turn.
+    fn tried<R: Eprint>(&mut self, rt: &R, call: Call) -> Told {
+        let before = self.content();
+        let told = self.answer(call);
+        if told != Err(Refusal::NoMemory) {
+            return told;
+        }
+        let _ = eprintln!(rt; "refused: {}", call.name());
+        if self.content() != before {
+            return told;
+        }
+        self.answer(call)
+    }
+
     /// Makes each call of a table, and asserts what it answers.
-    fn walk<R: Abort>(&mut self, rt: &R, table: &[Row]) {
+    fn walk<R: Abort + Eprint>(&mut self, rt: &R, table: &[Row]) {
         for (place, (call, wanted)) in table.iter().enumerate() {
-            assert!(rt; self.answer(*call) == *wanted, "row {place}");
+            assert!(rt; self.tried(rt, *call) == *wanted, "row {place}");
         }
     }
 }
@@ -183,6 +235,13 @@ fn fault(kept: Option<Refusal>) -> Answer {
     }
 }
 
+fn fault_code(kept: Option<Refusal>) -> u64 {
+    match kept {
+        Some(refusal) => u64::from(refusal.number()),
+        None => 0,
+    }
+}
+
 /// What a pool adds up to.
 #[derive(Clone, Copy)]
 pub struct Summary {
@@ -221,7 +280,7 @@ impl Summary {
 
 /// Opens a pool of two nodes whose history has so many places, makes the calls of a table, and asserts what each of them
 /// answers and what the pool adds up to.
-pub fn walk<R: Abort>(
+pub fn walk<R: Abort + Eprint>(
     rt: &R,
     alloc: Global,
     limit: u32,
@@ -230,12 +289,30 @@ pub fn walk<R: Abort>(
 ) -> Result<(), Refusal>
     requires { limit ≤ 1048576 }
 {
-    let made = walk_with::<Brand, R>(rt, alloc, Blanks::new(2), limit, table)?;
+    let made = match walked(rt, alloc, limit, table) {
+        Err(Refusal::NoMemory) => {
+            let _ = eprintln!(rt; "refused: open_books");
+            walked(rt, alloc, limit, table)?
+        }
+        made => made?,
+    };
     made.must_be(rt, wanted);
     Ok(())
 }
 
-fn walk_with<K: Ledgers, R: Abort>(
+/// What a new pool adds up to after the calls of a table.
+fn walked<R: Abort + Eprint>(
+    rt: &R,
+    alloc: Global,
+    limit: u32,
+    table: &[Row],
+) -> Result<Summary, Refusal>
+    requires { limit ≤ 1048576 }
+{
+    walk_with::<Brand, R>(rt, alloc, Blanks::new(2), limit, table)
+}
+
+fn walk_with<K: Ledgers, R: Abort + Eprint>(
     rt: &R,
     alloc: Global,
     blanks: Blanks,

@@ -101,6 +101,11 @@ impl<K: Ledgers> Wire<K> {
             messages: Vec::new(alloc),
         }
     }
+
+    /// How many messages are under way.
+    pub fn count(&self) -> usize {
+        self.messages.len()
+    }
 }
 
 impl<K: Ledgers> Pair<K> {

@@ -11,6 +11,8 @@ mod link;
 #[cfg(test)]
 mod local;
 #[cfg(test)]
+mod memory;
+#[cfg(test)]
 mod own;
 #[cfg(test)]
 mod pools;

@@ -6,9 +6,9 @@ use tp_link::{Link, Routed};
 
 /// A letter that carries one value from node 0 to node 2.
 #[derive(Clone, Copy, Debug, PartialEq, Eq)]
-struct Letter {
-    number: u32,
-    value: i64,
+pub(crate) struct Letter {
+    pub(crate) number: u32,
+    pub(crate) value: i64,
 }
 
 impl Routed for Letter {

@@ -6,7 +6,7 @@ use tp_samples::checked;
 use tp_table::print_table;
 
 /// What is printed of the values of a pool, each worked out on one thread.
-fn table(alloc: Global, word: &str) -> Result<Vec<u8>, Refusal> {
+pub(crate) fn table(alloc: Global, word: &str) -> Result<Vec<u8>, Refusal> {
     let graph = checked(word)?;
     let results = serial(alloc, graph)?;
     print_table(alloc, graph, &results)

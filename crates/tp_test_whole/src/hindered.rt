@@ -83,3 +83,51 @@ impl Read for Dripping {
         }
     }
 }
+
+/// Gives one byte a read; at one of its reads, counted from 0, it fails in a way, and goes on where it is asked again.
+#[derive(Drop)]
+pub(crate) struct Stumbling {
+    pub(crate) text: &'static [u8],
+    pub(crate) reads: u32,
+    pub(crate) stumbles_at: u32,
+    pub(crate) fault: ErrorKind,
+}
+
+impl Read for Stumbling {
+    fn read(&mut self, buf: &mut [u8]) -> io::Result<usize> {
+        let read = self.reads;
+        self.reads = read.saturating_add(1);
+        if read == self.stumbles_at {
+            return Err(self.fault.into());
+        }
+        match (self.text, buf.first_mut()) {
+            ([first, rest @ ..], Some(place)) => {
+                *place = *first;
+                self.text = rest;
+                Ok(1)
+            }
+            _ => Ok(0),
+        }
+    }
+}
+
+/// Takes one byte a write, and fails at one of its writes, counted from 0.
+#[derive(Drop)]
+pub(crate) struct Failing {
+    pub(crate) writes: u32,
+    pub(crate) fails_at: u32,
+}
+
+impl Write for Failing {
+    fn write(&mut self, buf: &[u8]) -> io::Result<usize> {
+        if self.writes == self.fails_at {
+            return Err(ErrorKind::BrokenPipe.into());
+        }
+        self.writes = self.writes.saturating_add(1);
+        Ok(buf.len().min(1))
+    }
+
+    fn flush(&mut self) -> io::Result<()> {
+        Ok(())
+    }
+}

@@ -7,11 +7,17 @@
 #[cfg(test)]
 mod audit;
 #[cfg(test)]
+mod bodies;
+#[cfg(test)]
 mod cores;
+#[cfg(test)]
+mod failing;
 #[cfg(test)]
 mod gates;
 #[cfg(test)]
 mod hindered;
+#[cfg(test)]
+mod memory;
 #[cfg(test)]
 mod one_hand;
 #[cfg(test)]
@@ -19,6 +25,12 @@ mod pools;
 #[cfg(test)]
 mod program;
 #[cfg(test)]
+mod readers;
+#[cfg(test)]
+mod refused_runs;
+#[cfg(test)]
 mod several;
+#[cfg(test)]
+mod sleeping;
 #[cfg(test)]
 mod text;

@@ -11,20 +11,20 @@ use tp_samples::Reduce;
 use tp_work::{Report, finish};
 
 /// A tree of four leaves: 0, 11, 22 and 33.
-const TREE: Reduce = Reduce { leaves: 4, seed: 0 };
+pub(crate) const TREE: Reduce = Reduce { leaves: 4, seed: 0 };
 
 /// A pool of two nodes in one hand.
 #[derive(Drop)]
-struct Pair<K: Ledgers> {
-    zero: Node<Reduce, K>,
-    one: Node<Reduce, K>,
-    there: Wire<Reduce, K>,
-    back: Wire<Reduce, K>,
-    board: Board<K>,
+pub(crate) struct Pair<K: Ledgers> {
+    pub(crate) zero: Node<Reduce, K>,
+    pub(crate) one: Node<Reduce, K>,
+    pub(crate) there: Wire<Reduce, K>,
+    pub(crate) back: Wire<Reduce, K>,
+    pub(crate) board: Board<K>,
 }
 
 impl<K: Ledgers> Pair<K> {
-    fn open(alloc: Global, blanks: Blanks) -> Result<Self, Refusal>
+    pub(crate) fn open(alloc: Global, blanks: Blanks) -> Result<Self, Refusal>
         requires { (blanks ≡ K.names) × (blanks.nodes ≡ 2) }
     {
         let Pool {
@@ -47,7 +47,7 @@ impl<K: Ledgers> Pair<K> {
         })
     }
 
-    fn close(self, alloc: Global) -> Result<Report, Refusal>
+    pub(crate) fn close(self, alloc: Global) -> Result<Report, Refusal>
         requires { K.names.nodes ≡ 2 }
     {
         // All room is made before the pool is taken apart, so that nothing is left to drop on the way.
@@ -71,7 +71,11 @@ impl<K: Ledgers> Pair<K> {
         };
         match finish(alloc, pool) {
             Ok(report) => Ok(report),
-            Err((refusal, _)) => Err(refusal),
+            // the pool comes back
+            Err((_, pool)) => match finish(alloc, pool) {
+                Ok(report) => Ok(report),
+                Err((refusal, _)) => Err(refusal),
+            },
         }
     }
 

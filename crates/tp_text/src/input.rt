@@ -12,6 +12,9 @@ pub const MAX_TEXT: usize = 33_554_432;
 /// How many reads may be made for a text.
 pub const MAX_READS: u64 = 67_108_864;
 
+/// How many bytes are asked for at once. They lie on the stack.
+const PIECE: usize = 4_096;
+
 /// Reads all there is, in pieces. A read that was interrupted is tried again.
 pub(crate) fn read_text<R: Read>(alloc: Global, reader: &mut R) -> Result<Vec<u8>, TextFault>
     ensures whole { IfOk result (λ text. ReadsAll (R.remaining reader.old) (R.remaining reader.new) text.items) }
@@ -22,7 +25,7 @@ pub(crate) fn read_text<R: Read>(alloc: Global, reader: &mut R) -> Result<Vec<u8
     ensures unwritten { IsErrOf result TextFault.Write → ⊥ }
 {
     let mut text = Vec::new(alloc);
-    let mut piece = [0; 65_536];
+    let mut piece = [0; PIECE];
     for _ in 0..MAX_READS {
         let left = MAX_TEXT + 1 - text.len();
         let size = left.min(piece.len());

@@ -11,7 +11,7 @@ use tp_board::{Board, Ended, Judgement, Ledgers, Shares};
 /// What a control turn did.
 #[derive(Drop)]
 pub enum Turn<K: Ledgers> {
-    /// Nothing: the waves allowed no control step of the node.
+    /// Nothing: the waves allowed no control step of the node, or it makes none after a fault.
     Idle,
     /// It made a control step.
     Moved,

@@ -1,3 +1,5 @@
+ghost use Rattle.std.specs.Prelude.{◌≡◌, ◌≤◌};
+
 use crate::gathered::Report;
 use tp_base::{History, Refusal, TaskId};
 use tp_graph::Value;
@@ -9,8 +11,30 @@ pub struct Config {
     pub nodes: u32,
     /// How many threads work at each node: 1 to 8.
     pub workers: u32,
-    /// After so many idle turns in a row a worker gives the pool up: 1 to 1,000,000,000.
+    /// After so many idle turns in a row a worker gives the pool up: 1 to 1,000,000,000. A turn is idle where the worker's node
+    /// has nothing for it, also while others run long bodies. Turns are counted, and not time: after most idle turns a worker
+    /// sleeps, up to some 10 ms, so that 1,000,000 of them take hours. Nothing is promised of time.
     pub idle_turns: u32,
+}
+
+/// The idle turns of a worker to which no limit was given.
+const PATIENCE: u32 = 100_000_000;
+
+impl Config {
+    /// So many nodes, with so many workers at each: 1 to 8 of both. They are patient: 100,000,000 idle turns in a row.
+    pub const fn new(nodes: u32, workers: u32) -> Self
+        requires nodes { (1 ≤ nodes) × (nodes ≤ 8) }
+        requires workers { (1 ≤ workers) × (workers ≤ 8) }
+        ensures nodes { result.nodes ≡ nodes }
+        ensures workers { result.workers ≡ workers }
+        ensures idle_turns { result.idle_turns ≡ 100000000 }
+    {
+        Config {
+            nodes,
+            workers,
+            idle_turns: PATIENCE,
+        }
+    }
 }
 
 /// What a pool has made.

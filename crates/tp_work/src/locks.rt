@@ -5,11 +5,11 @@ ghost use Rattle.tp_work.specs.Places as places;
 ghost use Rattle.tp_work.specs.Places.{AreInOrder, AreLinksInOrder, AreOf};
 ghost use Rattle.tp_work.specs.Outcomes.{IsMisplaced};
 
+use crate::doorbell::Doorbell;
 use std::alloc::{AllocError, Global};
 use std::sync::atomic::{AtomicBool, AtomicU64, Ordering};
 use std::sync::{Mutex, MutexGuard, Wait};
-use std::thread;
-use tp_base::Refusal;
+use tp_base::{NodeId, Refusal};
 use tp_board::{Board, Ledgers};
 use tp_graph::{Comparable, Graph, is_same};
 use tp_node::{Node, Pool, Wire};
@@ -39,6 +39,8 @@ pub(crate) struct Site<N> {
     pub ready: AtomicU64,
     /// How many messages are on the links to it.
     pub mail: AtomicU64,
+    /// Where its idle workers sleep.
+    pub bell: Doorbell,
 }
 
 impl<N> Site<N> {
@@ -47,6 +49,14 @@ impl<N> Site<N> {
     pub fn tell_ready(&self, ready: u32) {
         if self.ready.load(Ordering::SeqCst) != ready as u64 {
             self.ready.store(ready as u64, Ordering::SeqCst);
+        }
+    }
+
+    /// Calls a worker for the tasks that are ready, where there are any.
+    #[inline(always)]
+    pub fn call_for_ready(&self) {
+        if self.ready.load(Ordering::SeqCst) > 0 {
+            self.bell.ring();
         }
     }
 }
@@ -60,26 +70,14 @@ pub(crate) struct Line<G: Graph, K: Ledgers> {
     pub length: AtomicU64,
 }
 
-/// How often a thread looks at a lock that is held, and yields, before it sleeps.
-const TRIES: u32 = 32;
-
-/// Takes a lock. All of a pool's locks are held briefly, so a thread yields for a while before it sleeps until it is woken.
+/// Takes a lock. Where it is held, the thread sleeps as std has it: one that yielded would wait for all others that want its
+/// processor, and many that yield keep it from the one that holds the lock.
 #[inline(always)]
 pub(crate) fn lock_soon<'l, T, R: Wait>(rt: &R, lock: &'l Mutex<T>) -> MutexGuard<'l, T> {
     match lock.try_lock() {
         Some(guard) => guard,
-        None => lock_late(rt, lock),
+        None => lock.lock(rt),
     }
-}
-
-fn lock_late<'l, T, R: Wait>(rt: &R, lock: &'l Mutex<T>) -> MutexGuard<'l, T> {
-    for _ in 0..TRIES {
-        thread::yield_now();
-        if let Some(guard) = lock.try_lock() {
-            return guard;
-        }
-    }
-    lock.lock(rt)
 }
 
 /// Empty lists with room for the parts of a pool, as they are or under locks.
@@ -128,6 +126,27 @@ impl<G: Graph, K: Ledgers> Locks<G, K> {
             board: Mutex::new(board),
             control_steps: AtomicU64::new(0),
             is_stopped: AtomicBool::new(false),
+        }
+    }
+
+    /// Stops all workers, also those that sleep.
+    pub fn stop(&self) {
+        self.is_stopped.store(true, Ordering::SeqCst);
+        for site in &self.sites {
+            site.bell.ring_all();
+        }
+    }
+
+    /// Rings at the nodes that the waves' tree has beside a node, its parent and its children: a control step of one may
+    /// allow one of the other.
+    pub fn ring_beside(&self, node: NodeId) {
+        let place = node.0 as usize;
+        for beside in [place.saturating_sub(1) / 2, 2 * place + 1, 2 * place + 2] {
+            if beside != place
+                && let Some(site) = self.sites.get(beside)
+            {
+                site.bell.ring();
+            }
         }
     }
 
@@ -199,6 +218,7 @@ fn lock_nodes<N: Drop>(nodes: Vec<N>, sites: &mut Vec<Site<N>>)
             node: Mutex::new(node),
             ready: AtomicU64::new(0),
             mail: AtomicU64::new(0),
+            bell: Doorbell::new(),
         });
     }
 }

@@ -18,8 +18,8 @@ use tp_node::{Finished, Node, Turn as ControlTurn, Wire, Work};
 /// How many tasks are inserted in one hold of the board's lock.
 const SEEDS_IN_A_HOLD: u32 = 64;
 
-/// How often an idle worker yields, and looks at the hints, before it takes its node's lock again.
-const LOOKS: u32 = 64;
+/// How often a worker yields, and looks at the hints, before its first sleep.
+const LOOKS: u32 = 4;
 
 /// A worker of a node, with what it shares with the others.
 #[derive(Drop)]
@@ -80,17 +80,21 @@ impl<'a, G: Comparable, K: Ledgers, A: Gate, R: Wait> Worker<'a, G, K, A, R> {
         let mut idle = 0u32;
         let mut finished = None;
         let mut seen = None;
+        let Some(site) = self.locks.sites.get(self.place.0 as usize) else {
+            return Err(Refusal::NoNode);
+        };
         for _ in self.rt.forever() {
-            match self.turn(finished.take(), idle, &mut seen)? {
+            match self.turn(site, finished.take(), idle, &mut seen)? {
                 Turn::Idle => {
                     idle = idle.saturating_add(1);
                     if idle >= self.idle_turns {
                         return Err(Refusal::Stalled(idle));
                     }
-                    self.rest(seen);
+                    self.rest(site, seen, idle);
                 }
                 Turn::Moved => idle = 0,
                 Turn::Begun(work) => {
+                    site.call_for_ready();
                     finished = Some(self.perform(work, idle)?);
                     idle = 0;
                 }
@@ -101,21 +105,33 @@ impl<'a, G: Comparable, K: Ledgers, A: Gate, R: Wait> Worker<'a, G, K, A, R> {
         unreachable!()
     }
 
-    /// Yields until the hints tell that a turn may find something to do, or so many times.
-    fn rest(&self, seen: Option<Seen>) {
+    /// Yields a few times after the first idle turn in a row, and sleeps after each further one, as long as the hints tell of
+    /// nothing that a turn may find to do.
+    #[cold]
+    #[inline(never)]
+    fn rest(&self, site: &Site<Node<G, K>>, seen: Option<Seen>, idle: u32) {
+        if idle == 1 {
+            self.look_around(site, seen);
+            return;
+        }
+        let heard = site.bell.listen();
+        if !self.is_wanted(site, seen) {
+            site.bell.sleep(self.rt, heard, idle);
+        }
+        site.bell.get_up();
+    }
+
+    fn look_around(&self, site: &Site<Node<G, K>>, seen: Option<Seen>) {
         for _ in 0..LOOKS {
             thread::yield_now();
-            if self.is_wanted(seen) {
+            if self.is_wanted(site, seen) {
                 return;
             }
         }
     }
 
     /// Whether the hints tell of a stop, a ready task, a message, or a control step since the worker last asked for one.
-    fn is_wanted(&self, seen: Option<Seen>) -> bool {
-        let Some(site) = self.locks.sites.get(self.place.0 as usize) else {
-            return true;
-        };
+    fn is_wanted(&self, site: &Site<Node<G, K>>, seen: Option<Seen>) -> bool {
         if site.ready.load(Ordering::SeqCst) > 0 || site.mail.load(Ordering::SeqCst) > 0 {
             return true;
         }
@@ -128,13 +144,11 @@ impl<'a, G: Comparable, K: Ledgers, A: Gate, R: Wait> Worker<'a, G, K, A, R> {
     #[inline(always)]
     fn turn(
         &self,
+        site: &Site<Node<G, K>>,
         finished: Option<Finished<G>>,
         idle: u32,
         seen: &mut Option<Seen>,
     ) -> Result<Turn<G, K>, Refusal> {
-        let Some(site) = self.locks.sites.get(self.place.0 as usize) else {
-            return Err(Refusal::NoNode);
-        };
         let mut here = lock_soon(self.rt, &site.node);
         self.turn_at(&mut here, site, finished, idle, seen)
     }
@@ -259,6 +273,7 @@ impl<'a, G: Comparable, K: Ledgers, A: Gate, R: Wait> Worker<'a, G, K, A, R> {
             }
             ControlTurn::Moved => {
                 self.locks.control_steps.fetch_add(1, Ordering::SeqCst);
+                self.locks.ring_beside(self.place);
                 Ok(Turn::Moved)
             }
             ControlTurn::Over(ended) => Ok(Turn::Over(ended)),
@@ -325,16 +340,19 @@ impl<'a, G: Comparable, K: Ledgers, A: Gate, R: Wait> Worker<'a, G, K, A, R> {
         let Some(line) = self.locks.lines.get(link_place(number.0, to.0, nodes)) else {
             return Err(Refusal::NoNode);
         };
+        let Some(there) = self.locks.sites.get(to.0 as usize) else {
+            return Err(Refusal::NoNode);
+        };
         let mut wire = lock_soon(self.rt, &line.wire);
         let mut board = lock_soon(self.rt, &self.locks.board);
         let sent = send_next(here, &mut wire, &mut board, to, finished);
         drop(board);
         line.length.store(wire.len() as u64, Ordering::SeqCst);
-        if let Some(site) = self.locks.sites.get(to.0 as usize)
-            && sent.is_ok()
-        {
-            site.mail.fetch_add(1, Ordering::SeqCst);
+        if sent.is_ok() {
+            there.mail.fetch_add(1, Ordering::SeqCst);
         }
+        drop(wire);
+        there.bell.ring();
         sent
     }
 
@@ -347,7 +365,7 @@ impl<'a, G: Comparable, K: Ledgers, A: Gate, R: Wait> Worker<'a, G, K, A, R> {
             };
             self.announce_at(site, NodeId(place), &mut ended)?;
         }
-        self.locks.is_stopped.store(true, Ordering::SeqCst);
+        self.locks.stop();
         Ok(())
     }
 
@@ -405,7 +423,7 @@ pub(crate) fn set_fault<G: Graph, K: Ledgers, R: Wait>(
     refusal: Refusal,
 ) {
     locks.board.lock(rt).set_fault(refusal);
-    locks.is_stopped.store(true, Ordering::SeqCst);
+    locks.stop();
 }
 
 /// Whether a wire goes from a node to another.

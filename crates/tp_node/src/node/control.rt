@@ -14,19 +14,24 @@ impl<G: Graph, K: Ledgers> Node<G, K> {
     /// Makes the first step of the control waves that is lawful for this node, in the order judge, start, down, up of the
     /// lower child, up of the higher child, give. The root alone judges and starts the waves. A node with something pending
     /// starts no wave and gives nothing. It answers `Idle` where no step is lawful, and `Over` with the one token of the end
-    /// where it judged that the pool has ended.
+    /// where it judged that the pool has ended. After a fault of the board it makes none: it answers `Idle`, and no end is
+    /// judged.
     ///
     /// The waves are those of the four counter method of F. Mattern, "Algorithms for Distributed Termination Detection" (1987).
     ///
-    /// Refused, where a step is lawful: `HistoryFull` where the history has reached its limit; `NoMemory`.
+    /// Refused, where it makes a step: `HistoryFull` where the history has reached its limit; `NoMemory`.
     pub fn control_turn(&mut self, board: &mut Board<K>) -> Result<Turn<K>, Refusal>
         ensures node { self.new ≡ self.old }
+        ensures fault { IfSome board.old.fault (λ _. (result ≡ Ok Turn.Idle) × (board.new ≡ board.old)) }
         ensures idle { IfNone (turn_of self.old board.old) ((result ≡ Ok Turn.Idle) × Appends [] board.old board.new) }
         ensures event { IfSome (turn_of self.old board.old) (λ s. OnOk result (Appends (control_event s ∷ []) board.old board.new)) }
         ensures answer { IfSome (turn_of self.old board.old) (λ s. IfOk result (IsMade (ends self.old.nodes board.old.history s))) }
         ensures refusal { IfSome (turn_of self.old board.old) (λ s. Answers (full_check 1 board.old ∷ []) result) }
         ensures refused { OnErr result (Appends [] board.old board.new) }
     {
+        if board.fault().is_some() {
+            return Ok(Turn::Idle);
+        }
         let pending = self.pending();
         board.audit(&mut self.shares);
         make_first(board, &self.shares, pending)

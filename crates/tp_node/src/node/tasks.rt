@@ -53,13 +53,7 @@ impl<G: Graph, K: Ledgers> Node<G, K> {
             return Ok(None);
         }
         board.reserve(1)?;
-        let Some(begun) = self.local.begin() else {
-            unreachable!()
-        };
-        let Ok(()) = board.append(Step::Begin(begun.task), &mut self.shares) else {
-            unreachable!()
-        };
-        Ok(Some(Work::new(self.graph, begun.task, begun.inputs)))
+        Ok(self.begin_next(board))
     }
 
     /// Passes the next feed of a task that runs here on to a task of this node, which is inserted where it is unknown and

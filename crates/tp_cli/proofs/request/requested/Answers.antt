@@ -1,7 +1,7 @@
 use Rattle.std.proofs.Common.{inr}
 use Rattle.clap.proofs.TakesLemmas.{passed_up}
 use Rattle.clap.specs.Words.{app_of}
-use Rattle.tp_cli.proofs.Asked.{fails_as, neither_asked}
+use Rattle.tp_cli.proofs.Asked.{fails_as, neither_asked, none_asked}
 use Rattle.tp_cli.proofs.request.requested.Goals as goal
 
 pub returns-in_err-matches-clause-why : goal.returns-in_err-matches-clause-why
@@ -14,5 +14,5 @@ pub returns-clause-why : goal.returns-clause-why
 returns-clause-why c =
     inr (inr (
       c.in_ok-error-in-None.ensures.kind,
-      neither_asked (app_of c.in_ok-command.command) _ c.in_ok-matches.matches c.in_ok-command.ensures c.in_ok-matches.ensures.ok.2 c.in-None.ensures,
+      neither_asked (app_of c.in_ok-command.command) _ c.in_ok-matches.matches c.in_ok-command.ensures c.in_ok-matches.ensures.ok.2 (none_asked _ _ _ c.in-None.is c.in_ok-request.ensures),
     ))

@@ -1,16 +1,6 @@
-use Rattle.std.proofs.Common.{rules}
-use Rattle.tp_node.proofs.Kept.{begun_keeps}
-use Rattle.tp_node.proofs.Right.{ready_inputs}
+use Rattle.tp_node.proofs.Begins.{begins_reserved}
 use Rattle.tp_node.proofs.node.Node.begin.Goals as goal
 
-pub new-requires-clause-known : goal.new-requires-clause-known
-new-requires-clause-known g c κs within = (ready_inputs _ _ _ _ c.self.invariant.right c.in-Some.ensures.sound c.in-Some.ensures.life c.in-Some.ensures.inputs).0
-
-pub new-requires-clause-right : goal.new-requires-clause-right
-new-requires-clause-right g c κs within = (ready_inputs _ _ _ _ c.self.invariant.right c.in-Some.ensures.sound c.in-Some.ensures.life c.in-Some.ensures.inputs).1
-
-pub invariant_of-self : goal.invariant_of-self
-invariant_of-self g c = begun_keeps _ _ _ _ _ _ _ _ _ _ c.self.invariant c.in-Some.ensures.begun c.in-Ok.ensures.shares c.in-Some.ensures.counted
-
 pub returns-clause-begun : goal.returns-clause-begun
-returns-clause-begun g c = search rules
+returns-clause-begun g c =
+    begins_reserved c.begin_next.result c.args.self.now c.begin_next.new.self c.args.board.now c.reserve.new.self c.begin_next.new.board 1 c.in_ok-reserve.ensures.ok c.begin_next.ensures.begun

@@ -1,7 +1,7 @@
-use Rattle.std.proofs.Common.{ap, sym, ◌∙◌, rules}
+use Rattle.std.proofs.Common.{◌≡◌, ap, false, is_some, sym, ◌∙◌, rules}
 use Rattle.tp_board.specs.Numbers.{NodeNumbers}
 use Rattle.tp_node.specs.Nodes.{NodeState}
-use Rattle.tp_node.proofs.Turns.{answered, appended, idle, kept, refused, turn_told}
+use Rattle.tp_node.proofs.Turns.{answered, appended, idle, kept, refused, turn_told, unset}
 use Rattle.tp_node.proofs.node.Node.control_turn.Goals as goal
 
 pub returns : goal.returns
@@ -10,4 +10,13 @@ returns g c =
     let nodes = sym c.self.invariant.nodes ∙ ap (λ (n : NodeState g.row.G.Denot). n.nodes) c.self.view_is in
     let number = ap (λ (n : NodeNumbers). n.node) c.audit.ensures.same.1 ∙ ap (λ (n : NodeState g.row.G.Denot). n.numbers.node) c.self.view_is in
     let turn = turn_told now c.args.board.now nodes number c.audit.ensures.same.0 c.make_first.ensures in
-    record { node = search rules; idle = idle now turn; event = appended now turn; answer = answered now turn; refusal = refused now turn; refused = kept now turn }
+    let sound : is_some c.args.board.now.fault ≡ false = search rules in
+    record {
+      node = search rules;
+      fault = unset c.args.board.now.fault _ sound;
+      idle = idle now sound turn;
+      event = appended now sound turn;
+      answer = answered now sound turn;
+      refusal = refused now sound turn;
+      refused = kept now sound turn;
+    }

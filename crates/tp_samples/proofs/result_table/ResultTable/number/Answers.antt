@@ -14,8 +14,8 @@ pub returns : goal.returns
 returns c =
     let cell = c.cell-rank.ensures in
     let graph = c.self.inside.graph in
-    let within : c.cell-rank.result.0 < length c.self.inside.values = omega (arith, c.self.invariant.long, needed_few graph, cell.known) in
-    let stands = get_or_default c.self.inside.values c.cell-rank.result.0 None _ within ∙ c.in-Some.is in
+    let within : c.cell-rank.result.0 < length c.self.inside.values.now = omega (arith, c.self.invariant.long, needed_few graph, cell.known) in
+    let stands = get_or_default c.self.inside.values.now c.cell-rank.result.0 None _ within ∙ c.in-Some.is in
     let P : Option (Bor (List ℤ)) → Type 0 = λ o. IsSomeAnd o (λ found. value_of (any_graph graph) (needed_task graph c.cell-rank.result.0) ≡ Some found.now) in
     let right : value_of (any_graph graph) (needed_task graph c.cell-rank.result.0) ≡ Some c.in-Some.value.now = subst P stands (c.self.invariant.each c.cell-rank.result.0 cell.known) in
     let number = number_is graph c.args.i c.args.j c.cell-rank.result.0 c.cell-rank.result.1 c.in-Some.value.now cell right in

@@ -1,0 +1,27 @@
+use Rattle.std.proofs.Common.{◌≡◌, ◌∙◌, codes, subst, sym, Some}
+use Rattle.std.proofs.lemmas.Result.{IfOk-weaker}
+use Rattle.clap.proofs.WalkLemmas.{first_value-rows}
+use Rattle.clap.specs.Words.{found_of, rows_of}
+use Rattle.tp_cli.proofs.Asked.{asked_as, pools_unnamed, run_unnamed}
+use Rattle.tp_cli.specs.Asked.{IsMadeBy}
+use Rattle.tp_cli.proofs.request.asked_of.Goals as goal
+
+pub returns-in-run : goal.returns-in-run
+returns-in-run c =
+    let found = found_of c.args.arguments.now in
+    let is : c.args.name.now ≡ codes "run" = c.in-run.is in
+    asked_as c.run_asked.result _ _ _ _
+    (λ lacks. run_unnamed c.args.name.now (rows_of found) is (sym (first_value-rows found (codes "SPEC")) ∙ lacks))
+    (λ request made. subst (λ name. IsMadeBy (Some (name, rows_of found)) request) (sym is) made)
+    c.run_asked.ensures
+
+pub returns-in-pools : goal.returns-in-pools
+returns-in-pools c =
+    let rows = rows_of (found_of c.args.arguments.now) in
+    let is : c.args.name.now ≡ codes "pools" = c.in-pools.is in
+    IfOk-weaker c.pools_asked.result _ _
+    (λ o asked. asked_as o _ _ _ _
+    (λ lacks. pools_unnamed c.args.name.now rows is lacks)
+    (λ request made. subst (λ name. IsMadeBy (Some (name, rows)) request) (sym is) made)
+    asked)
+    c.pools_asked.ensures

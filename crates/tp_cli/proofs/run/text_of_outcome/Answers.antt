@@ -1,0 +1,16 @@
+use Rattle.std.proofs.Common.{◌≡◌, ◌∙◌, ◌++◌, ap₂, ap}
+use Rattle.tp_cli.proofs.Counted.{tasks-outcome}
+use Rattle.tp_cli.proofs.Printed.{printed_table}
+use Rattle.tp_cli.specs.Runs.{totals_text}
+use Rattle.tp_samples.specs.Any.{any_graph}
+use Rattle.tp_cli.proofs.run.text_of_outcome.Goals as goal
+
+pub returns-in_ok-extend_from_slice-in-Table : goal.returns-in_ok-extend_from_slice-in-Table
+returns-in_ok-extend_from_slice-in-Table c =
+    let outcome = c.args.outcome.now in
+    let graph = any_graph c.args.graph in
+    let tasks : outcome.tasks ≡ graph.tasks = tasks-outcome c.args.nodes graph outcome c.requires.made in
+    let totals : c.as_bytes.result.now ≡ totals_text graph.tasks outcome.messages =
+    c.as_bytes.ensures.value ∙ c.in_ok-totals-in-Table.ensures ∙ ap (λ n. totals_text n outcome.messages) tasks in
+    printed_table c.args.form c.args.graph c.args.nodes outcome _ c.in-Table.is
+    (c.in_ok-extend_from_slice-in-Table.ensures.items ∙ ap₂ (λ a b. a ++ b) c.in_ok-text-in-Table.ensures.printed totals)

@@ -1,0 +1,69 @@
+-- The words of several pools: which of them are refused, and the text of their runs.
+use Rattle.std.specs.Prelude.{ℕ, suc, ◌≡◌, ◌≤◌, ◌<◌, ◌⊎◌, ◌++◌, Bool, true, List, [], ◌∷◌, Some, Result, Ok, Err, codes, decimal, length, map, slice_get, take}
+use Rattle.std.specs.List.{list_all, list_any}
+use Rattle.std.specs.Result.{is_ok}
+use Rattle.std.specs.Str.{bytes_eq}
+use Rattle.tp_base.specs.Refusals.{number_of, name_of}
+use Rattle.tp_base.specs.declared.limits.TheConstants.{MAX_POOLS}
+use Rattle.tp_base.specs.declared.refusal.Refusal.{Refusal}
+use Rattle.tp_base.specs.declared.refusal.Refusal.TheVariants.{BadSpec, PoolKnown, StoreFull}
+use Rattle.tp_cli.specs.Runs.{NamesNoGraph}
+use Rattle.tp_pools.specs.Pools.{Pools, registered}
+use Rattle.tp_samples.specs.Words.{word_of}
+use Rattle.tp_samples.specs.declared.any.AnyGraph.{AnyGraph}
+use Rattle.tp_several.specs.Answers.{AreRunAnswers}
+use Rattle.tp_work.specs.declared.config.Fault.{Fault}
+use Rattle.tp_work.specs.declared.config.Outcome.{Outcome}
+
+abbrev pub Word : Type 0
+Word = List ℕ
+
+-- ---- the words
+
+-- one of these words is this
+abbrev pub is_among : List Word → Word → Bool
+is_among words word = list_any (λ w. bytes_eq w word) words
+
+-- why a word behind these is refused: it names no graph, or is one of them
+abbrev pub IsRefusedBehind : List Word → Word → Refusal → Type 0
+IsRefusedBehind before word r = ((r ≡ BadSpec) × NamesNoGraph word) ⊎ ((r ≡ PoolKnown) × (is_among before word ≡ true))
+
+-- None of the first k words is refused behind those before it.
+abbrev pub AreTakenTo : ℕ → List Word → Type 0
+AreTakenTo k words = (i : ℕ) (word : Word) (r : Refusal) → i < k → slice_get words i ≡ Some word → ¬ IsRefusedBehind (take i words) word r
+
+-- These words are refused for this: there are more than 8 of them, or else for the first that is refused behind those before it.
+abbrev pub AreInVain : List Word → Refusal → Type 0
+AreInVain words r = ((MAX_POOLS < length words) × (r ≡ StoreFull))
+    ⊎ ((length words ≤ MAX_POOLS)
+    × ((i : ℕ) × (word : Word) × (slice_get words i ≡ Some word) × AreTakenTo i words × IsRefusedBehind (take i words) word r))
+
+-- The words name these graphs, no two are the same, and there are at most 8.
+pub record AreNamed (words : List Word) (graphs : List AnyGraph) : Type 0 where
+  pub few : length words ≤ MAX_POOLS
+  pub named : words ≡ map word_of graphs
+  pub taken : AreTakenTo (length words) words
+
+-- the registry in which each of these graphs was registered under its word, in their order
+abbrev pub pools_of : List AnyGraph → Pools
+pools_of graphs = map (λ g. registered (word_of g) g) graphs
+
+-- ---- the text
+
+-- the line of the pool of this number and word: its tasks and messages where it ended, or what it was refused for
+abbrev pub pool_line : ℕ → Word → Result Outcome Fault → List ℕ
+pool_line i word (Ok o) = codes "pool " ++ (decimal i ++ (codes " " ++ (word
+    ++ (codes " ended tasks " ++ (decimal o.tasks ++ (codes " messages " ++ (decimal o.messages ++ codes "\n")))))))
+pool_line i word (Err f) = codes "pool " ++ (decimal i ++ (codes " " ++ (word
+    ++ (codes " refused " ++ (decimal (number_of f.refusal) ++ (codes " " ++ (name_of f.refusal ++ codes "\n")))))))
+
+-- the lines of these words' pools by their answers, in their order, the first being of this number
+unfoldable pub lines_from : ℕ → List Word → List (Result Outcome Fault) → List ℕ
+lines_from i (word ∷ words) (answer ∷ answers) = pool_line i word answer ++ lines_from (suc i) words answers
+lines_from i _ _ = []
+
+-- The words name pools, these were run on n nodes, each of them ended or not, and this is the text of what they answered.
+abbrev pub IsPoolsText : List Word → ℕ → Bool → List ℕ → Type 0
+IsPoolsText words n each_ended text = (graphs : List AnyGraph) × (answers : List (Result Outcome Fault))
+    × AreNamed words graphs × AreRunAnswers n graphs answers
+    × (each_ended ≡ list_all is_ok answers) × (text ≡ lines_from 0 words answers)

@@ -1,0 +1,154 @@
+ghost use Rattle.std.specs.Prelude.{◌≡◌, ◌≢◌, List, ℕ, IfErr, IfOk, Bool, length, map};
+ghost use Rattle.std.specs.Io.KnownBytes.{Appends};
+ghost use Rattle.std.specs.List.{list_all};
+ghost use Rattle.std.specs.Result.{is_ok};
+ghost use Rattle.std.specs.String.{string_bytes};
+ghost use Rattle.tp_base.specs.Refusals.{name_of, number_of};
+ghost use Rattle.tp_base.specs.declared.refusal.Refusal.{Refusal};
+ghost use Rattle.tp_base.specs.declared.refusal.Refusal.TheVariants.{NoMemory};
+ghost use Rattle.tp_cli.specs.Pools.{AreInVain, AreNamed, IsPoolsText, lines_from, pool_line, pools_of};
+ghost use Rattle.tp_samples.specs.declared.any.AnyGraph.{AnyGraph};
+ghost use Rattle.tp_several.specs.Answers.{AreRunAnswers};
+ghost use Rattle.tp_work.specs.Outcomes.{IsWithinLimits};
+
+use crate::run::{RunFault, write_text};
+use std::alloc::{AllocError, Global};
+use std::io::Write;
+use std::sync::Wait;
+use std::thread::Threads;
+use tp_base::{MAX_POOLS, Refusal};
+use tp_pools::Registry;
+use tp_several::run_pools;
+use tp_work::{Config, Fault, OpenGate, Outcome};
+
+/// Runs the pools that the words name, all at once, and writes a line for each, in the order of the words. Nothing is written
+/// before all of it is known. Answers whether each pool ended.
+pub(crate) fn run_several<O: Write, R: Threads + Wait + Sync>(
+    rt: &R,
+    alloc: Global,
+    words: &[&str],
+    config: Config,
+    out: &mut O,
+) -> Result<bool, RunFault>
+    requires { IsWithinLimits config }
+    ensures ran { IfOk result (λ each_ended. (text : List ℕ) × IsPoolsText (map (λ w. w.now) words.now) config.nodes each_ended text
+        × Appends (O.contents out.old) (O.contents out.new) text) }
+    // Where the text could not be written, it was made.
+    ensures made { IfErr result (λ fault. fault ≡ RunFault.Write
+        → (each_ended : Bool) × (text : List ℕ) × IsPoolsText (map (λ w. w.now) words.now) config.nodes each_ended text) }
+    ensures vain { IfErr result (λ fault. (refusal : Refusal) → fault ≡ RunFault.Spec refusal → AreInVain (map (λ w. w.now) words.now) refusal) }
+    ensures unwritten { IfErr result (λ fault. fault ≢ RunFault.Write → out.new ≡ out.old) }
+{
+    let registry = registry_of(alloc, words)?;
+    let answers = answers_of(rt, alloc, registry, config).map_err(RunFault::Run)?;
+    let text = text_of_pools(alloc, words, &answers).map_err(|_| RunFault::Run(Refusal::NoMemory))?;
+    write_text(out, &text)?;
+    Ok(each_ended(&answers))
+}
+
+/// Whether each run ended.
+fn each_ended(answers: &[Result<Outcome, Fault>]) -> bool
+    ensures { result ≡ list_all is_ok answers.now }
+{
+    answers.iter().all(|answer| answer.is_ok())
+}
+
+/// The registry in which the words' pools are registered, each under its word.
+fn registry_of(alloc: Global, words: &[&str]) -> Result<Registry, RunFault>
+    ensures named { IfOk result (λ registry. (graphs : List AnyGraph) × AreNamed (map (λ w. w.now) words.now) graphs × (registry ≡ pools_of graphs)) }
+    ensures vain { IfErr result (λ fault. (refusal : Refusal) → fault ≡ RunFault.Spec refusal → AreInVain (map (λ w. w.now) words.now) refusal) }
+    ensures unwritten { IfErr result (λ fault. fault ≢ RunFault.Write) }
+{
+    if words.len() > MAX_POOLS as usize {
+        return Err(RunFault::Spec(Refusal::StoreFull));
+    }
+    let mut registry = Registry::new(alloc);
+    for word in words {
+        if let Err(refusal) = registry.register(word, word) {
+            return Err(word_fault(refusal));
+        }
+    }
+    Ok(registry)
+}
+
+/// The fault of a word that was refused. Want of memory is none of its own.
+fn word_fault(refusal: Refusal) -> RunFault
+    ensures word { (r : Refusal) → result ≡ RunFault.Spec r → (refusal ≡ r) × (r ≢ NoMemory) }
+    ensures unwritten { result ≢ RunFault.Write }
+{
+    match refusal {
+        Refusal::NoMemory => RunFault::Run(refusal),
+        _ => RunFault::Spec(refusal),
+    }
+}
+
+/// What the runs of all pools answer, in the order of registration.
+fn answers_of<R: Threads + Wait + Sync>(
+    rt: &R,
+    alloc: Global,
+    mut registry: Registry,
+    config: Config,
+) -> Result<Vec<Result<Outcome, Fault>>, Refusal>
+    requires { IsWithinLimits config }
+    ensures { IfOk result (λ answers. (graphs : List AnyGraph) → registry ≡ pools_of graphs → AreRunAnswers config.nodes graphs answers.items) }
+{
+    run_pools(rt, alloc, &mut registry, config, &OpenGate)
+}
+
+/// A line for each word's pool.
+fn text_of_pools(
+    alloc: Global,
+    words: &[&str],
+    answers: &[Result<Outcome, Fault>],
+) -> Result<Vec<u8>, AllocError>
+    requires { length answers.now ≡ length words.now }
+    ensures { IfOk result (λ text. text.items ≡ lines_from 0 (map (λ w. w.now) words.now) answers.now) }
+{
+    let mut text = Vec::new(alloc);
+    for (number, word) in words.iter().enumerate() {
+        let line = pool_line(alloc, number, word, &answers[number])?;
+        text.extend_from_slice(line.as_bytes())?;
+    }
+    Ok(text)
+}
+
+/// The line of a pool.
+fn pool_line(
+    alloc: Global,
+    number: usize,
+    word: &str,
+    answer: &Result<Outcome, Fault>,
+) -> Result<String, AllocError>
+    ensures { IfOk result (λ line. string_bytes line ≡ pool_line number word.now answer.now) }
+{
+    match answer {
+        Ok(outcome) => ended_line(alloc, number, word, outcome),
+        Err(fault) => refused_line(alloc, number, word, fault),
+    }
+}
+
+fn ended_line(
+    alloc: Global,
+    number: usize,
+    word: &str,
+    outcome: &Outcome,
+) -> Result<String, AllocError>
+    ensures { IfOk result (λ line. string_bytes line ≡ pool_line number word.now (Ok outcome.now)) }
+{
+    let tasks = outcome.tasks;
+    let messages = outcome.messages;
+    format!(in alloc; "pool {number} {word} ended tasks {tasks} messages {messages}\n")
+}
+
+fn refused_line(
+    alloc: Global,
+    number: usize,
+    word: &str,
+    fault: &Fault,
+) -> Result<String, AllocError>
+    ensures { IfOk result (λ line. string_bytes line ≡ pool_line number word.now (Err fault.now)) }
+{
+    let refused = fault.refusal.number();
+    let name = fault.refusal.name();
+    format!(in alloc; "pool {number} {word} refused {refused} {name}\n")
+}

@@ -1,0 +1,33 @@
+ghost use Rattle.std.specs.Prelude.{◌≡◌, IfOk};
+ghost use Rattle.tp_graph.specs.Serial.{AreRight};
+ghost use Rattle.tp_heat.specs.Heats.{heat_graph, evolve};
+
+use crate::heat::Heat;
+use std::alloc::Global;
+use tp_base::{Refusal, TaskId};
+use tp_graph::{Value, places, serial, value_at};
+
+/// The rod at its end, from the results of its tasks.
+pub fn rod_of(alloc: Global, heat: &Heat, results: &[(TaskId, Value)]) -> Result<Vec<i64>, Refusal>
+    requires { AreRight (heat_graph heat.now.cells.now heat.now.blocks heat.now.size heat.now.steps) results.now }
+    ensures { IfOk result (λ rod. rod.items ≡ evolve heat.now.steps heat.now.cells.now) }
+{
+    let (blocks, steps) = (heat.blocks(), heat.steps());
+    let places = places(alloc, (steps + 1) * blocks, results)?;
+    let mut rod = Vec::new(alloc);
+    for b in 0..blocks {
+        let Some(value) = value_at(results, places.as_slice(), TaskId(steps * blocks + b)) else {
+            return Err(Refusal::Missing);
+        };
+        rod.extend_from_slice(value.as_slice())?;
+    }
+    Ok(rod)
+}
+
+/// The rod at its end, worked out on one thread.
+pub fn rod_by_one(alloc: Global, heat: Heat) -> Result<Vec<i64>, Refusal>
+    ensures { IfOk result (λ rod. rod.items ≡ evolve heat.entry.steps heat.entry.cells.now) }
+{
+    let results = serial(alloc, heat)?;
+    rod_of(alloc, &heat, results.as_slice())
+}

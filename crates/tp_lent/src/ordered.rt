@@ -1,0 +1,26 @@
+ghost use Rattle.std.specs.Prelude.{IfErr, IfOk};
+ghost use Rattle.tp_graph.specs.Serial.{AreValues};
+ghost use Rattle.tp_work.specs.Outcomes.{IsFault, IsWithinLimits};
+
+use std::alloc::Global;
+use std::sync::Wait;
+use std::thread::Threads;
+use tp_base::TaskId;
+use tp_graph::{Graph, Value, in_order};
+use tp_work::{Config, Fault, OpenGate, run_pool};
+
+/// The value of each task of a graph, in rising order, as [`serial`](tp_graph::serial) gives them, worked out by a pool of threads.
+/// Refused for what [`run_pool`] is refused for.
+pub fn run_in_order<G: Graph, R: Threads + Wait + Sync>(
+    rt: &R,
+    alloc: Global,
+    graph: G,
+    config: Config,
+) -> Result<Vec<(TaskId, Value)>, Fault>
+    requires { IsWithinLimits config }
+    ensures values { IfOk result (λ results. AreValues (G.meaning graph) (G.meaning graph).tasks results.items) }
+    ensures fault { IfErr result (IsFault config.nodes (G.meaning graph)) }
+{
+    let outcome = run_pool(rt, alloc, graph, config, &OpenGate)?;
+    Ok(in_order(outcome.results))
+}

@@ -1,0 +1,110 @@
+ghost use Rattle.std.specs.Prelude.{◌≡◌, ◌≤◌, ◌<◌, ◌+◌, ◌*◌, ◌⊎◌, IfOk, MatchOption};
+ghost use Rattle.tp_base.specs.declared.limits.TheConstants.{MAX_STEPS};
+ghost use Rattle.tp_heat.specs.Heats.{evolve};
+ghost use Rattle.tp_lent.specs.Events.{blocks_of, heat_events, row_inputs, row_messages};
+ghost use Rattle.tp_work.specs.Outcomes.{IsWithinLimits};
+
+use std::alloc::Global;
+use std::sync::Wait;
+use std::thread::Threads;
+use tp_base::{MAX_STEPS, Refusal};
+use tp_heat::{Heat, rod_of};
+use tp_work::{Config, OpenGate, run_pool};
+
+/// Heat in a rod of some cells, after so many steps, worked out by a pool of threads in blocks of so many cells. Refused with
+/// `BadSpec` where the cells give no rod ([`Heat::new`]), and else for what [`run_pool`] is refused for.
+pub fn run_heat<R: Threads + Wait + Sync>(
+    rt: &R,
+    alloc: Global,
+    cells: &[i64],
+    size: u32,
+    steps: u32,
+    config: Config,
+) -> Result<Vec<i64>, Refusal>
+    requires { IsWithinLimits config }
+    ensures { IfOk result (λ rod. rod.items ≡ evolve steps cells.now) }
+{
+    let Some(heat) = Heat::new(cells, size, steps) else {
+        return Err(Refusal::BadSpec);
+    };
+    match run_pool(rt, alloc, heat, config, &OpenGate) {
+        Ok(outcome) => rod_of(alloc, &heat, &outcome.results),
+        Err(fault) => Err(fault.refusal),
+    }
+}
+
+/// How many numbers a run may keep, so that its memory stays some hundred megabytes.
+const MOST_KEPT: u64 = 1 << 24;
+
+/// How many events are planned for a run of several steps: some are left for the waves that detect its end.
+const MOST_PLANNED: u64 = 1_000_000;
+
+/// How many steps of a rod of so many cells, in blocks of so many, one run takes at so many nodes: as many as the limit of
+/// events lets, and no more than keep some 16 million numbers. None where there is no cell, a block is of none, or the events
+/// of a single step are above the limit.
+pub fn steps_at_once(cells: u64, size: u32, nodes: u32) -> Option<u64>
+    ensures { MatchOption result ((cells ≡ 0) ⊎ ((size ≡ 0) ⊎ (MAX_STEPS < heat_events (blocks_of cells size) nodes 1)))
+        (λ steps. (1 ≤ steps) × (heat_events (blocks_of cells size) nodes steps ≤ MAX_STEPS)) }
+{
+    if cells == 0 || size == 0 {
+        return None;
+    }
+    let blocks = (cells - 1) / u64::from(size) + 1;
+    if blocks > u64::from(MAX_STEPS) {
+        return None;
+    }
+    let row = row_events(blocks, nodes);
+    if 3 * blocks + row > u64::from(MAX_STEPS) {
+        return None;
+    }
+    Some(planned_steps(3 * blocks, row, MOST_KEPT / cells))
+}
+
+/// The events of one step.
+fn row_events(blocks: u64, nodes: u32) -> u64
+    requires { (1 ≤ blocks) × (blocks ≤ MAX_STEPS) }
+    ensures same { result ≡ row_inputs blocks + 2 * blocks + 3 * row_messages blocks nodes }
+    ensures some { (1 ≤ result) × (result ≤ 11 * MAX_STEPS) }
+{
+    let messages = if 1 < nodes { 2 * blocks - 2 } else { 0 };
+    (3 * blocks - 2) + 2 * blocks + 3 * messages
+}
+
+/// As many steps as are planned for a run whose first row takes so many events, and each step so many: one at least.
+#[tactic(auto, using(crate::proofs::Parts::planned_fit))]
+fn planned_steps(first: u64, row: u64, kept: u64) -> u64
+    requires { (1 ≤ row) × (first + row ≤ MAX_STEPS) }
+    ensures some { 1 ≤ result }
+    ensures fit { first + result * row ≤ MAX_STEPS }
+{
+    let planned = MOST_PLANNED.saturating_sub(first) / row;
+    let steps = if planned < kept { planned } else { kept };
+    if steps < 1 { 1 } else { steps }
+}
+
+/// Heat in a rod of some cells, after any number of steps, worked out by pools of threads one after the other, each over the
+/// rod that the one before gave. Refused with `BadSpec` where the cells give no rod or the events of a single step are above the
+/// limit ([`steps_at_once`]), and else for what [`run_heat`] is refused for.
+pub fn run_heat_in_parts<R: Threads + Wait + Sync>(
+    rt: &R,
+    alloc: Global,
+    cells: Vec<i64>,
+    size: u32,
+    steps: u64,
+    config: Config,
+) -> Result<Vec<i64>, Refusal>
+    requires { IsWithinLimits config }
+    ensures { IfOk result (λ rod. rod.items ≡ evolve steps cells.items) }
+{
+    let Some(most) = steps_at_once(cells.len() as u64, size, config.nodes) else {
+        return Err(Refusal::BadSpec);
+    };
+    let mut rod = cells;
+    let mut left = steps;
+    while left > 0 {
+        let now = left.min(most);
+        rod = run_heat(rt, alloc, &rod, size, now as u32, config)?;
+        left -= now;
+    }
+    Ok(rod)
+}

@@ -1,0 +1,39 @@
+ghost use Rattle.std.specs.Prelude.{◌≡◌, ◌*◌, IfOk};
+ghost use Rattle.tp_graph.specs.Serial.{AreRight};
+ghost use Rattle.tp_matrix.specs.Matrices.{matrix_graph, product_of};
+
+use crate::product::Product;
+use crate::tile::number_at;
+use std::alloc::Global;
+use tp_base::{Refusal, TaskId};
+use tp_graph::{Value, places, serial, value_at};
+
+/// The product of the matrices, from the results of its tasks.
+pub fn matrix_of(
+    alloc: Global,
+    product: &Product,
+    results: &[(TaskId, Value)],
+) -> Result<Vec<i64>, Refusal>
+    requires { AreRight (matrix_graph product.now.left.now product.now.right.now product.now.tiles product.now.side) results.now }
+    ensures { IfOk result (λ made. made.items ≡ product_of (product.now.tiles * product.now.side) product.now.left.now product.now.right.now) }
+{
+    let order = product.order();
+    let places = places(alloc, product.count(), results)?;
+    let mut made = Vec::new(alloc);
+    for q in 0..order * order {
+        let (x, y) = (q / order, q % order);
+        let Some(value) = value_at(results, places.as_slice(), TaskId(product.task_at(x, y))) else {
+            return Err(Refusal::Missing);
+        };
+        made.push(number_at(value.as_slice(), product.place_at(x, y)))?;
+    }
+    Ok(made)
+}
+
+/// The product of the matrices, worked out on one thread.
+pub fn matrix_by_one(alloc: Global, product: Product) -> Result<Vec<i64>, Refusal>
+    ensures { IfOk result (λ made. made.items ≡ product_of (product.entry.tiles * product.entry.side) product.entry.left.now product.entry.right.now) }
+{
+    let results = serial(alloc, product)?;
+    matrix_of(alloc, &product, results.as_slice())
+}

@@ -1,0 +1,70 @@
+ghost use Rattle.std.specs.Prelude.{◌≡◌, ◌≤◌, ◌<◌, [], ◌∷◌, None, Some, min, IfOk, IfSome, IsOk, MatchOption, OnErr};
+ghost use Rattle.tp_board.specs.Calls.{Answers, Appends};
+ghost use Rattle.tp_board.specs.States.{full_check};
+ghost use Rattle.tp_node.specs.Begins.{BeginsSome, ready_count};
+ghost use Rattle.tp_node.specs.Calls.{Begins};
+ghost use Rattle.tp_slots.specs.Content.{front};
+ghost use Rattle.tp_store.specs.Content.{life_of};
+ghost use Rattle.tp_store.specs.Sound.{IsSound};
+ghost use Rattle.tp_store.specs.declared.life.Life.TheVariants as lives;
+
+use crate::node::Node;
+use crate::work::Work;
+use smallvec::SmallVec;
+use tp_base::{Refusal, Step};
+use tp_board::{Board, Ledgers};
+use tp_graph::Graph;
+
+impl<G: Graph, K: Ledgers> Node<G, K> {
+    /// Begins the next ready tasks, each as [`begin`](Node::begin) does: `max` of them, 1 to 8, or all where fewer are ready.
+    /// Each place of the answer has the work of one of them, in the order in which they began. Room for all their events is
+    /// made first.
+    ///
+    /// Refused: `HistoryFull` where fewer events may be than tasks would begin; `NoMemory`. No task has begun then.
+    pub fn begin_some(
+        &mut self,
+        board: &mut Board<K>,
+        max: u32,
+    ) -> Result<SmallVec<Option<Work<G>>, 8>, Refusal>
+        requires { (1 ≤ max) × (max ≤ 8) }
+        ensures none { ready_count self.old ≡ 0 → IsOk result }
+        ensures begun { IfOk result (λ works. BeginsSome self.old self.new board.old board.new (min (ready_count self.old) max) works.items) }
+        ensures refusal { Answers (full_check (min (ready_count self.old) max) board.old ∷ []) result }
+        ensures refused { OnErr result (Appends [] board.old board.new × (self.new ≡ self.old)) }
+    {
+        let count = self.counts().ready.min(max);
+        board.reserve(count)?;
+        Ok(self.begin_each(board, count))
+    }
+
+    /// Begins so many ready tasks, in the places that were reserved for their events.
+    fn begin_each(&mut self, board: &mut Board<K>, count: u32) -> SmallVec<Option<Work<G>>, 8>
+        requires few { count ≤ 8 }
+        requires ready { count ≤ ready_count self.old }
+        requires reserved { count ≤ board.old.reserved }
+        ensures { BeginsSome self.old self.new board.old board.new count result.items }
+    {
+        let mut works = SmallVec::new(self.alloc);
+        for _ in 0..count {
+            works.push_reserved(self.begin_next(board));
+        }
+        works
+    }
+
+    /// Begins the next ready task, where one is ready, in the place that was reserved for its event.
+    #[inline(always)]
+    pub(crate) fn begin_next(&mut self, board: &mut Board<K>) -> Option<Work<G>>
+        requires { 0 < board.old.reserved }
+        ensures begun { MatchOption result ((front self.old.state.store.ready ≡ None) × (self.new ≡ self.old) × (board.new ≡ board.old)) (Begins self.old self.new board.old board.new) }
+        ensures life { IfSome result (λ work. life_of self.old.state.store work.task ≡ Some lives.Ready) }
+        ensures sound { IsSound self.old.state.store }
+    {
+        let Some(begun) = self.local.begin() else {
+            return None;
+        };
+        let Ok(()) = board.append(Step::Begin(begun.task), &mut self.shares) else {
+            unreachable!()
+        };
+        Some(Work::new(self.graph, begun.task, begun.inputs))
+    }
+}

@@ -1,0 +1,88 @@
+ghost use Rattle.std.specs.Prelude.{◌≡◌, ◌≤◌};
+ghost use Rattle.tp_test_whole.specs.Broken.{broken_graph, broken_lawful};
+
+use std::alloc::Global;
+use std::sync::Wait;
+use std::thread::Threads;
+use tp_base::{NodeId, Refusal, TaskId};
+use tp_graph::{Graph, Value};
+use tp_work::{Config, OpenGate, run_pool};
+
+/// Nine tasks, of which the body of task 5 fails.
+#[derive(Clone, Copy)]
+struct Broken;
+
+impl Graph for Broken {
+    ghost meaning = { λ _. broken_graph };
+
+    ghost lawful = { λ _. broken_lawful };
+
+    fn tasks(&self) -> u32 {
+        9
+    }
+
+    fn arity(&self, _task: TaskId) -> u8 {
+        0
+    }
+
+    fn class(&self, _task: TaskId) -> u8 {
+        0
+    }
+
+    fn feeds(&self, _task: TaskId) -> u32 {
+        0
+    }
+
+    fn feed(&self, task: TaskId, _turn: u32) -> (TaskId, u8) {
+        (task, 0)
+    }
+
+    fn home(&self, task: TaskId, nodes: u32) -> NodeId {
+        NodeId(task.0 % nodes)
+    }
+
+    fn body(&self, alloc: Global, task: TaskId, _inputs: &[Value]) -> Result<Value, Refusal> {
+        if task.0 == 5 {
+            return Err(Refusal::BodyFailed);
+        }
+        Ok(Value::one(alloc, i64::from(task.0))?)
+    }
+}
+
+/// Why the pool ended, whether something is pending then, and whether the end was judged.
+fn left_by<R: Threads + Wait + Sync>(
+    rt: &R,
+    alloc: Global,
+    nodes: u32,
+    workers: u32,
+) -> Option<(Refusal, bool, bool)>
+    requires nodes { (1 ≤ nodes) × (nodes ≤ 8) }
+    requires workers { (1 ≤ workers) × (workers ≤ 8) }
+{
+    let config = Config {
+        nodes,
+        workers,
+        idle_turns: 100_000_000,
+    };
+    match run_pool(rt, alloc, Broken, config, &OpenGate) {
+        Ok(_) => None,
+        Err(fault) => {
+            let report = fault.report.as_ref()?;
+            Some((fault.refusal, report.pending > 0, report.ended))
+        }
+    }
+}
+
+#[test]
+fn a_body_that_fails_is_the_fault_of_the_pool(rt: HostRuntime) {
+    for nodes in [1, 2, 8] {
+        for workers in [1, 8] {
+            let left = left_by(&rt, rt.alloc(), nodes, workers);
+            assert_eq!(rt;
+                left,
+                Some((Refusal::BodyFailed, true, false)),
+                "{nodes} by {workers}"
+            );
+        }
+    }
+}

@@ -1,0 +1,197 @@
+ghost use Rattle.std.specs.Prelude.{◌≡◌, ◌≤◌};
+ghost use Rattle.tp_work.specs.Outcomes.{IsWithinLimits};
+
+use crate::memory::say;
+use crate::one_hand::TREE;
+use std::alloc::Global;
+use std::io::{self, Write};
+use std::sync::Wait;
+use std::test::Fail;
+use std::thread::Threads;
+use tp_base::{Refusal, TaskId};
+use tp_cli::main_with;
+use tp_pools::{Registry, Standing};
+use tp_several::run_pools;
+use tp_text::{TextFault, Verdict, audit, print_trace, sim};
+use tp_work::{Config, OpenGate, Report, run_pool};
+
+/// What a run of the tree of four leaves came to.
+#[derive(Clone, Copy, Debug, PartialEq, Eq)]
+enum End {
+    /// The value of the last task, and whether the trace was printed.
+    Root(Option<i64>, bool),
+    /// Why there is no outcome, and whether the report, where there is one, keeps the law of the messages under way and has
+    /// seven tasks done at most.
+    Stop(Refusal, bool),
+}
+
+fn run_tree<R: Threads + Wait + Sync + Eprint>(rt: &R, alloc: Global, config: Config) -> End
+    requires { IsWithinLimits config }
+{
+    match run_pool(rt, alloc, TREE, config, &OpenGate) {
+        Ok(outcome) => {
+            let root = outcome.results.iter().find(|made| made.0 == TaskId(6));
+            let value = match root {
+                Some((_, value)) => value.lone().ok(),
+                None => None,
+            };
+            let trace = match print_trace(alloc, &outcome.history, config.nodes) {
+                Err(Refusal::NoMemory) => {
+                    say(rt, "print_trace");
+                    print_trace(alloc, &outcome.history, config.nodes)
+                }
+                trace => trace,
+            };
+            End::Root(value, trace.is_ok())
+        }
+        Err(fault) => End::Stop(fault.refusal, fault.report.as_ref().is_none_or(is_lawful)),
+    }
+}
+
+fn is_lawful(report: &Report) -> bool {
+    report.sent.checked_sub(report.received) == Some(report.under) && report.done <= 7
+}
+
+/// A run at so many nodes with as many workers each, and another one where memory was refused.
+fn run_again<R: Threads + Wait + Sync + Eprint>(rt: &R, alloc: Global, nodes: u32) -> End
+    requires { (1 ≤ nodes) × (nodes ≤ 8) }
+{
+    let config = Config {
+        nodes,
+        workers: nodes,
+        idle_turns: 100_000_000,
+    };
+    match run_tree(rt, alloc, config) {
+        End::Stop(Refusal::NoMemory, true) => {
+            say(rt, "run_pool");
+            run_tree(rt, alloc, config)
+        }
+        end => end,
+    }
+}
+
+#[test]
+fn a_run_at_one_node_is_refused_memory_and_runs_again(rt: HostRuntime) {
+    assert_eq!(rt; run_again(&rt, rt.alloc(), 1), End::Root(Some(66), true));
+}
+
+#[test]
+fn a_run_at_two_nodes_is_refused_memory_and_runs_again(rt: HostRuntime) {
+    assert_eq!(rt; run_again(&rt, rt.alloc(), 2), End::Root(Some(66), true));
+}
+
+/// How many tasks the pool of a fresh registry has done, and how it stands then.
+type Run = (Result<u32, Refusal>, Result<Standing, Refusal>);
+
+/// Runs the pools of a fresh registry of one. Where there was no room the pool stands as before.
+fn run_registered<R: Threads + Wait + Sync>(rt: &R, alloc: Global) -> Result<Run, Refusal> {
+    let config = Config {
+        nodes: 1,
+        workers: 1,
+        idle_turns: 100_000_000,
+    };
+    let mut registry = Registry::new(alloc);
+    let pool = registry.register("tree", "reduce:4:0")?;
+    match run_pools(rt, alloc, &mut registry, config, &OpenGate) {
+        Ok(answers) => {
+            let told = match answers.first() {
+                Some(Ok(outcome)) => Ok(outcome.tasks),
+                Some(Err(fault)) => Err(fault.refusal),
+                None => Err(Refusal::Missing),
+            };
+            Ok((told, registry.state(pool)))
+        }
+        Err(refusal) if registry.state(pool) == Ok(Standing::Registered) => Err(refusal),
+        Err(_) => Err(Refusal::Missing),
+    }
+}
+
+#[test]
+fn a_registry_is_refused_memory_and_runs_again(rt: HostRuntime) -> Result<(), Fail> {
+    let run = match run_registered(&rt, rt.alloc()) {
+        Err(Refusal::NoMemory) | Ok((Err(Refusal::NoMemory), Ok(Standing::Failed))) => {
+            say(&rt, "run_pools");
+            run_registered(&rt, rt.alloc())
+        }
+        run => run,
+    };
+    assert_eq!(rt; run?, (Ok(7), Ok(Standing::Over)));
+    Ok(())
+}
+
+/// Counts what is written, and takes no memory.
+#[derive(Drop)]
+struct Counting {
+    bytes: usize,
+}
+
+impl Write for Counting {
+    fn write(&mut self, buf: &[u8]) -> io::Result<usize> {
+        self.bytes = self.bytes.saturating_add(buf.len());
+        Ok(buf.len())
+    }
+
+    fn flush(&mut self) -> io::Result<()> {
+        Ok(())
+    }
+}
+
+/// A script and a trace of the same steps.
+const SCRIPT: &[u8] =
+    b"nodes 2\ninsert 0 1 1\nsupply 1\nbegin 1\ndone 1\nopen 0 4\nsend 0 1 3\nrecv 1 3\nend 1 3\n";
+
+const TRACE: &[u8] =
+    b"trace 1\nnodes 2\ninsert 0 1 1\nsupply 1\nbegin 1\ndone 1\nopen 0 4\nsend 0 1 3\nrecv 1 3\nend 1 3\n";
+
+/// What is answered to a text, and how many bytes were written.
+type Told = (Result<Verdict, TextFault>, usize);
+
+fn answer_to_script(alloc: Global) -> Told {
+    let mut reader = SCRIPT;
+    let mut writer = Counting { bytes: 0 };
+    (sim(alloc, &mut reader, &mut writer), writer.bytes)
+}
+
+fn answer_to_trace(alloc: Global) -> Told {
+    let mut reader = TRACE;
+    let mut writer = Counting { bytes: 0 };
+    (audit(alloc, &mut reader, &mut writer), writer.bytes)
+}
+
+/// The status of the program on a script, and how many bytes it wrote and complained.
+fn status<R: Threads + Wait + Sync>(rt: &R, alloc: Global) -> (u8, usize, usize) {
+    let mut reader = SCRIPT;
+    let mut out = Counting { bytes: 0 };
+    let mut err = Counting { bytes: 0 };
+    let status = main_with(rt, alloc, &["tp", "sim"], &mut reader, &mut out, &mut err);
+    (status, out.bytes, err.bytes)
+}
+
+// Eight times `ok`, a node's line of 35 bytes each, the total of 42 and 9 for `quiet no`.
+#[test]
+fn texts_are_refused_memory_and_answered_again(rt: HostRuntime) {
+    let mut told = answer_to_script(rt.alloc());
+    if told == (Err(TextFault::Memory), 0) {
+        say(&rt, "sim");
+        told = answer_to_script(rt.alloc());
+    }
+    assert_eq!(rt; told, (Ok(Verdict::Sound), 145));
+    let mut told = answer_to_trace(rt.alloc());
+    if told == (Err(TextFault::Memory), 0) {
+        say(&rt, "audit");
+        told = answer_to_trace(rt.alloc());
+    }
+    // steps 8, tasks 1 done 1, messages 1 received 1, not ended
+    assert_eq!(rt; told, (Ok(Verdict::Sound), 55));
+}
+
+#[test]
+fn the_program_is_refused_memory_and_answers_again(rt: HostRuntime) {
+    let mut made = status(&rt, rt.alloc());
+    // refused 17 NoMemory
+    if made == (3, 0, 20) {
+        say(&rt, "main_with");
+        made = status(&rt, rt.alloc());
+    }
+    assert_eq!(rt; made, (0, 145, 0));
+}
