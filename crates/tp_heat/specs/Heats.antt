@@ -1,7 +1,10 @@
-use Rattle.std.specs.Prelude.{◌<◌, ◌≤◌, ◌+◌, ◌-◌, ◌*◌, ◌%◌, ◌^◌, ℕ, zero, suc, ℤ, pos, ◌+ℤ◌, List, [], ◌∷◌, slice_index_or, Some, if◌then◌else◌, nat_lt}
+use Rattle.std.specs.Prelude.{◌≡◌, ◌≢◌, ◌<◌, ◌≤◌, ◌+◌, ◌-◌, ◌*◌, ◌/◌, ◌%◌, ◌^◌, ◌⊎◌, All, ℕ, zero, suc, ℤ, pos, ◌+ℤ◌, List, [], ◌∷◌, slice_index_or, Some, if◌then◌else◌, nat_lt}
 use Rattle.std.specs.Int.RustNames.{int_div}
 use Rattle.tp_graph.specs.Blocks.{block_of}
+use Rattle.tp_base.specs.declared.Refusal.{Refusal}
+use Rattle.tp_base.specs.declared.Refusal.TheVariants.{Missing, NoMemory}
 use Rattle.tp_graph.specs.Graphs.{TaskGraph}
+use Rattle.tp_graph.specs.Serial.{Results}
 
 -- a third of a number, cut towards 0
 abbrev pub third : ℤ → ℤ
@@ -28,6 +31,20 @@ sweep left (x ∷ xs) right = mixed left x (first_or right xs) ∷ sweep x xs ri
 abbrev pub evolve : ℕ → List ℤ → List ℤ
 evolve zero cells = cells
 evolve (suc steps) cells = sweep (pos 0) (evolve steps cells) (pos 0)
+
+-- how many blocks of so many cells there are, the last of which may be shorter
+abbrev pub blocks_of : ℕ → ℕ → ℕ
+blocks_of count size = (count - 1) / size + 1
+
+-- what a rod takes: a cell, blocks that have some, and fewer than 1,048,576 tasks, one for each block after each step
+pub record IsRod (count size steps : ℕ) : Type 0 where
+  pub some_cells : 1 ≤ count
+  pub some_size : 1 ≤ size
+  pub few_tasks : (steps + 1) * blocks_of count size < 2 ^ 20
+
+-- why so many cells, in blocks of so many, are no rod for so many steps
+abbrev pub IsNoRod : ℕ → ℕ → ℕ → Type 0
+IsNoRod count size steps = (count ≡ 0) ⊎ ((size ≡ 0) ⊎ (2 ^ 20 ≤ (steps + 1) * blocks_of count size))
 
 -- so many blocks, of so many cells each but the last, which may be shorter
 pub record IsHeat (blocks : ℕ) (size : ℕ) (steps : ℕ) (count : ℕ) : Type 0 where
@@ -72,3 +89,13 @@ heat_graph cells blocks size steps = record {
   home = λ t m. (t % blocks) % m;
   rule = λ t inputs. Some (if nat_lt t blocks then block_of size t cells else swept (lefts blocks t) (rights blocks t) inputs);
 }
+
+-- a block of the last row has no result
+pub record LacksBlock (blocks steps : ℕ) (results : Results) : Type 0 where
+  pub block : ℕ
+  pub within : block < blocks
+  pub none : All (λ r. r.0.0 ≢ steps * blocks + block) results
+
+-- why there is no rod: a block of its last row is not there, or there was no memory
+abbrev pub IsRodRefusal : ℕ → ℕ → Results → Refusal → Type 0
+IsRodRefusal blocks steps results refusal = (refusal ≡ NoMemory) ⊎ ((refusal ≡ Missing) × LacksBlock blocks steps results)

@@ -1,7 +1,7 @@
-ghost use Rattle.std.specs.Prelude.{◌≡◌, ◌<◌, ◌≤◌, ◌+◌, ◌-◌, ◌*◌, ◌^◌, pos, length, IfOk, IfSome, true, if◌then◌else◌, nat_lt, slice_index_or, []};
+ghost use Rattle.std.specs.Prelude.{◌≡◌, ◌<◌, ◌≤◌, ◌+◌, ◌-◌, ◌*◌, ◌^◌, pos, length, IfNone, IfOk, IfSome, true, if◌then◌else◌, nat_lt, slice_index_or, []};
 ghost use Rattle.tp_graph.specs.Values.{all_fit};
 ghost use Rattle.tp_graph.specs.Blocks.{block_of};
-ghost use Rattle.tp_heat.specs.Heats.{IsHeat, heat_graph, lefts, rights, swept};
+ghost use Rattle.tp_heat.specs.Heats.{IsHeat, IsNoRod, IsRod, blocks_of, heat_graph, lefts, rights, swept};
 ghost use Rattle.tp_heat.specs.HeatLaws.{heat_lawful};
 
 use crate::mix::{first_of, last_of, sweep};
@@ -23,7 +23,9 @@ impl<'a> Heat<'a> {
     /// A rod of some cells, which are lent, in blocks of so many, that takes so many steps. None where there is no cell,
     /// a block is of none, or the tasks, one for each block after each step, would be 1,048,576 or more.
     pub fn new(cells: &'a [i64], size: u32, steps: u32) -> Option<Self>
-        ensures { IfSome result (λ heat. (heat.cells.now ≡ cells.now) × (heat.size ≡ size) × (heat.steps ≡ steps)) }
+        ensures made { IfSome result (λ heat. (heat.cells.now ≡ cells.now) × (heat.blocks ≡ blocks_of (length cells.now) size) × (heat.size ≡ size) × (heat.steps ≡ steps)) }
+        ensures right { IfSome result (λ heat. IsRod (length cells.now) size steps) }
+        ensures refused { IfNone result (IsNoRod (length cells.now) size steps) }
     {
         if cells.is_empty() || size == 0 {
             return None;

@@ -1,16 +1,19 @@
-ghost use Rattle.std.specs.Prelude.{◌≡◌, IfOk};
-ghost use Rattle.tp_graph.specs.Serial.{AreRight};
-ghost use Rattle.tp_heat.specs.Heats.{heat_graph, evolve};
+ghost use Rattle.std.specs.Prelude.{◌≡◌, IfOk, IfErr};
+ghost use Rattle.tp_graph.specs.Serial.{AreRight, IsSerialRefusal};
+ghost use Rattle.tp_heat.specs.Heats.{heat_graph, evolve, IsRodRefusal, LacksBlock};
 
 use crate::heat::Heat;
 use std::alloc::Global;
 use tp_base::{Refusal, TaskId};
 use tp_graph::{Value, places, serial, value_at};
 
-/// The rod at its end, from the results of its tasks.
+/// The rod at its end, from the results of its tasks. Refused with `Missing` exactly where a block of the last row has no
+/// result, and with `NoMemory` where memory is refused first.
 pub fn rod_of(alloc: Global, heat: &Heat, results: &[(TaskId, Value)]) -> Result<Vec<i64>, Refusal>
     requires { AreRight (heat_graph heat.now.cells.now heat.now.blocks heat.now.size heat.now.steps) results.now }
-    ensures { IfOk result (λ rod. rod.items ≡ evolve heat.now.steps heat.now.cells.now) }
+    ensures made { IfOk result (λ rod. rod.items ≡ evolve heat.now.steps heat.now.cells.now) }
+    ensures whole { IfOk result (λ rod. LacksBlock heat.now.blocks heat.now.steps results.now → ⊥) }
+    ensures refused { IfErr result (IsRodRefusal heat.now.blocks heat.now.steps results.now) }
 {
     let (blocks, steps) = (heat.blocks(), heat.steps());
     let places = places(alloc, (steps + 1) * blocks, results)?;
@@ -24,9 +27,11 @@ pub fn rod_of(alloc: Global, heat: &Heat, results: &[(TaskId, Value)]) -> Result
     Ok(rod)
 }
 
-/// The rod at its end, worked out on one thread.
+/// The rod at its end, worked out on one thread. Refused with `BodyFailed` only where a task has no value, and else with
+/// `NoMemory`.
 pub fn rod_by_one(alloc: Global, heat: Heat) -> Result<Vec<i64>, Refusal>
-    ensures { IfOk result (λ rod. rod.items ≡ evolve heat.entry.steps heat.entry.cells.now) }
+    ensures made { IfOk result (λ rod. rod.items ≡ evolve heat.entry.steps heat.entry.cells.now) }
+    ensures refused { IfErr result (IsSerialRefusal (heat_graph heat.entry.cells.now heat.entry.blocks heat.entry.size heat.entry.steps)) }
 {
     let results = serial(alloc, heat)?;
     rod_of(alloc, &heat, results.as_slice())

@@ -1,4 +1,4 @@
-use Rattle.std.proofs.Common.{◌≡◌, ◌≢◌, ◌<◌, ◌≤◌, ◌+◌, ◌*◌, ◌/◌, ◌%◌, ℕ, zero, suc, ℤ, List, [], ◌∷◌, ◌++◌, Option, Some, None, true, refl, ap, sym, ◌∙◌, ⊎_elim, add-one, arith, rules}
+use Rattle.std.proofs.Common.{◌≡◌, ◌≢◌, ◌<◌, ◌≤◌, ◌+◌, ◌*◌, ◌/◌, ◌%◌, ◌^◌, ℕ, zero, suc, ℤ, List, [], ◌∷◌, ◌++◌, Option, Some, None, true, refl, ap, sym, ◌∙◌, ⊎_elim, add-one, arith, rules}
 use Rattle.std.proofs.lemmas.Bool.{cases_eq}
 use Rattle.std.proofs.lemmas.Nat.{mul-le, div_below}
 use Rattle.tp_graph.specs.Values.{then_some, gather, fits, all_fit}
@@ -56,3 +56,9 @@ places_within t tiles side some h =
     let within : (c : ℕ) → c < tiles → c * side + side ≤ tiles * side = λ c p. omega (arith, mul-le (c + 1) side tiles side (omega arith) (omega arith)) in
     let upper : t / tiles < tiles * tiles = div_below t tiles (tiles * tiles) some h in
     (within (t / tiles / tiles) (div_below (t / tiles) tiles tiles some upper), within (t / tiles % tiles) (omega arith), within (t % tiles) (omega arith))
+
+-- 102 tiles along a side make too many tasks
+pub too_many : (tiles : ℕ) → 101 < tiles → 2 ^ 20 ≤ tiles * tiles * tiles
+too_many tiles h =
+    let square : 102 * 102 ≤ tiles * tiles = mul-le 102 102 tiles tiles (omega arith) (omega arith) in
+    omega (arith, mul-le (102 * 102) 102 (tiles * tiles) tiles square (omega arith))

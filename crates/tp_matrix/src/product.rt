@@ -1,5 +1,5 @@
-ghost use Rattle.std.specs.Prelude.{◌≡◌, ◌<◌, ◌≤◌, ◌+◌, ◌-◌, ◌*◌, ◌/◌, ◌%◌, ◌^◌, length, IfSome};
-ghost use Rattle.tp_matrix.specs.Matrices.{IsProduct, matrix_graph};
+ghost use Rattle.std.specs.Prelude.{◌≡◌, ◌<◌, ◌≤◌, ◌+◌, ◌-◌, ◌*◌, ◌/◌, ◌%◌, ◌^◌, length, IfNone, IfSome};
+ghost use Rattle.tp_matrix.specs.Matrices.{AreMatrices, AreNoMatrices, IsProduct, matrix_graph};
 ghost use Rattle.tp_matrix.specs.MatrixLaws.{matrix_lawful};
 
 use crate::tile::{Matrices, make_tile};
@@ -21,8 +21,12 @@ impl<'a> Product<'a> {
     /// Two matrices of so many rows and columns, which are lent row by row, in tiles of so many. None where the tiles do
     /// not fill them, where they are of no or of 32,768 or more rows, where a list is not full, or where the tasks would
     /// be 1,048,576 or more.
+    #[tactic(auto, using(crate::proofs::Running::too_many))]
     pub fn new(left: &'a [i64], right: &'a [i64], order: u32, side: u32) -> Option<Self>
-        ensures { IfSome result (λ p. (p.left.now ≡ left.now) × (p.right.now ≡ right.now) × (p.tiles * p.side ≡ order)) }
+        ensures made { IfSome result
+            (λ p. (p.left.now ≡ left.now) × (p.right.now ≡ right.now) × (p.tiles * p.side ≡ order) × (p.side ≡ side)) }
+        ensures right { IfSome result (λ p. AreMatrices order side (length left.now) (length right.now)) }
+        ensures refused { IfNone result (AreNoMatrices order side (length left.now) (length right.now)) }
     {
         if order == 0 || order >= 1 << 15 || side == 0 || order % side != 0 {
             return None;
@@ -49,7 +53,9 @@ impl<'a> Product<'a> {
     }
 
     /// How many tasks there are.
-    pub(crate) fn count(&self) -> u32 {
+    pub(crate) fn count(&self) -> u32
+        ensures { result ≡ self.now.tiles * self.now.tiles * self.now.tiles }
+    {
         self.tiles * self.tiles * self.tiles
     }
 
