@@ -20,10 +20,12 @@ pub struct Heat<'a> {
 }
 
 impl<'a> Heat<'a> {
-    /// A rod of some cells, which are lent, in blocks of so many, that takes so many steps. None where there is no cell,
-    /// a block is of none, or the tasks, one for each block after each step, would be 1,048,576 or more.
+    /// A rod of some cells, which are lent, in blocks of so many, that takes so many steps. None where there is no
+    /// cell, a block is of none, or the tasks, one for each block after each step, would be 1,048,576 or more.
     pub fn new(cells: &'a [i64], size: u32, steps: u32) -> Option<Self>
-        ensures made { IfSome result (λ heat. (heat.cells.now ≡ cells.now) × (heat.blocks ≡ blocks_of (length cells.now) size) × (heat.size ≡ size) × (heat.steps ≡ steps)) }
+        ensures made { IfSome result
+            (λ heat. (heat.cells.now ≡ cells.now) × (heat.blocks ≡ blocks_of (length cells.now) size)
+            × (heat.size ≡ size) × (heat.steps ≡ steps)) }
         ensures right { IfSome result (λ heat. IsRod (length cells.now) size steps) }
         ensures refused { IfNone result (IsNoRod (length cells.now) size steps) }
     {

@@ -7,7 +7,7 @@ use std::alloc::Global;
 use tp_base::{Refusal, TaskId};
 use tp_graph::{Value, places, serial, value_at};
 
-/// The rod at its end, from the results of its tasks. Refused with `Missing` exactly where a block of the last row has no
+/// The rod at its end, from the results of its tasks. Refused with `Missing` where a block of the last row has no
 /// result, and with `NoMemory` where memory is refused first.
 pub fn rod_of(alloc: Global, heat: &Heat, results: &[(TaskId, Value)]) -> Result<Vec<i64>, Refusal>
     requires { AreRight (heat_graph heat.now.cells.now heat.now.blocks heat.now.size heat.now.steps) results.now }
@@ -27,11 +27,12 @@ pub fn rod_of(alloc: Global, heat: &Heat, results: &[(TaskId, Value)]) -> Result
     Ok(rod)
 }
 
-/// The rod at its end, worked out on one thread. Refused with `BodyFailed` only where a task has no value, and else with
-/// `NoMemory`.
+/// The rod at its end, worked out on one thread. Refused with `BodyFailed` only where a task has no value, and else
+/// with `NoMemory`.
 pub fn rod_by_one(alloc: Global, heat: Heat) -> Result<Vec<i64>, Refusal>
     ensures made { IfOk result (λ rod. rod.items ≡ evolve heat.entry.steps heat.entry.cells.now) }
-    ensures refused { IfErr result (IsSerialRefusal (heat_graph heat.entry.cells.now heat.entry.blocks heat.entry.size heat.entry.steps)) }
+    ensures refused { IfErr result
+        (IsSerialRefusal (heat_graph heat.entry.cells.now heat.entry.blocks heat.entry.size heat.entry.steps)) }
 {
     let results = serial(alloc, heat)?;
     rod_of(alloc, &heat, results.as_slice())

@@ -8,7 +8,7 @@ use Rattle.tp_base.specs.declared.Refusal.{Refusal}
 use Rattle.tp_base.specs.declared.Refusal.TheVariants.{NoMemory}
 use Rattle.tp_graph.specs.Found.{ArePlaces}
 use Rattle.tp_graph.specs.Serial.{AreValues, Results}
-use Rattle.tp_matrix.specs.Matrices.{IsMatrixRefusal, IsProduct, LacksTile, matrix_graph}
+use Rattle.tp_matrix.specs.Matrices.{IsMatrixRefusal, LacksTile, matrix_graph}
 
 -- the last task that adds to the number in a row and a column
 abbrev pub last_task : ℕ → ℕ → ℕ → ℕ → ℕ

@@ -18,9 +18,9 @@ pub struct Product<'a> {
 }
 
 impl<'a> Product<'a> {
-    /// Two matrices of so many rows and columns, which are lent row by row, in tiles of so many. None where the tiles do
-    /// not fill them, where they are of no or of 32,768 or more rows, where a list is not full, or where the tasks would
-    /// be 1,048,576 or more.
+    /// Two matrices of so many rows and columns, which are lent row by row, in tiles of so many. None where the tiles
+    /// do not fill them, where they are of no or of 32,768 or more rows, where a list is not full, or where the tasks
+    /// would be 1,048,576 or more.
     #[tactic(auto, using(crate::proofs::Running::too_many))]
     pub fn new(left: &'a [i64], right: &'a [i64], order: u32, side: u32) -> Option<Self>
         ensures made { IfSome result
