@@ -232,8 +232,8 @@ fn a_body_that_may_not_run_ends_the_pool(rt: HostRuntime) -> Result<(), Fail> {
     Ok(())
 }
 
-// The other worker would have a thousand million idle turns before it ended by itself. How many idle turns the one that stops it
-// had before, `Stalled` (21) says, and the schedule decides.
+// The other worker would have a thousand million idle turns before it ended by itself. How many idle turns the one
+// that stops it had before, `Stalled` (21) says, and the schedule decides.
 #[test]
 fn a_fault_stops_the_other_worker(rt: HostRuntime) -> Result<(), Fail> {
     let gate = TestGate::AllBut(TaskId(0));
@@ -242,7 +242,8 @@ fn a_fault_stops_the_other_worker(rt: HostRuntime) -> Result<(), Fail> {
     Ok(())
 }
 
-// Of two workers of a node one inserts the task, and one begins it and waits: two turns. The other's turns are then idle.
+// Of two workers of a node one inserts the task, and one begins it and waits: two turns. The other's turns are then
+// idle.
 #[test]
 fn idle_turns_in_a_row_are_counted(rt: HostRuntime) -> Result<(), Fail> {
     let gate = TestGate::Turns(Turns::new(7, u64::MAX));

@@ -131,3 +131,29 @@ impl Write for Failing {
         Ok(())
     }
 }
+
+/// Gives one byte a read, and is interrupted so often before each byte, and before it tells its end.
+#[derive(Drop)]
+pub(crate) struct Interrupted {
+    pub(crate) text: &'static [u8],
+    pub(crate) each_time: u32,
+    pub(crate) left: u32,
+}
+
+impl Read for Interrupted {
+    fn read(&mut self, buf: &mut [u8]) -> io::Result<usize> {
+        if self.left > 0 {
+            self.left -= 1;
+            return Err(ErrorKind::Interrupted.into());
+        }
+        self.left = self.each_time;
+        match (self.text, buf.first_mut()) {
+            ([first, rest @ ..], Some(place)) => {
+                *place = *first;
+                self.text = rest;
+                Ok(1)
+            }
+            _ => Ok(0),
+        }
+    }
+}

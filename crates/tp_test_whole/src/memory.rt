@@ -1,6 +1,6 @@
 ghost use Rattle.std.specs.Prelude.{◌≡◌};
 
-use crate::one_hand::Pair;
+use crate::one_hand::{Pair, TREE};
 use std::alloc::Global;
 use std::test::Fail;
 use tp_base::{ActionId, Refusal};
@@ -90,7 +90,8 @@ fn act<K: Ledgers, R: Eprint>(
     Ok(())
 }
 
-/// A node's turn: it receives a message, or runs a task, or makes a control step. Whether the end was judged is answered.
+/// A node's turn: it receives a message, or runs a task, or makes a control step. Whether the end was judged is
+/// answered.
 fn turn_of<K: Ledgers, R: Eprint>(
     rt: &R,
     alloc: Global,
@@ -264,14 +265,14 @@ fn run_pair<K: Ledgers, R: Eprint>(
     Ok(())
 }
 
-/// What a pool of two nodes that was run to its end adds up to: what is pending, sent, received, under way and done, and whether the
-/// end was judged.
+/// What a pool of two nodes that was run to its end adds up to: what is pending, sent, received, under way and done,
+/// and whether the end was judged.
 type Sums = (u32, u32, u32, u32, u32, bool);
 
 fn played<K: Ledgers, R: Eprint>(rt: &R, alloc: Global, blanks: Blanks) -> Result<Sums, Refusal>
     requires { (blanks ≡ K.names) × (blanks.nodes ≡ 2) }
 {
-    let mut pair = Pair::<K>::open(alloc, blanks)?;
+    let mut pair = Pair::<K>::open(alloc, blanks, TREE)?;
     run_pair(rt, alloc, &mut pair)?;
     let report = pair.close(alloc)?;
     Ok((

@@ -24,14 +24,14 @@ pub(crate) struct Pair<K: Ledgers> {
 }
 
 impl<K: Ledgers> Pair<K> {
-    pub(crate) fn open(alloc: Global, blanks: Blanks) -> Result<Self, Refusal>
+    pub(crate) fn open(alloc: Global, blanks: Blanks, tree: Reduce) -> Result<Self, Refusal>
         requires { (blanks ≡ K.names) × (blanks.nodes ≡ 2) }
     {
         let Pool {
             mut nodes,
             mut links,
             board,
-        } = open_pool::<Reduce, K>(alloc, blanks, TREE, 2, 1_048_576)?;
+        } = open_pool::<Reduce, K>(alloc, blanks, tree, 2, 1_048_576)?;
         let (Some(one), Some(zero)) = (nodes.pop(), nodes.pop()) else {
             unreachable!()
         };
@@ -80,7 +80,7 @@ impl<K: Ledgers> Pair<K> {
     }
 
     /// A turn of each node. Whether the end was judged is answered.
-    fn turn(&mut self, alloc: Global) -> Result<bool, Refusal> {
+    pub(crate) fn turn(&mut self, alloc: Global) -> Result<bool, Refusal> {
         let Pair {
             zero,
             one,
@@ -94,20 +94,21 @@ impl<K: Ledgers> Pair<K> {
 }
 
 /// Inserts all input-free tasks of a node, and closes its opening action. How many there were is answered.
-fn seed_all<G: Comparable, K: Ledgers>(
+pub(crate) fn seed_all<G: Comparable, K: Ledgers>(
     node: &mut Node<G, K>,
     board: &mut Board<K>,
 ) -> Result<u32, Refusal> {
-    for seeded in 0..16 {
+    for seeded in 0..17 {
         if !node.seed(board)? {
             node.ready(board)?;
             return Ok(seeded);
         }
     }
-    Ok(16)
+    Ok(17)
 }
 
-/// A node's turn: it receives a message, or runs a task, or makes a control step. Whether the end was judged is answered.
+/// A node's turn: it receives a message, or runs a task, or makes a control step. Whether the end was judged is
+/// answered.
 fn turn_of<G: Comparable, K: Ledgers>(
     alloc: Global,
     node: &mut Node<G, K>,
@@ -122,7 +123,7 @@ fn turn_of<G: Comparable, K: Ledgers>(
 }
 
 /// Receives a message and delivers its value.
-fn receive_one<G: Comparable, K: Ledgers>(
+pub(crate) fn receive_one<G: Comparable, K: Ledgers>(
     node: &mut Node<G, K>,
     wire: &mut Wire<G, K>,
     board: &mut Board<K>,
@@ -140,15 +141,26 @@ fn receive_one<G: Comparable, K: Ledgers>(
 }
 
 /// Begins a task, runs it, passes its one feed on and records it as done.
-fn run_one<G: Comparable, K: Ledgers>(
+pub(crate) fn run_one<G: Comparable, K: Ledgers>(
     alloc: Global,
     node: &mut Node<G, K>,
     wire: &mut Wire<G, K>,
     board: &mut Board<K>,
 ) -> Result<bool, Refusal> {
-    let Some(mut finished) = run_body(alloc, node, board)? else {
+    let Some(finished) = run_body(alloc, node, board)? else {
         return Ok(false);
     };
+    hand_in(node, wire, board, finished)
+}
+
+/// Passes the one feed of a task that has run on, and records it as done.
+pub(crate) fn hand_in<G: Comparable, K: Ledgers>(
+    node: &mut Node<G, K>,
+    wire: &mut Wire<G, K>,
+    board: &mut Board<K>,
+    finished: Finished<G>,
+) -> Result<bool, Refusal> {
+    let mut finished = finished;
     pass_on(node, wire, board, &mut finished)?;
     if !is_same(&finished.graph(), &node.graph()) || !finished.all_fed() {
         return Err(Refusal::Stranger);
@@ -160,7 +172,7 @@ fn run_one<G: Comparable, K: Ledgers>(
 }
 
 /// Begins a task and runs it.
-fn run_body<G: Comparable, K: Ledgers>(
+pub(crate) fn run_body<G: Comparable, K: Ledgers>(
     alloc: Global,
     node: &mut Node<G, K>,
     board: &mut Board<K>,
@@ -236,21 +248,21 @@ struct Acts {
 
 /// What a pool adds up to.
 #[derive(Clone, Copy)]
-struct Summary {
+pub(crate) struct Summary {
     /// What is pending, sent, received and under way.
-    numbers: (u32, u32, u32, u32),
+    pub(crate) numbers: (u32, u32, u32, u32),
     /// How many tasks are done.
-    done: u32,
+    pub(crate) done: u32,
     /// Whether the end was judged.
-    ended: bool,
+    pub(crate) ended: bool,
     /// The first fault.
-    fault: Option<Refusal>,
+    pub(crate) fault: Option<Refusal>,
     /// How many results there are.
-    results: usize,
+    pub(crate) results: usize,
 }
 
 impl Summary {
-    fn of(report: &Report) -> Self {
+    pub(crate) fn of(report: &Report) -> Self {
         Summary {
             numbers: (report.pending, report.sent, report.received, report.under),
             done: report.done,
@@ -261,7 +273,7 @@ impl Summary {
     }
 
     /// Asserts that this is what was wanted.
-    fn must_be<R: Abort>(self, rt: &R, wanted: Summary) {
+    pub(crate) fn must_be<R: Abort>(self, rt: &R, wanted: Summary) {
         assert_eq!(rt; self.numbers, wanted.numbers);
         assert_eq!(rt; self.done, wanted.done);
         assert_eq!(rt; self.ended, wanted.ended);
@@ -279,7 +291,7 @@ impl<K: Ledgers> Pair<K> {
         }
     }
 
-    fn seed(&mut self) -> Result<(u32, u32), Refusal> {
+    pub(crate) fn seed(&mut self) -> Result<(u32, u32), Refusal> {
         let at_zero = seed_all(&mut self.zero, &mut self.board)?;
         let at_one = seed_all(&mut self.one, &mut self.board)?;
         Ok((at_zero, at_one))
@@ -335,7 +347,7 @@ fn played<K: Ledgers>(
 ) -> Result<(Answers, Summary), Refusal>
     requires { (blanks ≡ K.names) × (blanks.nodes ≡ 2) }
 {
-    let mut pair = Pair::<K>::open(alloc, blanks)?;
+    let mut pair = Pair::<K>::open(alloc, blanks, TREE)?;
     let answers = pair.play(alloc, play)?;
     Ok((answers, Summary::of(&pair.close(alloc)?)))
 }

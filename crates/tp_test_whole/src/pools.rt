@@ -20,8 +20,8 @@ const POOLS: [(&str, u32); 6] = [
     ("reduce:32:5", 63),
 ];
 
-/// What a pool comes to on so many nodes, with so many workers at each: how many tasks were done, and whether its results
-/// are the plain ones, and no others.
+/// What a pool comes to on so many nodes, with so many workers at each: how many tasks were done, and whether its
+/// results are the plain ones, and no others.
 fn told<R: Threads + Wait + Sync>(
     rt: &R,
     alloc: Global,

@@ -1,4 +1,4 @@
-use crate::hindered::{Failing, Stumbling};
+use crate::hindered::{Failing, Interrupted, Stumbling};
 use std::alloc::Global;
 use std::io::{self, ErrorKind, Read, Write};
 use tp_text::{TextFault, Verdict, audit, sim};
@@ -53,6 +53,19 @@ impl Kind {
         self.answer_to(alloc, &mut reader)
     }
 
+    /// What is answered where the reader is interrupted so often before each byte, and before it tells its end, and
+    /// what is written.
+    fn interrupt(self, alloc: Global, text: &'static [u8], each_time: u32) -> (Told, Vec<u8>) {
+        let mut reader = Interrupted {
+            text,
+            each_time,
+            left: each_time,
+        };
+        let mut written = Vec::new(alloc);
+        let told = self.answer(alloc, &mut reader, &mut written);
+        (told, written)
+    }
+
     /// What is answered where the writer fails at this write of one byte.
     fn fail(self, alloc: Global, text: &'static [u8], write: u32) -> Told {
         let mut reader = text;
@@ -86,6 +99,22 @@ fn an_interrupted_read_changes_nothing(rt: HostRuntime) {
                 "{kind:?}, read {read}"
             );
         }
+    }
+}
+
+// 6,250 times before each of 16 or more bytes.
+#[test]
+fn a_hundred_thousand_interruptions_change_nothing(rt: HostRuntime) {
+    for (kind, text, _, bytes) in TEXTS {
+        let (told, written) = kind.interrupt(rt.alloc(), text, 6_250);
+        let (plain_told, plain) = kind.interrupt(rt.alloc(), text, 0);
+        assert_eq!(rt;
+            (told, plain_told),
+            (Ok(Verdict::Sound), Ok(Verdict::Sound)),
+            "{kind:?}"
+        );
+        assert_eq!(rt; written.as_slice(), plain.as_slice(), "{kind:?}");
+        assert_eq!(rt; written.len(), bytes as usize, "{kind:?}");
     }
 }
 

@@ -20,8 +20,8 @@ use tp_work::{Config, OpenGate, Report, run_pool};
 enum End {
     /// The value of the last task, and whether the trace was printed.
     Root(Option<i64>, bool),
-    /// Why there is no outcome, and whether the report, where there is one, keeps the law of the messages under way and has
-    /// seven tasks done at most.
+    /// Why there is no outcome, and whether the report, where there is one, keeps the law of the messages under way
+    /// and has seven tasks done at most.
     Stop(Refusal, bool),
 }
 

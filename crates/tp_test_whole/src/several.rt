@@ -36,8 +36,8 @@ fn three_pools(alloc: Global) -> Result<Registry, Refusal> {
     Ok(registry)
 }
 
-/// What is answered for each pool that was run, the number of its tasks or of its refusal, and how all pools stand. (Which
-/// turns were idle before a refusal is a matter of the schedule.)
+/// What is answered for each pool that was run, the number of its tasks or of its refusal, and how all pools stand.
+/// (Which turns were idle before a refusal is a matter of the schedule.)
 #[derive(Debug, PartialEq, Eq, Drop)]
 struct Told {
     tasks: Vec<Result<u32, u8>>,

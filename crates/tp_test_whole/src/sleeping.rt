@@ -52,8 +52,8 @@ impl<'a> Graph for Sleeping<'a> {
     }
 }
 
-// One leaf, and so one task. Seven workers are idle for two seconds; one that only yielded between two turns would reach the
-// limit before.
+// One leaf, and so one task. Seven workers are idle for two seconds; one that only yielded between two turns would
+// reach the limit before.
 #[test]
 fn a_long_body_is_waited_for(rt: HostRuntime) -> Result<(), Fail> {
     let graph = Sleeping {
