@@ -1,7 +1,8 @@
 #!/bin/bash
 # Runs the built programs again and again, with the first growth of memory refused, then the second, and so on until there is none left to
-# refuse; and then with all growths from there on refused. Each time it has to give its whole answer, or else `refused 17 NoMemory` on
-# standard error, nothing on standard output, and status 3. The last line is `N passed, M failed`; the status is 1 where one failed.
+# refuse; and then with all growths from there on refused. Each time it has to give its whole answer, or else `refused 17 NoMemory`, of
+# `heat` `there is no memory`, on standard error, nothing on standard output, and status 3. The last line is `N passed, M failed`; the
+# status is 1 where one failed.
 # It needs a C compiler.
 # usage: tools/refuse.sh [TP [HEAT]]
 set -u
@@ -80,8 +81,12 @@ if "$program" --help | grep -q '^ *pools '; then
 fi
 try 'help' /dev/null --help
 program=$heat
+printf 'there is no memory\n' > "$work/refused"
 seq 0 7 400 > "$work/rod"
+seq 1 4000 > "$work/long_rod"
 try 'heat 40 8, one node' "$work/rod" 40 8
+try 'heat 2 500, an input of several reads' "$work/long_rod" 2 500
 try 'heat 3 5, two nodes by two workers' "$work/rod" 3 5 --nodes 2 --workers 2
+try 'heat --help' /dev/null --help
 echo "$passed passed, $failed failed"
 [ $failed = 0 ]
