@@ -1,6 +1,9 @@
-ghost use Rattle.std.specs.Prelude.{◌≤◌};
+ghost use Rattle.std.specs.Prelude.{◌≡◌, ◌≢◌, ◌≤◌, OnOk};
+ghost use Rattle.std.specs.Io.KnownBytes.{Appends};
+ghost use Rattle.tp_base.specs.declared.refusal.Refusal.TheVariants.{NoMemory};
+ghost use Rattle.tp_lent_cli.specs.Faults.{complaint, status_of};
 
-use std::io::{self, Write};
+use std::io::{self, ErrorKind, Write};
 use tp_base::Refusal;
 use tp_cells::LineFault;
 
@@ -15,15 +18,38 @@ pub enum Fault {
     Empty,
     /// Even one step takes more events than a run may have.
     TooMany,
-    /// The run was refused.
+    /// The run was refused, or there is no memory for the input or the output.
     Run(Refusal),
     /// The output could not be written.
     Write,
 }
 
 impl Fault {
+    /// Why the input could not be read, where the reader fails by this kind of error.
+    pub(crate) fn of_reading(kind: ErrorKind) -> Fault
+        ensures memory { kind ≡ ErrorKind.OutOfMemory → result ≡ Fault.Run NoMemory }
+        ensures other { kind ≢ ErrorKind.OutOfMemory → result ≡ Fault.Read }
+        ensures never { result ≢ Fault.Write }
+    {
+        match kind {
+            ErrorKind::OutOfMemory => Fault::Run(Refusal::NoMemory),
+            _ => Fault::Read,
+        }
+    }
+
+    /// Says what is wrong, and answers the exit status.
+    pub(crate) fn complain<E: Write>(self, err: &mut E) -> u8
+        ensures range { (1 ≤ result) × (result ≤ 3) }
+        ensures value { result ≡ status_of self }
+    {
+        let _ = self.tell(err);
+        self.status()
+    }
+
     /// Says what is wrong, on a line.
-    pub(crate) fn tell<E: Write>(self, err: &mut E) -> io::Result<()> {
+    fn tell<E: Write>(self, err: &mut E) -> io::Result<()>
+        ensures { OnOk result (Appends (E.contents err.old) (E.contents err.new) (complaint self)) }
+    {
         match self {
             Fault::Read => err.write_all(b"the input cannot be read as text\n"),
             Fault::Text(LineFault::Line(line)) => {
@@ -45,8 +71,9 @@ impl Fault {
 
     /// The exit status: 1 where the words, the reading or the writing are at fault, 2 where the input is, 3 where the run was
     /// refused or memory was.
-    pub(crate) fn status(self) -> u8
-        ensures { (1 ≤ result) × (result ≤ 3) }
+    fn status(self) -> u8
+        ensures range { (1 ≤ result) × (result ≤ 3) }
+        ensures value { result ≡ status_of self }
     {
         match self {
             Fault::Read | Fault::Write => 1,

@@ -1,29 +1,21 @@
-ghost use Rattle.std.specs.Prelude.{◌≡◌, ◌≤◌, ◌≢◌, ℕ, ℤ, List, IfErr, IfOk, IfSome, OnOk};
+ghost use Rattle.std.specs.Prelude.{◌≡◌, ◌≤◌, ◌≢◌, ◌⊎◌, ℕ, List, IfErr, IfOk, OnOk, map};
 ghost use Rattle.std.specs.Io.KnownBytes.{Appends};
-ghost use Rattle.tp_cells.specs.Texts.{AreLines, lines_of};
-ghost use Rattle.tp_heat.specs.Heats.{evolve};
+ghost use Rattle.tp_lent_cli.specs.Command.{AreAtFault, AsksForRod, AsksToBeShown};
+ghost use Rattle.tp_lent_cli.specs.Ends.{CouldNotWrite, HasPrinted, IsRodAfter, IsTextAfter, ReadsAll};
 ghost use Rattle.tp_work.specs.Outcomes.{IsWithinLimits};
 
 use crate::fault::Fault;
-use crate::options::{VERSION, config_of, explain, with_counts};
-use clap::{Arg, Command, Error, value_parser};
-use std::alloc::{AllocError, Global};
+use crate::options::explain;
+use crate::request::{Request, requested};
+use std::alloc::Global;
 use std::io::{Read, Write};
 use std::str;
 use std::sync::Wait;
 use std::thread::Threads;
 use tp_base::Refusal;
-use tp_cells::{LineFault, numbers_of, text_of};
+use tp_cells::{numbers_of, text_of};
 use tp_lent::{run_heat_in_parts, steps_at_once};
 use tp_work::Config;
-
-/// What `heat` is asked for.
-#[derive(Clone, Copy)]
-struct Request {
-    steps: u64,
-    block: u32,
-    config: Config,
-}
 
 /// Runs the program `heat` on the words of its command line, its own name first, and answers the exit status: 0 where the rod
 /// is printed, or help or the version was asked for; 1 where the words, the reading or the writing are at fault; 2 where the
@@ -36,12 +28,49 @@ pub fn heat_with<R: Threads + Wait + Sync, I: Read, O: Write, E: Write>(
     out: &mut O,
     err: &mut E,
 ) -> u8
-    ensures { result ≤ 3 }
+    ensures range { result ≤ 3 }
+    // 0: the rod that the words ask for was printed and nothing else; or help or the version was shown, and nothing was
+    // read. Nothing is complained of.
+    ensures succeeded { result ≡ 0 → (err.new ≡ err.old)
+        × (HasPrinted (map (λ w. w.now) words.now) (I.remaining reader.old) (I.remaining reader.new)
+            (O.contents out.old) (O.contents out.new)
+        ⊎ (AsksToBeShown (map (λ w. w.now) words.now) × (reader.new ≡ reader.old))) }
+    // 1: the writing failed, of what was made in full; or nothing was written, for a fault of the words, by which nothing was
+    // read, or of the reading.
+    ensures complained { result ≡ 1 → CouldNotWrite (map (λ w. w.now) words.now) (I.remaining reader.old) (I.remaining reader.new)
+        ⊎ ((out.new ≡ out.old) × (AsksForRod (map (λ w. w.now) words.now)
+        ⊎ (AreAtFault (map (λ w. w.now) words.now) × (reader.new ≡ reader.old)))) }
+    // 2, for a fault of the input, and 3, for a run or memory that was refused: nothing was written.
+    ensures refused { result ≡ 2 → out.new ≡ out.old }
+    ensures failed { result ≡ 3 → out.new ≡ out.old }
+    // Only for a rod is the input read.
+    ensures unread { AsksForRod (map (λ w. w.now) words.now) ⊎ (reader.new ≡ reader.old) }
 {
-    let request = match requested(alloc, words) {
-        Ok(request) => request,
-        Err(error) => return explain(&error, out, err),
-    };
+    match requested(alloc, words) {
+        Ok(request) => answer_request(rt, alloc, request, reader, out, err),
+        Err(error) => explain(&error, out, err),
+    }
+}
+
+/// Answers a request, and says what is wrong where it is not answered. The exit status is answered.
+fn answer_request<R: Threads + Wait + Sync, I: Read, O: Write, E: Write>(
+    rt: &R,
+    alloc: Global,
+    request: Request,
+    reader: &mut I,
+    out: &mut O,
+    err: &mut E,
+) -> u8
+    requires { IsWithinLimits request.config }
+    ensures range { result ≤ 3 }
+    ensures printed { result ≡ 0 → (err.new ≡ err.old) × ((text : List ℕ)
+        × IsRodAfter request.steps (I.remaining reader.old) (I.remaining reader.new) text
+        × Appends (O.contents out.old) (O.contents out.new) text) }
+    ensures made { result ≡ 1 → (out.new ≡ out.old)
+        ⊎ ((text : List ℕ) × IsRodAfter request.steps (I.remaining reader.old) (I.remaining reader.new) text) }
+    ensures refused { result ≡ 2 → out.new ≡ out.old }
+    ensures failed { result ≡ 3 → out.new ≡ out.old }
+{
     let Request {
         steps,
         block,
@@ -49,10 +78,7 @@ pub fn heat_with<R: Threads + Wait + Sync, I: Read, O: Write, E: Write>(
     } = request;
     match answer_heat(rt, alloc, steps, block, config, reader, out) {
         Ok(()) => 0,
-        Err(fault) => {
-            let _ = fault.tell(err);
-            fault.status()
-        }
+        Err(fault) => fault.complain(err),
     }
 }
 
@@ -68,16 +94,30 @@ pub fn answer_heat<R: Threads + Wait + Sync, I: Read, O: Write>(
     out: &mut O,
 ) -> Result<(), Fault>
     requires { IsWithinLimits config }
-    // What is written is the plain recurrence on the numbers that the lines of the input spell.
-    ensures printed { OnOk result ((bytes : List ℕ) × (cells : List ℤ) × IfSome (I.remaining reader.old) (λ all. bytes ≡ all)
-        × AreLines bytes cells × Appends (O.contents out.old) (O.contents out.new) (lines_of (evolve steps cells))) }
+    // What is written is the plain recurrence on the numbers that the lines of the input spell, all of which was read.
+    ensures printed { OnOk result ((text : List ℕ) × IsRodAfter steps (I.remaining reader.old) (I.remaining reader.new) text
+        × Appends (O.contents out.old) (O.contents out.new) text) }
+    // Where it could not be written, it was made.
+    ensures made { IfErr result (λ fault. fault ≡ Fault.Write
+        → (text : List ℕ) × IsRodAfter steps (I.remaining reader.old) (I.remaining reader.new) text) }
     ensures unwritten { IfErr result (λ fault. fault ≢ Fault.Write → out.new ≡ out.old) }
 {
-    let mut bytes = Vec::new(alloc);
-    reader.read_to_end(&mut bytes).map_err(|_| Fault::Read)?;
+    let bytes = read_all(alloc, reader)?;
     let input = str::from_utf8(&bytes).map_err(|_| Fault::Read)?;
     let text = text_after(rt, alloc, steps, block, config, input)?;
     write_text(out, &text)
+}
+
+/// Reads all there is.
+fn read_all<I: Read>(alloc: Global, reader: &mut I) -> Result<Vec<u8>, Fault>
+    ensures whole { IfOk result (λ bytes. ReadsAll (I.remaining reader.old) (I.remaining reader.new) bytes.items) }
+    ensures unwritten { IfErr result (λ fault. fault ≢ Fault.Write) }
+{
+    let mut bytes = Vec::new(alloc);
+    match reader.read_to_end(&mut bytes) {
+        Ok(_) => Ok(bytes),
+        Err(error) => Err(Fault::of_reading(error.kind())),
+    }
 }
 
 fn write_text<O: Write>(out: &mut O, text: &[u8]) -> Result<(), Fault>
@@ -98,7 +138,7 @@ fn text_after<R: Threads + Wait + Sync>(
     input: &str,
 ) -> Result<Vec<u8>, Fault>
     requires { IsWithinLimits config }
-    ensures made { IfOk result (λ text. (cells : List ℤ) × AreLines input.now cells × (text.items ≡ lines_of (evolve steps cells))) }
+    ensures made { IfOk result (λ text. IsTextAfter steps input.now text.items) }
     ensures err { IfErr result (λ fault. fault ≢ Fault.Write) }
 {
     let cells = numbers_of(alloc, input).map_err(Fault::Text)?;
@@ -111,53 +151,3 @@ fn text_after<R: Threads + Wait + Sync>(
     let rod = run_heat_in_parts(rt, alloc, cells, block, steps, config).map_err(Fault::Run)?;
     text_of(alloc, &rod).map_err(|_| Fault::Run(Refusal::NoMemory))
 }
-
-/// What the words ask for.
-fn requested(alloc: Global, words: &[&str]) -> Result<Request, Error>
-    ensures { IfOk result (λ request. IsWithinLimits request.config) }
-{
-    let mut command = heat_command(alloc)?;
-    let matches = command.try_get_matches_from_mut(words)?;
-    Ok(Request {
-        steps: matches.get_one::<u64>("STEPS").unwrap_or(0),
-        block: matches.get_one::<u32>("BLOCK").unwrap_or(1),
-        config: config_of(&matches),
-    })
-}
-
-fn heat_command<'a>(alloc: Global) -> Result<Command<'a>, AllocError> {
-    let steps = Arg::new(alloc, "STEPS")
-        .required(true)
-        .value_parser(value_parser!(u64))
-        .help("How many steps the rod takes");
-    let block = Arg::new(alloc, "BLOCK")
-        .required(true)
-        .value_parser(value_parser!(u32).range(1..))
-        .help("How many cells a block has, 1 or more");
-    let command = Command::new(alloc, "heat")
-        .version(VERSION)
-        .about("Heat in a rod of cells, worked out in blocks by a pool of threads")
-        .after_help(HEAT_HELP)
-        .arg(steps)?
-        .arg(block)?;
-    with_counts(alloc, command)
-}
-
-static HEAT_HELP: &str =
-    "The cells are read from standard input, one number of 64 bits a line, and the rod
-after the steps is printed, one number a line. In a step each cell becomes a
-third of its left neighbour, a third of itself and a third of its right
-neighbour, each cut towards 0; beyond both ends there is 0. What is printed does
-not depend on BLOCK, N and W.
-
-An example:
-  printf '9000\\n300\\n-60\\n' | heat 1 2
-
-The exit status is
-  0  where the rod was printed;
-  1  where the words are at fault, or the reading or the writing;
-  2  where a line is no number of 64 bits, there is none, or BLOCK is so small
-     that one step takes more than the 1,048,576 events of a run: a block in a
-     step takes as many events as it has inputs, 1 to 3, and 2 more, or 3 before
-     the first step, and each message to another node takes 3 more;
-  3  where the run was refused, or memory was.";

@@ -4,6 +4,7 @@
 mod fault;
 mod heat;
 mod options;
+mod request;
 
 pub use fault::Fault;
 pub use heat::{answer_heat, heat_with};
