@@ -1,5 +1,5 @@
 -- How a run ends.
-use Rattle.std.proofs.Common.{◌≡◌, ℕ, Bool, List, Result, Ok, Err, IfErr, codes, map, subst}
+use Rattle.std.proofs.Common.{◌≡◌, ℕ, Bool, List, Result, Ok, Err, IfErr, codes, map, refl, subst}
 use Rattle.tp_base.specs.declared.refusal.Refusal.{Refusal}
 use Rattle.clap.specs.Words.{Text, subcommand_of}
 use Rattle.tp_cli.specs.Command.{AsksForForm, AsksForPools, AsksForRun, IsAt, tp_app}
@@ -28,3 +28,8 @@ pools_in_vain word words specs lent refusal is pools vain = (map word specs, ref
 pub IfErr-all : {X E : Type 0} (r : Result X E) (P : E → Type 0) → ((e : E) → P e) → IfErr r P
 IfErr-all (Ok x) P all = tt
 IfErr-all (Err e) P all = all e
+
+-- and of each error that it is
+pub IfErr-each : {X E : Type 0} (r : Result X E) (P : E → Type 0) → ((e : E) → r ≡ Err e → P e) → IfErr r P
+IfErr-each (Ok x) P all = tt
+IfErr-each (Err e) P all = all e refl

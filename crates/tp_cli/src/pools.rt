@@ -37,6 +37,7 @@ pub(crate) fn run_several<O: Write, R: Threads + Wait + Sync>(
     ensures made { IfErr result (λ fault. fault ≡ RunFault.Write
         → (each_ended : Bool) × (text : List ℕ) × IsPoolsText (map (λ w. w.now) words.now) config.nodes each_ended text) }
     ensures vain { IfErr result (λ fault. (refusal : Refusal) → fault ≡ RunFault.Spec refusal → AreInVain (map (λ w. w.now) words.now) refusal) }
+    ensures memory { IfErr result (λ fault. (refusal : Refusal) → fault ≡ RunFault.Run refusal → refusal ≡ NoMemory) }
     ensures unwritten { IfErr result (λ fault. fault ≢ RunFault.Write → out.new ≡ out.old) }
 {
     let registry = registry_of(alloc, words)?;
@@ -57,6 +58,7 @@ fn each_ended(answers: &[Result<Outcome, Fault>]) -> bool
 fn registry_of(alloc: Global, words: &[&str]) -> Result<Registry, RunFault>
     ensures named { IfOk result (λ registry. (graphs : List AnyGraph) × AreNamed (map (λ w. w.now) words.now) graphs × (registry ≡ pools_of graphs)) }
     ensures vain { IfErr result (λ fault. (refusal : Refusal) → fault ≡ RunFault.Spec refusal → AreInVain (map (λ w. w.now) words.now) refusal) }
+    ensures memory { IfErr result (λ fault. (refusal : Refusal) → fault ≡ RunFault.Run refusal → refusal ≡ NoMemory) }
     ensures unwritten { IfErr result (λ fault. fault ≢ RunFault.Write) }
 {
     if words.len() > MAX_POOLS as usize {
@@ -74,6 +76,7 @@ fn registry_of(alloc: Global, words: &[&str]) -> Result<Registry, RunFault>
 /// The fault of a word that was refused. Want of memory is none of its own.
 fn word_fault(refusal: Refusal) -> RunFault
     ensures word { (r : Refusal) → result ≡ RunFault.Spec r → (refusal ≡ r) × (r ≢ NoMemory) }
+    ensures memory { (r : Refusal) → result ≡ RunFault.Run r → (refusal ≡ r) × (r ≡ NoMemory) }
     ensures unwritten { result ≢ RunFault.Write }
 {
     match refusal {
@@ -90,7 +93,8 @@ fn answers_of<R: Threads + Wait + Sync>(
     config: Config,
 ) -> Result<Vec<Result<Outcome, Fault>>, Refusal>
     requires { IsWithinLimits config }
-    ensures { IfOk result (λ answers. (graphs : List AnyGraph) → registry ≡ pools_of graphs → AreRunAnswers config.nodes graphs answers.items) }
+    ensures ran { IfOk result (λ answers. (graphs : List AnyGraph) → registry ≡ pools_of graphs → AreRunAnswers config.nodes graphs answers.items) }
+    ensures memory { IfErr result (λ refusal. refusal ≡ NoMemory) }
 {
     run_pools(rt, alloc, &mut registry, config, &OpenGate)
 }

@@ -3,7 +3,7 @@ ghost use Rattle.std.specs.Io.KnownBytes.{Appends};
 ghost use Rattle.std.specs.String.{string_bytes};
 ghost use Rattle.tp_base.specs.declared.refusal.Refusal.TheVariants.{BadSpec, NoMemory};
 ghost use Rattle.tp_base.specs.declared.limits.TheConstants.{MAX_NODES};
-ghost use Rattle.tp_cli.specs.Runs.{IsPrintOf, IsTextFor, IsTextOf, NamesNoGraph, refusal_line, totals_text};
+ghost use Rattle.tp_cli.specs.Runs.{IsPrintOf, IsRefusedRun, IsTextFor, IsTextOf, IsUnprinted, IsWithoutText, NamesNoGraph, refusal_line, totals_text};
 ghost use Rattle.tp_samples.specs.Any.{any_graph};
 ghost use Rattle.tp_work.specs.Outcomes.{IsOutcome, IsWithinLimits};
 
@@ -53,6 +53,7 @@ pub(crate) fn run<O: Write, R: Threads + Wait + Sync>(
     ensures made { IfErr result (λ fault. fault ≡ RunFault.Write → (text : List ℕ) × IsTextFor form spec.now config.nodes text) }
     ensures unnamed { (result ≡ Err (RunFault.Spec BadSpec)) ↔ NamesNoGraph spec.now }
     ensures named { IfErr result (λ fault. (refusal : _) → fault ≡ RunFault.Spec refusal → refusal ≡ BadSpec) }
+    ensures refused { IfErr result (λ fault. (refusal : _) → fault ≡ RunFault.Run refusal → IsRefusedRun form spec.now config.nodes refusal) }
     ensures unwritten { IfErr result (λ fault. fault ≢ RunFault.Write → out.new ≡ out.old) }
 {
     let graph = checked(spec).map_err(RunFault::Spec)?;
@@ -78,7 +79,8 @@ fn text_of_run<R: Threads + Wait + Sync>(
     form: Form,
 ) -> Result<Vec<u8>, Refusal>
     requires { IsWithinLimits config }
-    ensures { IfOk result (λ text. IsTextOf form graph config.nodes text.items) }
+    ensures text { IfOk result (λ text. IsTextOf form graph config.nodes text.items) }
+    ensures none { IfErr result (λ refusal. IsWithoutText form graph config.nodes refusal) }
 {
     let outcome = match run_pool(rt, alloc, graph, config, &OpenGate) {
         Ok(outcome) => outcome,
@@ -97,7 +99,8 @@ fn text_of_outcome(
 ) -> Result<Vec<u8>, Refusal>
     requires nodes { (1 ≤ nodes) × (nodes ≤ MAX_NODES) }
     requires made { IsOutcome nodes (any_graph graph) outcome.now }
-    ensures { IfOk result (λ text. IsPrintOf form graph nodes outcome.now text.items) }
+    ensures text { IfOk result (λ text. IsPrintOf form graph nodes outcome.now text.items) }
+    ensures none { IfErr result (λ refusal. IsUnprinted form graph outcome.now refusal) }
 {
     match form {
         Form::Table => {

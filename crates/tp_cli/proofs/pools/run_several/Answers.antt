@@ -15,7 +15,7 @@ returns-in_err-write_text-clause-made g c =
     let named = c.in_ok-registry.ensures.named in
     let was_run : c.answers_of.result ≡ Ok c.in_ok-answers.answers = search rules in
     let run = IfOk-at_ok (λ made. (graphs : List AnyGraph) → c.in_ok-registry.registry ≡ pools_of graphs → AreRunAnswers c.args.config.nodes graphs made.items)
-    was_run c.answers_of.ensures in
+    was_run c.answers_of.ensures.ran in
     let was_made : c.text_of_pools.result ≡ Ok c.in_ok-text.text = search rules in
     let made = IfOk-at_ok (λ text. text.items ≡ lines_from 0 words c.deref.result.now) was_made c.text_of_pools.ensures in
     let text : c.in_ok-text.text.items ≡ lines_from 0 words answers = made ∙ ap (λ rs. lines_from 0 words rs) c.deref.ensures.value in
@@ -32,7 +32,7 @@ returns-clause-ran g c =
     let named = c.in_ok-registry.ensures.named in
     let was_run : c.answers_of.result ≡ Ok c.in_ok-answers.answers = search rules in
     let run = IfOk-at_ok (λ made. (graphs : List AnyGraph) → c.in_ok-registry.registry ≡ pools_of graphs → AreRunAnswers c.args.config.nodes graphs made.items)
-    was_run c.answers_of.ensures in
+    was_run c.answers_of.ensures.ran in
     let was_made : c.text_of_pools.result ≡ Ok c.in_ok-text.text = search rules in
     let made = IfOk-at_ok (λ text. text.items ≡ lines_from 0 words c.deref.result.now) was_made c.text_of_pools.ensures in
     let text : c.deref-2.result.now ≡ lines_from 0 words answers = c.deref-2.ensures.value ∙ made ∙ ap (λ rs. lines_from 0 words rs) c.deref.ensures.value in

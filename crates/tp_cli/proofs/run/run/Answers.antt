@@ -1,7 +1,7 @@
-use Rattle.std.proofs.Common.{rules, ◌≡◌, Ok}
-use Rattle.std.proofs.lemmas.Result.{IfOk-at_ok, on_ok_weaker}
-use Rattle.tp_cli.specs.Runs.{IsTextOf}
-use Rattle.tp_cli.proofs.Ending.{IfErr-all}
+use Rattle.std.proofs.Common.{rules, ◌≡◌, Err, Ok}
+use Rattle.std.proofs.lemmas.Result.{IfErr-at_err, IfOk-at_ok, on_ok_weaker}
+use Rattle.tp_cli.specs.Runs.{IsTextOf, IsWithoutText}
+use Rattle.tp_cli.proofs.Ending.{IfErr-all, IfErr-each}
 use Rattle.tp_samples.specs.Words.{word_of}
 use Rattle.tp_cli.proofs.run.run.Goals as goal
 
@@ -9,7 +9,7 @@ pub returns-clause-ran : goal.returns-clause-ran
 returns-clause-ran g c =
     let named : c.args.spec.now ≡ word_of c.in_ok-graph.graph = search rules in
     let was : c.text_of_run.result ≡ Ok c.in_ok-text.text = search rules in
-    let made = IfOk-at_ok (λ text. IsTextOf c.args.form c.in_ok-graph.graph c.args.config.nodes text.items) was c.text_of_run.ensures in
+    let made = IfOk-at_ok (λ text. IsTextOf c.args.form c.in_ok-graph.graph c.args.config.nodes text.items) was c.text_of_run.ensures.text in
     let text : IsTextOf c.args.form c.in_ok-graph.graph c.args.config.nodes c.deref.result.now = rw c.deref.ensures.value made in
     on_ok_weaker c.write_text.result (λ written. (c.deref.result.now, (c.in_ok-graph.graph, named, text), written)) c.write_text.ensures.ok
 
@@ -17,5 +17,15 @@ pub returns-clause-made : goal.returns-clause-made
 returns-clause-made g c =
     let named : c.args.spec.now ≡ word_of c.in_ok-graph.graph = search rules in
     let was : c.text_of_run.result ≡ Ok c.in_ok-text.text = search rules in
-    let text = IfOk-at_ok (λ text. IsTextOf c.args.form c.in_ok-graph.graph c.args.config.nodes text.items) was c.text_of_run.ensures in
+    let text = IfOk-at_ok (λ text. IsTextOf c.args.form c.in_ok-graph.graph c.args.config.nodes text.items) was c.text_of_run.ensures.text in
     IfErr-all c.write_text.result _ (λ fault same. (c.in_ok-text.text.items, (c.in_ok-graph.graph, named, text)))
+
+pub returns-in_err-text-clause-refused : goal.returns-in_err-text-clause-refused
+returns-in_err-text-clause-refused g c =
+    let named : c.args.spec.now ≡ word_of c.in_ok-graph.graph = search rules in
+    IfErr-each c.from_residual-in_err-text.result _ (λ fault is refusal same.
+    let was : c.text_of_run.result ≡ Err refusal = search rules in (
+      c.in_ok-graph.graph,
+      named,
+      IfErr-at_err (λ r. IsWithoutText c.args.form c.in_ok-graph.graph c.args.config.nodes r) was c.text_of_run.ensures.none,
+    ))

@@ -5,8 +5,8 @@ use Rattle.tp_cli.specs.Runs.{totals_text}
 use Rattle.tp_samples.specs.Any.{any_graph}
 use Rattle.tp_cli.proofs.run.text_of_outcome.Goals as goal
 
-pub returns-in_ok-extend_from_slice-in-Table : goal.returns-in_ok-extend_from_slice-in-Table
-returns-in_ok-extend_from_slice-in-Table c =
+pub returns-in_ok-extend_from_slice-in-Table-clause-text : goal.returns-in_ok-extend_from_slice-in-Table-clause-text
+returns-in_ok-extend_from_slice-in-Table-clause-text c =
     let outcome = c.args.outcome.now in
     let graph = any_graph c.args.graph in
     let tasks : outcome.tasks ≡ graph.tasks = tasks-outcome c.args.nodes graph outcome c.requires.made in
