@@ -33,7 +33,7 @@ pub fn heat_with<R: Threads + Wait + Sync, I: Read, O: Write, E: Write>(
     // read. Nothing is complained of.
     ensures succeeded { result ≡ 0 → (err.new ≡ err.old)
         × (HasPrinted (map (λ w. w.now) words.now) (I.remaining reader.old) (I.remaining reader.new)
-            (O.contents out.old) (O.contents out.new)
+        (O.contents out.old) (O.contents out.new)
         ⊎ (AsksToBeShown (map (λ w. w.now) words.now) × (reader.new ≡ reader.old))) }
     // 1: the writing failed, of what was made in full; or nothing was written, for a fault of the words, by which nothing was
     // read, or of the reading.
