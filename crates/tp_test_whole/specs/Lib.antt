@@ -1,2 +1,1 @@
 pub mod Broken
-pub mod Pairs

@@ -1,4 +1,5 @@
-ghost use Rattle.tp_test_whole.specs.Pairs.{pair_graph, pair_lawful};
+ghost use Rattle.tp_samples.specs.TreeLaws.{reduce_lawful};
+ghost use Rattle.tp_samples.specs.Trees.{reduce_graph};
 
 use crate::gates::Meeting;
 use std::alloc::Global;
@@ -6,50 +7,52 @@ use std::sync::atomic::{AtomicBool, Ordering};
 use std::test::Fail;
 use tp_base::{NodeId, Refusal, TaskId};
 use tp_graph::{Graph, Value};
+use tp_samples::Reduce;
 use tp_work::{Config, OpenGate, run_pool};
 
-/// Two tasks of one node, whose bodies wait for each other.
+/// A tree of two leaves at one node, whose bodies wait for each other.
 #[derive(Clone, Copy)]
 struct Pair<'a> {
+    tree: Reduce,
     meeting: &'a Meeting,
     /// Whether one of them has waited in vain.
     have_missed: &'a AtomicBool,
 }
 
 impl<'a> Graph for Pair<'a> {
-    ghost meaning = { λ _. pair_graph };
+    ghost meaning = { λ p. reduce_graph p.tree.leaves p.tree.seed };
 
-    ghost lawful = { λ _. pair_lawful };
+    ghost lawful = { λ p. reduce_lawful p.tree.leaves p.tree.seed p.tree.in_rules };
 
     fn tasks(&self) -> u32 {
-        2
+        self.tree.tasks()
     }
 
-    fn arity(&self, _task: TaskId) -> u8 {
-        0
+    fn arity(&self, task: TaskId) -> u8 {
+        self.tree.arity(task)
     }
 
-    fn class(&self, _task: TaskId) -> u8 {
-        0
+    fn class(&self, task: TaskId) -> u8 {
+        self.tree.class(task)
     }
 
-    fn feeds(&self, _task: TaskId) -> u32 {
-        0
+    fn feeds(&self, task: TaskId) -> u32 {
+        self.tree.feeds(task)
     }
 
-    fn feed(&self, _task: TaskId, _turn: u32) -> (TaskId, u8) {
-        (TaskId(0), 0)
+    fn feed(&self, task: TaskId, turn: u32) -> (TaskId, u8) {
+        self.tree.feed(task, turn)
     }
 
-    fn home(&self, _task: TaskId, _nodes: u32) -> NodeId {
-        NodeId(0)
+    fn home(&self, task: TaskId, nodes: u32) -> NodeId {
+        self.tree.home(task, nodes)
     }
 
-    fn body(&self, alloc: Global, task: TaskId, _inputs: &[Value]) -> Result<Value, Refusal> {
+    fn body(&self, alloc: Global, task: TaskId, inputs: &[Value]) -> Result<Value, Refusal> {
         if !self.meeting.arrive(task.0) {
             self.have_missed.store(true, Ordering::SeqCst);
         }
-        Ok(Value::one(alloc, i64::from(task.0))?)
+        self.tree.body(alloc, task, inputs)
     }
 }
 
@@ -58,6 +61,7 @@ impl<'a> Graph for Pair<'a> {
 fn two_bodies_of_a_node_run_under_no_lock(rt: HostRuntime) -> Result<(), Fail> {
     let (meeting, have_missed) = (Meeting::new(), AtomicBool::new(false));
     let pair = Pair {
+        tree: Reduce { leaves: 2, seed: 0 },
         meeting: &meeting,
         have_missed: &have_missed,
     };

@@ -6,39 +6,42 @@ use std::sync::Wait;
 use std::thread::Threads;
 use tp_base::{NodeId, Refusal, TaskId};
 use tp_graph::{Graph, Value};
+use tp_samples::Reduce;
 use tp_work::{Config, OpenGate, run_pool};
 
-/// Nine tasks, of which the body of task 5 fails.
+/// A tree whose tasks make their numbers; the body of task 5 fails.
 #[derive(Clone, Copy)]
-struct Broken;
+struct Broken {
+    tree: Reduce,
+}
 
 impl Graph for Broken {
-    ghost meaning = { λ _. broken_graph };
+    ghost meaning = { λ b. broken_graph b.tree.leaves b.tree.seed };
 
-    ghost lawful = { λ _. broken_lawful };
+    ghost lawful = { λ b. broken_lawful b.tree.leaves b.tree.seed b.tree.in_rules };
 
     fn tasks(&self) -> u32 {
-        9
+        self.tree.tasks()
     }
 
-    fn arity(&self, _task: TaskId) -> u8 {
-        0
+    fn arity(&self, task: TaskId) -> u8 {
+        self.tree.arity(task)
     }
 
-    fn class(&self, _task: TaskId) -> u8 {
-        0
+    fn class(&self, task: TaskId) -> u8 {
+        self.tree.class(task)
     }
 
-    fn feeds(&self, _task: TaskId) -> u32 {
-        0
+    fn feeds(&self, task: TaskId) -> u32 {
+        self.tree.feeds(task)
     }
 
-    fn feed(&self, task: TaskId, _turn: u32) -> (TaskId, u8) {
-        (task, 0)
+    fn feed(&self, task: TaskId, turn: u32) -> (TaskId, u8) {
+        self.tree.feed(task, turn)
     }
 
     fn home(&self, task: TaskId, nodes: u32) -> NodeId {
-        NodeId(task.0 % nodes)
+        self.tree.home(task, nodes)
     }
 
     fn body(&self, alloc: Global, task: TaskId, _inputs: &[Value]) -> Result<Value, Refusal> {
@@ -64,7 +67,10 @@ fn left_by<R: Threads + Wait + Sync>(
         workers,
         idle_turns: 100_000_000,
     };
-    match run_pool(rt, alloc, Broken, config, &OpenGate) {
+    let broken = Broken {
+        tree: Reduce { leaves: 8, seed: 0 },
+    };
+    match run_pool(rt, alloc, broken, config, &OpenGate) {
         Ok(_) => None,
         Err(fault) => {
             let report = fault.report.as_ref()?;
