@@ -67,7 +67,7 @@ def try_program(crate):
 
 def try_statuses(crate):
     """Runs the program on each case of tools/statuses, whose names begin with the status that has to come."""
-    ran = subprocess.run(["rt", "try", "--seconds", "120", "--cases", "../../tools/statuses"], cwd=f"crates/{crate}", stdin=subprocess.DEVNULL, stdout=subprocess.PIPE, stderr=subprocess.STDOUT, text=True)
+    ran = subprocess.run(["rt", "try", "--seconds", "900", "--cases", "../../tools/statuses"], cwd=f"crates/{crate}", stdin=subprocess.DEVNULL, stdout=subprocess.PIPE, stderr=subprocess.STDOUT, text=True)
     names = {it for it in os.listdir("tools/statuses") if not it.endswith(".args")}
     came = dict(re.findall(r"^case=(\S+) .*?\bstatus=(\d+)", ran.stdout, re.M))
     well = sum(came.get(it) == it[0] for it in names)
