@@ -24,12 +24,7 @@ pub pools_in_vain : {S : Type 0} (word : S → Text) (words : List Text) (specs 
     → lent ≡ specs → AsksForPools words (map word specs) → AreInVain (map word lent) refusal → NamesPoolsInVain words
 pools_in_vain word words specs lent refusal is pools vain = (map word specs, refusal, pools, subst (λ ss. AreInVain (map word ss) refusal) is vain)
 
--- what holds of each error
-pub IfErr-all : {X E : Type 0} (r : Result X E) (P : E → Type 0) → ((e : E) → P e) → IfErr r P
-IfErr-all (Ok x) P all = tt
-IfErr-all (Err e) P all = all e
-
--- and of each error that it is
+-- what holds of an error, where it is the one
 pub IfErr-each : {X E : Type 0} (r : Result X E) (P : E → Type 0) → ((e : E) → r ≡ Err e → P e) → IfErr r P
 IfErr-each (Ok x) P all = tt
 IfErr-each (Err e) P all = all e refl

@@ -1,10 +1,6 @@
 -- How many events a pool of a rod takes, its waves apart: a task as many as it has inputs and 2 more, or 3 where it has none, and
 -- a message 3.
-use Rattle.std.specs.Prelude.{ℕ, ◌+◌, ◌-◌, ◌*◌, ◌/◌, nat_lt, if◌then◌else◌}
-
--- how many blocks of so many cells there are
-abbrev pub blocks_of : ℕ → ℕ → ℕ
-blocks_of cells size = (cells - 1) / size + 1
+use Rattle.std.specs.Prelude.{ℕ, ◌+◌, ◌-◌, ◌*◌, nat_lt, if◌then◌else◌}
 
 -- the inputs of a row of blocks: left, own and right of each, as far as they are there
 abbrev pub row_inputs : ℕ → ℕ

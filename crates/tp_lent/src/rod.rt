@@ -1,7 +1,7 @@
 ghost use Rattle.std.specs.Prelude.{◌≡◌, ◌≤◌, ◌<◌, ◌+◌, ◌*◌, ◌⊎◌, IfOk, MatchOption};
 ghost use Rattle.tp_base.specs.declared.limits.TheConstants.{MAX_STEPS};
-ghost use Rattle.tp_heat.specs.Heats.{evolve};
-ghost use Rattle.tp_lent.specs.Events.{blocks_of, heat_events, row_inputs, row_messages};
+ghost use Rattle.tp_heat.specs.Heats.{blocks_of, evolve};
+ghost use Rattle.tp_lent.specs.Events.{heat_events, row_inputs, row_messages};
 ghost use Rattle.tp_work.specs.Outcomes.{IsWithinLimits};
 
 use std::alloc::Global;

@@ -23,14 +23,14 @@ needed_few (pool.Wavefront w) = mul-le w.rows w.columns 64 64 w.in_rules.few_row
 needed_few (pool.Reduce r) = omega arith
 
 -- what holds of each of a list holds of each of its front
-front : {A : Type 0} (P : A → Type 0) (xs ys : List A) → All P (xs ++ ys) → All P xs
+pub front : {A : Type 0} (P : A → Type 0) (xs ys : List A) → All P (xs ++ ys) → All P xs
 front P xs ys h = λ i d p. subst P (get_or_append_left xs ys d i p) (h i d (omega (arith, length-append xs ys)))
 
-last : {A : Type 0} (P : A → Type 0) (xs : List A) (y : A) → All P (xs ++ y ∷ []) → P y
+pub last : {A : Type 0} (P : A → Type 0) (xs : List A) (y : A) → All P (xs ++ y ∷ []) → P y
 last P xs y h = subst P (get_or-append_seam xs y [] y) (h (length xs) y (omega (arith, length-append xs (y ∷ []))))
 
 module _ (graph : AnyGraph) (results : Results) (k : ℕ) (r : TaskId × List ℤ) (inside : k < length results) (is : r ≡ get_or results k r) where
-  next : take (k + 1) results ≡ take k results ++ r ∷ []
+  pub next : take (k + 1) results ≡ take k results ++ r ∷ []
   next = take_more results k r inside ∙ ap (λ x. take k results ++ x ∷ []) (sym is)
 
   -- one more result, which is not of the task
@@ -75,7 +75,7 @@ get_or-replicate_same (suc n) zero a = refl
 get_or-replicate_same (suc n) (suc i) a = get_or-replicate_same n i a
 
 -- a needed task has a cell of the table
-cell_of : (graph : AnyGraph) (results : Results) (rank : ℕ) → rank < needed graph → HasNone results (needed_task graph rank) → LacksCell graph results
+pub cell_of : (graph : AnyGraph) (results : Results) (rank : ℕ) → rank < needed graph → HasNone results (needed_task graph rank) → LacksCell graph results
 cell_of (pool.Product p) results rank h none =
     let some : 0 < p.side = omega (arith, p.in_rules.some_side) in
     let tiles : 0 < p.tiles = omega (arith, p.in_rules.some_tiles) in

@@ -1,4 +1,5 @@
 pub mod Found
+pub mod Marked
 pub mod PlainCells
 pub mod Printed
 pub mod ProductSums

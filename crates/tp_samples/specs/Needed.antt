@@ -1,5 +1,5 @@
 -- How the numbers of a table are found among results: by the ranks of the tasks whose values it needs.
-use Rattle.std.specs.Prelude.{◌≡◌, ◌<◌, ◌+◌, ◌-◌, ◌*◌, ℕ, ℤ, pos, List, Option, Some, None, IsSomeAnd, length, slice_index_or}
+use Rattle.std.specs.Prelude.{◌≡◌, ◌<◌, ◌≤◌, ◌+◌, ◌-◌, ◌*◌, ℕ, ℤ, pos, Bool, true, false, List, Option, Some, None, IsSomeAnd, length, slice_index_or}
 use Rattle.std.specs.Borrow.{Bor}
 use Rattle.tp_graph.specs.Serial.{Results}
 use Rattle.tp_graph.specs.Values.{value_of}
@@ -37,7 +37,16 @@ IsFound graph results rank (Some found) = (value_of (any_graph graph) (needed_ta
 abbrev pub IsIndex : AnyGraph → Results → List (Option (Bor (List ℤ))) → Type 0
 IsIndex graph results values = (rank : ℕ) → rank < needed graph → IsFound graph results rank (slice_index_or values rank None)
 
+-- whether a result is of the needed task of a rank
+abbrev pub IsKnown : AnyGraph → Results → ℕ → Bool → Type 0
+IsKnown graph results rank false = HasNone results (needed_task graph rank)
+IsKnown graph results rank true = ¬ HasNone results (needed_task graph rank)
+
+-- of which needed tasks there are results
+abbrev pub IsMarked : AnyGraph → Results → List Bool → Type 0
+IsMarked graph results known = (rank : ℕ) → rank < needed graph → IsKnown graph results rank (slice_index_or known rank false)
+
 -- the value of each needed task is there
 pub record HasValues (graph : AnyGraph) (values : List (Option (Bor (List ℤ)))) : Type 0 where
-  pub long : length values ≡ 4096
+  pub long : needed graph ≤ length values
   pub each : (rank : ℕ) → rank < needed graph → IsSomeAnd (slice_index_or values rank None) (λ found. value_of (any_graph graph) (needed_task graph rank) ≡ Some found.now)

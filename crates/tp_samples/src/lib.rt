@@ -16,6 +16,6 @@ pub use any::AnyGraph;
 pub use laws::each_task_has_a_value;
 pub use product::Product;
 pub use reduce::Reduce;
-pub use result_table::{MAX_NEEDED, ResultTable};
+pub use result_table::ResultTable;
 pub use wavefront::Wavefront;
 pub use words::checked;

@@ -1,23 +1,24 @@
-ghost use Rattle.std.specs.Prelude.{◌≡◌, ◌<◌, ◌≤◌, ◌↔◌, ℕ, IsErr, IfOk, IfErr, IsSome, MatchOption, slice_index_or, None, length};
-ghost use Rattle.tp_base.specs.declared.Refusal.TheVariants.{Missing};
-ghost use Rattle.tp_samples.specs.Needed.{needed, IsIndex};
+ghost use Rattle.std.specs.Prelude.{◌≡◌, ◌<◌, ◌≤◌, ◌↔◌, ◌⊎◌, ℕ, IfErr, IfOk, IsSome, IsTrue, MatchOption, slice_index_or, Err, None, false, length};
+ghost use Rattle.tp_base.specs.declared.Refusal.TheVariants.{Missing, NoMemory};
+ghost use Rattle.tp_samples.specs.Needed.{needed, IsIndex, IsMarked};
 ghost use Rattle.tp_graph.specs.Serial.{AreRight};
 ghost use Rattle.tp_samples.specs.Any.{any_graph};
 ghost use Rattle.tp_samples.specs.Tables.{table_of, LacksCell};
 
 use crate::any::AnyGraph;
+use std::alloc::{AllocError, Global};
 use std::marker::Model;
 use tp_base::{Refusal, TaskId};
 use tp_graph::Value;
 
 /// The most tasks whose values a table needs: one for each cell of 64 rows and columns.
-pub const MAX_NEEDED: usize = 4_096;
+const MAX_NEEDED: usize = 4_096;
 
 /// The table of a pool, whose numbers stand among the pool's results. Contracts see its graph.
 #[derive(Drop)]
 pub struct ResultTable<'a> {
     graph: AnyGraph,
-    values: &'a [Option<&'a Value>],
+    values: Vec<Option<&'a Value>>,
 }
 
 impl<'a> Model for ResultTable<'a> {
@@ -28,27 +29,26 @@ impl<'a> Model for ResultTable<'a> {
 
     ghost view = { λ t. t.graph };
 
-    ghost invariant = { λ t. HasValues t.graph t.values.now };
+    ghost invariant = { λ t. HasValues t.graph t.values.items };
 }
 
 impl<'a> ResultTable<'a> {
     /// Finds the numbers of a graph's table among results, each of which has to be its task's value. Refused with
-    /// `Missing` exactly where a task that the table needs has no result. It takes no memory: what is found is kept in the
-    /// room that is lent, which is large: it is made where it stays, and never moved.
-    pub fn new<'r: 'a>(
+    /// `Missing` exactly where a task that the table needs has no result, and then with `NoMemory`.
+    pub fn new(
+        alloc: Global,
         graph: AnyGraph,
-        results: &'r [(TaskId, Value)],
-        room: &'a mut [Option<&'r Value>; MAX_NEEDED],
+        results: &'a [(TaskId, Value)],
     ) -> Result<Self, Refusal>
         requires { AreRight (any_graph graph) results.now }
         ensures found { IfOk result (λ table. table ≡ graph) }
-        ensures missing { IsErr result ↔ LacksCell graph results.now }
-        ensures refused { IfErr result (λ refusal. refusal ≡ Missing) }
+        ensures missing { (result ≡ Err Missing) ↔ LacksCell graph results.now }
+        ensures refused { IfErr result (λ refusal. (refusal ≡ Missing) ⊎ (refusal ≡ NoMemory)) }
     {
-        room.fill(None);
-        index(graph, results, room);
-        let values = &*room;
-        match missing(graph, values) {
+        let Ok(values) = index(alloc, graph, results) else {
+            return Err(without_memory(graph, results));
+        };
+        match missing(graph, &values) {
             Some(_) => Err(Refusal::Missing),
             None => Ok(ResultTable { graph, values }),
         }
@@ -82,15 +82,28 @@ impl<'a> ResultTable<'a> {
     }
 }
 
-/// Finds the values that a table needs, by the ranks of their tasks.
+/// The values that a table needs, by the ranks of their tasks. They lie on the heap: a thread's stack may be small.
 fn index<'a>(
+    alloc: Global,
     graph: AnyGraph,
     results: &'a [(TaskId, Value)],
-    values: &mut [Option<&'a Value>; MAX_NEEDED],
-)
+) -> Result<Vec<Option<&'a Value>>, AllocError>
+    requires { AreRight (any_graph graph) results.now }
+    ensures long { IfOk result (λ values. needed graph ≤ length values.items) }
+    ensures found { IfOk result (λ values. IsIndex graph results.now values.items) }
+{
+    let mut values = Vec::new(alloc);
+    values.resize(graph.needed() as usize, None)?;
+    find(graph, results, &mut values);
+    Ok(values)
+}
+
+/// Finds the values that a table needs, by the ranks of their tasks.
+fn find<'a>(graph: AnyGraph, results: &'a [(TaskId, Value)], values: &mut [Option<&'a Value>])
     requires right { AreRight (any_graph graph) results.now }
+    requires room { needed graph ≤ length values.old }
     requires empty { (rank : ℕ) → slice_index_or values.old rank None ≡ None }
-    ensures long { length values.new ≡ 4096 }
+    ensures long { length values.new ≡ length values.old }
     ensures found { IsIndex graph results.now values.new }
 {
     for (task, value) in results {
@@ -103,11 +116,51 @@ fn index<'a>(
 
 /// The lowest rank at which the value was not found.
 fn missing(graph: AnyGraph, values: &[Option<&Value>]) -> Option<u32>
-    requires { 4096 ≤ length values.now }
+    requires { needed graph ≤ length values.now }
     ensures { MatchOption result ((rank : ℕ) → rank < needed graph → IsSome (slice_index_or values.now rank None)) (λ rank. (rank < needed graph) × (slice_index_or values.now rank None ≡ None)) }
 {
     for rank in 0..graph.needed() {
         if values[rank as usize].is_none() {
+            return Some(rank);
+        }
+    }
+    None
+}
+
+/// Why there is no table, where there was no memory for it: a value that is missing is told first.
+fn without_memory(graph: AnyGraph, results: &[(TaskId, Value)]) -> Refusal
+    ensures missing { (result ≡ Missing) ↔ LacksCell graph results.now }
+    ensures refused { (result ≡ Missing) ⊎ (result ≡ NoMemory) }
+{
+    let mut known = [false; MAX_NEEDED];
+    mark(graph, results, &mut known);
+    match unknown(graph, &known) {
+        Some(_) => Refusal::Missing,
+        None => Refusal::NoMemory,
+    }
+}
+
+/// Marks the ranks of those tasks that have results.
+fn mark(graph: AnyGraph, results: &[(TaskId, Value)], known: &mut [bool; MAX_NEEDED])
+    requires { (rank : ℕ) → slice_index_or known.old rank false ≡ false }
+    ensures long { length known.new ≡ 4096 }
+    ensures marked { IsMarked graph results.now known.new }
+{
+    for (task, _) in results {
+        let Some(rank) = graph.rank(*task) else {
+            continue;
+        };
+        known[rank as usize] = true;
+    }
+}
+
+/// The lowest rank that is not marked.
+fn unknown(graph: AnyGraph, known: &[bool]) -> Option<u32>
+    requires { needed graph ≤ length known.now }
+    ensures { MatchOption result ((rank : ℕ) → rank < needed graph → IsTrue (slice_index_or known.now rank false)) (λ rank. (rank < needed graph) × (slice_index_or known.now rank false ≡ false)) }
+{
+    for rank in 0..graph.needed() {
+        if !known[rank as usize] {
             return Some(rank);
         }
     }

@@ -8,7 +8,7 @@ ghost use Rattle.tp_samples.specs.Tables.{LacksCell, table_of, texts, cell_text,
 use std::alloc::{AllocError, Global};
 use tp_base::{Refusal, TaskId};
 use tp_graph::Value;
-use tp_samples::{AnyGraph, MAX_NEEDED, ResultTable};
+use tp_samples::{AnyGraph, ResultTable};
 
 /// The table of a graph, from results each of which has to be its task's value: row by row, the numbers of a row
 /// separated by single spaces and ended by a line feed. Refused with `Missing` exactly where a task that the table needs
@@ -23,8 +23,7 @@ pub fn print_table(
     ensures missing { (result ≡ Err Missing) ↔ LacksCell graph results.now }
     ensures refused { IfErr result (λ refusal. (refusal ≡ Missing) ⊎ (refusal ≡ NoMemory)) }
 {
-    let mut room = [None; MAX_NEEDED];
-    let table = ResultTable::new(graph, results, &mut room)?;
+    let table = ResultTable::new(alloc, graph, results)?;
     let mut text = Vec::new(alloc);
     for i in 0..table.rows() {
         print_row(alloc, &mut text, &table, i)?;

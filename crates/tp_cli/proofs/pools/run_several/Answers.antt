@@ -2,7 +2,7 @@ use Rattle.std.proofs.Common.{rules, ◌≡◌, ◌∙◌, List, Ok, ap, map, re
 use Rattle.std.proofs.lemmas.Result.{IfOk-at_ok}
 use Rattle.std.specs.List.{list_all}
 use Rattle.std.specs.Result.{is_ok}
-use Rattle.tp_cli.proofs.Ending.{IfErr-all}
+use Rattle.tp_cli.proofs.Ending.{IfErr-each}
 use Rattle.tp_cli.specs.Pools.{lines_from, pools_of}
 use Rattle.tp_samples.specs.declared.any.AnyGraph.{AnyGraph}
 use Rattle.tp_several.specs.Answers.{AreRunAnswers}
@@ -19,7 +19,7 @@ returns-in_err-write_text-clause-made g c =
     let was_made : c.text_of_pools.result ≡ Ok c.in_ok-text.text = search rules in
     let made = IfOk-at_ok (λ text. text.items ≡ lines_from 0 words c.deref.result.now) was_made c.text_of_pools.ensures in
     let text : c.in_ok-text.text.items ≡ lines_from 0 words answers = made ∙ ap (λ rs. lines_from 0 words rs) c.deref.ensures.value in
-    IfErr-all c.from_residual-in_err-write_text.result _ (λ fault same. (
+    IfErr-each c.from_residual-in_err-write_text.result _ (λ fault is same. (
       list_all is_ok answers,
       c.in_ok-text.text.items,
       (named.0, answers, named.1, run named.0 named.2, refl, text),

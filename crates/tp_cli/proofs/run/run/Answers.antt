@@ -1,7 +1,7 @@
 use Rattle.std.proofs.Common.{rules, ◌≡◌, Err, Ok}
 use Rattle.std.proofs.lemmas.Result.{IfErr-at_err, IfOk-at_ok, on_ok_weaker}
 use Rattle.tp_cli.specs.Runs.{IsTextOf, IsWithoutText}
-use Rattle.tp_cli.proofs.Ending.{IfErr-all, IfErr-each}
+use Rattle.tp_cli.proofs.Ending.{IfErr-each}
 use Rattle.tp_samples.specs.Words.{word_of}
 use Rattle.tp_cli.proofs.run.run.Goals as goal
 
@@ -18,7 +18,7 @@ returns-clause-made g c =
     let named : c.args.spec.now ≡ word_of c.in_ok-graph.graph = search rules in
     let was : c.text_of_run.result ≡ Ok c.in_ok-text.text = search rules in
     let text = IfOk-at_ok (λ text. IsTextOf c.args.form c.in_ok-graph.graph c.args.config.nodes text.items) was c.text_of_run.ensures.text in
-    IfErr-all c.write_text.result _ (λ fault same. (c.in_ok-text.text.items, (c.in_ok-graph.graph, named, text)))
+    IfErr-each c.write_text.result _ (λ fault is same. (c.in_ok-text.text.items, (c.in_ok-graph.graph, named, text)))
 
 pub returns-in_err-text-clause-refused : goal.returns-in_err-text-clause-refused
 returns-in_err-text-clause-refused g c =

@@ -2,9 +2,9 @@ use Rattle.std.proofs.Common.{◌≡◌, ◌<◌, ℤ, List, Some, refl, length,
 use Rattle.tp_base.specs.declared.TaskId.{TaskId}
 use Rattle.tp_graph.specs.Values.{value_of}
 use Rattle.tp_samples.specs.Any.{any_graph}
-use Rattle.tp_samples.proofs.Found.{needed_few, index_more, index_set}
+use Rattle.tp_samples.proofs.Found.{index_more, index_set}
 use Rattle.tp_samples.proofs.Spelling.{the_one}
-use Rattle.tp_samples.proofs.result_table.index.Goals as goal
+use Rattle.tp_samples.proofs.result_table.find.Goals as goal
 
 pub loop-task-preserved-in_default : goal.loop-task-preserved-in_default
 loop-task-preserved-in_default c = record {
@@ -17,7 +17,7 @@ loop-task-preserved-in_default c = record {
 
 pub loop-task-preserved : goal.loop-task-preserved
 loop-task-preserved c =
-    let within : c.in-Some.rank < length c.loop-task.values = omega (arith, c.loop-task.invariant.long, needed_few c.args.graph, c.in-Some.ensures.only.0) in
+    let within : c.in-Some.rank < length c.loop-task.values = omega (arith, c.loop-task.invariant.long, c.requires.room, c.in-Some.ensures.only.0) in
     let P : TaskId × List ℤ → Type 0 = λ x. value_of (any_graph c.args.graph) x.0.0 ≡ Some x.1 in
     record {
       long = length-set c.loop-task.values c.in-Some.rank _ ∙ c.loop-task.invariant.long;
