@@ -5,6 +5,7 @@
 # usage: tools/strange.sh [PROGRAM]
 set -u
 program=$(realpath "${1:-bin/tp}")
+here=$(realpath "$(dirname "$0")")
 work=$(mktemp -d)
 trap 'rm -rf "$work"' EXIT
 chmod 755 "$work"
@@ -46,6 +47,17 @@ run_answer=$'66\ntasks 7\nmessages 0\nended\n'
 
 printf 'nodes 1\n' > "$work/script"
 printf 'trace 1\nnodes 1\n' > "$work/trace"
+
+# Each read is interrupted: after 67,108,864 of them the program gives the reader up. It needs a C compiler.
+if "${CC:-cc}" -O1 -shared -fPIC -o "$work/interrupted.so" "$here/interrupted.c"; then
+    for text in sim audit; do
+        LD_PRELOAD="$work/interrupted.so" "$tp" $text < "$work/script" > "$work/out" 2> "$work/err"
+        status=$?
+        judge "$text, each read interrupted" 1 '' "$read_fault"
+    done
+else
+    echo 'no C compiler: reads that are interrupted for ever are not tried'
+fi
 
 # standard input is closed, is a directory, or can only be written
 for text in sim audit; do
