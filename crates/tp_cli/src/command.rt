@@ -222,7 +222,8 @@ The exit status is
      --trace also `refused 26 BadSpec`, where a number has more than six digits.
 It is never 2. `HistoryFull` comes where the pool needs more than 1,048,576
 events: a task takes as many as it has inputs and 2 more, or 3 where it has
-none, and each message takes 3 more.";
+none, and each message takes 3 more. `refused 17 NoMemory` comes where memory
+was refused, or a thread could not be started.";
 
 static POOLS_HELP: &str =
     "Each SPEC names a pool, as `tp run --help` says them; no two are the same. A pool's
@@ -243,5 +244,6 @@ The exit status is
   1  where the words are at fault, as `refused 23 StoreFull` where they are more
      than 8, `refused 26 BadSpec` where one names no pool, `refused 25 PoolKnown`
      where one stands twice, or the lines could not be written;
-  3  where a pool was refused, or memory was.
+  3  where a pool was refused, or memory was; a thread that could not be started
+     is `refused 17 NoMemory` too.
 It is never 2.";
