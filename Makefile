@@ -1,4 +1,4 @@
-# make          proves every crate and builds the programs: bin/tp and bin/heat (some 25 minutes on four cores)
+# make          proves every crate and builds the programs: bin/tp, bin/heat and bin/product (some 25 minutes on four cores)
 # make demo     two runs of the program, unproved (a minute)
 # make test     every test and every program, unproved (some minutes)
 # make gate     the gate: every proof from nothing, the wrong bodies, each test, each program (see docs/GATE.md)
@@ -39,6 +39,7 @@ soak: bin/tp
 install: bin/tp
 	install -D -m 755 bin/tp $(DESTDIR)$(PREFIX)/bin/tp
 	install -D -m 755 bin/heat $(DESTDIR)$(PREFIX)/bin/heat
+	install -D -m 755 bin/product $(DESTDIR)$(PREFIX)/bin/product
 
 clean:
 	rm -rf bin crates/*/out

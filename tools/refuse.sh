@@ -1,13 +1,14 @@
 #!/bin/bash
 # Runs the built programs again and again, with the first growth of memory refused, then the second, and so on until there is none left to
 # refuse; and then with all growths from there on refused. Each time it has to give its whole answer, or else `refused 17 NoMemory`, of
-# `heat` `there is no memory`, on standard error, nothing on standard output, and status 3. The last line is `N passed, M failed`; the
+# `heat` and `product` `there is no memory`, on standard error, nothing on standard output, and status 3. The last line is `N passed, M failed`; the
 # status is 1 where one failed.
 # It needs a C compiler.
-# usage: tools/refuse.sh [TP [HEAT]]
+# usage: tools/refuse.sh [TP [HEAT [PRODUCT]]]
 set -u
 program=$(realpath "${1:-bin/tp}")
 heat=$(realpath "${2:-bin/heat}")
+product=$(realpath "${3:-bin/product}")
 here=$(cd "$(dirname "$0")" && pwd)
 work=$(mktemp -d)
 trap 'rm -rf "$work"' EXIT
@@ -88,5 +89,15 @@ try 'heat 40 8, one node' "$work/rod" 40 8
 try 'heat 2 500, an input of several reads' "$work/long_rod" 2 500
 try 'heat 3 5, two nodes by two workers' "$work/rod" 3 5 --nodes 2 --workers 2
 try 'heat --help' /dev/null --help
+program=$product
+awk 'BEGIN {
+    for (m = 0; m < 2; m++) {
+        if (m) print ""
+        for (i = 0; i < 8; i++) { for (j = 0; j < 8; j++) printf "%s%d", j ? " " : "", i * 3 - j * m - 5; print "" }
+    }
+}' > "$work/matrices"
+try 'product 2, one node' "$work/matrices" 2
+try 'product 4, two nodes by two workers' "$work/matrices" 4 --nodes 2 --workers 2
+try 'product --help' /dev/null --help
 echo "$passed passed, $failed failed"
 [ $failed = 0 ]

@@ -14,9 +14,9 @@ use Rattle.clap.specs.declared.error.kind.ErrorKind.TheVariants.{DisplayHelp, Di
 abbrev pub steps_rule : Rule
 steps_rule = record (new_rule (codes "STEPS")) { required = true; parser = Some (Unsigned 0 18446744073709551615) }
 
--- how many cells a block has, a number of 32 bits from 1 on
-abbrev pub block_rule : Rule
-block_rule = record (new_rule (codes "BLOCK")) { required = true; parser = Some (Signed (pos 1) (pos 4294967295)) }
+-- how many cells a block has, or how many rows and columns a tile: a number of 32 bits from 1 on
+abbrev pub size_rule : Text → Rule
+size_rule name = record (new_rule name) { required = true; parser = Some (Signed (pos 1) (pos 4294967295)) }
 
 -- an option that takes a number from 1 to 8, and is 1 where it is left out
 abbrev pub count_rule : Text → Rule
@@ -36,7 +36,11 @@ with_version a = record a { top = record a.top { has_version = true } }
 
 -- the command line of `heat`
 abbrev pub heat_app : App
-heat_app = with_count_rules (with_rule (with_rule (with_version (new_app (codes "heat"))) steps_rule) block_rule)
+heat_app = with_count_rules (with_rule (with_rule (with_version (new_app (codes "heat"))) steps_rule) (size_rule (codes "BLOCK")))
+
+-- the command line of `product`
+abbrev pub product_app : App
+product_app = with_count_rules (with_rule (with_version (new_app (codes "product"))) (size_rule (codes "SIDE")))
 
 -- ---- what was found for the arguments
 
@@ -65,23 +69,39 @@ AreCountsIn rows nodes workers = IsCount MAX_NODES (codes "nodes") rows nodes ×
 abbrev pub LackSteps : List Row → Type 0
 LackSteps rows = LacksNumber 64 (codes "STEPS") rows ⊎ LacksNumber 32 (codes "BLOCK") rows
 
+-- tiles of so many rows and columns
+abbrev pub IsSideIn : List Row → ℕ → Type 0
+IsSideIn rows side = IsNumberOf (codes "SIDE") rows side
+
+-- a size of tiles is not there
+abbrev pub LackSide : List Row → Type 0
+LackSide rows = LacksNumber 32 (codes "SIDE") rows
+
 -- ---- what the words ask for
 
 -- help or the version
-abbrev pub AsksToBeShown : List Text → Type 0
-AsksToBeShown words = IsAmong DisplayHelp (fault_of heat_app words) ⊎ IsAmong DisplayVersion (fault_of heat_app words)
+abbrev pub AsksToBeShown : App → List Text → Type 0
+AsksToBeShown app words = IsAmong DisplayHelp (fault_of app words) ⊎ IsAmong DisplayVersion (fault_of app words)
+
+-- so many nodes with so many workers
+abbrev pub AsksForCounts : App → List Text → ℕ → ℕ → Type 0
+AsksForCounts app words nodes workers = AreCountsIn (matches_of app words) nodes workers
 
 -- a rod after so many steps, worked out in blocks of so many cells
 abbrev pub AsksForSteps : List Text → ℕ → ℕ → Type 0
 AsksForSteps words steps block = AreStepsIn (matches_of heat_app words) steps block
 
--- by so many nodes with so many workers
-abbrev pub AsksForCounts : List Text → ℕ → ℕ → Type 0
-AsksForCounts words nodes workers = AreCountsIn (matches_of heat_app words) nodes workers
-
 -- a rod after some steps
 abbrev pub AsksForRod : List Text → Type 0
 AsksForRod words = (steps : ℕ) × (block : ℕ) × AsksForSteps words steps block
+
+-- a product, worked out in tiles of so many rows and columns
+abbrev pub AsksForSide : List Text → ℕ → Type 0
+AsksForSide words side = IsSideIn (matches_of product_app words) side
+
+-- a product in some tiles
+abbrev pub AsksForProduct : List Text → Type 0
+AsksForProduct words = (side : ℕ) × AsksForSide words side
 
 -- ---- why the words make no request
 
@@ -90,10 +110,10 @@ abbrev pub IsToBeShown : ErrorKind → Type 0
 IsToBeShown kind = (kind ≡ DisplayHelp) ⊎ (kind ≡ DisplayVersion)
 
 -- The words make no request by this kind: there was no memory, or it is among the faults of the words, or they lack a number.
-abbrev pub FailsAs : List Text → ErrorKind → Type 0
-FailsAs words kind = (kind ≡ OutOfMemory)
-    ⊎ (IsAmong kind (fault_of heat_app words) ⊎ ((kind ≡ MissingRequiredArgument) × LackSteps (matches_of heat_app words)))
+abbrev pub FailsAs : App → (List Row → Type 0) → List Text → ErrorKind → Type 0
+FailsAs app Lack words kind = (kind ≡ OutOfMemory)
+    ⊎ (IsAmong kind (fault_of app words) ⊎ ((kind ≡ MissingRequiredArgument) × Lack (matches_of app words)))
 
 -- The words are at fault: of their faults one asks for neither help nor the version, or they lack a number.
-abbrev pub AreAtFault : List Text → Type 0
-AreAtFault words = ((kind : ErrorKind) × ¬ IsToBeShown kind × IsAmong kind (fault_of heat_app words)) ⊎ LackSteps (matches_of heat_app words)
+abbrev pub AreAtFault : App → (List Row → Type 0) → List Text → Type 0
+AreAtFault app Lack words = ((kind : ErrorKind) × ¬ IsToBeShown kind × IsAmong kind (fault_of app words)) ⊎ Lack (matches_of app words)

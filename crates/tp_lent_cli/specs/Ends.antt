@@ -2,33 +2,38 @@
 -- bytes that they had before and have now.
 use Rattle.std.specs.Prelude.{ℕ, ℤ, ◌≡◌, ◌⊎◌, List, Option}
 use Rattle.std.specs.Io.KnownBytes.{Appends, Consumes, IsAtEnd}
-use Rattle.clap.specs.Words.{Text}
+use Rattle.clap.specs.Words.{App, Text}
 use Rattle.tp_cells.specs.Texts.{AreLines, lines_of}
 use Rattle.tp_heat.specs.Heats.{evolve}
-use Rattle.tp_lent_cli.specs.Command.{AsksForSteps, AsksToBeShown}
+use Rattle.tp_lent_cli.specs.Command.{AsksForCounts, AsksForSide, AsksForSteps, AsksToBeShown, product_app}
+use Rattle.tp_lent_cli.specs.Tiles.{IsProductText}
 
 -- These bytes were read, and they were all that there were.
 abbrev pub ReadsAll : Option (List ℕ) → Option (List ℕ) → List ℕ → Type 0
 ReadsAll old new bytes = Consumes old new bytes × IsAtEnd new
 
+-- All was read, and this is the text that is made of it.
+abbrev pub IsMadeOfAll : (List ℕ → List ℕ → Type 0) → Option (List ℕ) → Option (List ℕ) → List ℕ → Type 0
+IsMadeOfAll Makes read_old read_new text = (bytes : List ℕ) × ReadsAll read_old read_new bytes × Makes bytes text
+
 -- The lines of the input spell the cells of a rod, and this is the text of the rod after so many steps.
 abbrev pub IsTextAfter : ℕ → List ℕ → List ℕ → Type 0
 IsTextAfter steps bytes text = (cells : List ℤ) × AreLines bytes cells × (text ≡ lines_of (evolve steps cells))
 
--- All was read, and this is the text after so many steps of the rod that it spells.
-abbrev pub IsRodAfter : ℕ → Option (List ℕ) → Option (List ℕ) → List ℕ → Type 0
-IsRodAfter steps read_old read_new text = (bytes : List ℕ) × ReadsAll read_old read_new bytes × IsTextAfter steps bytes text
-
--- The words ask for a rod after some steps, and this is its text.
+-- The words ask for a rod after some steps, and this is its text, of all that was read.
 abbrev pub IsRodAskedFor : List Text → Option (List ℕ) → Option (List ℕ) → List ℕ → Type 0
 IsRodAskedFor words read_old read_new text =
-    (steps : ℕ) × (block : ℕ) × AsksForSteps words steps block × IsRodAfter steps read_old read_new text
+    (steps : ℕ) × (block : ℕ) × AsksForSteps words steps block × IsMadeOfAll (IsTextAfter steps) read_old read_new text
+
+-- The words ask for a product in some tiles, by some nodes, and this is its text, of all that was read.
+abbrev pub IsProductAskedFor : List Text → Option (List ℕ) → Option (List ℕ) → List ℕ → Type 0
+IsProductAskedFor words read_old read_new text = (side : ℕ) × (nodes : ℕ) × (workers : ℕ) × AsksForSide words side
+    × AsksForCounts product_app words nodes workers × IsMadeOfAll (IsProductText side nodes) read_old read_new text
 
 -- 0: the text that the words ask for was written and nothing else.
-abbrev pub HasPrinted : List Text → Option (List ℕ) → Option (List ℕ) → Option (List ℕ) → Option (List ℕ) → Type 0
-HasPrinted words read_old read_new written_old written_new =
-    (text : List ℕ) × IsRodAskedFor words read_old read_new text × Appends written_old written_new text
+abbrev pub HasPrinted : (List ℕ → Type 0) → Option (List ℕ) → Option (List ℕ) → Type 0
+HasPrinted IsAskedFor written_old written_new = (text : List ℕ) × IsAskedFor text × Appends written_old written_new text
 
 -- 1, where something may have been written: what was asked for was made, and then the writing failed.
-abbrev pub CouldNotWrite : List Text → Option (List ℕ) → Option (List ℕ) → Type 0
-CouldNotWrite words read_old read_new = ((text : List ℕ) × IsRodAskedFor words read_old read_new text) ⊎ AsksToBeShown words
+abbrev pub CouldNotWrite : App → List Text → (List ℕ → Type 0) → Type 0
+CouldNotWrite app words IsAskedFor = ((text : List ℕ) × IsAskedFor text) ⊎ AsksToBeShown app words

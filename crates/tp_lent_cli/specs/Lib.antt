@@ -1,3 +1,4 @@
 pub mod Command
 pub mod Ends
 pub mod Faults
+pub mod Tiles

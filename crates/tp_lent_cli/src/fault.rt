@@ -1,11 +1,14 @@
-ghost use Rattle.std.specs.Prelude.{◌≡◌, ◌≢◌, ◌≤◌, OnOk};
+ghost use Rattle.std.specs.Prelude.{◌≡◌, ◌≢◌, ◌≤◌, ℕ, OnOk};
 ghost use Rattle.std.specs.Io.KnownBytes.{Appends};
-ghost use Rattle.tp_base.specs.declared.refusal.Refusal.TheVariants.{NoMemory};
+ghost use Rattle.tp_base.specs.declared.refusal.Refusal.TheVariants.{BodyFailed, NoMemory};
+ghost use Rattle.tp_cells.specs.declared.fault.LineFault.TheVariants.{Line};
 ghost use Rattle.tp_lent_cli.specs.Faults.{complaint, status_of};
 
+use crate::tiles::TileFault;
 use std::io::{self, ErrorKind, Write};
 use tp_base::Refusal;
 use tp_cells::LineFault;
+use tp_rows::RowFault;
 
 /// Why nothing was printed, or not all of it.
 #[derive(Clone, Copy, Debug, PartialEq, Eq)]
@@ -18,6 +21,10 @@ pub enum Fault {
     Empty,
     /// Even one step takes more events than a run may have.
     TooMany,
+    /// The matrices have no product in such tiles.
+    Tiles(TileFault),
+    /// A number of the product leaves 64 bits.
+    Overflow,
     /// The run was refused, or there is no memory for the input or the output.
     Run(Refusal),
     /// The output could not be written.
@@ -34,6 +41,28 @@ impl Fault {
         match kind {
             ErrorKind::OutOfMemory => Fault::Run(Refusal::NoMemory),
             _ => Fault::Read,
+        }
+    }
+
+    /// Why the input gives no matrices.
+    pub(crate) fn of_rows(fault: RowFault) -> Fault
+        ensures line { (k : ℕ) → fault ≡ RowFault.Line k → result ≡ Fault.Text (Line k) }
+        ensures memory { fault ≡ RowFault.Memory → result ≡ Fault.Run NoMemory }
+    {
+        match fault {
+            RowFault::Line(line) => Fault::Text(LineFault::Line(line)),
+            RowFault::Memory => Fault::Run(Refusal::NoMemory),
+        }
+    }
+
+    /// Why the run of a product was refused.
+    pub(crate) fn of_product(refusal: Refusal) -> Fault
+        ensures overflow { refusal ≡ BodyFailed → result ≡ Fault.Overflow }
+        ensures other { refusal ≢ BodyFailed → result ≡ Fault.Run refusal }
+    {
+        match refusal {
+            Refusal::BodyFailed => Fault::Overflow,
+            _ => Fault::Run(refusal),
         }
     }
 
@@ -59,6 +88,16 @@ impl Fault {
             Fault::TooMany => err.write_all(
                 b"a run may have 1,048,576 events, and one step takes more: make the blocks larger\n",
             ),
+            Fault::Tiles(TileFault::TooManyRows) => {
+                err.write_all(b"the matrices have 32,768 rows or more\n")
+            }
+            Fault::Tiles(TileFault::Unfilled) => {
+                err.write_all(b"tiles of SIDE rows and columns do not fill the matrices\n")
+            }
+            Fault::Tiles(TileFault::TooManyEvents) => err.write_all(
+                b"a run may have 1,048,576 events, and the product takes more: make SIDE larger\n",
+            ),
+            Fault::Overflow => err.write_all(b"a number of the product leaves 64 bits\n"),
             Fault::Text(LineFault::Memory) | Fault::Run(Refusal::NoMemory) => {
                 err.write_all(b"there is no memory\n")
             }
@@ -78,7 +117,9 @@ impl Fault {
         match self {
             Fault::Read | Fault::Write => 1,
             Fault::Text(LineFault::Line(_)) | Fault::Empty | Fault::TooMany => 2,
+            Fault::Tiles(_) => 2,
             Fault::Text(LineFault::Memory) | Fault::Run(_) => 3,
+            Fault::Overflow => 3,
         }
     }
 }

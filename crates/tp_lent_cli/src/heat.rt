@@ -1,12 +1,13 @@
 ghost use Rattle.std.specs.Prelude.{◌≡◌, ◌≤◌, ◌≢◌, ◌⊎◌, ℕ, List, IfErr, IfOk, OnOk, map};
 ghost use Rattle.std.specs.Io.KnownBytes.{Appends};
-ghost use Rattle.tp_lent_cli.specs.Command.{AreAtFault, AsksForRod, AsksToBeShown};
-ghost use Rattle.tp_lent_cli.specs.Ends.{CouldNotWrite, HasPrinted, IsRodAfter, IsTextAfter, ReadsAll};
+ghost use Rattle.tp_lent_cli.specs.Command.{AreAtFault, AsksForRod, AsksToBeShown, LackSteps, heat_app};
+ghost use Rattle.tp_lent_cli.specs.Ends.{CouldNotWrite, HasPrinted, IsMadeOfAll, IsRodAskedFor, IsTextAfter};
 ghost use Rattle.tp_work.specs.Outcomes.{IsWithinLimits};
 
 use crate::fault::Fault;
 use crate::options::explain;
 use crate::request::{Request, requested};
+use crate::streams::{read_all, write_text};
 use std::alloc::Global;
 use std::io::{Read, Write};
 use std::str;
@@ -32,14 +33,15 @@ pub fn heat_with<R: Threads + Wait + Sync, I: Read, O: Write, E: Write>(
     // 0: the rod that the words ask for was printed and nothing else; or help or the version was shown, and nothing was
     // read. Nothing is complained of.
     ensures succeeded { result ≡ 0 → (err.new ≡ err.old)
-        × (HasPrinted (map (λ w. w.now) words.now) (I.remaining reader.old) (I.remaining reader.new)
+        × (HasPrinted (IsRodAskedFor (map (λ w. w.now) words.now) (I.remaining reader.old) (I.remaining reader.new))
         (O.contents out.old) (O.contents out.new)
-        ⊎ (AsksToBeShown (map (λ w. w.now) words.now) × (reader.new ≡ reader.old))) }
+        ⊎ (AsksToBeShown heat_app (map (λ w. w.now) words.now) × (reader.new ≡ reader.old))) }
     // 1: the writing failed, of what was made in full; or nothing was written, for a fault of the words, by which nothing was
     // read, or of the reading.
-    ensures complained { result ≡ 1 → CouldNotWrite (map (λ w. w.now) words.now) (I.remaining reader.old) (I.remaining reader.new)
+    ensures complained { result ≡ 1 → CouldNotWrite heat_app (map (λ w. w.now) words.now)
+        (IsRodAskedFor (map (λ w. w.now) words.now) (I.remaining reader.old) (I.remaining reader.new))
         ⊎ ((out.new ≡ out.old) × (AsksForRod (map (λ w. w.now) words.now)
-        ⊎ (AreAtFault (map (λ w. w.now) words.now) × (reader.new ≡ reader.old)))) }
+        ⊎ (AreAtFault heat_app LackSteps (map (λ w. w.now) words.now) × (reader.new ≡ reader.old)))) }
     // 2, for a fault of the input, and 3, for a run or memory that was refused: nothing was written.
     ensures refused { result ≡ 2 → out.new ≡ out.old }
     ensures failed { result ≡ 3 → out.new ≡ out.old }
@@ -64,10 +66,10 @@ fn answer_request<R: Threads + Wait + Sync, I: Read, O: Write, E: Write>(
     requires { IsWithinLimits request.config }
     ensures range { result ≤ 3 }
     ensures printed { result ≡ 0 → (err.new ≡ err.old) × ((text : List ℕ)
-        × IsRodAfter request.steps (I.remaining reader.old) (I.remaining reader.new) text
+        × IsMadeOfAll (IsTextAfter request.steps) (I.remaining reader.old) (I.remaining reader.new) text
         × Appends (O.contents out.old) (O.contents out.new) text) }
     ensures made { result ≡ 1 → (out.new ≡ out.old)
-        ⊎ ((text : List ℕ) × IsRodAfter request.steps (I.remaining reader.old) (I.remaining reader.new) text) }
+        ⊎ ((text : List ℕ) × IsMadeOfAll (IsTextAfter request.steps) (I.remaining reader.old) (I.remaining reader.new) text) }
     ensures refused { result ≡ 2 → out.new ≡ out.old }
     ensures failed { result ≡ 3 → out.new ≡ out.old }
 {
@@ -95,37 +97,17 @@ pub fn answer_heat<R: Threads + Wait + Sync, I: Read, O: Write>(
 ) -> Result<(), Fault>
     requires { IsWithinLimits config }
     // What is written is the plain recurrence on the numbers that the lines of the input spell, all of which was read.
-    ensures printed { OnOk result ((text : List ℕ) × IsRodAfter steps (I.remaining reader.old) (I.remaining reader.new) text
+    ensures printed { OnOk result ((text : List ℕ) × IsMadeOfAll (IsTextAfter steps) (I.remaining reader.old) (I.remaining reader.new) text
         × Appends (O.contents out.old) (O.contents out.new) text) }
     // Where it could not be written, it was made.
     ensures made { IfErr result (λ fault. fault ≡ Fault.Write
-        → (text : List ℕ) × IsRodAfter steps (I.remaining reader.old) (I.remaining reader.new) text) }
+        → (text : List ℕ) × IsMadeOfAll (IsTextAfter steps) (I.remaining reader.old) (I.remaining reader.new) text) }
     ensures unwritten { IfErr result (λ fault. fault ≢ Fault.Write → out.new ≡ out.old) }
 {
     let bytes = read_all(alloc, reader)?;
     let input = str::from_utf8(&bytes).map_err(|_| Fault::Read)?;
     let text = text_after(rt, alloc, steps, block, config, input)?;
     write_text(out, &text)
-}
-
-/// Reads all there is.
-fn read_all<I: Read>(alloc: Global, reader: &mut I) -> Result<Vec<u8>, Fault>
-    ensures whole { IfOk result (λ bytes. ReadsAll (I.remaining reader.old) (I.remaining reader.new) bytes.items) }
-    ensures unwritten { IfErr result (λ fault. fault ≢ Fault.Write) }
-{
-    let mut bytes = Vec::new(alloc);
-    match reader.read_to_end(&mut bytes) {
-        Ok(_) => Ok(bytes),
-        Err(error) => Err(Fault::of_reading(error.kind())),
-    }
-}
-
-fn write_text<O: Write>(out: &mut O, text: &[u8]) -> Result<(), Fault>
-    ensures ok { OnOk result (Appends (O.contents out.old) (O.contents out.new) text.now) }
-    ensures err { IfErr result (λ fault. fault ≡ Fault.Write) }
-{
-    out.write_all(text).map_err(|_| Fault::Write)?;
-    out.flush().map_err(|_| Fault::Write)
 }
 
 /// The text of the rod after so many steps, from the text of its cells.

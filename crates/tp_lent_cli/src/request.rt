@@ -22,8 +22,8 @@ pub(crate) struct Request {
 pub(crate) fn requested(alloc: Global, words: &[&str]) -> Result<Request, Error>
     ensures limits { IfOk result (λ request. IsWithinLimits request.config) }
     ensures asked { IfOk result (λ request. AsksForSteps (map (λ w. w.now) words.now) request.steps request.block) }
-    ensures counts { IfOk result (λ request. AsksForCounts (map (λ w. w.now) words.now) request.config.nodes request.config.workers) }
-    ensures why { IfErr result (λ error. FailsAs (map (λ w. w.now) words.now) (kind_of error)) }
+    ensures counts { IfOk result (λ request. AsksForCounts heat_app (map (λ w. w.now) words.now) request.config.nodes request.config.workers) }
+    ensures why { IfErr result (λ error. FailsAs heat_app LackSteps (map (λ w. w.now) words.now) (kind_of error)) }
 {
     let mut command = heat_command(alloc)?;
     let matches = command.try_get_matches_from_mut(words)?;

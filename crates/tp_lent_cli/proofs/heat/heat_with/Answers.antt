@@ -1,6 +1,7 @@
 use Rattle.std.proofs.Common.{inl, inr, map, rules}
 use Rattle.clap.specs.Values.{kind_of}
 use Rattle.tp_lent_cli.proofs.Asked.{at_fault, shown_asked}
+use Rattle.tp_lent_cli.specs.Command.{LackSteps, heat_app}
 use Rattle.tp_lent_cli.proofs.heat.heat_with.Goals as goal
 
 pub returns-in-Ok-clause-succeeded : goal.returns-in-Ok-clause-succeeded
@@ -25,11 +26,11 @@ returns-in-Ok-clause-unread g c =
 pub returns-in-Err-clause-succeeded : goal.returns-in-Err-clause-succeeded
 returns-in-Err-clause-succeeded g c = λ zero.
     let shown = c.explain.ensures.shown zero in
-    (shown.0, inr (shown_asked (map (λ w. w.now) c.args.words.now) (kind_of c.in-Err.error) c.in-Err.ensures.why shown.1, search rules))
+    (shown.0, inr (shown_asked heat_app LackSteps (map (λ w. w.now) c.args.words.now) (kind_of c.in-Err.error) c.in-Err.ensures.why shown.1, search rules))
 
 pub returns-in-Err-clause-complained : goal.returns-in-Err-clause-complained
 returns-in-Err-clause-complained g c = λ one.
     elim (c.explain.ensures.complained one) [
-      | inl shown ↦ inl (inr (shown_asked (map (λ w. w.now) c.args.words.now) (kind_of c.in-Err.error) c.in-Err.ensures.why shown))
-      | inr vain ↦ inr (vain.0, inr (at_fault (map (λ w. w.now) c.args.words.now) (kind_of c.in-Err.error) c.in-Err.ensures.why vain.1 vain.2, search rules))
+      | inl shown ↦ inl (inr (shown_asked heat_app LackSteps (map (λ w. w.now) c.args.words.now) (kind_of c.in-Err.error) c.in-Err.ensures.why shown))
+      | inr vain ↦ inr (vain.0, inr (at_fault heat_app LackSteps (map (λ w. w.now) c.args.words.now) (kind_of c.in-Err.error) c.in-Err.ensures.why vain.1 vain.2, search rules))
     ]

@@ -1,0 +1,13 @@
+//! Two square matrices as text, and one as text again.
+#![tactic(auto)]
+
+mod fault;
+mod matrices;
+mod read;
+mod row;
+mod write;
+
+pub use fault::RowFault;
+pub use matrices::Matrices;
+pub use read::matrices_of;
+pub use write::text_of_rows;
