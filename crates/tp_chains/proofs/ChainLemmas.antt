@@ -87,7 +87,8 @@ module _ {T : Type 0} where
     }
 
   -- the slot at the end of a path leads on to another
-  pub path_extended : (cs : List (Ptr × Option (Slot T))) (b l : Link T) → IsLink cs b → IsLink cs l → l.place ≢ b.place → next_at cs l.place ≡ None → (qs : List ℕ) (o : Option (Link T)) → stands b.place qs ≡ 0 → IsPath cs o (qs ++ b.place ∷ [])
+  pub path_extended : (cs : List (Ptr × Option (Slot T))) (b l : Link T) → IsLink cs b → IsLink cs l → l.place ≢ b.place → next_at cs l.place ≡ None → (qs : List ℕ) (o : Option (Link T))
+      → stands b.place qs ≡ 0 → IsPath cs o (qs ++ b.place ∷ [])
       → IsPath (with_next cs b.place (Some l)) o (qs ++ b.place ∷ l.place ∷ [])
   path_extended cs b l hb hl ne last [] None none path = absurd path
   path_extended cs b l hb hl ne last [] (Some m) none path =
@@ -158,11 +159,13 @@ module _ {T : Type 0} where
       cut [] e = cc
       cut (z ∷ zs) e = (h.0, zs, cc)
 
-  pub chain_rest : (cs : List (Ptr × Option (Slot T))) (back next m : Option (Link T)) (l k : Link T) (rest : List ℕ) → next ≡ Some k → IsPath cs next rest → IsBack cs back (l.place ∷ rest) → ((q : ℕ) → stands q (l.place ∷ rest) ≤ 1) → IsChain cs (record { front = next; back = back }) rest
+  pub chain_rest : (cs : List (Ptr × Option (Slot T))) (back next m : Option (Link T)) (l k : Link T) (rest : List ℕ) → next ≡ Some k → IsPath cs next rest
+      → IsBack cs back (l.place ∷ rest) → ((q : ℕ) → stands q (l.place ∷ rest) ≤ 1) → IsChain cs (record { front = next; back = back }) rest
   chain_rest cs back next m l k [] e path h once = let clash : None ≡ Some k = sym path ∙ e in cc
   chain_rest cs back next m l k (y ∷ ys) e path h once = record { path = path; back = back_of_rest cs back l.place y ys h; once = once_rest l.place (y ∷ ys) once }
 
-  pub back_before : (cs : List (Ptr × Option (Slot T))) (back next : Option (Link T)) (l : Link T) (places : List ℕ) (b : Link T) → IsLink cs l → back ≡ Some b → IsBack cs back places → IsBack (with_next cs l.place next) back (l.place ∷ places)
+  pub back_before : (cs : List (Ptr × Option (Slot T))) (back next : Option (Link T)) (l : Link T) (places : List ℕ) (b : Link T) → IsLink cs l → back ≡ Some b → IsBack cs back places
+      → IsBack (with_next cs l.place next) back (l.place ∷ places)
   back_before cs None next l places b hl e h = cc
   back_before cs (Some x) next l places b hl e h = (still_full cs l.place next l.ptr hl x.place x.ptr h.0, l.place ∷ h.1, ap (λ ps. l.place ∷ ps) h.2)
 

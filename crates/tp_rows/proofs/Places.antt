@@ -97,7 +97,8 @@ pub length-below : (seen : List (List ℕ)) (order : ℕ) (left right : List ℤ
 length-below seen order left right b = omega (arith, ap length b.between, length-append b.above ([] ∷ b.below), b.rows_above)
 
 -- ---- a line more
-pub above_more : (seen : List (List ℕ)) (order : ℕ) (left right : List ℤ) (line : List ℕ) (row : List ℤ) → IsAbove seen order left right → length seen < order → SpellsRow line row → length row ≡ order → IsAbove (seen ++ line ∷ []) order (left ++ row) right
+pub above_more : (seen : List (List ℕ)) (order : ℕ) (left right : List ℤ) (line : List ℕ) (row : List ℤ) → IsAbove seen order left right → length seen < order → SpellsRow line row
+    → length row ≡ order → IsAbove (seen ++ line ∷ []) order (left ++ row) right
 above_more seen order left right line row a h s l = record {
   some_columns = a.some_columns;
   some_lines = omega (arith, length-append seen (line ∷ []));
@@ -118,7 +119,8 @@ between_more seen order left right a h = record {
   right_rows = a.right_none;
 }
 
-pub below_more : (seen : List (List ℕ)) (order : ℕ) (left right : List ℤ) (line : List ℕ) (row : List ℤ) → IsBelow seen order left right → length seen ≤ order + order → SpellsRow line row → length row ≡ order → IsBelow (seen ++ line ∷ []) order left (right ++ row)
+pub below_more : (seen : List (List ℕ)) (order : ℕ) (left right : List ℤ) (line : List ℕ) (row : List ℤ) → IsBelow seen order left right → length seen ≤ order + order → SpellsRow line row
+    → length row ≡ order → IsBelow (seen ++ line ∷ []) order left (right ++ row)
 below_more seen order left right line row b h s l = record {
   above = b.above;
   below = b.below ++ line ∷ [];

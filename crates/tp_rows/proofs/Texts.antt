@@ -21,7 +21,8 @@ joined-one (y ∷ row) z h = absurd (omega arith)
 long-take : (row : List ℤ) (i : ℕ) → i < length row → length (take i row) ≡ i
 long-take row i h = length-take-le i row (omega arith)
 
-pub written_next : (row : List ℤ) (i : ℕ) (d : ℤ) (start old spaced new : List ℕ) → i < length row → 0 < i → old ≡ start ++ joined (take i row) → spaced ≡ old ++ 32 ∷ [] → new ≡ spaced ++ signed_decimal (get_or row i d) → new ≡ start ++ joined (take (i + 1) row)
+pub written_next : (row : List ℤ) (i : ℕ) (d : ℤ) (start old spaced new : List ℕ) → i < length row → 0 < i → old ≡ start ++ joined (take i row) → spaced ≡ old ++ 32 ∷ []
+    → new ≡ spaced ++ signed_decimal (get_or row i d) → new ≡ start ++ joined (take (i + 1) row)
 written_next row i d start old spaced new h some before space is =
     let s = signed_decimal (get_or row i d) in
     is ∙ ap (λ l. l ++ s) space ∙ append_assoc old (32 ∷ []) s ∙ ap (λ l. l ++ 32 ∷ s) before ∙ append_assoc start (joined (take i row)) (32 ∷ s)

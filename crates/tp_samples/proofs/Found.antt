@@ -1,4 +1,5 @@
-use Rattle.std.proofs.Common.{◌≡◌, ◌≢◌, ◌<◌, ◌≤◌, ◌+◌, ◌-◌, ◌*◌, ◌/◌, ◌%◌, ◌++◌, ℕ, ℤ, pos, IsSome, rules, List, [], ◌∷◌, Option, Some, None, zero, suc, refl, replicate, length, get_or, set, take, sym, ap, ◌∙◌, subst, arith, ⊎_elim, length-append}
+use Rattle.std.proofs.Common.{◌≡◌, ◌≢◌, ◌<◌, ◌≤◌, ◌+◌, ◌-◌, ◌*◌, ◌/◌, ◌%◌, ◌++◌, ℕ, ℤ, pos, IsSome, rules, List, [], ◌∷◌}
+use Rattle.std.proofs.Common.{Option, Some, None, zero, suc, refl, replicate, length, get_or, set, take, sym, ap, ◌∙◌, subst, arith, ⊎_elim, length-append}
 use Rattle.std.proofs.lemmas.Bool.{cases_eq}
 use Rattle.std.proofs.lemmas.Nat.{mul-le, div_below, mul-add-lt, div-mul-add, div-add-mod'}
 use Rattle.std.proofs.lemmas.List.{take_more, get_or-set_same, get_or-set_other, get_or_append_left}
@@ -64,7 +65,8 @@ module _ (graph : AnyGraph) (results : Results) (k : ℕ) (r : TaskId × List �
   index_set values rank v within same seen right only index = λ other h.
       let P : Option (Bor (List ℤ)) → Type 0 = λ o. IsFound graph (take (k + 1) results) other o in
       ⊎_elim
-      (λ (e : other ≡ rank). let R : ℕ → Type 0 = λ n. IsFound graph (take (k + 1) results) n (get_or (set values rank (Some v)) n None) in subst R (sym e) (let S : Option (Bor (List ℤ)) → Type 0 = λ o. IsFound graph (take (k + 1) results) rank o in subst S (sym (get_or-set_same values rank (Some v) None within)) (here rank v same seen right)))
+      (λ (e : other ≡ rank). let R : ℕ → Type 0 = λ n. IsFound graph (take (k + 1) results) n (get_or (set values rank (Some v)) n None) in subst R (sym e) (let S : Option (Bor (List ℤ))
+      → Type 0 = λ o. IsFound graph (take (k + 1) results) rank o in subst S (sym (get_or-set_same values rank (Some v) None within)) (here rank v same seen right)))
       (λ (ne : other ≢ rank). subst P (sym (get_or-set_other values rank other (Some v) None ne)) (found_more other (get_or values other None) (λ e. ne (only other h (sym e))) (index other h)))
       (cases_eq other rank)
 

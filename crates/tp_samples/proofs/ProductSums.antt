@@ -112,7 +112,8 @@ module _ (tiles side seed : ℕ) (kept : IsProduct tiles side seed) where
       let prev : List ℤ = list_of (side * side) (so_far i j ((k + 1) * side)) in
       let long : nat_eq (length prev) (side * side) ≡ true = ap (λ n. nat_eq n (side * side)) (list-length (side * side) (so_far i j ((k + 1) * side))) ∙ nat-same (side * side) in
       let sums : add_lists prev made ≡ list_of (side * side) (so_far i j ((suc k + 1) * side)) =
-      ap (add_lists prev) e ∙ list-added (side * side) (so_far i j ((k + 1) * side)) (part i j (suc k)) ∙ list-same (side * side) (λ x. so_far i j ((k + 1) * side) x +ℤ part i j (suc k) x) (so_far i j ((suc k + 1) * side)) (next_part i j k) in
+      ap (add_lists prev) e ∙ list-added (side * side) (so_far i j ((k + 1) * side)) (part i j (suc k)) ∙ list-same (side * side) (λ x. so_far i j ((k + 1) * side) x +ℤ part i j (suc k) x)
+      (so_far i j ((suc k + 1) * side)) (next_part i j k) in
       rw long (ap fitting sums ∙ sums-fit i j (suc k) r)
 
   is_tile : (i j k : ℕ) → tile side seed i j k ≡ list_of (side * side) (part i j k)

@@ -56,7 +56,8 @@ module _ (leaves seed : ℕ) (rules_kept : IsReduce leaves seed) (some : 1 ≤ l
       let P : ℕ → ℕ → Type 0 = λ t n. value_of (reduce_graph leaves seed) t ≡ Some (pos n ∷ []) in
       let e0 : 2 * u ≡ 2 * (leaves + u - leaves) + 0 = omega arith in
       let e1 : 2 * u + 1 ≡ 2 * (leaves + u - leaves) + 1 = omega arith in
-      value-two (reduce_graph leaves seed) (leaves + u) (pos a ∷ []) (pos b ∷ []) (reduce_lawful leaves seed rules_kept) known (rw no refl) (sym (ap (value_of (reduce_graph leaves seed)) e0) ∙ p) (sym (ap (value_of (reduce_graph leaves seed)) e1) ∙ q) ∙ rw no (fitting-one (a + b) small)
+      value-two (reduce_graph leaves seed) (leaves + u) (pos a ∷ []) (pos b
+      ∷ []) (reduce_lawful leaves seed rules_kept) known (rw no refl) (sym (ap (value_of (reduce_graph leaves seed)) e0) ∙ p) (sym (ap (value_of (reduce_graph leaves seed)) e1) ∙ q) ∙ rw no (fitting-one (a + b) small)
 
   kept : (t n : ℕ) → value_of (reduce_graph leaves seed) t ≡ Some (pos n ∷ []) → value_of (reduce_graph leaves seed) t ≡ Some (pos (num_of (value_of (reduce_graph leaves seed) t)) ∷ [])
   kept t n e = e ∙ ap (λ m. Some (pos m ∷ [])) (sym (ap num_of e))

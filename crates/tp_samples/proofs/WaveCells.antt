@@ -44,7 +44,8 @@ module _ (rows columns seed : ℕ) (kept : IsWavefront rows columns seed) where
   from_two t p q i j a b h row column two source source' is is' few =
       let c : cost seed i j < 10 = omega arith in
       let small : min a b + cost seed i j < 2 ^ 63 = omega arith in
-      value-two (wavefront_graph rows columns seed) t (pos a ∷ []) (pos b ∷ []) (wavefront_lawful rows columns seed kept) h two (ap (value_of (wavefront_graph rows columns seed)) source ∙ is) (ap (value_of (wavefront_graph rows columns seed)) source' ∙ is')
+      value-two (wavefront_graph rows columns seed) t (pos a ∷ []) (pos b
+      ∷ []) (wavefront_lawful rows columns seed kept) h two (ap (value_of (wavefront_graph rows columns seed)) source ∙ is) (ap (value_of (wavefront_graph rows columns seed)) source' ∙ is')
       ∙ rw (row, column, least-is a b) (fitting-one (min a b + cost seed i j) small)
 
   first-small : (j : ℕ) → first_row seed j ≤ 10 * (j + 1)

@@ -116,7 +116,8 @@ module _ (E : El) {M : Type 1} {𝓤 : Ura M} (𝓛 : Logic 𝓤) (C : Calls �
 meets : (E : El) {M : Type 1} {𝓤 : Ura M} (𝓛 : Logic 𝓤) (𝓣 : Tables 𝓤 𝓛.H)
     → Meets 𝓛 (ended E).signature (WpFn 𝓤 𝓛.H 𝓣.C 𝓣.Λ (function E)) (closing 𝓛 (ended E) (spec E 𝓛))
 meets E {𝓤 = 𝓤} 𝓛 𝓣 =
-    walk_Meets 𝓛 (ended E) (stayed E) (Goes-dropped 𝓛 0 (plain (λ _. Bs E)) no (λ κs x f. refl), (Goes-dropped 𝓛 0 (plain (λ _. usize)) no (λ κs x f. refl), tt)) (spec E 𝓛) (WpFn 𝓤 𝓛.H 𝓣.C 𝓣.Λ (function E)) (WpFn-mono 𝓤 𝓛.H 𝓛.laws 𝓣 (function E))
+    walk_Meets 𝓛 (ended E) (stayed E) (Goes-dropped 𝓛 0 (plain (λ _. Bs E)) no (λ κs x f. refl), (Goes-dropped 𝓛 0 (plain (λ _. usize)) no (λ κs x f. refl), tt)) (spec E 𝓛)
+    (WpFn 𝓤 𝓛.H 𝓣.C 𝓣.Λ (function E)) (WpFn-mono 𝓤 𝓛.H 𝓛.laws 𝓣 (function E))
     (λ z. qed 𝓛 (raw (on_entry 𝓛 (ended E).signature z.0.0 z.0.1 z.0.3 z.0.4) ∷ (raw (fact 𝓤 (InBlock z.0.3.0.ptr)) ⊛ raw (fact 𝓤 (s E < 2 ^ 63)) ⊛ raw (fact 𝓤 (z.0.3.1.0 * s E < 2 ^ 63))) ∷ []) ∵
     move ! (1 ∷ []) $ split ! $ heard ! _ (λ inside. split ! $ heard ! _ (λ small. heard ! _ (λ near. by ! (entry E 𝓛 𝓣.C 𝓣.Λ z.0.3.0 z.0.3.1.0 z.0.4.0 z.0.4.1.0 inside small near)))))
 

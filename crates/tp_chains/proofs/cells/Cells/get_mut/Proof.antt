@@ -56,7 +56,15 @@ module _ (E : El) where
   function = inst_fn (args E) code.function
 
   abbrev ended : Ended
-  ended = record { signature = record { lifetimes = 1; outlives = []; params = RefMutOf (0 ∷ []) tt (plain (λ _. Cr E)) (λ _. tt) ∷ plain (λ _. Bs E) ∷ plain (λ _. usize) ∷ []; result = RefMutOf (0 ∷ []) tt (plain (λ _. R E)) (λ _. tt) }; kept = (no, (no, (no, tt))) }
+  ended = record {
+    signature = record {
+      lifetimes = 1;
+      outlives = [];
+      params = RefMutOf (0 ∷ []) tt (plain (λ _. Cr E)) (λ _. tt) ∷ plain (λ _. Bs E) ∷ plain (λ _. usize) ∷ [];
+      result = RefMutOf (0 ∷ []) tt (plain (λ _. R E)) (λ _. tt);
+    };
+    kept = (no, (no, (no, tt)));
+  }
 
   abbrev stayed : Stays ended.signature.params ended.kept
   stayed = (stay_dropped (mut_ref_to (0 ∷ []) tt (plain (λ _. Cr E))) no, (stay_dropped (plain (λ _. Bs E)) no, (stay_dropped (plain (λ _. usize)) no, tt)))
@@ -68,7 +76,11 @@ module _ (E : El) where
   Gives0 d base index r = cell_of d.cells index ≡ (base.ptr, Some r.now)
 
   abbrev spec : {M : Type 1} {𝓤 : Ura M} (𝓛 : Logic 𝓤) → Clauses 𝓤 ended
-  spec {𝓤 = 𝓤} 𝓛 κs a = record { ghost = Unit {0}; requires = λ _. fact 𝓤 (Asks a.0.now a.1.0 a.1.1.0); ensures = λ _ r w. sep 𝓤 (sem 𝓛 (follows (Cr E) (R E) a.0.ghost_name r.ghost_name (λ w. with_cells a.0.now (set a.0.now.cells a.1.1.0 (a.1.0.ptr, Some w))))) (fact 𝓤 (Gives0 a.0.now a.1.0 a.1.1.0 r)) }
+  spec {𝓤 = 𝓤} 𝓛 κs a = record {
+    ghost = Unit {0};
+    requires = λ _. fact 𝓤 (Asks a.0.now a.1.0 a.1.1.0);
+    ensures = λ _ r w. sep 𝓤 (sem 𝓛 (follows (Cr E) (R E) a.0.ghost_name r.ghost_name (λ w. with_cells a.0.now (set a.0.now.cells a.1.1.0 (a.1.0.ptr, Some w))))) (fact 𝓤 (Gives0 a.0.now a.1.0 a.1.1.0 r));
+  }
 
 module _ (E : El) {M : Type 1} {𝓤 : Ura M} (𝓛 : Logic 𝓤) (C : Calls 𝓤 𝓛.H) (Λ : Loops 𝓤 𝓛.H) (κ : Lft) (q : Share) (rb ro : ℕ) (γ : GName) (d : (Cr E).Denot) (base : (Bs E).Denot) (index : (usize).Denot) (us0 us1 us2 : List Val) where
   open 𝓛 use {H, A}
@@ -144,7 +156,17 @@ module _ (E : El) {M : Type 1} {𝓤 : Ura M} (𝓛 : Logic 𝓤) (C : Calls �
 meets : (E : El) {M : Type 1} {𝓤 : Ura M} (𝓛 : Logic 𝓤) (𝓣 : Tables 𝓤 𝓛.H)
     → Meets 𝓛 (ended E).signature (WpFn 𝓤 𝓛.H 𝓣.C 𝓣.Λ (function E)) (closing 𝓛 (ended E) (spec E 𝓛))
 meets E {𝓤 = 𝓤} 𝓛 𝓣 =
-    walk_Meets 𝓛 (ended E) (stayed E) (Goes-spent_ref 𝓛 1 (0 ∷ []) tt (plain (λ _. Cr E)), (Goes-dropped 𝓛 1 (plain (λ _. Bs E)) no (λ κs x f. refl), (Goes-dropped 𝓛 1 (plain (λ _. usize)) no (λ κs x f. refl), tt))) (spec E 𝓛) (WpFn 𝓤 𝓛.H 𝓣.C 𝓣.Λ (function E)) (WpFn-mono 𝓤 𝓛.H 𝓛.laws 𝓣 (function E))
+    walk_Meets 𝓛 (ended E) (stayed E) (
+      Goes-spent_ref 𝓛 1 (0
+          ∷ []) tt (plain (λ _. Cr E)),
+      (
+        Goes-dropped 𝓛 1 (plain (λ _. Bs E)) no (λ κs x f. refl),
+        (
+          Goes-dropped 𝓛 1 (plain (λ _. usize)) no (λ κs x f. refl),
+          tt,
+        ),
+      ),
+    ) (spec E 𝓛) (WpFn 𝓤 𝓛.H 𝓣.C 𝓣.Λ (function E)) (WpFn-mono 𝓤 𝓛.H 𝓛.laws 𝓣 (function E))
     (λ z. needs 𝓤 (Asks E z.0.3.0.now z.0.3.1.0 z.0.3.1.1.0) _ (entry E 𝓛 𝓣.C 𝓣.Λ z.0.0.0 z.0.1.0 z.0.3.0.ref_ptr.0 z.0.3.0.ref_ptr.1 z.0.3.0.ghost_name z.0.3.0.now z.0.3.1.0 z.0.3.1.1.0 z.0.4.0 z.0.4.1.0 z.0.4.1.1.0))
 
 pub get_mut_spec : {M : Type 1} → stated.statement M

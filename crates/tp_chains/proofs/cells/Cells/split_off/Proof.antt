@@ -72,7 +72,8 @@ module _ (E : El) {M : Type 1} {𝓤 : Ura M} (𝓛 : Logic 𝓤) (C : Calls �
   abbrev Post : Val → SProp 𝓤
   Post = (walk_of 𝓛 (ended E) (stayed E) (spec E 𝓛)).post bound
 
-  exits : us0 ≡ vptr rb ro ∷ [] → (r : (Cr E).Denot) (v : Val) (new : (Cr E).Denot) → Gives0 E d len r new → Gives1 E d len r new → ent 𝓤 (⋆ 𝓛 (‵ (fobs γ ((Cr E).coded.code new)) ∷ ‵ (fbor κ (Borrowed (mem (Cr E)) rb ro γ)) ∷ ‵ (flft κ q) ∷ ‵ ((Cr E).own_val r (v ∷ [])) ∷ [])) (Post v)
+  exits : us0 ≡ vptr rb ro ∷ [] → (r : (Cr E).Denot) (v : Val) (new : (Cr E).Denot) → Gives0 E d len r new → Gives1 E d len r new
+      → ent 𝓤 (⋆ 𝓛 (‵ (fobs γ ((Cr E).coded.code new)) ∷ ‵ (fbor κ (Borrowed (mem (Cr E)) rb ro γ)) ∷ ‵ (flft κ q) ∷ ‵ ((Cr E).own_val r (v ∷ [])) ∷ [])) (Post v)
   exits passed r v new g0 g1 =
       qed 𝓛 (‵ (fobs γ ((Cr E).coded.code new)) ∷ ‵ (fbor κ (Borrowed (mem (Cr E)) rb ro γ)) ∷ ‵ (flft κ q) ∷ ‵ ((Cr E).own_val r (v ∷ [])) ∷ []) ∵
       suffices ! _ (ends_at 𝓛 (ended E) (stayed E) (spec E 𝓛) bound v r (new, (tt, tt)) (tt, (tt, tt))) $ says_both ! g0 g1 $
