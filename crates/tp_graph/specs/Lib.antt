@@ -1,4 +1,5 @@
 pub mod Blocks
+pub mod Building
 pub mod Carried
 pub mod Found
 pub mod Graphs

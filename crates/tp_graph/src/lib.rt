@@ -7,7 +7,7 @@
 
 mod blocks;
 mod body;
-mod copied;
+mod builder;
 mod feed;
 mod found;
 mod graph;
@@ -20,6 +20,7 @@ mod value;
 
 pub use blocks::Blocks;
 pub use body::run_body;
+pub use builder::ValueBuilder;
 pub use feed::{Feed, feed_of};
 pub use found::{in_order, places, value_at};
 pub use graph::{Comparable, Graph, is_same};

@@ -35,13 +35,6 @@ impl<G: Graph, D: Named<G>> Only<G, D> {
             of: PhantomData,
         }
     }
-
-    /// The graph.
-    pub fn get(&self) -> G
-        ensures { result ≡ self.now.graph }
-    {
-        self.graph
-    }
 }
 
 impl<G: Graph, D: Named<G>> Clone for Only<G, D> {

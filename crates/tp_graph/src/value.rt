@@ -5,7 +5,7 @@ ghost use Rattle.std.specs.Ordering.{int_eq};
 ghost use Rattle.tp_base.specs.declared.Refusal.TheVariants.{BodyFailed};
 ghost use Rattle.tp_graph.specs.Values.{all_fit, fits, lone_of};
 
-use crate::copied::copied;
+use crate::builder::ValueBuilder;
 use crate::numbers::Numbers;
 use std::alloc::{AllocError, AllocFailed, Global};
 use std::default::MadeWith;
@@ -76,7 +76,11 @@ impl Value {
                 numbers: Numbers::Empty,
             }),
             [number] => Value::one(alloc, *number),
-            _ => Ok(Value::from_vec(copied(alloc, numbers)?)?),
+            _ => {
+                let mut builder = ValueBuilder::with_capacity(alloc, numbers.len())?;
+                builder.extend_from_slice(numbers)?;
+                Ok(builder.into_value()?)
+            }
         }
     }
 

@@ -2,10 +2,11 @@ use crate::link::Letter;
 use crate::slots::{BODIES, run};
 use crate::table::table;
 use std::alloc::{AllocError, Global};
+use std::mem;
 use std::test::Fail;
 use tp_base::{ActionId, History, Inputs, MessageId, NodeId, PoolId, Refusal, Step, Table, TaskId};
 use tp_core::{Core, Reply};
-use tp_graph::{Feed, Value};
+use tp_graph::{Feed, Value, ValueBuilder};
 use tp_link::Link;
 use tp_local::Local;
 use tp_pools::Registry;
@@ -24,6 +25,7 @@ struct Parts {
     local: Local,
     core: Core,
     registry: Registry,
+    builder: ValueBuilder,
 }
 
 /// A call that can be refused memory.
@@ -42,6 +44,11 @@ enum Call {
     CoreRun(Step),
     CoreSettle,
     Register(&'static str),
+    BuilderMake(usize),
+    BuilderPush(i64),
+    BuilderExtend(&'static [i64]),
+    /// Whether the value has these numbers.
+    BuilderEnd(&'static [i64]),
     /// These change no part.
     RunSlots,
     PrintTable(&'static str),
@@ -74,6 +81,7 @@ impl Parts {
             local: Local::new(alloc, PoolId(0)),
             core: Core::new(alloc, 2),
             registry: Registry::new(alloc),
+            builder: ValueBuilder::new(alloc),
         }
     }
 }
@@ -105,9 +113,28 @@ impl Parts {
                 .registry
                 .register(name, "reduce:4:0")
                 .map(|pool| pool.0),
+            Call::BuilderMake(count) => {
+                self.builder = ValueBuilder::with_capacity(alloc, count)?;
+                DONE
+            }
+            Call::BuilderPush(number) => done(self.builder.push(number)),
+            Call::BuilderExtend(numbers) => done(self.builder.extend_from_slice(numbers)),
+            Call::BuilderEnd(wanted) => self.end_of_builder(alloc, wanted),
             Call::RunSlots => run_slots_of_all(alloc),
             Call::PrintTable(word) => Ok(count_of(table(alloc, word)?.len())),
             _ => Err(Refusal::BadSpec),
+        }
+    }
+
+    /// Makes the value, and tells whether it has these numbers. Where it is refused, the builder comes back.
+    fn end_of_builder(&mut self, alloc: Global, wanted: &[i64]) -> Result<u32, Refusal> {
+        match mem::replace(&mut self.builder, ValueBuilder::new(alloc)).into_value() {
+            Ok(value) if value.as_slice() == wanted => DONE,
+            Ok(_) => Err(Refusal::Missing),
+            Err(failed) => {
+                self.builder = failed.value;
+                Err(Refusal::NoMemory)
+            }
         }
     }
 
@@ -143,6 +170,9 @@ impl Parts {
         }
         folded = folded.with(self.registry.list().len() as u64);
         folded = folded.with(self.core.steps().len() as u64);
+        for number in self.builder.as_slice() {
+            folded = folded.with(number.cast_unsigned());
+        }
         for node in self.core.numbers().nodes {
             folded = folded.with(u64::from(node.pending));
             folded = folded.with(u64::from(node.sent));
@@ -366,6 +396,29 @@ fn memory_that_is_refused_changes_nothing(rt: HostRuntime) -> Result<(), Fail> {
         ("Core::settle", Call::CoreSettle, Ok(1)),
         ("Registry::register", Call::Register("a"), DONE),
         ("Registry::register again", Call::Register("b"), Ok(1)),
+        ("ValueBuilder::push", Call::BuilderPush(8), DONE),
+        // the room that is made is of no number yet
+        ("ValueBuilder::with_capacity", Call::BuilderMake(1), DONE),
+        (
+            "ValueBuilder::push into its room",
+            Call::BuilderPush(-3),
+            DONE,
+        ),
+        (
+            "ValueBuilder::extend_from_slice",
+            Call::BuilderExtend(&[i64::MAX, 5]),
+            DONE,
+        ),
+        (
+            "ValueBuilder::push again",
+            Call::BuilderPush(i64::MIN),
+            DONE,
+        ),
+        (
+            "ValueBuilder::into_value",
+            Call::BuilderEnd(&[-3, i64::MAX, 5, i64::MIN]),
+            DONE,
+        ),
         // three replies of each body
         ("run_slots", Call::RunSlots, Ok(6)),
         // 66 and the end of its line

@@ -1,0 +1,118 @@
+ghost use Rattle.std.specs.Prelude.{◌≡◌, ◌<◌, ◌≤◌, ◌+◌, [], ◌∷◌, ◌++◌, length, true, IfOk, IfErr, OnOk, OnErr};
+ghost use Rattle.tp_graph.specs.Values.{all_fit};
+
+use crate::value::Value;
+use std::alloc::{AllocError, AllocFailed, Global};
+use std::marker::Model;
+
+/// A value that is made number by number. Contracts see the list of its numbers, each of which fits 64 bits, and for how many
+/// more there is room.
+#[derive(Drop)]
+pub struct ValueBuilder {
+    numbers: Vec<i64>,
+}
+
+impl Model for ValueBuilder {
+    ghost use Rattle.std.specs.Prelude.{◌≡◌, ◌-◌, true, vec_len, vec_capacity};
+    ghost use Rattle.tp_graph.specs.Building.{Building};
+    ghost use Rattle.tp_graph.specs.Values.{all_fit};
+
+    ghost Value = { Building };
+
+    ghost view = { λ b. record { numbers = b.numbers.items; room = vec_capacity b.numbers - vec_len b.numbers } };
+
+    ghost invariant = { λ b. all_fit b.numbers.items ≡ true };
+}
+
+impl ValueBuilder {
+    /// No numbers. It takes no memory.
+    pub fn new(alloc: Global) -> Self
+        ensures { result.numbers ≡ [] }
+    {
+        ValueBuilder {
+            numbers: Vec::new(alloc),
+        }
+    }
+
+    /// No numbers, and room for so many. Refused where there is no memory for them.
+    pub fn with_capacity(alloc: Global, count: usize) -> Result<Self, AllocError>
+        ensures empty { IfOk result (λ made. made.numbers ≡ []) }
+        ensures room { IfOk result (λ made. made.room ≡ count) }
+        ensures grows { OnErr result (0 < count) }
+    {
+        Ok(ValueBuilder {
+            numbers: Vec::with_capacity(alloc, count)?,
+        })
+    }
+
+    /// Puts a number behind the others. Refused where there is no room and no memory for more; nothing changes then.
+    pub fn push(&mut self, number: i64) -> Result<(), AllocError>
+        ensures last { OnOk result (self.new.numbers ≡ self.old.numbers ++ number ∷ []) }
+        ensures kept { OnErr result (self.new ≡ self.old) }
+        ensures keeps { self.old.room ≤ self.new.room + 1 }
+        ensures grows { OnErr result (self.old.room ≡ 0) }
+    {
+        self.numbers.reserve(1)?;
+        self.push_reserved(number);
+        Ok(())
+    }
+
+    /// Puts a number behind the others, in the room that was made for it.
+    pub fn push_reserved(&mut self, number: i64)
+        requires room { 0 < self.old.room }
+        ensures last { self.new.numbers ≡ self.old.numbers ++ number ∷ [] }
+        ensures room { self.new.room + 1 ≡ self.old.room }
+    {
+        self.numbers.push_reserved(number);
+    }
+
+    /// Puts copies of some numbers behind the others. Refused where there is not room for all of them and no memory for
+    /// more; nothing changes then.
+    pub fn extend_from_slice(&mut self, numbers: &[i64]) -> Result<(), AllocError>
+        ensures last { OnOk result (self.new.numbers ≡ self.old.numbers ++ numbers.now) }
+        ensures kept { OnErr result (self.new ≡ self.old) }
+        ensures keeps { self.old.room ≤ self.new.room + length numbers.now }
+        ensures grows { OnErr result (self.old.room < length numbers.now) }
+    {
+        self.numbers.reserve(numbers.len())?;
+        self.extend_reserved(numbers);
+        Ok(())
+    }
+
+    // The same in the room that was made for them.
+    fn extend_reserved(&mut self, numbers: &[i64])
+        requires room { length numbers.now ≤ self.old.room }
+        ensures last { self.new.numbers ≡ self.old.numbers ++ numbers.now }
+        ensures room { self.new.room + length numbers.now ≡ self.old.room }
+    {
+        for number in numbers {
+            self.push_reserved(*number);
+        }
+    }
+
+    /// The numbers.
+    pub fn as_slice(&self) -> &[i64]
+        ensures same { result.now ≡ self.now.numbers }
+        ensures fit { all_fit result.now ≡ true }
+    {
+        self.numbers.as_slice()
+    }
+
+    /// The value of the numbers, which are moved. Refused, with all that was moved in, where there are more than one and no
+    /// memory for the count of their owners.
+    pub fn into_value(self) -> Result<Value, AllocFailed<Self>>
+        ensures value { IfOk result (λ value. value ≡ self.numbers) }
+        ensures fit { IfOk result (λ value. all_fit value ≡ true) }
+        ensures returned { IfErr result (λ failed. failed.value ≡ self) }
+        ensures no_growth { OnErr result (1 < length self.numbers) }
+    {
+        match Value::from_vec(self.numbers) {
+            Ok(value) => Ok(value),
+            Err(failed) => Err(AllocFailed {
+                value: ValueBuilder {
+                    numbers: failed.value,
+                },
+            }),
+        }
+    }
+}
