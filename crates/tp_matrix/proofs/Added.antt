@@ -1,13 +1,12 @@
 -- Rows of sums, to which products are added place by place.
-use Rattle.std.proofs.Common.{◌≡◌, ◌≢◌, ◌<◌, ◌≤◌, ◌+◌, ◌*◌, ◌^◌, ◌&&◌, ◌⊎◌, ℕ, zero, suc, ℤ, pos, negsuc, ◌+ℤ◌, ◌*ℤ◌, List, [], ◌∷◌, length, get_or, set, Option, Some, None, Bool, true, false, if◌then◌else◌, inl, inr, refl, ap, sym, ◌∙◌, ⊎_elim, subst, arith, rules, w64, FitsSigned, get_or-set_same, get_or-set_other, length-set}
+use Rattle.std.proofs.Common.{◌≡◌, ◌≢◌, ◌<◌, ◌≤◌, ◌+◌, ◌*◌, ◌^◌, ◌&&◌, ◌⊎◌, ℕ, zero, suc, ℤ, pos, negsuc, ◌+ℤ◌, ◌*ℤ◌, List, [], ◌∷◌, length, get_or, set, Option, Some, None, Bool, true, false, if◌then◌else◌, inl, inr, refl, ap, sym, ◌∙◌, ⊎_elim, subst, arith, rules, get_or-set_same, get_or-set_other, length-set}
 use Rattle.std.specs.Prelude.{unsigned_abs}
 use Rattle.std.proofs.lemmas.Bool.{cases_eq, and_parts, and_from}
 use Rattle.std.proofs.lemmas.Int.{ints, unsigned_abs-mul}
-use Rattle.std.proofs.lemmas.Bool.Decides.{nat_tests}
 use Rattle.std.proofs.lemmas.Nat.{mul-le}
-use Rattle.tp_graph.specs.Values.{then_some, gather, fits, all_fit}
+use Rattle.tp_graph.specs.Values.{then_some, gather, fits}
 use Rattle.tp_graph.proofs.Fits.{fits-from}
-use Rattle.tp_graph.proofs.Made.{gathered, some_same, then_some-is}
+use Rattle.tp_graph.proofs.Made.{gathered, some_same}
 use Rattle.tp_matrix.specs.Matrices.{entry, more, running, term}
 use Rattle.tp_matrix.specs.Rows.{AreWithin, one_more, row_entry}
 use Rattle.tp_matrix.proofs.Running.{running_more, none_stays, gather_fails}

@@ -66,8 +66,9 @@ pub(crate) fn make_tile(
 {
     let mut made = begin_tile(alloc, side * side, before)?;
     let largest = largest_of_tile(matrices, side, k * side, j * side);
+    let tile = made.as_mut_slice();
     for row in 0..side {
-        let sums = &mut made[row * side..row * side + side];
+        let sums = &mut tile[row * side..row * side + side];
         add_rows(matrices, sums, i * side + row, j * side, k * side, largest)?;
     }
     Ok(made)

@@ -1,6 +1,5 @@
-use Rattle.std.proofs.Common.{◌≡◌, ◌≤◌, ◌<◌, ◌+◌, ℕ, ℤ, pos, length, get_or, Some, None, refl, sym, ap, ◌∙◌, subst, arith, rules, w64}
+use Rattle.std.proofs.Common.{◌≡◌, ◌+◌, ℕ, pos, length, get_or, Some, subst, arith, rules, w64}
 use Rattle.std.proofs.lemmas.Int.{to_z-of_z}
-use Rattle.tp_graph.specs.Values.{gather}
 use Rattle.tp_graph.proofs.Made.{gathered}
 use Rattle.tp_matrix.specs.Matrices.{term, running}
 use Rattle.tp_matrix.specs.Rows.{one_more, row_entry}
@@ -14,7 +13,7 @@ returns-in_err-reach c =
     let left = to_z-of_z w64 c.entry-left.result (record { sfits = c.entry-left.type_inv }) in
     let failed = rw left at (c.in_err-reach.ensures.1) in
     let none = row_fails m.order m.left.now m.right.now c.args.x c.args.y c.args.start c.loop-z.z (length c.args.sums.now) c.entry-left.result c.args.sums.now c.loop-z.sums c.right_part-right.result.now
-        was.same c.right_part-right.ensures.long c.entry-left.ensures c.right_part-right.ensures.same (omega arith) failed in
+    was.same c.right_part-right.ensures.long c.entry-left.ensures c.right_part-right.ensures.same (omega arith) failed in
     search rules
 
 pub loop-z-preserved : goal.loop-z-preserved

@@ -1,4 +1,4 @@
-use Rattle.std.proofs.Common.{◌≡◌, ◌+◌, ℕ, ℤ, pos, get_or, Option, Some, sym, ap, ◌∙◌, add-one, arith, w64}
+use Rattle.std.proofs.Common.{ℕ, ℤ, pos, get_or, Option, Some, sym, ap, ◌∙◌, add-one, arith, w64}
 use Rattle.std.proofs.lemmas.Int.{to_z-of_z}
 use Rattle.tp_graph.specs.Values.{gather}
 use Rattle.tp_matrix.proofs.Running.{gather_more}

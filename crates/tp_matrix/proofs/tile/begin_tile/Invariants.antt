@@ -1,4 +1,4 @@
-use Rattle.std.proofs.Common.{◌≡◌, ℕ, pos, get_or, vec_len, vec_capacity, Some}
+use Rattle.std.proofs.Common.{◌≡◌, pos, get_or, vec_len, vec_capacity, Some}
 use Rattle.tp_graph.specs.Values.{gather}
 use Rattle.tp_matrix.proofs.tile.begin_tile.Given as goal
 
