@@ -23,14 +23,14 @@ none_stays first start (suc count) (suc later) f e h =
     (λ (other : count ≢ later). ap (λ o. then_some o (λ s. more s (f (start + later)))) (none_stays first start (suc count) later f e (omega (arith, other))))
     (cases_eq count later)
 
-gather-more : {A : Type 0} (n : ℕ) (f : ℕ → Option A) (xs : List A) (y : A) → gather n f ≡ Some xs → f n ≡ Some y → gather (suc n) f ≡ Some (xs ++ y ∷ [])
-gather-more zero f xs y e h = ap (λ o. then_some o (λ first. Some (first ∷ []))) h ∙ ap (λ l. Some (l ++ y ∷ [])) (some_same e)
-gather-more {A} (suc n) f xs y e h =
+pub gather_more : {A : Type 0} (n : ℕ) (f : ℕ → Option A) (xs : List A) (y : A) → gather n f ≡ Some xs → f n ≡ Some y → gather (suc n) f ≡ Some (xs ++ y ∷ [])
+gather_more zero f xs y e h = ap (λ o. then_some o (λ first. Some (first ∷ []))) h ∙ ap (λ l. Some (l ++ y ∷ [])) (some_same e)
+gather_more {A} (suc n) f xs y e h =
     let first = then_some-is (f 0) (λ x. then_some (gather n (λ s. f (suc s))) (λ rest. Some (x ∷ rest))) xs e in
     let rest = then_some-is (gather n (λ s. f (suc s))) (λ rest. Some (first.0 ∷ rest)) xs first.2 in
     let is : first.0 ∷ rest.0 ≡ xs = some_same rest.2 in
     ap (λ o. then_some o (λ x. then_some (gather (suc n) (λ s. f (suc s))) (λ rest. Some (x ∷ rest)))) first.1
-    ∙ ap (λ o. then_some o (λ rest. Some (first.0 ∷ rest))) (gather-more n (λ s. f (suc s)) rest.0 y rest.1 h)
+    ∙ ap (λ o. then_some o (λ rest. Some (first.0 ∷ rest))) (gather_more n (λ s. f (suc s)) rest.0 y rest.1 h)
     ∙ ap (λ l. Some (l ++ y ∷ [])) is
 
 then-none : {A B : Type 0} (o : Option A) → then_some {B = B} o (λ x. None) ≡ None
@@ -47,7 +47,7 @@ gather_fails {A} (suc n) (suc e) f h none =
 -- one more number of a tile
 pub tile_more : (n : ℕ) (f : ℕ → Option ℤ) (made : List ℤ) (next : ℤ) → gather n f ≡ Some made → all_fit made ≡ true → f n ≡ Some next → fits next ≡ true →
     (gather (n + 1) f ≡ Some (made ++ next ∷ [])) × (all_fit (made ++ next ∷ []) ≡ true)
-tile_more n f made next e fit h small = (ap (λ m. gather m f) (add-one n) ∙ gather-more n f made next e h, fit-push made next fit small)
+tile_more n f made next e fit h small = (ap (λ m. gather m f) (add-one n) ∙ gather_more n f made next e h, fit-push made next fit small)
 
 -- the tiles of a task lie within the matrices
 pub places_within : (t tiles side : ℕ) → 1 ≤ tiles → t < tiles * tiles * tiles →

@@ -2,7 +2,8 @@ ghost use Rattle.std.specs.Prelude.{◌≡◌, ◌<◌, ◌≤◌, ◌+◌, ◌-
 ghost use Rattle.tp_matrix.specs.Matrices.{AreMatrices, AreNoMatrices, IsProduct, matrix_graph};
 ghost use Rattle.tp_matrix.specs.MatrixLaws.{matrix_lawful};
 
-use crate::tile::{Matrices, make_tile};
+use crate::row::Matrices;
+use crate::tile::make_tile;
 use std::alloc::Global;
 use tp_base::{NodeId, Refusal, TaskId};
 use tp_graph::{Graph, Value};

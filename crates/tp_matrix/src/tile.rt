@@ -1,62 +1,11 @@
-ghost use Rattle.std.specs.Prelude.{◌≡◌, ◌<◌, ◌≤◌, ◌+◌, ◌-◌, ◌*◌, ◌/◌, ◌%◌, ◌^◌, ◌+ℤ◌, ◌*ℤ◌, pos, true, length, slice_index_or, MatchResult, MatchOption, Some, None, ◌⊎◌};
+ghost use Rattle.std.specs.Prelude.{◌≡◌, ◌<◌, ◌≤◌, ◌+◌, ◌*◌, ◌^◌, ℕ, pos, true, unsigned_abs, slice_index_or, MatchResult, Some, None, ◌⊎◌};
 ghost use Rattle.tp_base.specs.declared.Refusal.TheVariants.{BodyFailed, NoMemory};
-ghost use Rattle.tp_graph.specs.Values.{fits, all_fit, gather};
-ghost use Rattle.tp_matrix.specs.Matrices.{entry, term, more, running, tile_entry};
+ghost use Rattle.tp_graph.specs.Values.{all_fit, gather};
+ghost use Rattle.tp_matrix.specs.Matrices.{entry, tile_entry};
 
+use crate::row::{Matrices, add_rows, largest_of, right_part};
 use std::alloc::Global;
 use tp_base::Refusal;
-
-/// Two matrices of as many rows as columns, row by row.
-#[derive(Clone, Copy)]
-pub(crate) struct Matrices<'a> {
-    pub(crate) left: &'a [i64],
-    pub(crate) right: &'a [i64],
-    pub(crate) order: usize,
-    pub(crate) ghost full: { (length left.now ≡ order * order) × (length right.now ≡ order * order) × (order < 2 ^ 15) },
-}
-
-/// A number of a matrix.
-fn entry(numbers: &[i64], order: usize, x: usize, y: usize) -> i64
-    requires full { (length numbers.now ≡ order * order) × (order < 2 ^ 15) }
-    requires places { (x < order) × (y < order) }
-    ensures { result ≡ entry order numbers.now x y }
-{
-    numbers[x * order + y]
-}
-
-/// A sum and a product more, unless one of them leaves `i64`.
-fn add_product(sum: i64, left: i64, right: i64) -> Option<i64>
-    ensures { MatchOption result (more sum (left *ℤ right) ≡ None) (λ next. more sum (left *ℤ right) ≡ Some next) }
-{
-    let product = left.checked_mul(right)?;
-    sum.checked_add(product)
-}
-
-/// A number of the product, so far as z goes over so many from a start on. Refused exactly where a number leaves `i64`.
-fn sum_on(
-    matrices: Matrices,
-    first: i64,
-    x: usize,
-    y: usize,
-    start: usize,
-    count: usize,
-) -> Result<i64, Refusal>
-    requires { (x < matrices.order) × (y < matrices.order) × (start + count ≤ matrices.order) }
-    ensures { MatchResult result
-        (λ sum. (running first start count (term matrices.entry.order matrices.entry.left.now matrices.entry.right.now x y) ≡ Some sum) × (fits sum ≡ true))
-        (λ refusal. (refusal ≡ BodyFailed) × (running first start count (term matrices.entry.order matrices.entry.left.now matrices.entry.right.now x y) ≡ None)) }
-{
-    let mut sum = first;
-    for z in 0..count {
-        let left = entry(matrices.left, matrices.order, x, start + z);
-        let right = entry(matrices.right, matrices.order, start + z, y);
-        let Some(next) = add_product(sum, left, right) else {
-            return Err(Refusal::BodyFailed);
-        };
-        sum = next;
-    }
-    Ok(sum)
-}
 
 /// The number at a place, or 0 where there is none.
 pub(crate) fn number_at(numbers: &[i64], place: usize) -> i64
@@ -67,6 +16,32 @@ pub(crate) fn number_at(numbers: &[i64], place: usize) -> i64
     } else {
         0
     }
+}
+
+/// What a tile begins with: the numbers that it had before, and 0 where there is none.
+fn begin_tile(alloc: Global, count: usize, before: &[i64]) -> Result<Vec<i64>, Refusal>
+    requires { count < 2 ^ 30 }
+    ensures { MatchResult result
+        (λ made. gather count (λ e. Some (slice_index_or before.now e (pos 0))) ≡ Some made.items)
+        (λ refusal. refusal ≡ NoMemory) }
+{
+    let mut made = Vec::with_capacity(alloc, count)?;
+    for e in 0..count {
+        made.push_reserved(number_at(before, e));
+    }
+    Ok(made)
+}
+
+/// How far from 0 the farthest number is of a tile of the right, which begins at column y of a row.
+fn largest_of_tile(matrices: Matrices, side: usize, row: usize, y: usize) -> u64
+    requires { (row + side ≤ matrices.order) × (y + side ≤ matrices.order) }
+    ensures { (z n : ℕ) → z < side → n < side → unsigned_abs (entry matrices.entry.order matrices.entry.right.now (row + z) (y + n)) ≤ result }
+{
+    let mut largest = 0;
+    for z in 0..side {
+        largest = largest_of(right_part(matrices, row + z, y, side)).max(largest);
+    }
+    largest
 }
 
 /// A tile of the product with what column k of tiles on the left and row k on the right add to it. Refused with
@@ -89,11 +64,12 @@ pub(crate) fn make_tile(
         ⊎ ((refusal ≡ BodyFailed)
         × (gather (side * side) (tile_entry matrices.entry.order side matrices.entry.left.now matrices.entry.right.now i j k before.now) ≡ None))) }
 {
-    let mut made = Vec::with_capacity(alloc, side * side)?;
-    for e in 0..side * side {
-        let x = i * side + e / side;
-        let y = j * side + e % side;
-        made.push_reserved(sum_on(matrices, number_at(before, e), x, y, k * side, side)?);
+    let mut made = begin_tile(alloc, side * side, before)?;
+    let largest = largest_of_tile(matrices, side, k * side, j * side);
+    let tile = made.as_mut_slice();
+    for row in 0..side {
+        let sums = &mut tile[row * side..row * side + side];
+        add_rows(matrices, sums, i * side + row, j * side, k * side, largest)?;
     }
     Ok(made)
 }
