@@ -13,7 +13,7 @@ use Rattle.tp_wave.specs.Steps.{any, count}
 use Rattle.tp_wave.specs.Machine.{steps_of, is_send_numbered, is_send_to}
 use Rattle.tp_board.proofs.Counting.{count-le}
 use Rattle.tp_ledgers.specs.Numbers.{is_send}
-use Rattle.tp_board.specs.Routes.{IsNumbered, Route, Table, is_route, is_send_between, routes_of}
+use Rattle.tp_board.specs.Routes.{IsNumbered, Route, RouteTable, is_route, is_send_between, routes_of}
 use Rattle.tp_board.specs.Counts.{AreCountsOf}
 use Rattle.tp_board.specs.Logs.{IsLog}
 use Rattle.tp_board.specs.declared.counts.Counts.{Counts}
@@ -83,14 +83,14 @@ gave_by i j m (Send a b k ∷ past) are =
 gave_by i j m (_ ∷ past) are = gave_by i j m past are
 
 -- the table's length is the number of the next message
-pub log_sends : (history : Recorded) (limit reserved : ℕ) (counts : Counts) (routes : Table) → IsLog history limit reserved counts routes
+pub log_sends : (history : Recorded) (limit reserved : ℕ) (counts : Counts) (routes : RouteTable) → IsLog history limit reserved counts routes
     → (length routes.routes ≡ count is_send (steps_of history.events)) × (length routes.routes ≤ 1048576)
 log_sends history limit reserved counts routes log =
     let same : length routes.routes ≡ count is_send (steps_of history.events) = ap length log.routed ∙ length-routes_of (steps_of history.events) in
     (same, omega (arith, log.places, log.limited, count-le is_send history.events))
 
 -- the log after the next message was sent
-pub log_send : (old new : Recorded) (limit reserved : ℕ) (counts now : Counts) (routes kept : Table) (from to : NodeId) (m : ℕ) → IsLog old limit reserved counts routes → 0 < reserved
+pub log_send : (old new : Recorded) (limit reserved : ℕ) (counts now : Counts) (routes kept : RouteTable) (from to : NodeId) (m : ℕ) → IsLog old limit reserved counts routes → 0 < reserved
     → m ≡ length routes.routes → new.events ≡ (from, Send from to (record { 0 = m })) ∷ old.events → new.room + 1 ≡ old.room
     → kept.routes ≡ (from, to) ∷ routes.routes → kept.room + 1 ≡ routes.room → AreCountsOf ((from, Send from to (record { 0 = m })) ∷ old.events) now
     → IsLog new limit (reserved - 1) now kept

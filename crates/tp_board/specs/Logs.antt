@@ -3,11 +3,11 @@ use Rattle.std.specs.Prelude.{ℕ, ◌+◌, ◌≡◌, ◌≤◌, length}
 use Rattle.tp_base.specs.History.{Recorded}
 use Rattle.tp_wave.specs.Machine.{steps_of}
 use Rattle.tp_board.specs.Counts.{AreCountsOf}
-use Rattle.tp_board.specs.Routes.{IsNumbered, Table, routes_of}
+use Rattle.tp_board.specs.Routes.{IsNumbered, RouteTable, routes_of}
 use Rattle.tp_board.specs.declared.counts.Counts.{Counts}
 
 -- The counts and the routes are the history's, and what is reserved has a place and memory.
-pub record IsLog (history : Recorded) (limit reserved : ℕ) (counts : Counts) (routes : Table) : Type 0 where
+pub record IsLog (history : Recorded) (limit reserved : ℕ) (counts : Counts) (routes : RouteTable) : Type 0 where
   pub counted : AreCountsOf history.events counts
   pub numbered : IsNumbered (steps_of history.events)
   pub routed : routes.routes ≡ routes_of (steps_of history.events)

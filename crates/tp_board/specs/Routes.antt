@@ -22,7 +22,7 @@ abbrev pub Route : Type 0
 Route = NodeId × NodeId
 
 -- The routes of messages, the newest first. So many more can be kept before memory has to grow.
-pub record Table : Type 0 where
+pub record RouteTable : Type 0 where
   pub routes : List Route
   pub room : ℕ
 

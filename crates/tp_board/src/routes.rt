@@ -14,9 +14,9 @@ pub struct Routes {
 
 impl Model for Routes {
     ghost use Rattle.std.specs.Prelude.{◌-◌, reverse, vec_len, vec_capacity};
-    ghost use Rattle.tp_board.specs.Routes.{Table};
+    ghost use Rattle.tp_board.specs.Routes.{RouteTable};
 
-    ghost Value = { Table };
+    ghost Value = { RouteTable };
 
     ghost view = { λ r. record { routes = reverse r.ends.items; room = vec_capacity r.ends - vec_len r.ends } };
 }

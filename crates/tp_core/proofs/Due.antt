@@ -18,7 +18,7 @@ use Rattle.tp_wave.proofs.Exact.{checks_exact}
 use Rattle.tp_core.specs.declared.numbers.NodeNumbers.{NodeNumbers}
 use Rattle.tp_core.specs.World.{World, IsQuiet}
 use Rattle.tp_core.specs.Pool.{after}
-use Rattle.tp_core.specs.Run.{world, IsLawful, IsRun}
+use Rattle.tp_core.specs.Run.{world, IsLawful, IsLawfulRun}
 use Rattle.tp_core.specs.Accepted.{numbers_at}
 use Rattle.tp_core.specs.Settling.{MaySettle, IsTold, IsTaken, GoesOn, AreTaken}
 use Rattle.tp_core.proofs.Bounds.{count_bound}
@@ -93,15 +93,15 @@ moved_stays Judge x c = refl
 moved_stays (s) x c = cc
 
 -- ---- the run goes on
-pub soon : {n : ℕ} {numbers : List NodeNumbers} {old : List Step} {w : Wave} (later : List Step) → MaySettle n numbers old w → IsRun n (later ++ old) → length later < 9 * n
+pub soon : {n : ℕ} {numbers : List NodeNumbers} {old : List Step} {w : Wave} (later : List Step) → MaySettle n numbers old w → IsLawfulRun n (later ++ old) → length later < 9 * n
 soon {n} {numbers} {old} later m run = (judged_soon n later old m.some_node run m.quiet).0
 
 pub goes_further : {n count : ℕ} {numbers : List NodeNumbers} {old now next : List Step} {first w after' : Wave} → MaySettle n numbers old first
     → length old + 9 * n ≤ MAX_STEPS → GoesOn n numbers old now w count → IsTaken n now next after' None → GoesOn n numbers old next after' (count + 1)
 goes_further {n} {count} {numbers} {old} {now} {next} {first} {w} {after'} m room g t =
     let all : next ≡ (t.step ∷ g.taken) ++ old = t.steps ∙ ap (λ (xs : List Step). t.step ∷ xs) g.steps in
-    let run : IsRun n (t.step ∷ now) = (t.lawful, g.settling.is_run) in
-    let few : length (t.step ∷ g.taken) < 9 * n = soon (t.step ∷ g.taken) m (subst (λ (xs : List Step). IsRun n xs) (ap (λ (xs : List Step). t.step ∷ xs) g.steps) run) in
+    let run : IsLawfulRun n (t.step ∷ now) = (t.lawful, g.settling.is_run) in
+    let few : length (t.step ∷ g.taken) < 9 * n = soon (t.step ∷ g.taken) m (subst (λ (xs : List Step). IsLawfulRun n xs) (ap (λ (xs : List Step). t.step ∷ xs) g.steps) run) in
     record {
       taken = t.step ∷ g.taken;
       steps = all;
@@ -124,7 +124,7 @@ pub ends : {n count ended : ℕ} {numbers : List NodeNumbers} {old now next : Li
 ends {n} {count} {ended} {numbers} {old} {now} {next} {first} {w} {after'} m g t =
     let judge : t.step ≡ Judge = t.is_told.0 in
     let all : t.step ∷ now ≡ (Judge ∷ g.taken) ++ old = rw (judge, g.steps) refl in
-    let run : IsRun n ((Judge ∷ g.taken) ++ old) = subst (λ (xs : List Step). IsRun n xs) all (t.lawful, g.settling.is_run) in
+    let run : IsLawfulRun n ((Judge ∷ g.taken) ++ old) = subst (λ (xs : List Step). IsLawfulRun n xs) all (t.lawful, g.settling.is_run) in
     let few : length (Judge ∷ g.taken) < 9 * n = soon (Judge ∷ g.taken) m run in
     record {
       taken = g.taken;
@@ -141,7 +141,7 @@ ends {n} {count} {ended} {numbers} {old} {now} {next} {first} {w} {after'} m g t
 pub few_so_far : {n count : ℕ} {numbers : List NodeNumbers} {old now : List Step} {first w : Wave} → MaySettle n numbers old first → GoesOn n numbers old now w count
     → (count < 9 * n) × (length now ≡ length old + count)
 few_so_far {n} {count} {numbers} {old} {now} m g =
-    let few : length g.taken < 9 * n = soon g.taken m (subst (λ (xs : List Step). IsRun n xs) g.steps g.settling.is_run) in
+    let few : length g.taken < 9 * n = soon g.taken m (subst (λ (xs : List Step). IsLawfulRun n xs) g.steps g.settling.is_run) in
     let size : length now ≡ length g.taken + length old = ap length g.steps ∙ length-append g.taken old in
     let c = g.counted in (omega (arith, few), omega (arith, size))
 

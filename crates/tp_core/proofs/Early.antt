@@ -16,7 +16,7 @@ use Rattle.tp_wave.proofs.Judged.{ended_law}
 use Rattle.tp_core.specs.declared.life.Life.{Life}
 use Rattle.tp_core.specs.declared.life.Life.TheVariants as life
 use Rattle.tp_core.specs.World.{Task, is_done, life_of, IsQuiet}
-use Rattle.tp_core.specs.Run.{world, history, node_of, IsRun}
+use Rattle.tp_core.specs.Run.{world, history, node_of, IsLawfulRun}
 use Rattle.tp_core.specs.Laws.{is_insert_of}
 use Rattle.tp_core.specs.NeverEarly.{HasRunOnce, IsOverFrom, IsNeverEarly}
 use Rattle.tp_core.proofs.Counting.{life_in, steps_of-history, runs_are_counted}
@@ -37,12 +37,12 @@ before-history n p (s ∷ past) =
           (before-history n p past)
     ]
 
-pub IsRun-before : (n p : ℕ) (steps : List Step) → IsRun n steps → IsRun n (before p steps)
-IsRun-before n p [] r = r
-IsRun-before n p (s ∷ past) r =
+pub IsLawfulRun-before : (n p : ℕ) (steps : List Step) → IsLawfulRun n steps → IsLawfulRun n (before p steps)
+IsLawfulRun-before n p [] r = r
+IsLawfulRun-before n p (s ∷ past) r =
     elim (cases_lt (length past) p) [
       | inl k ↦ rw (before-all p (s ∷ past) k) r
-      | inr k ↦ rw (before-past p s past k) (IsRun-before n p past r.1)
+      | inr k ↦ rw (before-past p s past k) (IsLawfulRun-before n p past r.1)
     ]
 
 -- the events of the later steps
@@ -60,21 +60,21 @@ unfolding events_after
 length-after n [] past = refl
 length-after n (s ∷ later) past = ap suc (length-after n later past)
 
-pub IsRun-past : (n : ℕ) (later past : List Step) → IsRun n (later ++ past) → IsRun n past
-IsRun-past n [] past r = r
-IsRun-past n (s ∷ later) past r = IsRun-past n later past r.1
+pub IsLawfulRun-past : (n : ℕ) (later past : List Step) → IsLawfulRun n (later ++ past) → IsLawfulRun n past
+IsLawfulRun-past n [] past r = r
+IsLawfulRun-past n (s ∷ later) past r = IsLawfulRun-past n later past r.1
 
 -- ---- a wave that has ended has visited the root
-some_root : (n : ℕ) (past : List Step) → IsRun n past → in_wave (is_give 0) past ≡ true → 0 < n
+some_root : (n : ℕ) (past : List Step) → IsLawfulRun n past → in_wave (is_give 0) past ≡ true → 0 < n
 some_root n [] r h = grind arith
 some_root n (Give i ∷ past) r h = let inside = r.0.0.1.0 in omega arith
 some_root n (s ∷ past) r h = some_root n past r.1 (grind (arith, h))
 
 -- ---- nothing was left from the end of that wave on
-quiet_from : (n w : ℕ) (later past : List Step) → IsRun n (later ++ Judge ∷ past) → judgement n past ≡ Some w → (q : ℕ) → visited_at w 0 past ≤ q
+quiet_from : (n w : ℕ) (later past : List Step) → IsLawfulRun n (later ++ Judge ∷ past) → judgement n past ≡ Some w → (q : ℕ) → visited_at w 0 past ≤ q
     → IsQuiet (world n (before q (later ++ Judge ∷ past)))
 quiet_from n w later past r judged q h =
-    let judge = IsRun-past n later (Judge ∷ past) r in
+    let judge = IsLawfulRun-past n later (Judge ∷ past) r in
     let ended : has_ended past ≡ true = judge.0.1.0 in
     let pos = some_root n past judge.1 ended in
     let front = events_after n later (Judge ∷ past) ++ (record { 0 = 0 }, Judge) ∷ [] in
@@ -83,7 +83,7 @@ quiet_from n w later past r judged q h =
     let run : machine.IsRun n (front ++ history n past) = rw whole at (runs_are_counted n (later ++ Judge ∷ past) pos r).is_run in
     let same = steps_of-history n past in
     let there = ended_law n w front (history n past) run (rw same ended) (rw same judged) q (rw same h) in
-    (quiet_is_seen n (before q (later ++ Judge ∷ past)) pos (IsRun-before n q (later ++ Judge ∷ past) r)).0
+    (quiet_is_seen n (before q (later ++ Judge ∷ past)) pos (IsLawfulRun-before n q (later ++ Judge ∷ past) r)).0
     (rw (← before-history n q (later ++ Judge ∷ past), whole) there)
 
 -- ---- each task has run once where nothing is left
@@ -95,7 +95,7 @@ all_done : (t : ℕ) (l : Life) (xs : List Task) → list_any (λ x. not (is_don
 all_done t l [] none h = cc
 all_done t l (x ∷ xs) none h = grind (arith, all_done t l xs)
 
-run_once : (n t : ℕ) (steps : List Step) → IsRun n steps → IsQuiet (world n steps) → any (is_insert_of t) steps ≡ true → HasRunOnce t steps
+run_once : (n t : ℕ) (steps : List Step) → IsLawfulRun n steps → IsQuiet (world n steps) → any (is_insert_of t) steps ≡ true → HasRunOnce t steps
 run_once n t steps r quiet there = choose (life_of t (world n steps)) refl
   where
     choose : (o : Option Life) → life_of t (world n steps) ≡ o → HasRunOnce t steps
@@ -109,11 +109,11 @@ run_once n t steps r quiet there = choose (life_of t (world n steps)) refl
     choose (Some l) is = let done = all_done t l (world n steps).tasks quiet.0 is in absurd (grind (arith, done))
 
 -- ---- nothing is inserted where nothing is left
-no_insert : (n t : ℕ) (past : List Step) (s : Step) → IsRun n (s ∷ past) → IsQuiet (world n past) → is_insert_of t s ≡ false
+no_insert : (n t : ℕ) (past : List Step) (s : Step) → IsLawfulRun n (s ∷ past) → IsQuiet (world n past) → is_insert_of t s ≡ false
 no_insert n t past (Insert i u k) r quiet = let none = nothing_pending_when_quiet i.0 (world n past) quiet in let active = r.0.2 in absurd (omega arith)
 no_insert n t past (s) r quiet = refl
 
-inserted_before : (n t p : ℕ) (steps : List Step) → IsRun n steps → ((q : ℕ) → p ≤ q → IsQuiet (world n (before q steps)))
+inserted_before : (n t p : ℕ) (steps : List Step) → IsLawfulRun n steps → ((q : ℕ) → p ≤ q → IsQuiet (world n (before q steps)))
     → any (is_insert_of t) steps ≡ true → any (is_insert_of t) (before p steps) ≡ true
 inserted_before n t p [] r quiet there = there
 inserted_before n t p (s ∷ past) r quiet there =
@@ -130,7 +130,7 @@ inserted_before n t p (s ∷ past) r quiet there =
           rw (before-past p s past k) (inserted_before n t p past r.1 earlier (rw none at there))
     ]
 
-over_from : (n w : ℕ) (later past : List Step) → IsRun n (later ++ Judge ∷ past) → judgement n past ≡ Some w
+over_from : (n w : ℕ) (later past : List Step) → IsLawfulRun n (later ++ Judge ∷ past) → judgement n past ≡ Some w
     → IsOverFrom n (visited_at w 0 past) (later ++ Judge ∷ past)
 over_from n w later past r judged =
     let all = later ++ Judge ∷ past in
@@ -139,10 +139,10 @@ over_from n w later past r judged =
     record {
       quiet = quiet;
       once = λ t there. (
-        run_once n t (before p all) (IsRun-before n p all r) (quiet p (omega arith)) (inserted_before n t p all r quiet there),
+        run_once n t (before p all) (IsLawfulRun-before n p all r) (quiet p (omega arith)) (inserted_before n t p all r quiet there),
         run_once n t all r (rw (before-all (p + length all) all (omega arith)) at (quiet (p + length all) (omega arith))) there,
       );
     }
 
-pub never_early : (n : ℕ) (steps : List Step) → IsRun n steps → IsNeverEarly n steps
+pub never_early : (n : ℕ) (steps : List Step) → IsLawfulRun n steps → IsNeverEarly n steps
 never_early n steps r w later past e judged = rw e (over_from n w later past (rw e at r) judged)

@@ -19,7 +19,7 @@ use Rattle.tp_wave.specs.declared.Wave.{Wave}
 use Rattle.tp_core.specs.declared.accepting.Core.TheInside.{Inside}
 use Rattle.tp_core.specs.declared.numbers.NodeNumbers.{NodeNumbers}
 use Rattle.tp_core.specs.World.{World, IsQuiet, is_quiet}
-use Rattle.tp_core.specs.Run.{world, IsRun}
+use Rattle.tp_core.specs.Run.{world, IsLawfulRun}
 use Rattle.tp_core.specs.Accepted.{Accepted, IsRefusedFor, world_of}
 use Rattle.tp_core.specs.Kept.{accepted, Agree, IsKept, HasNumbers, HasPieces}
 use Rattle.tp_core.specs.Settled.{settle_checks, rooms_check, ends_before, IsSettled}
@@ -100,7 +100,7 @@ same_world n (s ∷ later) old c =
     both true b h = (refl, h)
     both false b h = cc
 
-same_numbers : (n : ℕ) (xs : List NodeNumbers) (later old : List Step) → IsTrue (list_all is_control later) → IsRun n (later ++ old)
+same_numbers : (n : ℕ) (xs : List NodeNumbers) (later old : List Step) → IsTrue (list_all is_control later) → IsLawfulRun n (later ++ old)
     → HasNumbers xs (record { nodes = n; steps = old }) → HasNumbers xs (record { nodes = n; steps = later ++ old })
 same_numbers n xs [] old c r h = h
 same_numbers n xs (s ∷ later) old c r h =

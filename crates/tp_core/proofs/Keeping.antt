@@ -19,7 +19,7 @@ use Rattle.tp_core.specs.declared.life.Life.TheVariants as life
 use Rattle.tp_core.specs.declared.numbers.NodeNumbers.{NodeNumbers}
 use Rattle.tp_core.specs.World.{World, Task, Opening, Named, OfMessage, is_action, is_message, is_done, how_many}
 use Rattle.tp_core.specs.Pool.{with_life, supplied, after}
-use Rattle.tp_core.specs.Run.{world, node_of, IsLawful, IsRun}
+use Rattle.tp_core.specs.Run.{world, node_of, IsLawful, IsLawfulRun}
 use Rattle.tp_core.specs.Accepted.{Accepted, world_of, with_step, numbers_at}
 use Rattle.tp_core.specs.Kept.{accepted, Agree, IsKept, HasTasks, HasActions, HasMessages, HasNumbers, HasPieces, all_left}
 use Rattle.tp_core.proofs.Counting.{life_in, one_if, node_inside, open_at-openings, pending_step, not_done-lacking, length-without}
@@ -92,7 +92,7 @@ numbers_written {a} {xs} s kept lawful j v low at is = record { size = length-se
         now ∙ choose i (j == i) refl ∙ sym step
 
 -- a node that is not there has no numbers
-pub outside : (n i : ℕ) (steps : List Step) → 0 < n → IsRun n steps → n ≤ i → numbers_at i (record { nodes = n; steps = steps }) ≡ zeros
+pub outside : (n i : ℕ) (steps : List Step) → 0 < n → IsLawfulRun n steps → n ≤ i → numbers_at i (record { nodes = n; steps = steps }) ≡ zeros
 outside n i [] pos r h = ap (λ p. record { pending = p; sent = 0; received = 0 }) (grind (arith, nat_tests, open_at-openings i n))
 outside n i (s ∷ past) pos r h =
     let inside = node_inside n past s pos r.1 r.0 in

@@ -5,13 +5,13 @@ use Rattle.tp_base.specs.declared.Step.{Step}
 use Rattle.tp_base.specs.declared.Refusal.{Refusal}
 use Rattle.tp_core.specs.Accepted.{Accepted, refusal, next, with_step, after_all}
 use Rattle.tp_core.specs.Reached.{AcceptedIsNeverEarly}
-use Rattle.tp_core.specs.Run.{IsRun}
+use Rattle.tp_core.specs.Run.{IsLawfulRun}
 use Rattle.tp_core.proofs.Exact.{lawful_where_none}
 use Rattle.tp_core.proofs.Early.{never_early}
 
 pub record Reaches (n : ℕ) (a : Accepted) : Type 0 where
   pub nodes : a.nodes ≡ n
-  pub run : IsRun n a.steps
+  pub run : IsLawfulRun n a.steps
 
 one_more : (n : ℕ) (a : Accepted) (s : Step) (o : Option Refusal) → refusal a s ≡ o → Reaches n a → Reaches n (if is_some o then a else with_step a s)
 one_more n a s (Some r) e h = h

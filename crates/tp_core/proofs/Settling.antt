@@ -11,14 +11,14 @@ use Rattle.tp_wave.specs.Cut as cut
 use Rattle.tp_wave.specs.Settling.{ComesNext}
 use Rattle.tp_wave.proofs.Runs.{quiet_law}
 use Rattle.tp_wave.proofs.Settling.{soon_law, goes_on_law}
-use Rattle.tp_core.specs.Run.{history, IsLawful, IsRun}
+use Rattle.tp_core.specs.Run.{history, IsLawful, IsLawfulRun}
 use Rattle.tp_core.specs.Laws.{JudgedSoon}
 use Rattle.tp_core.proofs.Counting.{steps_of-history, pending_is, is_run}
 use Rattle.tp_core.proofs.Quiet.{quiet_is_seen}
-use Rattle.tp_core.proofs.Early.{events_after, history-append, length-after, IsRun-past}
+use Rattle.tp_core.proofs.Early.{events_after, history-append, length-after, IsLawfulRun-past}
 
 -- a control step of the machine is lawful for the core
-lawful_control : (n : ℕ) (past : List Step) (node : NodeId) (s : Step) → IsRun n past → IsTrue (is_control s) → machine.IsNext n (history n past) (node, s) → IsLawful n past s
+lawful_control : (n : ℕ) (past : List Step) (node : NodeId) (s : Step) → IsLawfulRun n past → IsTrue (is_control s) → machine.IsNext n (history n past) (node, s) → IsLawful n past s
 lawful_control n past node Start r c next = rw (steps_of-history n past) at (next.control refl)
 lawful_control n past node (Down j) r c next = rw (steps_of-history n past) at (next.control refl)
 lawful_control n past node (Give j) r c next =
@@ -33,7 +33,7 @@ judged_soon n later steps pos r q =
     let front : History = events_after n later steps in
     let whole : history n (later ++ steps) ≡ front ++ history n steps = history-append n later steps in
     let run : machine.IsRun n (history n (later ++ steps)) = is_run n (later ++ steps) pos r in
-    let old : IsRun n steps = IsRun-past n later steps r in
+    let old : IsLawfulRun n steps = IsLawfulRun-past n later steps r in
     let quiet : cut.IsQuiet n (history n steps) = (quiet_is_seen n steps pos old).1 q in
     let soon = soon_law n front (history n steps) pos (rw whole at run) quiet in
     let still : cut.IsQuiet n (history n (later ++ steps)) = rw whole (quiet_law n front (history n steps) (rw whole at run) quiet).0 in

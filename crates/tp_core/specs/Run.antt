@@ -23,9 +23,9 @@ IsLawful n past Judge = IsControlStep n past Judge
 IsLawful n past s = MayTake n (world n past) s
 
 -- Each step was lawful when it was taken.
-abbrev pub IsRun : ℕ → List Step → Type 0
-IsRun n [] = Unit {0}
-IsRun n (s ∷ past) = IsLawful n past s × IsRun n past
+abbrev pub IsLawfulRun : ℕ → List Step → Type 0
+IsLawfulRun n [] = Unit {0}
+IsLawfulRun n (s ∷ past) = IsLawful n past s × IsLawfulRun n past
 
 -- The node beside which a step stands: the home of a task, or the node that the step names first, or the root.
 abbrev pub node_of : World → Step → ℕ

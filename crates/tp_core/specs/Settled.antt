@@ -11,7 +11,7 @@ use Rattle.tp_wave.specs.Sums.{waves, is_ended, judgement}
 use Rattle.tp_wave.specs.Control.{is_control}
 use Rattle.tp_core.specs.declared.accepting.TheConstants.{PIECE}
 use Rattle.tp_core.specs.World.{is_quiet}
-use Rattle.tp_core.specs.Run.{IsRun}
+use Rattle.tp_core.specs.Run.{IsLawfulRun}
 use Rattle.tp_core.specs.Accepted.{Accepted, IsRefusedFor, world_of}
 
 -- There is no room for so many steps more after so many.
@@ -33,7 +33,7 @@ pub record IsSettled (old new : Accepted) (w count : ℕ) : Type 0 where
   pub taken : List Step
   pub steps : new.steps ≡ (Judge ∷ taken) ++ old.steps
   pub control : IsTrue (list_all is_control taken)
-  pub run : IsRun old.nodes ((Judge ∷ taken) ++ old.steps)
+  pub run : IsLawfulRun old.nodes ((Judge ∷ taken) ++ old.steps)
   pub judged : judgement old.nodes (taken ++ old.steps) ≡ Some w
   pub counted : count ≡ length (Judge ∷ taken)
   pub few : count ≤ 9 * old.nodes

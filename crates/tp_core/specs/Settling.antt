@@ -10,14 +10,14 @@ use Rattle.tp_wave.specs.Wave.{Follows}
 use Rattle.tp_wave.specs.declared.Wave.{Wave}
 use Rattle.tp_core.specs.declared.numbers.NodeNumbers.{NodeNumbers}
 use Rattle.tp_core.specs.World.{IsQuiet}
-use Rattle.tp_core.specs.Run.{world, IsLawful, IsRun}
+use Rattle.tp_core.specs.Run.{world, IsLawful, IsLawfulRun}
 use Rattle.tp_core.specs.Kept.{HasNumbers}
 
 -- The steps on n nodes are a run after which nothing is left and the end was not judged; the numbers and the wave are what they say.
 pub record MaySettle (n : ℕ) (numbers : List NodeNumbers) (steps : List Step) (wave : Wave) : Type 0 where
   pub some_node : 0 < n
   pub few_nodes : n ≤ MAX_NODES
-  pub is_run : IsRun n steps
+  pub is_run : IsLawfulRun n steps
   pub within : length steps ≤ MAX_STEPS
   pub quiet : IsQuiet (world n steps)
   pub not_ended : IsFalse (is_ended n steps)
@@ -43,7 +43,7 @@ pub record AreTaken (n : ℕ) (old new : List Step) (wave : Wave) (w count : ℕ
   pub taken : List Step
   pub steps : new ≡ (Judge ∷ taken) ++ old
   pub control : IsTrue (list_all is_control taken)
-  pub run : IsRun n ((Judge ∷ taken) ++ old)
+  pub run : IsLawfulRun n ((Judge ∷ taken) ++ old)
   pub judged : judgement n (taken ++ old) ≡ Some w
   pub counted : count ≡ length taken + 1
   pub few : count ≤ 9 * n

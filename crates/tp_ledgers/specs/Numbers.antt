@@ -6,18 +6,7 @@ use Rattle.tp_base.specs.declared.ids.NodeId.{NodeId}
 use Rattle.tp_base.specs.declared.step.Step.{Step}
 use Rattle.tp_base.specs.declared.step.Step.TheVariants.{Insert, Supply, Begin, Done, ActionOpen, ActionClose, Ready, Send, Recv, MessageEnd}
 use Rattle.tp_wave.specs.Machine.{pending_after}
-
-abbrev pub is_send : Step → Bool
-is_send (Send i j m) = true
-is_send _ = false
-
-abbrev pub is_recv : Step → Bool
-is_recv (Recv j m) = true
-is_recv _ = false
-
-abbrev pub is_done : Step → Bool
-is_done (Done t) = true
-is_done _ = false
+pub use Rattle.tp_wave.specs.Steps.{is_done, is_recv, is_send}
 
 -- a step of the pool that moves no message
 abbrev pub is_plain : Step → Bool

@@ -11,15 +11,6 @@ pub struct Ended<K: Ledgers> {
     ghost one: { share.amount ≡ 1 },
 }
 
-/// What a wave was judged to show.
-#[derive(Drop)]
-pub enum Judgement<K: Ledgers> {
-    /// The pool may go on.
-    Not,
-    /// The pool has ended.
-    Over(Ended<K>),
-}
-
 /// The one token of the end, until it is handed out. Contracts see how many were handed out.
 #[derive(Drop)]
 pub(crate) struct Keeper<K: Ledgers> {

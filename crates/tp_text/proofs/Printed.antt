@@ -6,10 +6,10 @@ use Rattle.std.specs.Prelude.{IsTrue, IsFalse, ◌↔◌, ◌==◌}
 use Rattle.std.specs.List.{list_any, slice_index_or}
 use Rattle.tp_core.specs.declared.NodeNumbers.{NodeNumbers}
 use Rattle.tp_core.specs.Accepted.{Accepted, world_of, numbers_at, no_numbers}
-use Rattle.tp_core.specs.World.{World, Action, Message, IsQuiet, is_done}
+use Rattle.tp_core.specs.World.{World, Action, Message, IsQuiet, is_done, is_quiet}
 use Rattle.tp_wave.specs.Sums.{total}
 use Rattle.tp_text.specs.Printed.{listed}
-use Rattle.tp_text.specs.SimText.{node_lines, node_line, counts, all_numbers, is_quiet, closing}
+use Rattle.tp_text.specs.SimText.{node_lines, node_line, counts, all_numbers, closing}
 use Rattle.tp_text.specs.Spelling.{line}
 
 pub total_more : (n : ℕ) (f : ℕ → ℕ) → total (n + 1) f ≡ total n f + f n

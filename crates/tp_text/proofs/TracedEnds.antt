@@ -8,7 +8,7 @@ use Rattle.tp_wave.specs.Steps.{is_judge, is_start}
 use Rattle.tp_wave.specs.Sums.{four_equal, judgement, is_ended, until, visit, waves}
 use Rattle.std.proofs.lemmas.Bool.{lt-leb}
 use Rattle.tp_core.specs.NeverEarly.{IsOverFrom}
-use Rattle.tp_core.specs.Run.{IsRun}
+use Rattle.tp_core.specs.Run.{IsLawfulRun}
 use Rattle.tp_core.proofs.Early.{never_early}
 use Rattle.tp_text.specs.declared.traced.TraceLine.{TraceLine}
 use Rattle.tp_text.specs.declared.traced.TraceLine.TheVariants.{Judged}
@@ -80,7 +80,7 @@ not_none (Some w) b f e = λ none. cc
 not_none None true f e = λ none. cc
 not_none None false f e = λ none. cc
 
-ended_last : (n : ℕ) (ss : List Step) → IsRun n ss → is_ended n ss ≡ true → last_judgement n ss ≢ None
+ended_last : (n : ℕ) (ss : List Step) → IsLawfulRun n ss → is_ended n ss ≡ true → last_judgement n ss ≢ None
 ended_last n [] r e = λ none. cc
 ended_last n (steps.Judge ∷ past) r e = not_none (judgement n past) (is_ended n past) r.0.0 e
 ended_last n (s ∷ past) r e = ended_last n past r.1 e

@@ -2,12 +2,12 @@
 use Rattle.std.specs.Prelude.{ℕ, ◌+◌, ◌≡◌, ◌≢◌, ◌≤◌, ◌++◌, ◌⊎◌, List, [], ◌∷◌, Bool, true, false, Option, Some, None, length, codes, decimal}
 use Rattle.tp_base.specs.declared.limits.TheConstants.{MAX_STEPS}
 use Rattle.tp_base.specs.declared.Step.{Step}
-use Rattle.tp_base.specs.declared.Step.TheVariants.{Insert, Done, Send, Recv, Judge}
+use Rattle.tp_base.specs.declared.Step.TheVariants.{Insert, Judge}
 use Rattle.tp_base.specs.Refusals.{number_of, name_of}
-use Rattle.tp_wave.specs.Steps.{count}
+use Rattle.tp_wave.specs.Steps.{count, is_done, is_recv, is_send}
 use Rattle.tp_wave.specs.Sums.{judgement}
 use Rattle.tp_core.specs.Accepted.{Accepted, refusal}
-use Rattle.tp_core.specs.Run.{IsRun}
+use Rattle.tp_core.specs.Run.{IsLawfulRun}
 use Rattle.tp_text.specs.declared.account.Account.{Account}
 use Rattle.tp_text.specs.declared.auditor.Flaw.{Flaw}
 use Rattle.tp_text.specs.declared.auditor.Flaw.TheVariants as flaws
@@ -40,7 +40,7 @@ AreJustified n (l ∷ past) = IsJustified n (steps_in past) l × AreJustified n 
 
 -- The steps are a run of the core on n nodes, no more than it takes, and each judge's words are justified.
 pub record IsSound (n : ℕ) (lines : List TraceLine) : Type 0 where
-  pub run : IsRun n (steps_in lines)
+  pub run : IsLawfulRun n (steps_in lines)
   pub few : length lines ≤ MAX_STEPS
   pub justified : AreJustified n lines
 
@@ -72,18 +72,6 @@ flaw_line k flaw = line (codes "line " ++ decimal k ++ codes " " ++ flaw_words f
 abbrev pub is_insert : Step → Bool
 is_insert (Insert i t k) = true
 is_insert _ = false
-
-abbrev pub is_done : Step → Bool
-is_done (Done t) = true
-is_done _ = false
-
-abbrev pub is_send : Step → Bool
-is_send (Send i j m) = true
-is_send _ = false
-
-abbrev pub is_recv : Step → Bool
-is_recv (Recv j m) = true
-is_recv _ = false
 
 -- what the last judge judged, if there was one: with which wave the pool had ended
 abbrev pub last_judgement : ℕ → List Step → Option ℕ

@@ -8,7 +8,7 @@ use Rattle.tp_wave.specs.Sums.{total}
 use Rattle.tp_core.specs.declared.NodeNumbers.{NodeNumbers}
 use Rattle.tp_core.specs.declared.Reply.{Reply}
 use Rattle.tp_core.specs.declared.Reply.TheVariants.{Plain, WaveSums, Not, Over}
-use Rattle.tp_core.specs.World.{World, is_done}
+use Rattle.tp_core.specs.World.{World, is_quiet}
 use Rattle.tp_core.specs.Accepted.{Accepted, world_of, numbers_at, answers, after_all}
 use Rattle.tp_text.specs.declared.verdict.Verdict.{Verdict}
 use Rattle.tp_text.specs.declared.verdict.Verdict.TheVariants.{Sound, Refused}
@@ -42,10 +42,6 @@ all_numbers n numbers = record {
   sent = total n (λ i. (numbers i).sent);
   received = total n (λ i. (numbers i).received);
 }
-
--- Each task is done, no action is open, and no message is under way.
-abbrev pub is_quiet : World → Bool
-is_quiet w = not (list_any (λ x. not (is_done x.life)) w.tasks) && ((length w.actions == 0) && (length w.messages == 0))
 
 -- the closing lines: the numbers of each node, those of all, and whether all is quiet
 abbrev pub closing : Accepted → List ℕ

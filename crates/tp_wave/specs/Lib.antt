@@ -5,4 +5,5 @@ pub mod Machine
 pub mod Cut
 pub mod Checks
 pub mod Wave
+pub mod Moves
 pub mod Settling

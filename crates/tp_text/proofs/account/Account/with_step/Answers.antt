@@ -1,7 +1,8 @@
 use Rattle.std.proofs.Common.{arith, ap}
 use Rattle.tp_wave.proofs.Given.{count-le}
 use Rattle.tp_text.specs.declared.account.Account.{Account}
-use Rattle.tp_text.specs.AuditText.{is_insert, is_done, is_send, is_recv}
+use Rattle.tp_text.specs.AuditText.{is_insert}
+use Rattle.tp_wave.specs.Steps.{is_done, is_recv, is_send}
 use Rattle.tp_text.proofs.account.Account.with_step.Goals as goal
 
 pub overflow_add-result : goal.overflow_add-result
