@@ -1,5 +1,5 @@
 -- A board, one event further.
-use Rattle.std.proofs.Common.{ℕ, ◌+◌, ◌-◌, ◌≡◌, ◌≢◌, ◌<◌, ◌≤◌, List, [], ◌∷◌, ◌++◌, length, Bool, IsTrue, refl, sym, ap, subst, ◌∙◌, arith, Some, inl, inr}
+use Rattle.std.proofs.Common.{ℕ, ◌+◌, ◌-◌, ◌≡◌, ◌≢◌, ◌<◌, ◌≤◌, List, [], ◌∷◌, ◌++◌, length, Bool, true, false, cond, nat_eq, IsTrue, refl, sym, ap, subst, ◌∙◌, arith, Some, inl, inr}
 use Rattle.std.specs.Prelude.{IsFalse, slice_index, slice_set, if◌then◌else◌}
 use Rattle.std.proofs.lemmas.Bool.{eq-eqb, ne_eqb, cases_eq}
 use Rattle.std.proofs.lemmas.Bool.Decides.{nat_tests}
@@ -160,6 +160,28 @@ pub started-le : (n nodes : ℕ) (h : List Event) (t : BookTotals) (w : Wave) �
 started-le n nodes h t w board =
     let all : started w ≡ waves (steps_of h) = ap (λ (s : Sums). s.wave) board.follows.newest in
     omega (arith, count-le is_start h, board.short)
+
+kept_cond : (b : Bool) (n : ℕ) → cond b n n ≡ n
+kept_cond true n = refl
+kept_cond false n = refl
+
+-- a board whose next wave has started
+pub start_next : (n nodes : ℕ) (h now : List Event) (t : BookTotals) (before after : Wave) → IsBoard n nodes h t before → now ≡ event 0 Start ∷ h → length h < 1048576
+    → Follows n (Start ∷ steps_of h) after → IsBoard n nodes now t after
+start_next n nodes h now t before after board is places follows = rw is (record {
+  nodes_are = board.nodes_are;
+  some = board.some;
+  few = board.few;
+  short = omega (arith, places);
+  run = (record { known = board.some; beside = refl; needed = tt; control = follows.lawful.0 }, board.run);
+  pending = λ i below. board.pending i below ∙ sym (kept_cond (nat_eq 0 i) _);
+  sent = board.sent;
+  received = board.received;
+  done = board.done;
+  under = board.under;
+  judged = board.judged;
+  follows = follows;
+})
 
 -- where the judgement is that the pool has ended, nothing is left
 pub quiet_judged : (n nodes w : ℕ) (h now : List Event) (t : BookTotals) (before after : Wave) → IsBoard n nodes h t before → now ≡ event 0 Judge ∷ h → Follows n (Judge ∷ steps_of h) after

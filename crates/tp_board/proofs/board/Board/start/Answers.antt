@@ -6,7 +6,7 @@ use Rattle.tp_base.specs.declared.step.Step.TheVariants.{Start}
 use Rattle.tp_base.specs.Checks.{Check}
 use Rattle.tp_board.specs.States.{BoardState, full_check}
 use Rattle.tp_board.proofs.Answering.{passed, refused}
-use Rattle.tp_board.proofs.Boards.{started-le}
+use Rattle.tp_board.proofs.Boards.{start_next, started-le}
 use Rattle.tp_board.proofs.board.Board.start.Goals as goal
 
 pub start-requires : goal.start-requires
@@ -31,7 +31,10 @@ returns-clause-refusal g c =
     passed _ _ _ _ _ _ Start full _ _ ok c.self.invariant c.self.view_is c.start.ensures.table (ap result_err c.in_ok-start.was) c.add.ensures.refusal (ap result_err c.in_ok-add.was)
 
 pub invariant_of-self-2 : goal.invariant_of-self-2
-invariant_of-self-2 g c = search (rules, tests)
+invariant_of-self-2 g c =
+    let root = c.node-root.ensures.number ∙ c.requires.root in
+    let history = rw root at (ap (λ (b : BoardState). b.history) c.in_ok-add.ensures.ok) in
+    start_next _ _ _ _ _ _ _ c.self.invariant history c.in_ok-add.ensures.places (c.in_ok-start.ensures.follows _ _ c.self.invariant.follows)
 
 pub returns-clause-ok : goal.returns-clause-ok
 returns-clause-ok g c = search (rules, tests)
