@@ -1,6 +1,6 @@
 -- What each exit status says of the words, of what was read, and of what was written. The reader and the writer are seen by the
 -- bytes that they had before and have now.
-use Rattle.std.specs.Prelude.{ℕ, ◌≡◌, ◌⊎◌, List, Option}
+use Rattle.std.specs.Prelude.{ℕ, ◌⊎◌, List, Option}
 use Rattle.std.specs.Io.KnownBytes.{Appends, Consumes, IsAtEnd}
 use Rattle.clap.specs.Words.{App, Text}
 use Rattle.tp_lent_cli.specs.Command.{AsksForCounts, AsksForSide, AsksForSteps, AsksToBeShown, heat_app, product_app}

@@ -1,6 +1,7 @@
 ghost use Rattle.std.specs.Prelude.{◌≡◌, ◌≤◌, ◌≢◌, ◌⊎◌, ℕ, List, IfErr, IfOk, OnOk, map};
 ghost use Rattle.std.specs.Io.KnownBytes.{Appends};
-ghost use Rattle.tp_cells.specs.Texts.{AreLines};
+ghost use Rattle.tp_base.specs.declared.refusal.Refusal.TheVariants.{NoMemory};
+ghost use Rattle.tp_cells.specs.Texts.{AreLines, lines_of};
 ghost use Rattle.tp_lent_cli.specs.Command.{AreAtFault, AsksForRod, AsksToBeShown, LackSteps, heat_app};
 ghost use Rattle.tp_lent_cli.specs.Ends.{CouldNotWrite, HasPrinted, IsFaultOfAll, IsMadeOfAll, IsRodAskedFor, LacksRodAskedFor};
 ghost use Rattle.tp_lent_cli.specs.Faults.{status_of};
@@ -115,8 +116,10 @@ pub fn answer_heat<R: Threads + Wait + Sync, I: Read, O: Write>(
 {
     let bytes = read_all(alloc, reader)?;
     let input = str::from_utf8(&bytes).map_err(|_| Fault::Read)?;
-    let text = text_after(rt, alloc, steps, block, config, input)?;
-    write_text(out, &text)
+    match text_after(rt, alloc, steps, block, config, input) {
+        Ok(text) => write_text(out, &text),
+        Err(fault) => Err(fault),
+    }
 }
 
 /// The text of the rod after so many steps, from the text of its cells.
@@ -135,9 +138,17 @@ fn text_after<R: Threads + Wait + Sync>(
 {
     let cells = cells_of(alloc, block, config.nodes, input)?;
     match run_heat_in_parts(rt, alloc, cells, block, steps, config) {
-        Ok(rod) => text_of(alloc, &rod).map_err(|_| Fault::Run(Refusal::NoMemory)),
+        Ok(rod) => text_of_rod(alloc, &rod),
         Err(refusal) => Err(Fault::Run(refusal)),
     }
+}
+
+/// The text of a rod.
+fn text_of_rod(alloc: Global, rod: &[i64]) -> Result<Vec<u8>, Fault>
+    ensures made { IfOk result (λ text. text.items ≡ lines_of rod.now) }
+    ensures err { IfErr result (λ fault. fault ≡ Fault.Run NoMemory) }
+{
+    text_of(alloc, rod).map_err(|_| Fault::Run(Refusal::NoMemory))
 }
 
 /// The cells of a rod, from their text, where a step of them in blocks of so many at so many nodes is a run.

@@ -12,7 +12,7 @@ use crate::fault::Fault;
 use crate::options::explain;
 use crate::product_request::{ProductRequest, product_requested};
 use crate::streams::{read_all, write_text};
-use crate::tiles::{TileFault, tiled_order};
+use crate::tiles::tiled_order;
 use std::alloc::Global;
 use std::io::{Read, Write};
 use std::str;
@@ -112,8 +112,10 @@ pub fn answer_product<R: Threads + Wait + Sync, I: Read, O: Write>(
 {
     let bytes = read_all(alloc, reader)?;
     let input = str::from_utf8(&bytes).map_err(|_| Fault::Read)?;
-    let text = product_text(rt, alloc, side, config, input)?;
-    write_text(out, &text)
+    match product_text(rt, alloc, side, config, input) {
+        Ok(text) => write_text(out, &text),
+        Err(fault) => Err(fault),
+    }
 }
 
 /// The text of the product, from the text of the matrices.
