@@ -4,7 +4,7 @@ ghost use Rattle.tp_graph.specs.Blocks.{block_of};
 ghost use Rattle.tp_heat.specs.Heats.{IsHeat, IsNoRod, IsRod, blocks_of, heat_graph, lefts, rights, swept};
 ghost use Rattle.tp_heat.specs.HeatLaws.{heat_lawful};
 
-use crate::mix::{first_of, last_of, sweep};
+use crate::mix::{first_of, last_of, read_all, sweep};
 use std::alloc::{AllocError, Global};
 use tp_base::{NodeId, Refusal, TaskId};
 use tp_graph::{Graph, Value};
@@ -61,6 +61,13 @@ impl<'a> Heat<'a> {
         ensures { result ≡ self.now.steps }
     {
         self.steps
+    }
+
+    /// Reads each cell as it was lent: what is read is known to fit 64 bits.
+    pub(crate) fn read_cells(&self)
+        ensures { all_fit self.now.cells.now ≡ true }
+    {
+        read_all(self.cells);
     }
 
     /// A block of the cells as they were lent.

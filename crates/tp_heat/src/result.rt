@@ -1,5 +1,6 @@
 ghost use Rattle.std.specs.Prelude.{◌≡◌, IfOk, IfErr};
-ghost use Rattle.tp_graph.specs.Serial.{AreRight, IsSerialRefusal};
+ghost use Rattle.tp_base.specs.declared.Refusal.TheVariants.{NoMemory};
+ghost use Rattle.tp_graph.specs.Serial.{AreRight};
 ghost use Rattle.tp_heat.specs.Heats.{heat_graph, evolve, IsRodRefusal, LacksBlock};
 
 use crate::heat::Heat;
@@ -27,13 +28,18 @@ pub fn rod_of(alloc: Global, heat: &Heat, results: &[(TaskId, Value)]) -> Result
     Ok(rod)
 }
 
-/// The rod at its end, worked out on one thread. Refused with `BodyFailed` only where a task has no value, and else
-/// with `NoMemory`.
+/// The rod at its end, worked out on one thread. Refused only with `NoMemory`: no cell leaves 64 bits, so each task has a value.
 pub fn rod_by_one(alloc: Global, heat: Heat) -> Result<Vec<i64>, Refusal>
     ensures made { IfOk result (λ rod. rod.items ≡ evolve heat.entry.steps heat.entry.cells.now) }
-    ensures refused { IfErr result
-        (IsSerialRefusal (heat_graph heat.entry.cells.now heat.entry.blocks heat.entry.size heat.entry.steps)) }
+    ensures refused { IfErr result (λ refusal. refusal ≡ NoMemory) }
 {
-    let results = serial(alloc, heat)?;
+    let results = match serial(alloc, heat) {
+        Ok(results) => results,
+        Err(refusal) => {
+            // No body fails, since no cell leaves 64 bits: those that were lent fit, as reading them shows.
+            heat.read_cells();
+            return Err(refusal);
+        }
+    };
     rod_of(alloc, &heat, results.as_slice())
 }

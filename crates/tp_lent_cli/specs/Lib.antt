@@ -1,4 +1,5 @@
 pub mod Command
 pub mod Ends
 pub mod Faults
+pub mod Rods
 pub mod Tiles

@@ -3,7 +3,10 @@ use Rattle.std.specs.Prelude.{ℕ, ℤ, ◌≡◌, ◌<◌, ◌≤◌, ◌+◌, 
 use Rattle.std.specs.Str.Lines.{lines}
 use Rattle.tp_base.specs.declared.limits.TheConstants.{MAX_STEPS}
 use Rattle.tp_matrix.specs.Matrices.{product_of}
-use Rattle.tp_rows.specs.Matrices.{AreMatrices, rows_text}
+use Rattle.tp_cells.specs.declared.fault.LineFault.TheVariants.{Line}
+use Rattle.tp_rows.specs.Matrices.{AreMatrices, IsFirstBad, rows_text}
+use Rattle.tp_lent_cli.specs.declared.fault.Fault.{Fault}
+use Rattle.tp_lent_cli.specs.declared.fault.Fault.TheVariants.{Text, Tiles}
 use Rattle.tp_lent_cli.specs.declared.tiles.TileFault.{TileFault}
 use Rattle.tp_lent_cli.specs.declared.tiles.TileFault.TheVariants.{TooManyRows, Unfilled, TooManyEvents}
 
@@ -42,3 +45,9 @@ IsProductText side nodes bytes text = (order : ℕ) × (left : List ℤ) × (rig
 abbrev pub HasNoProduct : ℕ → ℕ → List ℕ → TileFault → Type 0
 HasNoProduct side nodes bytes fault = (order : ℕ) × (left : List ℤ) × (right : List ℤ)
     × AreMatrices (lines bytes) order left right × IsTileFault order side nodes fault
+
+-- The input is at fault: a line is the first that is not as it has to be, or the two matrices have no product in such tiles.
+abbrev pub IsBadProduct : ℕ → ℕ → List ℕ → Fault → Type 0
+IsBadProduct side nodes bytes (Text (Line k)) = IsFirstBad bytes k
+IsBadProduct side nodes bytes (Tiles fault) = HasNoProduct side nodes bytes fault
+IsBadProduct side nodes bytes fault = ⊥

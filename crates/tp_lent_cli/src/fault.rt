@@ -37,6 +37,7 @@ impl Fault {
         ensures memory { kind ≡ ErrorKind.OutOfMemory → result ≡ Fault.Run NoMemory }
         ensures other { kind ≢ ErrorKind.OutOfMemory → result ≡ Fault.Read }
         ensures never { result ≢ Fault.Write }
+        ensures unread { status_of result ≢ 2 }
     {
         match kind {
             ErrorKind::OutOfMemory => Fault::Run(Refusal::NoMemory),
@@ -59,6 +60,7 @@ impl Fault {
     pub(crate) fn of_product(refusal: Refusal) -> Fault
         ensures overflow { refusal ≡ BodyFailed → result ≡ Fault.Overflow }
         ensures other { refusal ≢ BodyFailed → result ≡ Fault.Run refusal }
+        ensures status { status_of result ≡ 3 }
     {
         match refusal {
             Refusal::BodyFailed => Fault::Overflow,

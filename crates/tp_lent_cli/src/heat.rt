@@ -1,7 +1,11 @@
 ghost use Rattle.std.specs.Prelude.{◌≡◌, ◌≤◌, ◌≢◌, ◌⊎◌, ℕ, List, IfErr, IfOk, OnOk, map};
 ghost use Rattle.std.specs.Io.KnownBytes.{Appends};
+ghost use Rattle.tp_base.specs.declared.refusal.Refusal.TheVariants.{NoMemory};
+ghost use Rattle.tp_cells.specs.Texts.{AreLines, lines_of};
 ghost use Rattle.tp_lent_cli.specs.Command.{AreAtFault, AsksForRod, AsksToBeShown, LackSteps, heat_app};
-ghost use Rattle.tp_lent_cli.specs.Ends.{CouldNotWrite, HasPrinted, IsMadeOfAll, IsRodAskedFor, IsTextAfter};
+ghost use Rattle.tp_lent_cli.specs.Ends.{CouldNotWrite, HasPrinted, IsFaultOfAll, IsMadeOfAll, IsRodAskedFor, LacksRodAskedFor};
+ghost use Rattle.tp_lent_cli.specs.Faults.{status_of};
+ghost use Rattle.tp_lent_cli.specs.Rods.{IsBadRod, IsTextAfter};
 ghost use Rattle.tp_work.specs.Outcomes.{IsWithinLimits};
 
 use crate::fault::Fault;
@@ -42,8 +46,10 @@ pub fn heat_with<R: Threads + Wait + Sync, I: Read, O: Write, E: Write>(
         (IsRodAskedFor (map (λ w. w.now) words.now) (I.remaining reader.old) (I.remaining reader.new))
         ⊎ ((out.new ≡ out.old) × (AsksForRod (map (λ w. w.now) words.now)
         ⊎ (AreAtFault heat_app LackSteps (map (λ w. w.now) words.now) × (reader.new ≡ reader.old)))) }
-    // 2, for a fault of the input, and 3, for a run or memory that was refused: nothing was written.
-    ensures refused { result ≡ 2 → out.new ≡ out.old }
+    // 2: nothing was written, since all that was read has a bad line or none, or one step of its cells is no run.
+    ensures refused { result ≡ 2 → (out.new ≡ out.old)
+        × LacksRodAskedFor (map (λ w. w.now) words.now) (I.remaining reader.old) (I.remaining reader.new) }
+    // 3, for a run or memory that was refused: nothing was written.
     ensures failed { result ≡ 3 → out.new ≡ out.old }
     // Only for a rod is the input read.
     ensures unread { AsksForRod (map (λ w. w.now) words.now) ⊎ (reader.new ≡ reader.old) }
@@ -70,7 +76,8 @@ fn answer_request<R: Threads + Wait + Sync, I: Read, O: Write, E: Write>(
         × Appends (O.contents out.old) (O.contents out.new) text) }
     ensures made { result ≡ 1 → (out.new ≡ out.old)
         ⊎ ((text : List ℕ) × IsMadeOfAll (IsTextAfter request.steps) (I.remaining reader.old) (I.remaining reader.new) text) }
-    ensures refused { result ≡ 2 → out.new ≡ out.old }
+    ensures refused { result ≡ 2 → (out.new ≡ out.old) × ((fault : Fault)
+        × IsFaultOfAll (IsBadRod request.block request.config.nodes) (I.remaining reader.old) (I.remaining reader.new) fault) }
     ensures failed { result ≡ 3 → out.new ≡ out.old }
 {
     let Request {
@@ -103,11 +110,16 @@ pub fn answer_heat<R: Threads + Wait + Sync, I: Read, O: Write>(
     ensures made { IfErr result (λ fault. fault ≡ Fault.Write
         → (text : List ℕ) × IsMadeOfAll (IsTextAfter steps) (I.remaining reader.old) (I.remaining reader.new) text) }
     ensures unwritten { IfErr result (λ fault. fault ≢ Fault.Write → out.new ≡ out.old) }
+    // Where the input is told to be at fault, it is, and all of it was read.
+    ensures cause { IfErr result (λ fault. status_of fault ≡ 2
+        → IsFaultOfAll (IsBadRod block config.nodes) (I.remaining reader.old) (I.remaining reader.new) fault) }
 {
     let bytes = read_all(alloc, reader)?;
     let input = str::from_utf8(&bytes).map_err(|_| Fault::Read)?;
-    let text = text_after(rt, alloc, steps, block, config, input)?;
-    write_text(out, &text)
+    match text_after(rt, alloc, steps, block, config, input) {
+        Ok(text) => write_text(out, &text),
+        Err(fault) => Err(fault),
+    }
 }
 
 /// The text of the rod after so many steps, from the text of its cells.
@@ -122,14 +134,38 @@ fn text_after<R: Threads + Wait + Sync>(
     requires { IsWithinLimits config }
     ensures made { IfOk result (λ text. IsTextAfter steps input.now text.items) }
     ensures err { IfErr result (λ fault. fault ≢ Fault.Write) }
+    ensures cause { IfErr result (λ fault. status_of fault ≡ 2 → IsBadRod block config.nodes input.now fault) }
 {
-    let cells = numbers_of(alloc, input).map_err(Fault::Text)?;
+    let cells = cells_of(alloc, block, config.nodes, input)?;
+    match run_heat_in_parts(rt, alloc, cells, block, steps, config) {
+        Ok(rod) => text_of_rod(alloc, &rod),
+        Err(refusal) => Err(Fault::Run(refusal)),
+    }
+}
+
+/// The text of a rod.
+fn text_of_rod(alloc: Global, rod: &[i64]) -> Result<Vec<u8>, Fault>
+    ensures made { IfOk result (λ text. text.items ≡ lines_of rod.now) }
+    ensures err { IfErr result (λ fault. fault ≡ Fault.Run NoMemory) }
+{
+    text_of(alloc, rod).map_err(|_| Fault::Run(Refusal::NoMemory))
+}
+
+/// The cells of a rod, from their text, where a step of them in blocks of so many at so many nodes is a run.
+fn cells_of(alloc: Global, block: u32, nodes: u32, input: &str) -> Result<Vec<i64>, Fault>
+    ensures cells { IfOk result (λ cells. AreLines input.now cells.items) }
+    ensures err { IfErr result (λ fault. fault ≢ Fault.Write) }
+    ensures cause { IfErr result (λ fault. status_of fault ≡ 2 → IsBadRod block nodes input.now fault) }
+{
+    let cells = match numbers_of(alloc, input) {
+        Ok(cells) => cells,
+        Err(fault) => return Err(Fault::Text(fault)),
+    };
     if cells.is_empty() {
         return Err(Fault::Empty);
     }
-    if steps_at_once(cells.len() as u64, block, config.nodes).is_none() {
-        return Err(Fault::TooMany);
+    match steps_at_once(cells.len() as u64, block, nodes) {
+        Some(_) => Ok(cells),
+        None => Err(Fault::TooMany),
     }
-    let rod = run_heat_in_parts(rt, alloc, cells, block, steps, config).map_err(Fault::Run)?;
-    text_of(alloc, &rod).map_err(|_| Fault::Run(Refusal::NoMemory))
 }

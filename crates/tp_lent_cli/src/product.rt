@@ -1,18 +1,18 @@
 ghost use Rattle.std.specs.Prelude.{◌≡◌, ◌≤◌, ◌≢◌, ◌⊎◌, ◌*◌, ℕ, List, length, IfErr, IfOk, OnOk, map};
 ghost use Rattle.std.specs.Io.KnownBytes.{Appends};
 ghost use Rattle.tp_base.specs.declared.refusal.Refusal.TheVariants.{NoMemory};
-ghost use Rattle.tp_cells.specs.declared.fault.LineFault.TheVariants.{Line};
 ghost use Rattle.tp_lent_cli.specs.Command.{AreAtFault, AsksForProduct, AsksToBeShown, LackSide, product_app};
-ghost use Rattle.tp_lent_cli.specs.Ends.{CouldNotWrite, HasPrinted, IsMadeOfAll, IsProductAskedFor};
-ghost use Rattle.tp_lent_cli.specs.Tiles.{HasNoProduct, IsProductText};
-ghost use Rattle.tp_rows.specs.Matrices.{IsFirstBad, rows_text};
+ghost use Rattle.tp_lent_cli.specs.Ends.{CouldNotWrite, HasPrinted, IsFaultOfAll, IsMadeOfAll, IsProductAskedFor, LacksProductAskedFor};
+ghost use Rattle.tp_lent_cli.specs.Faults.{status_of};
+ghost use Rattle.tp_lent_cli.specs.Tiles.{IsBadProduct, IsProductText};
+ghost use Rattle.tp_rows.specs.Matrices.{rows_text};
 ghost use Rattle.tp_work.specs.Outcomes.{IsWithinLimits};
 
 use crate::fault::Fault;
 use crate::options::explain;
 use crate::product_request::{ProductRequest, product_requested};
 use crate::streams::{read_all, write_text};
-use crate::tiles::{TileFault, tiled_order};
+use crate::tiles::tiled_order;
 use std::alloc::Global;
 use std::io::{Read, Write};
 use std::str;
@@ -47,8 +47,10 @@ pub fn product_with<R: Threads + Wait + Sync, I: Read, O: Write, E: Write>(
         (IsProductAskedFor (map (λ w. w.now) words.now) (I.remaining reader.old) (I.remaining reader.new))
         ⊎ ((out.new ≡ out.old) × (AsksForProduct (map (λ w. w.now) words.now)
         ⊎ (AreAtFault product_app LackSide (map (λ w. w.now) words.now) × (reader.new ≡ reader.old)))) }
-    // 2, for a fault of the input, and 3, for a run or memory that was refused: nothing was written.
-    ensures refused { result ≡ 2 → out.new ≡ out.old }
+    // 2: nothing was written, since all that was read has a bad line, or is two matrices that have no product in such tiles.
+    ensures refused { result ≡ 2 → (out.new ≡ out.old)
+        × LacksProductAskedFor (map (λ w. w.now) words.now) (I.remaining reader.old) (I.remaining reader.new) }
+    // 3, for a number that leaves 64 bits, or a run or memory that was refused: nothing was written.
     ensures failed { result ≡ 3 → out.new ≡ out.old }
     // Only for a product is the input read.
     ensures unread { AsksForProduct (map (λ w. w.now) words.now) ⊎ (reader.new ≡ reader.old) }
@@ -75,7 +77,8 @@ fn answer_request<R: Threads + Wait + Sync, I: Read, O: Write, E: Write>(
         × Appends (O.contents out.old) (O.contents out.new) text) }
     ensures made { result ≡ 1 → (out.new ≡ out.old) ⊎ ((text : List ℕ)
         × IsMadeOfAll (IsProductText request.side request.config.nodes) (I.remaining reader.old) (I.remaining reader.new) text) }
-    ensures refused { result ≡ 2 → out.new ≡ out.old }
+    ensures refused { result ≡ 2 → (out.new ≡ out.old) × ((fault : Fault)
+        × IsFaultOfAll (IsBadProduct request.side request.config.nodes) (I.remaining reader.old) (I.remaining reader.new) fault) }
     ensures failed { result ≡ 3 → out.new ≡ out.old }
 {
     match answer_product(rt, alloc, request.side, request.config, reader, out) {
@@ -103,11 +106,16 @@ pub fn answer_product<R: Threads + Wait + Sync, I: Read, O: Write>(
     ensures made { IfErr result (λ fault. fault ≡ Fault.Write → (text : List ℕ)
         × IsMadeOfAll (IsProductText side config.nodes) (I.remaining reader.old) (I.remaining reader.new) text) }
     ensures unwritten { IfErr result (λ fault. fault ≢ Fault.Write → out.new ≡ out.old) }
+    // Where the input is told to be at fault, it is, and all of it was read.
+    ensures cause { IfErr result (λ fault. status_of fault ≡ 2
+        → IsFaultOfAll (IsBadProduct side config.nodes) (I.remaining reader.old) (I.remaining reader.new) fault) }
 {
     let bytes = read_all(alloc, reader)?;
     let input = str::from_utf8(&bytes).map_err(|_| Fault::Read)?;
-    let text = product_text(rt, alloc, side, config, input)?;
-    write_text(out, &text)
+    match product_text(rt, alloc, side, config, input) {
+        Ok(text) => write_text(out, &text),
+        Err(fault) => Err(fault),
+    }
 }
 
 /// The text of the product, from the text of the matrices.
@@ -121,9 +129,7 @@ fn product_text<R: Threads + Wait + Sync>(
     requires { IsWithinLimits config }
     ensures made { IfOk result (λ text. IsProductText side config.nodes input.now text.items) }
     ensures err { IfErr result (λ fault. fault ≢ Fault.Write) }
-    // A line that is told is the first at fault, and the tiles are only where the matrices have no product in them.
-    ensures line { IfErr result (λ fault. (k : ℕ) → fault ≡ Fault.Text (Line k) → IsFirstBad input.now k) }
-    ensures tiles { IfErr result (λ fault. (tile : TileFault) → fault ≡ Fault.Tiles tile → HasNoProduct side config.nodes input.now tile) }
+    ensures cause { IfErr result (λ fault. status_of fault ≡ 2 → IsBadProduct side config.nodes input.now fault) }
 {
     let matrices = match matrices_of(alloc, input) {
         Ok(matrices) => matrices,

@@ -1,6 +1,7 @@
 ghost use Rattle.std.specs.Prelude.{◌≡◌, ◌≢◌, IfErr, IfOk, OnOk};
 ghost use Rattle.std.specs.Io.KnownBytes.{Appends};
 ghost use Rattle.tp_lent_cli.specs.Ends.{ReadsAll};
+ghost use Rattle.tp_lent_cli.specs.Faults.{status_of};
 
 use crate::fault::Fault;
 use std::alloc::Global;
@@ -10,6 +11,7 @@ use std::io::{Read, Write};
 pub(crate) fn read_all<I: Read>(alloc: Global, reader: &mut I) -> Result<Vec<u8>, Fault>
     ensures whole { IfOk result (λ bytes. ReadsAll (I.remaining reader.old) (I.remaining reader.new) bytes.items) }
     ensures unwritten { IfErr result (λ fault. fault ≢ Fault.Write) }
+    ensures unread { IfErr result (λ fault. status_of fault ≢ 2) }
 {
     let mut bytes = Vec::new(alloc);
     match reader.read_to_end(&mut bytes) {

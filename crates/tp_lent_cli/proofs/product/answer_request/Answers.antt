@@ -13,7 +13,10 @@ returns-in-Err-clause-made g c = λ one.
 pub returns-in-Err-clause-refused : goal.returns-in-Err-clause-refused
 returns-in-Err-clause-refused g c = λ two.
     let other : c.complain.result ≢ 1 = λ one. absurd (omega (arith, one, two)) in
-    c.in-Err.ensures.unwritten (not_written c.in-Err.fault c.complain.result c.complain.ensures.value other)
+    let fault = c.in-Err.fault in (
+      c.in-Err.ensures.unwritten (not_written fault c.complain.result c.complain.ensures.value other),
+      (fault, c.in-Err.ensures.cause (sym c.complain.ensures.value ∙ two)),
+    )
 
 pub returns-in-Err-clause-failed : goal.returns-in-Err-clause-failed
 returns-in-Err-clause-failed g c = λ three.

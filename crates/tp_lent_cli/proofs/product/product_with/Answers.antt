@@ -18,6 +18,12 @@ returns-in-Ok-clause-complained g c = λ one.
       | inr made ↦ inl (inl (made.0, (request.side, request.config.nodes, request.config.workers, c.in-Ok.ensures.asked, c.in-Ok.ensures.counts, made.1)))
     ]
 
+pub returns-in-Ok-clause-refused : goal.returns-in-Ok-clause-refused
+returns-in-Ok-clause-refused g c = λ two.
+    let request = c.in-Ok.request in
+    let lacks = c.answer_request.ensures.refused two in
+    (lacks.0, (request.side, request.config.nodes, request.config.workers, lacks.1.0, c.in-Ok.ensures.asked, c.in-Ok.ensures.counts, lacks.1.1))
+
 pub returns-in-Ok-clause-unread : goal.returns-in-Ok-clause-unread
 returns-in-Ok-clause-unread g c =
     let request = c.in-Ok.request in
@@ -34,3 +40,6 @@ returns-in-Err-clause-complained g c = λ one.
       | inl shown ↦ inl (inr (shown_asked product_app LackSide (map (λ w. w.now) c.args.words.now) (kind_of c.in-Err.error) c.in-Err.ensures.why shown))
       | inr vain ↦ inr (vain.0, inr (at_fault product_app LackSide (map (λ w. w.now) c.args.words.now) (kind_of c.in-Err.error) c.in-Err.ensures.why vain.1 vain.2, search rules))
     ]
+
+pub returns-in-Err-clause-refused : goal.returns-in-Err-clause-refused
+returns-in-Err-clause-refused g c = λ two. absurd (c.explain.ensures.never two)

@@ -1,4 +1,4 @@
-use Rattle.std.proofs.Common.{inr, map, refl, subst}
+use Rattle.std.proofs.Common.{inr, refl, subst}
 use Rattle.clap.proofs.TakesLemmas.{passed_up}
 use Rattle.clap.specs.Words.{app_of}
 use Rattle.tp_lent_cli.proofs.Asked.{fails_as, none_asked, rows_asked}
