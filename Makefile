@@ -23,6 +23,7 @@ demo:
 test:
 	@tools/try-all.py
 	@tools/memory-table.py
+	@tools/guide-blocks.py
 
 # (one job a check: each further job of a check loads the libraries anew)
 gate:
