@@ -50,7 +50,8 @@ pub record IsPartly (count : ℕ) (f : ℕ → Option ℤ) (before now : List �
 pub none_partly : (f : ℕ → Option ℤ) (before : List ℤ) → IsPartly 0 f before before
 none_partly f before = record { long = refl; done = λ k h. absurd (omega arith); later = λ k h. refl }
 
-pub one_partly : (count : ℕ) (f : ℕ → Option ℤ) (before now : List ℤ) (next : ℤ) → IsPartly count f before now → count < length now → f count ≡ Some next → IsPartly (count + 1) f before (set now count next)
+pub one_partly : (count : ℕ) (f : ℕ → Option ℤ) (before now : List ℤ) (next : ℤ) → IsPartly count f before now → count < length now → f count ≡ Some next →
+    IsPartly (count + 1) f before (set now count next)
 one_partly count f before now next kept inside is = record {
   long = length-set now count next ∙ kept.long;
   done = λ k h.
@@ -90,7 +91,8 @@ more_is sum number next e =
     (ap fits is.1 ∙ both.1, is.1)
 
 -- a row with one product more each is within what is added
-pub row_within : (reach next largest left : ℕ) (by : ℤ) (sums right now : List ℤ) → length sums ≡ length right → gather (length right) (one_more sums by right) ≡ Some now → AreWithin reach sums → AreWithin largest right →
+pub row_within : (reach next largest left : ℕ) (by : ℤ) (sums right now : List ℤ) → length sums ≡ length right → gather (length right) (one_more sums by right) ≡ Some now →
+    AreWithin reach sums → AreWithin largest right →
     left ≡ unsigned_abs by → reach + left * largest ≤ next → AreWithin next now
 row_within reach next largest left by sums right now long made sums_in right_in is bound n h =
     let all = gathered (length right) (one_more sums by right) now (pos 0) made in

@@ -111,5 +111,6 @@ module _ (order side : ℕ) (lefts rights : List ℤ) (i j k : ℕ) (before begu
       let long : length tile ≡ side * side = kept.long ∙ begun_long in (
         all_partly (side * side) f begun tile (subst (λ c. IsPartly c f begun tile) whole kept) long,
         all_fit_from tile (λ e h.
-            running_fits (get_or before e (pos 0)) (k * side) side (term order lefts rights (i * side + e / side) (j * side + e % side)) (get_or tile e (pos 0)) some (kept.done e (omega (arith, whole, long)))),
+            running_fits (get_or before e (pos 0)) (k * side) side (term order lefts rights (i * side + e / side) (j * side + e % side)) (get_or tile e (pos 0)) some
+            (kept.done e (omega (arith, whole, long)))),
       )
