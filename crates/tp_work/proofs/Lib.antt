@@ -1,3 +1,4 @@
+pub mod Desks
 pub mod Gathering
 pub mod Living
 pub mod Marking

@@ -1,5 +1,8 @@
-ghost use Rattle.std.specs.Prelude.{◌≡◌, ◌+◌, ◌*◌, ◌<◌, ◌≤◌, MatchOption, None, Some, slice_get};
+ghost use Rattle.std.specs.Prelude.{◌≡◌, ◌+◌, ◌-◌, ◌*◌, ◌<◌, ◌≤◌, IfErr, MatchOption, Some, length, slice_get};
 ghost use Rattle.smallvec.specs.SmallVec.{small_vec_len};
+ghost use Rattle.tp_base.specs.declared.limits.TheConstants.{MAX_STEPS};
+ghost use Rattle.tp_base.specs.declared.refusal.Refusal.TheVariants.{NoMemory};
+ghost use Rattle.tp_node.specs.Begins.{ready_count};
 
 use smallvec::SmallVec;
 use std::alloc::Global;
@@ -50,7 +53,9 @@ impl<G: Graph, K: Ledgers> Desk<G, K> {
 
     /// How many tasks wait for a worker: those that are ready, and those that have begun.
     #[inline(always)]
-    pub fn waiting(&self) -> u64 {
+    pub fn waiting(&self) -> u64
+        ensures { result ≡ ready_count self.now.node + (small_vec_len self.now.begun - self.now.next) }
+    {
         self.node.counts().ready as u64 + (self.begun.len() - self.next) as u64
     }
 
@@ -72,13 +77,15 @@ impl<G: Graph, K: Ledgers> Desk<G, K> {
     #[inline(always)]
     pub fn begin(&mut self, board: &mut Board<K>, workers: u32) -> Result<Option<Work<G>>, Refusal>
         requires { 1 ≤ workers }
+        ensures full { board.old.limit ≡ MAX_STEPS → length board.old.history < MAX_STEPS → IfErr result (λ e. e ≡ NoMemory) }
     {
         let share = share_of(self.node.counts().ready, workers, board.len());
         if share == 1 {
             return self.node.begin(board);
         }
-        self.begun = self.node.begin_some(board, share)?;
+        let works = self.node.begin_some(board, share)?;
         self.next = 0;
+        self.begun = works;
         Ok(self.take())
     }
 }
