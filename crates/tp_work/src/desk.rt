@@ -1,6 +1,6 @@
-ghost use Rattle.std.specs.Prelude.{◌≡◌, ◌+◌, ◌-◌, ◌*◌, ◌<◌, ◌≤◌, IfErr, MatchOption, Some, length, slice_get};
+ghost use Rattle.std.specs.Prelude.{◌≡◌, ◌+◌, ◌++◌, ◌*◌, ◌<◌, ◌≤◌, IfErr, length, vec_capacity, vec_len};
+ghost use Rattle.std.specs.Option.{option_to_list};
 ghost use Rattle.smallvec.specs.SmallVec.{small_vec_len};
-ghost use Rattle.tp_base.specs.declared.limits.TheConstants.{MAX_STEPS};
 ghost use Rattle.tp_base.specs.declared.refusal.Refusal.TheVariants.{NoMemory};
 ghost use Rattle.tp_node.specs.Begins.{ready_count};
 
@@ -17,75 +17,68 @@ const MOST: u32 = 8;
 /// What lies under a node's lock: the node, and the works that have begun and wait for a worker. Whoever is free takes the
 /// next one, whoever began it, so that none waits behind a long body while another worker of the node is idle.
 #[derive(Drop)]
-pub(crate) struct Desk<G: Graph, K: Ledgers> {
+pub(crate) struct Desk<N, W> {
     /// The node.
-    pub node: Node<G, K>,
-    // Those before the next one were taken.
-    begun: SmallVec<Option<Work<G>>, 8>,
-    next: usize,
-    ghost few: { small_vec_len begun ≤ 8 },
-    ghost within: { next ≤ small_vec_len begun },
+    pub node: N,
+    // The next one last.
+    begun: Vec<W>,
 }
 
-impl<G: Graph, K: Ledgers> Desk<G, K> {
-    /// A node at which no work waits.
-    pub fn new(alloc: Global, node: Node<G, K>) -> Self
+/// The desk of a pool's node.
+pub(crate) type NodeDesk<G, K> = Desk<Node<G, K>, Work<G>>;
+
+impl<N: Drop, W: Drop> Desk<N, W> {
+    /// A node at which no work waits. It takes no memory.
+    pub fn new(alloc: Global, node: N) -> Self
         ensures { result.node ≡ node }
     {
         Desk {
             node,
-            begun: SmallVec::new(alloc),
-            next: 0,
+            begun: Vec::new(alloc),
         }
     }
 
     /// The node alone. Works that wait are dropped: there are some only where a fault has stopped the pool.
-    pub fn into_node(self) -> Node<G, K>
+    pub fn into_node(self) -> N
         ensures { result ≡ self.node }
     {
-        let Desk {
-            node,
-            begun: _,
-            next: _,
-        } = self;
+        let Desk { node, begun: _ } = self;
         node
-    }
-
-    /// How many tasks wait for a worker: those that are ready, and those that have begun.
-    #[inline(always)]
-    pub fn waiting(&self) -> u64
-        ensures { result ≡ ready_count self.now.node + (small_vec_len self.now.begun - self.now.next) }
-    {
-        self.node.counts().ready as u64 + (self.begun.len() - self.next) as u64
     }
 
     /// Takes the next work that waits, where there is one.
     #[inline(always)]
-    pub fn take(&mut self) -> Option<Work<G>>
+    pub fn take(&mut self) -> Option<W>
         ensures node { self.new.node ≡ self.old.node }
-        ensures next { MatchOption result (Unit {0}) (λ work. slice_get self.old.begun.items self.old.next ≡ Some (Some work)) }
+        ensures next { self.old.begun.items ≡ self.new.begun.items ++ option_to_list result }
     {
-        if self.next >= self.begun.len() {
-            return None;
-        }
-        let place = self.begun.get_mut(self.next)?;
-        self.next += 1;
-        place.take()
+        self.begun.pop()
+    }
+}
+
+impl<G: Graph, K: Ledgers> Desk<Node<G, K>, Work<G>> {
+    /// How many tasks wait for a worker: those that are ready, and those that have begun.
+    #[inline(always)]
+    pub fn waiting(&self) -> u64
+        ensures { result ≡ ready_count self.now.node + vec_len self.now.begun }
+    {
+        self.node.counts().ready as u64 + self.begun.len() as u64
     }
 
-    /// Begins a worker's share of the node's ready tasks, and takes the first of them.
+    /// Begins a worker's share of the node's ready tasks, and takes the first of them. The desk has to be empty, so that
+    /// works are taken in the order in which they began.
     #[inline(always)]
     pub fn begin(&mut self, board: &mut Board<K>, workers: u32) -> Result<Option<Work<G>>, Refusal>
         requires { 1 ≤ workers }
-        ensures full { board.old.limit ≡ MAX_STEPS → length board.old.history < MAX_STEPS → IfErr result (λ e. e ≡ NoMemory) }
+        ensures full { board.old.limit ≡ 1048576 → length board.old.history < 1048576 → IfErr result (λ e. e ≡ NoMemory) }
     {
         let share = share_of(self.node.counts().ready, workers, board.len());
         if share == 1 {
             return self.node.begin(board);
         }
+        self.begun.reserve(MOST as usize)?;
         let works = self.node.begin_some(board, share)?;
-        self.next = 0;
-        self.begun = works;
+        lay(works, &mut self.begun);
         Ok(self.take())
     }
 }
@@ -100,4 +93,16 @@ fn share_of(ready: u32, workers: u32, events: usize) -> u32
 {
     let left = MAX_STEPS - events as u32;
     (ready / workers).min(left).min(MOST).max(1)
+}
+
+/// Lays works that have begun on a desk, so that the first is taken first.
+fn lay<W: Drop>(works: SmallVec<Option<W>, 8>, begun: &mut Vec<W>)
+    requires { vec_len begun.old + small_vec_len works ≤ vec_capacity begun.old }
+{
+    let mut works = works;
+    while let Some(place) = works.pop() {
+        if let Some(work) = place {
+            begun.push_reserved(work);
+        }
+    }
 }

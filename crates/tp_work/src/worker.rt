@@ -3,7 +3,7 @@ ghost use Rattle.std.specs.Prelude.{◌≡◌, ◌≤◌, OnOk};
 mod passing;
 mod receiving;
 
-use crate::desk::Desk;
+use crate::desk::NodeDesk;
 use crate::gate::Gate;
 use crate::locks::{Locks, Site, lock_soon};
 use std::alloc::Global;
@@ -114,7 +114,7 @@ impl<'a, G: Comparable, K: Ledgers, A: Gate, R: Wait> Worker<'a, G, K, A, R> {
     /// nothing that a turn may find to do.
     #[cold]
     #[inline(never)]
-    fn rest(&self, site: &Site<Desk<G, K>>, seen: Option<Seen>, idle: u32) {
+    fn rest(&self, site: &Site<NodeDesk<G, K>>, seen: Option<Seen>, idle: u32) {
         if idle == 1 {
             self.look_around(site, seen);
             return;
@@ -126,7 +126,7 @@ impl<'a, G: Comparable, K: Ledgers, A: Gate, R: Wait> Worker<'a, G, K, A, R> {
         site.bell.get_up();
     }
 
-    fn look_around(&self, site: &Site<Desk<G, K>>, seen: Option<Seen>) {
+    fn look_around(&self, site: &Site<NodeDesk<G, K>>, seen: Option<Seen>) {
         for _ in 0..LOOKS {
             thread::yield_now();
             if self.is_wanted(site, seen) {
@@ -136,7 +136,7 @@ impl<'a, G: Comparable, K: Ledgers, A: Gate, R: Wait> Worker<'a, G, K, A, R> {
     }
 
     /// Whether the hints tell of a stop, a task that waits, a message, or a control step since the worker last asked for one.
-    fn is_wanted(&self, site: &Site<Desk<G, K>>, seen: Option<Seen>) -> bool {
+    fn is_wanted(&self, site: &Site<NodeDesk<G, K>>, seen: Option<Seen>) -> bool {
         if site.waiting.load(Ordering::SeqCst) > 0 || site.mail.load(Ordering::SeqCst) > 0 {
             return true;
         }
@@ -149,7 +149,7 @@ impl<'a, G: Comparable, K: Ledgers, A: Gate, R: Wait> Worker<'a, G, K, A, R> {
     #[inline(always)]
     fn turn(
         &self,
-        site: &Site<Desk<G, K>>,
+        site: &Site<NodeDesk<G, K>>,
         finished: Option<Finished<G>>,
         idle: u32,
         seen: &mut Option<Seen>,
@@ -162,8 +162,8 @@ impl<'a, G: Comparable, K: Ledgers, A: Gate, R: Wait> Worker<'a, G, K, A, R> {
     #[inline(always)]
     fn turn_at(
         &self,
-        desk: &mut Desk<G, K>,
-        site: &Site<Desk<G, K>>,
+        desk: &mut NodeDesk<G, K>,
+        site: &Site<NodeDesk<G, K>>,
         finished: Option<Finished<G>>,
         idle: u32,
         seen: &mut Option<Seen>,
@@ -186,7 +186,11 @@ impl<'a, G: Comparable, K: Ledgers, A: Gate, R: Wait> Worker<'a, G, K, A, R> {
     }
 
     /// Inserts input-free tasks, and closes the opening action after the last.
-    fn open(&self, here: &mut Node<G, K>, site: &Site<Desk<G, K>>) -> Result<Turn<G, K>, Refusal> {
+    fn open(
+        &self,
+        here: &mut Node<G, K>,
+        site: &Site<NodeDesk<G, K>>,
+    ) -> Result<Turn<G, K>, Refusal> {
         let mut board = lock_soon(self.rt, &self.locks.board);
         let opened = open_tasks(here, &mut board);
         drop(board);
@@ -199,8 +203,8 @@ impl<'a, G: Comparable, K: Ledgers, A: Gate, R: Wait> Worker<'a, G, K, A, R> {
     #[inline(always)]
     fn go_on(
         &self,
-        desk: &mut Desk<G, K>,
-        site: &Site<Desk<G, K>>,
+        desk: &mut NodeDesk<G, K>,
+        site: &Site<NodeDesk<G, K>>,
         seen: &mut Option<Seen>,
     ) -> Result<Turn<G, K>, Refusal> {
         if site.mail.load(Ordering::SeqCst) > 0 && self.receive(&mut desk.node, site)? {
@@ -219,7 +223,7 @@ impl<'a, G: Comparable, K: Ledgers, A: Gate, R: Wait> Worker<'a, G, K, A, R> {
 
     /// The next work of the desk. Where none waits there, the worker's share of the ready tasks begins.
     #[inline(always)]
-    fn next_work(&self, desk: &mut Desk<G, K>) -> Result<Option<Work<G>>, Refusal> {
+    fn next_work(&self, desk: &mut NodeDesk<G, K>) -> Result<Option<Work<G>>, Refusal> {
         if let Some(work) = desk.take() {
             return Ok(Some(work));
         }
@@ -287,7 +291,7 @@ impl<'a, G: Comparable, K: Ledgers, A: Gate, R: Wait> Worker<'a, G, K, A, R> {
 
     fn announce_at(
         &self,
-        site: &Site<Desk<G, K>>,
+        site: &Site<NodeDesk<G, K>>,
         place: NodeId,
         ended: &mut Ended<K>,
     ) -> Result<(), Refusal> {

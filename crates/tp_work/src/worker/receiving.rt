@@ -1,4 +1,4 @@
-use crate::desk::Desk;
+use crate::desk::NodeDesk;
 use crate::gate::Gate;
 use crate::locks::{Line, Site, check_wire, link_place, lock_soon};
 use crate::worker::Worker;
@@ -11,7 +11,11 @@ use tp_node::{Node, Wire};
 
 impl<'a, G: Comparable, K: Ledgers, A: Gate, R: Wait> Worker<'a, G, K, A, R> {
     /// Receives a message and delivers its value, where there is one.
-    pub fn receive(&self, here: &mut Node<G, K>, site: &Site<Desk<G, K>>) -> Result<bool, Refusal> {
+    pub fn receive(
+        &self,
+        here: &mut Node<G, K>,
+        site: &Site<NodeDesk<G, K>>,
+    ) -> Result<bool, Refusal> {
         let (number, nodes) = (here.number(), here.nodes());
         for from in 0..nodes {
             if from == number.0 {
@@ -30,7 +34,7 @@ impl<'a, G: Comparable, K: Ledgers, A: Gate, R: Wait> Worker<'a, G, K, A, R> {
     fn receive_from(
         &self,
         here: &mut Node<G, K>,
-        site: &Site<Desk<G, K>>,
+        site: &Site<NodeDesk<G, K>>,
         line: &Line<G, K>,
         from: NodeId,
     ) -> Result<bool, Refusal> {
