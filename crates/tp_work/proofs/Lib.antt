@@ -1,4 +1,3 @@
-pub mod Desks
 pub mod Gathering
 pub mod Living
 pub mod Marking

@@ -1,10 +1,8 @@
-ghost use Rattle.std.specs.Prelude.{◌≡◌, ◌+◌, ◌++◌, ◌*◌, ◌<◌, ◌≤◌, IfErr, length, vec_capacity, vec_len};
+ghost use Rattle.std.specs.Prelude.{◌≡◌, ◌+◌, ◌++◌, ◌*◌, ◌<◌, ◌≤◌, IfErr, length, vec_len};
 ghost use Rattle.std.specs.Option.{option_to_list};
-ghost use Rattle.smallvec.specs.SmallVec.{small_vec_len};
 ghost use Rattle.tp_base.specs.declared.refusal.Refusal.TheVariants.{NoMemory};
 ghost use Rattle.tp_node.specs.Begins.{ready_count};
 
-use smallvec::SmallVec;
 use std::alloc::Global;
 use tp_base::{MAX_STEPS, Refusal};
 use tp_board::{Board, Ledgers};
@@ -73,13 +71,25 @@ impl<G: Graph, K: Ledgers> Desk<Node<G, K>, Work<G>> {
         ensures full { board.old.limit ≡ 1048576 → length board.old.history < 1048576 → IfErr result (λ e. e ≡ NoMemory) }
     {
         let share = share_of(self.node.counts().ready, workers, board.len());
-        if share == 1 {
-            return self.node.begin(board);
+        let begun = self.node.begin(board)?;
+        if share > 1 {
+            self.begin_more(board, share - 1);
         }
-        self.begun.reserve(MOST as usize)?;
-        let works = self.node.begin_some(board, share)?;
-        lay(works, &mut self.begun);
-        Ok(self.take())
+        Ok(begun)
+    }
+
+    /// Begins as many more ready tasks, whose works then wait. A refusal ends it: whoever begins the next task is told.
+    fn begin_more(&mut self, board: &mut Board<K>, count: u32) {
+        if self.begun.reserve(count as usize).is_err() {
+            return;
+        }
+        for _ in 0..count {
+            let Ok(Some(work)) = self.node.begin(board) else {
+                break;
+            };
+            self.begun.push_reserved(work);
+        }
+        self.begun.as_mut_slice().reverse();
     }
 }
 
@@ -93,16 +103,4 @@ fn share_of(ready: u32, workers: u32, events: usize) -> u32
 {
     let left = MAX_STEPS - events as u32;
     (ready / workers).min(left).min(MOST).max(1)
-}
-
-/// Lays works that have begun on a desk, so that the first is taken first.
-fn lay<W: Drop>(works: SmallVec<Option<W>, 8>, begun: &mut Vec<W>)
-    requires { vec_len begun.old + small_vec_len works ≤ vec_capacity begun.old }
-{
-    let mut works = works;
-    while let Some(place) = works.pop() {
-        if let Some(work) = place {
-            begun.push_reserved(work);
-        }
-    }
 }
