@@ -17,6 +17,12 @@ const TURNS: u32 = 10_000_000;
 /// A tree of four leaves: 0, 11, 22 and 33.
 const TREE: Reduce = Reduce { leaves: 4, seed: 0 };
 
+/// A tree of 64 leaves, and so of 127 tasks.
+const WIDE: Reduce = Reduce {
+    leaves: 64,
+    seed: 0,
+};
+
 /// One leaf, and so one task.
 const LEAF: Reduce = Reduce { leaves: 1, seed: 0 };
 
@@ -193,6 +199,26 @@ fn two_bodies_run_at_once(rt: HostRuntime) -> Result<(), Fail> {
 fn two_nodes_are_held_at_once(rt: HostRuntime) -> Result<(), Fail> {
     let gate = TestGate::NodesMeet(Meeting::new());
     assert_eq!(rt; root_behind(&rt, rt.alloc(), &gate), Some(66));
+    Ok(())
+}
+
+/// Runs the wide tree on one node, where the bodies of tasks 0 and 1 wait for each other, and answers how many tasks were
+/// done.
+fn done_where_two_meet<R: Threads + Wait + Sync>(rt: &R, alloc: Global, workers: u32) -> u32
+    requires { (1 ≤ workers) × (workers ≤ 8) }
+{
+    let gate = TestGate::BodiesMeet(Meeting::new());
+    match run_pool(rt, alloc, WIDE, Config::new(1, workers), &gate) {
+        Ok(outcome) => outcome.tasks,
+        Err(_) => 0,
+    }
+}
+
+// Eight of the 64 ready tasks begin at once, 0 and 1 among them: one worker that kept them all would wait in vain.
+#[test]
+fn two_that_begin_together_wait_for_each_other(rt: HostRuntime) -> Result<(), Fail> {
+    assert_eq!(rt; done_where_two_meet(&rt, rt.alloc(), 2), 127);
+    assert_eq!(rt; done_where_two_meet(&rt, rt.alloc(), 8), 127);
     Ok(())
 }
 

@@ -2,6 +2,7 @@
 #![tactic(auto)]
 
 mod config;
+mod desk;
 mod doorbell;
 mod gate;
 mod gathered;

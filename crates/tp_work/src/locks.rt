@@ -5,6 +5,7 @@ ghost use Rattle.tp_work.specs.Places as places;
 ghost use Rattle.tp_work.specs.Places.{AreInOrder, AreLinksInOrder, AreOf};
 ghost use Rattle.tp_work.specs.Outcomes.{IsMisplaced};
 
+use crate::desk::{Desk, NodeDesk};
 use crate::doorbell::Doorbell;
 use std::alloc::{AllocError, Global};
 use std::sync::atomic::{AtomicBool, AtomicU64, Ordering};
@@ -19,7 +20,7 @@ use tp_node::{Node, Pool, Wire};
 #[derive(Drop)]
 pub(crate) struct Locks<G: Graph, K: Ledgers> {
     /// The nodes, in rising order.
-    pub sites: Vec<Site<Node<G, K>>>,
+    pub sites: Vec<Site<NodeDesk<G, K>>>,
     /// The links, by sender and then by receiver.
     pub lines: Vec<Line<G, K>>,
     /// The board.
@@ -32,30 +33,30 @@ pub(crate) struct Locks<G: Graph, K: Ledgers> {
 
 /// A node's lock.
 #[derive(Drop)]
-pub(crate) struct Site<N> {
-    /// The node.
-    pub node: Mutex<N>,
-    /// How many of its tasks are ready.
-    pub ready: AtomicU64,
+pub(crate) struct Site<D> {
+    /// The node, and the works that wait there.
+    pub desk: Mutex<D>,
+    /// How many tasks wait there for a worker: those that are ready, and those that have begun.
+    pub waiting: AtomicU64,
     /// How many messages are on the links to it.
     pub mail: AtomicU64,
     /// Where its idle workers sleep.
     pub bell: Doorbell,
 }
 
-impl<N> Site<N> {
-    /// Tells how many of the node's tasks are ready. Most turns leave as many as before, and write nothing.
+impl<D> Site<D> {
+    /// Tells how many tasks wait for a worker. Most turns leave as many as before, and write nothing.
     #[inline(always)]
-    pub fn tell_ready(&self, ready: u32) {
-        if self.ready.load(Ordering::SeqCst) != ready as u64 {
-            self.ready.store(ready as u64, Ordering::SeqCst);
+    pub fn tell_waiting(&self, waiting: u64) {
+        if self.waiting.load(Ordering::SeqCst) != waiting {
+            self.waiting.store(waiting, Ordering::SeqCst);
         }
     }
 
-    /// Calls a worker for the tasks that are ready, where there are any.
+    /// Calls a worker for the tasks that wait, where there are any.
     #[inline(always)]
-    pub fn call_for_ready(&self) {
-        if self.ready.load(Ordering::SeqCst) > 0 {
+    pub fn call_for_waiting(&self) {
+        if self.waiting.load(Ordering::SeqCst) > 0 {
             self.bell.ring();
         }
     }
@@ -102,7 +103,11 @@ impl<N: Drop, W: Drop> Room<N, W> {
 
 impl<G: Graph, K: Ledgers> Locks<G, K> {
     /// Puts the parts of a pool, which may have as many events as any, under locks, into the room that was made for them.
-    pub fn new(pool: Pool<G, K>, room: Room<Site<Node<G, K>>, Line<G, K>>) -> Self
+    pub fn new(
+        alloc: Global,
+        pool: Pool<G, K>,
+        room: Room<Site<NodeDesk<G, K>>, Line<G, K>>,
+    ) -> Self
         requires limit { pool.board.limit ≡ MAX_STEPS }
         requires nodes { (room.nodes.items ≡ []) × (vec_len pool.nodes ≤ vec_capacity room.nodes) }
         requires links { (room.links.items ≡ []) × (vec_len pool.links ≤ vec_capacity room.links) }
@@ -118,7 +123,7 @@ impl<G: Graph, K: Ledgers> Locks<G, K> {
             nodes: mut sites,
             links: mut lines,
         } = room;
-        lock_nodes(nodes, &mut sites);
+        lock_nodes(alloc, nodes, &mut sites);
         lock_links(links, &mut lines);
         Locks {
             sites,
@@ -189,7 +194,7 @@ pub(crate) fn lock_pool<G: Graph, K: Ledgers>(
     ensures refusal { IfErr result (λ e. e ≡ NoMemory) }
 {
     let (locked, room) = two_rooms(alloc, pool.nodes.len(), pool.links.len())?;
-    Ok((Locks::new(pool, locked), room))
+    Ok((Locks::new(alloc, pool, locked), room))
 }
 
 /// Room for so many nodes and links, twice.
@@ -209,14 +214,14 @@ fn two_rooms<S: Drop, L: Drop, N: Drop, W: Drop>(
     ))
 }
 
-fn lock_nodes<N: Drop>(nodes: Vec<N>, sites: &mut Vec<Site<N>>)
+fn lock_nodes<N: Drop, W: Drop>(alloc: Global, nodes: Vec<N>, sites: &mut Vec<Site<Desk<N, W>>>)
     requires { (sites.old.items ≡ []) × (vec_len nodes ≤ vec_capacity sites.old) }
     ensures { vec_len sites.new ≡ vec_len nodes }
 {
     for node in nodes {
         sites.push_reserved(Site {
-            node: Mutex::new(node),
-            ready: AtomicU64::new(0),
+            desk: Mutex::new(Desk::new(alloc, node)),
+            waiting: AtomicU64::new(0),
             mail: AtomicU64::new(0),
             bell: Doorbell::new(),
         });
@@ -235,12 +240,12 @@ fn lock_links<G: Graph, K: Ledgers>(links: Vec<Wire<G, K>>, lines: &mut Vec<Line
     }
 }
 
-fn unlock_nodes<N: Drop>(sites: Vec<Site<N>>, nodes: &mut Vec<N>)
+fn unlock_nodes<N: Drop, W: Drop>(sites: Vec<Site<Desk<N, W>>>, nodes: &mut Vec<N>)
     requires { (nodes.old.items ≡ []) × (vec_len sites ≤ vec_capacity nodes.old) }
     ensures { vec_len nodes.new ≡ vec_len sites }
 {
     for site in sites {
-        nodes.push_reserved(site.node.into_inner());
+        nodes.push_reserved(site.desk.into_inner().into_node());
     }
 }
 
@@ -307,4 +312,22 @@ pub(crate) fn link_place(from: u32, to: u32, nodes: u32) -> usize
 {
     let before = if from < to { to - 1 } else { to };
     from as usize * (nodes as usize - 1) + before as usize
+}
+
+/// Whether a wire goes from a node to another.
+pub(crate) fn check_wire<G: Graph, K: Ledgers>(
+    wire: &Wire<G, K>,
+    from: NodeId,
+    to: NodeId,
+) -> Result<(), Refusal>
+    ensures from { OnOk result (wire.now.from ≡ from.0) }
+    ensures to { OnOk result (wire.now.to ≡ to.0) }
+{
+    if wire.from() != from {
+        return Err(Refusal::NoNode);
+    }
+    if wire.to() != to {
+        return Err(Refusal::NoNode);
+    }
+    Ok(())
 }

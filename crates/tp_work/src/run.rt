@@ -196,6 +196,7 @@ fn start_workers<G: Comparable, K: Ledgers + Send + Sync, A: Gate, R: Threads + 
         alloc,
         graph,
         place: NodeId(0),
+        workers: config.workers,
         idle_turns: config.idle_turns,
         locks,
         gate,

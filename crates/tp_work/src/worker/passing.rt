@@ -1,0 +1,144 @@
+ghost use Rattle.std.specs.Prelude.{◌≡◌, ◌<◌, ◌≤◌, MatchOption, OnOk};
+ghost use Rattle.tp_node.specs.Feeds as feeds;
+ghost use Rattle.tp_node.specs.Feeds.{HasFeed};
+ghost use Rattle.tp_work.specs.Feeds.{GoesTo, IsFarther, IsSameNode};
+
+use crate::gate::Gate;
+use crate::locks::{check_wire, link_place, lock_soon};
+use crate::worker::Worker;
+use std::sync::Wait;
+use std::sync::atomic::Ordering;
+use tp_base::{NodeId, Refusal};
+use tp_board::{Board, Ledgers};
+use tp_graph::{Comparable, Graph, is_same};
+use tp_node::{Finished, Node, Wire};
+
+impl<'a, G: Comparable, K: Ledgers, A: Gate, R: Wait> Worker<'a, G, K, A, R> {
+    /// Passes the feeds of a finished task on, and records it as done. One hold of the board's lock serves all feeds in a
+    /// row that stay at the node.
+    pub fn pass_on(&self, here: &mut Node<G, K>, finished: Finished<G>) -> Result<(), Refusal>
+        requires { here.old.graph ≡ self.now.graph }
+    {
+        if !is_same(&finished.graph(), &self.graph) {
+            return Err(Refusal::Stranger);
+        }
+        let mut finished = finished;
+        while let Some(home) = next_home(&finished, here.nodes()) {
+            if home != here.number() {
+                self.send(here, home, &mut finished)?;
+                continue;
+            }
+            let mut board = lock_soon(self.rt, &self.locks.board);
+            feed_here(here, &mut board, &mut finished)?;
+            if finished.all_fed() {
+                return record_done(here, &mut board, finished);
+            }
+        }
+        let mut board = lock_soon(self.rt, &self.locks.board);
+        record_done(here, &mut board, finished)
+    }
+
+    /// Passes the next feed on to another node.
+    fn send(
+        &self,
+        here: &mut Node<G, K>,
+        to: NodeId,
+        finished: &mut Finished<G>,
+    ) -> Result<(), Refusal>
+        requires graph { finished.old.graph ≡ here.old.graph }
+        requires next { HasFeed (G.meaning here.old.graph) finished.old }
+        requires there { feeds.next_home (G.meaning here.old.graph) finished.old here.old.nodes ≡ to.0 }
+        requires node { to.0 < here.old.nodes }
+        ensures node { OnOk result (IsSameNode here.old here.new) }
+        ensures passed { OnOk result (IsFarther finished.old finished.new) }
+    {
+        let (number, nodes) = (here.number(), here.nodes());
+        let Some(line) = self.locks.lines.get(link_place(number.0, to.0, nodes)) else {
+            return Err(Refusal::NoNode);
+        };
+        let Some(there) = self.locks.sites.get(to.0 as usize) else {
+            return Err(Refusal::NoNode);
+        };
+        let mut wire = lock_soon(self.rt, &line.wire);
+        let mut board = lock_soon(self.rt, &self.locks.board);
+        let sent = send_next(here, &mut wire, &mut board, to, finished);
+        drop(board);
+        line.length.store(wire.len() as u64, Ordering::SeqCst);
+        if sent.is_ok() {
+            there.mail.fetch_add(1, Ordering::SeqCst);
+        }
+        drop(wire);
+        there.bell.ring();
+        sent
+    }
+}
+
+/// Passes the next feed on over a wire, where that goes from the node to another.
+fn send_next<G: Graph, K: Ledgers>(
+    here: &mut Node<G, K>,
+    wire: &mut Wire<G, K>,
+    board: &mut Board<K>,
+    to: NodeId,
+    finished: &mut Finished<G>,
+) -> Result<(), Refusal>
+    requires graph { finished.old.graph ≡ here.old.graph }
+    requires next { HasFeed (G.meaning here.old.graph) finished.old }
+    requires there { feeds.next_home (G.meaning here.old.graph) finished.old here.old.nodes ≡ to.0 }
+    ensures node { OnOk result (IsSameNode here.old here.new) }
+    ensures passed { OnOk result (IsFarther finished.old finished.new) }
+{
+    check_wire(wire, here.number(), to)?;
+    here.send(wire, board, finished)?;
+    Ok(())
+}
+
+/// The node, of so many, that the next feed goes to, where one is left.
+#[inline(always)]
+fn next_home<G: Graph>(finished: &Finished<G>, nodes: u32) -> Option<NodeId>
+    requires { (1 ≤ nodes) × (nodes ≤ 8) }
+    ensures next { MatchOption result (finished.now.fed ≡ (G.meaning finished.now.graph).feeds finished.now.task.0) (λ home. GoesTo (G.meaning finished.now.graph) finished.now nodes home.0) }
+{
+    if finished.all_fed() {
+        return None;
+    }
+    let feed = finished.next_feed();
+    Some(finished.graph().home(feed.target, nodes))
+}
+
+/// Passes the next feed on to the node itself, and those after it, as long as they stay there.
+fn feed_here<G: Graph, K: Ledgers>(
+    here: &mut Node<G, K>,
+    board: &mut Board<K>,
+    finished: &mut Finished<G>,
+) -> Result<(), Refusal>
+    requires graph { finished.old.graph ≡ here.old.graph }
+    requires next { HasFeed (G.meaning here.old.graph) finished.old }
+    requires here { feeds.next_home (G.meaning here.old.graph) finished.old here.old.nodes ≡ here.old.numbers.node }
+    ensures node { OnOk result (IsSameNode here.old here.new) }
+    ensures passed { OnOk result (IsFarther finished.old finished.new) }
+{
+    let (number, nodes) = (here.number(), here.nodes());
+    here.feed(board, finished)?;
+    while let Some(home) = next_home(finished, nodes) {
+        if home != number {
+            break;
+        }
+        here.feed(board, finished)?;
+    }
+    Ok(())
+}
+
+/// Records a task as done, all of whose feeds were passed on.
+fn record_done<G: Graph, K: Ledgers>(
+    here: &mut Node<G, K>,
+    board: &mut Board<K>,
+    finished: Finished<G>,
+) -> Result<(), Refusal>
+    requires graph { finished.graph ≡ here.old.graph }
+    requires all_fed { finished.fed ≡ (G.meaning here.old.graph).feeds finished.task.0 }
+{
+    match here.done(board, finished) {
+        Ok(()) => Ok(()),
+        Err((refusal, _)) => Err(refusal),
+    }
+}

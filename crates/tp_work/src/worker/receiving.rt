@@ -1,0 +1,67 @@
+use crate::desk::NodeDesk;
+use crate::gate::Gate;
+use crate::locks::{Line, Site, check_wire, link_place, lock_soon};
+use crate::worker::Worker;
+use std::sync::Wait;
+use std::sync::atomic::Ordering;
+use tp_base::{NodeId, Refusal};
+use tp_board::{Board, Ledgers};
+use tp_graph::Comparable;
+use tp_node::{Node, Wire};
+
+impl<'a, G: Comparable, K: Ledgers, A: Gate, R: Wait> Worker<'a, G, K, A, R> {
+    /// Receives a message and delivers its value, where there is one.
+    pub fn receive(
+        &self,
+        here: &mut Node<G, K>,
+        site: &Site<NodeDesk<G, K>>,
+    ) -> Result<bool, Refusal> {
+        let (number, nodes) = (here.number(), here.nodes());
+        for from in 0..nodes {
+            if from == number.0 {
+                continue;
+            }
+            let Some(line) = self.locks.lines.get(link_place(from, number.0, nodes)) else {
+                return Err(Refusal::NoNode);
+            };
+            if line.length.load(Ordering::SeqCst) > 0 {
+                return self.receive_from(here, site, line, NodeId(from));
+            }
+        }
+        Ok(false)
+    }
+
+    fn receive_from(
+        &self,
+        here: &mut Node<G, K>,
+        site: &Site<NodeDesk<G, K>>,
+        line: &Line<G, K>,
+        from: NodeId,
+    ) -> Result<bool, Refusal> {
+        let mut wire = lock_soon(self.rt, &line.wire);
+        let mut board = lock_soon(self.rt, &self.locks.board);
+        let received = receive_next(here, &mut wire, &mut board, from);
+        line.length.store(wire.len() as u64, Ordering::SeqCst);
+        if matches!(received, Ok(true)) {
+            site.mail.fetch_sub(1, Ordering::SeqCst);
+        }
+        received
+    }
+}
+
+/// Receives the next message of a wire from a node, and delivers its value, where there is one.
+fn receive_next<G: Comparable, K: Ledgers>(
+    here: &mut Node<G, K>,
+    wire: &mut Wire<G, K>,
+    board: &mut Board<K>,
+    from: NodeId,
+) -> Result<bool, Refusal> {
+    check_wire(wire, from, here.number())?;
+    let Some(parcel) = here.receive(wire, board)? else {
+        return Ok(false);
+    };
+    match here.deliver(board, parcel) {
+        Ok(()) => Ok(true),
+        Err((refusal, _)) => Err(refusal),
+    }
+}
