@@ -66,7 +66,11 @@ impl<G: Graph, K: Ledgers> Desk<Node<G, K>, Work<G>> {
     /// Begins a worker's share of the node's ready tasks, and takes the first of them. The desk has to be empty, so that
     /// works are taken in the order in which they began.
     #[inline(always)]
-    pub fn begin(&mut self, board: &mut Board<K>, workers: u32) -> Result<Option<Work<G>>, Refusal>
+    pub(crate) fn begin(
+        &mut self,
+        board: &mut Board<K>,
+        workers: u32,
+    ) -> Result<Option<Work<G>>, Refusal>
         requires { 1 ≤ workers }
         ensures full { board.old.limit ≡ 1048576 → length board.old.history < 1048576 → IfErr result (λ e. e ≡ NoMemory) }
     {
