@@ -1,5 +1,6 @@
 -- What a core answers that takes control steps to the end, and what it is then.
-use Rattle.std.proofs.Common.{Global, ℕ, ◌+◌, ◌*◌, ◌≡◌, ◌≤◌, ◌↔◌, List, [], ◌∷◌, ◌++◌, Bool, true, false, None, length, reverse, refl, ap, sym, subst, ◌∙◌, inl, inr, arith, IsTrue, IsFalse, length-append}
+use Rattle.std.proofs.Common.{Global, ℕ, ◌+◌, ◌*◌, ◌≡◌, ◌≤◌, ◌↔◌, List, [], ◌∷◌, ◌++◌, Bool, true, false, None, length}
+use Rattle.std.proofs.Common.{reverse, refl, ap, sym, subst, ◌∙◌, inl, inr, arith, IsTrue, IsFalse, length-append}
 use Rattle.std.proofs.lemmas.Bool.{cases_Bool, both_ways}
 use Rattle.std.proofs.lemmas.Bool.Decides.{nat_tests}
 use Rattle.std.proofs.lemmas.List.{length-reverse}

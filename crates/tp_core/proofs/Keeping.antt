@@ -50,7 +50,8 @@ received_step : (w : World) (s : Step) (i k : ℕ) → (if is_recv_at i s then k
 received_step w (Recv j m) i k = refl
 received_step w (s) i k = sym (if_same _ _)
 
-joined : (b : Bool) (p q : ℕ) (x y : NodeNumbers) → (◌≡◌ {A = NodeNumbers} (record { pending = if b then x.pending else y.pending; sent = if b then x.sent else y.sent; received = if b then x.received else y.received }) (if b then x else y))
+joined : (b : Bool) (p q : ℕ) (x y : NodeNumbers) →
+    (◌≡◌ {A = NodeNumbers} (record { pending = if b then x.pending else y.pending; sent = if b then x.sent else y.sent; received = if b then x.received else y.received }) (if b then x else y))
 joined true p q x y = refl
 joined false p q x y = refl
 

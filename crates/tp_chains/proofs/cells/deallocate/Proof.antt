@@ -81,7 +81,13 @@ module _ (E : El) (Z : Al) where
   Dd = D-type.the_row (R E) (P E Z) Z.g
 
   abbrev stayed : Stays ended.signature.params ended.kept
-  stayed = (stay_dropped (RefOf (0 ∷ []) tt (plain (λ _. P E Z)) (λ _. tt)) yes, (stay_dropped (plain (λ _. Bs E)) no, (stay_dropped (plain (λ _. usize)) yes, (stay_dropped (plain (λ _. Cr E)) no, (stay_dropped (plain (λ _. Dd)) no, tt)))))
+  stayed = (
+    stay_dropped (RefOf (0 ∷ []) tt (plain (λ _. P E Z)) (λ _. tt)) yes,
+    (
+      stay_dropped (plain (λ _. Bs E)) no,
+      (stay_dropped (plain (λ _. usize)) yes, (stay_dropped (plain (λ _. Cr E)) no, (stay_dropped (plain (λ _. Dd)) no, tt))),
+    ),
+  )
 
   abbrev Asks : Z.row.Denot → (Bs E).Denot → ℕ → (Cr E).Denot → Dd.Denot → Type 0
   Asks a base len cells deed = (0 < len) × (cells.cells ≡ empty_at deed.row) × (deed.at ≡ base.ptr) × (deed.len ≡ len) × (deed.alloc ≡ a)
