@@ -47,7 +47,7 @@ pub record IsBegun (g : TaskGraph) (t : ℕ) (inputs : List (List ℤ)) : Type 0
   pub right : AreInputs g t inputs
 
 -- what a finished task keeps: the value is the definition's
-pub record IsRun (g : TaskGraph) (t : ℕ) (made : List ℤ) (fed : ℕ) : Type 0 where
+pub record HasRun (g : TaskGraph) (t : ℕ) (made : List ℤ) (fed : ℕ) : Type 0 where
   pub known : t < g.tasks
   pub right : value_of g t ≡ Some made
   pub few : fed ≤ g.feeds t

@@ -7,6 +7,7 @@ use Rattle.tp_board.specs.Calls.{Appends}
 use Rattle.tp_board.specs.States.{BoardState}
 use Rattle.tp_graph.specs.Carried.{Begun}
 use Rattle.tp_node.specs.Nodes.{NodeState, begun_with, event_of}
+use Rattle.tp_slots.specs.Content.{front}
 use Rattle.tp_store.specs.Content.{counts_of, values_of}
 
 -- some lists as one
@@ -18,6 +19,10 @@ module _ {G : Type 0} where
   -- how many of the node's tasks are ready
   abbrev pub ready_count : NodeState G → ℕ
   ready_count n = (counts_of n.state.store).ready
+
+  -- its next ready task, where there is one
+  abbrev pub next_task : NodeState G → Option TaskId
+  next_task n = front n.state.store.ready
 
   -- its next k ready tasks: by class, the lowest first, and in each class as its list has them
   abbrev pub next_ready : ℕ → NodeState G → List TaskId

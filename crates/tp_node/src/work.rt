@@ -90,13 +90,13 @@ pub struct Finished<G: Graph> {
 }
 
 impl<G: Graph> Model for Finished<G> {
-    ghost use Rattle.tp_graph.specs.Carried.{Ran, IsRun};
+    ghost use Rattle.tp_graph.specs.Carried.{Ran, HasRun};
 
     ghost Value = { Ran G };
 
     ghost view = { λ f. record { graph = f.graph; task = f.task; value = f.value; fed = f.fed } };
 
-    ghost invariant = { λ f. IsRun (G.meaning f.graph) f.task.0 f.value f.fed };
+    ghost invariant = { λ f. HasRun (G.meaning f.graph) f.task.0 f.value f.fed };
 }
 
 impl<G: Graph> Finished<G> {

@@ -284,15 +284,9 @@ module _ {V : Type 0} where
           → IsTask (record { life = supplied life; arity = x.arity; class = x.class; values = set x.values slot (Some value) }) × (has_begun (supplied life) ≡ false)
       go (Waiting k) e m some =
           let was : is_none (get_or x.values slot None) ≡ true = ap is_none free in
-          let count = rw was at (sum_by-set (λ (o : Option V). cond (is_none o) 1 0) x.values slot (Some value) None (omega (arith, m.0))) in (
-            record {
-              arity = is.arity;
-              class = is.class;
-              lacks = lacks_life (k - 1);
-              slots = rw (not_begun_life (k - 1)) (length-set x.values slot (Some value) ∙ m.0, rw (lacking_life (k - 1)) (omega (arith, count, m.1)));
-            },
-            not_begun_life (k - 1),
-          )
+          let count = rw was at (sum_by-set (λ (o : Option V). cond (is_none o) 1 0) x.values slot (Some value) None (omega (arith, m.0))) in
+          let slots = rw (not_begun_life (k - 1)) (length-set x.values slot (Some value) ∙ m.0, rw (lacking_life (k - 1)) (omega (arith, count, m.1))) in
+          (record { arity = is.arity; class = is.class; lacks = lacks_life (k - 1); slots = slots }, not_begun_life (k - 1))
       go Ready e m some = cc
       go Running e m some = cc
       go Over e m some = cc
@@ -335,10 +329,8 @@ module _ {V A : Type 0} {parts : Parts V A} (kept : IsKept parts) {s : Content V
       let same = same_count kept t stands k.0 k.1.at (item t x) in
       let was_one : one is_unfinished (Some k.0.life) ≡ 1 = rw (waiting_unfinished k.0.life k.1.waits) refl in
       let all = listed kept parts.index t p x (Some k.0.life) (λ q apart. refl) stands (own kept t stands) (only kept t stands) (idle_with_item parts.places p (item t x) k.1.idle)
-      (life_is kept t stands k.0 k.1.at)
-      (subst (NotReady {V = V}) (sym (task_is kept t stands k.0 k.1.at)) (waiting k.0 k.1.waits)) next.0 next.1 (omega (arith, same, was_one)) (omega (arith, same, kept.within))
-      (omega (arith, same, kept.space))
-      (unfinished (content_of parts)) (omega (arith, was_one)) in
+      (life_is kept t stands k.0 k.1.at) (subst (NotReady {V = V}) (sym (task_is kept t stands k.0 k.1.at)) (waiting k.0 k.1.waits)) next.0 next.1 (omega (arith, same, was_one)) (omega (arith, same, kept.within))
+      (omega (arith, same, kept.space)) (unfinished (content_of parts)) (omega (arith, was_one)) in
       rw (at_item _ _ _ k.1.at placed, at_item _ _ _ k.1.at moved) (record {
         content = all.content ∙ ap (λ v. with_task v t x) view ∙ ap (λ o. with_task s t (with_value (unwrap_or o (fresh arity class)) slot value)) (sym k.1.known);
         count = all.count ∙ ap unfinished view;
@@ -497,13 +489,9 @@ module _ {V A : Type 0} {parts : Parts V A} (kept : IsKept parts) {s : Content V
     some_held = omega (arith, some_counted is_unfinished (content_of parts) t i.task (task_is kept t stands i.task at) (rw runs refl) refl, kept.held)
 
     pub can_finish : slots.IsIdle parts.places p × IsSome (lookup parts.index t.0) × (vec_len parts.results < vec_capacity parts.results) × IsCounted (Some Running) parts.counts
-    can_finish = (
-      alone,
-      room_under parts.index t.0 (Live p) stands,
-      omega (arith, some_held, kept.space),
-      subst (λ (l : Life). IsCounted (Some l) parts.counts) runs
-          (counted kept t stands i.task at),
-    )
+    can_finish =
+        let is_counted = subst (λ (l : Life). IsCounted (Some l) parts.counts) runs (counted kept t stands i.task at) in
+        (alone, room_under parts.index t.0 (Live p) stands, omega (arith, some_held, kept.space), is_counted)
 
     pub done_all : (d : slots.Content (Item V)) (new : Entries) (after : Vec (TaskId × V) A) (value : V) (entry : Entry) → d ≡ slots.without_item parts.places p
         → entry ≡ Done i.task.arity i.task.class

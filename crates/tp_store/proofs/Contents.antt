@@ -34,8 +34,7 @@ module _ {X : Type 0} where
   -- the front stands first in some list
   pub front_place : (rs : List (List X)) (x : X) → front rs ≡ Some x → (k : ℕ) × (later : List X) × (k < length rs) × (get_or rs k [] ≡ x ∷ later) × (without_front rs ≡ set rs k later)
   front_place [] x e = cc
-  front_place ([] ∷ rest) x e =
-      let at = front_place rest x e in (suc at.0, at.1, omega (arith, at.2), at.3, ap (λ l. [] ∷ l) at.4)
+  front_place ([] ∷ rest) x e = let at = front_place rest x e in (suc at.0, at.1, omega (arith, at.2), at.3, ap (λ l. [] ∷ l) at.4)
   front_place ((y ∷ later) ∷ rest) x e = let same : y ≡ x = cc in (0, later, omega arith, ap (λ z. z ∷ later) same, refl)
 
 pub is_itself : (t : TaskId) → is_task t t ≡ true
@@ -188,9 +187,7 @@ module _ {V : Type 0} where
       changed s t (begun x) (without_front s.ready) s.results sound
       (record { arity = task.arity; class = task.class; lacks = tt; slots = refl })
       (ap length at.4 ∙ length-set s.ready at.0 at.1 ∙ sound.four)
-      (λ class u apart. others class u apart)
-      (λ class. gone class)
-      (λ u apart. refl)
+      others gone (λ u apart. refl)
       (let no = (ready_not x.life ready) in sound.done t ∙ ap done_in known ∙ rw no refl)
     where
       at : (k : ℕ) × (later : List TaskId) × (k < length s.ready) × (get_or s.ready k [] ≡ t ∷ later) × (without_front s.ready ≡ set s.ready k later)
@@ -245,8 +242,7 @@ module _ {V : Type 0} where
       let task : IsTask x = rw known at (sound.tasks t) in
       changed s t (done x) s.ready (s.results ++ (t, value) ∷ []) sound
       (record { arity = task.arity; class = task.class; lacks = tt; slots = rw no.2 at task.slots })
-      sound.four
-      (λ class u apart. refl)
+      sound.four (λ class u apart. refl)
       (λ class. let none : ready_in (Some x) class ≡ 0 = rw no.0 refl in sound.ready class t ∙ ap (λ o. ready_in o class) known ∙ none)
       (λ u apart. let more = count-push (λ r. is_task u r.0) s.results (t, value) in grind (arith, nat_tests, more, is_other t u apart))
       (let none : done_in (Some x) ≡ 0 = rw no.1 refl in let was = sound.done t ∙ ap done_in known ∙ none in rw (is_itself t) at (count-push (λ r. is_task t r.0) s.results (t, value)) ∙ ap

@@ -1,7 +1,12 @@
-ghost use Rattle.std.specs.Prelude.{◌≡◌, ◌+◌, ◌++◌, ◌*◌, ◌<◌, ◌≤◌, IfErr, length, vec_len};
+ghost use Rattle.std.specs.Prelude.{◌≡◌, ◌+◌, ◌++◌, ◌*◌, ◌<◌, ◌≤◌, [], None, IfErr, IfNone, IfOk, MatchOption, OnErr, length, vec_len};
 ghost use Rattle.std.specs.Option.{option_to_list};
 ghost use Rattle.tp_base.specs.declared.refusal.Refusal.TheVariants.{NoMemory};
-ghost use Rattle.tp_node.specs.Begins.{ready_count};
+ghost use Rattle.tp_board.specs.Calls.{Answers, Appends};
+ghost use Rattle.tp_board.specs.States.{BoardState};
+ghost use Rattle.tp_node.specs.Begins.{next_task, ready_count};
+ghost use Rattle.tp_node.specs.Calls.{Begins};
+ghost use Rattle.tp_node.specs.Nodes.{NodeState};
+ghost use Rattle.tp_node.specs.Refused.{begin_checks};
 
 use std::alloc::Global;
 use tp_base::{MAX_STEPS, Refusal};
@@ -9,8 +14,41 @@ use tp_board::{Board, Ledgers};
 use tp_graph::Graph;
 use tp_node::{Node, Work};
 
-/// How many tasks begin in one hold at most.
-const MOST: u32 = 8;
+/// How the ready tasks of a node are shared out among its workers.
+#[derive(Clone, Copy)]
+pub(crate) struct Share {
+    // How many work at the node.
+    workers: u32,
+    // How many tasks begin in one hold at most.
+    most: u32,
+    ghost some_workers: { 1 ≤ workers },
+    ghost few: { (1 ≤ most) × (most ≤ 8) },
+}
+
+impl Share {
+    /// Up to 8 tasks begin at a time, so that the board's lock is taken less often. A worker that is alone in its pool waits
+    /// for nobody, and begins one at a time.
+    pub fn new(nodes: u32, workers: u32) -> Self
+        requires { 1 ≤ workers }
+    {
+        Share {
+            workers,
+            most: if nodes == 1 && workers == 1 { 1 } else { 8 },
+        }
+    }
+
+    /// A worker's share of so many ready tasks, at least 1, where the history has so many events. More than one are no more
+    /// than it has places left, so a history is full where it would be if one began at a time.
+    fn of_ready(self, ready: u32, events: usize) -> u32
+        requires { events ≤ 1048576 }
+        ensures few { (1 ≤ result) × (result ≤ self.most) }
+        ensures share { 1 < result → result * self.workers ≤ ready }
+        ensures places { 1 < result → events + result ≤ 1048576 }
+    {
+        let left = MAX_STEPS - events as u32;
+        (ready / self.workers).min(left).min(self.most).max(1)
+    }
+}
 
 /// What lies under a node's lock: the node, and the works that have begun and wait for a worker. Whoever is free takes the
 /// next one, whoever began it, so that none waits behind a long body while another worker of the node is idle.
@@ -49,6 +87,7 @@ impl<N: Drop, W: Drop> Desk<N, W> {
     pub fn take(&mut self) -> Option<W>
         ensures node { self.new.node ≡ self.old.node }
         ensures next { self.old.begun.items ≡ self.new.begun.items ++ option_to_list result }
+        ensures none { IfNone result (self.new.begun.items ≡ []) }
     {
         self.begun.pop()
     }
@@ -63,18 +102,26 @@ impl<G: Graph, K: Ledgers> Desk<Node<G, K>, Work<G>> {
         self.node.counts().ready as u64 + self.begun.len() as u64
     }
 
-    /// Begins a worker's share of the node's ready tasks, and takes the first of them. The desk has to be empty, so that
-    /// works are taken in the order in which they began.
+    /// Begins a worker's share of the node's ready tasks, and takes the first of them; `None` where no task is ready. No work
+    /// may wait, so that works are taken in the order in which they began.
+    ///
+    /// Refused, where a task is ready: `HistoryFull` where the history has reached its limit; `NoMemory`. Nothing changes then.
     #[inline(always)]
     pub(crate) fn begin(
         &mut self,
         board: &mut Board<K>,
-        workers: u32,
+        share: Share,
     ) -> Result<Option<Work<G>>, Refusal>
-        requires { 1 ≤ workers }
+        requires empty { self.old.begun.items ≡ [] }
+        ensures none { next_task self.old.node ≡ None → result ≡ Ok None }
+        // The work is the one that the node begins first.
+        ensures first { IfOk result (λ work. MatchOption work (next_task self.old.node ≡ None)
+            (λ first. (middle : NodeState G) × (between : BoardState) × Begins self.old.node middle board.old between first)) }
+        ensures refusal { MatchOption (next_task self.old.node) (Unit {0}) (λ t. Answers (begin_checks board.old) result) }
+        ensures refused { OnErr result (Appends [] board.old board.new × (self.new ≡ self.old)) }
         ensures full { board.old.limit ≡ 1048576 → length board.old.history < 1048576 → IfErr result (λ e. e ≡ NoMemory) }
     {
-        let share = share_of(self.node.counts().ready, workers, board.len());
+        let share = share.of_ready(self.node.counts().ready, board.len());
         let begun = self.node.begin(board)?;
         if share > 1 {
             self.begin_more(board, share - 1);
@@ -95,16 +142,4 @@ impl<G: Graph, K: Ledgers> Desk<Node<G, K>, Work<G>> {
         }
         self.begun.as_mut_slice().reverse();
     }
-}
-
-/// A worker's share of the ready tasks of a node, 1 to 8, where the history has so many events. More than one are no more
-/// than it has places left, so a history is full where it would be if one began at a time.
-fn share_of(ready: u32, workers: u32, events: usize) -> u32
-    requires { (1 ≤ workers) × (events ≤ 1048576) }
-    ensures few { (1 ≤ result) × (result ≤ 8) }
-    ensures share { 1 < result → result * workers ≤ ready }
-    ensures places { 1 < result → events + result ≤ 1048576 }
-{
-    let left = MAX_STEPS - events as u32;
-    (ready / workers).min(left).min(MOST).max(1)
 }

@@ -61,7 +61,7 @@ pub fn finish<G: Graph, K: Ledgers>(
 
 /// Empty lists with room for all that is gathered.
 #[derive(Drop)]
-struct Room<K: Ledgers> {
+struct ReportRoom<K: Ledgers> {
     shares: Vec<Shares<K>>,
     links: Vec<LinkShare<K>>,
     results: Vec<(TaskId, Value)>,
@@ -71,7 +71,7 @@ fn room_for<G: Graph, K: Ledgers>(
     alloc: Global,
     nodes: &Vec<Node<G, K>>,
     links: &Vec<Wire<G, K>>,
-) -> Result<Room<K>, AllocError>
+) -> Result<ReportRoom<K>, AllocError>
     ensures shares { IfOk result (λ r. (r.shares.items ≡ []) × (vec_len nodes.now ≤ vec_capacity r.shares)) }
     ensures links { IfOk result (λ r. (r.links.items ≡ []) × (vec_len links.now ≤ vec_capacity r.links)) }
     ensures results { IfOk result (λ r. (r.results.items ≡ []) × (sum_by (λ n. length n.state.store.results) nodes.now.items ≤ vec_capacity r.results)) }
@@ -79,7 +79,7 @@ fn room_for<G: Graph, K: Ledgers>(
     let Some(count) = count_results(nodes) else {
         return Err(AllocError);
     };
-    Ok(Room {
+    Ok(ReportRoom {
         shares: Vec::with_capacity(alloc, nodes.len())?,
         links: Vec::with_capacity(alloc, links.len())?,
         results: Vec::with_capacity(alloc, count)?,
@@ -97,7 +97,7 @@ fn count_results<G: Graph, K: Ledgers>(nodes: &Vec<Node<G, K>>) -> Option<usize>
     Some(count)
 }
 
-fn gather<G: Graph, K: Ledgers>(pool: Pool<G, K>, room: Room<K>) -> Report
+fn gather<G: Graph, K: Ledgers>(pool: Pool<G, K>, room: ReportRoom<K>) -> Report
     requires nodes { vec_len pool.nodes ≡ K.names.nodes }
     requires links { vec_len pool.links ≡ K.names.nodes * (K.names.nodes - 1) }
     requires room_for_shares { (room.shares.items ≡ []) × (vec_len pool.nodes ≤ vec_capacity room.shares) }
@@ -113,7 +113,7 @@ fn gather<G: Graph, K: Ledgers>(pool: Pool<G, K>, room: Room<K>) -> Report
         links: wires,
         board,
     } = pool;
-    let Room {
+    let ReportRoom {
         mut shares,
         mut links,
         mut results,

@@ -5,6 +5,7 @@ ghost use Rattle.tp_work.specs.Lives.{LivesOnce};
 ghost use Rattle.tp_work.specs.Reports.{IsReport};
 
 use crate::config::{Config, Fault, Outcome};
+use crate::desk::Share;
 use crate::gate::Gate;
 use crate::gathered::{Report, finish};
 use crate::lives::each_lives;
@@ -196,7 +197,7 @@ fn start_workers<G: Comparable, K: Ledgers + Send + Sync, A: Gate, R: Threads + 
         alloc,
         graph,
         place: NodeId(0),
-        workers: config.workers,
+        share: Share::new(config.nodes, config.workers),
         idle_turns: config.idle_turns,
         locks,
         gate,

@@ -1,9 +1,9 @@
-ghost use Rattle.std.specs.Prelude.{◌≡◌, ◌≤◌, OnOk};
+ghost use Rattle.std.specs.Prelude.{◌≡◌, OnOk};
 
 mod passing;
 mod receiving;
 
-use crate::desk::NodeDesk;
+use crate::desk::{NodeDesk, Share};
 use crate::gate::Gate;
 use crate::locks::{Locks, Site, lock_soon};
 use std::alloc::Global;
@@ -29,12 +29,11 @@ pub(crate) struct Worker<'a, G: Graph, K: Ledgers, A: Gate, R: Wait> {
     pub alloc: Global,
     pub graph: G,
     pub place: NodeId,
-    /// How many work at its node.
-    pub workers: u32,
+    /// How it shares its node's ready tasks with the others there.
+    pub share: Share,
     pub idle_turns: u32,
     pub locks: &'a Locks<G, K>,
     pub gate: &'a A,
-    ghost some_workers: { 1 ≤ workers },
 }
 
 /// What a turn did.
@@ -67,7 +66,7 @@ impl<'a, G: Comparable, K: Ledgers, A: Gate, R: Wait> Worker<'a, G, K, A, R> {
             alloc: self.alloc,
             graph: self.graph,
             place,
-            workers: self.workers,
+            share: self.share,
             idle_turns: self.idle_turns,
             locks: self.locks,
             gate: self.gate,
@@ -228,7 +227,7 @@ impl<'a, G: Comparable, K: Ledgers, A: Gate, R: Wait> Worker<'a, G, K, A, R> {
             return Ok(Some(work));
         }
         let mut board = lock_soon(self.rt, &self.locks.board);
-        desk.begin(&mut board, self.workers)
+        desk.begin(&mut board, self.share)
     }
 
     /// Makes a control step, where the node can make one.
