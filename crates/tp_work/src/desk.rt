@@ -1,11 +1,8 @@
-ghost use Rattle.std.specs.Prelude.{◌≡◌, ◌+◌, ◌++◌, ◌*◌, ◌<◌, ◌≤◌, [], None, IfErr, IfNone, IfOk, MatchOption, OnErr, length, vec_len};
+ghost use Rattle.std.specs.Prelude.{◌≡◌, ◌+◌, ◌++◌, ◌*◌, ◌<◌, ◌≤◌, [], None, Some, IfErr, IfNone, IfOk, MatchOption, OnErr, length, vec_len};
 ghost use Rattle.std.specs.Option.{option_to_list};
 ghost use Rattle.tp_base.specs.declared.refusal.Refusal.TheVariants.{NoMemory};
 ghost use Rattle.tp_board.specs.Calls.{Answers, Appends};
-ghost use Rattle.tp_board.specs.States.{BoardState};
 ghost use Rattle.tp_node.specs.Begins.{next_task, ready_count};
-ghost use Rattle.tp_node.specs.Calls.{Begins};
-ghost use Rattle.tp_node.specs.Nodes.{NodeState};
 ghost use Rattle.tp_node.specs.Refused.{begin_checks};
 
 use std::alloc::Global;
@@ -114,9 +111,7 @@ impl<G: Graph, K: Ledgers> Desk<Node<G, K>, Work<G>> {
     ) -> Result<Option<Work<G>>, Refusal>
         requires empty { self.old.begun.items ≡ [] }
         ensures none { next_task self.old.node ≡ None → result ≡ Ok None }
-        // The work is the one that the node begins first.
-        ensures first { IfOk result (λ work. MatchOption work (next_task self.old.node ≡ None)
-            (λ first. (middle : NodeState G) × (between : BoardState) × Begins self.old.node middle board.old between first)) }
+        ensures first { IfOk result (λ work. MatchOption work (next_task self.old.node ≡ None) (λ first. next_task self.old.node ≡ Some first.task)) }
         ensures refusal { MatchOption (next_task self.old.node) (Unit {0}) (λ t. Answers (begin_checks board.old) result) }
         ensures refused { OnErr result (Appends [] board.old board.new × (self.new ≡ self.old)) }
         ensures full { board.old.limit ≡ 1048576 → length board.old.history < 1048576 → IfErr result (λ e. e ≡ NoMemory) }
