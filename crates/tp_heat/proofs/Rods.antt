@@ -13,6 +13,11 @@ swept-length : (l : ℤ) (xs : List ℤ) (r : ℤ) → length (sweep l xs r) ≡
 swept-length l [] r = refl
 swept-length l (x ∷ xs) r = ap suc (swept-length x xs r)
 
+-- a rod keeps its length
+pub evolved-length : (steps : ℕ) (cells : List ℤ) → length (evolve steps cells) ≡ length cells
+evolved-length zero cells = refl
+evolved-length (suc steps) cells = swept-length (pos 0) (evolve steps cells) (pos 0) ∙ evolved-length steps cells
+
 first-of : (n : ℕ) (xs : List ℤ) (r : ℤ) → first_or r xs ≡ first_or (first_or r (drop n xs)) (take n xs)
 first-of zero xs r = refl
 first-of (suc n) [] r = refl
@@ -116,10 +121,6 @@ right-part blocks size b slot xs inputs h =
     (lt-tells (b + 1) blocks)
 
 module _ (cells : List ℤ) (blocks size steps : ℕ) (kept : IsHeat blocks size steps (length cells)) where
-  evolved-length : (r : ℕ) → length (evolve r cells) ≡ length cells
-  evolved-length zero = refl
-  evolved-length (suc r) = swept-length (pos 0) (evolve r cells) (pos 0) ∙ evolved-length r
-
   known : (r b : ℕ) → r ≤ steps → b < blocks → r * blocks + b < (steps + 1) * blocks
   known r b h p = omega (arith, mul-add-lt r blocks b (steps + 1) (omega arith) p)
 
@@ -154,7 +155,7 @@ module _ (cells : List ℤ) (blocks size steps : ℕ) (kept : IsHeat blocks size
       ∙ ap (λ z. sweep z (get_or made.0 (to_left b) []) (if nat_lt 0 (to_right blocks b) then first_or (pos 0) (get_or made.0 (to_left b + 1) []) else pos 0)) (left-part size b xs made.0 lower)
       ∙ ap (λ z. sweep (left size b xs) z (if nat_lt 0 (to_right blocks b) then first_or (pos 0) (get_or made.0 (to_left b + 1) []) else pos 0)) own
       ∙ ap (sweep (left size b xs) (block_of size b xs)) (right-part blocks size b (to_left b + 1) xs made.0 upper)
-      ∙ sym (block_swept blocks size steps (length cells) kept xs b (evolved-length r) p)
+      ∙ sym (block_swept blocks size steps (length cells) kept xs b (evolved-length r cells) p)
 
   -- one more block of the rod at its end
   pub rod_more : (nr_blocks nr_steps b : ℕ) (value made : List ℤ) → nr_blocks ≡ blocks → nr_steps ≡ steps → b < nr_blocks →
@@ -167,5 +168,5 @@ module _ (cells : List ℤ) (blocks size steps : ℕ) (kept : IsHeat blocks size
 
   pub rod_all : (nr_blocks b : ℕ) (made : List ℤ) → nr_blocks ≡ blocks → nr_blocks ≤ b → made ≡ take (b * size) (evolve steps cells) → made ≡ evolve steps cells
   rod_all nr_blocks b made n h e =
-      let past : length (evolve steps cells) ≤ b * size = omega (arith, evolved-length steps, kept.whole, mul-le blocks size b size (omega (arith, n, h)) (omega arith)) in
+      let past : length (evolve steps cells) ≤ b * size = omega (arith, evolved-length steps cells, kept.whole, mul-le blocks size b size (omega (arith, n, h)) (omega arith)) in
       e ∙ take_all (b * size) (evolve steps cells) past
