@@ -1,6 +1,8 @@
 -- Steps of a rod, taken in parts.
 use Rattle.std.proofs.lemmas.Nat.{div-add-mod', mul-le}
-use Rattle.std.proofs.Common.{◌≡◌, ◌+◌, ◌*◌, ◌/◌, ◌%◌, ◌≤◌, ◌-◌, ℕ, zero, suc, ℤ, pos, List, ap, ◌∙◌, arith}
+use Rattle.std.proofs.Common.{◌≡◌, ◌+◌, ◌*◌, ◌/◌, ◌%◌, ◌<◌, ◌≤◌, ◌-◌, ℕ, zero, suc, ℤ, pos, List, min, max, ap, ◌∙◌, ⊎_elim, arith}
+use Rattle.std.proofs.Math.Nat.{min-le_left}
+use Rattle.std.proofs.lemmas.Bool.{cases_lt}
 use Rattle.tp_heat.specs.Heats.{evolve, sweep}
 
 -- so many steps, and then so many more
@@ -16,10 +18,18 @@ part_more steps left part rod next cells h k before is =
     let e : steps - left + part ≡ steps - (left - part) = omega arith in
     is ∙ ap (evolve part) before ∙ evolve-on (steps - left) part cells ∙ ap (λ m. evolve m cells) e
 
--- as many steps as a division gives fit
-pub planned_fit : (first row steps : ℕ) → 1 ≤ row → 1 ≤ steps → steps ≤ (1000000 - first) / row → first + steps * row ≤ 1048576
-planned_fit first row steps some one h =
+-- the steps that are planned fit
+pub planned_fit : (first row kept : ℕ) → 1 ≤ row → first + row ≤ 1048576 → first + max (min ((1000000 - first) / row) kept) 1 * row ≤ 1048576
+planned_fit first row kept some one =
     let whole : (1000000 - first) / row * row + (1000000 - first) % row ≡ 1000000 - first = div-add-mod' (1000000 - first) row in
-    let least : 1 * row ≤ steps * row = mul-le 1 row steps row one (omega arith) in
-    let most : steps * row ≤ (1000000 - first) / row * row = mul-le steps row ((1000000 - first) / row) row h (omega arith) in
-    omega (arith, whole, least, most, some)
+    let few : min ((1000000 - first) / row) kept ≤ (1000000 - first) / row = min-le_left ((1000000 - first) / row) kept in
+    ⊎_elim
+    (λ (h : min ((1000000 - first) / row) kept < 1).
+    let is : max (min ((1000000 - first) / row) kept) 1 ≡ 1 = omega (arith, h) in
+    rw is (omega (arith, one)))
+    (λ (h : 1 ≤ min ((1000000 - first) / row) kept).
+    let is : max (min ((1000000 - first) / row) kept) 1 ≡ min ((1000000 - first) / row) kept = omega (arith, h) in
+    let most : min ((1000000 - first) / row) kept * row ≤ (1000000 - first) / row * row = mul-le _ row _ row few (omega arith) in
+    let least : 1 * row ≤ min ((1000000 - first) / row) kept * row = mul-le 1 row _ row h (omega arith) in
+    rw is (omega (arith, whole, least, most, some)))
+    (cases_lt (min ((1000000 - first) / row) kept) 1)

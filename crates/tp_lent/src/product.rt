@@ -1,4 +1,5 @@
-ghost use Rattle.std.specs.Prelude.{◌≡◌, IfOk};
+ghost use Rattle.std.specs.Prelude.{◌≡◌, MatchResult};
+ghost use Rattle.tp_lent.specs.Refusals.{IsProductRefusal};
 ghost use Rattle.tp_matrix.specs.Matrices.{product_of};
 ghost use Rattle.tp_work.specs.Outcomes.{IsWithinLimits};
 
@@ -22,7 +23,9 @@ pub fn run_product<R: Threads + Wait + Sync>(
     config: Config,
 ) -> Result<Vec<i64>, Refusal>
     requires { IsWithinLimits config }
-    ensures { IfOk result (λ made. made.items ≡ product_of order left.now right.now) }
+    ensures { MatchResult result
+        (λ made. made.items ≡ product_of order left.now right.now)
+        (IsProductRefusal config.nodes left.now right.now order side) }
 {
     let Some(product) = Product::new(left, right, order, side) else {
         return Err(Refusal::BadSpec);

@@ -1,7 +1,8 @@
-ghost use Rattle.std.specs.Prelude.{◌≡◌, ◌≤◌, ◌<◌, ◌+◌, ◌*◌, ◌⊎◌, IfOk, MatchOption};
+ghost use Rattle.std.specs.Prelude.{◌≡◌, ◌≤◌, ◌+◌, ◌-◌, ◌*◌, ◌/◌, max, min, MatchOption, MatchResult};
 ghost use Rattle.tp_base.specs.declared.limits.TheConstants.{MAX_STEPS};
-ghost use Rattle.tp_heat.specs.Heats.{blocks_of, evolve};
-ghost use Rattle.tp_lent.specs.Events.{heat_events, row_inputs, row_messages};
+ghost use Rattle.tp_heat.specs.Heats.{evolve};
+ghost use Rattle.tp_lent.specs.Events.{TakeNoStep, TakeSteps, step_events};
+ghost use Rattle.tp_lent.specs.Refusals.{IsHeatRefusal, IsPartRefusal};
 ghost use Rattle.tp_work.specs.Outcomes.{IsWithinLimits};
 
 use std::alloc::Global;
@@ -22,7 +23,7 @@ pub fn run_heat<R: Threads + Wait + Sync>(
     config: Config,
 ) -> Result<Vec<i64>, Refusal>
     requires { IsWithinLimits config }
-    ensures { IfOk result (λ rod. rod.items ≡ evolve steps cells.now) }
+    ensures { MatchResult result (λ rod. rod.items ≡ evolve steps cells.now) (IsHeatRefusal config.nodes cells.now size steps) }
 {
     let Some(heat) = Heat::new(cells, size, steps) else {
         return Err(Refusal::BadSpec);
@@ -43,8 +44,7 @@ const MOST_PLANNED: u64 = 1_000_000;
 /// events lets, and no more than keep some 16 million numbers. None where there is no cell, a block is of none, or the events
 /// of a single step are above the limit.
 pub fn steps_at_once(cells: u64, size: u32, nodes: u32) -> Option<u64>
-    ensures { MatchOption result ((cells ≡ 0) ⊎ ((size ≡ 0) ⊎ (MAX_STEPS < heat_events (blocks_of cells size) nodes 1)))
-        (λ steps. (1 ≤ steps) × (heat_events (blocks_of cells size) nodes steps ≤ MAX_STEPS)) }
+    ensures { MatchOption result (TakeNoStep cells size nodes) (TakeSteps cells size nodes) }
 {
     if cells == 0 || size == 0 {
         return None;
@@ -63,7 +63,7 @@ pub fn steps_at_once(cells: u64, size: u32, nodes: u32) -> Option<u64>
 /// The events of one step.
 fn row_events(blocks: u64, nodes: u32) -> u64
     requires { (1 ≤ blocks) × (blocks ≤ MAX_STEPS) }
-    ensures same { result ≡ row_inputs blocks + 2 * blocks + 3 * row_messages blocks nodes }
+    ensures same { result ≡ step_events blocks nodes }
     ensures some { (1 ≤ result) × (result ≤ 11 * MAX_STEPS) }
 {
     let messages = if 1 < nodes { 2 * blocks - 2 } else { 0 };
@@ -74,12 +74,11 @@ fn row_events(blocks: u64, nodes: u32) -> u64
 #[tactic(auto, using(crate::proofs::Parts::planned_fit))]
 fn planned_steps(first: u64, row: u64, kept: u64) -> u64
     requires { (1 ≤ row) × (first + row ≤ MAX_STEPS) }
-    ensures some { 1 ≤ result }
+    ensures same { result ≡ max (min ((1000000 - first) / row) kept) 1 }
     ensures fit { first + result * row ≤ MAX_STEPS }
 {
     let planned = MOST_PLANNED.saturating_sub(first) / row;
-    let steps = if planned < kept { planned } else { kept };
-    if steps < 1 { 1 } else { steps }
+    planned.min(kept).max(1)
 }
 
 /// Heat in a rod of some cells, after any number of steps, worked out by pools of threads one after the other, each over the
@@ -94,7 +93,7 @@ pub fn run_heat_in_parts<R: Threads + Wait + Sync>(
     config: Config,
 ) -> Result<Vec<i64>, Refusal>
     requires { IsWithinLimits config }
-    ensures { IfOk result (λ rod. rod.items ≡ evolve steps cells.items) }
+    ensures { MatchResult result (λ rod. rod.items ≡ evolve steps cells.items) (IsPartRefusal config.nodes cells.items size steps) }
 {
     let Some(most) = steps_at_once(cells.len() as u64, size, config.nodes) else {
         return Err(Refusal::BadSpec);

@@ -1,7 +1,7 @@
 use Rattle.tp_own.specs.Chains.{chain_graph}
 use Rattle.chain.proofs.run_chain.Goals as goal
 
-pub returns-in-Ok : goal.returns-in-Ok
-returns-in-Ok g c =
-    let outcome = c.in-Ok.ensures.outcome in
+pub returns-clause-values : goal.returns-clause-values
+returns-clause-values g c =
+    let outcome = c.in_ok-outcome.ensures.outcome in
     c.in_order.ensures.values (chain_graph c.args.length) c.args.length outcome.each_once outcome.right
