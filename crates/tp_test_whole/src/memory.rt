@@ -1,10 +1,8 @@
-ghost use Rattle.std.specs.Prelude.{◌≡◌};
-
-use crate::one_hand::{Pair, TREE};
+use crate::one_hand::{Pair, Play, Summary, TREE, played};
 use std::alloc::Global;
 use std::test::Fail;
 use tp_base::{ActionId, Refusal};
-use tp_board::{Blanks, Board, Brand, Ledgers};
+use tp_board::{Board, Ledgers};
 use tp_graph::{Graph, is_same};
 use tp_node::{Finished, Node, Turn, Wire};
 use tp_samples::Reduce;
@@ -239,65 +237,57 @@ fn done_once<K: Ledgers>(
     node.done(board, finished)
 }
 
-/// Runs a pool of two nodes to its end.
-fn run_pair<K: Ledgers, R: Eprint>(
-    rt: &R,
-    alloc: Global,
-    pair: &mut Pair<K>,
-) -> Result<(), Refusal> {
-    seed_all(rt, &mut pair.zero, &mut pair.board)?;
-    seed_all(rt, &mut pair.one, &mut pair.board)?;
-    act(rt, &mut pair.zero, &mut pair.board)?;
-    let Pair {
-        zero,
-        one,
-        there,
-        back,
-        board,
-    } = pair;
-    for _ in 0..100 {
-        if turn_of(rt, alloc, zero, back, there, board)?
-            || turn_of(rt, alloc, one, there, back, board)?
-        {
-            break;
+/// Runs a pool of two nodes to its end, and makes each call again where memory was refused.
+#[derive(Drop)]
+struct Again<'a, R: Eprint> {
+    rt: &'a R,
+}
+
+impl<'a, R: Eprint> Play for Again<'a, R> {
+    fn play<K: Ledgers>(
+        &mut self,
+        alloc: Global,
+        nodes: &mut [Node<Reduce, K>],
+        links: &mut [Wire<Reduce, K>],
+        board: &mut Board<K>,
+    ) -> Result<(), Refusal> {
+        let Pair {
+            zero,
+            one,
+            there,
+            back,
+            board,
+        } = Pair::of(nodes, links, board)?;
+        seed_all(self.rt, zero, board)?;
+        seed_all(self.rt, one, board)?;
+        act(self.rt, zero, board)?;
+        for _ in 0..100 {
+            if turn_of(self.rt, alloc, zero, back, there, board)?
+                || turn_of(self.rt, alloc, one, there, back, board)?
+            {
+                break;
+            }
         }
+        Ok(())
     }
-    Ok(())
 }
 
-/// What a pool of two nodes that was run to its end adds up to: what is pending, sent, received, under way and done,
-/// and whether the end was judged.
-type Sums = (u32, u32, u32, u32, u32, bool);
-
-fn played<K: Ledgers, R: Eprint>(rt: &R, alloc: Global, blanks: Blanks) -> Result<Sums, Refusal>
-    requires { (blanks ≡ K.names) × (blanks.nodes ≡ 2) }
-{
-    let mut pair = Pair::<K>::open(alloc, blanks, TREE)?;
-    run_pair(rt, alloc, &mut pair)?;
-    let report = pair.close(alloc)?;
-    Ok((
-        report.pending,
-        report.sent,
-        report.received,
-        report.under,
-        report.done,
-        report.ended,
-    ))
-}
-
-fn played_once<R: Eprint>(rt: &R, alloc: Global) -> Result<Sums, Refusal> {
-    played::<Brand, R>(rt, alloc, Blanks::new(2))
+fn played_once<R: Eprint>(rt: &R, alloc: Global) -> Result<Summary, Refusal> {
+    played(alloc, TREE, &mut Again { rt })
 }
 
 #[test]
 fn a_node_refused_memory_is_as_before(rt: HostRuntime) -> Result<(), Fail> {
-    let sums = match played_once(&rt, rt.alloc()) {
+    let made = match played_once(&rt, rt.alloc()) {
         Err(Refusal::NoMemory) => {
             say(&rt, "open_pool, Node::deliver or finish");
             played_once(&rt, rt.alloc())?
         }
-        sums => sums?,
+        made => made?,
     };
-    assert_eq!(rt; sums, (0, 3, 3, 0, 7, true));
+    assert_eq!(rt;
+        (made.numbers, made.done, made.ended),
+        ((0, 3, 3, 0), 7, true)
+    );
     Ok(())
 }
