@@ -92,7 +92,16 @@ fn batch_at(alloc: Global, limit: u32) -> Result<Batch, Refusal>
 // Sixteen insertions and one step that closes the opening action: 17 events.
 #[test]
 fn eight_tasks_begin_in_one_call(rt: HostRuntime) -> Result<(), Fail> {
-    let first_eight = [0, 1, 2, 3, 4, 5, 6, 7].map(|task| Some(task));
+    let first_eight = [
+        Some(0),
+        Some(1),
+        Some(2),
+        Some(3),
+        Some(4),
+        Some(5),
+        Some(6),
+        Some(7),
+    ];
     for limit in [25, 1_048_576] {
         let made = batch_at(rt.alloc(), limit)?;
         assert_eq!(rt; made.before, (16, 16, 0, 17), "{limit}");

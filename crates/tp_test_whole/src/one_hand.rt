@@ -1,11 +1,12 @@
-ghost use Rattle.std.specs.Prelude.{◌≡◌, ◌≤◌, vec_len, IfOk};
+ghost use Rattle.std.specs.Prelude.{◌≡◌, ◌≤◌, vec_len, IfOk, MatchOption};
+ghost use Rattle.tp_node.specs.Nodes.{HasBrought};
 
 use std::alloc::Global;
 use std::process::Abort;
 use std::test::Fail;
 use tp_base::{ActionId, Refusal};
 use tp_board::{Blanks, Board, Brand, Ledgers};
-use tp_graph::{Comparable, is_same};
+use tp_graph::{Comparable, Parcel, is_same};
 use tp_node::{Finished, Node, Pool, Turn, Wire, open_pool};
 use tp_samples::Reduce;
 use tp_work::{Report, finish};
@@ -182,16 +183,28 @@ pub(crate) fn receive_one<G: Comparable, K: Ledgers>(
     wire: &mut Wire<G, K>,
     board: &mut Board<K>,
 ) -> Result<bool, Refusal> {
-    if wire.to() != node.number() {
-        return Err(Refusal::NoNode);
-    }
-    let Some(parcel) = node.receive(wire, board)? else {
+    let Some(parcel) = receive(node, wire, board)? else {
         return Ok(false);
     };
     match node.deliver(board, parcel) {
         Ok(()) => Ok(true),
         Err((refusal, _)) => Err(refusal),
     }
+}
+
+/// Receives a message from a wire that leads here.
+pub(crate) fn receive<G: Comparable, K: Ledgers>(
+    node: &mut Node<G, K>,
+    wire: &mut Wire<G, K>,
+    board: &mut Board<K>,
+) -> Result<Option<Parcel<G>>, Refusal>
+    ensures graph { IfOk result (λ parcel. MatchOption parcel (Unit {0}) (λ it. it.graph ≡ node.new.graph)) }
+    ensures brought { IfOk result (λ parcel. MatchOption parcel (Unit {0}) (HasBrought (G.meaning node.new.graph) node.new)) }
+{
+    if wire.to() != node.number() {
+        return Err(Refusal::NoNode);
+    }
+    node.receive(wire, board)
 }
 
 /// Begins a task, runs it, passes its one feed on and records it as done.
@@ -216,13 +229,22 @@ pub(crate) fn hand_in<G: Comparable, K: Ledgers>(
 ) -> Result<bool, Refusal> {
     let mut finished = finished;
     pass_on(node, wire, board, &mut finished)?;
-    if !is_same(&finished.graph(), &node.graph()) || !finished.all_fed() {
-        return Err(Refusal::Stranger);
-    }
-    match node.done(board, finished) {
+    match record(node, board, finished) {
         Ok(()) => Ok(true),
         Err((refusal, _)) => Err(refusal),
     }
+}
+
+/// Records a task as done whose feeds were all passed on.
+pub(crate) fn record<G: Comparable, K: Ledgers>(
+    node: &mut Node<G, K>,
+    board: &mut Board<K>,
+    finished: Finished<G>,
+) -> Result<(), (Refusal, Finished<G>)> {
+    if !is_same(&finished.graph(), &node.graph()) || !finished.all_fed() {
+        return Err((Refusal::Stranger, finished));
+    }
+    node.done(board, finished)
 }
 
 /// Begins a task and runs it.
@@ -241,7 +263,7 @@ pub(crate) fn run_body<G: Comparable, K: Ledgers>(
 }
 
 /// Passes the next feed on, to a task of the node or over the wire.
-fn pass_on<G: Comparable, K: Ledgers>(
+pub(crate) fn pass_on<G: Comparable, K: Ledgers>(
     node: &mut Node<G, K>,
     wire: &mut Wire<G, K>,
     board: &mut Board<K>,
@@ -355,7 +377,7 @@ impl Play for Planned {
         self.answers = Some(match self.plan {
             Plan::ToTheEnd => pair.run_to_the_end(alloc)?,
             Plan::FirstSend => pair.send_first(alloc)?,
-            Plan::Action => Answers::Acts(act(pair.zero, pair.board)),
+            Plan::Action => pair.act(),
         });
         Ok(())
     }
@@ -379,6 +401,10 @@ impl<'a, K: Ledgers> Pair<'a, K> {
         };
         pass_on(self.one, self.back, self.board, &mut finished)?;
         Ok(Answers::Sent(finished.all_fed()))
+    }
+
+    fn act(&mut self) -> Answers {
+        Answers::Acts(act(self.zero, self.board))
     }
 }
 
