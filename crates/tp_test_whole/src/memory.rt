@@ -13,7 +13,7 @@ use tp_samples::Reduce;
 // tools/refuse.sh refuses each growth of each of these tests in turn; docs/MEMORY.md has the table.
 
 /// What a node and the board hold, folded into one number, another one for other content but by chance.
-fn held<K: Ledgers>(node: &Node<Reduce, K>, board: &Board<K>) -> u64 {
+fn held<G: Graph, K: Ledgers>(node: &Node<G, K>, board: &Board<K>) -> u64 {
     let counts = node.counts();
     let folded = fold(1, u64::from(node.pending()));
     let folded = fold(folded, u64::from(node.sent()));
@@ -126,13 +126,13 @@ fn receive_one<K: Ledgers, R: Eprint>(
 }
 
 /// Delivers the value of a parcel. Where memory was refused and nothing was changed the pool is played again.
-fn deliver<K: Ledgers>(
-    node: &mut Node<Reduce, K>,
+fn deliver<G: Graph, K: Ledgers>(
+    node: &mut Node<G, K>,
     board: &mut Board<K>,
-    parcel: Parcel<Reduce>,
+    parcel: Parcel<G>,
 ) -> Result<bool, Refusal>
     requires graph { parcel.graph ≡ node.old.graph }
-    requires brought { HasBrought (Reduce.meaning node.old.graph) node.old parcel }
+    requires brought { HasBrought (G.meaning node.old.graph) node.old parcel }
 {
     let before = held(node, board);
     match node.deliver(board, parcel) {
