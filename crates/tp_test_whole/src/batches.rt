@@ -1,11 +1,11 @@
-ghost use Rattle.std.specs.Prelude.{◌≡◌, ◌≤◌};
+ghost use Rattle.std.specs.Prelude.{◌≤◌};
 
-use crate::one_hand::seed_all;
+use crate::one_hand::{Play, played_alone, seed_all};
 use std::alloc::Global;
 use std::test::Fail;
 use tp_base::Refusal;
-use tp_board::{Blanks, Board, Brand, Ledgers};
-use tp_node::{Node, Pool, open_pool};
+use tp_board::{Board, Ledgers};
+use tp_node::{Node, Wire};
 use tp_samples::Reduce;
 
 /// A tree of sixteen leaves.
@@ -61,31 +61,47 @@ fn begun_of<K: Ledgers>(
     Ok(tasks)
 }
 
-fn batch_within<K: Ledgers>(alloc: Global, blanks: Blanks, limit: u32) -> Result<Batch, Refusal>
-    requires names { (blanks ≡ K.names) × (blanks.nodes ≡ 1) }
-    requires limit { limit ≤ 1048576 }
-{
-    let Pool {
-        mut nodes,
-        links: _,
-        mut board,
-    } = open_pool::<Reduce, K>(alloc, blanks, TREE, 1, limit)?;
-    let Some(mut node) = nodes.pop() else {
-        unreachable!()
-    };
-    begin_eight(alloc, &mut node, &mut board)
+/// A batch, once it was made.
+#[derive(Drop)]
+struct Batched(Option<Batch>);
+
+impl Play for Batched {
+    fn play<K: Ledgers>(
+        &mut self,
+        alloc: Global,
+        nodes: &mut [Node<Reduce, K>],
+        _links: &mut [Wire<Reduce, K>],
+        board: &mut Board<K>,
+    ) -> Result<(), Refusal> {
+        if let Some(node) = nodes.first_mut() {
+            self.0 = Some(begin_eight(alloc, node, board)?);
+        }
+        Ok(())
+    }
 }
 
 fn batch_at(alloc: Global, limit: u32) -> Result<Batch, Refusal>
     requires { limit ≤ 1048576 }
 {
-    batch_within::<Brand>(alloc, Blanks::new(1), limit)
+    let mut play = Batched(None);
+    played_alone(alloc, TREE, limit, &mut play)?;
+    let Batched(batch) = play;
+    batch.ok_or(Refusal::Missing)
 }
 
 // Sixteen insertions and one step that closes the opening action: 17 events.
 #[test]
 fn eight_tasks_begin_in_one_call(rt: HostRuntime) -> Result<(), Fail> {
-    let first_eight = [0, 1, 2, 3, 4, 5, 6, 7].map(|task| Some(task));
+    let first_eight = [
+        Some(0),
+        Some(1),
+        Some(2),
+        Some(3),
+        Some(4),
+        Some(5),
+        Some(6),
+        Some(7),
+    ];
     for limit in [25, 1_048_576] {
         let made = batch_at(rt.alloc(), limit)?;
         assert_eq!(rt; made.before, (16, 16, 0, 17), "{limit}");

@@ -1,34 +1,33 @@
 ghost use Rattle.std.specs.Prelude.{◌≡◌};
+ghost use Rattle.tp_node.specs.Nodes.{HasBrought};
 
-use crate::one_hand::{Pair, TREE};
+use crate::one_hand::{Pair, Play, Summary, TREE, pass_on, played, receive, record};
 use std::alloc::Global;
 use std::test::Fail;
 use tp_base::{ActionId, Refusal};
-use tp_board::{Blanks, Board, Brand, Ledgers};
-use tp_graph::{Graph, is_same};
-use tp_node::{Finished, Node, Turn, Wire};
+use tp_board::{Board, Ledgers};
+use tp_graph::{Graph, Parcel};
+use tp_node::{Finished, Node, Turn, Wire, Work};
 use tp_samples::Reduce;
 
 // tools/refuse.sh refuses each growth of each of these tests in turn; docs/MEMORY.md has the table.
 
 /// What a node and the board hold, folded into one number, another one for other content but by chance.
-fn held<K: Ledgers>(node: &Node<Reduce, K>, board: &Board<K>) -> u64 {
+fn held<G: Graph, K: Ledgers>(node: &Node<G, K>, board: &Board<K>) -> u64 {
     let counts = node.counts();
-    let mut folded = 1u64;
-    for number in [
-        u64::from(node.pending()),
-        u64::from(node.sent()),
-        u64::from(node.received()),
-        u64::from(counts.waiting),
-        u64::from(counts.ready),
-        u64::from(counts.running),
-        node.results().len() as u64,
-        board.len() as u64,
-        u64::from(board.next_message().0),
-    ] {
-        folded = (folded ^ number).wrapping_mul(1_099_511_628_211);
-    }
-    folded
+    let folded = fold(1, u64::from(node.pending()));
+    let folded = fold(folded, u64::from(node.sent()));
+    let folded = fold(folded, u64::from(node.received()));
+    let folded = fold(folded, u64::from(counts.waiting));
+    let folded = fold(folded, u64::from(counts.ready));
+    let folded = fold(folded, u64::from(counts.running));
+    let folded = fold(folded, node.results().len() as u64);
+    let folded = fold(folded, board.len() as u64);
+    fold(folded, u64::from(board.next_message().0))
+}
+
+fn fold(folded: u64, number: u64) -> u64 {
+    (folded ^ number).wrapping_mul(1_099_511_628_211)
 }
 
 /// Makes a call of a node, and makes it again where memory was refused and nothing was changed.
@@ -120,16 +119,24 @@ fn receive_one<K: Ledgers, R: Eprint>(
     wire: &mut Wire<Reduce, K>,
     board: &mut Board<K>,
 ) -> Result<bool, Refusal> {
-    if wire.to() != node.number() {
-        return Err(Refusal::NoNode);
-    }
-    let Some(parcel) = again!(rt, "Node::receive", node, board, node.receive(wire, board)) else {
+    let Some(parcel) = again!(rt, "Node::receive", node, board, receive(node, wire, board)) else {
         return Ok(false);
     };
+    deliver(node, board, parcel)
+}
+
+/// Delivers the value of a parcel. Where memory was refused and nothing was changed the pool is played again.
+fn deliver<G: Graph, K: Ledgers>(
+    node: &mut Node<G, K>,
+    board: &mut Board<K>,
+    parcel: Parcel<G>,
+) -> Result<bool, Refusal>
+    requires graph { parcel.graph ≡ node.old.graph }
+    requires brought { HasBrought (G.meaning node.old.graph) node.old parcel }
+{
     let before = held(node, board);
     match node.deliver(board, parcel) {
         Ok(()) => Ok(true),
-        // the pool is played again
         Err((Refusal::NoMemory, _)) if held(node, board) != before => Err(Refusal::Missing),
         Err((refusal, _)) => Err(refusal),
     }
@@ -143,83 +150,66 @@ fn run_one<K: Ledgers, R: Eprint>(
     wire: &mut Wire<Reduce, K>,
     board: &mut Board<K>,
 ) -> Result<bool, Refusal> {
-    let Some(mut finished) = run_body(rt, alloc, node, board)? else {
+    let Some(work) = again!(rt, "Node::begin", node, board, node.begin(board)) else {
         return Ok(false);
     };
-    pass_on(rt, node, wire, board, &mut finished)?;
-    record(rt, node, board, finished)
-}
-
-/// Begins a task and runs it.
-fn run_body<K: Ledgers, R: Eprint>(
-    rt: &R,
-    alloc: Global,
-    node: &mut Node<Reduce, K>,
-    board: &mut Board<K>,
-) -> Result<Option<Finished<Reduce>>, Refusal> {
-    let Some(work) = again!(rt, "Node::begin", node, board, node.begin(board)) else {
-        return Ok(None);
-    };
-    match work.perform(alloc) {
-        Ok(finished) => Ok(Some(finished)),
-        Err((_, work)) => {
-            say(rt, "Work::perform");
-            match work.perform(alloc) {
-                Ok(finished) => Ok(Some(finished)),
-                Err((refusal, _)) => Err(refusal),
-            }
-        }
-    }
-}
-
-/// Passes the next feed on, to a task of the node or over the wire.
-fn pass_on<K: Ledgers, R: Eprint>(
-    rt: &R,
-    node: &mut Node<Reduce, K>,
-    wire: &mut Wire<Reduce, K>,
-    board: &mut Board<K>,
-    finished: &mut Finished<Reduce>,
-) -> Result<(), Refusal> {
-    let graph = node.graph();
-    if !is_same(&finished.graph(), &graph) || wire.from() != node.number() {
-        return Err(Refusal::Stranger);
-    }
-    let _passed = finished.fed();
-    if finished.all_fed() {
-        return Ok(());
-    }
-    let feed = finished.next_feed();
-    let home = graph.home(feed.target, node.nodes());
-    if home == node.number() {
-        again!(rt, "Node::feed", node, board, node.feed(board, finished));
-        return Ok(());
-    }
-    if home != wire.to() {
-        return Err(Refusal::NoNode);
-    }
+    let mut finished = perform(rt, alloc, work)?;
+    let way = way_of(node, &finished);
     again!(
         rt,
-        "Node::send",
+        way,
         node,
         board,
-        node.send(wire, board, finished)
+        pass_on(node, wire, board, &mut finished)
     );
-    Ok(())
+    record_again(rt, node, board, finished)
+}
+
+/// Runs the body of a task, and again where memory was refused.
+fn perform<R: Eprint>(
+    rt: &R,
+    alloc: Global,
+    work: Work<Reduce>,
+) -> Result<Finished<Reduce>, Refusal> {
+    let work = match work.perform(alloc) {
+        Ok(finished) => return Ok(finished),
+        Err((_, work)) => work,
+    };
+    say(rt, "Work::perform");
+    match work.perform(alloc) {
+        Ok(finished) => Ok(finished),
+        Err((refusal, _)) => Err(refusal),
+    }
+}
+
+/// The call that passes the next feed of a task on.
+fn way_of<K: Ledgers>(node: &Node<Reduce, K>, finished: &Finished<Reduce>) -> &'static str {
+    if finished.all_fed() {
+        return "no feed";
+    }
+    let home = finished
+        .graph()
+        .home(finished.next_feed().target, node.nodes());
+    if home == node.number() {
+        "Node::feed"
+    } else {
+        "Node::send"
+    }
 }
 
 /// Records a finished task as done, and again where memory was refused and nothing was changed.
-fn record<K: Ledgers, R: Eprint>(
+fn record_again<K: Ledgers, R: Eprint>(
     rt: &R,
     node: &mut Node<Reduce, K>,
     board: &mut Board<K>,
     finished: Finished<Reduce>,
 ) -> Result<bool, Refusal> {
     let before = held(node, board);
-    match done_once(node, board, finished) {
+    match record(node, board, finished) {
         Ok(()) => Ok(true),
         Err((Refusal::NoMemory, finished)) if held(node, board) == before => {
             say(rt, "Node::done");
-            match done_once(node, board, finished) {
+            match record(node, board, finished) {
                 Ok(()) => Ok(true),
                 Err((refusal, _)) => Err(refusal),
             }
@@ -228,76 +218,57 @@ fn record<K: Ledgers, R: Eprint>(
     }
 }
 
-fn done_once<K: Ledgers>(
-    node: &mut Node<Reduce, K>,
-    board: &mut Board<K>,
-    finished: Finished<Reduce>,
-) -> Result<(), (Refusal, Finished<Reduce>)> {
-    if !is_same(&finished.graph(), &node.graph()) || !finished.all_fed() {
-        return Err((Refusal::Stranger, finished));
-    }
-    node.done(board, finished)
+/// Runs a pool of two nodes to its end, and makes each call again where memory was refused.
+#[derive(Drop)]
+struct Again<'a, R: Eprint> {
+    rt: &'a R,
 }
 
-/// Runs a pool of two nodes to its end.
-fn run_pair<K: Ledgers, R: Eprint>(
-    rt: &R,
-    alloc: Global,
-    pair: &mut Pair<K>,
-) -> Result<(), Refusal> {
-    seed_all(rt, &mut pair.zero, &mut pair.board)?;
-    seed_all(rt, &mut pair.one, &mut pair.board)?;
-    act(rt, &mut pair.zero, &mut pair.board)?;
-    let Pair {
-        zero,
-        one,
-        there,
-        back,
-        board,
-    } = pair;
-    for _ in 0..100 {
-        if turn_of(rt, alloc, zero, back, there, board)?
-            || turn_of(rt, alloc, one, there, back, board)?
-        {
-            break;
+impl<'a, R: Eprint> Play for Again<'a, R> {
+    fn play<K: Ledgers>(
+        &mut self,
+        alloc: Global,
+        nodes: &mut [Node<Reduce, K>],
+        links: &mut [Wire<Reduce, K>],
+        board: &mut Board<K>,
+    ) -> Result<(), Refusal> {
+        let Pair {
+            zero,
+            one,
+            there,
+            back,
+            board,
+        } = Pair::of(nodes, links, board)?;
+        seed_all(self.rt, zero, board)?;
+        seed_all(self.rt, one, board)?;
+        act(self.rt, zero, board)?;
+        for _ in 0..100 {
+            if turn_of(self.rt, alloc, zero, back, there, board)?
+                || turn_of(self.rt, alloc, one, there, back, board)?
+            {
+                break;
+            }
         }
+        Ok(())
     }
-    Ok(())
 }
 
-/// What a pool of two nodes that was run to its end adds up to: what is pending, sent, received, under way and done,
-/// and whether the end was judged.
-type Sums = (u32, u32, u32, u32, u32, bool);
-
-fn played<K: Ledgers, R: Eprint>(rt: &R, alloc: Global, blanks: Blanks) -> Result<Sums, Refusal>
-    requires { (blanks ≡ K.names) × (blanks.nodes ≡ 2) }
-{
-    let mut pair = Pair::<K>::open(alloc, blanks, TREE)?;
-    run_pair(rt, alloc, &mut pair)?;
-    let report = pair.close(alloc)?;
-    Ok((
-        report.pending,
-        report.sent,
-        report.received,
-        report.under,
-        report.done,
-        report.ended,
-    ))
-}
-
-fn played_once<R: Eprint>(rt: &R, alloc: Global) -> Result<Sums, Refusal> {
-    played::<Brand, R>(rt, alloc, Blanks::new(2))
+fn played_once<R: Eprint>(rt: &R, alloc: Global) -> Result<Summary, Refusal> {
+    played(alloc, TREE, &mut Again { rt })
 }
 
 #[test]
 fn a_node_refused_memory_is_as_before(rt: HostRuntime) -> Result<(), Fail> {
-    let sums = match played_once(&rt, rt.alloc()) {
+    let made = match played_once(&rt, rt.alloc()) {
         Err(Refusal::NoMemory) => {
             say(&rt, "open_pool, Node::deliver or finish");
             played_once(&rt, rt.alloc())?
         }
-        sums => sums?,
+        made => made?,
     };
-    assert_eq!(rt; sums, (0, 3, 3, 0, 7, true));
+    assert_eq!(rt;
+        (made.numbers, made.done, made.ended),
+        ((0, 3, 3, 0), 7, true)
+    );
     Ok(())
 }

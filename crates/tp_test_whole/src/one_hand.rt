@@ -1,11 +1,12 @@
-ghost use Rattle.std.specs.Prelude.{◌≡◌, ◌≤◌};
+ghost use Rattle.std.specs.Prelude.{◌≡◌, ◌≤◌, vec_len, IfOk, MatchOption};
+ghost use Rattle.tp_node.specs.Nodes.{HasBrought};
 
 use std::alloc::Global;
 use std::process::Abort;
 use std::test::Fail;
 use tp_base::{ActionId, Refusal};
 use tp_board::{Blanks, Board, Brand, Ledgers};
-use tp_graph::{Comparable, is_same};
+use tp_graph::{Comparable, Parcel, is_same};
 use tp_node::{Finished, Node, Pool, Turn, Wire, open_pool};
 use tp_samples::Reduce;
 use tp_work::{Report, finish};
@@ -13,30 +14,117 @@ use tp_work::{Report, finish};
 /// A tree of four leaves: 0, 11, 22 and 33.
 pub(crate) const TREE: Reduce = Reduce { leaves: 4, seed: 0 };
 
-/// A pool of two nodes in one hand.
-#[derive(Drop)]
-pub(crate) struct Pair<K: Ledgers> {
-    pub(crate) zero: Node<Reduce, K>,
-    pub(crate) one: Node<Reduce, K>,
-    pub(crate) there: Wire<Reduce, K>,
-    pub(crate) back: Wire<Reduce, K>,
-    pub(crate) board: Board<K>,
+/// What is done with the parts of a pool, which are lent. What it comes to stays in the player, so that the one function
+/// that owns the pool has nothing else to drop.
+pub(crate) trait Play {
+    fn play<K: Ledgers>(
+        &mut self,
+        alloc: Global,
+        nodes: &mut [Node<Reduce, K>],
+        links: &mut [Wire<Reduce, K>],
+        board: &mut Board<K>,
+    ) -> Result<(), Refusal>;
 }
 
-impl<K: Ledgers> Pair<K> {
-    pub(crate) fn open(alloc: Global, blanks: Blanks, tree: Reduce) -> Result<Self, Refusal>
-        requires { (blanks ≡ K.names) × (blanks.nodes ≡ 2) }
-    {
-        let Pool {
-            mut nodes,
-            mut links,
-            board,
-        } = open_pool::<Reduce, K>(alloc, blanks, tree, 2, 1_048_576)?;
-        let (Some(one), Some(zero)) = (nodes.pop(), nodes.pop()) else {
-            unreachable!()
-        };
-        let (Some(back), Some(there)) = (links.pop(), links.pop()) else {
-            unreachable!()
+/// Opens a pool of two nodes, and plays.
+pub(crate) fn opened<K: Ledgers, P: Play>(
+    alloc: Global,
+    blanks: Blanks,
+    tree: Reduce,
+    play: &mut P,
+) -> Result<Pool<Reduce, K>, Refusal>
+    requires { (blanks ≡ K.names) × (blanks.nodes ≡ 2) }
+    ensures nodes { IfOk result (λ p. vec_len p.nodes ≡ 2) }
+    ensures links { IfOk result (λ p. vec_len p.links ≡ 2) }
+{
+    let mut pool = open_pool::<Reduce, K>(alloc, blanks, tree, 2, 1_048_576)?;
+    play.play(alloc, &mut pool.nodes, &mut pool.links, &mut pool.board)?;
+    Ok(pool)
+}
+
+/// Gathers a pool of two nodes, and once more where it comes back.
+fn gathered<K: Ledgers>(alloc: Global, pool: Pool<Reduce, K>) -> Result<Report, Refusal>
+    requires names { K.names.nodes ≡ 2 }
+    requires nodes { vec_len pool.nodes ≡ 2 }
+    requires links { vec_len pool.links ≡ 2 }
+{
+    match finish(alloc, pool) {
+        Ok(report) => Ok(report),
+        Err((_, pool)) => match finish(alloc, pool) {
+            Ok(report) => Ok(report),
+            Err((refusal, _)) => Err(refusal),
+        },
+    }
+}
+
+/// Opens a pool of two nodes, plays, and gathers the pool.
+fn played_by<K: Ledgers, P: Play>(
+    alloc: Global,
+    blanks: Blanks,
+    tree: Reduce,
+    play: &mut P,
+) -> Result<Report, Refusal>
+    requires { (blanks ≡ K.names) × (blanks.nodes ≡ 2) }
+{
+    let pool = opened::<K, P>(alloc, blanks, tree, play)?;
+    gathered(alloc, pool)
+}
+
+/// Plays with a pool of two nodes, and answers what it adds up to.
+pub(crate) fn played<P: Play>(
+    alloc: Global,
+    tree: Reduce,
+    play: &mut P,
+) -> Result<Summary, Refusal> {
+    let report = played_by::<Brand, P>(alloc, Blanks::new(2), tree, play)?;
+    Ok(Summary::of(&report))
+}
+
+/// Plays with a pool of one node, in a history of at most so many events.
+fn played_alone_by<K: Ledgers, P: Play>(
+    alloc: Global,
+    blanks: Blanks,
+    tree: Reduce,
+    limit: u32,
+    play: &mut P,
+) -> Result<(), Refusal>
+    requires names { (blanks ≡ K.names) × (blanks.nodes ≡ 1) }
+    requires limit { limit ≤ 1048576 }
+{
+    let mut pool = open_pool::<Reduce, K>(alloc, blanks, tree, 1, limit)?;
+    play.play(alloc, &mut pool.nodes, &mut pool.links, &mut pool.board)
+}
+
+/// Plays with a pool of one node, in a history of at most so many events.
+pub(crate) fn played_alone<P: Play>(
+    alloc: Global,
+    tree: Reduce,
+    limit: u32,
+    play: &mut P,
+) -> Result<(), Refusal>
+    requires { limit ≤ 1048576 }
+{
+    played_alone_by::<Brand, P>(alloc, Blanks::new(1), tree, limit, play)
+}
+
+/// The parts of a pool of two nodes.
+#[derive(Drop)]
+pub(crate) struct Pair<'a, K: Ledgers> {
+    pub(crate) zero: &'a mut Node<Reduce, K>,
+    pub(crate) one: &'a mut Node<Reduce, K>,
+    pub(crate) there: &'a mut Wire<Reduce, K>,
+    pub(crate) back: &'a mut Wire<Reduce, K>,
+    pub(crate) board: &'a mut Board<K>,
+}
+
+impl<'a, K: Ledgers> Pair<'a, K> {
+    pub(crate) fn of(
+        nodes: &'a mut [Node<Reduce, K>],
+        links: &'a mut [Wire<Reduce, K>],
+        board: &'a mut Board<K>,
+    ) -> Result<Self, Refusal> {
+        let ([zero, one], [there, back]) = (nodes, links) else {
+            return Err(Refusal::NoNode);
         };
         Ok(Pair {
             zero,
@@ -47,49 +135,16 @@ impl<K: Ledgers> Pair<K> {
         })
     }
 
-    pub(crate) fn close(self, alloc: Global) -> Result<Report, Refusal>
-        requires { K.names.nodes ≡ 2 }
-    {
-        // All room is made before the pool is taken apart, so that nothing is left to drop on the way.
-        let mut nodes = Vec::with_capacity(alloc, 2)?;
-        let mut links = Vec::with_capacity(alloc, 2)?;
-        let Pair {
-            zero,
-            one,
-            there,
-            back,
-            board,
-        } = self;
-        nodes.push_reserved(zero);
-        nodes.push_reserved(one);
-        links.push_reserved(there);
-        links.push_reserved(back);
-        let pool = Pool {
-            nodes,
-            links,
-            board,
-        };
-        match finish(alloc, pool) {
-            Ok(report) => Ok(report),
-            // the pool comes back
-            Err((_, pool)) => match finish(alloc, pool) {
-                Ok(report) => Ok(report),
-                Err((refusal, _)) => Err(refusal),
-            },
-        }
-    }
-
     /// A turn of each node. Whether the end was judged is answered.
     pub(crate) fn turn(&mut self, alloc: Global) -> Result<bool, Refusal> {
-        let Pair {
-            zero,
-            one,
-            there,
-            back,
-            board,
-        } = self;
-        let over = turn_of(alloc, zero, back, there, board)?;
-        Ok(turn_of(alloc, one, there, back, board)? || over)
+        let over = turn_of(alloc, self.zero, self.back, self.there, self.board)?;
+        Ok(turn_of(alloc, self.one, self.there, self.back, self.board)? || over)
+    }
+
+    pub(crate) fn seed(&mut self) -> Result<(u32, u32), Refusal> {
+        let at_zero = seed_all(self.zero, self.board)?;
+        let at_one = seed_all(self.one, self.board)?;
+        Ok((at_zero, at_one))
     }
 }
 
@@ -128,16 +183,28 @@ pub(crate) fn receive_one<G: Comparable, K: Ledgers>(
     wire: &mut Wire<G, K>,
     board: &mut Board<K>,
 ) -> Result<bool, Refusal> {
-    if wire.to() != node.number() {
-        return Err(Refusal::NoNode);
-    }
-    let Some(parcel) = node.receive(wire, board)? else {
+    let Some(parcel) = receive(node, wire, board)? else {
         return Ok(false);
     };
     match node.deliver(board, parcel) {
         Ok(()) => Ok(true),
         Err((refusal, _)) => Err(refusal),
     }
+}
+
+/// Receives a message from a wire that leads here.
+pub(crate) fn receive<G: Comparable, K: Ledgers>(
+    node: &mut Node<G, K>,
+    wire: &mut Wire<G, K>,
+    board: &mut Board<K>,
+) -> Result<Option<Parcel<G>>, Refusal>
+    ensures graph { IfOk result (λ parcel. MatchOption parcel (Unit {0}) (λ it. it.graph ≡ node.new.graph)) }
+    ensures brought { IfOk result (λ parcel. MatchOption parcel (Unit {0}) (HasBrought (G.meaning node.new.graph) node.new)) }
+{
+    if wire.to() != node.number() {
+        return Err(Refusal::NoNode);
+    }
+    node.receive(wire, board)
 }
 
 /// Begins a task, runs it, passes its one feed on and records it as done.
@@ -162,13 +229,22 @@ pub(crate) fn hand_in<G: Comparable, K: Ledgers>(
 ) -> Result<bool, Refusal> {
     let mut finished = finished;
     pass_on(node, wire, board, &mut finished)?;
-    if !is_same(&finished.graph(), &node.graph()) || !finished.all_fed() {
-        return Err(Refusal::Stranger);
-    }
-    match node.done(board, finished) {
+    match record(node, board, finished) {
         Ok(()) => Ok(true),
         Err((refusal, _)) => Err(refusal),
     }
+}
+
+/// Records a task as done whose feeds were all passed on.
+pub(crate) fn record<G: Comparable, K: Ledgers>(
+    node: &mut Node<G, K>,
+    board: &mut Board<K>,
+    finished: Finished<G>,
+) -> Result<(), (Refusal, Finished<G>)> {
+    if !is_same(&finished.graph(), &node.graph()) || !finished.all_fed() {
+        return Err((Refusal::Stranger, finished));
+    }
+    node.done(board, finished)
 }
 
 /// Begins a task and runs it.
@@ -187,7 +263,7 @@ pub(crate) fn run_body<G: Comparable, K: Ledgers>(
 }
 
 /// Passes the next feed on, to a task of the node or over the wire.
-fn pass_on<G: Comparable, K: Ledgers>(
+pub(crate) fn pass_on<G: Comparable, K: Ledgers>(
     node: &mut Node<G, K>,
     wire: &mut Wire<G, K>,
     board: &mut Board<K>,
@@ -215,7 +291,7 @@ fn pass_on<G: Comparable, K: Ledgers>(
 
 /// What a pool of two nodes is made to do.
 #[derive(Clone, Copy)]
-enum Play {
+enum Plan {
     /// Both nodes insert their tasks and take turns until the end is judged.
     ToTheEnd,
     /// Both nodes insert their tasks, and node 1 sends one message.
@@ -224,7 +300,7 @@ enum Play {
     Action,
 }
 
-/// What the calls of a play answered.
+/// What the calls of a plan answered.
 #[derive(Clone, Copy)]
 enum Answers {
     /// So many tasks were inserted at each node.
@@ -282,21 +358,32 @@ impl Summary {
     }
 }
 
-impl<K: Ledgers> Pair<K> {
-    fn play(&mut self, alloc: Global, play: Play) -> Result<Answers, Refusal> {
-        match play {
-            Play::ToTheEnd => self.run_to_the_end(alloc),
-            Play::FirstSend => self.send_first(alloc),
-            Play::Action => Ok(Answers::Acts(act(&mut self.zero, &mut self.board))),
-        }
-    }
+/// A plan, and what its calls answered once it was played.
+#[derive(Clone, Copy)]
+struct Planned {
+    plan: Plan,
+    answers: Option<Answers>,
+}
 
-    pub(crate) fn seed(&mut self) -> Result<(u32, u32), Refusal> {
-        let at_zero = seed_all(&mut self.zero, &mut self.board)?;
-        let at_one = seed_all(&mut self.one, &mut self.board)?;
-        Ok((at_zero, at_one))
+impl Play for Planned {
+    fn play<K: Ledgers>(
+        &mut self,
+        alloc: Global,
+        nodes: &mut [Node<Reduce, K>],
+        links: &mut [Wire<Reduce, K>],
+        board: &mut Board<K>,
+    ) -> Result<(), Refusal> {
+        let mut pair = Pair::of(nodes, links, board)?;
+        self.answers = Some(match self.plan {
+            Plan::ToTheEnd => pair.run_to_the_end(alloc)?,
+            Plan::FirstSend => pair.send_first(alloc)?,
+            Plan::Action => pair.act(),
+        });
+        Ok(())
     }
+}
 
+impl<'a, K: Ledgers> Pair<'a, K> {
     fn run_to_the_end(&mut self, alloc: Global) -> Result<Answers, Refusal> {
         let (at_zero, at_one) = self.seed()?;
         for _ in 0..100 {
@@ -309,16 +396,15 @@ impl<K: Ledgers> Pair<K> {
 
     fn send_first(&mut self, alloc: Global) -> Result<Answers, Refusal> {
         self.seed()?;
-        let Some(mut finished) = run_body(alloc, &mut self.one, &mut self.board)? else {
+        let Some(mut finished) = run_body(alloc, self.one, self.board)? else {
             return Err(Refusal::Missing);
         };
-        pass_on(
-            &mut self.one,
-            &mut self.back,
-            &mut self.board,
-            &mut finished,
-        )?;
+        pass_on(self.one, self.back, self.board, &mut finished)?;
         Ok(Answers::Sent(finished.all_fed()))
+    }
+
+    fn act(&mut self) -> Answers {
+        Answers::Acts(act(self.zero, self.board))
     }
 }
 
@@ -339,24 +425,21 @@ fn act<G: Comparable, K: Ledgers>(node: &mut Node<G, K>, board: &mut Board<K>) -
     }
 }
 
-/// Opens a pool of two nodes, plays, and gathers the pool.
-fn played<K: Ledgers>(
-    alloc: Global,
-    blanks: Blanks,
-    play: Play,
-) -> Result<(Answers, Summary), Refusal>
-    requires { (blanks ≡ K.names) × (blanks.nodes ≡ 2) }
-{
-    let mut pair = Pair::<K>::open(alloc, blanks, TREE)?;
-    let answers = pair.play(alloc, play)?;
-    Ok((answers, Summary::of(&pair.close(alloc)?)))
+/// Plays a plan.
+fn answers_to(alloc: Global, plan: Plan) -> Result<(Option<Answers>, Summary), Refusal> {
+    let mut planned = Planned {
+        plan,
+        answers: None,
+    };
+    let made = played(alloc, TREE, &mut planned)?;
+    Ok((planned.answers, made))
 }
 
 #[test]
 fn two_nodes_run_to_the_end(rt: HostRuntime) -> Result<(), Fail> {
-    let (answers, made) = played::<Brand>(rt.alloc(), Blanks::new(2), Play::ToTheEnd)?;
-    let Answers::Seeded(at_zero, at_one) = answers else {
-        return Err(Fail::new("another play"));
+    let (answers, made) = answers_to(rt.alloc(), Plan::ToTheEnd)?;
+    let Some(Answers::Seeded(at_zero, at_one)) = answers else {
+        return Err(Fail::new("another plan"));
     };
     assert_eq!(rt; (at_zero, at_one), (2, 2));
     let wanted = Summary {
@@ -372,8 +455,8 @@ fn two_nodes_run_to_the_end(rt: HostRuntime) -> Result<(), Fail> {
 
 #[test]
 fn a_message_under_way_is_counted(rt: HostRuntime) -> Result<(), Fail> {
-    let (answers, made) = played::<Brand>(rt.alloc(), Blanks::new(2), Play::FirstSend)?;
-    assert!(rt; matches!(answers, Answers::Sent(true)));
+    let (answers, made) = answers_to(rt.alloc(), Plan::FirstSend)?;
+    assert!(rt; matches!(answers, Some(Answers::Sent(true))));
     let wanted = Summary {
         numbers: (4, 1, 0, 1),
         done: 0,
@@ -387,9 +470,9 @@ fn a_message_under_way_is_counted(rt: HostRuntime) -> Result<(), Fail> {
 
 #[test]
 fn a_named_action_opens_once(rt: HostRuntime) -> Result<(), Fail> {
-    let (answers, _) = played::<Brand>(rt.alloc(), Blanks::new(2), Play::Action)?;
-    let Answers::Acts(acts) = answers else {
-        return Err(Fail::new("another play"));
+    let (answers, _) = answers_to(rt.alloc(), Plan::Action)?;
+    let Some(Answers::Acts(acts)) = answers else {
+        return Err(Fail::new("another plan"));
     };
     for (made, wanted) in [
         (acts.opened, Ok(())),
@@ -426,23 +509,35 @@ fn seed_four<G: Comparable, K: Ledgers>(node: &mut Node<G, K>, board: &mut Board
     }
 }
 
-fn seed_into_three_places<K: Ledgers>(alloc: Global, blanks: Blanks) -> Result<Seeds, Refusal>
-    requires { (blanks ≡ K.names) × (blanks.nodes ≡ 1) }
-{
-    let Pool {
-        mut nodes,
-        links: _,
-        mut board,
-    } = open_pool::<Reduce, K>(alloc, blanks, TREE, 1, 3)?;
-    let Some(mut node) = nodes.pop() else {
-        unreachable!()
-    };
-    Ok(seed_four(&mut node, &mut board))
+/// Four insertions, and what they answered once they were made.
+#[derive(Clone, Copy)]
+struct FourSeeds(Option<Seeds>);
+
+impl Play for FourSeeds {
+    fn play<K: Ledgers>(
+        &mut self,
+        _alloc: Global,
+        nodes: &mut [Node<Reduce, K>],
+        _links: &mut [Wire<Reduce, K>],
+        board: &mut Board<K>,
+    ) -> Result<(), Refusal> {
+        self.0 = match nodes.first_mut() {
+            Some(node) => Some(seed_four(node, board)),
+            None => None,
+        };
+        Ok(())
+    }
+}
+
+fn seed_into_three_places(alloc: Global) -> Result<Seeds, Refusal> {
+    let mut play = FourSeeds(None);
+    played_alone(alloc, TREE, 3, &mut play)?;
+    play.0.ok_or(Refusal::Missing)
 }
 
 #[test]
 fn a_full_history_refuses_the_fourth_seed(rt: HostRuntime) -> Result<(), Fail> {
-    let seeds = seed_into_three_places::<Brand>(rt.alloc(), Blanks::new(1))?;
+    let seeds = seed_into_three_places(rt.alloc())?;
     let [first, second, third, fourth] = seeds.made;
     for (made, wanted) in [
         (first, Ok(true)),

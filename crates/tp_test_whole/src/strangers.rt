@@ -1,12 +1,14 @@
 ghost use Rattle.std.specs.Prelude.{◌≡◌};
 
-use crate::one_hand::{Pair, Summary, TREE, hand_in, receive_one, run_body, run_one};
+use crate::one_hand::{
+    Pair, Play, Summary, TREE, hand_in, opened, played, receive_one, run_body, run_one,
+};
 use std::alloc::Global;
 use std::test::Fail;
 use tp_base::{NodeId, Refusal};
 use tp_board::{Blanks, Board, Brand, Judgement, Ledgers, Shares};
 use tp_graph::{Feed, Graph, Message};
-use tp_node::{Finished, Node, Turn, Wire};
+use tp_node::{Finished, Node, Pool, Turn, Wire};
 use tp_samples::Reduce;
 
 // At two nodes a tree of four leaves has three messages: of task 1 to 4, of 2 to 5, and of 5 to 6. Tasks 0, 2, 4 and 6
@@ -47,10 +49,10 @@ fn put_in_front<K: Ledgers>(
     }
 }
 
-impl<K: Ledgers> Pair<K> {
+impl<'a, K: Ledgers> Pair<'a, K> {
     /// Node 1 runs a task, and sends its value.
     fn send_from_one(&mut self, alloc: Global) -> Result<(), Refusal> {
-        run_one(alloc, &mut self.one, &mut self.back, &mut self.board)?;
+        run_one(alloc, self.one, self.back, self.board)?;
         Ok(())
     }
 
@@ -58,42 +60,52 @@ impl<K: Ledgers> Pair<K> {
     fn send_after(&mut self, alloc: Global, tasks: u32) -> Result<Message<Reduce>, Refusal> {
         self.seed()?;
         for _ in 0..tasks {
-            run_one(alloc, &mut self.zero, &mut self.there, &mut self.board)?;
+            run_one(alloc, self.zero, self.there, self.board)?;
         }
         self.send_from_one(alloc)?;
-        front_of(&self.back)
+        front_of(self.back)
     }
 
     /// Once message 0 was received: messages 1 and 2 are sent. Node 0 has begun task 0 before, which comes back with
     /// its feed not passed on.
     fn send_the_rest(&mut self, alloc: Global) -> Result<Finished<Reduce>, Refusal> {
-        let Some(first) = run_body(alloc, &mut self.zero, &mut self.board)? else {
+        let Some(first) = run_body(alloc, self.zero, self.board)? else {
             return Err(Refusal::Missing);
         };
-        run_one(alloc, &mut self.zero, &mut self.there, &mut self.board)?;
+        run_one(alloc, self.zero, self.there, self.board)?;
         self.send_from_one(alloc)?;
-        receive_one(&mut self.one, &mut self.there, &mut self.board)?;
+        receive_one(self.one, self.there, self.board)?;
         self.send_from_one(alloc)?;
         Ok(first)
     }
 }
 
-/// What node 1 of another pool sends to node 0 first, after that has run so many tasks.
-fn sent_elsewhere<K: Ledgers>(
-    alloc: Global,
-    blanks: Blanks,
-    tree: Reduce,
+/// What node 1 of a pool sends first, after node 0 has run so many tasks.
+#[derive(Drop)]
+struct Sending {
     tasks: u32,
-) -> Result<Message<Reduce>, Refusal>
-    requires { (blanks ≡ K.names) × (blanks.nodes ≡ 2) }
-{
-    let mut pair = Pair::<K>::open(alloc, blanks, tree)?;
-    pair.send_after(alloc, tasks)
+    sent: Option<Message<Reduce>>,
+}
+
+impl Play for Sending {
+    fn play<K: Ledgers>(
+        &mut self,
+        alloc: Global,
+        nodes: &mut [Node<Reduce, K>],
+        links: &mut [Wire<Reduce, K>],
+        board: &mut Board<K>,
+    ) -> Result<(), Refusal> {
+        let mut pair = Pair::of(nodes, links, board)?;
+        self.sent = Some(pair.send_after(alloc, self.tasks)?);
+        Ok(())
+    }
 }
 
 /// A message of another pool.
 fn strange(alloc: Global, tree: Reduce, tasks: u32) -> Result<Message<Reduce>, Refusal> {
-    sent_elsewhere::<Brand>(alloc, Blanks::new(2), tree, tasks)
+    let mut play = Sending { tasks, sent: None };
+    played(alloc, tree, &mut play)?;
+    play.sent.take().ok_or(Refusal::NoMessage)
 }
 
 /// A node's pending number, what it has sent and received, how many messages are on the wire to it, and how many
@@ -166,7 +178,7 @@ enum Hour {
     Open,
 }
 
-impl<K: Ledgers> Pair<K> {
+impl<'a, K: Ledgers> Pair<'a, K> {
     fn meet_at(
         &mut self,
         alloc: Global,
@@ -176,27 +188,45 @@ impl<K: Ledgers> Pair<K> {
         self.seed()?;
         self.send_from_one(alloc)?;
         if matches!(hour, Hour::Open) {
-            receive_alone(&mut self.zero, &mut self.back, &mut self.board)?;
+            receive_alone(self.zero, self.back, self.board)?;
             self.send_the_rest(alloc)?;
         }
-        meet(&mut self.zero, &mut self.back, &mut self.board, stranger)
+        meet(self.zero, self.back, self.board, stranger)
     }
 }
 
-fn met_by<K: Ledgers>(
-    alloc: Global,
-    blanks: Blanks,
+/// A stranger, and what is done with it when it comes.
+#[derive(Drop)]
+struct Coming {
     hour: Hour,
-    stranger: Message<Reduce>,
-) -> Result<Met, Refusal>
-    requires { (blanks ≡ K.names) × (blanks.nodes ≡ 2) }
-{
-    let mut pair = Pair::<K>::open(alloc, blanks, TREE)?;
-    pair.meet_at(alloc, hour, stranger)
+    stranger: Option<Message<Reduce>>,
+    met: Option<Met>,
+}
+
+impl Play for Coming {
+    fn play<K: Ledgers>(
+        &mut self,
+        alloc: Global,
+        nodes: &mut [Node<Reduce, K>],
+        links: &mut [Wire<Reduce, K>],
+        board: &mut Board<K>,
+    ) -> Result<(), Refusal> {
+        let mut pair = Pair::of(nodes, links, board)?;
+        if let Some(stranger) = self.stranger.take() {
+            self.met = Some(pair.meet_at(alloc, self.hour, stranger)?);
+        }
+        Ok(())
+    }
 }
 
 fn answer_to(alloc: Global, hour: Hour, stranger: Message<Reduce>) -> Result<Met, Refusal> {
-    met_by::<Brand>(alloc, Blanks::new(2), hour, stranger)
+    let mut play = Coming {
+        hour,
+        stranger: Some(stranger),
+        met: None,
+    };
+    played(alloc, TREE, &mut play)?;
+    play.met.ok_or(Refusal::Missing)
 }
 
 /// The graph of a stranger, how many tasks node 0 of its pool has run before, its number there, when it comes, and how
@@ -266,7 +296,7 @@ fn take_doubled<K: Ledgers>(
     }
 }
 
-impl<K: Ledgers> Pair<K> {
+impl<'a, K: Ledgers> Pair<'a, K> {
     /// Task 1's value is delivered twice, the second time in the place of task 5's.
     fn double(
         &mut self,
@@ -276,11 +306,11 @@ impl<K: Ledgers> Pair<K> {
     ) -> Result<Doubled, Refusal> {
         self.seed()?;
         self.send_from_one(alloc)?;
-        receive_one(&mut self.zero, &mut self.back, &mut self.board)?;
+        receive_one(self.zero, self.back, self.board)?;
         let first = self.send_the_rest(alloc)?;
         self.bring_to(alloc, life, first)?;
-        put_in_front(&mut self.back, &self.board, stranger)?;
-        take_doubled(&mut self.zero, &mut self.back, &mut self.board)
+        put_in_front(self.back, self.board, stranger)?;
+        take_doubled(self.zero, self.back, self.board)
     }
 
     /// Brings task 4, whose other input task 0 has made.
@@ -293,14 +323,14 @@ impl<K: Ledgers> Pair<K> {
         if matches!(life, Life::Waiting) {
             return Ok(());
         }
-        hand_in(&mut self.zero, &mut self.there, &mut self.board, first)?;
+        hand_in(self.zero, self.there, self.board, first)?;
         match life {
             Life::Waiting | Life::Ready => {}
             Life::Running => {
-                run_body(alloc, &mut self.zero, &mut self.board)?;
+                run_body(alloc, self.zero, self.board)?;
             }
             Life::Done => {
-                run_one(alloc, &mut self.zero, &mut self.there, &mut self.board)?;
+                run_one(alloc, self.zero, self.there, self.board)?;
             }
         }
         Ok(())
@@ -317,21 +347,53 @@ impl<K: Ledgers> Pair<K> {
     }
 }
 
-fn doubled_by<K: Ledgers>(
-    alloc: Global,
-    blanks: Blanks,
+/// A doubled feed: the stranger that takes task 5's place, and what comes of it.
+#[derive(Drop)]
+struct Doubling {
     life: Life,
-    stranger: Message<Reduce>,
-) -> Result<Doubled, Refusal>
-    requires { (blanks ≡ K.names) × (blanks.nodes ≡ 2) }
-{
-    let mut pair = Pair::<K>::open(alloc, blanks, TREE)?;
-    pair.double(alloc, life, stranger)
+    stranger: Option<Message<Reduce>>,
+    made: Option<Doubled>,
+    /// Whether the nodes take turns then.
+    goes_on: bool,
+    /// Whether the end was judged in these turns.
+    ends: bool,
+}
+
+impl Doubling {
+    fn new(life: Life, stranger: Message<Reduce>, goes_on: bool) -> Self {
+        Doubling {
+            life,
+            stranger: Some(stranger),
+            made: None,
+            goes_on,
+            ends: false,
+        }
+    }
+}
+
+impl Play for Doubling {
+    fn play<K: Ledgers>(
+        &mut self,
+        alloc: Global,
+        nodes: &mut [Node<Reduce, K>],
+        links: &mut [Wire<Reduce, K>],
+        board: &mut Board<K>,
+    ) -> Result<(), Refusal> {
+        let mut pair = Pair::of(nodes, links, board)?;
+        if let Some(stranger) = self.stranger.take() {
+            self.made = Some(pair.double(alloc, self.life, stranger)?);
+        }
+        if self.goes_on {
+            self.ends = pair.ends(alloc)?;
+        }
+        Ok(())
+    }
 }
 
 fn answer_to_doubled(alloc: Global, life: Life) -> Result<Doubled, Refusal> {
-    let stranger = strange(alloc, TREE, 0)?;
-    doubled_by::<Brand>(alloc, Blanks::new(2), life, stranger)
+    let mut play = Doubling::new(life, strange(alloc, TREE, 0)?, false);
+    played(alloc, TREE, &mut play)?;
+    play.made.ok_or(Refusal::Missing)
 }
 
 // Twelve events until message 0 was delivered, begin of task 0, three each of tasks 2, 3 and 5, three of message 1 and
@@ -363,24 +425,16 @@ fn a_doubled_feed_is_handed_back(rt: HostRuntime) -> Result<(), Fail> {
 }
 
 /// Whether the end is judged after a doubled feed, and what the pool adds up to.
-fn left_by<K: Ledgers>(
-    alloc: Global,
-    blanks: Blanks,
-    stranger: Message<Reduce>,
-) -> Result<(bool, Summary), Refusal>
-    requires { (blanks ≡ K.names) × (blanks.nodes ≡ 2) }
-{
-    let mut pair = Pair::<K>::open(alloc, blanks, TREE)?;
-    pair.double(alloc, Life::Done, stranger)?;
-    let ends = pair.ends(alloc)?;
-    Ok((ends, Summary::of(&pair.close(alloc)?)))
+fn left_by_doubled(alloc: Global) -> Result<(bool, Summary), Refusal> {
+    let mut play = Doubling::new(Life::Done, strange(alloc, TREE, 0)?, true);
+    let made = played(alloc, TREE, &mut play)?;
+    Ok((play.ends, made))
 }
 
 // All tasks but the last are done. The last has one of its inputs, and the other is lost.
 #[test]
 fn a_doubled_feed_lets_no_end_be_judged(rt: HostRuntime) -> Result<(), Fail> {
-    let stranger = strange(rt.alloc(), TREE, 0)?;
-    let (ends, made) = left_by::<Brand>(rt.alloc(), Blanks::new(2), stranger)?;
+    let (ends, made) = left_by_doubled(rt.alloc())?;
     assert!(rt; !ends);
     let wanted = Summary {
         numbers: (2, 3, 3, 0),
@@ -432,30 +486,33 @@ fn judge<K: Ledgers>(board: &mut Board<K>) -> Result<bool, Refusal> {
     Ok(matches!(board.judge()?, Judgement::Over(_)))
 }
 
-fn waved_by<K: Ledgers>(
-    alloc: Global,
-    blanks: Blanks,
-    stranger: Message<Reduce>,
-) -> Result<Wave, Refusal>
+/// Takes node 0 apart, and has its share in a wave with node 1.
+fn wave_of<K: Ledgers>(pool: &mut Pool<Reduce, K>) -> Result<Wave, Refusal> {
+    if pool.nodes.is_empty() {
+        return Err(Refusal::NoNode);
+    }
+    let (root, _) = pool.nodes.swap_remove(0).into_parts();
+    match pool.nodes.first_mut() {
+        Some(one) => wave_past(&root, one, &mut pool.board),
+        None => Err(Refusal::NoNode),
+    }
+}
+
+fn waved_by<K: Ledgers>(alloc: Global, blanks: Blanks, play: &mut Doubling) -> Result<Wave, Refusal>
     requires { (blanks ≡ K.names) × (blanks.nodes ≡ 2) }
 {
-    let mut pair = Pair::<K>::open(alloc, blanks, TREE)?;
-    pair.double(alloc, Life::Done, stranger)?;
-    let Pair {
-        zero,
-        mut one,
-        there: _,
-        back: _,
-        mut board,
-    } = pair;
-    let (root, _) = zero.into_parts();
-    wave_past(&root, &mut one, &mut board)
+    let mut pool = opened::<K, Doubling>(alloc, blanks, TREE, play)?;
+    wave_of(&mut pool)
+}
+
+fn wave_past_doubled(alloc: Global) -> Result<Wave, Refusal> {
+    let mut play = Doubling::new(Life::Done, strange(alloc, TREE, 0)?, false);
+    waved_by::<Brand>(alloc, Blanks::new(2), &mut play)
 }
 
 #[test]
 fn the_root_gives_nothing_after_a_doubled_feed(rt: HostRuntime) -> Result<(), Fail> {
-    let stranger = strange(rt.alloc(), TREE, 0)?;
-    let wave = waved_by::<Brand>(rt.alloc(), Blanks::new(2), stranger)?;
+    let wave = wave_past_doubled(rt.alloc())?;
     assert_eq!(rt; wave.moved, [true, true]);
     assert_eq!(rt; wave.given, Err(Refusal::NotIdle));
     assert_eq!(rt; wave.judged, Err(Refusal::WaveNotEnded));
