@@ -286,7 +286,7 @@ module _ {V : Type 0} where
           let was : is_none (get_or x.values slot None) ≡ true = ap is_none free in
           let count = rw was at (sum_by-set (λ (o : Option V). cond (is_none o) 1 0) x.values slot (Some value) None (omega (arith, m.0))) in
           let fewer : (length (set x.values slot (Some value)) ≡ x.arity) × (count_by is_none (set x.values slot (Some value)) ≡ lacking (life_lacking (k - 1))) =
-              (length-set x.values slot (Some value) ∙ m.0, rw (lacking_life (k - 1)) (omega (arith, count, m.1))) in
+          (length-set x.values slot (Some value) ∙ m.0, rw (lacking_life (k - 1)) (omega (arith, count, m.1))) in
           (record { arity = is.arity; class = is.class; lacks = lacks_life (k - 1); slots = rw (not_begun_life (k - 1)) fewer }, not_begun_life (k - 1))
       go Ready e m some = cc
       go Running e m some = cc
