@@ -117,10 +117,12 @@ impl<G: Graph, K: Ledgers> Desk<Node<G, K>, Work<G>> {
         ensures full { board.old.limit ≡ 1048576 → length board.old.history < 1048576 → IfErr result (λ e. e ≡ NoMemory) }
     {
         let share = share.of_ready(self.node.counts().ready, board.len());
-        let begun = self.node.begin(board)?;
-        if share > 1 {
-            self.begin_more(board, share - 1);
+        if share == 1 {
+            // (so that the work is written where it goes)
+            return self.node.begin(board);
         }
+        let begun = self.node.begin(board)?;
+        self.begin_more(board, share - 1);
         Ok(begun)
     }
 
