@@ -1,3 +1,4 @@
+pub mod EntryTables
 pub mod Found
 pub mod Marked
 pub mod PlainCells

@@ -11,6 +11,21 @@ use Rattle.tp_samples.specs.Products.{sum_from, list_of, add_lists, added, place
 pub sum_more : (start count : ℕ) (f : ℕ → ℤ) → sum_from start (count + 1) f ≡ sum_from start count f +ℤ f (start + count)
 sum_more start count f = rw add-one refl
 
+-- one more number of a sum
+pub next_sum : (n : ℕ) (f : ℕ → ℤ) (sum next : ℤ) → sum ≡ sum_from 0 n f → next ≡ sum +ℤ f n → next ≡ sum_from 0 (n + 1) f
+next_sum n f sum next before is =
+    let place : 0 + n ≡ n = omega arith in
+    is ∙ ap (λ s. s +ℤ f n) before ∙ ap (λ k. sum_from 0 n f +ℤ f k) (sym place) ∙ sym (sum_more 0 n f)
+
+-- two sums of as many numbers, the same ones
+pub sum_same : (start count : ℕ) (f g : ℕ → ℤ) → ((n : ℕ) → n < count → f n ≡ g (start + n)) → sum_from 0 count f ≡ sum_from start count g
+sum_same start zero f g h = refl
+sum_same start (suc count) f g h =
+    let place : 0 + count ≡ count = omega arith in
+    ap (λ s. s +ℤ f (0 + count)) (sum_same start count f g (λ n b. h n (omega arith)))
+    ∙ ap (λ n. sum_from start count g +ℤ f n) place
+    ∙ ap (λ y. sum_from start count g +ℤ y) (h count (omega arith))
+
 list_last : {A : Type 0} (count : ℕ) (f : ℕ → A) → list_of (suc count) f ≡ list_of count f ++ f count ∷ []
 list_last zero f = refl
 list_last (suc count) f = ap (λ l. f 0 ∷ l) (list_last count (λ e. f (suc e)))
@@ -18,6 +33,11 @@ list_last (suc count) f = ap (λ l. f 0 ∷ l) (list_last count (λ e. f (suc e)
 -- one more behind a list
 pub list_more : {A : Type 0} (xs : List A) (count : ℕ) (f : ℕ → A) → xs ++ list_of (count + 1) f ≡ (xs ++ list_of count f) ++ f count ∷ []
 list_more xs count f = rw add-one (ap (λ l. xs ++ l) (list_last count f) ∙ sym (append_assoc xs (list_of count f) (f count ∷ [])))
+
+-- one more number behind a list
+pub pushed : {A : Type 0} (xs before now : List A) (count : ℕ) (f : ℕ → A) (next : A) → before ≡ xs ++ list_of count f → now ≡ before ++ next ∷ [] → next ≡ f count → now ≡ xs ++ list_of (count + 1) f
+pushed xs before now count f next same is here =
+    is ∙ ap (λ l. l ++ next ∷ []) same ∙ ap (λ y. (xs ++ list_of count f) ++ y ∷ []) here ∙ sym (list_more xs count f)
 
 -- as many more as g has
 list-joined : {A : Type 0} (m n : ℕ) (f g : ℕ → A) → ((c : ℕ) → c < n → g c ≡ f (m + c)) → list_of m f ++ list_of n g ≡ list_of (m + n) f

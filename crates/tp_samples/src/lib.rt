@@ -4,6 +4,7 @@
 #![tactic(auto)]
 
 mod any;
+mod entries;
 mod laws;
 mod product;
 mod reduce;

@@ -1,10 +1,11 @@
-ghost use Rattle.std.specs.Prelude.{◌≡◌, ◌<◌, ◌≤◌, ◌+◌, ◌-◌, ◌*◌, ◌/◌, ◌%◌, pos, ◌+ℤ◌, ◌-ℤ◌, ◌∷◌, ◌++◌, [], ◌*ℤ◌, unsigned_abs, true, false, length, vec_len, vec_capacity, IfOk, MatchResult, Some, None};
+ghost use Rattle.std.specs.Prelude.{◌≡◌, ◌<◌, ◌≤◌, ◌+◌, ◌-◌, ◌*◌, ◌/◌, ◌%◌, ℕ, pos, ◌+ℤ◌, ◌-ℤ◌, ◌∷◌, ◌++◌, [], ◌*ℤ◌, unsigned_abs, true, false, length, slice_index_or, vec_len, vec_capacity, IfOk, MatchResult, Some, None};
 ghost use Rattle.tp_samples.specs.Products.{IsProduct, IsProduct-prop, product_graph, term, sum_from, list_of, tile, added, place_sum};
 ghost use Rattle.tp_samples.specs.ProductLaws.{product_lawful};
 ghost use Rattle.tp_samples.specs.Same.{three_same, rule_of_three};
 ghost use Rattle.tp_graph.specs.Values.{fits, all_fit};
 ghost use Rattle.tp_base.specs.declared.Refusal.TheVariants.{BodyFailed};
 
+use crate::entries::{left_entries, next_place, right_entries, right_place};
 use std::alloc::{AllocError, Global};
 use tp_base::{NodeId, Refusal, TaskId};
 use tp_graph::{Comparable, Graph, Value};
@@ -41,41 +42,17 @@ fn plus(sum: i64, product: i64) -> i64
     sum + product
 }
 
-/// The product of the entries that two residues of 21 stand for.
-fn product_of(left: u32, right: u32) -> i64
-    requires left { left < 21 }
-    requires right { right < 21 }
-    ensures same { result ≡ (pos left -ℤ pos 10) *ℤ (pos right -ℤ pos 10) }
-    ensures small { unsigned_abs result ≤ 100 }
-{
-    multiply(i64::from(left) - 10, i64::from(right) - 10)
-}
-
-/// A residue of 21, moved on by a step.
-fn moved(residue: u32, step: u32) -> u32
-    requires residue { residue < 21 }
-    requires step { step ≤ 21 }
-    ensures { result ≡ (residue + step) % 21 }
-{
-    let sum = residue + step;
-    if sum < 21 { sum } else { sum - 21 }
-}
-
-/// The sum of some products. The residues of the entries move on by a step each, so that none needs a division.
-#[tactic(auto, using(crate::proofs::Sums::sum_more, crate::proofs::Sums::fits_from))]
-fn sum_at(seed: u32, x: u32, y: u32, start: u32, count: u32) -> i64
-    requires places { (x < 64) × (y < 64) × (start + count ≤ 64) }
-    requires seed_small { seed ≤ 9999 }
-    ensures same { result ≡ sum_from start count (term seed x y) }
+/// The sum of the products of two lists of small numbers, place by place.
+fn sum_at(left: &[i64], right: &[i64]) -> i64
+    requires long { (length left.now ≡ length right.now) × (length left.now ≤ 64) }
+    requires small_left { (n : ℕ) → n < length left.now → unsigned_abs (slice_index_or left.now n (pos 0)) ≤ 10 }
+    requires small_right { (n : ℕ) → n < length right.now → unsigned_abs (slice_index_or right.now n (pos 0)) ≤ 10 }
+    ensures same { result ≡ sum_from 0 (length left.now) (λ n. slice_index_or left.now n (pos 0) *ℤ slice_index_or right.now n (pos 0)) }
     ensures fit { fits result ≡ true }
 {
-    let mut left = (7 * x + 3 * start + seed) % 21;
-    let mut right = (5 * start + 2 * y + seed) % 21;
     let mut sum = 0;
-    for _ in 0..count {
-        sum = plus(sum, product_of(left, right));
-        left = moved(left, 3);
-        right = moved(right, 5);
+    for n in 0..left.len() {
+        sum = plus(sum, multiply(left[n], right[n]));
     }
     sum
 }
@@ -155,7 +132,6 @@ fn make_tile(
 }
 
 /// Appends a row of a tile of products: row x, at as many columns from y on.
-#[tactic(auto, using(crate::proofs::Sums::list_more, crate::proofs::Sums::fit_push))]
 fn push_row(made: &mut Vec<i64>, side: u32, seed: u32, x: u32, y: u32, start: u32)
     requires places { (x < 64) × (y + side ≤ 64) × (start + side ≤ 64) }
     requires seed_small { seed ≤ 9999 }
@@ -166,8 +142,11 @@ fn push_row(made: &mut Vec<i64>, side: u32, seed: u32, x: u32, y: u32, start: u3
     ensures len { vec_len made.new ≡ vec_len made.old + side }
     ensures capacity { vec_capacity made.new ≡ vec_capacity made.old }
 {
-    for c in 0..side {
-        made.push_reserved(sum_at(seed, x, y + c, start, side));
+    let left = left_entries(seed, x, start, side);
+    let mut place = right_place(seed, start, y);
+    for _ in 0..side {
+        made.push_reserved(sum_at(left, right_entries(place, side)));
+        place = next_place(place);
     }
 }
 

@@ -1,16 +1,22 @@
-use Rattle.std.proofs.Common.{arith, w64}
+use Rattle.std.proofs.Common.{◌≡◌, ◌+ℤ◌, ◌*ℤ◌, ℕ, ℤ, pos, get_or, sym, ◌∙◌, arith, rules, w64, FitsSigned}
 use Rattle.std.proofs.lemmas.Int.{to_z-of_z}
-use Rattle.tp_samples.proofs.Sums.{sum_more}
+use Rattle.tp_samples.proofs.Sums.{next_sum}
 use Rattle.tp_samples.proofs.product.sum_at.Goals as goal
 
-pub loop-preserved : goal.loop-preserved
-loop-preserved c =
-    let before = c.loop.invariant in
+pub loop-n-preserved : goal.loop-n-preserved
+loop-n-preserved c =
+    let before = c.loop-n.invariant in
+    let n = c.loop-n.n in
+    let f : ℕ → ℤ = λ k. get_or c.args.left.now k (pos 0) *ℤ get_or c.args.right.now k (pos 0) in
     let p = to_z-of_z w64 c.plus-sum.result (record { sfits = c.plus-sum.type_inv }) in
-    let m = to_z-of_z w64 c.product_of.result (record { sfits = c.product_of.type_inv }) in
+    let m = to_z-of_z w64 c.multiply.result (record { sfits = c.multiply.type_inv }) in
+    let left_in : FitsSigned w64 (get_or c.args.left.now n (pos 0)) = search rules in
+    let right_in : FitsSigned w64 (get_or c.args.right.now n (pos 0)) = search rules in
+    let left = to_z-of_z w64 (get_or c.args.left.now n (pos 0)) left_in in
+    let right = to_z-of_z w64 (get_or c.args.right.now n (pos 0)) right_in in
+    let product : c.multiply.result ≡ get_or c.args.left.now n (pos 0) *ℤ get_or c.args.right.now n (pos 0) = rw (left, right) at (c.multiply.ensures.same) in
+    let sum : c.plus-sum.result ≡ c.loop-n.sum +ℤ f n = cc (m, product, c.loop-n.sum-is, c.plus-sum.ensures.same) in
     record {
-      left = omega (arith, c.moved-left.ensures, before.left);
-      right = omega (arith, c.moved-right.ensures, before.right);
-      same = rw sum_more (cc (p, m, before.left, before.right, before.same, c.plus-sum.ensures.same, c.product_of.ensures.same));
-      small = rw p (omega (arith, c.plus-sum.ensures.small, c.product_of.ensures.small, before.small));
+      same = rw p (next_sum n f c.loop-n.sum c.plus-sum.result (sym c.loop-n.sum-is ∙ before.same) sum);
+      small = rw p (omega (arith, c.plus-sum.ensures.small, c.multiply.ensures.small, before.small));
     }

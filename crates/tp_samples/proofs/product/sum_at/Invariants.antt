@@ -1,11 +1,9 @@
-use Rattle.std.proofs.Common.{◌≡◌, ◌≤◌, ◌+◌, ◌*◌, ◌%◌, unsigned_abs}
-use Rattle.tp_samples.specs.Products.{sum_from, term}
+use Rattle.std.proofs.Common.{◌≡◌, ◌≤◌, ◌*◌, ◌*ℤ◌, pos, get_or, unsigned_abs}
+use Rattle.tp_samples.specs.Products.{sum_from}
 use Rattle.tp_samples.proofs.product.sum_at.Given as goal
 
-abbrev pub invariant-loop : goal.invariant-loop
-invariant-loop l = record {
-  left : l.left ≡ (7 * l.x + 3 * (l.start + l.counter) + l.seed) % 21;
-  right : l.right ≡ (5 * (l.start + l.counter) + 2 * l.y + l.seed) % 21;
-  same : l.sum ≡ sum_from l.start l.counter (term l.seed l.x l.y);
-  small : unsigned_abs l.sum ≤ 100 * l.counter;
+abbrev pub invariant-loop-n : goal.invariant-loop-n
+invariant-loop-n l = record {
+  same : l.sum ≡ sum_from 0 l.n (λ n. get_or l.left n (pos 0) *ℤ get_or l.right n (pos 0));
+  small : unsigned_abs l.sum ≤ 100 * l.n;
 }
