@@ -4,7 +4,7 @@ ghost use Rattle.std.specs.Prelude.{◌≡◌, ◌<◌, ◌≤◌, ◌+◌, ◌*
 ghost use Rattle.tp_samples.specs.Products.{left_entry};
 
 // Three runs of 70. The residues of a run are 3 apart; those of the next run are 7 more, as those of the next row are.
-static LEFT: [i64; 210] = [
+static LEFT: [i32; 210] = [
     -10, -7, -4, -1, 2, 5, 8, -10, -7, -4, -1, 2, 5, 8, -10, -7, -4, -1, 2, 5, 8, -10, -7, -4, -1,
     2, 5, 8, -10, -7, -4, -1, 2, 5, 8, -10, -7, -4, -1, 2, 5, 8, -10, -7, -4, -1, 2, 5, 8, -10, -7,
     -4, -1, 2, 5, 8, -10, -7, -4, -1, 2, 5, 8, -10, -7, -4, -1, 2, 5, 8, -3, 0, 3, 6, 9, -9, -6,
@@ -16,7 +16,7 @@ static LEFT: [i64; 210] = [
 ];
 
 // One run, whose residues are 5 apart.
-static RIGHT: [i64; 84] = [
+static RIGHT: [i32; 84] = [
     -10, -5, 0, 5, 10, -6, -1, 4, 9, -7, -2, 3, 8, -8, -3, 2, 7, -9, -4, 1, 6, -10, -5, 0, 5, 10,
     -6, -1, 4, 9, -7, -2, 3, 8, -8, -3, 2, 7, -9, -4, 1, 6, -10, -5, 0, 5, 10, -6, -1, 4, 9, -7,
     -2, 3, 8, -8, -3, 2, 7, -9, -4, 1, 6, -10, -5, 0, 5, 10, -6, -1, 4, 9, -7, -2, 3, 8, -8, -3, 2,
@@ -24,7 +24,7 @@ static RIGHT: [i64; 84] = [
 ];
 
 /// So many entries of a table, from a place on.
-fn part(table: &'static [i64], from: u32, count: u32) -> &'static [i64]
+fn part(table: &'static [i32], from: u32, count: u32) -> &'static [i32]
     requires inside { from + count ≤ length table.now }
     ensures long { length result.now ≡ count }
     ensures same { (n : ℕ) → n < count → slice_index_or result.now n (pos 0) ≡ slice_index_or table.now (from + n) (pos 0) }
@@ -34,7 +34,7 @@ fn part(table: &'static [i64], from: u32, count: u32) -> &'static [i64]
 }
 
 /// So many entries of row x of the left matrix, from column z on.
-pub(crate) fn left_entries(seed: u32, x: u32, z: u32, count: u32) -> &'static [i64]
+pub(crate) fn left_entries(seed: u32, x: u32, z: u32, count: u32) -> &'static [i32]
     requires places { (x < 64) × (z + count ≤ 64) }
     requires seed_small { seed ≤ 9999 }
     ensures long { length result.now ≡ count }
@@ -65,7 +65,7 @@ pub(crate) fn next_place(place: u32) -> u32
 }
 
 /// So many entries of a column of the right matrix, from a place on.
-pub(crate) fn right_entries(place: u32, count: u32) -> &'static [i64]
+pub(crate) fn right_entries(place: u32, count: u32) -> &'static [i32]
     requires places { (place < 21) × (count ≤ 64) }
     ensures long { length result.now ≡ count }
     ensures same { (n : ℕ) → n < count → slice_index_or result.now n (pos 0) ≡ pos (5 * (place + n) % 21) -ℤ pos 10 }

@@ -23,13 +23,13 @@ pub struct Product {
 }
 
 /// A product of two small numbers.
-fn multiply(a: i64, b: i64) -> i64
+fn multiply(a: i32, b: i32) -> i64
     requires left { unsigned_abs a ≤ 10 }
     requires right { unsigned_abs b ≤ 10 }
     ensures same { result ≡ a *ℤ b }
     ensures small { unsigned_abs result ≤ 100 }
 {
-    a * b
+    i64::from(a) * i64::from(b)
 }
 
 /// The sum of a small number and a product of two.
@@ -43,7 +43,7 @@ fn plus(sum: i64, product: i64) -> i64
 }
 
 /// The sum of the products of two lists of small numbers, place by place.
-fn sum_at(left: &[i64], right: &[i64]) -> i64
+fn sum_at(left: &[i32], right: &[i32]) -> i64
     requires long { (length left.now ≡ length right.now) × (length left.now ≤ 64) }
     requires small_left { (n : ℕ) → n < length left.now → unsigned_abs (slice_index_or left.now n (pos 0)) ≤ 10 }
     requires small_right { (n : ℕ) → n < length right.now → unsigned_abs (slice_index_or right.now n (pos 0)) ≤ 10 }

@@ -1,4 +1,4 @@
-use Rattle.std.proofs.Common.{◌≡◌, ◌+ℤ◌, ◌*ℤ◌, ℕ, ℤ, pos, get_or, sym, ◌∙◌, arith, rules, w64, FitsSigned}
+use Rattle.std.proofs.Common.{◌≡◌, ◌+ℤ◌, ◌*ℤ◌, ℕ, ℤ, pos, get_or, sym, ◌∙◌, arith, rules, w32, w64, FitsSigned}
 use Rattle.std.proofs.lemmas.Int.{to_z-of_z}
 use Rattle.tp_samples.proofs.Sums.{next_sum}
 use Rattle.tp_samples.proofs.product.sum_at.Goals as goal
@@ -10,10 +10,10 @@ loop-n-preserved c =
     let f : ℕ → ℤ = λ k. get_or c.args.left.now k (pos 0) *ℤ get_or c.args.right.now k (pos 0) in
     let p = to_z-of_z w64 c.plus-sum.result (record { sfits = c.plus-sum.type_inv }) in
     let m = to_z-of_z w64 c.multiply.result (record { sfits = c.multiply.type_inv }) in
-    let left_in : FitsSigned w64 (get_or c.args.left.now n (pos 0)) = search rules in
-    let right_in : FitsSigned w64 (get_or c.args.right.now n (pos 0)) = search rules in
-    let left = to_z-of_z w64 (get_or c.args.left.now n (pos 0)) left_in in
-    let right = to_z-of_z w64 (get_or c.args.right.now n (pos 0)) right_in in
+    let left_in : FitsSigned w32 (get_or c.args.left.now n (pos 0)) = search rules in
+    let right_in : FitsSigned w32 (get_or c.args.right.now n (pos 0)) = search rules in
+    let left = to_z-of_z w32 (get_or c.args.left.now n (pos 0)) left_in in
+    let right = to_z-of_z w32 (get_or c.args.right.now n (pos 0)) right_in in
     let product : c.multiply.result ≡ get_or c.args.left.now n (pos 0) *ℤ get_or c.args.right.now n (pos 0) = rw (left, right) at (c.multiply.ensures.same) in
     let sum : c.plus-sum.result ≡ c.loop-n.sum +ℤ f n = cc (m, product, c.loop-n.sum-is, c.plus-sum.ensures.same) in
     record {
