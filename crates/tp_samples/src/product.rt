@@ -151,7 +151,8 @@ fn push_row(made: &mut Vec<i64>, side: u32, seed: u32, x: u32, y: u32, start: u3
 }
 
 /// Adds the numbers of a list to those of another of the same length, in place. Refused with `BodyFailed` exactly
-/// where the lengths differ or a sum leaves `i64`; some places may be added to by then.
+/// where the lengths differ or a sum leaves `i64`; some places may be added to by then. The sums that leave it are counted,
+/// since a loop without a way out is worked out in vectors.
 #[tactic(auto, using(crate::proofs::Sums::add_unlike))]
 fn add_to(sums: &mut [i64], input: &[i64]) -> Result<(), Refusal>
     ensures { MatchResult result (λ _. added input.now sums.old ≡ Some sums.new) (λ refusal. (refusal ≡ BodyFailed) × (added input.now sums.old ≡ None)) }
@@ -159,20 +160,29 @@ fn add_to(sums: &mut [i64], input: &[i64]) -> Result<(), Refusal>
     if input.len() != sums.len() {
         return Err(Refusal::BodyFailed);
     }
+    let mut lost = 0;
     for e in 0..input.len() {
-        sums[e] = sum_of_places(input, sums, e)?;
+        let (sum, is_lost) = sum_of_places(input, sums, e);
+        sums[e] = sum;
+        lost += is_lost;
     }
-    Ok(())
+    if lost == 0 {
+        Ok(())
+    } else {
+        Err(Refusal::BodyFailed)
+    }
 }
 
-/// The sum of the numbers at a place of two lists.
-fn sum_of_places(a: &[i64], b: &[i64], e: usize) -> Result<i64, Refusal>
+/// The sum of the numbers at a place of two lists and 0, or some number and 1 where the sum leaves `i64`.
+fn sum_of_places(a: &[i64], b: &[i64], e: usize) -> (i64, u64)
     requires left { e < length a.now }
     requires right { e < length b.now }
-    ensures { MatchResult result (λ sum. (place_sum a.now b.now e ≡ sum) × (fits (place_sum a.now b.now e) ≡ true)) (λ refusal. (refusal ≡ BodyFailed) × (fits (place_sum a.now b.now e) ≡ false)) }
+    ensures fit { result.1 ≡ 0 → (place_sum a.now b.now e ≡ result.0) × (fits (place_sum a.now b.now e) ≡ true) }
+    ensures lost { 0 < result.1 → fits (place_sum a.now b.now e) ≡ false }
+    ensures one { result.1 ≤ 1 }
 {
     match a[e].checked_add(b[e]) {
-        Some(sum) => Ok(sum),
-        None => Err(Refusal::BodyFailed),
+        Some(sum) => (sum, 0),
+        None => (a[e].wrapping_add(b[e]), 1),
     }
 }
