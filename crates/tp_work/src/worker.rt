@@ -1,4 +1,4 @@
-ghost use Rattle.std.specs.Prelude.{◌≡◌, OnOk};
+ghost use Rattle.std.specs.Prelude.{◌≡◌, IfOk, OnOk};
 
 mod passing;
 mod receiving;
@@ -12,7 +12,7 @@ use std::sync::atomic::Ordering;
 use std::thread;
 use tp_base::{MAX_NODES, NodeId, Refusal};
 use tp_board::{Board, Ended, Ledgers};
-use tp_graph::{Comparable, Graph, is_same};
+use tp_graph::{Comparable, Graph, is_same, run_body};
 use tp_monitor::TaskpoolState;
 use tp_node::{Finished, Node, Turn as ControlTurn, Work};
 
@@ -36,14 +36,24 @@ pub(crate) struct Worker<'a, G: Graph, K: Ledgers, A: Gate, R: Wait> {
     pub gate: &'a A,
 }
 
+/// What a worker has in its hands between two holds of its node's lock. It lends them to each turn, so that a task is put
+/// where it stays until it has run: it is large, and a move of it takes as long as the hold of a lock.
+#[derive(Drop)]
+struct Hands<G: Graph> {
+    /// A task that has begun.
+    begun: Option<Work<G>>,
+    /// A task that has run, whose feeds are not passed on.
+    finished: Option<Finished<G>>,
+}
+
 /// What a turn did.
-enum Turn<G: Graph, K: Ledgers> {
+enum Turn<K: Ledgers> {
     /// There was nothing to do.
     Idle,
     /// Something was done.
     Moved,
-    /// A task has begun, or had begun before and waited for a worker.
-    Begun(Work<G>),
+    /// A task lies in the worker's hands. It has begun, or had begun before and waited for a worker.
+    Begun,
     /// The end was judged.
     Over(Ended<K>),
     /// A fault was set, or the end was announced.
@@ -82,13 +92,16 @@ impl<'a, G: Comparable, K: Ledgers, A: Gate, R: Wait> Worker<'a, G, K, A, R> {
 
     fn take_turns(&self) -> Result<(), Refusal> {
         let mut idle = 0u32;
-        let mut finished = None;
+        let mut hands = Hands {
+            begun: None,
+            finished: None,
+        };
         let mut seen = None;
         let Some(site) = self.locks.sites.get(self.place.0 as usize) else {
             return Err(Refusal::NoNode);
         };
         for _ in self.rt.forever() {
-            match self.turn(site, finished.take(), idle, &mut seen)? {
+            match self.turn(site, &mut hands, idle, &mut seen)? {
                 Turn::Idle => {
                     idle = idle.saturating_add(1);
                     if idle >= self.idle_turns {
@@ -97,9 +110,9 @@ impl<'a, G: Comparable, K: Ledgers, A: Gate, R: Wait> Worker<'a, G, K, A, R> {
                     self.rest(site, seen, idle);
                 }
                 Turn::Moved => idle = 0,
-                Turn::Begun(work) => {
+                Turn::Begun => {
                     site.call_for_waiting();
-                    finished = Some(self.perform(work, idle)?);
+                    self.perform(&mut hands, idle)?;
                     idle = 0;
                 }
                 Turn::Over(ended) => return self.announce(ended),
@@ -149,12 +162,12 @@ impl<'a, G: Comparable, K: Ledgers, A: Gate, R: Wait> Worker<'a, G, K, A, R> {
     fn turn(
         &self,
         site: &Site<NodeDesk<G, K>>,
-        finished: Option<Finished<G>>,
+        hands: &mut Hands<G>,
         idle: u32,
         seen: &mut Option<Seen>,
-    ) -> Result<Turn<G, K>, Refusal> {
+    ) -> Result<Turn<K>, Refusal> {
         let mut desk = lock_soon(self.rt, &site.desk);
-        self.turn_at(&mut desk, site, finished, idle, seen)
+        self.turn_at(&mut desk, site, hands, idle, seen)
     }
 
     /// Passes on what the worker's last task has made, and takes a turn of the node.
@@ -163,12 +176,12 @@ impl<'a, G: Comparable, K: Ledgers, A: Gate, R: Wait> Worker<'a, G, K, A, R> {
         &self,
         desk: &mut NodeDesk<G, K>,
         site: &Site<NodeDesk<G, K>>,
-        finished: Option<Finished<G>>,
+        hands: &mut Hands<G>,
         idle: u32,
         seen: &mut Option<Seen>,
-    ) -> Result<Turn<G, K>, Refusal> {
+    ) -> Result<Turn<K>, Refusal> {
         check_node(&desk.node, self.place, &self.graph)?;
-        if let Some(finished) = finished {
+        if let Some(finished) = hands.finished.take() {
             self.pass_on(&mut desk.node, finished)?;
         }
         if self.locks.is_stopped.load(Ordering::SeqCst) {
@@ -180,16 +193,12 @@ impl<'a, G: Comparable, K: Ledgers, A: Gate, R: Wait> Worker<'a, G, K, A, R> {
         match desk.node.state() {
             TaskpoolState::Terminated => Ok(Turn::Stop),
             TaskpoolState::NotReady => self.open(&mut desk.node, site),
-            _ => self.go_on(desk, site, seen),
+            _ => self.go_on(desk, site, hands, seen),
         }
     }
 
     /// Inserts input-free tasks, and closes the opening action after the last.
-    fn open(
-        &self,
-        here: &mut Node<G, K>,
-        site: &Site<NodeDesk<G, K>>,
-    ) -> Result<Turn<G, K>, Refusal> {
+    fn open(&self, here: &mut Node<G, K>, site: &Site<NodeDesk<G, K>>) -> Result<Turn<K>, Refusal> {
         let mut board = lock_soon(self.rt, &self.locks.board);
         let opened = open_tasks(here, &mut board);
         drop(board);
@@ -204,18 +213,20 @@ impl<'a, G: Comparable, K: Ledgers, A: Gate, R: Wait> Worker<'a, G, K, A, R> {
         &self,
         desk: &mut NodeDesk<G, K>,
         site: &Site<NodeDesk<G, K>>,
+        hands: &mut Hands<G>,
         seen: &mut Option<Seen>,
-    ) -> Result<Turn<G, K>, Refusal> {
+    ) -> Result<Turn<K>, Refusal> {
         if site.mail.load(Ordering::SeqCst) > 0 && self.receive(&mut desk.node, site)? {
             site.tell_waiting(desk.waiting());
             return Ok(Turn::Moved);
         }
         let waiting = desk.waiting();
         site.tell_waiting(waiting.saturating_sub(1));
-        if waiting > 0
-            && let Some(work) = self.next_work(desk)?
-        {
-            return Ok(Turn::Begun(work));
+        if waiting > 0 {
+            hands.begun = self.next_work(desk)?;
+            if hands.begun.is_some() {
+                return Ok(Turn::Begun);
+            }
         }
         self.control(&mut desk.node, seen)
     }
@@ -231,11 +242,7 @@ impl<'a, G: Comparable, K: Ledgers, A: Gate, R: Wait> Worker<'a, G, K, A, R> {
     }
 
     /// Makes a control step, where the node can make one.
-    fn control(
-        &self,
-        here: &mut Node<G, K>,
-        seen: &mut Option<Seen>,
-    ) -> Result<Turn<G, K>, Refusal> {
+    fn control(&self, here: &mut Node<G, K>, seen: &mut Option<Seen>) -> Result<Turn<K>, Refusal> {
         let now = Some(Seen {
             control_steps: self.locks.control_steps.load(Ordering::SeqCst),
             pending: here.pending(),
@@ -263,16 +270,17 @@ impl<'a, G: Comparable, K: Ledgers, A: Gate, R: Wait> Worker<'a, G, K, A, R> {
         here.control_turn(&mut board)
     }
 
-    /// Runs the body of a task, under no lock.
+    /// Runs the body of the task in the worker's hands, under no lock.
     #[inline(always)]
-    fn perform(&self, work: Work<G>, idle: u32) -> Result<Finished<G>, Refusal> {
-        if !self.gate.before(work.task()) {
-            return Err(Refusal::Stalled(idle));
+    fn perform(&self, hands: &mut Hands<G>, idle: u32) -> Result<(), Refusal> {
+        if let Some(work) = &hands.begun {
+            if !self.gate.before(work.task()) {
+                return Err(Refusal::Stalled(idle));
+            }
+            hands.finished = Some(run_work(self.alloc, work)?);
         }
-        match work.perform(self.alloc) {
-            Ok(finished) => Ok(finished),
-            Err((refusal, _)) => Err(refusal),
-        }
+        hands.begun = None;
+        Ok(())
     }
 
     /// Announces the end to each node.
@@ -302,6 +310,16 @@ impl<'a, G: Comparable, K: Ledgers, A: Gate, R: Wait> Worker<'a, G, K, A, R> {
         }
         checked
     }
+}
+
+/// Runs the body of a task that has begun. The task is lent, so that it stays where it is.
+#[inline(always)]
+fn run_work<G: Graph>(alloc: Global, work: &Work<G>) -> Result<Finished<G>, Refusal>
+    ensures { IfOk result (λ finished. (finished.graph ≡ work.now.graph) × (finished.task ≡ work.now.task)) }
+{
+    let (graph, task) = (work.graph(), work.task());
+    let value = run_body(alloc, &graph, task, work.inputs())?;
+    Ok(Finished::new(graph, task, value))
 }
 
 /// Inserts input-free tasks, and closes the opening action after the last.
