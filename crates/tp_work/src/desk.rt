@@ -1,4 +1,4 @@
-ghost use Rattle.std.specs.Prelude.{◌≡◌, ◌+◌, ◌++◌, ◌*◌, ◌<◌, ◌≤◌, [], None, Some, IfErr, IfNone, IfOk, MatchOption, OnErr, length, vec_len};
+ghost use Rattle.std.specs.Prelude.{◌≡◌, ◌+◌, ◌++◌, ◌*◌, ◌<◌, ◌≤◌, [], None, Some, IfErr, IfNone, IsOk, MatchOption, OnErr, OnOk, length, vec_len};
 ghost use Rattle.std.specs.Option.{option_to_list};
 ghost use Rattle.tp_base.specs.declared.refusal.Refusal.TheVariants.{NoMemory};
 ghost use Rattle.tp_board.specs.Calls.{Answers, Appends};
@@ -99,8 +99,8 @@ impl<G: Graph, K: Ledgers> Desk<Node<G, K>, Work<G>> {
         self.node.counts().ready as u64 + self.begun.len() as u64
     }
 
-    /// Begins a worker's share of the node's ready tasks, and takes the first of them; `None` where no task is ready. No work
-    /// may wait, so that works are taken in the order in which they began.
+    /// Begins a worker's share of the node's ready tasks, and puts the first of them where the worker wants it, so that it is
+    /// moved once; `None` where no task is ready. No work may wait, so that works are taken in the order in which they began.
     ///
     /// Refused, where a task is ready: `HistoryFull` where the history has reached its limit; `NoMemory`. Nothing changes then.
     #[inline(always)]
@@ -108,22 +108,21 @@ impl<G: Graph, K: Ledgers> Desk<Node<G, K>, Work<G>> {
         &mut self,
         board: &mut Board<K>,
         share: Share,
-    ) -> Result<Option<Work<G>>, Refusal>
+        begun: &mut Option<Work<G>>,
+    ) -> Result<(), Refusal>
         requires empty { self.old.begun.items ≡ [] }
-        ensures none { next_task self.old.node ≡ None → result ≡ Ok None }
-        ensures first { IfOk result (λ work. MatchOption work (next_task self.old.node ≡ None) (λ first. next_task self.old.node ≡ Some first.task)) }
+        ensures none { next_task self.old.node ≡ None → IsOk result × (begun.new ≡ None) }
+        ensures first { OnOk result (MatchOption begun.new (next_task self.old.node ≡ None) (λ first. next_task self.old.node ≡ Some first.task)) }
         ensures refusal { MatchOption (next_task self.old.node) (Unit {0}) (λ t. Answers (begin_checks board.old) result) }
-        ensures refused { OnErr result (Appends [] board.old board.new × (self.new ≡ self.old)) }
+        ensures refused { OnErr result (Appends [] board.old board.new × (self.new ≡ self.old) × (begun.new ≡ begun.old)) }
         ensures full { board.old.limit ≡ 1048576 → length board.old.history < 1048576 → IfErr result (λ e. e ≡ NoMemory) }
     {
         let share = share.of_ready(self.node.counts().ready, board.len());
-        if share == 1 {
-            // (so that the work is written where it goes)
-            return self.node.begin(board);
+        *begun = self.node.begin(board)?;
+        if share > 1 {
+            self.begin_more(board, share - 1);
         }
-        let begun = self.node.begin(board)?;
-        self.begin_more(board, share - 1);
-        Ok(begun)
+        Ok(())
     }
 
     /// Begins as many more ready tasks, whose works then wait. A refusal ends it: whoever begins the next task is told.

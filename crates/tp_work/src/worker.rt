@@ -223,7 +223,7 @@ impl<'a, G: Comparable, K: Ledgers, A: Gate, R: Wait> Worker<'a, G, K, A, R> {
         let waiting = desk.waiting();
         site.tell_waiting(waiting.saturating_sub(1));
         if waiting > 0 {
-            hands.begun = self.next_work(desk)?;
+            self.next_work(desk, &mut hands.begun)?;
             if hands.begun.is_some() {
                 return Ok(Turn::Begun);
             }
@@ -231,14 +231,20 @@ impl<'a, G: Comparable, K: Ledgers, A: Gate, R: Wait> Worker<'a, G, K, A, R> {
         self.control(&mut desk.node, seen)
     }
 
-    /// The next work of the desk. Where none waits there, the worker's share of the ready tasks begins.
+    /// Puts the next work of the desk into the worker's hands. Where none waits there, the worker's share of the ready tasks
+    /// begins.
     #[inline(always)]
-    fn next_work(&self, desk: &mut NodeDesk<G, K>) -> Result<Option<Work<G>>, Refusal> {
+    fn next_work(
+        &self,
+        desk: &mut NodeDesk<G, K>,
+        begun: &mut Option<Work<G>>,
+    ) -> Result<(), Refusal> {
         if let Some(work) = desk.take() {
-            return Ok(Some(work));
+            *begun = Some(work);
+            return Ok(());
         }
         let mut board = lock_soon(self.rt, &self.locks.board);
-        desk.begin(&mut board, self.share)
+        desk.begin(&mut board, self.share, begun)
     }
 
     /// Makes a control step, where the node can make one.
