@@ -1,4 +1,4 @@
-ghost use Rattle.std.specs.Prelude.{◌≡◌, ◌<◌, ◌≤◌, MatchOption, OnOk};
+ghost use Rattle.std.specs.Prelude.{◌≡◌, ◌<◌, ◌≤◌, IfOk, MatchOption, OnOk};
 ghost use Rattle.tp_node.specs.Feeds as feeds;
 ghost use Rattle.tp_node.specs.Feeds.{HasFeed};
 ghost use Rattle.tp_work.specs.Feeds.{GoesTo, IsFarther, IsSameNode};
@@ -23,14 +23,16 @@ impl<'a, G: Comparable, K: Ledgers, A: Gate, R: Wait> Worker<'a, G, K, A, R> {
             return Err(Refusal::Stranger);
         }
         let mut finished = finished;
-        while let Some(home) = next_home(&finished, here.nodes()) {
+        let mut next = next_home(&finished, here.nodes());
+        while let Some(home) = next {
             if home != here.number() {
                 self.send(here, home, &mut finished)?;
+                next = next_home(&finished, here.nodes());
                 continue;
             }
             let mut board = lock_soon(self.rt, &self.locks.board);
-            feed_here(here, &mut board, &mut finished)?;
-            if finished.all_fed() {
+            next = feed_here(here, &mut board, &mut finished)?;
+            if next.is_none() {
                 return record_done(here, &mut board, finished);
             }
         }
@@ -105,27 +107,29 @@ fn next_home<G: Graph>(finished: &Finished<G>, nodes: u32) -> Option<NodeId>
     Some(finished.graph().home(feed.target, nodes))
 }
 
-/// Passes the next feed on to the node itself, and those after it, as long as they stay there.
+/// Passes the next feed on to the node itself, and those after it, as long as they stay there. It answers where the next one
+/// goes, where one is left.
 fn feed_here<G: Graph, K: Ledgers>(
     here: &mut Node<G, K>,
     board: &mut Board<K>,
     finished: &mut Finished<G>,
-) -> Result<(), Refusal>
+) -> Result<Option<NodeId>, Refusal>
     requires graph { finished.old.graph ≡ here.old.graph }
     requires next { HasFeed (G.meaning here.old.graph) finished.old }
     requires here { feeds.next_home (G.meaning here.old.graph) finished.old here.old.nodes ≡ here.old.numbers.node }
     ensures node { OnOk result (IsSameNode here.old here.new) }
     ensures passed { OnOk result (IsFarther finished.old finished.new) }
+    ensures next { IfOk result (λ next. MatchOption next (finished.new.fed ≡ (G.meaning finished.new.graph).feeds finished.new.task.0) (λ home. GoesTo (G.meaning finished.new.graph) finished.new here.old.nodes home.0)) }
 {
     let (number, nodes) = (here.number(), here.nodes());
     here.feed(board, finished)?;
     while let Some(home) = next_home(finished, nodes) {
         if home != number {
-            break;
+            return Ok(Some(home));
         }
         here.feed(board, finished)?;
     }
-    Ok(())
+    Ok(None)
 }
 
 /// Records a task as done, all of whose feeds were passed on.
