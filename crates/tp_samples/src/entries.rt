@@ -24,38 +24,38 @@ static RIGHT: [i32; 84] = [
 ];
 
 /// So many entries of a table, from a place on.
-fn part(table: &'static [i32], from: u32, count: u32) -> &'static [i32]
+fn part(table: &'static [i32], from: usize, count: usize) -> &'static [i32]
     requires inside { from + count ≤ length table.now }
     ensures long { length result.now ≡ count }
     ensures same { (n : ℕ) → n < count → slice_index_or result.now n (pos 0) ≡ slice_index_or table.now (from + n) (pos 0) }
 {
-    let from = from as usize;
-    &table[from..from + count as usize]
+    &table[from..from + count]
 }
 
 /// So many entries of row x of the left matrix, from column z on.
-pub(crate) fn left_entries(seed: u32, x: u32, z: u32, count: u32) -> &'static [i32]
+pub(crate) fn left_entries(seed: u32, x: u32, z: u32, count: usize) -> &'static [i32]
     requires places { (x < 64) × (z + count ≤ 64) }
     requires seed_small { seed ≤ 9999 }
     ensures long { length result.now ≡ count }
     ensures same { (n : ℕ) → n < count → slice_index_or result.now n (pos 0) ≡ left_entry seed x (z + n) }
     ensures small { (n : ℕ) → n < count → unsigned_abs (slice_index_or result.now n (pos 0)) ≤ 10 }
 {
-    part(&LEFT, (x + seed) % 3 * 70 + (z + 5 * seed) % 7, count)
+    let from = (x + seed) % 3 * 70 + (z + 5 * seed) % 7;
+    part(&LEFT, from as usize, count)
 }
 
 /// The place in the table of the right matrix's entry in row z of column y.
-pub(crate) fn right_place(seed: u32, z: u32, y: u32) -> u32
+pub(crate) fn right_place(seed: u32, z: u32, y: u32) -> usize
     requires places { (z ≤ 64) × (y ≤ 64) }
     requires seed_small { seed ≤ 9999 }
     ensures inside { result < 21 }
     ensures same { 5 * result % 21 ≡ (5 * z + 2 * y + seed) % 21 }
 {
-    (z + 13 * y + 17 * seed) % 21
+    ((z + 13 * y + 17 * seed) % 21) as usize
 }
 
 /// The place of the entry in the same row of the next column.
-pub(crate) fn next_place(place: u32) -> u32
+pub(crate) fn next_place(place: usize) -> usize
     requires inside { place < 21 }
     ensures inside { result < 21 }
     ensures same { 5 * result % 21 ≡ (5 * place + 2) % 21 }
@@ -65,7 +65,7 @@ pub(crate) fn next_place(place: u32) -> u32
 }
 
 /// So many entries of a column of the right matrix, from a place on.
-pub(crate) fn right_entries(place: u32, count: u32) -> &'static [i32]
+pub(crate) fn right_entries(place: usize, count: usize) -> &'static [i32]
     requires places { (place < 21) × (count ≤ 64) }
     ensures long { length result.now ≡ count }
     ensures same { (n : ℕ) → n < count → slice_index_or result.now n (pos 0) ≡ pos (5 * (place + n) % 21) -ℤ pos 10 }

@@ -142,10 +142,11 @@ fn push_row(made: &mut Vec<i64>, side: u32, seed: u32, x: u32, y: u32, start: u3
     ensures len { vec_len made.new ≡ vec_len made.old + side }
     ensures capacity { vec_capacity made.new ≡ vec_capacity made.old }
 {
-    let left = left_entries(seed, x, start, side);
+    let count = side as usize;
+    let left = left_entries(seed, x, start, count);
     let mut place = right_place(seed, start, y);
     for _ in 0..side {
-        made.push_reserved(sum_at(left, right_entries(place, side)));
+        made.push_reserved(sum_at(left, right_entries(place, count)));
         place = next_place(place);
     }
 }
