@@ -1,12 +1,18 @@
 -- How a run ends.
-use Rattle.std.proofs.Common.{◌≡◌, ℕ, Bool, List, Result, Ok, Err, IfErr, codes, map, refl, subst}
+use Rattle.std.proofs.Common.{◌≡◌, ◌∙◌, ℕ, Bool, List, Result, Ok, Err, IfErr, codes, map, refl, subst, sym}
 use Rattle.tp_base.specs.declared.refusal.Refusal.{Refusal}
 use Rattle.clap.specs.Words.{Text, subcommand_of}
 use Rattle.tp_cli.specs.Command.{AsksForForm, AsksForPools, AsksForRun, IsAt, tp_app}
 use Rattle.tp_cli.specs.Ends.{IsRunText, IsTextOfPools, NamesPoolsInVain}
 use Rattle.tp_cli.specs.Pools.{AreInVain, IsPoolsText}
-use Rattle.tp_cli.specs.Runs.{IsTextFor}
+use Rattle.tp_cli.specs.Runs.{IsTextFor, NamesNoGraph}
+use Rattle.tp_cli.specs.Status.{status_of_verdict}
 use Rattle.tp_cli.specs.declared.run.Form.{Form}
+use Rattle.tp_cli.specs.declared.status.Status.TheVariants.{Refused}
+use Rattle.tp_samples.specs.Words.{word_of}
+use Rattle.tp_samples.specs.declared.any.AnyGraph.{AnyGraph}
+use Rattle.tp_text.specs.declared.Verdict.{Verdict}
+use Rattle.tp_text.specs.declared.Verdict.TheVariants as verdict
 
 pub run_text : (words : List Text) (spec : Text) (nodes workers : ℕ) (form : Form) (text : List ℕ) → AsksForRun words spec
     → IsAt (codes "run") nodes workers (subcommand_of tp_app words) → AsksForForm words form → IsTextFor form spec nodes text → IsRunText words text
@@ -28,3 +34,13 @@ pools_in_vain word words specs lent refusal is pools vain = (map word specs, ref
 pub IfErr-each : {X E : Type 0} (r : Result X E) (P : E → Type 0) → ((e : E) → r ≡ Err e → P e) → IfErr r P
 IfErr-each (Ok x) P all = tt
 IfErr-each (Err e) P all = all e refl
+
+-- a text whose status is that of a refusal was refused
+pub refused_verdict : (v : Verdict) → status_of_verdict v ≡ Refused → v ≡ verdict.Refused
+refused_verdict verdict.Sound is = cc
+refused_verdict verdict.Refused is = refl
+
+-- a word for which there was no graph names none
+pub names_none : (word : Text) (found : Result AnyGraph Refusal) (refusal : Refusal) → found ≡ Err refusal
+    → ((g : AnyGraph) → word ≡ word_of g → found ≡ Ok g) → NamesNoGraph word
+names_none word found refusal is named g same = let both : Err refusal ≡ Ok g = sym is ∙ named g same in cc

@@ -1,6 +1,7 @@
-use Rattle.std.proofs.Common.{◌<◌, ◌≤◌, arith, length, map, sym}
+use Rattle.std.proofs.Common.{◌≡◌, ◌<◌, ◌≤◌, arith, inl, length, map, sym}
 use Rattle.std.proofs.lemmas.List.{get_or-map, length-map}
 use Rattle.tp_base.specs.declared.limits.TheConstants.{MAX_POOLS}
+use Rattle.tp_base.specs.declared.refusal.Refusal.TheVariants.{StoreFull}
 use Rattle.tp_cli.proofs.Several.{all_named, first_refused, one_registered}
 use Rattle.tp_cli.proofs.pools.registry_of.Goals as goal
 
@@ -29,3 +30,8 @@ returns-clause-named c =
     let long = length-map c.args.words.now (λ w. w.now) in
     let few : length words ≤ MAX_POOLS = omega (arith, c.if-words.false, long) in
     all_named c.loop-word.word-index words c.loop-word.registry c.loop-word.invariant (omega (arith, c.loop-word-test.false, c.loop-word.auto.word-index-end, long)) few
+
+pub returns-then-words-clause-vain : goal.returns-then-words-clause-vain
+returns-then-words-clause-vain c = λ refusal is.
+    let full : refusal ≡ StoreFull = cc in
+    inl (omega (arith, c.if-words.true, length-map c.args.words.now (λ w. w.now)), full)

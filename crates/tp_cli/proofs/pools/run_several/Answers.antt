@@ -38,3 +38,6 @@ returns-clause-ran g c =
     let text : c.deref-2.result.now ≡ lines_from 0 words answers = c.deref-2.ensures.value ∙ made ∙ ap (λ rs. lines_from 0 words rs) c.deref.ensures.value in
     let ended : c.each_ended.result ≡ list_all is_ok answers = c.each_ended.ensures ∙ ap (λ rs. list_all is_ok rs) c.deref-3.ensures.value in
     (c.deref-2.result.now, (named.0, answers, named.1, run named.0 named.2, ended, text), c.in_ok-write_text.ensures.ok)
+
+pub returns-in_err-text-clause-memory : goal.returns-in_err-text-clause-memory
+returns-in_err-text-clause-memory g c = search rules

@@ -1,4 +1,4 @@
-use Rattle.std.proofs.Common.{◌≡◌, ◌∙◌, codes, subst, sym, Some}
+use Rattle.std.proofs.Common.{◌≡◌, ◌∙◌, ap, codes, subst, sym, Some}
 use Rattle.std.proofs.lemmas.Result.{IfOk-weaker}
 use Rattle.clap.proofs.WalkLemmas.{first_value-rows}
 use Rattle.clap.specs.Words.{found_of, rows_of}
@@ -25,3 +25,9 @@ returns-in-pools c =
     (λ request made. subst (λ name. IsMadeBy (Some (name, rows)) request) (sym is) made)
     asked)
     c.pools_asked.ensures
+
+pub returns-in-sim : goal.returns-in-sim
+returns-in-sim c = let rows = rows_of (found_of c.args.arguments.now) in (rows, ap (λ name. Some (name, rows)) c.in-sim.is)
+
+pub returns-in-audit : goal.returns-in-audit
+returns-in-audit c = let rows = rows_of (found_of c.args.arguments.now) in (rows, ap (λ name. Some (name, rows)) c.in-audit.is)

@@ -1,7 +1,9 @@
 use Rattle.std.proofs.Common.{rules, ◌≡◌, Err, Ok}
 use Rattle.std.proofs.lemmas.Result.{IfErr-at_err, IfOk-at_ok, on_ok_weaker}
 use Rattle.tp_cli.specs.Runs.{IsTextOf, IsWithoutText}
-use Rattle.tp_cli.proofs.Ending.{IfErr-each}
+use Rattle.tp_base.specs.declared.refusal.Refusal.TheVariants.{BadSpec}
+use Rattle.tp_cli.specs.declared.run.RunFault.TheVariants.{Spec}
+use Rattle.tp_cli.proofs.Ending.{IfErr-each, names_none}
 use Rattle.tp_samples.specs.Words.{word_of}
 use Rattle.tp_cli.proofs.run.run.Goals as goal
 
@@ -29,3 +31,19 @@ returns-in_err-text-clause-refused g c =
       named,
       IfErr-at_err (λ r. IsWithoutText c.args.form c.in_ok-graph.graph c.args.config.nodes r) was c.text_of_run.ensures.none,
     ))
+
+pub returns-in_err-graph-clause-unnamed : goal.returns-in_err-graph-clause-unnamed
+returns-in_err-graph-clause-unnamed g c =
+    let was : c.checked.result ≡ Err BadSpec = search rules in
+    let refused : c.from_residual.result ≡ Err (Spec BadSpec) = search rules in
+    (λ is. names_none c.args.spec.now c.checked.result BadSpec was c.checked.ensures.named, λ none. refused)
+
+pub returns-in_err-text-clause-unnamed : goal.returns-in_err-text-clause-unnamed
+returns-in_err-text-clause-unnamed g c =
+    let named : c.args.spec.now ≡ word_of c.in_ok-graph.graph = search rules in
+    (search rules, λ none. absurd (none c.in_ok-graph.graph named))
+
+pub returns-clause-unnamed : goal.returns-clause-unnamed
+returns-clause-unnamed g c =
+    let named : c.args.spec.now ≡ word_of c.in_ok-graph.graph = search rules in
+    (search rules, λ none. absurd (none c.in_ok-graph.graph named))

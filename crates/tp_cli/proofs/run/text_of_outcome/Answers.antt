@@ -1,7 +1,7 @@
-use Rattle.std.proofs.Common.{◌≡◌, ◌∙◌, ◌++◌, ap₂, ap}
+use Rattle.std.proofs.Common.{IfOk, ◌≡◌, ◌∙◌, ◌++◌, ap₂, ap, subst, sym}
 use Rattle.tp_cli.proofs.Counted.{tasks-outcome}
 use Rattle.tp_cli.proofs.Printed.{printed_table}
-use Rattle.tp_cli.specs.Runs.{totals_text}
+use Rattle.tp_cli.specs.Runs.{IsPrintOf, totals_text}
 use Rattle.tp_samples.specs.Any.{any_graph}
 use Rattle.tp_cli.proofs.run.text_of_outcome.Goals as goal
 
@@ -14,3 +14,7 @@ returns-in_ok-extend_from_slice-in-Table-clause-text c =
     c.as_bytes.ensures.value ∙ c.in_ok-totals-in-Table.ensures ∙ ap (λ n. totals_text n outcome.messages) tasks in
     printed_table c.args.form c.args.graph c.args.nodes outcome _ c.in-Table.is
     (c.in_ok-extend_from_slice-in-Table.ensures.items ∙ ap₂ (λ a b. a ++ b) c.in_ok-text-in-Table.ensures.printed totals)
+
+pub returns-in-Trace-clause-text : goal.returns-in-Trace-clause-text
+returns-in-Trace-clause-text c =
+    subst (λ form. IfOk c.print_trace.result (λ text. IsPrintOf form c.args.graph c.args.nodes c.args.outcome.now text.items)) (sym c.in-Trace.is) c.print_trace.ensures.ok

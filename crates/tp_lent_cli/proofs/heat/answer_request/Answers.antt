@@ -1,4 +1,4 @@
-use Rattle.std.proofs.Common.{arith, inl, inr, sym, ◌≢◌, ◌∙◌}
+use Rattle.std.proofs.Common.{arith, inl, inr, refl, sym, ◌≢◌, ◌∙◌}
 use Rattle.tp_lent_cli.proofs.Ending.{is_written, not_written}
 use Rattle.tp_lent_cli.proofs.heat.answer_request.Goals as goal
 
@@ -22,3 +22,12 @@ pub returns-in-Err-clause-failed : goal.returns-in-Err-clause-failed
 returns-in-Err-clause-failed g c = λ three.
     let other : c.complain.result ≢ 1 = λ one. absurd (omega (arith, one, three)) in
     c.in-Err.ensures.unwritten (not_written c.in-Err.fault c.complain.result c.complain.ensures.value other)
+
+pub returns-in-Ok-clause-printed : goal.returns-in-Ok-clause-printed
+returns-in-Ok-clause-printed g c = λ zero. (refl, c.in-Ok.ensures.printed)
+
+pub returns-in-Err-clause-range : goal.returns-in-Err-clause-range
+returns-in-Err-clause-range g c = c.complain.ensures.range.1
+
+pub returns-in-Err-clause-printed : goal.returns-in-Err-clause-printed
+returns-in-Err-clause-printed g c = λ zero. absurd (omega (arith, zero, c.complain.ensures.range.0))

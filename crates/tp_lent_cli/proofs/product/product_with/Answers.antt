@@ -1,4 +1,4 @@
-use Rattle.std.proofs.Common.{inl, inr, map, rules}
+use Rattle.std.proofs.Common.{inl, inr, map, refl}
 use Rattle.clap.specs.Values.{kind_of}
 use Rattle.tp_lent_cli.proofs.Asked.{at_fault, shown_asked}
 use Rattle.tp_lent_cli.specs.Command.{LackSide, product_app}
@@ -32,14 +32,29 @@ returns-in-Ok-clause-unread g c =
 pub returns-in-Err-clause-succeeded : goal.returns-in-Err-clause-succeeded
 returns-in-Err-clause-succeeded g c = λ zero.
     let shown = c.explain.ensures.shown zero in
-    (shown.0, inr (shown_asked product_app LackSide (map (λ w. w.now) c.args.words.now) (kind_of c.in-Err.error) c.in-Err.ensures.why shown.1, search rules))
+    (shown.0, inr (shown_asked product_app LackSide (map (λ w. w.now) c.args.words.now) (kind_of c.in-Err.error) c.in-Err.ensures.why shown.1, refl))
 
 pub returns-in-Err-clause-complained : goal.returns-in-Err-clause-complained
 returns-in-Err-clause-complained g c = λ one.
     elim (c.explain.ensures.complained one) [
       | inl shown ↦ inl (inr (shown_asked product_app LackSide (map (λ w. w.now) c.args.words.now) (kind_of c.in-Err.error) c.in-Err.ensures.why shown))
-      | inr vain ↦ inr (vain.0, inr (at_fault product_app LackSide (map (λ w. w.now) c.args.words.now) (kind_of c.in-Err.error) c.in-Err.ensures.why vain.1 vain.2, search rules))
+      | inr vain ↦ inr (vain.0, inr (at_fault product_app LackSide (map (λ w. w.now) c.args.words.now) (kind_of c.in-Err.error) c.in-Err.ensures.why vain.1 vain.2, refl))
     ]
 
 pub returns-in-Err-clause-refused : goal.returns-in-Err-clause-refused
 returns-in-Err-clause-refused g c = λ two. absurd (c.explain.ensures.never two)
+
+pub returns-in-Ok-clause-range : goal.returns-in-Ok-clause-range
+returns-in-Ok-clause-range g c = c.answer_request.ensures.range
+
+pub returns-in-Ok-clause-failed : goal.returns-in-Ok-clause-failed
+returns-in-Ok-clause-failed g c = c.answer_request.ensures.failed
+
+pub returns-in-Err-clause-range : goal.returns-in-Err-clause-range
+returns-in-Err-clause-range g c = c.explain.ensures.range
+
+pub returns-in-Err-clause-failed : goal.returns-in-Err-clause-failed
+returns-in-Err-clause-failed g c = c.explain.ensures.failed
+
+pub returns-in-Err-clause-unread : goal.returns-in-Err-clause-unread
+returns-in-Err-clause-unread g c = inr refl
