@@ -2,7 +2,7 @@ ghost use Rattle.std.specs.Prelude.{◌≡◌, ◌<◌, ◌≤◌, ◌+◌, ◌-
 ghost use Rattle.tp_samples.specs.Products.{IsProduct, IsProduct-prop, product_graph, term, sum_from, list_of, tile, tile_and_input, added, place_sum};
 ghost use Rattle.tp_samples.specs.ProductLaws.{product_lawful};
 ghost use Rattle.tp_samples.specs.Same.{three_same, rule_of_three};
-ghost use Rattle.tp_graph.specs.Values.{fits, all_fit, fitting, then_some, IsRefusal};
+ghost use Rattle.tp_graph.specs.Values.{fits, all_fit, fitting, then_some};
 ghost use Rattle.tp_base.specs.declared.Refusal.TheVariants.{BodyFailed};
 
 use crate::entries::{left_entries, next_place, right_entries, right_place};
@@ -126,9 +126,10 @@ fn lone_product(seed: u32, i: u32, j: u32, k: u32) -> i64
     multiply(left[0], right[0])
 }
 
-/// What a task makes of a tile of one number, with no list: a number takes no memory of its own.
+/// What a task makes of the number of a tile of one: that number, or its sum with the lone number of the input. Refused with
+/// `BodyFailed` exactly where the rule fails or the sum leaves `i64`. It takes no memory.
 fn lone_value(alloc: Global, product: i64, inputs: &[Value]) -> Result<Value, Refusal>
-    ensures { MatchResult result (λ value. then_some (tile_and_input 1 (product ∷ []) inputs.now) fitting ≡ Some value) (IsRefusal (then_some (tile_and_input 1 (product ∷ []) inputs.now) fitting)) }
+    ensures { MatchResult result (λ value. then_some (tile_and_input 1 (product ∷ []) inputs.now) fitting ≡ Some value) (λ refusal. (refusal ≡ BodyFailed) × (then_some (tile_and_input 1 (product ∷ []) inputs.now) fitting ≡ None)) }
 {
     match inputs {
         [] => Ok(Value::one(alloc, product)?),
