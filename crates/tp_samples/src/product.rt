@@ -1,8 +1,8 @@
 ghost use Rattle.std.specs.Prelude.{◌≡◌, ◌<◌, ◌≤◌, ◌+◌, ◌-◌, ◌*◌, ◌/◌, ◌%◌, ℕ, pos, ◌+ℤ◌, ◌-ℤ◌, ◌∷◌, ◌++◌, [], ◌*ℤ◌, unsigned_abs, true, false, length, slice_index_or, vec_len, vec_capacity, IfOk, MatchResult, Some, None};
-ghost use Rattle.tp_samples.specs.Products.{IsProduct, IsProduct-prop, product_graph, term, sum_from, list_of, tile, added, place_sum};
+ghost use Rattle.tp_samples.specs.Products.{IsProduct, IsProduct-prop, product_graph, term, sum_from, list_of, tile, tile_and_input, added, place_sum};
 ghost use Rattle.tp_samples.specs.ProductLaws.{product_lawful};
 ghost use Rattle.tp_samples.specs.Same.{three_same, rule_of_three};
-ghost use Rattle.tp_graph.specs.Values.{fits, all_fit};
+ghost use Rattle.tp_graph.specs.Values.{fits, all_fit, fitting, then_some};
 ghost use Rattle.tp_base.specs.declared.Refusal.TheVariants.{BodyFailed};
 
 use crate::entries::{left_entries, next_place, right_entries, right_place};
@@ -99,7 +99,11 @@ impl Graph for Product {
     fn body(&self, alloc: Global, task: TaskId, inputs: &[Value]) -> Result<Value, Refusal> {
         let i = task.0 / self.tiles / self.tiles;
         let j = task.0 / self.tiles % self.tiles;
-        let mut made = make_tile(alloc, self.side, self.seed, i, j, task.0 % self.tiles)?;
+        let k = task.0 % self.tiles;
+        if self.side == 1 {
+            return lone_value(alloc, lone_product(self.seed, i, j, k), inputs);
+        }
+        let mut made = make_tile(alloc, self.side, self.seed, i, j, k)?;
         match inputs {
             [] => Ok(Value::from_vec(made)?),
             [input] => {
@@ -108,6 +112,29 @@ impl Graph for Product {
             }
             _ => Err(Refusal::BodyFailed),
         }
+    }
+}
+
+/// The number of a tile of one.
+fn lone_product(seed: u32, i: u32, j: u32, k: u32) -> i64
+    requires places { (i < 64) × (j < 64) × (k < 64) }
+    requires seed_small { seed ≤ 9999 }
+    ensures { tile 1 seed i j k ≡ result ∷ [] }
+{
+    let left = left_entries(seed, i, k, 1);
+    let right = right_entries(right_place(seed, k, j), 1);
+    multiply(left[0], right[0])
+}
+
+/// What a task makes of the number of a tile of one: that number, or its sum with the lone number of the input. Refused with
+/// `BodyFailed` exactly where the rule fails or the sum leaves `i64`. It takes no memory.
+fn lone_value(alloc: Global, product: i64, inputs: &[Value]) -> Result<Value, Refusal>
+    ensures { MatchResult result (λ value. then_some (tile_and_input 1 (product ∷ []) inputs.now) fitting ≡ Some value) (λ refusal. (refusal ≡ BodyFailed) × (then_some (tile_and_input 1 (product ∷ []) inputs.now) fitting ≡ None)) }
+{
+    match inputs {
+        [] => Ok(Value::one(alloc, product)?),
+        [input] => Value::sum(alloc, input.lone()?, product),
+        _ => Err(Refusal::BodyFailed),
     }
 }
 
