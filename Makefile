@@ -1,4 +1,4 @@
-# make          proves every crate and builds the programs: bin/tp, bin/heat and bin/product (some 25 minutes on four cores)
+# make          proves every crate and builds the programs: bin/tp, bin/heat and bin/product (some 30 minutes on four cores)
 # make demo     two runs of the program, unproved (a minute)
 # make test     every test and every program, unproved (some minutes)
 # make gate     the gate: every proof from nothing, the wrong bodies, each test, each program (see docs/GATE.md)

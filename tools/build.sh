@@ -4,7 +4,7 @@ set -u -o pipefail
 cd "$(dirname "$0")/.."
 crates=$(grep -cE '^[a-z]' crates.txt)
 jobs=$(tools/lanes.sh)
-echo "Proves $crates crates, $jobs beside each other, and builds bin/tp, bin/heat and bin/product. On four cores that takes some 25 minutes the first time, and later only what changed."
+echo "Proves $crates crates, $jobs beside each other, and builds bin/tp, bin/heat and bin/product. On four cores that takes some 30 minutes the first time, and later only what changed."
 rt all check --jobs "$jobs" 2>&1 | awk -v total="$crates" -f tools/progress.awk || exit $?
 log=$(mktemp)
 trap 'rm -f "$log"' EXIT
