@@ -1,4 +1,4 @@
-ghost use Rattle.std.specs.Prelude.{◌≡◌, ◌+◌, ◌++◌, ◌*◌, ◌<◌, ◌≤◌, [], None, Some, IfErr, IfNone, IsOk, MatchOption, OnErr, OnOk, length, vec_len};
+ghost use Rattle.std.specs.Prelude.{◌≡◌, ◌+◌, ◌-◌, ◌++◌, ◌*◌, ◌/◌, ◌<◌, ◌≤◌, [], None, Some, IfErr, IfNone, IsOk, MatchOption, OnErr, OnOk, length, max, min, vec_len};
 ghost use Rattle.std.specs.Option.{option_to_list};
 ghost use Rattle.tp_base.specs.declared.refusal.Refusal.TheVariants.{NoMemory};
 ghost use Rattle.tp_board.specs.Calls.{Answers, Appends};
@@ -41,6 +41,7 @@ impl Share {
         ensures few { (1 ≤ result) × (result ≤ self.most) }
         ensures share { 1 < result → result * self.workers ≤ ready }
         ensures places { 1 < result → events + result ≤ 1048576 }
+        ensures same { result ≡ max (min (min (ready / self.workers) (1048576 - events)) self.most) 1 }
     {
         let left = MAX_STEPS - events as u32;
         (ready / self.workers).min(left).min(self.most).max(1)

@@ -1,4 +1,5 @@
-ghost use Rattle.std.specs.Prelude.{◌≡◌, IfOk, OnOk};
+ghost use Rattle.std.specs.Prelude.{◌≡◌, IfOk, MatchResult, OnOk, Some};
+ghost use Rattle.tp_graph.specs.Values.{IsRefusal, value_of};
 
 mod passing;
 mod receiving;
@@ -36,8 +37,8 @@ pub(crate) struct Worker<'a, G: Graph, K: Ledgers, A: Gate, R: Wait> {
     pub gate: &'a A,
 }
 
-/// What a worker has in its hands between two holds of its node's lock. It lends them to each turn, so that a task is put
-/// where it stays until it has run: it is large, and a move of it takes as long as the hold of a lock.
+/// What a worker has in its hands between two holds of its node's lock. It lends them to each turn, so that a task, which is
+/// large, is put where it stays until it has run.
 #[derive(Drop)]
 struct Hands<G: Graph> {
     /// A task that has begun.
@@ -321,7 +322,8 @@ impl<'a, G: Comparable, K: Ledgers, A: Gate, R: Wait> Worker<'a, G, K, A, R> {
 /// Runs the body of a task that has begun. The task is lent, so that it stays where it is.
 #[inline(always)]
 fn run_work<G: Graph>(alloc: Global, work: &Work<G>) -> Result<Finished<G>, Refusal>
-    ensures { IfOk result (λ finished. (finished.graph ≡ work.now.graph) × (finished.task ≡ work.now.task)) }
+    ensures done { IfOk result (λ finished. (finished.graph ≡ work.now.graph) × (finished.task ≡ work.now.task) × (finished.fed ≡ 0)) }
+    ensures value { MatchResult result (λ finished. value_of (G.meaning work.now.graph) work.now.task.0 ≡ Some finished.value) (IsRefusal (value_of (G.meaning work.now.graph) work.now.task.0)) }
 {
     let (graph, task) = (work.graph(), work.task());
     let value = run_body(alloc, &graph, task, work.inputs())?;
