@@ -1,0 +1,5 @@
+use Rattle.std.proofs.Common.{rules}
+use Rattle.tp_core.proofs.accepting.Core.steps.Goals as goal
+
+pub returns : goal.returns
+returns c = search rules
