@@ -1,4 +1,4 @@
-ghost use Rattle.std.specs.Prelude.{◌≡◌, ◌<◌, ◌≤◌, ◌↔◌, IsTrue, Some, IfOk, IfErr};
+ghost use Rattle.std.specs.Prelude.{◌≡◌, ◌<◌, ◌≤◌, ◌↔◌, IsTrue, Some, IfOk, IfErr, MatchResult};
 ghost use Rattle.tp_graph.specs.Carried.{IsFeed};
 ghost use Rattle.tp_graph.specs.Values.{value_of, AreInputs, IsInput, IsRefusal};
 ghost use Rattle.tp_node.specs.Feeds.{HasFeed, next_feed_of, passed_on};
@@ -64,16 +64,27 @@ impl<G: Graph> Work<G> {
         self.inputs.as_slice()
     }
 
-    /// Runs the task's body. Refused with `BodyFailed` exactly where the task has no value, since its rule fails or a
-    /// number leaves `i64`, and with `NoMemory` where memory is refused first; the work comes back.
+    /// Runs the body of the task, which stays where it is. Refused with `BodyFailed` exactly where the task has no value,
+    /// since its rule fails or a number leaves `i64`, and with `NoMemory` where memory is refused first.
+    #[inline(always)]
+    pub fn run(&self, alloc: Global) -> Result<Finished<G>, Refusal>
+        ensures done { IfOk result (λ finished. (finished.graph ≡ self.now.graph) × (finished.task ≡ self.now.task) × (finished.fed ≡ 0)) }
+        ensures value { MatchResult result (λ finished. value_of (G.meaning self.now.graph) self.now.task.0 ≡ Some finished.value) (IsRefusal (value_of (G.meaning self.now.graph) self.now.task.0)) }
+    {
+        let value = run_body(alloc, &self.graph, self.task, self.inputs.as_slice())?;
+        Ok(Finished::new(self.graph, self.task, value))
+    }
+
+    /// Runs the task's body, as [`Work::run`] does. Refused with `BodyFailed` and `NoMemory` where that is; the work comes
+    /// back.
     pub fn perform(self, alloc: Global) -> Result<Finished<G>, (Refusal, Work<G>)>
         ensures done { IfOk result (λ finished. (finished.graph ≡ self.graph) × (finished.task ≡ self.task) × (finished.fed ≡ 0)) }
         ensures right { IfOk result (λ finished. value_of (G.meaning self.graph) self.task.0 ≡ Some finished.value) }
         ensures refused { IfErr result (λ refusal. IsRefusal (value_of (G.meaning self.graph) self.task.0) refusal.0) }
         ensures kept { IfErr result (λ refusal. refusal.1 ≡ self) }
     {
-        match run_body(alloc, &self.graph, self.task, self.inputs.as_slice()) {
-            Ok(value) => Ok(Finished::new(self.graph, self.task, value)),
+        match self.run(alloc) {
+            Ok(finished) => Ok(finished),
             Err(refusal) => Err((refusal, self)),
         }
     }

@@ -1,3 +1,4 @@
+pub mod Left
 pub mod Splits
 pub mod Numbers
 pub mod Lines

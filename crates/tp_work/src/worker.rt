@@ -1,5 +1,4 @@
-ghost use Rattle.std.specs.Prelude.{◌≡◌, IfOk, MatchResult, OnOk, Some};
-ghost use Rattle.tp_graph.specs.Values.{IsRefusal, value_of};
+ghost use Rattle.std.specs.Prelude.{◌≡◌, OnOk};
 
 mod passing;
 mod receiving;
@@ -13,7 +12,7 @@ use std::sync::atomic::Ordering;
 use std::thread;
 use tp_base::{MAX_NODES, NodeId, Refusal};
 use tp_board::{Board, Ended, Ledgers};
-use tp_graph::{Comparable, Graph, is_same, run_body};
+use tp_graph::{Comparable, Graph, is_same};
 use tp_monitor::TaskpoolState;
 use tp_node::{Finished, Node, Turn as ControlTurn, Work};
 
@@ -284,7 +283,7 @@ impl<'a, G: Comparable, K: Ledgers, A: Gate, R: Wait> Worker<'a, G, K, A, R> {
             if !self.gate.before(work.task()) {
                 return Err(Refusal::Stalled(idle));
             }
-            hands.finished = Some(run_work(self.alloc, work)?);
+            hands.finished = Some(work.run(self.alloc)?);
         }
         hands.begun = None;
         Ok(())
@@ -317,17 +316,6 @@ impl<'a, G: Comparable, K: Ledgers, A: Gate, R: Wait> Worker<'a, G, K, A, R> {
         }
         checked
     }
-}
-
-/// Runs the body of a task that has begun. The task is lent, so that it stays where it is.
-#[inline(always)]
-fn run_work<G: Graph>(alloc: Global, work: &Work<G>) -> Result<Finished<G>, Refusal>
-    ensures done { IfOk result (λ finished. (finished.graph ≡ work.now.graph) × (finished.task ≡ work.now.task) × (finished.fed ≡ 0)) }
-    ensures value { MatchResult result (λ finished. value_of (G.meaning work.now.graph) work.now.task.0 ≡ Some finished.value) (IsRefusal (value_of (G.meaning work.now.graph) work.now.task.0)) }
-{
-    let (graph, task) = (work.graph(), work.task());
-    let value = run_body(alloc, &graph, task, work.inputs())?;
-    Ok(Finished::new(graph, task, value))
 }
 
 /// Inserts input-free tasks, and closes the opening action after the last.

@@ -1,6 +1,6 @@
 use Rattle.std.proofs.Common.{[], ◌∷◌, arith}
-use Rattle.std.proofs.lemmas.Bool.Decides.{nat_tests}
 use Rattle.tp_text.proofs.Recounting.{answer_as, fault_format, fault_nodes, line_shorter, reads_none, reads_one, reads_all, reads_fault}
+use Rattle.tp_text.proofs.Left.{some_left, none_left}
 use Rattle.tp_text.proofs.recount.audited.Goals as goal
 
 pub returns-in_default-clause-ok : goal.returns-in_default-clause-ok
@@ -28,9 +28,9 @@ overflow_add-number c = omega (arith, c.loop-rest.invariant.1.short)
 
 pub returns-in_default-next_line-clause-ok : goal.returns-in_default-next_line-clause-ok
 returns-in_default-next_line-clause-ok c =
-    reads_fault _ _ _ _ _ _ c.loop-rest.invariant.1 (grind (arith, nat_tests, c.loop-rest-test.ensures)) c.in_default-next_line.ensures c.in_ok-syntax_line-3.ensures
+    reads_fault _ _ _ _ _ _ c.loop-rest.invariant.1 (some_left c.loop-rest.rest.now c.loop-rest-test.ensures) c.in_default-next_line.ensures c.in_ok-syntax_line-3.ensures
 
 pub returns-clause-ok : goal.returns-clause-ok
 returns-clause-ok c =
-    reads_all _ _ c.loop-rest.invariant.0 _ _ c.loop-rest.auditor _ _ c.loop-rest.invariant.1 (grind (arith, nat_tests, c.loop-rest-test.ensures))
+    reads_all _ _ c.loop-rest.invariant.0 _ _ c.loop-rest.auditor _ _ c.loop-rest.invariant.1 (none_left c.loop-rest.rest.now c.loop-rest-test.ensures)
     c.loop-rest.invariant.2 (answer_as c.loop-rest.auditor c.loop-rest.auditor.flaw _ _ c.in_ok-answer.ensures)

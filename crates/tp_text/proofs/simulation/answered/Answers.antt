@@ -1,9 +1,9 @@
 use Rattle.std.proofs.Common.{[], ◌∷◌, ◌++◌, sym, ap, ◌∙◌, arith}
-use Rattle.std.proofs.lemmas.Bool.Decides.{nat_tests}
 use Rattle.std.proofs.lemmas.Grind.{common_steps}
 use Rattle.tp_core.specs.Accepted.{Accepted}
 use Rattle.tp_text.specs.SimText.{fresh}
 use Rattle.tp_text.proofs.Taking.{fault_first, takes_none, takes_one, takes_all, takes_fault, nodes_kept, shorter}
+use Rattle.tp_text.proofs.Left.{some_left, none_left}
 use Rattle.tp_text.proofs.simulation.answered.Goals as goal
 
 pub returns-in_default-clause-ok : goal.returns-in_default-clause-ok
@@ -34,8 +34,8 @@ push_closing-requires c =
     (sym (ap (λ (a : Accepted). a.nodes) h.core_is ∙ nodes_kept (fresh c.in-Some.nodes) c.loop-rest.invariant.0), h.count.1)
 
 pub returns-clause-ok : goal.returns-clause-ok
-returns-clause-ok c = takes_all _ _ _ _ _ _ _ _ c.loop-rest.invariant.1 (grind (arith, nat_tests, c.loop-rest-test.ensures)) c.in_ok-push_closing.ensures
+returns-clause-ok c = takes_all _ _ _ _ _ _ _ _ c.loop-rest.invariant.1 (none_left c.loop-rest.rest.now c.loop-rest-test.ensures) c.in_ok-push_closing.ensures
 
 pub returns-in_default-next_step-clause-ok : goal.returns-in_default-next_step-clause-ok
 returns-in_default-next_step-clause-ok c =
-    takes_fault _ _ _ _ _ _ _ _ c.loop-rest.invariant.1 (grind (arith, nat_tests, c.loop-rest-test.ensures)) c.in_default-next_step.ensures c.in_ok-syntax_line-2.ensures
+    takes_fault _ _ _ _ _ _ _ _ c.loop-rest.invariant.1 (some_left c.loop-rest.rest.now c.loop-rest-test.ensures) c.in_default-next_step.ensures c.in_ok-syntax_line-2.ensures

@@ -20,3 +20,6 @@ returns g c =
       refusal = refused now sound turn;
       refused = kept now sound turn;
     }
+
+pub make_first-requires : goal.make_first-requires
+make_first-requires g c = search rules

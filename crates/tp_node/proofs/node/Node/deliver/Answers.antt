@@ -19,3 +19,6 @@ returns-in-Ok-clause-events g c = search rules
 
 pub returns-in-Ok-clause-delivered : goal.returns-in-Ok-clause-delivered
 returns-in-Ok-clause-delivered g c = search rules
+
+pub returns-in-Err-put-clause-refused : goal.returns-in-Err-put-clause-refused
+returns-in-Err-put-clause-refused g c = search rules

@@ -1,0 +1,11 @@
+-- What a loop's test tells of the bytes that are left.
+use Rattle.std.proofs.lemmas.Bool.Decides.{nat_tests}
+use Rattle.std.proofs.Common.{◌≡◌, ◌==◌, ◌<◌, ℕ, List, [], ◌∷◌, length, true, false, refl, arith}
+
+pub some_left : {X : Type 0} (xs : List X) → false ≡ (length xs == 0) → 0 < length xs
+some_left [] e = absurd cc
+some_left (x ∷ xs) e = omega arith
+
+pub none_left : {X : Type 0} (xs : List X) → true ≡ (length xs == 0) → length xs ≡ 0
+none_left [] e = refl
+none_left (x ∷ xs) e = grind (arith, nat_tests)
