@@ -1,4 +1,4 @@
-# make          proves every crate and builds the programs: bin/tp, bin/heat and bin/product (some 30 minutes on four cores)
+# make          proves all that the programs stand on, and builds them: bin/tp, bin/heat and bin/product (25 to 30 minutes on four slow cores)
 # make demo     two runs of the program, unproved (a minute)
 # make test     every test and every program, unproved (some minutes)
 # make gate     the gate: every proof from nothing, the wrong bodies, each test, each program (see docs/GATE.md)
@@ -15,7 +15,7 @@ all: bin/tp
 SOURCES := $(shell find crates -name out -prune -o \( -name '*.rt' -o -name '*.antt' \) -print)
 
 bin/tp: $(SOURCES) crates.txt
-	@tools/build.sh
+	@tools/build.py
 
 demo:
 	@tools/demo.sh

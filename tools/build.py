@@ -1,0 +1,156 @@
+#!/usr/bin/env python3
+"""Proves all that the programs stand on, and builds bin/tp, bin/heat and bin/product.
+
+Crates are proved beside each other, in as many copies of the repository as there are processors: a command of the prover locks all crates below its own, and what is
+proved in one copy is taken over in the others. Of the crates that can begin, the one that the most lines wait for goes first, and takes the processors that the
+others leave. Prints a line for each crate as it ends; where one is not proved, all that its check said, and the status is 1.
+"""
+import contextlib
+import fcntl
+import hashlib
+import os
+import re
+import shutil
+import subprocess
+import sys
+import tempfile
+import time
+from concurrent.futures import FIRST_COMPLETED, ThreadPoolExecutor, wait
+
+PROGRAMS = ["tp", "heat", "product"]
+# a further job of a check loads all libraries anew, which fewer lines do not repay
+LINES_OF_A_JOB = 500
+QUIET = re.compile(r"(== |logic|statements|library|crate|by-macro|only=|so far:|empty contracts|rt: chose)|.*: proved$")
+
+
+class Crate:
+    def __init__(self, name, below):
+        self.name, self.below = name, below
+        texts = [f"{at}/{file}" for at, folders, files in os.walk(f"crates/{name}") for file in files if skip_out(folders) and file.endswith((".rt", ".antt"))]
+        self.lines = sum(text_of(it).count("\n") for it in texts)
+
+
+def skip_out(folders):
+    folders[:] = [it for it in folders if it not in ("out", "must-fail", "data")]
+    return True
+
+
+def text_of(path):
+    with open(path, encoding="utf-8") as text:
+        return text.read()
+
+
+def crates():
+    """Gives the programs and each crate below them by its name, the lowest first."""
+    rows = [re.match(r"([a-z_]+)[^:]*:(.*)", line) for line in text_of("crates.txt").splitlines()]
+    below = {row[1]: row[2].split() for row in rows if row}
+    below = {name: [it for it in needs if it in below] for name, needs in below.items()}
+    wanted, left = set(), list(PROGRAMS)
+    while left:
+        name = left.pop()
+        if name not in wanted:
+            wanted.add(name)
+            left += below[name]
+    return {name: Crate(name, needs) for name, needs in below.items() if name in wanted}
+
+
+def waiting_for(every):
+    """Gives, for each crate, the lines of the longest chain of crates that begins with it and goes up."""
+    longest = {}
+    for name in reversed(every):
+        above = [longest[it] for it in longest if name in every[it].below]
+        longest[name] = every[name].lines + max(above, default=0)
+    return longest
+
+
+def copy_to(room):
+    """Brings the copy's sources up to date; what was proved there stays."""
+    os.makedirs(f"{room}/crates", exist_ok=True)
+    for name in ("crates.txt", "HANDLES"):
+        shutil.copy2(name, f"{room}/{name}")
+    for crate in os.listdir(f"{room}/crates"):
+        for name in os.listdir(f"{room}/crates/{crate}"):
+            old = f"{room}/crates/{crate}/{name}"
+            if name != "out":
+                shutil.rmtree(old) if os.path.isdir(old) else os.remove(old)
+    shutil.copytree("crates", f"{room}/crates", ignore=shutil.ignore_patterns("out", "must-fail"), dirs_exist_ok=True)
+
+
+def prove(crate, room, jobs):
+    """Proves a crate in a copy and builds it; gives whether that went well, and what was said."""
+    words = ["rt", "run", f"--jobs={jobs}", "--", "--help"] if crate.name in PROGRAMS else ["rt", "lib", f"--jobs={jobs}"]
+    ran = subprocess.run(words, cwd=f"{room}/crates/{crate.name}", stdin=subprocess.DEVNULL, stdout=subprocess.PIPE, stderr=subprocess.STDOUT, text=True)
+    if crate.name in PROGRAMS and not ran.returncode:
+        os.makedirs("bin", exist_ok=True)
+        shutil.copy2(f"{room}/crates/{crate.name}/out/{crate.name}", f"bin/{crate.name}")
+    return not ran.returncode, ran.stdout
+
+
+def shares(free, ready):
+    """Gives how many of the free processors each crate gets that can begin, the first in line what the others leave."""
+    for at, crate in enumerate(ready):
+        if not free:
+            return
+        left = len(ready) - at - 1
+        jobs = max(1, min(free - left, crate.lines // LINES_OF_A_JOB))
+        free -= jobs
+        yield crate, jobs
+
+
+def prove_all(every, rooms):
+    longest, began = waiting_for(every), time.time()
+    done, running, free, is_well = set(), {}, len(rooms), True
+    with ThreadPoolExecutor(len(rooms)) as lanes:
+        while is_well and len(done) < len(every) or running:
+            begun = {crate.name for crate, *_ in running.values()}
+            ready = [it for it in every.values() if it.name not in done | begun and done.issuperset(it.below)] if is_well else []
+            for crate, jobs in list(shares(free, sorted(ready, key=lambda it: -longest[it.name]))):
+                room = rooms.pop()
+                running[lanes.submit(prove, crate, room, jobs)] = crate, room, jobs, time.time()
+                free -= jobs
+            for ended in wait(running, return_when=FIRST_COMPLETED).done:
+                crate, room, jobs, since = running.pop(ended)
+                rooms.append(room)
+                free += jobs
+                proved, said = ended.result()
+                is_well = is_well and proved
+                done.add(crate.name)
+                tell(crate, proved, said, f"[{len(done)}/{len(every)}]", time.time() - since)
+    print(f"{'Proved and built' if is_well else 'NOT PROVED'}, in {(time.time() - began) / 60:.0f} minutes.")
+    return is_well
+
+
+def tell(crate, proved, said, at, seconds):
+    if proved:
+        functions = re.search(r"^logic=proved functions=(\d+)", said, re.M)
+        what = f", bin/{crate.name} is built" if crate.name in PROGRAMS else f", {functions[1]} functions" if functions else ""
+        print(f"{at} {crate.name}: proved{what} ({seconds:.0f} s)", flush=True)
+    else:
+        print(f"{at} {crate.name}: NOT PROVED")
+        print("\n".join(it for it in said.splitlines() if not QUIET.match(it)), flush=True)
+
+
+@contextlib.contextmanager
+def alone(top):
+    """Lets one command at a time work in the copies of this checkout."""
+    os.makedirs(top, mode=0o700, exist_ok=True)
+    with open(f"{top}/lock", "w", encoding="utf-8") as lock:
+        fcntl.flock(lock, fcntl.LOCK_EX)
+        yield
+
+
+def main():
+    os.chdir(os.path.join(os.path.dirname(os.path.abspath(__file__)), ".."))
+    lanes = int(subprocess.run(["tools/lanes.sh"], capture_output=True, text=True, check=True).stdout)
+    every = crates()
+    print(f"Proves {len(every)} crates on {lanes} processors, and builds bin/tp, bin/heat and bin/product: on four slow ones 25 to 30 minutes the first time, and later what changed.", flush=True)
+    top = f"{tempfile.gettempdir()}/gerfmuod-{os.getuid()}-{hashlib.sha256(os.getcwd().encode()).hexdigest()[:12]}"
+    with alone(top):
+        rooms = [f"{top}/{at}" for at in range(lanes)]
+        for room in rooms:
+            copy_to(room)
+        return 0 if prove_all(every, rooms) else 1
+
+
+if __name__ == "__main__":
+    sys.exit(main())
