@@ -91,17 +91,26 @@ impl<'a, G: Comparable, K: Ledgers, A: Gate, R: Wait> Worker<'a, G, K, A, R> {
     }
 
     fn take_turns(&self) -> Result<(), Refusal> {
-        let mut idle = 0u32;
+        let Some(site) = self.locks.sites.get(self.place.0 as usize) else {
+            return Err(Refusal::NoNode);
+        };
         let mut hands = Hands {
             begun: None,
             finished: None,
         };
+        self.work_at(site, &mut hands)
+    }
+
+    /// Takes turns until the pool has ended. The hands are lent, so that no way out of it has to drop what they hold.
+    fn work_at(
+        &self,
+        site: &Site<NodeDesk<G, K>>,
+        hands: &mut Hands<G>,
+    ) -> Result<(), Refusal> {
+        let mut idle = 0u32;
         let mut seen = None;
-        let Some(site) = self.locks.sites.get(self.place.0 as usize) else {
-            return Err(Refusal::NoNode);
-        };
         for _ in self.rt.forever() {
-            match self.turn(site, &mut hands, idle, &mut seen)? {
+            match self.turn(site, hands, idle, &mut seen)? {
                 Turn::Idle => {
                     idle = idle.saturating_add(1);
                     if idle >= self.idle_turns {
@@ -112,7 +121,7 @@ impl<'a, G: Comparable, K: Ledgers, A: Gate, R: Wait> Worker<'a, G, K, A, R> {
                 Turn::Moved => idle = 0,
                 Turn::Begun => {
                     site.call_for_waiting();
-                    self.perform(&mut hands, idle)?;
+                    self.perform(hands, idle)?;
                     idle = 0;
                 }
                 Turn::Over(ended) => return self.announce(ended),
