@@ -102,11 +102,7 @@ impl<'a, G: Comparable, K: Ledgers, A: Gate, R: Wait> Worker<'a, G, K, A, R> {
     }
 
     /// Takes turns until the pool has ended. The hands are lent, so that no way out of it has to drop what they hold.
-    fn work_at(
-        &self,
-        site: &Site<NodeDesk<G, K>>,
-        hands: &mut Hands<G>,
-    ) -> Result<(), Refusal> {
+    fn work_at(&self, site: &Site<NodeDesk<G, K>>, hands: &mut Hands<G>) -> Result<(), Refusal> {
         let mut idle = 0u32;
         let mut seen = None;
         for _ in self.rt.forever() {
