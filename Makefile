@@ -1,4 +1,4 @@
-# make          proves all that the programs stand on, and builds them: bin/tp, bin/heat and bin/product (25 to 30 minutes on four slow cores)
+# make          proves all that the programs stand on, and builds them: bin/tp, bin/heat and bin/product (25 minutes on four cores the first time)
 # make demo     two runs of the program, unproved (a minute)
 # make test     every test and every program, unproved (some minutes)
 # make gate     the gate: every proof from nothing, the wrong bodies, each test, each program (see docs/GATE.md)

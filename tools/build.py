@@ -143,7 +143,7 @@ def main():
     os.chdir(os.path.join(os.path.dirname(os.path.abspath(__file__)), ".."))
     lanes = int(subprocess.run(["tools/lanes.sh"], capture_output=True, text=True, check=True).stdout)
     every = crates()
-    print(f"Proves {len(every)} crates on {lanes} processors, and builds bin/tp, bin/heat and bin/product: on four slow ones 25 to 30 minutes the first time, and later what changed.", flush=True)
+    print(f"Proves {len(every)} crates on {lanes} processors, and builds bin/tp, bin/heat and bin/product: on four 25 minutes the first time, and later what changed.", flush=True)
     top = f"{tempfile.gettempdir()}/gerfmuod-{os.getuid()}-{hashlib.sha256(os.getcwd().encode()).hexdigest()[:12]}"
     with alone(top):
         rooms = [f"{top}/{at}" for at in range(lanes)]

@@ -88,10 +88,13 @@ def tell_edits(watch):
         runs.setdefault(watch.parts[key][0], {}).setdefault(folder, []).append(key)
     for crate in sorted(runs):
         ordered = sorted(runs[crate].values(), key=lambda keys: min(began for _, began in keys))
-        names = [*edits_of(crate), "(the crate again)"]
+        names = edits_of(crate)
+        # (one alone is tried without a first check)
+        if len(ordered) > len(names):
+            names.insert(0, "(the crate first)")
         for at, keys in enumerate(ordered):
             used = sum(watch.seconds[it] for it in keys)
-            name = names[at] if at < len(names) else "(again)"
+            name = names[at] if at < len(names) else "(the crate again)"
             print(f"edit {used:7.1f} {crate}/{name}", file=sys.stderr)
 
 
