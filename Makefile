@@ -2,11 +2,12 @@
 # make demo     two runs of the program, unproved (a minute)
 # make test     every test and every program, unproved (some minutes)
 # make gate     the gate: every proof from nothing, the wrong bodies, each test, each program (see docs/GATE.md)
+# make wrong    tries all wrong bodies of the crates that changed (ALL=1: of every crate; CRATE=tp_wave: of one)
 # make times    the gate, and its processor seconds by crate
 # make soak     each sample pool 200 times at 8 nodes with 8 workers each, compares what they make and audits their traces;
 #               then the program with strange streams and texts, and every stored text cut after each byte
 # make install PREFIX=/usr/local     puts the proved programs in place
-.PHONY: all demo test gate times soak install clean
+.PHONY: all demo test gate wrong times soak install clean
 
 PREFIX ?= /usr/local
 
@@ -24,10 +25,14 @@ test:
 	@tools/try-all.py
 	@tools/memory-table.py
 	@tools/guide-blocks.py
+	@tools/wrong.py --stale
 
 # (one job a check: each further job of a check loads the libraries anew)
 gate:
 	RT_JOBS=$$(tools/lanes.sh) rt ci
+
+wrong:
+	@tools/wrong.py $(if $(ALL),--all,$(CRATE))
 
 times:
 	tools/gate-times.py

@@ -28,6 +28,7 @@ class Crate:
         self.name, self.below = name, below
         texts = [f"{at}/{file}" for at, folders, files in os.walk(f"crates/{name}") for file in files if skip_out(folders) and file.endswith((".rt", ".antt"))]
         self.lines = sum(text_of(it).count("\n") for it in texts)
+        self.is_program = os.path.exists(f"crates/{name}/src/main.rt")
 
 
 def skip_out(folders):
@@ -40,12 +41,12 @@ def text_of(path):
         return text.read()
 
 
-def crates():
-    """Gives the programs and each crate below them by its name, the lowest first."""
+def crates(names):
+    """Gives these crates, or all where no names are given, and each crate below them by its name, the lowest first."""
     rows = [re.match(r"([a-z_]+)[^:]*:(.*)", line) for line in text_of("crates.txt").splitlines()]
     below = {row[1]: row[2].split() for row in rows if row}
     below = {name: [it for it in needs if it in below] for name, needs in below.items()}
-    wanted, left = set(), list(PROGRAMS)
+    wanted, left = set(), list(below if names is None else names)
     while left:
         name = left.pop()
         if name not in wanted:
@@ -116,7 +117,7 @@ def prove_all(every, rooms):
                 is_well = is_well and proved
                 done.add(crate.name)
                 tell(crate, proved, said, f"[{len(done)}/{len(every)}]", time.time() - since)
-    print(f"{'Proved and built' if is_well else 'NOT PROVED'}, in {(time.time() - began) / 60:.0f} minutes.")
+    print(f"{(time.time() - began) / 60:.0f} minutes.")
     return is_well
 
 
@@ -130,26 +131,31 @@ def tell(crate, proved, said, at, seconds):
         print("\n".join(it for it in said.splitlines() if not QUIET.match(it)), flush=True)
 
 
+def lanes():
+    return int(subprocess.run(["tools/lanes.sh"], capture_output=True, text=True, check=True).stdout)
+
+
 @contextlib.contextmanager
-def alone(top):
-    """Lets one command at a time work in the copies of this checkout."""
+def rooms():
+    """Gives the folder of this checkout's copies, and a copy for each processor. One command at a time works in them."""
+    top = f"{tempfile.gettempdir()}/gerfmuod-{os.getuid()}-{hashlib.sha256(os.getcwd().encode()).hexdigest()[:12]}"
     os.makedirs(top, mode=0o700, exist_ok=True)
     with open(f"{top}/lock", "w", encoding="utf-8") as lock:
         fcntl.flock(lock, fcntl.LOCK_EX)
-        yield
+        found = [f"{top}/{at}" for at in range(lanes())]
+        for room in found:
+            copy_to(room)
+        yield top, found
 
 
 def main():
     os.chdir(os.path.join(os.path.dirname(os.path.abspath(__file__)), ".."))
-    lanes = int(subprocess.run(["tools/lanes.sh"], capture_output=True, text=True, check=True).stdout)
-    every = crates()
-    print(f"Proves {len(every)} crates on {lanes} processors, and builds bin/tp, bin/heat and bin/product: on four 25 minutes the first time, and later what changed.", flush=True)
-    top = f"{tempfile.gettempdir()}/gerfmuod-{os.getuid()}-{hashlib.sha256(os.getcwd().encode()).hexdigest()[:12]}"
-    with alone(top):
-        rooms = [f"{top}/{at}" for at in range(lanes)]
-        for room in rooms:
-            copy_to(room)
-        return 0 if prove_all(every, rooms) else 1
+    every = crates(PROGRAMS)
+    print(f"Proves {len(every)} crates on {lanes()} processors, and builds bin/tp, bin/heat and bin/product: on four 25 minutes the first time, and later what changed.", flush=True)
+    with rooms() as (_, copies):
+        is_well = prove_all(every, copies)
+    print(f"{'Proved and built' if is_well else 'NOT PROVED'}.")
+    return 0 if is_well else 1
 
 
 if __name__ == "__main__":

@@ -1,0 +1,122 @@
+#!/usr/bin/env python3
+"""Has the prover try wrong bodies: those that the gate tries (crates/NAME/must-fail) and all others (wrong/NAME). Each of them must be refused.
+
+    tools/wrong.py              of the crates whose note is not today's
+    tools/wrong.py --all        of every crate
+    tools/wrong.py NAME ..      of these crates
+    tools/wrong.py --stale      tries nothing, and names the crates whose note is not today's
+
+What refused each wrong body is noted in wrong/NAME/JUDGED. The note is today's as long as the crate's own files, its wrong bodies, the
+definitions (specs/) of the crates directly below it and the toolchain are the same. The status is 1 where a wrong body is not refused
+by a clause, or, with --stale, where a note is not today's.
+"""
+import datetime
+import hashlib
+import os
+import re
+import shutil
+import subprocess
+import sys
+
+import build
+
+# what is said of a wrong body that no clause refuses
+NOTHING = re.compile(r"NOT REFUSED|NOT TRIED|BAD EDIT|\(only because|\(only by a limit")
+
+
+def files_in(folder):
+    return sorted(f"{at}/{name}" for at, _, names in os.walk(folder) for name in names)
+
+
+def edits_of(crate):
+    """Gives the wrong bodies of a crate by their names."""
+    return {os.path.basename(it): it for folder in (f"crates/{crate}/must-fail", f"wrong/{crate}") for it in files_in(folder) if it.endswith(".edit")}
+
+
+def toolchain():
+    return subprocess.run(["rt", "version"], stdout=subprocess.PIPE, text=True, check=True).stdout.strip()
+
+
+def digest(crate):
+    """Gives a sum of all that the judgement of a crate's wrong bodies is noted for."""
+    found = hashlib.sha256(toolchain().encode())
+    folders = [f"crates/{crate.name}/{part}" for part in ("src", "specs", "proofs")] + [f"crates/{it}/specs" for it in crate.below]
+    texts = [(it, it) for folder in folders for it in files_in(folder)] + sorted(edits_of(crate.name).items())
+    for name, path in texts:
+        with open(path, "rb") as text:
+            found.update(repr((name, text.read())).encode())
+    return found.hexdigest()
+
+
+def is_todays(crate):
+    noted = re.search(r"^of (\w+)$", build.text_of(f"wrong/{crate.name}/JUDGED"), re.M) if os.path.exists(f"wrong/{crate.name}/JUDGED") else None
+    return noted is not None and noted[1] == digest(crate)
+
+
+def reason(said):
+    """Gives the function and the clause that a line of the prover tells, or what it says where it tells none."""
+    proof = re.search(r"\./proofs/(\S+)/\w+\.antt:\d+:\d+: \w+: `([^`]+)`", said)
+    code = re.search(r"(src/\S+\.rt):\d+:\d+: .*\(`([^`]+)`\)", said)
+    found = proof or code
+    return f"{found[1]}, {found[2]}" if found else re.sub(r"^refused, as it must be:? ?", "", said)
+
+
+def place(crate, room):
+    """Puts all wrong bodies of a crate where the prover looks for them."""
+    folder = f"{room}/crates/{crate}/must-fail"
+    os.makedirs(folder)
+    for name, path in edits_of(crate).items():
+        shutil.copy2(path, f"{folder}/{name}")
+
+
+def judge(crates, room):
+    """Has the prover try the wrong bodies of these crates; gives what it said of each, by crate and name."""
+    build.copy_to(room)
+    for crate in crates:
+        place(crate, room)
+    told = {crate: {} for crate in crates}
+    environment = {**os.environ, "RT_JOBS": os.environ.get("RT_JOBS") or str(build.lanes())}
+    with subprocess.Popen(["rt", "must-fail", *crates], cwd=room, env=environment, stdin=subprocess.DEVNULL, stdout=subprocess.PIPE, text=True) as ran:
+        for line in ran.stdout:
+            found = re.match(r"rt: must-fail (\w+)/(\S+)\.edit: (.*)", line)
+            if found:
+                told[found[1]][found[2]] = found[3]
+                print(f"{found[1]}/{found[2]}: {found[3] if NOTHING.search(found[3]) else 'refused: ' + reason(found[3])}", flush=True)
+    return told
+
+
+def note(crate, told):
+    """Writes the note of a crate whose wrong bodies were all refused by a clause; gives whether they were."""
+    is_well = len(told) == len(edits_of(crate.name)) and not any(NOTHING.search(it) for it in told.values())
+    if is_well:
+        os.makedirs(f"wrong/{crate.name}", exist_ok=True)
+        with open(f"wrong/{crate.name}/JUDGED", "w", encoding="utf-8") as text:
+            text.write(f"of {digest(crate)}\nby {toolchain()}\non {datetime.date.today()}\n")
+            text.writelines(f"{name}: {reason(said)}\n" for name, said in sorted(told.items()))
+    print(f"{crate.name}: {f'{len(told)} wrong bodies refused' if is_well else 'NOT EACH of its wrong bodies was refused by a clause'}")
+    return is_well
+
+
+def main(words):
+    os.chdir(os.path.dirname(os.path.dirname(os.path.abspath(__file__))))
+    every = build.crates(None)
+    having = {name: crate for name, crate in every.items() if edits_of(name)}
+    stale = [name for name, crate in having.items() if not is_todays(crate)]
+    if words == ["--stale"]:
+        for name in stale:
+            print(f"{name} changed since its wrong bodies were tried: make wrong")
+        return 1 if stale else 0
+    names = [*having] if words == ["--all"] else words or stale
+    if not all(it in having for it in names):
+        print(f"No wrong bodies: {' '.join(it for it in names if it not in having)}")
+        return 1
+    with build.rooms() as (top, rooms):
+        below = {it: crate for it, crate in build.crates(names).items() if not crate.is_program}
+        if not build.prove_all(below, rooms):
+            return 1
+        told = judge(names, f"{top}/wrong") if names else {}
+    return 0 if all([note(having[it], told[it]) for it in names]) else 1
+
+
+if __name__ == "__main__":
+    sys.exit(main(sys.argv[1:]))
