@@ -77,7 +77,12 @@ impl Packed {
             Step::Ready(at) => (Kind::Ready, at.0 as u8, 0, 0),
             Step::Send(from, to, message, generation) => {
                 let high = high_of(generation);
-                (Kind::Send, both(from, to), high, with_low(message, generation))
+                (
+                    Kind::Send,
+                    both(from, to),
+                    high,
+                    with_low(message, generation),
+                )
             }
             Step::Recv(at, message, generation) => {
                 let high = high_of(generation);
@@ -85,7 +90,12 @@ impl Packed {
             }
             Step::MessageEnd(at, message, generation) => {
                 let high = high_of(generation);
-                (Kind::MessageEnd, at.0 as u8, high, with_low(message, generation))
+                (
+                    Kind::MessageEnd,
+                    at.0 as u8,
+                    high,
+                    with_low(message, generation),
+                )
             }
             Step::Start => (Kind::Start, 0, 0, 0),
             Step::Down(at) => (Kind::Down, at.0 as u8, 0, 0),
@@ -123,10 +133,23 @@ impl Packed {
             Kind::Send => {
                 let from = NodeId((self.first / 16) as u32);
                 let to = NodeId((self.first % 16) as u32);
-                Step::Send(from, to, message_in(self.number), generation_in(self.second, self.number))
+                Step::Send(
+                    from,
+                    to,
+                    message_in(self.number),
+                    generation_in(self.second, self.number),
+                )
             }
-            Kind::Recv => Step::Recv(first, message_in(self.number), generation_in(self.second, self.number)),
-            Kind::MessageEnd => Step::MessageEnd(first, message_in(self.number), generation_in(self.second, self.number)),
+            Kind::Recv => Step::Recv(
+                first,
+                message_in(self.number),
+                generation_in(self.second, self.number),
+            ),
+            Kind::MessageEnd => Step::MessageEnd(
+                first,
+                message_in(self.number),
+                generation_in(self.second, self.number),
+            ),
             Kind::Start => Step::Start,
             Kind::Down => Step::Down(first),
             Kind::Give => Step::Give(first),

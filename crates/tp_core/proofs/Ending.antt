@@ -131,8 +131,7 @@ control_comes n past (s) c h = cc
 runs_on : (n : ℕ) (later old : List Step) → IsTrue (list_all is_control later) → IsLawfulRun n (later ++ present old) → AreRuns n old → AreRuns n (later ++ old)
 runs_on n [] old c r all = all
 runs_on n (s ∷ later) old c r all =
-    let parts : IsTrue (is_control s) × IsTrue (list_all is_control later) = and_parts (is_control s) (list_all is_control later) c in
-    (
+    let parts : IsTrue (is_control s) × IsTrue (list_all is_control later) = and_parts (is_control s) (list_all is_control later) c in (
       control_comes n (later ++ old) s parts.0 (subst (λ (xs : List Step). IsLawful n xs s) (sym (present-control later old parts.1)) r.0),
       runs_on n later old parts.1 r.1 all,
     )

@@ -175,7 +175,8 @@ impl Core {
         self.messages.insert(message.0, under_way)?;
         self.numbers[from.0 as usize].sent += 1;
         self.under += 1;
-        self.steps.push_reserved(Step::Send(from, to, message, generation));
+        self.steps
+            .push_reserved(Step::Send(from, to, message, generation));
         Ok(Reply::Plain)
     }
 
@@ -205,7 +206,8 @@ impl Core {
         numbers.received += 1;
         self.left += 1;
         self.under -= 1;
-        self.steps.push_reserved(Step::Recv(node, message, generation));
+        self.steps
+            .push_reserved(Step::Recv(node, message, generation));
         Ok(Reply::Plain)
     }
 
@@ -232,7 +234,8 @@ impl Core {
         self.messages.set(message.0, ended);
         self.numbers[node.0 as usize].pending -= 1;
         self.left -= 1;
-        self.steps.push_reserved(Step::MessageEnd(node, message, generation));
+        self.steps
+            .push_reserved(Step::MessageEnd(node, message, generation));
         Ok(Reply::Plain)
     }
 }
