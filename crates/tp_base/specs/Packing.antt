@@ -1,13 +1,21 @@
 -- How an event lies in a few bytes.
-use Rattle.std.specs.Prelude.{ℕ}
+use Rattle.std.specs.Prelude.{ℕ, ◌+◌, ◌*◌, ◌/◌, ◌%◌}
 use Rattle.tp_base.specs.History.{Event}
 use Rattle.tp_base.specs.declared.packed.Kind.{Kind}
 use Rattle.tp_base.specs.declared.packed.Kind.TheVariants as kind
 use Rattle.tp_base.specs.declared.packed.Packed.TheInside.{Inside}
 use Rattle.tp_base.specs.declared.step.Step.{Step}
-use Rattle.tp_base.specs.declared.step.Step.TheVariants.{Insert, Supply, Begin, Done, ActionOpen, ActionClose, Ready, Send, Recv, MessageEnd, Start, Down, Give, Up, Judge}
+use Rattle.tp_base.specs.declared.step.Step.TheVariants.{Insert, Supply, Begin, Done, ActionOpen, ActionClose, Ready, Send, Recv, MessageEnd, Start, Down, Give, Up, Judge, Reopen}
 
--- the step of a kind that names these: a node, then the inputs or another node, then a task, an action or a message
+-- the message of a number that holds it below the low bits of its generation
+abbrev pub message_in : ℕ → ℕ
+message_in n = n % 1048576
+
+-- the generation of its high bits and such a number
+abbrev pub generation_in : ℕ → ℕ → ℕ
+generation_in k n = k * 4096 + n / 1048576
+
+-- the step of a kind that names these: a node or two, then the inputs or a generation's high bits, then a task, an action or a message
 abbrev pub step_of : Kind → ℕ → ℕ → ℕ → Step
 step_of kind.Insert i k n = Insert (record { 0 = i }) (record { 0 = n }) (record { count = k })
 step_of kind.Supply i k n = Supply (record { 0 = n })
@@ -16,14 +24,15 @@ step_of kind.Done i k n = Done (record { 0 = n })
 step_of kind.ActionOpen i k n = ActionOpen (record { 0 = i }) (record { 0 = n })
 step_of kind.ActionClose i k n = ActionClose (record { 0 = i }) (record { 0 = n })
 step_of kind.Ready i k n = Ready (record { 0 = i })
-step_of kind.Send i k n = Send (record { 0 = i }) (record { 0 = k }) (record { 0 = n })
-step_of kind.Recv i k n = Recv (record { 0 = i }) (record { 0 = n })
-step_of kind.MessageEnd i k n = MessageEnd (record { 0 = i }) (record { 0 = n })
+step_of kind.Send i k n = Send (record { 0 = i / 16 }) (record { 0 = i % 16 }) (record { 0 = message_in n }) (record { 0 = generation_in k n })
+step_of kind.Recv i k n = Recv (record { 0 = i }) (record { 0 = message_in n }) (record { 0 = generation_in k n })
+step_of kind.MessageEnd i k n = MessageEnd (record { 0 = i }) (record { 0 = message_in n }) (record { 0 = generation_in k n })
 step_of kind.Start i k n = Start
 step_of kind.Down i k n = Down (record { 0 = i })
 step_of kind.Give i k n = Give (record { 0 = i })
 step_of kind.Up i k n = Up (record { 0 = i })
 step_of kind.Judge i k n = Judge
+step_of kind.Reopen i k n = Reopen
 
 abbrev pub unpacked : Inside → Event
 unpacked p = (record { 0 = p.node }, step_of p.kind p.first p.second p.number)

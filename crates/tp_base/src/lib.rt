@@ -12,7 +12,7 @@ mod sums;
 mod table;
 
 pub use history::History;
-pub use ids::{ActionId, Inputs, MessageId, NodeId, PoolId, TaskId};
+pub use ids::{ActionId, Generation, Inputs, MessageId, NodeId, PoolId, TaskId};
 pub use laws::limits_are_these;
 pub use limits::{
     CLASSES, MAX_IDLE_TURNS, MAX_INPUTS, MAX_LEAVES, MAX_LIVE_TASKS, MAX_NODES, MAX_ORDER,

@@ -1,9 +1,15 @@
-ghost use Rattle.std.specs.Prelude.{◌≡◌, ◌<◌};
+ghost use Rattle.std.specs.Prelude.{◌≡◌, ◌<◌, ◌+◌, ◌*◌, ◌/◌, ◌%◌};
 ghost use Rattle.tp_base.specs.History.{NamesSmall};
 
-use crate::ids::{ActionId, Inputs, MessageId, NodeId, TaskId};
+use crate::ids::{ActionId, Generation, Inputs, MessageId, NodeId, TaskId};
 use crate::step::Step;
 use std::marker::Model;
+
+/// A message's number is below this one.
+const MESSAGES: u32 = 1_048_576;
+
+/// So many generations differ in their low bits.
+const GENERATIONS: u32 = 4_096;
 
 /// Which step it is.
 #[repr(u8)]
@@ -24,19 +30,20 @@ pub(crate) enum Kind {
     Give,
     Up,
     Judge,
+    Reopen,
 }
 
-/// A step beside its node, in eight bytes where the pair has twenty. Contracts see the pair.
+/// A step beside its node, in eight bytes where the pair has twenty-four. Contracts see the pair.
 #[derive(Drop)]
 pub(crate) struct Packed {
     kind: Kind,
     /// The node beside the step.
     node: u8,
-    /// The node that the step names first.
+    /// The node that the step names first; both nodes of a sending.
     first: u8,
-    /// The inputs of an insert, and the other node of a sending.
+    /// The inputs of an insert, and the high bits of a message's generation.
     second: u8,
-    /// The number of the task, the action or the message.
+    /// The number of the task or the action; a message's number below the low bits of its generation.
     number: u32,
 }
 
@@ -68,14 +75,34 @@ impl Packed {
             Step::ActionOpen(at, action) => (Kind::ActionOpen, at.0 as u8, 0, action.0),
             Step::ActionClose(at, action) => (Kind::ActionClose, at.0 as u8, 0, action.0),
             Step::Ready(at) => (Kind::Ready, at.0 as u8, 0, 0),
-            Step::Send(from, to, message) => (Kind::Send, from.0 as u8, to.0 as u8, message.0),
-            Step::Recv(at, message) => (Kind::Recv, at.0 as u8, 0, message.0),
-            Step::MessageEnd(at, message) => (Kind::MessageEnd, at.0 as u8, 0, message.0),
+            Step::Send(from, to, message, generation) => {
+                let high = high_of(generation);
+                (
+                    Kind::Send,
+                    both(from, to),
+                    high,
+                    with_low(message, generation),
+                )
+            }
+            Step::Recv(at, message, generation) => {
+                let high = high_of(generation);
+                (Kind::Recv, at.0 as u8, high, with_low(message, generation))
+            }
+            Step::MessageEnd(at, message, generation) => {
+                let high = high_of(generation);
+                (
+                    Kind::MessageEnd,
+                    at.0 as u8,
+                    high,
+                    with_low(message, generation),
+                )
+            }
             Step::Start => (Kind::Start, 0, 0, 0),
             Step::Down(at) => (Kind::Down, at.0 as u8, 0, 0),
             Step::Give(at) => (Kind::Give, at.0 as u8, 0, 0),
             Step::Up(at) => (Kind::Up, at.0 as u8, 0, 0),
             Step::Judge => (Kind::Judge, 0, 0, 0),
+            Step::Reopen => (Kind::Reopen, 0, 0, 0),
         };
         Packed {
             kind,
@@ -104,17 +131,75 @@ impl Packed {
             Kind::ActionClose => Step::ActionClose(first, ActionId(self.number)),
             Kind::Ready => Step::Ready(first),
             Kind::Send => {
-                let to = NodeId(self.second as u32);
-                Step::Send(first, to, MessageId(self.number))
+                let from = NodeId((self.first / 16) as u32);
+                let to = NodeId((self.first % 16) as u32);
+                Step::Send(
+                    from,
+                    to,
+                    message_in(self.number),
+                    generation_in(self.second, self.number),
+                )
             }
-            Kind::Recv => Step::Recv(first, MessageId(self.number)),
-            Kind::MessageEnd => Step::MessageEnd(first, MessageId(self.number)),
+            Kind::Recv => Step::Recv(
+                first,
+                message_in(self.number),
+                generation_in(self.second, self.number),
+            ),
+            Kind::MessageEnd => Step::MessageEnd(
+                first,
+                message_in(self.number),
+                generation_in(self.second, self.number),
+            ),
             Kind::Start => Step::Start,
             Kind::Down => Step::Down(first),
             Kind::Give => Step::Give(first),
             Kind::Up => Step::Up(first),
             Kind::Judge => Step::Judge,
+            Kind::Reopen => Step::Reopen,
         };
         (NodeId(self.node as u32), step)
     }
+}
+
+/// Two nodes of four bits in a byte.
+#[inline(always)]
+fn both(from: NodeId, to: NodeId) -> u8
+    requires { (from.0 < 16) × (to.0 < 16) }
+    ensures { result ≡ from.0 * 16 + to.0 }
+{
+    (from.0 * 16 + to.0) as u8
+}
+
+/// A message's number below the low bits of its generation.
+#[inline(always)]
+fn with_low(message: MessageId, generation: Generation) -> u32
+    requires { message.0 < 1048576 }
+    ensures { result ≡ generation.0 % 4096 * 1048576 + message.0 }
+{
+    generation.0 % GENERATIONS * MESSAGES + message.0
+}
+
+/// The high bits of a generation.
+#[inline(always)]
+fn high_of(generation: Generation) -> u8
+    requires { generation.0 < 1048576 }
+    ensures { result ≡ generation.0 / 4096 }
+{
+    (generation.0 / GENERATIONS) as u8
+}
+
+/// The message of a number.
+#[inline(always)]
+fn message_in(number: u32) -> MessageId
+    ensures { result.0 ≡ number % 1048576 }
+{
+    MessageId(number % MESSAGES)
+}
+
+/// The generation of its high bits and a number.
+#[inline(always)]
+fn generation_in(high: u8, number: u32) -> Generation
+    ensures { result.0 ≡ high * 4096 + number / 1048576 }
+{
+    Generation(high as u32 * GENERATIONS + number / MESSAGES)
 }

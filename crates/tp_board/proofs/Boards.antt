@@ -8,7 +8,7 @@ use Rattle.std.proofs.lemmas.List.Elements.{All-append, All-cons}
 use Rattle.std.proofs.lemmas.List.{get_or-set_same, get_or-set_other}
 use Rattle.tp_base.specs.History.{Event}
 use Rattle.tp_base.specs.declared.step.Step.{Step}
-use Rattle.tp_base.specs.declared.step.Step.TheVariants.{Insert, ActionOpen, Send, Recv, Done, Start, Down, Give, Up, Judge}
+use Rattle.tp_base.specs.declared.step.Step.TheVariants.{Insert, ActionOpen, Send, Recv, Done, Start, Down, Give, Up, Judge, Reopen}
 use Rattle.tp_wave.specs.Steps.{any, count, is_start}
 use Rattle.tp_base.specs.declared.Sums.{Sums}
 use Rattle.tp_wave.specs.Sums.{is_ended, judgement, waves}
@@ -69,8 +69,8 @@ within n nodes h t w x board booked below =
 one_step : (most : ℕ) (x : NodeNumbers) (s : Step) → AreWithin most x → AreWithin (most + 1) (numbers_after s x)
 one_step most x (Insert i t k) are = record { pending = omega (arith, are.pending); sent = omega (arith, are.sent); received = omega (arith, are.received); done = omega (arith, are.done) }
 one_step most x (ActionOpen i a) are = record { pending = omega (arith, are.pending); sent = omega (arith, are.sent); received = omega (arith, are.received); done = omega (arith, are.done) }
-one_step most x (Send i j m) are = record { pending = omega (arith, are.pending); sent = omega (arith, are.sent); received = omega (arith, are.received); done = omega (arith, are.done) }
-one_step most x (Recv j m) are = record { pending = omega (arith, are.pending); sent = omega (arith, are.sent); received = omega (arith, are.received); done = omega (arith, are.done) }
+one_step most x (Send i j m g) are = record { pending = omega (arith, are.pending); sent = omega (arith, are.sent); received = omega (arith, are.received); done = omega (arith, are.done) }
+one_step most x (Recv j m g) are = record { pending = omega (arith, are.pending); sent = omega (arith, are.sent); received = omega (arith, are.received); done = omega (arith, are.done) }
 one_step most x (Done t) are = record { pending = omega (arith, are.pending); sent = omega (arith, are.sent); received = omega (arith, are.received); done = omega (arith, are.done) }
 one_step most x _ are = record { pending = omega (arith, are.pending); sent = omega (arith, are.sent); received = omega (arith, are.received); done = omega (arith, are.done) }
 
@@ -95,18 +95,19 @@ plain_is_pool Judge plain = absurd cc
 plain_is_pool _ plain = refl
 
 plain_needs : (n : ℕ) (h : List Event) (i : ℕ) (s : Step) → IsTrue (is_plain s) → 0 < pending_at i h → Needs n h i s
-plain_needs n h i (Send a b m) plain active = absurd cc
-plain_needs n h i (Recv a m) plain active = absurd cc
+plain_needs n h i (Send a b m g) plain active = absurd cc
+plain_needs n h i (Recv a m g) plain active = absurd cc
 plain_needs n h i Start plain active = absurd cc
 plain_needs n h i (Down a) plain active = absurd cc
 plain_needs n h i (Give a) plain active = absurd cc
 plain_needs n h i (Up a) plain active = absurd cc
 plain_needs n h i Judge plain active = absurd cc
+plain_needs n h i Reopen plain active = absurd cc
 plain_needs n h i _ plain active = active
 
 plain_under : (s : Step) (under : ℕ) → IsTrue (is_plain s) → under ≡ under_way_after s under
-plain_under (Send i j m) under plain = absurd cc
-plain_under (Recv j m) under plain = absurd cc
+plain_under (Send i j m g) under plain = absurd cc
+plain_under (Recv j m g) under plain = absurd cc
 plain_under _ under plain = refl
 
 -- after a step that moves no message
@@ -192,8 +193,8 @@ quiet_judged n nodes w h now t before after board is follows judged =
 
 balanced_step : (n : ℕ) (past : List Event) (i : ℕ) (s : Step) → Needs n past i s → count is_send (steps_of past) ≡ count is_recv (steps_of past) + under_way (steps_of past)
     → count is_send (s ∷ steps_of past) ≡ count is_recv (s ∷ steps_of past) + under_way (s ∷ steps_of past)
-balanced_step n past i (Send a b m) needs before = omega arith
-balanced_step n past i (Recv a m) needs before = omega (arith, needs.0)
+balanced_step n past i (Send a b m g) needs before = omega arith
+balanced_step n past i (Recv a m g) needs before = omega (arith, needs.0)
 balanced_step n past i _ needs before = before
 
 -- in a run what was sent was received or is under way

@@ -17,22 +17,22 @@ pending_here : (i : ℕ) (s : Step) (h : List Event) → pending_at i (event i s
 pending_here i s h = rw (eq-eqb i i refl) refl
 
 sent_here : (i : ℕ) (s : Step) (past : List Step) → IsOf i s → count (is_send_of i) (s ∷ past) ≡ plus_if (is_send s) (count (is_send_of i) past)
-sent_here i (Send a b m) past own = rw (eq-eqb a.0 i own) refl
+sent_here i (Send a b m g) past own = rw (eq-eqb a.0 i own) refl
 sent_here i _ past own = refl
 
 received_here : (i : ℕ) (s : Step) (past : List Step) → IsOf i s → count (is_recv_at i) (s ∷ past) ≡ plus_if (is_recv s) (count (is_recv_at i) past)
-received_here i (Recv a m) past own = rw (eq-eqb a.0 i own) refl
+received_here i (Recv a m g) past own = rw (eq-eqb a.0 i own) refl
 received_here i _ past own = refl
 
 pending_there : (i j : ℕ) (s : Step) (h : List Event) → i ≢ j → pending_at j (event i s ∷ h) ≡ pending_at j h
 pending_there i j s h apart = rw (ne_eqb i j apart) refl
 
 sent_there : (i j : ℕ) (s : Step) (past : List Step) → i ≢ j → IsOf i s → count (is_send_of j) (s ∷ past) ≡ count (is_send_of j) past
-sent_there i j (Send a b m) past apart own = rw (ne_eqb a.0 j (λ e. apart (sym own ∙ e))) refl
+sent_there i j (Send a b m g) past apart own = rw (ne_eqb a.0 j (λ e. apart (sym own ∙ e))) refl
 sent_there i j _ past apart own = refl
 
 received_there : (i j : ℕ) (s : Step) (past : List Step) → i ≢ j → IsOf i s → count (is_recv_at j) (s ∷ past) ≡ count (is_recv_at j) past
-received_there i j (Recv a m) past apart own = rw (ne_eqb a.0 j (λ e. apart (sym own ∙ e))) refl
+received_there i j (Recv a m g) past apart own = rw (ne_eqb a.0 j (λ e. apart (sym own ∙ e))) refl
 received_there i j _ past apart own = refl
 
 joined : (a b : NodeCounts) → a.pending ≡ b.pending → a.sent ≡ b.sent → a.received ≡ b.received → a ≡ b
@@ -85,7 +85,7 @@ counts_follow h old new i s below own nodes received done are =
 pending_step : (s : Step) (p m : ℕ) → p ≤ m → pending_after s p ≤ m + 1
 pending_step (Insert i t k) p m less = omega arith
 pending_step (ActionOpen i a) p m less = omega arith
-pending_step (Recv i a) p m less = omega arith
+pending_step (Recv i a g) p m less = omega arith
 pending_step _ p m less = omega arith
 
 pending_most : (b : Bool) (s : Step) (p m : ℕ) → p ≤ m → (if b then pending_after s p else p) ≤ m + 1
@@ -124,7 +124,7 @@ counts_few h c i below short are =
     (rw was (few_at i h short), omega (arith, are.received, count-le is_recv h), omega (arith, are.done, count-le is_done h))
 
 under_step : (s : Step) (u m : ℕ) → u ≤ m → under_way_after s u ≤ m + 1
-under_step (Send i j m) u most less = omega arith
+under_step (Send i j m g) u most less = omega arith
 under_step _ u most less = omega arith
 
 -- nor are more messages under way

@@ -21,7 +21,7 @@ use Rattle.tp_board.specs.declared.counts.Counts.{Counts}
 -- one route for each message
 pub length-routes_of : (steps : List Step) → length (routes_of steps) ≡ count is_send steps
 length-routes_of [] = refl
-length-routes_of (Send a b m ∷ past) = omega (arith, length-routes_of past)
+length-routes_of (Send a b m g ∷ past) = omega (arith, length-routes_of past)
 length-routes_of (_ ∷ past) = length-routes_of past
 
 pub length-routes_of-le : (h : List Event) → length (routes_of (steps_of h)) ≤ length h
@@ -30,7 +30,7 @@ length-routes_of-le h = omega (arith, length-routes_of (steps_of h), count-le is
 -- no message has a number that is not below the number of messages
 pub fresh : (m : ℕ) (steps : List Step) → IsNumbered steps → count is_send steps ≤ m → IsFalse (any (is_send_numbered m) steps)
 fresh m [] are late = refl
-fresh m (Send a b k ∷ past) are late = rw (ne_eqb k.0 m (λ e. absurd (omega (arith, e, are.0)))) (fresh m past are.1 (omega arith))
+fresh m (Send a b k g ∷ past) are late = rw (ne_eqb k.0 m (λ e. absurd (omega (arith, e, are.0)))) (fresh m past are.1 (omega arith))
 fresh m (_ ∷ past) are late = fresh m past are late
 
 get_before : (xs : List Route) (x : Route) (k : ℕ) → k < length xs → slice_get (xs ++ x ∷ []) k ≡ slice_get xs k
@@ -78,7 +78,7 @@ gave_send i j m a b k rs past number before =
 -- the table answers for the history
 pub gave_by : (i j m : ℕ) (steps : List Step) → IsNumbered steps → is_route i j (slice_get (reverse (routes_of steps)) m) ≡ any (is_send_between i j m) steps
 gave_by i j m [] are = refl
-gave_by i j m (Send a b k ∷ past) are =
+gave_by i j m (Send a b k g ∷ past) are =
     ap (λ rs. is_route i j (slice_get rs m)) (reverse_onto (routes_of past) (a, b) []) ∙ gave_send i j m a b k.0 (routes_of past) _ (are.0 ∙ sym (length-routes_of past)) (gave_by i j m past are.1)
 gave_by i j m (_ ∷ past) are = gave_by i j m past are
 
@@ -91,8 +91,8 @@ log_sends history limit reserved counts routes log =
 
 -- the log after the next message was sent
 pub log_send : (old new : Recorded) (limit reserved : ℕ) (counts now : Counts) (routes kept : RouteTable) (from to : NodeId) (m : ℕ) → IsLog old limit reserved counts routes → 0 < reserved
-    → m ≡ length routes.routes → new.events ≡ (from, Send from to (record { 0 = m })) ∷ old.events → new.room + 1 ≡ old.room
-    → kept.routes ≡ (from, to) ∷ routes.routes → kept.room + 1 ≡ routes.room → AreCountsOf ((from, Send from to (record { 0 = m })) ∷ old.events) now
+    → m ≡ length routes.routes → new.events ≡ (from, Send from to (record { 0 = m }) (record { 0 = 1 })) ∷ old.events → new.room + 1 ≡ old.room
+    → kept.routes ≡ (from, to) ∷ routes.routes → kept.room + 1 ≡ routes.room → AreCountsOf ((from, Send from to (record { 0 = m }) (record { 0 = 1 })) ∷ old.events) now
     → IsLog new limit (reserved - 1) now kept
 log_send old new limit reserved counts now routes kept from to m log some number events room sent more are =
     record {
@@ -118,7 +118,7 @@ or_both true b c d first rest is = rw (first refl) refl
 or_both false b c d first rest is = or_right c d (rest is)
 
 between_to : (i j m : ℕ) (s : Step) → is_send_between i j m s ≡ true → is_send_to j m s ≡ true
-between_to i j m (Send a b k) is = and_right (a.0 == i) _ is
+between_to i j m (Send a b k g) is = and_right (a.0 == i) _ is
 between_to i j m _ is = absurd cc
 
 -- what was sent from one node to another was sent to the other

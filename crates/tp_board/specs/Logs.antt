@@ -1,10 +1,18 @@
 -- What a log keeps.
-use Rattle.std.specs.Prelude.{ℕ, ◌+◌, ◌≡◌, ◌≤◌, length}
+use Rattle.std.specs.Prelude.{ℕ, ◌+◌, ◌≡◌, ◌≤◌, ◌<◌, length}
+use Rattle.tp_base.specs.declared.step.Step.{Step}
+use Rattle.tp_base.specs.declared.step.Step.TheVariants.{Recv, MessageEnd}
 use Rattle.tp_base.specs.History.{Recorded}
 use Rattle.tp_wave.specs.Machine.{steps_of}
 use Rattle.tp_board.specs.Counts.{AreCountsOf}
 use Rattle.tp_board.specs.Routes.{IsNumbered, RouteTable, routes_of}
 use Rattle.tp_board.specs.declared.counts.Counts.{Counts}
+
+-- What a step says of a message has a place in the history. (A sending is numbered by the board.)
+abbrev pub HasFew : Step → Type 0
+HasFew (Recv j m g) = (m.0 < 1048576) × (g.0 < 1048576)
+HasFew (MessageEnd j m g) = (m.0 < 1048576) × (g.0 < 1048576)
+HasFew _ = Unit {0}
 
 -- The counts and the routes are the history's, and what is reserved has a place and memory.
 pub record IsLog (history : Recorded) (limit reserved : ℕ) (counts : Counts) (routes : RouteTable) : Type 0 where

@@ -8,13 +8,13 @@ use Rattle.tp_ledgers.specs.Numbers.{is_send}
 
 -- node i sends message m to node j
 abbrev pub is_send_between : ℕ → ℕ → ℕ → Step → Bool
-is_send_between i j m (Send a b k) = (a.0 == i) && ((b.0 == j) && (k.0 == m))
+is_send_between i j m (Send a b k g) = (a.0 == i) && ((b.0 == j) && (k.0 == m))
 is_send_between i j m _ = false
 
 -- Each message has the number of the messages that were sent before it.
 abbrev pub IsNumbered : List Step → Type 0
 IsNumbered [] = Unit {0}
-IsNumbered (Send i j m ∷ past) = (m.0 ≡ count is_send past) × IsNumbered past
+IsNumbered (Send i j m g ∷ past) = (m.0 ≡ count is_send past) × IsNumbered past
 IsNumbered (_ ∷ past) = IsNumbered past
 
 -- the sender and the receiver of a message
@@ -29,7 +29,7 @@ pub record RouteTable : Type 0 where
 -- the routes of the messages that were sent
 abbrev pub routes_of : List Step → List Route
 routes_of [] = []
-routes_of (Send i j m ∷ past) = (i, j) ∷ routes_of past
+routes_of (Send i j m g ∷ past) = (i, j) ∷ routes_of past
 routes_of (_ ∷ past) = routes_of past
 
 -- there is a route, and it goes from node i to node j

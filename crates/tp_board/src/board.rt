@@ -2,6 +2,7 @@ ghost use Rattle.std.specs.Prelude.{◌≡◌, ◌==◌, ◌≤◌, ◌<◌, ◌
 ghost use Rattle.tp_ledgers.specs.Books.{first_totals};
 ghost use Rattle.tp_ledgers.specs.Names.{under_parts};
 ghost use Rattle.tp_ledgers.specs.Numbers.{AreWithin, event, is_done, is_plain, is_recv, is_send, numbers_after, receiving, sending};
+ghost use Rattle.tp_board.specs.Logs.{HasFew};
 ghost use Rattle.tp_board.specs.Routes.{is_send_between};
 ghost use Rattle.tp_board.specs.States.{AnswersBy, full_check, with_event, with_fault, with_reserved};
 ghost use Rattle.tp_wave.specs.Machine.{IsOf, IsRun, is_send_to, pending_at, steps_of, under_way};
@@ -14,7 +15,7 @@ use crate::log::Log;
 use std::alloc::Global;
 use std::marker::Model;
 use std::sync::ledger::Share;
-use tp_base::{History, MessageId, NodeId, Refusal, Step};
+use tp_base::{Generation, History, MessageId, NodeId, Refusal, Step};
 use tp_ledgers::{Accounts, Ledgers, LinkShare, Parts, Shares, Under};
 use tp_wave::Wave;
 
@@ -229,6 +230,7 @@ impl<K: Ledgers> Board<K> {
     /// Refused: `HistoryFull` where the history has reached its limit; `NoMemory` where memory has to grow and does not.
     #[inline(always)]
     pub fn append(&mut self, step: Step, shares: &mut Shares<K>) -> Result<(), Refusal>
+        requires few { HasFew step }
         requires lawful { IsTrue (is_plain step) × IsOf shares.old.node step × (0 < shares.old.pending) }
         ensures ok { OnOk result (self.new ≡ with_event (event shares.old.node step) self.old) }
         ensures shares { OnOk result (shares.new ≡ numbers_after step shares.old) }
@@ -254,6 +256,7 @@ impl<K: Ledgers> Board<K> {
         requires active { 0 < shares.old.pending }
         requires of_link { link.old.from ≡ shares.old.node }
         ensures number { IfOk result (λ m. m.0 ≡ count is_send (steps_of self.old.history)) }
+        ensures small { IfOk result (λ m. m.0 < 1048576) }
         ensures ok { IfOk result (λ m. self.new ≡ with_event (event shares.old.node (sending shares.old.node link.old.to m.0)) self.old) }
         ensures shares { OnOk result (shares.new ≡ record shares.old { sent = shares.old.sent + 1 }) }
         ensures within { OnOk result (AreWithin 1048576 shares.new) }
@@ -265,7 +268,7 @@ impl<K: Ledgers> Board<K> {
         let node = shares.node();
         let to = link.to();
         let message = self.log.add_send(node, to)?;
-        let step = Step::Send(node, to, message);
+        let step = Step::Send(node, to, message, Generation(1));
         self.accounts.follow(&step, shares);
         self.accounts.follow_link(&step, link);
         Ok(message)
@@ -280,6 +283,7 @@ impl<K: Ledgers> Board<K> {
         shares: &mut Shares<K>,
         link: &mut LinkShare<K>,
     ) -> Result<(), Refusal>
+        requires few { message.0 < 1048576 }
         requires sent { IsTrue (any (is_send_to shares.old.node message.0) (steps_of self.old.history)) }
         requires under_way { 0 < link.old.under }
         requires of_link { link.old.to ≡ shares.old.node }
@@ -292,7 +296,7 @@ impl<K: Ledgers> Board<K> {
         ensures refused { OnErr result ((self.new ≡ self.old) × (shares.new ≡ shares.old) × (link.new ≡ link.old)) }
     {
         let node = shares.node();
-        let step = Step::Recv(node, message);
+        let step = Step::Recv(node, message, Generation(1));
         self.log.add(node, step)?;
         self.accounts.follow(&step, shares);
         self.accounts.follow_link(&step, link);

@@ -6,12 +6,13 @@ ghost use Rattle.tp_board.specs.Routes.{is_send_between};
 ghost use Rattle.tp_board.specs.States.{AnswersBy, full_check, with_event, with_fault, with_reserved};
 ghost use Rattle.tp_wave.specs.Machine.{IsOf, is_send_numbered, steps_of};
 ghost use Rattle.tp_wave.specs.Steps.{any, count};
+ghost use Rattle.tp_board.specs.Logs.{HasFew};
 
 use crate::counts::{Counts, NodeCounts};
 use crate::routes::Routes;
 use std::alloc::Global;
 use std::marker::Model;
-use tp_base::{History, MessageId, NodeId, Refusal, Step};
+use tp_base::{Generation, History, MessageId, NodeId, Refusal, Step};
 
 /// A history within its limit, the first fault, and what is counted along with it. Contracts see what they see of a board.
 #[derive(Drop)]
@@ -76,6 +77,7 @@ impl Log {
     pub fn add(&mut self, node: NodeId, step: Step) -> Result<(), Refusal>
         requires node { node.0 < 8 }
         requires beside { IsOf node.0 step }
+        requires few { HasFew step }
         requires kind { IsFalse (is_send step) }
         ensures ok { OnOk result (self.new ≡ with_event (event node.0 step) self.old) }
         ensures places { OnOk result (length self.old.history < 1048576) }
@@ -100,6 +102,7 @@ impl Log {
         requires to { to.0 < 8 }
         ensures number { IfOk result (λ m. m.0 ≡ count is_send (steps_of self.old.history)) }
         ensures ok { IfOk result (λ m. self.new ≡ with_event (event from.0 (sending from.0 to.0 m.0)) self.old) }
+        ensures small { IfOk result (λ m. m.0 < 1048576) }
         ensures fresh { IfOk result (λ m. IsFalse (any (is_send_numbered m.0) (steps_of self.old.history))) }
         ensures places { OnOk result (length self.old.history < 1048576) }
         ensures refusal { AnswersBy (full_check 1 self.old ∷ []) 1 self.old result }
@@ -108,7 +111,7 @@ impl Log {
     {
         self.reserve(1)?;
         let message = MessageId(self.routes.len() as u32);
-        let step = Step::Send(from, to, message);
+        let step = Step::Send(from, to, message, Generation(1));
         self.history.push_reserved(from, step);
         self.routes.push_reserved(from, to);
         self.counts.follow(from, &step);

@@ -13,6 +13,7 @@ use Rattle.tp_core.specs.declared.held.Held.{Held}
 use Rattle.tp_core.specs.declared.life.Life.{Life}
 use Rattle.tp_core.specs.declared.life.Life.TheVariants as life
 use Rattle.tp_core.specs.declared.numbers.NodeNumbers.{NodeNumbers}
+use Rattle.tp_wave.specs.Generations.{present}
 use Rattle.tp_core.specs.World.{World, Task, Action, Kind, OfMessage, is_under_way, is_action, is_message, is_open, is_done, is_at, is_unfinished_at, how_many, openings, pending}
 use Rattle.tp_core.specs.Pool.{with_life, without, after}
 use Rattle.tp_core.specs.Run.{world}
@@ -23,6 +24,7 @@ use Rattle.tp_core.proofs.Counting.{active_home, active_open, some_message}
 use Rattle.tp_core.proofs.Sets.{lists_are_sets}
 use Rattle.tp_core.proofs.Keeping.{zeros}
 use Rattle.tp_core.proofs.Reading.{Lives}
+use Rattle.tp_core.proofs.Generations.{length-present}
 
 pub length-openings : (n : ℕ) → length (openings n) ≡ n
 length-openings zero = refl
@@ -75,9 +77,9 @@ pub record AreSmall (x : NodeNumbers) (all under_way : ℕ) : Type 0 where
 
 pub small : {c : Inside} → IsKept c → (i : ℕ) → i < MAX_NODES → AreSmall (slice_index_or c.numbers i zeros) c.left c.under
 small {c} agree i low =
-    let steps = (accepted c).steps in
+    let steps = present (accepted c).steps in
     let w = world c.nodes steps in
-    let within = agree.within in
+    let within : length steps ≤ MAX_STEPS = let all = agree.within in let fewer = length-present (accepted c).steps in omega arith in
     let few = agree.few_nodes in
     record {
       pending = rw (agree.numbers.each i zeros low, agree.left) (pending-le-left i w);
@@ -119,7 +121,7 @@ may_close {c} agree i below kind open' =
     record {
       inside = omega arith;
       there = there;
-      once = (lists_are_sets c.nodes (accepted c).steps agree.is_run).actions i kind;
+      once = (lists_are_sets c.nodes (present (accepted c).steps) agree.is_run).actions i kind;
       pending = both.0;
       left = both.1;
     }

@@ -3,7 +3,7 @@ use Rattle.std.proofs.Common.{ℕ, ◌+◌, ◌*◌, ◌≡◌, ◌<◌, ◌≤�
 use Rattle.std.proofs.lemmas.List.{reverse-append, length-reverse}
 use Rattle.std.specs.Prelude.{Result, IsOk, Ok, Err}
 use Rattle.std.specs.Result.{result_err}
-use Rattle.std.specs.List.{slice_index_or}
+use Rattle.std.specs.List.{slice_index_or, list_all}
 use Rattle.tp_base.specs.declared.Refusal.{Refusal}
 use Rattle.tp_base.specs.declared.Step.{Step}
 use Rattle.tp_base.specs.declared.Step.TheVariants.{Start, Down, Give, Up, Judge}
@@ -11,6 +11,7 @@ use Rattle.tp_base.specs.declared.limits.TheConstants.{MAX_STEPS}
 use Rattle.tp_wave.specs.Steps.{is_send_of, is_recv_at}
 use Rattle.tp_wave.specs.Sums.{is_ended, judgement}
 use Rattle.tp_wave.specs.Control.{is_control, IsDue}
+use Rattle.tp_wave.specs.Generations.{present}
 use Rattle.tp_wave.specs.Wave.{Follows, Stands}
 use Rattle.tp_wave.specs.Checks.{control_refusal}
 use Rattle.tp_wave.specs.declared.Wave.{Wave}
@@ -19,32 +20,34 @@ use Rattle.tp_core.specs.declared.numbers.NodeNumbers.{NodeNumbers}
 use Rattle.tp_core.specs.World.{World, IsQuiet}
 use Rattle.tp_core.specs.Pool.{after}
 use Rattle.tp_core.specs.Run.{world, IsLawful, IsLawfulRun}
-use Rattle.tp_core.specs.Accepted.{numbers_at}
+use Rattle.tp_core.specs.Accepted.{numbers_in}
 use Rattle.tp_core.specs.Settling.{MaySettle, IsTold, IsTaken, GoesOn, AreTaken}
 use Rattle.tp_core.proofs.Bounds.{count_bound}
 use Rattle.tp_core.proofs.Keeping.{zeros, moved, numbers_stay}
 use Rattle.tp_core.proofs.Quiet.{nothing_pending_when_quiet}
 use Rattle.tp_core.proofs.Settling.{judged_soon}
+use Rattle.tp_core.proofs.Generations.{length-present, no_reopening, present-control, present-goes_on}
+use Rattle.tp_core.specs.Kept.{HasNumbers}
 
 -- ---- what the step that is due needs
-pub stands : {n : ℕ} {numbers : List NodeNumbers} {steps : List Step} {w : Wave} → MaySettle n numbers steps w → Stands n false steps w
-stands {n} {numbers} {steps} {w} m = subst (λ (b : Bool). Stands n b steps w) m.not_ended m.follows.stands
+pub stands : {n : ℕ} {numbers : List NodeNumbers} {steps : List Step} {w : Wave} → MaySettle n numbers steps w → Stands n false (present steps) w
+stands {n} {numbers} {steps} {w} m = subst (λ (b : Bool). Stands n b (present steps) w) m.not_ended m.follows.stands
 
-pub passes : {n : ℕ} {numbers : List NodeNumbers} {steps : List Step} {w : Wave} (s : Step) → MaySettle n numbers steps w → IsTrue (is_control s) → IsDue n steps s
-    → control_refusal n steps s ≡ None
-passes {n} {numbers} {steps} s m control due = (checks_exact n steps s control).1 (m.not_ended, due)
+pub passes : {n : ℕ} {numbers : List NodeNumbers} {steps : List Step} {w : Wave} (s : Step) → MaySettle n numbers steps w → IsTrue (is_control s) → IsDue n (present steps) s
+    → control_refusal n (present steps) s ≡ None
+passes {n} {numbers} {steps} s m control due = (checks_exact n (present steps) s control).1 (m.not_ended, due)
 
 pub own_numbers : {n : ℕ} {numbers : List NodeNumbers} {steps : List Step} {w : Wave} (i : ℕ) → MaySettle n numbers steps w → i < n
-    → slice_index_or numbers i zeros ≡ numbers_at i (record { nodes = n; steps = steps })
+    → slice_index_or numbers i zeros ≡ numbers_in i (record { nodes = n; steps = present steps })
 own_numbers i m l = let few = m.few_nodes in m.numbers_are.each i zeros (omega arith)
 
 pub few_sent : {n : ℕ} {numbers : List NodeNumbers} {steps : List Step} {w : Wave} (i : ℕ) → MaySettle n numbers steps w → i < n
     → (slice_index_or numbers i zeros).sent ≤ MAX_STEPS
-few_sent {n} {numbers} {steps} i m l = rw (own_numbers i m l) (omega (arith, count_bound (is_send_of i) steps, m.within))
+few_sent {n} {numbers} {steps} i m l = rw (own_numbers i m l) (omega (arith, count_bound (is_send_of i) (present steps), length-present steps, m.within))
 
 pub few_received : {n : ℕ} {numbers : List NodeNumbers} {steps : List Step} {w : Wave} (i : ℕ) → MaySettle n numbers steps w → i < n
     → (slice_index_or numbers i zeros).received ≤ MAX_STEPS
-few_received {n} {numbers} {steps} i m l = rw (own_numbers i m l) (omega (arith, count_bound (is_recv_at i) steps, m.within))
+few_received {n} {numbers} {steps} i m l = rw (own_numbers i m l) (omega (arith, count_bound (is_recv_at i) (present steps), length-present steps, m.within))
 
 pub ok_there : {A : Type 0} (r : Result A Refusal) → result_err r ≡ None → IsOk r
 ok_there (Ok x) h = refl
@@ -64,12 +67,12 @@ told_judge n past (Some w) e same = (refl, sym same)
 told_judge n past None e same = rw (sym same, e) refl
 
 pub one_taken : {n : ℕ} {numbers : List NodeNumbers} (items : List Step) {new : List Step} {w next : Wave} {told : Option ℕ} (s : Step) → MaySettle n numbers (reverse items) w
-    → IsTrue (is_control s) → IsDue n (reverse items) s → new ≡ items ++ s ∷ [] → Follows n (s ∷ reverse items) next → IsTold n (reverse items) s told
+    → IsTrue (is_control s) → IsDue n (present (reverse items)) s → new ≡ items ++ s ∷ [] → Follows n (s ∷ present (reverse items)) next → IsTold n (present (reverse items)) s told
     → IsTaken n (reverse items) (reverse new) next told
 one_taken {n} items s m control due pushed follows told = record {
   step = s;
   control = control;
-  lawful = lawful_due n (reverse items) s m.not_ended m.quiet control due;
+  lawful = lawful_due n (present (reverse items)) s m.not_ended m.quiet control due;
   steps = rw pushed (reverse-append items (s ∷ []));
   follows = follows;
   is_told = told;
@@ -93,15 +96,23 @@ moved_stays Judge x c = refl
 moved_stays (s) x c = cc
 
 -- ---- the run goes on
-pub soon : {n : ℕ} {numbers : List NodeNumbers} {old : List Step} {w : Wave} (later : List Step) → MaySettle n numbers old w → IsLawfulRun n (later ++ old) → length later < 9 * n
-soon {n} {numbers} {old} later m run = (judged_soon n later old m.some_node run m.quiet).0
+pub soon : {n : ℕ} {numbers : List NodeNumbers} {old : List Step} {w : Wave} (later : List Step) → MaySettle n numbers old w → IsLawfulRun n (later ++ present old) → length later < 9 * n
+soon {n} {numbers} {old} later m run = (judged_soon n later (present old) m.some_node run m.quiet).0
+
+-- the present steps after control steps
+now_present : (s : Step) (past : List Step) → IsTrue (is_control s) → present (s ∷ past) ≡ s ∷ present past
+now_present s past c = present-goes_on s past (no_reopening s c)
+
+present_taken : (old now taken : List Step) → now ≡ taken ++ old → IsTrue (list_all is_control taken) → present now ≡ taken ++ present old
+present_taken old now taken is control = ap present is ∙ present-control taken old control
 
 pub goes_further : {n count : ℕ} {numbers : List NodeNumbers} {old now next : List Step} {first w after' : Wave} → MaySettle n numbers old first
     → length old + 9 * n ≤ MAX_STEPS → GoesOn n numbers old now w count → IsTaken n now next after' None → GoesOn n numbers old next after' (count + 1)
 goes_further {n} {count} {numbers} {old} {now} {next} {first} {w} {after'} m room g t =
     let all : next ≡ (t.step ∷ g.taken) ++ old = t.steps ∙ ap (λ (xs : List Step). t.step ∷ xs) g.steps in
-    let run : IsLawfulRun n (t.step ∷ now) = (t.lawful, g.settling.is_run) in
-    let few : length (t.step ∷ g.taken) < 9 * n = soon (t.step ∷ g.taken) m (subst (λ (xs : List Step). IsLawfulRun n xs) (ap (λ (xs : List Step). t.step ∷ xs) g.steps) run) in
+    let run : IsLawfulRun n (t.step ∷ present now) = (t.lawful, g.settling.is_run) in
+    let few : length (t.step ∷ g.taken) < 9 * n = soon (t.step ∷ g.taken) m (subst (λ (xs : List Step). IsLawfulRun n xs) (ap (λ (xs : List Step). t.step ∷ xs) (present_taken old now g.taken g.steps g.control)) run) in
+    let here : present (t.step ∷ now) ≡ t.step ∷ present now = now_present t.step now t.control in
     record {
       taken = t.step ∷ g.taken;
       steps = all;
@@ -110,12 +121,12 @@ goes_further {n} {count} {numbers} {old} {now} {next} {first} {w} {after'} m roo
       settling = subst (λ (xs : List Step). MaySettle n numbers xs after') (sym t.steps) record {
         some_node = m.some_node;
         few_nodes = m.few_nodes;
-        is_run = run;
+        is_run = subst (λ (xs : List Step). IsLawfulRun n xs) (sym here) run;
         within = rw g.steps (rw (length-append g.taken old) (omega (arith, few, room)));
-        quiet = subst (λ (x : World). IsQuiet x) (sym (world_stays t.step (world n now) t.control)) g.settling.quiet;
-        not_ended = t.is_told;
-        numbers_are = numbers_stay t.step g.settling.numbers_are t.lawful (λ x. moved_stays t.step x t.control);
-        follows = t.follows;
+        quiet = subst (λ (xs : List Step). IsQuiet (world n xs)) (sym here) (subst (λ (x : World). IsQuiet x) (sym (world_stays t.step (world n (present now)) t.control)) g.settling.quiet);
+        not_ended = subst (λ (xs : List Step). IsFalse (is_ended n xs)) (sym here) t.is_told;
+        numbers_are = subst (λ (xs : List Step). HasNumbers numbers (record { nodes = n; steps = xs })) (sym here) (numbers_stay t.step g.settling.numbers_are t.lawful (λ x. moved_stays t.step x t.control));
+        follows = subst (λ (xs : List Step). Follows n xs after') (sym here) t.follows;
       };
     }
 
@@ -123,25 +134,27 @@ pub ends : {n count ended : ℕ} {numbers : List NodeNumbers} {old now next : Li
     → GoesOn n numbers old now w count → IsTaken n now next after' (Some ended) → AreTaken n old next after' ended (count + 1)
 ends {n} {count} {ended} {numbers} {old} {now} {next} {first} {w} {after'} m g t =
     let judge : t.step ≡ Judge = t.is_told.0 in
+    let before : present now ≡ g.taken ++ present old = present_taken old now g.taken g.steps g.control in
     let all : t.step ∷ now ≡ (Judge ∷ g.taken) ++ old = rw (judge, g.steps) refl in
-    let run : IsLawfulRun n ((Judge ∷ g.taken) ++ old) = subst (λ (xs : List Step). IsLawfulRun n xs) all (t.lawful, g.settling.is_run) in
+    let now' : t.step ∷ present now ≡ (Judge ∷ g.taken) ++ present old = rw (judge, before) refl in
+    let run : IsLawfulRun n ((Judge ∷ g.taken) ++ present old) = subst (λ (xs : List Step). IsLawfulRun n xs) now' (t.lawful, g.settling.is_run) in
     let few : length (Judge ∷ g.taken) < 9 * n = soon (Judge ∷ g.taken) m run in
     record {
       taken = g.taken;
       steps = t.steps ∙ all;
       control = g.control;
       run = run;
-      judged = subst (λ (xs : List Step). judgement n xs ≡ Some ended) g.steps t.is_told.1;
+      judged = subst (λ (xs : List Step). judgement n xs ≡ Some ended) before t.is_told.1;
       counted = let c = g.counted in omega arith;
       few = let c = g.counted in omega (arith, few);
-      follows = subst (λ (xs : List Step). Follows n xs after') all t.follows;
+      follows = subst (λ (xs : List Step). Follows n xs after') now' t.follows;
     }
 
 -- ---- how many steps were taken so far
 pub few_so_far : {n count : ℕ} {numbers : List NodeNumbers} {old now : List Step} {first w : Wave} → MaySettle n numbers old first → GoesOn n numbers old now w count
     → (count < 9 * n) × (length now ≡ length old + count)
 few_so_far {n} {count} {numbers} {old} {now} m g =
-    let few : length g.taken < 9 * n = soon g.taken m (subst (λ (xs : List Step). IsLawfulRun n xs) g.steps g.settling.is_run) in
+    let few : length g.taken < 9 * n = soon g.taken m (subst (λ (xs : List Step). IsLawfulRun n xs) (present_taken old now g.taken g.steps g.control) g.settling.is_run) in
     let size : length now ≡ length g.taken + length old = ap length g.steps ∙ length-append g.taken old in
     let c = g.counted in (omega (arith, few), omega (arith, size))
 

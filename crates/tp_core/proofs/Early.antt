@@ -17,14 +17,14 @@ use Rattle.tp_core.specs.declared.life.Life.{Life}
 use Rattle.tp_core.specs.declared.life.Life.TheVariants as life
 use Rattle.tp_core.specs.World.{Task, is_done, life_of, IsQuiet}
 use Rattle.tp_core.specs.Run.{world, history, node_of, IsLawfulRun}
-use Rattle.tp_core.specs.Laws.{is_insert_of}
+use Rattle.tp_core.specs.NeverEarly.{is_insert_of}
 use Rattle.tp_core.specs.NeverEarly.{HasRunOnce, IsOverFrom, IsNeverEarly}
-use Rattle.tp_core.proofs.Counting.{life_in, steps_of-history, runs_are_counted}
-use Rattle.tp_core.proofs.Quiet.{quiet_is_seen, nothing_pending_when_quiet}
+use Rattle.tp_core.proofs.Counting.{life_in, steps_of-history, is_run}
+use Rattle.tp_core.proofs.Quiet.{quiet_seen, nothing_pending_when_quiet}
 use Rattle.tp_core.proofs.Once.{tasks_run_once}
 
 -- ---- positions in a list and in its history
-length-history : (n : ℕ) (steps : List Step) → length (history n steps) ≡ length steps
+pub length-history : (n : ℕ) (steps : List Step) → length (history n steps) ≡ length steps
 length-history n [] = refl
 length-history n (s ∷ past) = ap suc (length-history n past)
 
@@ -80,10 +80,10 @@ quiet_from n w later past r judged q h =
     let front = events_after n later (Judge ∷ past) ++ (record { 0 = 0 }, Judge) ∷ [] in
     let whole : history n (later ++ Judge ∷ past) ≡ front ++ history n past =
     history-append n later (Judge ∷ past) ∙ sym (append_assoc (events_after n later (Judge ∷ past)) ((record { 0 = 0 }, Judge) ∷ []) (history n past)) in
-    let run : machine.IsRun n (front ++ history n past) = rw whole at (runs_are_counted n (later ++ Judge ∷ past) pos r).is_run in
+    let run : machine.IsRun n (front ++ history n past) = rw whole at (is_run n (later ++ Judge ∷ past) pos r) in
     let same = steps_of-history n past in
     let there = ended_law n w front (history n past) run (rw same ended) (rw same judged) q (rw same h) in
-    (quiet_is_seen n (before q (later ++ Judge ∷ past)) pos (IsLawfulRun-before n q (later ++ Judge ∷ past) r)).0
+    (quiet_seen n (before q (later ++ Judge ∷ past)) pos (IsLawfulRun-before n q (later ++ Judge ∷ past) r)).0
     (rw (← before-history n q (later ++ Judge ∷ past), whole) there)
 
 -- ---- each task has run once where nothing is left

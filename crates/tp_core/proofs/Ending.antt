@@ -1,7 +1,7 @@
 -- What a core answers that takes control steps to the end, and what it is then.
 use Rattle.std.proofs.Common.{Global, ℕ, ◌+◌, ◌*◌, ◌≡◌, ◌≤◌, ◌↔◌, List, [], ◌∷◌, ◌++◌, Bool, true, false, None, length}
 use Rattle.std.proofs.Common.{reverse, refl, ap, sym, subst, ◌∙◌, inl, inr, arith, IsTrue, IsFalse, length-append}
-use Rattle.std.proofs.lemmas.Bool.{cases_Bool, both_ways}
+use Rattle.std.proofs.lemmas.Bool.{cases_Bool, both_ways, and_parts}
 use Rattle.std.proofs.lemmas.Bool.Decides.{nat_tests}
 use Rattle.std.proofs.lemmas.List.{length-reverse}
 use Rattle.std.specs.declared.vec.Vec.{Vec}
@@ -10,24 +10,27 @@ use Rattle.std.specs.List.{list_all}
 use Rattle.tp_base.specs.declared.Refusal.{Refusal}
 use Rattle.tp_base.specs.declared.Refusal.TheVariants.{Ended, NotIdle}
 use Rattle.tp_base.specs.declared.Step.{Step}
-use Rattle.tp_base.specs.declared.Step.TheVariants.{Judge}
+use Rattle.tp_base.specs.declared.Step.TheVariants.{Start, Down, Give, Up, Judge}
 use Rattle.tp_base.specs.declared.limits.TheConstants.{MAX_STEPS}
 use Rattle.tp_base.specs.Checks.{first_refusal}
 use Rattle.tp_wave.specs.Sums.{waves, is_ended}
 use Rattle.tp_wave.specs.Control.{is_control}
-use Rattle.tp_wave.specs.Wave.{nodes_of}
+use Rattle.tp_wave.specs.Wave.{nodes_of, Follows}
 use Rattle.tp_wave.specs.declared.Wave.{Wave}
 use Rattle.tp_core.specs.declared.accepting.Core.TheInside.{Inside}
 use Rattle.tp_core.specs.declared.numbers.NodeNumbers.{NodeNumbers}
 use Rattle.tp_core.specs.World.{World, IsQuiet, is_quiet}
-use Rattle.tp_core.specs.Run.{world, IsLawfulRun}
+use Rattle.tp_wave.specs.Generations.{present, generation}
+use Rattle.tp_core.specs.Run.{world, IsLawful, IsLawfulRun}
+use Rattle.tp_core.specs.Generations.{MayCome, AreRuns}
 use Rattle.tp_core.specs.Accepted.{Accepted, IsRefusedFor, world_of}
-use Rattle.tp_core.specs.Kept.{accepted, Agree, IsKept, HasNumbers, HasPieces}
+use Rattle.tp_core.specs.Kept.{accepted, Agree, IsKept, HasActions, HasMessages, HasNumbers, HasPieces, HasTasks, all_left}
 use Rattle.tp_core.specs.Settled.{settle_checks, rooms_check, ends_before, IsSettled}
 use Rattle.tp_core.specs.Settling.{AreTaken, MaySettle}
 use Rattle.tp_core.proofs.Keeping.{numbers_stay}
 use Rattle.tp_core.proofs.Quiet.{none_from_length}
 use Rattle.tp_core.proofs.Settling.{judged_soon}
+use Rattle.tp_core.proofs.Generations.{no_reopening, present-control}
 use Rattle.tp_core.proofs.Due.{world_stays, moved_stays}
 
 -- ---- the test of quiet
@@ -50,28 +53,28 @@ same_quiet false w h =
 abbrev IsRefusal : Accepted → Refusal → Type 0
 IsRefusal a r = IsRefusedFor (first_refusal (settle_checks a)) (ends_before (length a.steps) (9 * a.nodes)) r
 
-pub by_end : (a : Accepted) → IsTrue (is_ended a.nodes a.steps) → IsRefusal a Ended
+pub by_end : (a : Accepted) → IsTrue (is_ended a.nodes (present a.steps)) → IsRefusal a Ended
 by_end a e = rw e refl
 
-pub by_quiet : (a : Accepted) → IsFalse (is_ended a.nodes a.steps) → IsFalse (is_quiet (world_of a)) → IsRefusal a NotIdle
+pub by_quiet : (a : Accepted) → IsFalse (is_ended a.nodes (present a.steps)) → IsFalse (is_quiet (world_of a)) → IsRefusal a NotIdle
 by_quiet a e q = rw (e, q) refl
 
-pub by_room : (a : Accepted) (r : Refusal) → IsFalse (is_ended a.nodes a.steps) → IsTrue (is_quiet (world_of a))
+pub by_room : (a : Accepted) (r : Refusal) → IsFalse (is_ended a.nodes (present a.steps)) → IsTrue (is_quiet (world_of a))
     → IsRefusedFor (first_refusal (rooms_check (length a.steps) (9 * a.nodes))) (ends_before (length a.steps) (9 * a.nodes)) r → IsRefusal a r
 by_room a r e q told = rw (e, q) told
 
-pub no_rooms : (c : Inside) {old : Accepted} (mid : List Step) (r : Refusal) → accepted c ≡ old → IsFalse (is_ended c.nodes (accepted c).steps) → IsTrue (is_quiet (world_of (accepted c)))
+pub no_rooms : (c : Inside) {old : Accepted} (mid : List Step) (r : Refusal) → accepted c ≡ old → IsFalse (is_ended c.nodes (present (accepted c).steps)) → IsTrue (is_quiet (world_of (accepted c)))
     → IsRefusedFor (first_refusal (rooms_check (length c.steps.items) (9 * c.nodes))) (ends_before (length c.steps.items) (9 * c.nodes)) r → mid ≡ c.steps.items
     → IsRefusal old r × (record { nodes = c.nodes; steps = reverse mid } ≡ old)
 no_rooms c {old} mid r is e q told stay =
     (subst (λ (a : Accepted). IsRefusal a r) is (by_room (accepted c) r e q (rw (length-reverse c.steps.items) told)), rw stay is)
 
-pub by_none : (a : Accepted) → IsFalse (is_ended a.nodes a.steps) → IsTrue (is_quiet (world_of a)) → length a.steps + 9 * a.nodes ≤ MAX_STEPS
+pub by_none : (a : Accepted) → IsFalse (is_ended a.nodes (present a.steps)) → IsTrue (is_quiet (world_of a)) → length a.steps + 9 * a.nodes ≤ MAX_STEPS
     → first_refusal (settle_checks a) ≡ None
 by_none a e q room = rw (e, q) (grind (arith, nat_tests, room))
 
 -- ---- before the steps are taken
-may_settle : {c : Inside} → IsKept c → IsFalse (is_ended c.nodes (accepted c).steps) → IsTrue (is_quiet (world_of (accepted c)))
+may_settle : {c : Inside} → IsKept c → IsFalse (is_ended c.nodes (present (accepted c).steps)) → IsTrue (is_quiet (world_of (accepted c)))
     → MaySettle c.nodes c.numbers (accepted c).steps c.wave
 may_settle {c} agree e q = record {
   some_node = agree.some_node;
@@ -84,7 +87,7 @@ may_settle {c} agree e q = record {
   follows = agree.wave;
 }
 
-pub ready_there : (c : Inside) (mid : List Step) → IsKept c → IsFalse (is_ended c.nodes (accepted c).steps) → IsTrue (is_quiet (world_of (accepted c)))
+pub ready_there : (c : Inside) (mid : List Step) → IsKept c → IsFalse (is_ended c.nodes (present (accepted c).steps)) → IsTrue (is_quiet (world_of (accepted c)))
     → mid ≡ c.steps.items → MaySettle (nodes_of c.wave) c.numbers (reverse mid) c.wave
 ready_there c mid agree e q stay =
     subst (λ (n : ℕ). MaySettle n c.numbers (reverse mid) c.wave) (sym agree.wave.stands.nodes)
@@ -116,29 +119,57 @@ same_numbers n xs (s ∷ later) old c r h =
 pub fewer_pieces : (few many capacity : ℕ) → few ≤ many → HasPieces many capacity → HasPieces few capacity
 fewer_pieces few many capacity l h = omega (arith, l, h)
 
+-- control steps that are a run of the generation go on with all of it
+control_comes : (n : ℕ) (past : List Step) (s : Step) → IsTrue (is_control s) → IsLawful n (present past) s → MayCome n past s
+control_comes n past Start c h = record { reopens = λ f. cc; goes_on = λ f. (h, tt) }
+control_comes n past (Down j) c h = record { reopens = λ f. cc; goes_on = λ f. (h, tt) }
+control_comes n past (Give j) c h = record { reopens = λ f. cc; goes_on = λ f. (h, tt) }
+control_comes n past (Up j) c h = record { reopens = λ f. cc; goes_on = λ f. (h, tt) }
+control_comes n past Judge c h = record { reopens = λ f. cc; goes_on = λ f. (h, tt) }
+control_comes n past (s) c h = cc
+
+runs_on : (n : ℕ) (later old : List Step) → IsTrue (list_all is_control later) → IsLawfulRun n (later ++ present old) → AreRuns n old → AreRuns n (later ++ old)
+runs_on n [] old c r all = all
+runs_on n (s ∷ later) old c r all =
+    let parts : IsTrue (is_control s) × IsTrue (list_all is_control later) = and_parts (is_control s) (list_all is_control later) c in (
+      control_comes n (later ++ old) s parts.0 (subst (λ (xs : List Step). IsLawful n xs s) (sym (present-control later old parts.1)) r.0),
+      runs_on n later old parts.1 r.1 all,
+    )
+
+generation_stays : (later old : List Step) → IsTrue (list_all is_control later) → generation (later ++ old) ≡ generation old
+generation_stays [] old c = refl
+generation_stays (s ∷ later) old c =
+    let parts : IsTrue (is_control s) × IsTrue (list_all is_control later) = and_parts (is_control s) (list_all is_control later) c in
+    rw (no_reopening s parts.0) (generation_stays later old parts.1)
+
 pub agree_settled : {c : Inside} {w count : ℕ} (steps : Vec Step Global) (wave : Wave) → IsKept c → AreTaken c.nodes (accepted c).steps (reverse steps.items) wave w count
     → length (accepted c).steps + 9 * c.nodes ≤ MAX_STEPS → HasPieces (length (accepted c).steps + 9 * c.nodes) (vec_capacity steps) → IsKept (record c { steps = steps; wave = wave })
 agree_settled {c} steps wave agree t room pieces =
     let later : List Step = Judge ∷ t.taken in
-    let old : List Step = (accepted c).steps in
-    let size : length (later ++ old) ≡ length later + length old = length-append later old in
-    let few : length later + length old ≤ length old + 9 * c.nodes = let a = t.counted in omega (arith, t.few) in
+    let all : List Step = (accepted c).steps in
+    let old : List Step = present (accepted c).steps in
+    let size : length (later ++ all) ≡ length later + length all = length-append later all in
+    let few : length later + length all ≤ length all + 9 * c.nodes = let a = t.counted in omega (arith, t.few) in
     let stay : world c.nodes (later ++ old) ≡ world c.nodes old = same_world c.nodes later old t.control in
     let d : Inside = record c { steps = steps; wave = wave } in
+    let now : present (later ++ all) ≡ later ++ old = present-control later all t.control in
+    let still : world c.nodes (present (later ++ all)) ≡ world c.nodes old = ap (world c.nodes) now ∙ stay in
     subst (λ (xs : List Step). Agree (record { nodes = c.nodes; steps = xs }) d) (sym t.steps) record {
       some_node = agree.some_node;
       few_nodes = agree.few_nodes;
-      is_run = t.run;
+      is_run = subst (λ (xs : List Step). IsLawfulRun c.nodes xs) (sym now) t.run;
+      are_runs = runs_on c.nodes later all t.control t.run agree.are_runs;
+      generation_is = agree.generation_is ∙ sym (generation_stays later all t.control);
       within = omega (arith, size, few, room);
-      pieces = fewer_pieces (length steps.items) (length old + 9 * c.nodes) (vec_capacity steps)
+      pieces = fewer_pieces (length steps.items) (length all + 9 * c.nodes) (vec_capacity steps)
           (omega (arith, few, size, length-reverse steps.items, ap length t.steps)) pieces;
-      numbers = same_numbers c.nodes c.numbers later old t.control t.run agree.numbers;
-      left = rw stay agree.left;
-      under = rw stay agree.under;
-      tasks = rw stay agree.tasks;
-      actions = rw stay agree.actions;
-      messages = rw stay agree.messages;
-      wave = t.follows;
+      numbers = subst (λ (xs : List Step). HasNumbers c.numbers (record { nodes = c.nodes; steps = xs })) (sym now) (same_numbers c.nodes c.numbers later old t.control t.run agree.numbers);
+      left = subst (λ (w : World). c.left ≡ all_left w) (sym still) agree.left;
+      under = subst (λ (w : World). c.under ≡ length w.messages) (sym still) agree.under;
+      tasks = subst (λ (w : World). HasTasks c.tasks w.tasks) (sym still) agree.tasks;
+      actions = subst (λ (w : World). HasActions c.opening c.named c.messages w.actions) (sym still) agree.actions;
+      messages = subst (λ (w : World). HasMessages c.messages w.messages w.numbers) (sym still) agree.messages;
+      wave = subst (λ (xs : List Step). Follows c.nodes xs wave) (sym now) t.follows;
     }
 
 pub settled : {c : Inside} {w count : ℕ} {new : List Step} {wave : Wave} → IsKept c → IsTrue (is_quiet (world_of (accepted c)))
@@ -148,10 +179,10 @@ settled {c} {w} {count} {new} agree q t = record {
   taken = t.taken;
   steps = t.steps;
   control = t.control;
-  run = t.run;
+  run = runs_on c.nodes (Judge ∷ t.taken) (accepted c).steps t.control t.run agree.are_runs;
   judged = t.judged;
   counted = let a = t.counted in omega arith;
   few = t.few;
-  started = subst (λ (xs : List Step). waves xs ≤ waves (accepted c).steps + 2) (sym t.steps)
-      (judged_soon c.nodes (Judge ∷ t.taken) (accepted c).steps agree.some_node t.run (quiet_shown (world_of (accepted c)) q)).1;
+  started = subst (λ (xs : List Step). waves xs ≤ waves (present (accepted c).steps) + 2) (sym (ap present t.steps ∙ present-control (Judge ∷ t.taken) (accepted c).steps t.control))
+      (judged_soon c.nodes (Judge ∷ t.taken) (present (accepted c).steps) agree.some_node t.run (quiet_shown (world_of (accepted c)) q)).1;
 }

@@ -1,5 +1,5 @@
 -- What a core keeps goes on to be what its steps say.
-use Rattle.std.proofs.Common.{Global, ℕ, ◌+◌, ◌-◌, ◌≡◌, ◌<◌, ◌≤◌, List, [], ◌∷◌, ◌++◌, Bool, true, false, Some, length, refl, ap, sym, subst, ◌∙◌, arith, set, length-set, eqb-true}
+use Rattle.std.proofs.Common.{Global, ℕ, ◌+◌, ◌-◌, ◌≡◌, ◌<◌, ◌≤◌, List, [], ◌∷◌, ◌++◌, Bool, true, false, IsFalse, Some, length, refl, ap, sym, subst, ◌∙◌, arith, set, length-set, eqb-true}
 use Rattle.std.proofs.lemmas.Bool.Decides.{nat_tests}
 use Rattle.std.proofs.lemmas.List.{reverse-append, length-reverse, length-append}
 use Rattle.std.specs.declared.vec.Vec.{Vec}
@@ -19,19 +19,23 @@ use Rattle.tp_core.specs.declared.life.Life.TheVariants as life
 use Rattle.tp_core.specs.declared.numbers.NodeNumbers.{NodeNumbers}
 use Rattle.tp_core.specs.World.{World, Task, Opening, Named, OfMessage, is_action, is_message, is_done, how_many}
 use Rattle.tp_core.specs.Pool.{with_life, supplied, after}
+use Rattle.tp_wave.specs.Steps.{is_reopen}
+use Rattle.tp_wave.specs.Generations.{present, generation}
 use Rattle.tp_core.specs.Run.{world, node_of, IsLawful, IsLawfulRun}
-use Rattle.tp_core.specs.Accepted.{Accepted, world_of, with_step, numbers_at}
+use Rattle.tp_core.specs.Generations.{MayCome}
+use Rattle.tp_core.specs.Accepted.{Accepted, with_step, numbers_in, now_of}
 use Rattle.tp_core.specs.Kept.{accepted, Agree, IsKept, HasTasks, HasActions, HasMessages, HasNumbers, HasPieces, all_left}
 use Rattle.tp_core.proofs.Counting.{life_in, one_if, node_inside, open_at-openings, pending_step, not_done-lacking, length-without}
 use Rattle.tp_core.proofs.Written.{written}
+use Rattle.tp_core.proofs.Generations.{present-goes_on}
 
 -- ---- the numbers of the nodes
 abbrev sent_after : Step → ℕ → ℕ
-sent_after (Send i j m) k = k + 1
+sent_after (Send i j m g) k = k + 1
 sent_after _ k = k
 
 abbrev received_after : Step → ℕ → ℕ
-received_after (Recv j m) k = k + 1
+received_after (Recv j m g) k = k + 1
 received_after _ k = k
 
 -- how a step moves the numbers of its node
@@ -43,11 +47,11 @@ if_same true x = refl
 if_same false x = refl
 
 sent_step : (w : World) (s : Step) (i k : ℕ) → (if is_send_of i s then k + 1 else k) ≡ (if node_of w s == i then sent_after s k else k)
-sent_step w (Send a b m) i k = refl
+sent_step w (Send a b m g) i k = refl
 sent_step w (s) i k = sym (if_same _ _)
 
 received_step : (w : World) (s : Step) (i k : ℕ) → (if is_recv_at i s then k + 1 else k) ≡ (if node_of w s == i then received_after s k else k)
-received_step w (Recv j m) i k = refl
+received_step w (Recv j m g) i k = refl
 received_step w (s) i k = sym (if_same _ _)
 
 joined : (b : Bool) (p q : ℕ) (x y : NodeNumbers) →
@@ -56,10 +60,10 @@ joined true p q x y = refl
 joined false p q x y = refl
 
 numbers_step : (a : Accepted) (s : Step) (i : ℕ) → IsLawful a.nodes a.steps s
-    → numbers_at i (with_step a s) ≡ (if node_of (world_of a) s == i then moved s (numbers_at i a) else numbers_at i a)
+    → numbers_in i (with_step a s) ≡ (if node_of (world a.nodes a.steps) s == i then moved s (numbers_in i a) else numbers_in i a)
 numbers_step a s i lawful =
-    rw (pending_step a.nodes a.steps s i lawful, sent_step (world_of a) s i (count (is_send_of i) a.steps), received_step (world_of a) s i (count (is_recv_at i) a.steps))
-    (joined (node_of (world_of a) s == i) 0 0 (moved s (numbers_at i a)) (numbers_at i a))
+    rw (pending_step a.nodes a.steps s i lawful, sent_step (world a.nodes a.steps) s i (count (is_send_of i) a.steps), received_step (world a.nodes a.steps) s i (count (is_recv_at i) a.steps))
+    (joined (node_of (world a.nodes a.steps) s == i) 0 0 (moved s (numbers_in i a)) (numbers_in i a))
 
 -- the numbers of a node that has none
 abbrev pub zeros : NodeNumbers
@@ -69,31 +73,31 @@ zeros = record { pending = 0; sent = 0; received = 0 }
 pub numbers_stay : {a : Accepted} {xs : List NodeNumbers} (s : Step) → HasNumbers xs a → IsLawful a.nodes a.steps s → ((x : NodeNumbers) → moved s x ≡ x)
     → HasNumbers xs (with_step a s)
 numbers_stay {a} {xs} s kept lawful stay =
-    record { size = kept.size; each = λ i d low. kept.each i d low ∙ sym (numbers_step a s i lawful ∙ rw (stay (numbers_at i a)) (choose i (node_of (world_of a) s == i))) }
+    record { size = kept.size; each = λ i d low. kept.each i d low ∙ sym (numbers_step a s i lawful ∙ rw (stay (numbers_in i a)) (choose i (node_of (world a.nodes a.steps) s == i))) }
   where
-    choose : (i : ℕ) (b : Bool) → (if b then numbers_at i a else numbers_at i a) ≡ numbers_at i a
+    choose : (i : ℕ) (b : Bool) → (if b then numbers_in i a else numbers_in i a) ≡ numbers_in i a
     choose i true = refl
     choose i false = refl
 
 -- a step that moves the numbers of node j
 pub numbers_written : {a : Accepted} {xs : List NodeNumbers} (s : Step) → HasNumbers xs a → IsLawful a.nodes a.steps s → (j : ℕ) (v : NodeNumbers) → j < MAX_NODES
-    → j ≡ node_of (world_of a) s → v ≡ moved s (slice_index_or xs j zeros) → HasNumbers (set xs j v) (with_step a s)
+    → j ≡ node_of (world a.nodes a.steps) s → v ≡ moved s (slice_index_or xs j zeros) → HasNumbers (set xs j v) (with_step a s)
 numbers_written {a} {xs} s kept lawful j v low at is = record { size = length-set _ _ _ ∙ kept.size; each = each }
   where
-    choose : (i : ℕ) (b : Bool) → (j == i) ≡ b → (if b then moved s (numbers_at j a) else numbers_at i a) ≡ (if b then moved s (numbers_at i a) else numbers_at i a)
-    choose i true same = ap (λ k. moved s (numbers_at k a)) (eqb-true j i same)
+    choose : (i : ℕ) (b : Bool) → (j == i) ≡ b → (if b then moved s (numbers_in j a) else numbers_in i a) ≡ (if b then moved s (numbers_in i a) else numbers_in i a)
+    choose i true same = ap (λ k. moved s (numbers_in k a)) (eqb-true j i same)
     choose i false same = refl
 
-    each : (i : ℕ) (d : NodeNumbers) → i < MAX_NODES → slice_index_or (set xs j v) i d ≡ numbers_at i (with_step a s)
+    each : (i : ℕ) (d : NodeNumbers) → i < MAX_NODES → slice_index_or (set xs j v) i d ≡ numbers_in i (with_step a s)
     each i d inside =
-        let step : numbers_at i (with_step a s) ≡ (if j == i then moved s (numbers_at i a) else numbers_at i a) = rw at (numbers_step a s i lawful) in
+        let step : numbers_in i (with_step a s) ≡ (if j == i then moved s (numbers_in i a) else numbers_in i a) = rw at (numbers_step a s i lawful) in
         let size = kept.size in
-        let now : slice_index_or (set xs j v) i d ≡ (if j == i then moved s (numbers_at j a) else numbers_at i a) =
+        let now : slice_index_or (set xs j v) i d ≡ (if j == i then moved s (numbers_in j a) else numbers_in i a) =
         rw (written xs j i v d (omega arith), is, kept.each j zeros low, kept.each i d inside) refl in
         now ∙ choose i (j == i) refl ∙ sym step
 
 -- a node that is not there has no numbers
-pub outside : (n i : ℕ) (steps : List Step) → 0 < n → IsLawfulRun n steps → n ≤ i → numbers_at i (record { nodes = n; steps = steps }) ≡ zeros
+pub outside : (n i : ℕ) (steps : List Step) → 0 < n → IsLawfulRun n steps → n ≤ i → numbers_in i (record { nodes = n; steps = steps }) ≡ zeros
 outside n i [] pos r h = ap (λ p. record { pending = p; sent = 0; received = 0 }) (grind (arith, nat_tests, open_at-openings i n))
 outside n i (s ∷ past) pos r h =
     let inside = node_inside n past s pos r.1 r.0 in
@@ -114,56 +118,64 @@ left_step n past (Done t) r = let e = left-with_life t.0 (λ _. life.Done) life.
 left_step n past (ActionOpen i a) r = grind arith
 left_step n past (ActionClose i a) r = let e = length-without (is_action i.0 (Named a.0)) (world n past).actions r.1 in grind (arith, e)
 left_step n past (Ready i) r = let e = length-without (is_action i.0 Opening) (world n past).actions r.1 in grind (arith, e)
-left_step n past (Recv j m) r = grind arith
-left_step n past (MessageEnd j m) r = let e = length-without (is_action j.0 (OfMessage m.0)) (world n past).actions r.1 in grind (arith, e)
+left_step n past (Recv j m g) r = grind arith
+left_step n past (MessageEnd j m g) r = let e = length-without (is_action j.0 (OfMessage m.0)) (world n past).actions r.1 in grind (arith, e)
 left_step n past (s) r = refl
 
 under_step : (n : ℕ) (past : List Step) (s : Step) → IsLawful n past s → length (after s (world n past)).messages ≡ under_way_after s (length (world n past).messages)
-under_step n past (Send i j m) r = grind arith
-under_step n past (Recv j m) r = let e = length-without (is_message m.0 j.0) (world n past).messages r.1 in grind (arith, e)
+under_step n past (Send i j m g) r = grind arith
+under_step n past (Recv j m g) r = let e = length-without (is_message m.0 j.0) (world n past).messages r.1 in grind (arith, e)
 under_step n past (s) r = refl
 
 -- ---- all of it
-accepted_next : (c d : Inside) (s : Step) → d.nodes ≡ c.nodes → d.steps.items ≡ c.steps.items ++ s ∷ [] → accepted d ≡ with_step (accepted c) s
+pub accepted_next : (c d : Inside) (s : Step) → d.nodes ≡ c.nodes → d.steps.items ≡ c.steps.items ++ s ∷ [] → accepted d ≡ with_step (accepted c) s
 accepted_next c d s nodes pushed = rw (nodes, pushed, reverse-append c.steps.items (s ∷ [])) refl
 
-pub agree_after : {c d : Inside} {mid : List Step} {room : ℕ} (s : Step) → IsKept c → IsLawful c.nodes (accepted c).steps s → length c.steps.items < MAX_STEPS
-    → HasPieces (length c.steps.items + 1) room → d.nodes ≡ c.nodes → mid ≡ c.steps.items → d.steps.items ≡ mid ++ s ∷ [] → vec_capacity d.steps ≡ room
-    → HasNumbers d.numbers (with_step (accepted c) s)
+-- what happened in the present generation, one step more
+pub generation-goes_on : (s : Step) (past : List Step) → IsFalse (is_reopen s) → generation (s ∷ past) ≡ generation past
+generation-goes_on s past on = rw on
+
+pub agree_after : {c d : Inside} {mid : List Step} {room : ℕ} (s : Step) → IsKept c → MayCome c.nodes (accepted c).steps s → IsFalse (is_reopen s) → length c.steps.items < MAX_STEPS
+    → HasPieces (length c.steps.items + 1) room → d.nodes ≡ c.nodes → d.generation ≡ c.generation → mid ≡ c.steps.items → d.steps.items ≡ mid ++ s ∷ [] → vec_capacity d.steps ≡ room
+    → HasNumbers d.numbers (with_step (now_of (accepted c)) s)
     → d.left ≡ pending_after s c.left → d.under ≡ under_way_after s c.under
-    → HasTasks d.tasks (after s (world_of (accepted c))).tasks
-    → HasActions d.opening d.named d.messages (after s (world_of (accepted c))).actions
-    → HasMessages d.messages (after s (world_of (accepted c))).messages (after s (world_of (accepted c))).numbers
-    → Follows c.nodes (s ∷ (accepted c).steps) d.wave
+    → HasTasks d.tasks (after s (world c.nodes (present (accepted c).steps))).tasks
+    → HasActions d.opening d.named d.messages (after s (world c.nodes (present (accepted c).steps))).actions
+    → HasMessages d.messages (after s (world c.nodes (present (accepted c).steps))).messages (after s (world c.nodes (present (accepted c).steps))).numbers
+    → Follows c.nodes (s ∷ present (accepted c).steps) d.wave
     → IsKept d
-agree_after {c} {d} {mid} s agree lawful room pieces nodes stay pushed capacity numbers left under tasks actions messages follows =
+agree_after {c} {d} {mid} s agree comes on room pieces nodes same_generation stay pushed capacity numbers left under tasks actions messages follows =
+    let lawful : IsLawful c.nodes (present (accepted c).steps) s = (comes.goes_on on).0 in
+    let now : present (s ∷ (accepted c).steps) ≡ s ∷ present (accepted c).steps = present-goes_on s (accepted c).steps on in
     subst (λ a. Agree a d) (sym (accepted_next c d s nodes (rw stay at pushed))) record {
       some_node = agree.some_node;
       few_nodes = agree.few_nodes;
-      is_run = (lawful, agree.is_run);
+      is_run = subst (λ (xs : List Step). IsLawfulRun c.nodes xs) (sym now) (lawful, agree.is_run);
+      are_runs = (comes, agree.are_runs);
+      generation_is = same_generation ∙ agree.generation_is ∙ sym (generation-goes_on s (accepted c).steps on);
       within = rw (length-reverse c.steps.items) (omega arith);
       pieces = rw (capacity, pushed, stay, length-append c.steps.items (s ∷ [])) pieces;
-      numbers = numbers;
-      left = left ∙ rw agree.left (sym (left_step c.nodes (accepted c).steps s lawful));
-      under = under ∙ rw agree.under (sym (under_step c.nodes (accepted c).steps s lawful));
-      tasks = tasks;
-      actions = actions;
-      messages = messages;
-      wave = follows;
+      numbers = subst (λ (xs : List Step). HasNumbers d.numbers (record { nodes = c.nodes; steps = xs })) (sym now) numbers;
+      left = subst (λ (xs : List Step). d.left ≡ all_left (world c.nodes xs)) (sym now) (left ∙ rw agree.left (sym (left_step c.nodes (present (accepted c).steps) s lawful)));
+      under = subst (λ (xs : List Step). d.under ≡ length (world c.nodes xs).messages) (sym now) (under ∙ rw agree.under (sym (under_step c.nodes (present (accepted c).steps) s lawful)));
+      tasks = subst (λ (xs : List Step). HasTasks d.tasks (world c.nodes xs).tasks) (sym now) tasks;
+      actions = subst (λ (xs : List Step). HasActions d.opening d.named d.messages (world c.nodes xs).actions) (sym now) actions;
+      messages = subst (λ (xs : List Step). HasMessages d.messages (world c.nodes xs).messages (world c.nodes xs).numbers) (sym now) messages;
+      wave = subst (λ (xs : List Step). Follows c.nodes xs d.wave) (sym now) follows;
     }
 
 -- a step of the pool
-pub agree_next : {c d : Inside} {mid : List Step} {room : ℕ} (s : Step) → IsKept c → IsLawful c.nodes (accepted c).steps s → length c.steps.items < MAX_STEPS
-    → HasPieces (length c.steps.items + 1) room → is_control s ≡ false → d.nodes ≡ c.nodes → d.wave ≡ c.wave → mid ≡ c.steps.items → d.steps.items ≡ mid ++ s ∷ [] → vec_capacity d.steps ≡ room
-    → HasNumbers d.numbers (with_step (accepted c) s)
+pub agree_next : {c d : Inside} {mid : List Step} {room : ℕ} (s : Step) → IsKept c → MayCome c.nodes (accepted c).steps s → IsFalse (is_reopen s) → length c.steps.items < MAX_STEPS
+    → HasPieces (length c.steps.items + 1) room → is_control s ≡ false → d.nodes ≡ c.nodes → d.generation ≡ c.generation → d.wave ≡ c.wave → mid ≡ c.steps.items → d.steps.items ≡ mid ++ s ∷ [] → vec_capacity d.steps ≡ room
+    → HasNumbers d.numbers (with_step (now_of (accepted c)) s)
     → d.left ≡ pending_after s c.left → d.under ≡ under_way_after s c.under
-    → HasTasks d.tasks (after s (world_of (accepted c))).tasks
-    → HasActions d.opening d.named d.messages (after s (world_of (accepted c))).actions
-    → HasMessages d.messages (after s (world_of (accepted c))).messages (after s (world_of (accepted c))).numbers
+    → HasTasks d.tasks (after s (world c.nodes (present (accepted c).steps))).tasks
+    → HasActions d.opening d.named d.messages (after s (world c.nodes (present (accepted c).steps))).actions
+    → HasMessages d.messages (after s (world c.nodes (present (accepted c).steps))).messages (after s (world c.nodes (present (accepted c).steps))).numbers
     → IsKept d
-agree_next {c} {d} s agree lawful room pieces pool nodes wave stay pushed capacity numbers left under tasks actions messages =
-    agree_after s agree lawful room pieces nodes stay pushed capacity numbers left under tasks actions messages
-    (rw wave (pool_step c.nodes (accepted c).steps s c.wave pool agree.wave))
+agree_next {c} {d} s agree comes on room pieces pool nodes same_generation wave stay pushed capacity numbers left under tasks actions messages =
+    agree_after s agree comes on room pieces nodes same_generation stay pushed capacity numbers left under tasks actions messages
+    (rw wave (pool_step c.nodes (present (accepted c).steps) s c.wave pool agree.wave))
 
 -- where a step was refused, after more room was made
 pub agree_room : {c : Inside} (steps : Vec Step Global) → IsKept c → steps.items ≡ c.steps.items → HasPieces (length c.steps.items) (vec_capacity steps) → IsKept (record c { steps = steps })
@@ -173,6 +185,8 @@ agree_room {c} steps agree stay pieces =
       some_node = agree.some_node;
       few_nodes = agree.few_nodes;
       is_run = agree.is_run;
+      are_runs = agree.are_runs;
+      generation_is = agree.generation_is;
       within = agree.within;
       pieces = subst (λ (xs : List Step). HasPieces (length xs) (vec_capacity steps)) (sym stay) pieces;
       numbers = agree.numbers;

@@ -8,6 +8,7 @@ use Rattle.tp_core.specs.declared.accepting.Core.TheInside.{Inside}
 use Rattle.tp_core.specs.declared.held.Held.{Held}
 use Rattle.tp_core.specs.World.{Task, life_of, home_of}
 use Rattle.tp_base.specs.Table.{lookup}
+use Rattle.tp_wave.specs.Generations.{present}
 use Rattle.tp_core.specs.Accepted.{world_of}
 use Rattle.tp_core.specs.Kept.{accepted, held, IsKept}
 use Rattle.tp_core.proofs.Counting.{home_inside}
@@ -26,7 +27,7 @@ of_held (Some x) h e = let same : held x ≡ h = cc in (ap (λ (k : Held). Some 
 pub lives : {c : Inside} → IsKept c → (t : ℕ) (h : Held) → Some h ≡ lookup c.tasks t → Lives c t h
 lives {c} agree t h e =
     let both = of_held (find (λ x. x.number == t) (world_of (accepted c)).tasks) h (e ∙ agree.tasks.found t) in
-    let below = home_inside c.nodes (accepted c).steps agree.is_run t (ap is_some both.0) in
+    let below = home_inside c.nodes (present (accepted c).steps) agree.is_run t (ap is_some both.0) in
     let few = agree.few_nodes in
     let same = both.1 in
     record { life = both.0; home = both.1; inside = omega arith }

@@ -14,7 +14,7 @@ use Rattle.tp_wave.proofs.Settling.{soon_law, goes_on_law}
 use Rattle.tp_core.specs.Run.{history, IsLawful, IsLawfulRun}
 use Rattle.tp_core.specs.Laws.{JudgedSoon}
 use Rattle.tp_core.proofs.Counting.{steps_of-history, pending_is, is_run}
-use Rattle.tp_core.proofs.Quiet.{quiet_is_seen}
+use Rattle.tp_core.proofs.Quiet.{quiet_seen}
 use Rattle.tp_core.proofs.Early.{events_after, history-append, length-after, IsLawfulRun-past}
 
 -- a control step of the machine is lawful for the core
@@ -34,7 +34,7 @@ judged_soon n later steps pos r q =
     let whole : history n (later ++ steps) ≡ front ++ history n steps = history-append n later steps in
     let run : machine.IsRun n (history n (later ++ steps)) = is_run n (later ++ steps) pos r in
     let old : IsLawfulRun n steps = IsLawfulRun-past n later steps r in
-    let quiet : cut.IsQuiet n (history n steps) = (quiet_is_seen n steps pos old).1 q in
+    let quiet : cut.IsQuiet n (history n steps) = (quiet_seen n steps pos old).1 q in
     let soon = soon_law n front (history n steps) pos (rw whole at run) quiet in
     let still : cut.IsQuiet n (history n (later ++ steps)) = rw whole (quiet_law n front (history n steps) (rw whole at run) quiet).0 in
     let now : steps_of (front ++ history n steps) ≡ later ++ steps = ap steps_of (sym whole) ∙ steps_of-history n (later ++ steps) in

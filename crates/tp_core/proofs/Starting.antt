@@ -1,10 +1,13 @@
 -- What a new core keeps, and where what is kept is quiet.
-use Rattle.std.proofs.Common.{ℕ, zero, suc, ◌+◌, ◌≡◌, ◌<◌, ◌≤◌, List, [], ◌∷◌, Bool, true, false, None, length, refl, ap, sym, ◌∙◌, arith, zero-le, set, length-set, subst}
+use Rattle.std.proofs.Common.{ℕ, zero, suc, ◌+◌, ◌≡◌, ◌<◌, ◌≤◌, List, [], ◌∷◌, ◌++◌, Bool, true, false, None, length, refl, ap, sym, ◌∙◌, arith, zero-le, set, length-set, subst}
 use Rattle.std.proofs.lemmas.Bool.Decides.{nat_tests}
 use Rattle.std.specs.Prelude.{◌==◌, ◌&&◌, vec_capacity, nat_lt, if◌then◌else◌}
 use Rattle.std.specs.List.{list_any, slice_index_or}
-use Rattle.tp_base.specs.declared.limits.TheConstants.{MAX_NODES}
+use Rattle.tp_base.specs.declared.limits.TheConstants.{MAX_NODES, MAX_STEPS}
 use Rattle.tp_base.specs.declared.Step.{Step}
+use Rattle.tp_base.specs.declared.Step.TheVariants.{Reopen}
+use Rattle.tp_core.specs.Generations.{MayCome}
+use Rattle.std.proofs.lemmas.List.{length-reverse, length-append}
 use Rattle.tp_wave.specs.Wave.{Follows}
 use Rattle.tp_core.specs.declared.accepting.Core.TheInside.{Inside}
 use Rattle.tp_core.specs.declared.node_set.NodeSet.{NodeSet}
@@ -14,25 +17,15 @@ use Rattle.tp_base.specs.declared.Table.{Table}
 use Rattle.tp_base.specs.Table.{lookup}
 use Rattle.tp_core.specs.NodeSet.{has}
 use Rattle.tp_core.specs.World.{Kind, Opening, Named, OfMessage, is_action, how_many, openings, IsQuiet}
-use Rattle.tp_core.specs.Accepted.{world_of, numbers_at}
-use Rattle.tp_core.specs.Kept.{accepted, Agree, IsKept, HasActions, HasPieces, is_kept_open}
+use Rattle.tp_core.specs.Accepted.{Accepted, world_of, numbers_in}
+use Rattle.tp_core.specs.Kept.{accepted, Agree, IsKept, HasActions, HasPieces, AreOpened, opened_below, is_kept_open}
 use Rattle.tp_core.proofs.Counting.{open_at-openings}
 use Rattle.tp_core.proofs.Quiet.{none_from_length}
-use Rattle.tp_core.proofs.Keeping.{zeros}
+use Rattle.tp_core.proofs.Keeping.{zeros, accepted_next}
 use Rattle.tp_core.proofs.Bounds.{length-openings}
 use Rattle.tp_core.proofs.Written.{written}
 
 -- ---- a new core
--- the numbers of node k where the nodes below i have their opening actions
-abbrev pub opened_below : ℕ → ℕ → NodeNumbers
-opened_below i k = record { pending = if nat_lt k i then 1 else 0; sent = 0; received = 0 }
-
--- The first i nodes have their opening actions.
-pub record AreOpened (i : ℕ) (numbers : List NodeNumbers) (opening : NodeSet) : Type 0 where
-  pub size : length numbers ≡ MAX_NODES
-  pub each : (k : ℕ) (d : NodeNumbers) → k < MAX_NODES → slice_index_or numbers k d ≡ opened_below i k
-  pub opened : (k : ℕ) → has opening k ≡ nat_lt k i
-
 any_opening : (i n : ℕ) (kind : Kind) → list_any (is_action i kind) (openings n) ≡ (nat_lt i n && list_any (is_action i kind) (record { node = i; kind = Opening } ∷ []))
 any_opening i zero kind = grind (arith, nat_tests)
 any_opening i (suc n) kind = grind (arith, nat_tests, any_opening i n kind)
@@ -61,17 +54,20 @@ first_actions n opening named messages opened no_name no_message = record { are_
     now i (Named a) = let none = no_name a in grind (arith, none)
     now i (OfMessage m) = let none = no_message m in grind (arith, none)
 
-first_numbers : (i n : ℕ) → opened_below n i ≡ numbers_at i (record { nodes = n; steps = [] })
+first_numbers : (i n : ℕ) → opened_below n i ≡ numbers_in i (record { nodes = n; steps = [] })
 first_numbers i n = ap (λ p. record { pending = p; sent = 0; received = 0 }) (grind (arith, open_at-openings i n))
 
-pub first_kept : {c : Inside} → 0 < c.nodes → c.nodes ≤ MAX_NODES → c.steps.items ≡ [] → AreOpened c.nodes c.numbers c.opening → c.left ≡ c.nodes → c.under ≡ 0
+pub first_kept : {c : Inside} → 0 < c.nodes → c.nodes ≤ MAX_NODES → c.steps.items ≡ [] → c.generation ≡ 1 → AreOpened c.nodes c.numbers c.opening → c.left ≡ c.nodes → c.under ≡ 0
     → ((k : ℕ) → lookup c.named k ≡ None) → ((k : ℕ) → lookup c.tasks k ≡ None) → ((k : ℕ) → lookup c.messages k ≡ None)
     → Follows c.nodes [] c.wave → IsKept c
-first_kept {c} some few empty opened left under no_name no_task no_message follows =
-    subst (λ a. Agree a c) (sym (rw empty refl)) (record {
+first_kept {c} some few empty first opened left under no_name no_task no_message follows =
+    let nothing : accepted c ≡ record { nodes = c.nodes; steps = [] } = rw empty refl in
+    subst (λ (a : Accepted). Agree a c) (sym nothing) (record {
       some_node = some;
       few_nodes = few;
       is_run = tt;
+      are_runs = tt;
+      generation_is = first;
       within = zero-le;
       pieces = subst (λ (xs : List Step). HasPieces (length xs) (vec_capacity c.steps)) (sym empty) zero-le;
       numbers = record { size = opened.size; each = λ i d h. opened.each i d h ∙ first_numbers i c.nodes };
@@ -82,6 +78,30 @@ first_kept {c} some few empty opened left under no_name no_task no_message follo
       messages = record { known = λ m. rw (no_message m) refl; under_way = λ m j. rw (no_message m) refl };
       wave = follows;
     })
+
+-- where a pool whose end was judged was reopened: all is as at first, but the list goes on
+pub reopened_kept : {c d : Inside} {mid : List Step} {room : ℕ} → IsKept c → MayCome c.nodes (accepted c).steps Reopen → length c.steps.items < MAX_STEPS
+    → HasPieces (length c.steps.items + 1) room → d.nodes ≡ c.nodes → d.generation ≡ c.generation + 1 → mid ≡ c.steps.items → d.steps.items ≡ mid ++ Reopen ∷ [] → vec_capacity d.steps ≡ room
+    → AreOpened c.nodes d.numbers d.opening → d.left ≡ c.nodes → d.under ≡ 0
+    → ((k : ℕ) → lookup d.named k ≡ None) → ((k : ℕ) → lookup d.tasks k ≡ None) → ((k : ℕ) → lookup d.messages k ≡ None)
+    → Follows c.nodes [] d.wave → IsKept d
+reopened_kept {c} {d} {mid} agree comes room pieces nodes next stay pushed capacity opened left under no_name no_task no_message follows =
+    subst (λ (a : Accepted). Agree a d) (sym (accepted_next c d Reopen nodes (rw stay at pushed))) record {
+      some_node = agree.some_node;
+      few_nodes = agree.few_nodes;
+      is_run = tt;
+      are_runs = (comes, agree.are_runs);
+      generation_is = next ∙ ap (λ k. k + 1) agree.generation_is;
+      within = rw (length-reverse c.steps.items) (omega arith);
+      pieces = rw (capacity, pushed, stay, length-append c.steps.items (Reopen ∷ [])) pieces;
+      numbers = record { size = opened.size; each = λ i e h. opened.each i e h ∙ first_numbers i c.nodes };
+      left = left ∙ sym (length-openings c.nodes) ∙ omega arith;
+      under = under;
+      tasks = record { found = no_task };
+      actions = first_actions c.nodes d.opening d.named d.messages opened.opened no_name no_message;
+      messages = record { known = λ m. rw (no_message m) refl; under_way = λ m j. rw (no_message m) refl };
+      wave = follows;
+    }
 
 -- ---- what is kept tells whether the world is quiet
 none_left : {A : Type 0} (p : A → Bool) (xs : List A) → how_many p xs ≡ 0 → list_any p xs ≡ false

@@ -1,20 +1,22 @@
 -- What a core has accepted, and what it answers to the next step.
-use Rattle.std.specs.Prelude.{Bool, true, false, IsTrue, IsFalse, ℕ, ◌%◌, ◌||◌, ◌==◌, ◌≡◌, ◌<◌, List, [], ◌∷◌, ◌++◌, nat_le, is_some, length, Option, Some, None, Result, Ok, Err, if◌then◌else◌}
+use Rattle.std.specs.Prelude.{Bool, true, false, IsTrue, IsFalse, ℕ, ◌%◌, ◌||◌, ◌==◌, ◌≡◌, ◌<◌, ◌+◌, List, [], ◌∷◌, ◌++◌, nat_le, is_some, length, Option, Some, None, Result, Ok, Err, if◌then◌else◌}
 use Rattle.std.specs.List.{list_any}
 use Rattle.tp_base.specs.declared.limits.TheConstants.{MAX_STEPS}
 use Rattle.tp_base.specs.declared.Refusal.{Refusal}
 use Rattle.tp_base.specs.declared.Refusal.TheVariants.{HistoryFull, NoMemory}
 use Rattle.tp_base.specs.declared.Step.{Step}
-use Rattle.tp_base.specs.declared.Step.TheVariants.{Insert, ActionOpen, Send, Give, Judge}
+use Rattle.tp_base.specs.declared.Step.TheVariants.{Insert, ActionOpen, Send, Give, Judge, Reopen}
 use Rattle.tp_wave.specs.Steps.{count, is_send_of, is_recv_at}
 use Rattle.tp_wave.specs.Sums.{sums_of, judgement}
 use Rattle.tp_base.specs.Checks.{Check, first_refusal}
 use Rattle.tp_core.specs.declared.accepting.TheConstants.{PIECE}
 use Rattle.tp_core.specs.declared.numbers.NodeNumbers.{NodeNumbers}
 use Rattle.tp_core.specs.declared.reply.Reply.{Reply}
-use Rattle.tp_core.specs.declared.reply.Reply.TheVariants.{Plain, WaveSums, Not, Over}
+use Rattle.tp_core.specs.declared.reply.Reply.TheVariants.{Plain, WaveSums, Not, Over, Opened}
 use Rattle.tp_core.specs.World.{World, pending}
-use Rattle.tp_core.specs.Run.{world, IsLawful}
+use Rattle.tp_wave.specs.Generations.{present, generation}
+use Rattle.tp_core.specs.Run.{world}
+use Rattle.tp_core.specs.Generations.{world_after, MayCome}
 use Rattle.tp_core.specs.Checks.{checks}
 
 -- The steps have the newest first.
@@ -23,7 +25,7 @@ pub record Accepted : Type 0 where
   pub steps : List Step
 
 abbrev pub world_of : Accepted → World
-world_of a = world a.nodes a.steps
+world_of a = world_after a.nodes a.steps
 
 -- There is room for one more step after so many.
 abbrev pub room_check : ℕ → List Check
@@ -41,7 +43,7 @@ begins_piece taken = taken % PIECE == 0
 abbrev pub keeps_more : Step → Bool
 keeps_more (Insert i t k) = true
 keeps_more (ActionOpen i a) = true
-keeps_more (Send i j m) = true
+keeps_more (Send i j m g) = true
 keeps_more _ = false
 
 -- The step asks for memory.
@@ -61,10 +63,12 @@ abbrev pub judged : Option ℕ → Reply
 judged (Some w) = Over w
 judged None = Not
 
--- The answer to an accepted step: the sums of the wave where the root gives, the judgement of the four counters, or no more.
+-- The answer to an accepted step: the sums of the wave where the root gives, the judgement of the four counters, the number of
+-- the generation that a reopening begins, or no more.
 abbrev pub reply_to : ℕ → List Step → Step → Reply
-reply_to n past (Give i) = if i.0 == 0 then WaveSums (sums_of n (Give i ∷ past)) else Plain
-reply_to n past Judge = judged (judgement n past)
+reply_to n past (Give i) = if i.0 == 0 then WaveSums (sums_of n (Give i ∷ present past)) else Plain
+reply_to n past Judge = judged (judgement n (present past))
+reply_to n past Reopen = Opened (record { 0 = generation past + 1 })
 reply_to n past _ = Plain
 
 -- the answer to the step, and what has been accepted after it, where memory is ample
@@ -92,9 +96,9 @@ abbrev pub after_all : Accepted → List Step → Accepted
 after_all a [] = a
 after_all a (s ∷ later) = after_all (next a s) later
 
--- The step is lawful, and there is room for it.
+-- The step may come, and there is room for it. The limit is of all steps, of whichever generation.
 abbrev pub IsAcceptable : Accepted → Step → Type 0
-IsAcceptable a s = IsLawful a.nodes a.steps s × (length a.steps < MAX_STEPS)
+IsAcceptable a s = MayCome a.nodes a.steps s × (length a.steps < MAX_STEPS)
 
 -- what a core answers to several steps, in order
 abbrev pub AnswersAll : Accepted → List Step → List (Result Reply Refusal) → Accepted → Type 0
@@ -112,13 +116,21 @@ abbrev pub RunsAreDetermined : Type 0
 RunsAreDetermined = (old new : Accepted) (steps : List Step) (rs : List (Result Reply Refusal)) → AnswersAll old steps rs new
     → IsFalse (list_any is_no_memory rs) → (rs ≡ answers old steps) × (new ≡ after_all old steps)
 
--- the numbers of node i
-abbrev pub numbers_at : ℕ → Accepted → NodeNumbers
-numbers_at i a = record {
-  pending = pending i (world_of a);
+-- the numbers of node i where the steps are those of one generation
+abbrev pub numbers_in : ℕ → Accepted → NodeNumbers
+numbers_in i a = record {
+  pending = pending i (world a.nodes a.steps);
   sent = count (is_send_of i) a.steps;
   received = count (is_recv_at i) a.steps;
 }
+
+-- what has been accepted in the present generation
+abbrev pub now_of : Accepted → Accepted
+now_of a = record { nodes = a.nodes; steps = present a.steps }
+
+-- the numbers of node i
+abbrev pub numbers_at : ℕ → Accepted → NodeNumbers
+numbers_at i a = numbers_in i (now_of a)
 
 -- the numbers of a node that is not there
 abbrev pub no_numbers : NodeNumbers

@@ -2,11 +2,12 @@ pub mod NodeSet
 pub mod World
 pub mod Pool
 pub mod Run
+pub mod Generations
 pub mod Checks
+pub mod NeverEarly
 pub mod Laws
 pub mod Accepted
 pub mod Kept
-pub mod NeverEarly
 pub mod Reached
 pub mod Settled
 pub mod Settling

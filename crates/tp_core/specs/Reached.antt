@@ -3,9 +3,9 @@ use Rattle.std.specs.Prelude.{List, [], ◌≡◌}
 use Rattle.tp_base.specs.declared.Step.{Step}
 use Rattle.tp_core.specs.Accepted.{Accepted, after_all}
 use Rattle.tp_core.specs.NeverEarly.{IsNeverEarly}
-use Rattle.tp_core.specs.Run.{IsLawfulRun}
+use Rattle.tp_core.specs.Generations.{AreRuns, InEach}
 
--- The steps that are accepted of any list are a run, of which the detector is never early.
+-- The steps that are accepted of any list are runs, and the detector is never early in any generation.
 abbrev pub AcceptedIsNeverEarly : Type 0
 AcceptedIsNeverEarly = (a : Accepted) (later : List Step) → a.steps ≡ [] →
-    IsLawfulRun a.nodes (after_all a later).steps × IsNeverEarly a.nodes (after_all a later).steps
+    AreRuns a.nodes (after_all a later).steps × InEach (IsNeverEarly a.nodes) (after_all a later).steps

@@ -1,7 +1,7 @@
--- The runs of the core on n nodes. A list of steps has the newest step first.
+-- The runs of the core on n nodes in one generation. A list of steps has the newest step first.
 use Rattle.std.specs.Prelude.{ℕ, ◌≡◌, List, [], ◌∷◌}
 use Rattle.tp_base.specs.declared.Step.{Step}
-use Rattle.tp_base.specs.declared.Step.TheVariants.{Insert, Supply, Begin, Done, ActionOpen, ActionClose, Ready, Send, Recv, MessageEnd, Start, Down, Give, Up, Judge}
+use Rattle.tp_base.specs.declared.Step.TheVariants.{Insert, Supply, Begin, Done, ActionOpen, ActionClose, Ready, Send, Recv, MessageEnd, Start, Down, Give, Up, Judge, Reopen}
 use Rattle.tp_wave.specs.Control.{IsControlStep}
 use Rattle.tp_wave.specs.Machine.{History}
 use Rattle.tp_core.specs.World.{World, first_world, home_of, pending}
@@ -36,14 +36,15 @@ node_of w (Done t) = home_of t.0 w
 node_of w (ActionOpen i a) = i.0
 node_of w (ActionClose i a) = i.0
 node_of w (Ready i) = i.0
-node_of w (Send i j m) = i.0
-node_of w (Recv j m) = j.0
-node_of w (MessageEnd j m) = j.0
+node_of w (Send i j m g) = i.0
+node_of w (Recv j m g) = j.0
+node_of w (MessageEnd j m g) = j.0
 node_of w Start = 0
 node_of w (Down i) = i.0
 node_of w (Give i) = i.0
 node_of w (Up i) = i.0
 node_of w Judge = 0
+node_of w Reopen = 0
 
 -- the steps, each beside its node
 abbrev pub history : ℕ → List Step → History

@@ -11,7 +11,8 @@ use Rattle.tp_wave.specs.Sums.{waves, is_ended, judgement}
 use Rattle.tp_wave.specs.Control.{is_control}
 use Rattle.tp_core.specs.declared.accepting.TheConstants.{PIECE}
 use Rattle.tp_core.specs.World.{is_quiet}
-use Rattle.tp_core.specs.Run.{IsLawfulRun}
+use Rattle.tp_wave.specs.Generations.{present}
+use Rattle.tp_core.specs.Generations.{AreRuns}
 use Rattle.tp_core.specs.Accepted.{Accepted, IsRefusedFor, world_of}
 
 -- There is no room for so many steps more after so many.
@@ -21,7 +22,7 @@ rooms_check taken more = (nat_lt MAX_STEPS (taken + more), HistoryFull taken) �
 -- The checks in their order: the end was judged; something is left; there is no room for nine steps a node.
 abbrev pub settle_checks : Accepted → List Check
 settle_checks a =
-    (is_ended a.nodes a.steps, Ended) ∷ (not (is_quiet (world_of a)), NotIdle) ∷ rooms_check (length a.steps) (9 * a.nodes)
+    (is_ended a.nodes (present a.steps), Ended) ∷ (not (is_quiet (world_of a)), NotIdle) ∷ rooms_check (length a.steps) (9 * a.nodes)
 
 -- The room that was made for so many steps ends before there is place for so many more: memory is asked for.
 abbrev pub ends_before : ℕ → ℕ → Bool
@@ -33,11 +34,11 @@ pub record IsSettled (old new : Accepted) (w count : ℕ) : Type 0 where
   pub taken : List Step
   pub steps : new.steps ≡ (Judge ∷ taken) ++ old.steps
   pub control : IsTrue (list_all is_control taken)
-  pub run : IsLawfulRun old.nodes ((Judge ∷ taken) ++ old.steps)
-  pub judged : judgement old.nodes (taken ++ old.steps) ≡ Some w
+  pub run : AreRuns old.nodes ((Judge ∷ taken) ++ old.steps)
+  pub judged : judgement old.nodes (taken ++ present old.steps) ≡ Some w
   pub counted : count ≡ length (Judge ∷ taken)
   pub few : count ≤ 9 * old.nodes
-  pub started : waves new.steps ≤ waves old.steps + 2
+  pub started : waves (present new.steps) ≤ waves (present old.steps) + 2
 
 -- What a core that had accepted the old steps answers to `settle`, and what it has accepted then.
 abbrev pub Settles : Accepted → Result (ℕ × ℕ) Refusal → Accepted → Type 0

@@ -6,6 +6,7 @@ use Rattle.tp_base.specs.declared.Step.{Step}
 use Rattle.tp_base.specs.declared.Step.TheVariants.{Judge}
 use Rattle.tp_wave.specs.Sums.{is_ended, judgement}
 use Rattle.tp_wave.specs.Control.{is_control}
+use Rattle.tp_wave.specs.Generations.{present}
 use Rattle.tp_wave.specs.Wave.{Follows}
 use Rattle.tp_wave.specs.declared.Wave.{Wave}
 use Rattle.tp_core.specs.declared.numbers.NodeNumbers.{NodeNumbers}
@@ -17,12 +18,12 @@ use Rattle.tp_core.specs.Kept.{HasNumbers}
 pub record MaySettle (n : ℕ) (numbers : List NodeNumbers) (steps : List Step) (wave : Wave) : Type 0 where
   pub some_node : 0 < n
   pub few_nodes : n ≤ MAX_NODES
-  pub is_run : IsLawfulRun n steps
+  pub is_run : IsLawfulRun n (present steps)
   pub within : length steps ≤ MAX_STEPS
-  pub quiet : IsQuiet (world n steps)
-  pub not_ended : IsFalse (is_ended n steps)
-  pub numbers_are : HasNumbers numbers (record { nodes = n; steps = steps })
-  pub follows : Follows n steps wave
+  pub quiet : IsQuiet (world n (present steps))
+  pub not_ended : IsFalse (is_ended n (present steps))
+  pub numbers_are : HasNumbers numbers (record { nodes = n; steps = present steps })
+  pub follows : Follows n (present steps) wave
 
 -- A step is told to have judged that the pool had ended with a wave exactly where it did.
 abbrev pub IsTold : ℕ → List Step → Step → Option ℕ → Type 0
@@ -33,21 +34,21 @@ IsTold n past s (Some w) = (s ≡ Judge) × (judgement n past ≡ Some w)
 pub record IsTaken (n : ℕ) (past now : List Step) (wave : Wave) (told : Option ℕ) : Type 0 where
   pub step : Step
   pub control : IsTrue (is_control step)
-  pub lawful : IsLawful n past step
+  pub lawful : IsLawful n (present past) step
   pub steps : now ≡ step ∷ past
-  pub follows : Follows n (step ∷ past) wave
-  pub is_told : IsTold n past step told
+  pub follows : Follows n (step ∷ present past) wave
+  pub is_told : IsTold n (present past) step told
 
 -- So many control steps were taken until the end was judged.
 pub record AreTaken (n : ℕ) (old new : List Step) (wave : Wave) (w count : ℕ) : Type 0 where
   pub taken : List Step
   pub steps : new ≡ (Judge ∷ taken) ++ old
   pub control : IsTrue (list_all is_control taken)
-  pub run : IsLawfulRun n ((Judge ∷ taken) ++ old)
-  pub judged : judgement n (taken ++ old) ≡ Some w
+  pub run : IsLawfulRun n ((Judge ∷ taken) ++ present old)
+  pub judged : judgement n (taken ++ present old) ≡ Some w
   pub counted : count ≡ length taken + 1
   pub few : count ≤ 9 * n
-  pub follows : Follows n ((Judge ∷ taken) ++ old) wave
+  pub follows : Follows n ((Judge ∷ taken) ++ present old) wave
 
 -- So many control steps were taken, and the end was not judged.
 pub record GoesOn (n : ℕ) (numbers : List NodeNumbers) (old now : List Step) (wave : Wave) (count : ℕ) : Type 0 where

@@ -53,6 +53,7 @@ pub record HasRun (g : TaskGraph) (t : ℕ) (made : List ℤ) (fed : ℕ) : Type
   pub few : fed ≤ g.feeds t
 
 -- what a carried value keeps: it is the definition's of its producer, whose feed it is
-pub record IsCarried (g : TaskGraph) (feed : Feed) (made : List ℤ) : Type 0 where
+pub record IsCarried (g : TaskGraph) (number : ℕ) (feed : Feed) (made : List ℤ) : Type 0 where
+  pub few : number < 1048576
   pub right : value_of g feed.producer.0 ≡ Some made
   pub fed : IsFeed g feed

@@ -1,4 +1,4 @@
-ghost use Rattle.std.specs.Prelude.{◌≡◌, Some};
+ghost use Rattle.std.specs.Prelude.{◌≡◌, ◌<◌, Some};
 ghost use Rattle.tp_graph.specs.Carried.{Carried, IsFeed};
 ghost use Rattle.tp_graph.specs.Values.{value_of, IsInput};
 
@@ -27,7 +27,7 @@ impl<G: Graph> Model for Message<G> {
 
     ghost view = { λ m. record { graph = m.graph; number = m.number; from = m.from; to = m.to; feed = m.feed; value = m.value } };
 
-    ghost invariant = { λ m. IsCarried (G.meaning m.graph) m.feed m.value };
+    ghost invariant = { λ m. IsCarried (G.meaning m.graph) m.number.0 m.feed m.value };
 }
 
 impl<G: Graph> Message<G> {
@@ -41,6 +41,7 @@ impl<G: Graph> Message<G> {
         feed: Feed,
         value: Value,
     ) -> Self
+        requires few { number.0 < 1048576 }
         requires right { value_of (G.meaning graph) feed.producer.0 ≡ Some value }
         requires fed { IsFeed (G.meaning graph) feed }
         ensures { result ≡ record { graph = graph; number = number; from = from; to = to; feed = feed; value = value } }
@@ -64,7 +65,8 @@ impl<G: Graph> Message<G> {
 
     /// Its number in its pool.
     pub fn number(&self) -> MessageId
-        ensures { result ≡ self.now.number }
+        ensures same { result ≡ self.now.number }
+        ensures few { self.now.number.0 < 1048576 }
     {
         self.number
     }
@@ -152,6 +154,7 @@ impl<G: Graph> Parcel<G> {
         feed: Feed,
         value: Value,
     ) -> Self
+        requires few { number.0 < 1048576 }
         requires right { value_of (G.meaning graph) feed.producer.0 ≡ Some value }
         requires fed { IsFeed (G.meaning graph) feed }
         ensures { result ≡ record { graph = graph; number = number; from = from; to = to; feed = feed; value = value } }
@@ -170,7 +173,8 @@ impl<G: Graph> Parcel<G> {
 
     /// The number of the message.
     pub fn number(&self) -> MessageId
-        ensures { result ≡ self.now.number }
+        ensures same { result ≡ self.now.number }
+        ensures few { self.now.number.0 < 1048576 }
     {
         self.message.number()
     }

@@ -17,7 +17,7 @@ is_plain (Done t) = true
 is_plain (ActionOpen i a) = true
 is_plain (ActionClose i a) = true
 is_plain (Ready i) = true
-is_plain (MessageEnd j m) = true
+is_plain (MessageEnd j m g) = true
 is_plain _ = false
 
 -- the node of this number
@@ -28,13 +28,13 @@ node_at i = record { 0 = i }
 abbrev pub event : ℕ → Step → Event
 event i step = (node_at i, step)
 
--- node i sends message m to node j
+-- node i sends message m to node j, in the first generation
 abbrev pub sending : ℕ → ℕ → ℕ → Step
-sending i j m = Send (node_at i) (node_at j) (record { 0 = m })
+sending i j m = Send (node_at i) (node_at j) (record { 0 = m }) (record { 0 = 1 })
 
--- node j receives message m
+-- node j receives message m, in the first generation
 abbrev pub receiving : ℕ → ℕ → Step
-receiving j m = Recv (node_at j) (record { 0 = m })
+receiving j m = Recv (node_at j) (record { 0 = m }) (record { 0 = 1 })
 
 -- A node by its number: its pending number, the messages that it has sent and received, and the tasks that it has done.
 pub record NodeNumbers : Type 0 where

@@ -144,7 +144,7 @@ module _ {G : Type 0} where
   fed_with g f value n = after (putting_at g f n) (with_store (put_to g f value n.state.store) n.state) n
 
   abbrev pub ending : ℕ → NodeState G → Step
-  ending m n = steps.MessageEnd (node_at (node_of n)) (record { 0 = m })
+  ending m n = steps.MessageEnd (node_at (node_of n)) (record { 0 = m }) (record { 0 = 1 })
 
   -- the value of a received message was put, and then its action closed
   abbrev pub delivered_with : TaskGraph → Feed → Numbers → ℕ → NodeState G → NodeState G

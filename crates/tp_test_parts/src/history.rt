@@ -3,15 +3,16 @@ ghost use Rattle.tp_base.specs.History.{NamesSmall};
 
 use std::alloc::AllocError;
 use std::test::Fail;
-use tp_base::{ActionId, History, Inputs, MessageId, NodeId, Step, TaskId};
+use tp_base::{ActionId, Generation, History, Inputs, MessageId, NodeId, Step, TaskId};
 
 /// The event at a place of a history: each kind of step in its turn, with other numbers each time.
 fn event(place: u32) -> (NodeId, Step)
     ensures node { result.0.0 < 256 }
     ensures named { NamesSmall result.1 }
 {
-    let node = NodeId(place % 8);
-    let step = match place % 15 {
+    let node = NodeId(place % 9);
+    let (message, generation) = of_message(place);
+    let step = match place % 16 {
         0 => Step::Insert(node, TaskId(place), inputs(place)),
         1 => Step::Supply(TaskId(place)),
         2 => Step::Begin(TaskId(place)),
@@ -19,16 +20,33 @@ fn event(place: u32) -> (NodeId, Step)
         4 => Step::ActionOpen(node, ActionId(place)),
         5 => Step::ActionClose(node, ActionId(place)),
         6 => Step::Ready(node),
-        7 => Step::Send(node, NodeId(place % 255), MessageId(place)),
-        8 => Step::Recv(node, MessageId(place)),
-        9 => Step::MessageEnd(node, MessageId(place)),
+        7 => Step::Send(node, NodeId(place / 16 % 16), message, generation),
+        8 => Step::Recv(node, message, generation),
+        9 => Step::MessageEnd(node, message, generation),
         10 => Step::Start,
         11 => Step::Down(node),
         12 => Step::Give(node),
         13 => Step::Up(node),
-        _ => Step::Judge,
+        14 => Step::Judge,
+        _ => Step::Reopen,
     };
     (node, step)
+}
+
+/// The numbers of a message and of its generation. At each fifth place the one, at each seventh the other is the greatest that an
+/// event has room for.
+fn of_message(place: u32) -> (MessageId, Generation)
+    ensures { (result.0.0 < 1048576) × (result.1.0 < 1048576) }
+{
+    let message = match place % 5 {
+        0 => MessageId(1_048_575),
+        _ => MessageId(place % 1_048_576),
+    };
+    let generation = match place % 7 {
+        0 => Generation(1_048_575),
+        _ => Generation(place % 1_021 * 1_027 + 1),
+    };
+    (message, generation)
 }
 
 /// A number of inputs, another one for each of 17 places in a row.

@@ -5,6 +5,8 @@
 #[cfg(test)]
 mod base;
 #[cfg(test)]
+mod generations;
+#[cfg(test)]
 mod history;
 #[cfg(test)]
 mod link;

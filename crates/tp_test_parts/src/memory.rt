@@ -4,7 +4,9 @@ use crate::table::table;
 use std::alloc::{AllocError, Global};
 use std::mem;
 use std::test::Fail;
-use tp_base::{ActionId, History, Inputs, MessageId, NodeId, PoolId, Refusal, Step, Table, TaskId};
+use tp_base::{
+    ActionId, Generation, History, Inputs, MessageId, NodeId, PoolId, Refusal, Step, Table, TaskId,
+};
 use tp_core::{Core, Reply};
 use tp_graph::{Feed, Value, ValueBuilder};
 use tp_link::Link;
@@ -43,6 +45,8 @@ enum Call {
     CoreStep(Step),
     CoreRun(Step),
     CoreSettle,
+    /// Takes the core to its end, which fills a piece of the list of its steps.
+    CoreToEnd,
     Register(&'static str),
     BuilderMake(usize),
     BuilderPush(i64),
@@ -56,6 +60,16 @@ enum Call {
 
 /// It was done.
 const DONE: Result<u32, Refusal> = Ok(0);
+
+/// A wave over two nodes.
+const WAVE: [Step; 6] = [
+    Step::Start,
+    Step::Down(NodeId(1)),
+    Step::Give(NodeId(1)),
+    Step::Up(NodeId(1)),
+    Step::Give(NodeId(0)),
+    Step::Judge,
+];
 
 /// Numbers folded into one, another one for other numbers but by chance.
 #[derive(Clone, Copy, PartialEq, Eq)]
@@ -109,6 +123,7 @@ impl Parts {
             Call::CoreStep(step) => taken(self.core.step(step)),
             Call::CoreRun(step) => run_one(alloc, &mut self.core, step),
             Call::CoreSettle => self.core.settle().map(|(wave, _)| wave),
+            Call::CoreToEnd => to_end(&mut self.core),
             Call::Register(name) => self
                 .registry
                 .register(name, "reduce:4:0")
@@ -252,8 +267,27 @@ fn deliver_here(alloc: Global, local: &mut Local, number: i64) -> Result<u32, Re
 fn taken(answer: Result<Reply, Refusal>) -> Result<u32, Refusal> {
     match answer? {
         Reply::Plain => DONE,
+        Reply::Opened(generation) => Ok(generation.0),
         _ => Err(Refusal::Missing),
     }
+}
+
+/// Takes the 1,000 steps that lead a core over two nodes from its 24th step, a reopening, to its end. The first of them alone asks for
+/// memory.
+fn to_end(core: &mut Core) -> Result<u32, Refusal> {
+    for _ in 0..493 {
+        core.step(Step::ActionOpen(NodeId(0), ActionId(3)))?;
+        core.step(Step::ActionClose(NodeId(0), ActionId(3)))?;
+    }
+    for step in [Step::Ready(NodeId(0)), Step::Ready(NodeId(1))] {
+        core.step(step)?;
+    }
+    for _ in 0..2 {
+        for step in WAVE {
+            core.step(step)?;
+        }
+    }
+    DONE
 }
 
 fn run_one(alloc: Global, core: &mut Core, step: Step) -> Result<u32, Refusal> {
@@ -348,12 +382,12 @@ fn memory_that_is_refused_changes_nothing(rt: HostRuntime) -> Result<(), Fail> {
         ),
         (
             "Core::step of send",
-            Call::CoreStep(Step::Send(NodeId(0), NodeId(1), MessageId(3))),
+            Call::CoreStep(Step::Send(NodeId(0), NodeId(1), MessageId(3), Generation(1))),
             DONE,
         ),
         (
             "Core::step of recv",
-            Call::CoreStep(Step::Recv(NodeId(1), MessageId(3))),
+            Call::CoreStep(Step::Recv(NodeId(1), MessageId(3), Generation(1))),
             DONE,
         ),
         (
@@ -379,7 +413,7 @@ fn memory_that_is_refused_changes_nothing(rt: HostRuntime) -> Result<(), Fail> {
         ),
         (
             "Core::step of end",
-            Call::CoreStep(Step::MessageEnd(NodeId(1), MessageId(3))),
+            Call::CoreStep(Step::MessageEnd(NodeId(1), MessageId(3), Generation(1))),
             DONE,
         ),
         (
@@ -394,6 +428,18 @@ fn memory_that_is_refused_changes_nothing(rt: HostRuntime) -> Result<(), Fail> {
         ),
         // its two waves follow on those numbers: the first that is started is wave 1
         ("Core::settle", Call::CoreSettle, Ok(1)),
+        // it is the 24th step, and the next one the 1,025th, for which there is no room yet
+        ("Core::step of reopen", Call::CoreStep(Step::Reopen), Ok(2)),
+        (
+            "Core::step of open after a reopening",
+            Call::CoreToEnd,
+            DONE,
+        ),
+        (
+            "Core::step of reopen with a piece",
+            Call::CoreStep(Step::Reopen),
+            Ok(3),
+        ),
         ("Registry::register", Call::Register("a"), DONE),
         ("Registry::register again", Call::Register("b"), Ok(1)),
         ("ValueBuilder::push", Call::BuilderPush(8), DONE),

@@ -1,7 +1,9 @@
 use std::alloc::Global;
 use std::test::Fail;
-use tp_base::{ActionId, Inputs, MessageId, NodeId, Refusal, Step, TaskId};
+use tp_base::{ActionId, Generation, Inputs, MessageId, NodeId, Refusal, Step, TaskId};
 use tp_core::Core;
+
+const FIRST: Generation = Generation(1);
 
 /// The wave with which the pool had ended and the number of steps taken, and how many steps there are then.
 type Settled = (Result<(u32, u32), Refusal>, usize);
@@ -33,11 +35,11 @@ fn a_core_settles_where_nothing_is_left(rt: HostRuntime) -> Result<(), Fail> {
         Step::Start,
         Step::Down(NodeId(1)),
         Step::Give(NodeId(1)),
-        Step::Send(NodeId(2), NodeId(1), first),
-        Step::Recv(NodeId(1), first),
-        Step::Send(NodeId(1), NodeId(2), second),
-        Step::Recv(NodeId(2), second),
-        Step::MessageEnd(NodeId(2), second),
+        Step::Send(NodeId(2), NodeId(1), first, FIRST),
+        Step::Recv(NodeId(1), first, FIRST),
+        Step::Send(NodeId(1), NodeId(2), second, FIRST),
+        Step::Recv(NodeId(2), second, FIRST),
+        Step::MessageEnd(NodeId(2), second, FIRST),
         Step::Ready(NodeId(2)),
         Step::Down(NodeId(2)),
         Step::Give(NodeId(2)),
@@ -45,10 +47,10 @@ fn a_core_settles_where_nothing_is_left(rt: HostRuntime) -> Result<(), Fail> {
         Step::Up(NodeId(2)),
         Step::Give(NodeId(0)),
         Step::Judge,
-        Step::MessageEnd(NodeId(1), first),
+        Step::MessageEnd(NodeId(1), first, FIRST),
     ];
     let lost = [
-        Step::Send(NodeId(0), NodeId(1), first),
+        Step::Send(NodeId(0), NodeId(1), first, FIRST),
         Step::Ready(NodeId(0)),
         Step::Ready(NodeId(1)),
     ];

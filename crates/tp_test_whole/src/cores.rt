@@ -1,5 +1,5 @@
 use std::test::Fail;
-use tp_base::{Inputs, MessageId, NodeId, Refusal, Step, TaskId};
+use tp_base::{Generation, Inputs, MessageId, NodeId, Refusal, Step, TaskId};
 use tp_core::{Core, NodeNumbers, Numbers, Reply};
 
 type Answer = Result<Reply, Refusal>;
@@ -9,6 +9,8 @@ const PLAIN: Answer = Ok(Reply::Plain);
 const TASK: TaskId = TaskId(1);
 
 const MESSAGE: MessageId = MessageId(7);
+
+const FIRST: Generation = Generation(1);
 
 /// The numbers of two nodes, of which there are no more.
 fn numbers_of_two(first: NodeNumbers, second: NodeNumbers, under: u32) -> Numbers {
@@ -80,9 +82,9 @@ fn a_run_answers_as_its_steps_one_by_one(rt: HostRuntime) -> Result<(), Fail> {
         Step::Begin(TASK),
         Step::Done(TASK),
         Step::Supply(TASK),
-        Step::Send(NodeId(0), NodeId(1), MESSAGE),
-        Step::Recv(NodeId(1), MESSAGE),
-        Step::Recv(NodeId(1), MESSAGE),
+        Step::Send(NodeId(0), NodeId(1), MESSAGE, FIRST),
+        Step::Recv(NodeId(1), MESSAGE, FIRST),
+        Step::Recv(NodeId(1), MESSAGE, FIRST),
     ];
     let expected = [
         PLAIN,

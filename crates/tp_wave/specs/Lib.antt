@@ -6,4 +6,5 @@ pub mod Cut
 pub mod Checks
 pub mod Wave
 pub mod Moves
+pub mod Generations
 pub mod Settling

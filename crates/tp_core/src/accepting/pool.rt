@@ -7,7 +7,7 @@ use crate::life::Life;
 use crate::node_set::NodeSet;
 use crate::posted::{Posted, Stage};
 use crate::reply::Reply;
-use tp_base::{ActionId, Inputs, MessageId, NodeId, Refusal, Step, TaskId};
+use tp_base::{ActionId, Generation, Inputs, MessageId, NodeId, Refusal, Step, TaskId};
 
 impl Core {
     ghost use Rattle.tp_core.specs.Accepted.{Answers};
@@ -151,11 +151,15 @@ impl Core {
         from: NodeId,
         to: NodeId,
         message: MessageId,
+        generation: Generation,
     ) -> Result<Reply, Refusal>
-        ensures { Answers self.old (Step.Send from to message) result self.new }
+        ensures { Answers self.old (Step.Send from to message generation) result self.new }
     {
         if from.0 >= self.nodes || to.0 >= self.nodes {
             return Err(Refusal::NoNode);
+        }
+        if generation.0 != self.generation {
+            return Err(Refusal::Stranger);
         }
         if from.0 == to.0 {
             return Err(Refusal::SameNode);
@@ -171,15 +175,24 @@ impl Core {
         self.messages.insert(message.0, under_way)?;
         self.numbers[from.0 as usize].sent += 1;
         self.under += 1;
-        self.steps.push_reserved(Step::Send(from, to, message));
+        self.steps
+            .push_reserved(Step::Send(from, to, message, generation));
         Ok(Reply::Plain)
     }
 
-    pub(super) fn recv(&mut self, node: NodeId, message: MessageId) -> Result<Reply, Refusal>
-        ensures { Answers self.old (Step.Recv node message) result self.new }
+    pub(super) fn recv(
+        &mut self,
+        node: NodeId,
+        message: MessageId,
+        generation: Generation,
+    ) -> Result<Reply, Refusal>
+        ensures { Answers self.old (Step.Recv node message generation) result self.new }
     {
         if node.0 >= self.nodes {
             return Err(Refusal::NoNode);
+        }
+        if generation.0 != self.generation {
+            return Err(Refusal::Stranger);
         }
         let under_way = Posted::new(node, Stage::UnderWay);
         if self.messages.get(message.0) != Some(under_way) {
@@ -193,15 +206,24 @@ impl Core {
         numbers.received += 1;
         self.left += 1;
         self.under -= 1;
-        self.steps.push_reserved(Step::Recv(node, message));
+        self.steps
+            .push_reserved(Step::Recv(node, message, generation));
         Ok(Reply::Plain)
     }
 
-    pub(super) fn end(&mut self, node: NodeId, message: MessageId) -> Result<Reply, Refusal>
-        ensures { Answers self.old (Step.MessageEnd node message) result self.new }
+    pub(super) fn end(
+        &mut self,
+        node: NodeId,
+        message: MessageId,
+        generation: Generation,
+    ) -> Result<Reply, Refusal>
+        ensures { Answers self.old (Step.MessageEnd node message generation) result self.new }
     {
         if node.0 >= self.nodes {
             return Err(Refusal::NoNode);
+        }
+        if generation.0 != self.generation {
+            return Err(Refusal::Stranger);
         }
         let received = Posted::new(node, Stage::Received);
         if self.messages.get(message.0) != Some(received) {
@@ -212,7 +234,8 @@ impl Core {
         self.messages.set(message.0, ended);
         self.numbers[node.0 as usize].pending -= 1;
         self.left -= 1;
-        self.steps.push_reserved(Step::MessageEnd(node, message));
+        self.steps
+            .push_reserved(Step::MessageEnd(node, message, generation));
         Ok(Reply::Plain)
     }
 }

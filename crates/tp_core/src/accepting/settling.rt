@@ -13,6 +13,7 @@ use tp_base::{MAX_STEPS, Refusal, Step};
 use tp_wave::Wave;
 
 impl Core {
+    ghost use Rattle.tp_core.specs.Generations.{InEach};
     ghost use Rattle.tp_core.specs.NeverEarly.{IsNeverEarly};
     ghost use Rattle.tp_core.specs.Settled.{Settles};
 
@@ -26,7 +27,7 @@ impl Core {
         // It is refused for the first check that holds, and else it takes the steps.
         ensures answers { Settles self.old result self.new }
         // Wherever it was judged that the pool had ended, it had.
-        ensures never_early { IsNeverEarly self.new.nodes self.new.steps }
+        ensures never_early { InEach (IsNeverEarly self.new.nodes) self.new.steps }
     {
         let settled = self.take_steps();
         let _ = &self.steps; // they are a run

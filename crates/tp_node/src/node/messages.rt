@@ -17,7 +17,7 @@ use crate::node::Node;
 use crate::node::tasks::make_room;
 use crate::wire::Wire;
 use crate::work::Finished;
-use tp_base::{MessageId, Refusal, Step};
+use tp_base::{Generation, MessageId, Refusal, Step};
 use tp_board::{Board, Ledgers};
 use tp_graph::{Comparable, Feed, Graph, Message, Parcel};
 
@@ -170,12 +170,13 @@ impl<G: Graph, K: Ledgers> Node<G, K> {
     /// Closes the action of a message, in the place that was reserved for the event.
     fn end(&mut self, board: &mut Board<K>, message: MessageId)
         requires reserved { 0 < board.old.reserved }
+        requires few { message.0 < 1048576 }
         requires open { IsTrue (has_message self.old.state.actions message.0) }
         ensures event { Appends (event_of self.old (ending message.0 self.old) ∷ []) board.old board.new }
         ensures ended { self.new ≡ after (ending message.0 self.old) (with_actions (without_message self.old.state.actions message.0) self.old.state) self.old }
     {
         let _is_open = self.local.has_message(message);
-        let step = Step::MessageEnd(self.shares.node(), message);
+        let step = Step::MessageEnd(self.shares.node(), message, Generation(1));
         let Ok(()) = board.append(step, &mut self.shares) else {
             unreachable!()
         };

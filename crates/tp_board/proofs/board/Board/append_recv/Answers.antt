@@ -13,4 +13,4 @@ invariant_of-self-2 g c =
 
 pub returns-clause-within : goal.returns-clause-within
 returns-clause-within g c =
-    rw c.follow.ensures.shares (within_next _ _ _ _ _ _ (Recv c.node-node.result c.args.message) c.self.invariant c.follow.ensures.told c.follow.ensures.node c.in_ok-add.ensures.places)
+    rw c.follow.ensures.shares (within_next _ _ _ _ _ _ (Recv c.node-node.result c.args.message (record { 0 = 1 })) c.self.invariant c.follow.ensures.told c.follow.ensures.node c.in_ok-add.ensures.places)

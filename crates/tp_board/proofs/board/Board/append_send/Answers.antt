@@ -12,7 +12,7 @@ invariant_of-self-2 g c =
 
 pub returns-clause-within : goal.returns-clause-within
 returns-clause-within g c =
-    rw c.follow.ensures.shares (within_next _ _ _ _ _ _ (Send c.node-node.result c.to-to.result c.in_ok-message.message) c.self.invariant c.follow.ensures.told c.follow.ensures.node c.in_ok-message.ensures.places)
+    rw c.follow.ensures.shares (within_next _ _ _ _ _ _ (Send c.node-node.result c.to-to.result c.in_ok-message.message (record { 0 = 1 })) c.self.invariant c.follow.ensures.told c.follow.ensures.node c.in_ok-message.ensures.places)
 
 pub returns-clause-number : goal.returns-clause-number
 returns-clause-number g c = search (rules, tests)

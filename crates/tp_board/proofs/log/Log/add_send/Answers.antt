@@ -1,13 +1,25 @@
-use Rattle.std.proofs.Common.{◌≤◌, ap, ◌∙◌, refl, arith}
+use Rattle.std.proofs.Common.{◌≤◌, ◌<◌, ap, ◌∙◌, refl, arith}
 use Rattle.tp_wave.specs.Steps.{count}
 use Rattle.tp_wave.specs.Machine.{steps_of}
 use Rattle.tp_ledgers.specs.Numbers.{is_send}
 use Rattle.tp_board.specs.States.{BoardState}
+use Rattle.tp_board.proofs.Counting.{count-le}
 use Rattle.tp_board.proofs.Routing.{fresh, log_send, log_sends}
 use Rattle.tp_board.proofs.log.Log.add_send.Goals as goal
 
 pub overflow_cast-message : goal.overflow_cast-message
 overflow_cast-message c = record { fits = omega (arith, c.len.ensures, (log_sends _ _ _ _ _ c.self.invariant).1) }
+
+pub push_reserved-requires-clause-named : goal.push_reserved-requires-clause-named
+push_reserved-requires-clause-named c =
+    let reserved = ap (λ (b : BoardState). b.reserved) c.self.view_is ∙ ap (λ (b : BoardState). b.reserved) c.in_ok-reserve.ensures.ok in
+    let below : c.len.result < 1048576 = omega (arith, c.len.ensures, (log_sends _ _ _ _ _ c.self.invariant).0, count-le is_send c.self.inside.history.events, c.self.invariant.places, c.self.invariant.limited, reserved) in
+    (omega (arith, c.requires.from), omega (arith, c.requires.to), below, omega arith)
+
+pub returns-clause-small : goal.returns-clause-small
+returns-clause-small c =
+    let reserved = ap (λ (b : BoardState). b.reserved) c.self.view_is ∙ ap (λ (b : BoardState). b.reserved) c.in_ok-reserve.ensures.ok in
+    omega (arith, c.len.ensures, (log_sends _ _ _ _ _ c.self.invariant).0, count-le is_send c.self.inside.history.events, c.self.invariant.places, c.self.invariant.limited, reserved)
 
 pub invariant_of-self : goal.invariant_of-self
 invariant_of-self c =

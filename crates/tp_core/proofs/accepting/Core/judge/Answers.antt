@@ -3,6 +3,8 @@ use Rattle.std.proofs.lemmas.Grind.{common_steps}
 use Rattle.std.proofs.lemmas.Result.{err_from_is_err_and}
 use Rattle.tp_base.specs.declared.Step.TheVariants.{Judge}
 use Rattle.tp_wave.proofs.Exact.{checks_exact}
+use Rattle.tp_wave.specs.Generations.{present}
+use Rattle.tp_core.specs.Generations.{MayCome}
 use Rattle.tp_core.specs.Run.{IsLawful}
 use Rattle.tp_wave.specs.Cut.{DoTwoTell}
 use Rattle.tp_core.specs.Accepted.{Accepted, judged}
@@ -14,45 +16,48 @@ use Rattle.tp_core.proofs.Taking.{taken, no_room, by_wave}
 use Rattle.tp_core.proofs.accepting.Core.judge.Goals as goal
 use Rattle.tp_core.proofs.accepting.Core.judge.Goals.{After-make_room, in-Some, in-None}
 
-told : {a : Accepted} {c : Inside} → Agree a c → DoTwoTell a.nodes a.steps
-told {a} {c} agree = two_told a.nodes a.steps agree.some_node agree.is_run
+told : {a : Accepted} {c : Inside} → Agree a c → DoTwoTell a.nodes (present a.steps)
+told {a} {c} agree = two_told a.nodes (present a.steps) agree.some_node agree.is_run
 
-lawful : (c : After-make_room) → IsLawful c.self.inside.nodes (accepted c.self.inside).steps Judge
+lawful : (c : After-make_room) → IsLawful c.self.inside.nodes (present (accepted c.self.inside).steps) Judge
 lawful c =
-    let a = accepted c.self.inside in (checks_exact a.nodes a.steps Judge refl).0 (sym (c.in_ok-judged.ensures.exact a.nodes a.steps c.self.invariant.wave))
+    let a = accepted c.self.inside in (checks_exact a.nodes (present a.steps) Judge refl).0 (sym (c.in_ok-judged.ensures.exact a.nodes (present a.steps) c.self.invariant.wave))
+
+comes : (c : After-make_room) → MayCome c.self.inside.nodes (accepted c.self.inside).steps Judge
+comes c = record { reopens = λ f. cc; goes_on = λ f. (lawful c, tt) }
 
 pub returns-in_err-judged : goal.returns-in_err-judged
 returns-in_err-judged c =
     let a = accepted c.self.inside in
-    let first = by_wave Judge c.self.invariant c.self.view_is c.in_err-judged.field-0.0 (c.in_err-judged.ensures.exact a.nodes a.steps c.self.invariant.wave) in
+    let first = by_wave Judge c.self.invariant c.self.view_is c.in_err-judged.field-0.0 (c.in_err-judged.ensures.exact a.nodes (present a.steps) c.self.invariant.wave) in
     grind (arith, common_steps, first)
 
 pub returns-in_err-make_room : goal.returns-in_err-make_room
 returns-in_err-make_room c =
     let p = err_from_is_err_and c.from_residual-in_err-make_room.result c.from_residual-in_err-make_room.ensures.1 in
     rw (p.1, p.2)
-    (no_room Judge c.self.invariant c.self.view_is (lawful (goal.at.returns-in_err-make_room c).After-make_room) _ c.in_err-make_room.ensures.err
+    (no_room Judge c.self.invariant c.self.view_is (comes (goal.at.returns-in_err-make_room c).After-make_room) _ c.in_err-make_room.ensures.err
     c.make_room.ensures.items)
 
 pub invariant_of-self-2 : goal.invariant_of-self-2
 invariant_of-self-2 c =
     let agree = c.self.invariant in
     let at = (goal.at.invariant_of-self-2 c).After-make_room in
-    agree_after Judge agree (lawful at) (c.in_ok-make_room.ensures.ok).0 c.in_ok-make_room.ensures.pieces refl c.make_room.ensures.items c.push_reserved.ensures.items c.push_reserved.ensures.capacity
+    agree_after Judge agree (comes at) refl (c.in_ok-make_room.ensures.ok).0 c.in_ok-make_room.ensures.pieces refl refl c.make_room.ensures.items c.push_reserved.ensures.items c.push_reserved.ensures.capacity
     (numbers_stay Judge agree.numbers (lawful at) (λ x. refl)) refl refl agree.tasks agree.actions agree.messages
-    (c.in_ok-judged.ensures.follows c.self.inside.nodes (accepted c.self.inside).steps agree.wave (told agree))
+    (c.in_ok-judged.ensures.follows c.self.inside.nodes (present (accepted c.self.inside).steps) agree.wave (told agree))
 
 pub returns : goal.returns
 returns c =
     let a = accepted c.self.inside in
-    let word = c.in_ok-judged.ensures.judged a.nodes a.steps c.self.invariant.wave (told c.self.invariant) in
+    let word = c.in_ok-judged.ensures.judged a.nodes (present a.steps) c.self.invariant.wave (told c.self.invariant) in
     elim c.match-judged.branch [
       | in-Some w ↦
           rw w.result-is
-          (taken Judge c.self.invariant c.self.view_is (lawful (goal.at.returns c).After-make_room) (c.in_ok-make_room.ensures.ok).0 c.make_room.ensures.items
+          (taken Judge c.self.invariant c.self.view_is (comes (goal.at.returns c).After-make_room) (c.in_ok-make_room.ensures.ok).0 c.make_room.ensures.items
           c.push_reserved.ensures.items (ap judged (sym w.in-Some.is ∙ word)))
       | in-None w ↦
           rw w.result-is
-          (taken Judge c.self.invariant c.self.view_is (lawful (goal.at.returns c).After-make_room) (c.in_ok-make_room.ensures.ok).0 c.make_room.ensures.items
+          (taken Judge c.self.invariant c.self.view_is (comes (goal.at.returns c).After-make_room) (c.in_ok-make_room.ensures.ok).0 c.make_room.ensures.items
           c.push_reserved.ensures.items (ap judged (sym w.in-None.is ∙ word)))
     ]

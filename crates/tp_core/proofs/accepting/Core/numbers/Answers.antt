@@ -1,6 +1,7 @@
 use Rattle.std.proofs.Common.{◌≡◌, ◌≤◌, ◌<◌, ◌∙◌, subst, sym, arith}
 use Rattle.std.specs.List.{slice_index_or}
 use Rattle.tp_core.specs.Accepted.{Accepted, numbers_at}
+use Rattle.tp_wave.specs.Generations.{present}
 use Rattle.tp_core.specs.Kept.{accepted}
 use Rattle.tp_core.proofs.Keeping.{outside}
 use Rattle.tp_core.proofs.accepting.Core.numbers.Goals as goal
@@ -16,4 +17,4 @@ pub returns-clause-others : goal.returns-clause-others
 returns-clause-others c i d h low =
     let agree = c.self.invariant in
     let beyond = subst (λ (a : Accepted). a.nodes ≤ i) (sym c.self.view_is) h in
-    agree.numbers.each i d low ∙ outside c.self.inside.nodes i (accepted c.self.inside).steps agree.some_node agree.is_run beyond
+    agree.numbers.each i d low ∙ outside c.self.inside.nodes i (present (accepted c.self.inside).steps) agree.some_node agree.is_run beyond

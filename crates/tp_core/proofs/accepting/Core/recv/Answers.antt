@@ -4,6 +4,8 @@ use Rattle.std.proofs.lemmas.Result.{err_from_is_err_and}
 use Rattle.tp_base.specs.declared.Step.TheVariants.{Recv}
 use Rattle.tp_core.specs.declared.posted.Stage.TheVariants as stage
 use Rattle.tp_base.specs.Table.{lookup}
+use Rattle.tp_wave.specs.Generations.{present, generation}
+use Rattle.tp_core.specs.Generations.{MayCome}
 use Rattle.tp_core.specs.Run.{IsLawful}
 use Rattle.tp_core.specs.Kept.{accepted}
 use Rattle.tp_core.proofs.Sets.{lists_are_sets}
@@ -20,8 +22,14 @@ was c = grind (arith, common_steps, c.get.ensures, c.new-under_way.ensures, c.ne
 may : (c : After-make_room) → MayReceive c.self.inside c.args.node.0 c.args.message.0
 may c = may_receive c.self.invariant c.args.node c.args.message.0 (omega arith) (was c)
 
-lawful : (c : After-make_room) → IsLawful c.self.inside.nodes (accepted c.self.inside).steps (Recv c.args.node c.args.message)
+lawful : (c : After-make_room) → IsLawful c.self.inside.nodes (present (accepted c.self.inside).steps) (Recv c.args.node c.args.message c.args.generation)
 lawful c = (omega arith, (may c).there)
+
+of_present : (c : After-make_room) → c.args.generation.0 ≡ generation (accepted c.self.inside).steps
+of_present c = let kept = c.self.invariant.generation_is in omega arith
+
+comes : (c : After-make_room) → MayCome c.self.inside.nodes (accepted c.self.inside).steps (Recv c.args.node c.args.message c.args.generation)
+comes c = record { reopens = λ f. cc; goes_on = λ f. (lawful c, of_present c) }
 
 pub overflow_add-numbers : goal.overflow_add-numbers
 overflow_add-numbers c =
@@ -40,9 +48,9 @@ overflow_sub-self c = (may (goal.at.overflow_sub-self c).After-make_room).under
 pub invariant_of-self-2 : goal.invariant_of-self-2
 invariant_of-self-2 c =
     let agree = c.self.invariant in
-    let s = Recv c.args.node c.args.message in
+    let s = Recv c.args.node c.args.message c.args.generation in
     let at = (goal.at.invariant_of-self-2 c).After-make_room in
-    agree_next s agree (lawful at) (c.in_ok-make_room.ensures.ok).0 c.in_ok-make_room.ensures.pieces refl refl refl c.make_room.ensures.items c.push_reserved.ensures.items c.push_reserved.ensures.capacity
+    agree_next s agree (comes at) refl (c.in_ok-make_room.ensures.ok).0 c.in_ok-make_room.ensures.pieces refl refl refl refl c.make_room.ensures.items c.push_reserved.ensures.items c.push_reserved.ensures.capacity
     (numbers_written s agree.numbers (lawful at) c.args.node.0 _ (may at).inside refl refl) refl refl agree.tasks
     (received agree.actions _ c.args.message.0 c.args.node (was at) (rw c.new-received.ensures at c.set.ensures))
     (message_received agree.messages _ c.args.message.0 c.args.node ((lists_are_sets _ _ agree.is_run).messages c.args.message.0) (was at)
@@ -52,10 +60,10 @@ pub returns-in_err-make_room : goal.returns-in_err-make_room
 returns-in_err-make_room c =
     let p = err_from_is_err_and c.from_residual.result c.from_residual.ensures.1 in
     rw (p.1, p.2)
-    (no_room (Recv c.args.node c.args.message) c.self.invariant c.self.view_is (lawful (goal.at.returns-in_err-make_room c).After-make_room) _ c.in_err-make_room.ensures.err
+    (no_room (Recv c.args.node c.args.message c.args.generation) c.self.invariant c.self.view_is (comes (goal.at.returns-in_err-make_room c).After-make_room) _ c.in_err-make_room.ensures.err
     c.make_room.ensures.items)
 
 pub returns : goal.returns
 returns c =
-    taken (Recv c.args.node c.args.message) c.self.invariant c.self.view_is (lawful (goal.at.returns c).After-make_room)
+    taken (Recv c.args.node c.args.message c.args.generation) c.self.invariant c.self.view_is (comes (goal.at.returns c).After-make_room)
     (c.in_ok-make_room.ensures.ok).0 c.make_room.ensures.items c.push_reserved.ensures.items refl

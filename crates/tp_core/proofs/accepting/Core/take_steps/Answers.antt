@@ -5,6 +5,7 @@ use Rattle.std.proofs.lemmas.Result.{err_from_is_err_and}
 use Rattle.tp_wave.specs.Sums.{is_ended}
 use Rattle.tp_core.specs.World.{is_quiet}
 use Rattle.tp_core.specs.Accepted.{Accepted, world_of}
+use Rattle.tp_wave.specs.Generations.{present}
 use Rattle.tp_core.specs.Kept.{accepted}
 use Rattle.tp_base.specs.Checks.{first_refusal}
 use Rattle.tp_core.specs.Settled.{IsSettled, settle_checks}
@@ -13,10 +14,10 @@ use Rattle.tp_core.proofs.Ending.{same_quiet, by_quiet, by_none, no_rooms, ready
 use Rattle.tp_core.proofs.accepting.Core.take_steps.Goals as goal
 use Rattle.tp_core.proofs.accepting.Core.take_steps.Goals.{After-make_rooms, After-take_to_end}
 
-not_ended : (c : After-make_rooms) → IsFalse (is_ended c.self.inside.nodes (accepted c.self.inside).steps)
+not_ended : (c : After-make_rooms) → IsFalse (is_ended c.self.inside.nodes (present (accepted c.self.inside).steps))
 not_ended c =
     let a = accepted c.self.inside in
-    sym (c.is_over.ensures a.nodes (is_ended a.nodes a.steps) a.steps c.self.invariant.wave.stands) ∙ c.if-is_over.false
+    sym (c.is_over.ensures a.nodes (is_ended a.nodes (present a.steps)) (present a.steps) c.self.invariant.wave.stands) ∙ c.if-is_over.false
 
 quiet : (c : After-make_rooms) → IsTrue (is_quiet (world_of (accepted c.self.inside)))
 quiet c =
@@ -29,8 +30,8 @@ taken c = rw (c.self.invariant.wave.stands.nodes, c.make_rooms.ensures.items) at
 pub returns-then-not-quiet : goal.returns-then-not-quiet
 returns-then-not-quiet c =
     let a = accepted c.self.inside in
-    let open' : IsFalse (is_ended c.args.self.now.nodes c.args.self.now.steps) =
-    subst (λ (x : Accepted). IsFalse (is_ended x.nodes x.steps)) c.self.view_is (sym (c.is_over.ensures a.nodes (is_ended a.nodes a.steps) a.steps c.self.invariant.wave.stands) ∙ c.if-is_over.false) in
+    let open' : IsFalse (is_ended c.args.self.now.nodes (present c.args.self.now.steps)) =
+    subst (λ (x : Accepted). IsFalse (is_ended x.nodes (present x.steps))) c.self.view_is (sym (c.is_over.ensures a.nodes (is_ended a.nodes (present a.steps)) (present a.steps) c.self.invariant.wave.stands) ∙ c.if-is_over.false) in
     let told : c.quiet.result ≡ false = grind (arith, nat_tests) in
     (by_quiet c.args.self.now open' (same_quiet c.quiet.result (world_of c.args.self.now) c.quiet.ensures ∙ told), refl)
 

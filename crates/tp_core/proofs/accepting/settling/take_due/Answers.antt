@@ -5,7 +5,9 @@ use Rattle.tp_wave.specs.Control.{IsDue}
 use Rattle.tp_wave.specs.Wave.{nodes_of}
 use Rattle.tp_wave.proofs.Given.{started_law}
 use Rattle.tp_core.specs.declared.numbers.NodeNumbers.{NodeNumbers}
+use Rattle.tp_wave.specs.Generations.{present}
 use Rattle.tp_core.proofs.Counting.{two_told}
+use Rattle.tp_core.proofs.Generations.{length-present}
 use Rattle.tp_core.proofs.Due.{passes, stands, own_numbers, few_sent, few_received, ok_there, one_taken, told_judge}
 use Rattle.tp_core.proofs.accepting.settling.take_due.Goals as goal
 use Rattle.tp_core.proofs.accepting.settling.take_due.Goals.{After-next_step-step}
@@ -14,37 +16,37 @@ nodes : After-next_step-step → ℕ
 nodes c = nodes_of c.args.wave.now
 
 past : After-next_step-step → List Step
-past c = reverse c.args.steps.now.items
+past c = present (reverse c.args.steps.now.items)
 
-due : (c : After-next_step-step) → IsDue (nodes_of c.args.wave.now) (reverse c.args.steps.now.items) c.next_step-step.result
-due c = c.next_step-step.ensures.due (nodes_of c.args.wave.now) (reverse c.args.steps.now.items) (stands c.requires.settling)
+due : (c : After-next_step-step) → IsDue (nodes_of c.args.wave.now) (present (reverse c.args.steps.now.items)) c.next_step-step.result
+due c = c.next_step-step.ensures.due (nodes_of c.args.wave.now) (present (reverse c.args.steps.now.items)) (stands c.requires.settling)
 
 pub start-requires : goal.start-requires
 start-requires c =
     let s = c.requires.settling in
-    omega (arith, (started_law (nodes_of c.args.wave.now) (reverse c.args.steps.now.items) c.args.wave.now s.follows).1, s.within)
+    omega (arith, (started_law (nodes_of c.args.wave.now) (present (reverse c.args.steps.now.items)) c.args.wave.now s.follows).1, length-present (reverse c.args.steps.now.items), s.within)
 
 pub give-requires-clause-sent : goal.give-requires-clause-sent
 give-requires-clause-sent c =
-    let at : IsDue (nodes_of c.args.wave.now) (reverse c.args.steps.now.items) (Give c.in-Give.node) = rw c.in-Give.is at (due (goal.at.give-requires-clause-sent c).After-next_step-step) in
+    let at : IsDue (nodes_of c.args.wave.now) (present (reverse c.args.steps.now.items)) (Give c.in-Give.node) = rw c.in-Give.is at (due (goal.at.give-requires-clause-sent c).After-next_step-step) in
     few_sent c.in-Give.node.0 c.requires.settling at.0
 
 pub give-requires-clause-received : goal.give-requires-clause-received
 give-requires-clause-received c =
-    let at : IsDue (nodes_of c.args.wave.now) (reverse c.args.steps.now.items) (Give c.in-Give.node) = rw c.in-Give.is at (due (goal.at.give-requires-clause-received c).After-next_step-step) in
+    let at : IsDue (nodes_of c.args.wave.now) (present (reverse c.args.steps.now.items)) (Give c.in-Give.node) = rw c.in-Give.is at (due (goal.at.give-requires-clause-received c).After-next_step-step) in
     few_received c.in-Give.node.0 c.requires.settling at.0
 
 pub unwrap-requires-in-Give : goal.unwrap-requires-in-Give
 unwrap-requires-in-Give c =
     let n = nodes_of c.args.wave.now in
-    let steps = reverse c.args.steps.now.items in
+    let steps = present (reverse c.args.steps.now.items) in
     let at : IsDue n steps (Give c.in-Give.node) = rw c.in-Give.is at (due (goal.at.unwrap-requires-in-Give c).After-next_step-step) in
     ok_there c.give.result (c.give.ensures.exact n steps c.requires.settling.follows ∙ passes (Give c.in-Give.node) c.requires.settling refl at)
 
 pub returns-in-Judge-clause-taken : goal.returns-in-Judge-clause-taken
 returns-in-Judge-clause-taken c =
     let n = nodes_of c.args.wave.now in
-    let steps = reverse c.args.steps.now.items in
+    let steps = present (reverse c.args.steps.now.items) in
     let s = c.requires.settling in
     let tell = two_told n steps s.some_node s.is_run in
     let at : IsDue n steps Judge = rw c.in-Judge.is at (due (goal.at.returns-in-Judge-clause-taken c).After-next_step-step) in
@@ -55,7 +57,7 @@ returns-in-Judge-clause-taken c =
 pub returns-in-Give-clause-taken : goal.returns-in-Give-clause-taken
 returns-in-Give-clause-taken c =
     let n = nodes_of c.args.wave.now in
-    let steps = reverse c.args.steps.now.items in
+    let steps = present (reverse c.args.steps.now.items) in
     let s = c.requires.settling in
     let at : IsDue n steps (Give c.in-Give.node) = rw c.in-Give.is at (due (goal.at.returns-in-Give-clause-taken c).After-next_step-step) in
     let own = own_numbers c.in-Give.node.0 s at.0 in

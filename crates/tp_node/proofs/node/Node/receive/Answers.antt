@@ -18,7 +18,7 @@ returns-clause-brought g c =
     c.requires.to_here ∙ sym (ap (λ (n : NodeState g.row.G.Denot). n.numbers.node) c.self.view_is)
     ∙ sym (ap (λ (s : NodeNumbers). s.node) c.audit.ensures.same.1) ∙ sym (ap (λ (s : NodeNumbers). s.node) c.take-message.ensures.shares) in
     brings (λ graph. g.G.Graph.meaning graph) _ _ _ _ _ c.in-Some.message.now c.take-message.result c.receive-2.result _ new c.number-number.result c.feed-feed.result
-    c.in-Some.ensures c.take-message.ensures.first c.receive-2.ensures c.number-number.ensures c.feed-feed.ensures.same c.in_ok-receive.ensures.received c.take-message.ensures.on_way
+    c.in-Some.ensures c.take-message.ensures.first c.receive-2.ensures c.number-number.ensures.same c.feed-feed.ensures.same c.in_ok-receive.ensures.received c.take-message.ensures.on_way
     graph c.self.invariant.nodes place
 
 pub returns-clause-received : goal.returns-clause-received

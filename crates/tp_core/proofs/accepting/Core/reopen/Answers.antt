@@ -1,0 +1,46 @@
+use Rattle.std.proofs.Common.{◌≡◌, true, refl, ap, sym, ◌+◌, ◌∙◌, arith, IsTrue}
+use Rattle.std.proofs.lemmas.Bool.Decides.{nat_tests}
+use Rattle.std.proofs.lemmas.Result.{err_from_is_err_and}
+use Rattle.tp_base.specs.declared.Step.TheVariants.{Reopen}
+use Rattle.tp_wave.specs.Steps.{is_reopen}
+use Rattle.tp_wave.specs.Sums.{is_ended}
+use Rattle.tp_wave.specs.Generations.{present}
+use Rattle.tp_core.specs.Generations.{MayCome}
+use Rattle.tp_core.specs.Kept.{accepted}
+use Rattle.tp_core.specs.declared.reply.Reply.TheVariants.{Opened}
+use Rattle.tp_core.proofs.Bounds.{count_bound}
+use Rattle.tp_core.proofs.Starting.{reopened_kept}
+use Rattle.tp_core.proofs.Taking.{taken, no_room}
+use Rattle.tp_core.proofs.accepting.Core.reopen.Goals as goal
+use Rattle.tp_core.proofs.accepting.Core.reopen.Goals.{After-make_room}
+
+ended : (c : After-make_room) → IsTrue (is_ended c.self.inside.nodes (present (accepted c.self.inside).steps))
+ended c =
+    let a = accepted c.self.inside in
+    let told : c.is_over.result ≡ true = grind (arith, nat_tests) in
+    sym (c.is_over.ensures a.nodes (is_ended a.nodes (present a.steps)) (present a.steps) c.self.invariant.wave.stands) ∙ told
+
+comes : (c : After-make_room) → MayCome c.self.inside.nodes (accepted c.self.inside).steps Reopen
+comes c = record { reopens = λ f. ended c; goes_on = λ f. cc }
+
+pub returns-in_err-make_room : goal.returns-in_err-make_room
+returns-in_err-make_room c =
+    let p = err_from_is_err_and c.from_residual.result c.from_residual.ensures.1 in
+    rw (p.1, p.2)
+    (no_room Reopen c.self.invariant c.self.view_is (comes (goal.at.returns-in_err-make_room c).After-make_room) _ c.in_err-make_room.ensures.err
+    c.make_room.ensures.items)
+
+pub overflow_add-self : goal.overflow_add-self
+overflow_add-self c =
+    let agree = c.self.invariant in
+    omega (arith, agree.generation_is, agree.within, count_bound is_reopen (accepted c.self.inside).steps)
+
+pub invariant_of-self-2 : goal.invariant_of-self-2
+invariant_of-self-2 c =
+    reopened_kept c.self.invariant (comes (goal.at.invariant_of-self-2 c).After-make_room) (c.in_ok-make_room.ensures.ok).0 c.in_ok-make_room.ensures.pieces refl refl
+    c.make_room.ensures.items c.push_reserved.ensures.items c.push_reserved.ensures.capacity c.opened.ensures refl refl c.clear.ensures c.clear-2.ensures c.clear-3.ensures c.new-self-inside.ensures.follows
+
+pub returns : goal.returns
+returns c =
+    taken Reopen c.self.invariant c.self.view_is (comes (goal.at.returns c).After-make_room) (c.in_ok-make_room.ensures.ok).0
+    c.make_room.ensures.items c.push_reserved.ensures.items (ap (λ k. Opened (record { 0 = k + 1 })) c.self.invariant.generation_is)

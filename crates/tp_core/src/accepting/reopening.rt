@@ -1,0 +1,32 @@
+ghost use Rattle.std.specs.Prelude.{◌≡◌};
+
+use super::{Core, make_room, opened};
+use crate::reply::Reply;
+use tp_base::{Generation, Refusal, Step};
+use tp_wave::Wave;
+
+impl Core {
+    ghost use Rattle.tp_core.specs.Accepted.{Answers};
+
+    // All is as at first but the list of steps.
+    pub(super) fn reopen(&mut self) -> Result<Reply, Refusal>
+        ensures { Answers self.old Step.Reopen result self.new }
+    {
+        if !self.wave.is_over() {
+            return Err(Refusal::WrongLife);
+        }
+        make_room(&mut self.steps)?;
+        let (numbers, opening) = opened(self.nodes);
+        self.numbers = numbers;
+        self.opening = opening;
+        self.left = self.nodes;
+        self.under = 0;
+        self.named.clear();
+        self.tasks.clear();
+        self.messages.clear();
+        self.wave = Wave::new(self.nodes);
+        self.generation += 1;
+        self.steps.push_reserved(Step::Reopen);
+        Ok(Reply::Opened(Generation(self.generation)))
+    }
+}
