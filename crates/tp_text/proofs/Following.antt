@@ -87,14 +87,17 @@ written_words n past h l = are_words (nat_le 2 (waves past) && four_equal n past
     let two : 2 ≤ waves past = leb-true 2 (waves past) (and_parts (nat_le 2 (waves past)) (four_equal n past) e).0 in
     (omega (arith, two), omega (arith, l, (few_waves n past h).most)))
 
-written_line : (n : ℕ) (past : List Step) (s : Step) → AreLawfulWaves n (present past) → length past < MAX_STEPS → IsSpelled s → IsWritten (line_of n past s)
+written_line : (n : ℕ) (past : List Step) (s : Step) → AreLawfulWaves n (present past) → length past < MAX_STEPS → IsSpelled s
+    → IsWritten (line_of n past s)
 written_line n past Judge h l p = written_words n (present past) h (omega (arith, l, length-present past))
 written_line n past _ h l p = (p, λ e. cc)
 
-written_lines : (n : ℕ) (ss : List Step) → InEach (AreLawfulWaves n) ss → length ss ≤ MAX_STEPS → All IsSpelled ss → All IsWritten (lines_of n ss)
+written_lines : (n : ℕ) (ss : List Step) → InEach (AreLawfulWaves n) ss → length ss ≤ MAX_STEPS → All IsSpelled ss
+    → All IsWritten (lines_of n ss)
 written_lines n [] h l p = All-nil IsWritten
 written_lines n (s ∷ past) h l p =
-    All-cons IsWritten (line_of n past s) (lines_of n past) (written_line n past s (h (s ∷ []) past refl) (omega (arith, l)) (All-head IsSpelled s past p))
+    All-cons IsWritten (line_of n past s) (lines_of n past)
+    (written_line n past s (h (s ∷ []) past refl) (omega (arith, l)) (All-head IsSpelled s past p))
     (written_lines n past (λ later rest e. h (s ∷ later) rest (ap (λ x. s ∷ x) e)) (omega (arith, l)) (All-tail IsSpelled s past p))
 
 -- the waves are lawful in each generation
@@ -106,7 +109,11 @@ waves_in_each n (x ∷ h) run (s ∷ later) past e = waves_in_each n h run.1 lat
 
 pub is_trace_of : (n : ℕ) (h : History) (text : List ℕ) → IsNodeCount n → IsRun n h → CanBeTraced (steps_of h) → text ≡ trace n (lines_of n (steps_of h))
     → IsTraceOf n (steps_of h) text
-is_trace_of n h text count run can e = record { nodes = count; written = written_lines n (steps_of h) (waves_in_each n h run) can.0 can.1; text = e }
+is_trace_of n h text count run can e = record {
+  nodes = count;
+  written = written_lines n (steps_of h) (waves_in_each n h run) can.0 can.1;
+  text = e;
+}
 
 -- ---- the steps in the order of time
 
@@ -167,7 +174,8 @@ may_follow n past e r l = record {
   two_tell = two_tell_law n past r.1;
 }
 
-run_next : (n : ℕ) (h : History) (k : ℕ) (e : Event) → k < length h → slice_get (reverse h) k ≡ Some e → IsRun n h → IsRun n (e ∷ oldest k h)
+run_next : (n : ℕ) (h : History) (k : ℕ) (e : Event) → k < length h → slice_get (reverse h) k ≡ Some e → IsRun n h
+    → IsRun n (e ∷ oldest k h)
 run_next n h k e within at r = subst (IsRun n) (oldest_next h k e within at) (run-drop n (length h - (k + 1)) h r)
 
 pub may_follow_next : (n : ℕ) (h : History) (k : ℕ) (e : Event) → k < length h → slice_get (reverse h) k ≡ Some e → IsRun n h → length h ≤ MAX_STEPS
@@ -218,31 +226,37 @@ few_sent n past t i h below l = omega (arith, h.sent i below, count-le (is_send_
 pub few_received : (n : ℕ) (past : List Step) (t : Tracer) (i : ℕ) → HasFollowed n past t → i < n → length past < MAX_STEPS → slice_index_or t.received i 0 < MAX_STEPS
 few_received n past t i h below l = omega (arith, h.received i below, count-le (is_recv_at i) past, l)
 
-pub sender : (n : ℕ) (past : List Step) (s : Step) (i j : NodeId) (m : MessageId) (g : Generation) → s ≡ Send i j m g → MayFollow n past s → i.0 < n
+pub sender : (n : ℕ) (past : List Step) (s : Step) (i j : NodeId) (m : MessageId) (g : Generation) → s ≡ Send i j m g
+    → MayFollow n past s → i.0 < n
 sender n past s i j m g is h = subst (HasNode n) is h.node
 
-pub receiver : (n : ℕ) (past : List Step) (s : Step) (j : NodeId) (m : MessageId) (g : Generation) → s ≡ Recv j m g → MayFollow n past s → j.0 < n
+pub receiver : (n : ℕ) (past : List Step) (s : Step) (j : NodeId) (m : MessageId) (g : Generation) → s ≡ Recv j m g
+    → MayFollow n past s → j.0 < n
 receiver n past s j m g is h = subst (HasNode n) is h.node
 
-pub sent_one : (n : ℕ) (past : List Step) (s : Step) (i j : NodeId) (m : MessageId) (g : Generation) (t : Tracer) (new : List ℕ) → s ≡ Send i j m g
-    → HasFollowed n past t → MayFollow n past s → i.0 < length t.sent → new ≡ slice_set t.sent i.0 (slice_index_or t.sent i.0 0 + 1)
+pub sent_one : (n : ℕ) (past : List Step) (s : Step) (i j : NodeId) (m : MessageId) (g : Generation) (t : Tracer) (new : List ℕ)
+    → s ≡ Send i j m g → HasFollowed n past t → MayFollow n past s → i.0 < length t.sent
+    → new ≡ slice_set t.sent i.0 (slice_index_or t.sent i.0 0 + 1)
     → HasFollowed n (s ∷ past) (record { wave = t.wave; sent = new; received = t.received })
-sent_one n past s i j m g t new is h may within e = subst (λ x. HasFollowed n (x ∷ past) (record { wave = t.wave; sent = new; received = t.received })) (sym is) (record {
-  nodes = h.nodes;
-  wave = pool_step n past (Send i j m g) t.wave refl h.wave;
-  sent = one_more n i.0 t.sent new (λ k. count (is_send_of k) past) h.sent (sender n past s i j m g is may) within e;
-  received = h.received;
-})
+sent_one n past s i j m g t new is h may within e =
+    subst (λ x. HasFollowed n (x ∷ past) (record { wave = t.wave; sent = new; received = t.received })) (sym is) (record {
+      nodes = h.nodes;
+      wave = pool_step n past (Send i j m g) t.wave refl h.wave;
+      sent = one_more n i.0 t.sent new (λ k. count (is_send_of k) past) h.sent (sender n past s i j m g is may) within e;
+      received = h.received;
+    })
 
-pub received_one : (n : ℕ) (past : List Step) (s : Step) (j : NodeId) (m : MessageId) (g : Generation) (t : Tracer) (new : List ℕ) → s ≡ Recv j m g
-    → HasFollowed n past t → MayFollow n past s → j.0 < length t.received → new ≡ slice_set t.received j.0 (slice_index_or t.received j.0 0 + 1)
+pub received_one : (n : ℕ) (past : List Step) (s : Step) (j : NodeId) (m : MessageId) (g : Generation) (t : Tracer) (new : List ℕ)
+    → s ≡ Recv j m g → HasFollowed n past t → MayFollow n past s → j.0 < length t.received
+    → new ≡ slice_set t.received j.0 (slice_index_or t.received j.0 0 + 1)
     → HasFollowed n (s ∷ past) (record { wave = t.wave; sent = t.sent; received = new })
-received_one n past s j m g t new is h may within e = subst (λ x. HasFollowed n (x ∷ past) (record { wave = t.wave; sent = t.sent; received = new })) (sym is) (record {
-  nodes = h.nodes;
-  wave = pool_step n past (Recv j m g) t.wave refl h.wave;
-  sent = h.sent;
-  received = one_more n j.0 t.received new (λ k. count (is_recv_at k) past) h.received (receiver n past s j m g is may) within e;
-})
+received_one n past s j m g t new is h may within e =
+    subst (λ x. HasFollowed n (x ∷ past) (record { wave = t.wave; sent = t.sent; received = new })) (sym is) (record {
+      nodes = h.nodes;
+      wave = pool_step n past (Recv j m g) t.wave refl h.wave;
+      sent = h.sent;
+      received = one_more n j.0 t.received new (λ k. count (is_recv_at k) past) h.received (receiver n past s j m g is may) within e;
+    })
 
 -- ---- the waves go along
 
@@ -252,7 +266,8 @@ pub not_refused : {A : Type 0} (n : ℕ) (past : List Step) (s : Step) (r : Resu
 not_refused n past s (Ok x) P control may exact goes = goes
 not_refused n past s (Err e) P control may exact goes = let none = (checks_exact n past s control).1 (may.control control) in cc
 
-pub judged_line : (n : ℕ) (past : List Step) (s : Step) (o : Option ℕ) → s ≡ Judge → o ≡ judgement n (present past) → Judged o ≡ line_of n past s
+pub judged_line : (n : ℕ) (past : List Step) (s : Step) (o : Option ℕ) → s ≡ Judge → o ≡ judgement n (present past)
+    → Judged o ≡ line_of n past s
 judged_line n past s o is told = ap (λ x. Judged x) told ∙ ap (line_of n past) (sym is)
 
 -- ---- any other step
@@ -261,8 +276,10 @@ pub other_line : (n : ℕ) (past : List Step) (s : Step) → s ≢ Judge → Pla
 other_line n past Judge other = absurd (other refl)
 other_line n past _ other = refl
 
-pub other_step : (n : ℕ) (past : List Step) (s : Step) (t : Tracer) → HasFollowed n past t → ((i j : NodeId) (m : MessageId) (g : Generation) → s ≢ Send i j m g)
-    → ((j : NodeId) (m : MessageId) (g : Generation) → s ≢ Recv j m g) → (s ≢ Start) → ((i : NodeId) → s ≢ Down i) → ((i : NodeId) → s ≢ Give i) → ((i : NodeId) → s ≢ Up i) → (s ≢ Judge)
+pub other_step : (n : ℕ) (past : List Step) (s : Step) (t : Tracer) → HasFollowed n past t
+    → ((i j : NodeId) (m : MessageId) (g : Generation) → s ≢ Send i j m g)
+    → ((j : NodeId) (m : MessageId) (g : Generation) → s ≢ Recv j m g)
+    → (s ≢ Start) → ((i : NodeId) → s ≢ Down i) → ((i : NodeId) → s ≢ Give i) → ((i : NodeId) → s ≢ Up i) → (s ≢ Judge)
     → HasFollowed n (s ∷ past) t
 other_step n past (Send i j m g) t h send recv start down give up judge = absurd (send i j m g refl)
 other_step n past (Recv j m g) t h send recv start down give up judge = absurd (recv j m g refl)

@@ -49,7 +49,8 @@ given_over : (b : Bool) (w : ℕ) (r : Reply) → r ≢ Over w → (if b then r 
 given_over true w r other e = other e
 given_over false w r other e = cc
 
-only_judge : (n : ℕ) (past : List Step) (s : Step) (w : ℕ) → reply_to n past s ≡ Over w → (s ≡ Judge) × (judgement n (present past) ≡ Some w)
+only_judge : (n : ℕ) (past : List Step) (s : Step) (w : ℕ) → reply_to n past s ≡ Over w
+    → (s ≡ Judge) × (judgement n (present past) ≡ Some w)
 only_judge n past (Give i) w e = absurd (given_over (i.0 == 0) w (WaveSums (sums_of n (Give i ∷ present past))) (λ same. cc) e)
 only_judge n past Judge w e = (refl, judged_over (judgement n (present past)) w e)
 only_judge n past _ w e = cc
@@ -72,6 +73,7 @@ ended_never_early n before s later w e same =
     ∙ ap (λ (x : Accepted). top.0 ++ x.steps) is.accepted ∙ ap (λ x. top.0 ++ x ∷ a.steps) is.judge in
     let says : judgement n (present a.steps) ≡ Some w = subst (λ m. judgement m (present a.steps) ≡ Some w) nodes is.says in
     let same_there : generation (top.0 ++ Judge ∷ a.steps) ≡ generation (Judge ∷ a.steps) = ap generation (sym whole) ∙ same in
-    let all : present (after_all (fresh n) (before ++ s ∷ later)).steps ≡ top.0 ++ Judge ∷ present a.steps =
+    let steps = (after_all (fresh n) (before ++ s ∷ later)).steps in
+    let all : present steps ≡ top.0 ++ Judge ∷ present a.steps =
     ap present whole ∙ present-append top.0 (Judge ∷ a.steps) (same_generation top.0 (Judge ∷ a.steps) same_there) in
-    (accepted_never_early (fresh n) (before ++ s ∷ later) refl).1 [] (after_all (fresh n) (before ++ s ∷ later)).steps refl w top.0 (present a.steps) all says
+    (accepted_never_early (fresh n) (before ++ s ∷ later) refl).1 [] steps refl w top.0 (present a.steps) all says

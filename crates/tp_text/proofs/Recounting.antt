@@ -101,7 +101,8 @@ pub unjustified_at : (n : ℕ) (lines : List TraceLine) (l : TraceLine) (a : Aud
 unjustified_at n lines (Plain s) a k reply after h number said other = absurd (other tt)
 unjustified_at n lines (Judged o) a k reply after h number said other =
     let none : refusal (taken n lines) steps.Judge ≡ None = subst (λ (x : Accepted). refusal x steps.Judge ≡ None) h.core said.0 in
-    let is : reply ≡ judged (judgement n (present (steps_in lines))) = subst (λ (x : Accepted). reply ≡ reply_to x.nodes x.steps steps.Judge) h.core said.1 in
+    let is : reply ≡ judged (judgement n (present (steps_in lines))) =
+    subst (λ (x : Accepted). reply ≡ reply_to x.nodes x.steps steps.Judge) h.core said.1 in
     ([], Judged o, lines, refl, h.sound, (o, refl, none, λ e. other (is ∙ ap judged (sym e))), number)
 
 -- ---- all lines

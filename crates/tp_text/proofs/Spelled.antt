@@ -137,4 +137,5 @@ same_step s t a b p q e =
     let words = one_word (step_line s ++ a) (word_of s) (spaced (numbers_of s) ++ 10 ∷ a) (word_of t) (numbers_of t) b
     (line_parts (word_of s) (numbers_of s) a, word_bytes (word_of s) (step_word s), ends_word (numbers_of s) a) (step_word t) e in
     let numbers = same_numbers (numbers_of s) (numbers_of t) a b p.0 q.0 words.1 in
-    (sym (step_again s p.2) ∙ ap (λ w. step_spelled w (numbers_of s)) words.0 ∙ ap (step_spelled (word_of t)) numbers.0 ∙ step_again t q.2, numbers.1)
+    let same = ap (λ w. step_spelled w (numbers_of s)) words.0 ∙ ap (step_spelled (word_of t)) numbers.0 in
+    (sym (step_again s p.2) ∙ same ∙ step_again t q.2, numbers.1)

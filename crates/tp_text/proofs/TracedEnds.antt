@@ -67,7 +67,8 @@ ended_over n lines w h e =
     let past = last.1 in
     let same : until w ss ≡ until w past =
     ap (until w) (last.2 ∙ sym (append_assoc last.0 (steps.Judge ∷ []) past)) ∙ until_kept w (last.0 ++ steps.Judge ∷ []) past (judged_wave n w past last.3) in
-    subst (λ (p : ℕ). IsOverFrom n p ss) (ap (λ u. length (visit 0 u)) (sym same)) (never_early n ss (present_run n (steps_in lines) h.run) w last.0 past last.2 last.3)
+    subst (λ (p : ℕ). IsOverFrom n p ss) (ap (λ u. length (visit 0 u)) (sym same))
+    (never_early n ss (present_run n (steps_in lines) h.run) w last.0 past last.2 last.3)
 
 -- ---- where no end was judged last
 
@@ -94,7 +95,8 @@ some_ended : (o : Option ℕ) (b : Bool) (w : ℕ) → o ≡ Some w → ((true &
 some_ended (Some v) b w e = refl
 some_ended None b w e = cc
 
-justified_there : (n : ℕ) (later : List TraceLine) (o : Option ℕ) (past : List TraceLine) → AreJustified n (later ++ Judged o ∷ past) → o ≡ judgement n (present (steps_in past))
+justified_there : (n : ℕ) (later : List TraceLine) (o : Option ℕ) (past : List TraceLine) → AreJustified n (later ++ Judged o ∷ past)
+    → o ≡ judgement n (present (steps_in past))
 justified_there n [] o past h = h.0
 justified_there n (l ∷ later) o past h = justified_there n later o past h.1
 
@@ -104,7 +106,8 @@ steps-append (l ∷ later) past = ap (λ x. step_in l ∷ x) (steps-append later
 
 pub not_ended_claims : NotEndedClaimsNoEnd
 not_ended_claims n lines h none later w past e =
-    let right : Some w ≡ judgement n (present (steps_in past)) = justified_there n later (Some w) past (subst (AreJustified n) e h.justified) in
+    let right : Some w ≡ judgement n (present (steps_in past)) =
+    justified_there n later (Some w) past (subst (AreJustified n) e h.justified) in
     let there : is_ended n (steps.Judge ∷ present (steps_in past)) ≡ true =
     some_ended (judgement n (present (steps_in past))) (is_ended n (present (steps_in past))) w (sym right) in
     let all : steps_in lines ≡ steps_in later ++ steps.Judge ∷ steps_in past = ap steps_in e ∙ steps-append later (Judged (Some w) ∷ past) in

@@ -54,7 +54,8 @@ taken n lines = record { nodes = n; steps = steps_in lines }
 -- Behind these lines this one is flawed: its step is refused; or it is a judgement that is accepted, and its words are others.
 abbrev pub IsFlaw : ℕ → List TraceLine → TraceLine → Flaw → Type 0
 IsFlaw n past l (flaws.Refused r) = refusal (taken n past) (step_in l) ≡ Some r
-IsFlaw n past l flaws.Unjustified = (o : Option ℕ) × (l ≡ Judged o) × (refusal (taken n past) Judge ≡ None) × (o ≢ judgement n (present (steps_in past)))
+IsFlaw n past l flaws.Unjustified =
+    (o : Option ℕ) × (l ≡ Judged o) × (refusal (taken n past) Judge ≡ None) × (o ≢ judgement n (present (steps_in past)))
 
 -- Line k is the first that is flawed. The first step stands in line 3.
 abbrev pub HasFlawAt : ℕ → List TraceLine → ℕ → Flaw → Type 0

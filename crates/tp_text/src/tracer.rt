@@ -38,7 +38,8 @@ impl Tracer {
     /// Follows the next step, and tells its line.
     pub(crate) fn line(&mut self, step: Step) -> TraceLine
         requires { (n : ℕ) × (past : List Step) × HasFollowed n past self.old × MayFollow n past step }
-        ensures told { (n : ℕ) (past : List Step) → HasFollowed n (present past) self.old → MayFollow n (present past) step → result ≡ line_of n past step }
+        ensures told { (n : ℕ) (past : List Step) → HasFollowed n (present past) self.old → MayFollow n (present past) step
+            → result ≡ line_of n past step }
         ensures followed { (n : ℕ) (past : List Step) → HasFollowed n past self.old → MayFollow n past step → HasFollowed n (step ∷ past) self.new }
     {
         match step {
