@@ -8,6 +8,7 @@ use Rattle.std.proofs.lemmas.Bool.{and_parts, leb-true, cases_eq, eq-eqb, ne_eqb
 use Rattle.std.proofs.lemmas.List.{drop_all, length-drop, get_or-reverse, get_or-set_same, get_or-set_other}
 use Rattle.std.proofs.lemmas.Option.{get_or_from_slice_get}
 use Rattle.tp_base.specs.History.{Event}
+use Rattle.tp_base.specs.declared.ids.Generation.{Generation}
 use Rattle.tp_base.specs.declared.ids.MessageId.{MessageId}
 use Rattle.tp_base.specs.declared.ids.NodeId.{NodeId}
 use Rattle.tp_base.specs.declared.limits.TheConstants.{MAX_STEPS}
@@ -16,6 +17,7 @@ use Rattle.tp_base.specs.declared.Step.TheVariants.{Send, Recv, Start, Down, Giv
 use Rattle.tp_base.specs.declared.Refusal.{Refusal}
 use Rattle.tp_wave.specs.Checks.{control_refusal}
 use Rattle.tp_wave.specs.Control.{in_wave, is_control, AreLawfulWaves}
+use Rattle.tp_wave.specs.Generations.{present}
 use Rattle.tp_wave.specs.Machine.{History, steps_of, IsNext, IsRun}
 use Rattle.tp_wave.specs.Steps.{any, count, is_judge, is_recv_at, is_send_of, is_start}
 use Rattle.tp_wave.specs.Sums.{four_equal, judgement, waves}
@@ -24,6 +26,8 @@ use Rattle.tp_wave.proofs.Given.{count-le, pool_step}
 use Rattle.tp_wave.proofs.Judged.{two_tell_law}
 use Rattle.tp_wave.proofs.Positions.{length-steps_of}
 use Rattle.tp_wave.proofs.Visits.{lawful_waves}
+use Rattle.tp_core.specs.Generations.{InEach}
+use Rattle.tp_core.proofs.Generations.{length-present, present-goes_on}
 use Rattle.tp_text.specs.declared.tracer.Tracer.{Tracer}
 use Rattle.tp_text.specs.declared.traced.TraceLine.{TraceLine}
 use Rattle.tp_text.specs.declared.traced.TraceLine.TheVariants.{Plain, Judged}
@@ -33,6 +37,7 @@ use Rattle.tp_text.specs.Spelling.{IsSpelled}
 use Rattle.tp_text.specs.Trace.{trace, trace_line, AreWords, IsWritten}
 use Rattle.tp_text.specs.TraceOf.{line_of, lines_of, CanBeTraced, IsTraceOf, TracesAreReadBack}
 use Rattle.tp_text.specs.Following.{HasFollowed, HasNode, MayFollow}
+use Rattle.tp_text.proofs.Present.{all_present, goes_on}
 use Rattle.tp_text.proofs.Splits.{All-nil, All-cons, All-head, All-tail}
 use Rattle.tp_text.proofs.UniqueTraces.{traces_determined}
 
@@ -48,7 +53,7 @@ steps_in_lines n (s ∷ past) =
     ap (λ x. x ∷ steps_in (lines_of n past)) (step_of_line n past s) ∙ ap (λ l. s ∷ l) (steps_in_lines n past)
 
 justified_line : (n : ℕ) (past known : List Step) (s : Step) → past ≡ known → IsJustified n known (line_of n past s)
-justified_line n past known Judge e = ap (judgement n) e
+justified_line n past known Judge e = ap (λ x. judgement n (present x)) e
 justified_line n past known _ e = tt
 
 lines_justified : (n : ℕ) (ss : List Step) → AreJustified n (lines_of n ss)
@@ -82,19 +87,33 @@ written_words n past h l = are_words (nat_le 2 (waves past) && four_equal n past
     let two : 2 ≤ waves past = leb-true 2 (waves past) (and_parts (nat_le 2 (waves past)) (four_equal n past) e).0 in
     (omega (arith, two), omega (arith, l, (few_waves n past h).most)))
 
-written_line : (n : ℕ) (past : List Step) (s : Step) → AreLawfulWaves n past → length past < MAX_STEPS → IsSpelled s → IsWritten (line_of n past s)
-written_line n past Judge h l p = written_words n past h l
+written_line : (n : ℕ) (past : List Step) (s : Step) → AreLawfulWaves n (present past) → length past < MAX_STEPS → IsSpelled s
+    → IsWritten (line_of n past s)
+written_line n past Judge h l p = written_words n (present past) h (omega (arith, l, length-present past))
 written_line n past _ h l p = (p, λ e. cc)
 
-written_lines : (n : ℕ) (ss : List Step) → AreLawfulWaves n ss → length ss ≤ MAX_STEPS → All IsSpelled ss → All IsWritten (lines_of n ss)
+written_lines : (n : ℕ) (ss : List Step) → InEach (AreLawfulWaves n) ss → length ss ≤ MAX_STEPS → All IsSpelled ss
+    → All IsWritten (lines_of n ss)
 written_lines n [] h l p = All-nil IsWritten
 written_lines n (s ∷ past) h l p =
-    All-cons IsWritten (line_of n past s) (lines_of n past) (written_line n past s h.1 (omega (arith, l)) (All-head IsSpelled s past p))
-    (written_lines n past h.1 (omega (arith, l)) (All-tail IsSpelled s past p))
+    All-cons IsWritten (line_of n past s) (lines_of n past)
+    (written_line n past s (h (s ∷ []) past refl) (omega (arith, l)) (All-head IsSpelled s past p))
+    (written_lines n past (λ later rest e. h (s ∷ later) rest (ap (λ x. s ∷ x) e)) (omega (arith, l)) (All-tail IsSpelled s past p))
+
+-- the waves are lawful in each generation
+waves_in_each : (n : ℕ) (h : History) → IsRun n h → InEach (AreLawfulWaves n) (steps_of h)
+waves_in_each n h run [] past e =
+    subst (λ x. AreLawfulWaves n (present x)) e (subst (AreLawfulWaves n) (sym (all_present n h run)) (lawful_waves n h run))
+waves_in_each n [] run (s ∷ later) past e = cc
+waves_in_each n (x ∷ h) run (s ∷ later) past e = waves_in_each n h run.1 later past (cc)
 
 pub is_trace_of : (n : ℕ) (h : History) (text : List ℕ) → IsNodeCount n → IsRun n h → CanBeTraced (steps_of h) → text ≡ trace n (lines_of n (steps_of h))
     → IsTraceOf n (steps_of h) text
-is_trace_of n h text count run can e = record { nodes = count; written = written_lines n (steps_of h) (lawful_waves n h run) can.0 can.1; text = e }
+is_trace_of n h text count run can e = record {
+  nodes = count;
+  written = written_lines n (steps_of h) (waves_in_each n h run) can.0 can.1;
+  text = e;
+}
 
 -- ---- the steps in the order of time
 
@@ -143,8 +162,8 @@ spelled_next h k e within at p before =
 -- ---- the next step
 
 has_node : (n : ℕ) (past : History) (i : NodeId) (s : Step) → IsNext n past (i, s) → HasNode n s
-has_node n past i (Send j k m) x = omega (arith, x.known, x.beside)
-has_node n past i (Recv j m) x = omega (arith, x.known, x.beside)
+has_node n past i (Send j k m g) x = omega (arith, x.known, x.beside)
+has_node n past i (Recv j m g) x = omega (arith, x.known, x.beside)
 has_node n past i _ x = tt
 
 may_follow : (n : ℕ) (past : History) (e : Event) → IsRun n (e ∷ past) → length past < MAX_STEPS → MayFollow n (steps_of past) e.1
@@ -155,11 +174,26 @@ may_follow n past e r l = record {
   two_tell = two_tell_law n past r.1;
 }
 
+run_next : (n : ℕ) (h : History) (k : ℕ) (e : Event) → k < length h → slice_get (reverse h) k ≡ Some e → IsRun n h
+    → IsRun n (e ∷ oldest k h)
+run_next n h k e within at r = subst (IsRun n) (oldest_next h k e within at) (run-drop n (length h - (k + 1)) h r)
+
 pub may_follow_next : (n : ℕ) (h : History) (k : ℕ) (e : Event) → k < length h → slice_get (reverse h) k ≡ Some e → IsRun n h → length h ≤ MAX_STEPS
-    → MayFollow n (steps_of (oldest k h)) e.1
+    → MayFollow n (present (steps_of (oldest k h))) e.1
 may_follow_next n h k e within at r l =
-    may_follow n (oldest k h) e (subst (IsRun n) (oldest_next h k e within at) (run-drop n (length h - (k + 1)) h r))
-    (omega (arith, within, l, length-drop (length h - k) h))
+    let run = run_next n h k e within at r in
+    subst (λ x. MayFollow n x e.1) (sym (all_present n (oldest k h) run.1))
+    (may_follow n (oldest k h) e run (omega (arith, within, l, length-drop (length h - k) h)))
+
+pub followed_none : (n : ℕ) (h : History) (t : Tracer) → HasFollowed n [] t → HasFollowed n (present (steps_of (oldest 0 h))) t
+followed_none n h t f = subst (λ x. HasFollowed n (present (steps_of x)) t) (sym (oldest_none h)) f
+
+pub followed_next : (n : ℕ) (h : History) (k : ℕ) (e : Event) (t : Tracer) → k < length h → slice_get (reverse h) k ≡ Some e → IsRun n h
+    → HasFollowed n (e.1 ∷ present (steps_of (oldest k h))) t → HasFollowed n (present (steps_of (oldest (k + 1) h))) t
+followed_next n h k e t within at r f =
+    let on = goes_on n (oldest k h) e.0.0 e.1 (run_next n h k e within at r).0.needed in
+    subst (λ x. HasFollowed n (present (steps_of x)) t) (sym (oldest_next h k e within at))
+    (subst (λ x. HasFollowed n x t) (sym (present-goes_on e.1 (steps_of (oldest k h)) on)) f)
 
 pub begun : (n : ℕ) (h : History) (old new : List ℕ) → old ≡ [] → new ≡ old ++ trace n [] → new ≡ trace n (lines_of n (steps_of (oldest 0 h)))
 begun n h old new none head =
@@ -192,31 +226,37 @@ few_sent n past t i h below l = omega (arith, h.sent i below, count-le (is_send_
 pub few_received : (n : ℕ) (past : List Step) (t : Tracer) (i : ℕ) → HasFollowed n past t → i < n → length past < MAX_STEPS → slice_index_or t.received i 0 < MAX_STEPS
 few_received n past t i h below l = omega (arith, h.received i below, count-le (is_recv_at i) past, l)
 
-pub sender : (n : ℕ) (past : List Step) (s : Step) (i j : NodeId) (m : MessageId) → s ≡ Send i j m → MayFollow n past s → i.0 < n
-sender n past s i j m is h = subst (HasNode n) is h.node
+pub sender : (n : ℕ) (past : List Step) (s : Step) (i j : NodeId) (m : MessageId) (g : Generation) → s ≡ Send i j m g
+    → MayFollow n past s → i.0 < n
+sender n past s i j m g is h = subst (HasNode n) is h.node
 
-pub receiver : (n : ℕ) (past : List Step) (s : Step) (j : NodeId) (m : MessageId) → s ≡ Recv j m → MayFollow n past s → j.0 < n
-receiver n past s j m is h = subst (HasNode n) is h.node
+pub receiver : (n : ℕ) (past : List Step) (s : Step) (j : NodeId) (m : MessageId) (g : Generation) → s ≡ Recv j m g
+    → MayFollow n past s → j.0 < n
+receiver n past s j m g is h = subst (HasNode n) is h.node
 
-pub sent_one : (n : ℕ) (past : List Step) (s : Step) (i j : NodeId) (m : MessageId) (t : Tracer) (new : List ℕ) → s ≡ Send i j m
-    → HasFollowed n past t → MayFollow n past s → i.0 < length t.sent → new ≡ slice_set t.sent i.0 (slice_index_or t.sent i.0 0 + 1)
+pub sent_one : (n : ℕ) (past : List Step) (s : Step) (i j : NodeId) (m : MessageId) (g : Generation) (t : Tracer) (new : List ℕ)
+    → s ≡ Send i j m g → HasFollowed n past t → MayFollow n past s → i.0 < length t.sent
+    → new ≡ slice_set t.sent i.0 (slice_index_or t.sent i.0 0 + 1)
     → HasFollowed n (s ∷ past) (record { wave = t.wave; sent = new; received = t.received })
-sent_one n past s i j m t new is h may within e = subst (λ x. HasFollowed n (x ∷ past) (record { wave = t.wave; sent = new; received = t.received })) (sym is) (record {
-  nodes = h.nodes;
-  wave = pool_step n past (Send i j m) t.wave refl h.wave;
-  sent = one_more n i.0 t.sent new (λ k. count (is_send_of k) past) h.sent (sender n past s i j m is may) within e;
-  received = h.received;
-})
+sent_one n past s i j m g t new is h may within e =
+    subst (λ x. HasFollowed n (x ∷ past) (record { wave = t.wave; sent = new; received = t.received })) (sym is) (record {
+      nodes = h.nodes;
+      wave = pool_step n past (Send i j m g) t.wave refl h.wave;
+      sent = one_more n i.0 t.sent new (λ k. count (is_send_of k) past) h.sent (sender n past s i j m g is may) within e;
+      received = h.received;
+    })
 
-pub received_one : (n : ℕ) (past : List Step) (s : Step) (j : NodeId) (m : MessageId) (t : Tracer) (new : List ℕ) → s ≡ Recv j m
-    → HasFollowed n past t → MayFollow n past s → j.0 < length t.received → new ≡ slice_set t.received j.0 (slice_index_or t.received j.0 0 + 1)
+pub received_one : (n : ℕ) (past : List Step) (s : Step) (j : NodeId) (m : MessageId) (g : Generation) (t : Tracer) (new : List ℕ)
+    → s ≡ Recv j m g → HasFollowed n past t → MayFollow n past s → j.0 < length t.received
+    → new ≡ slice_set t.received j.0 (slice_index_or t.received j.0 0 + 1)
     → HasFollowed n (s ∷ past) (record { wave = t.wave; sent = t.sent; received = new })
-received_one n past s j m t new is h may within e = subst (λ x. HasFollowed n (x ∷ past) (record { wave = t.wave; sent = t.sent; received = new })) (sym is) (record {
-  nodes = h.nodes;
-  wave = pool_step n past (Recv j m) t.wave refl h.wave;
-  sent = h.sent;
-  received = one_more n j.0 t.received new (λ k. count (is_recv_at k) past) h.received (receiver n past s j m is may) within e;
-})
+received_one n past s j m g t new is h may within e =
+    subst (λ x. HasFollowed n (x ∷ past) (record { wave = t.wave; sent = t.sent; received = new })) (sym is) (record {
+      nodes = h.nodes;
+      wave = pool_step n past (Recv j m g) t.wave refl h.wave;
+      sent = h.sent;
+      received = one_more n j.0 t.received new (λ k. count (is_recv_at k) past) h.received (receiver n past s j m g is may) within e;
+    })
 
 -- ---- the waves go along
 
@@ -226,7 +266,8 @@ pub not_refused : {A : Type 0} (n : ℕ) (past : List Step) (s : Step) (r : Resu
 not_refused n past s (Ok x) P control may exact goes = goes
 not_refused n past s (Err e) P control may exact goes = let none = (checks_exact n past s control).1 (may.control control) in cc
 
-pub judged_line : (n : ℕ) (past : List Step) (s : Step) (o : Option ℕ) → s ≡ Judge → o ≡ judgement n past → Judged o ≡ line_of n past s
+pub judged_line : (n : ℕ) (past : List Step) (s : Step) (o : Option ℕ) → s ≡ Judge → o ≡ judgement n (present past)
+    → Judged o ≡ line_of n past s
 judged_line n past s o is told = ap (λ x. Judged x) told ∙ ap (line_of n past) (sym is)
 
 -- ---- any other step
@@ -235,11 +276,13 @@ pub other_line : (n : ℕ) (past : List Step) (s : Step) → s ≢ Judge → Pla
 other_line n past Judge other = absurd (other refl)
 other_line n past _ other = refl
 
-pub other_step : (n : ℕ) (past : List Step) (s : Step) (t : Tracer) → HasFollowed n past t → ((i j : NodeId) (m : MessageId) → s ≢ Send i j m)
-    → ((j : NodeId) (m : MessageId) → s ≢ Recv j m) → (s ≢ Start) → ((i : NodeId) → s ≢ Down i) → ((i : NodeId) → s ≢ Give i) → ((i : NodeId) → s ≢ Up i) → (s ≢ Judge)
+pub other_step : (n : ℕ) (past : List Step) (s : Step) (t : Tracer) → HasFollowed n past t
+    → ((i j : NodeId) (m : MessageId) (g : Generation) → s ≢ Send i j m g)
+    → ((j : NodeId) (m : MessageId) (g : Generation) → s ≢ Recv j m g)
+    → (s ≢ Start) → ((i : NodeId) → s ≢ Down i) → ((i : NodeId) → s ≢ Give i) → ((i : NodeId) → s ≢ Up i) → (s ≢ Judge)
     → HasFollowed n (s ∷ past) t
-other_step n past (Send i j m) t h send recv start down give up judge = absurd (send i j m refl)
-other_step n past (Recv j m) t h send recv start down give up judge = absurd (recv j m refl)
+other_step n past (Send i j m g) t h send recv start down give up judge = absurd (send i j m g refl)
+other_step n past (Recv j m g) t h send recv start down give up judge = absurd (recv j m g refl)
 other_step n past Start t h send recv start down give up judge = absurd (start refl)
 other_step n past (Down i) t h send recv start down give up judge = absurd (down i refl)
 other_step n past (Give i) t h send recv start down give up judge = absurd (give i refl)

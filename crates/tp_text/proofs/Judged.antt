@@ -3,6 +3,7 @@ use Rattle.std.proofs.Common.{ℕ, ◌≡◌, ◌≢◌, List, [], ◌∷◌, �
 use Rattle.tp_base.specs.declared.Refusal.{Refusal}
 use Rattle.tp_base.specs.declared.Step.{Step}
 use Rattle.tp_base.specs.declared.Step.TheVariants.{Give, Judge}
+use Rattle.tp_wave.specs.Generations.{present, generation}
 use Rattle.tp_wave.specs.Sums.{judgement, sums_of}
 use Rattle.tp_core.specs.declared.Reply.{Reply}
 use Rattle.tp_core.specs.declared.Reply.TheVariants.{Plain, WaveSums, Over}
@@ -10,6 +11,7 @@ use Rattle.tp_core.specs.Accepted.{Accepted, answered, next, after_all, refusal,
 use Rattle.tp_core.proofs.Reaching.{accepted_never_early}
 use Rattle.tp_text.specs.Ended.{EndedIsNeverEarly}
 use Rattle.tp_text.specs.SimText.{fresh}
+use Rattle.tp_text.proofs.Present.{present-append, same_generation}
 use Rattle.tp_text.proofs.Taking.{nodes_kept}
 
 -- ---- what is accepted later comes on top
@@ -37,7 +39,7 @@ after-append a (s ∷ before) later = after-append (next a s) before later
 pub record IsJudged (a : Accepted) (s : Step) (w : ℕ) : Type 0 where
   pub accepted : next a s ≡ with_step a s
   pub judge : s ≡ Judge
-  pub says : judgement a.nodes a.steps ≡ Some w
+  pub says : judgement a.nodes (present a.steps) ≡ Some w
 
 judged_over : (o : Option ℕ) (w : ℕ) → judged o ≡ Over w → o ≡ Some w
 judged_over (Some v) w e = cc
@@ -47,9 +49,10 @@ given_over : (b : Bool) (w : ℕ) (r : Reply) → r ≢ Over w → (if b then r 
 given_over true w r other e = other e
 given_over false w r other e = cc
 
-only_judge : (n : ℕ) (past : List Step) (s : Step) (w : ℕ) → reply_to n past s ≡ Over w → (s ≡ Judge) × (judgement n past ≡ Some w)
-only_judge n past (Give i) w e = absurd (given_over (i.0 == 0) w (WaveSums (sums_of n (Give i ∷ past))) (λ same. cc) e)
-only_judge n past Judge w e = (refl, judged_over (judgement n past) w e)
+only_judge : (n : ℕ) (past : List Step) (s : Step) (w : ℕ) → reply_to n past s ≡ Over w
+    → (s ≡ Judge) × (judgement n (present past) ≡ Some w)
+only_judge n past (Give i) w e = absurd (given_over (i.0 == 0) w (WaveSums (sums_of n (Give i ∷ present past))) (λ same. cc) e)
+only_judge n past Judge w e = (refl, judged_over (judgement n (present past)) w e)
 only_judge n past _ w e = cc
 
 is_judged : (a : Accepted) (s : Step) (w : ℕ) (o : Option Refusal) → refusal a s ≡ o → answered a s o ≡ Ok (Over w) → IsJudged a s w
@@ -60,7 +63,7 @@ is_judged a s w None is e =
     record { accepted = rw is refl; judge = both.0; says = both.1 }
 
 pub ended_never_early : EndedIsNeverEarly
-ended_never_early n before s later w e =
+ended_never_early n before s later w e same =
     let a = after_all (fresh n) before in
     let is = is_judged a s w (refusal a s) refl e in
     let nodes : a.nodes ≡ n = nodes_kept (fresh n) before in
@@ -68,5 +71,9 @@ ended_never_early n before s later w e =
     let whole : (after_all (fresh n) (before ++ s ∷ later)).steps ≡ top.0 ++ Judge ∷ a.steps =
     ap (λ (x : Accepted). x.steps) (after-append (fresh n) before (s ∷ later)) ∙ top.1
     ∙ ap (λ (x : Accepted). top.0 ++ x.steps) is.accepted ∙ ap (λ x. top.0 ++ x ∷ a.steps) is.judge in
-    let says : judgement n a.steps ≡ Some w = subst (λ m. judgement m a.steps ≡ Some w) nodes is.says in
-    (accepted_never_early (fresh n) (before ++ s ∷ later) refl).1 w top.0 a.steps whole says
+    let says : judgement n (present a.steps) ≡ Some w = subst (λ m. judgement m (present a.steps) ≡ Some w) nodes is.says in
+    let same_there : generation (top.0 ++ Judge ∷ a.steps) ≡ generation (Judge ∷ a.steps) = ap generation (sym whole) ∙ same in
+    let steps = (after_all (fresh n) (before ++ s ∷ later)).steps in
+    let all : present steps ≡ top.0 ++ Judge ∷ present a.steps =
+    ap present whole ∙ present-append top.0 (Judge ∷ a.steps) (same_generation top.0 (Judge ∷ a.steps) same_there) in
+    (accepted_never_early (fresh n) (before ++ s ∷ later) refl).1 [] steps refl w top.0 (present a.steps) all says

@@ -7,6 +7,7 @@ pub mod NoLine
 pub mod Unique
 pub mod Printed
 pub mod Taking
+pub mod Present
 pub mod Judged
 pub mod TraceLines
 pub mod Recounting

@@ -28,7 +28,7 @@ unlike xs ys e is same = let yes : bytes_eq xs ys ≡ true = (bytes_eq-Decides x
 pub no_keyword : (text word a : List ℕ) → Splits IsWordByte text word a → ((k : Keyword) → word ≢ keyword_text k) → ¬ BeginsWithStep text
 no_keyword text word a h none (s, rest, p, e) =
     let words = one_word text word a (word_of s) (numbers_of s) rest h (step_word s) e in
-    let key = keyword_of_step s in
+    let key = keyword_of_step s p.2 in
     none key.0 (words.0 ∙ key.1)
 
 pub few_numbers : (s : Step) → length (numbers_of s) ≤ 3
@@ -39,14 +39,15 @@ few_numbers (steps.Done t) = lit≤ tt
 few_numbers (steps.ActionOpen i a) = lit≤ tt
 few_numbers (steps.ActionClose i a) = lit≤ tt
 few_numbers (steps.Ready i) = lit≤ tt
-few_numbers (steps.Send i j m) = lit≤ tt
-few_numbers (steps.Recv j m) = lit≤ tt
-few_numbers (steps.MessageEnd j m) = lit≤ tt
+few_numbers (steps.Send i j m g) = lit≤ tt
+few_numbers (steps.Recv j m g) = lit≤ tt
+few_numbers (steps.MessageEnd j m g) = lit≤ tt
 few_numbers steps.Start = lit≤ tt
 few_numbers (steps.Down i) = lit≤ tt
 few_numbers (steps.Give i) = lit≤ tt
 few_numbers (steps.Up i) = lit≤ tt
 few_numbers steps.Judge = lit≤ tt
+few_numbers steps.Reopen = lit≤ tt
 
 pub no_operands : (text word a : List ℕ) → Splits IsWordByte text word a
     → ((ks rest : List ℕ) → All IsNumber ks → length ks ≤ 3 → a ≢ spaced ks ++ 10 ∷ rest) → ¬ BeginsWithStep text

@@ -7,6 +7,7 @@ use Rattle.tp_base.specs.declared.Refusal.TheVariants.{NoMemory}
 use Rattle.tp_base.specs.declared.Step.{Step}
 use Rattle.tp_base.specs.declared.Step.TheVariants as steps
 use Rattle.tp_wave.specs.Sums.{judgement}
+use Rattle.tp_wave.specs.Generations.{present}
 use Rattle.tp_core.specs.declared.Reply.{Reply}
 use Rattle.tp_core.specs.Accepted.{Accepted, Answers, IsRefusedFor, asks_memory, judged, refusal, reply_to}
 use Rattle.tp_core.proofs.Exact.{lawful_where_none}
@@ -78,7 +79,7 @@ judged_is (Some v) (Some w) e = cc
 
 told_right : (n : ℕ) (past : List Step) (l : TraceLine) (reply : Reply) → reply ≡ reply_to n past (step_in l) → IsTold l reply → IsJustified n past l
 told_right n past (Plain s) reply e told = tt
-told_right n past (Judged o) reply e told = judged_is o (judgement n past) (sym told ∙ e)
+told_right n past (Judged o) reply e told = judged_is o (judgement n (present past)) (sym told ∙ e)
 
 -- a line that is as it should be
 pub taken_more : (n : ℕ) (lines : List TraceLine) (l : TraceLine) (a new : Auditor) (reply : Reply) → AreTaken n lines a → IsWritten l
@@ -100,7 +101,8 @@ pub unjustified_at : (n : ℕ) (lines : List TraceLine) (l : TraceLine) (a : Aud
 unjustified_at n lines (Plain s) a k reply after h number said other = absurd (other tt)
 unjustified_at n lines (Judged o) a k reply after h number said other =
     let none : refusal (taken n lines) steps.Judge ≡ None = subst (λ (x : Accepted). refusal x steps.Judge ≡ None) h.core said.0 in
-    let is : reply ≡ judged (judgement n (steps_in lines)) = subst (λ (x : Accepted). reply ≡ reply_to x.nodes x.steps steps.Judge) h.core said.1 in
+    let is : reply ≡ judged (judgement n (present (steps_in lines))) =
+    subst (λ (x : Accepted). reply ≡ reply_to x.nodes x.steps steps.Judge) h.core said.1 in
     ([], Judged o, lines, refl, h.sound, (o, refl, none, λ e. other (is ∙ ap judged (sym e))), number)
 
 -- ---- all lines

@@ -10,7 +10,7 @@ use Rattle.tp_text.specs.declared.keyword.Keyword.{Keyword}
 use Rattle.tp_text.specs.declared.keyword.Keyword.TheVariants as keywords
 use Rattle.tp_text.specs.Keywords.{keyword_text}
 use Rattle.tp_text.specs.Script.{step_line}
-use Rattle.tp_text.specs.Spelling.{IsNumber, IsSpelled, spaced, line, word_of, numbers_of}
+use Rattle.tp_text.specs.Spelling.{IsNumber, IsSpelled, IsOfVersionOne, spaced, line, word_of, numbers_of}
 use Rattle.tp_text.specs.Words.{IsWordByte, BeginsWithout, Splits}
 use Rattle.tp_text.proofs.Lines.{ends_number}
 use Rattle.tp_text.proofs.Numbers.{one_number}
@@ -38,31 +38,33 @@ step_word (steps.Done t) = refl
 step_word (steps.ActionOpen i a) = refl
 step_word (steps.ActionClose i a) = refl
 step_word (steps.Ready i) = refl
-step_word (steps.Send i j m) = refl
-step_word (steps.Recv j m) = refl
-step_word (steps.MessageEnd j m) = refl
+step_word (steps.Send i j m g) = refl
+step_word (steps.Recv j m g) = refl
+step_word (steps.MessageEnd j m g) = refl
 step_word steps.Start = refl
 step_word (steps.Down i) = refl
 step_word (steps.Give i) = refl
 step_word (steps.Up i) = refl
 step_word steps.Judge = refl
+step_word steps.Reopen = refl
 
-pub keyword_of_step : (s : Step) → (k : Keyword) × (word_of s ≡ keyword_text k)
-keyword_of_step (steps.Insert i t k) = (keywords.Insert, refl)
-keyword_of_step (steps.Supply t) = (keywords.Supply, refl)
-keyword_of_step (steps.Begin t) = (keywords.Begin, refl)
-keyword_of_step (steps.Done t) = (keywords.Done, refl)
-keyword_of_step (steps.ActionOpen i a) = (keywords.Open, refl)
-keyword_of_step (steps.ActionClose i a) = (keywords.Close, refl)
-keyword_of_step (steps.Ready i) = (keywords.Ready, refl)
-keyword_of_step (steps.Send i j m) = (keywords.Send, refl)
-keyword_of_step (steps.Recv j m) = (keywords.Recv, refl)
-keyword_of_step (steps.MessageEnd j m) = (keywords.End, refl)
-keyword_of_step steps.Start = (keywords.Start, refl)
-keyword_of_step (steps.Down i) = (keywords.Down, refl)
-keyword_of_step (steps.Give i) = (keywords.Give, refl)
-keyword_of_step (steps.Up i) = (keywords.Up, refl)
-keyword_of_step steps.Judge = (keywords.Judge, refl)
+pub keyword_of_step : (s : Step) → IsOfVersionOne s → (k : Keyword) × (word_of s ≡ keyword_text k)
+keyword_of_step (steps.Insert i t k) v = (keywords.Insert, refl)
+keyword_of_step (steps.Supply t) v = (keywords.Supply, refl)
+keyword_of_step (steps.Begin t) v = (keywords.Begin, refl)
+keyword_of_step (steps.Done t) v = (keywords.Done, refl)
+keyword_of_step (steps.ActionOpen i a) v = (keywords.Open, refl)
+keyword_of_step (steps.ActionClose i a) v = (keywords.Close, refl)
+keyword_of_step (steps.Ready i) v = (keywords.Ready, refl)
+keyword_of_step (steps.Send i j m g) v = (keywords.Send, refl)
+keyword_of_step (steps.Recv j m g) v = (keywords.Recv, refl)
+keyword_of_step (steps.MessageEnd j m g) v = (keywords.End, refl)
+keyword_of_step steps.Start v = (keywords.Start, refl)
+keyword_of_step (steps.Down i) v = (keywords.Down, refl)
+keyword_of_step (steps.Give i) v = (keywords.Give, refl)
+keyword_of_step (steps.Up i) v = (keywords.Up, refl)
+keyword_of_step steps.Judge v = (keywords.Judge, refl)
+keyword_of_step steps.Reopen v = absurd v
 
 pub ends_word : (ks rest : List ℕ) → BeginsWithout IsWordByte (spaced ks ++ 10 ∷ rest)
 ends_word [] rest = λ h. h.1 refl
@@ -103,30 +105,31 @@ step_spelled w ks =
     (cond (bytes_eq w (codes "open")) (steps.ActionOpen (record { 0 = a }) (record { 0 = b }))
     (cond (bytes_eq w (codes "close")) (steps.ActionClose (record { 0 = a }) (record { 0 = b }))
     (cond (bytes_eq w (codes "ready")) (steps.Ready (record { 0 = a }))
-    (cond (bytes_eq w (codes "send")) (steps.Send (record { 0 = a }) (record { 0 = b }) (record { 0 = d }))
-    (cond (bytes_eq w (codes "recv")) (steps.Recv (record { 0 = a }) (record { 0 = b }))
-    (cond (bytes_eq w (codes "end")) (steps.MessageEnd (record { 0 = a }) (record { 0 = b }))
+    (cond (bytes_eq w (codes "send")) (steps.Send (record { 0 = a }) (record { 0 = b }) (record { 0 = d }) (record { 0 = 1 }))
+    (cond (bytes_eq w (codes "recv")) (steps.Recv (record { 0 = a }) (record { 0 = b }) (record { 0 = 1 }))
+    (cond (bytes_eq w (codes "end")) (steps.MessageEnd (record { 0 = a }) (record { 0 = b }) (record { 0 = 1 }))
     (cond (bytes_eq w (codes "start")) steps.Start
     (cond (bytes_eq w (codes "down")) (steps.Down (record { 0 = a }))
     (cond (bytes_eq w (codes "give")) (steps.Give (record { 0 = a }))
     (cond (bytes_eq w (codes "up")) (steps.Up (record { 0 = a })) steps.Judge)))))))))))))
 
-pub step_again : (s : Step) → step_spelled (word_of s) (numbers_of s) ≡ s
-step_again (steps.Insert i t k) = refl
-step_again (steps.Supply t) = refl
-step_again (steps.Begin t) = refl
-step_again (steps.Done t) = refl
-step_again (steps.ActionOpen i a) = refl
-step_again (steps.ActionClose i a) = refl
-step_again (steps.Ready i) = refl
-step_again (steps.Send i j m) = refl
-step_again (steps.Recv j m) = refl
-step_again (steps.MessageEnd j m) = refl
-step_again steps.Start = refl
-step_again (steps.Down i) = refl
-step_again (steps.Give i) = refl
-step_again (steps.Up i) = refl
-step_again steps.Judge = refl
+pub step_again : (s : Step) → IsOfVersionOne s → step_spelled (word_of s) (numbers_of s) ≡ s
+step_again (steps.Insert i t k) v = refl
+step_again (steps.Supply t) v = refl
+step_again (steps.Begin t) v = refl
+step_again (steps.Done t) v = refl
+step_again (steps.ActionOpen i a) v = refl
+step_again (steps.ActionClose i a) v = refl
+step_again (steps.Ready i) v = refl
+step_again (steps.Send i j m g) v = ap (λ k. steps.Send i j m (record { 0 = k })) (sym v)
+step_again (steps.Recv j m g) v = ap (λ k. steps.Recv j m (record { 0 = k })) (sym v)
+step_again (steps.MessageEnd j m g) v = ap (λ k. steps.MessageEnd j m (record { 0 = k })) (sym v)
+step_again steps.Start v = refl
+step_again (steps.Down i) v = refl
+step_again (steps.Give i) v = refl
+step_again (steps.Up i) v = refl
+step_again steps.Judge v = refl
+step_again steps.Reopen v = absurd v
 
 -- the first line spells one step
 pub same_step : (s t : Step) (a b : List ℕ) → IsSpelled s → IsSpelled t → step_line s ++ a ≡ step_line t ++ b → (s ≡ t) × (a ≡ b)
@@ -134,4 +137,5 @@ same_step s t a b p q e =
     let words = one_word (step_line s ++ a) (word_of s) (spaced (numbers_of s) ++ 10 ∷ a) (word_of t) (numbers_of t) b
     (line_parts (word_of s) (numbers_of s) a, word_bytes (word_of s) (step_word s), ends_word (numbers_of s) a) (step_word t) e in
     let numbers = same_numbers (numbers_of s) (numbers_of t) a b p.0 q.0 words.1 in
-    (sym (step_again s) ∙ ap (λ w. step_spelled w (numbers_of s)) words.0 ∙ ap (step_spelled (word_of t)) numbers.0 ∙ step_again t, numbers.1)
+    let same = ap (λ w. step_spelled w (numbers_of s)) words.0 ∙ ap (step_spelled (word_of t)) numbers.0 in
+    (sym (step_again s p.2) ∙ same ∙ step_again t q.2, numbers.1)

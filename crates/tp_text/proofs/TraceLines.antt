@@ -13,7 +13,7 @@ use Rattle.tp_text.specs.declared.traced.TraceLine.TheVariants.{Plain, Judged}
 use Rattle.tp_text.specs.declared.words.Operands.{Operands}
 use Rattle.tp_text.specs.Keywords.{keyword_text}
 use Rattle.tp_text.specs.Script.{step_line, BeginsWithStep}
-use Rattle.tp_text.specs.Spelling.{IsNumber, IsSpelled, spaced, word_of, numbers_of}
+use Rattle.tp_text.specs.Spelling.{IsNumber, IsSpelled, IsOfVersionOne, spaced, word_of, numbers_of}
 use Rattle.tp_text.specs.Trace.{trace_line, words, AreWords, BeginsWithLine, IsWritten}
 use Rattle.tp_text.specs.Words.{IsWordByte, BeginsWithout, Splits, numbers_in}
 use Rattle.tp_text.proofs.NoLine.{few_numbers}
@@ -101,8 +101,8 @@ judge_word text word a o rest h e =
     split_unique IsWordByte word (codes "judge") a (words o ++ 10 ∷ rest) h.1 (word_bytes (codes "judge") refl) h.2 (ends_judge o rest)
     (sym h.0 ∙ e ∙ judge_parts o rest)
 
-pub is_judgement : (s : Step) → word_of s ≡ codes "judge" → s ≡ steps.Judge
-is_judgement s e = sym (step_again s) ∙ ap (λ w. step_spelled w (numbers_of s)) e
+pub is_judgement : (s : Step) → IsOfVersionOne s → word_of s ≡ codes "judge" → s ≡ steps.Judge
+is_judgement s v e = sym (step_again s v) ∙ ap (λ w. step_spelled w (numbers_of s)) e
 
 pub keyword_judge : (k : Keyword) → keyword_text k ≡ codes "judge" → k ≡ keywords.Judge
 keyword_judge keywords.Judge e = refl
@@ -124,14 +124,14 @@ keyword_judge keywords.Up e = absurd (omega (arith, ap (λ l. slice_index_or l 0
 pub no_line_keyword : (text word a : List ℕ) → Splits IsWordByte text word a → ((k : Keyword) → word ≢ keyword_text k) → ¬ BeginsWithLine text
 no_line_keyword text word a h none (Plain s, rest, p, e) =
     let parts = one_word text word a (word_of s) (numbers_of s) rest h (step_word s) e in
-    let key = keyword_of_step s in
+    let key = keyword_of_step s p.0.2 in
     none key.0 (parts.0 ∙ key.1)
 no_line_keyword text word a h none (Judged o, rest, p, e) = none keywords.Judge (judge_word text word a o rest h e).0
 
 pub no_judge_line : (text word a : List ℕ) → Splits IsWordByte text word a → word ≡ codes "judge"
     → ((o : Option ℕ) (rest : List ℕ) → AreWords o → a ≢ words o ++ 10 ∷ rest) → ¬ BeginsWithLine text
 no_judge_line text word a h is none (Plain s, rest, p, e) =
-    p.1 (is_judgement s (sym (one_word text word a (word_of s) (numbers_of s) rest h (step_word s) e).0 ∙ is))
+    p.1 (is_judgement s p.0.2 (sym (one_word text word a (word_of s) (numbers_of s) rest h (step_word s) e).0 ∙ is))
 no_judge_line text word a h is none (Judged o, rest, p, e) = none o rest p (judge_word text word a o rest h e).1
 
 pub no_plain_line : (text word a : List ℕ) (k : Keyword) → Splits IsWordByte text word a → word ≡ keyword_text k → k ≢ keywords.Judge → NoStep a k → ¬ BeginsWithLine text

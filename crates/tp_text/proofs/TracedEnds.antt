@@ -1,33 +1,37 @@
 -- What a sound trace says of the end.
-use Rattle.std.proofs.Common.{◌≡◌, ◌≢◌, ℕ, ◌+◌, ◌-◌, ◌≤◌, Bool, true, false, cond, ◌||◌, ◌&&◌, nat_le, if◌then◌else◌, append_assoc, List, [], ◌∷◌, ◌++◌, Option, Some, None, refl, sym, ap, subst, ◌∙◌, arith, is_some, length}
+use Rattle.std.proofs.Common.{◌≡◌, ◌≢◌, ℕ, ◌+◌, ◌-◌, ◌≤◌, Bool, true, false, cond, ◌||◌, ◌&&◌, nat_le, if◌then◌else◌, append_assoc, List, [], ◌∷◌, ◌++◌, Option, Some, None, inl, inr, refl, sym, ap, subst, ◌∙◌, arith, is_some, length}
 use Rattle.std.specs.Prelude.{IsFalse}
 use Rattle.std.proofs.lemmas.Bool.Decides.{nat_tests}
 use Rattle.tp_base.specs.declared.Step.{Step}
 use Rattle.tp_base.specs.declared.Step.TheVariants as steps
-use Rattle.tp_wave.specs.Steps.{is_judge, is_start}
+use Rattle.tp_wave.specs.Generations.{present}
+use Rattle.tp_wave.specs.Steps.{any, is_judge, is_reopen, is_start}
 use Rattle.tp_wave.specs.Sums.{four_equal, judgement, is_ended, until, visit, waves}
-use Rattle.std.proofs.lemmas.Bool.{lt-leb}
+use Rattle.std.proofs.lemmas.Bool.{cases_Bool, lt-leb}
 use Rattle.tp_core.specs.NeverEarly.{IsOverFrom}
-use Rattle.tp_core.specs.Run.{IsLawfulRun}
+use Rattle.tp_core.specs.Generations.{AreRuns}
 use Rattle.tp_core.proofs.Early.{never_early}
+use Rattle.tp_core.proofs.Generations.{present_run}
 use Rattle.tp_text.specs.declared.traced.TraceLine.{TraceLine}
 use Rattle.tp_text.specs.declared.traced.TraceLine.TheVariants.{Judged}
 use Rattle.tp_text.specs.AuditText.{steps_in, step_in, last_judgement, AreJustified}
 use Rattle.tp_text.specs.TracedEnd.{EndedIsOver, NotEndedClaimsNoEnd}
+use Rattle.tp_text.proofs.Present.{present-append}
 
 -- ---- the last judge
 
--- there the last judge judged
+-- there the last judge of the generation judged
 abbrev pub LastJudge : List Step → ℕ → ℕ → Type 0
 LastJudge ss n w = (later : List Step) × (past : List Step) × (ss ≡ later ++ steps.Judge ∷ past) × (judgement n past ≡ Some w)
 
 one_later : (n w : ℕ) (s : Step) (ss : List Step) → LastJudge ss n w → LastJudge (s ∷ ss) n w
 one_later n w s ss (later, past, e, is) = (s ∷ later, past, ap (λ x. s ∷ x) e, is)
 
-last_judge : (n w : ℕ) (ss : List Step) → last_judgement n ss ≡ Some w → LastJudge ss n w
+last_judge : (n w : ℕ) (ss : List Step) → last_judgement n ss ≡ Some w → LastJudge (present ss) n w
 last_judge n w [] e = cc
-last_judge n w (steps.Judge ∷ past) e = ([], past, refl, e)
-last_judge n w (s ∷ past) e = one_later n w s past (last_judge n w past e)
+last_judge n w (steps.Judge ∷ past) e = ([], present past, refl, e)
+last_judge n w (steps.Reopen ∷ past) e = cc
+last_judge n w (s ∷ past) e = one_later n w s (present past) (last_judge n w past e)
 
 enough : (b f : Bool) (v w : ℕ) → (if b && f then Some v else None) ≡ Some w → (b ≡ true) × (v ≡ w)
 enough true true v w e = (refl, cc)
@@ -58,12 +62,13 @@ until_kept w (s ∷ later) past h = until_past w s (later ++ past) (omega (arith
 
 pub ended_over : EndedIsOver
 ended_over n lines w h e =
-    let ss = steps_in lines in
-    let last = last_judge n w ss e in
+    let ss = present (steps_in lines) in
+    let last = last_judge n w (steps_in lines) e in
     let past = last.1 in
     let same : until w ss ≡ until w past =
     ap (until w) (last.2 ∙ sym (append_assoc last.0 (steps.Judge ∷ []) past)) ∙ until_kept w (last.0 ++ steps.Judge ∷ []) past (judged_wave n w past last.3) in
-    subst (λ (p : ℕ). IsOverFrom n p ss) (ap (λ u. length (visit 0 u)) (sym same)) (never_early n ss h.run w last.0 past last.2 last.3)
+    subst (λ (p : ℕ). IsOverFrom n p ss) (ap (λ u. length (visit 0 u)) (sym same))
+    (never_early n ss (present_run n (steps_in lines) h.run) w last.0 past last.2 last.3)
 
 -- ---- where no end was judged last
 
@@ -80,16 +85,18 @@ not_none (Some w) b f e = λ none. cc
 not_none None true f e = λ none. cc
 not_none None false f e = λ none. cc
 
-ended_last : (n : ℕ) (ss : List Step) → IsLawfulRun n ss → is_ended n ss ≡ true → last_judgement n ss ≢ None
+ended_last : (n : ℕ) (ss : List Step) → AreRuns n ss → is_ended n (present ss) ≡ true → last_judgement n ss ≢ None
 ended_last n [] r e = λ none. cc
-ended_last n (steps.Judge ∷ past) r e = not_none (judgement n past) (is_ended n past) r.0.0 e
+ended_last n (steps.Judge ∷ past) r e = not_none (judgement n (present past)) (is_ended n (present past)) (r.0.goes_on refl).0.0 e
+ended_last n (steps.Reopen ∷ past) r e = λ none. cc
 ended_last n (s ∷ past) r e = ended_last n past r.1 e
 
 some_ended : (o : Option ℕ) (b : Bool) (w : ℕ) → o ≡ Some w → ((true && is_some o) || b) ≡ true
 some_ended (Some v) b w e = refl
 some_ended None b w e = cc
 
-justified_there : (n : ℕ) (later : List TraceLine) (o : Option ℕ) (past : List TraceLine) → AreJustified n (later ++ Judged o ∷ past) → o ≡ judgement n (steps_in past)
+justified_there : (n : ℕ) (later : List TraceLine) (o : Option ℕ) (past : List TraceLine) → AreJustified n (later ++ Judged o ∷ past)
+    → o ≡ judgement n (present (steps_in past))
 justified_there n [] o past h = h.0
 justified_there n (l ∷ later) o past h = justified_there n later o past h.1
 
@@ -99,8 +106,17 @@ steps-append (l ∷ later) past = ap (λ x. step_in l ∷ x) (steps-append later
 
 pub not_ended_claims : NotEndedClaimsNoEnd
 not_ended_claims n lines h none later w past e =
-    let right : Some w ≡ judgement n (steps_in past) = justified_there n later (Some w) past (subst (AreJustified n) e h.justified) in
-    let there : is_ended n (steps.Judge ∷ steps_in past) ≡ true = some_ended (judgement n (steps_in past)) (is_ended n (steps_in past)) w (sym right) in
+    let right : Some w ≡ judgement n (present (steps_in past)) =
+    justified_there n later (Some w) past (subst (AreJustified n) e h.justified) in
+    let there : is_ended n (steps.Judge ∷ present (steps_in past)) ≡ true =
+    some_ended (judgement n (present (steps_in past))) (is_ended n (present (steps_in past))) w (sym right) in
     let all : steps_in lines ≡ steps_in later ++ steps.Judge ∷ steps_in past = ap steps_in e ∙ steps-append later (Judged (Some w) ∷ past) in
-    let ended : is_ended n (steps_in lines) ≡ true = ap (is_ended n) all ∙ ended_kept n (steps_in later) (steps.Judge ∷ steps_in past) there in
-    ended_last n (steps_in lines) h.run ended none
+    elim (cases_Bool (any is_reopen (steps_in later))) [
+      | inl reopened ↦ reopened
+      | inr on ↦
+          let now : present (steps_in lines) ≡ steps_in later ++ steps.Judge ∷ present (steps_in past) =
+          ap present all ∙ present-append (steps_in later) (steps.Judge ∷ steps_in past) on in
+          let ended : is_ended n (present (steps_in lines)) ≡ true =
+          ap (is_ended n) now ∙ ended_kept n (steps_in later) (steps.Judge ∷ present (steps_in past)) there in
+          absurd (ended_last n (steps_in lines) h.run ended none)
+    ]

@@ -29,7 +29,7 @@ no_both : (l : TraceLine) (o : Option ℕ) (a b : List ℕ) → IsWritten l → 
 no_both (Plain s) o a b h e p =
     let word = judge_word (step_line s ++ a) (word_of s) (spaced (numbers_of s) ++ 10 ∷ a) o b
     (line_parts (word_of s) (numbers_of s) a, word_bytes (word_of s) (step_word s), ends_word (numbers_of s) a) e in
-    absurd (h.1 (is_judgement s word.0))
+    absurd (h.1 (is_judgement s h.0.2 word.0))
 no_both (Judged q) o a b h e p =
     let whole : codes "judge" ++ (words q ++ 10 ∷ a) ≡ codes "judge" ++ (words o ++ 10 ∷ b) = sym (judge_parts q a) ∙ e ∙ judge_parts o b in
     let both = same_words q o a b h p (ap (λ l. drop 5 l) whole) in

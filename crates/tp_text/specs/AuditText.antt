@@ -2,12 +2,13 @@
 use Rattle.std.specs.Prelude.{ℕ, ◌+◌, ◌≡◌, ◌≢◌, ◌≤◌, ◌++◌, ◌⊎◌, List, [], ◌∷◌, Bool, true, false, Option, Some, None, length, codes, decimal}
 use Rattle.tp_base.specs.declared.limits.TheConstants.{MAX_STEPS}
 use Rattle.tp_base.specs.declared.Step.{Step}
-use Rattle.tp_base.specs.declared.Step.TheVariants.{Insert, Judge}
+use Rattle.tp_base.specs.declared.Step.TheVariants.{Insert, Judge, Reopen}
 use Rattle.tp_base.specs.Refusals.{number_of, name_of}
 use Rattle.tp_wave.specs.Steps.{count, is_done, is_recv, is_send}
 use Rattle.tp_wave.specs.Sums.{judgement}
+use Rattle.tp_wave.specs.Generations.{present}
 use Rattle.tp_core.specs.Accepted.{Accepted, refusal}
-use Rattle.tp_core.specs.Run.{IsLawfulRun}
+use Rattle.tp_core.specs.Generations.{AreRuns}
 use Rattle.tp_text.specs.declared.account.Account.{Account}
 use Rattle.tp_text.specs.declared.auditor.Flaw.{Flaw}
 use Rattle.tp_text.specs.declared.auditor.Flaw.TheVariants as flaws
@@ -29,18 +30,18 @@ steps_in (l ∷ past) = step_in l ∷ steps_in past
 
 -- ---- sound lines
 
--- The words of a judge are what is judged over the steps before, by the four counters.
+-- The words of a judge are what is judged over the steps before in its generation, by the four counters.
 abbrev pub IsJustified : ℕ → List Step → TraceLine → Type 0
 IsJustified n past (Plain s) = Unit {0}
-IsJustified n past (Judged o) = o ≡ judgement n past
+IsJustified n past (Judged o) = o ≡ judgement n (present past)
 
 abbrev pub AreJustified : ℕ → List TraceLine → Type 0
 AreJustified n [] = Unit {0}
 AreJustified n (l ∷ past) = IsJustified n (steps_in past) l × AreJustified n past
 
--- The steps are a run of the core on n nodes, no more than it takes, and each judge's words are justified.
+-- The steps are runs of the core on n nodes, no more than it takes, and each judge's words are justified.
 pub record IsSound (n : ℕ) (lines : List TraceLine) : Type 0 where
-  pub run : IsLawfulRun n (steps_in lines)
+  pub run : AreRuns n (steps_in lines)
   pub few : length lines ≤ MAX_STEPS
   pub justified : AreJustified n lines
 
@@ -53,7 +54,8 @@ taken n lines = record { nodes = n; steps = steps_in lines }
 -- Behind these lines this one is flawed: its step is refused; or it is a judgement that is accepted, and its words are others.
 abbrev pub IsFlaw : ℕ → List TraceLine → TraceLine → Flaw → Type 0
 IsFlaw n past l (flaws.Refused r) = refusal (taken n past) (step_in l) ≡ Some r
-IsFlaw n past l flaws.Unjustified = (o : Option ℕ) × (l ≡ Judged o) × (refusal (taken n past) Judge ≡ None) × (o ≢ judgement n (steps_in past))
+IsFlaw n past l flaws.Unjustified =
+    (o : Option ℕ) × (l ≡ Judged o) × (refusal (taken n past) Judge ≡ None) × (o ≢ judgement n (present (steps_in past)))
 
 -- Line k is the first that is flawed. The first step stands in line 3.
 abbrev pub HasFlawAt : ℕ → List TraceLine → ℕ → Flaw → Type 0
@@ -73,10 +75,11 @@ abbrev pub is_insert : Step → Bool
 is_insert (Insert i t k) = true
 is_insert _ = false
 
--- what the last judge judged, if there was one: with which wave the pool had ended
+-- what the last judge of the present generation judged, if there was one: with which wave the pool had ended
 abbrev pub last_judgement : ℕ → List Step → Option ℕ
 last_judgement n [] = None
-last_judgement n (Judge ∷ past) = judgement n past
+last_judgement n (Judge ∷ past) = judgement n (present past)
+last_judgement n (Reopen ∷ past) = None
 last_judgement n (s ∷ past) = last_judgement n past
 
 abbrev pub account : ℕ → List Step → Account

@@ -2,6 +2,7 @@
 use Rattle.std.specs.Prelude.{ℕ, ◌≡◌, List, ◌∷◌, ◌++◌, Ok}
 use Rattle.tp_base.specs.declared.Step.{Step}
 use Rattle.tp_wave.specs.Cut.{visited_at}
+use Rattle.tp_wave.specs.Generations.{present, generation}
 use Rattle.tp_core.specs.declared.Reply.TheVariants.{Over}
 use Rattle.tp_core.specs.Accepted.{answer, after_all}
 use Rattle.tp_core.specs.NeverEarly.{IsOverFrom}
@@ -11,12 +12,17 @@ use Rattle.tp_text.specs.SimText.{fresh}
 abbrev pub IsAnsweredEnded : ℕ → List Step → Step → ℕ → Type 0
 IsAnsweredEnded n steps s w = answer (after_all (fresh n) steps) s ≡ Ok (Over w)
 
--- the end of wave W, its visit to the root: how many steps had been accepted by then
-abbrev pub end_of_wave : ℕ → ℕ → List Step → ℕ
-end_of_wave w n steps = visited_at w 0 (after_all (fresh n) steps).steps
+-- the steps that are accepted of these lines, the newest first
+abbrev pub accepted_of : ℕ → List Step → List Step
+accepted_of n steps = (after_all (fresh n) steps).steps
 
--- Wherever a line is answered by `ended W`, all was over from the end of wave W on: nothing was left, and each task that any
--- line inserts had run once by then.
+-- the end of wave W, its visit to the root: how many steps of the present generation had been accepted by then
+abbrev pub end_of_wave : ℕ → ℕ → List Step → ℕ
+end_of_wave w n steps = visited_at w 0 (present (accepted_of n steps))
+
+-- Wherever a line is answered by `ended W`, all was over from the end of wave W on, for as long as its generation is the present
+-- one: nothing was left, and each task that any line inserts had run once by then.
 abbrev pub EndedIsNeverEarly : Type 0
 EndedIsNeverEarly = (n : ℕ) (before : List Step) (s : Step) (later : List Step) (w : ℕ) → IsAnsweredEnded n before s w
-    → IsOverFrom n (end_of_wave w n before) (after_all (fresh n) (before ++ s ∷ later)).steps
+    → generation (accepted_of n (before ++ s ∷ later)) ≡ generation (accepted_of n before)
+    → IsOverFrom n (end_of_wave w n before) (present (accepted_of n (before ++ s ∷ later)))

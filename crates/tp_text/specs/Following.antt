@@ -19,8 +19,8 @@ pub record HasFollowed (n : ℕ) (steps : List Step) (t : Tracer) : Type 0 where
 
 -- The node that sends or receives a message is one of n.
 abbrev pub HasNode : ℕ → Step → Type 0
-HasNode n (Send i j m) = i.0 < n
-HasNode n (Recv j m) = j.0 < n
+HasNode n (Send i j m g) = i.0 < n
+HasNode n (Recv j m g) = j.0 < n
 HasNode n _ = Unit {0}
 
 -- This step may follow these, in a run on n nodes that goes no further than a core would.

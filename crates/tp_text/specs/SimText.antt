@@ -1,14 +1,14 @@
 -- What is answered to a script.
-use Rattle.std.specs.Prelude.{ℕ, zero, suc, ◌≡◌, ◌++◌, ◌&&◌, List, [], ◌==◌, Bool, not, length, codes, decimal, Result, Ok, Err, if◌then◌else◌}
-use Rattle.std.specs.List.{flat_map, list_any}
+use Rattle.std.specs.Prelude.{ℕ, zero, suc, ◌≡◌, ◌++◌, List, [], length, codes, decimal, Result, Ok, Err, if◌then◌else◌}
+use Rattle.std.specs.List.{flat_map}
 use Rattle.tp_base.specs.declared.Refusal.{Refusal}
 use Rattle.tp_base.specs.declared.Step.{Step}
 use Rattle.tp_base.specs.Refusals.{number_of, name_of}
 use Rattle.tp_wave.specs.Sums.{total}
 use Rattle.tp_core.specs.declared.NodeNumbers.{NodeNumbers}
 use Rattle.tp_core.specs.declared.Reply.{Reply}
-use Rattle.tp_core.specs.declared.Reply.TheVariants.{Plain, WaveSums, Not, Over}
-use Rattle.tp_core.specs.World.{World, is_quiet}
+use Rattle.tp_core.specs.declared.Reply.TheVariants.{Plain, WaveSums, Not, Over, Opened}
+use Rattle.tp_core.specs.World.{is_quiet}
 use Rattle.tp_core.specs.Accepted.{Accepted, world_of, numbers_at, answers, after_all}
 use Rattle.tp_text.specs.declared.verdict.Verdict.{Verdict}
 use Rattle.tp_text.specs.declared.verdict.Verdict.TheVariants.{Sound, Refused}
@@ -22,6 +22,7 @@ answer_line (Ok (WaveSums s)) =
     line (codes "wave " ++ decimal s.wave ++ codes " sent " ++ decimal s.sent ++ codes " received " ++ decimal s.received)
 answer_line (Ok Not) = line (codes "not")
 answer_line (Ok (Over w)) = line (codes "ended " ++ decimal w)
+answer_line (Ok (Opened g)) = line (codes "generation " ++ decimal g.0)
 answer_line (Err r) = line (codes "refused " ++ decimal (number_of r) ++ codes " " ++ name_of r)
 
 abbrev pub counts : NodeNumbers → List ℕ

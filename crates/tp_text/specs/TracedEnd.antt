@@ -1,18 +1,22 @@
 -- What a sound trace says of the end.
-use Rattle.std.specs.Prelude.{ℕ, ◌≡◌, ◌≢◌, List, ◌∷◌, ◌++◌, Some, None}
+use Rattle.std.specs.Prelude.{ℕ, ◌≡◌, List, ◌∷◌, ◌++◌, IsTrue, Some, None}
+use Rattle.tp_wave.specs.Steps.{any, is_reopen}
 use Rattle.tp_wave.specs.Cut.{visited_at}
+use Rattle.tp_wave.specs.Generations.{present}
 use Rattle.tp_core.specs.NeverEarly.{IsOverFrom}
 use Rattle.tp_text.specs.declared.traced.TraceLine.{TraceLine}
 use Rattle.tp_text.specs.declared.traced.TraceLine.TheVariants.{Judged}
 use Rattle.tp_text.specs.AuditText.{steps_in, IsSound, account}
 
--- Where `ended W` is answered, nothing was left from the end of wave W on, its visit to the root, and each task that any line
--- inserts had run once by then.
+-- Where `ended W` is answered, nothing was left of the present generation from the end of wave W on, its visit to the root, and
+-- each task that any line of that generation inserts had run once by then.
 abbrev pub EndedIsOver : Type 0
 EndedIsOver = (n : ℕ) (lines : List TraceLine) (w : ℕ) → IsSound n lines → (account n (steps_in lines)).ended ≡ Some w
-    → IsOverFrom n (visited_at w 0 (steps_in lines)) (steps_in lines)
+    → IsOverFrom n (visited_at w 0 (present (steps_in lines))) (present (steps_in lines))
 
--- Where `not ended` is answered, no line says `judge ended`.
+-- Where `not ended` is answered, no line of the present generation says `judge ended`: behind one that does, the pool was
+-- reopened.
 abbrev pub NotEndedClaimsNoEnd : Type 0
 NotEndedClaimsNoEnd = (n : ℕ) (lines : List TraceLine) → IsSound n lines → (account n (steps_in lines)).ended ≡ None
-    → (later : List TraceLine) (w : ℕ) (past : List TraceLine) → lines ≢ later ++ Judged (Some w) ∷ past
+    → (later : List TraceLine) (w : ℕ) (past : List TraceLine) → lines ≡ later ++ Judged (Some w) ∷ past
+    → IsTrue (any is_reopen (steps_in later))

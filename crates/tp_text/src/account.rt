@@ -21,7 +21,7 @@ pub(crate) struct Account {
     // sent, and received
     messages: u32,
     received: u32,
-    // the wave with which the pool was last judged to have ended
+    // the wave with which the pool was last judged to have ended in its present generation
     ended: Option<u32>,
 }
 
@@ -72,12 +72,17 @@ impl Account {
                 done: self.done + 1,
                 ..more
             },
-            Step::Send(_, _, _) => Account {
+            Step::Send(_, _, _, _) => Account {
                 messages: self.messages + 1,
                 ..more
             },
-            Step::Recv(_, _) => Account {
+            Step::Recv(_, _, _) => Account {
                 received: self.received + 1,
+                ..more
+            },
+            // what was judged was judged of the generation before
+            Step::Reopen => Account {
+                ended: None,
                 ..more
             },
             _ => more,

@@ -8,6 +8,7 @@ ghost use Rattle.tp_text.specs.Trace.{format_line, trace_line, words, AreWords, 
 ghost use Rattle.tp_text.specs.Words.{numbers_in};
 
 use crate::keyword::{Keyword, keyword_of};
+use crate::step_lines::FIRST;
 use crate::traced::TraceLine;
 use crate::words::{Operands, first_word, operands_of};
 use tp_base::{ActionId, Inputs, MAX_NODES, MessageId, NodeId, Step, TaskId};
@@ -30,9 +31,11 @@ fn step_named(keyword: Keyword, operands: Operands) -> Option<Step>
         (Keyword::Open, Operands::Two(i, a)) => Step::ActionOpen(NodeId(i), ActionId(a)),
         (Keyword::Close, Operands::Two(i, a)) => Step::ActionClose(NodeId(i), ActionId(a)),
         (Keyword::Ready, Operands::One(i)) => Step::Ready(NodeId(i)),
-        (Keyword::Send, Operands::Three(i, j, m)) => Step::Send(NodeId(i), NodeId(j), MessageId(m)),
-        (Keyword::Recv, Operands::Two(j, m)) => Step::Recv(NodeId(j), MessageId(m)),
-        (Keyword::End, Operands::Two(j, m)) => Step::MessageEnd(NodeId(j), MessageId(m)),
+        (Keyword::Send, Operands::Three(i, j, m)) => {
+            Step::Send(NodeId(i), NodeId(j), MessageId(m), FIRST)
+        }
+        (Keyword::Recv, Operands::Two(j, m)) => Step::Recv(NodeId(j), MessageId(m), FIRST),
+        (Keyword::End, Operands::Two(j, m)) => Step::MessageEnd(NodeId(j), MessageId(m), FIRST),
         (Keyword::Start, Operands::None) => Step::Start,
         (Keyword::Down, Operands::One(i)) => Step::Down(NodeId(i)),
         (Keyword::Give, Operands::One(i)) => Step::Give(NodeId(i)),

@@ -38,6 +38,10 @@ pub(crate) fn push_answer(
             push_count(out, b"ended ", u64::from(wave))?;
             out.extend_from_slice(b"\n")
         }
+        Ok(Reply::Opened(generation)) => {
+            push_count(out, b"generation ", u64::from(generation.0))?;
+            out.extend_from_slice(b"\n")
+        }
         Err(refusal) => push_refusal(out, refusal),
     }
 }

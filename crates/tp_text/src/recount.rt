@@ -61,9 +61,10 @@ pub fn audit<R: Read, W: Write>(
     ensures ok { IfOk result (λ verdict. (bytes : List ℕ) × (text : List ℕ)
         × ReadsAll (R.remaining reader.old) (R.remaining reader.new) bytes × (length bytes ≤ MAX_TEXT)
         × IsAuditText bytes verdict text × Appends (W.contents writer.old) (W.contents writer.new) text) }
-    // Where a sound trace is answered `ended W`, nothing was left from the end of wave W on, and each task had run once by then;
+    // Where a sound trace is answered `ended W`, nothing was left from the end of wave W on, and each task had run once by then,
+    // of the present generation;
     ensures ended { IfOk result (λ _. EndedIsOver) }
-    // where it is answered `not ended`, none of its lines says that the pool had ended.
+    // where it is answered `not ended`, none of its lines since the pool was last reopened says that it had ended.
     ensures not_ended { IfOk result (λ _. NotEndedClaimsNoEnd) }
     // Where the answer could not be written, it was made, from all that there was.
     ensures made { IsErrOf result TextFault.Write → (verdict : Verdict) × (bytes : List ℕ) × (text : List ℕ)

@@ -61,7 +61,7 @@ pub fn sim<R: Read, W: Write>(
     ensures ok { IfOk result (λ verdict. (bytes : List ℕ) × (text : List ℕ)
         × ReadsAll (R.remaining reader.old) (R.remaining reader.new) bytes × (length bytes ≤ MAX_TEXT)
         × IsSimText bytes verdict text × Appends (W.contents writer.old) (W.contents writer.new) text) }
-    // Where a line of the answer is `ended W`, nothing was left from the end of wave W on.
+    // Where a line of the answer is `ended W`, nothing was left from the end of wave W on, until the pool was reopened.
     ensures never_early { IfOk result (λ _. EndedIsNeverEarly) }
     // Where the answer could not be written, it was made, from all that there was.
     ensures made { IsErrOf result TextFault.Write → (verdict : Verdict) × (bytes : List ℕ) × (text : List ℕ)

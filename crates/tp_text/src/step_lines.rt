@@ -8,7 +8,10 @@ use crate::printing::push_count;
 use crate::traced::TraceLine;
 use crate::words::Operands;
 use std::alloc::AllocError;
-use tp_base::{MAX_INPUTS, Step};
+use tp_base::{Generation, MAX_INPUTS, Step};
+
+/// The generation of all that a text tells: its lines have no place for the number.
+pub(crate) const FIRST: Generation = Generation(1);
 
 /// Whether a number has at most six digits.
 fn is_number(number: u32) -> bool
@@ -29,16 +32,17 @@ pub(crate) fn has_line(step: Step) -> bool
         Step::ActionOpen(node, action) | Step::ActionClose(node, action) => {
             is_number(node.0) && is_number(action.0)
         }
-        Step::Send(from, to, message) => {
-            is_number(from.0) && is_number(to.0) && is_number(message.0)
+        Step::Send(from, to, message, generation) => {
+            is_number(from.0) && is_number(to.0) && is_number(message.0) && generation == FIRST
         }
-        Step::Recv(node, message) | Step::MessageEnd(node, message) => {
-            is_number(node.0) && is_number(message.0)
+        Step::Recv(node, message, generation) | Step::MessageEnd(node, message, generation) => {
+            is_number(node.0) && is_number(message.0) && generation == FIRST
         }
         Step::Ready(node) | Step::Down(node) | Step::Give(node) | Step::Up(node) => {
             is_number(node.0)
         }
         Step::Start | Step::Judge => true,
+        Step::Reopen => false,
     }
 }
 
@@ -97,11 +101,11 @@ fn push_step(out: &mut Vec<u8>, step: Step) -> Result<(), AllocError>
             push_words(out, b"close", Operands::Two(node.0, action.0))
         }
         Step::Ready(node) => push_words(out, b"ready", Operands::One(node.0)),
-        Step::Send(from, to, message) => {
+        Step::Send(from, to, message, _) => {
             push_words(out, b"send", Operands::Three(from.0, to.0, message.0))
         }
-        Step::Recv(node, message) => push_words(out, b"recv", Operands::Two(node.0, message.0)),
-        Step::MessageEnd(node, message) => {
+        Step::Recv(node, message, _) => push_words(out, b"recv", Operands::Two(node.0, message.0)),
+        Step::MessageEnd(node, message, _) => {
             push_words(out, b"end", Operands::Two(node.0, message.0))
         }
         Step::Start => push_words(out, b"start", Operands::None),
@@ -109,6 +113,7 @@ fn push_step(out: &mut Vec<u8>, step: Step) -> Result<(), AllocError>
         Step::Give(node) => push_words(out, b"give", Operands::One(node.0)),
         Step::Up(node) => push_words(out, b"up", Operands::One(node.0)),
         Step::Judge => push_words(out, b"judge", Operands::None),
+        Step::Reopen => push_words(out, b"reopen", Operands::None),
     }
 }
 

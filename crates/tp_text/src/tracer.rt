@@ -2,6 +2,7 @@ ghost use Rattle.std.specs.Prelude.{◌≡◌, ◌≤◌, ◌∷◌, [], ℕ, Li
 ghost use Rattle.tp_base.specs.declared.limits.TheConstants.{MAX_NODES};
 ghost use Rattle.tp_base.specs.declared.Step.{Step};
 ghost use Rattle.tp_wave.specs.Sums.{judgement};
+ghost use Rattle.tp_wave.specs.Generations.{present};
 ghost use Rattle.tp_text.specs.TraceOf.{line_of};
 ghost use Rattle.tp_text.specs.Following.{HasFollowed, MayFollow};
 
@@ -12,7 +13,7 @@ use tp_wave::Wave;
 /// How many places an array has: one for each node that there may be.
 const PLACES: usize = MAX_NODES as usize;
 
-/// Follows the steps of a run in turn and tells their lines: the waves go along, and messages are counted afresh.
+/// Follows the steps of one generation in turn and tells their lines: the waves go along, and messages are counted afresh.
 #[derive(Clone, Copy)]
 pub(crate) struct Tracer {
     wave: Wave,
@@ -37,12 +38,13 @@ impl Tracer {
     /// Follows the next step, and tells its line.
     pub(crate) fn line(&mut self, step: Step) -> TraceLine
         requires { (n : ℕ) × (past : List Step) × HasFollowed n past self.old × MayFollow n past step }
-        ensures told { (n : ℕ) (past : List Step) → HasFollowed n past self.old → MayFollow n past step → result ≡ line_of n past step }
+        ensures told { (n : ℕ) (past : List Step) → HasFollowed n (present past) self.old → MayFollow n (present past) step
+            → result ≡ line_of n past step }
         ensures followed { (n : ℕ) (past : List Step) → HasFollowed n past self.old → MayFollow n past step → HasFollowed n (step ∷ past) self.new }
     {
         match step {
-            Step::Send(node, _, _) => self.sent[node.0 as usize] += 1,
-            Step::Recv(node, _) => self.received[node.0 as usize] += 1,
+            Step::Send(node, _, _, _) => self.sent[node.0 as usize] += 1,
+            Step::Recv(node, _, _) => self.received[node.0 as usize] += 1,
             Step::Start => self.start(),
             Step::Down(node) => self.down(node),
             Step::Give(node) => self.give(node),

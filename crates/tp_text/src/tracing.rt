@@ -14,8 +14,8 @@ use tp_base::{History, MAX_STEPS, Refusal};
 /// The trace of a pool's history over so many nodes, 1 to 8: its steps, the oldest first, each judge's words being what was
 /// judged over the steps before. Messages are counted afresh. It takes memory for the text alone.
 ///
-/// Refused: `BadSpec` where the history has more than 1,048,576 steps, a number of more than six digits, or a task of more
-/// than 16 inputs; then `NoMemory`.
+/// Refused: `BadSpec` where the history has more than 1,048,576 steps, a number of more than six digits, a task of more than
+/// 16 inputs, or a message of another generation than the first, whose number no line has a place for; then `NoMemory`.
 pub fn print_trace(alloc: Global, history: &History, nodes: u32) -> Result<Vec<u8>, Refusal>
     requires nodes { (1 ≤ nodes) × (nodes ≤ MAX_NODES) }
     // As of an outcome's history, or of a report's.

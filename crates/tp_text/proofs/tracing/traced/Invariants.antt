@@ -1,4 +1,5 @@
 use Rattle.std.proofs.Common.{◌≡◌}
+use Rattle.tp_wave.specs.Generations.{present}
 use Rattle.tp_wave.specs.Machine.{steps_of}
 use Rattle.tp_text.specs.Trace.{trace}
 use Rattle.tp_text.specs.TraceOf.{lines_of}
@@ -8,6 +9,6 @@ use Rattle.tp_text.proofs.tracing.traced.Given as goal
 
 abbrev pub invariant-loop-index : goal.invariant-loop-index
 invariant-loop-index l = record {
-  followed : HasFollowed l.nodes (steps_of (oldest l.index l.history.events)) l.tracer;
+  followed : HasFollowed l.nodes (present (steps_of (oldest l.index l.history.events))) l.tracer;
   written : l.out.items ≡ trace l.nodes (lines_of l.nodes (steps_of (oldest l.index l.history.events)));
 }

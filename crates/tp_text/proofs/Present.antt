@@ -1,0 +1,47 @@
+-- Steps that go on with the present generation.
+use Rattle.std.proofs.Common.{◌≡◌, ℕ, ◌+◌, ◌≤◌, true, false, cond, List, [], ◌∷◌, ◌++◌, refl, ap, ◌∙◌, inl, inr, arith}
+use Rattle.std.specs.Prelude.{IsFalse}
+use Rattle.std.proofs.lemmas.Bool.{cases_Bool}
+use Rattle.tp_base.specs.declared.Step.{Step}
+use Rattle.tp_base.specs.declared.Step.TheVariants.{Reopen}
+use Rattle.tp_wave.specs.Generations.{present, generation}
+use Rattle.tp_wave.specs.Machine.{History, steps_of, Needs, IsRun}
+use Rattle.tp_wave.specs.Steps.{any, count, is_reopen}
+use Rattle.tp_core.proofs.Generations.{present-goes_on}
+
+-- None of these steps is a reopening, so they stand in the generation that was present before.
+pub present-append : (later past : List Step) → IsFalse (any is_reopen later) → present (later ++ past) ≡ later ++ present past
+present-append [] past e = refl
+present-append (s ∷ later) past e =
+    elim (cases_Bool (is_reopen s)) [
+      | inl reopens ↦ absurd (let bad : true ≡ false = rw reopens at e in cc)
+      | inr on ↦ present-goes_on s (later ++ past) on ∙ ap (λ (xs : List Step). s ∷ xs) (present-append later past (rw on at e))
+    ]
+
+reopenings_grow : (later past : List Step) → count is_reopen past ≤ count is_reopen (later ++ past)
+reopenings_grow [] past = omega arith
+reopenings_grow (s ∷ later) past =
+    elim (is_reopen s) as (λ b. count is_reopen past ≤ cond b (count is_reopen (later ++ past) + 1) (count is_reopen (later ++ past))) [
+      | true ↦ omega (arith, reopenings_grow later past)
+      | false ↦ reopenings_grow later past
+    ]
+
+-- Where the generation is still the same, none was.
+pub same_generation : (later past : List Step) → generation (later ++ past) ≡ generation past → IsFalse (any is_reopen later)
+same_generation [] past e = refl
+same_generation (s ∷ later) past e =
+    elim (cases_Bool (is_reopen s)) [
+      | inl reopens ↦ absurd (omega (arith, rw reopens at e, reopenings_grow later past))
+      | inr on ↦ rw on (same_generation later past (rw on at e))
+    ]
+
+-- ---- a run of one generation
+
+pub goes_on : (n : ℕ) (past : History) (i : ℕ) (s : Step) → Needs n past i s → IsFalse (is_reopen s)
+goes_on n past i Reopen needed = absurd needed
+goes_on n past i _ needed = refl
+
+pub all_present : (n : ℕ) (h : History) → IsRun n h → present (steps_of h) ≡ steps_of h
+all_present n [] r = refl
+all_present n (e ∷ h) r =
+    present-goes_on e.1 (steps_of h) (goes_on n h e.0.0 e.1 r.0.needed) ∙ ap (λ (xs : List Step). e.1 ∷ xs) (all_present n h r.1)
