@@ -90,8 +90,15 @@ def marred(chance, text):
     return bytes(bytes_of)
 
 
+def many_generations(count):
+    """A script and a trace of one node that is reopened so many times."""
+    waves = "start\ngive 0\njudge{}\nstart\ngive 0\njudge{}\n"
+    texts = [head + f"ready 0\n{waves.format(*words)}reopen\n" * count for head, words in (("script 2\nnodes 1\n", ("", "")), ("trace 2\nnodes 1\n", (" not", " ended 1")))]
+    return [("sim", texts[0].encode(), simtext), ("audit", texts[1].encode(), audittext)]
+
+
 def main(program="bin/tp", texts="400", seed="1"):
-    program, chance, work = os.path.abspath(program), random.Random(int(seed)), []
+    program, chance, work = os.path.abspath(program), random.Random(int(seed)), many_generations(100)
     for _ in range(int(texts)):
         version, nodes = chance.choice([1, 2]), chance.choice([1, 1, 2, 2, 3, 5])
         steps = steps_by_chance(chance, version, nodes, chance.randrange(10, 160))
