@@ -13,9 +13,11 @@ use tp_wave::Wave;
 /// How many places an array has: one for each node that there may be.
 const PLACES: usize = MAX_NODES as usize;
 
-/// Follows the steps of one generation in turn and tells their lines: the waves go along, and messages are counted afresh.
+/// Follows steps in turn and tells their lines: the waves go along, and messages are counted afresh. In each generation it begins
+/// anew.
 #[derive(Clone, Copy)]
 pub(crate) struct Tracer {
+    nodes: u32,
     wave: Wave,
     // how many messages each node has sent and received
     sent: [u32; PLACES],
@@ -29,6 +31,7 @@ impl Tracer {
         ensures { HasFollowed nodes [] result }
     {
         Tracer {
+            nodes,
             wave: Wave::new(nodes),
             sent: [0; PLACES],
             received: [0; PLACES],
@@ -37,10 +40,11 @@ impl Tracer {
 
     /// Follows the next step, and tells its line.
     pub(crate) fn line(&mut self, step: Step) -> TraceLine
-        requires { (n : ℕ) × (past : List Step) × HasFollowed n past self.old × MayFollow n past step }
+        requires { (n : ℕ) × (past : List Step) × HasFollowed n (present past) self.old × MayFollow n (present past) step }
         ensures told { (n : ℕ) (past : List Step) → HasFollowed n (present past) self.old → MayFollow n (present past) step
             → result ≡ line_of n past step }
-        ensures followed { (n : ℕ) (past : List Step) → HasFollowed n past self.old → MayFollow n past step → HasFollowed n (step ∷ past) self.new }
+        ensures followed { (n : ℕ) (past : List Step) → HasFollowed n (present past) self.old → MayFollow n (present past) step
+            → HasFollowed n (present (step ∷ past)) self.new }
     {
         match step {
             Step::Send(node, _, _, _) => self.sent[node.0 as usize] += 1,
@@ -50,6 +54,7 @@ impl Tracer {
             Step::Give(node) => self.give(node),
             Step::Up(node) => self.up(node),
             Step::Judge => return TraceLine::Judged(self.judge()),
+            Step::Reopen => *self = Tracer::new(self.nodes),
             _ => {}
         }
         TraceLine::Plain(step)
