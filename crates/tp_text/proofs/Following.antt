@@ -136,19 +136,32 @@ none_reopened [] p = refl
 none_reopened (s ∷ ss) p =
     rw (first_spelled s (All-head (IsSpelled versions.One) s ss p)) (none_reopened ss (All-tail (IsSpelled versions.One) s ss p))
 
-pub first_version : (ss : List Step) → All (IsSpelled versions.One) ss → versions.One ≡ version_of ss
+first_version : (ss : List Step) → All (IsSpelled versions.One) ss → versions.One ≡ version_of ss
 first_version ss p = rw (none_reopened ss p) refl
 
-pub second_version : (ss : List Step) → true ≡ any is_reopen ss → versions.Two ≡ version_of ss
+second_version : (ss : List Step) → true ≡ any is_reopen ss → versions.Two ≡ version_of ss
 second_version ss e = rw (← e) refl
+
+-- a history that can be traced, in this version
+abbrev pub IsTracedIn : List Step → Version → Type 0
+IsTracedIn ss v = (v ≡ version_of ss) × CanBeTraced ss
+
+traced_in : (ss : List Step) (v : Version) → v ≡ version_of ss → length ss ≤ MAX_STEPS → All (IsSpelled v) ss → IsTracedIn ss v
+traced_in ss v is few p = (is, (few, subst (λ x. All (IsSpelled x) ss) is p))
+
+pub traced_first : (ss : List Step) → length ss ≤ MAX_STEPS → All (IsSpelled versions.One) ss → IsTracedIn ss versions.One
+traced_first ss few p = traced_in ss versions.One (first_version ss p) few p
+
+pub traced_second : (ss : List Step) → length ss ≤ MAX_STEPS → true ≡ any is_reopen ss → All (IsSpelled versions.Two) ss → IsTracedIn ss versions.Two
+traced_second ss few is p = traced_in ss versions.Two (second_version ss is) few p
 
 -- what is spelled in its version is spelled in the first or in the second
 pub no_version : (ss : List Step) → ¬ All (IsSpelled versions.One) ss → (IsTrue (any is_reopen ss) → ¬ All (IsSpelled versions.Two) ss)
     → ¬ All (IsSpelled (version_of ss)) ss
 no_version ss one two =
     elim (cases_Bool (any is_reopen ss)) [
-      | inl yes ↦ rw yes (two yes)
-      | inr no ↦ rw no one
+      | inl some ↦ rw some (two some)
+      | inr none ↦ rw none one
     ]
 
 -- ---- the steps in the order of time

@@ -196,4 +196,4 @@ fault_format text out none written = inl (1, inl (refl, none), written)
 
 pub fault_nodes : (v : Version) (text behind out : List ℕ) → text ≡ format_line v ++ behind → ¬ BeginsWithNodes behind → out ≡ line (codes "syntax line " ++ decimal 2)
     → IsAuditText text Refused out
-fault_nodes v text behind out e none written = inl (2, inr (inl (refl, (v, behind, e, none))), written)
+fault_nodes v text behind out e none written = inl (2, inr (inl (refl, (v, (behind, e, none)))), written)

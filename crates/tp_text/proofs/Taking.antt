@@ -51,6 +51,10 @@ pub record Takes (v : Version) (text : List ℕ) (n : ℕ) (taken : List Step) (
   pub number_is : number ≡ length taken + nodes_at v + 1
   pub short : number + length rest ≤ length text + 2
 
+pub early : (v : Version) → nodes_at v ≤ 2
+early versions.One = lit≤ tt
+early versions.Two = lit≤ tt
+
 head_short : (v : Version) → nodes_at v ≤ length (version_lines v) + 1
 head_short versions.One = lit≤ tt
 head_short versions.Two = lit≤ tt
@@ -67,7 +71,7 @@ takes_none v text behind n rest core out number head found c o is =
           ∙ ap (λ l. (version_lines v ++ l) ++ rest) (sym (append-nil (nodes_line n)));
       core_is = c;
       out_is = o;
-      number_is = is;
+      number_is = omega (arith, is);
       short = omega (arith, is, head_short v, ap length whole, length-append (version_lines v) (nodes_line n ++ rest), length-append (nodes_line n) rest);
     }
 

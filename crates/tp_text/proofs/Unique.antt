@@ -68,7 +68,8 @@ same_reading v w n m steps others a b p q ps qs s t e =
     let P : Version → Type 0 = λ x. All (IsSpelled x) others → ¬ BeginsWithStep x b
     → nodes_line n ++ (flat_map (step_line v) steps ++ a) ≡ nodes_line m ++ (flat_map (step_line x) others ++ b)
     → (n ≡ m) × (steps ≡ others) × (a ≡ b) in
-    (head.0, subst P head.0 (same_lines v n m steps others a b p q ps s) qs t head.1)
+    let rest = subst P head.0 (same_lines v n m steps others a b p q ps s) qs t head.1 in
+    (head.0, rest.0, rest.1, rest.2)
 
 no_step_in_nothing : (v : Version) → ¬ BeginsWithStep v []
 no_step_in_nothing v (s, rest, p, e) =

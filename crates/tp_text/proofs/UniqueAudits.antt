@@ -1,5 +1,5 @@
 -- One answer is given to a trace.
-use Rattle.std.proofs.Common.{◌≡◌, ℕ, ◌+◌, List, [], ◌∷◌, ◌++◌, Option, Some, None, length, drop, codes, decimal, refl, sym, inl, inr, ap, subst, ◌∙◌, arith, append_assoc, append-nil}
+use Rattle.std.proofs.Common.{◌≡◌, ℕ, ◌+◌, List, [], ◌∷◌, ◌++◌, Option, Some, None, length, codes, decimal, refl, sym, inl, inr, ap, subst, ◌∙◌, arith, append-nil}
 use Rattle.tp_core.specs.Accepted.{refusal}
 use Rattle.tp_core.proofs.Exact.{none_where_lawful}
 use Rattle.tp_text.specs.declared.auditor.Flaw.{Flaw}
@@ -8,7 +8,7 @@ use Rattle.tp_text.specs.declared.traced.TraceLine.{TraceLine}
 use Rattle.tp_text.specs.declared.traced.TraceLine.TheVariants.{Plain, Judged}
 use Rattle.tp_text.specs.declared.verdict.Verdict.TheVariants.{Sound, Refused}
 use Rattle.tp_text.specs.AuditText.{account, flaw_line, step_in, steps_in, summary, taken, AuditsAreDetermined, HasFlawAt, IsComplaint, IsFlaw, IsSound}
-use Rattle.tp_text.specs.Script.{nodes_line, IsNodeCount}
+use Rattle.tp_text.specs.Script.{IsNodeCount}
 use Rattle.tp_text.specs.Spelling.{line}
 use Rattle.tp_text.specs.Trace.{trace, BeginsWithFormat, BreaksOff, HasTraceFaultAt, IsTrace, LacksNodes}
 use Rattle.tp_text.proofs.Recounting.{length_steps, sound_behind}
@@ -62,7 +62,7 @@ sound_or_flawed n lines k f h (later, l, past, e, sound, flaw, at) = no_flaw n l
 -- ---- faults of grammar
 
 has_nodes : (bytes : List ℕ) (v : Version) (n : ℕ) (lines : List TraceLine) (rest : List ℕ) → IsNodeCount n → bytes ≡ trace v n lines ++ rest → ¬ LacksNodes bytes
-has_nodes bytes v n lines rest count e (w, after, is, none) =
+has_nodes bytes v n lines rest count e (w, (after, is, none)) =
     let head = same_format w v after (behind v n lines rest) (sym is ∙ e ∙ spread v n lines rest) in
     none (n, flat_map (trace_line v) (oldest_first lines) ++ rest, count, head.1)
 
@@ -75,9 +75,9 @@ same_break bytes v w n m lines others a b h g =
 
 same_fault : (bytes : List ℕ) (k l : ℕ) → HasTraceFaultAt bytes k → HasTraceFaultAt bytes l → k ≡ l
 same_fault bytes k l (inl p) (inl q) = p.0 ∙ sym q.0
-same_fault bytes k l (inl p) (inr (inl q)) = absurd (p.1 (q.1.0, q.1.1, q.1.2))
+same_fault bytes k l (inl p) (inr (inl q)) = absurd (p.1 (q.1.0, q.1.1.0, q.1.1.1))
 same_fault bytes k l (inl p) (inr (inr (w, m, others, b, g, q))) = absurd (p.1 (has_format bytes w m others b g.text))
-same_fault bytes k l (inr (inl p)) (inl q) = absurd (q.1 (p.1.0, p.1.1, p.1.2))
+same_fault bytes k l (inr (inl p)) (inl q) = absurd (q.1 (p.1.0, p.1.1.0, p.1.1.1))
 same_fault bytes k l (inr (inl p)) (inr (inl q)) = p.0 ∙ sym q.0
 same_fault bytes k l (inr (inl p)) (inr (inr (w, m, others, b, g, q))) = absurd (has_nodes bytes w m others b g.before.nodes g.text p.1)
 same_fault bytes k l (inr (inr (v, n, lines, a, h, p))) (inl q) = absurd (q.1 (has_format bytes v n lines a h.text))
@@ -116,9 +116,11 @@ no_complaint bytes text v n lines t h (inr (w, m, others, k, f, u, g, e)) =
 
 pub audits_determined : AuditsAreDetermined
 audits_determined bytes Sound text Sound other (v, n, lines, t, h, e) (w, m, others, u, g, f) =
-    let all = traces_determined bytes v w n m lines others t u in
-    (refl, e ∙ ap (λ x. summary x (account n (steps_in lines))) all.0 ∙ ap (λ k. summary w (account k (steps_in lines))) all.1
-    ∙ ap (λ ls. summary w (account m (steps_in ls))) all.2 ∙ sym f)
+    let all = traces_determined bytes v w n m lines others t u in (
+      refl,
+      e ∙ ap (λ x. summary x (account n (steps_in lines))) all.0 ∙ ap (λ k. summary w (account k (steps_in lines))) all.1
+          ∙ ap (λ ls. summary w (account m (steps_in ls))) all.2 ∙ sym f,
+    )
 audits_determined bytes Sound text Refused other (v, n, lines, t, h, e) g = absurd (no_complaint bytes other v n lines t h g)
 audits_determined bytes Refused text Sound other g (v, n, lines, t, h, e) = absurd (no_complaint bytes text v n lines t h g)
 audits_determined bytes Refused text Refused other h g = (refl, same_complaint bytes text other h g)

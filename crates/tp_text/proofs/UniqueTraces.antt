@@ -127,7 +127,8 @@ same_trace v w n m lines others a b p q ps qs s t e =
     let head = same_format v w (behind v n lines a) (behind w m others b) (sym (spread v n lines a) ∙ e ∙ spread w m others b) in
     let P : Version → Type 0 = λ x. All (IsWritten x) others → ¬ BeginsWithLine x b
     → behind v n lines a ≡ behind x m others b → (n ≡ m) × (lines ≡ others) × (a ≡ b) in
-    (head.0, subst P head.0 (same_behind v n m lines others a b p q ps s) qs t head.1)
+    let rest = subst P head.0 (same_behind v n m lines others a b p q ps s) qs t head.1 in
+    (head.0, rest.0, rest.1, rest.2)
 
 some_line : (v : Version) (l : TraceLine) (rest : List ℕ) → ¬ ([] ≡ trace_line v l ++ rest)
 some_line v (Plain s) rest e = omega (arith, ap length (e ∙ line_parts (word_of s) (numbers_of v s) rest), length-append (word_of s) (spaced (numbers_of v s) ++ 10 ∷ rest), length-append (spaced (numbers_of v s)) (10 ∷ rest))

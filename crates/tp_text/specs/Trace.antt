@@ -7,7 +7,7 @@ use Rattle.tp_text.specs.declared.traced.TraceLine.{TraceLine}
 use Rattle.tp_text.specs.declared.traced.TraceLine.TheVariants.{Plain, Judged}
 use Rattle.tp_text.specs.declared.version.Version.{Version}
 use Rattle.tp_text.specs.declared.version.Version.TheVariants.{One, Two}
-use Rattle.tp_text.specs.Script.{nodes_line, step_line, IsNodeCount, BeginsWithNodes, LacksNodesBehind}
+use Rattle.tp_text.specs.Script.{nodes_line, step_line, IsNodeCount, LacksNodesBehind}
 use Rattle.tp_text.specs.Spelling.{spaced, line, IsNumber, IsSpelled}
 
 -- the line for the format

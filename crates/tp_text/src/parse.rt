@@ -82,7 +82,11 @@ fn end_named(version: Version, operands: Operands) -> Option<Step>
         (Names version Keyword.End (numbers_in operands)) }
 {
     match (version, operands) {
-        (Version::One, Operands::Two(j, m)) => Some(Step::MessageEnd(NodeId(j), MessageId(m), FIRST)),
+        (Version::One, Operands::Two(j, m)) => Some(Step::MessageEnd(
+            NodeId(j),
+            MessageId(m),
+            FIRST,
+        )),
         (Version::Two, Operands::Three(j, m, g)) => {
             Some(Step::MessageEnd(NodeId(j), MessageId(m), Generation(g)))
         }
@@ -143,7 +147,7 @@ pub(crate) fn first_line(text: &[u8]) -> Option<(u32, &[u8])>
 fn step_behind(version: Version, keyword: Keyword, text: &[u8]) -> Option<(Step, &[u8])>
     ensures { MatchOption result
         ((s : Step) (rest : List ℕ) → IsSpelled version s → word_of s ≡ keyword_text keyword
-            → text.now ≢ spaced (numbers_of version s) ++ 10 ∷ rest)
+        → text.now ≢ spaced (numbers_of version s) ++ 10 ∷ rest)
         (λ found. IsSpelled version found.0 × (word_of found.0 ≡ keyword_text keyword)
         × (text.now ≡ spaced (numbers_of version found.0) ++ 10 ∷ found.1.now)) }
 {

@@ -172,10 +172,18 @@ fn push_step(version: Version, out: &mut Vec<u8>, step: Step) -> Result<(), Allo
             sent_numbers(version, from, to, message, generation),
         ),
         Step::Recv(node, message, generation) => {
-            push_words(out, b"recv", taken_numbers(version, node, message, generation))
+            push_words(
+                out,
+                b"recv",
+                taken_numbers(version, node, message, generation),
+            )
         }
         Step::MessageEnd(node, message, generation) => {
-            push_words(out, b"end", taken_numbers(version, node, message, generation))
+            push_words(
+                out,
+                b"end",
+                taken_numbers(version, node, message, generation),
+            )
         }
         Step::Start => push_words(out, b"start", Operands::None),
         Step::Down(node) => push_words(out, b"down", Operands::One(node.0)),

@@ -76,7 +76,10 @@ fn is_reopened(history: &History) -> bool
     ensures { result ≡ any is_reopen (steps_of history.now.events) }
 {
     for place in 0..history.len() {
-        if let Some((_, Step::Reopen)) = history.at(place) {
+        let Some((_, step)) = history.at(place) else {
+            unreachable!()
+        };
+        if let Step::Reopen = step {
             return true;
         }
     }

@@ -1,4 +1,4 @@
-use Rattle.std.proofs.Common.{arith, inl, refl}
+use Rattle.std.proofs.Common.{arith}
 use Rattle.tp_wave.proofs.Positions.{length-steps_of}
 use Rattle.tp_text.proofs.Following.{is_trace_of}
 use Rattle.tp_text.proofs.tracing.print_trace.Goals as goal
