@@ -91,7 +91,8 @@ written_words n past h l = are_words (nat_le 2 (waves past) && four_equal n past
     let two : 2 ≤ waves past = leb-true 2 (waves past) (and_parts (nat_le 2 (waves past)) (four_equal n past) e).0 in
     (omega (arith, two), omega (arith, l, (few_waves n past h).most)))
 
-written_line : (v : Version) (n : ℕ) (past : List Step) (s : Step) → AreLawfulWaves n (present past) → length past < MAX_STEPS → IsSpelled v s
+written_line : (v : Version) (n : ℕ) (past : List Step) (s : Step) → AreLawfulWaves n (present past) → length past < MAX_STEPS
+    → IsSpelled v s
     → IsWritten v (line_of n past s)
 written_line v n past Judge h l p = written_words n (present past) h (omega (arith, l, length-present past))
 written_line v n past _ h l p = (p, λ e. cc)
@@ -116,7 +117,8 @@ waves_in_each n h run [] past e =
 waves_in_each n [] run (s ∷ later) past e = cc
 waves_in_each n (x ∷ h) run (s ∷ later) past e = waves_in_each n h (each_past (IsRun n) x h run) later past (cc)
 
-pub is_trace_of : (v : Version) (n : ℕ) (h : History) (text : List ℕ) → IsNodeCount n → histories.InEach (IsRun n) h → v ≡ version_of (steps_of h)
+pub is_trace_of : (v : Version) (n : ℕ) (h : History) (text : List ℕ) → IsNodeCount n → histories.InEach (IsRun n) h
+    → v ≡ version_of (steps_of h)
     → CanBeTraced (steps_of h) → text ≡ trace v n (lines_of n (steps_of h)) → IsTraceOf n (steps_of h) text
 is_trace_of v n h text count run is can e = record {
   nodes = count;
@@ -152,7 +154,8 @@ traced_in ss v is few p = (is, (few, subst (λ x. All (IsSpelled x) ss) is p))
 pub traced_first : (ss : List Step) → length ss ≤ MAX_STEPS → All (IsSpelled versions.One) ss → IsTracedIn ss versions.One
 traced_first ss few p = traced_in ss versions.One (first_version ss p) few p
 
-pub traced_second : (ss : List Step) → length ss ≤ MAX_STEPS → true ≡ any is_reopen ss → All (IsSpelled versions.Two) ss → IsTracedIn ss versions.Two
+pub traced_second : (ss : List Step) → length ss ≤ MAX_STEPS → true ≡ any is_reopen ss → All (IsSpelled versions.Two) ss
+    → IsTracedIn ss versions.Two
 traced_second ss few is p = traced_in ss versions.Two (second_version ss is) few p
 
 -- what is spelled in its version is spelled in the first or in the second
@@ -196,7 +199,8 @@ spelled-drop v (suc i) [] p = p
 spelled-drop v (suc i) (e ∷ h) p = spelled-drop v i h (All-tail (IsSpelled v) e.1 (steps_of h) p)
 
 -- the step of an event is spelled
-pub spelled_there : (v : Version) (h : List Event) (k : ℕ) (e : Event) → k < length h → slice_get (reverse h) k ≡ Some e → All (IsSpelled v) (steps_of h) → IsSpelled v e.1
+pub spelled_there : (v : Version) (h : List Event) (k : ℕ) (e : Event) → k < length h → slice_get (reverse h) k ≡ Some e
+    → All (IsSpelled v) (steps_of h) → IsSpelled v e.1
 spelled_there v h k e within at p =
     All-head (IsSpelled v) e.1 (steps_of (oldest k h))
     (subst (λ x. All (IsSpelled v) (steps_of x)) (oldest_next h k e within at) (spelled-drop v (length h - (k + 1)) h p))
@@ -226,7 +230,8 @@ may_go_on n past e r l = record {
 }
 
 -- and so may a reopening
-may_reopen : (n : ℕ) (past : History) (s : Step) → IsTrue (is_reopen s) → IsRun n past → length past < MAX_STEPS → MayFollow n (steps_of past) s
+may_reopen : (n : ℕ) (past : History) (s : Step) → IsTrue (is_reopen s) → IsRun n past → length past < MAX_STEPS
+    → MayFollow n (steps_of past) s
 may_reopen n past Reopen e r l = record {
   few = omega (arith, l, length-steps_of past);
   node = tt;
@@ -285,12 +290,14 @@ pub none_next : (h : History) (k : ℕ) (e : Event) → k < length h → slice_g
 none_next h k e within at other before =
     subst (λ x. IsFalse (any is_reopen (steps_of x))) (sym (oldest_next h k e within at)) (none_of_two e.1 (any is_reopen (steps_of (oldest k h))) other before)
 
-pub begun : (v : Version) (n : ℕ) (h : History) (old new : List ℕ) → old ≡ [] → new ≡ old ++ trace v n [] → new ≡ trace v n (lines_of n (steps_of (oldest 0 h)))
+pub begun : (v : Version) (n : ℕ) (h : History) (old new : List ℕ) → old ≡ [] → new ≡ old ++ trace v n []
+    → new ≡ trace v n (lines_of n (steps_of (oldest 0 h)))
 begun v n h old new none head =
     head ∙ ap (λ x. x ++ trace v n []) none ∙ ap (λ x. trace v n (lines_of n (steps_of x))) (sym (oldest_none h))
 
 -- one line more is written
-pub traced_next : (v : Version) (n : ℕ) (h : History) (k : ℕ) (e : Event) (l : TraceLine) (old new : List ℕ) → k < length h → slice_get (reverse h) k ≡ Some e
+pub traced_next : (v : Version) (n : ℕ) (h : History) (k : ℕ) (e : Event) (l : TraceLine) (old new : List ℕ) → k < length h
+    → slice_get (reverse h) k ≡ Some e
     → l ≡ line_of n (steps_of (oldest k h)) e.1 → old ≡ trace v n (lines_of n (steps_of (oldest k h))) → new ≡ old ++ trace_line v l
     → new ≡ trace v n (lines_of n (steps_of (oldest (k + 1) h)))
 traced_next v n h k e l old new within at is before written =
@@ -310,10 +317,12 @@ one_more n j xs new f each known within is i below = elim (cases_eq j i) [
       rw (ne_eqb j i other) (ap (λ ys. slice_index_or ys i 0) is ∙ get_or-set_other xs j i (slice_index_or xs j 0 + 1) 0 (λ e. other (sym e)) ∙ each i below)
 ]
 
-pub few_sent : (n : ℕ) (past : List Step) (t : Tracer) (i : ℕ) → HasFollowed n past t → i < n → length past < MAX_STEPS → slice_index_or t.sent i 0 < MAX_STEPS
+pub few_sent : (n : ℕ) (past : List Step) (t : Tracer) (i : ℕ) → HasFollowed n past t → i < n → length past < MAX_STEPS
+    → slice_index_or t.sent i 0 < MAX_STEPS
 few_sent n past t i h below l = omega (arith, h.sent i below, count-le (is_send_of i) past, l)
 
-pub few_received : (n : ℕ) (past : List Step) (t : Tracer) (i : ℕ) → HasFollowed n past t → i < n → length past < MAX_STEPS → slice_index_or t.received i 0 < MAX_STEPS
+pub few_received : (n : ℕ) (past : List Step) (t : Tracer) (i : ℕ) → HasFollowed n past t → i < n → length past < MAX_STEPS
+    → slice_index_or t.received i 0 < MAX_STEPS
 few_received n past t i h below l = omega (arith, h.received i below, count-le (is_recv_at i) past, l)
 
 pub sender : (n : ℕ) (past : List Step) (s : Step) (i j : NodeId) (m : MessageId) (g : Generation) → s ≡ Send i j m g
@@ -355,7 +364,8 @@ received_one n past s j m g t new is h may within e =
 -- ---- the waves go along
 
 -- a control step that may come next is not refused
-pub not_refused : {A : Type 0} (n : ℕ) (past : List Step) (s : Step) (r : Result A Refusal) (P : Type 0) → IsTrue (is_control s) → MayFollow n past s
+pub not_refused : {A : Type 0} (n : ℕ) (past : List Step) (s : Step) (r : Result A Refusal) (P : Type 0) → IsTrue (is_control s)
+    → MayFollow n past s
     → result_err r ≡ control_refusal n past s → OnOk r P → P
 not_refused n past s (Ok x) P control may exact goes = goes
 not_refused n past s (Err e) P control may exact goes = let none = (checks_exact n past s control).1 (may.control control) in cc

@@ -27,7 +27,8 @@ alike xs ys e is = (bytes_eq-Decides xs ys).0 (not_false (bytes_eq xs ys) e) ∙
 pub unlike : (xs ys : List ℕ) {zs : List ℕ} → true ≡ not (bytes_eq xs ys) → ys ≡ zs → xs ≢ zs
 unlike xs ys e is same = let yes : bytes_eq xs ys ≡ true = (bytes_eq-Decides xs ys).1 (same ∙ sym is) in let no : true ≡ not true = e ∙ ap not yes in cc
 
-pub no_keyword : (v : Version) (text word a : List ℕ) → Splits IsWordByte text word a → ((k : Keyword) → word ≢ keyword_text k) → ¬ BeginsWithStep v text
+pub no_keyword : (v : Version) (text word a : List ℕ) → Splits IsWordByte text word a → ((k : Keyword) → word ≢ keyword_text k)
+    → ¬ BeginsWithStep v text
 no_keyword v text word a h none (s, rest, p, e) =
     let words = one_word text word a (word_of s) (numbers_of v s) rest h (step_word s) e in
     let key = keyword_of_step s in
@@ -60,7 +61,8 @@ no_operands v text word a h none (s, rest, p, e) =
     let words = one_word text word a (word_of s) (numbers_of v s) rest h (step_word s) e in
     none (numbers_of v s) rest p.0 (few_numbers v s) words.1
 
-pub no_named : (v : Version) (text word a : List ℕ) (k : Keyword) (os : Operands) (after : List ℕ) → Splits IsWordByte text word a → word ≡ keyword_text k
+pub no_named : (v : Version) (text word a : List ℕ) (k : Keyword) (os : Operands) (after : List ℕ)
+    → Splits IsWordByte text word a → word ≡ keyword_text k
     → All IsNumber (numbers_in os) × (a ≡ spaced (numbers_in os) ++ 10 ∷ after)
     → ((s : Step) → IsSpelled v s → word_of s ≡ keyword_text k → numbers_of v s ≢ numbers_in os) → ¬ BeginsWithStep v text
 no_named v text word a k os after h is found none (s, rest, p, e) =

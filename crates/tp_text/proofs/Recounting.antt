@@ -51,16 +51,19 @@ sound_behind n [] past h = h
 sound_behind n (l ∷ later) past h = sound_behind n later past (sound_past n l (later ++ past) h)
 
 -- a line beyond a flaw
-pub found_more : (n : ℕ) (lines : List TraceLine) (l : TraceLine) (a : Auditor) (o : Option (ℕ × Flaw)) → true ≡ is_some o → IsFound n lines a o → IsFound n (l ∷ lines) a o
+pub found_more : (n : ℕ) (lines : List TraceLine) (l : TraceLine) (a : Auditor) (o : Option (ℕ × Flaw)) → true ≡ is_some o
+    → IsFound n lines a o → IsFound n (l ∷ lines) a o
 found_more n lines l a None is h = cc
 found_more n lines l a (Some f) is (later, m, past, e, sound, flaw, number) = (l ∷ later, m, past, ap (λ x. l ∷ x) e, sound, flaw, number)
 
 -- no flaw was found so far
-pub none_found : (n : ℕ) (lines : List TraceLine) (a : Auditor) (o : Option (ℕ × Flaw)) → false ≡ is_some o → IsFound n lines a o → AreTaken n lines a
+pub none_found : (n : ℕ) (lines : List TraceLine) (a : Auditor) (o : Option (ℕ × Flaw)) → false ≡ is_some o → IsFound n lines a o
+    → AreTaken n lines a
 none_found n lines a None is h = h
 none_found n lines a (Some f) is h = cc
 
-pub found_none : (n : ℕ) (lines : List TraceLine) (a : Auditor) (o : Option (ℕ × Flaw)) → false ≡ is_some o → AreTaken n lines a → IsFound n lines a o
+pub found_none : (n : ℕ) (lines : List TraceLine) (a : Auditor) (o : Option (ℕ × Flaw)) → false ≡ is_some o → AreTaken n lines a
+    → IsFound n lines a o
 found_none n lines a None is h = h
 found_none n lines a (Some f) is h = cc
 
@@ -73,7 +76,8 @@ refused_is None asks r h ample = absurd (ample h.0)
 refused_is (Some f) asks r h ample = ap (λ x. Some x) (sym h)
 
 -- a line that is refused
-pub refused_at : (n : ℕ) (lines : List TraceLine) (l : TraceLine) (a : Auditor) (k : ℕ) (r : Refusal) (after : Accepted) → AreTaken n lines a → k ≡ length lines + 3
+pub refused_at : (n : ℕ) (lines : List TraceLine) (l : TraceLine) (a : Auditor) (k : ℕ) (r : Refusal) (after : Accepted)
+    → AreTaken n lines a → k ≡ length lines + 3
     → Answers a.core (step_in l) (Err r) after → r ≢ NoMemory → HasFlawAt n (l ∷ lines) k (flaws.Refused r)
 refused_at n lines l a k r after h number said ample =
     let is : refusal a.core (step_in l) ≡ Some r = refused_is (refusal a.core (step_in l)) (asks_memory a.core (step_in l)) r said.0 ample in
@@ -85,12 +89,14 @@ judged_is None (Some w) e = cc
 judged_is (Some u) None e = cc
 judged_is (Some u) (Some w) e = cc
 
-told_right : (n : ℕ) (past : List Step) (l : TraceLine) (reply : Reply) → reply ≡ reply_to n past (step_in l) → IsTold l reply → IsJustified n past l
+told_right : (n : ℕ) (past : List Step) (l : TraceLine) (reply : Reply) → reply ≡ reply_to n past (step_in l) → IsTold l reply
+    → IsJustified n past l
 told_right n past (Plain s) reply e told = tt
 told_right n past (Judged o) reply e told = judged_is o (judgement n (present past)) (sym told ∙ e)
 
 -- a line that is as it should be
-pub taken_more : (v : Version) (n : ℕ) (lines : List TraceLine) (l : TraceLine) (a new : Auditor) (reply : Reply) → AreTaken n lines a → IsWritten v l
+pub taken_more : (v : Version) (n : ℕ) (lines : List TraceLine) (l : TraceLine) (a new : Auditor) (reply : Reply)
+    → AreTaken n lines a → IsWritten v l
     → Answers a.core (step_in l) (Ok reply) new.core → IsTold l reply
     → ((u : Version) (m : ℕ) (past : List Step) → a.account ≡ account m past → IsWritten u l → IsJustified m past l → new.account ≡ account m (step_in l ∷ past)) → AreTaken n (l ∷ lines) new
 taken_more v n lines l a new reply h written said told counted =
@@ -104,7 +110,8 @@ taken_more v n lines l a new reply h written said told counted =
     }
 
 -- a judgement with other words
-pub unjustified_at : (n : ℕ) (lines : List TraceLine) (l : TraceLine) (a : Auditor) (k : ℕ) (reply : Reply) (after : Accepted) → AreTaken n lines a → k ≡ length lines + 3
+pub unjustified_at : (n : ℕ) (lines : List TraceLine) (l : TraceLine) (a : Auditor) (k : ℕ) (reply : Reply) (after : Accepted)
+    → AreTaken n lines a → k ≡ length lines + 3
     → Answers a.core (step_in l) (Ok reply) after → ¬ IsTold l reply → HasFlawAt n (l ∷ lines) k flaws.Unjustified
 unjustified_at n lines (Plain s) a k reply after h number said other = absurd (other tt)
 unjustified_at n lines (Judged o) a k reply after h number said other =
@@ -123,7 +130,8 @@ pub record Reads (v : Version) (text : List ℕ) (n : ℕ) (lines : List TraceLi
   pub number_is : number ≡ length lines + 3
   pub short : number + length rest ≤ length text + 3
 
-pub reads_none : (v : Version) (text behind : List ℕ) (n : ℕ) (rest : List ℕ) → text ≡ format_line v ++ behind → IsNodeCount n × (behind ≡ nodes_line n ++ rest) → Reads v text n [] rest 3
+pub reads_none : (v : Version) (text behind : List ℕ) (n : ℕ) (rest : List ℕ) → text ≡ format_line v ++ behind
+    → IsNodeCount n × (behind ≡ nodes_line n ++ rest) → Reads v text n [] rest 3
 reads_none v text behind n rest e found =
     let whole : text ≡ (format_line v ++ nodes_line n) ++ rest = e ∙ ap (λ l. format_line v ++ l) found.1 ∙ sym (append_assoc (format_line v) (nodes_line n) rest) in
     record {
@@ -151,7 +159,8 @@ reads_one v text n lines rest number l behind h found = record {
   short = omega (arith, h.short, ap length found.1, line_counts v l behind);
 }
 
-reads_trace : (v : Version) (text : List ℕ) (n : ℕ) (lines : List TraceLine) (rest : List ℕ) (number : ℕ) → Reads v text n lines rest number → length rest ≡ 0 → IsTrace text v n lines
+reads_trace : (v : Version) (text : List ℕ) (n : ℕ) (lines : List TraceLine) (rest : List ℕ) (number : ℕ)
+    → Reads v text n lines rest number → length rest ≡ 0 → IsTrace text v n lines
 reads_trace v text n lines rest number h none = record {
   nodes = h.count;
   written = h.written;
@@ -176,10 +185,12 @@ answer_found v text n lines a (Some found) verdict out t h (is, e) =
     subst (λ w. IsAuditText text w out) (sym is) (inr (v, n, lines, found.0, found.1, t, h, e))
 
 pub reads_all : (v : Version) (text : List ℕ) (n : ℕ) (lines : List TraceLine) (rest : List ℕ) (number : ℕ) (a : Auditor) (verdict : Verdict) (out : List ℕ)
-    → Reads v text n lines rest number → length rest ≡ 0 → Knows n lines a → IsAnswerOf v a a.flaw verdict out → IsAuditText text verdict out
+    → Reads v text n lines rest number → length rest ≡ 0 → Knows n lines a → IsAnswerOf v a a.flaw verdict out
+    → IsAuditText text verdict out
 reads_all v text n lines rest number a verdict out h none knows is = answer_found v text n lines a a.flaw verdict out (reads_trace v text n lines rest number h none) knows is
 
-pub reads_fault : (v : Version) (text : List ℕ) (n : ℕ) (lines : List TraceLine) (rest : List ℕ) (number : ℕ) (out : List ℕ) → Reads v text n lines rest number → 0 < length rest
+pub reads_fault : (v : Version) (text : List ℕ) (n : ℕ) (lines : List TraceLine) (rest : List ℕ) (number : ℕ) (out : List ℕ)
+    → Reads v text n lines rest number → 0 < length rest
     → ¬ BeginsWithLine v rest → out ≡ line (codes "syntax line " ++ decimal number) → IsAuditText text Refused out
 reads_fault v text n lines rest number out h some none written =
     let before : IsTrace (trace v n lines) v n lines = record { nodes = h.count; written = h.written; text = refl } in
@@ -191,9 +202,11 @@ reads_fault v text n lines rest number out h some none written =
     } in
     inl (number, inr (inr (v, n, lines, rest, breaks, h.number_is)), written)
 
-pub fault_format : (text out : List ℕ) → ¬ BeginsWithFormat text → out ≡ line (codes "syntax line " ++ decimal 1) → IsAuditText text Refused out
+pub fault_format : (text out : List ℕ) → ¬ BeginsWithFormat text → out ≡ line (codes "syntax line " ++ decimal 1)
+    → IsAuditText text Refused out
 fault_format text out none written = inl (1, inl (refl, none), written)
 
-pub fault_nodes : (v : Version) (text behind out : List ℕ) → text ≡ format_line v ++ behind → ¬ BeginsWithNodes behind → out ≡ line (codes "syntax line " ++ decimal 2)
+pub fault_nodes : (v : Version) (text behind out : List ℕ) → text ≡ format_line v ++ behind → ¬ BeginsWithNodes behind
+    → out ≡ line (codes "syntax line " ++ decimal 2)
     → IsAuditText text Refused out
 fault_nodes v text behind out e none written = inl (2, inr (inl (refl, (v, (behind, e, none)))), written)

@@ -82,7 +82,8 @@ one_word text word a w ks rest h q e =
     split_unique IsWordByte word w a (spaced ks ++ 10 ∷ rest) h.1 (word_bytes w q) h.2 (ends_word ks rest) (sym h.0 ∙ e ∙ line_parts w ks rest)
 
 -- and so are its numbers
-pub same_numbers : (js ks a b : List ℕ) → All IsNumber js → All IsNumber ks → spaced js ++ 10 ∷ a ≡ spaced ks ++ 10 ∷ b → (js ≡ ks) × (a ≡ b)
+pub same_numbers : (js ks a b : List ℕ) → All IsNumber js → All IsNumber ks → spaced js ++ 10 ∷ a ≡ spaced ks ++ 10 ∷ b
+    → (js ≡ ks) × (a ≡ b)
 same_numbers [] [] a b p q e = (refl, cc)
 same_numbers [] (k ∷ ks) a b p q e = cc
 same_numbers (j ∷ js) [] a b p q e = cc
@@ -143,7 +144,8 @@ step_again v steps.Judge h = refl
 step_again v steps.Reopen h = refl
 
 -- the first line spells one step
-pub same_step : (v : Version) (s t : Step) (a b : List ℕ) → IsSpelled v s → IsSpelled v t → step_line v s ++ a ≡ step_line v t ++ b → (s ≡ t) × (a ≡ b)
+pub same_step : (v : Version) (s t : Step) (a b : List ℕ) → IsSpelled v s → IsSpelled v t
+    → step_line v s ++ a ≡ step_line v t ++ b → (s ≡ t) × (a ≡ b)
 same_step v s t a b p q e =
     let words = one_word (step_line v s ++ a) (word_of s) (spaced (numbers_of v s) ++ 10 ∷ a) (word_of t) (numbers_of v t) b
     (line_parts (word_of s) (numbers_of v s) a, word_bytes (word_of s) (step_word s), ends_word (numbers_of v s) a) (step_word t) e in

@@ -18,7 +18,8 @@ pub All-more : {X : Type 0} (P : X → Type 0) (xs : List X) (x : X) → All P x
 All-more P [] x h p = All-cons P x [] p (All-nil P)
 All-more P (y ∷ xs) x h p = All-cons P y (xs ++ x ∷ []) (All-head P y xs h) (All-more P xs x (All-tail P y xs h) p)
 
-lines_more : (v : Version) (steps : List Step) (s : Step) → flat_map (step_line v) (steps ++ s ∷ []) ≡ flat_map (step_line v) steps ++ step_line v s
+lines_more : (v : Version) (steps : List Step) (s : Step)
+    → flat_map (step_line v) (steps ++ s ∷ []) ≡ flat_map (step_line v) steps ++ step_line v s
 lines_more v [] s = append-nil (step_line v s)
 lines_more v (x ∷ steps) s = ap (λ l. step_line v x ++ l) (lines_more v steps s) ∙ sym (append_assoc (step_line v x) (flat_map (step_line v) steps) (step_line v s))
 

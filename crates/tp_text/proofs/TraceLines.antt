@@ -23,7 +23,8 @@ use Rattle.tp_text.specs.declared.version.Version.{Version}
 
 -- ---- a judge's words
 
-pub not_plain : (text : List ℕ) → pointwise nat_eq (take 5 text) (codes " not\n") ≡ false → (rest : List ℕ) → text ≢ codes " not" ++ 10 ∷ rest
+pub not_plain : (text : List ℕ) → pointwise nat_eq (take 5 text) (codes " not\n") ≡ false → (rest : List ℕ)
+    → text ≢ codes " not" ++ 10 ∷ rest
 not_plain text h rest e = let bad : true ≡ false = ap (λ t. pointwise nat_eq (take 5 t) (codes " not\n")) (sym e) ∙ h in cc
 
 -- what stands behind a prefix
@@ -31,7 +32,8 @@ pub ended_is : (text a : List ℕ) → pointwise nat_eq (take 6 text) (codes " e
 ended_is text a h e = sym (take-append-drop 6 text) ∙ ap (λ l. l ++ drop 6 text) (same_text (take 6 text) (codes " ended") (sym h)) ∙ ap (λ l. codes " ended" ++ l) (sym e)
 
 pub no_words : (text a : List ℕ) → ((rest : List ℕ) → text ≢ codes " not" ++ 10 ∷ rest) → text ≡ codes " ended" ++ a
-    → ((w : ℕ) (rest : List ℕ) → AreWords (Some w) → a ≢ spaced (w ∷ []) ++ 10 ∷ rest) → (o : Option ℕ) (rest : List ℕ) → AreWords o → text ≢ words o ++ 10 ∷ rest
+    → ((w : ℕ) (rest : List ℕ) → AreWords (Some w) → a ≢ spaced (w ∷ []) ++ 10 ∷ rest) → (o : Option ℕ) (rest : List ℕ)
+    → AreWords o → text ≢ words o ++ 10 ∷ rest
 no_words text a plain is none None rest p e = plain rest e
 no_words text a plain is none (Some w) rest p e =
     let whole : codes " ended" ++ a ≡ codes " ended" ++ (spaced (w ∷ []) ++ 10 ∷ rest) =
@@ -45,18 +47,21 @@ pub no_operands_words : (a : List ℕ) → ((ks rest : List ℕ) → All IsNumbe
     → (w : ℕ) (rest : List ℕ) → AreWords (Some w) → a ≢ spaced (w ∷ []) ++ 10 ∷ rest
 no_operands_words a none w rest p e = none (w ∷ []) rest (one_wave w p) (omega arith) e
 
-pub no_wave_words : (a : List ℕ) (os : Operands) (after : List ℕ) → All IsNumber (numbers_in os) × (a ≡ spaced (numbers_in os) ++ 10 ∷ after)
+pub no_wave_words : (a : List ℕ) (os : Operands) (after : List ℕ)
+    → All IsNumber (numbers_in os) × (a ≡ spaced (numbers_in os) ++ 10 ∷ after)
     → ((w : ℕ) → 1 ≤ w → numbers_in os ≢ w ∷ []) → (w : ℕ) (rest : List ℕ) → AreWords (Some w) → a ≢ spaced (w ∷ []) ++ 10 ∷ rest
 no_wave_words a os after found none w rest p e =
     none w p.0 (same_numbers (numbers_in os) (w ∷ []) after rest found.0 (one_wave w p) (sym found.1 ∙ e)).0
 
 -- ---- the numbers of a step
 
-pub no_numbers_behind : (v : Version) (a : List ℕ) (k : Keyword) → ((ks rest : List ℕ) → All IsNumber ks → length ks ≤ 4 → a ≢ spaced ks ++ 10 ∷ rest)
+pub no_numbers_behind : (v : Version) (a : List ℕ) (k : Keyword)
+    → ((ks rest : List ℕ) → All IsNumber ks → length ks ≤ 4 → a ≢ spaced ks ++ 10 ∷ rest)
     → (s : Step) (rest : List ℕ) → IsSpelled v s → word_of s ≡ keyword_text k → a ≢ spaced (numbers_of v s) ++ 10 ∷ rest
 no_numbers_behind v a k none s rest p is e = none (numbers_of v s) rest p.0 (few_numbers v s) e
 
-pub no_step_behind : (v : Version) (a : List ℕ) (k : Keyword) (os : Operands) (after : List ℕ) → All IsNumber (numbers_in os) × (a ≡ spaced (numbers_in os) ++ 10 ∷ after)
+pub no_step_behind : (v : Version) (a : List ℕ) (k : Keyword) (os : Operands) (after : List ℕ)
+    → All IsNumber (numbers_in os) × (a ≡ spaced (numbers_in os) ++ 10 ∷ after)
     → ((s : Step) → IsSpelled v s → word_of s ≡ keyword_text k → numbers_of v s ≢ numbers_in os)
     → (s : Step) (rest : List ℕ) → IsSpelled v s → word_of s ≡ keyword_text k → a ≢ spaced (numbers_of v s) ++ 10 ∷ rest
 no_step_behind v a k os after found none s rest p is e =
@@ -70,17 +75,20 @@ NoStep v a k = (s : Step) (rest : List ℕ) → IsSpelled v s → word_of s ≡ 
 abbrev StepFound : Version → List ℕ → Keyword → Step → List ℕ → Type 0
 StepFound v a k s after = IsSpelled v s × (word_of s ≡ keyword_text k) × (a ≡ spaced (numbers_of v s) ++ 10 ∷ after)
 
-pub no_line_of : (v : Version) (text word a : List ℕ) (k : Keyword) → Splits IsWordByte text word a → word ≡ keyword_text k → NoStep v a k → ¬ BeginsWithStep v text
+pub no_line_of : (v : Version) (text word a : List ℕ) (k : Keyword) → Splits IsWordByte text word a → word ≡ keyword_text k
+    → NoStep v a k → ¬ BeginsWithStep v text
 no_line_of v text word a k h is none (s, rest, p, e) =
     let parts = one_word text word a (word_of s) (numbers_of v s) rest h (step_word s) e in
     none s rest p (sym parts.0 ∙ is) parts.1
 
-pub line_of : (v : Version) (text word a : List ℕ) (k : Keyword) (s : Step) (after : List ℕ) → Splits IsWordByte text word a → word ≡ keyword_text k → StepFound v a k s after
+pub line_of : (v : Version) (text word a : List ℕ) (k : Keyword) (s : Step) (after : List ℕ) → Splits IsWordByte text word a
+    → word ≡ keyword_text k → StepFound v a k s after
     → text ≡ step_line v s ++ after
 line_of v text word a k s after h is found =
     h.0 ∙ ap (λ w. w ++ a) (is ∙ sym found.1) ∙ ap (λ l. word_of s ++ l) found.2 ∙ sym (line_parts (word_of s) (numbers_of v s) after)
 
-pub step_found : (v : Version) (text word a : List ℕ) (k : Keyword) (r : Option (Step × Bor (List ℕ))) → Splits IsWordByte text word a → word ≡ keyword_text k
+pub step_found : (v : Version) (text word a : List ℕ) (k : Keyword) (r : Option (Step × Bor (List ℕ)))
+    → Splits IsWordByte text word a → word ≡ keyword_text k
     → MatchOption r (NoStep v a k) (λ found. StepFound v a k found.0 found.1.now)
     → MatchOption r (¬ BeginsWithStep v text) (λ found. IsSpelled v found.0 × (text ≡ step_line v found.0 ++ found.1.now))
 step_found v text word a k None h is none = no_line_of v text word a k h is none
@@ -96,7 +104,8 @@ pub judge_parts : (v : Version) (o : Option ℕ) (rest : List ℕ) → trace_lin
 judge_parts v o rest = append_assoc (codes "judge" ++ words o) (10 ∷ []) rest ∙ append_assoc (codes "judge") (words o) (10 ∷ rest)
 
 -- the word and the rest of a judgement
-pub judge_word : (v : Version) (text word a : List ℕ) (o : Option ℕ) (rest : List ℕ) → Splits IsWordByte text word a → text ≡ trace_line v (Judged o) ++ rest
+pub judge_word : (v : Version) (text word a : List ℕ) (o : Option ℕ) (rest : List ℕ) → Splits IsWordByte text word a
+    → text ≡ trace_line v (Judged o) ++ rest
     → (word ≡ codes "judge") × (a ≡ words o ++ 10 ∷ rest)
 judge_word v text word a o rest h e =
     split_unique IsWordByte word (codes "judge") a (words o ++ 10 ∷ rest) h.1 (word_bytes (codes "judge") refl) h.2 (ends_judge o rest)
@@ -123,7 +132,8 @@ keyword_judge keywords.Give e = absurd (omega (arith, ap (λ l. slice_index_or l
 keyword_judge keywords.Up e = absurd (omega (arith, ap (λ l. slice_index_or l 0 0) e))
 keyword_judge keywords.Reopen e = absurd (omega (arith, ap (λ l. slice_index_or l 0 0) e))
 
-pub no_line_keyword : (v : Version) (text word a : List ℕ) → Splits IsWordByte text word a → ((k : Keyword) → word ≢ keyword_text k) → ¬ BeginsWithLine v text
+pub no_line_keyword : (v : Version) (text word a : List ℕ) → Splits IsWordByte text word a
+    → ((k : Keyword) → word ≢ keyword_text k) → ¬ BeginsWithLine v text
 no_line_keyword v text word a h none (Plain s, rest, p, e) =
     let parts = one_word text word a (word_of s) (numbers_of v s) rest h (step_word s) e in
     let key = keyword_of_step s in
@@ -136,16 +146,19 @@ no_judge_line v text word a h is none (Plain s, rest, p, e) =
     p.1 (is_judgement v s p.0.2 (sym (one_word text word a (word_of s) (numbers_of v s) rest h (step_word s) e).0 ∙ is))
 no_judge_line v text word a h is none (Judged o, rest, p, e) = none o rest p (judge_word v text word a o rest h e).1
 
-pub no_plain_line : (v : Version) (text word a : List ℕ) (k : Keyword) → Splits IsWordByte text word a → word ≡ keyword_text k → k ≢ keywords.Judge → NoStep v a k → ¬ BeginsWithLine v text
+pub no_plain_line : (v : Version) (text word a : List ℕ) (k : Keyword) → Splits IsWordByte text word a → word ≡ keyword_text k
+    → k ≢ keywords.Judge → NoStep v a k → ¬ BeginsWithLine v text
 no_plain_line v text word a k h is other none (Plain s, rest, p, e) = no_line_of v text word a k h is none (s, rest, p.0, e)
 no_plain_line v text word a k h is other none (Judged o, rest, p, e) = other (keyword_judge k (sym is ∙ (judge_word v text word a o rest h e).0))
 
-pub judge_line : (v : Version) (text word a : List ℕ) (o : Option ℕ) (after : List ℕ) → Splits IsWordByte text word a → word ≡ codes "judge" → AreWords o × (a ≡ words o ++ 10 ∷ after)
+pub judge_line : (v : Version) (text word a : List ℕ) (o : Option ℕ) (after : List ℕ) → Splits IsWordByte text word a
+    → word ≡ codes "judge" → AreWords o × (a ≡ words o ++ 10 ∷ after)
     → IsWritten v (Judged o) × (text ≡ trace_line v (Judged o) ++ after)
 judge_line v text word a o after h is found =
     (found.0, h.0 ∙ ap (λ w. w ++ a) is ∙ ap (λ l. codes "judge" ++ l) found.1 ∙ sym (judge_parts v o after))
 
-pub plain_line : (v : Version) (text word a : List ℕ) (k : Keyword) (s : Step) (after : List ℕ) → Splits IsWordByte text word a → word ≡ keyword_text k → k ≢ keywords.Judge
+pub plain_line : (v : Version) (text word a : List ℕ) (k : Keyword) (s : Step) (after : List ℕ) → Splits IsWordByte text word a
+    → word ≡ keyword_text k → k ≢ keywords.Judge
     → StepFound v a k s after → IsWritten v (Plain s) × (text ≡ trace_line v (Plain s) ++ after)
 plain_line v text word a k s after h is other found =
     ((found.0, λ e. other (keyword_judge k (sym found.1 ∙ ap word_of e))), line_of v text word a k s after h is found)

@@ -20,7 +20,8 @@ same_count n m a b p q e =
     let same : n ∷ [] ≡ m ∷ [] = numbers.0 in
     (cc, numbers.1)
 
-same_steps : (v : Version) (steps others : List Step) (a b : List ℕ) → All (IsSpelled v) steps → All (IsSpelled v) others → ¬ BeginsWithStep v a → ¬ BeginsWithStep v b
+same_steps : (v : Version) (steps others : List Step) (a b : List ℕ) → All (IsSpelled v) steps → All (IsSpelled v) others
+    → ¬ BeginsWithStep v a → ¬ BeginsWithStep v b
     → flat_map (step_line v) steps ++ a ≡ flat_map (step_line v) others ++ b → (steps ≡ others) × (a ≡ b)
 same_steps v [] [] a b p q s t e = (refl, e)
 same_steps v [] (y ∷ others) a b p q s t e =
@@ -77,7 +78,8 @@ no_step_in_nothing v (s, rest, p, e) =
     omega (arith, ap length whole, length-append {A = ℕ})
 
 -- a script begins with a line for the number of nodes, or with that for version 2
-script_begins : (v : Version) (bytes : List ℕ) (n : ℕ) (steps : List Step) (rest : List ℕ) → IsNodeCount n → bytes ≡ script v n steps ++ rest
+script_begins : (v : Version) (bytes : List ℕ) (n : ℕ) (steps : List Step) (rest : List ℕ) → IsNodeCount n
+    → bytes ≡ script v n steps ++ rest
     → ¬ BeginsWithNodes bytes → ¬ BeginsWithVersion bytes → ⊥
 script_begins versions.One bytes n steps rest p e nodes version =
     nodes (n, flat_map (step_line versions.One) steps ++ rest, p, e ∙ spread versions.One n steps rest)
@@ -85,14 +87,16 @@ script_begins versions.Two bytes n steps rest p e nodes version =
     version (nodes_line n ++ (flat_map (step_line versions.Two) steps ++ rest), e ∙ spread versions.Two n steps rest)
 
 -- and behind the latter there is one for the number of nodes
-script_goes_on : (v : Version) (bytes : List ℕ) (n : ℕ) (steps : List Step) (rest : List ℕ) → IsNodeCount n → bytes ≡ script v n steps ++ rest
+script_goes_on : (v : Version) (bytes : List ℕ) (n : ℕ) (steps : List Step) (rest : List ℕ) → IsNodeCount n
+    → bytes ≡ script v n steps ++ rest
     → ¬ LacksNodesBehind (version_lines versions.Two) bytes
 script_goes_on versions.One bytes n steps rest p e (after, is, none) =
     absurd (omega (arith, ap (λ l. slice_index_or l 0 0) (sym is ∙ e ∙ spread versions.One n steps rest)))
 script_goes_on versions.Two bytes n steps rest p e (after, is, none) =
     none (n, flat_map (step_line versions.Two) steps ++ rest, p, ap (λ l. drop 9 l) (sym is ∙ e ∙ spread versions.Two n steps rest))
 
-same_stop : (bytes : List ℕ) (v w : Version) (n m : ℕ) (steps others : List Step) (a b : List ℕ) → StopsAfter bytes v n steps a → StopsAfter bytes w m others b
+same_stop : (bytes : List ℕ) (v w : Version) (n m : ℕ) (steps others : List Step) (a b : List ℕ) → StopsAfter bytes v n steps a
+    → StopsAfter bytes w m others b
     → length steps + nodes_at v + 1 ≡ length others + nodes_at w + 1
 same_stop bytes v w n m steps others a b h g =
     let both = same_reading v w n m steps others a b h.before.nodes g.before.nodes h.before.spelled g.before.spelled h.no_step g.no_step (sym h.text ∙ g.text) in

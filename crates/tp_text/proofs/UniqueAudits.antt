@@ -39,7 +39,8 @@ same_flaw n (Judged o) past flaws.Unjustified (flaws.Refused r) (p, is, none, ot
 same_flaw n (Plain s) past flaws.Unjustified (flaws.Refused r) (p, is, none, other) g = cc
 same_flaw n l past flaws.Unjustified flaws.Unjustified h g = refl
 
-same_place : (n : ℕ) (later later' : List TraceLine) (l l' : TraceLine) (past past' : List TraceLine) (f f' : Flaw) → later ++ l ∷ past ≡ later' ++ l' ∷ past'
+same_place : (n : ℕ) (later later' : List TraceLine) (l l' : TraceLine) (past past' : List TraceLine) (f f' : Flaw)
+    → later ++ l ∷ past ≡ later' ++ l' ∷ past'
     → IsSound n past → IsSound n past' → IsFlaw n past l f → IsFlaw n past' l' f' → (l ≡ l') × (past ≡ past')
 same_place n [] [] l l' past past' f f' e h h' g g' = (cc, cc)
 same_place n [] (x ∷ later') l l' past past' f f' e h h' g g' =
@@ -50,7 +51,8 @@ same_place n (x ∷ later) [] l l' past past' f f' e h h' g g' =
     absurd (no_flaw n l past f (sound_behind n later (l ∷ past) (subst (IsSound n) (sym within) h')) g)
 same_place n (x ∷ later) (y ∷ later') l l' past past' f f' e h h' g g' = same_place n later later' l l' past past' f f' (cc) h h' g g'
 
-same_flaws : (n : ℕ) (lines : List TraceLine) (k j : ℕ) (f g : Flaw) → HasFlawAt n lines k f → HasFlawAt n lines j g → flaw_line k f ≡ flaw_line j g
+same_flaws : (n : ℕ) (lines : List TraceLine) (k j : ℕ) (f g : Flaw) → HasFlawAt n lines k f → HasFlawAt n lines j g
+    → flaw_line k f ≡ flaw_line j g
 same_flaws n lines k j f g (later, l, past, e, sound, flaw, at) (later', l', past', e', sound', flaw', at') =
     let same = same_place n later later' l l' past past' f g (sym e ∙ e') sound sound' flaw flaw' in
     let moved : IsFlaw n past l g = subst (λ x. IsFlaw n x l g) (sym same.1) (subst (λ x. IsFlaw n past' x g) (sym same.0) flaw') in
@@ -61,15 +63,18 @@ sound_or_flawed n lines k f h (later, l, past, e, sound, flaw, at) = no_flaw n l
 
 -- ---- faults of grammar
 
-has_nodes : (bytes : List ℕ) (v : Version) (n : ℕ) (lines : List TraceLine) (rest : List ℕ) → IsNodeCount n → bytes ≡ trace v n lines ++ rest → ¬ LacksNodes bytes
+has_nodes : (bytes : List ℕ) (v : Version) (n : ℕ) (lines : List TraceLine) (rest : List ℕ) → IsNodeCount n
+    → bytes ≡ trace v n lines ++ rest → ¬ LacksNodes bytes
 has_nodes bytes v n lines rest count e (w, (after, is, none)) =
     let head = same_format w v after (behind v n lines rest) (sym is ∙ e ∙ spread v n lines rest) in
     none (n, flat_map (trace_line v) (oldest_first lines) ++ rest, count, head.1)
 
-has_format : (bytes : List ℕ) (v : Version) (n : ℕ) (lines : List TraceLine) (rest : List ℕ) → bytes ≡ trace v n lines ++ rest → BeginsWithFormat bytes
+has_format : (bytes : List ℕ) (v : Version) (n : ℕ) (lines : List TraceLine) (rest : List ℕ) → bytes ≡ trace v n lines ++ rest
+    → BeginsWithFormat bytes
 has_format bytes v n lines rest e = (v, behind v n lines rest, e ∙ spread v n lines rest)
 
-same_break : (bytes : List ℕ) (v w : Version) (n m : ℕ) (lines others : List TraceLine) (a b : List ℕ) → BreaksOff bytes v n lines a → BreaksOff bytes w m others b → lines ≡ others
+same_break : (bytes : List ℕ) (v w : Version) (n m : ℕ) (lines others : List TraceLine) (a b : List ℕ)
+    → BreaksOff bytes v n lines a → BreaksOff bytes w m others b → lines ≡ others
 same_break bytes v w n m lines others a b h g =
     (same_trace v w n m lines others a b h.before.nodes g.before.nodes h.before.written g.before.written h.no_line g.no_line (sym h.text ∙ g.text)).2
 
@@ -107,7 +112,8 @@ same_complaint bytes text other (inr (v, n, lines, k, f, t, h, d)) (inr (w, m, o
     let moved : HasFlawAt n lines j g = subst (λ x. HasFlawAt n x j g) (sym all.2) (subst (λ x. HasFlawAt x others j g) (sym all.1) there) in
     d ∙ same_flaws n lines k j f g h moved ∙ sym e
 
-no_complaint : (bytes text : List ℕ) (v : Version) (n : ℕ) (lines : List TraceLine) → IsTrace bytes v n lines → IsSound n lines → ¬ IsComplaint bytes text
+no_complaint : (bytes text : List ℕ) (v : Version) (n : ℕ) (lines : List TraceLine) → IsTrace bytes v n lines → IsSound n lines
+    → ¬ IsComplaint bytes text
 no_complaint bytes text v n lines t h (inl (k, g, e)) = no_fault bytes v n lines k t g
 no_complaint bytes text v n lines t h (inr (w, m, others, k, f, u, g, e)) =
     let all = traces_determined bytes v w n m lines others t u in

@@ -27,7 +27,8 @@ same_words (Some u) (Some w) a b h g e =
     let both = same_numbers (u ∷ []) (w ∷ []) a b (one_wave u h) (one_wave w g) (ap (λ l. drop 6 l) whole) in
     (ap (λ ks. Some (slice_index_or ks 0 0)) both.0, both.1)
 
-no_both : (v : Version) (l : TraceLine) (o : Option ℕ) (a b : List ℕ) → IsWritten v l → trace_line v l ++ a ≡ trace_line v (Judged o) ++ b → AreWords o → (l ≡ Judged o) × (a ≡ b)
+no_both : (v : Version) (l : TraceLine) (o : Option ℕ) (a b : List ℕ) → IsWritten v l
+    → trace_line v l ++ a ≡ trace_line v (Judged o) ++ b → AreWords o → (l ≡ Judged o) × (a ≡ b)
 no_both v (Plain s) o a b h e p =
     let word = judge_word v (step_line v s ++ a) (word_of s) (spaced (numbers_of v s) ++ 10 ∷ a) o b
     (line_parts (word_of s) (numbers_of v s) a, word_bytes (word_of s) (step_word s), ends_word (numbers_of v s) a) e in
@@ -37,7 +38,8 @@ no_both v (Judged q) o a b h e p =
     let both = same_words q o a b h p (ap (λ l. drop 5 l) whole) in
     (ap (λ x. Judged x) both.0, both.1)
 
-same_line : (v : Version) (l m : TraceLine) (a b : List ℕ) → IsWritten v l → IsWritten v m → trace_line v l ++ a ≡ trace_line v m ++ b → (l ≡ m) × (a ≡ b)
+same_line : (v : Version) (l m : TraceLine) (a b : List ℕ) → IsWritten v l → IsWritten v m
+    → trace_line v l ++ a ≡ trace_line v m ++ b → (l ≡ m) × (a ≡ b)
 same_line v (Plain s) (Plain t) a b h g e = let both = same_step v s t a b h.0 g.0 e in (ap (λ x. Plain x) both.0, both.1)
 same_line v l (Judged o) a b h g e = no_both v l o a b h e g
 same_line v (Judged o) m a b h g e = let both = no_both v m o b a g (sym e) h in (sym both.0, sym both.1)
@@ -69,11 +71,13 @@ oldest_written : (v : Version) (lines : List TraceLine) → All (IsWritten v) li
 oldest_written v [] h = h
 oldest_written v (l ∷ lines) h = All-more (IsWritten v) (oldest_first lines) l (oldest_written v lines (All-tail (IsWritten v) l lines h)) (All-head (IsWritten v) l lines h)
 
-line_last : (v : Version) (xs : List TraceLine) (l : TraceLine) → flat_map (trace_line v) (xs ++ l ∷ []) ≡ flat_map (trace_line v) xs ++ trace_line v l
+line_last : (v : Version) (xs : List TraceLine) (l : TraceLine)
+    → flat_map (trace_line v) (xs ++ l ∷ []) ≡ flat_map (trace_line v) xs ++ trace_line v l
 line_last v [] l = append-nil (trace_line v l)
 line_last v (x ∷ xs) l = ap (λ z. trace_line v x ++ z) (line_last v xs l) ∙ sym (append_assoc (trace_line v x) (flat_map (trace_line v) xs) (trace_line v l))
 
-pub trace_is : (v : Version) (n : ℕ) (lines : List TraceLine) → trace v n lines ≡ format_line v ++ (nodes_line n ++ flat_map (trace_line v) (oldest_first lines))
+pub trace_is : (v : Version) (n : ℕ) (lines : List TraceLine)
+    → trace v n lines ≡ format_line v ++ (nodes_line n ++ flat_map (trace_line v) (oldest_first lines))
 trace_is v n [] = ap (λ l. format_line v ++ l) (sym (append-nil (nodes_line n)))
 trace_is v n (l ∷ past) =
     ap (λ z. z ++ trace_line v l) (trace_is v n past)
@@ -81,7 +85,8 @@ trace_is v n (l ∷ past) =
     ∙ ap (λ z. format_line v ++ z) (append_assoc (nodes_line n) (flat_map (trace_line v) (oldest_first past)) (trace_line v l)
     ∙ ap (λ z. nodes_line n ++ z) (sym (line_last v (oldest_first past) l)))
 
-same_lines : (v : Version) (xs ys : List TraceLine) (a b : List ℕ) → All (IsWritten v) xs → All (IsWritten v) ys → ¬ BeginsWithLine v a → ¬ BeginsWithLine v b
+same_lines : (v : Version) (xs ys : List TraceLine) (a b : List ℕ) → All (IsWritten v) xs → All (IsWritten v) ys
+    → ¬ BeginsWithLine v a → ¬ BeginsWithLine v b
     → flat_map (trace_line v) xs ++ a ≡ flat_map (trace_line v) ys ++ b → (xs ≡ ys) × (a ≡ b)
 same_lines v [] [] a b p q s t e = (refl, e)
 same_lines v [] (y ∷ ys) a b p q s t e =
@@ -99,7 +104,8 @@ same_lines v (x ∷ xs) (y ∷ ys) a b p q s t e =
 abbrev pub behind : Version → ℕ → List TraceLine → List ℕ → List ℕ
 behind v n lines rest = nodes_line n ++ (flat_map (trace_line v) (oldest_first lines) ++ rest)
 
-pub spread : (v : Version) (n : ℕ) (lines : List TraceLine) (rest : List ℕ) → trace v n lines ++ rest ≡ format_line v ++ behind v n lines rest
+pub spread : (v : Version) (n : ℕ) (lines : List TraceLine) (rest : List ℕ)
+    → trace v n lines ++ rest ≡ format_line v ++ behind v n lines rest
 spread v n lines rest =
     ap (λ z. z ++ rest) (trace_is v n lines) ∙ append_assoc (format_line v) (nodes_line n ++ flat_map (trace_line v) (oldest_first lines)) rest
     ∙ ap (λ z. format_line v ++ z) (append_assoc (nodes_line n) (flat_map (trace_line v) (oldest_first lines)) rest)

@@ -64,7 +64,8 @@ abbrev pub HasFaultAt : List ℕ → ℕ → Type 0
 HasFaultAt bytes l =
     ((l ≡ 1) × ¬ BeginsWithNodes bytes × ¬ BeginsWithVersion bytes)
     ⊎ (((l ≡ 2) × LacksNodesBehind (version_lines Two) bytes)
-    ⊎ ((v : Version) × (n : ℕ) × (steps : List Step) × (rest : List ℕ) × StopsAfter bytes v n steps rest × (l ≡ length steps + nodes_at v + 1)))
+    ⊎ ((v : Version) × (n : ℕ) × (steps : List Step) × (rest : List ℕ)
+    × StopsAfter bytes v n steps rest × (l ≡ length steps + nodes_at v + 1)))
 
 -- Bytes are the script of one version and one list of steps at most.
 abbrev pub ScriptsAreDetermined : Type 0

@@ -23,9 +23,9 @@ pub(crate) struct Account {
     // sent, and received
     messages: u32,
     received: u32,
-    // the number of the present one
+    // the number of the present generation
     generation: u32,
-    // the wave with which the pool was last judged to have ended in its present generation
+    // the wave with which the pool was last judged to have ended in it
     ended: Option<u32>,
 }
 
@@ -47,7 +47,8 @@ impl Account {
     /// One line more.
     pub(crate) fn with(self, line: TraceLine) -> Account
         requires { (n : ℕ) × (past : List Step) × (self ≡ account n past) × (length past < MAX_STEPS) }
-        ensures { (v : Version) (n : ℕ) (past : List Step) → self ≡ account n past → IsWritten v line → IsJustified n past line → result ≡ account n (step_in line ∷ past) }
+        ensures { (v : Version) (n : ℕ) (past : List Step) → self ≡ account n past → IsWritten v line → IsJustified n past line
+            → result ≡ account n (step_in line ∷ past) }
     {
         match line {
             TraceLine::Plain(step) => self.with_step(step),
@@ -85,7 +86,7 @@ impl Account {
                 received: self.received + 1,
                 ..more
             },
-            // what was judged was judged of the generation before
+            // what was judged was judged of the generation before, and all else is counted on
             Step::Reopen => Account {
                 generation: self.generation + 1,
                 ended: None,

@@ -49,7 +49,8 @@ impl Auditor {
     /// Takes the next line, which has this number.
     pub(crate) fn take(&mut self, line: TraceLine, number: u64) -> Result<(), TextFault>
         requires { (n : ℕ) × (lines : List TraceLine) × Knows n lines self.old }
-        ensures ok { (v : Version) (n : ℕ) (lines : List TraceLine) → Knows n lines self.old → IsWritten v line → number ≡ length lines + 3 → OnOk result (Knows n (line ∷ lines) self.new) }
+        ensures ok { (v : Version) (n : ℕ) (lines : List TraceLine) → Knows n lines self.old → IsWritten v line → number ≡ length lines + 3
+            → OnOk result (Knows n (line ∷ lines) self.new) }
         ensures err { IfErr result (λ fault. fault ≡ TextFault.Memory) }
     {
         if self.flaw.is_some() {

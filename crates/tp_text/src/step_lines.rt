@@ -1,7 +1,7 @@
 ghost use Rattle.std.specs.Prelude.{◌≡◌, ◌++◌, ◌↔◌, ◌∷◌, [], IsTrue, OnOk};
+ghost use Rattle.std.specs.List.{All};
 ghost use Rattle.tp_text.specs.Script.{step_line};
 ghost use Rattle.tp_text.specs.Spelling.{generation_number, line, spaced, HasFirstNumber, IsNumber, IsSpelled};
-ghost use Rattle.std.specs.List.{All};
 ghost use Rattle.tp_text.specs.Trace.{format_line, trace, trace_line};
 ghost use Rattle.tp_text.specs.Words.{numbers_in};
 
@@ -166,25 +166,9 @@ fn push_step(version: Version, out: &mut Vec<u8>, step: Step) -> Result<(), Allo
             push_words(out, b"close", Operands::Two(node.0, action.0))
         }
         Step::Ready(node) => push_words(out, b"ready", Operands::One(node.0)),
-        Step::Send(from, to, message, generation) => push_words(
-            out,
-            b"send",
-            sent_numbers(version, from, to, message, generation),
-        ),
-        Step::Recv(node, message, generation) => {
-            push_words(
-                out,
-                b"recv",
-                taken_numbers(version, node, message, generation),
-            )
-        }
-        Step::MessageEnd(node, message, generation) => {
-            push_words(
-                out,
-                b"end",
-                taken_numbers(version, node, message, generation),
-            )
-        }
+        Step::Send(i, j, m, g) => push_words(out, b"send", sent_numbers(version, i, j, m, g)),
+        Step::Recv(j, m, g) => push_words(out, b"recv", taken_numbers(version, j, m, g)),
+        Step::MessageEnd(j, m, g) => push_words(out, b"end", taken_numbers(version, j, m, g)),
         Step::Start => push_words(out, b"start", Operands::None),
         Step::Down(node) => push_words(out, b"down", Operands::One(node.0)),
         Step::Give(node) => push_words(out, b"give", Operands::One(node.0)),
