@@ -13,6 +13,8 @@ use Rattle.tp_text.specs.Spelling.{IsNumber, IsSpelled, spaced, word_of, numbers
 use Rattle.tp_text.specs.Words.{IsWordByte, Splits, numbers_in}
 use Rattle.tp_text.proofs.Splits.{All-nil, All-cons}
 use Rattle.tp_text.proofs.Spelled.{line_parts, one_word, same_numbers, step_word, keyword_of_step}
+use Rattle.tp_text.specs.declared.version.Version.{Version}
+use Rattle.tp_text.specs.declared.version.Version.TheVariants as versions
 
 not_false : (b : Bool) → false ≡ not b → b ≡ true
 not_false true e = refl
@@ -25,42 +27,47 @@ alike xs ys e is = (bytes_eq-Decides xs ys).0 (not_false (bytes_eq xs ys) e) ∙
 pub unlike : (xs ys : List ℕ) {zs : List ℕ} → true ≡ not (bytes_eq xs ys) → ys ≡ zs → xs ≢ zs
 unlike xs ys e is same = let yes : bytes_eq xs ys ≡ true = (bytes_eq-Decides xs ys).1 (same ∙ sym is) in let no : true ≡ not true = e ∙ ap not yes in cc
 
-pub no_keyword : (text word a : List ℕ) → Splits IsWordByte text word a → ((k : Keyword) → word ≢ keyword_text k) → ¬ BeginsWithStep text
-no_keyword text word a h none (s, rest, p, e) =
-    let words = one_word text word a (word_of s) (numbers_of s) rest h (step_word s) e in
-    let key = keyword_of_step s p.2 in
+pub no_keyword : (v : Version) (text word a : List ℕ) → Splits IsWordByte text word a → ((k : Keyword) → word ≢ keyword_text k)
+    → ¬ BeginsWithStep v text
+no_keyword v text word a h none (s, rest, p, e) =
+    let words = one_word text word a (word_of s) (numbers_of v s) rest h (step_word s) e in
+    let key = keyword_of_step s in
     none key.0 (words.0 ∙ key.1)
 
-pub few_numbers : (s : Step) → length (numbers_of s) ≤ 3
-few_numbers (steps.Insert i t k) = lit≤ tt
-few_numbers (steps.Supply t) = lit≤ tt
-few_numbers (steps.Begin t) = lit≤ tt
-few_numbers (steps.Done t) = lit≤ tt
-few_numbers (steps.ActionOpen i a) = lit≤ tt
-few_numbers (steps.ActionClose i a) = lit≤ tt
-few_numbers (steps.Ready i) = lit≤ tt
-few_numbers (steps.Send i j m g) = lit≤ tt
-few_numbers (steps.Recv j m g) = lit≤ tt
-few_numbers (steps.MessageEnd j m g) = lit≤ tt
-few_numbers steps.Start = lit≤ tt
-few_numbers (steps.Down i) = lit≤ tt
-few_numbers (steps.Give i) = lit≤ tt
-few_numbers (steps.Up i) = lit≤ tt
-few_numbers steps.Judge = lit≤ tt
-few_numbers steps.Reopen = lit≤ tt
+pub few_numbers : (v : Version) (s : Step) → length (numbers_of v s) ≤ 4
+few_numbers v (steps.Insert i t k) = lit≤ tt
+few_numbers v (steps.Supply t) = lit≤ tt
+few_numbers v (steps.Begin t) = lit≤ tt
+few_numbers v (steps.Done t) = lit≤ tt
+few_numbers v (steps.ActionOpen i a) = lit≤ tt
+few_numbers v (steps.ActionClose i a) = lit≤ tt
+few_numbers v (steps.Ready i) = lit≤ tt
+few_numbers versions.One (steps.Send i j m g) = lit≤ tt
+few_numbers versions.Two (steps.Send i j m g) = lit≤ tt
+few_numbers versions.One (steps.Recv j m g) = lit≤ tt
+few_numbers versions.Two (steps.Recv j m g) = lit≤ tt
+few_numbers versions.One (steps.MessageEnd j m g) = lit≤ tt
+few_numbers versions.Two (steps.MessageEnd j m g) = lit≤ tt
+few_numbers v steps.Start = lit≤ tt
+few_numbers v (steps.Down i) = lit≤ tt
+few_numbers v (steps.Give i) = lit≤ tt
+few_numbers v (steps.Up i) = lit≤ tt
+few_numbers v steps.Judge = lit≤ tt
+few_numbers v steps.Reopen = lit≤ tt
 
-pub no_operands : (text word a : List ℕ) → Splits IsWordByte text word a
-    → ((ks rest : List ℕ) → All IsNumber ks → length ks ≤ 3 → a ≢ spaced ks ++ 10 ∷ rest) → ¬ BeginsWithStep text
-no_operands text word a h none (s, rest, p, e) =
-    let words = one_word text word a (word_of s) (numbers_of s) rest h (step_word s) e in
-    none (numbers_of s) rest p.0 (few_numbers s) words.1
+pub no_operands : (v : Version) (text word a : List ℕ) → Splits IsWordByte text word a
+    → ((ks rest : List ℕ) → All IsNumber ks → length ks ≤ 4 → a ≢ spaced ks ++ 10 ∷ rest) → ¬ BeginsWithStep v text
+no_operands v text word a h none (s, rest, p, e) =
+    let words = one_word text word a (word_of s) (numbers_of v s) rest h (step_word s) e in
+    none (numbers_of v s) rest p.0 (few_numbers v s) words.1
 
-pub no_named : (text word a : List ℕ) (k : Keyword) (os : Operands) (after : List ℕ) → Splits IsWordByte text word a → word ≡ keyword_text k
+pub no_named : (v : Version) (text word a : List ℕ) (k : Keyword) (os : Operands) (after : List ℕ)
+    → Splits IsWordByte text word a → word ≡ keyword_text k
     → All IsNumber (numbers_in os) × (a ≡ spaced (numbers_in os) ++ 10 ∷ after)
-    → ((s : Step) → IsSpelled s → word_of s ≡ keyword_text k → numbers_of s ≢ numbers_in os) → ¬ BeginsWithStep text
-no_named text word a k os after h is found none (s, rest, p, e) =
-    let words = one_word text word a (word_of s) (numbers_of s) rest h (step_word s) e in
-    none s p (sym words.0 ∙ is) (same_numbers (numbers_of s) (numbers_in os) rest after p.0 found.0 (sym words.1 ∙ found.1)).0
+    → ((s : Step) → IsSpelled v s → word_of s ≡ keyword_text k → numbers_of v s ≢ numbers_in os) → ¬ BeginsWithStep v text
+no_named v text word a k os after h is found none (s, rest, p, e) =
+    let words = one_word text word a (word_of s) (numbers_of v s) rest h (step_word s) e in
+    none s p (sym words.0 ∙ is) (same_numbers (numbers_of v s) (numbers_in os) rest after p.0 found.0 (sym words.1 ∙ found.1)).0
 
 pub no_nodes : (text word a : List ℕ) → Splits IsWordByte text word a → word ≢ codes "nodes" → ¬ BeginsWithNodes text
 no_nodes text word a h none (n, rest, p, e) = none (one_word text word a (codes "nodes") (n ∷ []) rest h refl e).0
@@ -69,7 +76,7 @@ pub is_number : (n : ℕ) → IsNodeCount n → All IsNumber (n ∷ [])
 is_number n p = All-cons IsNumber n [] (omega (arith, p.1)) (All-nil IsNumber)
 
 pub no_count : (text word a : List ℕ) → Splits IsWordByte text word a
-    → ((ks rest : List ℕ) → All IsNumber ks → length ks ≤ 3 → a ≢ spaced ks ++ 10 ∷ rest) → ¬ BeginsWithNodes text
+    → ((ks rest : List ℕ) → All IsNumber ks → length ks ≤ 4 → a ≢ spaced ks ++ 10 ∷ rest) → ¬ BeginsWithNodes text
 no_count text word a h none (n, rest, p, e) =
     none (n ∷ []) rest (is_number n p) (lit≤ tt) (one_word text word a (codes "nodes") (n ∷ []) rest h refl e).1
 

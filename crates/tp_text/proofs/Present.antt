@@ -1,13 +1,15 @@
 -- Steps that go on with the present generation.
-use Rattle.std.proofs.Common.{◌≡◌, ℕ, ◌+◌, ◌≤◌, true, false, cond, List, [], ◌∷◌, ◌++◌, refl, ap, ◌∙◌, inl, inr, arith}
+use Rattle.std.proofs.Common.{◌≡◌, ℕ, ◌+◌, ◌≤◌, true, false, cond, List, [], ◌∷◌, ◌++◌, refl, sym, ap, subst, ◌∙◌, inl, inr, arith}
 use Rattle.std.specs.Prelude.{IsFalse}
 use Rattle.std.proofs.lemmas.Bool.{cases_Bool}
 use Rattle.tp_base.specs.declared.Step.{Step}
 use Rattle.tp_base.specs.declared.Step.TheVariants.{Reopen}
-use Rattle.tp_wave.specs.Generations.{present, generation}
-use Rattle.tp_wave.specs.Machine.{History, steps_of, Needs, IsRun}
+use Rattle.tp_wave.specs.Generations.{present, present_events, generation}
+use Rattle.tp_wave.specs.Machine.{History, Needs, IsRun}
 use Rattle.tp_wave.specs.Steps.{any, count, is_reopen}
+use Rattle.tp_wave.proofs.Generations as events
 use Rattle.tp_core.proofs.Generations.{present-goes_on}
+use Rattle.tp_text.specs.TraceOf.{RunsOfOneGeneration}
 
 -- None of these steps is a reopening, so they stand in the generation that was present before.
 pub present-append : (later past : List Step) → IsFalse (any is_reopen later) → present (later ++ past) ≡ later ++ present past
@@ -37,11 +39,20 @@ same_generation (s ∷ later) past e =
 
 -- ---- a run of one generation
 
-pub goes_on : (n : ℕ) (past : History) (i : ℕ) (s : Step) → Needs n past i s → IsFalse (is_reopen s)
+goes_on : (n : ℕ) (past : History) (i : ℕ) (s : Step) → Needs n past i s → IsFalse (is_reopen s)
 goes_on n past i Reopen needed = absurd needed
 goes_on n past i _ needed = refl
 
-pub all_present : (n : ℕ) (h : History) → IsRun n h → present (steps_of h) ≡ steps_of h
+pub all_present : (n : ℕ) (h : History) → IsRun n h → present_events h ≡ h
 all_present n [] r = refl
 all_present n (e ∷ h) r =
-    present-goes_on e.1 (steps_of h) (goes_on n h e.0.0 e.1 r.0.needed) ∙ ap (λ (xs : List Step). e.1 ∷ xs) (all_present n h r.1)
+    events.present-goes_on e h (goes_on n h e.0.0 e.1 r.0.needed) ∙ ap (λ (xs : History). e ∷ xs) (all_present n h r.1)
+
+run_behind : (n : ℕ) (later past : History) → IsRun n (later ++ past) → IsRun n past
+run_behind n [] past r = r
+run_behind n (e ∷ later) past r = run_behind n later past r.1
+
+pub run_in_each : RunsOfOneGeneration
+run_in_each n h r later past e =
+    let run : IsRun n past = run_behind n later past (subst (IsRun n) e r) in
+    subst (IsRun n) (sym (all_present n past run)) run

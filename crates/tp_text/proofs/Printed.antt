@@ -26,7 +26,8 @@ lines_written n f start old new x is before e =
     ∙ ap (λ l. start ++ l) (sym (lines_more n f))
 
 -- what is written in four pieces
-pub four_pieces : (out a b d e f x y z w : List ℕ) → x ≡ out ++ a → y ≡ x ++ b → z ≡ y ++ (d ++ e) → w ≡ z ++ f → w ≡ out ++ ((((a ++ b) ++ d) ++ e) ++ f)
+pub four_pieces : (out a b d e f x y z w : List ℕ) → x ≡ out ++ a → y ≡ x ++ b → z ≡ y ++ (d ++ e) → w ≡ z ++ f
+    → w ≡ out ++ ((((a ++ b) ++ d) ++ e) ++ f)
 four_pieces out a b d e f x y z w p q r s = s ∙ simp (r, q, p, append_assoc)
 
 lines_same : (n : ℕ) (f g : ℕ → NodeNumbers) → ((i : ℕ) → i < n → f i ≡ g i) → node_lines n f ≡ node_lines n g
@@ -49,7 +50,8 @@ pub record AddsUp (xs : List NodeNumbers) (x : NodeNumbers) : Type 0 where
   pub sent : x.sent ≡ total (length xs) (λ i. (listed xs i).sent)
   pub received : x.received ≡ total (length xs) (λ i. (listed xs i).received)
 
-numbers_lines : (xs : List NodeNumbers) (a : Accepted) → Lists xs a → node_lines (length xs) (listed xs) ≡ node_lines a.nodes (λ i. numbers_at i a)
+numbers_lines : (xs : List NodeNumbers) (a : Accepted) → Lists xs a
+    → node_lines (length xs) (listed xs) ≡ node_lines a.nodes (λ i. numbers_at i a)
 numbers_lines xs a h = ap (λ n. node_lines n (listed xs)) h.size ∙ lines_same a.nodes (listed xs) (λ i. numbers_at i a) h.each
 
 total_of : (xs : List NodeNumbers) (a : Accepted) → Lists xs a → (field : NodeNumbers → ℕ)
@@ -58,7 +60,8 @@ total_of xs a h field =
     ap (λ n. total n (λ i. field (listed xs i))) h.size
     ∙ total_same a.nodes (λ i. field (listed xs i)) (λ i. field (numbers_at i a)) (λ i l. ap field (h.each i l))
 
-numbers_sums : (xs : List NodeNumbers) (x : NodeNumbers) (a : Accepted) → Lists xs a → AddsUp xs x → counts x ≡ counts (all_numbers a.nodes (λ i. numbers_at i a))
+numbers_sums : (xs : List NodeNumbers) (x : NodeNumbers) (a : Accepted) → Lists xs a → AddsUp xs x
+    → counts x ≡ counts (all_numbers a.nodes (λ i. numbers_at i a))
 numbers_sums xs x a h t =
     let p : x.pending ≡ total a.nodes (λ i. (numbers_at i a).pending) = t.pending ∙ total_of xs a h (λ y. y.pending) in
     let s : x.sent ≡ total a.nodes (λ i. (numbers_at i a).sent) = t.sent ∙ total_of xs a h (λ y. y.sent) in
@@ -78,7 +81,8 @@ truth false h = absurd (search (rules, h))
 some_left : (n : ℕ) → (suc n == 0) ≡ false
 some_left n = grind (arith, nat_tests)
 
-quiet_by_parts : (b t : Bool) (actions : List Action) (messages : List Message) → (IsTrue b ↔ (IsFalse t × (actions ≡ []) × (messages ≡ [])))
+quiet_by_parts : (b t : Bool) (actions : List Action) (messages : List Message)
+    → (IsTrue b ↔ (IsFalse t × (actions ≡ []) × (messages ≡ [])))
     → b ≡ (not t && ((length actions == 0) && (length messages == 0)))
 quiet_by_parts b true actions messages h = no_truth b (λ y. let no : IsFalse true = (h.0 y).0 in search (rules, no))
 quiet_by_parts b false [] [] h = truth b (h.1 (search rules, refl, refl))
@@ -93,9 +97,11 @@ quiet_is b w h = quiet_by_parts b (list_any (λ x. not (is_done x.life)) w.tasks
 three_pieces : (out a b d p q r : List ℕ) → p ≡ out ++ a → q ≡ p ++ b → r ≡ q ++ d → r ≡ out ++ ((a ++ b) ++ d)
 three_pieces out a b d p q r e f g = g ∙ simp (f, e, append_assoc)
 
-pub closing_written : (a : Accepted) (xs : List NodeNumbers) (x : NodeNumbers) (under : ℕ) (b : Bool) (out p q r : List ℕ) → Lists xs a → AddsUp xs x
+pub closing_written : (a : Accepted) (xs : List NodeNumbers) (x : NodeNumbers) (under : ℕ) (b : Bool) (out p q r : List ℕ)
+    → Lists xs a → AddsUp xs x
     → under ≡ length (world_of a).messages → (IsTrue b ↔ IsQuiet (world_of a)) → p ≡ out ++ node_lines (length xs) (listed xs)
-    → q ≡ p ++ line (codes "total" ++ counts x ++ codes " under " ++ decimal under) → r ≡ q ++ line (codes "quiet " ++ (if b then codes "yes" else codes "no"))
+    → q ≡ p ++ line (codes "total" ++ counts x ++ codes " under " ++ decimal under)
+    → r ≡ q ++ line (codes "quiet " ++ (if b then codes "yes" else codes "no"))
     → r ≡ out ++ closing a
 closing_written a xs x under b out p q r lists sums u quiet ep eq er =
     three_pieces out (node_lines a.nodes (λ i. numbers_at i a))

@@ -26,6 +26,7 @@ use Rattle.tp_text.specs.Trace.{format_line, trace, trace_line, words, BeginsWit
 use Rattle.tp_text.proofs.Splits.{All-nil, All-cons}
 use Rattle.tp_text.proofs.Taking.{is_over, step_counts}
 use Rattle.tp_text.proofs.TraceLines.{judge_parts}
+use Rattle.tp_text.specs.declared.version.Version.{Version}
 
 -- ---- one line
 
@@ -42,17 +43,27 @@ sound_more n lines l h none right =
     let may = lawful_where_none (taken n lines) (step_in l) none in
     record { run = (may.0, h.run); few = omega (arith, may.1, length_steps lines); justified = (right, h.justified) }
 
+pub sound_past : (n : ℕ) (l : TraceLine) (past : List TraceLine) → IsSound n (l ∷ past) → IsSound n past
+sound_past n l past h = record { run = h.run.1; few = omega (arith, h.few); justified = h.justified.1 }
+
+pub sound_behind : (n : ℕ) (later past : List TraceLine) → IsSound n (later ++ past) → IsSound n past
+sound_behind n [] past h = h
+sound_behind n (l ∷ later) past h = sound_behind n later past (sound_past n l (later ++ past) h)
+
 -- a line beyond a flaw
-pub found_more : (n : ℕ) (lines : List TraceLine) (l : TraceLine) (a : Auditor) (o : Option (ℕ × Flaw)) → true ≡ is_some o → IsFound n lines a o → IsFound n (l ∷ lines) a o
+pub found_more : (n : ℕ) (lines : List TraceLine) (l : TraceLine) (a : Auditor) (o : Option (ℕ × Flaw)) → true ≡ is_some o
+    → IsFound n lines a o → IsFound n (l ∷ lines) a o
 found_more n lines l a None is h = cc
 found_more n lines l a (Some f) is (later, m, past, e, sound, flaw, number) = (l ∷ later, m, past, ap (λ x. l ∷ x) e, sound, flaw, number)
 
 -- no flaw was found so far
-pub none_found : (n : ℕ) (lines : List TraceLine) (a : Auditor) (o : Option (ℕ × Flaw)) → false ≡ is_some o → IsFound n lines a o → AreTaken n lines a
+pub none_found : (n : ℕ) (lines : List TraceLine) (a : Auditor) (o : Option (ℕ × Flaw)) → false ≡ is_some o → IsFound n lines a o
+    → AreTaken n lines a
 none_found n lines a None is h = h
 none_found n lines a (Some f) is h = cc
 
-pub found_none : (n : ℕ) (lines : List TraceLine) (a : Auditor) (o : Option (ℕ × Flaw)) → false ≡ is_some o → AreTaken n lines a → IsFound n lines a o
+pub found_none : (n : ℕ) (lines : List TraceLine) (a : Auditor) (o : Option (ℕ × Flaw)) → false ≡ is_some o → AreTaken n lines a
+    → IsFound n lines a o
 found_none n lines a None is h = h
 found_none n lines a (Some f) is h = cc
 
@@ -65,7 +76,8 @@ refused_is None asks r h ample = absurd (ample h.0)
 refused_is (Some f) asks r h ample = ap (λ x. Some x) (sym h)
 
 -- a line that is refused
-pub refused_at : (n : ℕ) (lines : List TraceLine) (l : TraceLine) (a : Auditor) (k : ℕ) (r : Refusal) (after : Accepted) → AreTaken n lines a → k ≡ length lines + 3
+pub refused_at : (n : ℕ) (lines : List TraceLine) (l : TraceLine) (a : Auditor) (k : ℕ) (r : Refusal) (after : Accepted)
+    → AreTaken n lines a → k ≡ length lines + 3
     → Answers a.core (step_in l) (Err r) after → r ≢ NoMemory → HasFlawAt n (l ∷ lines) k (flaws.Refused r)
 refused_at n lines l a k r after h number said ample =
     let is : refusal a.core (step_in l) ≡ Some r = refused_is (refusal a.core (step_in l)) (asks_memory a.core (step_in l)) r said.0 ample in
@@ -74,29 +86,32 @@ refused_at n lines l a k r after h number said ample =
 judged_is : (o p : Option ℕ) → judged o ≡ judged p → o ≡ p
 judged_is None None e = refl
 judged_is None (Some w) e = cc
-judged_is (Some v) None e = cc
-judged_is (Some v) (Some w) e = cc
+judged_is (Some u) None e = cc
+judged_is (Some u) (Some w) e = cc
 
-told_right : (n : ℕ) (past : List Step) (l : TraceLine) (reply : Reply) → reply ≡ reply_to n past (step_in l) → IsTold l reply → IsJustified n past l
+told_right : (n : ℕ) (past : List Step) (l : TraceLine) (reply : Reply) → reply ≡ reply_to n past (step_in l) → IsTold l reply
+    → IsJustified n past l
 told_right n past (Plain s) reply e told = tt
 told_right n past (Judged o) reply e told = judged_is o (judgement n (present past)) (sym told ∙ e)
 
 -- a line that is as it should be
-pub taken_more : (n : ℕ) (lines : List TraceLine) (l : TraceLine) (a new : Auditor) (reply : Reply) → AreTaken n lines a → IsWritten l
+pub taken_more : (v : Version) (n : ℕ) (lines : List TraceLine) (l : TraceLine) (a new : Auditor) (reply : Reply)
+    → AreTaken n lines a → IsWritten v l
     → Answers a.core (step_in l) (Ok reply) new.core → IsTold l reply
-    → ((m : ℕ) (past : List Step) → a.account ≡ account m past → IsWritten l → IsJustified m past l → new.account ≡ account m (step_in l ∷ past)) → AreTaken n (l ∷ lines) new
-taken_more n lines l a new reply h written said told counted =
+    → ((u : Version) (m : ℕ) (past : List Step) → a.account ≡ account m past → IsWritten u l → IsJustified m past l → new.account ≡ account m (step_in l ∷ past)) → AreTaken n (l ∷ lines) new
+taken_more v n lines l a new reply h written said told counted =
     let none : refusal (taken n lines) (step_in l) ≡ None = subst (λ (x : Accepted). refusal x (step_in l) ≡ None) h.core said.0 in
     let is : reply ≡ reply_to n (steps_in lines) (step_in l) = subst (λ (x : Accepted). reply ≡ reply_to x.nodes x.steps (step_in l)) h.core said.1 in
     let right = told_right n (steps_in lines) l reply is told in
     record {
       sound = sound_more n lines l h.sound none right;
       core = said.2 ∙ ap (λ (x : Accepted). record x { steps = step_in l ∷ x.steps }) h.core;
-      account = counted n (steps_in lines) h.account written right;
+      account = counted v n (steps_in lines) h.account written right;
     }
 
 -- a judgement with other words
-pub unjustified_at : (n : ℕ) (lines : List TraceLine) (l : TraceLine) (a : Auditor) (k : ℕ) (reply : Reply) (after : Accepted) → AreTaken n lines a → k ≡ length lines + 3
+pub unjustified_at : (n : ℕ) (lines : List TraceLine) (l : TraceLine) (a : Auditor) (k : ℕ) (reply : Reply) (after : Accepted)
+    → AreTaken n lines a → k ≡ length lines + 3
     → Answers a.core (step_in l) (Ok reply) after → ¬ IsTold l reply → HasFlawAt n (l ∷ lines) k flaws.Unjustified
 unjustified_at n lines (Plain s) a k reply after h number said other = absurd (other tt)
 unjustified_at n lines (Judged o) a k reply after h number said other =
@@ -108,84 +123,90 @@ unjustified_at n lines (Judged o) a k reply after h number said other =
 -- ---- all lines
 
 -- These lines were read from the front of the text, and so many lines were read.
-pub record Reads (text : List ℕ) (n : ℕ) (lines : List TraceLine) (rest : List ℕ) (number : ℕ) : Type 0 where
+pub record Reads (v : Version) (text : List ℕ) (n : ℕ) (lines : List TraceLine) (rest : List ℕ) (number : ℕ) : Type 0 where
   pub count : IsNodeCount n
-  pub written : All IsWritten lines
-  pub text_is : text ≡ trace n lines ++ rest
+  pub written : All (IsWritten v) lines
+  pub text_is : text ≡ trace v n lines ++ rest
   pub number_is : number ≡ length lines + 3
   pub short : number + length rest ≤ length text + 3
 
-pub reads_none : (text behind : List ℕ) (n : ℕ) (rest : List ℕ) → text ≡ format_line ++ behind → IsNodeCount n × (behind ≡ nodes_line n ++ rest) → Reads text n [] rest 3
-reads_none text behind n rest e found =
-    let whole : text ≡ (format_line ++ nodes_line n) ++ rest = e ∙ ap (λ l. format_line ++ l) found.1 ∙ sym (append_assoc format_line (nodes_line n) rest) in
+pub reads_none : (v : Version) (text behind : List ℕ) (n : ℕ) (rest : List ℕ) → text ≡ format_line v ++ behind
+    → IsNodeCount n × (behind ≡ nodes_line n ++ rest) → Reads v text n [] rest 3
+reads_none v text behind n rest e found =
+    let whole : text ≡ (format_line v ++ nodes_line n) ++ rest = e ∙ ap (λ l. format_line v ++ l) found.1 ∙ sym (append_assoc (format_line v) (nodes_line n) rest) in
     record {
       count = found.0;
-      written = All-nil IsWritten;
+      written = All-nil (IsWritten v);
       text_is = whole;
       number_is = refl;
-      short = omega (arith, ap length whole, length-append (format_line ++ nodes_line n) rest);
+      short = omega (arith, ap length whole, length-append (format_line v ++ nodes_line n) rest);
     }
 
-line_counts : (l : TraceLine) (behind : List ℕ) → length behind + 1 ≤ length (trace_line l ++ behind)
-line_counts (Plain s) behind = step_counts s behind
-line_counts (Judged o) behind = let e = judge_parts o behind in omega (arith, ap length e, length-append (words o) (10 ∷ behind))
+line_counts : (v : Version) (l : TraceLine) (behind : List ℕ) → length behind + 1 ≤ length (trace_line v l ++ behind)
+line_counts v (Plain s) behind = step_counts v s behind
+line_counts v (Judged o) behind = let e = judge_parts v o behind in omega (arith, ap length e, length-append (words o) (10 ∷ behind))
 
-pub line_shorter : (l : TraceLine) (rest behind : List ℕ) → rest ≡ trace_line l ++ behind → length behind < length rest
-line_shorter l rest behind e = omega (arith, ap length e, line_counts l behind)
+pub line_shorter : (v : Version) (l : TraceLine) (rest behind : List ℕ) → rest ≡ trace_line v l ++ behind → length behind < length rest
+line_shorter v l rest behind e = omega (arith, ap length e, line_counts v l behind)
 
-pub reads_one : (text : List ℕ) (n : ℕ) (lines : List TraceLine) (rest : List ℕ) (number : ℕ) (l : TraceLine) (behind : List ℕ)
-    → Reads text n lines rest number → IsWritten l × (rest ≡ trace_line l ++ behind) → Reads text n (l ∷ lines) behind (number + 1)
-reads_one text n lines rest number l behind h found = record {
+pub reads_one : (v : Version) (text : List ℕ) (n : ℕ) (lines : List TraceLine) (rest : List ℕ) (number : ℕ) (l : TraceLine) (behind : List ℕ)
+    → Reads v text n lines rest number → IsWritten v l × (rest ≡ trace_line v l ++ behind) → Reads v text n (l ∷ lines) behind (number + 1)
+reads_one v text n lines rest number l behind h found = record {
   count = h.count;
-  written = All-cons IsWritten l lines found.0 h.written;
-  text_is = h.text_is ∙ ap (λ x. trace n lines ++ x) found.1 ∙ sym (append_assoc (trace n lines) (trace_line l) behind);
+  written = All-cons (IsWritten v) l lines found.0 h.written;
+  text_is = h.text_is ∙ ap (λ x. trace v n lines ++ x) found.1 ∙ sym (append_assoc (trace v n lines) (trace_line v l) behind);
   number_is = omega (arith, h.number_is);
-  short = omega (arith, h.short, ap length found.1, line_counts l behind);
+  short = omega (arith, h.short, ap length found.1, line_counts v l behind);
 }
 
-reads_trace : (text : List ℕ) (n : ℕ) (lines : List TraceLine) (rest : List ℕ) (number : ℕ) → Reads text n lines rest number → length rest ≡ 0 → IsTrace text n lines
-reads_trace text n lines rest number h none = record {
+reads_trace : (v : Version) (text : List ℕ) (n : ℕ) (lines : List TraceLine) (rest : List ℕ) (number : ℕ)
+    → Reads v text n lines rest number → length rest ≡ 0 → IsTrace text v n lines
+reads_trace v text n lines rest number h none = record {
   nodes = h.count;
   written = h.written;
-  text = h.text_is ∙ ap (λ x. trace n lines ++ x) (is_over rest none) ∙ append-nil (trace n lines);
+  text = h.text_is ∙ ap (λ x. trace v n lines ++ x) (is_over rest none) ∙ append-nil (trace v n lines);
 }
 
 -- what is answered once all lines were taken
-abbrev pub IsAnswerOf : Auditor → Option (ℕ × Flaw) → Verdict → List ℕ → Type 0
-IsAnswerOf a None verdict out = (verdict ≡ Sound) × (out ≡ summary a.account)
-IsAnswerOf a (Some found) verdict out = (verdict ≡ Refused) × (out ≡ flaw_line found.0 found.1)
+abbrev pub IsAnswerOf : Version → Auditor → Option (ℕ × Flaw) → Verdict → List ℕ → Type 0
+IsAnswerOf v a None verdict out = (verdict ≡ Sound) × (out ≡ summary v a.account)
+IsAnswerOf v a (Some found) verdict out = (verdict ≡ Refused) × (out ≡ flaw_line found.0 found.1)
 
-pub answer_as : (a : Auditor) (o : Option (ℕ × Flaw)) (verdict : Verdict) (out : List ℕ)
-    → MatchOption o ((verdict ≡ Sound) × (out ≡ summary a.account)) (λ found. (verdict ≡ Refused) × (out ≡ flaw_line found.0 found.1)) → IsAnswerOf a o verdict out
-answer_as a None verdict out h = h
-answer_as a (Some found) verdict out h = h
+pub answer_as : (v : Version) (a : Auditor) (o : Option (ℕ × Flaw)) (verdict : Verdict) (out : List ℕ)
+    → MatchOption o ((verdict ≡ Sound) × (out ≡ summary v a.account)) (λ found. (verdict ≡ Refused) × (out ≡ flaw_line found.0 found.1)) → IsAnswerOf v a o verdict out
+answer_as v a None verdict out h = h
+answer_as v a (Some found) verdict out h = h
 
-answer_found : (text : List ℕ) (n : ℕ) (lines : List TraceLine) (a : Auditor) (o : Option (ℕ × Flaw)) (verdict : Verdict) (out : List ℕ)
-    → IsTrace text n lines → IsFound n lines a o → IsAnswerOf a o verdict out → IsAuditText text verdict out
-answer_found text n lines a None verdict out t h (v, e) =
-    subst (λ w. IsAuditText text w out) (sym v) (n, lines, t, h.sound, e ∙ ap summary h.account)
-answer_found text n lines a (Some found) verdict out t h (v, e) =
-    subst (λ w. IsAuditText text w out) (sym v) (inr (n, lines, found.0, found.1, t, h, e))
+answer_found : (v : Version) (text : List ℕ) (n : ℕ) (lines : List TraceLine) (a : Auditor) (o : Option (ℕ × Flaw)) (verdict : Verdict) (out : List ℕ)
+    → IsTrace text v n lines → IsFound n lines a o → IsAnswerOf v a o verdict out → IsAuditText text verdict out
+answer_found v text n lines a None verdict out t h (is, e) =
+    subst (λ w. IsAuditText text w out) (sym is) (v, n, lines, t, h.sound, e ∙ ap (summary v) h.account)
+answer_found v text n lines a (Some found) verdict out t h (is, e) =
+    subst (λ w. IsAuditText text w out) (sym is) (inr (v, n, lines, found.0, found.1, t, h, e))
 
-pub reads_all : (text : List ℕ) (n : ℕ) (lines : List TraceLine) (rest : List ℕ) (number : ℕ) (a : Auditor) (verdict : Verdict) (out : List ℕ)
-    → Reads text n lines rest number → length rest ≡ 0 → Knows n lines a → IsAnswerOf a a.flaw verdict out → IsAuditText text verdict out
-reads_all text n lines rest number a verdict out h none knows is = answer_found text n lines a a.flaw verdict out (reads_trace text n lines rest number h none) knows is
+pub reads_all : (v : Version) (text : List ℕ) (n : ℕ) (lines : List TraceLine) (rest : List ℕ) (number : ℕ) (a : Auditor) (verdict : Verdict) (out : List ℕ)
+    → Reads v text n lines rest number → length rest ≡ 0 → Knows n lines a → IsAnswerOf v a a.flaw verdict out
+    → IsAuditText text verdict out
+reads_all v text n lines rest number a verdict out h none knows is = answer_found v text n lines a a.flaw verdict out (reads_trace v text n lines rest number h none) knows is
 
-pub reads_fault : (text : List ℕ) (n : ℕ) (lines : List TraceLine) (rest : List ℕ) (number : ℕ) (out : List ℕ) → Reads text n lines rest number → 0 < length rest
-    → ¬ BeginsWithLine rest → out ≡ line (codes "syntax line " ++ decimal number) → IsAuditText text Refused out
-reads_fault text n lines rest number out h some none written =
-    let before : IsTrace (trace n lines) n lines = record { nodes = h.count; written = h.written; text = refl } in
-    let breaks : BreaksOff text n lines rest = record {
+pub reads_fault : (v : Version) (text : List ℕ) (n : ℕ) (lines : List TraceLine) (rest : List ℕ) (number : ℕ) (out : List ℕ)
+    → Reads v text n lines rest number → 0 < length rest
+    → ¬ BeginsWithLine v rest → out ≡ line (codes "syntax line " ++ decimal number) → IsAuditText text Refused out
+reads_fault v text n lines rest number out h some none written =
+    let before : IsTrace (trace v n lines) v n lines = record { nodes = h.count; written = h.written; text = refl } in
+    let breaks : BreaksOff text v n lines rest = record {
       before = before;
       text = h.text_is;
       more = λ e. omega (arith, some, ap length e);
       no_line = none;
     } in
-    inl (number, inr (inr (n, lines, rest, breaks, h.number_is)), written)
+    inl (number, inr (inr (v, n, lines, rest, breaks, h.number_is)), written)
 
-pub fault_format : (text out : List ℕ) → ¬ BeginsWithFormat text → out ≡ line (codes "syntax line " ++ decimal 1) → IsAuditText text Refused out
+pub fault_format : (text out : List ℕ) → ¬ BeginsWithFormat text → out ≡ line (codes "syntax line " ++ decimal 1)
+    → IsAuditText text Refused out
 fault_format text out none written = inl (1, inl (refl, none), written)
 
-pub fault_nodes : (text behind out : List ℕ) → text ≡ format_line ++ behind → ¬ BeginsWithNodes behind → out ≡ line (codes "syntax line " ++ decimal 2)
+pub fault_nodes : (v : Version) (text behind out : List ℕ) → text ≡ format_line v ++ behind → ¬ BeginsWithNodes behind
+    → out ≡ line (codes "syntax line " ++ decimal 2)
     → IsAuditText text Refused out
-fault_nodes text behind out e none written = inl (2, inr (inl (refl, (behind, e, none))), written)
+fault_nodes v text behind out e none written = inl (2, inr (inl (refl, (v, (behind, e, none)))), written)

@@ -10,7 +10,9 @@ use Rattle.tp_text.specs.declared.keyword.Keyword.{Keyword}
 use Rattle.tp_text.specs.declared.keyword.Keyword.TheVariants as keywords
 use Rattle.tp_text.specs.Keywords.{keyword_text}
 use Rattle.tp_text.specs.Script.{step_line}
-use Rattle.tp_text.specs.Spelling.{IsNumber, IsSpelled, IsOfVersionOne, spaced, line, word_of, numbers_of}
+use Rattle.tp_text.specs.declared.version.Version.{Version}
+use Rattle.tp_text.specs.declared.version.Version.TheVariants as versions
+use Rattle.tp_text.specs.Spelling.{IsNumber, IsSpelled, IsOfVersion, spaced, line, word_of, numbers_of}
 use Rattle.tp_text.specs.Words.{IsWordByte, BeginsWithout, Splits}
 use Rattle.tp_text.proofs.Lines.{ends_number}
 use Rattle.tp_text.proofs.Numbers.{one_number}
@@ -48,23 +50,23 @@ step_word (steps.Up i) = refl
 step_word steps.Judge = refl
 step_word steps.Reopen = refl
 
-pub keyword_of_step : (s : Step) → IsOfVersionOne s → (k : Keyword) × (word_of s ≡ keyword_text k)
-keyword_of_step (steps.Insert i t k) v = (keywords.Insert, refl)
-keyword_of_step (steps.Supply t) v = (keywords.Supply, refl)
-keyword_of_step (steps.Begin t) v = (keywords.Begin, refl)
-keyword_of_step (steps.Done t) v = (keywords.Done, refl)
-keyword_of_step (steps.ActionOpen i a) v = (keywords.Open, refl)
-keyword_of_step (steps.ActionClose i a) v = (keywords.Close, refl)
-keyword_of_step (steps.Ready i) v = (keywords.Ready, refl)
-keyword_of_step (steps.Send i j m g) v = (keywords.Send, refl)
-keyword_of_step (steps.Recv j m g) v = (keywords.Recv, refl)
-keyword_of_step (steps.MessageEnd j m g) v = (keywords.End, refl)
-keyword_of_step steps.Start v = (keywords.Start, refl)
-keyword_of_step (steps.Down i) v = (keywords.Down, refl)
-keyword_of_step (steps.Give i) v = (keywords.Give, refl)
-keyword_of_step (steps.Up i) v = (keywords.Up, refl)
-keyword_of_step steps.Judge v = (keywords.Judge, refl)
-keyword_of_step steps.Reopen v = absurd v
+pub keyword_of_step : (s : Step) → (k : Keyword) × (word_of s ≡ keyword_text k)
+keyword_of_step (steps.Insert i t k) = (keywords.Insert, refl)
+keyword_of_step (steps.Supply t) = (keywords.Supply, refl)
+keyword_of_step (steps.Begin t) = (keywords.Begin, refl)
+keyword_of_step (steps.Done t) = (keywords.Done, refl)
+keyword_of_step (steps.ActionOpen i a) = (keywords.Open, refl)
+keyword_of_step (steps.ActionClose i a) = (keywords.Close, refl)
+keyword_of_step (steps.Ready i) = (keywords.Ready, refl)
+keyword_of_step (steps.Send i j m g) = (keywords.Send, refl)
+keyword_of_step (steps.Recv j m g) = (keywords.Recv, refl)
+keyword_of_step (steps.MessageEnd j m g) = (keywords.End, refl)
+keyword_of_step steps.Start = (keywords.Start, refl)
+keyword_of_step (steps.Down i) = (keywords.Down, refl)
+keyword_of_step (steps.Give i) = (keywords.Give, refl)
+keyword_of_step (steps.Up i) = (keywords.Up, refl)
+keyword_of_step steps.Judge = (keywords.Judge, refl)
+keyword_of_step steps.Reopen = (keywords.Reopen, refl)
 
 pub ends_word : (ks rest : List ℕ) → BeginsWithout IsWordByte (spaced ks ++ 10 ∷ rest)
 ends_word [] rest = λ h. h.1 refl
@@ -80,7 +82,8 @@ one_word text word a w ks rest h q e =
     split_unique IsWordByte word w a (spaced ks ++ 10 ∷ rest) h.1 (word_bytes w q) h.2 (ends_word ks rest) (sym h.0 ∙ e ∙ line_parts w ks rest)
 
 -- and so are its numbers
-pub same_numbers : (js ks a b : List ℕ) → All IsNumber js → All IsNumber ks → spaced js ++ 10 ∷ a ≡ spaced ks ++ 10 ∷ b → (js ≡ ks) × (a ≡ b)
+pub same_numbers : (js ks a b : List ℕ) → All IsNumber js → All IsNumber ks → spaced js ++ 10 ∷ a ≡ spaced ks ++ 10 ∷ b
+    → (js ≡ ks) × (a ≡ b)
 same_numbers [] [] a b p q e = (refl, cc)
 same_numbers [] (k ∷ ks) a b p q e = cc
 same_numbers (j ∷ js) [] a b p q e = cc
@@ -94,10 +97,15 @@ same_numbers (j ∷ js) (k ∷ ks) a b p q e =
     let tail : js ≡ ks = rest.0 in
     (cc, rest.1)
 
+-- the generation that a number spells, or that of all messages
+abbrev pub generation_spelled : Version → ℕ → ℕ
+generation_spelled versions.One k = 1
+generation_spelled versions.Two k = k
+
 -- the step that a word and numbers spell
-abbrev pub step_spelled : List ℕ → List ℕ → Step
-step_spelled w ks =
-    let a = get_or ks 0 0 in let b = get_or ks 1 0 in let d = get_or ks 2 0 in
+abbrev pub step_spelled : Version → List ℕ → List ℕ → Step
+step_spelled v w ks =
+    let a = get_or ks 0 0 in let b = get_or ks 1 0 in let d = get_or ks 2 0 in let e = get_or ks 3 0 in
     cond (bytes_eq w (codes "insert")) (steps.Insert (record { 0 = a }) (record { 0 = b }) (record { count = d }))
     (cond (bytes_eq w (codes "supply")) (steps.Supply (record { 0 = a }))
     (cond (bytes_eq w (codes "begin")) (steps.Begin (record { 0 = a }))
@@ -105,37 +113,42 @@ step_spelled w ks =
     (cond (bytes_eq w (codes "open")) (steps.ActionOpen (record { 0 = a }) (record { 0 = b }))
     (cond (bytes_eq w (codes "close")) (steps.ActionClose (record { 0 = a }) (record { 0 = b }))
     (cond (bytes_eq w (codes "ready")) (steps.Ready (record { 0 = a }))
-    (cond (bytes_eq w (codes "send")) (steps.Send (record { 0 = a }) (record { 0 = b }) (record { 0 = d }) (record { 0 = 1 }))
-    (cond (bytes_eq w (codes "recv")) (steps.Recv (record { 0 = a }) (record { 0 = b }) (record { 0 = 1 }))
-    (cond (bytes_eq w (codes "end")) (steps.MessageEnd (record { 0 = a }) (record { 0 = b }) (record { 0 = 1 }))
+    (cond (bytes_eq w (codes "send")) (steps.Send (record { 0 = a }) (record { 0 = b }) (record { 0 = d }) (record { 0 = generation_spelled v e }))
+    (cond (bytes_eq w (codes "recv")) (steps.Recv (record { 0 = a }) (record { 0 = b }) (record { 0 = generation_spelled v d }))
+    (cond (bytes_eq w (codes "end")) (steps.MessageEnd (record { 0 = a }) (record { 0 = b }) (record { 0 = generation_spelled v d }))
     (cond (bytes_eq w (codes "start")) steps.Start
     (cond (bytes_eq w (codes "down")) (steps.Down (record { 0 = a }))
     (cond (bytes_eq w (codes "give")) (steps.Give (record { 0 = a }))
-    (cond (bytes_eq w (codes "up")) (steps.Up (record { 0 = a })) steps.Judge)))))))))))))
+    (cond (bytes_eq w (codes "up")) (steps.Up (record { 0 = a }))
+    (cond (bytes_eq w (codes "judge")) steps.Judge steps.Reopen))))))))))))))
 
-pub step_again : (s : Step) → IsOfVersionOne s → step_spelled (word_of s) (numbers_of s) ≡ s
-step_again (steps.Insert i t k) v = refl
-step_again (steps.Supply t) v = refl
-step_again (steps.Begin t) v = refl
-step_again (steps.Done t) v = refl
-step_again (steps.ActionOpen i a) v = refl
-step_again (steps.ActionClose i a) v = refl
-step_again (steps.Ready i) v = refl
-step_again (steps.Send i j m g) v = ap (λ k. steps.Send i j m (record { 0 = k })) (sym v)
-step_again (steps.Recv j m g) v = ap (λ k. steps.Recv j m (record { 0 = k })) (sym v)
-step_again (steps.MessageEnd j m g) v = ap (λ k. steps.MessageEnd j m (record { 0 = k })) (sym v)
-step_again steps.Start v = refl
-step_again (steps.Down i) v = refl
-step_again (steps.Give i) v = refl
-step_again (steps.Up i) v = refl
-step_again steps.Judge v = refl
-step_again steps.Reopen v = absurd v
+pub step_again : (v : Version) (s : Step) → IsOfVersion v s → step_spelled v (word_of s) (numbers_of v s) ≡ s
+step_again v (steps.Insert i t k) h = refl
+step_again v (steps.Supply t) h = refl
+step_again v (steps.Begin t) h = refl
+step_again v (steps.Done t) h = refl
+step_again v (steps.ActionOpen i a) h = refl
+step_again v (steps.ActionClose i a) h = refl
+step_again v (steps.Ready i) h = refl
+step_again versions.One (steps.Send i j m g) h = ap (λ k. steps.Send i j m (record { 0 = k })) (sym h)
+step_again versions.Two (steps.Send i j m g) h = refl
+step_again versions.One (steps.Recv j m g) h = ap (λ k. steps.Recv j m (record { 0 = k })) (sym h)
+step_again versions.Two (steps.Recv j m g) h = refl
+step_again versions.One (steps.MessageEnd j m g) h = ap (λ k. steps.MessageEnd j m (record { 0 = k })) (sym h)
+step_again versions.Two (steps.MessageEnd j m g) h = refl
+step_again v steps.Start h = refl
+step_again v (steps.Down i) h = refl
+step_again v (steps.Give i) h = refl
+step_again v (steps.Up i) h = refl
+step_again v steps.Judge h = refl
+step_again v steps.Reopen h = refl
 
 -- the first line spells one step
-pub same_step : (s t : Step) (a b : List ℕ) → IsSpelled s → IsSpelled t → step_line s ++ a ≡ step_line t ++ b → (s ≡ t) × (a ≡ b)
-same_step s t a b p q e =
-    let words = one_word (step_line s ++ a) (word_of s) (spaced (numbers_of s) ++ 10 ∷ a) (word_of t) (numbers_of t) b
-    (line_parts (word_of s) (numbers_of s) a, word_bytes (word_of s) (step_word s), ends_word (numbers_of s) a) (step_word t) e in
-    let numbers = same_numbers (numbers_of s) (numbers_of t) a b p.0 q.0 words.1 in
-    let same = ap (λ w. step_spelled w (numbers_of s)) words.0 ∙ ap (step_spelled (word_of t)) numbers.0 in
-    (sym (step_again s p.2) ∙ same ∙ step_again t q.2, numbers.1)
+pub same_step : (v : Version) (s t : Step) (a b : List ℕ) → IsSpelled v s → IsSpelled v t
+    → step_line v s ++ a ≡ step_line v t ++ b → (s ≡ t) × (a ≡ b)
+same_step v s t a b p q e =
+    let words = one_word (step_line v s ++ a) (word_of s) (spaced (numbers_of v s) ++ 10 ∷ a) (word_of t) (numbers_of v t) b
+    (line_parts (word_of s) (numbers_of v s) a, word_bytes (word_of s) (step_word s), ends_word (numbers_of v s) a) (step_word t) e in
+    let numbers = same_numbers (numbers_of v s) (numbers_of v t) a b p.0 q.0 words.1 in
+    let same = ap (λ w. step_spelled v w (numbers_of v s)) words.0 ∙ ap (step_spelled v (word_of t)) numbers.0 in
+    (sym (step_again v s p.2) ∙ same ∙ step_again v t q.2, numbers.1)

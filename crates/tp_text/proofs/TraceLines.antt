@@ -13,16 +13,18 @@ use Rattle.tp_text.specs.declared.traced.TraceLine.TheVariants.{Plain, Judged}
 use Rattle.tp_text.specs.declared.words.Operands.{Operands}
 use Rattle.tp_text.specs.Keywords.{keyword_text}
 use Rattle.tp_text.specs.Script.{step_line, BeginsWithStep}
-use Rattle.tp_text.specs.Spelling.{IsNumber, IsSpelled, IsOfVersionOne, spaced, word_of, numbers_of}
+use Rattle.tp_text.specs.Spelling.{IsNumber, IsSpelled, IsOfVersion, spaced, word_of, numbers_of}
 use Rattle.tp_text.specs.Trace.{trace_line, words, AreWords, BeginsWithLine, IsWritten}
 use Rattle.tp_text.specs.Words.{IsWordByte, BeginsWithout, Splits, numbers_in}
 use Rattle.tp_text.proofs.NoLine.{few_numbers}
 use Rattle.tp_text.proofs.Spelled.{line_parts, one_word, same_numbers, step_word, word_bytes, keyword_of_step, step_spelled, step_again}
 use Rattle.tp_text.proofs.Splits.{split_unique, All-nil, All-cons}
+use Rattle.tp_text.specs.declared.version.Version.{Version}
 
 -- ---- a judge's words
 
-pub not_plain : (text : List ℕ) → pointwise nat_eq (take 5 text) (codes " not\n") ≡ false → (rest : List ℕ) → text ≢ codes " not" ++ 10 ∷ rest
+pub not_plain : (text : List ℕ) → pointwise nat_eq (take 5 text) (codes " not\n") ≡ false → (rest : List ℕ)
+    → text ≢ codes " not" ++ 10 ∷ rest
 not_plain text h rest e = let bad : true ≡ false = ap (λ t. pointwise nat_eq (take 5 t) (codes " not\n")) (sym e) ∙ h in cc
 
 -- what stands behind a prefix
@@ -30,7 +32,8 @@ pub ended_is : (text a : List ℕ) → pointwise nat_eq (take 6 text) (codes " e
 ended_is text a h e = sym (take-append-drop 6 text) ∙ ap (λ l. l ++ drop 6 text) (same_text (take 6 text) (codes " ended") (sym h)) ∙ ap (λ l. codes " ended" ++ l) (sym e)
 
 pub no_words : (text a : List ℕ) → ((rest : List ℕ) → text ≢ codes " not" ++ 10 ∷ rest) → text ≡ codes " ended" ++ a
-    → ((w : ℕ) (rest : List ℕ) → AreWords (Some w) → a ≢ spaced (w ∷ []) ++ 10 ∷ rest) → (o : Option ℕ) (rest : List ℕ) → AreWords o → text ≢ words o ++ 10 ∷ rest
+    → ((w : ℕ) (rest : List ℕ) → AreWords (Some w) → a ≢ spaced (w ∷ []) ++ 10 ∷ rest) → (o : Option ℕ) (rest : List ℕ)
+    → AreWords o → text ≢ words o ++ 10 ∷ rest
 no_words text a plain is none None rest p e = plain rest e
 no_words text a plain is none (Some w) rest p e =
     let whole : codes " ended" ++ a ≡ codes " ended" ++ (spaced (w ∷ []) ++ 10 ∷ rest) =
@@ -40,50 +43,56 @@ no_words text a plain is none (Some w) rest p e =
 pub one_wave : (w : ℕ) → AreWords (Some w) → All IsNumber (w ∷ [])
 one_wave w p = All-cons IsNumber w [] p.1 (All-nil IsNumber)
 
-pub no_operands_words : (a : List ℕ) → ((ks rest : List ℕ) → All IsNumber ks → length ks ≤ 3 → a ≢ spaced ks ++ 10 ∷ rest)
+pub no_operands_words : (a : List ℕ) → ((ks rest : List ℕ) → All IsNumber ks → length ks ≤ 4 → a ≢ spaced ks ++ 10 ∷ rest)
     → (w : ℕ) (rest : List ℕ) → AreWords (Some w) → a ≢ spaced (w ∷ []) ++ 10 ∷ rest
 no_operands_words a none w rest p e = none (w ∷ []) rest (one_wave w p) (omega arith) e
 
-pub no_wave_words : (a : List ℕ) (os : Operands) (after : List ℕ) → All IsNumber (numbers_in os) × (a ≡ spaced (numbers_in os) ++ 10 ∷ after)
+pub no_wave_words : (a : List ℕ) (os : Operands) (after : List ℕ)
+    → All IsNumber (numbers_in os) × (a ≡ spaced (numbers_in os) ++ 10 ∷ after)
     → ((w : ℕ) → 1 ≤ w → numbers_in os ≢ w ∷ []) → (w : ℕ) (rest : List ℕ) → AreWords (Some w) → a ≢ spaced (w ∷ []) ++ 10 ∷ rest
 no_wave_words a os after found none w rest p e =
     none w p.0 (same_numbers (numbers_in os) (w ∷ []) after rest found.0 (one_wave w p) (sym found.1 ∙ e)).0
 
 -- ---- the numbers of a step
 
-pub no_numbers_behind : (a : List ℕ) (k : Keyword) → ((ks rest : List ℕ) → All IsNumber ks → length ks ≤ 3 → a ≢ spaced ks ++ 10 ∷ rest)
-    → (s : Step) (rest : List ℕ) → IsSpelled s → word_of s ≡ keyword_text k → a ≢ spaced (numbers_of s) ++ 10 ∷ rest
-no_numbers_behind a k none s rest p is e = none (numbers_of s) rest p.0 (few_numbers s) e
+pub no_numbers_behind : (v : Version) (a : List ℕ) (k : Keyword)
+    → ((ks rest : List ℕ) → All IsNumber ks → length ks ≤ 4 → a ≢ spaced ks ++ 10 ∷ rest)
+    → (s : Step) (rest : List ℕ) → IsSpelled v s → word_of s ≡ keyword_text k → a ≢ spaced (numbers_of v s) ++ 10 ∷ rest
+no_numbers_behind v a k none s rest p is e = none (numbers_of v s) rest p.0 (few_numbers v s) e
 
-pub no_step_behind : (a : List ℕ) (k : Keyword) (os : Operands) (after : List ℕ) → All IsNumber (numbers_in os) × (a ≡ spaced (numbers_in os) ++ 10 ∷ after)
-    → ((s : Step) → IsSpelled s → word_of s ≡ keyword_text k → numbers_of s ≢ numbers_in os)
-    → (s : Step) (rest : List ℕ) → IsSpelled s → word_of s ≡ keyword_text k → a ≢ spaced (numbers_of s) ++ 10 ∷ rest
-no_step_behind a k os after found none s rest p is e =
-    none s p is (same_numbers (numbers_of s) (numbers_in os) rest after p.0 found.0 (sym e ∙ found.1)).0
+pub no_step_behind : (v : Version) (a : List ℕ) (k : Keyword) (os : Operands) (after : List ℕ)
+    → All IsNumber (numbers_in os) × (a ≡ spaced (numbers_in os) ++ 10 ∷ after)
+    → ((s : Step) → IsSpelled v s → word_of s ≡ keyword_text k → numbers_of v s ≢ numbers_in os)
+    → (s : Step) (rest : List ℕ) → IsSpelled v s → word_of s ≡ keyword_text k → a ≢ spaced (numbers_of v s) ++ 10 ∷ rest
+no_step_behind v a k os after found none s rest p is e =
+    none s p is (same_numbers (numbers_of v s) (numbers_in os) rest after p.0 found.0 (sym e ∙ found.1)).0
 
 -- ---- a line for a step
 
-abbrev NoStep : List ℕ → Keyword → Type 0
-NoStep a k = (s : Step) (rest : List ℕ) → IsSpelled s → word_of s ≡ keyword_text k → a ≢ spaced (numbers_of s) ++ 10 ∷ rest
+abbrev NoStep : Version → List ℕ → Keyword → Type 0
+NoStep v a k = (s : Step) (rest : List ℕ) → IsSpelled v s → word_of s ≡ keyword_text k → a ≢ spaced (numbers_of v s) ++ 10 ∷ rest
 
-abbrev StepFound : List ℕ → Keyword → Step → List ℕ → Type 0
-StepFound a k s after = IsSpelled s × (word_of s ≡ keyword_text k) × (a ≡ spaced (numbers_of s) ++ 10 ∷ after)
+abbrev StepFound : Version → List ℕ → Keyword → Step → List ℕ → Type 0
+StepFound v a k s after = IsSpelled v s × (word_of s ≡ keyword_text k) × (a ≡ spaced (numbers_of v s) ++ 10 ∷ after)
 
-pub no_line_of : (text word a : List ℕ) (k : Keyword) → Splits IsWordByte text word a → word ≡ keyword_text k → NoStep a k → ¬ BeginsWithStep text
-no_line_of text word a k h is none (s, rest, p, e) =
-    let parts = one_word text word a (word_of s) (numbers_of s) rest h (step_word s) e in
+pub no_line_of : (v : Version) (text word a : List ℕ) (k : Keyword) → Splits IsWordByte text word a → word ≡ keyword_text k
+    → NoStep v a k → ¬ BeginsWithStep v text
+no_line_of v text word a k h is none (s, rest, p, e) =
+    let parts = one_word text word a (word_of s) (numbers_of v s) rest h (step_word s) e in
     none s rest p (sym parts.0 ∙ is) parts.1
 
-pub line_of : (text word a : List ℕ) (k : Keyword) (s : Step) (after : List ℕ) → Splits IsWordByte text word a → word ≡ keyword_text k → StepFound a k s after
-    → text ≡ step_line s ++ after
-line_of text word a k s after h is found =
-    h.0 ∙ ap (λ w. w ++ a) (is ∙ sym found.1) ∙ ap (λ l. word_of s ++ l) found.2 ∙ sym (line_parts (word_of s) (numbers_of s) after)
+pub line_of : (v : Version) (text word a : List ℕ) (k : Keyword) (s : Step) (after : List ℕ) → Splits IsWordByte text word a
+    → word ≡ keyword_text k → StepFound v a k s after
+    → text ≡ step_line v s ++ after
+line_of v text word a k s after h is found =
+    h.0 ∙ ap (λ w. w ++ a) (is ∙ sym found.1) ∙ ap (λ l. word_of s ++ l) found.2 ∙ sym (line_parts (word_of s) (numbers_of v s) after)
 
-pub step_found : (text word a : List ℕ) (k : Keyword) (r : Option (Step × Bor (List ℕ))) → Splits IsWordByte text word a → word ≡ keyword_text k
-    → MatchOption r (NoStep a k) (λ found. StepFound a k found.0 found.1.now)
-    → MatchOption r (¬ BeginsWithStep text) (λ found. IsSpelled found.0 × (text ≡ step_line found.0 ++ found.1.now))
-step_found text word a k None h is none = no_line_of text word a k h is none
-step_found text word a k (Some found) h is f = (f.0, line_of text word a k found.0 found.1.now h is f)
+pub step_found : (v : Version) (text word a : List ℕ) (k : Keyword) (r : Option (Step × Bor (List ℕ)))
+    → Splits IsWordByte text word a → word ≡ keyword_text k
+    → MatchOption r (NoStep v a k) (λ found. StepFound v a k found.0 found.1.now)
+    → MatchOption r (¬ BeginsWithStep v text) (λ found. IsSpelled v found.0 × (text ≡ step_line v found.0 ++ found.1.now))
+step_found v text word a k None h is none = no_line_of v text word a k h is none
+step_found v text word a k (Some found) h is f = (f.0, line_of v text word a k found.0 found.1.now h is f)
 
 -- ---- a line of a trace
 
@@ -91,18 +100,19 @@ ends_judge : (o : Option ℕ) (rest : List ℕ) → BeginsWithout IsWordByte (wo
 ends_judge None rest = λ h. h.0 refl
 ends_judge (Some w) rest = λ h. h.0 refl
 
-pub judge_parts : (o : Option ℕ) (rest : List ℕ) → trace_line (Judged o) ++ rest ≡ codes "judge" ++ (words o ++ 10 ∷ rest)
-judge_parts o rest = append_assoc (codes "judge" ++ words o) (10 ∷ []) rest ∙ append_assoc (codes "judge") (words o) (10 ∷ rest)
+pub judge_parts : (v : Version) (o : Option ℕ) (rest : List ℕ) → trace_line v (Judged o) ++ rest ≡ codes "judge" ++ (words o ++ 10 ∷ rest)
+judge_parts v o rest = append_assoc (codes "judge" ++ words o) (10 ∷ []) rest ∙ append_assoc (codes "judge") (words o) (10 ∷ rest)
 
 -- the word and the rest of a judgement
-pub judge_word : (text word a : List ℕ) (o : Option ℕ) (rest : List ℕ) → Splits IsWordByte text word a → text ≡ trace_line (Judged o) ++ rest
+pub judge_word : (v : Version) (text word a : List ℕ) (o : Option ℕ) (rest : List ℕ) → Splits IsWordByte text word a
+    → text ≡ trace_line v (Judged o) ++ rest
     → (word ≡ codes "judge") × (a ≡ words o ++ 10 ∷ rest)
-judge_word text word a o rest h e =
+judge_word v text word a o rest h e =
     split_unique IsWordByte word (codes "judge") a (words o ++ 10 ∷ rest) h.1 (word_bytes (codes "judge") refl) h.2 (ends_judge o rest)
-    (sym h.0 ∙ e ∙ judge_parts o rest)
+    (sym h.0 ∙ e ∙ judge_parts v o rest)
 
-pub is_judgement : (s : Step) → IsOfVersionOne s → word_of s ≡ codes "judge" → s ≡ steps.Judge
-is_judgement s v e = sym (step_again s v) ∙ ap (λ w. step_spelled w (numbers_of s)) e
+pub is_judgement : (v : Version) (s : Step) → IsOfVersion v s → word_of s ≡ codes "judge" → s ≡ steps.Judge
+is_judgement v s h e = sym (step_again v s h) ∙ ap (λ w. step_spelled v w (numbers_of v s)) e
 
 pub keyword_judge : (k : Keyword) → keyword_text k ≡ codes "judge" → k ≡ keywords.Judge
 keyword_judge keywords.Judge e = refl
@@ -120,30 +130,35 @@ keyword_judge keywords.Start e = absurd (omega (arith, ap (λ l. slice_index_or 
 keyword_judge keywords.Down e = absurd (omega (arith, ap (λ l. slice_index_or l 0 0) e))
 keyword_judge keywords.Give e = absurd (omega (arith, ap (λ l. slice_index_or l 0 0) e))
 keyword_judge keywords.Up e = absurd (omega (arith, ap (λ l. slice_index_or l 0 0) e))
+keyword_judge keywords.Reopen e = absurd (omega (arith, ap (λ l. slice_index_or l 0 0) e))
 
-pub no_line_keyword : (text word a : List ℕ) → Splits IsWordByte text word a → ((k : Keyword) → word ≢ keyword_text k) → ¬ BeginsWithLine text
-no_line_keyword text word a h none (Plain s, rest, p, e) =
-    let parts = one_word text word a (word_of s) (numbers_of s) rest h (step_word s) e in
-    let key = keyword_of_step s p.0.2 in
+pub no_line_keyword : (v : Version) (text word a : List ℕ) → Splits IsWordByte text word a
+    → ((k : Keyword) → word ≢ keyword_text k) → ¬ BeginsWithLine v text
+no_line_keyword v text word a h none (Plain s, rest, p, e) =
+    let parts = one_word text word a (word_of s) (numbers_of v s) rest h (step_word s) e in
+    let key = keyword_of_step s in
     none key.0 (parts.0 ∙ key.1)
-no_line_keyword text word a h none (Judged o, rest, p, e) = none keywords.Judge (judge_word text word a o rest h e).0
+no_line_keyword v text word a h none (Judged o, rest, p, e) = none keywords.Judge (judge_word v text word a o rest h e).0
 
-pub no_judge_line : (text word a : List ℕ) → Splits IsWordByte text word a → word ≡ codes "judge"
-    → ((o : Option ℕ) (rest : List ℕ) → AreWords o → a ≢ words o ++ 10 ∷ rest) → ¬ BeginsWithLine text
-no_judge_line text word a h is none (Plain s, rest, p, e) =
-    p.1 (is_judgement s p.0.2 (sym (one_word text word a (word_of s) (numbers_of s) rest h (step_word s) e).0 ∙ is))
-no_judge_line text word a h is none (Judged o, rest, p, e) = none o rest p (judge_word text word a o rest h e).1
+pub no_judge_line : (v : Version) (text word a : List ℕ) → Splits IsWordByte text word a → word ≡ codes "judge"
+    → ((o : Option ℕ) (rest : List ℕ) → AreWords o → a ≢ words o ++ 10 ∷ rest) → ¬ BeginsWithLine v text
+no_judge_line v text word a h is none (Plain s, rest, p, e) =
+    p.1 (is_judgement v s p.0.2 (sym (one_word text word a (word_of s) (numbers_of v s) rest h (step_word s) e).0 ∙ is))
+no_judge_line v text word a h is none (Judged o, rest, p, e) = none o rest p (judge_word v text word a o rest h e).1
 
-pub no_plain_line : (text word a : List ℕ) (k : Keyword) → Splits IsWordByte text word a → word ≡ keyword_text k → k ≢ keywords.Judge → NoStep a k → ¬ BeginsWithLine text
-no_plain_line text word a k h is other none (Plain s, rest, p, e) = no_line_of text word a k h is none (s, rest, p.0, e)
-no_plain_line text word a k h is other none (Judged o, rest, p, e) = other (keyword_judge k (sym is ∙ (judge_word text word a o rest h e).0))
+pub no_plain_line : (v : Version) (text word a : List ℕ) (k : Keyword) → Splits IsWordByte text word a → word ≡ keyword_text k
+    → k ≢ keywords.Judge → NoStep v a k → ¬ BeginsWithLine v text
+no_plain_line v text word a k h is other none (Plain s, rest, p, e) = no_line_of v text word a k h is none (s, rest, p.0, e)
+no_plain_line v text word a k h is other none (Judged o, rest, p, e) = other (keyword_judge k (sym is ∙ (judge_word v text word a o rest h e).0))
 
-pub judge_line : (text word a : List ℕ) (o : Option ℕ) (after : List ℕ) → Splits IsWordByte text word a → word ≡ codes "judge" → AreWords o × (a ≡ words o ++ 10 ∷ after)
-    → IsWritten (Judged o) × (text ≡ trace_line (Judged o) ++ after)
-judge_line text word a o after h is found =
-    (found.0, h.0 ∙ ap (λ w. w ++ a) is ∙ ap (λ l. codes "judge" ++ l) found.1 ∙ sym (judge_parts o after))
+pub judge_line : (v : Version) (text word a : List ℕ) (o : Option ℕ) (after : List ℕ) → Splits IsWordByte text word a
+    → word ≡ codes "judge" → AreWords o × (a ≡ words o ++ 10 ∷ after)
+    → IsWritten v (Judged o) × (text ≡ trace_line v (Judged o) ++ after)
+judge_line v text word a o after h is found =
+    (found.0, h.0 ∙ ap (λ w. w ++ a) is ∙ ap (λ l. codes "judge" ++ l) found.1 ∙ sym (judge_parts v o after))
 
-pub plain_line : (text word a : List ℕ) (k : Keyword) (s : Step) (after : List ℕ) → Splits IsWordByte text word a → word ≡ keyword_text k → k ≢ keywords.Judge
-    → StepFound a k s after → IsWritten (Plain s) × (text ≡ trace_line (Plain s) ++ after)
-plain_line text word a k s after h is other found =
-    ((found.0, λ e. other (keyword_judge k (sym found.1 ∙ ap word_of e))), line_of text word a k s after h is found)
+pub plain_line : (v : Version) (text word a : List ℕ) (k : Keyword) (s : Step) (after : List ℕ) → Splits IsWordByte text word a
+    → word ≡ keyword_text k → k ≢ keywords.Judge
+    → StepFound v a k s after → IsWritten v (Plain s) × (text ≡ trace_line v (Plain s) ++ after)
+plain_line v text word a k s after h is other found =
+    ((found.0, λ e. other (keyword_judge k (sym found.1 ∙ ap word_of e))), line_of v text word a k s after h is found)

@@ -13,10 +13,11 @@ use Rattle.tp_core.specs.Generations.{AreRuns}
 use Rattle.tp_core.proofs.Early.{never_early}
 use Rattle.tp_core.proofs.Generations.{present_run}
 use Rattle.tp_text.specs.declared.traced.TraceLine.{TraceLine}
-use Rattle.tp_text.specs.declared.traced.TraceLine.TheVariants.{Judged}
-use Rattle.tp_text.specs.AuditText.{steps_in, step_in, last_judgement, AreJustified}
-use Rattle.tp_text.specs.TracedEnd.{EndedIsOver, NotEndedClaimsNoEnd}
+use Rattle.tp_text.specs.declared.traced.TraceLine.TheVariants.{Plain, Judged}
+use Rattle.tp_text.specs.AuditText.{steps_in, step_in, last_judgement, AreJustified, IsSound}
+use Rattle.tp_text.specs.TracedEnd.{EndedIsOver, NotEndedClaimsNoEnd, ReopenedIsOver}
 use Rattle.tp_text.proofs.Present.{present-append}
+use Rattle.tp_text.proofs.Recounting.{sound_past, sound_behind}
 
 -- ---- the last judge
 
@@ -120,3 +121,17 @@ not_ended_claims n lines h none later w past e =
           ap (is_ended n) now ∙ ended_kept n (steps_in later) (steps.Judge ∷ present (steps_in past)) there in
           absurd (ended_last n (steps_in lines) h.run ended none)
     ]
+
+-- ---- where the pool was reopened
+
+some_judged : (n : ℕ) (past : List Step) (o : Option ℕ) → last_judgement n past ≡ o → o ≢ None → (w : ℕ) × (last_judgement n past ≡ Some w)
+some_judged n past None e other = absurd (other refl)
+some_judged n past (Some w) e other = (w, e)
+
+pub reopened_over : ReopenedIsOver
+reopened_over n lines h later past e =
+    let there : IsSound n (Plain steps.Reopen ∷ past) = sound_behind n later (Plain steps.Reopen ∷ past) (subst (IsSound n) e h) in
+    let before : IsSound n past = sound_past n (Plain steps.Reopen) past there in
+    let judged = some_judged n (steps_in past) (last_judgement n (steps_in past)) refl
+    (ended_last n (steps_in past) before.run (there.run.0.reopens refl)) in
+    (judged.0, judged.1, ended_over n past judged.0 before judged.1)

@@ -6,7 +6,7 @@ use Rattle.tp_base.specs.declared.Step.TheVariants.{Insert, Judge, Reopen}
 use Rattle.tp_base.specs.Refusals.{number_of, name_of}
 use Rattle.tp_wave.specs.Steps.{count, is_done, is_recv, is_send}
 use Rattle.tp_wave.specs.Sums.{judgement}
-use Rattle.tp_wave.specs.Generations.{present}
+use Rattle.tp_wave.specs.Generations.{present, generation}
 use Rattle.tp_core.specs.Accepted.{Accepted, refusal}
 use Rattle.tp_core.specs.Generations.{AreRuns}
 use Rattle.tp_text.specs.declared.account.Account.{Account}
@@ -14,6 +14,8 @@ use Rattle.tp_text.specs.declared.auditor.Flaw.{Flaw}
 use Rattle.tp_text.specs.declared.auditor.Flaw.TheVariants as flaws
 use Rattle.tp_text.specs.declared.traced.TraceLine.{TraceLine}
 use Rattle.tp_text.specs.declared.traced.TraceLine.TheVariants.{Plain, Judged}
+use Rattle.tp_text.specs.declared.version.Version.{Version}
+use Rattle.tp_text.specs.declared.version.Version.TheVariants.{One, Two}
 use Rattle.tp_text.specs.declared.verdict.Verdict.{Verdict}
 use Rattle.tp_text.specs.declared.verdict.Verdict.TheVariants.{Sound, Refused}
 use Rattle.tp_text.specs.Spelling.{line}
@@ -89,6 +91,7 @@ account n steps = record {
   done = count is_done steps;
   messages = count is_send steps;
   received = count is_recv steps;
+  generation = generation steps;
   ended = last_judgement n steps;
 }
 
@@ -96,12 +99,18 @@ abbrev pub end_words : Option ℕ → List ℕ
 end_words None = codes "not ended"
 end_words (Some w) = codes "ended " ++ decimal w
 
--- four lines
-abbrev pub summary : Account → List ℕ
-summary a =
+-- the line for the number of the present generation, in version 2
+abbrev pub generation_lines : Version → ℕ → List ℕ
+generation_lines One g = []
+generation_lines Two g = line (codes "generation " ++ decimal g)
+
+-- four lines, or five
+abbrev pub summary : Version → Account → List ℕ
+summary v a =
     line (codes "steps " ++ decimal a.steps)
     ++ line (codes "tasks " ++ decimal a.tasks ++ codes " done " ++ decimal a.done)
     ++ line (codes "messages " ++ decimal a.messages ++ codes " received " ++ decimal a.received)
+    ++ generation_lines v a.generation
     ++ line (end_words a.ended)
 
 -- ---- the answer
@@ -110,13 +119,14 @@ summary a =
 abbrev pub IsComplaint : List ℕ → List ℕ → Type 0
 IsComplaint bytes text =
     ((l : ℕ) × HasTraceFaultAt bytes l × (text ≡ line (codes "syntax line " ++ decimal l)))
-    ⊎ ((n : ℕ) × (lines : List TraceLine) × (k : ℕ) × (flaw : Flaw)
-    × IsTrace bytes n lines × HasFlawAt n lines k flaw × (text ≡ flaw_line k flaw))
+    ⊎ ((v : Version) × (n : ℕ) × (lines : List TraceLine) × (k : ℕ) × (flaw : Flaw)
+    × IsTrace bytes v n lines × HasFlawAt n lines k flaw × (text ≡ flaw_line k flaw))
 
 -- This verdict and this text are what is answered to these bytes: what the lines of a sound trace add up to, or the first line
 -- that is at fault.
 abbrev pub IsAuditText : List ℕ → Verdict → List ℕ → Type 0
-IsAuditText bytes Sound text = (n : ℕ) × (lines : List TraceLine) × IsTrace bytes n lines × IsSound n lines × (text ≡ summary (account n (steps_in lines)))
+IsAuditText bytes Sound text = (v : Version) × (n : ℕ) × (lines : List TraceLine)
+    × IsTrace bytes v n lines × IsSound n lines × (text ≡ summary v (account n (steps_in lines)))
 IsAuditText bytes Refused text = IsComplaint bytes text
 
 -- One verdict and one text are answered to some bytes.

@@ -12,7 +12,9 @@ use Rattle.tp_text.specs.declared.tracer.Tracer.{Tracer}
 
 -- The waves stand where these steps on n nodes led them, and the messages of each node were counted.
 pub record HasFollowed (n : ℕ) (steps : List Step) (t : Tracer) : Type 0 where
+  pub some : 1 ≤ n
   pub nodes : n ≤ MAX_NODES
+  pub over : t.nodes ≡ n
   pub wave : Follows n steps t.wave
   pub sent : (i : ℕ) → i < n → slice_index_or t.sent i 0 ≡ count (is_send_of i) steps
   pub received : (i : ℕ) → i < n → slice_index_or t.received i 0 ≡ count (is_recv_at i) steps

@@ -1,7 +1,11 @@
 -- The keywords of the grammar.
-use Rattle.std.specs.Prelude.{ℕ, List, codes}
+use Rattle.std.specs.Prelude.{ℕ, ◌≡◌, ◌≢◌, List, codes}
+use Rattle.std.specs.List.{All}
+use Rattle.tp_base.specs.declared.Step.{Step}
+use Rattle.tp_text.specs.declared.version.Version.{Version}
+use Rattle.tp_text.specs.Spelling.{word_of, numbers_of, IsNumber, IsSpelled}
 use Rattle.tp_text.specs.declared.keyword.Keyword.{Keyword}
-use Rattle.tp_text.specs.declared.keyword.Keyword.TheVariants.{Insert, Supply, Begin, Done, Open, Close, Ready, Send, Recv, End, Start, Down, Give, Up, Judge}
+use Rattle.tp_text.specs.declared.keyword.Keyword.TheVariants.{Insert, Supply, Begin, Done, Open, Close, Ready, Send, Recv, End, Start, Down, Give, Up, Judge, Reopen}
 
 abbrev pub keyword_text : Keyword → List ℕ
 keyword_text Insert = codes "insert"
@@ -19,3 +23,12 @@ keyword_text Down = codes "down"
 keyword_text Give = codes "give"
 keyword_text Up = codes "up"
 keyword_text Judge = codes "judge"
+keyword_text Reopen = codes "reopen"
+
+-- The keyword and these numbers spell no step.
+abbrev pub NamesNone : Version → Keyword → List ℕ → Type 0
+NamesNone v k ks = (s : Step) → IsSpelled v s → word_of s ≡ keyword_text k → numbers_of v s ≢ ks
+
+-- They spell this step, if they are numbers of the grammar.
+abbrev pub Names : Version → Keyword → List ℕ → Step → Type 0
+Names v k ks s = (All IsNumber ks → IsSpelled v s) × (word_of s ≡ keyword_text k) × (numbers_of v s ≡ ks)

@@ -10,6 +10,7 @@ use Rattle.tp_core.specs.declared.Reply.{Reply}
 use Rattle.tp_core.specs.declared.Reply.TheVariants.{Plain, WaveSums, Not, Over, Opened}
 use Rattle.tp_core.specs.World.{is_quiet}
 use Rattle.tp_core.specs.Accepted.{Accepted, world_of, numbers_at, answers, after_all}
+use Rattle.tp_text.specs.declared.version.Version.{Version}
 use Rattle.tp_text.specs.declared.verdict.Verdict.{Verdict}
 use Rattle.tp_text.specs.declared.verdict.Verdict.TheVariants.{Sound, Refused}
 use Rattle.tp_text.specs.Spelling.{line}
@@ -62,7 +63,7 @@ report n steps = flat_map answer_line (answers (fresh n) steps) ++ closing (afte
 -- This verdict and this text are what is answered to these bytes: the report of the script that they are, or the first line
 -- that is not of the grammar.
 abbrev pub IsSimText : List ℕ → Verdict → List ℕ → Type 0
-IsSimText bytes Sound text = (n : ℕ) × (steps : List Step) × IsScript bytes n steps × (text ≡ report n steps)
+IsSimText bytes Sound text = (v : Version) × (n : ℕ) × (steps : List Step) × IsScript bytes v n steps × (text ≡ report n steps)
 IsSimText bytes Refused text = (l : ℕ) × HasFaultAt bytes l × (text ≡ line (codes "syntax line " ++ decimal l))
 
 -- One verdict and one text are answered to some bytes.

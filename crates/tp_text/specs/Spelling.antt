@@ -1,8 +1,11 @@
 -- How steps and lines are spelled: each step in one way.
 use Rattle.std.specs.Prelude.{ℕ, ◌≡◌, ◌<◌, ◌≤◌, ◌++◌, List, [], ◌∷◌, codes, decimal}
 use Rattle.std.specs.List.{All}
+use Rattle.tp_base.specs.declared.Generation.{Generation}
 use Rattle.tp_base.specs.declared.Step.{Step}
 use Rattle.tp_base.specs.declared.Step.TheVariants.{Insert, Supply, Begin, Done, ActionOpen, ActionClose, Ready, Send, Recv, MessageEnd, Start, Down, Give, Up, Judge, Reopen}
+use Rattle.tp_text.specs.declared.version.Version.{Version}
+use Rattle.tp_text.specs.declared.version.Version.TheVariants.{One, Two}
 
 -- A number is spelled in decimal, without a leading zero, in at most six digits.
 abbrev pub IsNumber : ℕ → Type 0
@@ -36,43 +39,55 @@ word_of (Up i) = codes "up"
 word_of Judge = codes "judge"
 word_of Reopen = codes "reopen"
 
--- the numbers that follow it
-abbrev pub numbers_of : Step → List ℕ
-numbers_of (Insert i t k) = i.0 ∷ t.0 ∷ k.count ∷ []
-numbers_of (Supply t) = t.0 ∷ []
-numbers_of (Begin t) = t.0 ∷ []
-numbers_of (Done t) = t.0 ∷ []
-numbers_of (ActionOpen i a) = i.0 ∷ a.0 ∷ []
-numbers_of (ActionClose i a) = i.0 ∷ a.0 ∷ []
-numbers_of (Ready i) = i.0 ∷ []
-numbers_of (Send i j m g) = i.0 ∷ j.0 ∷ m.0 ∷ []
-numbers_of (Recv j m g) = j.0 ∷ m.0 ∷ []
-numbers_of (MessageEnd j m g) = j.0 ∷ m.0 ∷ []
-numbers_of Start = []
-numbers_of (Down i) = i.0 ∷ []
-numbers_of (Give i) = i.0 ∷ []
-numbers_of (Up i) = i.0 ∷ []
-numbers_of Judge = []
-numbers_of Reopen = []
+-- the number of the generation of a message, for which version 1 has no place
+abbrev pub generation_number : Version → Generation → List ℕ
+generation_number One g = []
+generation_number Two g = g.0 ∷ []
+
+-- the numbers that follow the word
+abbrev pub numbers_of : Version → Step → List ℕ
+numbers_of v (Insert i t k) = i.0 ∷ t.0 ∷ k.count ∷ []
+numbers_of v (Supply t) = t.0 ∷ []
+numbers_of v (Begin t) = t.0 ∷ []
+numbers_of v (Done t) = t.0 ∷ []
+numbers_of v (ActionOpen i a) = i.0 ∷ a.0 ∷ []
+numbers_of v (ActionClose i a) = i.0 ∷ a.0 ∷ []
+numbers_of v (Ready i) = i.0 ∷ []
+numbers_of v (Send i j m g) = i.0 ∷ j.0 ∷ m.0 ∷ generation_number v g
+numbers_of v (Recv j m g) = j.0 ∷ m.0 ∷ generation_number v g
+numbers_of v (MessageEnd j m g) = j.0 ∷ m.0 ∷ generation_number v g
+numbers_of v Start = []
+numbers_of v (Down i) = i.0 ∷ []
+numbers_of v (Give i) = i.0 ∷ []
+numbers_of v (Up i) = i.0 ∷ []
+numbers_of v Judge = []
+numbers_of v Reopen = []
 
 -- the one spelling of a step, the line feed apart
-abbrev pub spelling : Step → List ℕ
-spelling s = word_of s ++ spaced (numbers_of s)
+abbrev pub spelling : Version → Step → List ℕ
+spelling v s = word_of s ++ spaced (numbers_of v s)
 
 -- a task has at most 16 inputs
 abbrev pub HasFewInputs : Step → Type 0
 HasFewInputs (Insert i t k) = k.count ≤ 16
 HasFewInputs _ = Unit {0}
 
--- The lines have no place for the number of a generation, so all that they tell is of the first: no pool is reopened, and a
--- message has the number 1.
-abbrev pub IsOfVersionOne : Step → Type 0
-IsOfVersionOne (Send i j m g) = g.0 ≡ 1
-IsOfVersionOne (Recv j m g) = g.0 ≡ 1
-IsOfVersionOne (MessageEnd j m g) = g.0 ≡ 1
-IsOfVersionOne Reopen = ⊥
-IsOfVersionOne _ = Unit {0}
+-- Version 1 tells of the first generation alone: a message has the number 1, and no pool is reopened.
+abbrev pub HasFirstNumber : Version → Generation → Type 0
+HasFirstNumber One g = g.0 ≡ 1
+HasFirstNumber Two g = Unit {0}
+
+abbrev pub CanReopen : Version → Type 0
+CanReopen One = ⊥
+CanReopen Two = Unit {0}
+
+abbrev pub IsOfVersion : Version → Step → Type 0
+IsOfVersion v (Send i j m g) = HasFirstNumber v g
+IsOfVersion v (Recv j m g) = HasFirstNumber v g
+IsOfVersion v (MessageEnd j m g) = HasFirstNumber v g
+IsOfVersion v Reopen = CanReopen v
+IsOfVersion v _ = Unit {0}
 
 -- The grammar has a line for the step.
-abbrev pub IsSpelled : Step → Type 0
-IsSpelled s = All IsNumber (numbers_of s) × HasFewInputs s × IsOfVersionOne s
+abbrev pub IsSpelled : Version → Step → Type 0
+IsSpelled v s = All IsNumber (numbers_of v s) × HasFewInputs s × IsOfVersion v s

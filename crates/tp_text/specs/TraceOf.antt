@@ -1,13 +1,17 @@
 -- The trace of a list of steps.
-use Rattle.std.specs.Prelude.{ℕ, ◌≡◌, ◌≤◌, List, [], ◌∷◌, length}
+use Rattle.std.specs.Prelude.{ℕ, ◌≡◌, ◌≤◌, List, [], ◌∷◌, length, if◌then◌else◌}
 use Rattle.std.specs.List.{All}
 use Rattle.tp_base.specs.declared.limits.TheConstants.{MAX_STEPS}
 use Rattle.tp_base.specs.declared.Step.{Step}
 use Rattle.tp_base.specs.declared.Step.TheVariants.{Judge}
+use Rattle.tp_wave.specs.Steps.{any, is_reopen}
 use Rattle.tp_wave.specs.Sums.{judgement}
-use Rattle.tp_wave.specs.Generations.{present}
+use Rattle.tp_wave.specs.Generations.{present, InEach}
+use Rattle.tp_wave.specs.Machine.{History, IsRun}
 use Rattle.tp_text.specs.declared.traced.TraceLine.{TraceLine}
 use Rattle.tp_text.specs.declared.traced.TraceLine.TheVariants.{Plain, Judged}
+use Rattle.tp_text.specs.declared.version.Version.{Version}
+use Rattle.tp_text.specs.declared.version.Version.TheVariants.{One, Two}
 use Rattle.tp_text.specs.AuditText.{steps_in, AreJustified}
 use Rattle.tp_text.specs.Spelling.{IsSpelled}
 use Rattle.tp_text.specs.Trace.{IsTrace}
@@ -22,16 +26,24 @@ abbrev pub lines_of : ℕ → List Step → List TraceLine
 lines_of n [] = []
 lines_of n (s ∷ past) = line_of n past s ∷ lines_of n past
 
+-- Version 2 is taken where the pool was reopened, and there alone.
+abbrev pub version_of : List Step → Version
+version_of steps = if any is_reopen steps then Two else One
+
 -- These bytes are the trace of these steps on n nodes.
 abbrev pub IsTraceOf : ℕ → List Step → List ℕ → Type 0
-IsTraceOf n steps bytes = IsTrace bytes n (lines_of n steps)
+IsTraceOf n steps bytes = IsTrace bytes (version_of steps) n (lines_of n steps)
 
--- There are no more steps than a core takes, and the grammar has a line for each.
+-- There are no more steps than a core takes, and the grammar of their version has a line for each.
 abbrev pub CanBeTraced : List Step → Type 0
-CanBeTraced steps = (length steps ≤ MAX_STEPS) × All IsSpelled steps
+CanBeTraced steps = (length steps ≤ MAX_STEPS) × All (IsSpelled (version_of steps)) steps
 
 -- Printing and reading meet: however the trace of some steps is read, its steps are these, and its judges' words what is
 -- judged over the steps before them in their generation.
 abbrev pub TracesAreReadBack : Type 0
-TracesAreReadBack = (n : ℕ) (steps : List Step) (bytes : List ℕ) (m : ℕ) (lines : List TraceLine)
-    → IsTraceOf n steps bytes → IsTrace bytes m lines → (m ≡ n) × (steps_in lines ≡ steps) × AreJustified n lines
+TracesAreReadBack = (n : ℕ) (steps : List Step) (bytes : List ℕ) (v : Version) (m : ℕ) (lines : List TraceLine)
+    → IsTraceOf n steps bytes → IsTrace bytes v m lines → (m ≡ n) × (steps_in lines ≡ steps) × AreJustified n lines
+
+-- In a run of one generation the events of each generation are a run, since the machine takes no reopening.
+abbrev pub RunsOfOneGeneration : Type 0
+RunsOfOneGeneration = (n : ℕ) (h : History) → IsRun n h → InEach (IsRun n) h

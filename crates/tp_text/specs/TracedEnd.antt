@@ -3,9 +3,10 @@ use Rattle.std.specs.Prelude.{ℕ, ◌≡◌, List, ◌∷◌, ◌++◌, IsTrue,
 use Rattle.tp_wave.specs.Steps.{any, is_reopen}
 use Rattle.tp_wave.specs.Cut.{visited_at}
 use Rattle.tp_wave.specs.Generations.{present}
+use Rattle.tp_base.specs.declared.Step.TheVariants.{Reopen}
 use Rattle.tp_core.specs.NeverEarly.{IsOverFrom}
 use Rattle.tp_text.specs.declared.traced.TraceLine.{TraceLine}
-use Rattle.tp_text.specs.declared.traced.TraceLine.TheVariants.{Judged}
+use Rattle.tp_text.specs.declared.traced.TraceLine.TheVariants.{Plain, Judged}
 use Rattle.tp_text.specs.AuditText.{steps_in, IsSound, account}
 
 -- Where `ended W` is answered, nothing was left of the present generation from the end of wave W on, its visit to the root, and
@@ -20,3 +21,11 @@ abbrev pub NotEndedClaimsNoEnd : Type 0
 NotEndedClaimsNoEnd = (n : ℕ) (lines : List TraceLine) → IsSound n lines → (account n (steps_in lines)).ended ≡ None
     → (later : List TraceLine) (w : ℕ) (past : List TraceLine) → lines ≡ later ++ Judged (Some w) ∷ past
     → IsTrue (any is_reopen (steps_in later))
+
+-- Where a line reopens the pool, the end of the generation before it was judged: nothing was left of that generation from the end
+-- of the wave that was named on, and each task that any of its lines inserts had run once by then.
+abbrev pub ReopenedIsOver : Type 0
+ReopenedIsOver = (n : ℕ) (lines : List TraceLine) → IsSound n lines
+    → (later past : List TraceLine) → lines ≡ later ++ Plain Reopen ∷ past
+    → (w : ℕ) × ((account n (steps_in past)).ended ≡ Some w)
+    × IsOverFrom n (visited_at w 0 (present (steps_in past))) (present (steps_in past))

@@ -2,12 +2,14 @@ ghost use Rattle.std.specs.Prelude.{◌≡◌, ◌≢◌, ◌<◌, ◌++◌, ◌
 ghost use Rattle.tp_base.specs.declared.Step.{Step};
 ghost use Rattle.tp_base.specs.declared.Step.TheVariants.{Judge};
 ghost use Rattle.tp_base.specs.declared.limits.TheConstants.{MAX_STEPS};
-ghost use Rattle.tp_text.specs.AuditText.{account, end_words, step_in, summary, IsJustified};
+ghost use Rattle.tp_text.specs.AuditText.{account, end_words, generation_lines, step_in, summary, IsJustified};
 ghost use Rattle.tp_text.specs.Spelling.{line};
+ghost use Rattle.tp_text.specs.declared.version.Version.{Version};
 ghost use Rattle.tp_text.specs.Trace.{IsWritten};
 
 use crate::printing::push_count;
 use crate::traced::TraceLine;
+use crate::version::Version;
 use std::alloc::AllocError;
 use tp_base::Step;
 
@@ -21,7 +23,9 @@ pub(crate) struct Account {
     // sent, and received
     messages: u32,
     received: u32,
-    // the wave with which the pool was last judged to have ended in its present generation
+    // the number of the present generation
+    generation: u32,
+    // the wave with which the pool was last judged to have ended in it
     ended: Option<u32>,
 }
 
@@ -35,6 +39,7 @@ impl Account {
             done: 0,
             messages: 0,
             received: 0,
+            generation: 1,
             ended: None,
         }
     }
@@ -42,7 +47,8 @@ impl Account {
     /// One line more.
     pub(crate) fn with(self, line: TraceLine) -> Account
         requires { (n : ℕ) × (past : List Step) × (self ≡ account n past) × (length past < MAX_STEPS) }
-        ensures { (n : ℕ) (past : List Step) → self ≡ account n past → IsWritten line → IsJustified n past line → result ≡ account n (step_in line ∷ past) }
+        ensures { (v : Version) (n : ℕ) (past : List Step) → self ≡ account n past → IsWritten v line → IsJustified n past line
+            → result ≡ account n (step_in line ∷ past) }
     {
         match line {
             TraceLine::Plain(step) => self.with_step(step),
@@ -80,8 +86,9 @@ impl Account {
                 received: self.received + 1,
                 ..more
             },
-            // what was judged was judged of the generation before
+            // what was judged was judged of the generation before, and all else is counted on
             Step::Reopen => Account {
+                generation: self.generation + 1,
                 ended: None,
                 ..more
             },
@@ -89,9 +96,9 @@ impl Account {
         }
     }
 
-    /// Writes it as four lines.
-    pub(crate) fn push(&self, out: &mut Vec<u8>) -> Result<(), AllocError>
-        ensures { OnOk result (out.new.items ≡ out.old.items ++ summary self.now) }
+    /// Writes it as four lines, or in version 2 as five.
+    pub(crate) fn push(&self, version: Version, out: &mut Vec<u8>) -> Result<(), AllocError>
+        ensures { OnOk result (out.new.items ≡ out.old.items ++ summary version self.now) }
     {
         push_count(out, b"steps ", u64::from(self.steps))?;
         out.extend_from_slice(b"\n")?;
@@ -103,7 +110,21 @@ impl Account {
             b" received ",
             self.received,
         )?;
+        push_generation(version, out, self.generation)?;
         push_end(out, self.ended)
+    }
+}
+
+/// Writes the number of the generation, where the version has a line for it.
+fn push_generation(version: Version, out: &mut Vec<u8>, number: u32) -> Result<(), AllocError>
+    ensures { OnOk result (out.new.items ≡ out.old.items ++ generation_lines version number) }
+{
+    match version {
+        Version::One => Ok(()),
+        Version::Two => {
+            push_count(out, b"generation ", u64::from(number))?;
+            out.extend_from_slice(b"\n")
+        }
     }
 }
 

@@ -3,12 +3,14 @@ ghost use Rattle.tp_base.specs.declared.limits.TheConstants.{MAX_NODES};
 ghost use Rattle.tp_text.specs.AuditText.{flaw_line, summary};
 ghost use Rattle.tp_text.specs.Auditing.{IsTold, Knows};
 ghost use Rattle.tp_text.specs.Trace.{IsWritten};
+ghost use Rattle.tp_text.specs.declared.version.Version.{Version};
 
 use crate::account::Account;
 use crate::fault::TextFault;
 use crate::printing::{push_count, push_refusal};
 use crate::traced::TraceLine;
 use crate::verdict::Verdict;
+use crate::version::Version;
 use std::alloc::{AllocError, Global};
 use tp_base::Refusal;
 use tp_core::{Core, Reply};
@@ -47,7 +49,8 @@ impl Auditor {
     /// Takes the next line, which has this number.
     pub(crate) fn take(&mut self, line: TraceLine, number: u64) -> Result<(), TextFault>
         requires { (n : ℕ) × (lines : List TraceLine) × Knows n lines self.old }
-        ensures ok { (n : ℕ) (lines : List TraceLine) → Knows n lines self.old → IsWritten line → number ≡ length lines + 3 → OnOk result (Knows n (line ∷ lines) self.new) }
+        ensures ok { (v : Version) (n : ℕ) (lines : List TraceLine) → Knows n lines self.old → IsWritten v line → number ≡ length lines + 3
+            → OnOk result (Knows n (line ∷ lines) self.new) }
         ensures err { IfErr result (λ fault. fault ≡ TextFault.Memory) }
     {
         if self.flaw.is_some() {
@@ -66,15 +69,19 @@ impl Auditor {
     }
 
     /// The verdict and the answer: what the lines add up to, or the first that is flawed.
-    pub(crate) fn answer(&self, alloc: Global) -> Result<(Verdict, Vec<u8>), AllocError>
+    pub(crate) fn answer(
+        &self,
+        version: Version,
+        alloc: Global,
+    ) -> Result<(Verdict, Vec<u8>), AllocError>
         ensures { IfOk result (λ answer. MatchOption self.now.flaw
-            ((answer.0 ≡ Verdict.Sound) × (answer.1.items ≡ summary self.now.account))
+            ((answer.0 ≡ Verdict.Sound) × (answer.1.items ≡ summary version self.now.account))
             (λ found. (answer.0 ≡ Verdict.Refused) × (answer.1.items ≡ flaw_line found.0 found.1))) }
     {
         let mut out = Vec::new(alloc);
         match self.flaw {
             None => {
-                self.account.push(&mut out)?;
+                self.account.push(version, &mut out)?;
                 Ok((Verdict::Sound, out))
             }
             Some((number, flaw)) => {

@@ -20,6 +20,7 @@ pub(crate) enum Keyword {
     Give,
     Up,
     Judge,
+    Reopen,
 }
 
 /// The keyword that a word is.
@@ -44,6 +45,7 @@ pub(crate) fn keyword_of(word: &[u8]) -> Option<Keyword>
         b"give" => Some(Keyword::Give),
         b"up" => Some(Keyword::Up),
         b"judge" => Some(Keyword::Judge),
+        b"reopen" => Some(Keyword::Reopen),
         _ => None,
     }
 }

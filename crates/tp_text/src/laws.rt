@@ -2,7 +2,7 @@ ghost use Rattle.tp_text.specs.AuditText.{AuditsAreDetermined};
 ghost use Rattle.tp_text.specs.Script.{ScriptsAreDetermined};
 ghost use Rattle.tp_text.specs.SimText.{TextsAreDetermined};
 ghost use Rattle.tp_text.specs.Trace.{TracesAreDetermined};
-ghost use Rattle.tp_text.specs.TraceOf.{TracesAreReadBack};
+ghost use Rattle.tp_text.specs.TraceOf.{RunsOfOneGeneration, TracesAreReadBack};
 
 /// One script is spelled in one way, and one text spells one script.
 #[tactic(auto, using(crate::proofs::Unique::scripts_determined))]
@@ -31,4 +31,10 @@ pub fn audits_are_determined()
 /// Printing and reading meet: the trace of some steps is read as these steps and as what is judged of them.
 pub fn traces_are_read_back()
     ensures { TracesAreReadBack }
+{}
+
+/// What is asked of a history that is printed holds of each run of one generation.
+#[tactic(auto, using(crate::proofs::Present::run_in_each))]
+pub fn runs_of_one_generation()
+    ensures { RunsOfOneGeneration }
 {}

@@ -17,13 +17,14 @@ mod traced;
 mod tracer;
 mod tracing;
 mod verdict;
+mod version;
 mod words;
 
 pub use fault::TextFault;
 pub use input::{MAX_READS, MAX_TEXT};
 pub use laws::{
-    audits_are_determined, scripts_are_determined, texts_are_determined, traces_are_determined,
-    traces_are_read_back,
+    audits_are_determined, runs_of_one_generation, scripts_are_determined, texts_are_determined,
+    traces_are_determined, traces_are_read_back,
 };
 pub use recount::audit;
 pub use simulation::sim;

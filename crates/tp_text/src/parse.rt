@@ -1,24 +1,24 @@
 ghost use Rattle.std.specs.Prelude.{◌≡◌, ◌≢◌, ◌≤◌, ◌++◌, ◌∷◌, [], ℕ, List, codes, Option, MatchOption};
-ghost use Rattle.std.specs.List.{All};
+ghost use Rattle.tp_text.specs.declared.keyword.Keyword.{Keyword};
 ghost use Rattle.tp_base.specs.declared.Step.{Step};
-ghost use Rattle.tp_text.specs.Keywords.{keyword_text};
-ghost use Rattle.tp_text.specs.Spelling.{spaced, word_of, numbers_of, IsNumber, IsSpelled};
-ghost use Rattle.tp_text.specs.Script.{nodes_line, step_line, IsNodeCount, BeginsWithNodes, BeginsWithStep};
+ghost use Rattle.tp_text.specs.Keywords.{keyword_text, Names, NamesNone};
+ghost use Rattle.tp_text.specs.Spelling.{spaced, word_of, numbers_of, IsSpelled};
+ghost use Rattle.tp_text.specs.Script.{nodes_line, step_line, version_lines, IsNodeCount, BeginsWithNodes, BeginsWithStep, BeginsWithVersion};
 ghost use Rattle.tp_text.specs.Trace.{format_line, trace_line, words, AreWords, BeginsWithFormat, BeginsWithLine, IsWritten};
 ghost use Rattle.tp_text.specs.Words.{numbers_in};
 
 use crate::keyword::{Keyword, keyword_of};
 use crate::step_lines::FIRST;
 use crate::traced::TraceLine;
+use crate::version::Version;
 use crate::words::{Operands, first_word, operands_of};
-use tp_base::{ActionId, Inputs, MAX_NODES, MessageId, NodeId, Step, TaskId};
+use tp_base::{ActionId, Generation, Inputs, MAX_NODES, MessageId, NodeId, Step, TaskId};
 
 /// The step of a keyword and its numbers.
-fn step_named(keyword: Keyword, operands: Operands) -> Option<Step>
+fn step_named(version: Version, keyword: Keyword, operands: Operands) -> Option<Step>
     ensures { MatchOption result
-        ((s : Step) → IsSpelled s → word_of s ≡ keyword_text keyword → numbers_of s ≢ numbers_in operands)
-        (λ s. (All IsNumber (numbers_in operands) → IsSpelled s)
-        × (word_of s ≡ keyword_text keyword) × (numbers_of s ≡ numbers_in operands)) }
+        (NamesNone version keyword (numbers_in operands))
+        (Names version keyword (numbers_in operands)) }
 {
     Some(match (keyword, operands) {
         (Keyword::Insert, Operands::Three(i, t, k)) => {
@@ -31,18 +31,79 @@ fn step_named(keyword: Keyword, operands: Operands) -> Option<Step>
         (Keyword::Open, Operands::Two(i, a)) => Step::ActionOpen(NodeId(i), ActionId(a)),
         (Keyword::Close, Operands::Two(i, a)) => Step::ActionClose(NodeId(i), ActionId(a)),
         (Keyword::Ready, Operands::One(i)) => Step::Ready(NodeId(i)),
-        (Keyword::Send, Operands::Three(i, j, m)) => {
-            Step::Send(NodeId(i), NodeId(j), MessageId(m), FIRST)
-        }
-        (Keyword::Recv, Operands::Two(j, m)) => Step::Recv(NodeId(j), MessageId(m), FIRST),
-        (Keyword::End, Operands::Two(j, m)) => Step::MessageEnd(NodeId(j), MessageId(m), FIRST),
+        (Keyword::Send, _) => return send_named(version, operands),
+        (Keyword::Recv, _) => return recv_named(version, operands),
+        (Keyword::End, _) => return end_named(version, operands),
         (Keyword::Start, Operands::None) => Step::Start,
         (Keyword::Down, Operands::One(i)) => Step::Down(NodeId(i)),
         (Keyword::Give, Operands::One(i)) => Step::Give(NodeId(i)),
         (Keyword::Up, Operands::One(i)) => Step::Up(NodeId(i)),
         (Keyword::Judge, Operands::None) => Step::Judge,
+        (Keyword::Reopen, _) => return reopen_named(version, operands),
         _ => return None,
     })
+}
+
+// A message of version 1 is of the first generation; in version 2 the number of its generation stands behind the others.
+
+fn send_named(version: Version, operands: Operands) -> Option<Step>
+    ensures { MatchOption result
+        (NamesNone version Keyword.Send (numbers_in operands))
+        (Names version Keyword.Send (numbers_in operands)) }
+{
+    match (version, operands) {
+        (Version::One, Operands::Three(i, j, m)) => {
+            Some(Step::Send(NodeId(i), NodeId(j), MessageId(m), FIRST))
+        }
+        (Version::Two, Operands::Four(i, j, m, g)) => {
+            Some(Step::Send(NodeId(i), NodeId(j), MessageId(m), Generation(g)))
+        }
+        _ => None,
+    }
+}
+
+fn recv_named(version: Version, operands: Operands) -> Option<Step>
+    ensures { MatchOption result
+        (NamesNone version Keyword.Recv (numbers_in operands))
+        (Names version Keyword.Recv (numbers_in operands)) }
+{
+    match (version, operands) {
+        (Version::One, Operands::Two(j, m)) => Some(Step::Recv(NodeId(j), MessageId(m), FIRST)),
+        (Version::Two, Operands::Three(j, m, g)) => {
+            Some(Step::Recv(NodeId(j), MessageId(m), Generation(g)))
+        }
+        _ => None,
+    }
+}
+
+fn end_named(version: Version, operands: Operands) -> Option<Step>
+    ensures { MatchOption result
+        (NamesNone version Keyword.End (numbers_in operands))
+        (Names version Keyword.End (numbers_in operands)) }
+{
+    match (version, operands) {
+        (Version::One, Operands::Two(j, m)) => Some(Step::MessageEnd(
+            NodeId(j),
+            MessageId(m),
+            FIRST,
+        )),
+        (Version::Two, Operands::Three(j, m, g)) => {
+            Some(Step::MessageEnd(NodeId(j), MessageId(m), Generation(g)))
+        }
+        _ => None,
+    }
+}
+
+/// In version 1 no pool is reopened.
+fn reopen_named(version: Version, operands: Operands) -> Option<Step>
+    ensures { MatchOption result
+        (NamesNone version Keyword.Reopen (numbers_in operands))
+        (Names version Keyword.Reopen (numbers_in operands)) }
+{
+    match (version, operands) {
+        (Version::Two, Operands::None) => Some(Step::Reopen),
+        _ => None,
+    }
 }
 
 /// The number of nodes, where there is this number alone.
@@ -57,7 +118,18 @@ fn node_count(operands: Operands) -> Option<u32>
     }
 }
 
-/// The number of nodes in the first line of a script, and what stands behind that line.
+/// The version of a script, and what stands behind the line that tells it.
+pub(crate) fn script_head(text: &[u8]) -> (Version, &[u8])
+    ensures text { text.now ≡ version_lines result.0 ++ result.1.now }
+    ensures two { BeginsWithVersion text.now → result.0 ≡ Version.Two }
+{
+    match text.strip_prefix(b"script 2\n") {
+        Some(rest) => (Version::Two, rest),
+        None => (Version::One, text),
+    }
+}
+
+/// The number of nodes in the first line, and what stands behind that line.
 pub(crate) fn first_line(text: &[u8]) -> Option<(u32, &[u8])>
     ensures { MatchOption result
         (¬ BeginsWithNodes text.now)
@@ -72,33 +144,37 @@ pub(crate) fn first_line(text: &[u8]) -> Option<(u32, &[u8])>
 }
 
 /// The step of a keyword, whose numbers stand at the front, and what stands behind its line.
-fn step_behind(keyword: Keyword, text: &[u8]) -> Option<(Step, &[u8])>
+fn step_behind(version: Version, keyword: Keyword, text: &[u8]) -> Option<(Step, &[u8])>
     ensures { MatchOption result
-        ((s : Step) (rest : List ℕ) → IsSpelled s → word_of s ≡ keyword_text keyword → text.now ≢ spaced (numbers_of s) ++ 10 ∷ rest)
-        (λ found. IsSpelled found.0 × (word_of found.0 ≡ keyword_text keyword)
-        × (text.now ≡ spaced (numbers_of found.0) ++ 10 ∷ found.1.now)) }
+        ((s : Step) (rest : List ℕ) → IsSpelled version s → word_of s ≡ keyword_text keyword
+        → text.now ≢ spaced (numbers_of version s) ++ 10 ∷ rest)
+        (λ found. IsSpelled version found.0 × (word_of found.0 ≡ keyword_text keyword)
+        × (text.now ≡ spaced (numbers_of version found.0) ++ 10 ∷ found.1.now)) }
 {
     let (operands, rest) = operands_of(text)?;
-    Some((step_named(keyword, operands)?, rest))
+    Some((step_named(version, keyword, operands)?, rest))
 }
 
 /// The step of the first line, and what stands behind that line.
-pub(crate) fn next_step(text: &[u8]) -> Option<(Step, &[u8])>
+pub(crate) fn next_step(version: Version, text: &[u8]) -> Option<(Step, &[u8])>
     ensures { MatchOption result
-        (¬ BeginsWithStep text.now)
-        (λ found. IsSpelled found.0 × (text.now ≡ step_line found.0 ++ found.1.now)) }
+        (¬ BeginsWithStep version text.now)
+        (λ found. IsSpelled version found.0 × (text.now ≡ step_line version found.0 ++ found.1.now)) }
 {
     let (word, text) = first_word(text);
-    step_behind(keyword_of(word)?, text)
+    step_behind(version, keyword_of(word)?, text)
 }
 
-/// What stands behind the line for the format of a trace.
-pub(crate) fn behind_format(text: &[u8]) -> Option<&[u8]>
+/// The version of a trace, and what stands behind the line for its format.
+pub(crate) fn behind_format(text: &[u8]) -> Option<(Version, &[u8])>
     ensures { MatchOption result
         (¬ BeginsWithFormat text.now)
-        (λ rest. text.now ≡ format_line ++ rest.now) }
+        (λ found. text.now ≡ format_line found.0 ++ found.1.now) }
 {
-    text.strip_prefix(b"trace 1\n")
+    if let Some(rest) = text.strip_prefix(b"trace 1\n") {
+        return Some((Version::One, rest));
+    }
+    Some((Version::Two, text.strip_prefix(b"trace 2\n")?))
 }
 
 /// A judge's words, to the end of the line, and what stands behind that line.
@@ -127,10 +203,10 @@ fn wave_number(operands: Operands) -> Option<u32>
 }
 
 /// The first line of those for the steps of a trace, and what stands behind it.
-pub(crate) fn next_line(text: &[u8]) -> Option<(TraceLine, &[u8])>
+pub(crate) fn next_line(version: Version, text: &[u8]) -> Option<(TraceLine, &[u8])>
     ensures { MatchOption result
-        (¬ BeginsWithLine text.now)
-        (λ found. IsWritten found.0 × (text.now ≡ trace_line found.0 ++ found.1.now)) }
+        (¬ BeginsWithLine version text.now)
+        (λ found. IsWritten version found.0 × (text.now ≡ trace_line version found.0 ++ found.1.now)) }
 {
     let (word, text) = first_word(text);
     match keyword_of(word)? {
@@ -139,7 +215,7 @@ pub(crate) fn next_line(text: &[u8]) -> Option<(TraceLine, &[u8])>
             Some((TraceLine::Judged(wave), rest))
         }
         keyword => {
-            let (step, rest) = step_behind(keyword, text)?;
+            let (step, rest) = step_behind(version, keyword, text)?;
             Some((TraceLine::Plain(step), rest))
         }
     }

@@ -2,7 +2,7 @@ ghost use Rattle.std.specs.Prelude.{◌≡◌, ◌≢◌, ◌+◌, ◌≤◌, �
 ghost use Rattle.std.specs.Io.KnownBytes.{Consumes, Appends};
 ghost use Rattle.tp_text.specs.AuditText.{IsAuditText};
 ghost use Rattle.tp_text.specs.Input.{ReadsAll};
-ghost use Rattle.tp_text.specs.TracedEnd.{EndedIsOver, NotEndedClaimsNoEnd};
+ghost use Rattle.tp_text.specs.TracedEnd.{EndedIsOver, NotEndedClaimsNoEnd, ReopenedIsOver};
 ghost use Rattle.tp_text.specs.declared.verdict.Verdict.{Verdict};
 ghost use Rattle.tp_text.specs.declared.input.TheConstants.{MAX_TEXT};
 
@@ -21,7 +21,7 @@ fn audited(alloc: Global, text: &[u8]) -> Result<(Verdict, Vec<u8>), TextFault>
     ensures ok { IfOk result (λ answer. IsAuditText text.now answer.0 answer.1.items) }
     ensures err { IfErr result (λ fault. fault ≡ TextFault.Memory) }
 {
-    let Some(behind) = behind_format(text) else {
+    let Some((version, behind)) = behind_format(text) else {
         return Ok((Verdict::Refused, syntax_line(alloc, 1)?));
     };
     let Some((nodes, lines)) = first_line(behind) else {
@@ -31,14 +31,14 @@ fn audited(alloc: Global, text: &[u8]) -> Result<(Verdict, Vec<u8>), TextFault>
     let mut rest = lines;
     let mut number = 3;
     while !rest.is_empty() {
-        let Some((line, behind)) = next_line(rest) else {
+        let Some((line, behind)) = next_line(version, rest) else {
             return Ok((Verdict::Refused, syntax_line(alloc, number)?));
         };
         auditor.take(line, number)?;
         rest = behind;
         number += 1;
     }
-    Ok(auditor.answer(alloc)?)
+    Ok(auditor.answer(version, alloc)?)
 }
 
 /// Judges a trace: reads all of the reader, takes the steps of the trace in turn with a new core, and counts messages afresh,
@@ -46,6 +46,11 @@ fn audited(alloc: Global, text: &[u8]) -> Result<(Verdict, Vec<u8>), TextFault>
 /// were inserted and done, how many messages were sent and received, and with which wave the pool had ended; or one line, that
 /// of the first line that is not of the grammar, or else of the first that is refused or is a judgement with other words.
 /// Nothing is written before all of it is known. It takes as much memory as the text and a core of its steps.
+///
+/// A trace of version 1 begins with the line `trace 1`, and all its messages are of the first generation. One of version 2 begins
+/// with the line `trace 2`; there the number of its generation stands last in the line of a message, and `reopen` is a line. Of
+/// a sound one `generation G` is written before the last line, the number of the last generation. Steps, tasks and messages are
+/// counted through all generations; that the pool had ended is told of the last.
 ///
 /// It is refused as `Read` where a read fails, an interrupted one apart, which is tried again, and where 67,108,864 reads
 /// were made; as `TooLong` where there are more than 33,554,432 bytes; as `Memory` where a growth of memory was refused;
@@ -66,6 +71,8 @@ pub fn audit<R: Read, W: Write>(
     ensures ended { IfOk result (λ _. EndedIsOver) }
     // where it is answered `not ended`, none of its lines since the pool was last reopened says that it had ended.
     ensures not_ended { IfOk result (λ _. NotEndedClaimsNoEnd) }
+    // In each generation that was followed by another the end was judged, nothing was left, and each task had run once.
+    ensures reopened { IfOk result (λ _. ReopenedIsOver) }
     // Where the answer could not be written, it was made, from all that there was.
     ensures made { IsErrOf result TextFault.Write → (verdict : Verdict) × (bytes : List ℕ) × (text : List ℕ)
         × ReadsAll (R.remaining reader.old) (R.remaining reader.new) bytes × IsAuditText bytes verdict text }

@@ -9,7 +9,7 @@ ghost use Rattle.tp_text.specs.declared.input.TheConstants.{MAX_TEXT};
 
 use crate::fault::TextFault;
 use crate::input::read_text;
-use crate::parse::{first_line, next_step};
+use crate::parse::{first_line, next_step, script_head};
 use crate::printing::{push_answer, push_closing, syntax_line};
 use crate::verdict::Verdict;
 use std::alloc::Global;
@@ -22,15 +22,16 @@ fn answered(alloc: Global, text: &[u8]) -> Result<(Verdict, Vec<u8>), TextFault>
     ensures ok { IfOk result (λ answer. IsSimText text.now answer.0 answer.1.items) }
     ensures err { IfErr result (λ fault. fault ≡ TextFault.Memory) }
 {
-    let Some((nodes, steps)) = first_line(text) else {
-        return Ok((Verdict::Refused, syntax_line(alloc, 1)?));
+    let (version, behind) = script_head(text);
+    let Some((nodes, steps)) = first_line(behind) else {
+        return Ok((Verdict::Refused, syntax_line(alloc, version.nodes_at())?));
     };
     let mut core = Core::new(alloc, nodes);
     let mut out = Vec::new(alloc);
     let mut rest = steps;
-    let mut number = 2;
+    let mut number = version.nodes_at() + 1;
     while !rest.is_empty() {
-        let Some((step, behind)) = next_step(rest) else {
+        let Some((step, behind)) = next_step(version, rest) else {
             return Ok((Verdict::Refused, syntax_line(alloc, number)?));
         };
         let answer = core.step(step);
@@ -48,6 +49,10 @@ fn answered(alloc: Global, text: &[u8]) -> Result<(Verdict, Vec<u8>), TextFault>
 /// Answers to a script: reads all of the reader, takes the steps of the script in turn with a new core, and writes the
 /// answer to each and the closing lines; or, where the text is no script, the line of its first fault. Nothing is written
 /// before all of it is known.
+///
+/// A script of version 1 begins with the line for the number of nodes, and all its messages are of the first generation. One of
+/// version 2 begins with the line `script 2`; there the number of its generation stands last in the line of a message, and
+/// `reopen` is a line, whose answer is `generation G` where it is accepted.
 ///
 /// It is refused as `Read` where a read fails, an interrupted one apart, which is tried again, and where 67,108,864 reads
 /// were made; as `TooLong` where there are more than 33,554,432 bytes; as `Memory` where a growth of memory was refused;

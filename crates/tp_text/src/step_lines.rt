@@ -1,16 +1,18 @@
-ghost use Rattle.std.specs.Prelude.{◌≡◌, ◌++◌, ◌↔◌, [], IsTrue, OnOk};
+ghost use Rattle.std.specs.Prelude.{◌≡◌, ◌++◌, ◌↔◌, ◌∷◌, [], IsTrue, OnOk};
+ghost use Rattle.std.specs.List.{All};
 ghost use Rattle.tp_text.specs.Script.{step_line};
-ghost use Rattle.tp_text.specs.Spelling.{line, spaced, IsNumber, IsSpelled};
-ghost use Rattle.tp_text.specs.Trace.{trace, trace_line};
+ghost use Rattle.tp_text.specs.Spelling.{generation_number, line, spaced, HasFirstNumber, IsNumber, IsSpelled};
+ghost use Rattle.tp_text.specs.Trace.{format_line, trace, trace_line};
 ghost use Rattle.tp_text.specs.Words.{numbers_in};
 
 use crate::printing::push_count;
 use crate::traced::TraceLine;
+use crate::version::Version;
 use crate::words::Operands;
 use std::alloc::AllocError;
-use tp_base::{Generation, MAX_INPUTS, Step};
+use tp_base::{Generation, MAX_INPUTS, MessageId, NodeId, Step};
 
-/// The generation of all that a text tells: its lines have no place for the number.
+/// The generation of all that a text of version 1 tells: its lines have no place for the number.
 pub(crate) const FIRST: Generation = Generation(1);
 
 /// Whether a number has at most six digits.
@@ -20,9 +22,19 @@ fn is_number(number: u32) -> bool
     number < 1_000_000
 }
 
+/// Whether a line has a place for the number of a generation, or needs none.
+fn has_generation(version: Version, generation: Generation) -> bool
+    ensures { IsTrue result ↔ (All IsNumber (generation_number version generation) × HasFirstNumber version generation) }
+{
+    match version {
+        Version::One => generation == FIRST,
+        Version::Two => is_number(generation.0),
+    }
+}
+
 /// Whether the grammar has a line for a step.
-pub(crate) fn has_line(step: Step) -> bool
-    ensures { IsTrue result ↔ IsSpelled step }
+pub(crate) fn has_line(version: Version, step: Step) -> bool
+    ensures { IsTrue result ↔ IsSpelled version step }
 {
     match step {
         Step::Insert(node, task, inputs) => {
@@ -33,16 +45,22 @@ pub(crate) fn has_line(step: Step) -> bool
             is_number(node.0) && is_number(action.0)
         }
         Step::Send(from, to, message, generation) => {
-            is_number(from.0) && is_number(to.0) && is_number(message.0) && generation == FIRST
+            is_number(from.0)
+                && is_number(to.0)
+                && is_number(message.0)
+                && has_generation(version, generation)
         }
         Step::Recv(node, message, generation) | Step::MessageEnd(node, message, generation) => {
-            is_number(node.0) && is_number(message.0) && generation == FIRST
+            is_number(node.0) && is_number(message.0) && has_generation(version, generation)
         }
         Step::Ready(node) | Step::Down(node) | Step::Give(node) | Step::Up(node) => {
             is_number(node.0)
         }
         Step::Start | Step::Judge => true,
-        Step::Reopen => false,
+        Step::Reopen => match version {
+            Version::One => false,
+            Version::Two => true,
+        },
     }
 }
 
@@ -62,6 +80,12 @@ fn push_numbers(out: &mut Vec<u8>, numbers: Operands) -> Result<(), AllocError>
             push_count(out, b" ", u64::from(second))?;
             push_count(out, b" ", u64::from(third))
         }
+        Operands::Four(first, second, third, fourth) => {
+            push_count(out, b" ", u64::from(first))?;
+            push_count(out, b" ", u64::from(second))?;
+            push_count(out, b" ", u64::from(third))?;
+            push_count(out, b" ", u64::from(fourth))
+        }
     }
 }
 
@@ -74,17 +98,58 @@ fn push_words(out: &mut Vec<u8>, word: &[u8], numbers: Operands) -> Result<(), A
     out.extend_from_slice(b"\n")
 }
 
-/// The lines with which a trace begins: for the format, and for the number of nodes.
-pub(crate) fn push_head(out: &mut Vec<u8>, nodes: u32) -> Result<(), AllocError>
-    ensures { OnOk result (out.new.items ≡ out.old.items ++ trace nodes []) }
+/// The line for the format of a trace.
+fn push_format(version: Version, out: &mut Vec<u8>) -> Result<(), AllocError>
+    ensures { OnOk result (out.new.items ≡ out.old.items ++ format_line version) }
 {
-    push_words(out, b"trace 1", Operands::None)?;
+    match version {
+        Version::One => out.extend_from_slice(b"trace 1\n"),
+        Version::Two => out.extend_from_slice(b"trace 2\n"),
+    }
+}
+
+/// The lines with which a trace begins: for the format, and for the number of nodes.
+pub(crate) fn push_head(version: Version, out: &mut Vec<u8>, nodes: u32) -> Result<(), AllocError>
+    ensures { OnOk result (out.new.items ≡ out.old.items ++ trace version nodes []) }
+{
+    push_format(version, out)?;
     push_words(out, b"nodes", Operands::One(nodes))
 }
 
+/// The numbers of a message that is sent.
+fn sent_numbers(
+    version: Version,
+    from: NodeId,
+    to: NodeId,
+    message: MessageId,
+    generation: Generation,
+) -> Operands
+    ensures { numbers_in result ≡ from.0 ∷ to.0 ∷ message.0 ∷ generation_number version generation }
+{
+    match version {
+        Version::One => Operands::Three(from.0, to.0, message.0),
+        Version::Two => Operands::Four(from.0, to.0, message.0, generation.0),
+    }
+}
+
+/// The numbers of a message that is received, or whose work ends.
+fn taken_numbers(
+    version: Version,
+    node: NodeId,
+    message: MessageId,
+    generation: Generation,
+) -> Operands
+    ensures { numbers_in result ≡ node.0 ∷ message.0 ∷ generation_number version generation }
+{
+    match version {
+        Version::One => Operands::Two(node.0, message.0),
+        Version::Two => Operands::Three(node.0, message.0, generation.0),
+    }
+}
+
 /// The line of a step.
-fn push_step(out: &mut Vec<u8>, step: Step) -> Result<(), AllocError>
-    ensures { OnOk result (out.new.items ≡ out.old.items ++ step_line step) }
+fn push_step(version: Version, out: &mut Vec<u8>, step: Step) -> Result<(), AllocError>
+    ensures { OnOk result (out.new.items ≡ out.old.items ++ step_line version step) }
 {
     match step {
         Step::Insert(node, task, inputs) => {
@@ -101,13 +166,9 @@ fn push_step(out: &mut Vec<u8>, step: Step) -> Result<(), AllocError>
             push_words(out, b"close", Operands::Two(node.0, action.0))
         }
         Step::Ready(node) => push_words(out, b"ready", Operands::One(node.0)),
-        Step::Send(from, to, message, _) => {
-            push_words(out, b"send", Operands::Three(from.0, to.0, message.0))
-        }
-        Step::Recv(node, message, _) => push_words(out, b"recv", Operands::Two(node.0, message.0)),
-        Step::MessageEnd(node, message, _) => {
-            push_words(out, b"end", Operands::Two(node.0, message.0))
-        }
+        Step::Send(i, j, m, g) => push_words(out, b"send", sent_numbers(version, i, j, m, g)),
+        Step::Recv(j, m, g) => push_words(out, b"recv", taken_numbers(version, j, m, g)),
+        Step::MessageEnd(j, m, g) => push_words(out, b"end", taken_numbers(version, j, m, g)),
         Step::Start => push_words(out, b"start", Operands::None),
         Step::Down(node) => push_words(out, b"down", Operands::One(node.0)),
         Step::Give(node) => push_words(out, b"give", Operands::One(node.0)),
@@ -118,11 +179,15 @@ fn push_step(out: &mut Vec<u8>, step: Step) -> Result<(), AllocError>
 }
 
 /// A line of a trace.
-pub(crate) fn push_line(out: &mut Vec<u8>, line: TraceLine) -> Result<(), AllocError>
-    ensures { OnOk result (out.new.items ≡ out.old.items ++ trace_line line) }
+pub(crate) fn push_line(
+    version: Version,
+    out: &mut Vec<u8>,
+    line: TraceLine,
+) -> Result<(), AllocError>
+    ensures { OnOk result (out.new.items ≡ out.old.items ++ trace_line version line) }
 {
     match line {
-        TraceLine::Plain(step) => push_step(out, step),
+        TraceLine::Plain(step) => push_step(version, out, step),
         TraceLine::Judged(None) => push_words(out, b"judge not", Operands::None),
         TraceLine::Judged(Some(wave)) => push_words(out, b"judge ended", Operands::One(wave)),
     }

@@ -13,9 +13,11 @@ use tp_wave::Wave;
 /// How many places an array has: one for each node that there may be.
 const PLACES: usize = MAX_NODES as usize;
 
-/// Follows the steps of one generation in turn and tells their lines: the waves go along, and messages are counted afresh.
+/// Follows steps in turn and tells their lines: the waves go along, and messages are counted afresh. Where the pool is reopened it
+/// begins anew, so that no line is told by steps of an earlier generation.
 #[derive(Clone, Copy)]
 pub(crate) struct Tracer {
+    nodes: u32,
     wave: Wave,
     // how many messages each node has sent and received
     sent: [u32; PLACES],
@@ -29,6 +31,7 @@ impl Tracer {
         ensures { HasFollowed nodes [] result }
     {
         Tracer {
+            nodes,
             wave: Wave::new(nodes),
             sent: [0; PLACES],
             received: [0; PLACES],
@@ -37,10 +40,11 @@ impl Tracer {
 
     /// Follows the next step, and tells its line.
     pub(crate) fn line(&mut self, step: Step) -> TraceLine
-        requires { (n : ℕ) × (past : List Step) × HasFollowed n past self.old × MayFollow n past step }
+        requires { (n : ℕ) × (past : List Step) × HasFollowed n (present past) self.old × MayFollow n (present past) step }
         ensures told { (n : ℕ) (past : List Step) → HasFollowed n (present past) self.old → MayFollow n (present past) step
             → result ≡ line_of n past step }
-        ensures followed { (n : ℕ) (past : List Step) → HasFollowed n past self.old → MayFollow n past step → HasFollowed n (step ∷ past) self.new }
+        ensures followed { (n : ℕ) (past : List Step) → HasFollowed n (present past) self.old → MayFollow n (present past) step
+            → HasFollowed n (present (step ∷ past)) self.new }
     {
         match step {
             Step::Send(node, _, _, _) => self.sent[node.0 as usize] += 1,
@@ -50,6 +54,7 @@ impl Tracer {
             Step::Give(node) => self.give(node),
             Step::Up(node) => self.up(node),
             Step::Judge => return TraceLine::Judged(self.judge()),
+            Step::Reopen => *self = Tracer::new(self.nodes),
             _ => {}
         }
         TraceLine::Plain(step)
@@ -59,21 +64,24 @@ impl Tracer {
 
     fn start(&mut self)
         requires { (n : ℕ) × (past : List Step) × HasFollowed n past self.old × MayFollow n past Step.Start }
-        ensures { (n : ℕ) (past : List Step) → HasFollowed n past self.old → MayFollow n past Step.Start → HasFollowed n (Step.Start ∷ past) self.new }
+        ensures { (n : ℕ) (past : List Step) → HasFollowed n past self.old → MayFollow n past Step.Start
+            → HasFollowed n (Step.Start ∷ past) self.new }
     {
         let _started = self.wave.start();
     }
 
     fn down(&mut self, node: NodeId)
         requires { (n : ℕ) × (past : List Step) × HasFollowed n past self.old × MayFollow n past (Step.Down node) }
-        ensures { (n : ℕ) (past : List Step) → HasFollowed n past self.old → MayFollow n past (Step.Down node) → HasFollowed n (Step.Down node ∷ past) self.new }
+        ensures { (n : ℕ) (past : List Step) → HasFollowed n past self.old → MayFollow n past (Step.Down node)
+            → HasFollowed n (Step.Down node ∷ past) self.new }
     {
         let _reached = self.wave.down(node);
     }
 
     fn give(&mut self, node: NodeId)
         requires { (n : ℕ) × (past : List Step) × HasFollowed n past self.old × MayFollow n past (Step.Give node) }
-        ensures { (n : ℕ) (past : List Step) → HasFollowed n past self.old → MayFollow n past (Step.Give node) → HasFollowed n (Step.Give node ∷ past) self.new }
+        ensures { (n : ℕ) (past : List Step) → HasFollowed n past self.old → MayFollow n past (Step.Give node)
+            → HasFollowed n (Step.Give node ∷ past) self.new }
     {
         let place = node.0 as usize;
         let _given = self.wave.give(node, self.sent[place], self.received[place]);
@@ -81,7 +89,8 @@ impl Tracer {
 
     fn up(&mut self, node: NodeId)
         requires { (n : ℕ) × (past : List Step) × HasFollowed n past self.old × MayFollow n past (Step.Up node) }
-        ensures { (n : ℕ) (past : List Step) → HasFollowed n past self.old → MayFollow n past (Step.Up node) → HasFollowed n (Step.Up node ∷ past) self.new }
+        ensures { (n : ℕ) (past : List Step) → HasFollowed n past self.old → MayFollow n past (Step.Up node)
+            → HasFollowed n (Step.Up node ∷ past) self.new }
     {
         let _taken = self.wave.up(node);
     }
@@ -90,7 +99,8 @@ impl Tracer {
     fn judge(&mut self) -> Option<u32>
         requires { (n : ℕ) × (past : List Step) × HasFollowed n past self.old × MayFollow n past Step.Judge }
         ensures told { (n : ℕ) (past : List Step) → HasFollowed n past self.old → MayFollow n past Step.Judge → result ≡ judgement n past }
-        ensures followed { (n : ℕ) (past : List Step) → HasFollowed n past self.old → MayFollow n past Step.Judge → HasFollowed n (Step.Judge ∷ past) self.new }
+        ensures followed { (n : ℕ) (past : List Step) → HasFollowed n past self.old → MayFollow n past Step.Judge
+            → HasFollowed n (Step.Judge ∷ past) self.new }
     {
         let Ok(wave) = self.wave.judge() else {
             unreachable!()

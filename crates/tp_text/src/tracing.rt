@@ -1,73 +1,111 @@
-ghost use Rattle.std.specs.Prelude.{◌≡◌, ◌≤◌, ◌↔◌, ◌⊎◌, length, IfErr, IfOk, IsTrue};
+ghost use Rattle.std.specs.Prelude.{◌≡◌, ◌≤◌, ◌↔◌, ◌⊎◌, length, IfErr, IfOk, IsTrue, MatchOption};
 ghost use Rattle.std.specs.List.{All};
 ghost use Rattle.tp_base.specs.declared.limits.TheConstants.{MAX_NODES, MAX_STEPS};
+ghost use Rattle.tp_wave.specs.Generations.{InEach};
 ghost use Rattle.tp_wave.specs.Machine.{steps_of, IsRun};
+ghost use Rattle.tp_wave.specs.Steps.{any, is_reopen};
 ghost use Rattle.tp_text.specs.Spelling.{IsSpelled};
 ghost use Rattle.tp_text.specs.Trace.{trace};
-ghost use Rattle.tp_text.specs.TraceOf.{lines_of, IsTraceOf, CanBeTraced};
+ghost use Rattle.tp_text.specs.TraceOf.{lines_of, version_of, IsTraceOf, CanBeTraced};
 
 use crate::step_lines::{has_line, push_head, push_line};
 use crate::tracer::Tracer;
+use crate::version::Version;
 use std::alloc::{AllocError, Global};
-use tp_base::{History, MAX_STEPS, Refusal};
+use tp_base::{History, MAX_STEPS, Refusal, Step};
 
 /// The trace of a pool's history over so many nodes, 1 to 8: its steps, the oldest first, each judge's words being what was
-/// judged over the steps before. Messages are counted afresh. It takes memory for the text alone.
+/// judged over the steps before in its generation. Messages are counted afresh. It takes memory for the text alone.
+///
+/// The trace is of version 2 exactly where the pool was reopened; in one of version 1 no line has a place for the number of a
+/// generation.
 ///
 /// Refused: `BadSpec` where the history has more than 1,048,576 steps, a number of more than six digits, a task of more than
-/// 16 inputs, or a message of another generation than the first, whose number no line has a place for; then `NoMemory`.
+/// 16 inputs, or, where the pool was not reopened, a message of another generation than the first; then `NoMemory`.
 pub fn print_trace(alloc: Global, history: &History, nodes: u32) -> Result<Vec<u8>, Refusal>
     requires nodes { (1 ≤ nodes) × (nodes ≤ MAX_NODES) }
     // As of an outcome's history, or of a report's.
-    requires run { IsRun nodes history.now.events }
+    requires run { InEach (IsRun nodes) history.now.events }
     ensures ok { IfOk result (λ text. IsTraceOf nodes (steps_of history.now.events) text.items) }
     ensures can { IfOk result (λ text. CanBeTraced (steps_of history.now.events)) }
     ensures err { IfErr result (λ r. ((r ≡ Refusal.BadSpec) × ¬ CanBeTraced (steps_of history.now.events))
         ⊎ ((r ≡ Refusal.NoMemory) × CanBeTraced (steps_of history.now.events))) }
 {
-    if !can_be_traced(history) {
+    let Some(version) = traced_version(history) else {
         return Err(Refusal::BadSpec);
-    }
-    Ok(traced(alloc, history, nodes)?)
+    };
+    Ok(traced(alloc, history, nodes, version)?)
 }
 
-/// Whether there are no more steps than a core takes, and the grammar has a line for each.
-fn can_be_traced(history: &History) -> bool
-    ensures { IsTrue result ↔ CanBeTraced (steps_of history.now.events) }
+/// The version of a history's trace, where there are no more steps than a core takes and the grammar has a line for each.
+fn traced_version(history: &History) -> Option<Version>
+    ensures { MatchOption result
+        (¬ CanBeTraced (steps_of history.now.events))
+        (λ v. (v ≡ version_of (steps_of history.now.events)) × CanBeTraced (steps_of history.now.events)) }
 {
-    history.len() <= MAX_STEPS as usize && has_lines(history)
+    if history.len() > MAX_STEPS as usize {
+        return None;
+    }
+    // a history of one generation is walked through once
+    if has_lines(Version::One, history) {
+        return Some(Version::One);
+    }
+    if is_reopened(history) && has_lines(Version::Two, history) {
+        return Some(Version::Two);
+    }
+    None
 }
 
 /// Whether the grammar has a line for each step.
-fn has_lines(history: &History) -> bool
-    ensures { IsTrue result ↔ All IsSpelled (steps_of history.now.events) }
+fn has_lines(version: Version, history: &History) -> bool
+    ensures { IsTrue result ↔ All (IsSpelled version) (steps_of history.now.events) }
 {
     for place in 0..history.len() {
         let Some((_, step)) = history.at(place) else {
             unreachable!()
         };
-        if !has_line(step) {
+        if !has_line(version, step) {
             return false;
         }
     }
     true
 }
 
+/// Whether the pool was reopened.
+fn is_reopened(history: &History) -> bool
+    ensures { result ≡ any is_reopen (steps_of history.now.events) }
+{
+    for place in 0..history.len() {
+        let Some((_, step)) = history.at(place) else {
+            unreachable!()
+        };
+        if let Step::Reopen = step {
+            return true;
+        }
+    }
+    false
+}
+
 /// The lines of a trace.
-fn traced(alloc: Global, history: &History, nodes: u32) -> Result<Vec<u8>, AllocError>
+fn traced(
+    alloc: Global,
+    history: &History,
+    nodes: u32,
+    version: Version,
+) -> Result<Vec<u8>, AllocError>
     requires nodes { (1 ≤ nodes) × (nodes ≤ MAX_NODES) }
-    requires run { IsRun nodes history.now.events }
+    requires run { InEach (IsRun nodes) history.now.events }
     requires few { length history.now.events ≤ MAX_STEPS }
-    ensures { IfOk result (λ text. text.items ≡ trace nodes (lines_of nodes (steps_of history.now.events))) }
+    ensures { IfOk result (λ text. text.items ≡ trace version nodes (lines_of nodes (steps_of history.now.events))) }
 {
     let mut out = Vec::new(alloc);
-    push_head(&mut out, nodes)?;
+    push_head(version, &mut out, nodes)?;
     let mut tracer = Tracer::new(nodes);
     for index in 0..history.len() {
         let Some((_, step)) = history.at(index) else {
             unreachable!()
         };
-        push_line(&mut out, tracer.line(step))?;
+        push_line(version, &mut out, tracer.line(step))?;
     }
     Ok(out)
 }

@@ -12,6 +12,7 @@ pub(crate) enum Operands {
     One(u32),
     Two(u32, u32),
     Three(u32, u32, u32),
+    Four(u32, u32, u32, u32),
 }
 
 /// The word at the front, which ends at the first space or line feed, and what stands behind it.
@@ -47,10 +48,10 @@ fn next_number(text: &[u8]) -> Option<(u32, &[u8])>
     }
 }
 
-/// At most three numbers, each behind a space, to the end of the line, and what stands behind that line.
+/// At most four numbers, each behind a space, to the end of the line, and what stands behind that line.
 pub(crate) fn operands_of(text: &[u8]) -> Option<(Operands, &[u8])>
     ensures { MatchOption result
-        ((ks : List ℕ) (rest : List ℕ) → All IsNumber ks → length ks ≤ 3 → text.now ≢ spaced ks ++ 10 ∷ rest)
+        ((ks : List ℕ) (rest : List ℕ) → All IsNumber ks → length ks ≤ 4 → text.now ≢ spaced ks ++ 10 ∷ rest)
         (λ found. All IsNumber (numbers_in found.0) × (text.now ≡ spaced (numbers_in found.0) ++ 10 ∷ found.1.now)) }
 {
     if let Some(rest) = behind_line(text) {
@@ -65,5 +66,10 @@ pub(crate) fn operands_of(text: &[u8]) -> Option<(Operands, &[u8])>
         return Some((Operands::Two(first, second), rest));
     }
     let (third, text) = next_number(text)?;
-    Some((Operands::Three(first, second, third), behind_line(text)?))
+    if let Some(rest) = behind_line(text) {
+        return Some((Operands::Three(first, second, third), rest));
+    }
+    let (fourth, text) = next_number(text)?;
+    let numbers = Operands::Four(first, second, third, fourth);
+    Some((numbers, behind_line(text)?))
 }

@@ -2,4 +2,4 @@ use Rattle.tp_text.proofs.TraceLines.{no_line_keyword}
 use Rattle.tp_text.proofs.parse.next_line.Goals as goal
 
 pub returns-in_err-keyword : goal.returns-in_err-keyword
-returns-in_err-keyword c = rw c.from_residual.ensures (no_line_keyword _ _ _ c.first_word.ensures c.in_err-keyword.ensures)
+returns-in_err-keyword c = rw c.from_residual.ensures (no_line_keyword c.args.version _ _ _ c.first_word.ensures c.in_err-keyword.ensures)

@@ -5,7 +5,7 @@ use Rattle.tp_text.proofs.Recounting.{Reads}
 use Rattle.tp_text.proofs.recount.audited.Given as goal
 
 abbrev pub invariant-loop-rest : goal.invariant-loop-rest
-invariant-loop-rest l = (lines : List TraceLine) × Reads l.text l.nodes lines l.rest l.number × Knows l.nodes lines l.auditor
+invariant-loop-rest l = (lines : List TraceLine) × Reads l.version l.text l.nodes lines l.rest l.number × Knows l.nodes lines l.auditor
 
 abbrev pub decreases-loop-rest : goal.decreases-loop-rest
 decreases-loop-rest l = length l.rest

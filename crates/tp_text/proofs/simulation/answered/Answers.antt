@@ -1,32 +1,38 @@
-use Rattle.std.proofs.Common.{[], ◌∷◌, ◌++◌, sym, ap, ◌∙◌, arith}
+use Rattle.std.proofs.Common.{[], ◌∷◌, ◌++◌, ◌+◌, codes, decimal, sym, ap, ◌∙◌, arith}
 use Rattle.std.proofs.lemmas.Grind.{common_steps}
 use Rattle.tp_core.specs.Accepted.{Accepted}
 use Rattle.tp_text.specs.SimText.{fresh}
-use Rattle.tp_text.proofs.Taking.{fault_first, takes_none, takes_one, takes_all, takes_fault, nodes_kept, shorter}
+use Rattle.tp_text.specs.Spelling.{line}
+use Rattle.tp_text.proofs.Taking.{fault_nodes, takes_none, takes_one, takes_all, takes_fault, nodes_kept, shorter, early}
 use Rattle.tp_text.proofs.Left.{some_left, none_left}
 use Rattle.tp_text.proofs.simulation.answered.Goals as goal
 
 pub returns-in_default-clause-ok : goal.returns-in_default-clause-ok
-returns-in_default-clause-ok c = fault_first c.args.text.now _ c.in_default.ensures c.in_ok-syntax_line.ensures
+returns-in_default-clause-ok c =
+    fault_nodes c.script_head-version.result.0 c.args.text.now c.script_head-version.result.1.now _ c.script_head-version.ensures.text c.script_head-version.ensures.two c.in_default.ensures
+    (c.in_ok-syntax_line.ensures ∙ ap (λ k. line (codes "syntax line " ++ decimal k)) c.nodes_at.ensures)
 
 pub returns-then-eq-clause-ok : goal.returns-then-eq-clause-ok
 returns-then-eq-clause-ok c = tt
 
 pub loop-rest-init : goal.loop-rest-init
-loop-rest-init c = ([], takes_none _ _ _ _ _ c.in-Some.ensures c.new-core.ensures c.new-out.ensures.items)
+loop-rest-init c = ([], takes_none c.script_head-version.result.0 _ c.script_head-version.result.1.now _ _ _ _ _ c.script_head-version.ensures.text c.in-Some.ensures c.new-core.ensures c.new-out.ensures.items (ap (λ k. k + 1) c.nodes_at-number.ensures))
 
 pub loop-rest-preserved : goal.loop-rest-preserved
 loop-rest-preserved c =
     let ample = c.step-answer.ensures.ample (grind (arith, common_steps)) in (
       c.loop-rest.invariant.0 ++ c.in-Some-next_step.step ∷ [],
-      takes_one _ _ c.loop-rest.invariant.0 _ _ _ _ c.in-Some-next_step.step _ _ _ _ c.loop-rest.invariant.1 c.in-Some-next_step.ensures ample.0 ample.1 c.in_ok-push_answer.ensures,
+      takes_one c.script_head-version.result.0 _ _ c.loop-rest.invariant.0 _ _ _ _ c.in-Some-next_step.step _ _ _ _ c.loop-rest.invariant.1 c.in-Some-next_step.ensures ample.0 ample.1 c.in_ok-push_answer.ensures,
     )
 
 pub loop-rest-smaller : goal.loop-rest-smaller
-loop-rest-smaller c = shorter c.in-Some-next_step.step _ _ c.in-Some-next_step.ensures.1
+loop-rest-smaller c = shorter c.script_head-version.result.0 c.in-Some-next_step.step _ _ c.in-Some-next_step.ensures.1
 
 pub overflow_add-number : goal.overflow_add-number
-overflow_add-number c = omega (arith, c.loop-rest.invariant.1.short)
+overflow_add-number c = omega (arith, c.nodes_at-number.ensures, early c.script_head-version.result.0)
+
+pub overflow_add-number-in-loop-rest : goal.overflow_add-number-in-loop-rest
+overflow_add-number-in-loop-rest c = omega (arith, c.loop-rest.invariant.1.short)
 
 pub push_closing-requires : goal.push_closing-requires
 push_closing-requires c =
@@ -34,8 +40,8 @@ push_closing-requires c =
     (sym (ap (λ (a : Accepted). a.nodes) h.core_is ∙ nodes_kept (fresh c.in-Some.nodes) c.loop-rest.invariant.0), h.count.1)
 
 pub returns-clause-ok : goal.returns-clause-ok
-returns-clause-ok c = takes_all _ _ _ _ _ _ _ _ c.loop-rest.invariant.1 (none_left c.loop-rest.rest.now c.loop-rest-test.ensures) c.in_ok-push_closing.ensures
+returns-clause-ok c = takes_all c.script_head-version.result.0 _ _ _ _ _ _ _ _ c.loop-rest.invariant.1 (none_left c.loop-rest.rest.now c.loop-rest-test.ensures) c.in_ok-push_closing.ensures
 
 pub returns-in_default-next_step-clause-ok : goal.returns-in_default-next_step-clause-ok
 returns-in_default-next_step-clause-ok c =
-    takes_fault _ _ _ _ _ _ _ _ c.loop-rest.invariant.1 (some_left c.loop-rest.rest.now c.loop-rest-test.ensures) c.in_default-next_step.ensures c.in_ok-syntax_line-2.ensures
+    takes_fault c.script_head-version.result.0 _ _ _ _ _ _ _ _ c.loop-rest.invariant.1 (some_left c.loop-rest.rest.now c.loop-rest-test.ensures) c.in_default-next_step.ensures c.in_ok-syntax_line-2.ensures

@@ -5,4 +5,4 @@ use Rattle.tp_text.proofs.Following.{oldest}
 use Rattle.tp_text.proofs.tracing.has_lines.Given as goal
 
 abbrev pub invariant-loop-place : goal.invariant-loop-place
-invariant-loop-place l = All IsSpelled (steps_of (oldest l.place l.history.events))
+invariant-loop-place l = All (IsSpelled l.version) (steps_of (oldest l.place l.history.events))

@@ -10,5 +10,5 @@ use Rattle.tp_text.proofs.tracing.traced.Given as goal
 abbrev pub invariant-loop-index : goal.invariant-loop-index
 invariant-loop-index l = record {
   followed : HasFollowed l.nodes (present (steps_of (oldest l.index l.history.events))) l.tracer;
-  written : l.out.items ≡ trace l.nodes (lines_of l.nodes (steps_of (oldest l.index l.history.events)));
+  written : l.out.items ≡ trace l.version l.nodes (lines_of l.nodes (steps_of (oldest l.index l.history.events)));
 }

@@ -2,7 +2,7 @@ use Rattle.std.proofs.Common.{arith, ap}
 use Rattle.tp_wave.proofs.Given.{count-le}
 use Rattle.tp_text.specs.declared.account.Account.{Account}
 use Rattle.tp_text.specs.AuditText.{is_insert}
-use Rattle.tp_wave.specs.Steps.{is_done, is_recv, is_send}
+use Rattle.tp_wave.specs.Steps.{is_done, is_recv, is_reopen, is_send}
 use Rattle.tp_text.proofs.account.Account.with_step.Goals as goal
 
 pub overflow_add-result : goal.overflow_add-result
@@ -16,3 +16,6 @@ overflow_add-result-in-Send c = omega (arith, ap (λ (a : Account). a.messages) 
 
 pub overflow_add-result-in-Recv : goal.overflow_add-result-in-Recv
 overflow_add-result-in-Recv c = omega (arith, ap (λ (a : Account). a.received) c.requires.2, count-le is_recv c.requires.1, c.requires.3)
+
+pub overflow_add-result-in-Reopen : goal.overflow_add-result-in-Reopen
+overflow_add-result-in-Reopen c = omega (arith, ap (λ (a : Account). a.generation) c.requires.2, count-le is_reopen c.requires.1, c.requires.3)

@@ -15,7 +15,9 @@ pub returns : goal.returns
 returns c = λ n past h may.
     let below : c.args.node.0 < n = (may.control refl).1.0 in
     record {
+      some = h.some;
       nodes = h.nodes;
+      over = h.over;
       wave = not_refused n past (Give c.args.node) c.give-given.result _ refl may (c.give-given.ensures.exact n past h.wave)
           (c.give-given.ensures.follows n past h.wave (h.sent c.args.node.0 below) (h.received c.args.node.0 below));
       sent = h.sent;

@@ -7,13 +7,13 @@ use Rattle.tp_text.proofs.tracer.Tracer.line.Goals as goal
 
 pub overflow_add-self : goal.overflow_add-self
 overflow_add-self c =
-    let below = sender c.requires.0 c.requires.1 c.args.step _ _ _ _ c.in-Send.is c.requires.3 in
-    omega (arith, few_sent c.requires.0 c.requires.1 c.args.self.now c.in-Send.node.0 c.requires.2 below c.requires.3.few)
+    let below = sender c.requires.0 (present c.requires.1) c.args.step _ _ _ _ c.in-Send.is c.requires.3 in
+    omega (arith, few_sent c.requires.0 (present c.requires.1) c.args.self.now c.in-Send.node.0 c.requires.2 below c.requires.3.few)
 
 pub overflow_add-self-in-Recv : goal.overflow_add-self-in-Recv
 overflow_add-self-in-Recv c =
-    let below = receiver c.requires.0 c.requires.1 c.args.step _ _ _ c.in-Recv.is c.requires.3 in
-    omega (arith, few_received c.requires.0 c.requires.1 c.args.self.now c.in-Recv.node.0 c.requires.2 below c.requires.3.few)
+    let below = receiver c.requires.0 (present c.requires.1) c.args.step _ _ _ c.in-Recv.is c.requires.3 in
+    omega (arith, few_received c.requires.0 (present c.requires.1) c.args.self.now c.in-Recv.node.0 c.requires.2 below c.requires.3.few)
 
 pub returns-in-Judge-clause-told : goal.returns-in-Judge-clause-told
 returns-in-Judge-clause-told c = λ n past h may.
@@ -35,5 +35,5 @@ returns-in_default c = record {
   told = λ n past _ _. other_line n past c.args.step c.in_default.not-Judge;
   followed = λ n past h _.
       other_step n past c.args.step c.args.self.now h c.in_default.not-Send c.in_default.not-Recv c.in_default.not-Start c.in_default.not-Down
-      c.in_default.not-Give c.in_default.not-Up c.in_default.not-Judge;
+      c.in_default.not-Give c.in_default.not-Up c.in_default.not-Judge c.in_default.not-Reopen;
 }
