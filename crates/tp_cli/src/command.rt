@@ -132,9 +132,14 @@ for each step.
   up I           the parent of node I takes the sums that it gave
   judge          the wave that has ended is judged
 
-Each step is answered by `ok`, by what a wave adds up, by `not` or `ended W`, or
-by its refusal. Then come the numbers of each node and of all, and whether all
-is quiet.
+Behind a first line `script 2` a pool whose end was judged can be reopened, and a
+message names its generation, of which the first is 1:
+  reopen         the next generation begins, with all as at the start
+  send I J M G   recv J M G   end J M G
+
+Each step is answered by `ok`, by what a wave adds up, by `not` or `ended W`, by
+`generation G`, or by its refusal. Then come the numbers of each node and of all,
+and whether all is quiet.
 
 An example:
   nodes 1
@@ -158,13 +163,15 @@ static AUDIT_HELP: &str =
 of `tp sim --help`, but for a judgement, which says what was judged:
   judge not      the wave that has ended does not tell the end
   judge ended W  all was done when wave W ended, W from 1 on
+A first line `trace 2` stands for `script 2`, and `reopen` may stand in the trace.
 
 The steps are taken by the rules alone, messages are counted afresh, and each
 judgement is worked out again. A trace that is sound is answered by four lines:
   steps N                how many steps there are
   tasks I done D         how many tasks were inserted, and how many are done
   messages S received R  how many messages were sent, and how many received
-  ended W                what the last judgement was, or `not ended`
+  generation G           of a `trace 2` alone: the number of the last generation
+  ended W                what its last judgement was, or `not ended`
 
 Any other text is answered by one line, which tells the first mistake:
   syntax line L           line L is not of the grammar

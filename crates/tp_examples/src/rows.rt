@@ -1,7 +1,7 @@
 //! The rows: what is run, each under a name that says what it shows.
 
 /// The scripts that lie in the data folder, each under its file's name.
-pub(crate) static SCRIPTS: [&str; 22] = [
+pub(crate) static SCRIPTS: [&str; 26] = [
     "a-task",
     "a-refused-step",
     "a-message-overtakes-the-wave",
@@ -24,10 +24,14 @@ pub(crate) static SCRIPTS: [&str; 22] = [
     "a-wave-goes-by-its-tokens",
     "a-wave-counts-a-message-at-the-visit-of-each-node",
     "the-first-check-that-holds-is-answered",
+    "a-pool-is-reopened",
+    "a-reopened-pool-is-to-end-before-it-is-reopened",
+    "a-message-of-another-generation-is-a-stranger",
+    "three-generations",
 ];
 
 /// Texts that are no scripts, for one fault each.
-pub(crate) static TEXTS: [(&str, &str); 15] = [
+pub(crate) static TEXTS: [(&str, &str); 21] = [
     ("an-empty-text", ""),
     ("a-script-of-no-nodes-is-refused", "nodes 0\n"),
     ("nine-nodes", "nodes 9\n"),
@@ -43,20 +47,31 @@ pub(crate) static TEXTS: [(&str, &str); 15] = [
     ("a-second-line-of-nodes", "nodes 1\nnodes 1\n"),
     ("a-keyword-in-capitals", "nodes 1\nREADY 0\n"),
     ("a-step-without-its-node", "nodes 1\nready 0\nready 0\nup\n"),
+    ("version-two-alone-is-no-script", "script 2\n"),
+    ("a-script-of-no-version", "script 3\nnodes 1\n"),
+    ("version-two-is-told-once", "script 2\nscript 2\nnodes 1\n"),
+    (
+        "a-message-without-its-generation",
+        "script 2\nnodes 2\nsend 0 1 1\n",
+    ),
+    ("a-generation-in-version-one", "nodes 2\nsend 0 1 1 1\n"),
+    ("a-reopening-in-version-one", "nodes 1\nready 0\nreopen\n"),
 ];
 
 /// The traces that lie in the data folder, each under its file's name.
-pub(crate) static TRACES: [&str; 6] = [
+pub(crate) static TRACES: [&str; 8] = [
     "a-sound-trace",
     "a-trace-of-an-unknown-task",
     "a-trace-of-a-message-that-never-comes",
     "a-trace-of-a-message-received-twice",
     "a-trace-of-a-task-done-twice",
     "a-trace-of-an-end-announced-one-wave-early",
+    "a-trace-of-a-reopened-pool",
+    "a-trace-of-two-generations",
 ];
 
 /// Short traces, and texts that are no traces, for one fault each.
-pub(crate) static TRACE_TEXTS: [(&str, &str); 9] = [
+pub(crate) static TRACE_TEXTS: [(&str, &str); 12] = [
     ("a-trace-of-nothing", "trace 1\nnodes 2\n"),
     (
         "a-trace-that-stops-before-its-end",
@@ -81,6 +96,15 @@ pub(crate) static TRACE_TEXTS: [(&str, &str); 9] = [
         "a-fault-of-grammar-behind-a-refused-step",
         "trace 1\nnodes 1\nbegin 5\nready\n",
     ),
+    (
+        "a-reopening-in-a-trace-of-version-one",
+        "trace 1\nnodes 1\nready 0\nstart\ngive 0\njudge not\nstart\ngive 0\njudge ended 1\nreopen\n",
+    ),
+    (
+        "an-end-that-is-right-over-all-generations-alone",
+        "trace 2\nnodes 1\nready 0\nstart\ngive 0\njudge not\nstart\ngive 0\njudge ended 1\nreopen\nready 0\nstart\ngive 0\njudge ended 2\n",
+    ),
+    ("a-trace-of-no-version", "trace 3\nnodes 1\n"),
 ];
 
 /// How much of an answer is told.
