@@ -1,5 +1,5 @@
 -- Why a run over lent data gives nothing.
-use Rattle.std.proofs.Common.{◌≡◌, ◌≢◌, ◌<◌, ◌≤◌, ◌+◌, ◌-◌, ◌*◌, ◌/◌, ◌^◌, ℕ, suc, ℤ, List, [], ◌∷◌, length, cond, inr, refl, sym, ap, subst, ◌∙◌, ⊎_elim, arith}
+use Rattle.std.proofs.Common.{◌≡◌, ◌≢◌, ◌<◌, ◌≤◌, ◌+◌, ◌-◌, ◌*◌, ◌/◌, ◌^◌, ℕ, suc, ℤ, List, [], ◌∷◌, length, cond, refl, sym, ap, subst, ◌∙◌, ⊎_elim, arith}
 use Rattle.std.specs.Prelude.{◌==◌}
 use Rattle.std.specs.List.{All}
 use Rattle.std.proofs.lemmas.Bool.{ne_eqb}
@@ -8,13 +8,16 @@ use Rattle.std.proofs.lemmas.List.Sums.{sum_by-cons}
 use Rattle.std.proofs.lemmas.Nat.{div-mul-add, mul-add-lt, mul-le}
 use Rattle.tp_base.specs.declared.Refusal.{Refusal}
 use Rattle.tp_base.specs.declared.Refusal.TheVariants.{Missing, NoMemory}
+use Rattle.tp_graph.specs.Graphs.{TaskGraph}
 use Rattle.tp_graph.specs.Serial.{Results}
 use Rattle.tp_heat.proofs.Rods.{evolved-length}
 use Rattle.tp_heat.specs.Heats.{IsNoRod, IsRodRefusal, LacksBlock, blocks_of, evolve, heat_graph}
 use Rattle.tp_lent.specs.Events.{TakeSteps, step_events}
-use Rattle.tp_lent.specs.Refusals.{IsHeatRefusal, IsPartRefusal, IsRunRefusal}
+use Rattle.tp_lent.specs.Faults.{IsHeatFault, IsOfPart, IsPartFault}
+use Rattle.tp_lent.specs.declared.fault.LentFault.{LentFault}
+use Rattle.tp_lent.specs.declared.fault.LentFault.TheVariants.{BadInput, Run, Unmade}
 use Rattle.tp_matrix.specs.Matrices.{IsMatrixRefusal, LacksTile, matrix_graph}
-use Rattle.tp_work.specs.Outcomes.{HasEachOnce, times}
+use Rattle.tp_work.specs.Outcomes.{HasEachOnce, IsFault, IsOutcome, times}
 
 -- a task that no result is of has none
 times-none : (t : ℕ) (results : Results) → All (λ r. r.0.0 ≢ t) results → times t results ≡ 0
@@ -69,18 +72,29 @@ is_rod cells size n most part takes few none =
     (λ rest. ⊎_elim (λ (e : size ≡ 0). absurd (omega (arith, e, takes.some_size))) (λ (e : 2 ^ 20 ≤ (part + 1) * blocks). absurd (omega (arith, e, tasks))) rest)
     none
 
--- where a part of the steps is refused, the whole is
-pub part_refused : (n : ℕ) (cells rod : List ℤ) (size steps left part most : ℕ) (refusal : Refusal) → rod ≡ evolve (steps - left) cells → left ≤ steps → part ≤ left → part ≤ most →
-    TakeSteps (length cells) size n most → IsHeatRefusal n rod size part refusal → IsPartRefusal n cells size steps refusal
-part_refused n cells rod size steps left part most refusal is h k few takes why =
+-- the graph of a part, by the rod that the whole began with
+part-graph : (cells rod : List ℤ) (size done part : ℕ) → rod ≡ evolve done cells →
+    heat_graph rod (blocks_of (length rod) size) size part ≡ heat_graph (evolve done cells) (blocks_of (length cells) size) size part
+part-graph cells rod size done part is =
+    let same : length rod ≡ length cells = ap length is ∙ evolved-length done cells in
+    ap (λ count. heat_graph rod (blocks_of count size) size part) same ∙ ap (λ xs. heat_graph xs (blocks_of (length cells) size) size part) is
+
+-- what holds of the pool of the next part holds of that of a part
+next_part : (cells rod : List ℤ) (size steps left part : ℕ) (Holds : TaskGraph → Type 0) → rod ≡ evolve (steps - left) cells → left ≤ steps → part ≤ left → 1 ≤ part →
+    Holds (heat_graph rod (blocks_of (length rod) size) size part) → IsOfPart cells size steps Holds
+next_part cells rod size steps left part Holds is h k some holds =
+    (steps - left, part, some, omega (arith, h, k), subst Holds (part-graph cells rod size (steps - left) part is) holds)
+
+-- the fault of a part of the steps is one of the whole
+pub part_fault : (n : ℕ) (cells rod : List ℤ) (size steps left part most : ℕ) (fault : LentFault) → rod ≡ evolve (steps - left) cells → left ≤ steps → part ≤ left → part ≤ most → 1 ≤ part →
+    TakeSteps (length cells) size n most → IsHeatFault n rod size part fault → IsPartFault n cells size steps fault
+part_fault n cells rod size steps left part most BadInput is h k few some takes why =
     let same : length rod ≡ length cells = ap length is ∙ evolved-length (steps - left) cells in
-    ⊎_elim
-    (λ bad. absurd (is_rod (length cells) size n most part takes few (subst (λ count. IsNoRod count size part) same bad.1)))
-    (λ run.
-    let graph : heat_graph rod (blocks_of (length rod) size) size part ≡ heat_graph (evolve (steps - left) cells) (blocks_of (length cells) size) size part =
-    ap (λ count. heat_graph rod (blocks_of count size) size part) same ∙ ap (λ xs. heat_graph xs (blocks_of (length cells) size) size part) is in
-    inr (steps - left, part, omega (arith, h, k), subst (λ g. IsRunRefusal n g refusal) graph run))
-    why
+    absurd (is_rod (length cells) size n most part takes few (subst (λ count. IsNoRod count size part) same why))
+part_fault n cells rod size steps left part most (Run fault) is h k few some takes why =
+    next_part cells rod size steps left part (λ g. IsFault n g fault) is h k some why
+part_fault n cells rod size steps left part most (Unmade outcome) is h k few some takes why =
+    next_part cells rod size steps left part (λ g. IsOutcome n g outcome) is h k some why
 
 -- the graph of the product, by what was lent
 pub product-graph : (product_left product_right left right : List ℤ) (tiles product_side order side : ℕ) → 1 ≤ side →

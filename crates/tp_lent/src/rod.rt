@@ -2,9 +2,10 @@ ghost use Rattle.std.specs.Prelude.{◌≡◌, ◌≤◌, ◌+◌, ◌-◌, ◌*
 ghost use Rattle.tp_base.specs.declared.limits.TheConstants.{MAX_STEPS};
 ghost use Rattle.tp_heat.specs.Heats.{evolve};
 ghost use Rattle.tp_lent.specs.Events.{TakeNoStep, TakeSteps, step_events};
-ghost use Rattle.tp_lent.specs.Refusals.{IsHeatRefusal, IsPartRefusal};
+ghost use Rattle.tp_lent.specs.Faults.{IsHeatFault, IsPartFault};
 ghost use Rattle.tp_work.specs.Outcomes.{IsWithinLimits};
 
+use crate::fault::LentFault;
 use std::alloc::Global;
 use std::sync::Wait;
 use std::thread::Threads;
@@ -12,8 +13,9 @@ use tp_base::{MAX_STEPS, Refusal};
 use tp_heat::{Heat, rod_of};
 use tp_work::{Config, OpenGate, run_pool};
 
-/// Heat in a rod of some cells, after so many steps, worked out by a pool of threads in blocks of so many cells. Refused with
-/// `BadSpec` where the cells give no rod ([`Heat::new`]), and else for what [`run_pool`] is refused for.
+/// Heat in a rod of some cells, after so many steps, worked out by a pool of threads in blocks of so many cells. `BadInput` where
+/// the cells give no rod ([`Heat::new`]), `Run` with what [`run_pool`] answered where it was refused, and `Unmade` with its
+/// outcome where there was no memory for the rod.
 pub fn run_heat<R: Threads + Wait + Sync>(
     rt: &R,
     alloc: Global,
@@ -21,16 +23,23 @@ pub fn run_heat<R: Threads + Wait + Sync>(
     size: u32,
     steps: u32,
     config: Config,
-) -> Result<Vec<i64>, Refusal>
+) -> Result<Vec<i64>, LentFault>
     requires { IsWithinLimits config }
-    ensures { MatchResult result (λ rod. rod.items ≡ evolve steps cells.now) (IsHeatRefusal config.nodes cells.now size steps) }
+    ensures { MatchResult result (λ rod. rod.items ≡ evolve steps cells.now) (IsHeatFault config.nodes cells.now size steps) }
 {
     let Some(heat) = Heat::new(cells, size, steps) else {
-        return Err(Refusal::BadSpec);
+        return Err(LentFault::BadInput);
     };
     match run_pool(rt, alloc, heat, config, &OpenGate) {
-        Ok(outcome) => rod_of(alloc, &heat, &outcome.results),
-        Err(fault) => Err(fault.refusal),
+        Ok(outcome) => match rod_of(alloc, &heat, &outcome.results) {
+            Ok(rod) => Ok(rod),
+            Err(refusal) => match refusal {
+                Refusal::NoMemory => Err(LentFault::Unmade(outcome)),
+                // Of a pool that ended each task has a result, so that no block is missing.
+                _ => unreachable!(),
+            },
+        },
+        Err(fault) => Err(LentFault::Run(fault)),
     }
 }
 
@@ -82,8 +91,8 @@ fn planned_steps(first: u64, row: u64, kept: u64) -> u64
 }
 
 /// Heat in a rod of some cells, after any number of steps, worked out by pools of threads one after the other, each over the
-/// rod that the one before gave. Refused with `BadSpec` where the cells give no rod or the events of a single step are above the
-/// limit ([`steps_at_once`]), and else for what [`run_heat`] is refused for.
+/// rod that the one before gave. `BadInput` where the cells give no rod or the events of a single step are above the limit
+/// ([`steps_at_once`]), and else what [`run_heat`] answered for the part at which it ended.
 pub fn run_heat_in_parts<R: Threads + Wait + Sync>(
     rt: &R,
     alloc: Global,
@@ -91,12 +100,12 @@ pub fn run_heat_in_parts<R: Threads + Wait + Sync>(
     size: u32,
     steps: u64,
     config: Config,
-) -> Result<Vec<i64>, Refusal>
+) -> Result<Vec<i64>, LentFault>
     requires { IsWithinLimits config }
-    ensures { MatchResult result (λ rod. rod.items ≡ evolve steps cells.items) (IsPartRefusal config.nodes cells.items size steps) }
+    ensures { MatchResult result (λ rod. rod.items ≡ evolve steps cells.items) (IsPartFault config.nodes cells.items size steps) }
 {
     let Some(most) = steps_at_once(cells.len() as u64, size, config.nodes) else {
-        return Err(Refusal::BadSpec);
+        return Err(LentFault::BadInput);
     };
     let mut rod = cells;
     let mut left = steps;

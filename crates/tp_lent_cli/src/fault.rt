@@ -2,12 +2,14 @@ ghost use Rattle.std.specs.Prelude.{◌≡◌, ◌≢◌, ◌≤◌, ℕ, OnOk};
 ghost use Rattle.std.specs.Io.KnownBytes.{Appends};
 ghost use Rattle.tp_base.specs.declared.refusal.Refusal.TheVariants.{BodyFailed, NoMemory};
 ghost use Rattle.tp_cells.specs.declared.fault.LineFault.TheVariants.{Line};
+ghost use Rattle.tp_lent.specs.Faults.{refusal_of};
 ghost use Rattle.tp_lent_cli.specs.Faults.{complaint, status_of};
 
 use crate::tiles::TileFault;
 use std::io::{self, ErrorKind, Write};
 use tp_base::Refusal;
 use tp_cells::LineFault;
+use tp_lent::LentFault;
 use tp_rows::RowFault;
 
 /// Why nothing was printed, or not all of it.
@@ -56,12 +58,21 @@ impl Fault {
         }
     }
 
-    /// Why the run of a product was refused.
-    pub(crate) fn of_product(refusal: Refusal) -> Fault
-        ensures overflow { refusal ≡ BodyFailed → result ≡ Fault.Overflow }
-        ensures other { refusal ≢ BodyFailed → result ≡ Fault.Run refusal }
+    /// Why the run gave no rod: the refusal of the fault that it answered.
+    pub(crate) fn of_rod(fault: &LentFault) -> Fault
+        ensures { result ≡ Fault.Run (refusal_of fault.now) }
+    {
+        Fault::Run(fault.refusal())
+    }
+
+    /// Why the run gave no product: where a body of its pool failed a number left 64 bits, and else it is the refusal of the
+    /// fault that the run answered.
+    pub(crate) fn of_product(fault: &LentFault) -> Fault
+        ensures overflow { refusal_of fault.now ≡ BodyFailed → result ≡ Fault.Overflow }
+        ensures other { refusal_of fault.now ≢ BodyFailed → result ≡ Fault.Run (refusal_of fault.now) }
         ensures status { status_of result ≡ 3 }
     {
+        let refusal = fault.refusal();
         match refusal {
             Refusal::BodyFailed => Fault::Overflow,
             _ => Fault::Run(refusal),

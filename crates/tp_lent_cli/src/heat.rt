@@ -139,7 +139,7 @@ fn text_after<R: Threads + Wait + Sync>(
     let cells = cells_of(alloc, block, config.nodes, input)?;
     match run_heat_in_parts(rt, alloc, cells, block, steps, config) {
         Ok(rod) => text_of_rod(alloc, &rod),
-        Err(refusal) => Err(Fault::Run(refusal)),
+        Err(fault) => Err(Fault::of_rod(&fault)),
     }
 }
 

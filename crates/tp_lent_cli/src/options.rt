@@ -17,9 +17,6 @@ use tp_work::Config;
 /// The version of the programs.
 pub(crate) static VERSION: &str = "0.1.0";
 
-/// The idle turns after which a worker gives a pool up.
-const IDLE_TURNS: u32 = 100_000_000;
-
 /// A command line with the options that say how a pool runs.
 pub(crate) fn with_counts<'a>(
     alloc: Global,
@@ -44,16 +41,15 @@ fn count_option<'a>(alloc: Global, name: &'a str) -> Arg<'a>
         .default_value("1")
 }
 
-/// How the pool runs.
+/// How the pool runs: at so many nodes and with so many workers as the words ask for, as patient as [`Config::new`] makes it.
 pub(crate) fn config_of(matches: &ArgMatches) -> Config
     ensures limits { IsWithinLimits result }
     ensures asked { AreCountsIn (rows_of (found_of matches.now)) result.nodes result.workers }
+    ensures patient { result.idle_turns ≡ 100000000 }
 {
-    Config {
-        nodes: count_of(matches, "nodes", MAX_NODES),
-        workers: count_of(matches, "workers", MAX_WORKERS),
-        idle_turns: IDLE_TURNS,
-    }
+    let nodes = count_of(matches, "nodes", MAX_NODES);
+    let workers = count_of(matches, "workers", MAX_WORKERS);
+    Config::new(nodes, workers)
 }
 
 /// The value of an option that takes a number from 1 to so many. The parser has let no other through.

@@ -142,7 +142,7 @@ fn product_text<R: Threads + Wait + Sync>(
     let (left, right) = (matrices.left.as_slice(), matrices.right.as_slice());
     match run_product(rt, alloc, left, right, order, side, config) {
         Ok(product) => text_of_product(alloc, matrices.order, &product),
-        Err(refusal) => Err(Fault::of_product(refusal)),
+        Err(fault) => Err(Fault::of_product(&fault)),
     }
 }
 
