@@ -166,7 +166,7 @@ of `tp sim --help`, but for a judgement, which says what was judged:
 A first line `trace 2` stands for `script 2`, and `reopen` may stand in the trace.
 
 The steps are taken by the rules alone, messages are counted afresh, and each
-judgement is worked out again. A trace that is sound is answered by four lines:
+judgement is worked out again. A trace that is sound is answered by these lines:
   steps N                how many steps there are
   tasks I done D         how many tasks were inserted, and how many are done
   messages S received R  how many messages were sent, and how many received
