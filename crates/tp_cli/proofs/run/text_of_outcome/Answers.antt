@@ -3,6 +3,7 @@ use Rattle.tp_cli.proofs.Counted.{tasks-outcome}
 use Rattle.tp_cli.proofs.Printed.{printed_table}
 use Rattle.tp_cli.specs.Runs.{IsPrintOf, totals_text}
 use Rattle.tp_samples.specs.Any.{any_graph}
+use Rattle.tp_text.proofs.Present.{run_in_each}
 use Rattle.tp_cli.proofs.run.text_of_outcome.Goals as goal
 
 pub returns-in_ok-extend_from_slice-in-Table-clause-text : goal.returns-in_ok-extend_from_slice-in-Table-clause-text
@@ -14,6 +15,9 @@ returns-in_ok-extend_from_slice-in-Table-clause-text c =
     c.as_bytes.ensures.value ∙ c.in_ok-totals-in-Table.ensures ∙ ap (λ n. totals_text n outcome.messages) tasks in
     printed_table c.args.form c.args.graph c.args.nodes outcome _ c.in-Table.is
     (c.in_ok-extend_from_slice-in-Table.ensures.items ∙ ap₂ (λ a b. a ++ b) c.in_ok-text-in-Table.ensures.printed totals)
+
+pub print_trace-requires-clause-run : goal.print_trace-requires-clause-run
+print_trace-requires-clause-run c = run_in_each c.args.nodes c.args.outcome.now.history.events c.requires.made.run
 
 pub returns-in-Trace-clause-text : goal.returns-in-Trace-clause-text
 returns-in-Trace-clause-text c =
