@@ -72,20 +72,20 @@ abbrev pub HasFewInputs : Step → Type 0
 HasFewInputs (Insert i t k) = k.count ≤ 16
 HasFewInputs _ = Unit {0}
 
--- Version 1 tells of the first generation alone: a message has the number 1, and no pool is reopened.
-abbrev pub HasFirstNumber : Version → Generation → Type 0
-HasFirstNumber One g = g.0 ≡ 1
-HasFirstNumber Two g = Unit {0}
+-- Version 1 tells of the first generation alone: a message is of it, and no pool is reopened.
+abbrev pub TellsGeneration : Version → Generation → Type 0
+TellsGeneration One g = g.0 ≡ 1
+TellsGeneration Two g = Unit {0}
 
-abbrev pub CanReopen : Version → Type 0
-CanReopen One = ⊥
-CanReopen Two = Unit {0}
+abbrev pub TellsReopening : Version → Type 0
+TellsReopening One = ⊥
+TellsReopening Two = Unit {0}
 
 abbrev pub IsOfVersion : Version → Step → Type 0
-IsOfVersion v (Send i j m g) = HasFirstNumber v g
-IsOfVersion v (Recv j m g) = HasFirstNumber v g
-IsOfVersion v (MessageEnd j m g) = HasFirstNumber v g
-IsOfVersion v Reopen = CanReopen v
+IsOfVersion v (Send i j m g) = TellsGeneration v g
+IsOfVersion v (Recv j m g) = TellsGeneration v g
+IsOfVersion v (MessageEnd j m g) = TellsGeneration v g
+IsOfVersion v Reopen = TellsReopening v
 IsOfVersion v _ = Unit {0}
 
 -- The grammar has a line for the step.

@@ -1,6 +1,6 @@
 ghost use Rattle.std.specs.Prelude.{◌≡◌, ◌≢◌, ◌≤◌, ◌++◌, ◌∷◌, [], ℕ, List, codes, Option, MatchOption};
-ghost use Rattle.tp_text.specs.declared.keyword.Keyword.{Keyword};
 ghost use Rattle.tp_base.specs.declared.Step.{Step};
+ghost use Rattle.tp_text.specs.declared.keyword.Keyword.{Keyword};
 ghost use Rattle.tp_text.specs.Keywords.{keyword_text, Names, NamesNone};
 ghost use Rattle.tp_text.specs.Spelling.{spaced, word_of, numbers_of, IsSpelled};
 ghost use Rattle.tp_text.specs.Script.{nodes_line, step_line, version_lines, IsNodeCount, BeginsWithNodes, BeginsWithStep, BeginsWithVersion};

@@ -1,7 +1,7 @@
 ghost use Rattle.std.specs.Prelude.{◌≡◌, ◌++◌, ◌↔◌, ◌∷◌, [], IsTrue, OnOk};
 ghost use Rattle.std.specs.List.{All};
 ghost use Rattle.tp_text.specs.Script.{step_line};
-ghost use Rattle.tp_text.specs.Spelling.{generation_number, line, spaced, HasFirstNumber, IsNumber, IsSpelled};
+ghost use Rattle.tp_text.specs.Spelling.{generation_number, line, spaced, TellsGeneration, IsNumber, IsSpelled};
 ghost use Rattle.tp_text.specs.Trace.{format_line, trace, trace_line};
 ghost use Rattle.tp_text.specs.Words.{numbers_in};
 
@@ -24,7 +24,7 @@ fn is_number(number: u32) -> bool
 
 /// Whether a line has a place for the number of a generation, or needs none.
 fn has_generation(version: Version, generation: Generation) -> bool
-    ensures { IsTrue result ↔ (All IsNumber (generation_number version generation) × HasFirstNumber version generation) }
+    ensures { IsTrue result ↔ (All IsNumber (generation_number version generation) × TellsGeneration version generation) }
 {
     match version {
         Version::One => generation == FIRST,
