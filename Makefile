@@ -16,31 +16,30 @@ all: bin/tp
 SOURCES := $(shell find crates -name out -prune -o \( -name '*.rt' -o -name '*.antt' \) -print)
 
 bin/tp: $(SOURCES) crates.txt
-	@tools/build.py
+	@tools/dev build
 
 demo:
-	@tools/demo.sh
+	@tools/dev demo
 
 test:
-	@tools/try-all.py
-	@tools/memory-table.py
-	@tools/guide-blocks.py
-	@tools/wrong.py --stale
+	@tools/dev try
+	@tools/dev docs
+	@tools/dev wrong --stale
 
 # (one job a check: each further job of a check loads the libraries anew)
 gate:
-	RT_JOBS=$$(tools/lanes.sh) rt ci
+	RT_JOBS=$$(tools/dev lanes) rt ci
 
 wrong:
-	@tools/wrong.py $(if $(ALL),--all,$(CRATE))
+	@tools/dev wrong $(if $(ALL),--all,$(CRATE))
 
 times:
-	tools/gate-times.py
+	tools/dev gate-times
 
 soak: bin/tp
-	tools/soak.sh bin/tp 200
-	tools/strange.sh bin/tp
-	tools/cuts.py bin/tp
+	tools/dev soak bin/tp --runs 200
+	tools/dev limits strange bin/tp
+	tools/dev limits cuts bin/tp
 
 install: bin/tp
 	install -D -m 755 bin/tp $(DESTDIR)$(PREFIX)/bin/tp
