@@ -5,7 +5,7 @@
 # make wrong    tries all wrong bodies of the crates that changed (ALL=1: of every crate; CRATE=tp_wave: of one)
 # make times    the gate, and its processor seconds by crate
 # make soak     each sample pool 200 times at 8 nodes with 8 workers each, compares what they make and audits their traces;
-#               then the program with strange streams and texts, and every stored text cut after each byte
+#               then the program with strange streams and texts, every stored text cut after each byte, and texts by chance
 # make install PREFIX=/usr/local     puts the proved programs in place
 .PHONY: all demo test gate wrong times soak install clean
 
@@ -16,31 +16,31 @@ all: bin/tp
 SOURCES := $(shell find crates -name out -prune -o \( -name '*.rt' -o -name '*.antt' \) -print)
 
 bin/tp: $(SOURCES) crates.txt
-	@tools/build.py
+	@tools/dev build
 
 demo:
-	@tools/demo.sh
+	@tools/dev demo
 
 test:
-	@tools/try-all.py
-	@tools/memory-table.py
-	@tools/guide-blocks.py
-	@tools/wrong.py --stale
+	@tools/dev try
+	@tools/dev docs
+	@tools/dev wrong --stale
 
 # (one job a check: each further job of a check loads the libraries anew)
 gate:
-	RT_JOBS=$$(tools/lanes.sh) rt ci
+	RT_JOBS=$$(tools/dev lanes) rt ci
 
 wrong:
-	@tools/wrong.py $(if $(ALL),--all,$(CRATE))
+	@tools/dev wrong $(if $(ALL),--all,$(CRATE))
 
 times:
-	tools/gate-times.py
+	tools/dev gate-times
 
 soak: bin/tp
-	tools/soak.sh bin/tp 200
-	tools/strange.sh bin/tp
-	tools/cuts.py bin/tp
+	tools/dev soak bin/tp --runs 200
+	tools/dev limits strange bin/tp
+	tools/dev limits cuts bin/tp
+	tools/dev limits random bin/tp
 
 install: bin/tp
 	install -D -m 755 bin/tp $(DESTDIR)$(PREFIX)/bin/tp

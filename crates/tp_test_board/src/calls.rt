@@ -164,7 +164,7 @@ impl<K: Ledgers> Pair<K> {
         folded
     }
 
-    /// What a call answers, which is made again where memory was refused and nothing was changed: tools/refuse.sh refuses each
+    /// What a call answers, which is made again where memory was refused and nothing was changed: tools/dev limits refuse refuses each
     /// growth in turn.
     fn tried<R: Eprint>(&mut self, rt: &R, call: Call) -> Told {
         let before = self.content();

@@ -16,7 +16,7 @@ use tp_raw::RawSlots;
 use tp_slots::Command;
 use tp_store::{Counts, Life, TaskItem, TaskStore};
 
-/// One of each part that takes memory. Each growth of each of its calls is refused in turn by tools/refuse.sh; docs/MEMORY.md has
+/// One of each part that takes memory. Each growth of each of its calls is refused in turn by tools/dev limits refuse; docs/MEMORY.md has
 /// the table.
 #[derive(Drop)]
 struct Parts {

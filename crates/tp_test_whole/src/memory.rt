@@ -10,7 +10,7 @@ use tp_graph::{Graph, Parcel};
 use tp_node::{Finished, Node, Turn, Wire, Work};
 use tp_samples::Reduce;
 
-// tools/refuse.sh refuses each growth of each of these tests in turn; docs/MEMORY.md has the table.
+// tools/dev limits refuse refuses each growth of each of these tests in turn; docs/MEMORY.md has the table.
 
 /// What a node and the board hold, folded into one number, another one for other content but by chance.
 fn held<G: Graph, K: Ledgers>(node: &Node<G, K>, board: &Board<K>) -> u64 {

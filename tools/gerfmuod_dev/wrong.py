@@ -1,14 +1,12 @@
-#!/usr/bin/env python3
-"""Has the prover try wrong bodies: those that the gate tries (crates/NAME/must-fail) and all others (wrong/NAME). Each of them must be refused.
+"""Has the prover try wrong bodies, each of which it must refuse.
 
-    tools/wrong.py              of the crates whose note is not today's
-    tools/wrong.py --all        of every crate
-    tools/wrong.py NAME ..      of these crates
-    tools/wrong.py --stale      tries nothing, and names the crates whose note is not today's
+They are those that the gate tries (crates/NAME/must-fail) and all others (wrong/NAME). Where no crate is named, those
+are tried whose note is not today's.
 
-What refused each wrong body is noted in wrong/NAME/JUDGED. The note is today's as long as the crate's own files, its wrong bodies, the
-definitions (specs/) of the crates directly below it and the toolchain are the same. The status is 1 where a wrong body is not refused
-by a clause, or, with --stale, where a note is not today's.
+What refused each wrong body is noted in wrong/NAME/JUDGED. The note is today's as long as the crate's own files, its
+wrong bodies, the definitions (specs/) of the crates directly below it and the toolchain are the same. Prints a line
+for each crate that is proved before, for each wrong body, and for each crate. The status is 1 where a wrong body is
+not refused by a clause, or, with --stale, where a note is not today's.
 """
 import datetime
 import hashlib
@@ -16,21 +14,20 @@ import os
 import re
 import shutil
 import subprocess
-import sys
 
-import build
+from . import repository
+from .build import prove_all
+from .repository import files_in, text_of
+from .rooms import copy_to, rooms
 
 # what is said of a wrong body that no clause refuses
 NOTHING = re.compile(r"NOT REFUSED|NOT TRIED|BAD EDIT|\(only because|\(only by a limit")
 
 
-def files_in(folder):
-    return sorted(f"{at}/{name}" for at, _, names in os.walk(folder) for name in names)
-
-
 def edits_of(crate):
     """Gives the wrong bodies of a crate by their names."""
-    return {os.path.basename(it): it for folder in (f"crates/{crate}/must-fail", f"wrong/{crate}") for it in files_in(folder) if it.endswith(".edit")}
+    folders = (f"crates/{crate}/must-fail", f"wrong/{crate}")
+    return {os.path.basename(it): it for folder in folders for it in files_in(folder) if it.endswith(".edit")}
 
 
 def toolchain():
@@ -49,7 +46,7 @@ def digest(crate):
 
 
 def is_todays(crate):
-    noted = re.search(r"^of (\w+)$", build.text_of(f"wrong/{crate.name}/JUDGED"), re.M) if os.path.exists(f"wrong/{crate.name}/JUDGED") else None
+    noted = re.search(r"^of (\w+)$", text_of(f"wrong/{crate.name}/JUDGED", ""), re.M)
     return noted is not None and noted[1] == digest(crate)
 
 
@@ -71,12 +68,13 @@ def place(crate, room):
 
 def judge(crates, room):
     """Has the prover try the wrong bodies of these crates; gives what it said of each, by crate and name."""
-    build.copy_to(room)
+    copy_to(room)
     for crate in crates:
         place(crate, room)
     told = {crate: {} for crate in crates}
-    environment = {**os.environ, "RT_JOBS": os.environ.get("RT_JOBS") or str(build.lanes())}
-    with subprocess.Popen(["rt", "must-fail", *crates], cwd=room, env=environment, stdin=subprocess.DEVNULL, stdout=subprocess.PIPE, text=True) as ran:
+    jobs = os.environ.get("RT_JOBS") or str(repository.lanes(repository.MEMORY_OF_A_CHECK))
+    streams = {"stdin": subprocess.DEVNULL, "stdout": subprocess.PIPE, "text": True}
+    with subprocess.Popen(["rt", "must-fail", *crates], cwd=room, env={**os.environ, "RT_JOBS": jobs}, **streams) as ran:
         for line in ran.stdout:
             found = re.match(r"rt: must-fail (\w+)/(\S+)\.edit: (.*)", line)
             if found:
@@ -97,26 +95,34 @@ def note(crate, told):
     return is_well
 
 
-def main(words):
-    os.chdir(os.path.dirname(os.path.dirname(os.path.abspath(__file__))))
-    every = build.crates(None)
-    having = {name: crate for name, crate in every.items() if edits_of(name)}
+def arguments(parser):
+    which = parser.add_mutually_exclusive_group()
+    which.add_argument("--all", action="store_true", help="of every crate")
+    which.add_argument("--stale", action="store_true", help="try nothing, and name the crates whose note is not today's")
+    which.add_argument("names", nargs="*", default=[], metavar="NAME", help="of these crates")
+
+
+def try_wrong_bodies(crates):
+    """Has the prover try the wrong bodies of these crates; gives whether each was refused by a clause."""
+    names = [it.name for it in crates]
+    with rooms() as (top, copies):
+        below = {it: crate for it, crate in repository.crates(names).items() if not crate.is_program}
+        if not prove_all(below, copies):
+            return False
+        told = judge(names, f"{top}/wrong") if names else {}
+    return all([note(it, told[it.name]) for it in crates])
+
+
+def run(words):
+    repository.go_to_top()
+    having = {name: crate for name, crate in repository.crates().items() if edits_of(name)}
     stale = [name for name, crate in having.items() if not is_todays(crate)]
-    if words == ["--stale"]:
+    if words.stale:
         for name in stale:
             print(f"{name} changed since its wrong bodies were tried: make wrong")
         return 1 if stale else 0
-    names = [*having] if words == ["--all"] else words or stale
+    names = [*having] if words.all else list(dict.fromkeys(words.names)) or stale
     if not all(it in having for it in names):
         print(f"No wrong bodies: {' '.join(it for it in names if it not in having)}")
         return 1
-    with build.rooms() as (top, rooms):
-        below = {it: crate for it, crate in build.crates(names).items() if not crate.is_program}
-        if not build.prove_all(below, rooms):
-            return 1
-        told = judge(names, f"{top}/wrong") if names else {}
-    return 0 if all([note(having[it], told[it]) for it in names]) else 1
-
-
-if __name__ == "__main__":
-    sys.exit(main(sys.argv[1:]))
+    return 0 if try_wrong_bodies([having[it] for it in names]) else 1

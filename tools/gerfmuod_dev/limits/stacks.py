@@ -1,18 +1,18 @@
-#!/usr/bin/env python3
-"""The least stack with which the built program works, and its functions with the largest frames.
+"""Finds the least stack with which the program works.
 
-    tools/stacks.py [PROGRAM]
-
-For each command the least stack in KB, found by halving, with which it gives its whole answer: of the first thread, where the workers have 8 MB each (`ulimit -s` sets
-it), and of a worker, where the first thread has 8 MB (without more `ulimit -s` sets that too; a small library gives the workers another size here). It needs a C compiler.
-Then the functions with the largest frames, as `objdump` shows them.
+For each command the least stack in KB, found by halving, with which it gives its whole answer: of the first thread,
+where the workers have 8 MB each (`ulimit -s` sets it), and of a worker, where the first thread has 8 MB (without more
+`ulimit -s` sets that too; a small library gives the workers another size here). Then the functions with the largest
+frames, as `objdump` shows them. It prints two tables; the status is 0, and 1 where the library does not compile or
+the program does not answer. It needs a C compiler.
 """
-import os
 import re
 import resource
 import subprocess
 import sys
 import tempfile
+
+from .. import running
 
 WIDE = 8 * 1024 * 1024
 SCRIPT = b"nodes 2\ninsert 0 1 1\nsupply 1\nbegin 1\ndone 1\nsend 0 1 1\nrecv 1 1\nend 1 1\nready 0\nready 1\nstart\n"
@@ -32,16 +32,13 @@ COMMANDS = [
 
 def answer(program, words, text, library, first, worker):
     """What is written where the stacks have so many bytes; none where the program dies."""
-    env = {"LD_PRELOAD": library, "WORKER_STACK": str(worker)}
-    ran = subprocess.run(
+    ran = running.run(
         [program, *words],
-        input=text,
-        env=env,
-        stdout=subprocess.PIPE,
-        stderr=subprocess.DEVNULL,
+        text,
+        env={"LD_PRELOAD": library, "WORKER_STACK": str(worker)},
         preexec_fn=lambda: resource.setrlimit(resource.RLIMIT_STACK, (first, WIDE)),
     )
-    return ran.stdout if ran.returncode == 0 else None
+    return ran.out if ran.status == 0 else None
 
 
 def least(works):
@@ -70,24 +67,36 @@ def frames(program):
     return sorted(((size, name) for name, size in found.items()), reverse=True)
 
 
-def main(program="bin/tp"):
-    program = os.path.abspath(program)
-    here = os.path.dirname(os.path.abspath(__file__))
+def least_stacks(program, library):
+    """Prints the table of the least stacks."""
+    print("| Command | first thread, KB | a worker, KB |\n|---|---|---|")
+    for words, text in COMMANDS:
+        whole = answer(program, words, text, library, WIDE, WIDE)
+        if whole is None:
+            sys.exit(f"{program} {' '.join(words)} does not answer")
+
+        def works(first=WIDE, worker=WIDE):
+            # (16 KB is the least that the C library takes)
+            return worker >= 16384 and answer(program, words, text, library, first, worker) == whole
+
+        of_first = least(lambda size: works(first=size))
+        of_worker = least(lambda size: works(worker=size)) if words[0] == "run" else "-"
+        print(f"| `{' '.join(words)}` | {of_first} | {of_worker} |", flush=True)
+
+
+def arguments(parser):
+    running.program_argument(parser)
+
+
+def run(words):
+    running.want(words.tp)
     resource.setrlimit(resource.RLIMIT_CORE, (0, 0))
     with tempfile.TemporaryDirectory() as folder:
-        library = f"{folder}/workers.so"
-        subprocess.run([os.environ.get("CC", "cc"), "-O1", "-shared", "-fPIC", "-o", library, f"{here}/workers.c"], check=True)
-        print("| Command | first thread, KB | a worker, KB |\n|---|---|---|")
-        for words, text in COMMANDS:
-            whole = answer(program, words, text, library, WIDE, WIDE)
-            first = least(lambda size: answer(program, words, text, library, size, WIDE) == whole)
-            # (16 KB is the least that the C library takes)
-            worker = least(lambda size: size >= 16384 and answer(program, words, text, library, WIDE, size) == whole) if words[0] == "run" else "-"
-            print(f"| `{' '.join(words)}` | {first} | {worker} |", flush=True)
+        library = running.library("workers", folder)
+        if not library:
+            return 1
+        least_stacks(words.tp, library)
     print("\n| Bytes of the frame | function |\n|---|---|")
-    for size, name in frames(program)[:25]:
+    for size, name in frames(words.tp)[:25]:
         print(f"| {size} | `{name}` |")
-
-
-if __name__ == "__main__":
-    main(*sys.argv[1:])
+    return 0

@@ -1,19 +1,25 @@
-"""A second model of the answers to scripts and traces, of both versions, written after the rules alone: the steps' table of checks, the grammar, and the four
-counters, counted afresh over the steps of the present generation at each wave. It serves the tools that try the built program.
+"""A second model of the answers to scripts and traces, of both versions.
+
+It is written after the rules alone: the steps' table of checks, the grammar, and the four counters, counted afresh
+over the steps of the present generation at each wave. It serves the tools that try the built program.
 """
 import re
 
 NAMES = {
-    1: "NoNode", 2: "SameNode", 3: "TaskKnown", 4: "NoTask", 5: "WrongLife", 6: "Inactive", 7: "ActionKnown", 8: "NoAction", 9: "MessageKnown", 10: "NoMessage",
-    11: "NotIdle", 12: "NoToken", 13: "WaveOpen", 14: "WaveNotEnded", 15: "Ended", 19: "Stranger",
+    1: "NoNode", 2: "SameNode", 3: "TaskKnown", 4: "NoTask", 5: "WrongLife", 6: "Inactive", 7: "ActionKnown", 8: "NoAction",
+    9: "MessageKnown", 10: "NoMessage", 11: "NotIdle", 12: "NoToken", 13: "WaveOpen", 14: "WaveNotEnded", 15: "Ended", 19: "Stranger",
 }
 NUMBER = r"(0|[1-9][0-9]{0,5})"
 COUNTS = {
-    "insert": 3, "supply": 1, "begin": 1, "done": 1, "open": 2, "close": 2, "ready": 1, "send": 3, "recv": 2, "end": 2, "start": 0, "down": 1, "give": 1, "up": 1, "judge": 0,
+    "insert": 3, "supply": 1, "begin": 1, "done": 1, "open": 2, "close": 2, "ready": 1, "send": 3, "recv": 2, "end": 2,
+    "start": 0, "down": 1, "give": 1, "up": 1, "judge": 0,
 }
 # in version 2 the lines of a message have its generation behind, and a pool can be reopened
 COUNTS_OF = {1: COUNTS, 2: {**COUNTS, "send": 4, "recv": 3, "end": 3, "reopen": 0}}
-FORMS = {version: {word: re.compile(word + rf" {NUMBER}" * count + r"\Z", re.ASCII) for word, count in counts.items()} for version, counts in COUNTS_OF.items()}
+FORMS = {
+    version: {word: re.compile(word + rf" {NUMBER}" * count + r"\Z", re.ASCII) for word, count in counts.items()}
+    for version, counts in COUNTS_OF.items()
+}
 
 
 class Refused(Exception):

@@ -1,14 +1,12 @@
-#!/usr/bin/env python3
-"""Compares the table of docs/MEMORY.md with the code: each public call that can be refused memory has to stand in it, and no other.
+"""The table of docs/MEMORY.md beside the code: each public call that can be refused memory has to stand in it, and no
+other.
 
-    tools/memory-table.py [--list]
-
-A call can be refused memory where its description, its type or its contract says so (`NoMemory`, `AllocError`, `AllocFailed`, `TextFault`, `Fault`). With `--list` it
-prints them. The last line is `N passed, M failed`; the status is 1 where one failed.
+A call can be refused memory where its description, its type or its contract says so (`NoMemory`, `AllocError`,
+`AllocFailed`, `TextFault`, `Fault`).
 """
-import os
 import re
-import sys
+
+from . import repository
 
 TELLS = re.compile(r"\b(NoMemory|AllocError|AllocFailed|TextFault|Fault>|no memory for)")
 
@@ -25,8 +23,7 @@ def owner_of(line):
 
 def calls_of(path):
     """The public calls of a file that can be refused memory, as Type::name."""
-    with open(path, encoding="utf-8") as text:
-        lines = text.read().split("\n")
+    lines = repository.text_of(path).split("\n")
     owner, doc = "", []
     for place, line in enumerate(lines):
         if re.match(r"(?:pub )?(impl|trait)\b", line):
@@ -53,39 +50,26 @@ def calls_of(path):
 
 
 def calls():
+    """Every public call of the repository that can be refused memory, as crate: Type::name."""
     found = set()
-    with open("crates.txt", encoding="utf-8") as lines:
-        crates = [it.split(":")[0].split()[0] for it in lines if re.match(r"[a-z]", it)]
-    for crate in crates:
+    for crate in repository.crates():
         if crate.startswith("tp_test") or crate in ("tp", "tp_examples"):
             continue
-        for at, _, files in os.walk(f"crates/{crate}/src"):
-            for name in files:
-                for call in calls_of(f"{at}/{name}"):
-                    found.add(f"{crate}: {call}")
+        for path in repository.files_in(f"crates/{crate}/src"):
+            found.update(f"{crate}: {call}" for call in calls_of(path))
     return found
 
 
 def listed():
-    with open("docs/MEMORY.md", encoding="utf-8") as text:
-        return {f"{crate}: {call}" for crate, call in re.findall(r"^\| (tp_\w+) \| `([\w:]+)` \|", text.read(), re.M)}
+    rows = re.findall(r"^\| (tp_\w+) \| `([\w:]+)` \|", repository.text_of("docs/MEMORY.md"), re.M)
+    return {f"{crate}: {call}" for crate, call in rows}
 
 
-def main(words):
-    os.chdir(os.path.dirname(os.path.dirname(os.path.abspath(__file__))))
-    there = calls()
-    if words == ["--list"]:
-        print("\n".join(sorted(there)))
-        return 0
-    table = listed()
+def check(tally):
+    there, table = calls(), listed()
+    tally.passes(len(there & table))
     for it in sorted(there - table):
-        print(f"FAILED: docs/MEMORY.md forgets {it}")
+        tally.fails(f"docs/MEMORY.md forgets {it}")
     for it in sorted(table - there):
-        print(f"FAILED: docs/MEMORY.md has {it}, which cannot be refused memory")
-    failed = len(there ^ table)
-    print(f"{len(there & table)} passed, {failed} failed")
-    return 1 if failed else 0
-
-
-if __name__ == "__main__":
-    sys.exit(main(sys.argv[1:]))
+        tally.fails(f"docs/MEMORY.md has {it}, which cannot be refused memory")
+    print(f"docs/MEMORY.md: {len(there & table)} rows as in the code, {len(there ^ table)} otherwise")

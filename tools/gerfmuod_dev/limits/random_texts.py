@@ -1,19 +1,16 @@
-#!/usr/bin/env python3
-"""Makes scripts and traces of both versions by chance, runs the built program on each, and compares its answer and its status with those of a second model
-(second_model.py). Half of a script's steps are lawful ones, so that pools come to their end and are reopened; the others may be of any kind and number.
+"""Makes scripts and traces of both versions by chance.
 
-    tools/random_texts.py [PROGRAM] [TEXTS] [SEED]      400 texts from seed 1 where nothing else is said
-
-The last line is `N passed, M failed`; the status is 1 where one failed.
+The program's answers and statuses are compared with those of a second model (second_model.py). Half of a script's
+steps are lawful ones, so that pools come to their end and are reopened; the others may be of any kind and number.
+Prints each text that is answered otherwise, and how many of the answers tell what is rare. The last line is `N
+passed, M failed`; the status is 1 where one failed.
 """
 import copy
-import os
 import random
-import subprocess
-import sys
-from concurrent.futures import ThreadPoolExecutor
 
-from second_model import COUNTS_OF, World, audittext, simtext
+from .. import running
+from .against_model import Case, try_all
+from .second_model import COUNTS_OF, World
 
 
 def any_step(chance, version, world):
@@ -77,7 +74,9 @@ def trace(chance, version, nodes, steps):
     for step, answer in steps:
         if answer.startswith("refused") and chance.random() < 0.97:
             continue
-        said = "" if step != ("judge",) else " " + (answer if chance.random() < 0.97 else chance.choice(["not", "ended 1", "ended 2"]))
+        said = ""
+        if step == ("judge",):
+            said = " " + (answer if chance.random() < 0.97 else chance.choice(["not", "ended 1", "ended 2"]))
         text += line(step)[:-1] + said + "\n"
     return marred(chance, text)
 
@@ -91,37 +90,38 @@ def marred(chance, text):
 
 
 def many_generations(count):
-    """A script and a trace of one node that is reopened so many times."""
+    """A script and a trace of one node that is reopened again and again."""
     waves = "start\ngive 0\njudge{}\nstart\ngive 0\njudge{}\n"
-    texts = [head + f"ready 0\n{waves.format(*words)}reopen\n" * count for head, words in (("script 2\nnodes 1\n", ("", "")), ("trace 2\nnodes 1\n", (" not", " ended 1")))]
-    return [("sim", texts[0].encode(), simtext), ("audit", texts[1].encode(), audittext)]
+    for word, head, words in ("sim", "script 2", ("", "")), ("audit", "trace 2", (" not", " ended 1")):
+        text = (f"{head}\nnodes 1\n" + f"ready 0\n{waves.format(*words)}reopen\n" * count).encode()
+        yield Case(f"{word} of {count} generations", word, text)
 
 
-def main(program="bin/tp", texts="400", seed="1"):
-    program, chance, work = os.path.abspath(program), random.Random(int(seed)), many_generations(100)
-    for _ in range(int(texts)):
+def texts_by_chance(chance, count):
+    for _ in range(count):
         version, nodes = chance.choice([1, 2]), chance.choice([1, 1, 2, 2, 3, 5])
         steps = steps_by_chance(chance, version, nodes, chance.randrange(10, 160))
-        work.append(("sim", script(chance, version, nodes, steps), simtext))
-        work.append(("audit", trace(chance, version, nodes, steps), audittext))
-
-    def run(it):
-        word, text, rules = it
-        status, wanted = rules(text)
-        ran = subprocess.run([program, word], input=text, capture_output=True)
-        if (ran.returncode, ran.stdout, ran.stderr) == (status, wanted.encode(), b""):
-            return True, wanted
-        print(f"FAILED: {word}: status {ran.returncode} where {status} was wanted\n{text.decode()}--- said:\n{ran.stdout.decode()}--- wanted:\n{wanted}{ran.stderr.decode()}", flush=True)
-        return False, wanted
-
-    with ThreadPoolExecutor(os.cpu_count()) as pool:
-        ended = list(pool.map(run, work))
-    passed = sum(is_well for is_well, _ in ended)
-    told = lambda words: sum(words in wanted for _, wanted in ended)
-    print(f"{told('generation ')} answers tell a generation, {told('generation 3')} a third one, {told('unjustified')} an unjustified judgement, {told('Stranger')} a stranger")
-    print(f"{passed} passed, {len(ended) - passed} failed")
-    return 0 if passed == len(ended) else 1
+        for word, text in (("sim", script(chance, version, nodes, steps)), ("audit", trace(chance, version, nodes, steps))):
+            yield Case(word, word, text, shown=text)
 
 
-if __name__ == "__main__":
-    sys.exit(main(*sys.argv[1:]))
+def arguments(parser):
+    running.program_argument(parser)
+    parser.add_argument("--texts", type=int, default=400, metavar="N", help="how many scripts, and as many traces (400)")
+    parser.add_argument("--seed", type=int, default=1, metavar="N", help="what chance begins with (1)")
+
+
+def run(words):
+    running.want(words.tp)
+    tally = running.Tally()
+    work = [*many_generations(100), *texts_by_chance(random.Random(words.seed), words.texts)]
+    wanted = try_all(words.tp, work, tally)
+
+    def told(rare):
+        return sum(rare in it for it in wanted)
+
+    print(
+        f"{told('generation ')} answers tell a generation, {told('generation 3')} a third one, "
+        f"{told('unjustified')} an unjustified judgement, {told('Stranger')} a stranger"
+    )
+    return tally.end()

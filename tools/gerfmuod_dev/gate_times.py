@@ -1,13 +1,13 @@
-#!/usr/bin/env python3
-"""Runs the gate and tells its processor seconds by crate: for the proof, for the tests and for the wrong bodies.
+"""Runs the gate and tells its processor seconds by crate.
 
-    tools/gate-times.py [--edits] [COMMAND ..]      the command is `make gate` where none is given
-
-What the command prints goes through. The table comes last, on standard error; with --edits a line for each wrong body comes before it. The processes
-below the command are looked at four times a second, so a process may have run for a quarter of a second more than is told; the total is exact.
-Four times a minute a small piece of work of always the same size is timed: where the machine's processors are shared with others that one does not see,
-the same work takes up to twice as long, and the last line tells how much longer than at its best. The exit status is the command's.
+They are told for the proof, the tests, the wrong bodies and the programs. What the command prints goes through. The
+table comes last, on standard error; with --edits a line for each wrong body comes before it. The processes below the
+command are looked at four times a second, so a process may have run for a quarter of a second more than is told; the
+total is exact. Four times a minute a small piece of work of always the same size is timed: where the machine's
+processors are shared with others that one does not see, the same work takes up to twice as long, and the last line
+tells how much longer than at its best. The exit status is the command's.
 """
+import argparse
 import os
 import resource
 import statistics
@@ -70,7 +70,7 @@ class Watch:
                 own = part_of(number)
                 if own is None:
                     own = next((self.parts[it, now[it][1]] for it in chain if self.parts.get((it, now[it][1]))), None)
-                elif own[1] == "wrong bodies" and number not in self.folders:
+                elif own[1] == "wrong bodies":
                     self.folders[key] = os.path.realpath(f"/proc/{number}/cwd")
                 self.parts[key] = own
 
@@ -109,7 +109,8 @@ def probe():
 
 def tell_probes(probes):
     best, middle = min(probes), statistics.median(probes)
-    print(f"the probe took {1000 * best:.0f} ms at its best, {1000 * middle:.0f} in the middle of {len(probes)}: {middle / best:.2f} times", file=sys.stderr)
+    took = f"{1000 * best:.0f} ms at its best, {1000 * middle:.0f} in the middle of {len(probes)}"
+    print(f"the probe took {took}: {middle / best:.2f} times", file=sys.stderr)
 
 
 def tell(watch, wall, exact):
@@ -128,11 +129,18 @@ def tell(watch, wall, exact):
     print(f"processor minutes {exact / 60:.1f}, of which {sum(sums) / 60:.1f} were seen; minutes {wall / 60:.1f}", file=sys.stderr)
 
 
-def main(words):
-    has_edits = words[:1] == ["--edits"]
-    words = words[has_edits:] or ["make", "gate"]
+def arguments(parser):
+    parser.usage = f"{parser.prog} [-h] [--edits] [COMMAND ..]"
+    parser.add_argument("--edits", action="store_true", help="a line for each wrong body")
+    parser.add_argument("command", nargs=argparse.REMAINDER, metavar="COMMAND ..", help="make gate where none is given")
+
+
+def run(words):
     started = time.time()
-    ran = subprocess.Popen(words, stdin=subprocess.DEVNULL)
+    try:
+        ran = subprocess.Popen(words.command or ["make", "gate"], stdin=subprocess.DEVNULL)
+    except OSError as why:
+        sys.exit(str(why))
     watch, probes = Watch(ran.pid), [probe()]
     while ran.poll() is None:
         watch.look()
@@ -140,12 +148,8 @@ def main(words):
             probes.append(probe())
         time.sleep(0.25)
     used = resource.getrusage(resource.RUSAGE_CHILDREN)
-    if has_edits:
+    if words.edits:
         tell_edits(watch)
     tell(watch, time.time() - started, used.ru_utime + used.ru_stime)
     tell_probes(probes)
     return ran.returncode
-
-
-if __name__ == "__main__":
-    sys.exit(main(sys.argv[1:]))

@@ -1,0 +1,60 @@
+"""The tools of this repository. `tools/dev SUBCOMMAND --help` tells what a subcommand prints, and its exit status.
+
+They work on the repository that they stand in, wherever they are called from. Words that are not known end with
+status 2.
+"""
+import argparse
+
+from . import build, demo, docs, gate_times, lanes, limits, soak, tries, wrong
+from .limits import cuts, hostile_numbers, memory, random_texts, refuse, refuse_tests, stacks, strange
+
+COMMANDS = {
+    "build": build,
+    "demo": demo,
+    "try": tries,
+    "wrong": wrong,
+    "gate-times": gate_times,
+    "lanes": lanes,
+    "docs": docs,
+    "soak": soak,
+}
+LIMITS = {
+    "refuse": refuse,
+    "refuse-tests": refuse_tests,
+    "memory": memory,
+    "stacks": stacks,
+    "hostile-numbers": hostile_numbers,
+    "strange": strange,
+    "cuts": cuts,
+    "random": random_texts,
+}
+
+
+def described(told):
+    """How a parser shows a module's description: as it is written."""
+    return {"description": told, "formatter_class": argparse.RawDescriptionHelpFormatter, "allow_abbrev": False}
+
+
+def add(parsers, name, module):
+    parser = parsers.add_parser(name, help=module.__doc__.splitlines()[0], **described(module.__doc__))
+    module.arguments(parser)
+    parser.set_defaults(run=module.run, parser=parser)
+
+
+def parser_of_all():
+    parser = argparse.ArgumentParser(prog="tools/dev", **described(__doc__))
+    parsers = parser.add_subparsers(dest="subcommand", metavar="SUBCOMMAND", required=True)
+    for name, module in COMMANDS.items():
+        add(parsers, name, module)
+    group = parsers.add_parser("limits", help=limits.__doc__.splitlines()[0], **described(limits.__doc__))
+    of_limits = group.add_subparsers(dest="limit", metavar="NAME", required=True)
+    for name, module in LIMITS.items():
+        add(of_limits, name, module)
+    return parser
+
+
+def main(given=None):
+    words, unknown = parser_of_all().parse_known_args(given)
+    if unknown:
+        words.parser.error(f"unknown: {' '.join(unknown)}")
+    return words.run(words)

@@ -1,0 +1,92 @@
+"""Tells what a line costs where a stranger chose the numbers.
+
+They are those of tasks, actions and messages. Every script has the same lines, eight a round: a task, an action and a
+message from their beginning to their end, all under the round's number. An ordinary script has the numbers 0, 1, 2
+and so on. In the others each is renamed: rising by 61, falling, by chance, or all equal modulo a power of two (where
+there are fewer such numbers than rounds they come again, in the ordinary script that it is compared with too). Prints
+the instructions a line, by `valgrind --tool=cachegrind`, those of the program's start left out, and how many times
+those of the ordinary script they are. The status is 1 where that is more than 2.
+"""
+import random
+import re
+import subprocess
+import tempfile
+
+from .. import running
+
+NUMBERS = 1_000_000
+LINES = 8
+
+
+def script(names, rounds):
+    yield "nodes 2\n"
+    for turn in range(rounds):
+        name = names[turn % len(names)]
+        yield (
+            f"insert 0 {name} 0\nbegin {name}\ndone {name}\nopen 0 {name}\nclose 0 {name}\n"
+            f"send 0 1 {name}\nrecv 1 {name}\nend 1 {name}\n"
+        )
+
+
+def instructions(program, lines, folder):
+    with open(f"{folder}/script", "w", encoding="ascii") as text:
+        text.writelines(lines)
+    with open(f"{folder}/script", encoding="ascii") as text:
+        ran = subprocess.run(
+            ["valgrind", "--tool=cachegrind", "--cache-sim=no", f"--cachegrind-out-file={folder}/out", program, "sim"],
+            stdin=text,
+            stdout=subprocess.DEVNULL,
+            stderr=subprocess.PIPE,
+            text=True,
+            check=True,
+        )
+    return int(re.search(r"I\s+refs:\s+([\d,]+)", ran.stderr)[1].replace(",", ""))
+
+
+def choices(rounds):
+    """Each choice of numbers with its name."""
+    yield "rising by 61", [61 * turn for turn in range(min(rounds, NUMBERS // 61))]
+    yield "falling from 999,999", [NUMBERS - 1 - turn for turn in range(rounds)]
+    by_chance = random.Random(1)
+    yield "by chance", by_chance.sample(range(NUMBERS), rounds)
+    for power in range(1, 20):
+        step = 2**power
+        first = 7 % step
+        equal = list(range(first, NUMBERS, step))[:rounds]
+        yield f"equal modulo 2^{power}, rising", equal
+        by_chance.shuffle(equal)
+        yield f"equal modulo 2^{power}, by chance", equal
+
+
+def table(program, rounds, folder):
+    """Prints a line for each choice of numbers, and gives the worst ratio."""
+    start = instructions(program, ["nodes 2\n"], folder)
+    ordinary, worst = {}, 0.0
+
+    def a_line(names):
+        return (instructions(program, script(names, rounds), folder) - start) / (LINES * rounds)
+
+    print(f"{LINES * rounds} lines a script\n")
+    print("| Numbers | how many | instructions a line | of an ordinary script | ratio |\n|---|---|---|---|---|")
+    for name, numbers in choices(rounds):
+        many = len(numbers)
+        if many not in ordinary:
+            ordinary[many] = a_line(range(many))
+        cost = a_line(numbers)
+        ratio = cost / ordinary[many]
+        worst = max(worst, ratio)
+        print(f"| {name} | {many} | {cost:.0f} | {ordinary[many]:.0f} | {ratio:.2f} |", flush=True)
+    return worst
+
+
+def arguments(parser):
+    running.program_argument(parser)
+    parser.add_argument("--rounds", type=int, default=12_500, metavar="N", help="rounds of eight lines a script (12,500)")
+
+
+def run(words):
+    running.want(words.tp)
+    with tempfile.TemporaryDirectory() as folder:
+        worst = table(words.tp, words.rounds, folder)
+    print(f"\nthe worst ratio is {worst:.2f}")
+    return 1 if worst > 2 else 0

@@ -1,0 +1,35 @@
+"""Copies of the repository in which crates are proved beside each other. What was proved there stays for the next time."""
+import contextlib
+import fcntl
+import hashlib
+import os
+import shutil
+import tempfile
+
+from . import repository
+
+
+def copy_to(room):
+    """Brings the copy's sources up to date; what was proved there stays."""
+    os.makedirs(f"{room}/crates", exist_ok=True)
+    for name in ("crates.txt", "HANDLES"):
+        shutil.copy2(name, f"{room}/{name}")
+    for crate in os.listdir(f"{room}/crates"):
+        for name in os.listdir(f"{room}/crates/{crate}"):
+            old = f"{room}/crates/{crate}/{name}"
+            if name != "out":
+                shutil.rmtree(old) if os.path.isdir(old) else os.remove(old)
+    shutil.copytree("crates", f"{room}/crates", ignore=shutil.ignore_patterns("out", "must-fail"), dirs_exist_ok=True)
+
+
+@contextlib.contextmanager
+def rooms():
+    """Gives the folder of this checkout's copies, and a copy for each processor. One command at a time works in them."""
+    top = f"{tempfile.gettempdir()}/gerfmuod-{os.getuid()}-{hashlib.sha256(os.getcwd().encode()).hexdigest()[:12]}"
+    os.makedirs(top, mode=0o700, exist_ok=True)
+    with open(f"{top}/lock", "w", encoding="utf-8") as lock:
+        fcntl.flock(lock, fcntl.LOCK_EX)
+        found = [f"{top}/{at}" for at in range(repository.lanes(repository.MEMORY_OF_A_CHECK))]
+        for room in found:
+            copy_to(room)
+        yield top, found

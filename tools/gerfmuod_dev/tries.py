@@ -1,0 +1,106 @@
+"""Runs every test and every program unproved.
+
+They are runs of `rt try`; what a program writes is compared with its stored answer. It proves nothing: `make gate`
+does. Prints a line for the tests of a crate, one for a program, and one for the exit statuses of the program `tp`;
+where something failed, what was said too. The last line is `N passed, M failed`, each test and each program counted;
+the status is 1 where one failed.
+"""
+import os
+import re
+import subprocess
+import tempfile
+from concurrent.futures import ThreadPoolExecutor
+
+from . import repository
+from .repository import text_of
+
+# cases whose names begin with the status that has to come
+STATUSES = "tools/data/statuses"
+
+
+def has_tests(crate):
+    return any("#[test]" in text_of(it) for it in repository.files_in(f"crates/{crate}/src"))
+
+
+def tried(crate, *words):
+    """What an unproved run in a crate's folder said, and its status."""
+    ran = subprocess.run(
+        ["rt", "try", *words],
+        cwd=f"crates/{crate}",
+        stdin=subprocess.DEVNULL,
+        stdout=subprocess.PIPE,
+        stderr=subprocess.STDOUT,
+        text=True,
+    )
+    return ran.stdout, ran.returncode
+
+
+def try_tests(crate):
+    said, status = tried(crate, "--test")
+    told = re.search(r"^test result: .*?(\d+) passed; (\d+) failed", said, re.M)
+    passed, failed = (int(told[1]), int(told[2])) if told else (0, 1)
+    if status and not failed:
+        failed = 1
+    return f"{crate}: {passed} tests passed, {failed} failed", passed, failed, said
+
+
+def try_program(crate):
+    folder = f"crates/{crate}"
+    words = ["rt", "try"]
+    data = f"{folder}/data"
+    for name in sorted(os.listdir(data)) if os.path.isdir(data) else []:
+        words += ["--data", f"{name}={os.path.abspath(f'{data}/{name}')}"]
+    words += ["--", *text_of(f"{folder}/args", "").splitlines()]
+    ran = subprocess.run(words, cwd=folder, input=text_of(f"{folder}/stdin", ""), capture_output=True, text=True)
+    wanted, status = text_of(f"{folder}/stdout", ""), int(text_of(f"{folder}/status", "") or 0)
+    is_well = ran.stdout == wanted and ran.returncode == status
+    with tempfile.NamedTemporaryFile("w", suffix=".wanted") as it:
+        it.write(wanted)
+        it.flush()
+        differs = subprocess.run(["diff", it.name, "-"], input=ran.stdout, capture_output=True, text=True).stdout
+    why = f"status {ran.returncode}, wanted {status}\n{differs}{ran.stderr}"
+    return f"{crate}: the program {'wrote what is stored' if is_well else 'FAILED'}", int(is_well), int(not is_well), why
+
+
+def try_statuses(crate):
+    """Runs the program on each case of the exit statuses."""
+    said, _ = tried(crate, "--seconds", "900", "--cases", f"../../{STATUSES}")
+    names = {it for it in os.listdir(STATUSES) if not it.endswith(".args")}
+    came = dict(re.findall(r"^case=(\S+) .*?\bstatus=(\d+)", said, re.M))
+    well = sum(came.get(it) == it[0] for it in names)
+    return f"{crate}: {well} of {len(names)} exit statuses came as they should", well, len(names) - well, said
+
+
+def work_of(crates):
+    for crate in crates:
+        if has_tests(crate):
+            yield try_tests, crate
+        if os.path.exists(f"crates/{crate}/src/main.rt"):
+            yield try_program, crate
+        if crate == "tp":
+            yield try_statuses, crate
+
+
+def arguments(parser):
+    parser.add_argument("crates", nargs="*", metavar="CRATE", help="all crates of crates.txt where none is named")
+
+
+def run(words):
+    repository.go_to_top()
+    every = repository.crates()
+    unknown = [it for it in words.crates if it not in every]
+    if unknown:
+        words.parser.error(f"no crate of crates.txt: {' '.join(unknown)}")
+    work = list(work_of(words.crates or every))
+    print(f"Runs the tests and programs of {len(work)} crates unproved: some minutes.", flush=True)
+    passed = failed = 0
+    # the crates at the top take longest
+    with ThreadPoolExecutor(repository.lanes(repository.MEMORY_OF_A_TRIAL)) as pool:
+        for line, well, ill, said in pool.map(lambda it: it[0](it[1]), reversed(work)):
+            print(line, flush=True)
+            if ill:
+                print(said, flush=True)
+            passed, failed = passed + well, failed + ill
+    print("These runs were unproved: `make gate` proves every crate.")
+    print(f"{passed} passed, {failed} failed")
+    return 1 if failed else 0
