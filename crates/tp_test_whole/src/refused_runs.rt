@@ -25,6 +25,7 @@ enum End {
     Stop(Refusal, bool),
 }
 
+#[tactic(auto, using(tp_text::proofs::Present::run_in_each))]
 fn run_tree<R: Threads + Wait + Sync + Eprint>(rt: &R, alloc: Global, config: Config) -> End
     requires { IsWithinLimits config }
 {
