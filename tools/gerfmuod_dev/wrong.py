@@ -52,8 +52,9 @@ def is_todays(crate):
 
 def reason(said):
     """Gives the function and the clause that a line of the prover tells, or what it says where it tells none."""
-    proof = re.search(r"\./proofs/(\S+)/\w+\.antt:\d+:\d+: \w+: `([^`]+)`", said)
-    code = re.search(r"(src/\S+\.rt):\d+:\d+: .*\(`([^`]+)`\)", said)
+    proof = re.search(r"\./proofs/(\S+)/\w+\.antt:\d+:\d+: \w+: (?:.* depend on )?`([^`]+)`", said)
+    # (the prover's line may be cut off)
+    code = re.search(r"(src/\S+\.rt):\d+:\d+: .*\(`([^`]+)", said)
     found = proof or code
     return f"{found[1]}, {found[2]}" if found else re.sub(r"^refused, as it must be:? ?", "", said)
 
