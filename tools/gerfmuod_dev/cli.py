@@ -6,7 +6,7 @@ status 2.
 import argparse
 
 from . import build, demo, docs, gate_times, lanes, limits, soak, tries, wrong
-from .limits import cuts, hostile_numbers, memory, random_texts, refuse, refuse_tests, stacks, strange
+from .limits import cuts, generations, hostile_numbers, memory, random_texts, refuse, refuse_tests, stacks, strange
 
 COMMANDS = {
     "build": build,
@@ -24,6 +24,7 @@ LIMITS = {
     "memory": memory,
     "stacks": stacks,
     "hostile-numbers": hostile_numbers,
+    "generations": generations,
     "strange": strange,
     "cuts": cuts,
     "random": random_texts,

@@ -8,11 +8,10 @@ the instructions a line, by `valgrind --tool=cachegrind`, those of the program's
 those of the ordinary script they are. The status is 1 where that is more than 2.
 """
 import random
-import re
-import subprocess
 import tempfile
 
 from .. import running
+from .counting import instructions
 
 NUMBERS = 1_000_000
 LINES = 8
@@ -26,21 +25,6 @@ def script(names, rounds):
             f"insert 0 {name} 0\nbegin {name}\ndone {name}\nopen 0 {name}\nclose 0 {name}\n"
             f"send 0 1 {name}\nrecv 1 {name}\nend 1 {name}\n"
         )
-
-
-def instructions(program, lines, folder):
-    with open(f"{folder}/script", "w", encoding="ascii") as text:
-        text.writelines(lines)
-    with open(f"{folder}/script", encoding="ascii") as text:
-        ran = subprocess.run(
-            ["valgrind", "--tool=cachegrind", "--cache-sim=no", f"--cachegrind-out-file={folder}/out", program, "sim"],
-            stdin=text,
-            stdout=subprocess.DEVNULL,
-            stderr=subprocess.PIPE,
-            text=True,
-            check=True,
-        )
-    return int(re.search(r"I\s+refs:\s+([\d,]+)", ran.stderr)[1].replace(",", ""))
 
 
 def choices(rounds):
@@ -60,11 +44,11 @@ def choices(rounds):
 
 def table(program, rounds, folder):
     """Prints a line for each choice of numbers, and gives the worst ratio."""
-    start = instructions(program, ["nodes 2\n"], folder)
+    start = instructions(program, "sim", ["nodes 2\n"], folder)
     ordinary, worst = {}, 0.0
 
     def a_line(names):
-        return (instructions(program, script(names, rounds), folder) - start) / (LINES * rounds)
+        return (instructions(program, "sim", script(names, rounds), folder) - start) / (LINES * rounds)
 
     print(f"{LINES * rounds} lines a script\n")
     print("| Numbers | how many | instructions a line | of an ordinary script | ratio |\n|---|---|---|---|---|")
