@@ -86,7 +86,7 @@ def judge(crates, room):
 
 def note(crate, told):
     """Writes the note of a crate whose wrong bodies were all refused by a clause; gives whether they were."""
-    is_well = len(told) == len(edits_of(crate.name)) and not any(NOTHING.search(it) for it in told.values())
+    is_well = len(told) == len(edits_of(crate.name)) and all(reason(it) and not NOTHING.search(it) for it in told.values())
     if is_well:
         os.makedirs(f"wrong/{crate.name}", exist_ok=True)
         with open(f"wrong/{crate.name}/JUDGED", "w", encoding="utf-8") as text:
