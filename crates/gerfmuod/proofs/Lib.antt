@@ -1,0 +1,5 @@
+pub mod Ended
+pub mod Kept
+pub mod Recording
+pub mod Traced
+pub mod Walks

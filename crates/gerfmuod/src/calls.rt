@@ -1,0 +1,269 @@
+ghost use Rattle.std.specs.Prelude.{◌≡◌, Some};
+ghost use Rattle.gerfmuod.specs.Asked.{counters_at, unsettled, IsSettled, IsWhole};
+ghost use Rattle.gerfmuod.specs.Events.{begin_of, done_of, event_of, insert_asked, message_end_of, receive_of, send_of, supply_of};
+ghost use Rattle.gerfmuod.specs.Opened.{can_be, opened, opening};
+ghost use Rattle.gerfmuod.specs.Pool.{TellsNoEarlyEnd};
+ghost use Rattle.gerfmuod.specs.Told.{reply_told, refusal_told, IsTold, IsToldOf};
+
+use crate::answer::{Answer, Counters, Settled, Whole};
+use crate::event::{Event, insert_step, step_of};
+use crate::pool::Pool;
+use std::alloc::Global;
+use tp_base::{Generation, MAX_NODES, MAX_STEPS, MessageId, NodeId, Refusal, Step, TaskId};
+use tp_core::Reply;
+
+/// Whether there can be so many nodes.
+fn can_be(nodes: u32) -> bool
+    ensures { result ≡ can_be nodes }
+{
+    1 <= nodes && nodes <= MAX_NODES
+}
+
+/// A pool over so many nodes, or over one where there cannot be so many.
+pub(crate) fn made(alloc: Global, nodes: u32) -> Pool
+    ensures { result ≡ opened nodes }
+{
+    let nodes = if can_be(nodes) { nodes } else { 1 };
+    Pool::new(alloc, nodes)
+}
+
+/// 0, or the number of the refusal where there cannot be so many nodes.
+pub(crate) fn opening(nodes: u32) -> u32
+    ensures { result ≡ opening nodes }
+{
+    if can_be(nodes) {
+        0
+    } else {
+        u32::from(Refusal::BadSpec.number())
+    }
+}
+
+const PLAIN: Answer = Answer {
+    refused: 0,
+    told: 0,
+    number: 0,
+    sent: 0,
+    received: 0,
+};
+
+#[cold]
+#[inline(never)]
+fn of_reply(reply: Reply) -> Answer
+    ensures { result ≡ reply_told reply }
+{
+    match reply {
+        Reply::Plain => PLAIN,
+        Reply::WaveSums(sums) => Answer {
+            told: 1,
+            number: sums.wave,
+            sent: sums.sent,
+            received: sums.received,
+            ..PLAIN
+        },
+        Reply::Not => Answer { told: 2, ..PLAIN },
+        Reply::Over(wave) => Answer {
+            told: 3,
+            number: wave,
+            ..PLAIN
+        },
+        Reply::Opened(generation) => Answer {
+            told: 4,
+            number: generation.0,
+            ..PLAIN
+        },
+    }
+}
+
+#[cold]
+#[inline(never)]
+fn of_refusal(refusal: Refusal) -> Answer
+    ensures { result ≡ refusal_told refusal }
+{
+    let number = match refusal {
+        Refusal::HistoryFull(steps) => steps,
+        _ => 0,
+    };
+    Answer {
+        refused: u16::from(refusal.number()),
+        number,
+        ..PLAIN
+    }
+}
+
+/// Takes the next step, and tells it as C reads it.
+#[inline(always)]
+#[tactic(auto, using(crate::proofs::Ended::told_over))]
+fn told(pool: &mut Pool, step: Option<Step>) -> Answer
+    ensures { IsTold pool.old step result pool.new
+        × TellsNoEarlyEnd (result.told ≡ 3) result.number pool.new }
+{
+    match pool.take(step) {
+        // most steps
+        Ok(Reply::Plain) => PLAIN,
+        Ok(reply) => of_reply(reply),
+        Err(refusal) => of_refusal(refusal),
+    }
+}
+
+/// Takes the next step, of whichever kind, as C writes it.
+#[inline(always)]
+pub(crate) fn answered(
+    pool: &mut Pool,
+    kind: u32,
+    first: u32,
+    second: u32,
+    third: u32,
+    generation: u32,
+) -> Answer
+    ensures { IsToldOf pool.old (event_of kind first second third generation) result pool.new
+        × TellsNoEarlyEnd (result.told ≡ 3) result.number pool.new }
+{
+    let event = Event {
+        kind,
+        first,
+        second,
+        third,
+        generation,
+    };
+    told(pool, step_of(event))
+}
+
+/// A fresh task waits at its home node for so many inputs.
+#[inline(always)]
+pub(crate) fn insert(pool: &mut Pool, node: u32, task: u32, inputs: u32) -> Answer
+    ensures { IsTold pool.old (insert_asked node task inputs) result pool.new
+        × TellsNoEarlyEnd (result.told ≡ 3) result.number pool.new }
+{
+    told(pool, insert_step(node, task, inputs))
+}
+
+/// A waiting task gets one input.
+#[inline(always)]
+pub(crate) fn supply(pool: &mut Pool, task: u32) -> Answer
+    ensures { IsTold pool.old (Some (supply_of task)) result pool.new
+        × TellsNoEarlyEnd (result.told ≡ 3) result.number pool.new }
+{
+    told(pool, Some(Step::Supply(TaskId(task))))
+}
+
+/// A ready task begins to run.
+#[inline(always)]
+pub(crate) fn begin(pool: &mut Pool, task: u32) -> Answer
+    ensures { IsTold pool.old (Some (begin_of task)) result pool.new
+        × TellsNoEarlyEnd (result.told ≡ 3) result.number pool.new }
+{
+    told(pool, Some(Step::Begin(TaskId(task))))
+}
+
+/// A running task is done.
+#[inline(always)]
+pub(crate) fn done(pool: &mut Pool, task: u32) -> Answer
+    ensures { IsTold pool.old (Some (done_of task)) result pool.new
+        × TellsNoEarlyEnd (result.told ≡ 3) result.number pool.new }
+{
+    told(pool, Some(Step::Done(TaskId(task))))
+}
+
+/// A node sends a message to another.
+#[inline(always)]
+pub(crate) fn send(pool: &mut Pool, from: u32, to: u32, message: u32, generation: u32) -> Answer
+    ensures { IsTold pool.old (Some (send_of from to message generation)) result pool.new
+        × TellsNoEarlyEnd (result.told ≡ 3) result.number pool.new }
+{
+    told(
+        pool,
+        Some(Step::Send(
+            NodeId(from),
+            NodeId(to),
+            MessageId(message),
+            Generation(generation),
+        )),
+    )
+}
+
+/// A node receives a message, whose action opens.
+#[inline(always)]
+pub(crate) fn receive(pool: &mut Pool, node: u32, message: u32, generation: u32) -> Answer
+    ensures { IsTold pool.old (Some (receive_of node message generation)) result pool.new
+        × TellsNoEarlyEnd (result.told ≡ 3) result.number pool.new }
+{
+    told(
+        pool,
+        Some(Step::Recv(NodeId(node), MessageId(message), Generation(generation))),
+    )
+}
+
+/// The action of a message closes.
+#[inline(always)]
+pub(crate) fn message_end(pool: &mut Pool, node: u32, message: u32, generation: u32) -> Answer
+    ensures { IsTold pool.old (Some (message_end_of node message generation)) result pool.new
+        × TellsNoEarlyEnd (result.told ≡ 3) result.number pool.new }
+{
+    told(
+        pool,
+        Some(Step::MessageEnd(NodeId(node), MessageId(message), Generation(generation))),
+    )
+}
+
+/// The counters of a node.
+pub(crate) fn counted(pool: &mut Pool, node: u32) -> Counters
+    ensures { (pool.new ≡ pool.old) × (result ≡ counters_at node pool.old) }
+{
+    if node >= pool.nodes() {
+        return Counters {
+            refused: u32::from(Refusal::NoNode.number()),
+            pending: 0,
+            sent: 0,
+            received: 0,
+        };
+    }
+    let own = pool.core().numbers().nodes[node as usize];
+    Counters {
+        refused: 0,
+        pending: own.pending,
+        sent: own.sent,
+        received: own.received,
+    }
+}
+
+/// The pool as a whole.
+pub(crate) fn seen(pool: &mut Pool) -> Whole
+    ensures { (pool.new ≡ pool.old) × IsWhole pool.old result }
+{
+    let steps = pool.steps().len() as u32;
+    Whole {
+        steps,
+        room: MAX_STEPS - steps,
+        under_way: pool.core().numbers().under,
+        quiet: pool.core().quiet(),
+    }
+}
+
+/// Settles a pool.
+#[tactic(auto, using(crate::proofs::Ended::settled_over))]
+pub(crate) fn settled(pool: &mut Pool) -> Settled
+    ensures { IsSettled pool.old result pool.new × TellsNoEarlyEnd (result.refused ≡ 0) result.wave pool.new }
+{
+    match pool.settle() {
+        Ok((wave, steps)) => Settled {
+            refused: 0,
+            wave,
+            steps,
+        },
+        Err(refusal) => unsettled(refusal),
+    }
+}
+
+fn unsettled(refusal: Refusal) -> Settled
+    ensures { result ≡ unsettled refusal }
+{
+    let steps = match refusal {
+        Refusal::HistoryFull(steps) => steps,
+        _ => 0,
+    };
+    Settled {
+        refused: u32::from(refusal.number()),
+        wave: 0,
+        steps,
+    }
+}
