@@ -1,5 +1,5 @@
 -- How the answers of calls in a row come together.
-use Rattle.std.proofs.Common.{◌≡◌, ℕ, suc, ◌+◌, ◌-◌, List, [], ◌∷◌, length, Option, Some, None, MatchOption, cond, refl, sym, ap, subst, ◌∙◌, arith}
+use Rattle.std.proofs.Common.{◌≡◌, ℕ, suc, ◌-◌, List, [], ◌∷◌, length, Option, Some, None, MatchOption, cond, refl, sym, ap, subst, ◌∙◌, arith}
 use Rattle.std.specs.Prelude.{Result, Ok, Err, OnErr, OnOk, drop, slice_get}
 use Rattle.std.proofs.lemmas.List.Elements.{All-cons, All-drop}
 use Rattle.tp_base.specs.declared.refusal.Refusal.{Refusal}

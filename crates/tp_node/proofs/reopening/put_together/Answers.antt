@@ -1,7 +1,6 @@
-use Rattle.std.proofs.Common.{◌≡◌, ◌∷◌, ◌++◌, [], List, suc, sym, ap, ◌∙◌, arith, length, map}
+use Rattle.std.proofs.Common.{◌≡◌, ◌∷◌, ◌++◌, [], suc, sym, ap, ◌∙◌, arith, length, map}
 use Rattle.std.specs.Vec.Iter.{into_iter_items}
 use Rattle.std.proofs.lemmas.List.Elements.{All-rest}
-use Rattle.tp_board.specs.Numbers.{NodeNumbers}
 use Rattle.tp_node.specs.Nodes.{IsOfPool, NodeState}
 use Rattle.tp_node.proofs.reopening.put_together.Goals as goal
 

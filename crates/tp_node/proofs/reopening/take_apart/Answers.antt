@@ -1,4 +1,4 @@
-use Rattle.std.proofs.Common.{rules, suc, List, ◌≡◌, ◌+◌, ◌∷◌, ◌++◌, [], ◌∙◌, ap, arith, length, sym, subst, vec_len}
+use Rattle.std.proofs.Common.{rules, suc, List, ◌≡◌, ◌+◌, ◌∷◌, [], ◌∙◌, ap, arith, length, sym, subst, vec_len}
 use Rattle.std.specs.Prelude.{sum_by}
 use Rattle.std.specs.List.{All}
 use Rattle.std.specs.Vec.Iter.{into_iter_items}
