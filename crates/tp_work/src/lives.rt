@@ -27,7 +27,7 @@ pub(crate) fn each_lives(alloc: Global, tasks: u32, history: &History) -> Result
 pub(crate) fn sent_in_each(
     alloc: Global,
     tasks: u32,
-    count: u32,
+    count: usize,
     history: &History,
 ) -> Result<Option<Vec<u32>>, AllocError>
     requires few { length history.now.events ≤ MAX_STEPS }
@@ -36,7 +36,7 @@ pub(crate) fn sent_in_each(
     ensures sent { IfOk result (λ sent. IfSome sent (λ each. each.items ≡ reverse (map sent_in (generations history.now.events)))) }
 {
     let mut stages = vec![in alloc; 0u8; tasks as usize]?;
-    let mut sent = Vec::with_capacity(alloc, count as usize)?;
+    let mut sent = Vec::with_capacity(alloc, count)?;
     if !follow_all(stages.as_mut_slice(), &mut sent, history) {
         return Ok(None);
     }
