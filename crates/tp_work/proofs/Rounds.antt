@@ -125,6 +125,13 @@ pub is_fault : (n : ℕ) (g : TaskGraph) (count : ℕ) (f : Fault) (refusal : Re
     → ((r : Report) → IsReport n g r → r.history.events ≡ h → IsSeriesLack n g.tasks count r refusal) → IsSeriesFault n g count f
 is_fault n g count f refusal fault h told none lacks = is_fault-with n g count f.report f.refusal refusal fault h told none lacks
 
+-- Where nothing has happened in the present generation, its end was not judged.
+pub not_ended : (n : ℕ) (g : TaskGraph) (r : Report) (h : History) → IsReport n g r → r.history.events ≡ h → present_events h ≡ [] → IsTrue r.ended → ⊥
+not_ended n g r h report events opened ended =
+    let none : present (steps_of r.history.events) ≡ [] = sym (steps-present r.history.events) ∙ ap steps_of (ap present_events events ∙ opened) in
+    let bad : r.ended ≡ false = report.of_run.ended ∙ ap (is_ended n) none in
+    cc
+
 -- The refusal of a reopening: the pool came back, and there was no memory or no place.
 pub refused_by : {A P T : Type 0} (b : BoardState) (self pool : P) (ended token : T) (refusal : Refusal) (result : Result A (Refusal × P × T)) → result ≡ Err (refusal, pool, token)
     → AnswersWithBoth (full_check 1 b ∷ []) self ended result
@@ -151,6 +158,16 @@ lack_of_refusal n tasks count r b refusal ended few events limit wanted (inr ful
     let all : length r.history.events ≡ MAX_STEPS = omega (arith, few, ap length events, limit, full.1) in
     inr (inr (full.0 ∙ ap HistoryFull (ap length (sym events) ∙ all),
       record { ended = ended; wanted = subst (λ (h : History). length (generations h) < count) (sym events) wanted; full = all }))
+
+-- The fault of a pool that was to be reopened for another round, where it and what came back are the same.
+pub not_reopened : (n : ℕ) (g : TaskGraph) (count : ℕ) (f : Fault) (refusal : Refusal) (b back : BoardState) → IsTold n g refusal back.fault back.history f → back ≡ b → b.fault ≡ None → b.limit ≡ MAX_STEPS
+    → IsTrue (is_ended n (present (steps_of b.history))) → length (generations b.history) < count
+    → (refusal ≡ NoMemory) ⊎ ((refusal ≡ HistoryFull (length b.history)) × (b.limit < length b.history + 1)) → IsSeriesFault n g count f
+not_reopened n g count f refusal b back told same none limit ended wanted why =
+    is_fault n g count f refusal b.fault b.history (subst (λ (s : BoardState). IsTold n g refusal s.fault s.history f) same told) none
+    (λ r report events.
+      let own : IsTrue r.ended = sym (report.of_run.ended ∙ ap (λ (h : History). is_ended n (present (steps_of h))) events) ∙ ended in
+      lack_of_refusal n g.tasks count r b refusal own report.of_run.few events limit wanted why)
 
 -- ---- a pool that was reopened
 module _ {G : Type 0} where
