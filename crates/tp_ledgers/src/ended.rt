@@ -8,7 +8,7 @@ use std::sync::ledger::{Blank, Book, Share};
 #[derive(Drop)]
 pub struct Ended<K: Ledgers> {
     share: Share<Judged<K>>,
-    ghost one: { share.amount ≡ 1 },
+    ghost one: { (share.parts ≡ 1) × (share.amount ≡ 1) },
 }
 
 /// The one token of the end, until it is handed out. Contracts see how many were handed out.
@@ -59,6 +59,16 @@ impl<K: Ledgers> Keeper<K> {
         };
         self.book.add(&mut share, 1);
         Ended { share }
+    }
+
+    /// Takes the token back.
+    pub fn take_back(&mut self, ended: Ended<K>)
+        ensures told { self.old ≡ 1 }
+        ensures back { self.new ≡ 0 }
+    {
+        let Ended { mut share } = ended;
+        self.book.sub(&mut share, 1);
+        self.token = Some(share);
     }
 
     /// Changes nothing, and tells that the token was handed out.

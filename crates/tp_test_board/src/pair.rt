@@ -1,7 +1,7 @@
 ghost use Rattle.std.specs.Prelude.{◌≡◌, ◌≤◌, ◌+◌, IfOk, vec_len};
 
 use std::alloc::Global;
-use tp_base::{Generation, MAX_STEPS, MessageId, Refusal, Step};
+use tp_base::{MAX_STEPS, MessageId, Refusal, Step};
 use tp_board::{Blanks, Board, Books, Ledgers, LinkShare, Shares, Totals, close_books, open_books};
 
 /// A node of a pool: its shares, beside the pending number that they carry.
@@ -87,8 +87,7 @@ impl<K: Ledgers> Node<K> {
     /// Ends the action of a message, where something is pending.
     pub fn end(&mut self, message: MessageId, board: &mut Board<K>) -> Result<(), Refusal> {
         if self.pending > 0 && message.0 < MAX_STEPS {
-            let step = Step::MessageEnd(self.shares.node(), message, Generation(1));
-            board.append(step, &mut self.shares)?;
+            board.append_end(message, &mut self.shares)?;
             self.pending -= 1;
         }
         Ok(())

@@ -135,3 +135,37 @@ fn values_messages_and_actions_come_to_a_node(rt: HostRuntime) -> Result<(), Fai
     }
     Ok(())
 }
+
+#[test]
+fn a_node_that_was_told_the_end_is_reopened(rt: HostRuntime) -> Result<(), Fail> {
+    let mut local = Local::new(rt.alloc(), PoolId(0));
+    for generation in [1, 2, 3] {
+        for (call, wanted) in [
+            (Call::State, Reply::State(TaskpoolState::NotReady)),
+            (Call::Pending, Reply::Pending(1)),
+            (Call::Insert(1), DONE),
+            (Call::Open(4), DONE),
+            (Call::Receive(4), DONE),
+            (Call::Close(4), DONE),
+            (Call::End(4), DONE),
+            (Call::Begin, Reply::Begun(Some(TaskId(1)))),
+            (Call::Done(1, generation), DONE),
+            (Call::Ready, DONE),
+            (Call::Finish, DONE),
+        ] {
+            assert_eq!(rt; reply_to(rt.alloc(), &mut local, call), Ok(wanted));
+        }
+        assert_eq!(rt; local.send(), Err(Refusal::Inactive));
+        assert_eq!(rt; local.received(), 1);
+        let results = local.reopen(rt.alloc());
+        assert_eq!(rt; results.len(), 1);
+        for (task, value) in results.as_slice() {
+            assert_eq!(rt; *task, TaskId(1));
+            assert_eq!(rt; value.lone(), Ok(generation));
+        }
+        assert_eq!(rt; local.results().len(), 0);
+        assert_eq!(rt; local.received(), 0);
+        assert_eq!(rt; local.is_over(), false);
+    }
+    Ok(())
+}

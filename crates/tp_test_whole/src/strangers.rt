@@ -26,6 +26,7 @@ fn front_of<K: Ledgers>(wire: &Wire<Reduce, K>) -> Result<Message<Reduce>, Refus
     Ok(Message::new(
         front.graph(),
         front.number(),
+        front.generation(),
         front.from(),
         front.to(),
         front.feed(),

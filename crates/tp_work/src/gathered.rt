@@ -119,6 +119,7 @@ fn gather<G: Graph, K: Ledgers>(pool: Pool<G, K>, room: ReportRoom<K>) -> Report
         mut results,
     } = room;
     let _nodes = board.nodes();
+    let _events = board.len();
     let announced = count_told(&nodes);
     take_nodes(nodes, &mut shares, &mut results);
     take_wires(wires, &mut links);
