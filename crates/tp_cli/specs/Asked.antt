@@ -1,7 +1,8 @@
 -- A request and the words that make it.
 use Rattle.std.specs.Prelude.{List, Option, codes, map}
 use Rattle.clap.specs.Words.{Row, Text, subcommand_of}
-use Rattle.tp_cli.specs.Command.{IsAt, IsPoolsNaming, IsReading, IsRunIn, IsRunNaming, tp_app}
+use Rattle.tp_cli.specs.Command.{IsAt, IsPoolsNaming, IsReading, IsRunIn, IsRunNaming, IsRunOver, tp_app}
+use Rattle.tp_cli.specs.Runs.{IsPlan}
 use Rattle.tp_cli.specs.declared.request.Request.{Request}
 use Rattle.tp_cli.specs.declared.request.Request.TheVariants.{Answer, Run, Pools}
 use Rattle.tp_work.specs.Outcomes.{IsWithinLimits}
@@ -9,8 +10,9 @@ use Rattle.tp_work.specs.Outcomes.{IsWithinLimits}
 -- the subcommand that was found, with its matches, makes the request
 abbrev pub IsMadeBy : Option (Text × List Row) → Request → Type 0
 IsMadeBy found (Answer kind) = IsReading kind found
-IsMadeBy found (Run spec config form) =
-    IsRunNaming spec.now found × IsWithinLimits config × IsAt (codes "run") config.nodes config.workers found × IsRunIn form found
+IsMadeBy found (Run spec plan) =
+    IsRunNaming spec.now found × IsPlan plan × IsAt (codes "run") plan.config.nodes plan.config.workers found
+    × IsRunOver plan.generations found × IsRunIn plan.form found
 IsMadeBy found (Pools specs config) =
     IsPoolsNaming (map (λ s. s.now) specs.items) found × IsWithinLimits config × IsAt (codes "pools") config.nodes config.workers found
 
