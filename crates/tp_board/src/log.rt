@@ -127,7 +127,8 @@ impl Log {
     /// Adds the reopening, in the place that was reserved for it: the next generation begins, of which nothing has happened.
     pub fn reopen(&mut self)
         requires { 0 < self.old.reserved }
-        ensures { self.new ≡ with_event (event 0 steps.Reopen) self.old }
+        ensures ok { self.new ≡ with_event (event 0 steps.Reopen) self.old }
+        ensures places { length self.old.history < 1048576 }
     {
         self.history.push_reserved(NodeId(0), Step::Reopen);
         self.counts = Counts::new();
