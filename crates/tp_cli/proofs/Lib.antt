@@ -2,4 +2,5 @@ pub mod Asked
 pub mod Counted
 pub mod Ending
 pub mod Printed
+pub mod Rounds
 pub mod Several

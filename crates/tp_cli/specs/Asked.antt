@@ -5,14 +5,19 @@ use Rattle.tp_cli.specs.Command.{IsAt, IsPoolsNaming, IsReading, IsRunIn, IsRunN
 use Rattle.tp_cli.specs.Runs.{IsPlan}
 use Rattle.tp_cli.specs.declared.request.Request.{Request}
 use Rattle.tp_cli.specs.declared.request.Request.TheVariants.{Answer, Run, Pools}
+use Rattle.tp_cli.specs.declared.run.Plan.{Plan}
 use Rattle.tp_work.specs.Outcomes.{IsWithinLimits}
+
+-- `run` was found, with this word and this plan
+abbrev pub IsRunOf : Option (Text × List Row) → Text → Plan → Type 0
+IsRunOf found spec plan =
+    IsRunNaming spec found × IsPlan plan × IsAt (codes "run") plan.config.nodes plan.config.workers found
+    × IsRunOver plan.generations found × IsRunIn plan.form found
 
 -- the subcommand that was found, with its matches, makes the request
 abbrev pub IsMadeBy : Option (Text × List Row) → Request → Type 0
 IsMadeBy found (Answer kind) = IsReading kind found
-IsMadeBy found (Run spec plan) =
-    IsRunNaming spec.now found × IsPlan plan × IsAt (codes "run") plan.config.nodes plan.config.workers found
-    × IsRunOver plan.generations found × IsRunIn plan.form found
+IsMadeBy found (Run spec plan) = IsRunOf found spec.now plan
 IsMadeBy found (Pools specs config) =
     IsPoolsNaming (map (λ s. s.now) specs.items) found × IsWithinLimits config × IsAt (codes "pools") config.nodes config.workers found
 

@@ -19,8 +19,8 @@ use Rattle.tp_work.specs.Outcomes.{HasEachOnce, IsFault, IsOutcome, IsWithinLimi
 use Rattle.tp_work.specs.Series.{IsSeries, IsSeriesFault}
 use Rattle.tp_work.specs.declared.config.Fault.{Fault}
 use Rattle.tp_work.specs.declared.config.Outcome.{Outcome}
-use Rattle.tp_work.specs.declared.config.Round.{Round}
-use Rattle.tp_work.specs.declared.config.Series.{Series}
+use Rattle.tp_work.specs.declared.series.Round.{Round}
+use Rattle.tp_work.specs.declared.series.Series.{Series}
 
 -- how many tasks there were and how many messages were sent, and that the pool ended
 abbrev pub totals_text : ℕ → ℕ → List ℕ
@@ -66,7 +66,7 @@ abbrev pub IsTextFor : Form → List ℕ → ℕ → ℕ → List ℕ → Type 0
 IsTextFor form word n count text = (g : AnyGraph) × (word ≡ word_of g) × IsTextOf form g n count text
 
 -- what makes a round one of a graph: each task has one result, the value that the graph defines, and no other task has any
-pub record IsRound (g : AnyGraph) (round : Round) : Type 0 where
+pub record IsRoundOf (g : AnyGraph) (round : Round) : Type 0 where
   pub each_once : HasEachOnce (any_graph g).tasks round.results.items
   pub right : AreRight (any_graph g) round.results.items
   pub tasks : round.tasks ≡ vec_len round.results

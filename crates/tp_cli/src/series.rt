@@ -2,7 +2,7 @@ ghost use Rattle.std.specs.Prelude.{◌≡◌, ◌≤◌, ◌⊎◌, ◌++◌, �
 ghost use Rattle.std.specs.List.{All};
 ghost use Rattle.tp_base.specs.declared.limits.TheConstants.{MAX_NODES};
 ghost use Rattle.tp_base.specs.declared.refusal.Refusal.TheVariants.{NoMemory};
-ghost use Rattle.tp_cli.specs.Runs.{IsPlan, IsPrintOfSeries, IsRound, IsTextOfSeries, IsUnprintedSeries, IsUntold, IsUntoldRound, IsWithoutSeries, round_text, rounds_text};
+ghost use Rattle.tp_cli.specs.Runs.{IsPlan, IsPrintOfSeries, IsRoundOf, IsTextOfSeries, IsUnprintedSeries, IsUntold, IsUntoldRound, IsWithoutSeries, round_text, rounds_text};
 ghost use Rattle.tp_samples.specs.Any.{any_graph};
 ghost use Rattle.tp_work.specs.Series.{IsSeries};
 
@@ -57,7 +57,7 @@ fn text_of_rounds(
     graph: AnyGraph,
     rounds: &[Round],
 ) -> Result<Vec<u8>, Refusal>
-    requires made { All (IsRound graph) rounds.now }
+    requires made { All (IsRoundOf graph) rounds.now }
     ensures text { IfOk result (λ text. text.items ≡ rounds_text graph 1 rounds.now) }
     ensures none { IfErr result (IsUntoldRound graph rounds.now) }
 {
@@ -76,7 +76,7 @@ fn push_round(
     generation: usize,
     round: &Round,
 ) -> Result<(), Refusal>
-    requires made { IsRound graph round.now }
+    requires made { IsRoundOf graph round.now }
     ensures text { OnOk result (text.new.items ≡ text.old.items ++ round_text graph generation round.now) }
     ensures none { IfErr result (IsUntold graph round.now.results.items) }
 {
