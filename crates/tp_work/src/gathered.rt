@@ -1,4 +1,4 @@
-ghost use Rattle.std.specs.Prelude.{◌≡◌, ◌<◌, ◌≤◌, ◌+◌, ◌-◌, ◌*◌, ◌++◌, ◌∷◌, [], IfErr, IfOk, IfSome, length, map, sum_by, vec_capacity, vec_len};
+ghost use Rattle.std.specs.Prelude.{◌≡◌, ◌<◌, ◌≤◌, ◌+◌, ◌-◌, ◌*◌, ◌++◌, ◌∷◌, [], IfErr, IfOk, length, map, sum_by, vec_capacity, vec_len};
 ghost use Rattle.std.specs.List.{All, count_by, flat_map};
 ghost use Rattle.tp_base.specs.declared.refusal.Refusal.TheVariants.{NoMemory};
 ghost use Rattle.tp_graph.specs.Serial.{AreRight};
@@ -11,7 +11,7 @@ use tp_base::{History, Refusal, TaskId};
 use tp_board::{Books, Ledgers, LinkShare, Shares, close_books};
 use tp_graph::{Graph, Value};
 use tp_monitor::TaskpoolState;
-use tp_node::{Node, Pool, Wire};
+use tp_node::{Node, Pool, Wire, count_results};
 
 /// What was gathered of a pool.
 #[derive(Drop)]
@@ -84,17 +84,6 @@ fn room_for<G: Graph, K: Ledgers>(
         links: Vec::with_capacity(alloc, links.len())?,
         results: Vec::with_capacity(alloc, count)?,
     })
-}
-
-/// How many results all nodes have, where one list can have so many.
-fn count_results<G: Graph, K: Ledgers>(nodes: &Vec<Node<G, K>>) -> Option<usize>
-    ensures { IfSome result (λ count. count ≡ sum_by (λ n. length n.state.store.results) nodes.now.items) }
-{
-    let mut count = 0usize;
-    for node in nodes {
-        count = count.checked_add(node.results().len())?;
-    }
-    Some(count)
 }
 
 fn gather<G: Graph, K: Ledgers>(pool: Pool<G, K>, room: ReportRoom<K>) -> Report

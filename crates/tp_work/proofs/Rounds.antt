@@ -1,0 +1,1 @@
+-- Rounds beside the events of their generations.
