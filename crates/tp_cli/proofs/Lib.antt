@@ -1,4 +1,5 @@
 pub mod Asked
+pub mod Bounded
 pub mod Counted
 pub mod Ending
 pub mod Printed

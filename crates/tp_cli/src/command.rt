@@ -1,7 +1,7 @@
-ghost use Rattle.std.specs.Prelude.{◌≡◌, IfOk, false};
+ghost use Rattle.std.specs.Prelude.{◌≡◌, IfOk, codes, false};
 ghost use Rattle.clap.specs.Words.{app_of, rule_of};
 ghost use Rattle.clap.specs.declared.builder.command.Command.TheViews.{out-Command};
-ghost use Rattle.tp_cli.specs.Command.{audit_app, count_rule, pools_app, run_app, sim_app, texts_app, tp_app, with_count_rules};
+ghost use Rattle.tp_cli.specs.Command.{audit_app, count_rule, pools_app, run_app, sim_app, spec_rule, texts_app, tp_app, trace_rule, with_count_rules};
 
 use clap::{Arg, ArgAction, Command, value_parser};
 use std::alloc::{AllocError, Global};
@@ -57,20 +57,40 @@ fn run_command<'a>(alloc: Global) -> Result<Command<'a>, AllocError>
     ensures app { IfOk result (λ command. app_of command ≡ run_app) }
     ensures local { IfOk result (λ command. (out-Command command).has_globals ≡ false) }
 {
-    let spec = Arg::new(alloc, "SPEC").required(true).help(
-        "The pool, as product:4:2:0, wavefront:8:8:0 or reduce:16:0",
-    );
-    let generations = count_option(alloc, "generations", "1-9", MAX_GENERATIONS)
-        .help("K, how often the pool is run: reopened after each end but the last");
-    let trace = Arg::new(alloc, "trace")
-        .long("trace")
-        .action(ArgAction::SetTrue)
-        .help("Prints the trace of the run and nothing else, as `tp audit` reads it");
     let command = Command::new(alloc, "run")
         .about("Runs a pool of tasks on worker threads and prints its result")
         .after_help(RUN_HELP)
-        .arg(spec)?;
-    with_counts(alloc, command)?.arg(generations)?.arg(trace)
+        .arg(spec_argument(alloc))?;
+    with_counts(alloc, command)?
+        .arg(generations_option(alloc))?
+        .arg(trace_flag(alloc))
+}
+
+fn spec_argument<'a>(alloc: Global) -> Arg<'a>
+    ensures rule { rule_of result ≡ spec_rule }
+    ensures local { result.global ≡ false }
+{
+    Arg::new(alloc, "SPEC")
+        .required(true)
+        .help("The pool, as product:4:2:0, wavefront:8:8:0 or reduce:16:0")
+}
+
+fn generations_option<'a>(alloc: Global) -> Arg<'a>
+    ensures rule { rule_of result ≡ count_rule (codes "generations") MAX_GENERATIONS }
+    ensures local { result.global ≡ false }
+{
+    count_option(alloc, "generations", "1-9", MAX_GENERATIONS)
+        .help("K, how often the pool is run: it is reopened after each end but the last")
+}
+
+fn trace_flag<'a>(alloc: Global) -> Arg<'a>
+    ensures rule { rule_of result ≡ trace_rule }
+    ensures local { result.global ≡ false }
+{
+    Arg::new(alloc, "trace")
+        .long("trace")
+        .action(ArgAction::SetTrue)
+        .help("Prints the trace of the run and nothing else, as `tp audit` reads it")
 }
 
 fn pools_command<'a>(alloc: Global) -> Result<Command<'a>, AllocError>
