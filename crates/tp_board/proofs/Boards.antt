@@ -1,8 +1,7 @@
 -- A board of one generation, one event further.
-use Rattle.std.proofs.Common.{ℕ, ◌+◌, ◌-◌, ◌≡◌, ◌≢◌, ◌<◌, ◌≤◌, List, [], ◌∷◌, ◌++◌, length, Bool, true, false, cond, nat_eq, IsTrue, refl, sym, ap, subst, ◌∙◌, arith, Some, inl, inr}
+use Rattle.std.proofs.Common.{ℕ, ◌+◌, ◌-◌, ◌≡◌, ◌≢◌, ◌<◌, ◌≤◌, List, [], ◌∷◌, ◌++◌, length, Bool, IsTrue, refl, sym, ap, subst, ◌∙◌, arith, inl, inr}
 use Rattle.std.specs.Prelude.{IsFalse, slice_index, slice_set, if◌then◌else◌}
 use Rattle.std.proofs.lemmas.Bool.{eq-eqb, ne_eqb, cases_eq}
-use Rattle.std.proofs.lemmas.Bool.Decides.{nat_tests}
 use Rattle.std.specs.List.{All}
 use Rattle.std.proofs.lemmas.List.Elements.{All-append, All-cons}
 use Rattle.std.proofs.lemmas.List.{get_or-set_same, get_or-set_other}
@@ -19,7 +18,7 @@ use Rattle.tp_wave.proofs.Given.{pool_step}
 use Rattle.tp_wave.specs.declared.wave.Wave.{Wave}
 use Rattle.tp_ledgers.specs.Numbers.{AreWithin, NodeNumbers, ending, event, is_done, is_plain, is_recv, is_send, numbers_after, plus_if, receiving, sending}
 use Rattle.tp_ledgers.specs.Books.{BookTotals, IsBooked, totals_after, with_under}
-use Rattle.tp_board.specs.Boards.{IsBoard, ended_number}
+use Rattle.tp_board.specs.Boards.{IsBoard}
 use Rattle.tp_board.proofs.Counting.{count-le, pending_at-le}
 
 pool_ended : (n : ℕ) (s : Step) (past : List Step) → IsFalse (is_control s) → is_ended n (s ∷ past) ≡ is_ended n past

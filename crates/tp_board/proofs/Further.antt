@@ -1,5 +1,5 @@
 -- A board of all generations, one event further: what is known of one generation is used of the present one.
-use Rattle.std.proofs.Common.{ℕ, ◌+◌, ◌-◌, ◌≡◌, ◌≢◌, ◌<◌, ◌≤◌, List, [], ◌∷◌, length, Bool, true, false, cond, nat_eq, IsTrue, refl, sym, ap, subst, ◌∙◌, arith, Option, Some, None, ◌||◌, ◌==◌}
+use Rattle.std.proofs.Common.{ℕ, ◌+◌, ◌≡◌, ◌≢◌, ◌<◌, List, [], ◌∷◌, length, Bool, true, false, cond, nat_eq, IsTrue, refl, sym, ap, subst, ◌∙◌, arith, Option, Some, None, ◌||◌, ◌==◌}
 use Rattle.std.specs.Prelude.{IsFalse, ◌↔◌, if◌then◌else◌, is_some}
 use Rattle.std.proofs.lemmas.Bool.Decides.{nat_tests}
 use Rattle.tp_base.specs.History.{Event}
@@ -12,7 +12,7 @@ use Rattle.tp_wave.specs.Sums.{is_ended, judgement, sums_of}
 use Rattle.tp_wave.specs.Wave.{Follows}
 use Rattle.tp_wave.specs.Control.{is_control}
 use Rattle.tp_wave.specs.Cut.{IsQuiet}
-use Rattle.tp_wave.specs.Generations.{AreRuns, IsOfGeneration, generation, present, present_events}
+use Rattle.tp_wave.specs.Generations.{IsOfGeneration, generation, present, present_events}
 use Rattle.tp_wave.specs.Machine.{step_of, steps_of, pending_at, pending_after, under_way, under_way_after, IsOf, Needs, is_send_numbered, is_send_to}
 use Rattle.tp_wave.specs.declared.wave.Wave.{Wave}
 use Rattle.tp_wave.proofs.Generations.{few_law, length-present, present-goes_on, steps-present}
@@ -21,7 +21,7 @@ use Rattle.tp_ledgers.specs.Books.{BookTotals, IsBooked, totals_after, with_judg
 use Rattle.tp_ledgers.specs.Numbers.{AreWithin, NodeNumbers, ending, event, is_done, is_plain, is_recv, is_send, numbers_after, receiving, sending}
 use Rattle.tp_ledgers.specs.Reopening.{AreFirst}
 use Rattle.tp_board.specs.Boards.{IsBoard, IsBoardOf, ended_number}
-use Rattle.tp_board.proofs.Boards.{balance, end_next, plain_next, recv_next, send_next, started-le, within, within_next}
+use Rattle.tp_board.proofs.Boards.{balance, end_next, plain_next, recv_next, send_next, within, within_next}
 use Rattle.tp_board.proofs.Naming.{plain_kind}
 
 -- ---- what the board tells of the present steps
@@ -37,14 +37,14 @@ pub told : (n nodes : ℕ) (h : List Event) (t : BookTotals) (w : Wave) → IsBo
 told n nodes h t w board =
     let now = board.now in
     let all : IsTold n (steps_of (present_events h)) t =
-      record {
-        sent = now.sent;
-        received = now.received;
-        done = now.done;
-        under = now.under;
-        judged = now.judged;
-        balance = balance n nodes (present_events h) t w now;
-      } in
+    record {
+      sent = now.sent;
+      received = now.received;
+      done = now.done;
+      under = now.under;
+      judged = now.judged;
+      balance = balance n nodes (present_events h) t w now;
+    } in
     subst (λ steps. IsTold n steps t) (steps-present h) all
 
 ended_out : (n out : ℕ) (past : List Step) → out ≡ ended_number n past → 0 < out → IsTrue (is_ended n past)
@@ -113,7 +113,7 @@ pub plain_follows : (n nodes a : ℕ) (h now : List Event) (t after : BookTotals
     → IsBoardOf n nodes h t w → length h < 1048576 → IsBooked x t → x.node < n → IsTrue (is_plain s) × IsOf x.node s × (0 < x.pending) → IsBoardOf n nodes now after w
 plain_follows n nodes a h now t after w x s is is_a is_after board places booked below lawful =
     let next : IsBoard n nodes (event a s ∷ present_events h) after w =
-      rw (is_a, is_after) (plain_next n nodes (present_events h) t w x s board.now (short_now h places) booked below lawful.0 lawful.1 lawful.2) in
+    rw (is_a, is_after) (plain_next n nodes (present_events h) t w x s board.now (short_now h places) booked below lawful.0 lawful.1 lawful.2) in
     goes_on n nodes h now t after w w (event a s) board is places (plain_kind s lawful.0).1 (plain_carries (generation (steps_of h)) s lawful.0) next
 
 -- after the sending of a message
@@ -124,7 +124,7 @@ send_follows n nodes a b j m h now t after sent w x is is_a is_b is_after is_sen
     let new : IsFalse (any (is_send_numbered m) (steps_of (present_events h))) = rw (steps-present h) fresh in
     let k = generation (steps_of h) in
     let next : IsBoard n nodes (event a (sending k a b m) ∷ present_events h) sent w =
-      rw (is_sent, is_after, is_a, is_b) (send_next n nodes j m k (present_events h) t w x board.now (short_now h places) booked below there apart active new) in
+    rw (is_sent, is_after, is_a, is_b) (send_next n nodes j m k (present_events h) t w x board.now (short_now h places) booked below there apart active new) in
     goes_on n nodes h now t sent w w (event a (sending k a b m)) board is places refl refl next
 
 -- after the receipt of a message
@@ -135,7 +135,7 @@ recv_follows n nodes a m k h now t after left w x is is_k is_a is_after is_left 
     let was : IsTrue (any (is_send_to x.node m) (steps_of (present_events h))) = rw (steps-present h) sent_before in
     let more : 0 < t.under = omega (arith, ap (λ (y : BookTotals). y.under) is_after) in
     let next : IsBoard n nodes (event a (receiving k a m) ∷ present_events h) left w =
-      rw (is_left, is_after, is_a) (recv_next n nodes m k (present_events h) t w x board.now (short_now h places) booked below more was) in
+    rw (is_left, is_after, is_a) (recv_next n nodes m k (present_events h) t w x board.now (short_now h places) booked below more was) in
     goes_on n nodes h now t left w w (event a (receiving k a m)) board is places refl is_k next
 
 -- after the end of a message's action
@@ -143,7 +143,7 @@ pub end_follows : (n nodes a m k : ℕ) (h now : List Event) (t after : BookTota
     → after ≡ totals_after x.node (ending k a m) t → IsBoardOf n nodes h t w → length h < 1048576 → IsBooked x t → x.node < n → 0 < x.pending → IsBoardOf n nodes now after w
 end_follows n nodes a m k h now t after w x is is_k is_a is_after board places booked below active =
     let next : IsBoard n nodes (event a (ending k a m) ∷ present_events h) after w =
-      rw (is_after, is_a) (end_next n nodes m k (present_events h) t w x board.now (short_now h places) booked below active) in
+    rw (is_after, is_a) (end_next n nodes m k (present_events h) t w x board.now (short_now h places) booked below active) in
     goes_on n nodes h now t after w w (event a (ending k a m)) board is places refl is_k next
 
 -- ---- the steps of the waves

@@ -321,11 +321,7 @@ impl<K: Ledgers> Board<K> {
     /// Adds the end of a message's action, in the present generation.
     ///
     /// Refused: `HistoryFull` where the history has reached its limit; `NoMemory` where memory has to grow and does not.
-    pub fn append_end(
-        &mut self,
-        message: MessageId,
-        shares: &mut Shares<K>,
-    ) -> Result<(), Refusal>
+    pub fn append_end(&mut self, message: MessageId, shares: &mut Shares<K>) -> Result<(), Refusal>
         requires few { message.0 < 1048576 }
         requires active { 0 < shares.old.pending }
         ensures ok { OnOk result (self.new ≡ with_event (event shares.old.node (ending (generation (steps_of self.old.history)) shares.old.node message.0)) self.old) }

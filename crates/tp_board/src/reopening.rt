@@ -3,7 +3,7 @@ ghost use Rattle.std.specs.List.{All};
 ghost use Rattle.tp_base.specs.declared.step.Step.TheVariants as steps;
 ghost use Rattle.tp_board.specs.States.{with_event};
 ghost use Rattle.tp_ledgers.specs.Fresh.{HasRoom};
-ghost use Rattle.tp_ledgers.specs.Numbers.{event};
+ghost use Rattle.tp_ledgers.specs.Numbers.{event, first_numbers};
 ghost use Rattle.tp_ledgers.specs.Reopening.{begun_anew};
 ghost use Rattle.tp_wave.specs.Cut.{IsQuiet};
 ghost use Rattle.tp_wave.specs.Generations.{present, present_events};
@@ -30,6 +30,8 @@ impl<K: Ledgers> Board<K> {
         requires fresh { HasRoom K.names.nodes fresh }
         ensures board { self.new ≡ with_event (event 0 steps.Reopen) self.old }
         ensures shares { result.items ≡ map begun_anew shares.items }
+        ensures all_first { All (λ s. s ≡ first_numbers s.node) result.items }
+        ensures each_share { vec_len result ≡ K.names.nodes }
         ensures idle { All (λ s. s.pending ≡ 0) shares.items }
         ensures ended { IsTrue (is_ended K.names.nodes (present (steps_of self.old.history))) }
         ensures quiet { IsQuiet K.names.nodes (present_events self.old.history) }

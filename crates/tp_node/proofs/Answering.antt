@@ -1,17 +1,16 @@
 -- How the answers of calls in a row come together.
-use Rattle.std.proofs.Common.{◌≡◌, ℕ, suc, ◌+◌, ◌-◌, List, [], ◌∷◌, length, Option, Some, None, MatchOption, true, false, is_some, cond, refl, sym, ap, subst, ◌∙◌, arith}
+use Rattle.std.proofs.Common.{◌≡◌, ℕ, suc, ◌-◌, List, [], ◌∷◌, length, Option, Some, None, MatchOption, cond, refl, sym, ap, subst, ◌∙◌, arith}
 use Rattle.std.specs.Prelude.{Result, Ok, Err, OnErr, OnOk, drop, slice_get}
 use Rattle.std.proofs.lemmas.List.Elements.{All-cons, All-drop}
 use Rattle.tp_base.specs.declared.refusal.Refusal.{Refusal}
 use Rattle.tp_base.specs.declared.refusal.Refusal.TheVariants.{NoMemory}
-use Rattle.tp_board.specs.Calls.{Answers, AnswersWith, Appends}
-use Rattle.tp_board.specs.States.{BoardState}
-use Rattle.std.specs.Prelude.{IsTrue, if◌then◌else◌}
+use Rattle.tp_board.specs.Calls.{Answers, AnswersWith}
+use Rattle.std.specs.Prelude.{IsTrue}
 use Rattle.tp_base.specs.History.{Event}
 use Rattle.tp_graph.specs.Carried.{Carried}
 use Rattle.tp_graph.specs.Graphs.{TaskGraph}
 use Rattle.tp_graph.specs.declared.feed.Feed.{Feed}
-use Rattle.tp_wave.specs.Generations.{generation, present}
+use Rattle.tp_wave.specs.Generations.{present}
 use Rattle.tp_wave.specs.Machine.{is_send_to, steps_of}
 use Rattle.tp_wave.specs.Steps.{any}
 use Rattle.std.specs.FinMap as finite
@@ -19,9 +18,7 @@ use Rattle.std.specs.List.{All}
 use Rattle.std.proofs.lemmas.Cmp.{nat_cmp_total, eq_by_cmp_equiv}
 use Rattle.tp_base.specs.declared.ids.MessageId.{MessageId}
 use Rattle.tp_local.specs.Locals.{LocalState}
-use Rattle.tp_base.specs.declared.step.Step.TheVariants.{Supply}
-use Rattle.tp_store.specs.Content.{task_of}
-use Rattle.tp_node.specs.Nodes.{HasBrought, NodeState, event_of, inserting, node_of, putting_at, with_received}
+use Rattle.tp_node.specs.Nodes.{HasBrought, NodeState, with_received}
 use Rattle.tp_node.specs.Wires.{IsOnWay, IsWire}
 use Rattle.tp_board.specs.Numbers.{LinkNumbers}
 use Rattle.tp_link.specs.Link.{Line}
@@ -50,24 +47,6 @@ module _ (A : Type 0) {B : Type 0} (checks : List Check) (e : Refusal) (back : B
 pub none_first : {M : Type 0} (messages : List M) → None ≡ slice_get messages 0 → messages ≡ []
 none_first [] e = refl
 none_first (m ∷ messages) e = cc
-
--- A value that is put leaves the generation.
-pub generation_kept : {G : Type 0} (g : TaskGraph) (f : Feed) (n : NodeState G) (h : List Event) → generation (steps_of (event_of n (putting_at g f n) ∷ h)) ≡ generation (steps_of h)
-generation_kept {G} g f n h =
-    elim (is_some (task_of n.state.store f.target)) as (λ b. generation (steps_of (event_of n (if b then Supply f.target else inserting (node_of n) f.target (g.arity f.target.0 - 1)) ∷ h)) ≡ generation (steps_of h))
-    [ true ↦ refl | false ↦ refl ]
-
--- the events of two calls in a row, of which the second names the generation
-pub two_events : (old start mid new : BoardState) (first : Event) (second : ℕ → Event) → Appends [] old start → Appends (first ∷ []) start mid → generation (steps_of (first ∷ old.history)) ≡ generation (steps_of old.history)
-    → Appends (second (generation (steps_of mid.history)) ∷ []) mid new → Appends (second (generation (steps_of old.history)) ∷ first ∷ []) old new
-two_events old start mid new first second begun put same ended =
-    let h : mid.history ≡ first ∷ old.history = put.history ∙ ap (λ z. first ∷ z) begun.history in
-    record {
-      history = ended.history ∙ ap (λ z. second z ∷ mid.history) (ap (λ z. generation (steps_of z)) h ∙ same) ∙ ap (λ z. second (generation (steps_of old.history)) ∷ z) h;
-      limit = ended.limit ∙ put.limit ∙ begun.limit;
-      reserved = let one = begun.reserved in let two = put.reserved in let three = ended.reserved in omega (arith, one, two, three);
-      fault = ended.fault ∙ put.fault ∙ begun.fault;
-    }
 
 -- the first message is the one that was looked at
 pub sent_first : {G : Type 0} (messages : List (Carried G)) (first : Carried G) (to : ℕ) (h k : List Event) → Some first ≡ slice_get messages 0 → k ≡ h

@@ -1,15 +1,17 @@
 -- What nodes in a row add up to.
-use Rattle.std.proofs.Common.{◌≡◌, ℕ, ◌+◌, List, [], ◌∷◌, ◌++◌, length, map, refl, sym, ap, subst, ◌∙◌, arith}
+use Rattle.std.proofs.Common.{◌≡◌, List, [], ◌∷◌, ◌++◌, length, map, refl, sym, ap, subst, ◌∙◌, arith}
 use Rattle.std.specs.Prelude.{Some}
 use Rattle.std.specs.List.{All, flat_map}
-use Rattle.std.proofs.lemmas.List.{flat_map_more, get_or_append_left, length-append, map-append}
+use Rattle.std.proofs.lemmas.List.{flat_map_more, get_or-map, get_or_append_left, length-append, length-map, map-append}
 use Rattle.std.proofs.Math.Seq.{get_or-append_seam}
 use Rattle.std.proofs.lemmas.List.Elements.{All-append}
 use Rattle.tp_base.specs.declared.ids.TaskId.{TaskId}
 use Rattle.tp_graph.specs.Graphs.{TaskGraph}
 use Rattle.tp_graph.specs.Serial.{AreRight, Results}
 use Rattle.tp_graph.specs.Values.{value_of}
-use Rattle.tp_node.specs.Nodes.{NodeState}
+use Rattle.tp_board.specs.Numbers.{NodeNumbers}
+use Rattle.tp_ledgers.specs.Reopening.{begun_anew}
+use Rattle.tp_node.specs.Nodes.{NodeState, anew}
 use Rattle.tp_local.specs.Locals.{Numbers}
 
 -- what is made of each of some things, and of one more
@@ -18,7 +20,16 @@ pub mapped-more : {X Y : Type 0} (f : X → Y) (xs : List X) (x : X) (made new :
 mapped-more f xs x made new last before is pushed =
     pushed ∙ ap (λ y. made ++ y ∷ []) is ∙ ap (λ ys. ys ++ f x ∷ []) before ∙ sym (map-append f xs (x ∷ []))
 
+-- what holds of each image holds of each element
+pub All-of_map : {X Y : Type 0} (P : Y → Type 0) (f : X → Y) (xs : List X) → All P (map f xs) → All (λ x. P (f x)) xs
+All-of_map P f xs all = λ k d within. subst P (get_or-map f xs k d (f d) within) (all k (f d) (rw (length-map xs f) within))
+
 module _ {G : Type 0} where
+  -- the first shares of nodes are those of the nodes as the reopening leaves them
+  pub numbers_anew : (nodes : List (NodeState G)) → map begun_anew (map (λ (n : NodeState G). n.numbers) nodes) ≡ map (λ (n : NodeState G). n.numbers) (map anew nodes)
+  numbers_anew [] = refl
+  numbers_anew (n ∷ nodes) = ap (λ (ms : List NodeNumbers). begun_anew n.numbers ∷ ms) (numbers_anew nodes)
+
   abbrev pub results_of : NodeState G → List (TaskId × Numbers)
   results_of n = n.state.store.results
 

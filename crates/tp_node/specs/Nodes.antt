@@ -1,20 +1,18 @@
 -- What contracts see of a node, and how its calls change it.
-use Rattle.std.specs.Prelude.{ℕ, ℤ, ◌+◌, ◌-◌, ◌≡◌, ◌≢◌, ◌<◌, ◌≤◌, ◌==◌, List, [], ◌∷◌, Bool, true, IsTrue, Option, None, Some, length, is_some, MatchOption, if◌then◌else◌, slice_index_or, All, refl}
+use Rattle.std.specs.Prelude.{ℕ, ◌+◌, ◌-◌, ◌≡◌, ◌<◌, ◌≤◌, List, true, Option, None, Some, length, is_some, MatchOption, if◌then◌else◌, slice_index_or, All, refl}
 use Rattle.std.specs.Coded.{Coded, code_by, coded×, coded_ℕ, coded_ℤ, coded_list}
 use Rattle.tp_base.specs.History.{Event}
 use Rattle.tp_base.specs.declared.ids.TaskId.{TaskId}
-use Rattle.tp_base.specs.declared.ids.Inputs.{Inputs}
 use Rattle.tp_base.specs.declared.step.Step.{Step}
 use Rattle.tp_base.specs.declared.step.Step.TheVariants as steps
 use Rattle.tp_board.specs.Numbers.{NodeNumbers, ending, event, node_at, numbers_after, first_numbers}
-use Rattle.tp_graph.specs.Carried.{Carried, feed_at}
+use Rattle.tp_graph.specs.Carried.{Carried}
 use Rattle.tp_graph.specs.Graphs.{TaskGraph}
 use Rattle.tp_graph.specs.Values.{value_of}
 use Rattle.tp_graph.specs.declared.feed.Feed.{Feed}
 use Rattle.tp_local.specs.Actions.{Actions, without_opening, with_named, without_named, with_message, without_message, Brought}
 use Rattle.tp_local.specs.Locals.{LocalState, Numbers, first_state, pending, state_code}
 use Rattle.tp_wave.specs.Machine.{pending_at}
-use Rattle.tp_store.specs.Sound.{times_done}
 use Rattle.tp_store.specs.Content.{Task, Content, task_of, with_inserted, with_delivered, with_begun, with_done}
 
 -- A node has the graph that its pool works out, on so many nodes; its own state; and its shares' numbers, with its own

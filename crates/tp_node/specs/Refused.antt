@@ -1,9 +1,8 @@
 -- The checks of each call of a node, in their order.
-use Rattle.std.specs.Prelude.{ℕ, ◌+◌, ◌==◌, ◌&&◌, ◌||◌, List, [], ◌∷◌, Bool, not, is_some, is_none, slice_index_or, None}
+use Rattle.std.specs.Prelude.{ℕ, ◌==◌, ◌&&◌, ◌||◌, List, [], ◌∷◌, Bool, not, is_some, is_none, slice_index_or, None}
 use Rattle.std.specs.FinSet as set
 use Rattle.tp_base.specs.declared.ids.TaskId.{TaskId}
 use Rattle.tp_base.specs.declared.limits.TheConstants.{MAX_LIVE_TASKS}
-use Rattle.tp_base.specs.declared.refusal.Refusal.{Refusal}
 use Rattle.tp_base.specs.declared.refusal.Refusal.TheVariants.{TaskKnown, WrongLife, Inactive, ActionKnown, NoAction, SlotTaken, Stranger, StoreFull}
 use Rattle.tp_board.specs.States.{BoardState, full_check}
 use Rattle.tp_board.specs.Routes.{is_send_between}
@@ -13,7 +12,6 @@ use Rattle.tp_graph.specs.declared.feed.Feed.{Feed}
 use Rattle.tp_local.specs.Actions.{has_message}
 use Rattle.tp_local.specs.Locals.{LocalState, pending}
 use Rattle.tp_node.specs.Nodes.{NodeState}
-use Rattle.tp_local.specs.Locals.{Numbers}
 use Rattle.tp_node.specs.Wires.{WireState, generation_of}
 use Rattle.tp_store.specs.Content.{Content, task_of, is_running, has_begun, unfinished}
 use Rattle.tp_store.specs.Sound.{passes}

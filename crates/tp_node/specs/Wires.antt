@@ -1,6 +1,5 @@
 -- What contracts see of a wire: a link of messages with its share.
-use Rattle.std.specs.Prelude.{ℕ, ◌≡◌, ◌+◌, List, [], ◌∷◌, ◌++◌, length, All}
-use Rattle.tp_base.specs.declared.ids.MessageId.{MessageId}
+use Rattle.std.specs.Prelude.{ℕ, ◌≡◌, List, [], ◌∷◌, ◌++◌, length, All}
 use Rattle.tp_board.specs.Numbers.{LinkNumbers, node_at}
 use Rattle.tp_board.specs.States.{BoardState}
 use Rattle.tp_graph.specs.Carried.{Carried}

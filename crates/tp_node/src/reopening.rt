@@ -256,6 +256,7 @@ fn take_apart<G: Graph, K: Ledgers>(
 fn put_behind(results: &mut Vec<(TaskId, Value)>, more: Vec<(TaskId, Value)>)
     requires { vec_len results.old + vec_len more ≤ vec_capacity results.old }
     ensures items { results.new.items ≡ results.old.items ++ more.items }
+    ensures len { vec_len results.new ≡ vec_len results.old + vec_len more }
     ensures room { vec_capacity results.old ≤ vec_capacity results.new }
 {
     let mut more = more;

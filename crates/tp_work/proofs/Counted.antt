@@ -1,5 +1,5 @@
 -- Where each task has one of some things, and no other task has any, there are as many as tasks.
-use Rattle.std.proofs.Common.{◌≡◌, ◌∙◌, ◌+◌, ◌<◌, ◌≤◌, ◌==◌, ℕ, zero, suc, Bool, cond, List, [], ◌∷◌, length, refl, sym, ap, arith}
+use Rattle.std.proofs.Common.{◌≡◌, ◌∙◌, ◌+◌, ◌<◌, ◌≤◌, ◌==◌, ℕ, zero, suc, Bool, true, false, cond, Some, List, [], ◌∷◌, length, refl, sym, ap, arith}
 use Rattle.std.proofs.lemmas.Bool.Decides.{nat_tests}
 use Rattle.std.proofs.lemmas.List.Sums.{sum_by-cons}
 use Rattle.std.specs.List.{count_by}
@@ -8,7 +8,7 @@ use Rattle.tp_base.specs.declared.step.Step.{Step}
 use Rattle.tp_base.specs.declared.step.Step.TheVariants.{Insert, Begin, Done}
 use Rattle.tp_graph.specs.Serial.{Results}
 use Rattle.tp_wave.specs.Steps.{count, is_done}
-use Rattle.tp_work.specs.Lives.{LivesOnce, life, moment_of, moments}
+use Rattle.tp_work.specs.Lives.{LivesOnce, life, moments, with_moment}
 use Rattle.tp_work.specs.Outcomes.{HasEachOnce}
 
 abbrev bit : Bool → ℕ
@@ -88,16 +88,35 @@ length-done_in (_ ∷ past) = length-done_in past
 abbrev dones : List ℕ → ℕ
 dones ms = count_by (λ m. m == 2) ms
 
+-- A step at which task u has this moment, or another step of a life.
+one_more : (t u : ℕ) (past : List Step) → times_of (λ u. u) t (done_in past) ≡ dones (moments t past)
+    → times_of (λ u. u) t (u ∷ done_in past) ≡ dones (with_moment t (Some (u, 2)) (moments t past))
+one_more t u past before =
+    count-cons (λ v. v == t) u (done_in past)
+    ∙ elim (u == t) as (λ b. bit b + times_of (λ u. u) t (done_in past) ≡ dones (cond b (2 ∷ moments t past) (moments t past))) [
+      | true ↦ omega (arith, before, count-cons (λ m. m == 2) 2 (moments t past))
+      | false ↦ omega (arith, before)
+    ]
+
+no_more : (t u k : ℕ) (past : List Step) → k < 2 → dones (with_moment t (Some (u, k)) (moments t past)) ≡ dones (moments t past)
+no_more t u k past low =
+    let none : bit (k == 2) ≡ 0 = grind (arith, nat_tests) in
+    elim (u == t) as (λ b. dones (cond b (k ∷ moments t past) (moments t past)) ≡ dones (moments t past)) [
+      | true ↦ omega (arith, none, count-cons (λ m. m == 2) k (moments t past))
+      | false ↦ refl
+    ]
+
 done_moments : (t : ℕ) (steps : List Step) → times_of (λ u. u) t (done_in steps) ≡ dones (moments t steps)
 done_moments t [] = refl
-done_moments t (Done u ∷ past) = ?
-done_moments t (Insert i u k ∷ past) = ?
-done_moments t (Begin u ∷ past) = ?
+done_moments t (Done u ∷ past) = one_more t u.0 past (done_moments t past)
+done_moments t (Insert i u k ∷ past) = done_moments t past ∙ sym (no_more t u.0 0 past (omega arith))
+done_moments t (Begin u ∷ past) = done_moments t past ∙ sym (no_more t u.0 1 past (omega arith))
 done_moments t (_ ∷ past) = done_moments t past
 
 dones-life : (tasks t : ℕ) → dones (life tasks t) ≡ bit (nat_lt t tasks)
-dones-life tasks t = ?
+dones-life tasks t = elim (nat_lt t tasks) as (λ b. dones (cond b (2 ∷ 1 ∷ 0 ∷ []) []) ≡ bit b) [ true ↦ refl | false ↦ refl ]
 
+-- There are as many tasks done as tasks.
 pub count-done : (tasks : ℕ) (steps : List Step) → LivesOnce tasks steps → count is_done steps ≡ tasks
 count-done tasks steps lives =
     sym (length-done_in steps) ∙ length-each_once (λ u. u) tasks (done_in steps) (λ t. done_moments t steps ∙ ap dones (lives.each t) ∙ dones-life tasks t)

@@ -70,7 +70,7 @@ stages-first stages all t =
       | inr beyond ↦ ap first_moments (sym (get_or_past stages t 0 beyond))
     ]
 
-reverse-cons : {X : Type 0} (x : X) (xs : List X) → reverse (x ∷ xs) ≡ reverse xs ++ x ∷ []
+pub reverse-cons : {X : Type 0} (x : X) (xs : List X) → reverse (x ∷ xs) ≡ reverse xs ++ x ∷ []
 reverse-cons x xs = reverse-append (x ∷ []) xs
 
 pub sent-all : (h : History) (stages sent more : List ℕ) (messages : ℕ) → IsFollowed h stages sent messages → more ≡ sent ++ messages ∷ []

@@ -38,16 +38,13 @@ pub record IsSeries (n : ℕ) (g : TaskGraph) (rounds : ℕ) (s : Series) : Type
   pub each : AllZip (IsRound n g) (reverse (generations s.history.events)) s.rounds.items
 
 -- The end of the present generation was judged and told to each of n nodes, each task has one result, and each task lived
--- once in it.
-pub record IsPresentComplete (n tasks : ℕ) (r : Report) : Type 0 where
+-- once in it; and where it is the last of so many rounds, each task did so in every generation before it.
+pub record IsCompleteSoFar (n tasks rounds : ℕ) (r : Report) : Type 0 where
   pub ended : IsTrue r.ended
   pub announced : r.announced ≡ n
   pub each_once : HasEachOnce tasks r.results.items
   pub lives : LivesOnce tasks (steps_of (present_events r.history.events))
-
--- All generations are there, and in one of them not each task lived once.
-abbrev pub HasOneUneven : ℕ → ℕ → Report → Type 0
-HasOneUneven tasks rounds r = (length (generations r.history.events) ≡ rounds) × (LivesInEach tasks r.history.events → ⊥)
+  pub earlier : length (generations r.history.events) ≡ rounds → LivesInEach tasks r.history.events
 
 -- The end of some generation was judged: of the present one, or it is not the first.
 abbrev pub HasEnded : Report → Type 0
@@ -59,11 +56,11 @@ pub record IsAtLimit (rounds : ℕ) (r : Report) : Type 0 where
   pub wanted : length (generations r.history.events) < rounds
   pub full : length r.history.events ≡ MAX_STEPS
 
--- Why a pool in which no fault was set has no series of so many rounds: its present generation is not complete, or an earlier
--- one was not; or there was no memory to tell or to reopen it; or its history was full where it was to be reopened.
+-- Why a pool in which no fault was set has no series of so many rounds: it is not complete so far, or there was no memory to
+-- tell or to reopen it, or its history was full where it was to be reopened.
 abbrev pub IsSeriesLack : ℕ → ℕ → ℕ → Report → Refusal → Type 0
 IsSeriesLack n tasks rounds r e =
-    ((e ≡ Missing) × ((IsPresentComplete n tasks r → ⊥) ⊎ HasOneUneven tasks rounds r))
+    ((e ≡ Missing) × (IsCompleteSoFar n tasks rounds r → ⊥))
     ⊎ (((e ≡ NoMemory) × HasEnded r) ⊎ ((e ≡ HistoryFull MAX_STEPS) × IsAtLimit rounds r))
 
 -- Where a report was gathered and a fault was set, that is the refusal; a full history is told only where it is full. The

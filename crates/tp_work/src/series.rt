@@ -1,4 +1,4 @@
-ghost use Rattle.std.specs.Prelude.{◌≡◌, ◌≤◌, ◌<◌, ◌+◌, ◌*◌, ◌-◌, [], ℕ, length, map, reverse, slice_index, slice_index_or, vec_capacity, vec_len, IfErr, IfOk, IfSome, MatchOption, None, OnOk, Some};
+ghost use Rattle.std.specs.Prelude.{◌≡◌, ◌≤◌, ◌<◌, ◌+◌, ◌*◌, ◌-◌, [], ℕ, length, map, reverse, slice_index, slice_index_or, vec_capacity, vec_len, IfErr, IfOk, IfSome, IsTrue, MatchOption, None, OnOk, Some};
 ghost use Rattle.std.specs.List.{All};
 ghost use Rattle.tp_base.specs.declared.limits.TheConstants.{MAX_STEPS};
 ghost use Rattle.tp_graph.specs.Serial.{AreRight};
@@ -7,7 +7,7 @@ ghost use Rattle.tp_work.specs.Lives.{LivesInEach, generations, sent_in};
 ghost use Rattle.tp_work.specs.Outcomes.{HasEachOnce, IsAnswer, IsWithinLimits};
 ghost use Rattle.tp_work.specs.Places.{IsWhole};
 ghost use Rattle.tp_work.specs.Reports.{IsReport};
-ghost use Rattle.tp_work.specs.Series.{AddsKept, IsKept, IsPresentComplete, IsSeries, IsSeriesFault, IsSeriesLack, IsTold, with_messages};
+ghost use Rattle.tp_work.specs.Series.{AddsKept, IsKept, IsCompleteSoFar, IsSeries, IsSeriesFault, IsSeriesLack, IsTold, with_messages};
 ghost use Rattle.tp_work.specs.declared.series.Round.{Round};
 
 use crate::config::{Config, Fault};
@@ -292,18 +292,35 @@ fn stopped<G: Graph, K: Ledgers>(alloc: Global, graph: G, pool: Pool<G, K>) -> F
     ensures { (count : ℕ) → IsSeriesFault K.names.nodes (G.meaning graph) count result }
 {
     let nodes = pool.board.nodes();
-    let report = match report_of(alloc, &graph, pool) {
-        Ok(report) => report,
-        Err(refusal) => return ungathered(refusal),
-    };
-    let refusal = match report.fault {
-        Some(fault) => answer_to(fault, report.history.len()),
-        None if report.ended && report.announced == nodes => return ungathered(Refusal::Stranger),
-        None => Refusal::Missing,
-    };
-    Fault {
-        refusal,
-        report: Some(report),
+    match report_of(alloc, &graph, pool) {
+        Ok(report) => fault_of(nodes, graph, report),
+        Err(refusal) => ungathered(refusal),
+    }
+}
+
+/// The fault of a pool of so many nodes that is not reopened, of which this was gathered.
+fn fault_of<G: Graph>(nodes: u32, graph: G, report: Report) -> Fault
+    requires report { IsReport nodes (G.meaning graph) report }
+    ensures { (count : ℕ) → IsSeriesFault nodes (G.meaning graph) count result }
+{
+    let _graph = graph;
+    match reason_of(nodes, &report) {
+        Some(refusal) => Fault {
+            refusal,
+            report: Some(report),
+        },
+        None => ungathered(Refusal::Stranger),
+    }
+}
+
+/// Why a pool of so many nodes is not reopened, where its report tells.
+fn reason_of(nodes: u32, report: &Report) -> Option<Refusal>
+    ensures { IfSome result (λ e. (tasks count : ℕ) → MatchOption report.now.fault (IsSeriesLack nodes tasks count report.now e) (λ fault. IsAnswer (length report.now.history.events) fault e)) }
+{
+    match report.fault {
+        Some(fault) => Some(answer_to(fault, report.history.len())),
+        None if report.ended && report.announced == nodes => None,
+        None => Some(Refusal::Missing),
     }
 }
 
@@ -378,8 +395,8 @@ fn sent_of(
 ) -> Result<Vec<u32>, Refusal>
     requires few { length report.now.history.events ≤ MAX_STEPS }
     requires number { length (generations report.now.history.events) ≡ count }
-    ensures complete { OnOk result (IsPresentComplete nodes tasks report.now) }
-    ensures lives { OnOk result (LivesInEach tasks report.now.history.events) }
+    ensures ended { OnOk result (IsTrue report.now.ended) }
+    ensures once { OnOk result (HasEachOnce tasks report.now.results.items × LivesInEach tasks report.now.history.events) }
     ensures sent { IfOk result (λ sent. sent.items ≡ reverse (map sent_in (generations report.now.history.events))) }
     ensures refusal { IfErr result (λ e. MatchOption report.now.fault (IsSeriesLack nodes tasks count report.now e) (λ fault. IsAnswer (length report.now.history.events) fault e)) }
 {

@@ -1,4 +1,4 @@
-use Rattle.std.proofs.Common.{◌≡◌, ◌≤◌, ◌<◌, ap, ◌∙◌, refl, arith}
+use Rattle.std.proofs.Common.{◌≤◌, ◌<◌, ap, ◌∙◌, refl, arith}
 use Rattle.tp_wave.specs.Generations.{generation, present, present_events}
 use Rattle.tp_wave.specs.Steps.{count}
 use Rattle.tp_wave.specs.Machine.{steps_of}

@@ -1,4 +1,4 @@
-use Rattle.std.proofs.Common.{arith, ap, sym, ◌≡◌, ◌∙◌}
+use Rattle.std.proofs.Common.{arith, ap, sym, ◌∙◌}
 use Rattle.tp_local.proofs.local.Local.reopen.Goals as goal
 use Rattle.tp_local.specs.Locals.{Numbers}
 use Rattle.tp_store.proofs.Changes.{none_live}

@@ -1,4 +1,4 @@
-use Rattle.std.proofs.Common.{◌≡◌, ap, sym, subst, ◌∙◌, arith, rules}
+use Rattle.std.proofs.Common.{◌≡◌, ap, subst, ◌∙◌, arith, rules}
 use Rattle.tp_node.specs.Nodes.{NodeState}
 use Rattle.tp_local.specs.Locals.{EachOnce}
 use Rattle.tp_local.proofs.Idle.{each_once}
