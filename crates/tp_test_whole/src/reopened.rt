@@ -64,7 +64,7 @@ const NOTHING: Told = Told {
     after: None,
 };
 
-fn last_of(results: &[(TaskId, Value)]) -> Option<i64> {
+pub(crate) fn last_of(results: &[(TaskId, Value)]) -> Option<i64> {
     match results.iter().find(|made| made.0 == TaskId(6)) {
         Some((_, value)) => value.lone().ok(),
         None => None,
