@@ -51,9 +51,9 @@ module _ (old new : List Round) (sent : List ℕ) (many : length new ≡ length 
     (told : (k : ℕ) (r : Round) → k < length old → get_or new k r ≡ with_messages (get_or sent k 0) (get_or old k r)) where
   pub kept-told : (g : TaskGraph) → All (IsKept g) old → All (IsKept g) new
   kept-told g all = λ k d within.
-    let inside : k < length old = omega (arith, within, many) in
-    let was = all k d inside in
-    subst (IsKept g) (sym (told k d inside)) (record { each_once = was.each_once; right = was.right; tasks = was.tasks })
+      let inside : k < length old = omega (arith, within, many) in
+      let was = all k d inside in
+      subst (IsKept g) (sym (told k d inside)) (record { each_once = was.each_once; right = was.right; tasks = was.tasks })
 
   pub messages-told : length old ≡ length sent → map (λ (r : Round). r.messages) new ≡ sent
   messages-told long = same_lists (map (λ (r : Round). r.messages) new) sent (length-map new (λ (r : Round). r.messages) ∙ many ∙ long) (λ k d within.
@@ -75,15 +75,17 @@ rounds-beside n g [] (r ∷ rs) well kept same = cc
 rounds-beside n g (h ∷ hs) [] well kept same = cc
 rounds-beside n g (h ∷ hs) (r ∷ rs) well kept same =
     let one = All-head (IsWell n g.tasks) h hs well in
-    let own = All-head (IsKept g) r rs kept in
-    (record {
-      ended = one.ended;
-      lives = one.lives;
-      each_once = own.each_once;
-      right = own.right;
-      tasks = (own.tasks ∙ sym (length-once g.tasks r.results.items own.each_once) ∙ sym r.results.ok.0, own.tasks ∙ sym (count-done g.tasks (steps_of h) one.lives));
-      messages = cc;
-    }, rounds-beside n g hs rs (All-tail (IsWell n g.tasks) h hs well) (All-tail (IsKept g) r rs kept) (cc))
+    let own = All-head (IsKept g) r rs kept in (
+      record {
+        ended = one.ended;
+        lives = one.lives;
+        each_once = own.each_once;
+        right = own.right;
+        tasks = (own.tasks ∙ sym (length-once g.tasks r.results.items own.each_once) ∙ sym r.results.ok.0, own.tasks ∙ sym (count-done g.tasks (steps_of h) one.lives));
+        messages = cc;
+      },
+      rounds-beside n g hs rs (All-tail (IsWell n g.tasks) h hs well) (All-tail (IsKept g) r rs kept) (cc),
+    )
 
 all_well : (n tasks : ℕ) (h : History) → AreRuns n h → IsTrue (is_ended n (present (steps_of h))) → LivesInEach tasks h → All (IsWell n tasks) (generations h)
 all_well n tasks h runs ended lives =
@@ -115,10 +117,11 @@ is_fault-with : (n : ℕ) (g : TaskGraph) (count : ℕ) (report : Option Report)
     → ((r : Report) → IsReport n g r → r.history.events ≡ h → IsSeriesLack n g.tasks count r refusal)
     → MatchOption report (IsUngathered own) (λ r. IsReport n g r × MatchOption r.fault (IsSeriesLack n g.tasks count r own) (λ e. IsAnswer (length r.history.events) e own))
 is_fault-with n g count None own refusal fault h told none lacks = inl told
-is_fault-with n g count (Some r) own refusal fault h told none lacks =
-    (told.1,
-     subst (λ (o : Option Refusal). MatchOption o (IsSeriesLack n g.tasks count r own) (λ e. IsAnswer (length r.history.events) e own)) (sym (told.2 ∙ none))
-     (subst (IsSeriesLack n g.tasks count r) (sym told.0) (lacks r told.1 told.3)))
+is_fault-with n g count (Some r) own refusal fault h told none lacks = (
+  told.1,
+  subst (λ (o : Option Refusal). MatchOption o (IsSeriesLack n g.tasks count r own) (λ e. IsAnswer (length r.history.events) e own)) (sym (told.2 ∙ none))
+      (subst (IsSeriesLack n g.tasks count r) (sym told.0) (lacks r told.1 told.3)),
+)
 
 -- The fault of a pool that stops for a refusal, where no fault was set and this is what it lacks.
 pub is_fault : (n : ℕ) (g : TaskGraph) (count : ℕ) (f : Fault) (refusal : Refusal) (fault : Option Refusal) (h : History) → IsTold n g refusal fault h f → fault ≡ None
@@ -156,8 +159,10 @@ pub lack_of_refusal : (n tasks count : ℕ) (r : Report) (b : BoardState) (refus
 lack_of_refusal n tasks count r b refusal ended few events limit wanted (inl memory) = inr (inl (memory, inl ended))
 lack_of_refusal n tasks count r b refusal ended few events limit wanted (inr full) =
     let all : length r.history.events ≡ MAX_STEPS = omega (arith, few, ap length events, limit, full.1) in
-    inr (inr (full.0 ∙ ap HistoryFull (ap length (sym events) ∙ all),
-      record { ended = ended; wanted = subst (λ (h : History). length (generations h) < count) (sym events) wanted; full = all }))
+    inr (inr (
+      full.0 ∙ ap HistoryFull (ap length (sym events) ∙ all),
+      record { ended = ended; wanted = subst (λ (h : History). length (generations h) < count) (sym events) wanted; full = all },
+    ))
 
 -- The fault of a pool that was to be reopened for another round, where it and what came back are the same.
 pub not_reopened : (n : ℕ) (g : TaskGraph) (count : ℕ) (f : Fault) (refusal : Refusal) (b back : BoardState) → IsTold n g refusal back.fault back.history f → back ≡ b → b.fault ≡ None → b.limit ≡ MAX_STEPS
@@ -166,8 +171,8 @@ pub not_reopened : (n : ℕ) (g : TaskGraph) (count : ℕ) (f : Fault) (refusal 
 not_reopened n g count f refusal b back told same none limit ended wanted why =
     is_fault n g count f refusal b.fault b.history (subst (λ (s : BoardState). IsTold n g refusal s.fault s.history f) same told) none
     (λ r report events.
-      let own : IsTrue r.ended = sym (report.of_run.ended ∙ ap (λ (h : History). is_ended n (present (steps_of h))) events) ∙ ended in
-      lack_of_refusal n g.tasks count r b refusal own report.of_run.few events limit wanted why)
+    let own : IsTrue r.ended = report.of_run.ended ∙ ap (λ (h : History). is_ended n (present (steps_of h))) events ∙ ended in
+    lack_of_refusal n g.tasks count r b refusal own report.of_run.few events limit wanted why)
 
 -- ---- a pool that was reopened
 module _ {G : Type 0} where

@@ -121,9 +121,10 @@ alive_past n e past is =
       | inr on ↦ record {
         present =
             λ t.
-            let now : (newer : List ℕ) × (newer ++ moments t (steps_of (e ∷ present_events past)) ≡ life n t) = rw (present-goes_on e past on) at (is.present t) in
-            (now.0 ++ with_moment t (moment_of e.1) [],
-             append_assoc now.0 (with_moment t (moment_of e.1) []) (moments t (steps_of (present_events past))) ∙ ap (λ (ms : List ℕ). now.0 ++ ms) (sym (with_moment-append t (moment_of e.1) [] (moments t (steps_of (present_events past))))) ∙ now.1);
+            let now : (newer : List ℕ) × (newer ++ moments t (steps_of (e ∷ present_events past)) ≡ life n t) = rw (present-goes_on e past on) at (is.present t) in (
+              now.0 ++ with_moment t (moment_of e.1) [],
+              append_assoc now.0 (with_moment t (moment_of e.1) []) (moments t (steps_of (present_events past))) ∙ ap (λ (ms : List ℕ). now.0 ++ ms) (sym (with_moment-append t (moment_of e.1) [] (moments t (steps_of (present_events past))))) ∙ now.1,
+            );
         ended = rw (ended-goes_on e past on) at is.ended;
       }
     ]
@@ -151,7 +152,8 @@ no_life-on later past e stages new sent messages answer on followed is_no told a
 pub stages-tell-all : (h : History) (stages sent : List ℕ) (messages n : ℕ) (answer : Bool) → IsFollowed h stages sent messages → length stages ≡ n
     → (IsTrue answer ↔ All (λ k. k ≡ 3) stages) → (IsTrue answer ↔ LivesInEach n h)
 stages-tell-all h stages sent messages n answer followed long told =
-    subst (λ (k : ℕ). IsTrue answer ↔ LivesInEach k h) long
-    ((λ is_yes. All-cons (λ g. LivesOnce (length stages) (steps_of g)) (present_events h) (ended_generations h)
-      (lives_if_over (steps_of (present_events h)) stages followed.present (one_present h) (told.0 is_yes)) followed.ended),
-     (λ all. told.1 (over_if_lives (steps_of (present_events h)) stages followed.present (All-head (λ g. LivesOnce (length stages) (steps_of g)) (present_events h) (ended_generations h) all))))
+    subst (λ (k : ℕ). IsTrue answer ↔ LivesInEach k h) long (
+      (λ is_yes. All-cons (λ g. LivesOnce (length stages) (steps_of g)) (present_events h) (ended_generations h)
+          (lives_if_over (steps_of (present_events h)) stages followed.present (one_present h) (told.0 is_yes)) followed.ended),
+      (λ all. told.1 (over_if_lives (steps_of (present_events h)) stages followed.present (All-head (λ g. LivesOnce (length stages) (steps_of g)) (present_events h) (ended_generations h) all))),
+    )

@@ -158,10 +158,7 @@ impl<G: Graph, K: Ledgers> Locks<G, K> {
 
     /// Takes the parts out of their locks, into the room that was made for them, and the token of the end, where it lies
     /// there.
-    pub fn into_pool(
-        self,
-        room: Room<Node<G, K>, Wire<G, K>>,
-    ) -> (Pool<G, K>, Option<Ended<K>>)
+    pub fn into_pool(self, room: Room<Node<G, K>, Wire<G, K>>) -> (Pool<G, K>, Option<Ended<K>>)
         requires nodes { (room.nodes.items ≡ []) × (vec_len self.sites ≤ vec_capacity room.nodes) }
         requires links { (room.links.items ≡ []) × (vec_len self.lines ≤ vec_capacity room.links) }
         ensures nodes { vec_len result.0.nodes ≡ vec_len self.sites }

@@ -40,28 +40,14 @@ pub fn run_pool<G: Graph, A: Gate, R: Threads + Wait + Sync>(
 }
 
 /// Runs a pool over the one graph that `D` names, so that no two parts of it have to be compared.
-fn run_only<G: Graph, D: Named<G> + Send + Sync, A: Gate, R: Threads + Wait + Sync>(
-    rt: &R,
+fn run_only<'a, G: Graph, D: Named<G> + Send + Sync, A: Gate, R: Threads + Wait + Sync>(
+    rt: &'a R,
     alloc: Global,
     graph: G,
     config: Config,
-    gate: &A,
+    gate: &'a A,
 ) -> Result<Outcome, Fault>
     requires it { D.it ≡ Some graph }
-    requires limits { IsWithinLimits config }
-    ensures outcome { IfOk result (IsOutcome config.nodes (G.meaning graph)) }
-    ensures fault { IfErr result (IsFault config.nodes (G.meaning graph)) }
-{
-    run_compared(rt, alloc, Only::<G, D>::new(graph), config, gate)
-}
-
-fn run_compared<G: Comparable, A: Gate, R: Threads + Wait + Sync>(
-    rt: &R,
-    alloc: Global,
-    graph: G,
-    config: Config,
-    gate: &A,
-) -> Result<Outcome, Fault>
     requires limits { IsWithinLimits config }
     ensures outcome { IfOk result (IsOutcome config.nodes (G.meaning graph)) }
     ensures fault { IfErr result (IsFault config.nodes (G.meaning graph)) }
@@ -69,11 +55,12 @@ fn run_compared<G: Comparable, A: Gate, R: Threads + Wait + Sync>(
     let runner = Runner {
         rt,
         alloc,
-        graph,
+        graph: Only::<G, D>::new(graph),
         config,
         gate,
     };
-    let report = match run::<G, Brand, A, R>(&runner, Blanks::new(config.nodes)) {
+    let blanks = Blanks::new(config.nodes);
+    let report = match run::<Only<G, D>, Brand, A, R>(&runner, blanks) {
         Ok(report) => report,
         Err(refusal) => {
             return Err(Fault {

@@ -69,12 +69,12 @@ pub fn run_generations<G: Graph, A: Gate, R: Threads + Wait + Sync>(
 }
 
 /// Runs a series over the one graph that `D` names, so that no two parts of its pool have to be compared.
-fn run_only<G: Graph, D: Named<G> + Send + Sync, A: Gate, R: Threads + Wait + Sync>(
-    rt: &R,
+fn run_only<'a, G: Graph, D: Named<G> + Send + Sync, A: Gate, R: Threads + Wait + Sync>(
+    rt: &'a R,
     alloc: Global,
     graph: G,
     config: Config,
-    gate: &A,
+    gate: &'a A,
     count: u32,
 ) -> Result<Series, Fault>
     requires it { D.it ≡ Some graph }
@@ -90,28 +90,13 @@ fn run_only<G: Graph, D: Named<G> + Send + Sync, A: Gate, R: Threads + Wait + Sy
         config,
         gate,
     };
-    run::<Only<G, D>, Brand, A, R>(&runner, Blanks::new(config.nodes), count)
-}
-
-/// Runs a series with the ledgers that `K` names.
-fn run<G: Comparable, K: Ledgers + Send + Sync, A: Gate, R: Threads + Wait + Sync>(
-    runner: &Runner<'_, G, A, R>,
-    blanks: Blanks,
-    count: u32,
-) -> Result<Series, Fault>
-    requires names { blanks ≡ K.names }
-    requires nodes { blanks.nodes ≡ runner.now.config.nodes }
-    requires limits { IsWithinLimits runner.now.config }
-    requires count { 1 ≤ count }
-    ensures series { IfOk result (IsSeries runner.now.config.nodes (G.meaning runner.now.graph) count) }
-    ensures fault { IfErr result (IsSeriesFault runner.now.config.nodes (G.meaning runner.now.graph) count) }
-{
-    let mut rounds = match Vec::with_capacity(runner.alloc, count as usize) {
+    let mut rounds = match Vec::with_capacity(alloc, count as usize) {
         Ok(rounds) => rounds,
         Err(_) => return Err(ungathered(Refusal::NoMemory)),
     };
-    let report = run_all::<G, K, A, R>(runner, blanks, count, &mut rounds)?;
-    series_of(runner.alloc, runner.config.nodes, runner.graph, report, rounds)
+    let blanks = Blanks::new(config.nodes);
+    let report = run_all::<Only<G, D>, Brand, A, R>(&runner, blanks, count, &mut rounds)?;
+    series_of(alloc, config.nodes, graph, report, rounds)
 }
 
 /// Opens a pool, runs all its generations, keeps the rounds of all but the last, and gathers the pool.
@@ -216,9 +201,7 @@ fn next_generation<G: Graph, K: Ledgers>(
     ensures fault { IfErr result (λ f. (count : ℕ) → length (generations pool.board.history) < count → IsSeriesFault K.names.nodes (G.meaning graph) count f) }
 {
     match token {
-        Some(ended) if pool.board.fault().is_none() => {
-            reopen(alloc, graph, pool, ended, rounds)
-        }
+        Some(ended) if pool.board.fault().is_none() => { reopen(alloc, graph, pool, ended, rounds) }
         _ => Err(stopped(alloc, graph, pool)),
     }
 }

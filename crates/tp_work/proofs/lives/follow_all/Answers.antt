@@ -21,19 +21,28 @@ follow_on-requires-clause-room c =
     let past = oldest c.loop-place.place h in
     let ended = ended-before h c.loop-place.place (c.in-Some.field-0-0, c.in-Some.step) (search rules) (sym c.at.ensures ∙ c.in-Some.is) reopens in
     let long : vec_len c.loop-place.sent ≡ length c.loop-place.sent.items = search rules in
-    omega (arith, long, ap length c.loop-place.invariant.followed.sent_before, length-reverse (map sent_in (ended_generations past)), length-map (ended_generations past) sent_in,
-      ended, c.loop-place.invariant.room, c.requires.room.1)
+    omega (
+      arith,
+      long,
+      ap length c.loop-place.invariant.followed.sent_before,
+      length-reverse (map sent_in (ended_generations past)),
+      length-map (ended_generations past) sent_in,
+      ended,
+      c.loop-place.invariant.room,
+      c.requires.room.1,
+    )
 
 pub returns-then-not-follow_on-clause-lives : goal.returns-then-not-follow_on-clause-lives
-returns-then-not-follow_on-clause-lives c =
-    (λ is. cc,
-     λ all.
-     let h = c.args.history.now.events in
-     let event : Event = (c.in-Some.field-0-0, c.in-Some.step) in
-     let split = through h c.loop-place.place event (search rules) (sym c.at.ensures ∙ c.in-Some.is) in
-     let same = subst (λ (n : ℕ). LivesInEach n h) (sym c.loop-place.auto.stages) all in
-     absurd (c.follow_on.ensures.no c.if-not-follow_on.true (take (length h - (c.loop-place.place + 1)) h) (oldest c.loop-place.place h) event refl c.loop-place.invariant.followed
-     (subst (LivesInEach (length c.loop-place.stages)) split same)))
+returns-then-not-follow_on-clause-lives c = (
+  λ is. cc,
+  λ all.
+      let h = c.args.history.now.events in
+      let event : Event = (c.in-Some.field-0-0, c.in-Some.step) in
+      let split = through h c.loop-place.place event (search rules) (sym c.at.ensures ∙ c.in-Some.is) in
+      let same = subst (λ (n : ℕ). LivesInEach n h) (sym c.loop-place.auto.stages) all in
+      absurd (c.follow_on.ensures.no c.if-not-follow_on.true (take (length h - (c.loop-place.place + 1)) h) (oldest c.loop-place.place h) event refl c.loop-place.invariant.followed
+      (subst (LivesInEach (length c.loop-place.stages)) split same)),
+)
 
 pub loop-place-preserved : goal.loop-place-preserved
 loop-place-preserved c =
