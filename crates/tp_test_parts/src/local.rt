@@ -88,9 +88,11 @@ fn reopened(alloc: Global, local: &mut Local) -> Option<i64> {
         return None;
     }
     let results = local.reopen(alloc);
-    match results.as_slice() {
-        [(TaskId(1), value)] => value.lone().ok(),
-        _ => None,
+    let (task, value) = results.first()?;
+    if results.len() == 1 && *task == TaskId(1) {
+        value.lone().ok()
+    } else {
+        None
     }
 }
 
