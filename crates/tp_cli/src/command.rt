@@ -70,17 +70,18 @@ fn spec_argument<'a>(alloc: Global) -> Arg<'a>
     ensures rule { rule_of result ≡ spec_rule }
     ensures local { result.global ≡ false }
 {
-    Arg::new(alloc, "SPEC")
-        .required(true)
-        .help("The pool, as product:4:2:0, wavefront:8:8:0 or reduce:16:0")
+    Arg::new(alloc, "SPEC").required(true).help(
+        "The pool, as product:4:2:0, wavefront:8:8:0 or reduce:16:0",
+    )
 }
 
 fn generations_option<'a>(alloc: Global) -> Arg<'a>
     ensures rule { rule_of result ≡ count_rule (codes "generations") MAX_GENERATIONS }
     ensures local { result.global ≡ false }
 {
-    count_option(alloc, "generations", "1-9", MAX_GENERATIONS)
-        .help("K, how often the pool is run: it is reopened after each end but the last")
+    count_option(alloc, "generations", "1-9", MAX_GENERATIONS).help(
+        "K, how often the pool is run: it is reopened after each end but the last",
+    )
 }
 
 fn trace_flag<'a>(alloc: Global) -> Arg<'a>
@@ -114,7 +115,9 @@ fn with_counts<'a>(alloc: Global, command: Command<'a>) -> Result<Command<'a>, A
     ensures local { (out-Command command.entry).has_globals ≡ false → IfOk result (λ counted. (out-Command counted).has_globals ≡ false) }
 {
     let nodes = count_option(alloc, "nodes", "1-8", MAX_NODES).help("N, how many nodes there are");
-    let workers = count_option(alloc, "workers", "1-8", MAX_WORKERS).help("W, how many threads work at each node");
+    let workers = count_option(alloc, "workers", "1-8", MAX_WORKERS).help(
+        "W, how many threads work at each node",
+    );
     command.arg(nodes)?.arg(workers)
 }
 

@@ -52,11 +52,7 @@ fn text_of_series(
 }
 
 /// The rounds in their order, each under the number of its generation.
-fn text_of_rounds(
-    alloc: Global,
-    graph: AnyGraph,
-    rounds: &[Round],
-) -> Result<Vec<u8>, Refusal>
+fn text_of_rounds(alloc: Global, graph: AnyGraph, rounds: &[Round]) -> Result<Vec<u8>, Refusal>
     requires made { All (IsRoundOf graph) rounds.now }
     ensures text { IfOk result (λ text. text.items ≡ rounds_text graph 1 rounds.now) }
     ensures none { IfErr result (IsUntoldRound graph rounds.now) }
@@ -80,13 +76,7 @@ fn push_round(
     ensures text { OnOk result (text.new.items ≡ text.old.items ++ round_text graph generation round.now) }
     ensures none { IfErr result (IsUntold graph round.now.results.items) }
 {
-    let told = text_of_results(
-        alloc,
-        graph,
-        &round.results,
-        round.tasks,
-        round.messages,
-    )?;
+    let told = text_of_results(alloc, graph, &round.results, round.tasks, round.messages)?;
     let head = format!(in alloc; "generation {generation}\n")?;
     text.extend_from_slice(head.as_bytes())?;
     text.extend_from_slice(&told)?;

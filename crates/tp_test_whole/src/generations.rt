@@ -80,7 +80,11 @@ fn each_of_nine_rounds_is_the_plain_one(rt: HostRuntime) -> Result<(), Fail> {
     for (word, _) in POOLS {
         let graph = checked(word)?;
         let plain = serial(rt.alloc(), graph)?;
-        assert_eq!(rt; nine_of(&rt, rt.alloc(), graph, &plain), Ok((9, true, true)), "{word}");
+        assert_eq!(rt;
+            nine_of(&rt, rt.alloc(), graph, &plain),
+            Ok((9, true, true)),
+            "{word}"
+        );
     }
     Ok(())
 }

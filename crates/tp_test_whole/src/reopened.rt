@@ -172,10 +172,7 @@ fn replayed_by<K: Ledgers, R: Eprint, P: Play>(
     summed_up(alloc, pool)
 }
 
-fn summed_up<K: Ledgers>(
-    alloc: Global,
-    pool: Pool<Reduce, K>,
-) -> Result<(Summary, u32), Refusal>
+fn summed_up<K: Ledgers>(alloc: Global, pool: Pool<Reduce, K>) -> Result<(Summary, u32), Refusal>
     requires { K.names.nodes ≡ 2 }
 {
     if pool.nodes.len() != 2 || pool.links.len() != 2 {
@@ -195,8 +192,14 @@ fn replayed<R: Eprint, P: Play>(
     requires { limit ≤ 1048576 }
 {
     let mut told = NOTHING;
-    let (made, announced) =
-        replayed_by::<Brand, R, P>(rt, alloc, Blanks::new(2), limit, &mut told, play)?;
+    let (made, announced) = replayed_by::<Brand, R, P>(
+        rt,
+        alloc,
+        Blanks::new(2),
+        limit,
+        &mut told,
+        play,
+    )?;
     Ok((told, made, announced))
 }
 
@@ -325,7 +328,10 @@ fn a_message_of_the_generation_before_stays_where_it_is(rt: HostRuntime) -> Resu
         return Err(Fail::new("it did not come"));
     };
     let stand = (2, 0, 0, 1, EVENTS + 10);
-    assert_eq!(rt; (told.after, met.answer), (Some(ANEW), Err(Refusal::Stranger)));
+    assert_eq!(rt;
+        (told.after, met.answer),
+        (Some(ANEW), Err(Refusal::Stranger))
+    );
     assert_eq!(rt; (met.before, met.after), (stand, stand));
     assert_eq!(rt; (met.first, met.received), ((TREE, 0), true));
     Ok(())
