@@ -80,7 +80,6 @@ fn room_for<G: Graph, K: Ledgers>(
     nodes: &Vec<Node<G, K>>,
     board: &mut Board<K>,
 ) -> Result<ReopeningRoom<G, K>, Refusal>
-    requires nodes { vec_len nodes.now ≡ K.names.nodes }
     ensures fresh { IfOk result (λ r. HasRoom K.names.nodes r.fresh) }
     ensures shares { IfOk result (λ r. (r.shares.items ≡ []) × (K.names.nodes ≤ vec_capacity r.shares)) }
     ensures bare { IfOk result (λ r. (r.bare.items ≡ []) × (K.names.nodes ≤ vec_capacity r.bare)) }
