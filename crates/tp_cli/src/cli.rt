@@ -32,6 +32,9 @@ use tp_work::Config;
 /// `out` and its complaints to `err`, and answers the exit status: 0 where it is done, or help or the version was asked
 /// for, 1 for a fault of the command line, a word that names no pool, the reading or the writing, 2 for a text that is
 /// refused, 3 for a run that was refused or want of memory.
+///
+/// A pool runs in one generation, or in as many as `--generations` says, 1 to 9: it is reopened after each end but the last.
+/// Its first generation that is refused is its refusal, and nothing is written of those before.
 pub fn main_with<R: Threads + Wait + Sync, I: Read, O: Write, E: Write>(
     rt: &R,
     alloc: Global,

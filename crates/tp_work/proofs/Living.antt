@@ -1,6 +1,6 @@
 -- The stages that events lead tasks to.
-use Rattle.std.proofs.Common.{◌≡◌, ◌||◌, ℕ, zero, suc, ◌+◌, ◌-◌, ◌<◌, ◌↔◌, List, [], ◌∷◌, ◌++◌, length, reverse, Bool, true, false, Option, Some, None, IsTrue, IsFalse, MatchOption, slice_set, slice_get}
-use Rattle.std.proofs.Common.{slice_index_or, refl, sym, ap, subst, ◌∙◌, inl, inr, arith, length-append, nat_lt, if◌then◌else◌, get_or, drop, take}
+use Rattle.std.proofs.Common.{◌≡◌, ℕ, zero, suc, ◌+◌, ◌-◌, ◌<◌, ◌↔◌, List, [], ◌∷◌, ◌++◌, length, reverse, Bool, true, false, Option, Some, None, IsTrue, IsFalse, MatchOption, slice_set, slice_get}
+use Rattle.std.proofs.Common.{slice_index_or, refl, sym, ap, subst, ◌∙◌, inl, inr, arith, length-append, get_or, drop, take}
 use Rattle.std.specs.List.{All}
 use Rattle.std.proofs.Math.Seq.{drop-cons}
 use Rattle.std.proofs.lemmas.Bool.{cases_Bool, cases_eq, cases_lt, eq-eqb, ne_eqb}

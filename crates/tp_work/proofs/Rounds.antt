@@ -10,14 +10,14 @@ use Rattle.std.proofs.lemmas.Simd.{map-map}
 use Rattle.std.proofs.lemmas.List.Elements.{All-cons, All-head, All-map, All-nil, All-push, All-tail}
 use Rattle.tp_base.specs.declared.limits.TheConstants.{MAX_STEPS}
 use Rattle.tp_base.specs.declared.refusal.Refusal.{Refusal}
-use Rattle.tp_base.specs.declared.refusal.Refusal.TheVariants.{HistoryFull, Missing, NoMemory}
+use Rattle.tp_base.specs.declared.refusal.Refusal.TheVariants.{HistoryFull, NoMemory}
 use Rattle.tp_board.specs.States.{BoardState, full_check}
 use Rattle.tp_graph.specs.Graphs.{TaskGraph}
 use Rattle.tp_node.specs.Calls.{AnswersWithBoth}
 use Rattle.tp_node.specs.Nodes.{NodeState, anew}
 use Rattle.tp_node.specs.Wires.{WireState}
 use Rattle.tp_wave.proofs.Generations.{ended_generations_law, steps-present}
-use Rattle.tp_wave.specs.Generations.{AreRuns, IsEndedRun, ended_generations, present, present_events}
+use Rattle.tp_wave.specs.Generations.{AreRuns, ended_generations, present, present_events}
 use Rattle.tp_wave.specs.Machine.{History, steps_of}
 use Rattle.tp_wave.specs.Sums.{is_ended}
 use Rattle.tp_work.proofs.Counted.{count-done, length-once}
@@ -26,7 +26,7 @@ use Rattle.tp_work.specs.Lives.{LivesInEach, LivesOnce, generations, sent_in}
 use Rattle.tp_work.specs.Outcomes.{IsAnswer, IsUngathered}
 use Rattle.tp_work.specs.Places.{IsWhole}
 use Rattle.tp_work.specs.Reports.{IsReport}
-use Rattle.tp_work.specs.Series.{IsAtLimit, IsKept, IsCompleteSoFar, IsRound, IsSeries, IsSeriesFault, IsSeriesLack, IsTold, with_messages}
+use Rattle.tp_work.specs.Series.{IsKept, IsRound, IsSeries, IsSeriesFault, IsSeriesLack, IsTold, with_messages}
 use Rattle.tp_work.specs.declared.config.Fault.{Fault}
 use Rattle.tp_work.specs.declared.gathered.Report.{Report}
 use Rattle.tp_work.specs.declared.series.Round.{Round}

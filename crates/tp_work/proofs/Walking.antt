@@ -1,5 +1,5 @@
 -- Lives that are followed through all generations.
-use Rattle.std.proofs.Common.{◌≡◌, ◌||◌, ℕ, suc, ◌+◌, ◌-◌, ◌<◌, ◌≤◌, ◌↔◌, List, [], ◌∷◌, ◌++◌, append_assoc, length, map, reverse, Bool, true, false, cond, IsTrue, IsFalse}
+use Rattle.std.proofs.Common.{◌≡◌, ℕ, ◌+◌, ◌-◌, ◌<◌, ◌≤◌, ◌↔◌, List, [], ◌∷◌, ◌++◌, append_assoc, length, map, reverse, Bool, true, false, cond, IsTrue, IsFalse}
 use Rattle.std.proofs.Common.{refl, sym, ap, subst, ◌∙◌, inl, inr, arith, take, Some, slice_get}
 use Rattle.std.specs.List.{All}
 use Rattle.std.proofs.lemmas.Bool.{cases_Bool, cases_lt}
@@ -17,7 +17,7 @@ use Rattle.tp_wave.specs.Steps.{any, count, is_reopen, is_send}
 use Rattle.tp_wave.proofs.Generations.{length-present, present-goes_on, present-reopened}
 use Rattle.tp_wave.proofs.Given.{count-le}
 use Rattle.tp_wave.proofs.Positions.{length-steps_of}
-use Rattle.tp_work.specs.Lives.{AreStages, IsFollowed, LivesInEach, LivesOnce, first_moments, generations, life, moment_of, moments, sent_in, stage, with_moment}
+use Rattle.tp_work.specs.Lives.{AreStages, IsFollowed, LivesInEach, LivesOnce, first_moments, generations, life, moment_of, moments, sent_in, with_moment}
 use Rattle.tp_work.proofs.Living.{Told, lives_if_over, no_life_on, oldest, over_if_lives, stages-next, through, with_moment-append}
 
 -- ---- generations

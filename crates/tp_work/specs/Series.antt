@@ -1,5 +1,5 @@
 -- A series: the generations of a pool that is reopened and run again.
-use Rattle.std.specs.Prelude.{ℕ, ◌+◌, ◌≡◌, ◌<◌, ◌⊎◌, List, Option, None, IsTrue, MatchOption, length, reverse, vec_len}
+use Rattle.std.specs.Prelude.{ℕ, ◌+◌, ◌≡◌, ◌<◌, ◌⊎◌, List, Option, IsTrue, MatchOption, length, reverse, vec_len}
 use Rattle.std.specs.List.{All, AllZip}
 use Rattle.tp_base.specs.declared.limits.TheConstants.{MAX_STEPS}
 use Rattle.tp_base.specs.declared.refusal.Refusal.{Refusal}

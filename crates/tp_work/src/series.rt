@@ -7,7 +7,7 @@ ghost use Rattle.tp_work.specs.Lives.{LivesInEach, generations, sent_in};
 ghost use Rattle.tp_work.specs.Outcomes.{HasEachOnce, IsAnswer, IsWithinLimits};
 ghost use Rattle.tp_work.specs.Places.{IsWhole};
 ghost use Rattle.tp_work.specs.Reports.{IsReport};
-ghost use Rattle.tp_work.specs.Series.{AddsKept, IsKept, IsCompleteSoFar, IsSeries, IsSeriesFault, IsSeriesLack, IsTold, with_messages};
+ghost use Rattle.tp_work.specs.Series.{AddsKept, IsKept, IsSeries, IsSeriesFault, IsSeriesLack, IsTold, with_messages};
 ghost use Rattle.tp_work.specs.declared.series.Round.{Round};
 
 use crate::config::{Config, Fault};

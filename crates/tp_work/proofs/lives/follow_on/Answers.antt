@@ -1,4 +1,4 @@
-use Rattle.std.proofs.Common.{◌≡◌, ◌∙◌, ◌+◌, ℕ, IsFalse, IsTrue, cond, length, refl, sym, ap, subst}
+use Rattle.std.proofs.Common.{◌≡◌, ◌∙◌, ◌+◌, IsFalse, IsTrue, cond, refl, sym, subst}
 use Rattle.tp_wave.specs.Machine.{step_of}
 use Rattle.tp_wave.specs.Steps.{is_reopen, is_send}
 use Rattle.tp_work.proofs.Living.{Told}

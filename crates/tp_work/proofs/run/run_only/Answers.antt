@@ -1,4 +1,4 @@
-use Rattle.std.proofs.Common.{rules, ◌≡◌, ◌∙◌, ℕ, ap, subst}
+use Rattle.std.proofs.Common.{rules, ◌≡◌, ℕ, ap, subst}
 use Rattle.tp_graph.specs.Graphs.{TaskGraph}
 use Rattle.tp_work.specs.Outcomes.{IsComplete}
 use Rattle.tp_work.specs.Reports.{IsReport}

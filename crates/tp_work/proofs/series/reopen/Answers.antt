@@ -1,4 +1,4 @@
-use Rattle.std.proofs.Common.{◌≡◌, ◌∙◌, ◌<◌, ℕ, IsTrue, sym, ap, subst, arith, length}
+use Rattle.std.proofs.Common.{◌∙◌, ◌<◌, IsTrue, sym, ap, subst, arith, length}
 use Rattle.tp_board.specs.States.{BoardState}
 use Rattle.tp_node.specs.declared.pool.Pool.{Pool}
 use Rattle.tp_wave.specs.Generations.{present, present_events}

@@ -1,4 +1,4 @@
-use Rattle.std.proofs.Common.{rules, ◌≡◌, ◌∙◌, length, arith, vec_len}
+use Rattle.std.proofs.Common.{◌≡◌, ◌∙◌, length, arith, vec_len}
 use Rattle.tp_work.proofs.series.run_earlier.Goals as goal
 
 pub loop-number-preserved : goal.loop-number-preserved

@@ -1,17 +1,13 @@
-use Rattle.std.proofs.Common.{rules, ◌≡◌, ◌∙◌, ◌+◌, ℕ, List, [], ◌∷◌, IsTrue, length, map, reverse, sym, ap, subst, arith, vec_len}
+use Rattle.std.proofs.Common.{rules, ◌≡◌, ◌∙◌, ◌+◌, ℕ, [], ◌∷◌, IsTrue, length, map, reverse, sym, ap, subst, arith, vec_len}
 use Rattle.std.specs.List.{All}
 use Rattle.std.specs.Vec.{with_items}
 use Rattle.std.proofs.lemmas.List.{length-append, length-map, length-reverse, with_items_is}
 use Rattle.std.proofs.lemmas.List.Elements.{All-push}
-use Rattle.tp_wave.specs.Generations.{present}
-use Rattle.tp_wave.specs.Machine.{steps_of}
-use Rattle.tp_wave.specs.Sums.{is_ended}
 use Rattle.tp_work.proofs.Rounds.{is_series, kept-told, messages-told}
 use Rattle.tp_work.specs.Lives.{LivesInEach, generations, sent_in}
 use Rattle.tp_work.specs.Outcomes.{HasEachOnce}
 use Rattle.tp_work.specs.Series.{IsKept}
 use Rattle.tp_work.specs.declared.series.Round.{Round}
-use Rattle.tp_work.specs.declared.series.Series.{Series}
 use Rattle.tp_work.proofs.series.series_of.Goals as goal
 
 pub returns-in-Ok-clause-series : goal.returns-in-Ok-clause-series
