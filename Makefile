@@ -6,8 +6,10 @@
 # make times    the gate, and its processor seconds by crate
 # make soak     each sample pool 200 times at 8 nodes with 8 workers each, compares what they make and audits their traces;
 #               then the program with strange streams and texts, every stored text cut after each byte, and texts by chance
-# make install PREFIX=/usr/local     puts the proved programs in place
-.PHONY: all demo test gate wrong times soak install clean
+# make lib      proves the detector for other languages, and builds it: lib/libgerfmuod.a, its header and its pkg-config file
+# make bench    what a step costs that a program in C tells the library: instructions and time
+# make install PREFIX=/usr/local     puts the proved programs and the library in place
+.PHONY: all lib demo test gate wrong times soak bench install clean
 
 PREFIX ?= /usr/local
 
@@ -18,11 +20,17 @@ SOURCES := $(shell find crates -name out -prune -o \( -name '*.rt' -o -name '*.a
 bin/tp: $(SOURCES) crates.txt
 	@tools/dev build
 
+lib: lib/libgerfmuod.a
+
+lib/libgerfmuod.a: $(SOURCES) crates.txt capi/gerfmuod.h capi/gerfmuod.pc.in
+	@tools/dev lib
+
 demo:
 	@tools/dev demo
 
 test:
 	@tools/dev try
+	@tools/dev capi
 	@tools/dev docs
 	@tools/dev wrong --stale
 
@@ -42,10 +50,17 @@ soak: bin/tp
 	tools/dev limits cuts bin/tp
 	tools/dev limits random bin/tp
 
-install: bin/tp
+bench: lib/libgerfmuod.a
+	@tools/dev capi --bench
+
+install: bin/tp lib/libgerfmuod.a
 	install -D -m 755 bin/tp $(DESTDIR)$(PREFIX)/bin/tp
 	install -D -m 755 bin/heat $(DESTDIR)$(PREFIX)/bin/heat
 	install -D -m 755 bin/product $(DESTDIR)$(PREFIX)/bin/product
+	install -D -m 644 lib/libgerfmuod.a $(DESTDIR)$(PREFIX)/lib/libgerfmuod.a
+	install -D -m 644 capi/gerfmuod.h $(DESTDIR)$(PREFIX)/include/gerfmuod.h
+	install -d $(DESTDIR)$(PREFIX)/lib/pkgconfig
+	sed 's|@LIBRARIES@|$(PREFIX)/lib|; s|@HEADERS@|$(PREFIX)/include|' capi/gerfmuod.pc.in > $(DESTDIR)$(PREFIX)/lib/pkgconfig/gerfmuod.pc
 
 clean:
-	rm -rf bin crates/*/out
+	rm -rf bin lib crates/*/out

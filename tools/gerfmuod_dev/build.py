@@ -16,6 +16,8 @@ from . import repository
 from .rooms import rooms
 
 PROGRAMS = ["tp", "heat", "product"]
+# the crates that are built for programs in other languages, into lib/
+LIBRARIES = ["gerfmuod"]
 # a further job of a check loads all libraries anew, which fewer lines do not repay
 LINES_OF_A_JOB = 500
 QUIET = re.compile(r"(== |logic|statements|library|crate|by-macro|only=|so far:|empty contracts|rt: chose)|.*: proved$")
@@ -44,6 +46,9 @@ def prove(crate, room, jobs):
     if crate.name in PROGRAMS and not ran.returncode:
         os.makedirs("bin", exist_ok=True)
         shutil.copy2(f"{room}/crates/{crate.name}/out/{crate.name}", f"bin/{crate.name}")
+    if crate.name in LIBRARIES and not ran.returncode:
+        os.makedirs("lib", exist_ok=True)
+        shutil.copy2(f"{room}/crates/{crate.name}/out/lib{crate.name}.a", f"lib/lib{crate.name}.a")
     return not ran.returncode, ran.stdout
 
 

@@ -5,11 +5,13 @@ status 2.
 """
 import argparse
 
-from . import build, demo, docs, gate_times, lanes, limits, soak, tries, wrong
+from . import build, capi, demo, docs, gate_times, lanes, library, limits, soak, tries, wrong
 from .limits import cuts, generations, hostile_numbers, memory, random_texts, refuse, refuse_tests, stacks, strange
 
 COMMANDS = {
     "build": build,
+    "lib": library,
+    "capi": capi,
     "demo": demo,
     "try": tries,
     "wrong": wrong,

@@ -1,0 +1,106 @@
+/* What a checked event costs. `bench time N` prints nanoseconds: of a counter that is raised under a mutex, of a step
+ * under the same mutex, and of a step with no mutex. `bench count KIND N` takes N steps of a kind and prints nothing: a
+ * tool that counts instructions runs it at two counts. */
+#define _POSIX_C_SOURCE 200809L
+#include "gerfmuod.h"
+
+#include <pthread.h>
+#include <stdio.h>
+#include <stdlib.h>
+#include <string.h>
+#include <time.h>
+
+static pthread_mutex_t lock = PTHREAD_MUTEX_INITIALIZER;
+static volatile long left = 0;
+
+static double now(void) {
+    struct timespec t;
+    clock_gettime(CLOCK_MONOTONIC, &t);
+    return (double)t.tv_sec * 1e9 + (double)t.tv_nsec;
+}
+
+/* Tasks of three steps each, at eight nodes. */
+static unsigned long tasks(gerfmuod_core *core, uint32_t steps) {
+    unsigned long refused = 0;
+    for (uint32_t t = 0; t < steps / 3; t++) {
+        refused += gerfmuod_insert(core, t & 7, t, 0).refused != 0;
+        refused += gerfmuod_begin(core, t).refused != 0;
+        refused += gerfmuod_done(core, t).refused != 0;
+    }
+    return refused;
+}
+
+/* Messages of three steps each, from node to node. */
+static unsigned long messages(gerfmuod_core *core, uint32_t steps) {
+    unsigned long refused = 0;
+    for (uint32_t m = 0; m < steps / 3; m++) {
+        uint32_t to = (m + 1) & 7;
+        refused += gerfmuod_send(core, m & 7, to, m, GERFMUOD_FIRST_GENERATION).refused != 0;
+        refused += gerfmuod_receive(core, to, m, GERFMUOD_FIRST_GENERATION).refused != 0;
+        refused += gerfmuod_message_end(core, to, m, GERFMUOD_FIRST_GENERATION).refused != 0;
+    }
+    return refused;
+}
+
+static gerfmuod_answer locked(gerfmuod_core *core, uint32_t kind, uint32_t first, uint32_t second) {
+    pthread_mutex_lock(&lock);
+    gerfmuod_answer it = gerfmuod_step(core, kind, first, second, 0, 0);
+    pthread_mutex_unlock(&lock);
+    return it;
+}
+
+static unsigned long locked_tasks(gerfmuod_core *core, uint32_t steps) {
+    unsigned long refused = 0;
+    for (uint32_t t = 0; t < steps / 3; t++) {
+        refused += locked(core, GERFMUOD_STEP_INSERT, t & 7, t).refused != 0;
+        refused += locked(core, GERFMUOD_STEP_BEGIN, t, 0).refused != 0;
+        refused += locked(core, GERFMUOD_STEP_DONE, t, 0).refused != 0;
+    }
+    return refused;
+}
+
+static unsigned long counted(gerfmuod_core *core, uint32_t steps) {
+    (void)core;
+    for (uint32_t k = 0; k < steps; k++) {
+        pthread_mutex_lock(&lock);
+        left += 1;
+        pthread_mutex_unlock(&lock);
+    }
+    return 0;
+}
+
+/* The best of five runs, in nanoseconds a step. */
+static double best(unsigned long (*run)(gerfmuod_core *, uint32_t), uint32_t steps) {
+    double least = 1e300;
+    for (int round = 0; round < 5; round++) {
+        gerfmuod_core core;
+        if (gerfmuod_open(&core, 8)) exit(1);
+        double from = now();
+        if (run(&core, steps)) exit(1);
+        double took = (now() - from) / steps;
+        if (took < least) least = took;
+        gerfmuod_close(&core);
+    }
+    return least;
+}
+
+int main(int argc, char **argv) {
+    if (argc == 3 && strcmp(argv[1], "time") == 0) {
+        uint32_t steps = (uint32_t)atoi(argv[2]);
+        printf("counter under a mutex %.1f ns\n", best(counted, steps));
+        printf("step under a mutex %.1f ns\n", best(locked_tasks, steps));
+        printf("step of a task %.1f ns\n", best(tasks, steps));
+        printf("step of a message %.1f ns\n", best(messages, steps));
+        return 0;
+    }
+    if (argc == 4 && strcmp(argv[1], "count") == 0) {
+        gerfmuod_core core;
+        if (gerfmuod_open(&core, 8)) return 1;
+        uint32_t steps = (uint32_t)atoi(argv[3]);
+        unsigned long refused = strcmp(argv[2], "tasks") == 0 ? tasks(&core, steps) : messages(&core, steps);
+        gerfmuod_close(&core);
+        return refused != 0;
+    }
+    fputs("bench time N | bench count tasks N | bench count messages N\n", stderr);
+    return 2;
+}

@@ -1,0 +1,175 @@
+// A small runtime of tasks over std::thread, on several nodes. Its end was once found by a counter of its own, raised
+// where a task or a message was made and lowered where it was gone; now each event is told to the library, and the
+// threads stop when it says that the pool has ended. A word switches one of three bugs on, and the library catches it
+// where it happens, with a line that says which event it was and why, and status 3:
+//
+//     pool            runs, and ends with status 0
+//     pool twice      a message is received twice
+//     pool late       a send is reported after its message can be received
+//     pool early      one wave with equal sums is taken for the end
+#include "gerfmuod.h"
+
+#include <atomic>
+#include <chrono>
+#include <cstdint>
+#include <cstdio>
+#include <cstdlib>
+#include <deque>
+#include <mutex>
+#include <string>
+#include <thread>
+#include <vector>
+
+namespace {
+
+using Number = std::uint32_t;
+constexpr Number nodes = 3, workers = 2, depth = 6, generation = GERFMUOD_FIRST_GENERATION;
+
+enum class Bug { none, twice, late, early };
+
+// The detector under one lock, which orders the events.
+class Detector {
+  public:
+    Detector() {
+        if (gerfmuod_open(&core, nodes)) std::abort();
+    }
+    ~Detector() { gerfmuod_close(&core); }
+    Detector(const Detector &) = delete;
+    Detector &operator=(const Detector &) = delete;
+
+    // Tells an event. One that is refused is a bug of this runtime: it ends here.
+    template <typename Call> void tell(const char *what, Number node, Number number, Call call) {
+        std::lock_guard<std::mutex> held(lock);
+        if (Number why = call(&core).refused) {
+            char name[16], meaning[128];
+            auto n = gerfmuod_refusal_name(why, name, sizeof name);
+            auto m = gerfmuod_refusal_meaning(why, meaning, sizeof meaning);
+            std::fprintf(stderr, "behind step %u, %s %u at node %u: refused %u %.*s: %.*s\n", gerfmuod_length(&core), what,
+                         number, node, why, static_cast<int>(n.length), name, static_cast<int>(m.length), meaning);
+            std::_Exit(3);
+        }
+    }
+    // Asks, where a refusal is an answer like another.
+    template <typename Call> auto ask(Call call) {
+        std::lock_guard<std::mutex> held(lock);
+        return call(&core);
+    }
+
+  private:
+    gerfmuod_core core;
+    std::mutex lock;
+};
+
+// What is done next at a node: a task, or a message that makes one; with so many levels below it.
+struct Item {
+    bool is_message;
+    Number number, left;
+};
+
+struct Node {
+    std::mutex lock;
+    std::deque<Item> items;
+};
+
+class Pool {
+  public:
+    explicit Pool(Bug which) : bug(which) {}
+
+    void run() {
+        for (Number i = 0; i < nodes; i++) {
+            insert(i, depth);
+            detector.tell("opening", i, i, [=](auto *c) { return gerfmuod_ready(c, i); });
+        }
+        std::vector<std::thread> threads;
+        for (Number i = 0; i < nodes * workers; i++) threads.emplace_back([this, i] { work(i % nodes); });
+        for (auto &it : threads) it.join();
+        std::printf("ended: %u tasks, %u messages, %u steps\n", next_task.load(), next_message.load(),
+                    detector.ask(gerfmuod_length));
+    }
+
+  private:
+    void put(Number node, Item it) {
+        std::lock_guard<std::mutex> held(all[node].lock);
+        all[node].items.push_back(it);
+    }
+    void insert(Number node, Number left) {
+        Number task = next_task++;
+        detector.tell("insert of task", node, task, [=](auto *c) { return gerfmuod_insert(c, node, task, 0); });
+        put(node, {false, task, left});
+    }
+    void send(Number from, Number to, Number left) {
+        Number m = next_message++;
+        bool is_late = bug == Bug::late && m == 40;
+        if (is_late) {
+            put(to, {true, m, left});
+            std::this_thread::sleep_for(std::chrono::seconds(1));
+        }
+        detector.tell("send of message", from, m, [=](auto *c) { return gerfmuod_send(c, from, to, m, generation); });
+        if (!is_late) put(to, {true, m, left});
+        if (bug == Bug::twice && m == 40) put(to, {true, m, left});
+    }
+    // A task sends a message to each other node, as long as there are levels below it.
+    void run_task(Number node, Item task) {
+        detector.tell("begin of task", node, task.number, [=](auto *c) { return gerfmuod_begin(c, task.number); });
+        for (Number k = 1; task.left && k < nodes; k++) send(node, (node + k) % nodes, task.left - 1);
+        detector.tell("end of task", node, task.number, [=](auto *c) { return gerfmuod_done(c, task.number); });
+    }
+    void receive(Number node, Item it) {
+        Number m = it.number;
+        detector.tell("receipt of message", node, m, [=](auto *c) { return gerfmuod_receive(c, node, m, generation); });
+        insert(node, it.left);
+        detector.tell("end of message", node, m, [=](auto *c) { return gerfmuod_message_end(c, node, m, generation); });
+    }
+    bool take(Number node, Item &it) {
+        std::lock_guard<std::mutex> held(all[node].lock);
+        if (all[node].items.empty()) return false;
+        it = all[node].items.front();
+        all[node].items.pop_front();
+        return true;
+    }
+    void work(Number node) {
+        Item it;
+        while (!stopped) {
+            if (take(node, it)) it.is_message ? receive(node, it) : run_task(node, it);
+            else if (bug == Bug::early ? ended_early(node) : ended()) stopped = true;
+            else std::this_thread::yield();
+        }
+    }
+    // Whether the pool has ended. As long as something is left, this costs no step.
+    bool ended() {
+        Number refused = detector.ask(gerfmuod_settle).refused;
+        return refused == 0 || refused == GERFMUOD_REFUSED_ENDED;
+    }
+
+    // An idle node takes its part in the wave. Its first equal sums are taken for the end; the library judges the wave.
+    bool ended_early(Number node) {
+        if (node) {
+            detector.ask([=](auto *c) { return gerfmuod_down(c, node); });
+            detector.ask([=](auto *c) { return gerfmuod_give(c, node); });
+            detector.ask([=](auto *c) { return gerfmuod_up(c, node); });
+            return false;
+        }
+        detector.ask(gerfmuod_start);
+        gerfmuod_answer sums = detector.ask([](auto *c) { return gerfmuod_give(c, 0); });
+        if (sums.told != GERFMUOD_WAVE) return false;
+        gerfmuod_answer judged = detector.ask(gerfmuod_judge);
+        if (sums.sent != sums.received || judged.told == GERFMUOD_ENDED) return judged.told == GERFMUOD_ENDED;
+        std::fprintf(stderr, "behind step %u, the end after wave %u with %u sent and %u received: judged not\n",
+                     detector.ask(gerfmuod_length), sums.number, sums.sent, sums.received);
+        std::_Exit(3);
+    }
+
+    Bug bug;
+    Detector detector;
+    Node all[nodes];
+    std::atomic<Number> next_task{0}, next_message{0};
+    std::atomic<bool> stopped{false};
+};
+
+} // namespace
+
+int main(int argc, char **argv) {
+    const std::string word = argc == 2 ? argv[1] : "";
+    if (argc > 2 || (argc == 2 && word != "twice" && word != "late" && word != "early")) return 2;
+    Pool(word == "twice" ? Bug::twice : word == "late" ? Bug::late : word == "early" ? Bug::early : Bug::none).run();
+}

@@ -1,0 +1,97 @@
+/* The texts of the library: a core's steps as a trace, the judge of a trace, and the refusals in words. */
+#include "gerfmuod.h"
+
+#include <stdio.h>
+#include <stdlib.h>
+#include <string.h>
+
+#define CHECK(what)                                                                                                    \
+    do {                                                                                                               \
+        if (!(what)) {                                                                                                 \
+            fprintf(stderr, "line %d: not so: %s\n", __LINE__, #what);                                                 \
+            exit(1);                                                                                                   \
+        }                                                                                                              \
+    } while (0)
+
+static void has(const char *room, gerfmuod_written it, unsigned outcome, const char *wanted) {
+    CHECK(it.outcome == outcome && it.length == strlen(wanted) && memcmp(room, wanted, it.length) == 0);
+}
+
+/* A pool of three nodes that ends, is reopened and ends again, as a trace; the trace is then judged. */
+static void trace_and_audit(void) {
+    gerfmuod_core core;
+    CHECK(gerfmuod_open(&core, 3) == 0);
+    for (uint32_t generation = 1; generation <= 2; generation++) {
+        if (generation == 2) CHECK(gerfmuod_reopen(&core).number == 2);
+        CHECK(gerfmuod_insert(&core, 2, 5, 0).refused == 0);
+        CHECK(gerfmuod_begin(&core, 5).refused == 0);
+        CHECK(gerfmuod_send(&core, 2, 0, 1, generation).refused == 0);
+        CHECK(gerfmuod_done(&core, 5).refused == 0);
+        for (uint32_t node = 0; node < 3; node++) CHECK(gerfmuod_ready(&core, node).refused == 0);
+        CHECK(gerfmuod_receive(&core, 0, 1, generation).refused == 0);
+        CHECK(gerfmuod_message_end(&core, 0, 1, generation).refused == 0);
+        CHECK(gerfmuod_settle(&core).refused == 0);
+    }
+    gerfmuod_written asked = gerfmuod_trace(&core, NULL, 0);
+    CHECK(asked.outcome == GERFMUOD_NO_ROOM && asked.length > 0);
+    char *trace = malloc(asked.length), answer[256];
+    CHECK(trace);
+    gerfmuod_written told = gerfmuod_trace(&core, trace, asked.length);
+    CHECK(told.outcome == GERFMUOD_WRITTEN && told.length == asked.length);
+    CHECK(memcmp(trace, "trace 2\nnodes 3\ninsert 2 5 0\n", 29) == 0);
+    has(answer, gerfmuod_audit(trace, told.length, answer, sizeof answer), GERFMUOD_WRITTEN,
+        "steps 55\ntasks 2 done 2\nmessages 2 received 2\ngeneration 2\nended 1\n");
+    gerfmuod_written small = gerfmuod_audit(trace, told.length, answer, 3);
+    CHECK(small.outcome == GERFMUOD_NO_ROOM && small.length == 66);
+    memcpy(trace + 18, "x", 1); /* inxert */
+    has(answer, gerfmuod_audit(trace, told.length, answer, sizeof answer), GERFMUOD_COMPLAINT, "syntax line 3\n");
+    free(trace);
+    gerfmuod_close(&core);
+}
+
+/* A number of seven digits has no line in a trace. */
+static void no_trace(void) {
+    gerfmuod_core core;
+    CHECK(gerfmuod_open(&core, 2) == 0);
+    CHECK(gerfmuod_send(&core, 0, 1, 4000000000u, 1).refused == 0);
+    gerfmuod_written none = gerfmuod_trace(&core, NULL, 0);
+    CHECK(none.outcome == GERFMUOD_NO_TEXT && none.length == 0);
+    gerfmuod_close(&core);
+}
+
+static void judged(void) {
+    char answer[256];
+    const char *twice = "trace 1\nnodes 1\ninsert 0 4 0\nbegin 4\ndone 4\ndone 4\n";
+    has(answer, gerfmuod_audit(twice, strlen(twice), answer, sizeof answer), GERFMUOD_COMPLAINT,
+        "line 6 refused 5 WrongLife\n");
+    const char *early = "trace 1\nnodes 1\nready 0\nstart\ngive 0\njudge ended 1\n";
+    has(answer, gerfmuod_audit(early, strlen(early), answer, sizeof answer), GERFMUOD_COMPLAINT,
+        "line 6 unjustified\n");
+    has(answer, gerfmuod_audit(NULL, 0, answer, sizeof answer), GERFMUOD_COMPLAINT, "syntax line 1\n");
+    char *much = calloc(33554433, 1);
+    CHECK(much && gerfmuod_audit(much, 33554433, answer, sizeof answer).outcome == GERFMUOD_TOO_LONG);
+    free(much);
+}
+
+static void refusals(void) {
+    char room[128];
+    has(room, gerfmuod_refusal_name(GERFMUOD_REFUSED_NO_MESSAGE, room, sizeof room), GERFMUOD_WRITTEN, "NoMessage");
+    has(room, gerfmuod_refusal_meaning(GERFMUOD_REFUSED_NO_MESSAGE, room, sizeof room), GERFMUOD_WRITTEN,
+        "no such message is under way to that node");
+    for (uint32_t number = 1; number <= 26; number++) {
+        CHECK(gerfmuod_refusal_name(number, room, 12).outcome == GERFMUOD_WRITTEN);
+        CHECK(gerfmuod_refusal_meaning(number, room, sizeof room).outcome == GERFMUOD_WRITTEN);
+    }
+    CHECK(gerfmuod_refusal_name(0, room, sizeof room).outcome == GERFMUOD_NO_TEXT);
+    CHECK(gerfmuod_refusal_meaning(27, room, sizeof room).outcome == GERFMUOD_NO_TEXT);
+    CHECK(gerfmuod_refusal_name(16, room, 2).outcome == GERFMUOD_NO_ROOM);
+}
+
+int main(void) {
+    trace_and_audit();
+    no_trace();
+    judged();
+    refusals();
+    puts("texts: as they should be");
+    return 0;
+}

@@ -1,0 +1,105 @@
+/* A pool of two nodes from its opening to its end, told event by event: one task, one message, two waves; then wrong
+ * events, each refused where it happens; then the pool is reopened and ends once more. */
+#include "gerfmuod.h"
+
+#include <stdio.h>
+#include <stdlib.h>
+#include <string.h>
+
+#define CHECK(what)                                                                                                    \
+    do {                                                                                                               \
+        if (!(what)) {                                                                                                 \
+            fprintf(stderr, "line %d: not so: %s\n", __LINE__, #what);                                                 \
+            exit(1);                                                                                                   \
+        }                                                                                                              \
+    } while (0)
+
+/* What waits for its turn was taken, and no more was told. */
+static void taken(gerfmuod_answer it) {
+    CHECK(it.refused == 0 && it.told == GERFMUOD_PLAIN && it.number == 0 && it.sent == 0 && it.received == 0);
+}
+
+static void refused(gerfmuod_answer it, unsigned why) {
+    CHECK(it.refused == why && it.told == GERFMUOD_PLAIN);
+}
+
+/* A wave over both nodes: what it adds up, and what is judged. */
+static gerfmuod_answer wave(gerfmuod_core *core, uint32_t number, uint32_t messages) {
+    taken(gerfmuod_start(core));
+    taken(gerfmuod_down(core, 1));
+    taken(gerfmuod_give(core, 1));
+    taken(gerfmuod_up(core, 1));
+    gerfmuod_answer sums = gerfmuod_give(core, 0);
+    CHECK(sums.refused == 0 && sums.told == GERFMUOD_WAVE && sums.number == number);
+    CHECK(sums.sent == messages && sums.received == messages);
+    gerfmuod_answer judged = gerfmuod_judge(core);
+    CHECK(judged.refused == 0);
+    return judged;
+}
+
+static void one_task_and_a_message(gerfmuod_core *core, uint32_t generation) {
+    taken(gerfmuod_insert(core, 0, 7, 1));
+    refused(gerfmuod_begin(core, 7), GERFMUOD_REFUSED_WRONG_LIFE); /* it lacks an input */
+    taken(gerfmuod_supply(core, 7));
+    taken(gerfmuod_begin(core, 7));
+    refused(gerfmuod_receive(core, 1, 1, generation), GERFMUOD_REFUSED_NO_MESSAGE); /* before it was sent */
+    refused(gerfmuod_send(core, 0, 1, 1, generation + 1), GERFMUOD_REFUSED_STRANGER);
+    taken(gerfmuod_send(core, 0, 1, 1, generation));
+    taken(gerfmuod_done(core, 7));
+    taken(gerfmuod_ready(core, 0));
+    taken(gerfmuod_ready(core, 1));
+    refused(gerfmuod_insert(core, 0, 8, 0), GERFMUOD_REFUSED_INACTIVE);
+    taken(gerfmuod_receive(core, 1, 1, generation));
+    refused(gerfmuod_receive(core, 1, 1, generation), GERFMUOD_REFUSED_NO_MESSAGE); /* twice */
+    CHECK(gerfmuod_settle(core).refused == GERFMUOD_REFUSED_NOT_IDLE);
+    taken(gerfmuod_action_open(core, 1, 3));
+    taken(gerfmuod_message_end(core, 1, 1, generation));
+    taken(gerfmuod_action_close(core, 1, 3));
+}
+
+static void questions(gerfmuod_core *core) {
+    gerfmuod_counters_of own = gerfmuod_counters(core, 1);
+    CHECK(own.refused == 0 && own.pending == 0 && own.sent == 0 && own.received == 1);
+    own = gerfmuod_counters(core, 2);
+    CHECK(own.refused == GERFMUOD_REFUSED_NO_NODE && own.pending == 0 && own.sent == 0 && own.received == 0);
+    gerfmuod_whole_of all = gerfmuod_whole(core);
+    CHECK(all.under_way == 0 && all.quiet && all.steps + all.room == GERFMUOD_MAX_STEPS);
+    CHECK(gerfmuod_length(core) == all.steps && gerfmuod_room(core) == all.room);
+}
+
+static void opened_wrongly(void) {
+    gerfmuod_core core;
+    CHECK(gerfmuod_open(&core, 0) == GERFMUOD_REFUSED_BAD_SPEC);
+    CHECK(gerfmuod_open(&core, 9) == GERFMUOD_REFUSED_BAD_SPEC);
+    refused(gerfmuod_ready(&core, 1), GERFMUOD_REFUSED_NO_NODE); /* it is of one node */
+    taken(gerfmuod_ready(&core, 0));
+    gerfmuod_close(&core);
+}
+
+int main(void) {
+    CHECK(gerfmuod_version() == GERFMUOD_VERSION);
+    CHECK(gerfmuod_core_size() <= sizeof(gerfmuod_core));
+    opened_wrongly();
+    gerfmuod_core core;
+    CHECK(gerfmuod_open(&core, 2) == 0);
+    refused(gerfmuod_step(&core, 16, 0, 0, 0, 0), GERFMUOD_REFUSED_BAD_SPEC);
+    refused(gerfmuod_insert(&core, 0, 7, 17), GERFMUOD_REFUSED_BAD_SPEC);
+    refused(gerfmuod_reopen(&core), GERFMUOD_REFUSED_WRONG_LIFE);
+    one_task_and_a_message(&core, GERFMUOD_FIRST_GENERATION);
+    questions(&core);
+    CHECK(wave(&core, 1, 1).told == GERFMUOD_NOT);
+    gerfmuod_answer end = wave(&core, 2, 1);
+    CHECK(end.told == GERFMUOD_ENDED && end.number == 1);
+    refused(gerfmuod_start(&core), GERFMUOD_REFUSED_ENDED);
+    gerfmuod_answer next = gerfmuod_reopen(&core);
+    CHECK(next.refused == 0 && next.told == GERFMUOD_REOPENED && next.number == 2);
+    gerfmuod_core moved = core; /* between two calls */
+    memset(&core, 255, sizeof core);
+    one_task_and_a_message(&moved, 2);
+    gerfmuod_settled settled = gerfmuod_settle(&moved);
+    CHECK(settled.refused == 0 && settled.wave == 1 && settled.steps == 12);
+    CHECK(gerfmuod_settle(&moved).refused == GERFMUOD_REFUSED_ENDED);
+    printf("two generations, %u steps: each ended with wave %u\n", gerfmuod_length(&moved), settled.wave);
+    gerfmuod_close(&moved);
+    return 0;
+}

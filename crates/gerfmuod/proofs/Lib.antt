@@ -1,0 +1,4 @@
+pub mod Kept
+pub mod Recording
+pub mod Traced
+pub mod Walks

@@ -1,0 +1,175 @@
+ghost use Rattle.std.specs.Prelude.{◌≡◌};
+ghost use Rattle.gerfmuod.specs.Asked.{counters_at, unsettled, IsSettled, IsWhole};
+ghost use Rattle.gerfmuod.specs.Events.{event_of};
+ghost use Rattle.gerfmuod.specs.Opened.{can_be, opened, opening};
+ghost use Rattle.gerfmuod.specs.Pool.{WasNeverEarly};
+ghost use Rattle.gerfmuod.specs.Told.{reply_told, refusal_told, IsTold};
+
+use crate::answer::{Answer, Counters, Settled, Whole};
+use crate::event::{Event, step_of};
+use crate::pool::Pool;
+use std::alloc::Global;
+use tp_base::{MAX_NODES, MAX_STEPS, Refusal};
+use tp_core::Reply;
+
+/// Whether there can be so many nodes.
+fn can_be(nodes: u32) -> bool
+    ensures { result ≡ can_be nodes }
+{
+    1 <= nodes && nodes <= MAX_NODES
+}
+
+/// A pool over so many nodes, or over one where there cannot be so many.
+pub(crate) fn made(alloc: Global, nodes: u32) -> Pool
+    ensures { result ≡ opened nodes }
+{
+    let nodes = if can_be(nodes) { nodes } else { 1 };
+    Pool::new(alloc, nodes)
+}
+
+/// 0, or the number of the refusal where there cannot be so many nodes.
+pub(crate) fn opening(nodes: u32) -> u32
+    ensures { result ≡ opening nodes }
+{
+    if can_be(nodes) {
+        0
+    } else {
+        u32::from(Refusal::BadSpec.number())
+    }
+}
+
+const PLAIN: Answer = Answer {
+    refused: 0,
+    told: 0,
+    number: 0,
+    sent: 0,
+    received: 0,
+};
+
+#[inline(always)]
+fn of_reply(reply: Reply) -> Answer
+    ensures { result ≡ reply_told reply }
+{
+    match reply {
+        Reply::Plain => PLAIN,
+        Reply::WaveSums(sums) => Answer {
+            told: 1,
+            number: sums.wave,
+            sent: sums.sent,
+            received: sums.received,
+            ..PLAIN
+        },
+        Reply::Not => Answer { told: 2, ..PLAIN },
+        Reply::Over(wave) => Answer {
+            told: 3,
+            number: wave,
+            ..PLAIN
+        },
+        Reply::Opened(generation) => Answer {
+            told: 4,
+            number: generation.0,
+            ..PLAIN
+        },
+    }
+}
+
+fn of_refusal(refusal: Refusal) -> Answer
+    ensures { result ≡ refusal_told refusal }
+{
+    let number = match refusal {
+        Refusal::HistoryFull(steps) => steps,
+        _ => 0,
+    };
+    Answer {
+        refused: u16::from(refusal.number()),
+        number,
+        ..PLAIN
+    }
+}
+
+/// Takes the next step, as C writes it.
+#[inline(always)]
+pub(crate) fn answered(
+    pool: &mut Pool,
+    kind: u32,
+    first: u32,
+    second: u32,
+    third: u32,
+    generation: u32,
+) -> Answer
+    ensures { IsTold pool.old (event_of kind first second third generation) result pool.new × WasNeverEarly pool.new }
+{
+    let event = Event {
+        kind,
+        first,
+        second,
+        third,
+        generation,
+    };
+    match pool.take(step_of(event)) {
+        Ok(reply) => of_reply(reply),
+        Err(refusal) => of_refusal(refusal),
+    }
+}
+
+/// The counters of a node.
+pub(crate) fn counted(pool: &mut Pool, node: u32) -> Counters
+    ensures { (pool.new ≡ pool.old) × (result ≡ counters_at node pool.old) }
+{
+    if node >= pool.nodes() {
+        return Counters {
+            refused: u32::from(Refusal::NoNode.number()),
+            pending: 0,
+            sent: 0,
+            received: 0,
+        };
+    }
+    let own = pool.core().numbers().nodes[node as usize];
+    Counters {
+        refused: 0,
+        pending: own.pending,
+        sent: own.sent,
+        received: own.received,
+    }
+}
+
+/// The pool as a whole.
+pub(crate) fn seen(pool: &mut Pool) -> Whole
+    ensures { (pool.new ≡ pool.old) × IsWhole pool.old result }
+{
+    let steps = pool.steps().len() as u32;
+    Whole {
+        steps,
+        room: MAX_STEPS - steps,
+        under_way: pool.core().numbers().under,
+        quiet: pool.core().quiet(),
+    }
+}
+
+/// Settles a pool.
+pub(crate) fn settled(pool: &mut Pool) -> Settled
+    ensures { IsSettled pool.old result pool.new × WasNeverEarly pool.new }
+{
+    match pool.settle() {
+        Ok((wave, steps)) => Settled {
+            refused: 0,
+            wave,
+            steps,
+        },
+        Err(refusal) => unsettled(refusal),
+    }
+}
+
+fn unsettled(refusal: Refusal) -> Settled
+    ensures { result ≡ unsettled refusal }
+{
+    let steps = match refusal {
+        Refusal::HistoryFull(steps) => steps,
+        _ => 0,
+    };
+    Settled {
+        refused: u32::from(refusal.number()),
+        wave: 0,
+        steps,
+    }
+}

@@ -1,0 +1,66 @@
+ghost use Rattle.std.specs.Prelude.{◌≡◌};
+ghost use Rattle.gerfmuod.specs.Events.{insert_asked, step_asked};
+
+use tp_base::{ActionId, Generation, Inputs, MAX_INPUTS, MessageId, NodeId, Step, TaskId};
+
+/// A step as C writes it: its kind, 0 to 15, and its numbers. Those that a kind has not are not looked at.
+#[derive(Clone, Copy, Debug, PartialEq, Eq)]
+pub struct Event {
+    pub kind: u32,
+    pub first: u32,
+    pub second: u32,
+    pub third: u32,
+    /// The generation of a message.
+    pub generation: u32,
+}
+
+/// The step, or `None` where there is no such kind, or for a task of more than 16 inputs.
+#[inline(always)]
+pub(crate) fn step_of(event: Event) -> Option<Step>
+    ensures { result ≡ step_asked event }
+{
+    let Event {
+        kind,
+        first,
+        second,
+        third,
+        generation,
+    } = event;
+    match kind {
+        0 => insert(first, second, third),
+        1 => Some(Step::Supply(TaskId(first))),
+        2 => Some(Step::Begin(TaskId(first))),
+        3 => Some(Step::Done(TaskId(first))),
+        4 => Some(Step::ActionOpen(NodeId(first), ActionId(second))),
+        5 => Some(Step::ActionClose(NodeId(first), ActionId(second))),
+        6 => Some(Step::Ready(NodeId(first))),
+        7 => Some(Step::Send(
+            NodeId(first),
+            NodeId(second),
+            MessageId(third),
+            Generation(generation),
+        )),
+        8 => Some(Step::Recv(NodeId(first), MessageId(second), Generation(generation))),
+        9 => Some(Step::MessageEnd(NodeId(first), MessageId(second), Generation(generation))),
+        10 => Some(Step::Start),
+        11 => Some(Step::Down(NodeId(first))),
+        12 => Some(Step::Give(NodeId(first))),
+        13 => Some(Step::Up(NodeId(first))),
+        14 => Some(Step::Judge),
+        15 => Some(Step::Reopen),
+        _ => None,
+    }
+}
+
+#[inline(always)]
+fn insert(home: u32, task: u32, inputs: u32) -> Option<Step>
+    ensures { result ≡ insert_asked home task inputs }
+{
+    if inputs > u32::from(MAX_INPUTS) {
+        return None;
+    }
+    match Inputs::new(inputs as u8) {
+        Some(inputs) => Some(Step::Insert(NodeId(home), TaskId(task), inputs)),
+        None => None,
+    }
+}
