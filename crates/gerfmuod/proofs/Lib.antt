@@ -1,3 +1,4 @@
+pub mod Ended
 pub mod Kept
 pub mod Recording
 pub mod Traced

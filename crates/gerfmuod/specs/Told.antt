@@ -35,6 +35,9 @@ abbrev pub AnswersTo : Accepted → Option Step → Result Reply Refusal → Acc
 AnswersTo old None r new = (r ≡ Err BadSpec) × (new ≡ old)
 AnswersTo old (Some s) r new = Answers old s r new
 
--- What is told of the event where the old steps were accepted, and what is accepted then.
-abbrev pub IsTold : Accepted → Event → Answer → Accepted → Type 0
-IsTold old e answer new = (r : Result Reply Refusal) × AnswersTo old (step_asked e) r new × (answer ≡ told r)
+-- What is told of a step, or of what is none, where the old steps were accepted, and what is accepted then.
+abbrev pub IsTold : Accepted → Option Step → Answer → Accepted → Type 0
+IsTold old o answer new = (r : Result Reply Refusal) × AnswersTo old o r new × (answer ≡ told r)
+
+abbrev pub IsToldOf : Accepted → Event → Answer → Accepted → Type 0
+IsToldOf old e answer new = IsTold old (step_asked e) answer new

@@ -1,15 +1,15 @@
-ghost use Rattle.std.specs.Prelude.{◌≡◌};
+ghost use Rattle.std.specs.Prelude.{◌≡◌, Some};
 ghost use Rattle.gerfmuod.specs.Asked.{counters_at, unsettled, IsSettled, IsWhole};
-ghost use Rattle.gerfmuod.specs.Events.{event_of};
+ghost use Rattle.gerfmuod.specs.Events.{begin_of, done_of, event_of, insert_asked, message_end_of, receive_of, send_of, supply_of};
 ghost use Rattle.gerfmuod.specs.Opened.{can_be, opened, opening};
-ghost use Rattle.gerfmuod.specs.Pool.{WasNeverEarly};
-ghost use Rattle.gerfmuod.specs.Told.{reply_told, refusal_told, IsTold};
+ghost use Rattle.gerfmuod.specs.Pool.{TellsNoEarlyEnd};
+ghost use Rattle.gerfmuod.specs.Told.{reply_told, refusal_told, IsTold, IsToldOf};
 
 use crate::answer::{Answer, Counters, Settled, Whole};
-use crate::event::{Event, step_of};
+use crate::event::{Event, insert_step, step_of};
 use crate::pool::Pool;
 use std::alloc::Global;
-use tp_base::{MAX_NODES, MAX_STEPS, Refusal};
+use tp_base::{Generation, MAX_NODES, MAX_STEPS, MessageId, NodeId, Refusal, Step, TaskId};
 use tp_core::Reply;
 
 /// Whether there can be so many nodes.
@@ -46,7 +46,8 @@ const PLAIN: Answer = Answer {
     received: 0,
 };
 
-#[inline(always)]
+#[cold]
+#[inline(never)]
 fn of_reply(reply: Reply) -> Answer
     ensures { result ≡ reply_told reply }
 {
@@ -73,6 +74,8 @@ fn of_reply(reply: Reply) -> Answer
     }
 }
 
+#[cold]
+#[inline(never)]
 fn of_refusal(refusal: Refusal) -> Answer
     ensures { result ≡ refusal_told refusal }
 {
@@ -87,7 +90,21 @@ fn of_refusal(refusal: Refusal) -> Answer
     }
 }
 
-/// Takes the next step, as C writes it.
+/// Takes the next step, and tells it as C reads it.
+#[inline(always)]
+#[tactic(auto, using(crate::proofs::Ended::told_over))]
+fn told(pool: &mut Pool, step: Option<Step>) -> Answer
+    ensures { IsTold pool.old step result pool.new × TellsNoEarlyEnd (result.told ≡ 3) result.number pool.new }
+{
+    match pool.take(step) {
+        // most steps
+        Ok(Reply::Plain) => PLAIN,
+        Ok(reply) => of_reply(reply),
+        Err(refusal) => of_refusal(refusal),
+    }
+}
+
+/// Takes the next step, of whichever kind, as C writes it.
 #[inline(always)]
 pub(crate) fn answered(
     pool: &mut Pool,
@@ -97,7 +114,7 @@ pub(crate) fn answered(
     third: u32,
     generation: u32,
 ) -> Answer
-    ensures { IsTold pool.old (event_of kind first second third generation) result pool.new × WasNeverEarly pool.new }
+    ensures { IsToldOf pool.old (event_of kind first second third generation) result pool.new × TellsNoEarlyEnd (result.told ≡ 3) result.number pool.new }
 {
     let event = Event {
         kind,
@@ -106,10 +123,77 @@ pub(crate) fn answered(
         third,
         generation,
     };
-    match pool.take(step_of(event)) {
-        Ok(reply) => of_reply(reply),
-        Err(refusal) => of_refusal(refusal),
-    }
+    told(pool, step_of(event))
+}
+
+/// A fresh task waits at its home node for so many inputs.
+#[inline(always)]
+pub(crate) fn insert(pool: &mut Pool, node: u32, task: u32, inputs: u32) -> Answer
+    ensures { IsTold pool.old (insert_asked node task inputs) result pool.new × TellsNoEarlyEnd (result.told ≡ 3) result.number pool.new }
+{
+    told(pool, insert_step(node, task, inputs))
+}
+
+/// A waiting task gets one input.
+#[inline(always)]
+pub(crate) fn supply(pool: &mut Pool, task: u32) -> Answer
+    ensures { IsTold pool.old (Some (supply_of task)) result pool.new × TellsNoEarlyEnd (result.told ≡ 3) result.number pool.new }
+{
+    told(pool, Some(Step::Supply(TaskId(task))))
+}
+
+/// A ready task begins to run.
+#[inline(always)]
+pub(crate) fn begin(pool: &mut Pool, task: u32) -> Answer
+    ensures { IsTold pool.old (Some (begin_of task)) result pool.new × TellsNoEarlyEnd (result.told ≡ 3) result.number pool.new }
+{
+    told(pool, Some(Step::Begin(TaskId(task))))
+}
+
+/// A running task is done.
+#[inline(always)]
+pub(crate) fn done(pool: &mut Pool, task: u32) -> Answer
+    ensures { IsTold pool.old (Some (done_of task)) result pool.new × TellsNoEarlyEnd (result.told ≡ 3) result.number pool.new }
+{
+    told(pool, Some(Step::Done(TaskId(task))))
+}
+
+/// A node sends a message to another.
+#[inline(always)]
+pub(crate) fn send(pool: &mut Pool, from: u32, to: u32, message: u32, generation: u32) -> Answer
+    ensures { IsTold pool.old (Some (send_of from to message generation)) result pool.new × TellsNoEarlyEnd (result.told ≡ 3) result.number pool.new }
+{
+    told(
+        pool,
+        Some(Step::Send(
+            NodeId(from),
+            NodeId(to),
+            MessageId(message),
+            Generation(generation),
+        )),
+    )
+}
+
+/// A node receives a message, whose action opens.
+#[inline(always)]
+pub(crate) fn receive(pool: &mut Pool, node: u32, message: u32, generation: u32) -> Answer
+    ensures { IsTold pool.old (Some (receive_of node message generation)) result pool.new × TellsNoEarlyEnd (result.told ≡ 3) result.number pool.new }
+{
+    told(
+        pool,
+        Some(Step::Recv(NodeId(node), MessageId(message), Generation(generation))),
+    )
+}
+
+/// The action of a message closes.
+#[inline(always)]
+pub(crate) fn message_end(pool: &mut Pool, node: u32, message: u32, generation: u32) -> Answer
+    ensures { IsTold pool.old (Some (message_end_of node message generation)) result pool.new × TellsNoEarlyEnd (result.told ≡ 3) result.number pool.new }
+{
+    told(
+        pool,
+        Some(Step::MessageEnd(NodeId(node), MessageId(message), Generation(generation))),
+    )
 }
 
 /// The counters of a node.
@@ -147,8 +231,9 @@ pub(crate) fn seen(pool: &mut Pool) -> Whole
 }
 
 /// Settles a pool.
+#[tactic(auto, using(crate::proofs::Ended::settled_over))]
 pub(crate) fn settled(pool: &mut Pool) -> Settled
-    ensures { IsSettled pool.old result pool.new × WasNeverEarly pool.new }
+    ensures { IsSettled pool.old result pool.new × TellsNoEarlyEnd (result.refused ≡ 0) result.wave pool.new }
 {
     match pool.settle() {
         Ok((wave, steps)) => Settled {

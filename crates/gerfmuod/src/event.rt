@@ -27,7 +27,7 @@ pub(crate) fn step_of(event: Event) -> Option<Step>
         generation,
     } = event;
     match kind {
-        0 => insert(first, second, third),
+        0 => insert_step(first, second, third),
         1 => Some(Step::Supply(TaskId(first))),
         2 => Some(Step::Begin(TaskId(first))),
         3 => Some(Step::Done(TaskId(first))),
@@ -52,8 +52,9 @@ pub(crate) fn step_of(event: Event) -> Option<Step>
     }
 }
 
+/// The step of a fresh task, or `None` for one of more than 16 inputs.
 #[inline(always)]
-fn insert(home: u32, task: u32, inputs: u32) -> Option<Step>
+pub(crate) fn insert_step(home: u32, task: u32, inputs: u32) -> Option<Step>
     ensures { result ≡ insert_asked home task inputs }
 {
     if inputs > u32::from(MAX_INPUTS) {

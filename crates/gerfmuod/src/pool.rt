@@ -33,9 +33,9 @@ impl Model for Pool {
 }
 
 impl Pool {
-    ghost use Rattle.tp_core.specs.Generations.{AreRuns};
+    ghost use Rattle.tp_core.specs.Generations.{AreRuns, InEach};
+    ghost use Rattle.tp_core.specs.NeverEarly.{IsNeverEarly};
     ghost use Rattle.tp_core.specs.Settled.{Settles};
-    ghost use Rattle.gerfmuod.specs.Pool.{WasNeverEarly};
     ghost use Rattle.gerfmuod.specs.Told.{AnswersTo};
 
     /// A pool over the nodes 0 to `nodes` - 1, 1 to 8 of them. It takes no memory.
@@ -77,7 +77,7 @@ impl Pool {
     #[inline(always)]
     pub(crate) fn take(&mut self, step: Option<Step>) -> Result<Reply, Refusal>
         ensures answers { AnswersTo self.old step result self.new }
-        ensures never_early { WasNeverEarly self.new }
+        ensures never_early { InEach (IsNeverEarly self.new.nodes) self.new.steps }
     {
         match step {
             Some(step) => self.core.step(step),
@@ -88,7 +88,7 @@ impl Pool {
     /// Takes control steps until the end is judged, as `Core::settle` does.
     pub(crate) fn settle(&mut self) -> Result<(u32, u32), Refusal>
         ensures answers { Settles self.old result self.new }
-        ensures never_early { WasNeverEarly self.new }
+        ensures never_early { InEach (IsNeverEarly self.new.nodes) self.new.steps }
     {
         self.core.settle()
     }

@@ -1,5 +1,5 @@
 -- `gerfmuod_settle` lends the core for a lifetime that is made for the call.
-use Rattle.std.proofs.Common.{[], ◌∷◌, refl, ap, MutBor}
+use Rattle.std.proofs.Common.{◌≡◌, [], ◌∷◌, refl, ap, MutBor}
 use Rattle.std.proofs.raw_atomic.Walks.{proved}
 use base.Fraction.{full_share}
 use base.Logic.{sep, ex, id⊢}
@@ -29,7 +29,7 @@ use denote.Triple.Walked.{Stays, walk_of, stay_dropped, Goes-dropped, ends_at}
 use denote.Triple.Table.{framed}
 use Rattle.tp_core.specs.Accepted.{Accepted}
 use Rattle.gerfmuod.specs.Asked.{IsSettled}
-use Rattle.gerfmuod.specs.Pool.{WasNeverEarly}
+use Rattle.gerfmuod.specs.Pool.{TellsNoEarlyEnd}
 use Rattle.gerfmuod.specs.contracts.pool.Pool.{the_row as R}
 use Rattle.gerfmuod.specs.declared.answer.Settled.{Settled}
 use Rattle.gerfmuod.specs.contracts.answer.Settled.{the_row as A}
@@ -51,7 +51,7 @@ gerfmuod_settle_spec 𝓤 𝓛 𝓜 𝓡 wired =
     f.Key.name code.function (code.unfolded 𝓤 𝓛.H 𝓜 𝓡 wired)
     (λ κs. (rawptr_vals, tt)) (λ κs. (rawptr_Tells, tt))
     (λ κs qs bounds a n are.
-    let Told = λ (u : Settled) (new : Accepted). IsSettled n u new × WasNeverEarly new in
+    let Told = λ (u : Settled) (new : Accepted). IsSettled n u new × TellsNoEarlyEnd (u.refused ≡ 0) u.wave new in
     let y : Ptr → W.Ghost = λ p. ((κs, qs, bounds, (p, tt), (rawptr_vals p, tt)), n) in
     qed 𝓛 (raw (on_entry 𝓛 f.signature κs qs a (y a.0).0.4) ∷ ‵ (lies_at R full_share a.0 n) ∷ []) ∵ drop ! $
     in_a_block ! a.0 (λ p. lies_at R full_share p n) (id⊢ 𝓤 _) (λ b o e.

@@ -1,5 +1,5 @@
 -- `gerfmuod_step` lends the core for a lifetime that is made for the call.
-use Rattle.std.proofs.Common.{[], ◌∷◌, ◌++◌, refl, ap, w32, MutBor}
+use Rattle.std.proofs.Common.{◌≡◌, [], ◌∷◌, ◌++◌, refl, ap, w32, MutBor}
 use Rattle.std.proofs.raw_atomic.Walks.{proved}
 use base.Fraction.{full_share}
 use base.Logic.{sep, ex, id⊢}
@@ -32,8 +32,8 @@ use denote.Triple.Walked.{Stays, walk_of, stay_dropped, Goes-dropped, ends_at}
 use denote.Triple.Table.{framed}
 use Rattle.tp_core.specs.Accepted.{Accepted}
 use Rattle.gerfmuod.specs.Events.{event_of}
-use Rattle.gerfmuod.specs.Pool.{WasNeverEarly}
-use Rattle.gerfmuod.specs.Told.{IsTold}
+use Rattle.gerfmuod.specs.Pool.{TellsNoEarlyEnd}
+use Rattle.gerfmuod.specs.Told.{IsToldOf}
 use Rattle.gerfmuod.specs.contracts.pool.Pool.{the_row as R}
 use Rattle.gerfmuod.specs.declared.answer.Answer.{Answer}
 use Rattle.gerfmuod.specs.contracts.answer.Answer.{the_row as A}
@@ -59,7 +59,7 @@ gerfmuod_step_spec 𝓤 𝓛 𝓜 𝓡 wired =
     let k = a.1.0 in let i = a.1.1.0 in let j = a.1.1.1.0 in let m = a.1.1.1.1.0 in let h = a.1.1.1.1.1.0 in
     let fk = are.1.0.1 in let fi = are.1.1.0.1 in let fj = are.1.1.1.0.1 in let fm = are.1.1.1.1.0.1 in let fh = are.1.1.1.1.1.0.1 in
     let words = vint w32 k ∷ vint w32 i ∷ vint w32 j ∷ vint w32 m ∷ vint w32 h ∷ [] in
-    let Told = λ (u : Answer) (new : Accepted). IsTold n (event_of k i j m h) u new × WasNeverEarly new in
+    let Told = λ (u : Answer) (new : Accepted). IsToldOf n (event_of k i j m h) u new × TellsNoEarlyEnd (u.told ≡ 3) u.number new in
     let y : Ptr → W.Ghost = λ p. ((κs, qs, bounds, (p, (k, (i, (j, (m, (h, tt)))))), (rawptr_vals p, (vint w32 k ∷ [], (vint w32 i ∷ [], (vint w32 j ∷ [], (vint w32 m ∷ [], (vint w32 h ∷ [], tt))))))), n) in
     qed 𝓛 (raw (on_entry 𝓛 f.signature κs qs a (y a.0).0.4) ∷ ‵ (lies_at R full_share a.0 n) ∷ []) ∵ drop ! $
     in_a_block ! a.0 (λ p. lies_at R full_share p n) (id⊢ 𝓤 _) (λ b o e.

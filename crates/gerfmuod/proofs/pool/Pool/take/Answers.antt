@@ -1,8 +1,9 @@
 use Rattle.std.proofs.Common.{subst}
 use Rattle.tp_core.specs.Accepted.{Accepted}
-use Rattle.gerfmuod.specs.Pool.{WasNeverEarly}
+use Rattle.tp_core.specs.Generations.{InEach}
+use Rattle.tp_core.specs.NeverEarly.{IsNeverEarly}
 use Rattle.gerfmuod.proofs.Kept.{kept_never_early}
 use Rattle.gerfmuod.proofs.pool.Pool.take.Goals as goal
 
 pub returns-in-None-clause-never_early : goal.returns-in-None-clause-never_early
-returns-in-None-clause-never_early c = subst (λ (a : Accepted). WasNeverEarly a) c.self.view_is (kept_never_early c.self.inside c.self.invariant)
+returns-in-None-clause-never_early c = subst (λ (a : Accepted). InEach (IsNeverEarly a.nodes) a.steps) c.self.view_is (kept_never_early c.self.inside c.self.invariant)
