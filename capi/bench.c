@@ -1,13 +1,15 @@
 /* What a checked event costs. `bench time N` prints nanoseconds: of a counter that is raised under a mutex, of a step
- * under the same mutex, and of a step with no mutex. `bench count KIND N` takes N steps of a kind and prints nothing: a
- * tool that counts instructions runs it at two counts. */
-#define _POSIX_C_SOURCE 200809L
+ * under the same mutex, and of a step with no mutex. `bench count KIND N` takes N steps of a kind and prints the memory
+ * that the process has had, in KB: a tool that counts instructions runs it at two counts. `bench stack` prints how deep
+ * the calls go. */
+#define _XOPEN_SOURCE 700
 #include "gerfmuod.h"
 
 #include <pthread.h>
 #include <stdio.h>
 #include <stdlib.h>
 #include <string.h>
+#include <sys/resource.h>
 #include <time.h>
 
 static pthread_mutex_t lock = PTHREAD_MUTEX_INITIALIZER;
@@ -84,6 +86,78 @@ static double best(unsigned long (*run)(gerfmuod_core *, uint32_t), uint32_t ste
     return least;
 }
 
+/* ---- stacks */
+static gerfmuod_core deep;
+static char *trace;
+static size_t trace_length;
+
+static void *nothing(void *unused) { return unused; }
+
+static void *take_steps(void *unused) {
+    if (tasks(&deep, 3000) || messages(&deep, 3000)) exit(1);
+    for (uint32_t node = 0; node < 8; node++) gerfmuod_ready(&deep, node);
+    if (gerfmuod_settle(&deep).refused || gerfmuod_reopen(&deep).refused) exit(1);
+    gerfmuod_whole(&deep);
+    gerfmuod_counters(&deep, 7);
+    return unused;
+}
+
+/* Numbers that lie far apart are kept in a tree. */
+static void *take_far_steps(void *unused) {
+    gerfmuod_core far;
+    if (gerfmuod_open(&far, 8)) exit(1);
+    for (uint32_t t = 0; t < 20000; t++) {
+        if (gerfmuod_insert(&far, t & 7, 4000000000u - t * 7919u, 0).refused) exit(1);
+    }
+    gerfmuod_close(&far);
+    return unused;
+}
+
+static void *write_trace(void *unused) {
+    trace_length = gerfmuod_trace(&deep, NULL, 0).length;
+    trace = malloc(trace_length);
+    if (!trace || gerfmuod_trace(&deep, trace, trace_length).outcome) exit(1);
+    return unused;
+}
+
+static void *judge_trace(void *unused) {
+    char room[256];
+    if (gerfmuod_audit(trace, trace_length, room, sizeof room).outcome) exit(1);
+    return unused;
+}
+
+static void *close_core(void *unused) {
+    gerfmuod_close(&deep);
+    return unused;
+}
+
+/* How many bytes of a painted stack a call has written to, less those that a thread takes itself. */
+static size_t depth_of(void *(*job)(void *)) {
+    const size_t size = 1 << 20;
+    unsigned char *stack = NULL;
+    pthread_attr_t attributes;
+    pthread_t thread;
+    if (posix_memalign((void **)&stack, 4096, size)) exit(1);
+    memset(stack, 165, size);
+    if (pthread_attr_init(&attributes) || pthread_attr_setstack(&attributes, stack, size)) exit(1);
+    if (pthread_create(&thread, &attributes, job, NULL) || pthread_join(thread, NULL)) exit(1);
+    size_t untouched = 0;
+    while (untouched < size && stack[untouched] == 165) untouched++;
+    free(stack);
+    return job == nothing ? size - untouched : size - untouched - depth_of(nothing);
+}
+
+static int stacks(void) {
+    if (gerfmuod_open(&deep, 8)) return 1;
+    printf("stack of steps, questions and settle %zu bytes\n", depth_of(take_steps));
+    printf("stack of steps with large numbers, and close %zu bytes\n", depth_of(take_far_steps));
+    printf("stack of trace %zu bytes\n", depth_of(write_trace));
+    printf("stack of audit %zu bytes\n", depth_of(judge_trace));
+    printf("stack of close %zu bytes\n", depth_of(close_core));
+    free(trace);
+    return 0;
+}
+
 int main(int argc, char **argv) {
     if (argc == 3 && strcmp(argv[1], "time") == 0) {
         uint32_t steps = (uint32_t)atoi(argv[2]);
@@ -99,8 +173,12 @@ int main(int argc, char **argv) {
         uint32_t steps = (uint32_t)atoi(argv[3]);
         unsigned long refused = strcmp(argv[2], "tasks") == 0 ? tasks(&core, steps) : messages(&core, steps);
         gerfmuod_close(&core);
+        struct rusage used;
+        if (getrusage(RUSAGE_SELF, &used)) return 1;
+        printf("%ld\n", used.ru_maxrss);
         return refused != 0;
     }
-    fputs("bench time N | bench count tasks N | bench count messages N\n", stderr);
+    if (argc == 2 && strcmp(argv[1], "stack") == 0) return stacks();
+    fputs("bench time N | bench count tasks N | bench count messages N | bench stack\n", stderr);
     return 2;
 }

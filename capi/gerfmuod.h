@@ -3,18 +3,18 @@
  * A core is handed each event of a pool of tasks as it happens, one call an event. It keeps the list of those that it
  * took, refuses each that is not lawful after them, and judges the end of the pool by the four counters of F. Mattern
  * (1987). What is proved of it holds whatever it is handed: where it tells GERFMUOD_ENDED with the number of a wave, or
- * gerfmuod_settle answers one, no task was unfinished, no action open and no message under way when that wave ended, and
- * each task of that generation had been inserted, begun and done, each once. It speaks of the events that it was
+ * gerfmuod_settle answers one, no task was unfinished, no action open and no message under way when that wave ended,
+ * and each task of that generation had been inserted, begun and done, each once. It speaks of the events that it was
  * handed: tell it each one, a send before its message can be received, a receipt before the message is acted on.
  *
  * What the caller owes, and nothing checks:
- *   - a gerfmuod_core that was opened and not closed, at an address that is a multiple of 8. It is the library's until it
- *     is closed: nobody else writes to it. Between two calls it may be moved by memcpy, and the old place is then dead;
+ *   - a gerfmuod_core that was opened and not closed, at an address that is a multiple of 8. It is the library's until
+ *     it is closed: nobody else writes to it. Between two calls it may be moved by memcpy, and the old place is dead;
  *   - one call on a core at a time: put a mutex round the calls. Different cores may be called at once;
  *   - a text or a room is as long as the length beside it says, and no call is handed one that overlaps the core. NULL
  *     will do where the length is 0;
  *   - no call from a signal handler, nor in the forked child of a process that has threads;
- *   - room on the stack: 16 KB, for gerfmuod_audit and gerfmuod_trace 64 KB;
+ *   - 16 KB of room on the stack, of which 6 are known to be used;
  *   - malloc, realloc and free of one allocator: the library calls them. It calls nothing else, and starts no thread.
  * Every other wrong argument is told by a refusal, and then nothing has changed.
  *
@@ -49,8 +49,8 @@ typedef struct gerfmuod_core {
     uint64_t words[64];
 } gerfmuod_core;
 
-/* The kinds of steps, and their numbers in the order in which gerfmuod_step takes them. Those that a kind has not are not
- * looked at. */
+/* The kinds of steps, and their numbers in the order in which gerfmuod_step takes them. Those that a kind has not are
+ * not looked at. */
 enum {
     GERFMUOD_STEP_INSERT = 0,       /* node, task, inputs */
     GERFMUOD_STEP_SUPPLY = 1,       /* task */
@@ -140,7 +140,7 @@ enum {
     GERFMUOD_COMPLAINT = 1,     /* it stands in the room, and says which line of the trace is at fault */
     GERFMUOD_TOO_LONG = 2,      /* the trace has more than 33,554,432 bytes: nothing is written */
     GERFMUOD_OUT_OF_MEMORY = 3, /* memory was refused: nothing is written */
-    GERFMUOD_NO_ROOM = 4,       /* nothing is written: the text has as many bytes as `length` says, more than the room */
+    GERFMUOD_NO_ROOM = 4,       /* nothing is written: the text has `length` bytes, more than the room */
     GERFMUOD_NO_TEXT = 5        /* nothing is written: there is no such text */
 };
 
@@ -163,18 +163,18 @@ uint32_t gerfmuod_version(void);
 /* How many bytes of a gerfmuod_core are in use: at most 512. */
 size_t gerfmuod_core_size(void);
 
-/* Opens a core over the nodes 0 to nodes - 1. It takes no memory. Each node begins with one pending: its opening, which
- * gerfmuod_ready closes. Refused: BAD_SPEC where there are not 1 to 8 nodes; the core is then open over one node, so that
- * no later call is undefined, and is closed like any other. */
+/* Opens a core over the nodes 0 to nodes - 1. It takes no memory. Each node begins with one pending: its opening,
+ * which gerfmuod_ready closes. Refused: BAD_SPEC where there are not 1 to 8 nodes; the core is then open over one
+ * node, so that no later call is undefined, and is closed like any other. */
 uint32_t gerfmuod_open(gerfmuod_core *core, uint32_t nodes);
 
 /* Frees what the core took. Its memory may then be opened anew. */
 void gerfmuod_close(gerfmuod_core *core);
 
-/* Takes the next step, where it is lawful and there is room for it. Refused for the first that holds: BAD_SPEC for a kind
- * above 15 or an insert with more than 16 inputs; what its kind is checked for, in the order that stands at the calls
- * below; HISTORY_FULL; NO_MEMORY, where the step asks for some: of a task, an action that is opened or a message that is
- * sent, and once in 1,024 steps. */
+/* Takes the next step, where it is lawful and there is room for it. Refused for the first that holds: BAD_SPEC for a
+ * kind above 15 or an insert with more than 16 inputs; what its kind is checked for, in the order that stands at the
+ * calls below; HISTORY_FULL; NO_MEMORY, where the step asks for some: of a task, an action that is opened or a
+ * message that is sent, and once in 1,024 steps. */
 gerfmuod_answer gerfmuod_step(gerfmuod_core *core, uint32_t kind, uint32_t first, uint32_t second, uint32_t third,
                               uint32_t generation);
 
@@ -189,8 +189,9 @@ gerfmuod_whole_of gerfmuod_whole(gerfmuod_core *core);
  * HISTORY_FULL where there is no room for 9 steps a node; NO_MEMORY. */
 gerfmuod_settled gerfmuod_settle(gerfmuod_core *core);
 
-/* Writes the steps that were taken as a trace, which gerfmuod_audit and `tp audit` judge. NO_TEXT where a number of more
- * than six digits was used. A step takes at most 36 bytes; call it with no room to be told how many bytes there are. */
+/* Writes the steps that were taken as a trace, which gerfmuod_audit and `tp audit` judge. NO_TEXT where a number of
+ * more than six digits was used. A step takes at most 36 bytes; call it with no room to be told how many bytes there
+ * are. */
 gerfmuod_written gerfmuod_trace(gerfmuod_core *core, char *room, size_t room_length);
 
 /* Judges a trace as `tp audit` does: WRITTEN or COMPLAINT, with the same text. 256 bytes of room are enough. */

@@ -42,10 +42,10 @@ class Detector {
         std::lock_guard<std::mutex> held(lock);
         if (Number why = call(&core).refused) {
             char name[16], meaning[128];
-            auto n = gerfmuod_refusal_name(why, name, sizeof name);
-            auto m = gerfmuod_refusal_meaning(why, meaning, sizeof meaning);
-            std::fprintf(stderr, "behind step %u, %s %u at node %u: refused %u %.*s: %.*s\n", gerfmuod_length(&core), what,
-                         number, node, why, static_cast<int>(n.length), name, static_cast<int>(m.length), meaning);
+            int n = static_cast<int>(gerfmuod_refusal_name(why, name, sizeof name).length);
+            int m = static_cast<int>(gerfmuod_refusal_meaning(why, meaning, sizeof meaning).length);
+            std::fprintf(stderr, "behind step %u, %s %u at node %u: refused %u %.*s: %.*s\n", gerfmuod_length(&core),
+                         what, number, node, why, n, name, m, meaning);
             std::_Exit(3);
         }
     }

@@ -6,7 +6,7 @@ C and C++ once more under valgrind, where that is here. What is not here is told
 passed, M failed`; the status is 1 where one failed.
 
 With --bench the programs are not run; what a step costs is measured and printed: instructions, which valgrind counts at
-two numbers of steps, and nanoseconds.
+two numbers of steps, memory, nanoseconds, and the depth of the stack.
 """
 import os
 import re
@@ -125,17 +125,25 @@ def instructions(program, kind, steps):
     return int(re.search(r"I +refs: +([\d,]+)", told)[1].replace(",", ""))
 
 
+def memory(program, kind, steps):
+    """The most KB that the process has had."""
+    return int(subprocess.run([program, "count", kind, str(steps)], capture_output=True, text=True, check=True).stdout)
+
+
 def bench(folder):
     program = compiled(Program("bench.c", ["gcc", "-std=c11", *WARNINGS, "-O2", "-pthread"], [], False), folder)
-    print(f"{STEPS:,} steps at 8 nodes, called from C by the wrappers of the header:")
-    if shutil.which("valgrind"):
-        for kind in ("tasks", "messages"):
+    print(f"{STEPS:,} steps at 8 nodes, called from C:")
+    for kind in ("tasks", "messages"):
+        if shutil.which("valgrind"):
             none, all_of_them = (instructions(program, kind, steps) for steps in (0, STEPS))
             print(f"{kind}: {(all_of_them - none) / STEPS:.1f} instructions a step, the loop and the close in them")
-    else:
+        grown = memory(program, kind, STEPS) - memory(program, kind, 0)
+        print(f"{kind}: {grown * 1024 / STEPS:.1f} bytes a step at the most")
+    if not shutil.which("valgrind"):
         print("valgrind is not here: no instructions are counted")
     sys.stdout.flush()
     subprocess.run([program, "time", str(STEPS)], check=True)
+    subprocess.run([program, "stack"], check=True)
 
 
 def arguments(parser):

@@ -94,7 +94,8 @@ fn of_refusal(refusal: Refusal) -> Answer
 #[inline(always)]
 #[tactic(auto, using(crate::proofs::Ended::told_over))]
 fn told(pool: &mut Pool, step: Option<Step>) -> Answer
-    ensures { IsTold pool.old step result pool.new × TellsNoEarlyEnd (result.told ≡ 3) result.number pool.new }
+    ensures { IsTold pool.old step result pool.new
+        × TellsNoEarlyEnd (result.told ≡ 3) result.number pool.new }
 {
     match pool.take(step) {
         // most steps
@@ -114,7 +115,8 @@ pub(crate) fn answered(
     third: u32,
     generation: u32,
 ) -> Answer
-    ensures { IsToldOf pool.old (event_of kind first second third generation) result pool.new × TellsNoEarlyEnd (result.told ≡ 3) result.number pool.new }
+    ensures { IsToldOf pool.old (event_of kind first second third generation) result pool.new
+        × TellsNoEarlyEnd (result.told ≡ 3) result.number pool.new }
 {
     let event = Event {
         kind,
@@ -129,7 +131,8 @@ pub(crate) fn answered(
 /// A fresh task waits at its home node for so many inputs.
 #[inline(always)]
 pub(crate) fn insert(pool: &mut Pool, node: u32, task: u32, inputs: u32) -> Answer
-    ensures { IsTold pool.old (insert_asked node task inputs) result pool.new × TellsNoEarlyEnd (result.told ≡ 3) result.number pool.new }
+    ensures { IsTold pool.old (insert_asked node task inputs) result pool.new
+        × TellsNoEarlyEnd (result.told ≡ 3) result.number pool.new }
 {
     told(pool, insert_step(node, task, inputs))
 }
@@ -137,7 +140,8 @@ pub(crate) fn insert(pool: &mut Pool, node: u32, task: u32, inputs: u32) -> Answ
 /// A waiting task gets one input.
 #[inline(always)]
 pub(crate) fn supply(pool: &mut Pool, task: u32) -> Answer
-    ensures { IsTold pool.old (Some (supply_of task)) result pool.new × TellsNoEarlyEnd (result.told ≡ 3) result.number pool.new }
+    ensures { IsTold pool.old (Some (supply_of task)) result pool.new
+        × TellsNoEarlyEnd (result.told ≡ 3) result.number pool.new }
 {
     told(pool, Some(Step::Supply(TaskId(task))))
 }
@@ -145,7 +149,8 @@ pub(crate) fn supply(pool: &mut Pool, task: u32) -> Answer
 /// A ready task begins to run.
 #[inline(always)]
 pub(crate) fn begin(pool: &mut Pool, task: u32) -> Answer
-    ensures { IsTold pool.old (Some (begin_of task)) result pool.new × TellsNoEarlyEnd (result.told ≡ 3) result.number pool.new }
+    ensures { IsTold pool.old (Some (begin_of task)) result pool.new
+        × TellsNoEarlyEnd (result.told ≡ 3) result.number pool.new }
 {
     told(pool, Some(Step::Begin(TaskId(task))))
 }
@@ -153,7 +158,8 @@ pub(crate) fn begin(pool: &mut Pool, task: u32) -> Answer
 /// A running task is done.
 #[inline(always)]
 pub(crate) fn done(pool: &mut Pool, task: u32) -> Answer
-    ensures { IsTold pool.old (Some (done_of task)) result pool.new × TellsNoEarlyEnd (result.told ≡ 3) result.number pool.new }
+    ensures { IsTold pool.old (Some (done_of task)) result pool.new
+        × TellsNoEarlyEnd (result.told ≡ 3) result.number pool.new }
 {
     told(pool, Some(Step::Done(TaskId(task))))
 }
@@ -161,7 +167,8 @@ pub(crate) fn done(pool: &mut Pool, task: u32) -> Answer
 /// A node sends a message to another.
 #[inline(always)]
 pub(crate) fn send(pool: &mut Pool, from: u32, to: u32, message: u32, generation: u32) -> Answer
-    ensures { IsTold pool.old (Some (send_of from to message generation)) result pool.new × TellsNoEarlyEnd (result.told ≡ 3) result.number pool.new }
+    ensures { IsTold pool.old (Some (send_of from to message generation)) result pool.new
+        × TellsNoEarlyEnd (result.told ≡ 3) result.number pool.new }
 {
     told(
         pool,
@@ -177,7 +184,8 @@ pub(crate) fn send(pool: &mut Pool, from: u32, to: u32, message: u32, generation
 /// A node receives a message, whose action opens.
 #[inline(always)]
 pub(crate) fn receive(pool: &mut Pool, node: u32, message: u32, generation: u32) -> Answer
-    ensures { IsTold pool.old (Some (receive_of node message generation)) result pool.new × TellsNoEarlyEnd (result.told ≡ 3) result.number pool.new }
+    ensures { IsTold pool.old (Some (receive_of node message generation)) result pool.new
+        × TellsNoEarlyEnd (result.told ≡ 3) result.number pool.new }
 {
     told(
         pool,
@@ -188,7 +196,8 @@ pub(crate) fn receive(pool: &mut Pool, node: u32, message: u32, generation: u32)
 /// The action of a message closes.
 #[inline(always)]
 pub(crate) fn message_end(pool: &mut Pool, node: u32, message: u32, generation: u32) -> Answer
-    ensures { IsTold pool.old (Some (message_end_of node message generation)) result pool.new × TellsNoEarlyEnd (result.told ≡ 3) result.number pool.new }
+    ensures { IsTold pool.old (Some (message_end_of node message generation)) result pool.new
+        × TellsNoEarlyEnd (result.told ≡ 3) result.number pool.new }
 {
     told(
         pool,
