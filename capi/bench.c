@@ -98,7 +98,7 @@ static void *take_steps(void *unused) {
     for (uint32_t node = 0; node < 8; node++) gerfmuod_ready(&deep, node);
     if (gerfmuod_settle(&deep).refused || gerfmuod_reopen(&deep).refused) exit(1);
     gerfmuod_whole(&deep);
-    gerfmuod_counters(&deep, 7);
+    gerfmuod_numbers(&deep, 7);
     return unused;
 }
 

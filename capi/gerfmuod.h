@@ -112,20 +112,20 @@ typedef struct gerfmuod_answer {
 } gerfmuod_answer;
 
 /* The counters of a node in the present generation. */
-typedef struct gerfmuod_counters_of {
+typedef struct gerfmuod_counters {
     uint32_t refused;  /* 0, or GERFMUOD_REFUSED_NO_NODE: the counters are then 0 */
     uint32_t pending;  /* tasks that are not done, and actions that are open: the node is idle at 0 */
     uint32_t sent;     /* messages that it sent */
     uint32_t received; /* messages that it received */
-} gerfmuod_counters_of;
+} gerfmuod_counters;
 
 /* The pool as a whole. */
-typedef struct gerfmuod_whole_of {
+typedef struct gerfmuod_pool {
     uint32_t steps;     /* steps that were taken, of all generations */
     uint32_t room;      /* how many more can be: GERFMUOD_MAX_STEPS less those */
     uint32_t under_way; /* messages that were sent and not received */
     bool quiet;         /* no task is unfinished, no action is open, no message is under way */
-} gerfmuod_whole_of;
+} gerfmuod_pool;
 
 /* The answer of gerfmuod_settle. */
 typedef struct gerfmuod_settled {
@@ -152,8 +152,8 @@ typedef struct gerfmuod_written {
 /* These sizes are the library's, which proves its own. */
 typedef char gerfmuod_core_has_512_bytes[sizeof(gerfmuod_core) == 512 ? 1 : -1];
 typedef char gerfmuod_answer_has_16_bytes[sizeof(gerfmuod_answer) == 16 ? 1 : -1];
-typedef char gerfmuod_counters_have_16_bytes[sizeof(gerfmuod_counters_of) == 16 ? 1 : -1];
-typedef char gerfmuod_whole_has_16_bytes[sizeof(gerfmuod_whole_of) == 16 ? 1 : -1];
+typedef char gerfmuod_counters_have_16_bytes[sizeof(gerfmuod_counters) == 16 ? 1 : -1];
+typedef char gerfmuod_pool_has_16_bytes[sizeof(gerfmuod_pool) == 16 ? 1 : -1];
 typedef char gerfmuod_settled_has_12_bytes[sizeof(gerfmuod_settled) == 12 ? 1 : -1];
 typedef char gerfmuod_written_has_16_bytes[sizeof(gerfmuod_written) == 16 ? 1 : -1];
 
@@ -179,10 +179,10 @@ gerfmuod_answer gerfmuod_step(gerfmuod_core *core, uint32_t kind, uint32_t first
                               uint32_t generation);
 
 /* The counters of a node. Refused: NO_NODE. */
-gerfmuod_counters_of gerfmuod_counters(gerfmuod_core *core, uint32_t node);
+gerfmuod_counters gerfmuod_numbers(gerfmuod_core *core, uint32_t node);
 
 /* The pool as a whole. */
-gerfmuod_whole_of gerfmuod_whole(gerfmuod_core *core);
+gerfmuod_pool gerfmuod_whole(gerfmuod_core *core);
 
 /* Starts and judges waves until the end is judged, where nothing is left: at most two waves and 9 steps a node. Refused
  * for the first that holds: ENDED where the end was judged; NOT_IDLE where something is left, which costs no step;

@@ -58,11 +58,11 @@ static void one_task_and_a_message(gerfmuod_core *core, uint32_t generation) {
 }
 
 static void questions(gerfmuod_core *core) {
-    gerfmuod_counters_of own = gerfmuod_counters(core, 1);
+    gerfmuod_counters own = gerfmuod_numbers(core, 1);
     CHECK(own.refused == 0 && own.pending == 0 && own.sent == 0 && own.received == 1);
-    own = gerfmuod_counters(core, 2);
+    own = gerfmuod_numbers(core, 2);
     CHECK(own.refused == GERFMUOD_REFUSED_NO_NODE && own.pending == 0 && own.sent == 0 && own.received == 0);
-    gerfmuod_whole_of all = gerfmuod_whole(core);
+    gerfmuod_pool all = gerfmuod_whole(core);
     CHECK(all.under_way == 0 && all.quiet && all.steps + all.room == GERFMUOD_MAX_STEPS);
     CHECK(gerfmuod_length(core) == all.steps && gerfmuod_room(core) == all.room);
 }

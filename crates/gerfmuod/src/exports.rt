@@ -184,7 +184,7 @@ pub unsafe extern "C" fn gerfmuod_message_end(
 
 /// The counters of a node, or 1, `NoNode`, where there is no such node.
 #[unsafe(no_mangle)]
-pub unsafe extern "C" fn gerfmuod_counters(core: *mut u8, node: u32) -> Counters
+pub unsafe extern "C" fn gerfmuod_numbers(core: *mut u8, node: u32) -> Counters
     ghost old: { Accepted }
     requires* { sem 𝓛 (lies_at core_row full_share core old) }
     ensures* { ∃ₛ (λ (new : Accepted). sem 𝓛 (lies_at core_row full_share core new)

@@ -1,4 +1,4 @@
--- `gerfmuod_counters` lends the core for a lifetime that is made for the call.
+-- `gerfmuod_numbers` lends the core for a lifetime that is made for the call.
 use Rattle.std.proofs.Common.{◌≡◌, [], ◌∷◌, ◌++◌, refl, ap, w32, MutBor}
 use Rattle.std.proofs.raw_atomic.Walks.{proved}
 use base.Fraction.{full_share}
@@ -37,17 +37,17 @@ use Rattle.gerfmuod.specs.declared.answer.Counters.{Counters}
 use Rattle.gerfmuod.specs.contracts.answer.Counters.{the_row as A}
 use Rattle.gerfmuod.proofs.answer.Counters.TheLaws.{the_row_laws}
 use Rattle.gerfmuod.proofs.Walks.{tells, lies_so}
-use Rattle.gerfmuod.specs.contracts.exports.gerfmuod_counters as f
-use Rattle.gerfmuod.proofs.exports.gerfmuod_counters.Statement.{statement}
-use Rattle.gerfmuod.proofs.exports.gerfmuod_counters.Code as code
+use Rattle.gerfmuod.specs.contracts.exports.gerfmuod_numbers as f
+use Rattle.gerfmuod.proofs.exports.gerfmuod_numbers.Statement.{statement}
+use Rattle.gerfmuod.proofs.exports.gerfmuod_numbers.Code as code
 use Rattle.gerfmuod.specs.contracts.calls.counted as g
 use Rattle.gerfmuod.proofs.calls.counted.Met.{met}
 
 abbrev stayed : Stays f.ended.signature.params f.ended.kept
 stayed = (stay_dropped _ yes, (stay_dropped _ yes, tt))
 
-pub gerfmuod_counters_spec : {M : Type 1} → statement M
-gerfmuod_counters_spec 𝓤 𝓛 𝓜 𝓡 wired =
+pub gerfmuod_numbers_spec : {M : Type 1} → statement M
+gerfmuod_numbers_spec 𝓤 𝓛 𝓜 𝓡 wired =
     let c = f.clauses 𝓛 𝓜.mem 𝓡.returns in let W = walk_of 𝓛 f.ended stayed c in let 𝓣 = tables 𝓤 𝓛.H 𝓜 𝓡 𝓡.env in
     let num = Goes-dropped 𝓛 0 (plain (λ _. u32)) yes (λ κs x w. refl) in
     proved 𝓛 f.ended stayed c 𝓜 𝓡 (Goes-dropped 𝓛 0 (plain (λ _. RawPtr)) yes (λ κs x w. refl), (num, tt))
