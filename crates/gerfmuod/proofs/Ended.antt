@@ -1,24 +1,22 @@
 -- Where the end is told, the pool had ended.
-use Rattle.std.proofs.Common.{ℕ, ◌≡◌, ◌+◌, ◌-◌, ◌≤◌, ◌==◌, ◌&&◌, ◌++◌, Bool, true, false, cond, nat_le, if◌then◌else◌, List, [], ◌∷◌, Option, Some, None, Result, length, refl, sym, ap, subst, ◌∙◌, arith}
+use Rattle.std.proofs.Common.{ℕ, ◌≡◌, ◌+◌, ◌-◌, ◌≤◌, ◌&&◌, ◌++◌, Bool, true, false, nat_le, if◌then◌else◌, List, [], ◌∷◌, Option, Some, None, Result, length, refl, sym, ap, subst, ◌∙◌, arith}
 use Rattle.std.specs.Prelude.{Ok, Err}
 use Rattle.std.proofs.lemmas.Bool.{lt-leb}
 use Rattle.std.proofs.lemmas.Bool.Decides.{nat_tests}
 use Rattle.tp_base.specs.declared.Refusal.{Refusal}
 use Rattle.tp_base.specs.declared.Refusal.TheVariants.{HistoryFull}
 use Rattle.tp_base.specs.declared.Step.{Step}
-use Rattle.tp_base.specs.declared.Step.TheVariants.{Give, Judge, Reopen}
+use Rattle.tp_base.specs.declared.Step.TheVariants.{Give, Judge}
 use Rattle.tp_wave.specs.Cut.{visited_at}
 use Rattle.tp_wave.specs.Generations.{present}
 use Rattle.tp_wave.specs.Sums.{four_equal, judgement, until, visit, waves}
 use Rattle.tp_core.specs.declared.Reply.{Reply}
 use Rattle.tp_core.specs.declared.Reply.TheVariants.{Plain, WaveSums, Not, Over, Opened}
-use Rattle.tp_core.specs.Accepted.{Accepted, judged, reply_to, with_step, Answers}
+use Rattle.tp_core.specs.Accepted.{Accepted, judged, reply_to, with_step}
 use Rattle.tp_core.specs.Generations.{InEach}
 use Rattle.tp_core.specs.NeverEarly.{IsNeverEarly, IsOverFrom}
 use Rattle.tp_core.specs.Settled.{Settles}
 use Rattle.tp_core.proofs.Generations.{present-control}
-use Rattle.gerfmuod.specs.declared.answer.Answer.{Answer}
-use Rattle.gerfmuod.specs.declared.answer.Settled.{Settled}
 use Rattle.gerfmuod.specs.Asked.{settled, unsettled}
 use Rattle.gerfmuod.specs.Pool.{IsOver, TellsNoEarlyEnd}
 use Rattle.gerfmuod.specs.Told.{told, reply_told, refusal_told, AnswersTo}

@@ -1,18 +1,15 @@
 -- The steps of a core, each beside its node, as they are recorded one by one.
-use Rattle.std.proofs.Common.{ℕ, suc, ◌≡◌, ◌+◌, ◌<◌, ◌≤◌, ◌==◌, ◌++◌, List, [], ◌∷◌, Option, Some, None, true, false, cond, length, reverse, take, drop, get_or, if◌then◌else◌, refl, sym, ap, subst, ◌∙◌, inl, inr, arith, IsTrue, IsFalse}
-use Rattle.std.specs.List.{find, All}
+use Rattle.std.proofs.Common.{ℕ, ◌≡◌, ◌+◌, ◌<◌, ◌≤◌, ◌==◌, ◌++◌, List, [], ◌∷◌, Option, Some, true, false, cond, length, reverse, take, drop, get_or, refl, sym, ap, subst, ◌∙◌, inl, inr, arith, IsTrue}
+use Rattle.std.specs.List.{find}
 use Rattle.std.specs.Option.{option_map}
-use Rattle.std.specs.Prelude.{unwrap_or}
 use Rattle.std.proofs.lemmas.Bool.{cases_Bool}
 use Rattle.std.proofs.lemmas.List.{take_more, take-append-drop, reverse-append}
 use Rattle.tp_base.specs.History.{Event, NamesSmall}
 use Rattle.tp_base.specs.declared.NodeId.{NodeId}
 use Rattle.tp_base.specs.declared.Step.{Step}
-use Rattle.tp_base.specs.declared.Step.TheVariants.{Insert, Supply, Begin, Done, Send, Recv, MessageEnd, Reopen}
+use Rattle.tp_base.specs.declared.Step.TheVariants.{Supply, Begin, Done, Send, Recv, MessageEnd, Reopen}
 use Rattle.tp_base.specs.declared.Table.{Table}
-use Rattle.tp_base.specs.Table.{lookup, Puts}
-use Rattle.tp_wave.specs.Machine.{History, IsNext, IsOf, Needs, IsRun, steps_of}
-use Rattle.tp_wave.specs.Machine as machine
+use Rattle.tp_wave.specs.Machine.{History, IsOf, Needs, IsRun, steps_of}
 use Rattle.tp_wave.specs.Steps.{is_reopen}
 use Rattle.tp_wave.specs.Generations as generations
 use Rattle.tp_wave.specs.Generations.{present}
@@ -24,7 +21,7 @@ use Rattle.tp_core.specs.Pool.{supplied, with_life}
 use Rattle.tp_core.specs.Run.{node_of, world}
 use Rattle.tp_core.specs.World.{Task}
 use Rattle.tp_core.proofs.Answering.{no_step}
-use Rattle.tp_core.proofs.Generations.{runs_are_counted, present-goes_on}
+use Rattle.tp_core.proofs.Generations.{runs_are_counted}
 use Rattle.gerfmuod.specs.Homes.{home, tasks_after, HasHomes, IsSmall}
 
 -- the oldest steps, so many, the newest first, where the steps are given in the order of time

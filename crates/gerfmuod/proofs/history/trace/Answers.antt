@@ -1,4 +1,4 @@
-use Rattle.std.proofs.Common.{ℕ, ◌≡◌, List, refl, inr, subst, sym, ap, ◌∙◌, reverse}
+use Rattle.std.proofs.Common.{ℕ, ◌≡◌, List, refl, inr, subst, sym, ◌∙◌, reverse}
 use Rattle.std.specs.Prelude.{IfErr, IfOk, ◌⊎◌}
 use Rattle.tp_base.specs.declared.Refusal.TheVariants.{BadSpec, NoMemory}
 use Rattle.tp_base.specs.declared.Step.{Step}
