@@ -126,7 +126,7 @@ def instructions(program, kind, steps):
 
 
 def memory(program, kind, steps):
-    """The most KB that the process has had."""
+    """The bytes that the process has after so many steps."""
     return int(subprocess.run([program, "count", kind, str(steps)], capture_output=True, text=True, check=True).stdout)
 
 
@@ -138,7 +138,7 @@ def bench(folder):
             none, all_of_them = (instructions(program, kind, steps) for steps in (0, STEPS))
             print(f"{kind}: {(all_of_them - none) / STEPS:.1f} instructions a step, the loop and the close in them")
         grown = memory(program, kind, STEPS) - memory(program, kind, 0)
-        print(f"{kind}: {grown * 1024 / STEPS:.1f} bytes a step at the most")
+        print(f"{kind}: {grown / STEPS:.1f} bytes a step")
     if not shutil.which("valgrind"):
         print("valgrind is not here: no instructions are counted")
     sys.stdout.flush()
