@@ -16,7 +16,7 @@
  *   - no call from a signal handler, nor in the forked child of a process that has threads;
  *   - 16 KB of room on the stack, of which 6 are known to be used;
  *   - malloc, realloc and free of one allocator: the library calls them. It calls nothing else, and starts no thread.
- * Every other wrong argument is told by a refusal, and then nothing has changed.
+ * Every other wrong argument is told by a refusal or by an outcome, and then nothing has changed.
  *
  * Units: nodes, tasks, actions, messages, generations, waves and steps are counted; lengths and rooms are bytes. Nodes
  * count from 0, waves and generations from 1. Numbers of tasks, actions and messages are the caller's, any uint32_t.
@@ -189,9 +189,8 @@ gerfmuod_pool gerfmuod_whole(gerfmuod_core *core);
  * HISTORY_FULL where there is no room for 9 steps a node; NO_MEMORY. */
 gerfmuod_settled gerfmuod_settle(gerfmuod_core *core);
 
-/* Writes the steps that were taken as a trace, which gerfmuod_audit and `tp audit` judge. NO_TEXT where a number of
- * more than six digits was used. A step takes at most 36 bytes; call it with no room to be told how many bytes there
- * are. */
+/* Writes the steps that were taken as a trace, which gerfmuod_audit and `tp audit` judge: 16 bytes, and at most 24 a
+ * step. With no room it tells how many there are. NO_TEXT where a number of more than six digits was used. */
 gerfmuod_written gerfmuod_trace(gerfmuod_core *core, char *room, size_t room_length);
 
 /* Judges a trace as `tp audit` does: WRITTEN or COMPLAINT, with the same text. 256 bytes of room are enough. */
