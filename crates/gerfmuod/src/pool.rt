@@ -20,6 +20,9 @@ const _: () = prove!(size_of::<Pool>() <= ROOM);
 
 const _: () = prove!(align_of::<Pool>() <= 8);
 
+/// Compiles only for what may go from thread to thread, as a program in C may hand on its core.
+fn can_be_sent<T: Send>() {}
+
 impl Model for Pool {
     ghost use Rattle.tp_core.specs.Accepted.{Accepted};
 
@@ -43,6 +46,7 @@ impl Pool {
         requires { (1 ≤ nodes) × (nodes ≤ MAX_NODES) }
         ensures { result ≡ record { nodes = nodes; steps = [] } }
     {
+        can_be_sent::<Pool>();
         Pool {
             core: Core::new(alloc, nodes),
             nodes,

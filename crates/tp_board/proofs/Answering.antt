@@ -1,5 +1,5 @@
 -- What a call answers whose checks are made by two calls in turn.
-use Rattle.std.proofs.Common.{ℕ, ◌≡◌, List, [], ◌∷◌, ◌++◌, Bool, true, false, Some, None, Option, Result, Ok, Err, ◌<◌, length, ◌+◌, refl, sym, ap, ◌∙◌, arith}
+use Rattle.std.proofs.Common.{ℕ, ◌≡◌, List, [], ◌∷◌, ◌++◌, Bool, true, false, Some, None, Option, Result, Ok, Err, ◌<◌, length, ◌+◌, refl, sym, ap, subst, ◌∙◌, arith}
 use Rattle.std.proofs.lemmas.Bool.Decides.{nat_tests}
 use Rattle.std.specs.Prelude.{if◌then◌else◌, MatchOption, IfErr, nat_lt}
 use Rattle.std.specs.Result.{result_err}
@@ -7,13 +7,17 @@ use Rattle.tp_base.specs.declared.refusal.Refusal.TheVariants.{HistoryFull, NoMe
 use Rattle.tp_base.specs.declared.refusal.Refusal.{Refusal}
 use Rattle.tp_base.specs.declared.step.Step.{Step}
 use Rattle.tp_base.specs.Checks.{Check, first_refusal}
+use Rattle.tp_base.specs.History.{Event}
 use Rattle.tp_wave.specs.Checks.{control_checks, wave_checks}
+use Rattle.tp_wave.specs.Generations.{present, present_events}
 use Rattle.tp_wave.specs.Machine.{pending_at, steps_of}
+use Rattle.tp_wave.specs.Sums.{is_ended}
+use Rattle.tp_wave.proofs.Generations.{steps-present}
 use Rattle.tp_wave.specs.Wave.{Stands}
 use Rattle.tp_wave.specs.declared.wave.Wave.{Wave}
 use Rattle.tp_board.specs.States.{AnswersBy, BoardState, full_check}
 use Rattle.tp_ledgers.specs.Books.{BookTotals}
-use Rattle.tp_board.specs.Boards.{IsBoard}
+use Rattle.tp_board.specs.Boards.{IsBoardOf}
 
 -- where a check of the first call holds
 first_refused : (cs ds : List Check) (e : Refusal) → first_refusal cs ≡ Some e → first_refusal (cs ++ ds) ≡ Some e
@@ -39,13 +43,17 @@ answers_refused cs ds more b result e is answer = rw (first_refused cs ds e is) 
 pub answers_passed : {A : Type 0} (cs ds : List Check) (more : ℕ) (b : BoardState) (result : Result A Refusal) → first_refusal cs ≡ None → AnswersBy ds more b result → AnswersBy (cs ++ ds) more b result
 answers_passed cs ds more b result is answer = rw (first_passed cs ds is) answer
 
+-- the wave stands where the present steps led it
+stands_now : (n nodes : ℕ) (h : List Event) (t : BookTotals) (w : Wave) → IsBoardOf n nodes h t w → Stands n (is_ended n (present (steps_of h))) (present (steps_of h)) w
+stands_now n nodes h t w board = subst (λ steps. Stands n (is_ended n steps) steps w) (steps-present h) board.now.follows.stands
+
 -- where the wave refuses a step
 pub refused : {A : Type 0} (n nodes : ℕ) (log now : BoardState) (t : BookTotals) (w : Wave) (s : Step) (ds : List Check) (e : Refusal) (err : Option Refusal) (result : Result A Refusal)
-    → IsBoard n nodes log.history t w → log ≡ now → ((k : ℕ) (ended : Bool) (steps : List Step) → Stands k ended steps w → err ≡ first_refusal (wave_checks k ended steps s))
-    → err ≡ Some e → result ≡ Err e → AnswersBy (control_checks n (steps_of now.history) s ++ ds) 1 now result
+    → IsBoardOf n nodes log.history t w → log ≡ now → ((k : ℕ) (ended : Bool) (steps : List Step) → Stands k ended steps w → err ≡ first_refusal (wave_checks k ended steps s))
+    → err ≡ Some e → result ≡ Err e → AnswersBy (control_checks n (present (steps_of now.history)) s ++ ds) 1 now result
 refused n nodes log now t w s ds e err result board is exact some answer =
-    let first = exact n _ _ board.follows.stands in
-    rw (← is) (answers_refused (control_checks n (steps_of log.history) s) ds 1 log result e (sym first ∙ some) answer)
+    let first = exact n _ _ (stands_now n nodes log.history t w board) in
+    rw (← is) (answers_refused (control_checks n (present (steps_of log.history)) s) ds 1 log result e (sym first ∙ some) answer)
 
 same_answer-to : {A B : Type 0} (o : Option Refusal) (want : Type 0) (r : Result A Refusal) (q : Result B Refusal) → result_err r ≡ result_err q
     → MatchOption o (IfErr r (λ e. (e ≡ NoMemory) × want)) (λ e. r ≡ Err e) → MatchOption o (IfErr q (λ e. (e ≡ NoMemory) × want)) (λ e. q ≡ Err e)
@@ -63,23 +71,33 @@ same_answer cs more b r q same answer = same_answer-to (first_refusal cs) (b.res
 
 -- where it does not, and the event is added or refused
 pub passed : {A B : Type 0} (n nodes : ℕ) (log now : BoardState) (t : BookTotals) (w : Wave) (s : Step) (ds : BoardState → List Check) (err : Option Refusal) (added : Result B Refusal) (result : Result A Refusal)
-    → IsBoard n nodes log.history t w → log ≡ now → ((k : ℕ) (ended : Bool) (steps : List Step) → Stands k ended steps w → err ≡ first_refusal (wave_checks k ended steps s))
-    → err ≡ None → AnswersBy (ds log) 1 log added → result_err added ≡ result_err result → AnswersBy (control_checks n (steps_of now.history) s ++ ds now) 1 now result
+    → IsBoardOf n nodes log.history t w → log ≡ now → ((k : ℕ) (ended : Bool) (steps : List Step) → Stands k ended steps w → err ≡ first_refusal (wave_checks k ended steps s))
+    → err ≡ None → AnswersBy (ds log) 1 log added → result_err added ≡ result_err result → AnswersBy (control_checks n (present (steps_of now.history)) s ++ ds now) 1 now result
 passed n nodes log now t w s ds err added result board is exact none answer same =
-    let first = exact n _ _ board.follows.stands in
-    rw (← is) (answers_passed (control_checks n (steps_of log.history) s) (ds log) 1 log result (sym first ∙ none) (same_answer (ds log) 1 log added result same answer))
+    let first = exact n _ _ (stands_now n nodes log.history t w board) in
+    rw (← is) (answers_passed (control_checks n (present (steps_of log.history)) s) (ds log) 1 log result (sym first ∙ none) (same_answer (ds log) 1 log added result same answer))
+
+abbrev answered : {A : Type 0} → A → Result A Refusal
+answered x = Ok x
+
+-- the same, where the event is added
+pub passed_ok : {A B : Type 0} (n nodes : ℕ) (log now : BoardState) (t : BookTotals) (w : Wave) (s : Step) (ds : BoardState → List Check) (err : Option Refusal) (added : Result B Refusal) (x : A)
+    → IsBoardOf n nodes log.history t w → log ≡ now → ((k : ℕ) (ended : Bool) (steps : List Step) → Stands k ended steps w → err ≡ first_refusal (wave_checks k ended steps s))
+    → err ≡ None → AnswersBy (ds log) 1 log added → result_err added ≡ None → AnswersBy (control_checks n (present (steps_of now.history)) s ++ ds now) 1 now (answered x)
+passed_ok {A} n nodes log now t w s ds err added x board is exact none answer same =
+    passed n nodes log now t w s ds err added (answered x) board is exact none answer same
 
 -- the checks of a visit that come after the wave's
 abbrev pub visit_rest : ℕ → BoardState → List Check
-visit_rest i b = (nat_lt 0 (pending_at i b.history), NotIdle) ∷ full_check 1 b ∷ []
+visit_rest i b = (nat_lt 0 (pending_at i (present_events b.history)), NotIdle) ∷ full_check 1 b ∷ []
 
-pub when_idle : {A : Type 0} (i : ℕ) (b : BoardState) (result : Result A Refusal) → pending_at i b.history ≡ 0 → AnswersBy (full_check 1 b ∷ []) 1 b result → AnswersBy (visit_rest i b) 1 b result
+pub when_idle : {A : Type 0} (i : ℕ) (b : BoardState) (result : Result A Refusal) → pending_at i (present_events b.history) ≡ 0 → AnswersBy (full_check 1 b ∷ []) 1 b result → AnswersBy (visit_rest i b) 1 b result
 when_idle i b result idle answer = rw idle answer
 
 active_test : (n : ℕ) → 0 < n → nat_lt 0 n ≡ true
 active_test n some = grind (arith, nat_tests)
 
-pub when_active : {A : Type 0} (i : ℕ) (b : BoardState) (result : Result A Refusal) → 0 < pending_at i b.history → result ≡ Err NotIdle → AnswersBy (visit_rest i b) 1 b result
+pub when_active : {A : Type 0} (i : ℕ) (b : BoardState) (result : Result A Refusal) → 0 < pending_at i (present_events b.history) → result ≡ Err NotIdle → AnswersBy (visit_rest i b) 1 b result
 when_active i b result active answer = rw (active_test _ active) answer
 
 full_test : (limit count more : ℕ) → limit < count + more → nat_lt limit (count + more) ≡ true

@@ -1,8 +1,7 @@
--- A board, one event further.
-use Rattle.std.proofs.Common.{ℕ, ◌+◌, ◌-◌, ◌≡◌, ◌≢◌, ◌<◌, ◌≤◌, List, [], ◌∷◌, ◌++◌, length, Bool, true, false, cond, nat_eq, IsTrue, refl, sym, ap, subst, ◌∙◌, arith, Some, inl, inr}
+-- A board of one generation, one event further.
+use Rattle.std.proofs.Common.{ℕ, ◌+◌, ◌-◌, ◌≡◌, ◌≢◌, ◌<◌, ◌≤◌, List, [], ◌∷◌, ◌++◌, length, Bool, IsTrue, refl, sym, ap, subst, ◌∙◌, arith, inl, inr}
 use Rattle.std.specs.Prelude.{IsFalse, slice_index, slice_set, if◌then◌else◌}
 use Rattle.std.proofs.lemmas.Bool.{eq-eqb, ne_eqb, cases_eq}
-use Rattle.std.proofs.lemmas.Bool.Decides.{nat_tests}
 use Rattle.std.specs.List.{All}
 use Rattle.std.proofs.lemmas.List.Elements.{All-append, All-cons}
 use Rattle.std.proofs.lemmas.List.{get_or-set_same, get_or-set_other}
@@ -11,17 +10,15 @@ use Rattle.tp_base.specs.declared.step.Step.{Step}
 use Rattle.tp_base.specs.declared.step.Step.TheVariants.{Insert, ActionOpen, Send, Recv, Done, Start, Down, Give, Up, Judge, Reopen}
 use Rattle.tp_wave.specs.Steps.{any, count, is_start}
 use Rattle.tp_base.specs.declared.Sums.{Sums}
-use Rattle.tp_wave.specs.Sums.{is_ended, judgement, waves}
-use Rattle.tp_wave.specs.Wave.{Follows, started}
+use Rattle.tp_wave.specs.Sums.{is_ended, waves}
+use Rattle.tp_wave.specs.Wave.{started}
 use Rattle.tp_wave.specs.Control.{is_control}
-use Rattle.tp_wave.specs.Cut.{IsQuiet}
-use Rattle.tp_wave.proofs.Judged.{judged_law}
 use Rattle.tp_wave.specs.Machine.{node_of, step_of, steps_of, pending_at, pending_after, under_way, under_way_after, IsOf, IsRun, Needs, is_send_numbered, is_send_to}
 use Rattle.tp_wave.proofs.Given.{pool_step}
 use Rattle.tp_wave.specs.declared.wave.Wave.{Wave}
-use Rattle.tp_ledgers.specs.Numbers.{AreWithin, NodeNumbers, event, is_done, is_plain, is_recv, is_send, numbers_after, plus_if, receiving, sending}
+use Rattle.tp_ledgers.specs.Numbers.{AreWithin, NodeNumbers, ending, event, is_done, is_plain, is_recv, is_send, numbers_after, plus_if, receiving, sending}
 use Rattle.tp_ledgers.specs.Books.{BookTotals, IsBooked, totals_after, with_under}
-use Rattle.tp_board.specs.Boards.{IsBoard, ended_number}
+use Rattle.tp_board.specs.Boards.{IsBoard}
 use Rattle.tp_board.proofs.Counting.{count-le, pending_at-le}
 
 pool_ended : (n : ℕ) (s : Step) (past : List Step) → IsFalse (is_control s) → is_ended n (s ∷ past) ≡ is_ended n past
@@ -110,86 +107,39 @@ plain_under (Send i j m g) under plain = absurd cc
 plain_under (Recv j m g) under plain = absurd cc
 plain_under _ under plain = refl
 
--- after a step that moves no message
+-- after a step that names no message
 pub plain_next : (n nodes : ℕ) (h : List Event) (t : BookTotals) (w : Wave) (x : NodeNumbers) (s : Step) → IsBoard n nodes h t w → length h < 1048576 → IsBooked x t → x.node < n
     → IsTrue (is_plain s) → IsOf x.node s → 0 < x.pending → IsBoard n nodes (event x.node s ∷ h) (totals_after x.node s t) w
 plain_next n nodes h t w x s board places booked below plain own active =
     let needs = plain_needs n h x.node s plain (omega (arith, booked.pending, board.pending x.node below)) in
     pool_next n nodes h t w x.node t.under s board places below booked.known own (plain_is_pool s plain) needs (plain_under s t.under plain)
 
--- the same, as the values come from calls
-pub plain_follows : (n nodes a : ℕ) (h now : List Event) (t after : BookTotals) (w : Wave) (x : NodeNumbers) (s : Step) → now ≡ event a s ∷ h → a ≡ x.node → after ≡ totals_after x.node s t
-    → IsBoard n nodes h t w → length h < 1048576 → IsBooked x t → x.node < n → IsTrue (is_plain s) × IsOf x.node s × (0 < x.pending) → IsBoard n nodes now after w
-plain_follows n nodes a h now t after w x s is is_a is_after board places booked below lawful =
-    rw (is, is_a, is_after) (plain_next n nodes h t w x s board places booked below lawful.0 lawful.1 lawful.2)
-
-send_next : (n nodes b m : ℕ) (h : List Event) (t : BookTotals) (w : Wave) (x : NodeNumbers) → IsBoard n nodes h t w → length h < 1048576 → IsBooked x t → x.node < n → b < n → x.node ≢ b → 0 < x.pending
-    → IsFalse (any (is_send_numbered m) (steps_of h)) → IsBoard n nodes (event x.node (sending x.node b m) ∷ h) (with_under (t.under + 1) (totals_after x.node (sending x.node b m) t)) w
-send_next n nodes b m h t w x board places booked below there apart active fresh =
-    let needs : Needs n h x.node (sending x.node b m) = (omega (arith, booked.pending, board.pending x.node below), there, (λ e. apart (sym e)), fresh) in
-    pool_next n nodes h t w x.node (t.under + 1) (sending x.node b m) board places below booked.known refl refl needs refl
-
-recv_next : (n nodes m : ℕ) (h : List Event) (t : BookTotals) (w : Wave) (x : NodeNumbers) → IsBoard n nodes h t w → length h < 1048576 → IsBooked x t → x.node < n → 0 < t.under
-    → IsTrue (any (is_send_to x.node m) (steps_of h)) → IsBoard n nodes (event x.node (receiving x.node m) ∷ h) (with_under (t.under - 1) (totals_after x.node (receiving x.node m) t)) w
-recv_next n nodes m h t w x board places booked below some sent_before =
-    let needs : Needs n h x.node (receiving x.node m) = (omega (arith, board.under), sent_before) in
-    pool_next n nodes h t w x.node (t.under - 1) (receiving x.node m) board places below booked.known refl refl needs refl
-
--- after the sending of a message
-pub send_follows : (n nodes a b j m : ℕ) (h now : List Event) (t after sent : BookTotals) (w : Wave) (x : NodeNumbers) → now ≡ event a (sending a b m) ∷ h → a ≡ x.node → b ≡ j
-    → after ≡ totals_after x.node (sending a b m) t → sent ≡ with_under (under_way_after (sending a b m) after.under) after
-    → IsBoard n nodes h t w → length h < 1048576 → IsBooked x t → x.node < n → j < n → x.node ≢ j → 0 < x.pending → IsFalse (any (is_send_numbered m) (steps_of h)) → IsBoard n nodes now sent w
-send_follows n nodes a b j m h now t after sent w x is is_a is_b is_after is_sent board places booked below there apart active fresh =
-    rw (is, is_sent, is_after, is_a, is_b) (send_next n nodes j m h t w x board places booked below there apart active fresh)
+-- after the sending of message m, in generation k
+pub send_next : (n nodes b m k : ℕ) (h : List Event) (t : BookTotals) (w : Wave) (x : NodeNumbers) → IsBoard n nodes h t w → length h < 1048576 → IsBooked x t → x.node < n → b < n → x.node ≢ b → 0 < x.pending
+    → IsFalse (any (is_send_numbered m) (steps_of h)) → IsBoard n nodes (event x.node (sending k x.node b m) ∷ h) (with_under (t.under + 1) (totals_after x.node (sending k x.node b m) t)) w
+send_next n nodes b m k h t w x board places booked below there apart active fresh =
+    let needs : Needs n h x.node (sending k x.node b m) = (omega (arith, booked.pending, board.pending x.node below), there, (λ e. apart (sym e)), fresh) in
+    pool_next n nodes h t w x.node (t.under + 1) (sending k x.node b m) board places below booked.known refl refl needs refl
 
 -- after the receipt of a message
-pub recv_follows : (n nodes a m : ℕ) (h now : List Event) (t after left : BookTotals) (w : Wave) (x : NodeNumbers) → now ≡ event a (receiving a m) ∷ h → a ≡ x.node
-    → after ≡ totals_after x.node (receiving a m) t → left ≡ with_under (under_way_after (receiving a m) after.under) after → 0 < after.under
-    → IsBoard n nodes h t w → length h < 1048576 → IsBooked x t → x.node < n → IsTrue (any (is_send_to x.node m) (steps_of h)) → IsBoard n nodes now left w
-recv_follows n nodes a m h now t after left w x is is_a is_after is_left some board places booked below sent_before =
-    rw (is, is_left, is_after, is_a) (recv_next n nodes m h t w x board places booked below (omega (arith, ap (λ (y : BookTotals). y.under) is_after)) sent_before)
+pub recv_next : (n nodes m k : ℕ) (h : List Event) (t : BookTotals) (w : Wave) (x : NodeNumbers) → IsBoard n nodes h t w → length h < 1048576 → IsBooked x t → x.node < n → 0 < t.under
+    → IsTrue (any (is_send_to x.node m) (steps_of h)) → IsBoard n nodes (event x.node (receiving k x.node m) ∷ h) (with_under (t.under - 1) (totals_after x.node (receiving k x.node m) t)) w
+recv_next n nodes m k h t w x board places booked below some sent_before =
+    let needs : Needs n h x.node (receiving k x.node m) = (omega (arith, board.under), sent_before) in
+    pool_next n nodes h t w x.node (t.under - 1) (receiving k x.node m) board places below booked.known refl refl needs refl
 
-ended_out : (n out : ℕ) (past : List Step) → out ≡ ended_number n past → 0 < out → IsTrue (is_ended n past)
-ended_out n out past is some = grind (arith, nat_tests)
-
--- where the token is out, nothing is left
-pub quiet_out : (n nodes : ℕ) (h : List Event) (t : BookTotals) (w : Wave) → IsBoard n nodes h t w → 0 < t.judged → IsQuiet n h
-quiet_out n nodes h t w board some = judged_law n h board.run (ended_out n t.judged (steps_of h) board.judged some)
+-- after the end of a message's action
+pub end_next : (n nodes m k : ℕ) (h : List Event) (t : BookTotals) (w : Wave) (x : NodeNumbers) → IsBoard n nodes h t w → length h < 1048576 → IsBooked x t → x.node < n → 0 < x.pending
+    → IsBoard n nodes (event x.node (ending k x.node m) ∷ h) (totals_after x.node (ending k x.node m) t) w
+end_next n nodes m k h t w x board places booked below active =
+    let needs : Needs n h x.node (ending k x.node m) = omega (arith, booked.pending, board.pending x.node below) in
+    pool_next n nodes h t w x.node t.under (ending k x.node m) board places below booked.known refl refl needs refl
 
 -- no more waves were started than events happened
 pub started-le : (n nodes : ℕ) (h : List Event) (t : BookTotals) (w : Wave) → IsBoard n nodes h t w → started w ≤ 1048576
 started-le n nodes h t w board =
     let all : started w ≡ waves (steps_of h) = ap (λ (s : Sums). s.wave) board.follows.newest in
     omega (arith, count-le is_start h, board.short)
-
-kept_cond : (b : Bool) (n : ℕ) → cond b n n ≡ n
-kept_cond true n = refl
-kept_cond false n = refl
-
--- a board whose next wave has started
-pub start_next : (n nodes : ℕ) (h now : List Event) (t : BookTotals) (before after : Wave) → IsBoard n nodes h t before → now ≡ event 0 Start ∷ h → length h < 1048576
-    → Follows n (Start ∷ steps_of h) after → IsBoard n nodes now t after
-start_next n nodes h now t before after board is places follows = rw is (record {
-  nodes_are = board.nodes_are;
-  some = board.some;
-  few = board.few;
-  short = omega (arith, places);
-  run = (record { known = board.some; beside = refl; needed = tt; control = follows.lawful.0 }, board.run);
-  pending = λ i below. board.pending i below ∙ sym (kept_cond (nat_eq 0 i) _);
-  sent = board.sent;
-  received = board.received;
-  done = board.done;
-  under = board.under;
-  judged = board.judged;
-  follows = follows;
-})
-
--- where the judgement is that the pool has ended, nothing is left
-pub quiet_judged : (n nodes w : ℕ) (h now : List Event) (t : BookTotals) (before after : Wave) → IsBoard n nodes h t before → now ≡ event 0 Judge ∷ h → Follows n (Judge ∷ steps_of h) after
-    → judgement n (steps_of h) ≡ Some w → IsQuiet n now
-quiet_judged n nodes w h now t before after board is follows judged =
-    let ended : IsTrue (is_ended n (steps_of (event 0 Judge ∷ h))) = rw judged refl in
-    rw is (judged_law n (event 0 Judge ∷ h) (record { known = board.some; beside = refl; needed = tt; control = follows.lawful.0 }, board.run) ended)
 
 balanced_step : (n : ℕ) (past : List Event) (i : ℕ) (s : Step) → Needs n past i s → count is_send (steps_of past) ≡ count is_recv (steps_of past) + under_way (steps_of past)
     → count is_send (s ∷ steps_of past) ≡ count is_recv (s ∷ steps_of past) + under_way (s ∷ steps_of past)

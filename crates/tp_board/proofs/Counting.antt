@@ -7,7 +7,9 @@ use Rattle.tp_base.specs.History.{Event}
 use Rattle.tp_base.specs.declared.step.Step.{Step}
 use Rattle.tp_base.specs.declared.step.Step.TheVariants.{Insert, ActionOpen, Send, Recv}
 use Rattle.tp_wave.specs.Steps.{count, is_send_of, is_recv_at}
+use Rattle.tp_wave.specs.Generations.{present, present_events}
 use Rattle.tp_wave.specs.Machine.{node_of, step_of, steps_of, pending_at, pending_after, under_way, under_way_after, IsOf}
+use Rattle.tp_wave.proofs.Generations.{length-present, steps-present}
 use Rattle.tp_ledgers.specs.Numbers.{event, is_done, is_recv, is_send, plus_if}
 use Rattle.tp_board.specs.Counts.{counts_at, counts_after, AreCountsOf, AreFew}
 use Rattle.tp_board.specs.declared.counts.NodeCounts.{NodeCounts}
@@ -133,3 +135,11 @@ under_way-le [] = omega arith
 under_way-le (e ∷ h) =
     let most = under_step (step_of e) (under_way (steps_of h)) (length h) (under_way-le h) in
     omega arith
+
+-- nor is a count of the present generation
+pub count_present-le : (test : Step → Bool) (h : List Event) → count test (present (steps_of h)) ≤ length h
+count_present-le test h = rw (← steps-present h) (omega (arith, count-le test (present_events h), length-present h))
+
+-- the counts of the present generation are small where the history is short
+pub few_now : (i : ℕ) (h : List Event) → length h ≤ 1048576 → AreFew (counts_at i (present_events h))
+few_now i h short = few_at i (present_events h) (omega (arith, length-present h))

@@ -1,10 +1,11 @@
 -- Nodes have numbers below 8.
-use Rattle.std.proofs.Common.{ℕ, ◌<◌, arith}
-use Rattle.std.specs.Prelude.{IsFalse}
+use Rattle.std.proofs.Common.{ℕ, ◌<◌, refl, arith}
+use Rattle.std.specs.Prelude.{IsFalse, IsTrue}
 use Rattle.tp_base.specs.History.{NamesSmall}
 use Rattle.tp_base.specs.declared.step.Step.{Step}
-use Rattle.tp_base.specs.declared.step.Step.TheVariants.{Insert, ActionOpen, ActionClose, Ready, Send, Recv, MessageEnd, Down, Give, Up}
-use Rattle.tp_ledgers.specs.Numbers.{is_send}
+use Rattle.tp_base.specs.declared.step.Step.TheVariants.{Insert, ActionOpen, ActionClose, Ready, Send, Recv, MessageEnd, Down, Give, Up, Reopen}
+use Rattle.tp_ledgers.specs.Numbers.{is_plain, is_send}
+use Rattle.tp_wave.specs.Steps.{is_reopen}
 use Rattle.tp_wave.specs.Machine.{IsOf}
 use Rattle.tp_board.specs.Logs.{HasFew}
 
@@ -21,3 +22,15 @@ names_small i (Down j) low of few other = omega (arith, of)
 names_small i (Give j) low of few other = omega (arith, of)
 names_small i (Up j) low of few other = omega (arith, of)
 names_small i _ low of few other = tt
+
+-- A step that names no message has nothing that has to be small.
+pub plain_few : (s : Step) → IsTrue (is_plain s) → HasFew s
+plain_few (Recv j m g) plain = absurd cc
+plain_few (MessageEnd j m g) plain = absurd cc
+plain_few _ plain = tt
+
+-- It sends nothing and reopens nothing.
+pub plain_kind : (s : Step) → IsTrue (is_plain s) → IsFalse (is_send s) × IsFalse (is_reopen s)
+plain_kind (Send i j m g) plain = absurd cc
+plain_kind Reopen plain = absurd cc
+plain_kind _ plain = (refl, refl)

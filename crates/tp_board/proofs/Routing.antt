@@ -8,10 +8,12 @@ use Rattle.std.proofs.lemmas.List.{length-reverse}
 use Rattle.tp_base.specs.History.{Event, Recorded}
 use Rattle.tp_base.specs.declared.ids.NodeId.{NodeId}
 use Rattle.tp_base.specs.declared.step.Step.{Step}
-use Rattle.tp_base.specs.declared.step.Step.TheVariants.{Send}
-use Rattle.tp_wave.specs.Steps.{any, count}
+use Rattle.tp_base.specs.declared.step.Step.TheVariants.{Send, Reopen}
+use Rattle.tp_wave.specs.Generations.{present, present_events}
+use Rattle.tp_wave.specs.Steps.{any, count, is_reopen}
 use Rattle.tp_wave.specs.Machine.{steps_of, is_send_numbered, is_send_to}
-use Rattle.tp_board.proofs.Counting.{count-le}
+use Rattle.tp_wave.proofs.Generations.{present-goes_on}
+use Rattle.tp_board.proofs.Counting.{count-le, count_present-le}
 use Rattle.tp_ledgers.specs.Numbers.{is_send}
 use Rattle.tp_board.specs.Routes.{IsNumbered, Route, RouteTable, is_route, is_send_between, routes_of}
 use Rattle.tp_board.specs.Counts.{AreCountsOf}
@@ -83,22 +85,69 @@ gave_by i j m (Send a b k g ∷ past) are =
 gave_by i j m (_ ∷ past) are = gave_by i j m past are
 
 -- the table's length is the number of the next message
-pub log_sends : (history : Recorded) (limit reserved : ℕ) (counts : Counts) (routes : RouteTable) → IsLog history limit reserved counts routes
-    → (length routes.routes ≡ count is_send (steps_of history.events)) × (length routes.routes ≤ 1048576)
-log_sends history limit reserved counts routes log =
-    let same : length routes.routes ≡ count is_send (steps_of history.events) = ap length log.routed ∙ length-routes_of (steps_of history.events) in
-    (same, omega (arith, log.places, log.limited, count-le is_send history.events))
+pub log_sends : (history : Recorded) (limit reserved k : ℕ) (counts : Counts) (routes : RouteTable) → IsLog history limit reserved k counts routes
+    → (length routes.routes ≡ count is_send (present (steps_of history.events))) × (length routes.routes ≤ 1048576)
+log_sends history limit reserved k counts routes log =
+    let same : length routes.routes ≡ count is_send (present (steps_of history.events)) = ap length log.routed ∙ length-routes_of (present (steps_of history.events)) in
+    (same, omega (arith, log.places, log.limited, count_present-le is_send history.events))
 
 -- the log after the next message was sent
-pub log_send : (old new : Recorded) (limit reserved : ℕ) (counts now : Counts) (routes kept : RouteTable) (from to : NodeId) (m : ℕ) → IsLog old limit reserved counts routes → 0 < reserved
-    → m ≡ length routes.routes → new.events ≡ (from, Send from to (record { 0 = m }) (record { 0 = 1 })) ∷ old.events → new.room + 1 ≡ old.room
-    → kept.routes ≡ (from, to) ∷ routes.routes → kept.room + 1 ≡ routes.room → AreCountsOf ((from, Send from to (record { 0 = m }) (record { 0 = 1 })) ∷ old.events) now
-    → IsLog new limit (reserved - 1) now kept
-log_send old new limit reserved counts now routes kept from to m log some number events room sent more are =
+pub log_send : (old new : Recorded) (limit reserved k : ℕ) (counts now : Counts) (routes kept : RouteTable) (from to : NodeId) (m : ℕ) → IsLog old limit reserved k counts routes → 0 < reserved
+    → m ≡ length routes.routes → new.events ≡ (from, Send from to (record { 0 = m }) (record { 0 = k })) ∷ old.events → new.room + 1 ≡ old.room
+    → kept.routes ≡ (from, to) ∷ routes.routes → kept.room + 1 ≡ routes.room → AreCountsOf ((from, Send from to (record { 0 = m }) (record { 0 = k })) ∷ present_events old.events) now
+    → IsLog new limit (reserved - 1) k now kept
+log_send old new limit reserved k counts now routes kept from to m log some number events room sent more are =
     record {
       counted = rw events are;
-      numbered = rw events (number ∙ (log_sends _ _ _ _ _ log).0, log.numbered);
+      numbered = rw events (number ∙ (log_sends _ _ _ _ _ _ log).0, log.numbered);
       routed = rw events (sent ∙ ap (λ rs. (from, to) ∷ rs) log.routed);
+      generation_is = rw events log.generation_is;
+      places = omega (arith, ap length events, log.places);
+      limited = log.limited;
+      room = omega (arith, log.room);
+      routes_room = omega (arith, log.routes_room);
+    }
+
+numbered_other : (s : Step) (past : List Step) → IsFalse (is_send s) → IsNumbered past → IsNumbered (s ∷ past)
+numbered_other (Send i j m g) past other are = absurd cc
+numbered_other _ past other are = are
+
+routes_other : (s : Step) (past : List Step) → IsFalse (is_send s) → routes_of (s ∷ past) ≡ routes_of past
+routes_other (Send i j m g) past other = absurd cc
+routes_other _ past other = refl
+
+-- the present steps after one more
+present-more : (s : Step) (past : List Step) → IsFalse (is_reopen s) → present (s ∷ past) ≡ s ∷ present past
+present-more s past on = rw on refl
+
+-- the log after an event that sends nothing and reopens nothing
+pub log_add : (old new : Recorded) (limit reserved k : ℕ) (counts now : Counts) (routes : RouteTable) (node : NodeId) (s : Step) → IsLog old limit reserved k counts routes → length old.events < limit
+    → IsFalse (is_send s) × IsFalse (is_reopen s) → new.events ≡ (node, s) ∷ old.events → reserved ≤ new.room + 1 → AreCountsOf ((node, s) ∷ present_events old.events) now
+    → IsLog new limit (reserved - 1) k now routes
+log_add old new limit reserved k counts now routes node s log place other events room are =
+    let past = steps_of old.events in
+    let more = present-more s past other.1 in
+    record {
+      counted = rw (events, present-goes_on (node, s) old.events other.1) are;
+      numbered = rw (events, more) (numbered_other s (present past) other.0 log.numbered);
+      routed = rw (events, more) (log.routed ∙ sym (routes_other s (present past) other.0));
+      generation_is = rw (events, other.1) log.generation_is;
+      places = omega (arith, ap length events, log.places);
+      limited = log.limited;
+      room = omega arith;
+      routes_room = omega (arith, log.routes_room);
+    }
+
+-- the log after the reopening
+pub log_reopened : (old new : Recorded) (limit reserved k : ℕ) (counts now : Counts) (routes kept : RouteTable) → IsLog old limit reserved k counts routes → 0 < reserved
+    → new.events ≡ (record { 0 = 0 }, Reopen) ∷ old.events → new.room + 1 ≡ old.room → kept.routes ≡ [] → routes.room ≤ kept.room → AreCountsOf [] now
+    → IsLog new limit (reserved - 1) (k + 1) now kept
+log_reopened old new limit reserved k counts now routes kept log some events room none more are =
+    record {
+      counted = rw events are;
+      numbered = rw events tt;
+      routed = rw events none;
+      generation_is = rw events (ap (λ n. n + 1) log.generation_is);
       places = omega (arith, ap length events, log.places);
       limited = log.limited;
       room = omega (arith, log.room);

@@ -5,6 +5,7 @@ use Rattle.tp_base.specs.declared.step.Step.{Step}
 use Rattle.tp_wave.specs.Steps.{count}
 use Rattle.tp_wave.specs.Sums.{is_ended}
 use Rattle.tp_wave.specs.Machine.{steps_of, pending_at, under_way, IsRun}
+use Rattle.tp_wave.specs.Generations.{present_events, AreRuns}
 use Rattle.tp_wave.specs.Wave.{Follows}
 use Rattle.tp_wave.specs.declared.wave.Wave.{Wave}
 use Rattle.tp_ledgers.specs.Books.{BookTotals}
@@ -14,8 +15,8 @@ use Rattle.tp_ledgers.specs.Numbers.{is_done, is_recv, is_send}
 abbrev pub ended_number : ℕ → List Step → ℕ
 ended_number n steps = if is_ended n steps then 1 else 0
 
--- What a board keeps: its history is a run on n nodes, its books have that run's numbers, and the wave stands where the
--- run led it.
+-- What a board keeps of one generation: its events are a run on n nodes, the books have that run's numbers, and the wave
+-- stands where the run led it.
 pub record IsBoard (n nodes : ℕ) (h : List Event) (t : BookTotals) (wave : Wave) : Type 0 where
   pub nodes_are : nodes ≡ n
   pub some : 1 ≤ n
@@ -29,3 +30,10 @@ pub record IsBoard (n nodes : ℕ) (h : List Event) (t : BookTotals) (wave : Wav
   pub under : t.under ≡ under_way (steps_of h)
   pub judged : t.judged ≡ ended_number n (steps_of h)
   pub follows : Follows n (steps_of h) wave
+
+-- What a board keeps: its history is runs on n nodes through all generations, no longer than any may be, and all else is of
+-- the present generation.
+pub record IsBoardOf (n nodes : ℕ) (h : List Event) (t : BookTotals) (wave : Wave) : Type 0 where
+  pub now : IsBoard n nodes (present_events h) t wave
+  pub runs : AreRuns n h
+  pub whole : length h ≤ 1048576

@@ -1,5 +1,5 @@
 -- What a call of a node does to the board, and why it is refused.
-use Rattle.std.specs.Prelude.{ℕ, ◌+◌, ◌≡◌, ◌≤◌, List, ◌++◌, length, Result, Err, MatchOption, IfErr}
+use Rattle.std.specs.Prelude.{◌+◌, ◌≡◌, ◌≤◌, List, ◌++◌, length, Result, Err, MatchOption, IfErr}
 use Rattle.tp_base.specs.History.{Event}
 use Rattle.tp_base.specs.declared.refusal.Refusal.{Refusal}
 use Rattle.tp_base.specs.declared.refusal.Refusal.TheVariants.{NoMemory}

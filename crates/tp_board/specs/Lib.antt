@@ -1,5 +1,7 @@
 pub use Rattle.tp_ledgers.specs.Names
 pub use Rattle.tp_ledgers.specs.Numbers
+pub use Rattle.tp_ledgers.specs.Fresh
+pub use Rattle.tp_ledgers.specs.Reopening
 pub mod Counts
 pub mod Routes
 pub mod States

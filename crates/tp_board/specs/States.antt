@@ -9,6 +9,7 @@ use Rattle.tp_base.specs.declared.step.Step.{Step}
 use Rattle.tp_base.specs.declared.step.Step.TheVariants.{Give}
 use Rattle.tp_base.specs.Checks.{Check, first_refusal}
 use Rattle.tp_wave.specs.Checks.{control_checks}
+use Rattle.tp_wave.specs.Generations.{present, present_events}
 use Rattle.tp_wave.specs.Machine.{pending_at, steps_of}
 
 -- A board has its events, the newest first, how many there may be, how many more are sure of a place and of memory, and
@@ -43,8 +44,9 @@ AnswersBy checks more b result =
 
 -- the checks of a control step that no node has to be idle for
 abbrev pub step_checks : ℕ → BoardState → Step → List Check
-step_checks n b s = control_checks n (steps_of b.history) s ++ full_check 1 b ∷ []
+step_checks n b s = control_checks n (present (steps_of b.history)) s ++ full_check 1 b ∷ []
 
 -- the checks of a visit to node i: an active node gives nothing
 abbrev pub visit_checks : ℕ → BoardState → NodeId → List Check
-visit_checks n b i = control_checks n (steps_of b.history) (Give i) ++ (nat_lt 0 (pending_at i.0 b.history), NotIdle) ∷ full_check 1 b ∷ []
+visit_checks n b i =
+    control_checks n (present (steps_of b.history)) (Give i) ++ (nat_lt 0 (pending_at i.0 (present_events b.history)), NotIdle) ∷ full_check 1 b ∷ []

@@ -1,11 +1,11 @@
 ghost use Rattle.std.specs.Prelude.{◌≡◌, ◌==◌, ◌≤◌, ◌<◌, ◌+◌, ◌-◌, ◌∷◌, ℕ, [], length, max, slice_index, IsTrue, IfOk, IsOk, OnErr, OnOk, None};
 ghost use Rattle.tp_ledgers.specs.Books.{first_totals};
 ghost use Rattle.tp_ledgers.specs.Names.{under_parts};
-ghost use Rattle.tp_ledgers.specs.Numbers.{AreWithin, event, is_done, is_plain, is_recv, is_send, numbers_after, receiving, sending};
-ghost use Rattle.tp_board.specs.Logs.{HasFew};
+ghost use Rattle.tp_ledgers.specs.Numbers.{AreWithin, ending, event, is_done, is_plain, is_recv, is_send, numbers_after, receiving, sending};
 ghost use Rattle.tp_board.specs.Routes.{is_send_between};
 ghost use Rattle.tp_board.specs.States.{AnswersBy, full_check, with_event, with_fault, with_reserved};
-ghost use Rattle.tp_wave.specs.Machine.{IsOf, IsRun, is_send_to, pending_at, steps_of, under_way};
+ghost use Rattle.tp_wave.specs.Generations.{AreRuns, generation, present, present_events};
+ghost use Rattle.tp_wave.specs.Machine.{IsOf, is_send_to, pending_at, steps_of, under_way};
 ghost use Rattle.tp_wave.specs.Cut.{IsQuiet};
 ghost use Rattle.tp_wave.specs.Steps.{any, count};
 ghost use Rattle.tp_wave.specs.Sums.{is_ended};
@@ -21,9 +21,9 @@ use tp_wave::Wave;
 
 /// What lies under a pool's board lock: its history, the books of its ledgers, its wave and its first fault.
 ///
-/// Its type keeps that the history is a run of the counting machine, that each book has that run's number, and that the
-/// wave stands where the run led it. Contracts see the events, the newest first, how many there may be, for how many more
-/// a place and memory are reserved, and the fault.
+/// Its type keeps that the history is runs of the counting machine, one for each generation, that each book has the number
+/// of the present one, and that the wave stands where that run led it. Contracts see the events of all generations, the
+/// newest first, how many there may be, for how many more a place and memory are reserved, and the fault.
 #[derive(Drop)]
 pub struct Board<K: Ledgers> {
     pub(crate) nodes: u32,
@@ -33,14 +33,14 @@ pub struct Board<K: Ledgers> {
 }
 
 impl<K: Ledgers> Model for Board<K> {
-    ghost use Rattle.tp_board.specs.Boards.{IsBoard};
+    ghost use Rattle.tp_board.specs.Boards.{IsBoardOf};
     ghost use Rattle.tp_board.specs.States.{BoardState};
 
     ghost Value = { BoardState };
 
     ghost view = { λ b. b.log };
 
-    ghost invariant = { λ b. IsBoard K.names.nodes b.nodes b.log.history b.accounts b.wave };
+    ghost invariant = { λ b. IsBoardOf K.names.nodes b.nodes b.log.history b.accounts b.wave };
 }
 
 impl<K: Ledgers> Board<K> {
@@ -67,7 +67,22 @@ impl<K: Ledgers> Board<K> {
         self.nodes
     }
 
-    /// How many events there are.
+    /// The number of the present generation: the first is 1, and each reopening adds one.
+    pub fn generation(&self) -> Generation
+        ensures number { result.0 ≡ generation (steps_of self.now.history) }
+        ensures small { result.0 < 1048576 }
+    {
+        self.log.generation()
+    }
+
+    /// How many events there may be, over all generations.
+    pub fn limit(&self) -> u32
+        ensures { result ≡ self.now.limit }
+    {
+        self.log.limit()
+    }
+
+    /// How many events there are, over all generations.
     pub fn len(&self) -> usize
         ensures number { result ≡ length self.now.history }
         ensures small { result ≤ 1048576 }
@@ -82,10 +97,10 @@ impl<K: Ledgers> Board<K> {
         self.log.history().is_empty()
     }
 
-    /// The events.
+    /// The events of all generations.
     pub fn history(&self) -> &History
         ensures events { result.now.events ≡ self.now.history }
-        ensures run { IsRun K.names.nodes self.now.history }
+        ensures run { AreRuns K.names.nodes self.now.history }
     {
         self.log.history()
     }
@@ -93,7 +108,7 @@ impl<K: Ledgers> Board<K> {
     /// The events alone.
     pub fn into_history(self) -> History
         ensures events { result.events ≡ self.history }
-        ensures run { IsRun K.names.nodes self.history }
+        ensures run { AreRuns K.names.nodes self.history }
     {
         let Board {
             nodes: _,
@@ -118,17 +133,17 @@ impl<K: Ledgers> Board<K> {
         self.log.set_fault(fault);
     }
 
-    /// The number of the next message: how many were sent before it.
+    /// The number of the next message: how many were sent before it in the present generation.
     pub fn next_message(&self) -> MessageId
-        ensures { result.0 ≡ count is_send (steps_of self.now.history) }
+        ensures { result.0 ≡ count is_send (present (steps_of self.now.history)) }
     {
         MessageId(self.log.totals().0)
     }
 
-    /// Whether a message was sent from one node to another. It looks once into a table.
+    /// Whether a message was sent from one node to another in the present generation. It looks once into a table.
     pub fn gave(&self, from: NodeId, to: NodeId, message: MessageId) -> bool
-        ensures sent { result ≡ any (is_send_between from.0 to.0 message.0) (steps_of self.now.history) }
-        ensures to { IsTrue result → IsTrue (any (is_send_to to.0 message.0) (steps_of self.now.history)) }
+        ensures sent { result ≡ any (is_send_between from.0 to.0 message.0) (present (steps_of self.now.history)) }
+        ensures to { IsTrue result → IsTrue (any (is_send_to to.0 message.0) (present (steps_of self.now.history))) }
     {
         self.log.gave(from, to, message)
     }
@@ -146,23 +161,23 @@ impl<K: Ledgers> Board<K> {
         self.log.reserve(more)
     }
 
-    /// Changes nothing, and tells how a node's numbers stand to the history.
+    /// Changes nothing, and tells how a node's numbers stand to the present generation.
     pub fn audit(&mut self, shares: &mut Shares<K>)
         ensures same { (self.new ≡ self.old) × (shares.new ≡ shares.old) }
         ensures node { shares.old.node < K.names.nodes }
-        ensures pending { shares.old.pending ≡ pending_at shares.old.node self.old.history }
+        ensures pending { shares.old.pending ≡ pending_at shares.old.node (present_events self.old.history) }
         ensures within { AreWithin (length self.old.history) shares.old }
         ensures places { (length self.old.history + self.old.reserved ≤ self.old.limit) × (self.old.limit ≤ 1048576) }
-        ensures run { IsRun K.names.nodes self.old.history }
+        ensures run { AreRuns K.names.nodes self.old.history }
     {
         let _count = self.log.len();
         self.accounts.audit(shares);
     }
 
-    /// Changes nothing, and tells that no link has more messages under way than the history gives.
+    /// Changes nothing, and tells that no link has more messages under way than the present generation gives.
     pub fn audit_link(&mut self, link: &mut LinkShare<K>)
         ensures same { (self.new ≡ self.old) × (link.new ≡ link.old) }
-        ensures under { link.old.under ≤ under_way (steps_of self.old.history) }
+        ensures under { link.old.under ≤ under_way (present (steps_of self.old.history)) }
         ensures small { link.old.under ≤ 1048576 }
     {
         self.accounts.audit_link(link);
@@ -172,7 +187,7 @@ impl<K: Ledgers> Board<K> {
     pub(crate) fn pending(&mut self, shares: &mut Shares<K>) -> u32
         ensures same { (self.new ≡ self.old) × (shares.new ≡ shares.old) }
         ensures number { result ≡ shares.old.pending }
-        ensures agrees { shares.old.pending ≡ pending_at shares.old.node self.old.history }
+        ensures agrees { shares.old.pending ≡ pending_at shares.old.node (present_events self.old.history) }
         ensures small { shares.old.pending ≤ 1048577 }
     {
         self.accounts.audit(shares);
@@ -187,21 +202,21 @@ impl<K: Ledgers> Board<K> {
         self.accounts.no_links()
     }
 
-    /// The totals, where all shares are gathered.
+    /// The totals of the present generation, where all shares are gathered.
     pub(crate) fn close(self, pending: u32, parts: Parts<K>, under: Share<Under<K>>) -> Totals
         requires nodes { parts.parts ≡ K.names.nodes }
         requires links { under.parts + 1 ≡ under_parts K.names.nodes }
         ensures pending { result.pending ≡ pending }
-        ensures sent { (result.sent ≡ parts.sent) × (result.sent ≡ count is_send (steps_of self.history)) }
-        ensures received { (result.received ≡ parts.received) × (result.received ≡ count is_recv (steps_of self.history)) }
-        ensures under { (result.under ≡ under.amount) × (result.under ≡ under_way (steps_of self.history)) }
-        ensures done { (result.done ≡ parts.done) × (result.done ≡ count is_done (steps_of self.history)) }
+        ensures sent { (result.sent ≡ parts.sent) × (result.sent ≡ count is_send (present (steps_of self.history))) }
+        ensures received { (result.received ≡ parts.received) × (result.received ≡ count is_recv (present (steps_of self.history))) }
+        ensures under { (result.under ≡ under.amount) × (result.under ≡ under_way (present (steps_of self.history))) }
+        ensures done { (result.done ≡ parts.done) × (result.done ≡ count is_done (present (steps_of self.history))) }
         ensures balance { result.sent ≡ result.received + result.under }
-        ensures ended { result.ended ≡ is_ended K.names.nodes (steps_of self.history) }
-        ensures quiet { IsTrue result.ended → IsQuiet K.names.nodes self.history }
+        ensures ended { result.ended ≡ is_ended K.names.nodes (present (steps_of self.history)) }
+        ensures quiet { IsTrue result.ended → IsQuiet K.names.nodes (present_events self.history) }
         ensures fault { result.fault ≡ self.fault }
         ensures history { result.history.events ≡ self.history }
-        ensures run { IsRun K.names.nodes self.history }
+        ensures run { AreRuns K.names.nodes self.history }
     {
         let (sent, received, done) = self.log.totals();
         let ended = self.accounts.is_ended();
@@ -225,12 +240,11 @@ impl<K: Ledgers> Board<K> {
         }
     }
 
-    /// Adds a step of a node that moves no message.
+    /// Adds a step of a node that names no message.
     ///
     /// Refused: `HistoryFull` where the history has reached its limit; `NoMemory` where memory has to grow and does not.
     #[inline(always)]
     pub fn append(&mut self, step: Step, shares: &mut Shares<K>) -> Result<(), Refusal>
-        requires few { HasFew step }
         requires lawful { IsTrue (is_plain step) × IsOf shares.old.node step × (0 < shares.old.pending) }
         ensures ok { OnOk result (self.new ≡ with_event (event shares.old.node step) self.old) }
         ensures shares { OnOk result (shares.new ≡ numbers_after step shares.old) }
@@ -244,8 +258,8 @@ impl<K: Ledgers> Board<K> {
         Ok(())
     }
 
-    /// Adds the sending of the next message, over a link of the node's. Its number is answered: how many messages were
-    /// sent before it.
+    /// Adds the sending of the next message, over a link of the node's, in the present generation. Its number is answered:
+    /// how many messages were sent before it.
     ///
     /// Refused: `HistoryFull` where the history has reached its limit; `NoMemory` where memory has to grow and does not.
     pub fn append_send(
@@ -255,9 +269,9 @@ impl<K: Ledgers> Board<K> {
     ) -> Result<MessageId, Refusal>
         requires active { 0 < shares.old.pending }
         requires of_link { link.old.from ≡ shares.old.node }
-        ensures number { IfOk result (λ m. m.0 ≡ count is_send (steps_of self.old.history)) }
+        ensures number { IfOk result (λ m. m.0 ≡ count is_send (present (steps_of self.old.history))) }
         ensures small { IfOk result (λ m. m.0 < 1048576) }
-        ensures ok { IfOk result (λ m. self.new ≡ with_event (event shares.old.node (sending shares.old.node link.old.to m.0)) self.old) }
+        ensures ok { IfOk result (λ m. self.new ≡ with_event (event shares.old.node (sending (generation (steps_of self.old.history)) shares.old.node link.old.to m.0)) self.old) }
         ensures shares { OnOk result (shares.new ≡ record shares.old { sent = shares.old.sent + 1 }) }
         ensures within { OnOk result (AreWithin 1048576 shares.new) }
         ensures link { OnOk result (link.new ≡ record link.old { under = link.old.under + 1 }) }
@@ -267,14 +281,15 @@ impl<K: Ledgers> Board<K> {
     {
         let node = shares.node();
         let to = link.to();
+        let generation = self.log.generation();
         let message = self.log.add_send(node, to)?;
-        let step = Step::Send(node, to, message, Generation(1));
+        let step = Step::Send(node, to, message, generation);
         self.accounts.follow(&step, shares);
         self.accounts.follow_link(&step, link);
         Ok(message)
     }
 
-    /// Adds the receipt of a message that was sent to the node and is under way on the link.
+    /// Adds the receipt of a message that was sent to the node in the present generation and is under way on the link.
     ///
     /// Refused: `HistoryFull` where the history has reached its limit; `NoMemory` where memory has to grow and does not.
     pub fn append_recv(
@@ -284,10 +299,10 @@ impl<K: Ledgers> Board<K> {
         link: &mut LinkShare<K>,
     ) -> Result<(), Refusal>
         requires few { message.0 < 1048576 }
-        requires sent { IsTrue (any (is_send_to shares.old.node message.0) (steps_of self.old.history)) }
+        requires sent { IsTrue (any (is_send_to shares.old.node message.0) (present (steps_of self.old.history))) }
         requires under_way { 0 < link.old.under }
         requires of_link { link.old.to ≡ shares.old.node }
-        ensures ok { OnOk result (self.new ≡ with_event (event shares.old.node (receiving shares.old.node message.0)) self.old) }
+        ensures ok { OnOk result (self.new ≡ with_event (event shares.old.node (receiving (generation (steps_of self.old.history)) shares.old.node message.0)) self.old) }
         ensures shares { OnOk result (shares.new ≡ record shares.old { pending = shares.old.pending + 1; received = shares.old.received + 1 }) }
         ensures within { OnOk result (AreWithin 1048576 shares.new) }
         ensures link { OnOk result (link.new ≡ record link.old { under = link.old.under - 1 }) }
@@ -296,10 +311,30 @@ impl<K: Ledgers> Board<K> {
         ensures refused { OnErr result ((self.new ≡ self.old) × (shares.new ≡ shares.old) × (link.new ≡ link.old)) }
     {
         let node = shares.node();
-        let step = Step::Recv(node, message, Generation(1));
+        let step = Step::Recv(node, message, self.log.generation());
         self.log.add(node, step)?;
         self.accounts.follow(&step, shares);
         self.accounts.follow_link(&step, link);
+        Ok(())
+    }
+
+    /// Adds the end of a message's action, in the present generation.
+    ///
+    /// Refused: `HistoryFull` where the history has reached its limit; `NoMemory` where memory has to grow and does not.
+    pub fn append_end(&mut self, message: MessageId, shares: &mut Shares<K>) -> Result<(), Refusal>
+        requires few { message.0 < 1048576 }
+        requires active { 0 < shares.old.pending }
+        ensures ok { OnOk result (self.new ≡ with_event (event shares.old.node (ending (generation (steps_of self.old.history)) shares.old.node message.0)) self.old) }
+        ensures shares { OnOk result (shares.new ≡ record shares.old { pending = shares.old.pending - 1 }) }
+        ensures within { OnOk result (AreWithin 1048576 shares.new) }
+        ensures refusal { AnswersBy (full_check 1 self.old ∷ []) 1 self.old result }
+        ensures reserved { 0 < self.old.reserved → IsOk result }
+        ensures refused { OnErr result ((self.new ≡ self.old) × (shares.new ≡ shares.old)) }
+    {
+        let node = shares.node();
+        let step = Step::MessageEnd(node, message, self.log.generation());
+        self.log.add(node, step)?;
+        self.accounts.follow(&step, shares);
         Ok(())
     }
 }

@@ -3,7 +3,8 @@ ghost use Rattle.std.specs.List.{All};
 ghost use Rattle.tp_base.specs.declared.refusal.Refusal.TheVariants as refusals;
 ghost use Rattle.tp_ledgers.specs.Numbers.{first_links, first_numbers, first_shares, is_done, is_recv, is_send};
 ghost use Rattle.tp_wave.specs.Cut.{IsQuiet};
-ghost use Rattle.tp_wave.specs.Machine.{IsRun, pending_at, steps_of, under_way};
+ghost use Rattle.tp_wave.specs.Generations.{AreRuns, present, present_events};
+ghost use Rattle.tp_wave.specs.Machine.{pending_at, steps_of, under_way};
 ghost use Rattle.tp_wave.specs.Steps.{count};
 ghost use Rattle.tp_wave.specs.Sums.{is_ended};
 
@@ -57,7 +58,7 @@ pub fn open_books<K: Ledgers>(
     })
 }
 
-/// What all shares of a pool add up to, and what its board has kept.
+/// What all shares of a pool add up to, and what its board has kept. The numbers are those of the present generation.
 #[derive(Drop)]
 pub struct Totals {
     /// Unfinished tasks and open actions, over all nodes.
@@ -70,11 +71,11 @@ pub struct Totals {
     pub under: u32,
     /// Tasks done, over all nodes.
     pub done: u32,
-    /// Whether the end was judged.
+    /// Whether the end was judged in the present generation.
     pub ended: bool,
     /// The first fault.
     pub fault: Option<Refusal>,
-    /// The events.
+    /// The events of all generations.
     pub history: History,
 }
 
@@ -83,17 +84,17 @@ pub fn close_books<K: Ledgers>(books: Books<K>) -> Totals
     requires shares { vec_len books.shares ≡ K.names.nodes }
     requires links { vec_len books.links ≡ K.names.nodes * (K.names.nodes - 1) }
     ensures pending { result.pending ≡ sum_by (λ s. s.pending) books.shares.items }
-    ensures each_pending { All (λ s. s.pending ≡ pending_at s.node books.board.history) books.shares.items }
-    ensures sent { (result.sent ≡ sum_by (λ s. s.sent) books.shares.items) × (result.sent ≡ count is_send (steps_of books.board.history)) }
-    ensures received { (result.received ≡ sum_by (λ s. s.received) books.shares.items) × (result.received ≡ count is_recv (steps_of books.board.history)) }
-    ensures under { (result.under ≡ sum_by (λ l. l.under) books.links.items) × (result.under ≡ under_way (steps_of books.board.history)) }
-    ensures done { (result.done ≡ sum_by (λ s. s.done) books.shares.items) × (result.done ≡ count is_done (steps_of books.board.history)) }
+    ensures each_pending { All (λ s. s.pending ≡ pending_at s.node (present_events books.board.history)) books.shares.items }
+    ensures sent { (result.sent ≡ sum_by (λ s. s.sent) books.shares.items) × (result.sent ≡ count is_send (present (steps_of books.board.history))) }
+    ensures received { (result.received ≡ sum_by (λ s. s.received) books.shares.items) × (result.received ≡ count is_recv (present (steps_of books.board.history))) }
+    ensures under { (result.under ≡ sum_by (λ l. l.under) books.links.items) × (result.under ≡ under_way (present (steps_of books.board.history))) }
+    ensures done { (result.done ≡ sum_by (λ s. s.done) books.shares.items) × (result.done ≡ count is_done (present (steps_of books.board.history))) }
     ensures balance { result.sent ≡ result.received + result.under }
-    ensures ended { result.ended ≡ is_ended K.names.nodes (steps_of books.board.history) }
-    ensures quiet { IsTrue result.ended → IsQuiet K.names.nodes books.board.history }
+    ensures ended { result.ended ≡ is_ended K.names.nodes (present (steps_of books.board.history)) }
+    ensures quiet { IsTrue result.ended → IsQuiet K.names.nodes (present_events books.board.history) }
     ensures fault { result.fault ≡ books.board.fault }
     ensures history { result.history.events ≡ books.board.history }
-    ensures run { IsRun K.names.nodes books.board.history }
+    ensures run { AreRuns K.names.nodes books.board.history }
 {
     let Books {
         mut board,
@@ -118,8 +119,8 @@ fn gather<K: Ledgers>(
     requires { vec_len others < 8 }
     ensures board { board.new ≡ board.old }
     ensures pending { result.0 ≡ sum_by (λ s. s.pending) others.items + first.pending }
-    ensures first_pending { first.pending ≡ pending_at first.node board.old.history }
-    ensures each_pending { All (λ s. s.pending ≡ pending_at s.node board.old.history) others.items }
+    ensures first_pending { first.pending ≡ pending_at first.node (present_events board.old.history) }
+    ensures each_pending { All (λ s. s.pending ≡ pending_at s.node (present_events board.old.history)) others.items }
     ensures parts { result.1.parts ≡ vec_len others + 1 }
     ensures sent { result.1.sent ≡ sum_by (λ s. s.sent) others.items + first.sent }
     ensures received { result.1.received ≡ sum_by (λ s. s.received) others.items + first.received }

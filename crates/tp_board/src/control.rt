@@ -1,10 +1,11 @@
-ghost use Rattle.std.specs.Prelude.{◌≡◌, ◌==◌, ◌≤◌, ◌<◌, ◌∷◌, IsTrue, IfOk, IsOk, OnErr, OnOk, None, Some, is_some, if◌then◌else◌};
+ghost use Rattle.std.specs.Prelude.{◌≡◌, ◌==◌, ◌≤◌, ◌<◌, ◌∷◌, IsFalse, IsTrue, IfOk, IsOk, OnErr, OnOk, None, Some, is_some, if◌then◌else◌};
 ghost use Rattle.tp_base.specs.declared.step.Step.TheVariants as steps;
 ghost use Rattle.tp_board.specs.Judgements.{is_over};
 ghost use Rattle.tp_ledgers.specs.Numbers.{event, node_at};
 ghost use Rattle.tp_board.specs.States.{AnswersBy, step_checks, visit_checks, with_event};
 ghost use Rattle.tp_wave.specs.Control.{parent};
 ghost use Rattle.tp_wave.specs.Cut.{IsQuiet};
+ghost use Rattle.tp_wave.specs.Generations.{present, present_events};
 ghost use Rattle.tp_wave.specs.Machine.{steps_of};
 ghost use Rattle.tp_wave.specs.Sums.{is_ended, judgement, sums_of};
 
@@ -76,7 +77,7 @@ impl<K: Ledgers> Board<K> {
     /// `NoMemory`.
     pub fn give(&mut self, shares: &Shares<K>) -> Result<Option<Sums>, Refusal>
         ensures ok { OnOk result (self.new ≡ with_event (event shares.now.node (steps.Give (node_at shares.now.node))) self.old) }
-        ensures sums { IfOk result (λ sums. sums ≡ (if shares.now.node == 0 then Some (sums_of K.names.nodes (steps_of self.new.history)) else None)) }
+        ensures sums { IfOk result (λ sums. sums ≡ (if shares.now.node == 0 then Some (sums_of K.names.nodes (present (steps_of self.new.history))) else None)) }
         ensures refusal { AnswersBy (visit_checks K.names.nodes self.old (node_at shares.now.node)) 1 self.old result }
         ensures refused { OnErr result (self.new ≡ self.old) }
     {
@@ -93,15 +94,16 @@ impl<K: Ledgers> Board<K> {
     }
 
     /// Judges the newest wave: `Over` exactly where its sums and those of the wave before it are all equal. Then nothing is
-    /// left, and the one token of the end is handed out.
+    /// left, and the one token of the end is handed out: a generation has at most one.
     ///
     /// Refused: `Ended` where the end was judged; `WaveNotEnded` where no ended wave waits for judgement; `HistoryFull`;
     /// `NoMemory`.
     pub fn judge(&mut self) -> Result<Judgement<K>, Refusal>
         ensures ok { OnOk result (self.new ≡ with_event (event 0 steps.Judge) self.old) }
-        ensures over { IfOk result (λ j. is_over j ≡ is_some (judgement K.names.nodes (steps_of self.old.history))) }
-        ensures ended { IfOk result (λ j. is_over j ≡ is_ended K.names.nodes (steps_of self.new.history)) }
-        ensures quiet { IfOk result (λ j. IsTrue (is_over j) → IsQuiet K.names.nodes self.new.history) }
+        ensures first { OnOk result (IsFalse (is_ended K.names.nodes (present (steps_of self.old.history)))) }
+        ensures over { IfOk result (λ j. is_over j ≡ is_some (judgement K.names.nodes (present (steps_of self.old.history)))) }
+        ensures ended { IfOk result (λ j. is_over j ≡ is_ended K.names.nodes (present (steps_of self.new.history))) }
+        ensures quiet { IfOk result (λ j. IsTrue (is_over j) → IsQuiet K.names.nodes (present_events self.new.history)) }
         ensures refusal { AnswersBy (step_checks K.names.nodes self.old steps.Judge) 1 self.old result }
         ensures refused { OnErr result (self.new ≡ self.old) }
     {
@@ -115,11 +117,12 @@ impl<K: Ledgers> Board<K> {
         }
     }
 
-    /// Changes nothing, and tells that the end was judged and nothing is left.
+    /// Changes nothing, and tells that the end of the present generation was judged and nothing of it is left: the token of
+    /// an earlier one was given back.
     pub fn audit_ended(&mut self, ended: &mut Ended<K>)
         ensures same { self.new ≡ self.old }
-        ensures ended { IsTrue (is_ended K.names.nodes (steps_of self.old.history)) }
-        ensures quiet { IsQuiet K.names.nodes self.old.history }
+        ensures ended { IsTrue (is_ended K.names.nodes (present (steps_of self.old.history))) }
+        ensures quiet { IsQuiet K.names.nodes (present_events self.old.history) }
     {
         self.accounts.audit_ended(ended);
     }

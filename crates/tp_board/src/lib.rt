@@ -7,9 +7,10 @@ mod control;
 mod counts;
 mod judgement;
 mod log;
+mod reopening;
 mod routes;
 
 pub use board::Board;
 pub use books::{Books, Totals, close_books, open_books};
 pub use judgement::Judgement;
-pub use tp_ledgers::{Blanks, Brand, Ended, Ledgers, LinkShare, Shares};
+pub use tp_ledgers::{Blanks, Brand, Ended, Fresh, Ledgers, LinkShare, Shares};

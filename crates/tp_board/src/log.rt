@@ -1,11 +1,12 @@
 ghost use Rattle.std.specs.Prelude.{◌≡◌, ◌∷◌, ◌+◌, ◌≤◌, ◌<◌, [], length, max, IsTrue, IsFalse, IfOk, IsOk, OnErr, OnOk, None};
-ghost use Rattle.tp_base.specs.History.{Event};
+ghost use Rattle.tp_base.specs.declared.step.Step.TheVariants as steps;
 ghost use Rattle.tp_board.specs.Counts.{AreFew, counts_at};
 ghost use Rattle.tp_ledgers.specs.Numbers.{event, is_done, is_recv, is_send, sending};
 ghost use Rattle.tp_board.specs.Routes.{is_send_between};
 ghost use Rattle.tp_board.specs.States.{AnswersBy, full_check, with_event, with_fault, with_reserved};
+ghost use Rattle.tp_wave.specs.Generations.{generation, present, present_events};
 ghost use Rattle.tp_wave.specs.Machine.{IsOf, is_send_numbered, steps_of};
-ghost use Rattle.tp_wave.specs.Steps.{any, count};
+ghost use Rattle.tp_wave.specs.Steps.{any, count, is_reopen};
 ghost use Rattle.tp_board.specs.Logs.{HasFew};
 
 use crate::counts::{Counts, NodeCounts};
@@ -14,13 +15,15 @@ use std::alloc::Global;
 use std::marker::Model;
 use tp_base::{Generation, History, MessageId, NodeId, Refusal, Step};
 
-/// A history within its limit, the first fault, and what is counted along with it. Contracts see what they see of a board.
+/// A history within its limit, the first fault, and what is counted along with the events of the present generation.
+/// Contracts see what they see of a board.
 #[derive(Drop)]
 pub struct Log {
     history: History,
     limit: u32,
     reserved: u32,
     fault: Option<Refusal>,
+    generation: u32,
     counts: Counts,
     routes: Routes,
 }
@@ -33,7 +36,7 @@ impl Model for Log {
 
     ghost view = { λ l. record { history = l.history.events; limit = l.limit; reserved = l.reserved; fault = l.fault } };
 
-    ghost invariant = { λ l. IsLog l.history l.limit l.reserved l.counts l.routes };
+    ghost invariant = { λ l. IsLog l.history l.limit l.reserved l.generation l.counts l.routes };
 }
 
 impl Log {
@@ -47,6 +50,7 @@ impl Log {
             limit,
             reserved: 0,
             fault: None,
+            generation: 1,
             counts: Counts::new(),
             routes: Routes::new(alloc),
         }
@@ -71,14 +75,14 @@ impl Log {
         Ok(())
     }
 
-    /// Adds an event that sends no message.
+    /// Adds an event that sends no message and reopens nothing.
     #[tactic(auto, using(crate::proofs::Naming::names_small))]
     #[inline(always)]
     pub fn add(&mut self, node: NodeId, step: Step) -> Result<(), Refusal>
         requires node { node.0 < 8 }
         requires beside { IsOf node.0 step }
         requires few { HasFew step }
-        requires kind { IsFalse (is_send step) }
+        requires kind { IsFalse (is_send step) × IsFalse (is_reopen step) }
         ensures ok { OnOk result (self.new ≡ with_event (event node.0 step) self.old) }
         ensures places { OnOk result (length self.old.history < 1048576) }
         ensures refusal { AnswersBy (full_check 1 self.old ∷ []) 1 self.old result }
@@ -96,14 +100,15 @@ impl Log {
         Ok(())
     }
 
-    /// Adds the sending of the next message.
+    /// Adds the sending of the present generation's next message.
     pub fn add_send(&mut self, from: NodeId, to: NodeId) -> Result<MessageId, Refusal>
         requires from { from.0 < 8 }
         requires to { to.0 < 8 }
-        ensures number { IfOk result (λ m. m.0 ≡ count is_send (steps_of self.old.history)) }
-        ensures ok { IfOk result (λ m. self.new ≡ with_event (event from.0 (sending from.0 to.0 m.0)) self.old) }
+        requires few { generation (steps_of self.old.history) < 1048576 }
+        ensures number { IfOk result (λ m. m.0 ≡ count is_send (present (steps_of self.old.history))) }
+        ensures ok { IfOk result (λ m. self.new ≡ with_event (event from.0 (sending (generation (steps_of self.old.history)) from.0 to.0 m.0)) self.old) }
         ensures small { IfOk result (λ m. m.0 < 1048576) }
-        ensures fresh { IfOk result (λ m. IsFalse (any (is_send_numbered m.0) (steps_of self.old.history))) }
+        ensures fresh { IfOk result (λ m. IsFalse (any (is_send_numbered m.0) (present (steps_of self.old.history)))) }
         ensures places { OnOk result (length self.old.history < 1048576) }
         ensures refusal { AnswersBy (full_check 1 self.old ∷ []) 1 self.old result }
         ensures reserved { 0 < self.old.reserved → IsOk result }
@@ -111,12 +116,39 @@ impl Log {
     {
         self.reserve(1)?;
         let message = MessageId(self.routes.len() as u32);
-        let step = Step::Send(from, to, message, Generation(1));
+        let step = Step::Send(from, to, message, Generation(self.generation));
         self.history.push_reserved(from, step);
         self.routes.push_reserved(from, to);
         self.counts.follow(from, &step);
         self.reserved -= 1;
         Ok(message)
+    }
+
+    /// Adds the reopening, in the place that was reserved for it: the next generation begins, of which nothing has happened.
+    pub fn reopen(&mut self)
+        requires { 0 < self.old.reserved }
+        ensures ok { self.new ≡ with_event (event 0 steps.Reopen) self.old }
+        ensures places { length self.old.history < 1048576 }
+    {
+        self.history.push_reserved(NodeId(0), Step::Reopen);
+        self.counts = Counts::new();
+        self.routes.clear();
+        self.generation += 1;
+        self.reserved -= 1;
+    }
+
+    /// The number of the present generation.
+    pub fn generation(&self) -> Generation
+        ensures { result.0 ≡ generation (steps_of self.now.history) }
+    {
+        Generation(self.generation)
+    }
+
+    /// How many events there may be.
+    pub fn limit(&self) -> u32
+        ensures { result ≡ self.now.limit }
+    {
+        self.limit
     }
 
     /// How many events there are.
@@ -128,20 +160,20 @@ impl Log {
         self.history.len()
     }
 
-    /// What is counted of a node.
+    /// What is counted of a node in the present generation.
     pub fn counts(&self, node: NodeId) -> NodeCounts
         requires { node.0 < 8 }
-        ensures counts { result ≡ counts_at node.0 self.now.history }
+        ensures counts { result ≡ counts_at node.0 (present_events self.now.history) }
         ensures few { AreFew result }
     {
         self.counts.of(node)
     }
 
-    /// The messages that were sent, those that were received, and the tasks that were done.
+    /// The messages that were sent in the present generation, those that were received, and the tasks that were done.
     pub fn totals(&self) -> (u32, u32, u32)
-        ensures sent { result.0 ≡ count is_send (steps_of self.now.history) }
-        ensures received { result.1 ≡ count is_recv (steps_of self.now.history) }
-        ensures done { result.2 ≡ count is_done (steps_of self.now.history) }
+        ensures sent { result.0 ≡ count is_send (present (steps_of self.now.history)) }
+        ensures received { result.1 ≡ count is_recv (present (steps_of self.now.history)) }
+        ensures done { result.2 ≡ count is_done (present (steps_of self.now.history)) }
     {
         (
             self.routes.len() as u32,
@@ -150,9 +182,9 @@ impl Log {
         )
     }
 
-    /// Whether a message was sent from one node to another.
+    /// Whether a message was sent from one node to another in the present generation.
     pub fn gave(&self, from: NodeId, to: NodeId, message: MessageId) -> bool
-        ensures { result ≡ any (is_send_between from.0 to.0 message.0) (steps_of self.now.history) }
+        ensures { result ≡ any (is_send_between from.0 to.0 message.0) (present (steps_of self.now.history)) }
     {
         self.routes.has(from, to, message)
     }
@@ -189,6 +221,7 @@ impl Log {
             limit: _,
             reserved: _,
             fault: _,
+            generation: _,
             counts: _,
             routes: _,
         } = self;

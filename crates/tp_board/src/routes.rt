@@ -50,6 +50,14 @@ impl Routes {
         self.ends.push_reserved((from, to));
     }
 
+    /// Forgets all messages. No room is lost.
+    pub fn clear(&mut self)
+        ensures routes { self.new.routes ≡ [] }
+        ensures room { self.old.room ≤ self.new.room }
+    {
+        self.ends.clear();
+    }
+
     /// How many messages there are.
     pub fn len(&self) -> usize
         ensures { result ≡ length self.now.routes }

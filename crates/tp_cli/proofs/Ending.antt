@@ -2,21 +2,23 @@
 use Rattle.std.proofs.Common.{◌≡◌, ◌∙◌, ℕ, Bool, List, Result, Ok, Err, IfErr, codes, map, refl, subst, sym}
 use Rattle.tp_base.specs.declared.refusal.Refusal.{Refusal}
 use Rattle.clap.specs.Words.{Text, subcommand_of}
-use Rattle.tp_cli.specs.Command.{AsksForForm, AsksForPools, AsksForRun, IsAt, tp_app}
+use Rattle.tp_cli.specs.Asked.{IsRunOf}
+use Rattle.tp_cli.specs.Command.{AsksForPools, IsAt, tp_app}
 use Rattle.tp_cli.specs.Ends.{IsRunText, IsTextOfPools, NamesPoolsInVain}
 use Rattle.tp_cli.specs.Pools.{AreInVain, IsPoolsText}
 use Rattle.tp_cli.specs.Runs.{IsTextFor, NamesNoGraph}
 use Rattle.tp_cli.specs.Status.{status_of_verdict}
-use Rattle.tp_cli.specs.declared.run.Form.{Form}
+use Rattle.tp_cli.specs.declared.run.Plan.{Plan}
 use Rattle.tp_cli.specs.declared.status.Status.TheVariants.{Refused}
 use Rattle.tp_samples.specs.Words.{word_of}
 use Rattle.tp_samples.specs.declared.any.AnyGraph.{AnyGraph}
 use Rattle.tp_text.specs.declared.Verdict.{Verdict}
 use Rattle.tp_text.specs.declared.Verdict.TheVariants as verdict
 
-pub run_text : (words : List Text) (spec : Text) (nodes workers : ℕ) (form : Form) (text : List ℕ) → AsksForRun words spec
-    → IsAt (codes "run") nodes workers (subcommand_of tp_app words) → AsksForForm words form → IsTextFor form spec nodes text → IsRunText words text
-run_text words spec nodes workers form text run at in_form made = (spec, nodes, form, run, (workers, at), in_form, made)
+pub run_text : (words : List Text) (spec : Text) (plan : Plan) (text : List ℕ) → IsRunOf (subcommand_of tp_app words) spec plan
+    → IsTextFor plan.form spec plan.config.nodes plan.generations text → IsRunText words text
+run_text words spec plan text asked made =
+    (spec, plan.config.nodes, plan.generations, plan.form, asked.0, (plan.config.workers, asked.2), asked.3, asked.4, made)
 
 -- the text of several pools, whose words were lent
 pub pools_text : {S : Type 0} (word : S → Text) (words : List Text) (specs lent : List S) (nodes workers : ℕ) (each_ended : Bool) (text : List ℕ)

@@ -1,5 +1,7 @@
 pub mod Asked
+pub mod Bounded
 pub mod Counted
 pub mod Ending
 pub mod Printed
+pub mod Rounds
 pub mod Several

@@ -1,16 +1,23 @@
 -- A request and the words that make it.
 use Rattle.std.specs.Prelude.{List, Option, codes, map}
 use Rattle.clap.specs.Words.{Row, Text, subcommand_of}
-use Rattle.tp_cli.specs.Command.{IsAt, IsPoolsNaming, IsReading, IsRunIn, IsRunNaming, tp_app}
+use Rattle.tp_cli.specs.Command.{IsAt, IsPoolsNaming, IsReading, IsRunIn, IsRunNaming, IsRunOver, tp_app}
+use Rattle.tp_cli.specs.Runs.{IsPlan}
 use Rattle.tp_cli.specs.declared.request.Request.{Request}
 use Rattle.tp_cli.specs.declared.request.Request.TheVariants.{Answer, Run, Pools}
+use Rattle.tp_cli.specs.declared.run.Plan.{Plan}
 use Rattle.tp_work.specs.Outcomes.{IsWithinLimits}
+
+-- `run` was found, with this word and this plan
+abbrev pub IsRunOf : Option (Text × List Row) → Text → Plan → Type 0
+IsRunOf found spec plan =
+    IsRunNaming spec found × IsPlan plan × IsAt (codes "run") plan.config.nodes plan.config.workers found
+    × IsRunOver plan.generations found × IsRunIn plan.form found
 
 -- the subcommand that was found, with its matches, makes the request
 abbrev pub IsMadeBy : Option (Text × List Row) → Request → Type 0
 IsMadeBy found (Answer kind) = IsReading kind found
-IsMadeBy found (Run spec config form) =
-    IsRunNaming spec.now found × IsWithinLimits config × IsAt (codes "run") config.nodes config.workers found × IsRunIn form found
+IsMadeBy found (Run spec plan) = IsRunOf found spec.now plan
 IsMadeBy found (Pools specs config) =
     IsPoolsNaming (map (λ s. s.now) specs.items) found × IsWithinLimits config × IsAt (codes "pools") config.nodes config.workers found
 

@@ -3,6 +3,7 @@
 use Rattle.std.specs.Prelude.{ℕ, ◌≡◌, ◌≤◌, ◌⊎◌, List, [], ◌∷◌, Option, Some, pos, true, codes}
 use Rattle.std.specs.Str.Parse.{IsNumeral, without_leading_plus, digits_value}
 use Rattle.tp_base.specs.declared.limits.TheConstants.{MAX_NODES, MAX_WORKERS}
+use Rattle.tp_cli.specs.declared.command.TheConstants.{MAX_GENERATIONS}
 use Rattle.tp_cli.specs.declared.run.Form.{Form}
 use Rattle.tp_cli.specs.declared.run.Form.TheVariants as forms
 use Rattle.tp_cli.specs.declared.text.TextKind.{TextKind}
@@ -15,13 +16,13 @@ use Rattle.clap.specs.declared.builder.value_parser.ValueParser.TheVariants.{Sig
 use Rattle.clap.specs.declared.error.kind.ErrorKind.{ErrorKind}
 use Rattle.clap.specs.declared.error.kind.ErrorKind.TheVariants.{DisplayHelp, DisplayVersion, MissingSubcommand, OutOfMemory}
 
--- an option that takes a number from 1 to 8, and is 1 where it is left out
-abbrev pub count_rule : Text → Rule
-count_rule name = record (new_rule name) {
+-- an option that takes a number from 1 to so many, and is 1 where it is left out
+abbrev pub count_rule : Text → ℕ → Rule
+count_rule name most = record (new_rule name) {
   long = Some name;
   value_names = 1;
   defaults = codes "1" ∷ [];
-  parser = Some (Signed (pos 1) (pos 8));
+  parser = Some (Signed (pos 1) (pos most));
 }
 
 -- a flag, which asks for the trace of a run
@@ -40,10 +41,14 @@ audit_app = new_app (codes "audit")
 
 -- and the numbers of nodes and of workers
 abbrev pub with_count_rules : App → App
-with_count_rules a = with_rule (with_rule a (count_rule (codes "nodes"))) (count_rule (codes "workers"))
+with_count_rules a = with_rule (with_rule a (count_rule (codes "nodes") MAX_NODES)) (count_rule (codes "workers") MAX_WORKERS)
+
+-- and the number of generations
+abbrev pub with_generations_rule : App → App
+with_generations_rule a = with_rule a (count_rule (codes "generations") MAX_GENERATIONS)
 
 abbrev pub run_app : App
-run_app = with_rule (with_count_rules (with_rule (new_app (codes "run")) spec_rule)) trace_rule
+run_app = with_rule (with_generations_rule (with_count_rules (with_rule (new_app (codes "run")) spec_rule))) trace_rule
 
 -- words that name pools, one or more
 abbrev pub specs_rule : Rule
@@ -94,6 +99,10 @@ AreCounts nodes workers rows = IsCount MAX_NODES (codes "nodes") rows nodes × I
 abbrev pub IsAt : Text → ℕ → ℕ → Option (Text × List Row) → Type 0
 IsAt name nodes workers found = (rows : List Row) × (found ≡ Some (name, rows)) × AreCounts nodes workers rows
 
+-- it is `run`, in so many generations
+abbrev pub IsRunOver : ℕ → Option (Text × List Row) → Type 0
+IsRunOver count found = (rows : List Row) × (found ≡ Some (codes "run", rows)) × IsCount MAX_GENERATIONS (codes "generations") rows count
+
 -- The trace is printed where the flag was given, and the table where it was not.
 abbrev pub IsFormOf : List Row → Form → Type 0
 IsFormOf rows form = (one_of (codes "trace") rows ≡ Some (codes "true") → form ≡ forms.Trace)
@@ -137,6 +146,10 @@ AsksForRun words spec = IsRunNaming spec (subcommand_of tp_app words)
 -- a run at so many nodes, with some number of workers
 abbrev pub AsksForNodes : List Text → ℕ → Type 0
 AsksForNodes words nodes = (workers : ℕ) × IsAt (codes "run") nodes workers (subcommand_of tp_app words)
+
+-- a run in so many generations
+abbrev pub AsksForGenerations : List Text → ℕ → Type 0
+AsksForGenerations words count = IsRunOver count (subcommand_of tp_app words)
 
 -- a run that is printed in this form
 abbrev pub AsksForForm : List Text → Form → Type 0

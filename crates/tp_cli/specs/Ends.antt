@@ -3,7 +3,7 @@
 use Rattle.std.specs.Prelude.{ℕ, ◌⊎◌, Bool, true, false, List, Option}
 use Rattle.std.specs.Io.KnownBytes.{Appends}
 use Rattle.clap.specs.Words.{Text}
-use Rattle.tp_cli.specs.Command.{AreAtFault, AsksForForm, AsksForHelp, AsksForNodes, AsksForPools, AsksForPoolsAt, AsksForRun, AsksForText, AsksForVersion, ReadsAText}
+use Rattle.tp_cli.specs.Command.{AreAtFault, AsksForForm, AsksForGenerations, AsksForHelp, AsksForNodes, AsksForPools, AsksForPoolsAt, AsksForRun, AsksForText, AsksForVersion, ReadsAText}
 use Rattle.tp_cli.specs.Pools.{AreInVain, IsPoolsText}
 use Rattle.tp_cli.specs.Runs.{IsTextFor, NamesNoGraph}
 use Rattle.tp_base.specs.declared.refusal.Refusal.{Refusal}
@@ -17,10 +17,12 @@ use Rattle.tp_text.specs.declared.Verdict.TheVariants.{Sound, Refused}
 abbrev pub IsReadText : List Text → Option (List ℕ) → Option (List ℕ) → Verdict → List ℕ → Type 0
 IsReadText words read_old read_new verdict text = (kind : TextKind) × AsksForText kind words × IsAnswerTo kind read_old read_new verdict text
 
--- The words ask for a run of a pool, and this is the text of such a run to its judged end, in the form that they ask for.
+-- The words ask for a run of a pool, and this is the text of such a run, each of its generations to its judged end, in the
+-- form that they ask for.
 abbrev pub IsRunText : List Text → List ℕ → Type 0
-IsRunText words text = (word : Text) × (nodes : ℕ) × (form : Form)
-    × AsksForRun words word × AsksForNodes words nodes × AsksForForm words form × IsTextFor form word nodes text
+IsRunText words text = (word : Text) × (nodes : ℕ) × (count : ℕ) × (form : Form)
+    × AsksForRun words word × AsksForNodes words nodes × AsksForGenerations words count × AsksForForm words form
+    × IsTextFor form word nodes count text
 
 -- The words ask for runs of several pools, which were run, each of them ended or not, and this is the text of what they answered.
 abbrev pub IsTextOfPools : List Text → Bool → List ℕ → Type 0

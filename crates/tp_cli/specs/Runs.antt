@@ -1,20 +1,26 @@
--- The text of a pool's run.
-use Rattle.std.specs.Prelude.{ℕ, ◌≡◌, ◌≢◌, ◌⊎◌, ◌++◌, List, codes, decimal}
+-- The text of a pool's run, in one generation or in several.
+use Rattle.std.specs.Prelude.{ℕ, suc, ◌≡◌, ◌≢◌, ◌≤◌, ◌⊎◌, ◌++◌, List, [], ◌∷◌, Some, codes, decimal, slice_get, vec_len}
 use Rattle.tp_base.specs.Refusals.{number_of, name_of}
 use Rattle.tp_base.specs.declared.refusal.Refusal.{Refusal}
 use Rattle.tp_base.specs.declared.refusal.Refusal.TheVariants.{BadSpec, Missing, NoMemory}
+use Rattle.tp_graph.specs.Serial.{AreRight, Results}
 use Rattle.tp_samples.specs.Any.{any_graph}
 use Rattle.tp_samples.specs.Tables.{LacksCell, table_of, table_text}
 use Rattle.tp_samples.specs.Words.{word_of}
 use Rattle.tp_samples.specs.declared.any.AnyGraph.{AnyGraph}
+use Rattle.tp_cli.specs.declared.command.TheConstants.{MAX_GENERATIONS}
 use Rattle.tp_cli.specs.declared.run.Form.{Form}
 use Rattle.tp_cli.specs.declared.run.Form.TheVariants.{Table, Trace}
+use Rattle.tp_cli.specs.declared.run.Plan.{Plan}
 use Rattle.tp_text.specs.Spelling.{line}
 use Rattle.tp_text.specs.TraceOf.{CanBeTraced, IsTraceOf}
-use Rattle.tp_wave.specs.Machine.{steps_of}
-use Rattle.tp_work.specs.Outcomes.{IsFault, IsOutcome}
+use Rattle.tp_wave.specs.Machine.{History, steps_of}
+use Rattle.tp_work.specs.Outcomes.{HasEachOnce, IsFault, IsOutcome, IsWithinLimits}
+use Rattle.tp_work.specs.Series.{IsSeries, IsSeriesFault}
 use Rattle.tp_work.specs.declared.config.Fault.{Fault}
 use Rattle.tp_work.specs.declared.config.Outcome.{Outcome}
+use Rattle.tp_work.specs.declared.series.Round.{Round}
+use Rattle.tp_work.specs.declared.series.Series.{Series}
 
 -- how many tasks there were and how many messages were sent, and that the pool ended
 abbrev pub totals_text : ℕ → ℕ → List ℕ
@@ -29,27 +35,85 @@ abbrev pub IsPrintOf : Form → AnyGraph → ℕ → Outcome → List ℕ → Ty
 IsPrintOf Table g n o text = text ≡ run_text g o.messages
 IsPrintOf Trace g n o text = IsTraceOf n (steps_of o.history.events) text
 
+-- a round under the number of its generation
+abbrev pub round_text : AnyGraph → ℕ → Round → List ℕ
+round_text g k round = line (codes "generation " ++ decimal k) ++ run_text g round.messages
+
+-- the rounds of a series in their order, each under the number of its generation, the first being of this number
+unfoldable pub rounds_text : AnyGraph → ℕ → List Round → List ℕ
+rounds_text g k [] = []
+rounds_text g k (round ∷ rounds) = round_text g k round ++ rounds_text g (suc k) rounds
+
+-- what is printed of a series of a graph on n nodes: its rounds, or the trace of all its events alone
+abbrev pub IsPrintOfSeries : Form → AnyGraph → ℕ → Series → List ℕ → Type 0
+IsPrintOfSeries Table g n s text = text ≡ rounds_text g 1 s.rounds.items
+IsPrintOfSeries Trace g n s text = IsTraceOf n (steps_of s.history.events) text
+
 -- the text, in this form, of a run of a graph on n nodes to its judged end
-abbrev pub IsTextOf : Form → AnyGraph → ℕ → List ℕ → Type 0
-IsTextOf form g n text = (o : Outcome) × IsOutcome n (any_graph g) o × IsPrintOf form g n o text
+abbrev pub IsTextOfOne : Form → AnyGraph → ℕ → List ℕ → Type 0
+IsTextOfOne form g n text = (o : Outcome) × IsOutcome n (any_graph g) o × IsPrintOf form g n o text
 
--- The word names a graph, and this is the text, in this form, of a run of it on n nodes to its judged end.
-abbrev pub IsTextFor : Form → List ℕ → ℕ → List ℕ → Type 0
-IsTextFor form word n text = (g : AnyGraph) × (word ≡ word_of g) × IsTextOf form g n text
+-- the text, in this form, of so many generations of a graph on n nodes, each run to its judged end
+abbrev pub IsTextOfSeries : Form → AnyGraph → ℕ → ℕ → List ℕ → Type 0
+IsTextOfSeries form g n count text = (s : Series) × IsSeries n (any_graph g) count s × IsPrintOfSeries form g n s text
 
--- Why an outcome is not printed in this form: its table lacks a cell, or its history has no trace; or there is no memory.
+-- The text of a run in one generation, or of a series of more.
+abbrev pub IsTextOf : Form → AnyGraph → ℕ → ℕ → List ℕ → Type 0
+IsTextOf form g n count text = ((count ≡ 1) × IsTextOfOne form g n text) ⊎ ((2 ≤ count) × IsTextOfSeries form g n count text)
+
+-- The word names a graph, and this is the text, in this form, of so many generations of it on n nodes.
+abbrev pub IsTextFor : Form → List ℕ → ℕ → ℕ → List ℕ → Type 0
+IsTextFor form word n count text = (g : AnyGraph) × (word ≡ word_of g) × IsTextOf form g n count text
+
+-- what makes a round one of a graph: each task has one result, the value that the graph defines, and no other task has any
+pub record IsRoundOf (g : AnyGraph) (round : Round) : Type 0 where
+  pub each_once : HasEachOnce (any_graph g).tasks round.results.items
+  pub right : AreRight (any_graph g) round.results.items
+  pub tasks : round.tasks ≡ vec_len round.results
+
+-- Why there is no table of these results: it lacks a cell, or there is no memory.
+abbrev pub IsUntold : AnyGraph → Results → Refusal → Type 0
+IsUntold g results r = ((r ≡ Missing) × LacksCell g results) ⊎ (r ≡ NoMemory)
+
+-- Why there is no table of one of these rounds.
+abbrev pub IsUntoldRound : AnyGraph → List Round → Refusal → Type 0
+IsUntoldRound g rounds r = (k : ℕ) × (round : Round) × (slice_get rounds k ≡ Some round) × IsUntold g round.results.items r
+
+-- Why these events are not printed: they have no trace, or there is no memory.
+abbrev pub IsUntraced : History → Refusal → Type 0
+IsUntraced h r = ((r ≡ BadSpec) × ¬ CanBeTraced (steps_of h)) ⊎ (r ≡ NoMemory)
+
+-- why an outcome is not printed in this form
 abbrev pub IsUnprinted : Form → AnyGraph → Outcome → Refusal → Type 0
-IsUnprinted Table g o r = ((r ≡ Missing) × LacksCell g o.results.items) ⊎ (r ≡ NoMemory)
-IsUnprinted Trace g o r = ((r ≡ BadSpec) × ¬ CanBeTraced (steps_of o.history.events)) ⊎ (r ≡ NoMemory)
+IsUnprinted Table g o r = IsUntold g o.results.items r
+IsUnprinted Trace g o r = IsUntraced o.history.events r
+
+-- why a series is not printed in this form
+abbrev pub IsUnprintedSeries : Form → AnyGraph → Series → Refusal → Type 0
+IsUnprintedSeries Table g s r = IsUntoldRound g s.rounds.items r
+IsUnprintedSeries Trace g s r = IsUntraced s.history.events r
 
 -- Why there is no text, in this form, of a run of a graph on n nodes: the run has this fault, or its outcome is not printed.
-abbrev pub IsWithoutText : Form → AnyGraph → ℕ → Refusal → Type 0
-IsWithoutText form g n r = ((f : Fault) × IsFault n (any_graph g) f × (f.refusal ≡ r))
+abbrev pub IsWithoutOne : Form → AnyGraph → ℕ → Refusal → Type 0
+IsWithoutOne form g n r = ((f : Fault) × IsFault n (any_graph g) f × (f.refusal ≡ r))
     ⊎ ((o : Outcome) × IsOutcome n (any_graph g) o × IsUnprinted form g o r)
 
--- The word names a graph, and for this there is no text, in this form, of a run of it on n nodes.
-abbrev pub IsRefusedRun : Form → List ℕ → ℕ → Refusal → Type 0
-IsRefusedRun form word n r = (g : AnyGraph) × (word ≡ word_of g) × IsWithoutText form g n r
+-- and of so many generations
+abbrev pub IsWithoutSeries : Form → AnyGraph → ℕ → ℕ → Refusal → Type 0
+IsWithoutSeries form g n count r = ((f : Fault) × IsSeriesFault n (any_graph g) count f × (f.refusal ≡ r))
+    ⊎ ((s : Series) × IsSeries n (any_graph g) count s × IsUnprintedSeries form g s r)
+
+-- Why there is no text of a run in one generation, or of a series of more.
+abbrev pub IsWithoutText : Form → AnyGraph → ℕ → ℕ → Refusal → Type 0
+IsWithoutText form g n count r = ((count ≡ 1) × IsWithoutOne form g n r) ⊎ ((2 ≤ count) × IsWithoutSeries form g n count r)
+
+-- The word names a graph, and for this there is no text, in this form, of so many generations of it on n nodes.
+abbrev pub IsRefusedRun : Form → List ℕ → ℕ → ℕ → Refusal → Type 0
+IsRefusedRun form word n count r = (g : AnyGraph) × (word ≡ word_of g) × IsWithoutText form g n count r
+
+-- how a pool may be run
+abbrev pub IsPlan : Plan → Type 0
+IsPlan p = IsWithinLimits p.config × (1 ≤ p.generations) × (p.generations ≤ MAX_GENERATIONS)
 
 -- no graph has this word
 abbrev pub NamesNoGraph : List ℕ → Type 0

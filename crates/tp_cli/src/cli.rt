@@ -8,7 +8,7 @@ ghost use Rattle.tp_text.specs.declared.Verdict.TheVariants as verdict;
 ghost use Rattle.tp_cli.specs.Command.{IsToBeShown, ReadsAText};
 ghost use Rattle.tp_cli.specs.Ends.{Complained, CouldNotWrite, RefusedPool, RefusedText, Succeeded};
 ghost use Rattle.tp_cli.specs.Pools.{AreInVain, IsPoolsText};
-ghost use Rattle.tp_cli.specs.Runs.{IsTextFor, NamesNoGraph};
+ghost use Rattle.tp_cli.specs.Runs.{IsPlan, IsTextFor, NamesNoGraph};
 ghost use Rattle.tp_cli.specs.Status.{fault_line, status_of_run_fault};
 ghost use Rattle.tp_cli.specs.Texts.{IsAnswerTo};
 ghost use Rattle.tp_cli.specs.declared.status.Status.TheVariants.{Done, Failed, Fault, Refused};
@@ -16,7 +16,7 @@ ghost use Rattle.tp_work.specs.Outcomes.{IsWithinLimits};
 
 use crate::pools::run_several;
 use crate::request::{Request, requested};
-use crate::run::{Form, RunFault, run, write_refusal};
+use crate::run::{Plan, RunFault, run, write_refusal};
 use crate::status::Status;
 use crate::text::TextKind;
 use clap::Error;
@@ -32,6 +32,9 @@ use tp_work::Config;
 /// `out` and its complaints to `err`, and answers the exit status: 0 where it is done, or help or the version was asked
 /// for, 1 for a fault of the command line, a word that names no pool, the reading or the writing, 2 for a text that is
 /// refused, 3 for a run that was refused or want of memory.
+///
+/// A pool runs in one generation, or in as many as `--generations` says, 1 to 9: it is reopened after each end but the last.
+/// Its first generation that is refused is its refusal, and nothing is written of those before.
 pub fn main_with<R: Threads + Wait + Sync, I: Read, O: Write, E: Write>(
     rt: &R,
     alloc: Global,
@@ -59,7 +62,7 @@ pub fn main_with<R: Threads + Wait + Sync, I: Read, O: Write, E: Write>(
 {
     let status = match requested(alloc, words) {
         Ok(Request::Answer(kind)) => answer_text(alloc, kind, reader, out, err),
-        Ok(Request::Run(spec, config, form)) => run_named(rt, alloc, spec, config, form, out, err),
+        Ok(Request::Run(spec, plan)) => run_named(rt, alloc, spec, plan, out, err),
         Ok(Request::Pools(specs, config)) => run_all(rt, alloc, &specs, config, out, err),
         Err(error) => explain(&error, out, err),
     };
@@ -99,20 +102,19 @@ fn run_named<R: Threads + Wait + Sync, O: Write, E: Write>(
     rt: &R,
     alloc: Global,
     spec: &str,
-    config: Config,
-    form: Form,
+    plan: Plan,
     out: &mut O,
     err: &mut E,
 ) -> Status
-    requires { IsWithinLimits config }
+    requires { IsPlan plan }
     ensures done { result ≡ Done → (err.new ≡ err.old) × ((text : List ℕ)
-        × IsTextFor form spec.now config.nodes text × Appends (O.contents out.old) (O.contents out.new) text) }
-    ensures fault { result ≡ Fault → ((text : List ℕ) × IsTextFor form spec.now config.nodes text)
+        × IsTextFor plan.form spec.now plan.config.nodes plan.generations text × Appends (O.contents out.old) (O.contents out.new) text) }
+    ensures fault { result ≡ Fault → ((text : List ℕ) × IsTextFor plan.form spec.now plan.config.nodes plan.generations text)
         ⊎ ((out.new ≡ out.old) × NamesNoGraph spec.now) }
     ensures failed { result ≡ Failed → out.new ≡ out.old }
     ensures never { result ≢ Refused }
 {
-    match run(rt, alloc, spec, config, form, out) {
+    match run(rt, alloc, spec, plan, out) {
         Ok(()) => Status::Done,
         Err(fault) => complain(fault, err),
     }

@@ -1,10 +1,14 @@
-ghost use Rattle.std.specs.Prelude.{◌≡◌, IfOk, false};
+ghost use Rattle.std.specs.Prelude.{◌≡◌, IfOk, codes, false};
 ghost use Rattle.clap.specs.Words.{app_of, rule_of};
 ghost use Rattle.clap.specs.declared.builder.command.Command.TheViews.{out-Command};
-ghost use Rattle.tp_cli.specs.Command.{audit_app, count_rule, pools_app, run_app, sim_app, texts_app, tp_app, with_count_rules};
+ghost use Rattle.tp_cli.specs.Command.{audit_app, count_rule, pools_app, run_app, sim_app, spec_rule, texts_app, tp_app, trace_rule, with_count_rules};
 
 use clap::{Arg, ArgAction, Command, value_parser};
 use std::alloc::{AllocError, Global};
+use tp_base::{MAX_NODES, MAX_WORKERS};
+
+/// The most generations that a pool is run in.
+pub(crate) const MAX_GENERATIONS: u32 = 9;
 
 /// The version of the program.
 static VERSION: &str = "0.1.0";
@@ -53,18 +57,41 @@ fn run_command<'a>(alloc: Global) -> Result<Command<'a>, AllocError>
     ensures app { IfOk result (λ command. app_of command ≡ run_app) }
     ensures local { IfOk result (λ command. (out-Command command).has_globals ≡ false) }
 {
-    let spec = Arg::new(alloc, "SPEC").required(true).help(
-        "The pool, as product:4:2:0, wavefront:8:8:0 or reduce:16:0",
-    );
-    let trace = Arg::new(alloc, "trace")
-        .long("trace")
-        .action(ArgAction::SetTrue)
-        .help("Prints the trace of the run and nothing else, as `tp audit` reads it");
     let command = Command::new(alloc, "run")
         .about("Runs a pool of tasks on worker threads and prints its result")
         .after_help(RUN_HELP)
-        .arg(spec)?;
-    with_counts(alloc, command)?.arg(trace)
+        .arg(spec_argument(alloc))?;
+    with_counts(alloc, command)?
+        .arg(generations_option(alloc))?
+        .arg(trace_flag(alloc))
+}
+
+fn spec_argument<'a>(alloc: Global) -> Arg<'a>
+    ensures rule { rule_of result ≡ spec_rule }
+    ensures local { result.global ≡ false }
+{
+    Arg::new(alloc, "SPEC").required(true).help(
+        "The pool, as product:4:2:0, wavefront:8:8:0 or reduce:16:0",
+    )
+}
+
+fn generations_option<'a>(alloc: Global) -> Arg<'a>
+    ensures rule { rule_of result ≡ count_rule (codes "generations") MAX_GENERATIONS }
+    ensures local { result.global ≡ false }
+{
+    count_option(alloc, "generations", "1-9", MAX_GENERATIONS).help(
+        "K, how often the pool is run: it is reopened after each end but the last",
+    )
+}
+
+fn trace_flag<'a>(alloc: Global) -> Arg<'a>
+    ensures rule { rule_of result ≡ trace_rule }
+    ensures local { result.global ≡ false }
+{
+    Arg::new(alloc, "trace")
+        .long("trace")
+        .action(ArgAction::SetTrue)
+        .help("Prints the trace of the run and nothing else, as `tp audit` reads it")
 }
 
 fn pools_command<'a>(alloc: Global) -> Result<Command<'a>, AllocError>
@@ -87,21 +114,23 @@ fn with_counts<'a>(alloc: Global, command: Command<'a>) -> Result<Command<'a>, A
     ensures app { IfOk result (λ counted. app_of counted ≡ with_count_rules (app_of command.entry)) }
     ensures local { (out-Command command.entry).has_globals ≡ false → IfOk result (λ counted. (out-Command counted).has_globals ≡ false) }
 {
-    let nodes = count_option(alloc, "nodes").help("N, how many nodes there are");
-    let workers = count_option(alloc, "workers").help("W, how many threads work at each node");
+    let nodes = count_option(alloc, "nodes", "1-8", MAX_NODES).help("N, how many nodes there are");
+    let workers = count_option(alloc, "workers", "1-8", MAX_WORKERS).help(
+        "W, how many threads work at each node",
+    );
     command.arg(nodes)?.arg(workers)
 }
 
-/// An option that takes a number from 1 to 8. Its value is named by that range, so that a complaint of any other word says
-/// what is wanted.
-fn count_option<'a>(alloc: Global, name: &'a str) -> Arg<'a>
-    ensures rule { rule_of result ≡ count_rule name.entry.now }
+/// An option that takes a number from 1 to so many. Its value is named by that range, so that a complaint of any other word
+/// says what is wanted.
+fn count_option<'a>(alloc: Global, name: &'a str, range: &'a str, most: u32) -> Arg<'a>
+    ensures rule { rule_of result ≡ count_rule name.entry.now most }
     ensures local { result.global ≡ false }
 {
     Arg::new(alloc, name)
         .long(name)
-        .value_name("1-8")
-        .value_parser(value_parser!(u32).range(1..=8))
+        .value_name(range)
+        .value_parser(value_parser!(u32).range(1..=i64::from(most)))
         .default_value("1")
 }
 
@@ -213,13 +242,18 @@ table, and then the number of tasks, the number of messages, and `ended`. Where
 the run is not refused, the table and the number of tasks do not depend on N and
 W; the number of messages depends on N.
 
-With --trace the record of the run is printed in place of the table: each event
-in its order, as `tp audit --help` says its lines. It depends on N and W, and is
-another at each run.
+With --generations K the pool is run K times: once its end was detected it is
+reopened, and all is as at the start but the limit of events, which goes on. For
+each generation `generation 1` and so on is printed, and then those lines.
+
+With --trace the record of the run is printed in place of all this: each event of
+all generations in its order, as `tp audit --help` says its lines. It depends on
+N and W, and is another at each run.
 
 Examples:
   tp run product:4:2:0 --nodes 2 --workers 2
   tp run wavefront:8:8:0 --nodes 4 --workers 2 --trace | tp audit
+  tp run reduce:4:0 --nodes 2 --generations 2
 
 The exit status is
   0  where the pool was run to its end and its text was written;
@@ -228,8 +262,8 @@ The exit status is
   3  where the run was refused, as `refused 16 HistoryFull`, or memory was; with
      --trace also `refused 26 BadSpec`, where a number has more than six digits.
 It is never 2. `HistoryFull` comes where the pool needs more than 1,048,576
-events: a task takes as many as it has inputs and 2 more, or 3 where it has
-none, and each message takes 3 more. `refused 17 NoMemory` comes where memory
+events in all its generations: a task takes as many as it has inputs and 2 more,
+or 3 where it has none, and each message takes 3 more. `refused 17 NoMemory` comes where memory
 was refused, or a thread could not be started.";
 
 static POOLS_HELP: &str =

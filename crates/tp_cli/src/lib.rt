@@ -6,6 +6,7 @@ mod command;
 mod pools;
 mod request;
 mod run;
+mod series;
 mod status;
 mod text;
 

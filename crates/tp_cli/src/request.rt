@@ -3,11 +3,12 @@ ghost use Rattle.std.specs.Str.Parse.{IsNumeral, without_leading_plus, digits_va
 ghost use Rattle.clap.specs.Values.{kind_of};
 ghost use Rattle.clap.specs.Words.{all_of, first_value, found_of, one_text, rows_of, subcommand_rows_of};
 ghost use Rattle.tp_cli.specs.Asked.{IsAskedBy, IsMadeBy};
-ghost use Rattle.tp_cli.specs.Command.{AreCounts, FailsAs, IsFormOf, IsNeither};
+ghost use Rattle.tp_cli.specs.Command.{AreCounts, FailsAs, IsCount, IsFormOf, IsNeither};
+ghost use Rattle.tp_cli.specs.Runs.{IsPlan};
 ghost use Rattle.tp_work.specs.Outcomes.{IsWithinLimits};
 
-use crate::command::tp_command;
-use crate::run::Form;
+use crate::command::{MAX_GENERATIONS, tp_command};
+use crate::run::{Form, Plan};
 use crate::text::TextKind;
 use clap::error::ErrorKind;
 use clap::{ArgMatches, Error};
@@ -23,8 +24,8 @@ const IDLE_TURNS: u32 = 100_000_000;
 pub(crate) enum Request<'a> {
     /// The answer to a text that is read.
     Answer(TextKind),
-    /// A run of the pool that a word names, and what is printed of it.
-    Run(&'a str, Config, Form),
+    /// A run of the pool that a word names.
+    Run(&'a str, Plan),
     /// Runs at once of the pools that words name.
     Pools(Vec<&'a str>, Config),
 }
@@ -76,7 +77,7 @@ fn run_asked<'a>(arguments: &ArgMatches<'a>) -> Option<Request<'a>>
         (IsMadeBy (Some (codes "run", rows_of (found_of arguments.now)))) }
 {
     let spec = arguments.get_str("SPEC")?;
-    Some(Request::Run(spec, config_of(arguments), form_of(arguments)))
+    Some(Request::Run(spec, plan_of(arguments)))
 }
 
 /// The runs that the arguments of `pools` ask for.
@@ -92,6 +93,20 @@ fn pools_asked<'a>(
     };
     let words = words.to_vec(alloc)?;
     Ok(Some(Request::Pools(words, config_of(arguments))))
+}
+
+/// How the pool is run, and what is printed of it.
+fn plan_of(arguments: &ArgMatches) -> Plan
+    ensures lawful { IsPlan result }
+    ensures counts { AreCounts result.config.nodes result.config.workers (rows_of (found_of arguments.now)) }
+    ensures generations { IsCount MAX_GENERATIONS (codes "generations") (rows_of (found_of arguments.now)) result.generations }
+    ensures form { IsFormOf (rows_of (found_of arguments.now)) result.form }
+{
+    Plan {
+        config: config_of(arguments),
+        generations: count_of(arguments, "generations", MAX_GENERATIONS),
+        form: form_of(arguments),
+    }
 }
 
 /// At how many nodes and with how many workers pools run.

@@ -120,7 +120,7 @@ pub(crate) enum Told {
 
 /// Words of command lines: runs of pools, words that name no pool, words that are of no command line, and words that ask for
 /// help.
-pub(crate) static COMMANDS: [(&str, &[&str], Told); 42] = [
+pub(crate) static COMMANDS: [(&str, &[&str], Told); 52] = [
     (
         "a-product-in-tiles",
         &[
@@ -308,6 +308,89 @@ pub(crate) static COMMANDS: [(&str, &[&str], Told); 42] = [
         ],
         Told::Whole,
     ),
+    (
+        "a-tree-of-sums-in-two-generations",
+        &[
+            "tp",
+            "run",
+            "reduce:4:0",
+            "--nodes",
+            "2",
+            "--generations",
+            "2",
+        ],
+        Told::Whole,
+    ),
+    (
+        "one-generation-is-told-as-a-run-is",
+        &[
+            "tp",
+            "run",
+            "reduce:4:0",
+            "--nodes",
+            "2",
+            "--generations",
+            "1",
+        ],
+        Told::Whole,
+    ),
+    (
+        "three-generations-of-a-wavefront-with-eight-workers-at-eight-nodes",
+        &[
+            "tp",
+            "run",
+            "wavefront:2:3:0",
+            "--nodes",
+            "8",
+            "--workers",
+            "8",
+            "--generations",
+            "3",
+        ],
+        Told::Whole,
+    ),
+    (
+        "nine-generations-of-one-task",
+        &["tp", "run", "reduce:1:9999", "--generations", "9"],
+        Told::Whole,
+    ),
+    (
+        "the-one-trace-of-two-generations-of-one-task",
+        &[
+            "tp",
+            "run",
+            "reduce:1:9999",
+            "--generations",
+            "2",
+            "--trace",
+        ],
+        Told::Whole,
+    ),
+    (
+        "two-generations-of-no-pool",
+        &["tp", "run", "reduce:3:0", "--generations", "2"],
+        Told::Whole,
+    ),
+    (
+        "a-run-in-no-generation",
+        &["tp", "run", "reduce:4:0", "--generations", "0"],
+        Told::WrongWords,
+    ),
+    (
+        "a-run-in-ten-generations",
+        &["tp", "run", "reduce:4:0", "--generations", "10"],
+        Told::WrongWords,
+    ),
+    (
+        "a-run-with-generations-in-letters",
+        &["tp", "run", "reduce:4:0", "--generations", "two"],
+        Told::WrongWords,
+    ),
+    (
+        "several-pools-in-two-generations-are-not-to-be-had",
+        &["tp", "pools", "reduce:4:0", "--generations", "2"],
+        Told::WrongWords,
+    ),
     ("no-subcommand", &["tp"], Told::WrongWords),
     (
         "an-unknown-subcommand",
@@ -380,7 +463,7 @@ pub(crate) static COMMANDS: [(&str, &[&str], Told); 42] = [
 ];
 
 /// Runs of pools whose traces are judged.
-pub(crate) static RUNS: [(&str, &[&str]); 8] = [
+pub(crate) static RUNS: [(&str, &[&str]); 9] = [
     (
         "the-trace-of-a-product-in-tiles",
         &[
@@ -418,6 +501,21 @@ pub(crate) static RUNS: [(&str, &[&str]); 8] = [
     (
         "the-trace-of-a-tree-of-sums-at-one-node",
         &["tp", "run", "reduce:4:0", "--trace"],
+    ),
+    (
+        "the-trace-of-two-generations-of-a-tree-of-sums",
+        &[
+            "tp",
+            "run",
+            "reduce:4:0",
+            "--nodes",
+            "2",
+            "--workers",
+            "3",
+            "--generations",
+            "2",
+            "--trace",
+        ],
     ),
     (
         "the-trace-of-a-product-of-one-task",

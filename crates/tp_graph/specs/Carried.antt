@@ -3,6 +3,7 @@ use Rattle.std.specs.Prelude.{◌≡◌, ◌<◌, ◌≤◌, ℕ, ℤ, List, Som
 use Rattle.tp_base.specs.declared.ids.TaskId.{TaskId}
 use Rattle.tp_base.specs.declared.ids.NodeId.{NodeId}
 use Rattle.tp_base.specs.declared.ids.MessageId.{MessageId}
+use Rattle.tp_base.specs.declared.ids.Generation.{Generation}
 use Rattle.tp_graph.specs.Graphs.{TaskGraph}
 use Rattle.tp_graph.specs.Values.{value_of, AreInputs}
 use Rattle.tp_graph.specs.declared.feed.Feed.{Feed}
@@ -32,10 +33,11 @@ pub record Ran (G : Type 0) : Type 0 where
   pub value : List ℤ
   pub fed : ℕ
 
--- a value on its way from a node to another, where a feed of its producer ends
+-- a value on its way from a node to another, where a feed of its producer ends, and the generation that sent it
 pub record Carried (G : Type 0) : Type 0 where
   pub graph : G
   pub number : MessageId
+  pub generation : Generation
   pub from : NodeId
   pub to : NodeId
   pub feed : Feed
@@ -53,7 +55,8 @@ pub record HasRun (g : TaskGraph) (t : ℕ) (made : List ℤ) (fed : ℕ) : Type
   pub few : fed ≤ g.feeds t
 
 -- what a carried value keeps: it is the definition's of its producer, whose feed it is
-pub record IsCarried (g : TaskGraph) (number : ℕ) (feed : Feed) (made : List ℤ) : Type 0 where
+pub record IsCarried (g : TaskGraph) (number generation : ℕ) (feed : Feed) (made : List ℤ) : Type 0 where
   pub few : number < 1048576
+  pub few_generations : generation < 1048576
   pub right : value_of g feed.producer.0 ≡ Some made
   pub fed : IsFeed g feed

@@ -6,7 +6,7 @@ use crate::feed::Feed;
 use crate::graph::Graph;
 use crate::value::Value;
 use std::marker::Model;
-use tp_base::{MessageId, NodeId};
+use tp_base::{Generation, MessageId, NodeId};
 use tp_link::Routed;
 
 /// A value on its way to a task at another node.
@@ -14,6 +14,7 @@ use tp_link::Routed;
 pub struct Message<G: Graph> {
     graph: G,
     number: MessageId,
+    generation: Generation,
     from: NodeId,
     to: NodeId,
     feed: Feed,
@@ -25,30 +26,34 @@ impl<G: Graph> Model for Message<G> {
 
     ghost Value = { Carried G };
 
-    ghost view = { λ m. record { graph = m.graph; number = m.number; from = m.from; to = m.to; feed = m.feed; value = m.value } };
+    ghost view = { λ m. record { graph = m.graph; number = m.number; generation = m.generation; from = m.from; to = m.to; feed = m.feed; value = m.value } };
 
-    ghost invariant = { λ m. IsCarried (G.meaning m.graph) m.number.0 m.feed m.value };
+    ghost invariant = { λ m. IsCarried (G.meaning m.graph) m.number.0 m.generation.0 m.feed m.value };
 }
 
 impl<G: Graph> Message<G> {
-    /// A value on its way from a node to another. It has to be the value of the feed's producer, one of whose feeds has to
-    /// go there. It takes no memory.
+    /// A value on its way from a node to another, sent in a generation of its pool. It has to be the value of the feed's
+    /// producer, one of whose feeds has to go there. Its number and that of its generation have to be below 1,048,576. It
+    /// takes no memory.
     pub fn new(
         graph: G,
         number: MessageId,
+        generation: Generation,
         from: NodeId,
         to: NodeId,
         feed: Feed,
         value: Value,
     ) -> Self
         requires few { number.0 < 1048576 }
+        requires few_generations { generation.0 < 1048576 }
         requires right { value_of (G.meaning graph) feed.producer.0 ≡ Some value }
         requires fed { IsFeed (G.meaning graph) feed }
-        ensures { result ≡ record { graph = graph; number = number; from = from; to = to; feed = feed; value = value } }
+        ensures { result ≡ record { graph = graph; number = number; generation = generation; from = from; to = to; feed = feed; value = value } }
     {
         Message {
             graph,
             number,
+            generation,
             from,
             to,
             feed,
@@ -63,12 +68,20 @@ impl<G: Graph> Message<G> {
         self.graph
     }
 
-    /// Its number in its pool.
+    /// Its number among the messages of its generation.
     pub fn number(&self) -> MessageId
         ensures same { result ≡ self.now.number }
         ensures few { self.now.number.0 < 1048576 }
     {
         self.number
+    }
+
+    /// The generation of its pool that sent it.
+    pub fn generation(&self) -> Generation
+        ensures same { result ≡ self.now.generation }
+        ensures few { self.now.generation.0 < 1048576 }
+    {
+        self.generation
     }
 
     /// The node that sent it.
@@ -145,22 +158,24 @@ impl<G: Graph> Model for Parcel<G> {
 }
 
 impl<G: Graph> Parcel<G> {
-    /// A received message, of what a message is made of. It takes no memory.
+    /// A received message, of what a message is made of. It asks for what [`Message::new`] does, and takes no memory.
     pub fn new(
         graph: G,
         number: MessageId,
+        generation: Generation,
         from: NodeId,
         to: NodeId,
         feed: Feed,
         value: Value,
     ) -> Self
         requires few { number.0 < 1048576 }
+        requires few_generations { generation.0 < 1048576 }
         requires right { value_of (G.meaning graph) feed.producer.0 ≡ Some value }
         requires fed { IsFeed (G.meaning graph) feed }
-        ensures { result ≡ record { graph = graph; number = number; from = from; to = to; feed = feed; value = value } }
+        ensures { result ≡ record { graph = graph; number = number; generation = generation; from = from; to = to; feed = feed; value = value } }
     {
         Parcel {
-            message: Message::new(graph, number, from, to, feed, value),
+            message: Message::new(graph, number, generation, from, to, feed, value),
         }
     }
 
@@ -177,6 +192,14 @@ impl<G: Graph> Parcel<G> {
         ensures few { self.now.number.0 < 1048576 }
     {
         self.message.number()
+    }
+
+    /// The generation of the pool that sent the message.
+    pub fn generation(&self) -> Generation
+        ensures same { result ≡ self.now.generation }
+        ensures few { self.now.generation.0 < 1048576 }
+    {
+        self.message.generation()
     }
 
     /// The node that sent it.
@@ -218,6 +241,7 @@ impl<G: Graph> Parcel<G> {
         let Message {
             graph: _,
             number: _,
+            generation: _,
             from: _,
             to: _,
             feed: _,

@@ -8,7 +8,7 @@ use Rattle.tp_base.specs.declared.step.Step.TheVariants.{Insert, Supply, Begin, 
 use Rattle.tp_wave.specs.Machine.{pending_after}
 pub use Rattle.tp_wave.specs.Steps.{is_done, is_recv, is_send}
 
--- a step of the pool that moves no message
+-- a step of the pool that names no message
 abbrev pub is_plain : Step → Bool
 is_plain (Insert i t k) = true
 is_plain (Supply t) = true
@@ -17,7 +17,6 @@ is_plain (Done t) = true
 is_plain (ActionOpen i a) = true
 is_plain (ActionClose i a) = true
 is_plain (Ready i) = true
-is_plain (MessageEnd j m g) = true
 is_plain _ = false
 
 -- the node of this number
@@ -28,13 +27,17 @@ node_at i = record { 0 = i }
 abbrev pub event : ℕ → Step → Event
 event i step = (node_at i, step)
 
--- node i sends message m to node j, in the first generation
-abbrev pub sending : ℕ → ℕ → ℕ → Step
-sending i j m = Send (node_at i) (node_at j) (record { 0 = m }) (record { 0 = 1 })
+-- node i sends message m to node j, in generation k
+abbrev pub sending : ℕ → ℕ → ℕ → ℕ → Step
+sending k i j m = Send (node_at i) (node_at j) (record { 0 = m }) (record { 0 = k })
 
--- node j receives message m, in the first generation
-abbrev pub receiving : ℕ → ℕ → Step
-receiving j m = Recv (node_at j) (record { 0 = m }) (record { 0 = 1 })
+-- node j receives message m, in generation k
+abbrev pub receiving : ℕ → ℕ → ℕ → Step
+receiving k j m = Recv (node_at j) (record { 0 = m }) (record { 0 = k })
+
+-- node j ends the action of message m, in generation k
+abbrev pub ending : ℕ → ℕ → ℕ → Step
+ending k j m = MessageEnd (node_at j) (record { 0 = m }) (record { 0 = k })
 
 -- A node by its number: its pending number, the messages that it has sent and received, and the tasks that it has done.
 pub record NodeNumbers : Type 0 where

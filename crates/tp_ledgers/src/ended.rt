@@ -4,14 +4,15 @@ use crate::names::{Judged, Ledgers};
 use std::marker::Model;
 use std::sync::ledger::{Blank, Book, Share};
 
-/// The pool's end was judged. A board hands out one, and it has no clone.
+/// The end of the pool's present generation was judged. A board hands out one in each generation, and it has no clone: it
+/// is given back where the pool is reopened.
 #[derive(Drop)]
 pub struct Ended<K: Ledgers> {
     share: Share<Judged<K>>,
-    ghost one: { share.amount ≡ 1 },
+    ghost one: { (share.parts ≡ 1) × (share.amount ≡ 1) },
 }
 
-/// The one token of the end, until it is handed out. Contracts see how many were handed out.
+/// The one token of the end, while it is not out. Contracts see how many are out.
 #[derive(Drop)]
 pub(crate) struct Keeper<K: Ledgers> {
     book: Book<Judged<K>>,
@@ -59,6 +60,16 @@ impl<K: Ledgers> Keeper<K> {
         };
         self.book.add(&mut share, 1);
         Ended { share }
+    }
+
+    /// Takes the token back.
+    pub fn take_back(&mut self, ended: Ended<K>)
+        ensures told { self.old ≡ 1 }
+        ensures back { self.new ≡ 0 }
+    {
+        let Ended { mut share } = ended;
+        self.book.sub(&mut share, 1);
+        self.token = Some(share);
     }
 
     /// Changes nothing, and tells that the token was handed out.

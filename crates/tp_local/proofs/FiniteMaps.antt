@@ -1,5 +1,5 @@
 -- Lists of entries as finite maps.
-use Rattle.std.proofs.Common.{◌≡◌, ℕ, ◌+◌, ◌-◌, ◌<◌, zero, suc, arith, List, [], ◌∷◌, Bool, true, false, cond, Option, Some, None, is_some, refl, sym, ◌∙◌, ap}
+use Rattle.std.proofs.Common.{◌≡◌, ℕ, ◌+◌, ◌-◌, ◌<◌, arith, List, [], ◌∷◌, true, false, cond, Option, Some, None, is_some, refl, sym, ◌∙◌, ap}
 use Rattle.std.specs.FinMap as finite
 use mathlib.Core.Bool.{true≢false}
 use Rattle.std.specs.Ordering.{nat_cmp, eq_by_cmp}

@@ -1,5 +1,5 @@
 -- Where no task is unfinished.
-use Rattle.std.proofs.Common.{◌≡◌, ℕ, ◌+◌, ◌<◌, ◌≤◌, ◌==◌, Bool, true, false, cond, List, [], ◌∷◌, Option, Some, None, is_some, unwrap_or, MatchOption, count_by, refl, sym, ap, subst, ◌∙◌, arith}
+use Rattle.std.proofs.Common.{◌≡◌, ℕ, ◌+◌, ◌<◌, ◌==◌, Bool, true, false, cond, [], ◌∷◌, Option, Some, None, is_some, unwrap_or, count_by, refl, sym, ap, ◌∙◌, arith}
 use Rattle.std.specs.Prelude.{if◌then◌else◌, not, IsTrue, IfSome, OnSome}
 use Rattle.std.specs.Option.{option_map}
 use Rattle.std.specs.FinMap as finite
@@ -11,7 +11,7 @@ use Rattle.tp_base.specs.Checks.{first_refusal}
 use Rattle.tp_local.specs.Actions.{opening_count}
 use Rattle.tp_local.specs.Locals.{LocalState, finish_checks, is_live, pending}
 use Rattle.tp_local.specs.Locals.{Numbers, EachOnce}
-use Rattle.tp_store.proofs.Counting.{one_if, passing, passing-insert}
+use Rattle.tp_store.proofs.Counting.{passing-insert}
 use Rattle.tp_store.specs.Content.{Task, Content, task_of, life_of, done, unfinished, is_unfinished, is_done}
 use Rattle.tp_store.specs.Sound.{IsSound, times_done}
 use Rattle.tp_store.specs.declared.life.Life.{Life}

@@ -1,23 +1,22 @@
 -- A node's own state: its tasks, its open actions, what it sent and received, and whether the end was announced to it. What is
 -- pending is counted over the tasks and the actions.
-use Rattle.std.specs.Prelude.{ℕ, ℤ, ◌+◌, ◌≡◌, ◌==◌, ◌||◌, ◌≤◌, List, [], ◌∷◌, Bool, true, false, not, IsTrue, Option, Some, None, is_some, unwrap_or, slice_index_or, if◌then◌else◌, refl}
+use Rattle.std.specs.Prelude.{ℕ, ℤ, ◌+◌, ◌≡◌, ◌==◌, List, [], ◌∷◌, Bool, false, not, IsTrue, Option, Some, None, is_some, if◌then◌else◌, refl}
 use Rattle.std.specs.FinSet as set
 use Rattle.std.specs.Coded.{Coded, code_by, coded×, coded_ℕ, coded_bool}
-use Rattle.std.specs.Option.{option_map}
 use Rattle.tp_base.specs.declared.TaskId.{TaskId}
 use Rattle.tp_base.specs.declared.Refusal.{Refusal}
-use Rattle.tp_base.specs.declared.Refusal.TheVariants.{TaskKnown, NoTask, WrongLife, Inactive, ActionKnown, NoAction, HistoryFull, NoMemory, SlotTaken, StoreFull}
-use Rattle.tp_base.specs.declared.limits.TheConstants.{MAX_LIVE_TASKS, MAX_STEPS}
+use Rattle.tp_base.specs.declared.Refusal.TheVariants.{TaskKnown, WrongLife, Inactive, ActionKnown, NoAction, HistoryFull}
+use Rattle.tp_base.specs.declared.limits.TheConstants.{MAX_STEPS}
 use Rattle.tp_monitor.specs.declared.numbers.TheConstants.{MAX_ACTIONS}
 use Rattle.tp_monitor.specs.declared.TaskpoolState.{TaskpoolState}
 use Rattle.tp_monitor.specs.declared.TaskpoolState.TheVariants.{NotReady, Busy, Idle, Terminated}
-use Rattle.tp_base.specs.Checks.{Check, first_refusal}
+use Rattle.tp_base.specs.Checks.{Check}
 use Rattle.tp_monitor.specs.Monitors.{Monitored, is_idle}
 use Rattle.tp_store.specs.Content.{Content, nothing_stored, task_of, unfinished, is_unfinished, refusal_of_new, refusal_of_deliver}
 use Rattle.tp_store.specs.Sound.{times_done}
 use Rattle.tp_store.specs.declared.life.Life.{Life}
 use Rattle.tp_store.specs.Codes.{content_code}
-use Rattle.tp_local.specs.Actions.{Actions, actions_code, first_actions, has_message, open_count, opening_count}
+use Rattle.tp_local.specs.Actions.{Actions, actions_code, first_actions, has_message, open_count}
 
 -- what a store holds, the open actions, how many messages were sent and received, and whether the end was announced
 pub record LocalState (V : Type 0) : Type 0 where

@@ -1,5 +1,5 @@
 -- What a node keeps of its monitor.
-use Rattle.std.specs.Prelude.{◌≡◌, Option, Some, unwrap_or}
+use Rattle.std.specs.Prelude.{◌≡◌, Some, unwrap_or}
 use Rattle.std.proofs.Common.{ap}
 use Rattle.tp_base.specs.declared.PoolId.{PoolId}
 use Rattle.tp_monitor.specs.Monitors.{Monitored, IsMonitor}

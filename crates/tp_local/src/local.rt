@@ -329,6 +329,20 @@ impl Local {
         };
     }
 
+    /// Reopens the pool here, whose end was announced, and hands out each task that was done with its result, in the order in
+    /// which they were done. Nothing is stored then, the opening action alone is open, and no message was sent or received.
+    /// It takes no memory, and gives back what the old tasks and actions held.
+    pub fn reopen(&mut self, alloc: Global) -> Vec<(TaskId, Value)>
+        requires over { IsTrue self.old.ended }
+        ensures results { result.items ≡ self.old.store.results }
+        ensures first { self.new ≡ first_state }
+        ensures counted { pending self.new ≡ 1 }
+    {
+        self.tally.reopen();
+        self.actions = OpenActions::new(alloc);
+        self.store.value.take_results()
+    }
+
     /// How many tasks are not done and how many actions are open, together.
     pub fn pending(&self) -> u32
         ensures pending { result ≡ pending self.now }

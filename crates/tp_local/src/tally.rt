@@ -1,4 +1,4 @@
-ghost use Rattle.std.specs.Prelude.{◌≡◌, ◌+◌, ◌-◌, ◌<◌, ◌==◌, [], ◌∷◌, Some, true, false, not, OnOk, OnErr};
+ghost use Rattle.std.specs.Prelude.{◌≡◌, ◌+◌, ◌-◌, ◌<◌, ◌==◌, [], ◌∷◌, Some, true, false, not, IsTrue, OnOk, OnErr};
 ghost use Rattle.std.specs.Result.{result_err};
 ghost use Rattle.tp_base.specs.declared.Refusal.TheVariants.{WrongLife, HistoryFull};
 ghost use Rattle.tp_base.specs.Checks.{first_refusal};
@@ -144,6 +144,16 @@ impl Tally {
     {
         self.monitor.taskpool_end(self.pool)?;
         Ok(())
+    }
+
+    /// The pool, whose end was announced, is reopened: its opening action is open.
+    pub(crate) fn reopen(&mut self)
+        requires { IsTrue self.old.announced }
+        ensures { self.new ≡ record self.old { numbers = first_numbers; announced = false } }
+    {
+        let Ok(()) = self.monitor.taskpool_reopen(self.pool) else {
+            unreachable!()
+        };
     }
 
     /// Where the pool stands.

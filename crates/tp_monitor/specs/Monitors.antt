@@ -101,6 +101,10 @@ pool_checks m pool = (not (is_pool pool m.pool), NoPool) ∷ []
 abbrev pub unmonitor_checks : Monitored → PoolId → List Check
 unmonitor_checks m pool = pool_checks m pool ++ (not (is_terminated (standing m)), WrongLife) ∷ []
 
+-- A pool is reopened once its end was announced.
+abbrev pub reopen_checks : Monitored → PoolId → List Check
+reopen_checks m pool = pool_checks m pool ++ (not (is_terminated (standing m)), WrongLife) ∷ []
+
 -- A call that counts begins with these.
 abbrev pub running_checks : Monitored → PoolId → List Check
 running_checks m pool = pool_checks m pool ++ (m.announced, WrongLife) ∷ []

@@ -14,6 +14,7 @@ ghost use Rattle.tp_monitor.specs.Monitors.{
   change_checks,
   monitor_checks,
   unmonitor_checks,
+  reopen_checks,
   ready_checks,
   tasks_checks,
   actions_checks,
@@ -117,6 +118,19 @@ impl Monitor {
         }
         *self = Monitor::new();
         Ok(())
+    }
+
+    /// Reopens a pool whose end was announced. It is then as it was taken on: it has no task, its opening action is open, and
+    /// no message was sent or received.
+    ///
+    /// Refused `NoPool` (24) where another pool or none is monitored; `WrongLife` (5) where it is not Terminated.
+    pub fn taskpool_reopen(&mut self, pool: PoolId) -> Result<(), Refusal>
+        ensures refused { result_err result ≡ first_refusal (reopen_checks self.old pool) }
+        ensures reopened { OnOk result (self.new ≡ record { pool = Some pool; numbers = first_numbers; announced = false }) }
+        ensures kept { OnErr result (self.new ≡ self.old) }
+    {
+        self.unmonitor_taskpool(pool)?;
+        self.monitor_taskpool(pool)
     }
 
     /// Closes the opening action.

@@ -1,5 +1,5 @@
 -- How the answers of calls in a row come together.
-use Rattle.std.proofs.Common.{◌≡◌, ℕ, suc, ◌+◌, ◌-◌, List, [], ◌∷◌, length, Option, Some, None, MatchOption, cond, refl, sym, ap, subst, ◌∙◌, arith}
+use Rattle.std.proofs.Common.{◌≡◌, ℕ, suc, ◌-◌, List, [], ◌∷◌, length, Option, Some, None, MatchOption, cond, refl, sym, ap, subst, ◌∙◌, arith}
 use Rattle.std.specs.Prelude.{Result, Ok, Err, OnErr, OnOk, drop, slice_get}
 use Rattle.std.proofs.lemmas.List.Elements.{All-cons, All-drop}
 use Rattle.tp_base.specs.declared.refusal.Refusal.{Refusal}
@@ -10,6 +10,7 @@ use Rattle.tp_base.specs.History.{Event}
 use Rattle.tp_graph.specs.Carried.{Carried}
 use Rattle.tp_graph.specs.Graphs.{TaskGraph}
 use Rattle.tp_graph.specs.declared.feed.Feed.{Feed}
+use Rattle.tp_wave.specs.Generations.{present}
 use Rattle.tp_wave.specs.Machine.{is_send_to, steps_of}
 use Rattle.tp_wave.specs.Steps.{any}
 use Rattle.std.specs.FinMap as finite
@@ -49,10 +50,10 @@ none_first (m ∷ messages) e = cc
 
 -- the first message is the one that was looked at
 pub sent_first : {G : Type 0} (messages : List (Carried G)) (first : Carried G) (to : ℕ) (h k : List Event) → Some first ≡ slice_get messages 0 → k ≡ h
-    → IsTrue (any (is_send_to to first.number.0) (steps_of h)) → (m : Carried G) → slice_get messages 0 ≡ Some m → IsTrue (any (is_send_to to m.number.0) (steps_of k))
+    → IsTrue (any (is_send_to to first.number.0) (present (steps_of h))) → (m : Carried G) → slice_get messages 0 ≡ Some m → IsTrue (any (is_send_to to m.number.0) (present (steps_of k)))
 sent_first messages first to h k is same sent m e =
     let it : first ≡ m = (let both : Some first ≡ Some m = is ∙ e in cc) in
-    subst (λ (z : List Event). IsTrue (any (is_send_to to m.number.0) (steps_of z))) (sym same) (ap (λ z. any (is_send_to to z.number.0) (steps_of h)) (sym it) ∙ sent)
+    subst (λ (z : List Event). IsTrue (any (is_send_to to m.number.0) (present (steps_of z)))) (sym same) (ap (λ z. any (is_send_to to z.number.0) (present (steps_of h))) (sym it) ∙ sent)
 
 -- The action of a message that was just received is open with its feed, and the feed's task lives here.
 pub brings : {G : Type 0} (meaning : G → TaskGraph) (pool from to : ℕ) (messages rest : List (Carried G)) (first taken p : Carried G) (l : LocalState Numbers) (n : NodeState G) (m : MessageId) (f : Feed)

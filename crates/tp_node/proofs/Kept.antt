@@ -1,5 +1,5 @@
 -- What a node keeps over the changes of its store.
-use Rattle.std.proofs.Common.{◌≡◌, ◌≢◌, ℕ, zero, suc, ◌+◌, ◌-◌, ◌<◌, ◌≤◌, ◌==◌, Bool, true, false, cond, List, [], ◌∷◌, ◌++◌, length, Option, Some, None, is_some, unwrap_or, refl, sym, ap, subst, ◌∙◌, inl, inr, arith}
+use Rattle.std.proofs.Common.{◌≡◌, ℕ, ◌+◌, ◌-◌, ◌<◌, Bool, true, false, [], ◌∷◌, length, Option, Some, None, unwrap_or, refl, sym, ap, subst, ◌∙◌, inl, inr, arith}
 use Rattle.std.specs.Prelude.{if◌then◌else◌}
 use Rattle.std.specs.Option.{option_map}
 use Rattle.std.specs.Ordering.{nat_cmp}
@@ -12,8 +12,8 @@ use Rattle.tp_base.specs.declared.step.Step.TheVariants as steps
 use Rattle.tp_board.specs.Numbers.{NodeNumbers, numbers_after}
 use Rattle.tp_graph.specs.Graphs.{TaskGraph}
 use Rattle.tp_graph.specs.Values.{value_of, IsInput}
-use Rattle.tp_local.specs.Locals.{LocalState, first_state, pending}
-use Rattle.tp_node.specs.Nodes.{NodeState, IsNode, IsSeed, IsCountedBy, AreRightValues, inserting, task_at, with_store}
+use Rattle.tp_local.specs.Locals.{LocalState, pending}
+use Rattle.tp_node.specs.Nodes.{NodeState, IsNode, IsCountedBy, AreRightValues, inserting, task_at, with_store}
 use Rattle.tp_local.specs.Locals.{Numbers}
 use Rattle.tp_node.proofs.Right.{here, there, right-inserted, right-delivered, right-begun, right-done}
 use Rattle.tp_store.specs.Content.{Task, Content, nothing_stored, task_of, begun, done, fresh, with_value, with_task, with_inserted, with_delivered, with_begun, with_done, inserted_by}

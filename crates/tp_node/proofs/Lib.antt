@@ -4,3 +4,4 @@ pub mod Kept
 pub mod Answering
 pub mod Turns
 pub mod Begins
+pub mod Gathering

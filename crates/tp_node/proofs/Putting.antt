@@ -1,17 +1,12 @@
 -- What the tests of a node say of its store.
-use Rattle.std.proofs.Common.{◌≡◌, ℕ, zero, suc, ◌+◌, ◌<◌, ◌≤◌, ◌==◌, Bool, true, false, cond, List, [], ◌∷◌, length, get_or, Option, Some, None, is_some, unwrap_or, MatchOption, MatchBool, count_by, refl, sym, ap, subst, ◌∙◌, arith}
-use Rattle.std.specs.Prelude.{if◌then◌else◌, ◌||◌, not, IsTrue, Result, Ok, Err, IfOk}
+use Rattle.std.proofs.Common.{◌≡◌, ℕ, ◌==◌, Bool, true, false, [], ◌∷◌, get_or, Option, Some, None, is_some, unwrap_or, refl, sym, ap, ◌∙◌}
+use Rattle.std.specs.Prelude.{if◌then◌else◌, ◌||◌, not}
 use Rattle.std.specs.Option.{option_map}
-use Rattle.std.specs.FinMap as finite
 use Rattle.tp_base.specs.declared.ids.TaskId.{TaskId}
 use Rattle.tp_base.specs.declared.refusal.Refusal.{Refusal}
-use Rattle.tp_base.specs.declared.refusal.Refusal.TheVariants.{TaskKnown, SlotTaken, StoreFull, WrongLife, NoTask}
-use Rattle.tp_local.specs.Locals.{EachOnce}
-use Rattle.tp_node.specs.Refused.{takes_nothing, is_taken, lacks_place, runs}
-use Rattle.tp_store.specs.Content.{Task, Content, task_of, life_of, done, unfinished, is_unfinished, is_running, is_done, has_begun, refusal_of_new, refusal_of_value, refusal_of_deliver, refusal_of_done}
-use Rattle.tp_store.specs.Sound.{IsSound, times_done}
-use Rattle.tp_store.specs.declared.life.Life.{Life}
-use Rattle.tp_store.specs.declared.life.Life.TheVariants.{Waiting, Ready, Running, Done}
+use Rattle.tp_base.specs.declared.refusal.Refusal.TheVariants.{TaskKnown, SlotTaken, StoreFull}
+use Rattle.tp_node.specs.Refused.{takes_nothing, is_taken, lacks_place}
+use Rattle.tp_store.specs.Content.{Task, Content, task_of, unfinished, has_begun, refusal_of_new, refusal_of_value, refusal_of_deliver}
 use Rattle.tp_base.specs.Checks.{first_refusal}
 
 module _ {V : Type 0} (s : Content V) (t : TaskId) where

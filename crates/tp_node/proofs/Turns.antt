@@ -1,26 +1,17 @@
 -- What a node's turn comes to.
-use Rattle.std.proofs.Common.{ℕ, ◌≡◌, List, [], ◌∷◌, ◌++◌, Bool, true, false, Option, Some, None, Result, Ok, Err, refl, sym, ap, subst, ◌∙◌, cond, arith}
-use Rattle.std.specs.Prelude.{MatchOption, IfErr, IfNone, IfOk, IfSome, OnErr, OnOk, if◌then◌else◌, ◌<◌, ◌≤◌, is_none, is_some, nat_lt, ◌+◌, length}
-use Rattle.std.proofs.lemmas.Bool.Decides.{nat_tests}
+use Rattle.std.proofs.Common.{ℕ, ◌≡◌, [], ◌∷◌, false, Option, Some, None, Result, Ok, Err, refl, sym, ap, subst, ◌∙◌, arith}
+use Rattle.std.specs.Prelude.{IfNone, IfOk, IfSome, OnErr, OnOk, if◌then◌else◌, is_some}
 use Rattle.std.specs.List.{find}
-use Rattle.std.specs.Result.{result_err}
-use Rattle.tp_base.specs.Checks.{Check, first_refusal}
 use Rattle.tp_base.specs.History.{Event}
 use Rattle.tp_base.specs.declared.refusal.Refusal.{Refusal}
-use Rattle.tp_base.specs.declared.refusal.Refusal.TheVariants.{HistoryFull, NoMemory, NotIdle}
 use Rattle.tp_base.specs.declared.step.Step.{Step}
-use Rattle.tp_base.specs.declared.step.Step.TheVariants.{Start, Down, Give, Up, Judge}
-use Rattle.tp_board.specs.Numbers.{node_at}
-use Rattle.tp_board.specs.States.{AnswersBy, BoardState, full_check, step_checks, visit_checks, with_event}
+use Rattle.tp_board.specs.States.{BoardState, full_check, with_event}
 use Rattle.tp_board.specs.Calls.{Answers, Appends}
 use Rattle.tp_node.specs.Turns.{turn_of}
-use Rattle.tp_turns.specs.Turns.{ComesTo, IsMade, Makes, MakesFirst, control_event, ends, is_for_room, may_make, turn_checks, turn_steps, wave_steps}
+use Rattle.tp_turns.specs.Turns.{IsMade, MakesFirst, control_event, ends, may_make, turn_steps}
 use Rattle.tp_node.specs.Nodes.{NodeState}
 use Rattle.tp_turns.specs.declared.turn.Turn.{Turn}
 use Rattle.tp_turns.specs.declared.turn.Turn.TheVariants.{Idle}
-use Rattle.tp_wave.specs.Checks.{control_checks}
-use Rattle.tp_wave.specs.Machine.{pending_at, steps_of}
-use Rattle.tp_wave.specs.Sums.{judgement}
 
 -- ---- the turn of a node
 nothing : (old new : BoardState) → new ≡ old → Appends [] old new

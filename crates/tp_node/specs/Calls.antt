@@ -1,5 +1,8 @@
 -- What the calls of a node do that answer more than that they were made.
-use Rattle.std.specs.Prelude.{ℕ, ◌≡◌, [], ◌∷◌, Bool, MatchBool, Some, map}
+use Rattle.std.specs.Prelude.{ℕ, ◌≡◌, List, [], ◌∷◌, Bool, MatchBool, MatchOption, Some, Result, Err, IfErr, map}
+use Rattle.tp_base.specs.Checks.{Check, first_refusal}
+use Rattle.tp_base.specs.declared.refusal.Refusal.{Refusal}
+use Rattle.tp_base.specs.declared.refusal.Refusal.TheVariants.{NoMemory}
 use Rattle.tp_base.specs.declared.step.Step.TheVariants as steps
 use Rattle.tp_board.specs.Calls.{Appends}
 use Rattle.tp_board.specs.Numbers.{receiving}
@@ -7,9 +10,14 @@ use Rattle.tp_board.specs.States.{BoardState}
 use Rattle.tp_graph.specs.Carried.{Begun, Carried}
 use Rattle.tp_graph.specs.Graphs.{TaskGraph}
 use Rattle.tp_node.specs.Nodes.{HasNoSeed, IsNextSeed, NodeState, after, begun_with, event_of, seeded, seeding, with_received}
-use Rattle.tp_node.specs.Wires.{WireState}
+use Rattle.tp_node.specs.Wires.{WireState, generation_of}
 use Rattle.tp_slots.specs.Content.{front}
 use Rattle.tp_store.specs.Content.{values_of}
+
+-- A call that makes these checks answers the first of them that holds, and both that were moved in come back beside it.
+-- Otherwise it succeeds, or finds no memory.
+abbrev pub AnswersWithBoth : {A B C : Type 0} → List Check → B → C → Result A (Refusal × B × C) → Type 0
+AnswersWithBoth checks b c result = MatchOption (first_refusal checks) (IfErr result (λ e. e ≡ (NoMemory, b, c))) (λ e. result ≡ Err (e, b, c))
 
 -- a node before and after a call, and the board
 module _ {G : Type 0} (old new : NodeState G) (before later : BoardState) where
@@ -35,10 +43,11 @@ module _ {G : Type 0} (old new : NodeState G) (before later : BoardState) where
     pub event : Appends (event_of old (steps.Begin work.task) ∷ []) before later
     pub begun : new ≡ begun_with work.task old
 
-  -- The node receives the oldest message of a wire, which leaves the others.
+  -- The node receives the oldest message of a wire, which is of the present generation and leaves the others.
   pub record Receives (wire rest : WireState G) (message : Carried G) : Type 0 where
     pub graph : message.graph ≡ old.graph
+    pub generation : message.generation.0 ≡ generation_of before
     pub first : wire.messages ≡ message ∷ rest.messages
     pub ends : (rest.from ≡ wire.from) × (rest.to ≡ wire.to)
-    pub event : Appends (event_of old (receiving old.numbers.node message.number.0) ∷ []) before later
-    pub received : new ≡ after (receiving old.numbers.node message.number.0) (with_received message.number.0 message.feed old.state) old
+    pub event : Appends (event_of old (receiving (generation_of before) old.numbers.node message.number.0) ∷ []) before later
+    pub received : new ≡ after (receiving (generation_of before) old.numbers.node message.number.0) (with_received message.number.0 message.feed old.state) old

@@ -1,20 +1,18 @@
 -- What contracts see of a node, and how its calls change it.
-use Rattle.std.specs.Prelude.{ℕ, ℤ, ◌+◌, ◌-◌, ◌≡◌, ◌≢◌, ◌<◌, ◌≤◌, ◌==◌, List, [], ◌∷◌, Bool, true, IsTrue, Option, None, Some, length, is_some, MatchOption, if◌then◌else◌, slice_index_or, All, refl}
+use Rattle.std.specs.Prelude.{ℕ, ◌+◌, ◌-◌, ◌≡◌, ◌<◌, ◌≤◌, List, true, Option, None, Some, length, is_some, MatchOption, if◌then◌else◌, slice_index_or, All, refl}
 use Rattle.std.specs.Coded.{Coded, code_by, coded×, coded_ℕ, coded_ℤ, coded_list}
 use Rattle.tp_base.specs.History.{Event}
 use Rattle.tp_base.specs.declared.ids.TaskId.{TaskId}
-use Rattle.tp_base.specs.declared.ids.Inputs.{Inputs}
 use Rattle.tp_base.specs.declared.step.Step.{Step}
 use Rattle.tp_base.specs.declared.step.Step.TheVariants as steps
-use Rattle.tp_board.specs.Numbers.{NodeNumbers, event, node_at, numbers_after, first_numbers}
-use Rattle.tp_graph.specs.Carried.{Carried, feed_at}
+use Rattle.tp_board.specs.Numbers.{NodeNumbers, ending, event, node_at, numbers_after, first_numbers}
+use Rattle.tp_graph.specs.Carried.{Carried}
 use Rattle.tp_graph.specs.Graphs.{TaskGraph}
 use Rattle.tp_graph.specs.Values.{value_of}
 use Rattle.tp_graph.specs.declared.feed.Feed.{Feed}
 use Rattle.tp_local.specs.Actions.{Actions, without_opening, with_named, without_named, with_message, without_message, Brought}
 use Rattle.tp_local.specs.Locals.{LocalState, Numbers, first_state, pending, state_code}
 use Rattle.tp_wave.specs.Machine.{pending_at}
-use Rattle.tp_store.specs.Sound.{times_done}
 use Rattle.tp_store.specs.Content.{Task, Content, task_of, with_inserted, with_delivered, with_begun, with_done}
 
 -- A node has the graph that its pool works out, on so many nodes; its own state; and its shares' numbers, with its own
@@ -143,14 +141,15 @@ module _ {G : Type 0} where
   abbrev pub fed_with : TaskGraph → Feed → Numbers → NodeState G → NodeState G
   fed_with g f value n = after (putting_at g f n) (with_store (put_to g f value n.state.store) n.state) n
 
-  abbrev pub ending : ℕ → NodeState G → Step
-  ending m n = steps.MessageEnd (node_at (node_of n)) (record { 0 = m }) (record { 0 = 1 })
+  -- in generation k
+  abbrev pub ending_of : ℕ → ℕ → NodeState G → Step
+  ending_of k m n = ending k (node_of n) m
 
-  -- the value of a received message was put, and then its action closed
-  abbrev pub delivered_with : TaskGraph → Feed → Numbers → ℕ → NodeState G → NodeState G
-  delivered_with g f value m n =
+  -- the value of a received message was put, and then its action closed, in generation k
+  abbrev pub delivered_with : TaskGraph → Feed → Numbers → ℕ → ℕ → NodeState G → NodeState G
+  delivered_with g f value k m n =
       let fed = fed_with g f value n in
-      after (ending m n) (with_actions (without_message n.state.actions m) fed.state) fed
+      after (ending_of k m n) (with_actions (without_message n.state.actions m) fed.state) fed
 
   abbrev pub done_with : TaskId → Numbers → NodeState G → NodeState G
   done_with t value n = after (steps.Done t) (with_store (with_done n.state.store t value) n.state) n
@@ -170,6 +169,10 @@ module _ {G : Type 0} where
   -- the end was announced
   abbrev pub over : NodeState G → NodeState G
   over n = record { graph = n.graph; nodes = n.nodes; state = with_end n.state; numbers = n.numbers }
+
+  -- the pool was reopened
+  abbrev pub anew : NodeState G → NodeState G
+  anew n = first_node n.graph n.nodes (node_of n)
 
 -- A message was received whose action is open at the node: it brought this feed, and the task that it goes to lives here.
 pub record HasBrought (g : TaskGraph) {G : Type 0} (n : NodeState G) (m : Carried G) : Type 0 where
@@ -204,6 +207,12 @@ pub record IsNode (pool : ℕ) (g : TaskGraph) {G : Type 0} (n : NodeState G) (n
   pub right : AreRightValues g n.state.store
   pub seeded : (t : ℕ) → t < next → IsSeedOf g n t → ⊥
 
+-- The node is of a pool of so many nodes.
+pub record IsOfPool (pool : ℕ) {G : Type 0} (n : NodeState G) : Type 0 where
+  pub nodes : n.nodes ≡ pool
+  pub some : 1 ≤ n.nodes
+  pub few : n.nodes ≤ 8
+
 -- a node's numbers, counted over its state
 abbrev pub counted_of : {G : Type 0} → NodeState G → NodeNumbers
 counted_of n =
@@ -215,7 +224,7 @@ counted_of n =
       done = length n.state.store.results;
     }
 
--- The node stands as the history says: its pending number, which is counted over its state, is the run's.
+-- The node stands as the events of its generation say: its pending number, which is counted over its state, is the run's.
 pub record AgreesWith (h : List Event) {G : Type 0} (n : NodeState G) : Type 0 where
   pub counted : IsCountedBy n.numbers n.state
   pub pending : n.numbers.pending ≡ pending_at n.numbers.node h

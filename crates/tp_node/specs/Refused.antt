@@ -1,10 +1,8 @@
 -- The checks of each call of a node, in their order.
-use Rattle.std.specs.Prelude.{ℕ, ◌+◌, ◌==◌, ◌&&◌, ◌||◌, List, [], ◌∷◌, Bool, not, is_some, is_none, slice_index_or, None}
+use Rattle.std.specs.Prelude.{ℕ, ◌==◌, ◌&&◌, ◌||◌, List, [], ◌∷◌, Bool, not, is_some, is_none, slice_index_or, None}
 use Rattle.std.specs.FinSet as set
-use Rattle.tp_base.specs.declared.ids.MessageId.{MessageId}
 use Rattle.tp_base.specs.declared.ids.TaskId.{TaskId}
 use Rattle.tp_base.specs.declared.limits.TheConstants.{MAX_LIVE_TASKS}
-use Rattle.tp_base.specs.declared.refusal.Refusal.{Refusal}
 use Rattle.tp_base.specs.declared.refusal.Refusal.TheVariants.{TaskKnown, WrongLife, Inactive, ActionKnown, NoAction, SlotTaken, Stranger, StoreFull}
 use Rattle.tp_board.specs.States.{BoardState, full_check}
 use Rattle.tp_board.specs.Routes.{is_send_between}
@@ -14,11 +12,11 @@ use Rattle.tp_graph.specs.declared.feed.Feed.{Feed}
 use Rattle.tp_local.specs.Actions.{has_message}
 use Rattle.tp_local.specs.Locals.{LocalState, pending}
 use Rattle.tp_node.specs.Nodes.{NodeState}
-use Rattle.tp_local.specs.Locals.{Numbers}
-use Rattle.tp_node.specs.Wires.{WireState}
+use Rattle.tp_node.specs.Wires.{WireState, generation_of}
 use Rattle.tp_store.specs.Content.{Content, task_of, is_running, has_begun, unfinished}
 use Rattle.tp_store.specs.Sound.{passes}
 use Rattle.tp_base.specs.Checks.{Check}
+use Rattle.tp_wave.specs.Generations.{present}
 use Rattle.tp_wave.specs.Machine.{steps_of}
 use Rattle.tp_wave.specs.Steps.{any}
 
@@ -47,9 +45,13 @@ module _ {V : Type 0} where
   abbrev pub has_named : LocalState V → ℕ → Bool
   has_named l a = set.contains l.actions.named a
 
--- the board gave the number of the message to this pair
-abbrev pub was_given : BoardState → {G : Type 0} → WireState G → MessageId → Bool
-was_given b w m = any (is_send_between w.from w.to m.0) (steps_of b.history)
+-- the board gave the number of the message to this pair, in the present generation
+abbrev pub was_given : BoardState → {G : Type 0} → WireState G → Carried G → Bool
+was_given b w m = any (is_send_between w.from w.to m.number.0) (present (steps_of b.history))
+
+-- the message is of another generation than the present one
+abbrev pub is_of_another : BoardState → {G : Type 0} → Carried G → Bool
+is_of_another b m = not (m.generation.0 == generation_of b)
 
 -- ---- checks
 -- what a value that is put to where a feed ends is refused for, room apart
@@ -81,16 +83,16 @@ module _ {G : Type 0} where
   abbrev pub send_checks : NodeState G → BoardState → TaskId → List Check
   send_checks n b t = (not (runs n.state.store t), WrongLife) ∷ full_check 1 b ∷ []
 
-  -- A message is a stranger's where it is of another graph, where the board never gave its number to this pair, and where
-  -- the action of that number is open.
-  abbrev pub is_stranger : NodeState G → BoardState → WireState G → Bool → MessageId → Bool
-  is_stranger n b w is_same m = not is_same || (not (was_given b w m) || has_message n.state.actions m.0)
+  -- A message is a stranger's where it is of another graph or of another generation, where the board never gave its number
+  -- to this pair in the present one, and where the action of that number is open.
+  abbrev pub is_stranger : NodeState G → BoardState → WireState G → Bool → Carried G → Bool
+  is_stranger n b w is_same m = not is_same || (is_of_another b m || (not (was_given b w m) || has_message n.state.actions m.number.0))
 
   -- what a message is refused for, room apart
-  abbrev pub message_checks : NodeState G → BoardState → WireState G → Bool → MessageId → List Check
+  abbrev pub message_checks : NodeState G → BoardState → WireState G → Bool → Carried G → List Check
   message_checks n b w is_same m = (n.state.ended, WrongLife) ∷ (is_stranger n b w is_same m, Stranger) ∷ []
 
-  abbrev pub receive_checks : NodeState G → BoardState → WireState G → Bool → MessageId → List Check
+  abbrev pub receive_checks : NodeState G → BoardState → WireState G → Bool → Carried G → List Check
   receive_checks n b w is_same m = (n.state.ended, WrongLife) ∷ (is_stranger n b w is_same m, Stranger) ∷ full_check 1 b ∷ []
 
   abbrev pub deliver_checks : TaskGraph → NodeState G → BoardState → Feed → List Check

@@ -1,11 +1,13 @@
 -- What contracts see of a wire: a link of messages with its share.
-use Rattle.std.specs.Prelude.{ℕ, ◌≡◌, ◌+◌, List, [], ◌∷◌, ◌++◌, length, All}
-use Rattle.tp_base.specs.declared.ids.MessageId.{MessageId}
+use Rattle.std.specs.Prelude.{ℕ, ◌≡◌, List, [], ◌∷◌, ◌++◌, length, All}
 use Rattle.tp_board.specs.Numbers.{LinkNumbers, node_at}
+use Rattle.tp_board.specs.States.{BoardState}
 use Rattle.tp_graph.specs.Carried.{Carried}
 use Rattle.tp_graph.specs.Graphs.{TaskGraph}
 use Rattle.tp_graph.specs.declared.feed.Feed.{Feed}
 use Rattle.tp_link.specs.Link.{Line}
+use Rattle.tp_wave.specs.Generations.{generation}
+use Rattle.tp_wave.specs.Machine.{steps_of}
 use Rattle.std.specs.Prelude.{ℤ}
 
 -- A wire goes from a node to another. Its messages have the oldest first.
@@ -22,10 +24,14 @@ empty_wire l = record { from = l.from; to = l.to; messages = [] }
 abbrev pub with_message : {G : Type 0} → Carried G → WireState G → WireState G
 with_message m w = record { from = w.from; to = w.to; messages = w.messages ++ m ∷ [] }
 
--- message m of the wire, which carries a value to where a feed ends
-abbrev pub message_on : {G : Type 0} → WireState G → G → ℕ → Feed → List ℤ → Carried G
-message_on w graph m feed value =
-    record { graph = graph; number = record { 0 = m }; from = node_at w.from; to = node_at w.to; feed = feed; value = value }
+-- message m of a generation on the wire, which carries a value to where a feed ends
+abbrev pub message_on : {G : Type 0} → WireState G → G → ℕ → ℕ → Feed → List ℤ → Carried G
+message_on w graph k m feed value =
+    record { graph = graph; number = record { 0 = m }; generation = record { 0 = k }; from = node_at w.from; to = node_at w.to; feed = feed; value = value }
+
+-- the number of the board's present generation
+abbrev pub generation_of : BoardState → ℕ
+generation_of b = generation (steps_of b.history)
 
 -- a wire's numbers, counted over its messages
 abbrev pub link_of : {G : Type 0} → WireState G → LinkNumbers

@@ -4,14 +4,16 @@ ghost use Rattle.tp_graph.specs.Serial.{AreRight};
 ghost use Rattle.tp_local.specs.Locals.{pending, standing};
 ghost use Rattle.tp_node.specs.Nodes.{AgreesWith, counted_of, first_node};
 ghost use Rattle.tp_store.specs.Content.{counts_of};
-ghost use Rattle.tp_wave.specs.Machine.{IsRun};
+ghost use Rattle.tp_wave.specs.Generations.{AreRuns, present_events};
 
 mod actions;
+mod bare;
 mod begins;
 mod control;
 mod messages;
 mod tasks;
 
+pub(crate) use bare::Bare;
 use std::alloc::Global;
 use std::marker::Model;
 use tp_base::{NodeId, PoolId, TaskId};
@@ -137,11 +139,12 @@ impl<G: Graph, K: Ledgers> Node<G, K> {
         self.local.state()
     }
 
-    /// Changes nothing, and tells how the node stands to the history: its pending number is the run's.
+    /// Changes nothing, and tells how the node stands to the history: its pending number is that of the present generation's
+    /// run.
     pub fn audit(&mut self, board: &mut Board<K>)
         ensures same { (self.new ≡ self.old) × (board.new ≡ board.old) }
-        ensures agrees { AgreesWith board.old.history self.old }
-        ensures run { IsRun self.old.nodes board.old.history }
+        ensures agrees { AgreesWith (present_events board.old.history) self.old }
+        ensures run { AreRuns self.old.nodes board.old.history }
     {
         board.audit(&mut self.shares);
     }

@@ -1,11 +1,12 @@
-ghost use Rattle.std.specs.Prelude.{◌≡◌, ◌+◌, ◌<◌, ◌↔◌, [], ◌∷◌, ◌++◌, drop, length, option_copied, slice_get, IfErr, IfOk, IsOk, OnErr, OnOk, Some, IsTrue};
+ghost use Rattle.std.specs.Prelude.{◌≡◌, ◌+◌, ◌<◌, ◌≤◌, ◌↔◌, [], ◌∷◌, ◌++◌, drop, length, option_copied, slice_get, IfErr, IfOk, IsOk, OnErr, OnOk, Some, IsTrue};
 ghost use Rattle.tp_board.specs.Numbers.{event, is_send, numbers_after, receiving, sending};
 ghost use Rattle.tp_board.specs.States.{full_check};
 ghost use Rattle.tp_graph.specs.Carried.{Carried, IsFeed};
 ghost use Rattle.tp_graph.specs.Values.{value_of};
 ghost use Rattle.tp_board.specs.Calls.{Answers, Appends};
-ghost use Rattle.tp_node.specs.Wires.{IsOnWay, empty_wire, link_of, message_on, with_message};
-ghost use Rattle.tp_wave.specs.Machine.{is_send_to, steps_of};
+ghost use Rattle.tp_node.specs.Wires.{IsOnWay, empty_wire, generation_of, link_of, message_on, with_message};
+ghost use Rattle.tp_wave.specs.Generations.{present};
+ghost use Rattle.tp_wave.specs.Machine.{is_send_to, steps_of, under_way};
 ghost use Rattle.tp_wave.specs.Steps.{any, count};
 
 use std::alloc::Global;
@@ -90,6 +91,14 @@ impl<G: Graph, K: Ledgers> Wire<G, K> {
         self.link.replace_front(message)
     }
 
+    /// Changes nothing, and tells that no more messages are on the wire than the present generation has under way.
+    pub(crate) fn audit(&mut self, board: &mut Board<K>)
+        ensures same { (self.new ≡ self.old) × (board.new ≡ board.old) }
+        ensures under { length self.old.messages ≤ under_way (present (steps_of board.old.history)) }
+    {
+        board.audit_link(&mut self.share);
+    }
+
     /// The share alone. What is on the wire is dropped.
     pub fn into_share(self) -> LinkShare<K>
         ensures { result ≡ link_of self }
@@ -98,7 +107,7 @@ impl<G: Graph, K: Ledgers> Wire<G, K> {
         share
     }
 
-    /// Sends the value that a feed waits for. The message gets the next number.
+    /// Sends the value that a feed waits for. The message gets the next number of the present generation.
     ///
     /// Refused: `HistoryFull` where the history has reached its limit; `NoMemory` where memory has to grow and does not.
     pub(crate) fn put(
@@ -114,36 +123,36 @@ impl<G: Graph, K: Ledgers> Wire<G, K> {
         requires right { value_of (G.meaning graph) feed.producer.0 ≡ Some value }
         requires fed { IsFeed (G.meaning graph) feed }
         requires there { (G.meaning graph).home feed.target.0 K.names.nodes ≡ self.old.to }
-        ensures number { IfOk result (λ m. m.0 ≡ count is_send (steps_of board.old.history)) }
-        ensures sent { IfOk result (λ m. Appends (event shares.old.node (sending shares.old.node self.old.to m.0) ∷ []) board.old board.new) }
-        ensures shares { IfOk result (λ m. shares.new ≡ numbers_after (sending shares.old.node self.old.to m.0) shares.old) }
-        ensures last { IfOk result (λ m. self.new ≡ with_message (message_on self.old graph m.0 feed value) self.old) }
+        ensures number { IfOk result (λ m. m.0 ≡ count is_send (present (steps_of board.old.history))) }
+        ensures sent { IfOk result (λ m. Appends (event shares.old.node (sending (generation_of board.old) shares.old.node self.old.to m.0) ∷ []) board.old board.new) }
+        ensures shares { IfOk result (λ m. shares.new ≡ numbers_after (sending (generation_of board.old) shares.old.node self.old.to m.0) shares.old) }
+        ensures last { IfOk result (λ m. self.new ≡ with_message (message_on self.old graph (generation_of board.old) m.0 feed value) self.old) }
         ensures refusal { Answers (full_check 1 board.old ∷ []) result }
         ensures refused { OnErr result (Appends [] board.old board.new × (shares.new ≡ shares.old) × (self.new ≡ self.old)) }
     {
         board.reserve(1)?;
         self.link.reserve(1)?;
-        let from = self.share.from();
-        let to = self.share.to();
+        let (from, to) = (self.share.from(), self.share.to());
+        let generation = board.generation();
         let Ok(number) = board.append_send(shares, &mut self.share) else {
             unreachable!()
         };
-        self.link
-            .put_reserved(Message::new(graph, number, from, to, feed, value));
+        self.link.put_reserved(Message::new(graph, number, generation, from, to, feed, value));
         Ok(number)
     }
 
-    /// Takes the oldest message, which was sent to the node, in the place that was reserved for its event.
+    /// Takes the oldest message, which was sent to the node in the present generation, in the place that was reserved for its
+    /// event.
     pub(crate) fn take(&mut self, board: &mut Board<K>, shares: &mut Shares<K>) -> Message<G>
         requires reserved { 0 < board.old.reserved }
         requires to_node { self.old.to ≡ shares.old.node }
         requires some { 0 < length self.old.messages }
-        requires sent { (m : Carried G) → slice_get self.old.messages 0 ≡ Some m → IsTrue (any (is_send_to self.old.to m.number.0) (steps_of board.old.history)) }
+        requires sent { (m : Carried G) → slice_get self.old.messages 0 ≡ Some m → IsTrue (any (is_send_to self.old.to m.number.0) (present (steps_of board.old.history))) }
         ensures first { self.old.messages ≡ result ∷ self.new.messages }
         ensures on_way { IsOnWay (G.meaning result.graph) K.names.nodes self.old.from self.old.to result }
         ensures ends { (self.new.from ≡ self.old.from) × (self.new.to ≡ self.old.to) }
-        ensures received { Appends (event shares.old.node (receiving shares.old.node result.number.0) ∷ []) board.old board.new }
-        ensures shares { shares.new ≡ numbers_after (receiving shares.old.node result.number.0) shares.old }
+        ensures received { Appends (event shares.old.node (receiving (generation_of board.old) shares.old.node result.number.0) ∷ []) board.old board.new }
+        ensures shares { shares.new ≡ numbers_after (receiving (generation_of board.old) shares.old.node result.number.0) shares.old }
     {
         let Some(message) = self.link.get() else {
             unreachable!()

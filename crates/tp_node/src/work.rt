@@ -91,7 +91,9 @@ impl<G: Graph> Work<G> {
 }
 
 /// A task that has run, with its value, and how many of its feeds were passed on. Only [`Node::feed`](crate::Node::feed)
-/// and [`Node::send`](crate::Node::send) raise that number.
+/// and [`Node::send`](crate::Node::send) raise that number. It tells no generation: one that outlives its own passes for
+/// the task of a later one, once that runs. Its value is right then too, but the feeds that it counts as passed on were
+/// passed on in the earlier generation, so tasks of the later one may wait for them forever.
 #[derive(Drop)]
 pub struct Finished<G: Graph> {
     graph: G,

@@ -102,6 +102,17 @@ impl Registry {
         )
     }
 
+    /// Makes a pool that is over active again.
+    ///
+    /// Refused: `NoPool` where there is none; `WrongLife` where it is not over.
+    pub fn reopen(&mut self, pool: PoolId) -> Result<(), Refusal>
+        ensures moved { OnOk result (self.new ≡ with_standing self.old pool.0 stand.Active) }
+        ensures refusal { result_err result ≡ first_refusal (standing_checks self.old pool.0 stand.Over WrongLife) }
+        ensures refused { OnErr result (self.new ≡ self.old) }
+    {
+        self.move_on(pool, Standing::Over, Standing::Active, Refusal::WrongLife)
+    }
+
     /// Makes an active pool over.
     ///
     /// Refused: `NoPool` where there is none; `WrongLife` where it is not active.

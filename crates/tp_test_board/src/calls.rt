@@ -18,6 +18,8 @@ pub enum Call {
     Send,
     /// Node 1 receives the newest message of node 0's.
     Receive,
+    /// Node 1 ends the action of a message.
+    End(u32),
     /// Asks for the number of the next message.
     Next,
     /// Asks whether the first node sent the second one the message.
@@ -28,6 +30,10 @@ pub enum Call {
     Fault,
     /// Asks for the length of the history.
     Length,
+    /// Asks for the number of the generation.
+    Generation,
+    /// Asks how many events there may be.
+    Limit,
     /// Asks for the event at a place of the history.
     Event(usize),
     /// A step of the waves.
@@ -45,6 +51,7 @@ impl Call {
             Call::Reserve(_) | Call::Ready => "Board::reserve",
             Call::Send => "Board::append_send",
             Call::Receive => "Board::append_recv",
+            Call::End(_) => "Board::append_end",
             Call::Wave(Step::Start) => "Board::start",
             Call::Wave(Step::Down) => "Board::down",
             Call::Wave(Step::Up) => "Board::up",
@@ -82,7 +89,7 @@ pub enum Answer {
     Idle,
     /// The end was judged.
     Over,
-    /// A length.
+    /// A length, or another number.
     Length(usize),
     /// An event.
     Event(NodeId, BoardStep),
@@ -108,6 +115,7 @@ impl<K: Ledgers> Pair<K> {
             Call::Ready => self.ready(),
             Call::Send => message(self.zero.send(&mut self.there, &mut self.board)),
             Call::Receive => message(self.one.receive(&mut self.there, &mut self.board)),
+            Call::End(number) => done(self.one.end(MessageId(number), &mut self.board)),
             Call::Next => Ok(Answer::Message(self.board.next_message())),
             Call::Gave(from, to, number) => Ok(Answer::Is(
                 self.board.gave(NodeId(from), NodeId(to), MessageId(number)),
@@ -118,6 +126,8 @@ impl<K: Ledgers> Pair<K> {
             }
             Call::Fault => Ok(fault(self.board.fault())),
             Call::Length => Ok(Answer::Length(self.board.len())),
+            Call::Generation => Ok(Answer::Length(self.board.generation().0 as usize)),
+            Call::Limit => Ok(Answer::Length(self.board.limit() as usize)),
             Call::Event(place) => Ok(event(self.board.history().at(place))),
             Call::Wave(step) => self.wave_step(step),
             Call::TurnOfRoot => turn(&mut self.zero, &mut self.board),
@@ -143,7 +153,17 @@ impl<K: Ledgers> Pair<K> {
             Step::Give => sums(self.board.give(&self.one.shares)),
             Step::Up => done(self.board.up(leaf, &self.zero.shares)),
             Step::Visit => sums(self.board.give(&self.zero.shares)),
-            Step::Judge => judged(self.board.judge()),
+            Step::Judge => self.judge(),
+        }
+    }
+
+    fn judge(&mut self) -> Told {
+        match self.board.judge()? {
+            Judgement::Not => Ok(Answer::Done),
+            Judgement::Over(ended) => {
+                self.token = Some(ended);
+                Ok(Answer::Over)
+            }
         }
     }
 
@@ -211,13 +231,6 @@ fn sums(made: Result<Option<Sums>, Refusal>) -> Told {
     match made? {
         Some(sums) => Ok(Answer::Sums(sums)),
         None => Ok(Answer::Done),
-    }
-}
-
-fn judged<K: Ledgers>(made: Result<Judgement<K>, Refusal>) -> Told {
-    match made? {
-        Judgement::Not => Ok(Answer::Done),
-        Judgement::Over(_) => Ok(Answer::Over),
     }
 }
 
@@ -324,4 +337,53 @@ fn walk_with<K: Ledgers, R: Abort + Eprint>(
     let mut pair = Pair::<K>::open(alloc, blanks, limit)?;
     pair.walk(rt, table);
     Ok(Summary::of(&pair.close(alloc)?))
+}
+
+/// The same of a pool that is reopened after the calls of the first table, before those of the second.
+pub fn walk_again<R: Abort + Eprint>(
+    rt: &R,
+    alloc: Global,
+    limit: u32,
+    tables: (&[Row], &[Row]),
+    wanted: Summary,
+) -> Result<(), Refusal>
+    requires { limit ≤ 1048576 }
+{
+    let made = match walked_again(rt, alloc, limit, tables) {
+        Err(Refusal::NoMemory) => {
+            let _ = eprintln!(rt; "refused: open_books or Fresh::new");
+            walked_again(rt, alloc, limit, tables)?
+        }
+        made => made?,
+    };
+    made.must_be(rt, wanted);
+    Ok(())
+}
+
+/// What a new pool adds up to after the calls of two tables, between which it is reopened.
+fn walked_again<R: Abort + Eprint>(
+    rt: &R,
+    alloc: Global,
+    limit: u32,
+    tables: (&[Row], &[Row]),
+) -> Result<Summary, Refusal>
+    requires { limit ≤ 1048576 }
+{
+    walk_again_with::<Brand, R>(rt, alloc, Blanks::new(2), limit, tables)
+}
+
+fn walk_again_with<K: Ledgers, R: Abort + Eprint>(
+    rt: &R,
+    alloc: Global,
+    blanks: Blanks,
+    limit: u32,
+    tables: (&[Row], &[Row]),
+) -> Result<Summary, Refusal>
+    requires { (blanks ≡ K.names) × (blanks.nodes ≡ 2) × (limit ≤ 1048576) }
+{
+    let mut pair = Pair::<K>::open(alloc, blanks, limit)?;
+    pair.walk(rt, tables.0);
+    let mut again = pair.reopen(alloc)?;
+    again.walk(rt, tables.1);
+    Ok(Summary::of(&again.close(alloc)?))
 }

@@ -1,8 +1,10 @@
 ghost use Rattle.std.specs.Prelude.{◌≡◌, ◌≤◌, ◌+◌, IfOk, vec_len};
 
 use std::alloc::Global;
-use tp_base::{Generation, MAX_STEPS, MessageId, Refusal, Step};
-use tp_board::{Blanks, Board, Books, Ledgers, LinkShare, Shares, Totals, close_books, open_books};
+use tp_base::{MAX_STEPS, MessageId, Refusal, Step};
+use tp_board::{
+    Blanks, Board, Books, Ended, Fresh, Ledgers, LinkShare, Shares, Totals, close_books, open_books,
+};
 
 /// A node of a pool: its shares, beside the pending number that they carry.
 #[derive(Drop)]
@@ -20,7 +22,7 @@ pub struct Wire<K: Ledgers> {
     ghost same: { share.under ≡ vec_len messages },
 }
 
-/// A pool of two nodes, with the links between them.
+/// A pool of two nodes, with the links between them, and the token of the end once it was judged.
 #[derive(Drop)]
 pub struct Pair<K: Ledgers> {
     pub board: Board<K>,
@@ -28,6 +30,7 @@ pub struct Pair<K: Ledgers> {
     pub one: Node<K>,
     pub there: Wire<K>,
     pub back: Wire<K>,
+    pub token: Option<Ended<K>>,
 }
 
 impl<K: Ledgers> Node<K> {
@@ -87,8 +90,7 @@ impl<K: Ledgers> Node<K> {
     /// Ends the action of a message, where something is pending.
     pub fn end(&mut self, message: MessageId, board: &mut Board<K>) -> Result<(), Refusal> {
         if self.pending > 0 && message.0 < MAX_STEPS {
-            let step = Step::MessageEnd(self.shares.node(), message, Generation(1));
-            board.append(step, &mut self.shares)?;
+            board.append_end(message, &mut self.shares)?;
             self.pending -= 1;
         }
         Ok(())
@@ -133,6 +135,45 @@ impl<K: Ledgers> Pair<K> {
             one: Node::new(one),
             there: Wire::new(alloc, there),
             back: Wire::new(alloc, back),
+            token: None,
+        })
+    }
+
+    /// Reopens the pool, whose end was judged: its nodes are as at first.
+    ///
+    /// Refused: `WrongLife` where the end was not judged; `HistoryFull`; `NoMemory`. The pool is lost then.
+    pub fn reopen(self, alloc: Global) -> Result<Pair<K>, Refusal>
+        requires { K.names.nodes ≡ 2 }
+    {
+        // All room is made before the pool is taken apart, so that nothing is left to drop on the way.
+        let mut pair = self;
+        let Some(ended) = pair.token.take() else {
+            return Err(Refusal::WrongLife);
+        };
+        pair.board.reserve(1)?;
+        let fresh = Fresh::new(alloc, 2)?;
+        let mut shares = Vec::with_capacity(alloc, 2)?;
+        let Pair {
+            mut board,
+            zero,
+            one,
+            there,
+            back,
+            token: _,
+        } = pair;
+        shares.push_reserved(zero.shares);
+        shares.push_reserved(one.shares);
+        let mut shares = board.reopen(shares, fresh, ended);
+        let (Some(one), Some(zero)) = (shares.pop(), shares.pop()) else {
+            unreachable!()
+        };
+        Ok(Pair {
+            board,
+            zero: Node::new(zero),
+            one: Node::new(one),
+            there,
+            back,
+            token: None,
         })
     }
 
@@ -150,6 +191,7 @@ impl<K: Ledgers> Pair<K> {
             one,
             there,
             back,
+            token: _,
         } = self;
         shares.push_reserved(zero.shares);
         shares.push_reserved(one.shares);

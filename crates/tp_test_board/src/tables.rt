@@ -1,6 +1,6 @@
-use crate::calls::{Answer, Call, Row, Step, Summary, Told, walk};
+use crate::calls::{Answer, Call, Row, Step, Summary, Told, walk, walk_again};
 use std::test::Fail;
-use tp_base::{MessageId, NodeId, Refusal, Step as Event, Sums};
+use tp_base::{Generation, MessageId, NodeId, Refusal, Step as Event, Sums};
 
 const DONE: Told = Ok(Answer::Done);
 
@@ -31,6 +31,19 @@ const fn none(wave: u32) -> Told {
         sent: 0,
         received: 0,
     }))
+}
+
+/// The same where so many messages were sent and received.
+const fn carried(wave: u32, messages: u32) -> Told {
+    Ok(Answer::Sums(Sums {
+        wave,
+        sent: messages,
+        received: messages,
+    }))
+}
+
+const fn number(number: usize) -> Told {
+    Ok(Answer::Length(number))
 }
 
 const fn event(node: u32, step: Event) -> Told {
@@ -180,5 +193,81 @@ fn a_full_history_refuses_a_turn_alone(rt: HostRuntime) -> Result<(), Fail> {
         length: 3,
     };
     walk(&rt, rt.alloc(), 3, &table, wanted)?;
+    Ok(())
+}
+
+#[test]
+fn a_reopened_board_begins_anew(rt: HostRuntime) -> Result<(), Fail> {
+    let first: [Row; 21] = [
+        (Call::Generation, number(1)),
+        (Call::Send, message(0)),
+        (Call::Receive, message(0)),
+        (Call::End(0), DONE),
+        (Call::Ready, DONE),
+        (START, DONE),
+        (DOWN, DONE),
+        (GIVE, DONE),
+        (UP, DONE),
+        (VISIT, carried(1, 1)),
+        (JUDGE, DONE),
+        (START, DONE),
+        (DOWN, DONE),
+        (GIVE, DONE),
+        (UP, DONE),
+        (VISIT, carried(2, 1)),
+        (JUDGE, OVER),
+        (START, Err(Refusal::Ended)),
+        (Call::Gave(0, 1, 0), YES),
+        (Call::Next, message(1)),
+        (Call::Length, number(17)),
+    ];
+    let second: [Row; 29] = [
+        (Call::Generation, number(2)),
+        (Call::Limit, number(36)),
+        (Call::Length, number(18)),
+        (Call::Event(17), event(0, Event::Reopen)),
+        (Call::Gave(0, 1, 0), NO),
+        (Call::Next, message(0)),
+        (JUDGE, Err(Refusal::WaveNotEnded)),
+        (Call::Send, message(0)),
+        (Call::Gave(0, 1, 0), YES),
+        (Call::Receive, message(0)),
+        (Call::End(0), DONE),
+        (
+            Call::Event(1),
+            event(1, Event::Recv(NodeId(1), MessageId(0), Generation(1))),
+        ),
+        (
+            Call::Event(19),
+            event(1, Event::Recv(NodeId(1), MessageId(0), Generation(2))),
+        ),
+        (
+            Call::Event(20),
+            event(1, Event::MessageEnd(NodeId(1), MessageId(0), Generation(2))),
+        ),
+        (Call::Ready, DONE),
+        (START, DONE),
+        (DOWN, DONE),
+        (GIVE, DONE),
+        (UP, DONE),
+        (VISIT, carried(1, 1)),
+        (JUDGE, DONE),
+        (START, DONE),
+        (DOWN, DONE),
+        (GIVE, DONE),
+        (UP, DONE),
+        (VISIT, carried(2, 1)),
+        (JUDGE, OVER),
+        (START, Err(Refusal::Ended)),
+        (Call::Length, number(35)),
+    ];
+    let wanted = Summary {
+        numbers: (0, 1, 1, 0),
+        done: 0,
+        ended: true,
+        fault: None,
+        length: 35,
+    };
+    walk_again(&rt, rt.alloc(), 36, (&first, &second), wanted)?;
     Ok(())
 }

@@ -29,6 +29,7 @@ impl<K: Ledgers> Locks<K> {
             one,
             there,
             back,
+            token: _,
         } = pair;
         Locks {
             zero: Mutex::new(zero),
@@ -54,6 +55,7 @@ impl<K: Ledgers> Locks<K> {
             one: one.into_inner(),
             there: there.into_inner(),
             back: back.into_inner(),
+            token: None,
         }
     }
 }

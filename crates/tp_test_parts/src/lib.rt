@@ -15,6 +15,8 @@ mod local;
 #[cfg(test)]
 mod memory;
 #[cfg(test)]
+mod monitor;
+#[cfg(test)]
 mod own;
 #[cfg(test)]
 mod pools;

@@ -24,6 +24,8 @@ enum Call {
     End(u32),
     Open(u32),
     Close(u32),
+    /// Reopens the pool, where its end was announced.
+    Reopen,
 }
 
 /// What a call replies.
@@ -36,6 +38,8 @@ enum Reply {
     Delivered(Delivered),
     /// A value came back.
     Returned(Refusal, i64),
+    /// The one result that was handed out, if there was just one.
+    HandedOut(Option<i64>),
 }
 
 /// What a message brings: the first input of task 1.
@@ -53,6 +57,7 @@ fn reply_to(alloc: Global, local: &mut Local, call: Call) -> Result<Reply, Refus
     let plain = match call {
         Call::Pending => return Ok(Reply::Pending(local.pending())),
         Call::State => return Ok(Reply::State(local.state())),
+        Call::Reopen => return Ok(Reply::HandedOut(reopened(alloc, local))),
         Call::Begin => return Ok(Reply::Begun(local.begin().map(|begun| begun.task))),
         Call::DeliverFirst(number) => return deliver(alloc, local, false, number),
         Call::DeliverSecond(number) => return deliver(alloc, local, true, number),
@@ -74,6 +79,20 @@ fn deliver(alloc: Global, local: &mut Local, second: bool, number: i64) -> Resul
     match local.deliver(TaskId(1), 2, 0, u8::from(second), value) {
         Ok(delivered) => Ok(Reply::Delivered(delivered)),
         Err((refusal, back)) => Ok(Reply::Returned(refusal, back.lone()?)),
+    }
+}
+
+/// Reopens the pool where its end was announced, and gives the result of task 1 where there is no other.
+fn reopened(alloc: Global, local: &mut Local) -> Option<i64> {
+    if !local.is_over() {
+        return None;
+    }
+    let results = local.reopen(alloc);
+    let (task, value) = results.first()?;
+    if results.len() == 1 && *task == TaskId(1) {
+        value.lone().ok()
+    } else {
+        None
     }
 }
 
@@ -133,5 +152,38 @@ fn values_messages_and_actions_come_to_a_node(rt: HostRuntime) -> Result<(), Fai
     ] {
         assert_eq!(rt; reply_to(rt.alloc(), &mut local, call), Ok(wanted));
     }
+    Ok(())
+}
+
+#[test]
+fn a_node_that_was_told_the_end_is_reopened(rt: HostRuntime) -> Result<(), Fail> {
+    let mut local = Local::new(rt.alloc(), PoolId(0));
+    for (call, wanted) in [
+        (Call::Reopen, Reply::HandedOut(None)),
+        (Call::Insert(1), DONE),
+        (Call::Receive(4), DONE),
+        (Call::End(4), DONE),
+        (Call::Begin, Reply::Begun(Some(TaskId(1)))),
+        (Call::Done(1, 7), DONE),
+        (Call::Ready, DONE),
+        (Call::Reopen, Reply::HandedOut(None)),
+        (Call::Finish, DONE),
+        (Call::Reopen, Reply::HandedOut(Some(7))),
+        (Call::State, Reply::State(TaskpoolState::NotReady)),
+        (Call::Pending, Reply::Pending(1)),
+        (Call::Reopen, Reply::HandedOut(None)),
+        (Call::Insert(1), DONE),
+        (Call::Receive(4), DONE),
+        (Call::End(4), DONE),
+        (Call::Begin, Reply::Begun(Some(TaskId(1)))),
+        (Call::Done(1, 9), DONE),
+        (Call::Ready, DONE),
+        (Call::Finish, DONE),
+        (Call::Reopen, Reply::HandedOut(Some(9))),
+    ] {
+        assert_eq!(rt; reply_to(rt.alloc(), &mut local, call), Ok(wanted));
+    }
+    assert_eq!(rt; local.received(), 0);
+    assert_eq!(rt; local.results().len(), 0);
     Ok(())
 }

@@ -2,7 +2,7 @@ ghost use Rattle.std.specs.Prelude.{◌≡◌, ◌<◌, IfOk};
 
 use std::alloc::Global;
 use std::test::Fail;
-use tp_base::{MessageId, NodeId, Refusal, TaskId};
+use tp_base::{Generation, MessageId, NodeId, Refusal, TaskId};
 use tp_graph::{Message, Parcel, feed_of, run_body, serial};
 use tp_link::Link;
 use tp_own::Chain;
@@ -37,7 +37,15 @@ fn first_message(alloc: Global, chain: Chain) -> Result<Message<Chain>, Refusal>
 {
     let value = run_body(alloc, &chain, TaskId(0), &[])?;
     let feed = feed_of(&chain, TaskId(0), 0);
-    Ok(Message::new(chain, MessageId(5), NodeId(0), NodeId(1), feed, value))
+    Ok(Message::new(
+        chain,
+        MessageId(5),
+        Generation(1),
+        NodeId(0),
+        NodeId(1),
+        feed,
+        value,
+    ))
 }
 
 /// Carries a message over the link from node 0 to node 1.

@@ -8,6 +8,7 @@ enum Call {
     Register(&'static str, &'static str),
     Monitor(u32),
     Unmonitor(u32),
+    Reopen(u32),
     SetOver(u32),
     SetFailed(u32),
     State(u32),
@@ -29,6 +30,7 @@ fn reply_to(registry: &mut Registry, call: Call) -> Result<Reply, Refusal> {
         }
         Call::Monitor(pool) => registry.monitor(PoolId(pool))?,
         Call::Unmonitor(pool) => registry.unmonitor(PoolId(pool))?,
+        Call::Reopen(pool) => registry.reopen(PoolId(pool))?,
         Call::SetOver(pool) => registry.set_over(PoolId(pool))?,
         Call::SetFailed(pool) => registry.set_failed(PoolId(pool))?,
         Call::State(pool) => return Ok(Reply::Stands(registry.state(PoolId(pool))?)),
@@ -78,5 +80,33 @@ fn pools_are_registered_once_and_move_on(rt: HostRuntime) -> Result<(), Fail> {
         registry.list().first().map(|entry| entry.name()),
         Some("tree")
     );
+    Ok(())
+}
+
+#[test]
+fn a_pool_that_is_over_is_reopened(rt: HostRuntime) -> Result<(), Fail> {
+    let mut registry = Registry::new(rt.alloc());
+    for (call, wanted) in [
+        (Call::Reopen(0), Err(Refusal::NoPool)),
+        (Call::Register("tree", "reduce:4:0"), Ok(Reply::Number(0))),
+        (Call::Register("b", "reduce:8:0"), Ok(Reply::Number(1))),
+        (Call::Reopen(2), Err(Refusal::NoPool)),
+        (Call::Reopen(0), Err(Refusal::WrongLife)),
+        (Call::Monitor(0), Ok(Reply::Moved)),
+        (Call::Reopen(0), Err(Refusal::WrongLife)),
+        (Call::SetOver(0), Ok(Reply::Moved)),
+        (Call::Reopen(1), Err(Refusal::WrongLife)),
+        (Call::Reopen(0), Ok(Reply::Moved)),
+        (Call::State(0), Ok(Reply::Stands(Standing::Active))),
+        (Call::State(1), Ok(Reply::Stands(Standing::Registered))),
+        (Call::Monitor(0), Err(Refusal::PoolKnown)),
+        (Call::SetOver(0), Ok(Reply::Moved)),
+        (Call::Reopen(0), Ok(Reply::Moved)),
+        (Call::SetFailed(0), Ok(Reply::Moved)),
+        (Call::Reopen(0), Err(Refusal::WrongLife)),
+        (Call::State(0), Ok(Reply::Stands(Standing::Failed))),
+    ] {
+        assert_eq!(rt; reply_to(&mut registry, call), wanted);
+    }
     Ok(())
 }

@@ -18,6 +18,8 @@ mod failing;
 #[cfg(test)]
 mod gates;
 #[cfg(test)]
+mod generations;
+#[cfg(test)]
 mod hindered;
 #[cfg(test)]
 mod memory;
@@ -31,6 +33,8 @@ mod program;
 mod readers;
 #[cfg(test)]
 mod refused_runs;
+#[cfg(test)]
+mod reopened;
 #[cfg(test)]
 mod several;
 #[cfg(test)]

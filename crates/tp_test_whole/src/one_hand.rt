@@ -5,7 +5,7 @@ use std::alloc::Global;
 use std::process::Abort;
 use std::test::Fail;
 use tp_base::{ActionId, Refusal};
-use tp_board::{Blanks, Board, Brand, Ledgers};
+use tp_board::{Blanks, Board, Brand, Ended, Ledgers};
 use tp_graph::{Comparable, Parcel, is_same};
 use tp_node::{Finished, Node, Pool, Turn, Wire, open_pool};
 use tp_samples::Reduce;
@@ -43,7 +43,7 @@ pub(crate) fn opened<K: Ledgers, P: Play>(
 }
 
 /// Gathers a pool of two nodes, and once more where it comes back.
-fn gathered<K: Ledgers>(alloc: Global, pool: Pool<Reduce, K>) -> Result<Report, Refusal>
+pub(crate) fn gathered<K: Ledgers>(alloc: Global, pool: Pool<Reduce, K>) -> Result<Report, Refusal>
     requires names { K.names.nodes ≡ 2 }
     requires nodes { vec_len pool.nodes ≡ 2 }
     requires links { vec_len pool.links ≡ 2 }
@@ -135,10 +135,13 @@ impl<'a, K: Ledgers> Pair<'a, K> {
         })
     }
 
-    /// A turn of each node. Whether the end was judged is answered.
-    pub(crate) fn turn(&mut self, alloc: Global) -> Result<bool, Refusal> {
-        let over = turn_of(alloc, self.zero, self.back, self.there, self.board)?;
-        Ok(turn_of(alloc, self.one, self.there, self.back, self.board)? || over)
+    /// A turn of each node. Where the end was judged its token is answered.
+    pub(crate) fn turn(&mut self, alloc: Global) -> Result<Option<Ended<K>>, Refusal> {
+        let ended = turn_of(alloc, self.zero, self.back, self.there, self.board)?;
+        if ended.is_some() {
+            return Ok(ended);
+        }
+        turn_of(alloc, self.one, self.there, self.back, self.board)
     }
 
     pub(crate) fn seed(&mut self) -> Result<(u32, u32), Refusal> {
@@ -162,19 +165,22 @@ pub(crate) fn seed_all<G: Comparable, K: Ledgers>(
     Ok(17)
 }
 
-/// A node's turn: it receives a message, or runs a task, or makes a control step. Whether the end was judged is
-/// answered.
+/// A node's turn: it receives a message, or runs a task, or makes a control step. Where the end was judged its token
+/// is answered.
 fn turn_of<G: Comparable, K: Ledgers>(
     alloc: Global,
     node: &mut Node<G, K>,
     into: &mut Wire<G, K>,
     out: &mut Wire<G, K>,
     board: &mut Board<K>,
-) -> Result<bool, Refusal> {
+) -> Result<Option<Ended<K>>, Refusal> {
     if receive_one(node, into, board)? || run_one(alloc, node, out, board)? {
-        return Ok(false);
+        return Ok(None);
     }
-    Ok(matches!(node.control_turn(board)?, Turn::Over(_)))
+    match node.control_turn(board)? {
+        Turn::Over(ended) => Ok(Some(ended)),
+        Turn::Idle | Turn::Moved => Ok(None),
+    }
 }
 
 /// Receives a message and delivers its value.
@@ -387,7 +393,7 @@ impl<'a, K: Ledgers> Pair<'a, K> {
     fn run_to_the_end(&mut self, alloc: Global) -> Result<Answers, Refusal> {
         let (at_zero, at_one) = self.seed()?;
         for _ in 0..100 {
-            if self.turn(alloc)? {
+            if self.turn(alloc)?.is_some() {
                 break;
             }
         }

@@ -11,7 +11,7 @@ use tp_samples::{AnyGraph, checked};
 use tp_work::{Config, OpenGate, run_pool};
 
 /// The word of each pool, and how many tasks it has.
-const POOLS: [(&str, u32); 6] = [
+pub(crate) const POOLS: [(&str, u32); 6] = [
     ("product:2:1:0", 8),
     ("product:6:2:7", 27),
     ("wavefront:2:3:0", 6),
@@ -45,7 +45,7 @@ fn told<R: Threads + Wait + Sync>(
 }
 
 /// Whether these are the plain results, in any order.
-fn are_plain(plain: &[(TaskId, Value)], results: &[(TaskId, Value)]) -> bool {
+pub(crate) fn are_plain(plain: &[(TaskId, Value)], results: &[(TaskId, Value)]) -> bool {
     plain.len() == results.len()
         && results
             .iter()

@@ -1,19 +1,22 @@
 ghost use Rattle.std.specs.Prelude.{◌≡◌, ◌≤◌};
+ghost use Rattle.tp_wave.specs.Generations.{InEach};
+ghost use Rattle.tp_wave.specs.Machine.{IsRun};
 ghost use Rattle.tp_work.specs.Outcomes.{IsWithinLimits};
 
 use crate::memory::say;
 use crate::one_hand::TREE;
+use crate::reopened::last_of;
 use std::alloc::Global;
 use std::io::{self, Write};
 use std::sync::Wait;
 use std::test::Fail;
 use std::thread::Threads;
-use tp_base::{Refusal, TaskId};
+use tp_base::{History, Refusal};
 use tp_cli::main_with;
 use tp_pools::{Registry, Standing};
 use tp_several::run_pools;
 use tp_text::{TextFault, Verdict, audit, print_trace, sim};
-use tp_work::{Config, OpenGate, Report, run_pool};
+use tp_work::{Config, OpenGate, Report, Round, run_generations, run_pool};
 
 /// What a run of the tree of four leaves came to.
 #[derive(Clone, Copy, Debug, PartialEq, Eq)]
@@ -30,22 +33,51 @@ fn run_tree<R: Threads + Wait + Sync + Eprint>(rt: &R, alloc: Global, config: Co
     requires { IsWithinLimits config }
 {
     match run_pool(rt, alloc, TREE, config, &OpenGate) {
-        Ok(outcome) => {
-            let root = outcome.results.iter().find(|made| made.0 == TaskId(6));
-            let value = match root {
-                Some((_, value)) => value.lone().ok(),
-                None => None,
-            };
-            let trace = match print_trace(alloc, &outcome.history, config.nodes) {
-                Err(Refusal::NoMemory) => {
-                    say(rt, "print_trace");
-                    print_trace(alloc, &outcome.history, config.nodes)
-                }
-                trace => trace,
-            };
-            End::Root(value, trace.is_ok())
-        }
+        Ok(outcome) => End::Root(
+            last_of(&outcome.results),
+            is_traced(rt, alloc, &outcome.history, config.nodes),
+        ),
         Err(fault) => End::Stop(fault.refusal, fault.report.as_ref().is_none_or(is_lawful)),
+    }
+}
+
+/// Runs the tree in two generations, whose last tasks have the same value.
+#[tactic(auto, using(tp_wave::proofs::Generations::generations_law))]
+fn run_series<R: Threads + Wait + Sync + Eprint>(rt: &R, alloc: Global, config: Config) -> End
+    requires { IsWithinLimits config }
+{
+    match run_generations(rt, alloc, TREE, config, &OpenGate, 2) {
+        Ok(series) => End::Root(
+            last_of_both(&series.rounds),
+            is_traced(rt, alloc, &series.history, config.nodes),
+        ),
+        Err(fault) => End::Stop(fault.refusal, fault.report.as_ref().is_none_or(is_lawful)),
+    }
+}
+
+fn last_of_both(rounds: &[Round]) -> Option<i64> {
+    let [first, second] = rounds else {
+        return None;
+    };
+    let last = last_of(&first.results);
+    if last_of(&second.results) == last {
+        last
+    } else {
+        None
+    }
+}
+
+/// Whether the trace of a history is printed, where memory was refused at the second time.
+fn is_traced<R: Eprint>(rt: &R, alloc: Global, history: &History, nodes: u32) -> bool
+    requires nodes { (1 ≤ nodes) × (nodes ≤ 8) }
+    requires run { InEach (IsRun nodes) history.now.events }
+{
+    match print_trace(alloc, history, nodes) {
+        Err(Refusal::NoMemory) => {
+            say(rt, "print_trace");
+            print_trace(alloc, history, nodes).is_ok()
+        }
+        trace => trace.is_ok(),
     }
 }
 
@@ -79,6 +111,19 @@ fn a_run_at_one_node_is_refused_memory_and_runs_again(rt: HostRuntime) {
 #[test]
 fn a_run_at_two_nodes_is_refused_memory_and_runs_again(rt: HostRuntime) {
     assert_eq!(rt; run_again(&rt, rt.alloc(), 2), End::Root(Some(66), true));
+}
+
+#[test]
+fn a_series_is_refused_memory_and_runs_again(rt: HostRuntime) {
+    let config = Config::new(1, 1);
+    let end = match run_series(&rt, rt.alloc(), config) {
+        End::Stop(Refusal::NoMemory, true) => {
+            say(&rt, "run_generations");
+            run_series(&rt, rt.alloc(), config)
+        }
+        end => end,
+    };
+    assert_eq!(rt; end, End::Root(Some(66), true));
 }
 
 /// How many tasks the pool of a fresh registry has done, and how it stands then.

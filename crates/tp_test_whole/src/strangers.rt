@@ -26,6 +26,7 @@ fn front_of<K: Ledgers>(wire: &Wire<Reduce, K>) -> Result<Message<Reduce>, Refus
     Ok(Message::new(
         front.graph(),
         front.number(),
+        front.generation(),
         front.from(),
         front.to(),
         front.feed(),
@@ -101,8 +102,8 @@ impl Play for Sending {
     }
 }
 
-/// A message of another pool.
-fn strange(alloc: Global, tree: Reduce, tasks: u32) -> Result<Message<Reduce>, Refusal> {
+/// A message of another pool, in its first generation.
+pub(crate) fn strange(alloc: Global, tree: Reduce, tasks: u32) -> Result<Message<Reduce>, Refusal> {
     let mut play = Sending { tasks, sent: None };
     played(alloc, tree, &mut play)?;
     play.sent.take().ok_or(Refusal::NoMessage)
@@ -110,7 +111,7 @@ fn strange(alloc: Global, tree: Reduce, tasks: u32) -> Result<Message<Reduce>, R
 
 /// A node's pending number, what it has sent and received, how many messages are on the wire to it, and how many
 /// events there were.
-type Stand = (u32, u32, u32, usize, usize);
+pub(crate) type Stand = (u32, u32, u32, usize, usize);
 
 fn stand_of<K: Ledgers>(node: &Node<Reduce, K>, wire: &Wire<Reduce, K>, board: &Board<K>) -> Stand {
     (
@@ -124,14 +125,14 @@ fn stand_of<K: Ledgers>(node: &Node<Reduce, K>, wire: &Wire<Reduce, K>, board: &
 
 /// What a node does with a stranger that lies first on the wire to it.
 #[derive(Clone, Copy)]
-struct Met {
-    before: Stand,
-    answer: Result<(), Refusal>,
-    after: Stand,
+pub(crate) struct Met {
+    pub(crate) before: Stand,
+    pub(crate) answer: Result<(), Refusal>,
+    pub(crate) after: Stand,
     /// The graph and the number of the message that lies first then.
-    first: (Reduce, u32),
+    pub(crate) first: (Reduce, u32),
     /// Whether the message whose place it had taken is received, once it is back.
-    received: bool,
+    pub(crate) received: bool,
 }
 
 fn meet<K: Ledgers>(
@@ -171,7 +172,7 @@ fn receive_alone<K: Ledgers>(
 
 /// When a stranger comes.
 #[derive(Clone, Copy, Debug)]
-enum Hour {
+pub(crate) enum Hour {
     /// Message 0 has been sent.
     Sent,
     /// Message 0 was received and is not delivered. Message 2 has been sent.
@@ -197,10 +198,20 @@ impl<'a, K: Ledgers> Pair<'a, K> {
 
 /// A stranger, and what is done with it when it comes.
 #[derive(Drop)]
-struct Coming {
+pub(crate) struct Coming {
     hour: Hour,
     stranger: Option<Message<Reduce>>,
-    met: Option<Met>,
+    pub(crate) met: Option<Met>,
+}
+
+impl Coming {
+    pub(crate) fn at(hour: Hour, stranger: Message<Reduce>) -> Self {
+        Coming {
+            hour,
+            stranger: Some(stranger),
+            met: None,
+        }
+    }
 }
 
 impl Play for Coming {
@@ -220,11 +231,7 @@ impl Play for Coming {
 }
 
 fn answer_to(alloc: Global, hour: Hour, stranger: Message<Reduce>) -> Result<Met, Refusal> {
-    let mut play = Coming {
-        hour,
-        stranger: Some(stranger),
-        met: None,
-    };
+    let mut play = Coming::at(hour, stranger);
     played(alloc, TREE, &mut play)?;
     play.met.ok_or(Refusal::Missing)
 }
@@ -339,7 +346,7 @@ impl<'a, K: Ledgers> Pair<'a, K> {
     /// Whether a hundred turns of each node judge the end.
     fn ends(&mut self, alloc: Global) -> Result<bool, Refusal> {
         for _ in 0..100 {
-            if self.turn(alloc)? {
+            if self.turn(alloc)?.is_some() {
                 return Ok(true);
             }
         }

@@ -1,22 +1,22 @@
 -- What a turn comes to that tries control steps in a row.
 use Rattle.std.proofs.Common.{ℕ, ◌≡◌, List, [], ◌∷◌, ◌++◌, Bool, true, false, Option, Some, None, Result, Ok, Err, refl, sym, ap, subst, ◌∙◌, cond, arith}
-use Rattle.std.specs.Prelude.{MatchOption, IfErr, IfNone, IfOk, IfSome, OnErr, OnOk, if◌then◌else◌, ◌<◌, ◌≤◌, is_none, is_some, nat_lt, ◌+◌, length}
+use Rattle.std.specs.Prelude.{MatchOption, IfErr, IfOk, OnErr, OnOk, if◌then◌else◌, ◌<◌, ◌≤◌, is_none, is_some, nat_lt, ◌+◌, length}
 use Rattle.std.proofs.lemmas.Bool.Decides.{nat_tests}
 use Rattle.std.specs.List.{find}
 use Rattle.std.specs.Result.{result_err}
 use Rattle.tp_base.specs.Checks.{Check, first_refusal}
-use Rattle.tp_base.specs.History.{Event}
 use Rattle.tp_base.specs.declared.refusal.Refusal.{Refusal}
 use Rattle.tp_base.specs.declared.refusal.Refusal.TheVariants.{HistoryFull, NoMemory, NotIdle}
 use Rattle.tp_base.specs.declared.step.Step.{Step}
 use Rattle.tp_base.specs.declared.step.Step.TheVariants.{Start, Down, Give, Up, Judge}
 use Rattle.tp_board.specs.Numbers.{node_at}
 use Rattle.tp_board.specs.States.{AnswersBy, BoardState, full_check, step_checks, visit_checks, with_event}
-use Rattle.tp_board.specs.Calls.{Answers, Appends}
+use Rattle.tp_board.specs.Calls.{Answers}
 use Rattle.tp_turns.specs.Turns.{ComesTo, IsMade, Makes, MakesFirst, control_event, ends, is_for_room, may_make, turn_checks, turn_steps, wave_steps}
 use Rattle.tp_turns.specs.declared.turn.Turn.{Turn}
 use Rattle.tp_turns.specs.declared.turn.Turn.TheVariants.{Idle}
 use Rattle.tp_wave.specs.Checks.{control_checks}
+use Rattle.tp_wave.specs.Generations.{present, present_events}
 use Rattle.tp_wave.specs.Machine.{pending_at, steps_of}
 use Rattle.tp_wave.specs.Sums.{judgement}
 
@@ -130,26 +130,26 @@ known n old new r q s is ok refused comes = record { event = ok; same = refused;
 module _ {A K : Type 0} {n i : ℕ} {old new : BoardState} {q : Result (Turn K) Refusal} (r : Result A Refusal) where
   pub down_tried : OnOk r (new ≡ with_event (control_event (Down (node_at i))) old) → AnswersBy (step_checks n old (Down (node_at i))) 1 old r → OnErr r (new ≡ old) → ComesTo (λ _. false) r q → MakesFirst n i (Down (node_at i) ∷ []) old new q
   down_tried ok answer refused comes =
-      tried n (Down (node_at i)) old new (λ _. false) i (control_checks n (steps_of old.history) (Down (node_at i))) r q (known n old new r q (Down (node_at i)) refl ok refused comes) refl (refl, (refl, (refl, tt))) answer
+      tried n (Down (node_at i)) old new (λ _. false) i (control_checks n (present (steps_of old.history)) (Down (node_at i))) r q (known n old new r q (Down (node_at i)) refl ok refused comes) refl (refl, (refl, (refl, tt))) answer
 
   pub up_tried : {c : ℕ} → OnOk r (new ≡ with_event (control_event (Up (node_at c))) old) → AnswersBy (step_checks n old (Up (node_at c))) 1 old r → OnErr r (new ≡ old) → ComesTo (λ _. false) r q → MakesFirst n i (Up (node_at c) ∷ []) old new q
   up_tried {c} ok answer refused comes =
-      tried n (Up (node_at c)) old new (λ _. false) i (control_checks n (steps_of old.history) (Up (node_at c))) r q (known n old new r q (Up (node_at c)) refl ok refused comes) refl (refl, (refl, (refl, tt))) answer
+      tried n (Up (node_at c)) old new (λ _. false) i (control_checks n (present (steps_of old.history)) (Up (node_at c))) r q (known n old new r q (Up (node_at c)) refl ok refused comes) refl (refl, (refl, (refl, tt))) answer
 
   pub give_tried : OnOk r (new ≡ with_event (control_event (Give (node_at i))) old) → AnswersBy (visit_checks n old (node_at i)) 1 old r → OnErr r (new ≡ old) → ComesTo (λ _. false) r q → MakesFirst n i (Give (node_at i) ∷ []) old new q
   give_tried ok answer refused comes =
       tried n (Give (node_at i)) old new (λ _. false) i (turn_checks n i old.history (Give (node_at i))) r q (known n old new r q (Give (node_at i)) refl ok refused comes) refl (refl, (refl, (refl, (refl, tt)))) answer
 
-  pub start_tried : pending_at i old.history ≡ 0 → OnOk r (new ≡ with_event (control_event Start) old) → AnswersBy (step_checks n old Start) 1 old r → OnErr r (new ≡ old) → ComesTo (λ _. false) r q → MakesFirst n i (Start ∷ []) old new q
+  pub start_tried : pending_at i (present_events old.history) ≡ 0 → OnOk r (new ≡ with_event (control_event Start) old) → AnswersBy (step_checks n old Start) 1 old r → OnErr r (new ≡ old) → ComesTo (λ _. false) r q → MakesFirst n i (Start ∷ []) old new q
   start_tried idle ok answer refused comes =
-      let cs = control_checks n (steps_of old.history) Start in
+      let cs = control_checks n (present (steps_of old.history)) Start in
       let is : first_refusal cs ≡ first_refusal (turn_checks n i old.history Start) = rw idle refl in
       tried n Start old new (λ _. false) i cs r q (known n old new r q Start refl ok refused comes) is (refl, (refl, tt)) answer
 
-  pub judge_tried : (ended : A → Bool) → IfOk r (λ x. ended x ≡ is_some (judgement n (steps_of old.history))) → OnOk r (new ≡ with_event (control_event Judge) old) → AnswersBy (step_checks n old Judge) 1 old r → OnErr r (new ≡ old) → ComesTo ended r q → MakesFirst n i (Judge ∷ []) old new q
+  pub judge_tried : (ended : A → Bool) → IfOk r (λ x. ended x ≡ is_some (judgement n (present (steps_of old.history)))) → OnOk r (new ≡ with_event (control_event Judge) old) → AnswersBy (step_checks n old Judge) 1 old r → OnErr r (new ≡ old) → ComesTo ended r q → MakesFirst n i (Judge ∷ []) old new q
   judge_tried ended over ok answer refused comes =
       let all : IsTried n Judge old new ended r q = record { event = ok; same = refused; over = over; answer = comes } in
-      tried n Judge old new ended i (control_checks n (steps_of old.history) Judge) r q all refl (refl, (refl, tt)) answer
+      tried n Judge old new ended i (control_checks n (present (steps_of old.history)) Judge) r q all refl (refl, (refl, tt)) answer
 
 -- ---- a step that may not be made
 not_made : {K : Type 0} (n i : ℕ) (s : Step) (b : BoardState) → may_make n i b.history s ≡ false → MakesFirst {K = K} n i (s ∷ []) b b (Ok Idle)
@@ -175,8 +175,8 @@ is_not_below : (c n : ℕ) → n ≤ c → nat_lt c n ≡ false
 is_not_below c n outside = grind (arith, nat_tests)
 
 -- an active root starts no wave
-pub start_active : {K : Type 0} (n i : ℕ) (b : BoardState) → 0 < pending_at i b.history → MakesFirst {K = K} n i (Start ∷ []) b b (Ok Idle)
-start_active n i b active = not_made n i Start b (rw (is_above (pending_at i b.history) active) (refused_last (control_checks n (steps_of b.history) Start) NotIdle))
+pub start_active : {K : Type 0} (n i : ℕ) (b : BoardState) → 0 < pending_at i (present_events b.history) → MakesFirst {K = K} n i (Start ∷ []) b b (Ok Idle)
+start_active n i b active = not_made n i Start b (rw (is_above (pending_at i (present_events b.history)) active) (refused_last (control_checks n (present (steps_of b.history)) Start) NotIdle))
 
 -- there is no such child
 pub up_outside : {K : Type 0} (n i c : ℕ) (b : BoardState) → n ≤ c → MakesFirst {K = K} n i (Up (node_at c) ∷ []) b b (Ok Idle)

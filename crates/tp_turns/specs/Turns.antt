@@ -1,5 +1,5 @@
 -- A node's control turn: which step of the waves it makes, and what it answers.
-use Rattle.std.specs.Prelude.{ℕ, ◌+◌, ◌*◌, ◌≡◌, ◌==◌, ◌&&◌, List, [], ◌∷◌, ◌++◌, Bool, true, false, IsTrue, IsFalse, Option, Some, None, is_some, is_none, if◌then◌else◌, Result, Ok, Err, IfOk, IsOkAnd, OnErr, OnOk, nat_lt}
+use Rattle.std.specs.Prelude.{ℕ, ◌+◌, ◌*◌, ◌≡◌, ◌==◌, ◌&&◌, List, [], ◌∷◌, ◌++◌, Bool, true, false, IsTrue, IsFalse, Some, None, is_some, is_none, if◌then◌else◌, Result, Ok, Err, IfOk, IsOkAnd, OnErr, OnOk, nat_lt}
 use Rattle.std.specs.List.{find}
 use Rattle.tp_base.specs.Checks.{Check, first_refusal}
 use Rattle.tp_base.specs.History.{Event}
@@ -13,6 +13,7 @@ use Rattle.tp_board.specs.Calls.{Answers}
 use Rattle.tp_turns.specs.declared.turn.Turn.{Turn}
 use Rattle.tp_turns.specs.declared.turn.Turn.TheVariants.{Idle, Moved, Over}
 use Rattle.tp_wave.specs.Checks.{control_checks}
+use Rattle.tp_wave.specs.Generations.{present, present_events}
 use Rattle.tp_wave.specs.Machine.{pending_at, steps_of}
 use Rattle.tp_wave.specs.Steps.{is_judge}
 use Rattle.tp_wave.specs.Sums.{judgement}
@@ -34,7 +35,8 @@ needs_idle _ = false
 
 -- what node i, of n, may be refused a control step for after these events
 abbrev pub turn_checks : ℕ → ℕ → List Event → Step → List Check
-turn_checks n i h s = control_checks n (steps_of h) s ++ (needs_idle s && nat_lt 0 (pending_at i h), NotIdle) ∷ []
+turn_checks n i h s =
+    control_checks n (present (steps_of h)) s ++ (needs_idle s && nat_lt 0 (pending_at i (present_events h)), NotIdle) ∷ []
 
 -- the node may make the step
 abbrev pub may_make : ℕ → ℕ → List Event → Step → Bool
@@ -50,7 +52,7 @@ control_event s = event 0 s
 
 -- The step judges that the pool has ended.
 abbrev pub ends : ℕ → List Event → Step → Bool
-ends n h s = is_judge s && is_some (judgement n (steps_of h))
+ends n h s = is_judge s && is_some (judgement n (present (steps_of h)))
 
 -- what a turn answers that made a step, where it is known whether the step ended the pool
 abbrev pub IsMade : {K : Type 0} → Bool → Turn K → Type 0

@@ -3,6 +3,7 @@ ghost use Rattle.tp_base.specs.declared.step.Step.TheVariants as steps;
 ghost use Rattle.tp_board.specs.Numbers.{node_at};
 ghost use Rattle.tp_board.specs.Judgements.{is_over};
 ghost use Rattle.tp_turns.specs.Turns.{ComesTo, MakesFirst, is_for_room, turn_steps, wave_steps};
+ghost use Rattle.tp_wave.specs.Generations.{present_events};
 ghost use Rattle.tp_wave.specs.Machine.{pending_at};
 
 use tp_base::{NodeId, Refusal};
@@ -31,7 +32,7 @@ pub fn make_first<K: Ledgers>(
     shares: &Shares<K>,
     pending: u32,
 ) -> Result<Turn<K>, Refusal>
-    requires { pending ≡ pending_at shares.now.node board.old.history }
+    requires { pending ≡ pending_at shares.now.node (present_events board.old.history) }
     ensures { MakesFirst K.names.nodes shares.now.node (turn_steps shares.now.node) board.old board.new result }
 {
     if shares.node().0 == 0 {
@@ -48,7 +49,7 @@ fn lead<K: Ledgers>(
     pending: u32,
 ) -> Result<Turn<K>, Refusal>
     requires root { shares.now.node ≡ 0 }
-    requires pending { pending ≡ pending_at 0 board.old.history }
+    requires pending { pending ≡ pending_at 0 (present_events board.old.history) }
     ensures { MakesFirst K.names.nodes 0 (turn_steps 0) board.old board.new result }
 {
     match judge(board)? {
@@ -95,7 +96,7 @@ fn start<K: Ledgers>(
     pending: u32,
 ) -> Result<Turn<K>, Refusal>
     requires root { shares.now.node ≡ 0 }
-    requires pending { pending ≡ pending_at 0 board.old.history }
+    requires pending { pending ≡ pending_at 0 (present_events board.old.history) }
     ensures { MakesFirst K.names.nodes 0 (steps.Start ∷ []) board.old board.new result }
 {
     if pending > 0 {

@@ -1,18 +1,18 @@
 -- The laws of the generations, carried over from those of one.
-use Rattle.std.proofs.Common.{◌≡◌, ℕ, suc, ◌+◌, ◌≤◌, Bool, true, false, cond, List, [], ◌∷◌, ◌++◌, length, refl, sym, ap, ◌∙◌, inl, inr, arith, IsTrue, IsFalse, Some}
+use Rattle.std.proofs.Common.{◌≡◌, ℕ, suc, ◌+◌, ◌≤◌, true, false, cond, [], ◌∷◌, ◌++◌, length, refl, ap, inl, inr, arith, IsTrue, IsFalse}
 use Rattle.std.proofs.Props.{props}
 use Rattle.std.proofs.lemmas.Bool.{cases_Bool, both_ways}
 use Rattle.std.specs.List.{All}
 use Rattle.std.proofs.lemmas.List.Elements.{All-nil, All-cons}
 use Rattle.tp_base.specs.History.{Event}
 use Rattle.tp_base.specs.declared.Step.{Step}
-use Rattle.tp_base.specs.declared.Step.TheVariants.{Send, Recv, MessageEnd, Start, Down, Give, Up, Judge}
-use Rattle.tp_wave.specs.Steps.{before, count, is_judge, is_reopen}
-use Rattle.tp_wave.specs.Sums.{judgement, is_ended}
+use Rattle.tp_base.specs.declared.Step.TheVariants.{Send}
+use Rattle.tp_wave.specs.Steps.{count, is_reopen}
+use Rattle.tp_wave.specs.Sums.{is_ended}
 use Rattle.tp_wave.specs.Control.{is_control}
-use Rattle.tp_wave.specs.Machine.{History, node_of, step_of, steps_of, IsNext, IsRun}
-use Rattle.tp_wave.specs.Cut.{IsQuiet, visited_at}
-use Rattle.tp_wave.specs.Generations.{since, present, present_events, generation, IsOfGeneration, MayReopen, GoesOn, MayCome, AreRuns, InEach, ended_generations, IsEndedRun, EndedGenerationsLaw, GenerationsLaw, IsNeverEarly, NeverEarlyInEachLaw, ReopeningLaw, OverLaw, PresentLaw, FewGenerationsLaw}
+use Rattle.tp_wave.specs.Machine.{History, step_of, steps_of, IsNext, IsRun}
+use Rattle.tp_wave.specs.Cut.{IsQuiet}
+use Rattle.tp_wave.specs.Generations.{present, present_events, generation, IsOfGeneration, MayReopen, GoesOn, MayCome, AreRuns, InEach, ended_generations, IsEndedRun, EndedGenerationsLaw, GenerationsLaw, IsNeverEarly, NeverEarlyInEachLaw, ReopeningLaw, OverLaw, PresentLaw, FewGenerationsLaw}
 use Rattle.tp_wave.proofs.Props.{IsNext-prop}
 use Rattle.tp_wave.proofs.Runs.{quiet_step}
 use Rattle.tp_wave.proofs.Judged.{judged_law, never_early_law}

@@ -1,6 +1,6 @@
 -- Generations. A pool whose end was judged can be reopened: everything is then as at first, and the list of steps alone goes on.
 -- So what is said of a pool is said of one generation: of the events since the newest reopening.
-use Rattle.std.specs.Prelude.{ℕ, ◌+◌, ◌≡◌, ◌≤◌, List, [], ◌∷◌, ◌++◌, length, Bool, true, false, IsTrue, IsFalse, Some, if◌then◌else◌}
+use Rattle.std.specs.Prelude.{ℕ, ◌+◌, ◌≡◌, ◌≤◌, List, [], ◌∷◌, ◌++◌, length, Bool, IsTrue, IsFalse, Some, if◌then◌else◌}
 use Rattle.std.specs.List.{All}
 use Rattle.tp_base.specs.History.{Event}
 use Rattle.tp_base.specs.declared.Step.{Step}

@@ -1,5 +1,8 @@
+pub mod Counted
 pub mod Gathering
 pub mod Living
 pub mod Marking
 pub mod Placing
 pub mod Reporting
+pub mod Rounds
+pub mod Walking

@@ -1,21 +1,26 @@
 -- The stages that events lead tasks to.
-use Rattle.std.proofs.Common.{◌≡◌, ℕ, zero, suc, ◌+◌, ◌-◌, ◌<◌, ◌↔◌, List, [], ◌∷◌, ◌++◌, length, reverse, Bool, Option, Some, None, IsTrue, IsFalse, MatchOption, slice_set, slice_get}
-use Rattle.std.proofs.Common.{slice_index_or, refl, sym, ap, subst, ◌∙◌, inl, inr, arith, length-append, nat_lt, if◌then◌else◌, get_or, drop, take}
+use Rattle.std.proofs.Common.{◌≡◌, ℕ, zero, suc, ◌+◌, ◌-◌, ◌<◌, ◌↔◌, List, [], ◌∷◌, ◌++◌, length, reverse, Bool, true, false, Option, Some, None, IsTrue, IsFalse, MatchOption, slice_set, slice_get}
+use Rattle.std.proofs.Common.{slice_index_or, refl, sym, ap, subst, ◌∙◌, inl, inr, arith, length-append, get_or, drop, take}
 use Rattle.std.specs.List.{All}
 use Rattle.std.proofs.Math.Seq.{drop-cons}
-use Rattle.std.proofs.lemmas.Bool.{cases_eq, cases_lt, eq-eqb, ne_eqb}
+use Rattle.std.proofs.lemmas.Bool.{cases_Bool, cases_eq, cases_lt, eq-eqb, ne_eqb}
 use Rattle.std.proofs.lemmas.Bool.Decides.{nat_tests}
 use Rattle.std.proofs.lemmas.List.{get_or-reverse, get_or-set_same, get_or-set_other, get_or_default, get_or_past, take-append-drop}
 use Rattle.std.proofs.lemmas.Option.{get_or_from_slice_get}
 use Rattle.tp_base.specs.History.{Event}
 use Rattle.tp_base.specs.declared.step.Step.{Step}
 use Rattle.tp_wave.specs.Machine.{steps_of}
-use Rattle.tp_work.specs.Lives.{AreStages, LivesOnce, first_moments, moment_of, moments, stage, with_moment}
+use Rattle.tp_base.specs.declared.step.Step.TheVariants.{Reopen}
+use Rattle.tp_wave.specs.Steps.{any, is_reopen}
+use Rattle.tp_work.specs.Lives.{AreStages, LivesOnce, first_moments, life, moment_of, moments, stage, with_moment}
 
 -- ---- events in the order of time
 -- the oldest events, so many, the newest first
 abbrev pub oldest : ℕ → List Event → List Event
 oldest k h = drop (length h - k) h
+
+pub oldest-all : (h : List Event) (k : ℕ) → k ≡ length h → oldest k h ≡ h
+oldest-all h k all = let none : length h - k ≡ 0 = omega (arith, all) in ap (λ i. drop i h) none
 
 pub oldest_next : (h : List Event) (k : ℕ) (e : Event) → k < length h → slice_get (reverse h) k ≡ Some e → oldest (k + 1) h ≡ e ∷ oldest k h
 oldest_next h k e within at =
@@ -29,20 +34,22 @@ pub steps-append : (newer past : List Event) → steps_of (newer ++ past) ≡ st
 steps-append [] past = refl
 steps-append (e ∷ newer) past = ap (λ ss. e.1 ∷ ss) (steps-append newer past)
 
-with_moment-append : (t : ℕ) (o : Option (ℕ × ℕ)) (xs ys : List ℕ) → with_moment t o (xs ++ ys) ≡ with_moment t o xs ++ ys
+pub with_moment-append : (t : ℕ) (o : Option (ℕ × ℕ)) (xs ys : List ℕ) → with_moment t o (xs ++ ys) ≡ with_moment t o xs ++ ys
 with_moment-append t None xs ys = refl
 with_moment-append t (Some m) xs ys = elim (cases_eq m.0 t) [
   | inl same ↦ rw (eq-eqb m.0 t same) refl
   | inr other ↦ rw (ne_eqb m.0 t other) refl
 ]
 
+-- all events, through the one at a place
+pub through : (h : List Event) (k : ℕ) (e : Event) → k < length h → slice_get (reverse h) k ≡ Some e → h ≡ take (length h - (k + 1)) h ++ e ∷ oldest k h
+through h k e within at =
+    sym (take-append-drop (length h - (k + 1)) h) ∙ ap (λ past. take (length h - (k + 1)) h ++ past) (oldest_next h k e within at)
+
 -- all steps, through the one at a place
 pub steps_through : (h : List Event) (k : ℕ) (e : Event) → k < length h → slice_get (reverse h) k ≡ Some e
     → steps_of h ≡ steps_of (take (length h - (k + 1)) h) ++ e.1 ∷ steps_of (oldest k h)
-steps_through h k e within at =
-    ap steps_of (sym (take-append-drop (length h - (k + 1)) h))
-    ∙ steps-append (take (length h - (k + 1)) h) (oldest (k + 1) h)
-    ∙ ap (λ past. steps_of (take (length h - (k + 1)) h) ++ steps_of past) (oldest_next h k e within at)
+steps_through h k e within at = ap steps_of (through h k e within at) ∙ steps-append (take (length h - (k + 1)) h) (e ∷ oldest k h)
 
 moments-append : (t : ℕ) (newer past : List Step) → moments t (newer ++ past) ≡ moments t newer ++ moments t past
 moments-append t [] past = refl
@@ -53,16 +60,19 @@ length-first_moments : (k : ℕ) → length (first_moments k) ≡ k
 length-first_moments zero = refl
 length-first_moments (suc k) = ap suc (length-first_moments k)
 
--- what is told of a step: it is no moment, or the next one of its task, or it is refused
-abbrev pub Told : Option (ℕ × ℕ) → Bool → List ℕ → List ℕ → Type 0
-Told o answer stages new =
-    (o ≡ None → IsTrue answer × (new ≡ stages))
+-- what is told of a step: it is no moment, and nothing is reopened; or the next moment of its task; or it is refused
+abbrev pub ToldOf : Option (ℕ × ℕ) → Bool → Bool → List ℕ → List ℕ → Type 0
+ToldOf o reopens answer stages new =
+    (o ≡ None → (IsTrue answer ↔ IsFalse reopens) × (new ≡ stages))
     × MatchOption o (Unit {0}) (λ m. (IsTrue answer ↔ ((m.0 < length stages) × (stage stages m.0 ≡ m.1))) × (IsTrue answer → new ≡ slice_set stages m.0 (m.1 + 1)))
 
-stages-with : (o : Option (ℕ × ℕ)) (past : ℕ → List ℕ) (stages new : List ℕ) (answer : Bool) → IsTrue answer → Told o answer stages new
+abbrev pub Told : Step → Bool → List ℕ → List ℕ → Type 0
+Told s answer stages new = ToldOf (moment_of s) (is_reopen s) answer stages new
+
+stages-with : (o : Option (ℕ × ℕ)) (reopens : Bool) (past : ℕ → List ℕ) (stages new : List ℕ) (answer : Bool) → IsTrue answer → ToldOf o reopens answer stages new
     → ((t : ℕ) → past t ≡ first_moments (stage stages t)) → (t : ℕ) → with_moment t o (past t) ≡ first_moments (stage new t)
-stages-with None past stages new answer is_yes told before t = before t ∙ ap (λ ss. first_moments (stage ss t)) (sym (told.0 refl).1)
-stages-with (Some m) past stages new answer is_yes told before t =
+stages-with None reopens past stages new answer is_yes told before t = before t ∙ ap (λ ss. first_moments (stage ss t)) (sym (told.0 refl).1)
+stages-with (Some m) reopens past stages new answer is_yes told before t =
     let fresh = told.1.0.0 is_yes in
     let now : new ≡ slice_set stages m.0 (m.1 + 1) = told.1.1 is_yes in
     let next : suc m.1 ≡ m.1 + 1 = omega arith in
@@ -76,9 +86,18 @@ stages-with (Some m) past stages new answer is_yes told before t =
           rw (ne_eqb m.0 t other) (before t ∙ ap first_moments (sym at))
     ]
 
-pub stages-next : (s : Step) (past : List Step) (stages new : List ℕ) (answer : Bool) → IsTrue answer → Told (moment_of s) answer stages new
+pub stages-next : (s : Step) (past : List Step) (stages new : List ℕ) (answer : Bool) → IsTrue answer → Told s answer stages new
     → AreStages past stages → AreStages (s ∷ past) new
-stages-next s past stages new answer is_yes told before = stages-with (moment_of s) (λ t. moments t past) stages new answer is_yes told before
+stages-next s past stages new answer is_yes told before = stages-with (moment_of s) (is_reopen s) (λ t. moments t past) stages new answer is_yes told before
+
+-- A step that was followed is no reopening.
+not_reopened : (s : Step) (answer : Bool) (stages new : List ℕ) → IsTrue answer → Told s answer stages new → IsFalse (is_reopen s)
+not_reopened Reopen answer stages new is_yes told = (told.0 refl).0.0 is_yes
+not_reopened _ answer stages new is_yes told = refl
+
+pub one_generation-next : (s : Step) (past : List Step) (answer : Bool) (stages new : List ℕ) → IsTrue answer → Told s answer stages new
+    → IsFalse (any is_reopen past) → IsFalse (any is_reopen (s ∷ past))
+one_generation-next s past answer stages new is_yes told before = rw (not_reopened s answer stages new is_yes told) before
 
 -- ---- a step that is refused
 -- Of a whole life the moment after the first ones is the next.
@@ -99,10 +118,10 @@ next_of_life (a ∷ b ∷ c ∷ newer) k n e =
     let long : suc (suc (suc (length (newer ++ k ∷ first_moments n)))) ≡ 3 = ap length e in
     omega (arith, long, length-append newer (k ∷ first_moments n))
 
-no_life-with : (o : Option (ℕ × ℕ)) (newer past : ℕ → List ℕ) (stages new : List ℕ) (answer : Bool) → IsFalse answer → Told o answer stages new
-    → ((t : ℕ) → past t ≡ first_moments (stage stages t)) → ((t : ℕ) → newer t ++ with_moment t o (past t) ≡ (if nat_lt t (length stages) then 2 ∷ 1 ∷ 0 ∷ [] else [])) → ⊥
-no_life-with None newer past stages new answer is_no told before once = let is_yes = (told.0 refl).0 in cc
-no_life-with (Some m) newer past stages new answer is_no told before once =
+no_life-with : (o : Option (ℕ × ℕ)) (reopens : Bool) (newer past : ℕ → List ℕ) (stages new : List ℕ) (answer : Bool) → IsFalse answer → ToldOf o reopens answer stages new → IsFalse reopens
+    → ((t : ℕ) → past t ≡ first_moments (stage stages t)) → ((t : ℕ) → newer t ++ with_moment t o (past t) ≡ life (length stages) t) → ⊥
+no_life-with None reopens newer past stages new answer is_no told on before once = let is_yes = (told.0 refl).0.1 on in cc
+no_life-with (Some m) reopens newer past stages new answer is_no told on before once =
     let here : with_moment m.0 (Some m) (past m.0) ≡ m.1 ∷ first_moments (stage stages m.0) = rw (eq-eqb m.0 m.0 refl) (ap (λ ms. m.1 ∷ ms) (before m.0)) in
     let life = ap (λ ms. newer m.0 ++ ms) (sym here) ∙ once m.0 in
     elim (cases_lt m.0 (length stages)) [
@@ -115,28 +134,44 @@ no_life-with (Some m) newer past stages new answer is_no told before once =
           omega (arith, ap length none, length-append (newer m.0) (m.1 ∷ first_moments (stage stages m.0)))
     ]
 
-pub no_life : (s : Step) (newer past : List Step) (stages new : List ℕ) (answer : Bool) → IsFalse answer → Told (moment_of s) answer stages new
+-- No life goes on by a step that was refused.
+pub no_life_on : (s : Step) (newer : ℕ → List ℕ) (past : List Step) (stages new : List ℕ) (answer : Bool) → IsFalse answer → Told s answer stages new → IsFalse (is_reopen s)
+    → AreStages past stages → ((t : ℕ) → newer t ++ moments t (s ∷ past) ≡ life (length stages) t) → ⊥
+no_life_on s newer past stages new answer is_no told on before once =
+    no_life-with (moment_of s) (is_reopen s) newer (λ t. moments t past) stages new answer is_no told on before once
+
+goes_on : (newer past : List Step) (s : Step) → IsFalse (any is_reopen (newer ++ s ∷ past)) → IsFalse (is_reopen s)
+goes_on [] past s none = elim (cases_Bool (is_reopen s)) [ inl reopens ↦ absurd (let bad : true ≡ false = rw reopens at none in cc) | inr on ↦ on ]
+goes_on (d ∷ newer) past s none =
+    elim (cases_Bool (is_reopen d)) [ inl reopens ↦ absurd (let bad : true ≡ false = rw reopens at none in cc) | inr on ↦ goes_on newer past s (rw on at none) ]
+
+pub no_life : (s : Step) (newer past : List Step) (stages new : List ℕ) (answer : Bool) → IsFalse answer → Told s answer stages new
     → AreStages past stages → LivesOnce (length stages) (newer ++ s ∷ past) → ⊥
 no_life s newer past stages new answer is_no told before once =
-    no_life-with (moment_of s) (λ t. moments t newer) (λ t. moments t past) stages new answer is_no told before
-    (λ t. sym (moments-append t newer (s ∷ past)) ∙ once t)
+    no_life_on s (λ t. moments t newer) past stages new answer is_no told (goes_on newer past s once.one_generation) before
+    (λ t. sym (moments-append t newer (s ∷ past)) ∙ once.each t)
 
 -- ---- all steps
-pub lives_if_over : (steps : List Step) (stages : List ℕ) → AreStages steps stages → All (λ k. k ≡ 3) stages → LivesOnce (length stages) steps
-lives_if_over steps stages are all t =
-    elim (cases_lt t (length stages)) [
-      | inl within ↦ are t ∙ ap first_moments (all t 0 within) ∙ grind (arith, nat_tests, within)
-      | inr beyond ↦ are t ∙ ap first_moments (get_or_past stages t 0 beyond) ∙ grind (arith, nat_tests, beyond)
-    ]
+pub lives_if_over : (steps : List Step) (stages : List ℕ) → AreStages steps stages → IsFalse (any is_reopen steps) → All (λ k. k ≡ 3) stages → LivesOnce (length stages) steps
+lives_if_over steps stages are none all =
+    record {
+      each =
+          λ t.
+          elim (cases_lt t (length stages)) [
+            | inl within ↦ are t ∙ ap first_moments (all t 0 within) ∙ grind (arith, nat_tests, within)
+            | inr beyond ↦ are t ∙ ap first_moments (get_or_past stages t 0 beyond) ∙ grind (arith, nat_tests, beyond)
+          ];
+      one_generation = none;
+    }
 
 pub over_if_lives : (steps : List Step) (stages : List ℕ) → AreStages steps stages → LivesOnce (length stages) steps → All (λ k. k ≡ 3) stages
 over_if_lives steps stages are once t d within =
-    let life : first_moments (stage stages t) ≡ 2 ∷ 1 ∷ 0 ∷ [] = sym (are t) ∙ once t ∙ grind (arith, nat_tests, within) in
+    let life : first_moments (stage stages t) ≡ 2 ∷ 1 ∷ 0 ∷ [] = sym (are t) ∙ once.each t ∙ grind (arith, nat_tests, within) in
     get_or_default stages t d 0 within ∙ sym (length-first_moments (stage stages t)) ∙ ap length life
 
 -- What all stages together tell.
-pub stages-tell : (steps : List Step) (stages : List ℕ) (n : ℕ) (answer : Bool) → AreStages steps stages → length stages ≡ n
+pub stages-tell : (steps : List Step) (stages : List ℕ) (n : ℕ) (answer : Bool) → AreStages steps stages × IsFalse (any is_reopen steps) → length stages ≡ n
     → (IsTrue answer ↔ All (λ k. k ≡ 3) stages) → (IsTrue answer ↔ LivesOnce n steps)
 stages-tell steps stages n answer are long told =
     subst (λ (k : ℕ). IsTrue answer ↔ LivesOnce k steps) long
-    ((λ is_yes. lives_if_over steps stages are (told.0 is_yes)), (λ once. told.1 (over_if_lives steps stages are once)))
+    ((λ is_yes. lives_if_over steps stages are.0 are.1 (told.0 is_yes)), (λ once. told.1 (over_if_lives steps stages are.0 once)))

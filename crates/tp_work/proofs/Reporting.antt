@@ -1,19 +1,24 @@
 -- What a report tells of a pool whose nodes are at their places.
-use Rattle.std.proofs.Common.{◌≡◌, ℕ, List, Option, Some, None, IsTrue, MatchOption, length, refl, sym, ap, subst, ◌∙◌}
+use Rattle.std.proofs.Common.{◌≡◌, ℕ, List, [], ◌∷◌, true, false, Option, Some, None, IsFalse, IsTrue, MatchOption, length, refl, sym, ap, subst, ◌∙◌, inl, inr}
+use Rattle.std.proofs.lemmas.Bool.{cases_Bool}
 use Rattle.std.specs.Prelude.{sum_by}
 use Rattle.tp_base.specs.declared.refusal.Refusal.{Refusal}
+use Rattle.tp_board.specs.Numbers.{is_done, is_send}
 use Rattle.tp_board.specs.States.{BoardState}
 use Rattle.tp_graph.specs.Graphs.{TaskGraph}
 use Rattle.tp_graph.specs.Serial.{AreRight}
 use Rattle.tp_local.specs.Locals.{pending}
 use Rattle.tp_node.specs.Nodes.{NodeState}
 use Rattle.tp_node.specs.Wires.{WireState}
-use Rattle.tp_wave.specs.Machine.{pending_at}
-use Rattle.tp_wave.specs.Sums.{total}
+use Rattle.tp_wave.proofs.Generations.{present-goes_on, present_run, steps-present}
+use Rattle.tp_wave.specs.Generations.{present, present_events}
+use Rattle.tp_wave.specs.Machine.{History, IsRun, pending_at, steps_of}
+use Rattle.tp_wave.specs.Steps.{any, count, is_reopen}
+use Rattle.tp_wave.specs.Sums.{is_ended, total}
 use Rattle.tp_work.proofs.Gathering.{sum_by-map}
 use Rattle.tp_work.proofs.Placing.{sum_by-same, total-range}
 use Rattle.tp_work.specs.Outcomes.{IsAnswer, IsComplete, IsLack, IsOutcome}
-use Rattle.tp_work.specs.Places.{AreInOrder}
+use Rattle.tp_work.specs.Places.{AreInOrder, AreOf, IsWhole}
 use Rattle.tp_work.specs.Reports.{AreOfTheRun, IsGathered, IsOfItsRun, IsReport}
 use Rattle.tp_work.specs.declared.gathered.Report.{Report}
 use Rattle.std.specs.List.{range_with_len}
@@ -21,24 +26,35 @@ use Rattle.std.specs.List.{range_with_len}
 module _ {G : Type 0} where
   -- what is pending at the nodes is what is pending in the run
   pub pending_of_run : (n : ℕ) (nodes : List (NodeState G)) (r : Report) → length nodes ≡ n → AreInOrder nodes → AreOfTheRun nodes r
-      → sum_by (λ s. pending s.state) nodes ≡ total n (λ i. pending_at i r.history.events)
+      → sum_by (λ s. pending s.state) nodes ≡ total n (λ i. pending_at i (present_events r.history.events))
   pending_of_run n nodes r each order agree =
-      sum_by-same (λ s. pending s.state) (λ s. pending_at s.numbers.node r.history.events) nodes agree
-      ∙ sym (sum_by-map (λ i. pending_at i r.history.events) (λ (s : NodeState G). s.numbers.node) nodes)
-      ∙ ap (sum_by (λ i. pending_at i r.history.events)) (order ∙ ap (range_with_len 0) each)
-      ∙ total-range (λ i. pending_at i r.history.events) n
+      let now : ℕ → ℕ = λ i. pending_at i (present_events r.history.events) in
+      sum_by-same (λ s. pending s.state) (λ s. now s.numbers.node) nodes agree
+      ∙ sym (sum_by-map now (λ (s : NodeState G). s.numbers.node) nodes)
+      ∙ ap (sum_by now) (order ∙ ap (range_with_len 0) each)
+      ∙ total-range now n
 
-  pub is_report : (n : ℕ) (g : TaskGraph) (nodes : List (NodeState G)) (links : List (WireState G)) (board : BoardState) (r : Report)
-      → IsGathered nodes links board r → IsOfItsRun n r → AreOfTheRun nodes r → length nodes ≡ n → AreInOrder nodes → AreRight g r.results.items
-      → IsReport n g r
-  is_report n g nodes links board r gathered run agree each order right =
+  pub is_report : (n : ℕ) (meaning : G → TaskGraph) (graph : G) (nodes : List (NodeState G)) (links : List (WireState G)) (board : BoardState) (r : Report)
+      → IsGathered nodes links board r → IsOfItsRun n r → AreOfTheRun nodes r → IsWhole n graph nodes links
+      → ((g : G) → AreOf g nodes → AreRight (meaning g) r.results.items) → IsReport n (meaning graph) r
+  is_report n meaning graph nodes links board r gathered run agree whole right =
       record {
         of_run = run;
         balance = gathered.balance;
-        pending = gathered.pending ∙ pending_of_run n nodes r each order agree;
+        pending = gathered.pending ∙ pending_of_run n nodes r whole.nodes_are whole.order agree;
         done = gathered.done;
-        right = right;
+        right = right graph whole.of_graph;
       }
+
+-- ---- one generation
+-- Where nothing was reopened, all events are of the present generation.
+pub all_present : (h : History) → IsFalse (any is_reopen (steps_of h)) → present_events h ≡ h
+all_present [] none = refl
+all_present (e ∷ past) none =
+    elim (cases_Bool (is_reopen e.1)) [
+      | inl reopens ↦ absurd (let bad : true ≡ false = rw reopens at none in cc)
+      | inr on ↦ present-goes_on e past on ∙ ap (λ (xs : History). e ∷ xs) (all_present past (rw on at none))
+    ]
 
 -- A pool that is refused for nothing is complete.
 complete_where : (n tasks : ℕ) (r : Report) (fault : Option Refusal) → r.fault ≡ fault
@@ -56,13 +72,16 @@ is_complete n tasks r None is lack fault = complete_where n tasks r r.fault refl
 pub is_outcome : (n : ℕ) (g : TaskGraph) (r : Report) → IsReport n g r → IsComplete n g.tasks r
     → IsOutcome n g (record { results = r.results; tasks = r.done; messages = r.sent; announced = r.announced; history = r.history })
 is_outcome n g r report complete =
+    let h = r.history.events in
+    let all : present_events h ≡ h = all_present h complete.lives.one_generation in
+    let steps : present (steps_of h) ≡ steps_of h = sym (steps-present h) ∙ ap steps_of all in
     record {
       each_once = complete.each_once;
       right = report.right;
-      run = report.of_run.run;
-      ended = subst IsTrue report.of_run.ended complete.ended;
+      run = subst (IsRun n) all (present_run n h report.of_run.run);
+      ended = subst IsTrue (report.of_run.ended ∙ ap (is_ended n) steps) complete.ended;
       announced = complete.announced;
       lives = complete.lives;
-      tasks = (report.done, report.of_run.done);
-      messages = report.of_run.sent;
+      tasks = (report.done, report.of_run.done ∙ ap (count is_done) steps);
+      messages = report.of_run.sent ∙ ap (count is_send) steps;
     }

@@ -3,3 +3,4 @@ pub mod Lives
 pub mod Places
 pub mod Reports
 pub mod Outcomes
+pub mod Series

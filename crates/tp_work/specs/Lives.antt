@@ -1,7 +1,11 @@
 -- What the events tell of a task's life.
-use Rattle.std.specs.Prelude.{ℕ, zero, suc, ◌==◌, ◌≡◌, List, [], ◌∷◌, Option, Some, None, if◌then◌else◌, nat_lt, slice_index_or}
+use Rattle.std.specs.Prelude.{ℕ, zero, suc, ◌==◌, ◌≡◌, List, [], ◌∷◌, length, map, reverse, Option, Some, None, IsFalse, if◌then◌else◌, nat_lt, slice_index_or}
+use Rattle.std.specs.List.{All}
 use Rattle.tp_base.specs.declared.step.Step.{Step}
 use Rattle.tp_base.specs.declared.step.Step.TheVariants.{Insert, Begin, Done}
+use Rattle.tp_wave.specs.Generations.{ended_generations, present_events}
+use Rattle.tp_wave.specs.Machine.{History, steps_of}
+use Rattle.tp_wave.specs.Steps.{any, count, is_reopen, is_send}
 
 -- The moments of a life in their order: a task is inserted (0), begins (1) and is done (2). A step is one of them for its
 -- task, or none.
@@ -21,9 +25,27 @@ abbrev pub moments : ℕ → List Step → List ℕ
 moments t [] = []
 moments t (s ∷ past) = with_moment t (moment_of s) (moments t past)
 
--- Each task below a number was inserted, then began, and then was done, each once; and no other task ever was.
-abbrev pub LivesOnce : ℕ → List Step → Type 0
-LivesOnce tasks steps = (t : ℕ) → moments t steps ≡ (if nat_lt t tasks then 2 ∷ 1 ∷ 0 ∷ [] else [])
+-- the moments of task t over its life, where there are so many tasks
+abbrev pub life : ℕ → ℕ → List ℕ
+life tasks t = if nat_lt t tasks then 2 ∷ 1 ∷ 0 ∷ [] else []
+
+-- Each task below a number was inserted, then began, and then was done, each once; no other task ever was; and nothing was
+-- reopened.
+pub record LivesOnce (tasks : ℕ) (steps : List Step) : Type 0 where
+  pub each : (t : ℕ) → moments t steps ≡ life tasks t
+  pub one_generation : IsFalse (any is_reopen steps)
+
+-- the events of each generation, the newest first: of the present one, and of those that ended
+abbrev pub generations : History → List History
+generations h = present_events h ∷ ended_generations h
+
+-- Each task below a number lived once in each generation.
+abbrev pub LivesInEach : ℕ → History → Type 0
+LivesInEach tasks h = All (λ g. LivesOnce tasks (steps_of g)) (generations h)
+
+-- how many messages were sent
+abbrev pub sent_in : History → ℕ
+sent_in h = count is_send (steps_of h)
 
 -- the first moments of a life, so many, the newest first
 abbrev pub first_moments : ℕ → List ℕ
@@ -37,3 +59,11 @@ stage stages t = slice_index_or stages t 0
 -- Each task has had so many moments, the first ones.
 abbrev pub AreStages : List Step → List ℕ → Type 0
 AreStages steps stages = (t : ℕ) → moments t steps ≡ first_moments (stage stages t)
+
+-- All events were followed: each task has had these first moments of its life in the present generation, and lived once in
+-- each that ended. The messages of those are counted, the oldest first, and beside them those of the present one.
+pub record IsFollowed (h : History) (stages sent : List ℕ) (messages : ℕ) : Type 0 where
+  pub present : AreStages (steps_of (present_events h)) stages
+  pub ended : All (λ g. LivesOnce (length stages) (steps_of g)) (ended_generations h)
+  pub sent_before : sent ≡ reverse (map sent_in (ended_generations h))
+  pub sent_now : messages ≡ sent_in (present_events h)

@@ -20,3 +20,10 @@ module _ {G : Type 0} where
   -- Each link among n nodes is at its place.
   abbrev pub AreLinksInOrder : ℕ → List (WireState G) → Type 0
   AreLinksInOrder n links = map (λ w. link_place n w.from w.to) links ≡ range_with_len 0 (length links)
+
+  -- All nodes and links of a pool of n nodes, where each node is at its place and of the graph.
+  pub record IsWhole (n : ℕ) (graph : G) (nodes : List (NodeState G)) (links : List (WireState G)) : Type 0 where
+    pub nodes_are : length nodes ≡ n
+    pub links_are : length links ≡ n * (n - 1)
+    pub order : AreInOrder nodes
+    pub of_graph : AreOf graph nodes

@@ -1,6 +1,7 @@
 -- What is gathered of a pool.
-use Rattle.std.specs.Prelude.{ℕ, ◌+◌, ◌≡◌, List, IsTrue, length, sum_by, vec_len}
+use Rattle.std.specs.Prelude.{ℕ, ◌+◌, ◌≡◌, ◌≤◌, List, IsTrue, length, sum_by, vec_len}
 use Rattle.std.specs.List.{All, count_by, flat_map}
+use Rattle.tp_base.specs.declared.limits.TheConstants.{MAX_STEPS}
 use Rattle.tp_board.specs.Numbers.{is_done, is_recv, is_send}
 use Rattle.tp_board.specs.States.{BoardState}
 use Rattle.tp_graph.specs.Graphs.{TaskGraph}
@@ -9,7 +10,8 @@ use Rattle.tp_local.specs.Locals.{pending}
 use Rattle.tp_node.specs.Nodes.{NodeState}
 use Rattle.tp_node.specs.Wires.{WireState}
 use Rattle.tp_wave.specs.Cut.{IsQuiet}
-use Rattle.tp_wave.specs.Machine.{IsRun, pending_at, steps_of, under_way}
+use Rattle.tp_wave.specs.Generations.{AreRuns, present, present_events}
+use Rattle.tp_wave.specs.Machine.{pending_at, steps_of, under_way}
 use Rattle.tp_wave.specs.Steps.{count}
 use Rattle.tp_wave.specs.Sums.{is_ended, total}
 use Rattle.tp_work.specs.declared.gathered.Report.{Report}
@@ -28,25 +30,26 @@ pub record IsGathered {G : Type 0} (nodes : List (NodeState G)) (links : List (W
   pub fault : r.fault ≡ board.fault
   pub history : r.history.events ≡ board.history
 
--- The events are a run on n nodes, and the report has that run's numbers. Where it ended nothing is left.
+-- The events are runs on n nodes, and the report has the numbers of the present generation. Where it ended nothing is left.
 pub record IsOfItsRun (n : ℕ) (r : Report) : Type 0 where
-  pub run : IsRun n r.history.events
-  pub sent : r.sent ≡ count is_send (steps_of r.history.events)
-  pub received : r.received ≡ count is_recv (steps_of r.history.events)
-  pub under : r.under ≡ under_way (steps_of r.history.events)
-  pub done : r.done ≡ count is_done (steps_of r.history.events)
-  pub ended : r.ended ≡ is_ended n (steps_of r.history.events)
-  pub quiet : IsTrue r.ended → IsQuiet n r.history.events
+  pub run : AreRuns n r.history.events
+  pub few : length r.history.events ≤ MAX_STEPS
+  pub sent : r.sent ≡ count is_send (present (steps_of r.history.events))
+  pub received : r.received ≡ count is_recv (present (steps_of r.history.events))
+  pub under : r.under ≡ under_way (present (steps_of r.history.events))
+  pub done : r.done ≡ count is_done (present (steps_of r.history.events))
+  pub ended : r.ended ≡ is_ended n (present (steps_of r.history.events))
+  pub quiet : IsTrue r.ended → IsQuiet n (present_events r.history.events)
 
--- what is pending at each node is the run's number
+-- what is pending at each node is the number of the present generation
 abbrev pub AreOfTheRun : {G : Type 0} → List (NodeState G) → Report → Type 0
-AreOfTheRun nodes r = All (λ n. pending n.state ≡ pending_at n.numbers.node r.history.events) nodes
+AreOfTheRun nodes r = All (λ n. pending n.state ≡ pending_at n.numbers.node (present_events r.history.events)) nodes
 
--- A report of a pool of n nodes, each at its place, that works a graph out: its numbers are those of a run, what was sent less
--- what was received is under way, and its results are values of the graph.
+-- A report of a pool of n nodes, each at its place, that works a graph out: its numbers are those of the present generation,
+-- what was sent less what was received is under way, and its results are values of the graph.
 pub record IsReport (n : ℕ) (g : TaskGraph) (r : Report) : Type 0 where
   pub of_run : IsOfItsRun n r
   pub balance : r.sent ≡ r.received + r.under
-  pub pending : r.pending ≡ total n (λ i. pending_at i r.history.events)
+  pub pending : r.pending ≡ total n (λ i. pending_at i (present_events r.history.events))
   pub done : r.done ≡ vec_len r.results
   pub right : AreRight g r.results.items

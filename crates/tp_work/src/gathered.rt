@@ -1,4 +1,4 @@
-ghost use Rattle.std.specs.Prelude.{◌≡◌, ◌<◌, ◌≤◌, ◌+◌, ◌-◌, ◌*◌, ◌++◌, ◌∷◌, [], IfErr, IfOk, IfSome, length, map, sum_by, vec_capacity, vec_len};
+ghost use Rattle.std.specs.Prelude.{◌≡◌, ◌<◌, ◌≤◌, ◌+◌, ◌-◌, ◌*◌, ◌++◌, ◌∷◌, [], IfErr, IfOk, length, map, sum_by, vec_capacity, vec_len};
 ghost use Rattle.std.specs.List.{All, count_by, flat_map};
 ghost use Rattle.tp_base.specs.declared.refusal.Refusal.TheVariants.{NoMemory};
 ghost use Rattle.tp_graph.specs.Serial.{AreRight};
@@ -11,7 +11,7 @@ use tp_base::{History, Refusal, TaskId};
 use tp_board::{Books, Ledgers, LinkShare, Shares, close_books};
 use tp_graph::{Graph, Value};
 use tp_monitor::TaskpoolState;
-use tp_node::{Node, Pool, Wire};
+use tp_node::{Node, Pool, Wire, count_results};
 
 /// What was gathered of a pool.
 #[derive(Drop)]
@@ -86,17 +86,6 @@ fn room_for<G: Graph, K: Ledgers>(
     })
 }
 
-/// How many results all nodes have, where one list can have so many.
-fn count_results<G: Graph, K: Ledgers>(nodes: &Vec<Node<G, K>>) -> Option<usize>
-    ensures { IfSome result (λ count. count ≡ sum_by (λ n. length n.state.store.results) nodes.now.items) }
-{
-    let mut count = 0usize;
-    for node in nodes {
-        count = count.checked_add(node.results().len())?;
-    }
-    Some(count)
-}
-
 fn gather<G: Graph, K: Ledgers>(pool: Pool<G, K>, room: ReportRoom<K>) -> Report
     requires nodes { vec_len pool.nodes ≡ K.names.nodes }
     requires links { vec_len pool.links ≡ K.names.nodes * (K.names.nodes - 1) }
@@ -119,6 +108,7 @@ fn gather<G: Graph, K: Ledgers>(pool: Pool<G, K>, room: ReportRoom<K>) -> Report
         mut results,
     } = room;
     let _nodes = board.nodes();
+    let _events = board.len();
     let announced = count_told(&nodes);
     take_nodes(nodes, &mut shares, &mut results);
     take_wires(wires, &mut links);

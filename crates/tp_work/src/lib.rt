@@ -10,9 +10,12 @@ mod lives;
 mod locks;
 mod once;
 mod run;
+mod runner;
+mod series;
 mod worker;
 
 pub use config::{Config, Fault, Outcome};
 pub use gate::{Gate, OpenGate};
 pub use gathered::{Report, finish};
 pub use run::run_pool;
+pub use series::{Round, Series, run_generations};

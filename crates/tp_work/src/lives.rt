@@ -1,13 +1,16 @@
-ghost use Rattle.std.specs.Prelude.{◌≡◌, ◌<◌, ◌≤◌, ◌+◌, ◌↔◌, length, map, slice_set, All, IfOk, IfSome, IsFalse, IsTrue, MatchOption, None};
-ghost use Rattle.tp_wave.specs.Machine.{steps_of};
+ghost use Rattle.std.specs.Prelude.{◌≡◌, ◌<◌, ◌≤◌, ◌+◌, ◌↔◌, ◌++◌, ◌∷◌, [], length, map, reverse, slice_set, vec_capacity, vec_len, All, IfOk, IfSome, IsFalse, IsTrue, List, MatchOption, None};
+ghost use Rattle.tp_base.specs.History.{Event};
+ghost use Rattle.tp_base.specs.declared.limits.TheConstants.{MAX_STEPS};
+ghost use Rattle.tp_wave.specs.Machine.{step_of, steps_of};
+ghost use Rattle.tp_wave.specs.Steps.{any, is_reopen};
 ghost use Rattle.tp_work.specs.Lives as lives;
-ghost use Rattle.tp_work.specs.Lives.{AreStages, LivesOnce, stage};
+ghost use Rattle.tp_work.specs.Lives.{AreStages, IsFollowed, LivesInEach, LivesOnce, generations, sent_in, stage};
 
 use std::alloc::{AllocError, Global};
 use tp_base::{History, Step};
 
-/// Whether each of so many tasks was inserted, then began, and then was done, each once, and no other task ever was. It takes
-/// O(tasks + events).
+/// Whether each of so many tasks was inserted, then began, and then was done, each once, no other task ever was, and nothing
+/// was reopened. It takes O(tasks + events).
 pub(crate) fn each_lives(alloc: Global, tasks: u32, history: &History) -> Result<bool, AllocError>
     ensures { IfOk result (λ yes. IsTrue yes ↔ LivesOnce tasks (steps_of history.now.events)) }
 {
@@ -19,11 +22,32 @@ pub(crate) fn each_lives(alloc: Global, tasks: u32, history: &History) -> Result
     Ok(all_over(stages))
 }
 
-/// Follows all events, where each task's moments come in their order and there is a stage for it. Whether that was so is
-/// answered.
+/// How many messages each of so many generations sent, the oldest first, where each of so many tasks lived once in each of
+/// them; `None` where one did not. It takes O(tasks * generations + events).
+pub(crate) fn sent_in_each(
+    alloc: Global,
+    tasks: u32,
+    count: usize,
+    history: &History,
+) -> Result<Option<Vec<u32>>, AllocError>
+    requires few { length history.now.events ≤ MAX_STEPS }
+    requires count { length (generations history.now.events) ≡ count }
+    ensures lives { IfOk result (λ sent. MatchOption sent (LivesInEach tasks history.now.events → ⊥) (λ _. LivesInEach tasks history.now.events)) }
+    ensures sent { IfOk result (λ sent. IfSome sent (λ each. each.items ≡ reverse (map sent_in (generations history.now.events)))) }
+{
+    let mut stages = vec![in alloc; 0u8; tasks as usize]?;
+    let mut sent = Vec::with_capacity(alloc, count)?;
+    if !follow_all(stages.as_mut_slice(), &mut sent, history) {
+        return Ok(None);
+    }
+    Ok(Some(sent))
+}
+
+/// Follows all events, where each task's moments come in their order, there is a stage for it, and nothing is reopened.
+/// Whether that was so is answered.
 fn follow_each(stages: &mut [u8], history: &History) -> bool
     requires { All (λ stage. stage ≡ 0) stages.old }
-    ensures followed { IsTrue result → AreStages (steps_of history.now.events) stages.new }
+    ensures followed { IsTrue result → AreStages (steps_of history.now.events) stages.new × IsFalse (any is_reopen (steps_of history.now.events)) }
     ensures no { IsFalse result → LivesOnce (length stages.old) (steps_of history.now.events) → ⊥ }
 {
     for place in 0..history.len() {
@@ -37,13 +61,61 @@ fn follow_each(stages: &mut [u8], history: &History) -> bool
     true
 }
 
-/// Follows a step, where it is no moment of a task, or the next one of a task that has a stage.
+/// Follows all events through all generations, and puts the messages of each behind one another. Whether each task lived
+/// once in each is answered.
+fn follow_all(stages: &mut [u8], sent: &mut Vec<u32>, history: &History) -> bool
+    requires few { length history.now.events ≤ MAX_STEPS }
+    requires first { All (λ stage. stage ≡ 0) stages.old }
+    requires room { (sent.old.items ≡ []) × (length (generations history.now.events) ≤ vec_capacity sent.old) }
+    ensures lives { IsTrue result ↔ LivesInEach (length stages.old) history.now.events }
+    ensures sent { IsTrue result → sent.new.items ≡ reverse (map sent_in (generations history.now.events)) }
+{
+    let mut messages = 0u32;
+    for place in 0..history.len() {
+        let Some((_, step)) = history.at(place) else {
+            unreachable!()
+        };
+        if !follow_on(stages, sent, &mut messages, step) {
+            return false;
+        }
+    }
+    sent.push_reserved(messages);
+    all_over(stages)
+}
+
+/// Follows a step, from one generation to the next too. Whether each task can still live once in each is answered.
+fn follow_on(stages: &mut [u8], sent: &mut Vec<u32>, messages: &mut u32, step: Step) -> bool
+    requires few { messages.old < MAX_STEPS }
+    requires room { IsTrue (is_reopen step) → vec_len sent.old < vec_capacity sent.old }
+    ensures room { vec_capacity sent.new ≡ vec_capacity sent.old }
+    ensures followed { IsTrue result → (past : List Event) (e : Event) → step_of e ≡ step → IsFollowed past stages.old sent.old.items messages.old → IsFollowed (e ∷ past) stages.new sent.new.items messages.new }
+    ensures no { IsFalse result → (later past : List Event) (e : Event) → step_of e ≡ step → IsFollowed past stages.old sent.old.items messages.old → LivesInEach (length stages.old) (later ++ e ∷ past) → ⊥ }
+{
+    match step {
+        Step::Reopen => {
+            if !all_over(stages) {
+                return false;
+            }
+            clear(stages);
+            sent.push_reserved(*messages);
+            *messages = 0;
+            true
+        }
+        Step::Send(_, _, _, _) => {
+            *messages += 1;
+            true
+        }
+        _ => follow(stages, step),
+    }
+}
+
+/// Follows a step of one generation, where it is no moment of a task, or the next one of a task that has a stage.
 fn follow(stages: &mut [u8], step: Step) -> bool
-    ensures none { lives.moment_of step ≡ None → IsTrue result × (stages.new ≡ stages.old) }
+    ensures none { lives.moment_of step ≡ None → (IsTrue result ↔ IsFalse (is_reopen step)) × (stages.new ≡ stages.old) }
     ensures moment { MatchOption (lives.moment_of step) (Unit {0}) (λ m. (IsTrue result ↔ ((m.0 < length stages.old) × (stage stages.old m.0 ≡ m.1))) × (IsTrue result → stages.new ≡ slice_set stages.old m.0 (m.1 + 1))) }
 {
     match moment_of(step) {
-        None => true,
+        None => !matches!(step, Step::Reopen),
         Some((task, moment)) => advance(stages, task as usize, moment),
     }
 }
@@ -78,4 +150,13 @@ fn all_over(stages: &[u8]) -> bool
     ensures { IsTrue result ↔ All (λ stage. stage ≡ 3) stages.now }
 {
     stages.iter().all(|stage| *stage == 3)
+}
+
+/// No task has had a moment.
+fn clear(stages: &mut [u8])
+    ensures { All (λ stage. stage ≡ 0) stages.new }
+{
+    for stage in stages.iter_mut() {
+        *stage = 0;
+    }
 }

@@ -1,5 +1,4 @@
 ghost use Rattle.std.specs.Prelude.{◌≡◌, ◌≤◌, ◌<◌, ◌+◌, [], IfErr, IfOk, OnOk, vec_capacity, vec_len};
-ghost use Rattle.tp_base.specs.declared.limits.TheConstants.{MAX_STEPS};
 ghost use Rattle.tp_base.specs.declared.refusal.Refusal.TheVariants.{NoMemory, NoNode};
 ghost use Rattle.tp_work.specs.Places as places;
 ghost use Rattle.tp_work.specs.Places.{AreInOrder, AreLinksInOrder, AreOf};
@@ -11,12 +10,12 @@ use std::alloc::{AllocError, Global};
 use std::sync::atomic::{AtomicBool, AtomicU64, Ordering};
 use std::sync::{Mutex, MutexGuard, Wait};
 use tp_base::{NodeId, Refusal};
-use tp_board::{Board, Ledgers};
+use tp_board::{Board, Ended, Ledgers};
 use tp_graph::{Comparable, Graph, is_same};
 use tp_node::{Node, Pool, Wire};
 
-/// The locks of a pool. They are taken in this order: a node's, a link's, the board's. The words beside them are hints,
-/// which save a look under a lock; no contract rests on them.
+/// The locks of a pool. They are taken in this order: a node's, a link's, the board's; the token's is taken alone. The words
+/// beside them are hints, which save a look under a lock; no contract rests on them.
 #[derive(Drop)]
 pub(crate) struct Locks<G: Graph, K: Ledgers> {
     /// The nodes, in rising order.
@@ -25,6 +24,8 @@ pub(crate) struct Locks<G: Graph, K: Ledgers> {
     pub lines: Vec<Line<G, K>>,
     /// The board.
     pub board: Mutex<Board<K>>,
+    /// The token of the end, once each node was told of it.
+    pub token: Mutex<Option<Ended<K>>>,
     /// How many control steps were made.
     pub control_steps: AtomicU64,
     /// Whether a fault was set, or the end was announced to each node.
@@ -102,13 +103,12 @@ impl<N: Drop, W: Drop> Room<N, W> {
 }
 
 impl<G: Graph, K: Ledgers> Locks<G, K> {
-    /// Puts the parts of a pool, which may have as many events as any, under locks, into the room that was made for them.
+    /// Puts the parts of a pool under locks, into the room that was made for them.
     pub fn new(
         alloc: Global,
         pool: Pool<G, K>,
         room: Room<Site<NodeDesk<G, K>>, Line<G, K>>,
     ) -> Self
-        requires limit { pool.board.limit ≡ MAX_STEPS }
         requires nodes { (room.nodes.items ≡ []) × (vec_len pool.nodes ≤ vec_capacity room.nodes) }
         requires links { (room.links.items ≡ []) × (vec_len pool.links ≤ vec_capacity room.links) }
         ensures nodes { vec_len result.sites ≡ vec_len pool.nodes }
@@ -129,6 +129,7 @@ impl<G: Graph, K: Ledgers> Locks<G, K> {
             sites,
             lines,
             board: Mutex::new(board),
+            token: Mutex::new(None),
             control_steps: AtomicU64::new(0),
             is_stopped: AtomicBool::new(false),
         }
@@ -155,17 +156,19 @@ impl<G: Graph, K: Ledgers> Locks<G, K> {
         }
     }
 
-    /// Takes the parts out of their locks, into the room that was made for them.
-    pub fn into_pool(self, room: Room<Node<G, K>, Wire<G, K>>) -> Pool<G, K>
+    /// Takes the parts out of their locks, into the room that was made for them, and the token of the end, where it lies
+    /// there.
+    pub fn into_pool(self, room: Room<Node<G, K>, Wire<G, K>>) -> (Pool<G, K>, Option<Ended<K>>)
         requires nodes { (room.nodes.items ≡ []) × (vec_len self.sites ≤ vec_capacity room.nodes) }
         requires links { (room.links.items ≡ []) × (vec_len self.lines ≤ vec_capacity room.links) }
-        ensures nodes { vec_len result.nodes ≡ vec_len self.sites }
-        ensures links { vec_len result.links ≡ vec_len self.lines }
+        ensures nodes { vec_len result.0.nodes ≡ vec_len self.sites }
+        ensures links { vec_len result.0.links ≡ vec_len self.lines }
     {
         let Locks {
             sites,
             lines,
             board,
+            token,
             control_steps: _,
             is_stopped: _,
         } = self;
@@ -175,20 +178,20 @@ impl<G: Graph, K: Ledgers> Locks<G, K> {
         } = room;
         unlock_nodes(sites, &mut nodes);
         unlock_links(lines, &mut links);
-        Pool {
+        let pool = Pool {
             nodes,
             links,
             board: board.into_inner(),
-        }
+        };
+        (pool, token.into_inner())
     }
 }
 
-/// Puts the parts of a pool, which may have as many events as any, under locks, and makes room to take them out again.
+/// Puts the parts of a pool under locks, and makes room to take them out again.
 pub(crate) fn lock_pool<G: Graph, K: Ledgers>(
     alloc: Global,
     pool: Pool<G, K>,
 ) -> Result<(Locks<G, K>, Room<Node<G, K>, Wire<G, K>>), Refusal>
-    requires limit { pool.board.limit ≡ MAX_STEPS }
     ensures nodes { IfOk result (λ r. (vec_len r.0.sites ≡ vec_len pool.nodes) × (r.1.nodes.items ≡ []) × (vec_len r.0.sites ≤ vec_capacity r.1.nodes)) }
     ensures links { IfOk result (λ r. (vec_len r.0.lines ≡ vec_len pool.links) × (r.1.links.items ≡ []) × (vec_len r.0.lines ≤ vec_capacity r.1.links)) }
     ensures refusal { IfErr result (λ e. e ≡ NoMemory) }

@@ -1,25 +1,21 @@
-ghost use Rattle.std.specs.Prelude.{◌≡◌, ◌≤◌, ◌↔◌, ◌*◌, ◌-◌, length, vec_len, IfErr, IfOk, IsTrue, MatchOption, None, Some};
+ghost use Rattle.std.specs.Prelude.{◌≡◌, ◌↔◌, length, IfErr, IfOk, IsTrue, MatchOption, None, Some};
 ghost use Rattle.tp_work.specs.Outcomes.{HasEachOnce, IsAnswer, IsComplete, IsFault, IsLack, IsOutcome, IsUngathered, IsWithinLimits};
 ghost use Rattle.tp_wave.specs.Machine.{steps_of};
 ghost use Rattle.tp_work.specs.Lives.{LivesOnce};
 ghost use Rattle.tp_work.specs.Reports.{IsReport};
 
 use crate::config::{Config, Fault, Outcome};
-use crate::desk::Share;
 use crate::gate::Gate;
-use crate::gathered::{Report, finish};
+use crate::gathered::Report;
 use crate::lives::each_lives;
-use crate::locks::{Locks, check_places, lock_pool};
 use crate::once::each_once;
-use crate::worker::{Worker, set_fault};
+use crate::runner::Runner;
 use std::alloc::{AllocError, Global};
 use std::sync::Wait;
-use std::thread;
 use std::thread::Threads;
-use tp_base::{MAX_STEPS, NodeId, Refusal};
+use tp_base::{MAX_STEPS, Refusal};
 use tp_board::{Blanks, Brand, Ledgers};
 use tp_graph::{Comparable, Graph, Named, Only};
-use tp_node::{Pool, open_pool};
 
 /// Runs a pool that works a graph out, by so many threads at each node, and gathers what it has made when all have ended.
 ///
@@ -44,34 +40,27 @@ pub fn run_pool<G: Graph, A: Gate, R: Threads + Wait + Sync>(
 }
 
 /// Runs a pool over the one graph that `D` names, so that no two parts of it have to be compared.
-fn run_only<G: Graph, D: Named<G> + Send + Sync, A: Gate, R: Threads + Wait + Sync>(
-    rt: &R,
+fn run_only<'a, G: Graph, D: Named<G> + Send + Sync, A: Gate, R: Threads + Wait + Sync>(
+    rt: &'a R,
     alloc: Global,
     graph: G,
     config: Config,
-    gate: &A,
+    gate: &'a A,
 ) -> Result<Outcome, Fault>
     requires it { D.it ≡ Some graph }
     requires limits { IsWithinLimits config }
     ensures outcome { IfOk result (IsOutcome config.nodes (G.meaning graph)) }
     ensures fault { IfErr result (IsFault config.nodes (G.meaning graph)) }
 {
-    run_compared(rt, alloc, Only::<G, D>::new(graph), config, gate)
-}
-
-fn run_compared<G: Comparable, A: Gate, R: Threads + Wait + Sync>(
-    rt: &R,
-    alloc: Global,
-    graph: G,
-    config: Config,
-    gate: &A,
-) -> Result<Outcome, Fault>
-    requires limits { IsWithinLimits config }
-    ensures outcome { IfOk result (IsOutcome config.nodes (G.meaning graph)) }
-    ensures fault { IfErr result (IsFault config.nodes (G.meaning graph)) }
-{
+    let runner = Runner {
+        rt,
+        alloc,
+        graph: Only::<G, D>::new(graph),
+        config,
+        gate,
+    };
     let blanks = Blanks::new(config.nodes);
-    let report = match run::<G, Brand, A, R>(rt, alloc, blanks, graph, config, gate) {
+    let report = match run::<Only<G, D>, Brand, A, R>(&runner, blanks) {
         Ok(report) => report,
         Err(refusal) => {
             return Err(Fault {
@@ -107,7 +96,7 @@ fn refusal_of(alloc: Global, nodes: u32, tasks: u32, report: &Report) -> Option<
 }
 
 /// What a fault is answered by, after so many events.
-fn answer_to(fault: Refusal, events: usize) -> Refusal
+pub(crate) fn answer_to(fault: Refusal, events: usize) -> Refusal
     ensures { IsAnswer events fault result }
 {
     let Refusal::HistoryFull(_) = fault else {
@@ -142,79 +131,15 @@ fn is_made_once(alloc: Global, tasks: u32, report: &Report) -> Result<bool, Allo
 
 /// Opens a pool, runs it, and gathers it when all its threads have ended.
 fn run<G: Comparable, K: Ledgers + Send + Sync, A: Gate, R: Threads + Wait + Sync>(
-    rt: &R,
-    alloc: Global,
+    runner: &Runner<'_, G, A, R>,
     blanks: Blanks,
-    graph: G,
-    config: Config,
-    gate: &A,
 ) -> Result<Report, Refusal>
     requires names { blanks ≡ K.names }
-    requires nodes { blanks.nodes ≡ config.nodes }
-    requires limits { IsWithinLimits config }
-    ensures report { IfOk result (IsReport config.nodes (G.meaning graph)) }
+    requires nodes { blanks.nodes ≡ runner.now.config.nodes }
+    requires limits { IsWithinLimits runner.now.config }
+    ensures report { IfOk result (IsReport runner.now.config.nodes (G.meaning runner.now.graph)) }
     ensures refusal { IfErr result IsUngathered }
 {
-    let pool = open_pool::<G, K>(alloc, blanks, graph, config.nodes, MAX_STEPS)?;
-    let (locks, room) = lock_pool(alloc, pool)?;
-    start_workers(rt, alloc, graph, config, &locks, gate);
-    report_of(alloc, &graph, locks.into_pool(room))
-}
-
-/// Gathers a pool, where each of its parts is at its place.
-fn report_of<G: Comparable, K: Ledgers>(
-    alloc: Global,
-    graph: &G,
-    pool: Pool<G, K>,
-) -> Result<Report, Refusal>
-    requires nodes { vec_len pool.nodes ≡ K.names.nodes }
-    requires links { vec_len pool.links ≡ K.names.nodes * (K.names.nodes - 1) }
-    ensures report { IfOk result (IsReport K.names.nodes (G.meaning graph.now)) }
-    ensures refusal { IfErr result IsUngathered }
-{
-    check_places(&pool, graph)?;
-    match finish(alloc, pool) {
-        Ok(report) => Ok(report),
-        Err((refusal, _)) => Err(refusal),
-    }
-}
-
-/// Starts all workers, and waits for them. Where one cannot be started, that is the pool's fault.
-fn start_workers<G: Comparable, K: Ledgers + Send + Sync, A: Gate, R: Threads + Wait + Sync>(
-    rt: &R,
-    alloc: Global,
-    graph: G,
-    config: Config,
-    locks: &Locks<G, K>,
-    gate: &A,
-)
-    requires limits { IsWithinLimits config }
-{
-    let all = config.nodes * config.workers;
-    let nodes = config.nodes;
-    let first = Worker {
-        rt,
-        alloc,
-        graph,
-        place: NodeId(0),
-        share: Share::new(config.nodes, config.workers),
-        idle_turns: config.idle_turns,
-        locks,
-        gate,
-    };
-    thread::scope(
-        thread::scope_env(),
-        rt,
-        |scope|
-            requires { 1 ≤ nodes }
-        {
-            for number in 0..all {
-                let worker = first.at(NodeId(number % nodes));
-                if scope.spawn(move || worker.run()).is_err() {
-                    set_fault(first.rt, first.locks, Refusal::NoMemory);
-                    break;
-                }
-            }
-        },
-    );
+    let pool = runner.open::<K>(blanks)?;
+    runner.run_last(pool, 1)
 }

@@ -294,7 +294,7 @@ impl<'a, G: Comparable, K: Ledgers, A: Gate, R: Wait> Worker<'a, G, K, A, R> {
         Ok(())
     }
 
-    /// Announces the end to each node.
+    /// Announces the end to each node, and then puts the token of the end into the locks.
     fn announce(&self, ended: Ended<K>) -> Result<(), Refusal> {
         let mut ended = ended;
         for place in 0..MAX_NODES {
@@ -303,6 +303,7 @@ impl<'a, G: Comparable, K: Ledgers, A: Gate, R: Wait> Worker<'a, G, K, A, R> {
             };
             self.announce_at(site, NodeId(place), &mut ended)?;
         }
+        *lock_soon(self.rt, &self.locks.token) = Some(ended);
         self.locks.stop();
         Ok(())
     }

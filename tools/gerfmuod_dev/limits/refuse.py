@@ -80,6 +80,7 @@ def commands_of_tp(tp, folder):
         "run reduce:4:0, two nodes by two workers": "run reduce:4:0 --nodes 2 --workers 2",
         "run product:8:2:0, three nodes by two workers": "run product:8:2:0 --nodes 3 --workers 2",
         "run wavefront:40:30:0, one node": "run wavefront:40:30:0",
+        "run reduce:4:0 --generations 3, two nodes": "run reduce:4:0 --generations 3 --nodes 2",
     }
     if running.has_traces(tp):
         runs["run reduce:64:0 --trace"] = "run reduce:64:0 --trace"

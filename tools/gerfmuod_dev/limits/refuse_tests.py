@@ -27,6 +27,8 @@ TESTS = [
     "memory::a_node_refused_memory_is_as_before",
     "refused_runs::a_run_at_one_node_is_refused_memory_and_runs_again",
     "refused_runs::a_run_at_two_nodes_is_refused_memory_and_runs_again",
+    "reopened::a_pool_is_reopened_and_runs_again",
+    "refused_runs::a_series_is_refused_memory_and_runs_again",
     "refused_runs::a_registry_is_refused_memory_and_runs_again",
     "refused_runs::texts_are_refused_memory_and_answered_again",
     "refused_runs::the_program_is_refused_memory_and_answers_again",

@@ -172,6 +172,7 @@ def words_and_pools(trial):
     came = running.run([trial.tp, "run", "product:64:1:0"])
     last = b"".join(came.out.splitlines(keepends=True)[-3:])
     trial.judge("product:64:1:0 at one node", Answer(0, b"tasks 262144\nmessages 0\nended\n", b""), came._replace(out=last))
+    trial.answers("product:54:1:0 in three generations", HISTORY_FULL, os.devnull, "run", "product:54:1:0", "--generations", "3")
 
 
 def threads(trial):

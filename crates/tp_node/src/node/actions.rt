@@ -79,8 +79,9 @@ impl<G: Graph, K: Ledgers> Node<G, K> {
         Ok(())
     }
 
-    /// The end of the pool is announced to the node. Nothing is pending: each task that was ever inserted here is done, and
-    /// has its one result. Nothing else changes, and it takes no memory.
+    /// The end of the pool's present generation is announced to the node, which may have been told before. Nothing is
+    /// pending: each task that was inserted here in that generation is done, and has its one result. Nothing else changes, and
+    /// it takes no memory.
     pub fn quiet_under(&mut self, ended: &mut Ended<K>, board: &mut Board<K>)
         ensures board { board.new ≡ board.old }
         ensures over { self.new ≡ over self.old }

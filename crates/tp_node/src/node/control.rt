@@ -13,8 +13,8 @@ use tp_turns::{Turn, make_first};
 impl<G: Graph, K: Ledgers> Node<G, K> {
     /// Makes the first step of the control waves that is lawful for this node, in the order judge, start, down, up of the
     /// lower child, up of the higher child, give. The root alone judges and starts the waves. A node with something pending
-    /// starts no wave and gives nothing. It answers `Idle` where no step is lawful, and `Over` with the one token of the end
-    /// where it judged that the pool has ended. After a fault of the board it makes none: it answers `Idle`, and no end is
+    /// starts no wave and gives nothing. It answers `Idle` where no step is lawful, and `Over` with the one token of the present
+    /// generation's end where it judged that the pool has ended. After a fault of the board it makes none: it answers `Idle`, and no end is
     /// judged.
     ///
     /// The waves are those of the four counter method of F. Mattern, "Algorithms for Distributed Termination Detection" (1987).

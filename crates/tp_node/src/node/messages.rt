@@ -6,9 +6,10 @@ ghost use Rattle.tp_store.specs.Content.{refusal_of_deliver};
 ghost use Rattle.tp_board.specs.Calls.{Answers, AnswersWith, Appends};
 ghost use Rattle.tp_node.specs.Calls.{Receives, Rests};
 ghost use Rattle.tp_node.specs.Feeds.{HasFeed, next_feed_of, next_home, passed_on};
-ghost use Rattle.tp_node.specs.Nodes.{HasBrought, after, delivered_with, ending, event_of, putting_at, with_actions, with_sent};
+ghost use Rattle.tp_node.specs.Nodes.{HasBrought, after, delivered_with, ending_of, event_of, putting_at, with_actions, with_sent};
 ghost use Rattle.tp_node.specs.Refused.{deliver_checks, message_checks, receive_checks, send_checks};
-ghost use Rattle.tp_node.specs.Wires.{message_on, with_message};
+ghost use Rattle.tp_node.specs.Wires.{generation_of, message_on, with_message};
+ghost use Rattle.tp_wave.specs.Generations.{present};
 ghost use Rattle.tp_wave.specs.Machine.{is_send_to, steps_of};
 ghost use Rattle.tp_wave.specs.Steps.{any, count};
 ghost use Rattle.tp_base.specs.Checks.{first_refusal};
@@ -17,13 +18,13 @@ use crate::node::Node;
 use crate::node::tasks::make_room;
 use crate::wire::Wire;
 use crate::work::Finished;
-use tp_base::{Generation, MessageId, Refusal, Step};
+use tp_base::{MessageId, Refusal};
 use tp_board::{Board, Ledgers};
 use tp_graph::{Comparable, Feed, Graph, Message, Parcel};
 
 impl<G: Graph, K: Ledgers> Node<G, K> {
     /// Passes the next feed of a task that runs here on to the node at the end of a wire. The number of the message is
-    /// answered: how many messages were sent before it.
+    /// answered: how many messages were sent before it in the present generation, which the message carries.
     ///
     /// Refused: `WrongLife` where the finished task does not run here; `HistoryFull` where the history has reached its
     /// limit; `NoMemory`.
@@ -37,10 +38,10 @@ impl<G: Graph, K: Ledgers> Node<G, K> {
         requires next { HasFeed (G.meaning self.old.graph) finished.old }
         requires from_here { wire.old.from ≡ self.old.numbers.node }
         requires there { next_home (G.meaning self.old.graph) finished.old self.old.nodes ≡ wire.old.to }
-        ensures number { IfOk result (λ m. m.0 ≡ count is_send (steps_of board.old.history)) }
-        ensures event { IfOk result (λ m. Appends (event_of self.old (sending self.old.numbers.node wire.old.to m.0) ∷ []) board.old board.new) }
-        ensures sent { IfOk result (λ m. self.new ≡ after (sending self.old.numbers.node wire.old.to m.0) (with_sent self.old.state) self.old) }
-        ensures last { IfOk result (λ m. wire.new ≡ with_message (message_on wire.old self.old.graph m.0 (next_feed_of (G.meaning self.old.graph) finished.old) finished.old.value) wire.old) }
+        ensures number { IfOk result (λ m. m.0 ≡ count is_send (present (steps_of board.old.history))) }
+        ensures event { IfOk result (λ m. Appends (event_of self.old (sending (generation_of board.old) self.old.numbers.node wire.old.to m.0) ∷ []) board.old board.new) }
+        ensures sent { IfOk result (λ m. self.new ≡ after (sending (generation_of board.old) self.old.numbers.node wire.old.to m.0) (with_sent self.old.state) self.old) }
+        ensures last { IfOk result (λ m. wire.new ≡ with_message (message_on wire.old self.old.graph (generation_of board.old) m.0 (next_feed_of (G.meaning self.old.graph) finished.old) finished.old.value) wire.old) }
         ensures passed { OnOk result (finished.new ≡ passed_on finished.old) }
         ensures refusal { Answers (send_checks self.old board.old finished.old.task) result }
         ensures refused { OnErr result (Appends [] board.old board.new × (self.new ≡ self.old) × (wire.new ≡ wire.old) × (finished.new ≡ finished.old)) }
@@ -59,7 +60,8 @@ impl<G: Graph, K: Ledgers> Node<G, K> {
     }
 
     /// Delivers the value of a received message, whose action is open with this feed, to its task, which lives here and is
-    /// inserted where it is unknown and else supplied, and then closes the action of the message: two events.
+    /// inserted where it is unknown and else supplied, and then closes the action of the message: two events. The closing is
+    /// of the present generation, also where the parcel is of an earlier one whose number is open again with this feed.
     ///
     /// Refused: `TaskKnown` where the target has begun or is done; `SlotTaken` where its slot has its value; `HistoryFull`
     /// where fewer than two more events may be; `StoreFull` where the target is unknown and 65,536 tasks are not done;
@@ -71,8 +73,8 @@ impl<G: Graph, K: Ledgers> Node<G, K> {
     ) -> Result<(), (Refusal, Parcel<G>)>
         requires graph { parcel.graph ≡ self.old.graph }
         requires brought { HasBrought (G.meaning self.old.graph) self.old parcel }
-        ensures events { OnOk result (Appends (event_of self.old (ending parcel.number.0 self.old) ∷ event_of self.old (putting_at (G.meaning self.old.graph) parcel.feed self.old) ∷ []) board.old board.new) }
-        ensures delivered { OnOk result (self.new ≡ delivered_with (G.meaning self.old.graph) parcel.feed parcel.value parcel.number.0 self.old) }
+        ensures events { OnOk result (Appends (event_of self.old (ending_of (generation_of board.old) parcel.number.0 self.old) ∷ event_of self.old (putting_at (G.meaning self.old.graph) parcel.feed self.old) ∷ []) board.old board.new) }
+        ensures delivered { OnOk result (self.new ≡ delivered_with (G.meaning self.old.graph) parcel.feed parcel.value (generation_of board.old) parcel.number.0 self.old) }
         ensures refusal { AnswersWith (deliver_checks (G.meaning self.old.graph) self.old board.old parcel.feed) parcel result }
         ensures refused { OnErr result (Appends [] board.old board.new × (self.new ≡ self.old)) }
     {
@@ -81,15 +83,16 @@ impl<G: Graph, K: Ledgers> Node<G, K> {
         if let Err(refusal) = self.room_to_deliver(board, feed) {
             return Err((refusal, parcel));
         }
-        let (graph, number) = (parcel.graph(), parcel.number());
-        let (from, to) = (parcel.from(), parcel.to());
+        let (graph, from, to) = (parcel.graph(), parcel.from(), parcel.to());
+        let (number, generation) = (parcel.number(), parcel.generation());
         match self.put(board, feed, parcel.into_value()) {
             Ok(()) => {
                 self.end(board, number);
                 Ok(())
             }
             Err((refusal, value)) => {
-                Err((refusal, Parcel::new(graph, number, from, to, feed, value)))
+                let parcel = Parcel::new(graph, number, generation, from, to, feed, value);
+                Err((refusal, parcel))
             }
         }
     }
@@ -100,8 +103,9 @@ impl<G: Comparable, K: Ledgers> Node<G, K> {
     /// It answers `None` where the wire is empty.
     ///
     /// Refused, where there is a message, which stays: `WrongLife` where the end was announced; `Stranger` where the message
-    /// is of another graph, where the board never gave its number to this pair of nodes, and where the action of that number
-    /// is open here; `HistoryFull` where the history has reached its limit; `NoMemory`.
+    /// is of another graph or of another generation, where the board never gave its number to this pair of nodes in the
+    /// present generation, and where the action of that number is open here; `HistoryFull` where the history has reached its
+    /// limit; `NoMemory`.
     pub fn receive(
         &mut self,
         wire: &mut Wire<G, K>,
@@ -111,7 +115,7 @@ impl<G: Comparable, K: Ledgers> Node<G, K> {
         ensures none { wire.old.messages ≡ [] → result ≡ Ok None }
         ensures received { IfOk result (λ parcel. MatchOption parcel ((wire.old.messages ≡ []) × Rests self.old self.new board.old board.new × (wire.new ≡ wire.old)) (Receives self.old self.new board.old board.new wire.old wire.new)) }
         ensures brought { IfOk result (λ parcel. MatchOption parcel (Unit {0}) (HasBrought (G.meaning self.new.graph) self.new)) }
-        ensures refusal { MatchOption (slice_get wire.old.messages 0) (Unit {0}) (λ m. Answers (receive_checks self.old board.old wire.old (G.eq m.graph self.old.graph) m.number) result) }
+        ensures refusal { MatchOption (slice_get wire.old.messages 0) (Unit {0}) (λ m. Answers (receive_checks self.old board.old wire.old (G.eq m.graph self.old.graph) m) result) }
         ensures refused { OnErr result (Appends [] board.old board.new × (self.new ≡ self.old) × (wire.new ≡ wire.old)) }
     {
         let Some(message) = wire.front() else {
@@ -134,9 +138,10 @@ impl<G: Comparable, K: Ledgers> Node<G, K> {
         board: &Board<K>,
         message: &Message<G>,
     ) -> Result<(), Refusal>
-        ensures refusal { MatchOption (first_refusal (message_checks self.now board.now wire.now (G.eq message.now.graph self.now.graph) message.now.number)) (result ≡ Ok tt) (λ e. result ≡ Err e) }
+        ensures refusal { MatchOption (first_refusal (message_checks self.now board.now wire.now (G.eq message.now.graph self.now.graph) message.now)) (result ≡ Ok tt) (λ e. result ≡ Err e) }
         ensures graph { OnOk result (message.now.graph ≡ self.now.graph) }
-        ensures sent { OnOk result (IsTrue (any (is_send_to wire.now.to message.now.number.0) (steps_of board.now.history))) }
+        ensures generation { OnOk result (message.now.generation.0 ≡ generation_of board.now) }
+        ensures sent { OnOk result (IsTrue (any (is_send_to wire.now.to message.now.number.0) (present (steps_of board.now.history)))) }
         ensures closed { OnOk result ((self.now.state.ended ≡ false) × (has_message self.now.state.actions message.now.number.0 ≡ false)) }
     {
         if self.local.is_over() {
@@ -144,8 +149,9 @@ impl<G: Comparable, K: Ledgers> Node<G, K> {
         }
         let number = message.number();
         let is_same = message.graph() == self.graph;
+        let is_present = message.generation() == board.generation();
         let was_given = board.gave(wire.from(), wire.to(), number);
-        if !is_same || !was_given || self.local.has_message(number) {
+        if !is_same || !is_present || !was_given || self.local.has_message(number) {
             return Err(Refusal::Stranger);
         }
         Ok(())
@@ -172,12 +178,11 @@ impl<G: Graph, K: Ledgers> Node<G, K> {
         requires reserved { 0 < board.old.reserved }
         requires few { message.0 < 1048576 }
         requires open { IsTrue (has_message self.old.state.actions message.0) }
-        ensures event { Appends (event_of self.old (ending message.0 self.old) ∷ []) board.old board.new }
-        ensures ended { self.new ≡ after (ending message.0 self.old) (with_actions (without_message self.old.state.actions message.0) self.old.state) self.old }
+        ensures event { Appends (event_of self.old (ending_of (generation_of board.old) message.0 self.old) ∷ []) board.old board.new }
+        ensures ended { self.new ≡ after (ending_of (generation_of board.old) message.0 self.old) (with_actions (without_message self.old.state.actions message.0) self.old.state) self.old }
     {
         let _is_open = self.local.has_message(message);
-        let step = Step::MessageEnd(self.shares.node(), message, Generation(1));
-        let Ok(()) = board.append(step, &mut self.shares) else {
+        let Ok(()) = board.append_end(message, &mut self.shares) else {
             unreachable!()
         };
         let Ok(()) = self.local.end(message) else {

@@ -86,7 +86,9 @@ impl<G: Graph, K: Ledgers> Node<G, K> {
         }
     }
 
-    /// A task that runs here, and whose feeds were all passed on, is done. Its value goes to the end of the results.
+    /// A task that runs here, and whose feeds were all passed on, is done. Its value goes to the end of the results. A
+    /// finished task that outlives its generation is taken where its task runs again in a later one: its value is the right
+    /// one, and its feeds count as passed on.
     ///
     /// Refused: `WrongLife` where the task does not run here; `HistoryFull` where the history has reached its limit;
     /// `NoMemory`. The finished task comes back then.

@@ -1,5 +1,6 @@
 use Rattle.std.specs.Prelude.{◌≡◌, ◌+◌, ◌*◌, ◌≤◌, vec_len, sum_by}
 use Rattle.std.specs.List.{All}
+use Rattle.tp_wave.specs.Generations.{present_events}
 use Rattle.tp_wave.specs.Machine.{pending_at}
 use Rattle.tp_ledgers.specs.Numbers.{NodeNumbers}
 use Rattle.tp_board.proofs.books.gather.Given as goal
@@ -14,7 +15,7 @@ invariant-loop-next g l =
       done : l.parts.done + sum_by (λ (s : NodeNumbers). s.done) l.others.items ≡ sum_by (λ (s : NodeNumbers). s.done) l.fn.others.items + l.fn.first.done;
       pending : l.pending + sum_by (λ (s : NodeNumbers). s.pending) l.others.items ≡ sum_by (λ (s : NodeNumbers). s.pending) l.fn.others.items + l.fn.first.pending;
       small : l.pending + vec_len l.others * 1048577 ≤ 8 * 1048577;
-      agree : All (λ (s : NodeNumbers). s.pending ≡ pending_at s.node l.fn.board.history) l.others.items → All (λ (s : NodeNumbers). s.pending ≡ pending_at s.node l.fn.board.history) l.fn.others.items;
+      agree : All (λ (s : NodeNumbers). s.pending ≡ pending_at s.node (present_events l.fn.board.history)) l.others.items → All (λ (s : NodeNumbers). s.pending ≡ pending_at s.node (present_events l.fn.board.history)) l.fn.others.items;
     }
 
 abbrev pub decreases-loop-next : goal.decreases-loop-next

@@ -13,8 +13,7 @@ returns-in-Ok-Run-clause-succeeded g c = λ zero.
       did.0,
       inl (
         did.1.0,
-        inr (inl (run_text (map (λ w. w.now) c.args.words.now) c.in-Ok-Run.spec.now c.in-Ok-Run.config.nodes c.in-Ok-Run.config.workers
-            c.in-Ok-Run.form _ asked.0 asked.2 asked.3 did.1.1)),
+        inr (inl (run_text (map (λ w. w.now) c.args.words.now) c.in-Ok-Run.spec.now c.in-Ok-Run.plan _ asked did.1.1)),
         did.1.2,
       ),
     )
@@ -26,8 +25,7 @@ returns-in-Ok-Run-clause-complained g c = λ one.
     elim (c.run_named-status.ensures.fault fault) [
       | inl made ↦ inl (inr (inl (
         made.0,
-        run_text (map (λ w. w.now) c.args.words.now) c.in-Ok-Run.spec.now c.in-Ok-Run.config.nodes c.in-Ok-Run.config.workers
-            c.in-Ok-Run.form _ asked.0 asked.2 asked.3 made.1,
+        run_text (map (λ w. w.now) c.args.words.now) c.in-Ok-Run.spec.now c.in-Ok-Run.plan _ asked made.1,
       )))
       | inr vain ↦ inr (vain.0, inr (inl (c.in-Ok-Run.spec.now, asked.0, vain.1)))
     ]

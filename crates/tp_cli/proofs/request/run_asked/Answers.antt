@@ -7,4 +7,10 @@ pub returns : goal.returns
 returns c =
     let found = found_of c.args.arguments.now in
     let spec = sym (first_value-rows found (codes "SPEC")) ∙ sym c.in_ok-spec.ensures in
-    ((rows_of found, refl, spec), c.config_of.ensures.limits, (rows_of found, refl, c.config_of.ensures.asked), (rows_of found, refl, c.form_of.ensures))
+    let plan = c.plan_of.ensures in (
+      (rows_of found, refl, spec),
+      plan.lawful,
+      (rows_of found, refl, plan.counts),
+      (rows_of found, refl, plan.generations),
+      (rows_of found, refl, plan.form),
+    )

@@ -11,15 +11,15 @@ pub returns-clause-ran : goal.returns-clause-ran
 returns-clause-ran g c =
     let named : c.args.spec.now ≡ word_of c.in_ok-graph.graph = search rules in
     let was : c.text_of_run.result ≡ Ok c.in_ok-text.text = search rules in
-    let made = IfOk-at_ok (λ text. IsTextOf c.args.form c.in_ok-graph.graph c.args.config.nodes text.items) was c.text_of_run.ensures.text in
-    let text : IsTextOf c.args.form c.in_ok-graph.graph c.args.config.nodes c.deref.result.now = rw c.deref.ensures.value made in
+    let made = IfOk-at_ok (λ text. IsTextOf c.args.plan.form c.in_ok-graph.graph c.args.plan.config.nodes c.args.plan.generations text.items) was c.text_of_run.ensures.text in
+    let text : IsTextOf c.args.plan.form c.in_ok-graph.graph c.args.plan.config.nodes c.args.plan.generations c.deref.result.now = rw c.deref.ensures.value made in
     on_ok_weaker c.write_text.result (λ written. (c.deref.result.now, (c.in_ok-graph.graph, named, text), written)) c.write_text.ensures.ok
 
 pub returns-clause-made : goal.returns-clause-made
 returns-clause-made g c =
     let named : c.args.spec.now ≡ word_of c.in_ok-graph.graph = search rules in
     let was : c.text_of_run.result ≡ Ok c.in_ok-text.text = search rules in
-    let text = IfOk-at_ok (λ text. IsTextOf c.args.form c.in_ok-graph.graph c.args.config.nodes text.items) was c.text_of_run.ensures.text in
+    let text = IfOk-at_ok (λ text. IsTextOf c.args.plan.form c.in_ok-graph.graph c.args.plan.config.nodes c.args.plan.generations text.items) was c.text_of_run.ensures.text in
     IfErr-each c.write_text.result _ (λ fault is same. (c.in_ok-text.text.items, (c.in_ok-graph.graph, named, text)))
 
 pub returns-in_err-text-clause-refused : goal.returns-in_err-text-clause-refused
@@ -29,7 +29,7 @@ returns-in_err-text-clause-refused g c =
     let was : c.text_of_run.result ≡ Err refusal = search rules in (
       c.in_ok-graph.graph,
       named,
-      IfErr-at_err (λ r. IsWithoutText c.args.form c.in_ok-graph.graph c.args.config.nodes r) was c.text_of_run.ensures.none,
+      IfErr-at_err (λ r. IsWithoutText c.args.plan.form c.in_ok-graph.graph c.args.plan.config.nodes c.args.plan.generations r) was c.text_of_run.ensures.none,
     ))
 
 pub returns-in_err-graph-clause-unnamed : goal.returns-in_err-graph-clause-unnamed

@@ -3,6 +3,7 @@ use Rattle.std.proofs.lemmas.Result.{err_from_is_err_and}
 use Rattle.tp_board.specs.States.{BoardState}
 use Rattle.tp_turns.proofs.Turns.{at_error, at_first, at_root, then_next, unchanged}
 use Rattle.tp_turns.proofs.turn.lead.Goals as goal
+use Rattle.tp_wave.specs.Generations.{present_events}
 use Rattle.tp_wave.specs.Machine.{pending_at}
 
 pub returns-in_err-turn : goal.returns-in_err-turn
@@ -14,7 +15,7 @@ pub returns-in_default : goal.returns-in_default
 returns-in_default g c = at_first c.in_ok-turn.ensures c.in_default.not-Idle
 
 pub start-requires-clause-pending : goal.start-requires-clause-pending
-start-requires-clause-pending g c = c.requires.pending ∙ ap (λ (b : BoardState). pending_at 0 b.history) (sym (unchanged c.in_ok-turn.ensures c.in-Idle.is))
+start-requires-clause-pending g c = c.requires.pending ∙ ap (λ (b : BoardState). pending_at 0 (present_events b.history)) (sym (unchanged c.in_ok-turn.ensures c.in-Idle.is))
 
 pub returns-in_err-turn-2 : goal.returns-in_err-turn-2
 returns-in_err-turn-2 g c =

@@ -4,6 +4,7 @@ use Rattle.std.specs.List.{All, count_by}
 use Rattle.tp_board.specs.Numbers.{LinkNumbers, NodeNumbers}
 use Rattle.tp_node.specs.Nodes.{NodeState, counted_of}
 use Rattle.tp_node.specs.Wires.{link_of}
+use Rattle.tp_wave.specs.Generations.{present_events}
 use Rattle.tp_wave.specs.Machine.{pending_at}
 use Rattle.tp_work.proofs.Gathering.{All-of_map, done_by, sum_by-map}
 use Rattle.tp_work.proofs.gathered.gather.Goals as goal
@@ -26,7 +27,7 @@ returns-clause-gathered g c =
 
 pub returns-clause-each_node : goal.returns-clause-each_node
 returns-clause-each_node g c =
-    let each : All (λ s. s.pending ≡ pending_at s.node c.close_books-totals.result.history.events) c.take_nodes.new.shares.items =
+    let each : All (λ s. s.pending ≡ pending_at s.node (present_events c.close_books-totals.result.history.events)) c.take_nodes.new.shares.items =
     rw c.close_books-totals.ensures.history c.close_books-totals.ensures.each_pending in
-    All-of_map (λ s. s.pending ≡ pending_at s.node c.close_books-totals.result.history.events) counted_of c.args.pool.nodes.items
-    (subst (λ (shares : List NodeNumbers). All (λ s. s.pending ≡ pending_at s.node c.close_books-totals.result.history.events) shares) c.take_nodes.ensures.shares each)
+    All-of_map (λ s. s.pending ≡ pending_at s.node (present_events c.close_books-totals.result.history.events)) counted_of c.args.pool.nodes.items
+    (subst (λ (shares : List NodeNumbers). All (λ s. s.pending ≡ pending_at s.node (present_events c.close_books-totals.result.history.events)) shares) c.take_nodes.ensures.shares each)

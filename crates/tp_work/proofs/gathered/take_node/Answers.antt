@@ -1,7 +1,7 @@
 use Rattle.std.proofs.Common.{rules, ◌≡◌, ◌++◌, ◌∷◌, [], ◌∙◌, ap, arith, length, vec_len}
 use Rattle.tp_board.specs.Numbers.{NodeNumbers}
 use Rattle.tp_graph.specs.Serial.{Results}
-use Rattle.tp_work.proofs.Gathering.{results_of}
+use Rattle.tp_node.proofs.Gathering.{results_of}
 use Rattle.tp_work.proofs.gathered.take_node.Goals as goal
 
 pub unreachable-requires : goal.unreachable-requires

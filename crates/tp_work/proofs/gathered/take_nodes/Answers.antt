@@ -5,8 +5,9 @@ use Rattle.std.specs.Vec.Iter.{into_iter_items}
 use Rattle.std.proofs.lemmas.Iterator.Adapters.{YieldsList-from_vec}
 use Rattle.std.proofs.lemmas.Iterator.Consumers.{YieldsList-end}
 use Rattle.std.proofs.lemmas.List.Sums.{sum_by-cons}
-use Rattle.tp_node.specs.Nodes.{NodeState}
-use Rattle.tp_work.proofs.Gathering.{All-of_map, results-more, results_of, right-more, shares-more}
+use Rattle.tp_node.specs.Nodes.{NodeState, counted_of}
+use Rattle.tp_node.proofs.Gathering.{mapped-more, results-more, results_of, right-more}
+use Rattle.tp_work.proofs.Gathering.{All-of_map}
 use Rattle.tp_work.proofs.gathered.take_nodes.Goals as goal
 
 pub take_node-requires-clause-shares : goal.take_node-requires-clause-shares
@@ -41,7 +42,7 @@ loop-node-preserved g c =
     search rules ∙ ap length c.take_node.ensures.shares ∙ length-append c.loop-node.shares.items _ ∙ search rules in
     let fewer : length (into_iter_items c.loop-node.node-iterator) ≡ suc (length (into_iter_items c.next.new.self)) = ap length c.in-Some.ensures.steps.0 in
     record {
-      shares = shares-more c.loop-node.yielded c.in-Some.node c.loop-node.shares.items _ _ c.loop-node.invariant.shares refl c.take_node.ensures.shares;
+      shares = mapped-more counted_of c.loop-node.yielded c.in-Some.node c.loop-node.shares.items _ _ c.loop-node.invariant.shares refl c.take_node.ensures.shares;
       results = results-more c.loop-node.yielded c.in-Some.node c.loop-node.results.items _ _ c.loop-node.invariant.results refl c.take_node.ensures.results;
       right =
           λ graph all.

@@ -1,7 +1,14 @@
 use Rattle.std.proofs.Common.{ap, rules, tests}
 use Rattle.tp_board.specs.States.{BoardState}
-use Rattle.tp_board.proofs.Boards.{plain_follows, within_next}
+use Rattle.tp_board.proofs.Further.{plain_follows, within_more}
+use Rattle.tp_board.proofs.Naming.{plain_few, plain_kind}
 use Rattle.tp_board.proofs.board.Board.append.Goals as goal
+
+pub add-requires-clause-few : goal.add-requires-clause-few
+add-requires-clause-few g c = plain_few _ c.requires.lawful.0
+
+pub add-requires-clause-kind : goal.add-requires-clause-kind
+add-requires-clause-kind g c = plain_kind _ c.requires.lawful.0
 
 pub invariant_of-self-2 : goal.invariant_of-self-2
 invariant_of-self-2 g c =
@@ -10,7 +17,7 @@ invariant_of-self-2 g c =
 
 pub returns-clause-within : goal.returns-clause-within
 returns-clause-within g c =
-    rw c.follow.ensures.shares (within_next _ _ _ _ _ _ _ c.self.invariant c.follow.ensures.told c.follow.ensures.node c.in_ok-add.ensures.places)
+    rw c.follow.ensures.shares (within_more _ _ _ _ _ _ _ c.self.invariant c.follow.ensures.told c.follow.ensures.node c.in_ok-add.ensures.places)
 
 pub returns-clause-ok : goal.returns-clause-ok
 returns-clause-ok g c = search (rules, tests)

@@ -1,8 +1,11 @@
 use Rattle.std.proofs.Common.{ap, ◌∙◌, rules, tests}
 use Rattle.tp_base.specs.declared.step.Step.TheVariants.{Send}
 use Rattle.tp_board.specs.States.{BoardState}
-use Rattle.tp_board.proofs.Boards.{send_follows, within_next}
+use Rattle.tp_board.proofs.Further.{few_generations, send_follows, within_more}
 use Rattle.tp_board.proofs.board.Board.append_send.Goals as goal
+
+pub add_send-requires-clause-few : goal.add_send-requires-clause-few
+add_send-requires-clause-few g c = few_generations _ _ _ _ _ c.self.invariant
 
 pub invariant_of-self-2 : goal.invariant_of-self-2
 invariant_of-self-2 g c =
@@ -12,7 +15,7 @@ invariant_of-self-2 g c =
 
 pub returns-clause-within : goal.returns-clause-within
 returns-clause-within g c =
-    rw c.follow.ensures.shares (within_next _ _ _ _ _ _ (Send c.node-node.result c.to-to.result c.in_ok-message.message (record { 0 = 1 })) c.self.invariant c.follow.ensures.told c.follow.ensures.node c.in_ok-message.ensures.places)
+    rw c.follow.ensures.shares (within_more _ _ _ _ _ _ (Send c.node-node.result c.to-to.result c.in_ok-message.message c.generation-generation.result) c.self.invariant c.follow.ensures.told c.follow.ensures.node c.in_ok-message.ensures.places)
 
 pub returns-clause-number : goal.returns-clause-number
 returns-clause-number g c = search (rules, tests)

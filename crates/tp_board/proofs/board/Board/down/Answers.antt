@@ -1,4 +1,4 @@
-use Rattle.std.proofs.Common.{List, [], ◌∷◌, Result, Ok, Err, ap, sym, ◌∙◌, rules, tests}
+use Rattle.std.proofs.Common.{List, [], ◌∷◌, Result, Ok, Err, ap, refl, sym, ◌∙◌, arith, rules, tests}
 use Rattle.std.specs.Result.{result_err}
 use Rattle.std.proofs.lemmas.Result.{err_from_is_err_and}
 use Rattle.tp_base.specs.declared.refusal.Refusal.{Refusal}
@@ -6,6 +6,7 @@ use Rattle.tp_base.specs.declared.step.Step.TheVariants.{Down}
 use Rattle.tp_base.specs.Checks.{Check}
 use Rattle.tp_board.specs.States.{BoardState, full_check}
 use Rattle.tp_board.proofs.Answering.{passed, refused}
+use Rattle.tp_board.proofs.Further.{wave_follows}
 use Rattle.tp_board.proofs.board.Board.down.Goals as goal
 
 pub returns-in_err-down-clause-refusal : goal.returns-in_err-down-clause-refusal
@@ -27,7 +28,10 @@ returns-clause-refusal g c =
     rw (← c.node-node.ensures.number) (passed _ _ _ _ _ _ (Down c.node-node.result) full _ _ ok c.self.invariant c.self.view_is c.down.ensures.table (ap result_err c.in_ok-down.was) c.add.ensures.refusal (ap result_err c.in_ok-add.was))
 
 pub invariant_of-self-2 : goal.invariant_of-self-2
-invariant_of-self-2 g c = search (rules, tests)
+invariant_of-self-2 g c =
+    let history = ap (λ (b : BoardState). b.history) c.in_ok-add.ensures.ok in
+    wave_follows _ _ c.node-node.result.0 _ _ _ _ _ _ _ (Down c.node-node.result) c.self.invariant history c.in_ok-add.ensures.places (omega (arith, c.node-node.ensures.number, c.node-node.ensures.below)) refl refl tt
+    (c.in_ok-down.ensures.follows _ _ c.self.invariant.now.follows) refl c.self.invariant.now.judged
 
 pub returns-clause-ok : goal.returns-clause-ok
 returns-clause-ok g c = search (rules, tests)

@@ -1,11 +1,15 @@
-use Rattle.std.proofs.Common.{Option, Result, Ok, Err, ap, sym, refl, ◌∙◌, arith, rules, tests}
+use Rattle.std.proofs.Common.{◌≡◌, Option, Result, Ok, Err, ap, sym, refl, ◌∙◌, arith, rules, tests}
 use Rattle.std.specs.Result.{result_err}
 use Rattle.std.proofs.lemmas.Result.{err_from_is_err_and}
 use Rattle.tp_base.specs.declared.refusal.Refusal.{Refusal}
 use Rattle.tp_base.specs.declared.refusal.Refusal.TheVariants.{NotIdle}
 use Rattle.tp_base.specs.declared.step.Step.TheVariants.{Give}
 use Rattle.tp_base.specs.declared.Sums.{Sums}
+use Rattle.tp_wave.specs.Generations.{present_events}
+use Rattle.tp_wave.specs.Machine.{pending_at, steps_of}
+use Rattle.tp_board.specs.States.{BoardState}
 use Rattle.tp_board.specs.declared.counts.NodeCounts.{NodeCounts}
+use Rattle.tp_board.proofs.Further.{sums_now, wave_follows}
 use Rattle.tp_board.proofs.Answering.{passed, refused, visit_rest, when_active, when_idle}
 use Rattle.tp_board.proofs.board.Board.give.Goals as goal
 
@@ -39,10 +43,20 @@ returns-clause-refusal g c =
     c.self.invariant c.self.view_is c.give.ensures.table (ap result_err c.in_ok-sums.was) idle (ap result_err c.in_ok-add.was))
 
 pub invariant_of-self-2 : goal.invariant_of-self-2
-invariant_of-self-2 g c = search (rules, tests)
+invariant_of-self-2 g c =
+    let history = ap (λ (b : BoardState). b.history) c.in_ok-add.ensures.ok in
+    let counts = c.counts-counts.ensures.counts in
+    let idle : pending_at c.node-node.result.0 (present_events c.self.inside.log.history) ≡ 0 = omega (arith, ap (λ (x : NodeCounts). x.pending) counts) in
+    wave_follows _ _ c.node-node.result.0 _ _ _ _ _ _ _ (Give c.node-node.result) c.self.invariant history c.in_ok-add.ensures.places (omega (arith, c.node-node.ensures.number, c.node-node.ensures.below)) refl refl idle
+    (c.in_ok-sums.ensures.follows _ _ c.self.invariant.now.follows (ap (λ (x : NodeCounts). x.sent) counts) (ap (λ (x : NodeCounts). x.received) counts)) refl c.self.invariant.now.judged
 
 pub returns-clause-ok : goal.returns-clause-ok
 returns-clause-ok g c = search (rules, tests)
 
 pub returns-clause-sums : goal.returns-clause-sums
-returns-clause-sums g c = search (rules, tests)
+returns-clause-sums g c =
+    let history = ap (λ (b : BoardState). b.history) c.in_ok-add.ensures.ok in
+    let counts = c.counts-counts.ensures.counts in
+    let past = steps_of (present_events c.self.inside.log.history) in
+    let sums = c.in_ok-sums.ensures.counted g.K.Ledgers.names.nodes past c.self.invariant.now.follows (ap (λ (x : NodeCounts). x.sent) counts) (ap (λ (x : NodeCounts). x.received) counts) in
+    sums_now _ c.self.inside.log.history _ c.node-node.result _ _ history c.node-node.ensures.number sums

@@ -1,4 +1,4 @@
-use Rattle.std.proofs.Common.{List, [], ◌∷◌, Result, Ok, Err, ap, sym, ◌∙◌, rules, tests}
+use Rattle.std.proofs.Common.{List, [], ◌∷◌, Result, Ok, Err, ap, refl, sym, ◌∙◌, rules, tests}
 use Rattle.std.specs.Result.{result_err}
 use Rattle.std.proofs.lemmas.Result.{err_from_is_err_and}
 use Rattle.tp_base.specs.declared.refusal.Refusal.{Refusal}
@@ -6,11 +6,12 @@ use Rattle.tp_base.specs.declared.step.Step.TheVariants.{Start}
 use Rattle.tp_base.specs.Checks.{Check}
 use Rattle.tp_board.specs.States.{BoardState, full_check}
 use Rattle.tp_board.proofs.Answering.{passed, refused}
-use Rattle.tp_board.proofs.Boards.{start_next, started-le}
+use Rattle.tp_board.proofs.Boards.{started-le}
+use Rattle.tp_board.proofs.Further.{wave_follows}
 use Rattle.tp_board.proofs.board.Board.start.Goals as goal
 
 pub start-requires : goal.start-requires
-start-requires g c = started-le _ _ _ _ _ c.self.invariant
+start-requires g c = started-le _ _ _ _ _ c.self.invariant.now
 
 pub returns-in_err-start-clause-refusal : goal.returns-in_err-start-clause-refusal
 returns-in_err-start-clause-refusal g c =
@@ -34,7 +35,7 @@ pub invariant_of-self-2 : goal.invariant_of-self-2
 invariant_of-self-2 g c =
     let root = c.node-root.ensures.number ∙ c.requires.root in
     let history = rw root at (ap (λ (b : BoardState). b.history) c.in_ok-add.ensures.ok) in
-    start_next _ _ _ _ _ _ _ c.self.invariant history c.in_ok-add.ensures.places (c.in_ok-start.ensures.follows _ _ c.self.invariant.follows)
+    wave_follows _ _ 0 _ _ _ _ _ _ _ Start c.self.invariant history c.in_ok-add.ensures.places c.self.invariant.now.some refl refl tt (c.in_ok-start.ensures.follows _ _ c.self.invariant.now.follows) refl c.self.invariant.now.judged
 
 pub returns-clause-ok : goal.returns-clause-ok
 returns-clause-ok g c = search (rules, tests)

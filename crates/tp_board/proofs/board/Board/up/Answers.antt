@@ -1,4 +1,4 @@
-use Rattle.std.proofs.Common.{List, [], ◌∷◌, Result, Ok, Err, ap, sym, ◌∙◌, rules, tests}
+use Rattle.std.proofs.Common.{List, [], ◌∷◌, Result, Ok, Err, ap, refl, sym, ◌∙◌, rules, tests}
 use Rattle.std.specs.Result.{result_err}
 use Rattle.std.proofs.lemmas.Result.{err_from_is_err_and}
 use Rattle.tp_base.specs.declared.refusal.Refusal.{Refusal}
@@ -6,6 +6,7 @@ use Rattle.tp_base.specs.declared.step.Step.TheVariants.{Up}
 use Rattle.tp_base.specs.Checks.{Check}
 use Rattle.tp_board.specs.States.{BoardState, full_check}
 use Rattle.tp_board.proofs.Answering.{passed, refused}
+use Rattle.tp_board.proofs.Further.{wave_follows}
 use Rattle.tp_board.proofs.board.Board.up.Goals as goal
 
 pub returns-in_err-up-clause-refusal : goal.returns-in_err-up-clause-refusal
@@ -27,7 +28,10 @@ returns-clause-refusal g c =
     passed _ _ _ _ _ _ (Up c.args.child) full _ _ ok c.self.invariant c.self.view_is c.up.ensures.table (ap result_err c.in_ok-up.was) c.add.ensures.refusal (ap result_err c.in_ok-add.was)
 
 pub invariant_of-self-2 : goal.invariant_of-self-2
-invariant_of-self-2 g c = search (rules, tests)
+invariant_of-self-2 g c =
+    let history = ap (λ (b : BoardState). b.history) c.in_ok-add.ensures.ok in
+    wave_follows _ _ c.args.child.0 _ _ _ _ _ _ _ (Up c.args.child) c.self.invariant history c.in_ok-add.ensures.places c.requires.child.1 refl refl tt
+    (c.in_ok-up.ensures.follows _ _ c.self.invariant.now.follows) refl c.self.invariant.now.judged
 
 pub returns-clause-ok : goal.returns-clause-ok
 returns-clause-ok g c = search (rules, tests)

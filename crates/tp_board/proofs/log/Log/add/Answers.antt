@@ -1,7 +1,14 @@
 use Rattle.std.proofs.Common.{refl, arith}
 use Rattle.tp_board.specs.States.{BoardState}
+use Rattle.tp_wave.specs.Generations.{present_events}
+use Rattle.tp_wave.proofs.Generations.{length-present}
 use Rattle.tp_board.proofs.Answering.{full}
 use Rattle.tp_board.proofs.log.Log.add.Goals as goal
+
+pub follow-requires-clause-few : goal.follow-requires-clause-few
+follow-requires-clause-few c =
+    let events = c.self.inside.history.events in
+    (present_events events, c.self.invariant.counted, omega (arith, length-present events, c.self.invariant.places, c.self.invariant.limited))
 
 pub returns-then-count-self-clause-refusal : goal.returns-then-count-self-clause-refusal
 returns-then-count-self-clause-refusal c =

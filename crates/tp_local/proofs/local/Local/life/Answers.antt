@@ -1,10 +1,10 @@
-use Rattle.std.proofs.Common.{◌≡◌, ◌<◌, ◌+◌, arith, subst}
+use Rattle.std.proofs.Common.{◌<◌, arith, subst}
 use Rattle.std.specs.Prelude.{IsTrue}
 use Rattle.tp_local.proofs.Idle.{live_counts}
 use Rattle.tp_local.proofs.local.Local.life.Goals as goal
 use Rattle.tp_local.specs.Locals.{LocalState, is_live, pending}
 use Rattle.tp_local.specs.Locals.{Numbers}
-use Rattle.tp_store.specs.Content.{life_of, unfinished}
+use Rattle.tp_store.specs.Content.{unfinished}
 
 pub returns-clause-active : goal.returns-clause-active
 returns-clause-active c live =

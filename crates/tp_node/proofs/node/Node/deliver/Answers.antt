@@ -1,7 +1,5 @@
 use Rattle.std.proofs.Common.{subst, rules}
-use Rattle.std.specs.Prelude.{Result, Err}
-use Rattle.tp_base.specs.declared.refusal.Refusal.{Refusal}
-use Rattle.tp_graph.specs.Carried.{Carried}
+use Rattle.std.specs.Prelude.{Err}
 use Rattle.tp_graph.specs.declared.feed.Feed.{Feed}
 use Rattle.tp_board.specs.Calls.{AnswersWith}
 use Rattle.tp_node.specs.Refused.{deliver_checks}

@@ -1,0 +1,12 @@
+use Rattle.std.proofs.Common.{◌≡◌, take}
+use Rattle.std.specs.List.{All}
+use Rattle.tp_ledgers.specs.Numbers.{NodeNumbers}
+use Rattle.tp_board.proofs.board.Board.audit_each.Given as goal
+
+abbrev pub invariant-loop-next : goal.invariant-loop-next
+invariant-loop-next g l =
+    record {
+      board : l.self ≡ l.fn.self;
+      shares : l.shares ≡ l.fn.shares;
+      idle : All (λ (s : NodeNumbers). s.pending ≡ 0) (take l.next-index l.shares);
+    }

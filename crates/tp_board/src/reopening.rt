@@ -1,0 +1,60 @@
+ghost use Rattle.std.specs.Prelude.{◌≡◌, ◌<◌, IsTrue, map, vec_len};
+ghost use Rattle.std.specs.List.{All};
+ghost use Rattle.tp_base.specs.declared.step.Step.TheVariants as steps;
+ghost use Rattle.tp_board.specs.States.{with_event};
+ghost use Rattle.tp_ledgers.specs.Fresh.{HasRoom};
+ghost use Rattle.tp_ledgers.specs.Numbers.{event, first_numbers};
+ghost use Rattle.tp_ledgers.specs.Reopening.{begun_anew};
+ghost use Rattle.tp_wave.specs.Cut.{IsQuiet};
+ghost use Rattle.tp_wave.specs.Generations.{present, present_events};
+ghost use Rattle.tp_wave.specs.Machine.{steps_of};
+ghost use Rattle.tp_wave.specs.Sums.{is_ended};
+
+use crate::board::Board;
+use tp_ledgers::{Ended, Fresh, Ledgers, Shares};
+use tp_wave::Wave;
+
+// The one event that changes all nodes.
+impl<K: Ledgers> Board<K> {
+    /// Reopens the pool, with the shares of all its nodes in one hand, and takes back the token of the end: the next
+    /// generation begins, of which nothing has happened. Each node gets its first shares, in the order of those that were
+    /// handed in, which had nothing pending. The history and its limit go on, and a fault that was set stays.
+    pub fn reopen(
+        &mut self,
+        shares: Vec<Shares<K>>,
+        fresh: Fresh<K>,
+        ended: Ended<K>,
+    ) -> Vec<Shares<K>>
+        requires reserved { 0 < self.old.reserved }
+        requires nodes { vec_len shares ≡ K.names.nodes }
+        requires fresh { HasRoom K.names.nodes fresh }
+        ensures board { self.new ≡ with_event (event 0 steps.Reopen) self.old }
+        ensures shares { result.items ≡ map begun_anew shares.items }
+        ensures all_first { All (λ s. s ≡ first_numbers s.node) result.items }
+        ensures each_share { vec_len result ≡ K.names.nodes }
+        ensures idle { All (λ s. s.pending ≡ 0) shares.items }
+        ensures ended { IsTrue (is_ended K.names.nodes (present (steps_of self.old.history))) }
+        ensures quiet { IsQuiet K.names.nodes (present_events self.old.history) }
+    {
+        let mut ended = ended;
+        self.audit_ended(&mut ended);
+        let mut shares = shares;
+        self.audit_each(&mut shares);
+        let totals = self.log.totals();
+        let anew = self.accounts.reopen(shares, fresh, totals, ended);
+        self.log.reopen();
+        self.wave = Wave::new(self.nodes);
+        anew
+    }
+
+    /// Changes nothing, and tells that the nodes have nothing pending where nothing is left.
+    fn audit_each(&mut self, shares: &mut [Shares<K>])
+        requires { IsQuiet K.names.nodes (present_events self.old.history) }
+        ensures same { (self.new ≡ self.old) × (shares.new ≡ shares.old) }
+        ensures idle { All (λ s. s.pending ≡ 0) shares.old }
+    {
+        for next in shares.iter_mut() {
+            self.audit(next);
+        }
+    }
+}

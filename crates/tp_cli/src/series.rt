@@ -1,0 +1,84 @@
+ghost use Rattle.std.specs.Prelude.{◌≡◌, ◌≤◌, ◌⊎◌, ◌++◌, ℕ, IfErr, IfOk, OnOk};
+ghost use Rattle.std.specs.List.{All};
+ghost use Rattle.tp_base.specs.declared.limits.TheConstants.{MAX_NODES};
+ghost use Rattle.tp_base.specs.declared.refusal.Refusal.TheVariants.{NoMemory};
+ghost use Rattle.tp_cli.specs.Runs.{IsPlan, IsPrintOfSeries, IsRoundOf, IsTextOfSeries, IsUnprintedSeries, IsUntold, IsUntoldRound, IsWithoutSeries, round_text, rounds_text};
+ghost use Rattle.tp_samples.specs.Any.{any_graph};
+ghost use Rattle.tp_work.specs.Series.{IsSeries};
+
+use crate::run::{Form, Plan, text_of_results};
+use std::alloc::Global;
+use std::sync::Wait;
+use std::thread::Threads;
+use tp_base::Refusal;
+use tp_samples::AnyGraph;
+use tp_text::print_trace;
+use tp_work::{OpenGate, Round, Series, run_generations};
+
+/// Runs a pool of a graph in so many generations: what is printed of them.
+pub(crate) fn text_of_generations<R: Threads + Wait + Sync>(
+    rt: &R,
+    alloc: Global,
+    graph: AnyGraph,
+    plan: Plan,
+) -> Result<Vec<u8>, Refusal>
+    requires { IsPlan plan }
+    ensures text { IfOk result (λ text. IsTextOfSeries plan.form graph plan.config.nodes plan.generations text.items) }
+    ensures none { IfErr result (λ refusal. IsWithoutSeries plan.form graph plan.config.nodes plan.generations refusal) }
+{
+    match run_generations(rt, alloc, graph, plan.config, &OpenGate, plan.generations) {
+        Ok(series) => text_of_series(alloc, graph, &series, plan.config.nodes, plan.form),
+        Err(fault) => Err(fault.refusal),
+    }
+}
+
+/// What is printed of what a pool of a graph has made on so many nodes in all its generations.
+fn text_of_series(
+    alloc: Global,
+    graph: AnyGraph,
+    series: &Series,
+    nodes: u32,
+    form: Form,
+) -> Result<Vec<u8>, Refusal>
+    requires nodes { (1 ≤ nodes) × (nodes ≤ MAX_NODES) }
+    requires made { (count : ℕ) × IsSeries nodes (any_graph graph) count series.now }
+    ensures text { IfOk result (λ text. IsPrintOfSeries form graph nodes series.now text.items) }
+    ensures none { IfErr result (λ refusal. IsUnprintedSeries form graph series.now refusal) }
+{
+    match form {
+        Form::Table => text_of_rounds(alloc, graph, &series.rounds),
+        Form::Trace => print_trace(alloc, &series.history, nodes),
+    }
+}
+
+/// The rounds in their order, each under the number of its generation.
+fn text_of_rounds(alloc: Global, graph: AnyGraph, rounds: &[Round]) -> Result<Vec<u8>, Refusal>
+    requires made { All (IsRoundOf graph) rounds.now }
+    ensures text { IfOk result (λ text. text.items ≡ rounds_text graph 1 rounds.now) }
+    ensures none { IfErr result (IsUntoldRound graph rounds.now) }
+{
+    let mut text = Vec::new(alloc);
+    for (before, round) in rounds.iter().enumerate() {
+        push_round(alloc, &mut text, graph, before + 1, round)?;
+    }
+    Ok(text)
+}
+
+/// Adds a round under the number of its generation.
+fn push_round(
+    alloc: Global,
+    text: &mut Vec<u8>,
+    graph: AnyGraph,
+    generation: usize,
+    round: &Round,
+) -> Result<(), Refusal>
+    requires made { IsRoundOf graph round.now }
+    ensures text { OnOk result (text.new.items ≡ text.old.items ++ round_text graph generation round.now) }
+    ensures none { IfErr result (IsUntold graph round.now.results.items) }
+{
+    let told = text_of_results(alloc, graph, &round.results, round.tasks, round.messages)?;
+    let head = format!(in alloc; "generation {generation}\n")?;
+    text.extend_from_slice(head.as_bytes())?;
+    text.extend_from_slice(&told)?;
+    Ok(())
+}

@@ -1,0 +1,51 @@
+-- What nodes in a row add up to.
+use Rattle.std.proofs.Common.{◌≡◌, List, [], ◌∷◌, ◌++◌, length, map, refl, sym, ap, subst, ◌∙◌, arith}
+use Rattle.std.specs.Prelude.{Some}
+use Rattle.std.specs.List.{All, flat_map}
+use Rattle.std.proofs.lemmas.List.{flat_map_more, get_or-map, get_or_append_left, length-append, length-map, map-append}
+use Rattle.std.proofs.Math.Seq.{get_or-append_seam}
+use Rattle.std.proofs.lemmas.List.Elements.{All-append}
+use Rattle.tp_base.specs.declared.ids.TaskId.{TaskId}
+use Rattle.tp_graph.specs.Graphs.{TaskGraph}
+use Rattle.tp_graph.specs.Serial.{AreRight, Results}
+use Rattle.tp_graph.specs.Values.{value_of}
+use Rattle.tp_board.specs.Numbers.{NodeNumbers}
+use Rattle.tp_ledgers.specs.Reopening.{begun_anew}
+use Rattle.tp_node.specs.Nodes.{NodeState, anew}
+use Rattle.tp_local.specs.Locals.{Numbers}
+
+-- what is made of each of some things, and of one more
+pub mapped-more : {X Y : Type 0} (f : X → Y) (xs : List X) (x : X) (made new : List Y) (last : Y)
+    → made ≡ map f xs → last ≡ f x → new ≡ made ++ last ∷ [] → new ≡ map f (xs ++ x ∷ [])
+mapped-more f xs x made new last before is pushed =
+    pushed ∙ ap (λ y. made ++ y ∷ []) is ∙ ap (λ ys. ys ++ f x ∷ []) before ∙ sym (map-append f xs (x ∷ []))
+
+-- what holds of each image holds of each element
+pub All-of_map : {X Y : Type 0} (P : Y → Type 0) (f : X → Y) (xs : List X) → All P (map f xs) → All (λ x. P (f x)) xs
+All-of_map P f xs all = λ k d within. subst P (get_or-map f xs k d (f d) within) (all k (f d) (rw (length-map xs f) within))
+
+module _ {G : Type 0} where
+  -- the first shares of nodes are those of the nodes as the reopening leaves them
+  pub numbers_anew : (nodes : List (NodeState G)) → map begun_anew (map (λ (n : NodeState G). n.numbers) nodes) ≡ map (λ (n : NodeState G). n.numbers) (map anew nodes)
+  numbers_anew [] = refl
+  numbers_anew (n ∷ nodes) = ap (λ (ms : List NodeNumbers). begun_anew n.numbers ∷ ms) (numbers_anew nodes)
+
+  abbrev pub results_of : NodeState G → List (TaskId × Numbers)
+  results_of n = n.state.store.results
+
+  -- the results of one more node
+  pub results-more : (nodes : List (NodeState G)) (n : NodeState G) (results new more : Results)
+      → results ≡ flat_map results_of nodes → more ≡ results_of n → new ≡ results ++ more → new ≡ flat_map results_of (nodes ++ n ∷ [])
+  results-more nodes n results new more before is joined =
+      joined ∙ ap (λ (rs : Results). results ++ rs) is ∙ ap (λ (rs : Results). rs ++ results_of n) before ∙ flat_map_more results_of [] nodes n
+
+  -- The results of one more node are right, where it is of the graph.
+  pub right-more : (meaning : G → TaskGraph) (graph : G) (nodes : List (NodeState G)) (n : NodeState G) (results more : Results)
+      → (All (λ s. s.graph ≡ graph) nodes → AreRight (meaning graph) results) → AreRight (meaning n.graph) more
+      → All (λ s. s.graph ≡ graph) (nodes ++ n ∷ []) → AreRight (meaning graph) (results ++ more)
+  right-more meaning graph nodes n results more before right all =
+      let first : All (λ s. s.graph ≡ graph) nodes =
+      λ k d within. ap (λ (s : NodeState G). s.graph) (sym (get_or_append_left nodes (n ∷ []) d k within)) ∙ all k d (omega (arith, length-append nodes (n ∷ []))) in
+      let last : n.graph ≡ graph =
+      ap (λ (s : NodeState G). s.graph) (sym (get_or-append_seam nodes n [] n)) ∙ all (length nodes) n (omega (arith, length-append nodes (n ∷ []))) in
+      All-append (λ r. value_of (meaning graph) r.0.0 ≡ Some r.1) results more (before first) (subst (λ (own : G). AreRight (meaning own) more) last right)

@@ -1,0 +1,296 @@
+ghost use Rattle.std.specs.Prelude.{◌≡◌, ◌≤◌, ◌<◌, ◌+◌, ◌^◌, [], ◌∷◌, ◌++◌, IfErr, IfOk, IsTrue, MatchOption, OnErr, OnOk, length, map, sum_by, vec_capacity, vec_len};
+ghost use Rattle.std.specs.List.{All, flat_map};
+ghost use Rattle.std.specs.Result.{result_err};
+ghost use Rattle.tp_base.specs.Checks.{first_refusal};
+ghost use Rattle.tp_base.specs.declared.step.Step.TheVariants as steps;
+ghost use Rattle.tp_board.specs.Calls.{Answers, Appends};
+ghost use Rattle.tp_board.specs.Fresh.{HasRoom};
+ghost use Rattle.tp_board.specs.Numbers.{event};
+ghost use Rattle.tp_board.specs.States.{full_check, with_event};
+ghost use Rattle.tp_graph.specs.Serial.{AreRight};
+ghost use Rattle.tp_node.specs.Calls.{AnswersWithBoth};
+ghost use Rattle.tp_node.specs.Nodes.{IsOfPool, anew};
+ghost use Rattle.tp_wave.specs.Cut.{IsQuiet};
+ghost use Rattle.tp_wave.specs.Generations.{present, present_events};
+ghost use Rattle.tp_wave.specs.Machine.{steps_of};
+ghost use Rattle.tp_wave.specs.Sums.{is_ended};
+
+use crate::node::{Bare, Node};
+use crate::pool::Pool;
+use crate::wire::Wire;
+use std::alloc::{AllocError, Global};
+use tp_base::{Refusal, TaskId};
+use tp_board::{Board, Ended, Fresh, Ledgers, Shares};
+use tp_graph::{Graph, Value};
+
+/// A pool whose next generation has begun, and what the one that ended has left.
+#[derive(Drop)]
+pub struct Reopened<G: Graph, K: Ledgers> {
+    /// The pool, in whose present generation nothing has happened.
+    pub pool: Pool<G, K>,
+    /// The results of the generation that ended, node by node, each a task and its value.
+    pub results: Vec<(TaskId, Value)>,
+}
+
+impl<G: Graph, K: Ledgers> Pool<G, K> {
+    /// Reopens a pool whose end was judged, which the token of the present generation tells: the next generation begins. Each
+    /// node is as [`open_pool`](crate::open_pool) makes it, with its own graph; the links are as they were, and no message is
+    /// on any of them; the history goes on with the one event of the reopening, and a fault that was set stays. A node that
+    /// was not told of the end is told before. The results of the generation that ended are handed out.
+    ///
+    /// Refused: `HistoryFull` where the history has reached its limit; `NoMemory` where memory has to grow and does not. The
+    /// pool, unchanged, and the token come back then.
+    pub fn reopen(
+        self,
+        alloc: Global,
+        ended: Ended<K>,
+    ) -> Result<Reopened<G, K>, (Refusal, Pool<G, K>, Ended<K>)>
+        requires nodes { vec_len self.nodes ≡ K.names.nodes }
+        ensures nodes { IfOk result (λ r. r.pool.nodes.items ≡ map anew self.nodes.items) }
+        ensures links { IfOk result (λ r. r.pool.links.items ≡ self.links.items) }
+        ensures empty { OnOk result (All (λ w. w.messages ≡ []) self.links.items) }
+        ensures event { IfOk result (λ r. Appends (event 0 steps.Reopen ∷ []) self.board r.pool.board) }
+        ensures results { IfOk result (λ r. r.results.items ≡ flat_map (λ n. n.state.store.results) self.nodes.items) }
+        ensures right { IfOk result (λ r. (g : G) → All (λ n. n.graph ≡ g) self.nodes.items → AreRight (G.meaning g) r.results.items) }
+        ensures ended { OnOk result (IsTrue (is_ended K.names.nodes (present (steps_of self.board.history)))) }
+        ensures quiet { OnOk result (IsQuiet K.names.nodes (present_events self.board.history)) }
+        ensures refused { AnswersWithBoth (full_check 1 self.board ∷ []) self ended result }
+    {
+        let mut pool = self;
+        match room_for(alloc, &pool.nodes, &mut pool.board) {
+            Ok(room) => Ok(begin_anew(pool, ended, room)),
+            Err(refusal) => Err((refusal, pool, ended)),
+        }
+    }
+}
+
+/// Empty lists with room for all that a reopening makes.
+#[derive(Drop)]
+struct ReopeningRoom<G: Graph, K: Ledgers> {
+    fresh: Fresh<K>,
+    shares: Vec<Shares<K>>,
+    bare: Vec<Bare<G>>,
+    nodes: Vec<Node<G, K>>,
+    results: Vec<(TaskId, Value)>,
+}
+
+/// Room for the reopening of a pool, and a place for its event. A refused call leaves the board as it was.
+fn room_for<G: Graph, K: Ledgers>(
+    alloc: Global,
+    nodes: &Vec<Node<G, K>>,
+    board: &mut Board<K>,
+) -> Result<ReopeningRoom<G, K>, Refusal>
+    ensures fresh { IfOk result (λ r. HasRoom K.names.nodes r.fresh) }
+    ensures shares { IfOk result (λ r. (r.shares.items ≡ []) × (K.names.nodes ≤ vec_capacity r.shares)) }
+    ensures bare { IfOk result (λ r. (r.bare.items ≡ []) × (K.names.nodes ≤ vec_capacity r.bare)) }
+    ensures anew { IfOk result (λ r. (r.nodes.items ≡ []) × (K.names.nodes ≤ vec_capacity r.nodes)) }
+    ensures results { IfOk result (λ r. (r.results.items ≡ []) × (sum_by (λ n. length n.state.store.results) nodes.now.items ≤ vec_capacity r.results)) }
+    ensures reserved { OnOk result (0 < board.new.reserved) }
+    ensures same { Appends [] board.old board.new }
+    ensures refusal { Answers (full_check 1 board.old ∷ []) result }
+    ensures refused { OnErr result (board.new ≡ board.old) }
+{
+    check_full(board)?;
+    let room = lists_for(alloc, nodes, board.nodes())?;
+    board.reserve(1)?;
+    Ok(room)
+}
+
+/// Whether one more event may be.
+fn check_full<K: Ledgers>(board: &Board<K>) -> Result<(), Refusal>
+    ensures { result_err result ≡ first_refusal (full_check 1 board.now ∷ []) }
+{
+    let length = board.len();
+    if (board.limit() as usize) <= length {
+        return Err(Refusal::HistoryFull(length as u32));
+    }
+    Ok(())
+}
+
+/// Empty lists with room for the parts of the nodes, which are so many.
+fn lists_for<G: Graph, K: Ledgers>(
+    alloc: Global,
+    nodes: &Vec<Node<G, K>>,
+    count: u32,
+) -> Result<ReopeningRoom<G, K>, AllocError>
+    ensures fresh { IfOk result (λ r. HasRoom count r.fresh) }
+    ensures shares { IfOk result (λ r. (r.shares.items ≡ []) × (count ≤ vec_capacity r.shares)) }
+    ensures bare { IfOk result (λ r. (r.bare.items ≡ []) × (count ≤ vec_capacity r.bare)) }
+    ensures anew { IfOk result (λ r. (r.nodes.items ≡ []) × (count ≤ vec_capacity r.nodes)) }
+    ensures results { IfOk result (λ r. (r.results.items ≡ []) × (sum_by (λ n. length n.state.store.results) nodes.now.items ≤ vec_capacity r.results)) }
+{
+    let Some(results) = count_results(nodes) else {
+        return Err(AllocError);
+    };
+    Ok(ReopeningRoom {
+        fresh: Fresh::new(alloc, count)?,
+        shares: Vec::with_capacity(alloc, count as usize)?,
+        bare: Vec::with_capacity(alloc, count as usize)?,
+        nodes: Vec::with_capacity(alloc, count as usize)?,
+        results: Vec::with_capacity(alloc, results)?,
+    })
+}
+
+/// How many results all nodes have, or `None` where they are 2^64 or more.
+pub fn count_results<G: Graph, K: Ledgers>(nodes: &[Node<G, K>]) -> Option<usize>
+    ensures { MatchOption result (2 ^ 64 ≤ sum_by (λ n. length n.state.store.results) nodes.now) (λ count. count ≡ sum_by (λ n. length n.state.store.results) nodes.now) }
+{
+    let mut count = 0usize;
+    for node in nodes {
+        count = count.checked_add(node.results().len())?;
+    }
+    Some(count)
+}
+
+/// The reopening, in the room that was made for it.
+fn begin_anew<G: Graph, K: Ledgers>(
+    pool: Pool<G, K>,
+    ended: Ended<K>,
+    room: ReopeningRoom<G, K>,
+) -> Reopened<G, K>
+    requires count { vec_len pool.nodes ≡ K.names.nodes }
+    requires reserved { 0 < pool.board.reserved }
+    requires fresh { HasRoom K.names.nodes room.fresh }
+    requires shares { (room.shares.items ≡ []) × (K.names.nodes ≤ vec_capacity room.shares) }
+    requires bare { (room.bare.items ≡ []) × (K.names.nodes ≤ vec_capacity room.bare) }
+    requires anew { (room.nodes.items ≡ []) × (K.names.nodes ≤ vec_capacity room.nodes) }
+    requires room_for_results { (room.results.items ≡ []) × (sum_by (λ n. length n.state.store.results) pool.nodes.items ≤ vec_capacity room.results) }
+    ensures nodes { result.pool.nodes.items ≡ map anew pool.nodes.items }
+    ensures links { result.pool.links.items ≡ pool.links.items }
+    ensures empty { All (λ w. w.messages ≡ []) pool.links.items }
+    ensures event { Appends (event 0 steps.Reopen ∷ []) pool.board result.pool.board }
+    ensures results { result.results.items ≡ flat_map (λ n. n.state.store.results) pool.nodes.items }
+    ensures right { (g : G) → All (λ n. n.graph ≡ g) pool.nodes.items → AreRight (G.meaning g) result.results.items }
+    ensures ended { IsTrue (is_ended K.names.nodes (present (steps_of pool.board.history))) }
+    ensures quiet { IsQuiet K.names.nodes (present_events pool.board.history) }
+{
+    let Pool {
+        nodes,
+        mut links,
+        mut board,
+    } = pool;
+    let (nodes, results) = reopen_nodes(nodes, &mut board, ended, room);
+    audit_links(&mut links, &mut board);
+    Reopened {
+        pool: Pool {
+            nodes,
+            links,
+            board,
+        },
+        results,
+    }
+}
+
+/// Reopens the nodes of a pool, of which the board is lent.
+fn reopen_nodes<G: Graph, K: Ledgers>(
+    nodes: Vec<Node<G, K>>,
+    board: &mut Board<K>,
+    ended: Ended<K>,
+    room: ReopeningRoom<G, K>,
+) -> (Vec<Node<G, K>>, Vec<(TaskId, Value)>)
+    requires count { vec_len nodes ≡ K.names.nodes }
+    requires reserved { 0 < board.old.reserved }
+    requires fresh { HasRoom K.names.nodes room.fresh }
+    requires shares { (room.shares.items ≡ []) × (K.names.nodes ≤ vec_capacity room.shares) }
+    requires bare { (room.bare.items ≡ []) × (K.names.nodes ≤ vec_capacity room.bare) }
+    requires anew { (room.nodes.items ≡ []) × (K.names.nodes ≤ vec_capacity room.nodes) }
+    requires room_for_results { (room.results.items ≡ []) × (sum_by (λ n. length n.state.store.results) nodes.items ≤ vec_capacity room.results) }
+    ensures nodes { result.0.items ≡ map anew nodes.items }
+    ensures board { board.new ≡ with_event (event 0 steps.Reopen) board.old }
+    ensures results { result.1.items ≡ flat_map (λ n. n.state.store.results) nodes.items }
+    ensures right { (g : G) → All (λ n. n.graph ≡ g) nodes.items → AreRight (G.meaning g) result.1.items }
+    ensures ended { IsTrue (is_ended K.names.nodes (present (steps_of board.old.history))) }
+    ensures quiet { IsQuiet K.names.nodes (present_events board.old.history) }
+{
+    let ReopeningRoom {
+        fresh,
+        mut shares,
+        mut bare,
+        nodes: mut anew,
+        mut results,
+    } = room;
+    let mut ended = ended;
+    take_apart(
+        nodes,
+        &mut ended,
+        board,
+        &mut shares,
+        &mut bare,
+        &mut results,
+    );
+    let shares = board.reopen(shares, fresh, ended);
+    put_together(bare, shares, &mut anew);
+    (anew, results)
+}
+
+/// The parts of all nodes, in their order.
+fn take_apart<G: Graph, K: Ledgers>(
+    nodes: Vec<Node<G, K>>,
+    ended: &mut Ended<K>,
+    board: &mut Board<K>,
+    shares: &mut Vec<Shares<K>>,
+    bare: &mut Vec<Bare<G>>,
+    results: &mut Vec<(TaskId, Value)>,
+)
+    requires empty { (shares.old.items ≡ []) × (bare.old.items ≡ []) × (results.old.items ≡ []) }
+    requires shares { vec_len nodes ≤ vec_capacity shares.old }
+    requires bare { vec_len nodes ≤ vec_capacity bare.old }
+    requires results { sum_by (λ n. length n.state.store.results) nodes.items ≤ vec_capacity results.old }
+    ensures board { board.new ≡ board.old }
+    ensures shares { shares.new.items ≡ map (λ n. n.numbers) nodes.items }
+    ensures bare { bare.new.items ≡ map anew nodes.items }
+    ensures pool { All (IsOfPool K.names.nodes) bare.new.items }
+    ensures results { results.new.items ≡ flat_map (λ n. n.state.store.results) nodes.items }
+    ensures right { (g : G) → All (λ n. n.graph ≡ g) nodes.items → AreRight (G.meaning g) results.new.items }
+{
+    for node in nodes {
+        let (share, more, left) = node.apart(ended, board);
+        shares.push_reserved(share);
+        bare.push_reserved(left);
+        put_behind(results, more);
+    }
+}
+
+/// Puts the results of a node behind others, in the room for them.
+fn put_behind(results: &mut Vec<(TaskId, Value)>, more: Vec<(TaskId, Value)>)
+    requires { vec_len results.old + vec_len more ≤ vec_capacity results.old }
+    ensures items { results.new.items ≡ results.old.items ++ more.items }
+    ensures len { vec_len results.new ≡ vec_len results.old + vec_len more }
+    ensures room { vec_capacity results.old ≤ vec_capacity results.new }
+{
+    let mut more = more;
+    let Ok(()) = results.append(&mut more) else {
+        unreachable!()
+    };
+}
+
+/// The nodes with their first shares.
+fn put_together<G: Graph, K: Ledgers>(
+    bare: Vec<Bare<G>>,
+    shares: Vec<Shares<K>>,
+    nodes: &mut Vec<Node<G, K>>,
+)
+    requires pool { All (IsOfPool K.names.nodes) bare.items }
+    requires first { shares.items ≡ map (λ n. n.numbers) bare.items }
+    requires room { (nodes.old.items ≡ []) × (vec_len bare ≤ vec_capacity nodes.old) }
+    ensures { nodes.new.items ≡ bare.items }
+{
+    let mut shares = shares.into_iter();
+    for left in bare {
+        let Some(share) = shares.next() else {
+            unreachable!()
+        };
+        nodes.push_reserved(left.with_shares(share));
+    }
+}
+
+/// Changes nothing, and tells that no message is on a link, where nothing has happened in the present generation.
+fn audit_links<G: Graph, K: Ledgers>(links: &mut [Wire<G, K>], board: &mut Board<K>)
+    requires { present (steps_of board.old.history) ≡ [] }
+    ensures same { (links.new ≡ links.old) × (board.new ≡ board.old) }
+    ensures empty { All (λ w. w.messages ≡ []) links.old }
+{
+    for wire in links.iter_mut() {
+        wire.audit(board);
+    }
+}

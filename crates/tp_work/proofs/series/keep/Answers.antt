@@ -1,0 +1,41 @@
+use Rattle.std.proofs.Common.{rules, ◌≡◌, ◌∙◌, ◌∷◌, ◌<◌, [], ℕ, refl, sym, ap, subst, inl, inr, length}
+use Rattle.std.specs.List.{All}
+use Rattle.std.proofs.lemmas.List.{length-append}
+use Rattle.std.proofs.lemmas.List.Elements.{All-push}
+use Rattle.tp_base.specs.declared.refusal.Refusal.TheVariants.{Missing, NoMemory}
+use Rattle.tp_graph.specs.Serial.{Results}
+use Rattle.tp_wave.specs.Machine.{History}
+use Rattle.tp_work.proofs.Rounds.{is_fault, not_ended}
+use Rattle.tp_work.specs.Lives.{generations}
+use Rattle.tp_work.specs.Outcomes.{HasEachOnce}
+use Rattle.tp_work.specs.Series.{IsKept}
+use Rattle.tp_work.specs.declared.series.Round.{Round}
+use Rattle.tp_work.proofs.series.keep.Goals as goal
+
+pub returns-in-Ok-true-clause-kept : goal.returns-in-Ok-true-clause-kept
+returns-in-Ok-true-clause-kept g c =
+    let graph = g.G.Graph.meaning c.args.graph in
+    let tasks : c.tasks-tasks.result ≡ graph.tasks = search rules in
+    let last : Round = record { results = c.args.results; tasks = c.tasks-tasks.result; messages = 0 } in
+    let once : HasEachOnce c.tasks-tasks.result c.deref.result.now = c.in-Ok-true.ensures.0 c.in-Ok-true.field-0-test in
+    let own : IsKept graph last = record {
+      each_once = subst (λ (rs : Results). HasEachOnce graph.tasks rs) c.deref.ensures.value (subst (λ (n : ℕ). HasEachOnce n c.deref.result.now) tasks once);
+      right = c.requires.right;
+      tasks = tasks;
+    } in
+    record {
+      more = ap length c.push_reserved.ensures.items ∙ length-append c.args.rounds.now.items (last ∷ []);
+      kept = λ all. subst (All (IsKept graph)) (sym c.push_reserved.ensures.items) (All-push (IsKept graph) c.args.rounds.now.items last all own);
+    }
+
+pub returns-in-Ok-false-clause-fault : goal.returns-in-Ok-false-clause-fault
+returns-in-Ok-false-clause-fault g c =
+    λ count.
+    is_fault g.K.Ledgers.names.nodes (g.G.Graph.meaning c.args.graph) count c.told.result Missing c.args.pool.board.fault c.args.pool.board.history c.told.ensures c.requires.fault
+    (λ r report events. inl (refl, λ complete. not_ended g.K.Ledgers.names.nodes (g.G.Graph.meaning c.args.graph) r c.args.pool.board.history report events c.requires.opened.0 complete.ended))
+
+pub returns-in-Err-clause-fault : goal.returns-in-Err-clause-fault
+returns-in-Err-clause-fault g c =
+    λ count.
+    is_fault g.K.Ledgers.names.nodes (g.G.Graph.meaning c.args.graph) count c.told-in-Err.result NoMemory c.args.pool.board.fault c.args.pool.board.history c.told-in-Err.ensures c.requires.fault
+    (λ r report events. inr (inl (refl, inr (subst (λ (h : History). 1 < length (generations h)) (sym events) c.requires.opened.1))))

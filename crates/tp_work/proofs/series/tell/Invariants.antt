@@ -1,0 +1,12 @@
+use Rattle.std.specs.Prelude.{ℕ, ◌≡◌, ◌<◌, ◌≤◌, length, slice_index, slice_index_or}
+use Rattle.tp_work.specs.Series.{with_messages}
+use Rattle.tp_work.specs.declared.series.Round.{Round}
+use Rattle.tp_work.proofs.series.tell.Given as goal
+
+abbrev pub invariant-loop-place : goal.invariant-loop-place
+invariant-loop-place l =
+    record {
+      length : length l.rounds ≡ length l.initial.rounds;
+      told : (k : ℕ) (r : Round) → k < l.place → slice_index_or l.rounds k r ≡ with_messages (slice_index l.sent k) (slice_index_or l.initial.rounds k r);
+      left : (k : ℕ) (r : Round) → l.place ≤ k → slice_index_or l.rounds k r ≡ slice_index_or l.initial.rounds k r;
+    }

@@ -1,0 +1,426 @@
+ghost use Rattle.std.specs.Prelude.{◌≡◌, ◌≤◌, ◌<◌, ◌+◌, ◌*◌, ◌-◌, [], ℕ, length, map, reverse, slice_index, slice_index_or, vec_capacity, vec_len, IfErr, IfOk, IfSome, IsTrue, MatchOption, None, OnOk, Some};
+ghost use Rattle.std.specs.List.{All};
+ghost use Rattle.tp_base.specs.declared.limits.TheConstants.{MAX_STEPS};
+ghost use Rattle.tp_graph.specs.Serial.{AreRight};
+ghost use Rattle.tp_wave.specs.Generations.{present_events};
+ghost use Rattle.tp_work.specs.Lives.{LivesInEach, generations, sent_in};
+ghost use Rattle.tp_work.specs.Outcomes.{HasEachOnce, IsAnswer, IsWithinLimits};
+ghost use Rattle.tp_work.specs.Places.{IsWhole};
+ghost use Rattle.tp_work.specs.Reports.{IsReport};
+ghost use Rattle.tp_work.specs.Series.{AddsKept, IsKept, IsSeries, IsSeriesFault, IsSeriesLack, IsTold, with_messages};
+ghost use Rattle.tp_work.specs.declared.series.Round.{Round};
+
+use crate::config::{Config, Fault};
+use crate::gate::Gate;
+use crate::gathered::Report;
+use crate::lives::sent_in_each;
+use crate::once::each_once;
+use crate::run::answer_to;
+use crate::runner::{Runner, report_of};
+use std::alloc::{AllocError, Global};
+use std::sync::Wait;
+use std::thread::Threads;
+use tp_base::{History, Refusal, TaskId};
+use tp_board::{Blanks, Brand, Ended, Ledgers};
+use tp_graph::{Comparable, Graph, Named, Only, Value};
+use tp_node::{Pool, Reopened};
+
+/// What a generation of a series has made.
+#[derive(Drop)]
+pub struct Round {
+    /// Each task of the graph with its value, in no particular order.
+    pub results: Vec<(TaskId, Value)>,
+    /// How many tasks were done.
+    pub tasks: u32,
+    /// How many messages were sent.
+    pub messages: u32,
+}
+
+/// What the generations of a pool have made.
+#[derive(Drop)]
+pub struct Series {
+    /// What each generation has made, the oldest first.
+    pub rounds: Vec<Round>,
+    /// The events of all generations.
+    pub history: History,
+}
+
+/// Runs a pool that works a graph out through so many generations, 1 to 9: after each but the last the pool is reopened, and
+/// works the graph out anew. The threads of a generation have ended before the next begins.
+///
+/// Refused as [`run_pool`](crate::run_pool) is, by the first generation that is refused; the rounds before it are dropped. And
+/// refused: `HistoryFull` where the history, which all generations share, has no place for a reopening; `NoMemory` where
+/// memory has to grow for a reopening or for the list of rounds and does not. The report of a fault has the numbers of the
+/// generation that was present, and all events.
+pub fn run_generations<G: Graph, A: Gate, R: Threads + Wait + Sync>(
+    rt: &R,
+    alloc: Global,
+    graph: G,
+    config: Config,
+    gate: &A,
+    count: u32,
+) -> Result<Series, Fault>
+    requires limits { IsWithinLimits config }
+    requires count { (1 ≤ count) × (count ≤ 9) }
+    ensures series { IfOk result (IsSeries config.nodes (G.meaning graph) count) }
+    ensures fault { IfErr result (IsSeriesFault config.nodes (G.meaning graph) count) }
+{
+    run_only::<G, Brand, A, R>(rt, alloc, graph, config, gate, count)
+}
+
+/// Runs a series over the one graph that `D` names, so that no two parts of its pool have to be compared.
+fn run_only<'a, G: Graph, D: Named<G> + Send + Sync, A: Gate, R: Threads + Wait + Sync>(
+    rt: &'a R,
+    alloc: Global,
+    graph: G,
+    config: Config,
+    gate: &'a A,
+    count: u32,
+) -> Result<Series, Fault>
+    requires it { D.it ≡ Some graph }
+    requires limits { IsWithinLimits config }
+    requires count { (1 ≤ count) × (count ≤ 9) }
+    ensures series { IfOk result (IsSeries config.nodes (G.meaning graph) count) }
+    ensures fault { IfErr result (IsSeriesFault config.nodes (G.meaning graph) count) }
+{
+    let runner = Runner {
+        rt,
+        alloc,
+        graph: Only::<G, D>::new(graph),
+        config,
+        gate,
+    };
+    let mut rounds = match Vec::with_capacity(alloc, count as usize) {
+        Ok(rounds) => rounds,
+        Err(_) => return Err(ungathered(Refusal::NoMemory)),
+    };
+    let blanks = Blanks::new(config.nodes);
+    let report = run_all::<Only<G, D>, Brand, A, R>(&runner, blanks, count, &mut rounds)?;
+    series_of(alloc, config.nodes, graph, report, rounds)
+}
+
+/// Opens a pool, runs all its generations, keeps the rounds of all but the last, and gathers the pool.
+fn run_all<G: Comparable, K: Ledgers + Send + Sync, A: Gate, R: Threads + Wait + Sync>(
+    runner: &Runner<'_, G, A, R>,
+    blanks: Blanks,
+    count: u32,
+    rounds: &mut Vec<Round>,
+) -> Result<Report, Fault>
+    requires names { blanks ≡ K.names }
+    requires nodes { blanks.nodes ≡ runner.now.config.nodes }
+    requires limits { IsWithinLimits runner.now.config }
+    requires count { 1 ≤ count }
+    requires room { (rounds.old.items ≡ []) × (count ≤ vec_capacity rounds.old) }
+    ensures report { IfOk result (IsReport K.names.nodes (G.meaning runner.now.graph)) }
+    ensures number { IfOk result (λ r. length (generations r.history.events) ≡ count) }
+    ensures many { OnOk result (vec_len rounds.new + 1 ≡ count) }
+    ensures kept { OnOk result (All (IsKept (G.meaning runner.now.graph)) rounds.new.items) }
+    ensures room { vec_capacity rounds.new ≡ vec_capacity rounds.old }
+    ensures fault { IfErr result (IsSeriesFault K.names.nodes (G.meaning runner.now.graph) count) }
+{
+    let pool = match runner.open::<K>(blanks) {
+        Ok(pool) => pool,
+        Err(refusal) => return Err(ungathered(refusal)),
+    };
+    let pool = run_earlier(runner, pool, count, rounds)?;
+    match runner.run_last(pool, count) {
+        Ok(report) => Ok(report),
+        Err(refusal) => Err(ungathered(refusal)),
+    }
+}
+
+/// Runs all generations but the last, keeps their rounds, and reopens the pool after each.
+fn run_earlier<G: Comparable, K: Ledgers + Send + Sync, A: Gate, R: Threads + Wait + Sync>(
+    runner: &Runner<'_, G, A, R>,
+    pool: Pool<G, K>,
+    count: u32,
+    rounds: &mut Vec<Round>,
+) -> Result<Pool<G, K>, Fault>
+    requires limits { IsWithinLimits runner.now.config }
+    requires nodes { vec_len pool.nodes ≡ K.names.nodes }
+    requires links { vec_len pool.links ≡ K.names.nodes * (K.names.nodes - 1) }
+    requires count { 1 ≤ count }
+    requires room { (rounds.old.items ≡ []) × (count ≤ vec_capacity rounds.old) }
+    ensures nodes { IfOk result (λ p. vec_len p.nodes ≡ K.names.nodes) }
+    ensures links { IfOk result (λ p. vec_len p.links ≡ K.names.nodes * (K.names.nodes - 1)) }
+    ensures many { OnOk result (vec_len rounds.new + 1 ≡ count) }
+    ensures kept { OnOk result (All (IsKept (G.meaning runner.now.graph)) rounds.new.items) }
+    ensures room { vec_capacity rounds.new ≡ vec_capacity rounds.old }
+    ensures fault { IfErr result (IsSeriesFault K.names.nodes (G.meaning runner.now.graph) count) }
+{
+    let mut pool = pool;
+    for number in 1..count {
+        pool = match run_and_reopen(runner, pool, number, rounds) {
+            Ok(next) => next,
+            Err(fault) => return Err(fault),
+        };
+    }
+    Ok(pool)
+}
+
+/// Runs a pool's generation of this number, which is not the last that is wanted, keeps its round, and reopens the pool.
+fn run_and_reopen<G: Comparable, K: Ledgers + Send + Sync, A: Gate, R: Threads + Wait + Sync>(
+    runner: &Runner<'_, G, A, R>,
+    pool: Pool<G, K>,
+    number: u32,
+    rounds: &mut Vec<Round>,
+) -> Result<Pool<G, K>, Fault>
+    requires limits { IsWithinLimits runner.now.config }
+    requires nodes { vec_len pool.nodes ≡ K.names.nodes }
+    requires links { vec_len pool.links ≡ K.names.nodes * (K.names.nodes - 1) }
+    requires number { 1 ≤ number }
+    requires room { vec_len rounds.old < vec_capacity rounds.old }
+    ensures nodes { IfOk result (λ p. vec_len p.nodes ≡ K.names.nodes) }
+    ensures links { IfOk result (λ p. vec_len p.links ≡ K.names.nodes * (K.names.nodes - 1)) }
+    ensures kept { OnOk result (AddsKept (G.meaning runner.now.graph) rounds.old.items rounds.new.items) }
+    ensures room { vec_capacity rounds.new ≡ vec_capacity rounds.old }
+    ensures fault { IfErr result (λ f. (count : ℕ) → number < count → IsSeriesFault K.names.nodes (G.meaning runner.now.graph) count f) }
+{
+    match runner.run_generation(pool, number) {
+        Ok((pool, token)) => next_generation(runner.alloc, runner.graph, pool, token, rounds),
+        Err(refusal) => Err(ungathered(refusal)),
+    }
+}
+
+/// Reopens a pool whose threads have ended, where its end was judged and told and no fault was set, and keeps the round of the
+/// generation that ended.
+fn next_generation<G: Graph, K: Ledgers>(
+    alloc: Global,
+    graph: G,
+    pool: Pool<G, K>,
+    token: Option<Ended<K>>,
+    rounds: &mut Vec<Round>,
+) -> Result<Pool<G, K>, Fault>
+    requires whole { IsWhole K.names.nodes graph pool.nodes.items pool.links.items }
+    requires limit { pool.board.limit ≡ MAX_STEPS }
+    requires room { vec_len rounds.old < vec_capacity rounds.old }
+    ensures nodes { IfOk result (λ p. vec_len p.nodes ≡ K.names.nodes) }
+    ensures links { IfOk result (λ p. vec_len p.links ≡ K.names.nodes * (K.names.nodes - 1)) }
+    ensures kept { OnOk result (AddsKept (G.meaning graph) rounds.old.items rounds.new.items) }
+    ensures room { vec_capacity rounds.new ≡ vec_capacity rounds.old }
+    ensures fault { IfErr result (λ f. (count : ℕ) → length (generations pool.board.history) < count → IsSeriesFault K.names.nodes (G.meaning graph) count f) }
+{
+    match token {
+        Some(ended) if pool.board.fault().is_none() => { reopen(alloc, graph, pool, ended, rounds) }
+        _ => Err(stopped(alloc, graph, pool)),
+    }
+}
+
+/// Reopens a pool in which no fault was set, with the token of its end, and keeps the round of the generation that ended.
+fn reopen<G: Graph, K: Ledgers>(
+    alloc: Global,
+    graph: G,
+    pool: Pool<G, K>,
+    ended: Ended<K>,
+    rounds: &mut Vec<Round>,
+) -> Result<Pool<G, K>, Fault>
+    requires whole { IsWhole K.names.nodes graph pool.nodes.items pool.links.items }
+    requires limit { pool.board.limit ≡ MAX_STEPS }
+    requires fault { pool.board.fault ≡ None }
+    requires room { vec_len rounds.old < vec_capacity rounds.old }
+    ensures nodes { IfOk result (λ p. vec_len p.nodes ≡ K.names.nodes) }
+    ensures links { IfOk result (λ p. vec_len p.links ≡ K.names.nodes * (K.names.nodes - 1)) }
+    ensures kept { OnOk result (AddsKept (G.meaning graph) rounds.old.items rounds.new.items) }
+    ensures room { vec_capacity rounds.new ≡ vec_capacity rounds.old }
+    ensures fault { IfErr result (λ f. (count : ℕ) → length (generations pool.board.history) < count → IsSeriesFault K.names.nodes (G.meaning graph) count f) }
+{
+    let mut pool = pool;
+    let mut ended = ended;
+    pool.board.audit_ended(&mut ended);
+    match pool.reopen(alloc, ended) {
+        Ok(Reopened { pool, results }) => keep(alloc, graph, pool, results, rounds),
+        Err((refusal, pool, _)) => Err(told(alloc, graph, pool, refusal)),
+    }
+}
+
+/// Keeps the round of a generation that ended, with these results, where each task has one. The pool was reopened, and no
+/// fault was set.
+fn keep<G: Graph, K: Ledgers>(
+    alloc: Global,
+    graph: G,
+    pool: Pool<G, K>,
+    results: Vec<(TaskId, Value)>,
+    rounds: &mut Vec<Round>,
+) -> Result<Pool<G, K>, Fault>
+    requires whole { IsWhole K.names.nodes graph pool.nodes.items pool.links.items }
+    requires opened { (present_events pool.board.history ≡ []) × (1 < length (generations pool.board.history)) }
+    requires fault { pool.board.fault ≡ None }
+    requires right { AreRight (G.meaning graph) results.items }
+    requires room { vec_len rounds.old < vec_capacity rounds.old }
+    ensures nodes { IfOk result (λ p. vec_len p.nodes ≡ K.names.nodes) }
+    ensures links { IfOk result (λ p. vec_len p.links ≡ K.names.nodes * (K.names.nodes - 1)) }
+    ensures kept { OnOk result (AddsKept (G.meaning graph) rounds.old.items rounds.new.items) }
+    ensures room { vec_capacity rounds.new ≡ vec_capacity rounds.old }
+    ensures fault { IfErr result (λ f. (count : ℕ) → IsSeriesFault K.names.nodes (G.meaning graph) count f) }
+{
+    let tasks = graph.tasks();
+    match each_once(alloc, tasks, &results) {
+        Ok(true) => {
+            rounds.push_reserved(Round {
+                results,
+                tasks,
+                messages: 0,
+            });
+            Ok(pool)
+        }
+        Ok(false) => Err(told(alloc, graph, pool, Refusal::Missing)),
+        Err(_) => Err(told(alloc, graph, pool, Refusal::NoMemory)),
+    }
+}
+
+/// The fault of a pool that is not reopened, since a fault was set there, its end was not judged or not told to each node, or
+/// the token of the end is not at its place.
+fn stopped<G: Graph, K: Ledgers>(alloc: Global, graph: G, pool: Pool<G, K>) -> Fault
+    requires whole { IsWhole K.names.nodes graph pool.nodes.items pool.links.items }
+    ensures { (count : ℕ) → IsSeriesFault K.names.nodes (G.meaning graph) count result }
+{
+    let nodes = pool.board.nodes();
+    match report_of(alloc, &graph, pool) {
+        Ok(report) => fault_of(nodes, graph, report),
+        Err(refusal) => ungathered(refusal),
+    }
+}
+
+/// The fault of a pool of so many nodes that is not reopened, of which this was gathered.
+fn fault_of<G: Graph>(nodes: u32, graph: G, report: Report) -> Fault
+    requires report { IsReport nodes (G.meaning graph) report }
+    ensures { (count : ℕ) → IsSeriesFault nodes (G.meaning graph) count result }
+{
+    let _graph = graph;
+    match reason_of(nodes, &report) {
+        Some(refusal) => Fault {
+            refusal,
+            report: Some(report),
+        },
+        None => ungathered(Refusal::Stranger),
+    }
+}
+
+/// Why a pool of so many nodes is not reopened, where its report tells.
+fn reason_of(nodes: u32, report: &Report) -> Option<Refusal>
+    ensures { IfSome result (λ e. (tasks count : ℕ) → MatchOption report.now.fault (IsSeriesLack nodes tasks count report.now e) (λ fault. IsAnswer (length report.now.history.events) fault e)) }
+{
+    match report.fault {
+        Some(fault) => Some(answer_to(fault, report.history.len())),
+        None if report.ended && report.announced == nodes => None,
+        None => Some(Refusal::Missing),
+    }
+}
+
+/// The fault of a pool that stops for a refusal.
+fn told<G: Graph, K: Ledgers>(alloc: Global, graph: G, pool: Pool<G, K>, refusal: Refusal) -> Fault
+    requires whole { IsWhole K.names.nodes graph pool.nodes.items pool.links.items }
+    ensures { IsTold K.names.nodes (G.meaning graph) refusal pool.board.fault pool.board.history result }
+{
+    match report_of(alloc, &graph, pool) {
+        Ok(report) => Fault {
+            refusal,
+            report: Some(report),
+        },
+        Err(refusal) => ungathered(refusal),
+    }
+}
+
+/// The fault of a pool of which nothing was gathered.
+fn ungathered(refusal: Refusal) -> Fault
+    ensures { result ≡ record { refusal = refusal; report = None } }
+{
+    Fault {
+        refusal,
+        report: None,
+    }
+}
+
+/// The series of a pool of which this was gathered in its last generation, with the rounds of the earlier ones.
+fn series_of<G: Graph>(
+    alloc: Global,
+    nodes: u32,
+    graph: G,
+    report: Report,
+    rounds: Vec<Round>,
+) -> Result<Series, Fault>
+    requires report { IsReport nodes (G.meaning graph) report }
+    requires number { length (generations report.history.events) ≡ vec_len rounds + 1 }
+    requires kept { All (IsKept (G.meaning graph)) rounds.items }
+    requires room { vec_len rounds < vec_capacity rounds }
+    ensures series { IfOk result (IsSeries nodes (G.meaning graph) (vec_len rounds + 1)) }
+    ensures fault { IfErr result (IsSeriesFault nodes (G.meaning graph) (vec_len rounds + 1)) }
+{
+    let tasks = graph.tasks();
+    let mut rounds = rounds;
+    match sent_of(alloc, nodes, tasks, rounds.len() + 1, &report) {
+        Ok(sent) => {
+            rounds.push_reserved(Round {
+                results: report.results,
+                tasks,
+                messages: 0,
+            });
+            tell(&mut rounds, &sent);
+            Ok(Series {
+                rounds,
+                history: report.history,
+            })
+        }
+        Err(refusal) => Err(Fault {
+            refusal,
+            report: Some(report),
+        }),
+    }
+}
+
+/// How many messages each of so many generations sent, the oldest first, where nothing is lacking of a series.
+fn sent_of(
+    alloc: Global,
+    nodes: u32,
+    tasks: u32,
+    count: usize,
+    report: &Report,
+) -> Result<Vec<u32>, Refusal>
+    requires few { length report.now.history.events ≤ MAX_STEPS }
+    requires number { length (generations report.now.history.events) ≡ count }
+    ensures ended { OnOk result (IsTrue report.now.ended) }
+    ensures once { OnOk result (HasEachOnce tasks report.now.results.items × LivesInEach tasks report.now.history.events) }
+    ensures sent { IfOk result (λ sent. sent.items ≡ reverse (map sent_in (generations report.now.history.events))) }
+    ensures refusal { IfErr result (λ e. MatchOption report.now.fault (IsSeriesLack nodes tasks count report.now e) (λ fault. IsAnswer (length report.now.history.events) fault e)) }
+{
+    if let Some(fault) = report.fault {
+        return Err(answer_to(fault, report.history.len()));
+    }
+    if !report.ended || report.announced != nodes {
+        return Err(Refusal::Missing);
+    }
+    match sent_where_once(alloc, tasks, count, report) {
+        Ok(Some(sent)) => Ok(sent),
+        Ok(None) => Err(Refusal::Missing),
+        Err(_) => Err(Refusal::NoMemory),
+    }
+}
+
+/// The messages of each generation, where each task has one result in the present one, and lived once in each.
+fn sent_where_once(
+    alloc: Global,
+    tasks: u32,
+    count: usize,
+    report: &Report,
+) -> Result<Option<Vec<u32>>, AllocError>
+    requires few { length report.now.history.events ≤ MAX_STEPS }
+    requires number { length (generations report.now.history.events) ≡ count }
+    ensures once { IfOk result (λ sent. MatchOption sent (HasEachOnce tasks report.now.results.items × LivesInEach tasks report.now.history.events → ⊥) (λ _. HasEachOnce tasks report.now.results.items × LivesInEach tasks report.now.history.events)) }
+    ensures sent { IfOk result (λ sent. IfSome sent (λ each. each.items ≡ reverse (map sent_in (generations report.now.history.events)))) }
+{
+    if !each_once(alloc, tasks, &report.results)? {
+        return Ok(None);
+    }
+    sent_in_each(alloc, tasks, count, &report.history)
+}
+
+/// Tells each round how many messages its generation sent.
+fn tell(rounds: &mut [Round], sent: &[u32])
+    requires { length rounds.old ≡ length sent.now }
+    ensures length { length rounds.new ≡ length rounds.old }
+    ensures told { (k : ℕ) (r : Round) → k < length rounds.old → slice_index_or rounds.new k r ≡ with_messages (slice_index sent.now k) (slice_index_or rounds.old k r) }
+{
+    for place in 0..rounds.len() {
+        rounds[place].messages = sent[place];
+    }
+}
