@@ -53,7 +53,7 @@ def calls():
     """Every public call of the repository that can be refused memory, as crate: Type::name."""
     found = set()
     for crate in repository.crates():
-        if crate.startswith("tp_test") or crate in ("tp", "tp_examples"):
+        if crate.startswith("test_") or crate in ("tp", "tp_examples"):
             continue
         for path in repository.files_in(f"crates/{crate}/src"):
             found.update(f"{crate}: {call}" for call in calls_of(path))
@@ -61,7 +61,7 @@ def calls():
 
 
 def listed():
-    rows = re.findall(r"^\| (tp_\w+) \| `([\w:]+)` \|", repository.text_of("docs/MEMORY.md"), re.M)
+    rows = re.findall(r"^\| ((?:tp|pool)_\w+) \| `([\w:]+)` \|", repository.text_of("docs/MEMORY.md"), re.M)
     return {f"{crate}: {call}" for crate, call in rows}
 
 

@@ -3,7 +3,7 @@
 
 ghost use Rattle.std.specs.Prelude.{IfErr, IfOk};
 ghost use Rattle.tp_graph.specs.Serial.{AreValues};
-ghost use Rattle.tp_own.specs.Chains.{chain_graph};
+ghost use Rattle.pool_chain.specs.Chains.{chain_graph};
 ghost use Rattle.tp_work.specs.Outcomes.{IsFault, IsWithinLimits};
 
 use std::alloc::Global;
@@ -12,7 +12,7 @@ use std::sync::Wait;
 use std::thread::Threads;
 use tp_base::TaskId;
 use tp_graph::{Value, in_order};
-use tp_own::Chain;
+use pool_chain::Chain;
 use tp_work::{Config, Fault, OpenGate, run_pool};
 
 fn main(rt: HostRuntime) -> io::Result<()> {

@@ -4,7 +4,7 @@
 use std::alloc::{AllocError, Global};
 use std::io::ErrorKind;
 use std::process::ExitCode;
-use tp_lent_cli::heat_with;
+use pool_cli::heat_with;
 
 /// The exit status is that of `heat_with`. Where there is no memory for the words, or one of them is not UTF-8, a line says so.
 fn main(rt: HostRuntime) -> ExitCode {

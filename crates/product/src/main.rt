@@ -4,7 +4,7 @@
 use std::alloc::{AllocError, Global};
 use std::io::ErrorKind;
 use std::process::ExitCode;
-use tp_lent_cli::product_with;
+use pool_cli::product_with;
 
 /// The exit status is that of `product_with`. Where there is no memory for the words, or one of them is not UTF-8, a line says so.
 fn main(rt: HostRuntime) -> ExitCode {

@@ -10,8 +10,8 @@ use Rattle.tp_cli.specs.Runs.{IsTextFor, NamesNoGraph}
 use Rattle.tp_cli.specs.Status.{status_of_verdict}
 use Rattle.tp_cli.specs.declared.run.Plan.{Plan}
 use Rattle.tp_cli.specs.declared.status.Status.TheVariants.{Refused}
-use Rattle.tp_samples.specs.Words.{word_of}
-use Rattle.tp_samples.specs.declared.any.AnyGraph.{AnyGraph}
+use Rattle.pool_samples.specs.Words.{word_of}
+use Rattle.pool_samples.specs.declared.any.AnyGraph.{AnyGraph}
 use Rattle.tp_text.specs.declared.Verdict.{Verdict}
 use Rattle.tp_text.specs.declared.Verdict.TheVariants as verdict
 

@@ -3,7 +3,7 @@ use Rattle.std.proofs.Common.{◌≡◌, ◌∙◌, ◌++◌, ℕ, List, [], ◌
 use Rattle.tp_cli.specs.Runs.{IsPrintOf, run_text}
 use Rattle.tp_cli.specs.declared.run.Form.{Form}
 use Rattle.tp_cli.specs.declared.run.Form.TheVariants.{Table}
-use Rattle.tp_samples.specs.declared.any.AnyGraph.{AnyGraph}
+use Rattle.pool_samples.specs.declared.any.AnyGraph.{AnyGraph}
 use Rattle.tp_text.specs.Spelling.{line}
 use Rattle.tp_work.specs.declared.config.Outcome.{Outcome}
 

@@ -11,8 +11,8 @@ use Rattle.tp_cli.specs.Runs.{IsPrintOfSeries, IsRoundOf, IsUnprintedSeries, IsU
 use Rattle.tp_cli.specs.declared.run.Form.{Form}
 use Rattle.tp_cli.specs.declared.run.Form.TheVariants.{Table}
 use Rattle.tp_graph.specs.Graphs.{TaskGraph}
-use Rattle.tp_samples.specs.Any.{any_graph}
-use Rattle.tp_samples.specs.declared.any.AnyGraph.{AnyGraph}
+use Rattle.pool_samples.specs.Any.{any_graph}
+use Rattle.pool_samples.specs.declared.any.AnyGraph.{AnyGraph}
 use Rattle.tp_text.specs.Spelling.{line}
 use Rattle.tp_wave.proofs.Generations.{generations_law}
 use Rattle.tp_wave.specs.Generations.{InEach}

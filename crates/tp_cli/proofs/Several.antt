@@ -18,8 +18,8 @@ use Rattle.tp_base.specs.declared.refusal.Refusal.{Refusal}
 use Rattle.tp_base.specs.declared.refusal.Refusal.TheVariants.{BadSpec, NoMemory, PoolKnown, StoreFull}
 use Rattle.tp_pools.specs.Pools.{Entered, IsUnregistered, Pools, is_named, register_checks, registered}
 use Rattle.tp_pools.specs.Runs.{is_waiting, rank}
-use Rattle.tp_samples.specs.Words.{word_of}
-use Rattle.tp_samples.specs.declared.any.AnyGraph.{AnyGraph}
+use Rattle.pool_samples.specs.Words.{word_of}
+use Rattle.pool_samples.specs.declared.any.AnyGraph.{AnyGraph}
 use Rattle.tp_several.specs.Answers.{AreRun, AreRunAnswers}
 use Rattle.tp_work.specs.declared.config.Fault.{Fault}
 use Rattle.tp_work.specs.declared.config.Outcome.{Outcome}

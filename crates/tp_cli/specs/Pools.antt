@@ -9,8 +9,8 @@ use Rattle.tp_base.specs.declared.refusal.Refusal.{Refusal}
 use Rattle.tp_base.specs.declared.refusal.Refusal.TheVariants.{BadSpec, PoolKnown, StoreFull}
 use Rattle.tp_cli.specs.Runs.{NamesNoGraph}
 use Rattle.tp_pools.specs.Pools.{Pools, registered}
-use Rattle.tp_samples.specs.Words.{word_of}
-use Rattle.tp_samples.specs.declared.any.AnyGraph.{AnyGraph}
+use Rattle.pool_samples.specs.Words.{word_of}
+use Rattle.pool_samples.specs.declared.any.AnyGraph.{AnyGraph}
 use Rattle.tp_several.specs.Answers.{AreRunAnswers}
 use Rattle.tp_work.specs.declared.config.Fault.{Fault}
 use Rattle.tp_work.specs.declared.config.Outcome.{Outcome}

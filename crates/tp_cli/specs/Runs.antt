@@ -4,10 +4,10 @@ use Rattle.tp_base.specs.Refusals.{number_of, name_of}
 use Rattle.tp_base.specs.declared.refusal.Refusal.{Refusal}
 use Rattle.tp_base.specs.declared.refusal.Refusal.TheVariants.{BadSpec, Missing, NoMemory}
 use Rattle.tp_graph.specs.Serial.{AreRight, Results}
-use Rattle.tp_samples.specs.Any.{any_graph}
-use Rattle.tp_samples.specs.Tables.{LacksCell, table_of, table_text}
-use Rattle.tp_samples.specs.Words.{word_of}
-use Rattle.tp_samples.specs.declared.any.AnyGraph.{AnyGraph}
+use Rattle.pool_samples.specs.Any.{any_graph}
+use Rattle.pool_samples.specs.Tables.{LacksCell, table_of, table_text}
+use Rattle.pool_samples.specs.Words.{word_of}
+use Rattle.pool_samples.specs.declared.any.AnyGraph.{AnyGraph}
 use Rattle.tp_cli.specs.declared.command.TheConstants.{MAX_GENERATIONS}
 use Rattle.tp_cli.specs.declared.run.Form.{Form}
 use Rattle.tp_cli.specs.declared.run.Form.TheVariants.{Table, Trace}

@@ -7,7 +7,7 @@ ghost use Rattle.tp_base.specs.Refusals.{name_of, number_of};
 ghost use Rattle.tp_base.specs.declared.refusal.Refusal.{Refusal};
 ghost use Rattle.tp_base.specs.declared.refusal.Refusal.TheVariants.{NoMemory};
 ghost use Rattle.tp_cli.specs.Pools.{AreInVain, AreNamed, IsPoolsText, lines_from, pool_line, pools_of};
-ghost use Rattle.tp_samples.specs.declared.any.AnyGraph.{AnyGraph};
+ghost use Rattle.pool_samples.specs.declared.any.AnyGraph.{AnyGraph};
 ghost use Rattle.tp_several.specs.Answers.{AreRunAnswers};
 ghost use Rattle.tp_work.specs.Outcomes.{IsWithinLimits};
 

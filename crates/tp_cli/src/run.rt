@@ -5,7 +5,7 @@ ghost use Rattle.tp_base.specs.declared.refusal.Refusal.TheVariants.{BadSpec, No
 ghost use Rattle.tp_base.specs.declared.limits.TheConstants.{MAX_NODES};
 ghost use Rattle.tp_cli.specs.Runs.{IsPlan, IsPrintOf, IsRefusedRun, IsTextFor, IsTextOf, IsTextOfOne, IsUnprinted, IsUntold, IsWithoutOne, IsWithoutText, NamesNoGraph, refusal_line, run_text, totals_text};
 ghost use Rattle.tp_graph.specs.Serial.{AreRight};
-ghost use Rattle.tp_samples.specs.Any.{any_graph};
+ghost use Rattle.pool_samples.specs.Any.{any_graph};
 ghost use Rattle.tp_work.specs.Outcomes.{IsOutcome, IsWithinLimits};
 
 use crate::series::text_of_generations;
@@ -15,7 +15,7 @@ use std::sync::Wait;
 use std::thread::Threads;
 use tp_base::{Refusal, TaskId};
 use tp_graph::Value;
-use tp_samples::{AnyGraph, checked};
+use pool_samples::{AnyGraph, checked};
 use tp_table::print_table;
 use tp_text::print_trace;
 use tp_work::{Config, OpenGate, Outcome, run_pool};

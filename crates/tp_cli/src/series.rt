@@ -3,7 +3,7 @@ ghost use Rattle.std.specs.List.{All};
 ghost use Rattle.tp_base.specs.declared.limits.TheConstants.{MAX_NODES};
 ghost use Rattle.tp_base.specs.declared.refusal.Refusal.TheVariants.{NoMemory};
 ghost use Rattle.tp_cli.specs.Runs.{IsPlan, IsPrintOfSeries, IsRoundOf, IsTextOfSeries, IsUnprintedSeries, IsUntold, IsUntoldRound, IsWithoutSeries, round_text, rounds_text};
-ghost use Rattle.tp_samples.specs.Any.{any_graph};
+ghost use Rattle.pool_samples.specs.Any.{any_graph};
 ghost use Rattle.tp_work.specs.Series.{IsSeries};
 
 use crate::run::{Form, Plan, text_of_results};
@@ -11,7 +11,7 @@ use std::alloc::Global;
 use std::sync::Wait;
 use std::thread::Threads;
 use tp_base::Refusal;
-use tp_samples::AnyGraph;
+use pool_samples::AnyGraph;
 use tp_text::print_trace;
 use tp_work::{OpenGate, Round, Series, run_generations};
 

@@ -7,8 +7,8 @@ use Rattle.tp_base.specs.Checks.{Check}
 use Rattle.tp_base.specs.declared.limits.TheConstants.{MAX_POOLS}
 use Rattle.tp_base.specs.declared.refusal.Refusal.{Refusal}
 use Rattle.tp_base.specs.declared.refusal.Refusal.TheVariants.{BadSpec, NoMemory, NoPool, PoolKnown, StoreFull}
-use Rattle.tp_samples.specs.Words.{word_of}
-use Rattle.tp_samples.specs.declared.any.AnyGraph.{AnyGraph}
+use Rattle.pool_samples.specs.Words.{word_of}
+use Rattle.pool_samples.specs.declared.any.AnyGraph.{AnyGraph}
 use Rattle.tp_pools.specs.declared.entry.Standing.{Standing}
 use Rattle.tp_pools.specs.declared.entry.Standing.TheVariants.{Registered, Active, Over, Failed}
 

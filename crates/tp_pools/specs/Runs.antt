@@ -5,7 +5,7 @@ use Rattle.std.specs.Option.{option_map}
 use Rattle.tp_pools.specs.Pools.{Entered, Pools, is_same}
 use Rattle.tp_pools.specs.declared.entry.Standing.{Standing}
 use Rattle.tp_pools.specs.declared.entry.Standing.TheVariants.{Registered, Over, Failed}
-use Rattle.tp_samples.specs.declared.any.AnyGraph.{AnyGraph}
+use Rattle.pool_samples.specs.declared.any.AnyGraph.{AnyGraph}
 
 -- it can be run
 abbrev pub is_waiting : Entered → Bool

@@ -3,7 +3,7 @@ ghost use Rattle.tp_pools.specs.Pools.{registered};
 ghost use Rattle.tp_pools.specs.Runs.{is_waiting, standing_after};
 
 use std::marker::Model;
-use tp_samples::AnyGraph;
+use pool_samples::AnyGraph;
 
 /// Where a pool stands.
 #[derive(Clone, Copy, Debug, PartialEq, Eq)]

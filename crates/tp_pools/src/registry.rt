@@ -7,14 +7,14 @@ ghost use Rattle.tp_base.specs.declared.limits.TheConstants.{MAX_POOLS};
 ghost use Rattle.tp_pools.specs.Pools.{IsUnregistered, is_named, register_checks, registered, standing_checks, standing_of, with_standing};
 ghost use Rattle.tp_pools.specs.Runs.{AreSettled, graphs_to_run, is_waiting};
 ghost use Rattle.tp_pools.specs.declared.entry.Standing.TheVariants as stand;
-ghost use Rattle.tp_samples.specs.Words.{word_of};
-ghost use Rattle.tp_samples.specs.declared.any.AnyGraph.{AnyGraph};
+ghost use Rattle.pool_samples.specs.Words.{word_of};
+ghost use Rattle.pool_samples.specs.declared.any.AnyGraph.{AnyGraph};
 
 use crate::entry::{Entry, Standing};
 use std::alloc::{AllocError, Global};
 use std::marker::Model;
 use tp_base::{MAX_POOLS, PoolId, Refusal};
-use tp_samples::{AnyGraph, checked};
+use pool_samples::{AnyGraph, checked};
 
 /// At most 8 pools, in the order of registration. A pool's number is its position. A refused call changes nothing.
 #[derive(Drop)]

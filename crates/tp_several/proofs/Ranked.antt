@@ -10,7 +10,7 @@ use Rattle.std.specs.Option.{option_map}
 use Rattle.std.specs.Prelude.{get_or}
 use Rattle.tp_pools.specs.Pools.{Entered, Pools}
 use Rattle.tp_pools.specs.Runs.{AreSettled, graphs_to_run, is_waiting, rank}
-use Rattle.tp_samples.specs.declared.any.AnyGraph.{AnyGraph}
+use Rattle.pool_samples.specs.declared.any.AnyGraph.{AnyGraph}
 use Rattle.tp_several.specs.Answers.{AreRun, AreRunAnswers, IsRunAnswer}
 use Rattle.tp_work.specs.declared.config.Fault.{Fault}
 use Rattle.tp_work.specs.declared.config.Outcome.{Outcome}

@@ -2,8 +2,8 @@
 use Rattle.std.specs.Prelude.{ℕ, ◌≡◌, ◌<◌, true, List, Some, Result, Ok, Err, length, slice_get, slice_index_or}
 use Rattle.tp_pools.specs.Pools.{Entered, Pools}
 use Rattle.tp_pools.specs.Runs.{AreSettled, is_waiting, rank}
-use Rattle.tp_samples.specs.Any.{any_graph}
-use Rattle.tp_samples.specs.declared.any.AnyGraph.{AnyGraph}
+use Rattle.pool_samples.specs.Any.{any_graph}
+use Rattle.pool_samples.specs.declared.any.AnyGraph.{AnyGraph}
 use Rattle.tp_work.specs.Outcomes.{IsFault, IsOutcome}
 use Rattle.tp_work.specs.declared.config.Fault.{Fault}
 use Rattle.tp_work.specs.declared.config.Outcome.{Outcome}

@@ -8,7 +8,7 @@ use std::sync::Wait;
 use std::thread::{self, Threads};
 use tp_base::Refusal;
 use tp_pools::Registry;
-use tp_samples::AnyGraph;
+use pool_samples::AnyGraph;
 use tp_work::{Config, Fault, Gate, Outcome, run_pool};
 
 /// Runs each registered pool of a registry, all at once, each by threads of its own, and waits for all. The answers are those

@@ -2,13 +2,13 @@ ghost use Rattle.std.specs.Prelude.{◌≡◌, ◌<◌, ◌⊎◌, ◌↔◌, �
 ghost use Rattle.std.specs.Fmt.{signed_decimal};
 ghost use Rattle.tp_base.specs.declared.Refusal.TheVariants.{Missing, NoMemory};
 ghost use Rattle.tp_graph.specs.Serial.{AreRight};
-ghost use Rattle.tp_samples.specs.Any.{any_graph};
-ghost use Rattle.tp_samples.specs.Tables.{LacksCell, table_of, texts, cell_text, table_text};
+ghost use Rattle.pool_samples.specs.Any.{any_graph};
+ghost use Rattle.pool_samples.specs.Tables.{LacksCell, table_of, texts, cell_text, table_text};
 
 use std::alloc::{AllocError, Global};
 use tp_base::{Refusal, TaskId};
 use tp_graph::Value;
-use tp_samples::{AnyGraph, ResultTable};
+use pool_samples::{AnyGraph, ResultTable};
 
 /// The table of a graph, from results each of which has to be its task's value: row by row, the numbers of a row
 /// separated by single spaces and ended by a line feed. Refused with `Missing` exactly where a task that the table needs
@@ -32,7 +32,7 @@ pub fn print_table(
 }
 
 /// Writes a row of a table.
-#[tactic(auto, using(tp_samples::proofs::Printed::texts_more))]
+#[tactic(auto, using(pool_samples::proofs::Printed::texts_more))]
 fn print_row(
     alloc: Global,
     text: &mut Vec<u8>,

@@ -15,12 +15,13 @@ import tempfile
 from .. import repository, running
 from .refuse import Refusing
 
-CRATES = ["tp_test_parts", "tp_test_board", "tp_test_whole"]
+CRATES = ["test_parts", "test_board", "test_whole"]
 TESTS = [
     "memory::memory_that_is_refused_changes_nothing",
     "raw::a_refused_growth_loses_nothing",
     "tables::a_full_history_refuses_a_turn_alone",
     "tables::a_full_history_refuses_the_visit",
+    "tables::a_reopened_board_begins_anew",
     "tables::messages_are_counted_at_both_ends",
     "tables::the_turns_of_two_waves_judge_the_end",
     "tables::two_equal_waves_judge_the_end",

@@ -1,4 +1,4 @@
-use Rattle.tp_own.specs.Chains.{chain_graph}
+use Rattle.pool_chain.specs.Chains.{chain_graph}
 use Rattle.chain.proofs.run_chain.Goals as goal
 
 pub returns-clause-values : goal.returns-clause-values

@@ -4,7 +4,7 @@ use Rattle.std.specs.List.{list_all}
 use Rattle.std.specs.Result.{is_ok}
 use Rattle.tp_cli.proofs.Ending.{IfErr-each}
 use Rattle.tp_cli.specs.Pools.{lines_from, pools_of}
-use Rattle.tp_samples.specs.declared.any.AnyGraph.{AnyGraph}
+use Rattle.pool_samples.specs.declared.any.AnyGraph.{AnyGraph}
 use Rattle.tp_several.specs.Answers.{AreRunAnswers}
 use Rattle.tp_cli.proofs.pools.run_several.Goals as goal
 

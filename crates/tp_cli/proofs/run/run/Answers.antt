@@ -4,7 +4,7 @@ use Rattle.tp_cli.specs.Runs.{IsTextOf, IsWithoutText}
 use Rattle.tp_base.specs.declared.refusal.Refusal.TheVariants.{BadSpec}
 use Rattle.tp_cli.specs.declared.run.RunFault.TheVariants.{Spec}
 use Rattle.tp_cli.proofs.Ending.{IfErr-each, names_none}
-use Rattle.tp_samples.specs.Words.{word_of}
+use Rattle.pool_samples.specs.Words.{word_of}
 use Rattle.tp_cli.proofs.run.run.Goals as goal
 
 pub returns-clause-ran : goal.returns-clause-ran

@@ -3,7 +3,7 @@ use Rattle.std.proofs.lemmas.Result.{IfOk-weaker}
 use Rattle.tp_cli.proofs.Counted.{tasks-outcome}
 use Rattle.tp_cli.proofs.Printed.{printed_table}
 use Rattle.tp_cli.specs.Runs.{IsPrintOf}
-use Rattle.tp_samples.specs.Any.{any_graph}
+use Rattle.pool_samples.specs.Any.{any_graph}
 use Rattle.tp_text.proofs.Present.{run_in_each}
 use Rattle.tp_cli.proofs.run.text_of_outcome.Goals as goal
 

@@ -1,6 +1,6 @@
 use Rattle.std.proofs.Common.{◌≡◌, ◌∙◌, ◌++◌, ap, ap₂}
 use Rattle.tp_cli.specs.Runs.{totals_text}
-use Rattle.tp_samples.specs.Any.{any_graph}
+use Rattle.pool_samples.specs.Any.{any_graph}
 use Rattle.tp_cli.proofs.run.text_of_results.Goals as goal
 
 pub returns-clause-text : goal.returns-clause-text

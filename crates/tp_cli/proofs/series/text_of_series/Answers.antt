@@ -3,7 +3,7 @@ use Rattle.std.proofs.lemmas.Result.{IfErr-weaker, IfOk-weaker}
 use Rattle.std.specs.List.{All}
 use Rattle.tp_cli.proofs.Rounds.{each_of, in_each, printed_rounds, untold_rounds}
 use Rattle.tp_cli.specs.Runs.{IsPrintOfSeries, IsRoundOf, IsUnprintedSeries}
-use Rattle.tp_samples.specs.Any.{any_graph}
+use Rattle.pool_samples.specs.Any.{any_graph}
 use Rattle.tp_cli.proofs.series.text_of_series.Goals as goal
 
 pub text_of_rounds-requires : goal.text_of_rounds-requires

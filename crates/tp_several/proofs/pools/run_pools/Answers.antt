@@ -1,6 +1,6 @@
 use Rattle.std.proofs.Common.{◌≡◌, ◌∙◌, ap, subst, List, Result, length}
 use Rattle.tp_pools.specs.Runs.{AreSettled}
-use Rattle.tp_samples.specs.declared.any.AnyGraph.{AnyGraph}
+use Rattle.pool_samples.specs.declared.any.AnyGraph.{AnyGraph}
 use Rattle.tp_several.proofs.Ranked.{are_run, length-graphs_to_run}
 use Rattle.tp_several.specs.Answers.{AreRunAnswers}
 use Rattle.tp_work.specs.declared.config.Fault.{Fault}

@@ -1,5 +1,5 @@
 use Rattle.std.proofs.Common.{◌≡◌}
-use Rattle.tp_samples.specs.Tables.{table_of, texts, cell_text}
+use Rattle.pool_samples.specs.Tables.{table_of, texts, cell_text}
 use Rattle.tp_table.proofs.table.print_table.Given as goal
 
 abbrev pub invariant-loop-i : goal.invariant-loop-i

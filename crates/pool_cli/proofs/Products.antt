@@ -1,0 +1,59 @@
+-- Lengths of products, and sizes of tiles.
+use Rattle.std.proofs.Common.{◌≡◌, ◌∙◌, ◌≤◌, ◌<◌, ◌+◌, ◌-◌, ◌*◌, ◌/◌, ◌%◌, ◌^◌, ℕ, zero, suc, ℤ, List, length, ap, refl, arith, rules, tests}
+use Rattle.std.proofs.lemmas.Nat.{div-add-mod', mul-le}
+use Rattle.std.specs.Str.Lines.{lines}
+use Rattle.pool_matrix.specs.Matrices.{list_of, product_of}
+use Rattle.pool_rows.specs.Matrices.{AreMatrices, rows_text}
+use Rattle.pool_cli.specs.Tiles.{IsProductText, IsWithinEvents, message_events, product_events, task_events}
+
+length-list_of : {A : Type 0} (count : ℕ) (f : ℕ → A) → length (list_of count f) ≡ count
+length-list_of zero f = refl
+length-list_of (suc count) f = ap suc (length-list_of count (λ e. f (suc e)))
+
+-- a product has as many numbers as a matrix
+pub product_full : (order rows : ℕ) (left right made : List ℤ) → rows ≡ order → made ≡ product_of rows left right → length made ≡ order * order
+product_full order rows left right made same is =
+    ap length is ∙ length-list_of (rows * rows) _ ∙ ap (λ n. n * n) same
+
+-- the text that was made is that of the product
+pub product_text_is : (side nodes : ℕ) (bytes : List ℕ) (order rows : ℕ) (left right made : List ℤ) (text : List ℕ)
+    → AreMatrices (lines bytes) order left right → rows ≡ order → IsWithinEvents order side nodes → made ≡ product_of rows left right
+    → text ≡ rows_text order made → IsProductText side nodes bytes text
+product_text_is side nodes bytes order rows left right made text are same within made_is text_is =
+    (order, left, right, are, within, text_is ∙ ap (rows_text order) (made_is ∙ ap (λ n. product_of n left right) same))
+
+-- what fills some rows is not nothing
+not_none : (rows side tiles : ℕ) → 1 ≤ rows → tiles * side ≡ rows → 1 ≤ tiles
+not_none rows side zero some is = absurd (omega (arith, is, some))
+not_none rows side (suc tiles) some is = omega arith
+
+-- there is a tile
+pub some_tiles : (rows side : ℕ) → 1 ≤ rows → rows % side ≡ 0 → 1 ≤ rows / side
+some_tiles rows side some none_over =
+    let whole : rows / side * side + rows % side ≡ rows = div-add-mod' rows side in
+    not_none rows side (rows / side) some (omega (arith, whole, none_over))
+
+-- the squares and cubes of few tiles are far below 2 ^ 64
+pub square_small : (tiles : ℕ) → tiles < 2 ^ 15 → tiles * tiles ≤ 2 ^ 30
+square_small tiles few = mul-le tiles tiles (2 ^ 15) (2 ^ 15) (omega (arith, few)) (omega (arith, few))
+
+pub cube_small : (tiles factor : ℕ) → tiles < 2 ^ 15 → factor ≤ tiles → tiles * tiles * factor ≤ 2 ^ 45
+cube_small tiles factor few least = mul-le (tiles * tiles) factor (2 ^ 30) (2 ^ 15) (square_small tiles few) (omega (arith, few, least))
+
+-- the events of a run, by the number of its messages
+counted : (tiles nodes now messages : ℕ) → now ≡ tiles → 3 * messages ≡ message_events tiles nodes
+    → 3 * (now * now * now) + 3 * messages ≡ product_events tiles nodes
+counted tiles nodes now messages same are =
+    ap (λ tasks. tasks + 3 * messages) (ap task_events same) ∙ ap (λ more. task_events tiles + more) are
+
+pub events_at_several : (tiles nodes now messages : ℕ) → now ≡ tiles → 1 < nodes → messages ≡ now * now * (now - 1)
+    → 3 * (now * now * now) + 3 * messages ≡ product_events tiles nodes
+events_at_several tiles nodes now messages same several are =
+    let each : 3 * (tiles * tiles * (tiles - 1)) ≡ message_events tiles nodes = search (tests, rules) in
+    counted tiles nodes now messages same (ap (λ n. 3 * n) are ∙ ap (λ n. 3 * (n * n * (n - 1))) same ∙ each)
+
+pub events_at_one : (tiles nodes now messages : ℕ) → now ≡ tiles → nodes ≤ 1 → messages ≡ 0
+    → 3 * (now * now * now) + 3 * messages ≡ product_events tiles nodes
+events_at_one tiles nodes now messages same one none =
+    let each : 0 ≡ message_events tiles nodes = search (tests, rules) in
+    counted tiles nodes now messages same (ap (λ n. 3 * n) none ∙ each)

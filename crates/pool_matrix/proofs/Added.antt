@@ -1,0 +1,132 @@
+-- Rows of sums, to which products are added place by place.
+use Rattle.std.proofs.Common.{◌≡◌, ◌≢◌, ◌<◌, ◌≤◌, ◌+◌, ◌*◌, ◌^◌, ◌&&◌, ◌⊎◌, ℕ, zero, suc, ℤ, pos, negsuc, ◌+ℤ◌, ◌*ℤ◌, List, [], ◌∷◌, length, get_or, set, Option, Some, None, Bool, true, false, if◌then◌else◌, inl, inr, refl, ap, sym, ◌∙◌, ⊎_elim, subst, arith, rules, get_or-set_same, get_or-set_other, length-set}
+use Rattle.std.specs.Prelude.{unsigned_abs}
+use Rattle.std.proofs.lemmas.Bool.{cases_eq, and_parts, and_from}
+use Rattle.std.proofs.lemmas.Int.{ints, unsigned_abs-mul}
+use Rattle.std.proofs.lemmas.Nat.{mul-le}
+use Rattle.tp_graph.specs.Values.{then_some, gather, fits}
+use Rattle.tp_graph.proofs.Fits.{fits-from}
+use Rattle.tp_graph.proofs.Made.{gathered, some_same}
+use Rattle.pool_matrix.specs.Matrices.{entry, more, running, term}
+use Rattle.pool_matrix.specs.Rows.{AreWithin, one_more, row_entry}
+use Rattle.pool_matrix.proofs.Running.{running_more, none_stays, gather_fails}
+
+-- a list that has f at each place is what is gathered
+pub gather_from : {A : Type 0} (n : ℕ) (f : ℕ → Option A) (xs : List A) (d : A) → length xs ≡ n → ((e : ℕ) → e < n → f e ≡ Some (get_or xs e d)) → gather n f ≡ Some xs
+gather_from zero f [] d long each = refl
+gather_from zero f (x ∷ xs) d long each = absurd (omega arith)
+gather_from (suc n) f [] d long each = absurd (omega arith)
+gather_from {A} (suc n) f (x ∷ xs) d long each =
+    let first : f 0 ≡ Some x = each 0 (omega arith) in
+    ap (λ o. then_some o (λ x. then_some (gather n (λ s. f (suc s))) (λ rest. Some (x ∷ rest)))) first
+    ∙ ap (λ o. then_some o (λ rest. Some (x ∷ rest))) (gather_from n (λ s. f (suc s)) xs d (omega arith) (λ e h. each (suc e) (omega arith)))
+
+then-fails : {A B : Type 0} (o : Option A) (k : A → Option B) → then_some o k ≡ None → (o ≡ None) ⊎ ((x : A) × (o ≡ Some x) × (k x ≡ None))
+then-fails None k e = inl refl
+then-fails (Some x) k e = inr (x, refl, e)
+
+some-is-none : {A : Type 0} (x : A) → Some x ≡ None → ⊥
+some-is-none x e = absurd (search rules)
+
+-- where nothing is gathered, one number is none
+pub gather_lacks : {A : Type 0} (n : ℕ) (f : ℕ → Option A) → gather n f ≡ None → (e : ℕ) × (e < n) × (f e ≡ None)
+gather_lacks {A} zero f h = absurd (some-is-none {A = List A} [] h)
+gather_lacks {A} (suc n) f h =
+    ⊎_elim
+    (λ (none : f 0 ≡ None). (0, omega arith, none))
+    (λ (some : (x : A) × (f 0 ≡ Some x) × (then_some (gather n (λ s. f (suc s))) (λ rest. Some (x ∷ rest)) ≡ None)).
+    ⊎_elim
+    (λ (none : gather n (λ s. f (suc s)) ≡ None). let later = gather_lacks n (λ s. f (suc s)) none in (suc later.0, omega arith, later.2))
+    (λ (rest : (xs : List A) × (gather n (λ s. f (suc s)) ≡ Some xs) × (Some (some.0 ∷ xs) ≡ None)). absurd (some-is-none (some.0 ∷ rest.0) rest.2))
+    (then-fails (gather n (λ s. f (suc s))) (λ rest. Some (some.0 ∷ rest)) some.2))
+    (then-fails (f 0) (λ x. then_some (gather n (λ s. f (suc s))) (λ rest. Some (x ∷ rest))) h)
+
+-- the first numbers of a row are worked out, and the later ones are as they were
+pub record IsPartly (count : ℕ) (f : ℕ → Option ℤ) (before now : List ℤ) : Type 0 where
+  pub long : length now ≡ length before
+  pub done : (k : ℕ) → k < count → f k ≡ Some (get_or now k (pos 0))
+  pub later : (k : ℕ) → count ≤ k → get_or now k (pos 0) ≡ get_or before k (pos 0)
+
+pub none_partly : (f : ℕ → Option ℤ) (before : List ℤ) → IsPartly 0 f before before
+none_partly f before = record { long = refl; done = λ k h. absurd (omega arith); later = λ k h. refl }
+
+pub one_partly : (count : ℕ) (f : ℕ → Option ℤ) (before now : List ℤ) (next : ℤ) → IsPartly count f before now → count < length now → f count ≡ Some next →
+    IsPartly (count + 1) f before (set now count next)
+one_partly count f before now next kept inside is = record {
+  long = length-set now count next ∙ kept.long;
+  done = λ k h.
+      ⊎_elim
+      (λ (same : k ≡ count). subst (λ n. f n ≡ Some (get_or (set now count next) n (pos 0))) (sym same) (is ∙ ap Some (sym (get_or-set_same now count next (pos 0) inside))))
+      (λ (other : k ≢ count). kept.done k (omega (arith, other)) ∙ ap Some (sym (get_or-set_other now count k next (pos 0) other)))
+      (cases_eq k count);
+  later = λ k h. let other : k ≢ count = omega arith in get_or-set_other now count k next (pos 0) other ∙ kept.later k (omega arith);
+}
+
+pub all_partly : (count : ℕ) (f : ℕ → Option ℤ) (before now : List ℤ) → IsPartly count f before now → length now ≡ count → gather count f ≡ Some now
+all_partly count f before now kept long = gather_from count f now (pos 0) long kept.done
+
+-- how far a sum may be from 0
+pub abs_sum : (x y : ℤ) → unsigned_abs (x +ℤ y) ≤ unsigned_abs x + unsigned_abs y
+abs_sum (pos a) (pos b) = omega arith
+abs_sum (pos a) (negsuc b) = grind (arith, ints)
+abs_sum (negsuc a) (pos b) = grind (arith, ints)
+abs_sum (negsuc a) (negsuc b) = omega arith
+
+-- where no number can leave 64 bits, a sum and one more is their sum
+pub more_small : (sum number : ℤ) → unsigned_abs sum + unsigned_abs number < 2 ^ 63 → more sum number ≡ Some (sum +ℤ number)
+more_small sum number h =
+    let one : fits number ≡ true = fits-from number (omega arith) in
+    let both : fits (sum +ℤ number) ≡ true = fits-from (sum +ℤ number) (omega (arith, abs_sum sum number)) in
+    rw (and_from (fits number) (fits (sum +ℤ number)) one both) refl
+
+more-by : (b : Bool) (x y : ℤ) → (if b then Some x else None) ≡ Some y → (b ≡ true) × (y ≡ x)
+more-by true x y e = (refl, sym (some_same e))
+more-by false x y e = absurd (grind arith)
+
+-- a sum and one more is their sum, and fits
+pub more_is : (sum number next : ℤ) → more sum number ≡ Some next → (fits next ≡ true) × (next ≡ sum +ℤ number)
+more_is sum number next e =
+    let is = more-by (fits number && fits (sum +ℤ number)) (sum +ℤ number) next e in
+    let both = and_parts (fits number) (fits (sum +ℤ number)) is.0 in
+    (ap fits is.1 ∙ both.1, is.1)
+
+-- a row with one product more each is within what is added
+pub row_within : (reach next largest left : ℕ) (by : ℤ) (sums right now : List ℤ) → length sums ≡ length right → gather (length right) (one_more sums by right) ≡ Some now →
+    AreWithin reach sums → AreWithin largest right →
+    left ≡ unsigned_abs by → reach + left * largest ≤ next → AreWithin next now
+row_within reach next largest left by sums right now long made sums_in right_in is bound n h =
+    let all = gathered (length right) (one_more sums by right) now (pos 0) made in
+    let inside : n < length right = omega (arith, all.0) in
+    let s = get_or sums n (pos 0) in
+    let r = get_or right n (pos 0) in
+    let sum = more_is s (by *ℤ r) (get_or now n (pos 0)) (all.1 n inside) in
+    let first : unsigned_abs s ≤ reach = sums_in n (omega (arith, long, inside)) in
+    let factor : unsigned_abs r ≤ largest = right_in n inside in
+    let product : unsigned_abs (by *ℤ r) ≤ left * largest = omega (arith, unsigned_abs-mul by r, is, mul-le (unsigned_abs by) (unsigned_abs r) left largest (omega (arith, is)) factor) in
+    let whole : unsigned_abs (s +ℤ by *ℤ r) ≤ next = omega (arith, abs_sum s (by *ℤ r), first, product, bound) in
+    subst (λ z. unsigned_abs z ≤ next) (sym sum.1) whole
+
+module _ (order : ℕ) (lefts rights : List ℤ) (x y start z side : ℕ) (left : ℤ) (before sums right : List ℤ)
+    (same : (n : ℕ) → n < side → running (get_or before n (pos 0)) start z (term order lefts rights x (y + n)) ≡ Some (get_or sums n (pos 0))) (long : length right ≡ side)
+    (left_is : left ≡ entry order lefts x (start + z)) (right_is : (n : ℕ) → n < side → get_or right n (pos 0) ≡ entry order rights (start + z) (y + n)) where
+  -- sum n of the row after one z more
+  next-is : (n : ℕ) (next : Option ℤ) → n < side → one_more sums left right n ≡ next → running (get_or before n (pos 0)) start (z + 1) (term order lefts rights x (y + n)) ≡ next
+  next-is n next h e =
+      let product : left *ℤ get_or right n (pos 0) ≡ term order lefts rights x (y + n) (start + z) =
+      ap (λ b. left *ℤ b) (right_is n h) ∙ ap (λ a. a *ℤ entry order rights (start + z) (y + n)) left_is in
+      running_more (get_or before n (pos 0)) start z (term order lefts rights x (y + n)) (get_or sums n (pos 0)) (left *ℤ get_or right n (pos 0)) next (same n h) product e
+
+  -- one z more for each sum of a row
+  pub row_step : (now : List ℤ) → gather (length right) (one_more sums left right) ≡ Some now → (n : ℕ) → n < side →
+      running (get_or before n (pos 0)) start (z + 1) (term order lefts rights x (y + n)) ≡ Some (get_or now n (pos 0))
+  row_step now made n h =
+      let all = gathered (length right) (one_more sums left right) now (pos 0) made in
+      next-is n (Some (get_or now n (pos 0))) h (all.1 n (omega (arith, long)))
+
+  -- where a sum fails, so does the row
+  pub row_fails : z < side → gather (length right) (one_more sums left right) ≡ None → gather side (row_entry order lefts rights x y start side before) ≡ None
+  row_fails inside failed =
+      let lack = gather_lacks (length right) (one_more sums left right) failed in
+      let within : lack.0 < side = omega (arith, long, lack.1) in
+      gather_fails side lack.0 (row_entry order lefts rights x y start side before) within
+      (none_stays (get_or before lack.0 (pos 0)) start (z + 1) side (term order lefts rights x (y + lack.0)) (next-is lack.0 None within lack.2) (omega arith))

@@ -1,0 +1,75 @@
+ghost use Rattle.std.specs.Prelude.{◌≡◌, ◌<◌, ◌≤◌, ◌+◌, ◌*◌, ◌^◌, ℕ, pos, true, unsigned_abs, slice_index_or, MatchResult, Some, None, ◌⊎◌};
+ghost use Rattle.tp_base.specs.declared.Refusal.TheVariants.{BodyFailed, NoMemory};
+ghost use Rattle.tp_graph.specs.Values.{all_fit, gather};
+ghost use Rattle.pool_matrix.specs.Matrices.{entry, tile_entry};
+
+use crate::row::{Matrices, add_rows, largest_of, right_part};
+use std::alloc::Global;
+use tp_base::Refusal;
+
+/// The number at a place, or 0 where there is none.
+pub(crate) fn number_at(numbers: &[i64], place: usize) -> i64
+    ensures { result ≡ slice_index_or numbers.now place (pos 0) }
+{
+    if place < numbers.len() {
+        numbers[place]
+    } else {
+        0
+    }
+}
+
+/// What a tile begins with: the numbers that it had before, and 0 where there is none.
+fn begin_tile(alloc: Global, count: usize, before: &[i64]) -> Result<Vec<i64>, Refusal>
+    requires { count < 2 ^ 30 }
+    ensures { MatchResult result
+        (λ made. gather count (λ e. Some (slice_index_or before.now e (pos 0))) ≡ Some made.items)
+        (λ refusal. refusal ≡ NoMemory) }
+{
+    let mut made = Vec::with_capacity(alloc, count)?;
+    for e in 0..count {
+        made.push_reserved(number_at(before, e));
+    }
+    Ok(made)
+}
+
+/// How far from 0 the farthest number is of a tile of the right, which begins at column y of a row.
+fn largest_of_tile(matrices: Matrices, side: usize, row: usize, y: usize) -> u64
+    requires { (row + side ≤ matrices.order) × (y + side ≤ matrices.order) }
+    ensures { (z n : ℕ) → z < side → n < side → unsigned_abs (entry matrices.entry.order matrices.entry.right.now (row + z) (y + n)) ≤ result }
+{
+    let mut largest = 0;
+    for z in 0..side {
+        largest = largest_of(right_part(matrices, row + z, y, side)).max(largest);
+    }
+    largest
+}
+
+/// A tile of the product with what column k of tiles on the left and row k on the right add to it. Refused with
+/// `BodyFailed` exactly where a number leaves `i64`, and with `NoMemory` where memory is refused first.
+pub(crate) fn make_tile(
+    alloc: Global,
+    matrices: Matrices,
+    side: usize,
+    i: usize,
+    j: usize,
+    k: usize,
+    before: &[i64],
+) -> Result<Vec<i64>, Refusal>
+    requires some { 1 ≤ side }
+    requires places { (i * side + side ≤ matrices.order) × (j * side + side ≤ matrices.order) × (k * side + side ≤ matrices.order) }
+    ensures { MatchResult result
+        (λ made. (gather (side * side) (tile_entry matrices.entry.order side matrices.entry.left.now matrices.entry.right.now i j k before.now) ≡ Some made.items)
+        × (all_fit made.items ≡ true))
+        (λ refusal. (refusal ≡ NoMemory)
+        ⊎ ((refusal ≡ BodyFailed)
+        × (gather (side * side) (tile_entry matrices.entry.order side matrices.entry.left.now matrices.entry.right.now i j k before.now) ≡ None))) }
+{
+    let mut made = begin_tile(alloc, side * side, before)?;
+    let largest = largest_of_tile(matrices, side, k * side, j * side);
+    let tile = made.as_mut_slice();
+    for row in 0..side {
+        let sums = &mut tile[row * side..row * side + side];
+        add_rows(matrices, sums, i * side + row, j * side, k * side, largest)?;
+    }
+    Ok(made)
+}

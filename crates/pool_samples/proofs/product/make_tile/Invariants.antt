@@ -1,0 +1,12 @@
+use Rattle.std.proofs.Common.{◌≡◌, ◌*◌, ◌+◌, ◌/◌, ◌%◌, true, vec_len, vec_capacity}
+use Rattle.tp_graph.specs.Values.{all_fit}
+use Rattle.pool_samples.specs.Products.{sum_from, term, list_of}
+use Rattle.pool_samples.proofs.product.make_tile.Given as goal
+
+abbrev pub invariant-loop-r : goal.invariant-loop-r
+invariant-loop-r l = record {
+  same : l.made.items ≡ list_of (l.r * l.side) (λ e. sum_from (l.k * l.side) l.side (term l.seed (l.i * l.side + e / l.side) (l.j * l.side + e % l.side)));
+  fit : all_fit l.made.items ≡ true;
+  long : vec_len l.made ≡ l.r * l.side;
+  room : vec_capacity l.made ≡ l.side * l.side;
+}

@@ -1,0 +1,168 @@
+ghost use Rattle.std.specs.Prelude.{◌≡◌, ◌<◌, ◌≤◌, ◌↔◌, ◌⊎◌, ℕ, IfErr, IfOk, IsSome, IsTrue, MatchOption, slice_index_or, Err, None, false, length};
+ghost use Rattle.tp_base.specs.declared.Refusal.TheVariants.{Missing, NoMemory};
+ghost use Rattle.pool_samples.specs.Needed.{needed, IsIndex, IsMarked};
+ghost use Rattle.tp_graph.specs.Serial.{AreRight};
+ghost use Rattle.pool_samples.specs.Any.{any_graph};
+ghost use Rattle.pool_samples.specs.Tables.{table_of, LacksCell};
+
+use crate::any::AnyGraph;
+use std::alloc::{AllocError, Global};
+use std::marker::Model;
+use tp_base::{Refusal, TaskId};
+use tp_graph::Value;
+
+/// The most tasks whose values a table needs: one for each cell of 64 rows and columns.
+const MAX_NEEDED: usize = 4_096;
+
+/// The table of a pool, whose numbers stand among the pool's results. Contracts see its graph.
+#[derive(Drop)]
+pub struct ResultTable<'a> {
+    graph: AnyGraph,
+    values: Vec<Option<&'a Value>>,
+}
+
+impl<'a> Model for ResultTable<'a> {
+    ghost use Rattle.pool_samples.specs.Needed.{HasValues};
+    ghost use Rattle.pool_samples.specs.declared.any.AnyGraph.{AnyGraph};
+
+    ghost Value = { AnyGraph };
+
+    ghost view = { λ t. t.graph };
+
+    ghost invariant = { λ t. HasValues t.graph t.values.items };
+}
+
+impl<'a> ResultTable<'a> {
+    /// Finds the numbers of a graph's table among results, each of which has to be its task's value. Refused with
+    /// `Missing` exactly where a task that the table needs has no result, and then with `NoMemory`.
+    pub fn new(
+        alloc: Global,
+        graph: AnyGraph,
+        results: &'a [(TaskId, Value)],
+    ) -> Result<Self, Refusal>
+        requires { AreRight (any_graph graph) results.now }
+        ensures found { IfOk result (λ table. table ≡ graph) }
+        ensures missing { (result ≡ Err Missing) ↔ LacksCell graph results.now }
+        ensures refused { IfErr result (λ refusal. (refusal ≡ Missing) ⊎ (refusal ≡ NoMemory)) }
+    {
+        let Ok(values) = index(alloc, graph, results) else {
+            return Err(without_memory(graph, results));
+        };
+        match missing(graph, &values) {
+            Some(_) => Err(Refusal::Missing),
+            None => Ok(ResultTable { graph, values }),
+        }
+    }
+
+    /// How many rows there are.
+    pub fn rows(&self) -> u32
+        ensures { result ≡ (table_of self.now).rows }
+    {
+        self.graph.rows()
+    }
+
+    /// How many columns there are.
+    pub fn columns(&self) -> u32
+        ensures { result ≡ (table_of self.now).columns }
+    {
+        self.graph.columns()
+    }
+
+    /// The number in a row and a column, counted from 0.
+    pub fn number(&self, i: u32, j: u32) -> i64
+        requires row { i < (table_of self.now).rows }
+        requires column { j < (table_of self.now).columns }
+        ensures { result ≡ (table_of self.now).at i j }
+    {
+        let (rank, place) = self.graph.cell(i, j);
+        let Some(value) = self.values[rank as usize] else {
+            unreachable!()
+        };
+        value.as_slice()[place]
+    }
+}
+
+/// The values that a table needs, by the ranks of their tasks. They lie on the heap: a thread's stack may be small.
+fn index<'a>(
+    alloc: Global,
+    graph: AnyGraph,
+    results: &'a [(TaskId, Value)],
+) -> Result<Vec<Option<&'a Value>>, AllocError>
+    requires { AreRight (any_graph graph) results.now }
+    ensures long { IfOk result (λ values. needed graph ≤ length values.items) }
+    ensures found { IfOk result (λ values. IsIndex graph results.now values.items) }
+{
+    let mut values = Vec::new(alloc);
+    values.resize(graph.needed() as usize, None)?;
+    find(graph, results, &mut values);
+    Ok(values)
+}
+
+/// Finds the values that a table needs, by the ranks of their tasks.
+fn find<'a>(graph: AnyGraph, results: &'a [(TaskId, Value)], values: &mut [Option<&'a Value>])
+    requires right { AreRight (any_graph graph) results.now }
+    requires room { needed graph ≤ length values.old }
+    requires empty { (rank : ℕ) → slice_index_or values.old rank None ≡ None }
+    ensures long { length values.new ≡ length values.old }
+    ensures found { IsIndex graph results.now values.new }
+{
+    for (task, value) in results {
+        let Some(rank) = graph.rank(*task) else {
+            continue;
+        };
+        values[rank as usize] = Some(value);
+    }
+}
+
+/// The lowest rank at which the value was not found.
+fn missing(graph: AnyGraph, values: &[Option<&Value>]) -> Option<u32>
+    requires { needed graph ≤ length values.now }
+    ensures { MatchOption result ((rank : ℕ) → rank < needed graph → IsSome (slice_index_or values.now rank None)) (λ rank. (rank < needed graph) × (slice_index_or values.now rank None ≡ None)) }
+{
+    for rank in 0..graph.needed() {
+        if values[rank as usize].is_none() {
+            return Some(rank);
+        }
+    }
+    None
+}
+
+/// Why there is no table, where there was no memory for it: a value that is missing is told first.
+fn without_memory(graph: AnyGraph, results: &[(TaskId, Value)]) -> Refusal
+    ensures missing { (result ≡ Missing) ↔ LacksCell graph results.now }
+    ensures refused { (result ≡ Missing) ⊎ (result ≡ NoMemory) }
+{
+    let mut known = [false; MAX_NEEDED];
+    mark(graph, results, &mut known);
+    match unknown(graph, &known) {
+        Some(_) => Refusal::Missing,
+        None => Refusal::NoMemory,
+    }
+}
+
+/// Marks the ranks of those tasks that have results.
+fn mark(graph: AnyGraph, results: &[(TaskId, Value)], known: &mut [bool; MAX_NEEDED])
+    requires { (rank : ℕ) → slice_index_or known.old rank false ≡ false }
+    ensures long { length known.new ≡ 4096 }
+    ensures marked { IsMarked graph results.now known.new }
+{
+    for (task, _) in results {
+        let Some(rank) = graph.rank(*task) else {
+            continue;
+        };
+        known[rank as usize] = true;
+    }
+}
+
+/// The lowest rank that is not marked.
+fn unknown(graph: AnyGraph, known: &[bool]) -> Option<u32>
+    requires { needed graph ≤ length known.now }
+    ensures { MatchOption result ((rank : ℕ) → rank < needed graph → IsTrue (slice_index_or known.now rank false)) (λ rank. (rank < needed graph) × (slice_index_or known.now rank false ≡ false)) }
+{
+    for rank in 0..graph.needed() {
+        if !known[rank as usize] {
+            return Some(rank);
+        }
+    }
+    None
+}

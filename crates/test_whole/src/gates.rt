@@ -1,0 +1,287 @@
+ghost use Rattle.std.specs.Prelude.{◌≤◌};
+ghost use Rattle.tp_work.specs.Outcomes.{IsWithinLimits};
+
+use crossbeam_utils::Backoff;
+use std::alloc::Global;
+use std::sync::Wait;
+use std::sync::atomic::{AtomicBool, AtomicU64, Ordering};
+use std::test::Fail;
+use std::thread::Threads;
+use tp_base::{NodeId, Refusal, TaskId};
+use pool_samples::Reduce;
+use tp_work::{Config, Fault, Gate, Outcome, run_pool};
+
+/// How long a gate waits before it answers false.
+const TURNS: u32 = 10_000_000;
+
+/// A tree of four leaves: 0, 11, 22 and 33.
+const TREE: Reduce = Reduce { leaves: 4, seed: 0 };
+
+/// A tree of 64 leaves, and so of 127 tasks.
+const WIDE: Reduce = Reduce {
+    leaves: 64,
+    seed: 0,
+};
+
+/// One leaf, and so one task.
+const LEAF: Reduce = Reduce { leaves: 1, seed: 0 };
+
+/// What a gate lets through.
+#[derive(Drop)]
+enum TestGate {
+    /// The bodies of tasks 0 and 1 wait for each other.
+    BodiesMeet(Meeting),
+    /// Nodes 0 and 1, under their locks, wait for each other.
+    NodesMeet(Meeting),
+    /// All bodies but one may run.
+    AllBut(TaskId),
+    /// A body waits for turns, and a turn is refused.
+    Turns(Turns),
+}
+
+impl Gate for TestGate {
+    fn before(&self, task: TaskId) -> bool {
+        match self {
+            TestGate::BodiesMeet(meeting) => meeting.arrive(task.0),
+            TestGate::NodesMeet(_) => true,
+            TestGate::AllBut(barred) => task != *barred,
+            TestGate::Turns(turns) => turns.wait(),
+        }
+    }
+
+    fn inside(&self, node: NodeId) -> bool {
+        match self {
+            TestGate::NodesMeet(meeting) => meeting.arrive(node.0),
+            TestGate::Turns(turns) => turns.take(),
+            TestGate::BodiesMeet(_) | TestGate::AllBut(_) => true,
+        }
+    }
+}
+
+/// Two that wait for each other.
+#[derive(Drop)]
+pub(crate) struct Meeting {
+    zero: AtomicBool,
+    one: AtomicBool,
+}
+
+impl Meeting {
+    pub fn new() -> Self {
+        Meeting {
+            zero: AtomicBool::new(false),
+            one: AtomicBool::new(false),
+        }
+    }
+
+    /// Waits until the other one of 0 and 1 has come. Others pass.
+    pub fn arrive(&self, who: u32) -> bool {
+        let (mine, other) = match who {
+            0 => (&self.zero, &self.one),
+            1 => (&self.one, &self.zero),
+            _ => return true,
+        };
+        mine.store(true, Ordering::SeqCst);
+        let backoff = Backoff::new();
+        for _ in 0..TURNS {
+            if other.load(Ordering::SeqCst) {
+                return true;
+            }
+            backoff.snooze();
+        }
+        false
+    }
+}
+
+/// Counts the turns of a node, from 0, and refuses one of them. A body waits until so many were taken.
+#[derive(Drop)]
+struct Turns {
+    taken: AtomicU64,
+    awaited: u64,
+    refused: u64,
+}
+
+impl Turns {
+    fn new(awaited: u64, refused: u64) -> Self {
+        Turns {
+            taken: AtomicU64::new(0),
+            awaited,
+            refused,
+        }
+    }
+
+    fn wait(&self) -> bool {
+        let backoff = Backoff::new();
+        for _ in 0..TURNS {
+            if self.taken.load(Ordering::SeqCst) >= self.awaited {
+                return true;
+            }
+            backoff.snooze();
+        }
+        false
+    }
+
+    fn take(&self) -> bool {
+        self.taken.fetch_add(1, Ordering::SeqCst) != self.refused
+    }
+}
+
+/// What a pool came to.
+#[derive(Clone, Copy)]
+enum End {
+    /// The value of the last task of the tree.
+    Root(Option<i64>),
+    /// Why it ended before, and what was left.
+    Stop(Refusal, Option<Left>),
+}
+
+/// What was left of a pool that ended before.
+#[derive(Clone, Copy)]
+struct Left {
+    pending: u32,
+    done: u32,
+    ended: bool,
+    fault: Option<Refusal>,
+}
+
+/// Runs the pool of a tree behind a gate.
+fn run_tree<R: Threads + Wait + Sync>(
+    rt: &R,
+    alloc: Global,
+    tree: Reduce,
+    config: Config,
+    gate: &TestGate,
+) -> End
+    requires { IsWithinLimits config }
+{
+    match run_pool(rt, alloc, tree, config, gate) {
+        Ok(outcome) => End::Root(root(&outcome)),
+        Err(fault) => End::Stop(fault.refusal, left_by(&fault)),
+    }
+}
+
+/// The value of the last task of the tree of four leaves.
+fn root(outcome: &Outcome) -> Option<i64> {
+    let (_, value) = outcome.results.iter().find(|made| made.0 == TaskId(6))?;
+    value.as_slice().first().copied()
+}
+
+fn left_by(fault: &Fault) -> Option<Left> {
+    let report = fault.report.as_ref()?;
+    Some(Left {
+        pending: report.pending,
+        done: report.done,
+        ended: report.ended,
+        fault: report.fault,
+    })
+}
+
+/// Runs the tree of four leaves on two nodes, and answers the value of its root.
+fn root_behind<R: Threads + Wait + Sync>(rt: &R, alloc: Global, gate: &TestGate) -> Option<i64> {
+    let config = Config {
+        nodes: 2,
+        workers: 1,
+        idle_turns: 100_000_000,
+    };
+    match run_tree(rt, alloc, TREE, config, gate) {
+        End::Root(value) => value,
+        End::Stop(..) => None,
+    }
+}
+
+#[test]
+fn two_bodies_run_at_once(rt: HostRuntime) -> Result<(), Fail> {
+    let gate = TestGate::BodiesMeet(Meeting::new());
+    assert_eq!(rt; root_behind(&rt, rt.alloc(), &gate), Some(66));
+    Ok(())
+}
+
+#[test]
+fn two_nodes_are_held_at_once(rt: HostRuntime) -> Result<(), Fail> {
+    let gate = TestGate::NodesMeet(Meeting::new());
+    assert_eq!(rt; root_behind(&rt, rt.alloc(), &gate), Some(66));
+    Ok(())
+}
+
+/// Runs the wide tree on one node, where the bodies of tasks 0 and 1 wait for each other, and answers how many tasks were
+/// done.
+fn done_where_two_meet<R: Threads + Wait + Sync>(rt: &R, alloc: Global, workers: u32) -> u32
+    requires { (1 ≤ workers) × (workers ≤ 8) }
+{
+    let gate = TestGate::BodiesMeet(Meeting::new());
+    match run_pool(rt, alloc, WIDE, Config::new(1, workers), &gate) {
+        Ok(outcome) => outcome.tasks,
+        Err(_) => 0,
+    }
+}
+
+// Eight of the 64 ready tasks begin at once, 0 and 1 among them: one worker that kept them all would wait in vain.
+#[test]
+fn two_that_begin_together_wait_for_each_other(rt: HostRuntime) -> Result<(), Fail> {
+    assert_eq!(rt; done_where_two_meet(&rt, rt.alloc(), 2), 127);
+    assert_eq!(rt; done_where_two_meet(&rt, rt.alloc(), 8), 127);
+    Ok(())
+}
+
+/// Runs a pool of one node that a gate ends, and answers why it ended and what was left.
+fn stop_behind<R: Threads + Wait + Sync>(
+    rt: &R,
+    alloc: Global,
+    tree: Reduce,
+    workers: u32,
+    idle_turns: u32,
+    gate: &TestGate,
+) -> Result<(Refusal, Option<Left>), Fail>
+    requires workers { (1 ≤ workers) × (workers ≤ 8) }
+    requires idle_turns { (1 ≤ idle_turns) × (idle_turns ≤ 1000000000) }
+{
+    let config = Config {
+        nodes: 1,
+        workers,
+        idle_turns,
+    };
+    match run_tree(rt, alloc, tree, config, gate) {
+        End::Root(_) => Err(Fail::new("the pool ended")),
+        End::Stop(refusal, left) => Ok((refusal, left)),
+    }
+}
+
+#[test]
+fn a_body_that_may_not_run_ends_the_pool(rt: HostRuntime) -> Result<(), Fail> {
+    let gate = TestGate::AllBut(TaskId(6));
+    let (refusal, left) = stop_behind(&rt, rt.alloc(), TREE, 1, 100_000_000, &gate)?;
+    assert_eq!(rt; refusal, Refusal::Stalled(0));
+    let Some(left) = left else {
+        return Err(Fail::new("there is no report"));
+    };
+    assert_eq!(rt; (left.pending, left.done, left.ended), (1, 6, false));
+    assert_eq!(rt; left.fault, Some(Refusal::Stalled(0)));
+    Ok(())
+}
+
+// The other worker would have a thousand million idle turns before it ended by itself. How many idle turns the one
+// that stops it had before, `Stalled` (21) says, and the schedule decides.
+#[test]
+fn a_fault_stops_the_other_worker(rt: HostRuntime) -> Result<(), Fail> {
+    let gate = TestGate::AllBut(TaskId(0));
+    let (refusal, _) = stop_behind(&rt, rt.alloc(), TREE, 2, 1_000_000_000, &gate)?;
+    assert_eq!(rt; refusal.number(), 21);
+    Ok(())
+}
+
+// Of two workers of a node one inserts the task, and one begins it and waits: two turns. The other's turns are then
+// idle.
+#[test]
+fn idle_turns_in_a_row_are_counted(rt: HostRuntime) -> Result<(), Fail> {
+    let gate = TestGate::Turns(Turns::new(7, u64::MAX));
+    let (refusal, _) = stop_behind(&rt, rt.alloc(), LEAF, 2, 5, &gate)?;
+    assert_eq!(rt; refusal, Refusal::Stalled(5));
+    Ok(())
+}
+
+#[test]
+fn a_gate_tells_how_many_turns_were_idle(rt: HostRuntime) -> Result<(), Fail> {
+    let gate = TestGate::Turns(Turns::new(8, 7));
+    let (refusal, _) = stop_behind(&rt, rt.alloc(), LEAF, 2, 1_000, &gate)?;
+    assert_eq!(rt; refusal, Refusal::Stalled(5));
+    Ok(())
+}

@@ -1,6 +1,0 @@
-use Rattle.tp_matrix.specs.Rows.{one_more}
-use Rattle.tp_matrix.proofs.Added.{IsPartly}
-use Rattle.tp_matrix.proofs.row.add_row_plain.Given as goal
-
-abbrev pub invariant-loop-n : goal.invariant-loop-n
-invariant-loop-n l = IsPartly l.n (one_more l.initial.sums l.left l.right) l.initial.sums l.sums

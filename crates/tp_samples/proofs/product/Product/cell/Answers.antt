@@ -1,5 +1,0 @@
-use Rattle.tp_samples.proofs.PlainCells.{product_cell}
-use Rattle.tp_samples.proofs.product.Product.cell.Goals as goal
-
-pub returns : goal.returns
-returns c = product_cell c.args.self.now c.args.x c.args.y c.requires.row c.requires.column

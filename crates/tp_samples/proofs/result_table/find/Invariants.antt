@@ -1,9 +1,0 @@
-use Rattle.std.proofs.Common.{◌≡◌, length, take}
-use Rattle.tp_samples.specs.Needed.{IsIndex}
-use Rattle.tp_samples.proofs.result_table.find.Given as goal
-
-abbrev pub invariant-loop-task : goal.invariant-loop-task
-invariant-loop-task l = record {
-  long : length l.values ≡ length l.initial.values;
-  found : IsIndex l.graph (take l.task-index l.results) l.values;
-}
