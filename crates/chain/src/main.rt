@@ -6,13 +6,13 @@ ghost use Rattle.tp_graph.specs.Serial.{AreValues};
 ghost use Rattle.pool_chain.specs.Chains.{chain_graph};
 ghost use Rattle.tp_work.specs.Outcomes.{IsFault, IsWithinLimits};
 
+use pool_chain::Chain;
 use std::alloc::Global;
 use std::io;
 use std::sync::Wait;
 use std::thread::Threads;
 use tp_base::TaskId;
 use tp_graph::{Value, in_order};
-use pool_chain::Chain;
 use tp_work::{Config, Fault, OpenGate, run_pool};
 
 fn main(rt: HostRuntime) -> io::Result<()> {

@@ -1,10 +1,10 @@
 //! The program `heat`.
 #![tactic(auto)]
 
+use pool_cli::heat_with;
 use std::alloc::{AllocError, Global};
 use std::io::ErrorKind;
 use std::process::ExitCode;
-use pool_cli::heat_with;
 
 /// The exit status is that of `heat_with`. Where there is no memory for the words, or one of them is not UTF-8, a line says so.
 fn main(rt: HostRuntime) -> ExitCode {

@@ -6,11 +6,11 @@ ghost use Rattle.pool_runs.specs.Faults.{refusal_of};
 ghost use Rattle.pool_cli.specs.Faults.{complaint, status_of};
 
 use crate::tiles::TileFault;
+use pool_cells::LineFault;
+use pool_rows::RowFault;
+use pool_runs::LentFault;
 use std::io::{self, ErrorKind, Write};
 use tp_base::Refusal;
-use pool_cells::LineFault;
-use pool_runs::LentFault;
-use pool_rows::RowFault;
 
 /// Why nothing was printed, or not all of it.
 #[derive(Clone, Copy, Debug, PartialEq, Eq)]

@@ -12,14 +12,14 @@ use crate::fault::Fault;
 use crate::options::explain;
 use crate::request::{Request, requested};
 use crate::streams::{read_all, write_text};
+use pool_cells::{numbers_of, text_of};
+use pool_runs::{run_heat_in_parts, steps_at_once};
 use std::alloc::Global;
 use std::io::{Read, Write};
 use std::str;
 use std::sync::Wait;
 use std::thread::Threads;
 use tp_base::Refusal;
-use pool_cells::{numbers_of, text_of};
-use pool_runs::{run_heat_in_parts, steps_at_once};
 use tp_work::Config;
 
 /// Runs the program `heat` on the words of its command line, its own name first, and answers the exit status: 0 where the rod

@@ -13,14 +13,14 @@ use crate::options::explain;
 use crate::product_request::{ProductRequest, product_requested};
 use crate::streams::{read_all, write_text};
 use crate::tiles::tiled_order;
+use pool_rows::{matrices_of, text_of_rows};
+use pool_runs::run_product;
 use std::alloc::Global;
 use std::io::{Read, Write};
 use std::str;
 use std::sync::Wait;
 use std::thread::Threads;
 use tp_base::Refusal;
-use pool_runs::run_product;
-use pool_rows::{matrices_of, text_of_rows};
 use tp_work::Config;
 
 /// Runs the program `product` on the words of its command line, its own name first, and answers the exit status: 0 where the

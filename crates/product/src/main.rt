@@ -1,10 +1,10 @@
 //! The program `product`.
 #![tactic(auto)]
 
+use pool_cli::product_with;
 use std::alloc::{AllocError, Global};
 use std::io::ErrorKind;
 use std::process::ExitCode;
-use pool_cli::product_with;
 
 /// The exit status is that of `product_with`. Where there is no memory for the words, or one of them is not UTF-8, a line says so.
 fn main(rt: HostRuntime) -> ExitCode {

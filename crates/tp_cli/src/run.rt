@@ -9,13 +9,13 @@ ghost use Rattle.pool_samples.specs.Any.{any_graph};
 ghost use Rattle.tp_work.specs.Outcomes.{IsOutcome, IsWithinLimits};
 
 use crate::series::text_of_generations;
+use pool_samples::{AnyGraph, checked};
 use std::alloc::{AllocError, Global};
 use std::io::{self, Write};
 use std::sync::Wait;
 use std::thread::Threads;
 use tp_base::{Refusal, TaskId};
 use tp_graph::Value;
-use pool_samples::{AnyGraph, checked};
 use tp_table::print_table;
 use tp_text::print_trace;
 use tp_work::{Config, OpenGate, Outcome, run_pool};

@@ -2,8 +2,8 @@ ghost use Rattle.std.specs.Prelude.{◌≡◌, string_bytes};
 ghost use Rattle.tp_pools.specs.Pools.{registered};
 ghost use Rattle.tp_pools.specs.Runs.{is_waiting, standing_after};
 
-use std::marker::Model;
 use pool_samples::AnyGraph;
+use std::marker::Model;
 
 /// Where a pool stands.
 #[derive(Clone, Copy, Debug, PartialEq, Eq)]

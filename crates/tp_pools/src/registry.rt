@@ -11,10 +11,10 @@ ghost use Rattle.pool_samples.specs.Words.{word_of};
 ghost use Rattle.pool_samples.specs.declared.any.AnyGraph.{AnyGraph};
 
 use crate::entry::{Entry, Standing};
+use pool_samples::{AnyGraph, checked};
 use std::alloc::{AllocError, Global};
 use std::marker::Model;
 use tp_base::{MAX_POOLS, PoolId, Refusal};
-use pool_samples::{AnyGraph, checked};
 
 /// At most 8 pools, in the order of registration. A pool's number is its position. A refused call changes nothing.
 #[derive(Drop)]

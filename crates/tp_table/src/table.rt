@@ -5,10 +5,10 @@ ghost use Rattle.tp_graph.specs.Serial.{AreRight};
 ghost use Rattle.pool_samples.specs.Any.{any_graph};
 ghost use Rattle.pool_samples.specs.Tables.{LacksCell, table_of, texts, cell_text, table_text};
 
+use pool_samples::{AnyGraph, ResultTable};
 use std::alloc::{AllocError, Global};
 use tp_base::{Refusal, TaskId};
 use tp_graph::Value;
-use pool_samples::{AnyGraph, ResultTable};
 
 /// The table of a graph, from results each of which has to be its task's value: row by row, the numbers of a row
 /// separated by single spaces and ended by a line feed. Refused with `Missing` exactly where a task that the table needs
