@@ -1,0 +1,78 @@
+"""The plots of docs/figures, each out of the rows of one measurement."""
+import os
+from xml.dom import minidom
+
+from ..repository import TOP, text_of
+from . import charts
+from .cases import PLACES, TASKS
+from .tables import bodies, rest
+from .rows import kept
+
+FOLDER = f"{TOP}/docs/figures"
+RUNTIMES = ["tp", "runtime by hand", "oneTBB flow graph", "OpenMP tasks"]
+POOLS = [it for it in TASKS if it != "product:64:1:0"]
+
+
+def time_by_nodes(rows):
+    """Microseconds a task against nodes and workers, a panel for each pool."""
+    panels = []
+    words = [f"{nodes}×{workers}" for nodes, workers in PLACES]
+    for pool in [it for it in POOLS if any(row.case == it for row in rows)]:
+        lines = []
+        for program in RUNTIMES:
+            mine = [it for it in rest(rows) if (it.case, it.program) == (pool, program) and (it.nodes, it.workers) in PLACES]
+            lines.append([(PLACES.index((it.nodes, it.workers)), it.milliseconds * 1000 / it.units) for it in mine])
+        across = "nodes × workers"
+        panels.append(charts.lines_panel(len(panels), pool, lines, "microseconds a task", across, True, words))
+    return charts.picture(panels, RUNTIMES)
+
+
+def instructions_a_task(rows):
+    """Instructions a task of each program, at one node with one worker."""
+    names = [*RUNTIMES, "one after the other"]
+    groups = []
+    for pool in TASKS:
+        found = {it.program: it.instructions / it.units for it in rows if it.case == pool and it.instructions}
+        if found:
+            groups.append((pool, [found.get(name) for name in names]))
+    panels = [charts.bars_panel(place, "", groups[2 * place : 2 * place + 2], "instructions a task") for place in range((len(groups) + 1) // 2)]
+    return charts.picture(panels, names, 30) if panels else ""
+
+
+def speed_up_by_body(rows):
+    """How many times as fast as one worker, against the length of a body."""
+    names = ["heat, 1×4", "heat, 2×2", "heat, 4×1", "oneTBB, 4 threads", "OpenMP, 4 threads"]
+    places = [("heat", 1, 4), ("heat", 2, 2), ("heat", 4, 1), ("oneTBB flow graph", 1, 4), ("OpenMP tasks", 1, 4)]
+    lines = [[(it.microseconds[place[0]], it.speed_ups[place]) for it in bodies(rows) if place in it.speed_ups] for place in places]
+    panel = charts.lines_panel(0, "", lines, "times as fast as one worker", "microseconds of a body at one worker")
+    return charts.picture([panel], names)
+
+
+# each plot with the measurement that it is of
+PLOTS = {
+    "time-by-nodes": ("run", time_by_nodes),
+    "instructions-a-task": ("run", instructions_a_task),
+    "speed-up-by-body": ("body", speed_up_by_body),
+}
+
+
+def drawn():
+    """Each plot's path and its text, of the rows that are kept; an empty text where there are none."""
+    for name, (measurement, draw) in PLOTS.items():
+        rows = kept(measurement)
+        yield f"{FOLDER}/{name}.svg", draw(rows) if rows else ""
+
+
+def write():
+    for path, text in drawn():
+        if text:
+            with open(path, "w", encoding="utf-8") as out:
+                out.write(text)
+
+
+def check(tally):
+    for path, text in drawn():
+        if text:
+            minidom.parseString(text)
+        told = os.path.relpath(path, TOP)
+        tally.judge(text_of(path, "") == text, f"{told} is not drawn of today's rows: tools/dev bench --draw")
