@@ -8,8 +8,9 @@
 #               then the program with strange streams and texts, every stored text cut after each byte, and texts by chance
 # make lib      proves the detector for other languages, and builds it: lib/libgerfmuod.a, its header and its pkg-config file
 # make bench    what a step costs that a program in C tells the library: instructions and time
+# make measurements     all programs beside others that do the same, in a quick form of some minutes (see bench/README.md)
 # make install PREFIX=/usr/local     puts the proved programs and the library in place
-.PHONY: all lib demo test gate wrong times soak bench install clean
+.PHONY: all lib demo test gate wrong times soak bench measurements install clean
 
 PREFIX ?= /usr/local
 
@@ -32,6 +33,7 @@ test:
 	@tools/dev try
 	@tools/dev capi
 	@tools/dev docs
+	@tools/dev bench --check
 	@tools/dev wrong --stale
 
 # (one job a check: each further job of a check loads the libraries anew)
@@ -52,6 +54,9 @@ soak: bin/tp
 
 bench: lib/libgerfmuod.a
 	@tools/dev capi --bench
+
+measurements: bin/tp lib/libgerfmuod.a
+	@tools/dev bench --quick
 
 install: bin/tp lib/libgerfmuod.a
 	install -D -m 755 bin/tp $(DESTDIR)$(PREFIX)/bin/tp

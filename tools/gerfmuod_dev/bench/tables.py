@@ -35,18 +35,16 @@ def found(rows, **wanted):
 
 
 def texts(rows):
+    """A line for each text, with the numbers of all programs in their order."""
     lines = []
     for case in dict.fromkeys(it.case for it in rows):
-        tp, *others = [it for it in rows if it.case == case]
-        mine = [f"{tp.milliseconds * 1e6 / tp.units:.0f} ns", cell(ratio(tp.instructions, tp.units), "{:.0f}"), f"{tp.MiB * 2**20 / tp.units:.0f}"]
-        for other in others:
-            mine += [cell(ratio(tp.milliseconds, other.milliseconds)), cell(ratio(tp.instructions, other.instructions)), cell(ratio(tp.MiB, other.MiB))]
-        lines.append([case, *mine])
-    names = [it.program for it in rows if it.case == rows[0].case][1:]
-    head = ["Text", "a line", "instructions a line", "bytes of memory a line"]
-    for name in names:
-        head += [f"beside {name}: time", "instructions", "memory"]
-    return table(head, lines)
+        mine = [it for it in rows if it.case == case]
+        times = [f"{it.milliseconds * 1e6 / it.units:.0f}" for it in mine]
+        counts = [f"{it.instructions / it.units:.0f}" for it in mine if it.instructions]
+        lines.append([case, ", ".join(times), ", ".join(counts), ", ".join(f"{it.MiB * 2**20 / it.units:.0f}" for it in mine)])
+    names = list(dict.fromkeys(it.program for it in rows))
+    head = ["Text", "nanoseconds a line", "instructions a line", "bytes of memory a line"]
+    return f"The whole process, in this order: {', '.join(names)}.\n\n{table(head, lines)}"
 
 
 # ---- pools
