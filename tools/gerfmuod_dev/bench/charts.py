@@ -6,8 +6,19 @@ from typing import NamedTuple
 FONT = 'font-family="Helvetica, Arial, sans-serif"'
 # colours that are told apart without red and green beside each other, and a mark for each
 COLOURS = ["#1f6fb2", "#d9822b", "#2e8b57", "#8e5ba6", "#777777"]
-LEFT, TOP, KEY = 62, 58, 20
-WIDTH, HEIGHT = 300, 210
+LEFT, TOP, KEY = 60, 58, 20
+HEIGHT = 210
+
+
+class Panel(NamedTuple):
+    """A place for a chart beside others of the same width, counted from 0."""
+
+    place: int
+    width: int
+
+    @property
+    def x(self):
+        return LEFT + self.place * (LEFT + self.width)
 
 
 class Axis(NamedTuple):
@@ -26,7 +37,8 @@ class Axis(NamedTuple):
     def marks(self):
         if self.is_log:
             tens = range(math.floor(math.log10(self.low)) - 1, math.ceil(math.log10(self.high)) + 1)
-            found = [round(digit * 10.0**power, 9) for power in tens for digit in (1, 2, 5)]
+            digits = (1, 2, 5) if self.high > 12 * self.low else (1, 1.5, 2, 3, 4, 6, 8)
+            found = [round(digit * 10.0**power, 9) for power in tens for digit in digits]
         else:
             step = step_of(self.high)
             found = [round(step * it, 9) for it in range(math.floor(self.high / step) + 1)]
@@ -78,63 +90,70 @@ def key(names, x):
     return parts
 
 
-def frame(x, title, axis, unit):
+def frame(panel, title, axis, unit):
     """What stands round a panel: its title, and marks of the upright axis with lines across."""
+    x = panel.x
     parts = [text(x, TOP - 12, title, 'font-size="13" font-weight="bold"')]
     for value in axis.marks():
         y = axis.place(value)
-        parts.append(line(x, y, x + WIDTH, y, 'stroke="#e4e4e4"'))
+        parts.append(line(x, y, x + panel.width, y, 'stroke="#e4e4e4"'))
         parts.append(text(x - 6, y + 4, number(value), 'font-size="11" text-anchor="end"'))
-    turned = f'font-size="12" text-anchor="middle" transform="rotate(-90 {x - 46:.1f} {TOP + HEIGHT / 2:.1f})"'
-    return [*parts, text(x - 46, TOP + HEIGHT / 2, unit, turned)]
+    turned = f'font-size="12" text-anchor="middle" transform="rotate(-90 {x - 42:.1f} {TOP + HEIGHT / 2:.1f})"'
+    return [*parts, text(x - 42, TOP + HEIGHT / 2, unit, turned)]
 
 
 def picture(panels, names, tall=46):
-    width = max(len(panels) * (LEFT + WIDTH) + 24, LEFT + sum(32 + 7 * len(it) for it in names) + 24)
+    """A picture of the drawn panels, each with its place, under a row of names."""
+    last = max(panel for panel, _ in panels)
+    width = max(last.x + last.width, LEFT + sum(32 + 7 * len(it) for it in names)) + 24
     height = TOP + HEIGHT + tall
     head = f'<svg xmlns="http://www.w3.org/2000/svg" width="{width}" height="{height}" viewBox="0 0 {width} {height}" {FONT}>'
     parts = [head, f'<rect width="{width}" height="{height}" fill="white"/>', *key(names, LEFT + 4.0)]
-    for panel in panels:
-        parts += panel
+    for _, drawn in panels:
+        parts += drawn
     return "\n".join([*parts, "</svg>", ""])
 
 
-def lines_panel(place, title, lines, unit, across, is_log=False, words=None):
+def under(panel, axis, marks, across):
+    """The axis below a panel, with a word for each mark."""
+    bottom = TOP + HEIGHT
+    small = 'font-size="11" text-anchor="middle"'
+    words = [text(axis.place(value), bottom + 16, word, small) for value, word in marks]
+    name = text(panel.x + panel.width / 2, bottom + 36, across, 'font-size="12" text-anchor="middle"')
+    return [*words, name, line(panel.x, bottom, panel.x + panel.width, bottom, 'stroke="#555"')]
+
+
+def lines_panel(panel, title, lines, unit, across, is_log=False, words=None):
     """A panel of lines. Each is a list of points (x, y); with words, x is the place of one of them from 0 on."""
-    x = LEFT + place * (LEFT + WIDTH)
-    points = [it for points in lines for it in points]
+    points = [it for some in lines for it in some]
     upright = axis_of([y for _, y in points], TOP + HEIGHT, -HEIGHT, is_log)
-    parts = frame(x, title, upright, unit)
     if words:
-        flat = Axis(-0.4, len(words) - 0.6, x, WIDTH, False)
+        flat = Axis(-0.4, len(words) - 0.6, panel.x, panel.width, False)
         marks = list(enumerate(words))
     else:
-        flat = axis_of([at for at, _ in points], x, WIDTH, True)
+        flat = axis_of([x for x, _ in points], panel.x, panel.width, True)
         marks = [(value, number(value)) for value in flat.marks()]
-    for value, word in marks:
-        parts.append(text(flat.place(value), TOP + HEIGHT + 16, word, 'font-size="11" text-anchor="middle"'))
-    parts.append(text(x + WIDTH / 2, TOP + HEIGHT + 36, across, 'font-size="12" text-anchor="middle"'))
-    parts.append(line(x, TOP + HEIGHT, x + WIDTH, TOP + HEIGHT, 'stroke="#555"'))
-    for order, line_points in enumerate(lines):
-        spots = [(flat.place(at), upright.place(y)) for at, y in line_points]
-        way = " ".join(f"{a:.1f},{b:.1f}" for a, b in spots)
+    parts = [*frame(panel, title, upright, unit), *under(panel, flat, marks, across)]
+    for order, some in enumerate(lines):
+        spots = [(flat.place(x), upright.place(y)) for x, y in some]
+        way = " ".join(f"{x:.1f},{y:.1f}" for x, y in spots)
         parts.append(f'<polyline points="{way}" fill="none" stroke="{COLOURS[order % len(COLOURS)]}" stroke-width="1.6"/>')
-        parts += [mark(a, b, order) for a, b in spots]
-    return parts
+        parts += [mark(x, y, order) for x, y in spots]
+    return panel, parts
 
 
-def bars_panel(place, title, groups, unit):
+def bars_panel(panel, title, groups, unit):
     """A panel of bars. Each group is a word and a number for each name, None where there is none."""
-    x = LEFT + place * (LEFT + WIDTH)
     upright = axis_of([it for _, values in groups for it in values if it is not None], TOP + HEIGHT, -HEIGHT, False)
-    parts = frame(x, title, upright, unit)
-    wide = WIDTH / len(groups)
-    for order, (word, values) in enumerate(groups):
-        bar = (wide - 12) / len(values)
+    flat = Axis(-0.5, len(groups) - 0.5, panel.x, panel.width, False)
+    marks = [(order, word) for order, (word, _) in enumerate(groups)]
+    parts = [*frame(panel, title, upright, unit), *under(panel, flat, marks, "")]
+    wide = panel.width / len(groups)
+    for order, (_, values) in enumerate(groups):
+        bar = (wide - 16) / len(values)
         for index, value in enumerate(values):
             if value is not None:
-                left, top = x + order * wide + 6 + index * bar, upright.place(value)
+                left, top = panel.x + order * wide + 8 + index * bar, upright.place(value)
                 size = f'width="{bar - 2:.1f}" height="{TOP + HEIGHT - top:.1f}"'
                 parts.append(f'<rect x="{left:.1f}" y="{top:.1f}" {size} fill="{COLOURS[index % len(COLOURS)]}"/>')
-        parts.append(text(x + (order + 0.5) * wide, TOP + HEIGHT + 16, word, 'font-size="11" text-anchor="middle"'))
-    return [*parts, line(x, TOP + HEIGHT, x + WIDTH, TOP + HEIGHT, 'stroke="#555"')]
+    return panel, parts

@@ -2,9 +2,8 @@
 import re
 
 from ..repository import TOP, text_of
-from . import tables
+from . import figures, tables
 from .cases import MEASUREMENTS
-from .figures import PLOTS
 from .rows import kept, origins
 
 PAGE = "docs/PERFORMANCE.md"
@@ -24,7 +23,7 @@ def block(name):
     rows = kept(name)
     if not rows:
         return f"Not kept yet: `tools/dev bench {name} --full --write` does it."
-    plots = [f"![{PLOT_WORDS[plot]}](figures/{plot}.svg)" for plot, (measurement, _) in PLOTS.items() if measurement == name]
+    plots = [f"![{PLOT_WORDS[plot]}](figures/{plot}.svg)" for plot in figures.of(name)]
     return "\n\n".join([tables.of(name, rows), *plots, f"All rows: [{name}.csv](measurements/{name}.csv)."])
 
 

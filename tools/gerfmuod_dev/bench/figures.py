@@ -23,7 +23,7 @@ def time_by_nodes(rows):
             mine = [it for it in rest(rows) if (it.case, it.program) == (pool, program) and (it.nodes, it.workers) in PLACES]
             lines.append([(PLACES.index((it.nodes, it.workers)), it.milliseconds * 1000 / it.units) for it in mine])
         across = "nodes × workers"
-        panels.append(charts.lines_panel(len(panels), pool, lines, "microseconds a task", across, True, words))
+        panels.append(charts.lines_panel(charts.Panel(len(panels), 300), pool, lines, "microseconds a task", across, True, words))
     return charts.picture(panels, RUNTIMES)
 
 
@@ -35,8 +35,9 @@ def instructions_a_task(rows):
         found = {it.program: it.instructions / it.units for it in rows if it.case == pool and it.instructions}
         if found:
             groups.append((pool, [found.get(name) for name in names]))
-    panels = [charts.bars_panel(place, "", groups[2 * place : 2 * place + 2], "instructions a task") for place in range((len(groups) + 1) // 2)]
-    return charts.picture(panels, names, 30) if panels else ""
+    if not groups:
+        return ""
+    return charts.picture([charts.bars_panel(charts.Panel(0, 640), "", groups, "instructions a task")], names, 30)
 
 
 def speed_up_by_body(rows):
@@ -44,7 +45,8 @@ def speed_up_by_body(rows):
     names = ["heat, 1×4", "heat, 2×2", "heat, 4×1", "oneTBB, 4 threads", "OpenMP, 4 threads"]
     places = [("heat", 1, 4), ("heat", 2, 2), ("heat", 4, 1), ("oneTBB flow graph", 1, 4), ("OpenMP tasks", 1, 4)]
     lines = [[(it.microseconds[place[0]], it.speed_ups[place]) for it in bodies(rows) if place in it.speed_ups] for place in places]
-    panel = charts.lines_panel(0, "", lines, "times as fast as one worker", "microseconds of a body at one worker")
+    across = "microseconds of a body at one worker"
+    panel = charts.lines_panel(charts.Panel(0, 640), "", lines, "times as fast as one worker", across)
     return charts.picture([panel], names)
 
 
@@ -57,22 +59,33 @@ PLOTS = {
 
 
 def drawn():
-    """Each plot's path and its text, of the rows that are kept; an empty text where there are none."""
+    """Each plot's name and its text, of the rows that are kept; an empty text where there are none."""
     for name, (measurement, draw) in PLOTS.items():
         rows = kept(measurement)
-        yield f"{FOLDER}/{name}.svg", draw(rows) if rows else ""
+        yield name, draw(rows) if rows else ""
+
+
+def path_of(name):
+    return f"{FOLDER}/{name}.svg"
+
+
+def of(measurement):
+    """The plots that there are of a measurement."""
+    return [name for name, text in drawn() if text and PLOTS[name][0] == measurement]
 
 
 def write():
-    for path, text in drawn():
+    for name, text in drawn():
         if text:
-            with open(path, "w", encoding="utf-8") as out:
+            with open(path_of(name), "w", encoding="utf-8") as out:
                 out.write(text)
+        elif os.path.exists(path_of(name)):
+            os.remove(path_of(name))
 
 
 def check(tally):
-    for path, text in drawn():
+    for name, text in drawn():
         if text:
             minidom.parseString(text)
-        told = os.path.relpath(path, TOP)
-        tally.judge(text_of(path, "") == text, f"{told} is not drawn of today's rows: tools/dev bench --draw")
+        told = os.path.relpath(path_of(name), TOP)
+        tally.judge(text_of(path_of(name), "") == text, f"{told} is not drawn of today's rows: tools/dev bench --draw")
