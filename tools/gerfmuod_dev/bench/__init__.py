@@ -8,8 +8,8 @@
     library      steps that a program in C tells lib/libgerfmuod.a, beside the core by hand
 
 Without a name all of them. Before anything is timed the answers of all programs are compared; the status is 1 where
-one differs. Then all run once in each round, and medians of the rounds are printed as tables, which are those of
-docs/PERFORMANCE.md; what has begun is told on standard error. `make` and `make lib` build what is measured;
+one differs. Then all run once in each round, and medians of the rounds are printed: all rows, and the tables that
+docs/PERFORMANCE.md has; what has begun is told on standard error. `make` and `make lib` build what is measured;
 bench/README.md says what the others need and how the numbers are to be read.
 """
 import argparse
@@ -83,8 +83,8 @@ def measure_all(words, names, folder):
         if not found:
             print(f"{name}: no case has {words.only!r} in its name", file=sys.stderr)
             continue
-        told = origin.origin_of(name, form, found[0].rounds, time.monotonic() - from_time, load_average)
-        print(f"## {name}\n\n{tables.of(name, found)}\n\n{tables.of_origins([told])}\n", flush=True)
+        told = origin.origin_of(name, form, found, time.monotonic() - from_time, load_average)
+        print("\n\n".join([f"## {name}", tables.plain(found), tables.of(name, found), tables.of_origins([told]), ""]), flush=True)
         every += found
         if words.write:
             rows.keep(name, found, told)

@@ -13,7 +13,7 @@ PLACES = [(1, 1), (1, 2), (1, 4), (2, 1), (2, 2), (4, 1), (4, 4), (8, 8)]
 ROD_PLACES = [(1, 1), (1, 2), (1, 4), (2, 2), (4, 1)]
 RODS = [(640_000, 10_000, 100), (640_000, 1_000, 100), (64_000, 100, 100)]
 BODY_CELLS, BODY_STEPS = 120_000, 100
-BODIES = [100, 200, 500, 1_000, 2_000, 4_000, 10_000]
+BODIES = [100, 200, 500, 800, 1_000, 1_500, 2_000, 4_000, 10_000]
 LIBRARY_STEPS = 999_999
 
 
@@ -102,17 +102,16 @@ def rod(bench):
 
 def body(bench):
     """`heat` in blocks of many sizes, after one step and after many: what lies between is bodies, and handing them out."""
-    cells, steps = (BODY_CELLS // 3, 31) if bench.is_quick else (BODY_CELLS, BODY_STEPS + 1)
-    path = bench.file(f"cells-{cells}", lambda out: inputs.write_cells(out, cells))
+    path = bench.file(f"cells-{BODY_CELLS}", lambda out: inputs.write_cells(out, BODY_CELLS))
     for block in BODIES[::2] if bench.is_quick else BODIES:
-        for count in (1, steps):
+        for count in (1, BODY_STEPS + 1):
             words = [str(count), str(block)]
             name = f"blocks of {block:,}, {count} steps"
             if chosen(bench, name):
                 candidates = by_workers("heat", [HEAT, *words], [(1, 1), (1, 4), (2, 2), (4, 1)])
                 candidates += rod_peers(bench, words, [(1, 1), (1, 4)])
-                case = Case("body", name, "body", -(-cells // block) * count, path)
-                yield from measure(bench, case, there(*candidates))
+                case = Case("body", name, "body", -(-BODY_CELLS // block) * count, path)
+                yield from measure(bench._replace(counts=False), case, there(*candidates))
 
 
 def product(bench):

@@ -5,7 +5,7 @@ from xml.dom import minidom
 from ..repository import TOP, text_of
 from . import charts
 from .cases import PLACES, TASKS
-from .tables import bodies, rest
+from .tables import BODY_PLACES, bodies, rest
 from .rows import kept
 
 FOLDER = f"{TOP}/docs/figures"
@@ -43,8 +43,7 @@ def instructions_a_task(rows):
 def speed_up_by_body(rows):
     """How many times as fast as one worker, against the length of a body."""
     names = ["heat, 1×4", "heat, 2×2", "heat, 4×1", "oneTBB, 4 threads", "OpenMP, 4 threads"]
-    places = [("heat", 1, 4), ("heat", 2, 2), ("heat", 4, 1), ("oneTBB flow graph", 1, 4), ("OpenMP tasks", 1, 4)]
-    lines = [[(it.microseconds[place[0]], it.speed_ups[place]) for it in bodies(rows) if place in it.speed_ups] for place in places]
+    lines = [[(it.microseconds[place[0]], it.speed_ups[place]) for it in bodies(rows) if place in it.speed_ups] for place in BODY_PLACES]
     across = "microseconds of a body at one worker"
     panel = charts.lines_panel(charts.Panel(0, 640), "", lines, "times as fast as one worker", across)
     return charts.picture([panel], names)

@@ -1,5 +1,6 @@
 """Measures programs beside each other."""
 import contextlib
+import functools
 import os
 import re
 import shutil
@@ -95,22 +96,23 @@ def take(bench, candidate, case):
     return Taken(*(int(found[it]) for it in Taken._fields))
 
 
+CACHEGRIND = ["valgrind", "--tool=cachegrind", "--cache-sim=no", f"--cachegrind-out-file={os.devnull}"], rb"I +refs: +([\d,]+)"
+PERF = ["perf", "stat", "-x", ";", "-e", "instructions:u"], rb"^(\d+);"
+
+
+@functools.lru_cache(maxsize=None)
 def counter():
     """What counts instructions here; none where nothing does."""
     if shutil.which("valgrind"):
         return "cachegrind"
-    if shutil.which("perf") and subprocess.run(["perf", "stat", "-e", "instructions:u", "true"], capture_output=True).returncode == 0:
-        return "perf stat"
-    return ""
+    return "perf stat" if re.search(PERF[1], running.run([*PERF[0], "true"]).err, re.M) else ""
 
 
 def instructions(candidate, case):
     """The instructions of the whole process; none where they are not told."""
-    if counter() == "cachegrind":
-        words = ["valgrind", "--tool=cachegrind", "--cache-sim=no", f"--cachegrind-out-file={os.devnull}"]
-        form = rb"I +refs: +([\d,]+)"
-    else:
-        words, form = ["perf", "stat", "-x", ";", "-e", "instructions:u"], rb"^(\d+);"
+    if not counter():
+        return None
+    words, form = CACHEGRIND if counter() == "cachegrind" else PERF
     found = re.search(form, running.run([*words, *candidate.words], case.stdin).err, re.M)
     return int(found[1].replace(b",", b"")) if found else None
 

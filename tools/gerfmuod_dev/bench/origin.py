@@ -28,13 +28,14 @@ def processor():
     return names[0] if names else platform.machine()
 
 
-def origin_of(measurement, form, rounds, seconds, load_average):
+def origin_of(measurement, form, rows, seconds, load_average):
+    counted_by = counter() if any(it.instructions for it in rows) else ""
     memory = re.search(r"^MemTotal: +(\d+)", text_of("/proc/meminfo", ""), re.M)
     compilers = [first_line("rustc", "--version"), first_line("g++", "--version")]
     return Origin(
-        measurement, time.strftime("%Y-%m-%d"), commit(), form, rounds, round(seconds), load_average, processor(), processors(),
+        measurement, time.strftime("%Y-%m-%d"), commit(), form, rows[0].rounds, round(seconds), load_average, processor(), processors(),
         int(memory[1]) / 2**20 if memory else 0.0, f"{platform.system()} {platform.release()}",
-        "; ".join(re.sub(r" *\([^)]*\)", "", it) for it in compilers if it), counter(),
+        "; ".join(re.sub(r" *\([^)]*\)", "", it) for it in compilers if it), counted_by,
     )
 
 

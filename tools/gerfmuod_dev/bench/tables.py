@@ -142,15 +142,30 @@ def bodies(rows):
             alone = {it: took[it, 1, 1] for it in dict.fromkeys(row.program for row in mine) if took[it, 1, 1] > 0}
             speed_ups = {at: alone[at[0]] / took[at] for at in took if at[0] in alone and took[at] > 0}
             lengths = {it: alone[it] * 1000 / (many - few) for it in alone}
-            found_bodies.append(Body(block.removeprefix("blocks of "), lengths, speed_ups))
+            found_bodies.append(Body(block.replace("blocks of ", ""), lengths, speed_ups))
     return found_bodies
 
 
+BODY_PLACES = [("heat", 1, 4), ("heat", 2, 2), ("heat", 4, 1), ("oneTBB flow graph", 1, 4), ("OpenMP tasks", 1, 4)]
+
+
+def twice_as_fast(every, place):
+    """The microseconds of the least body from which on all that were measured are twice as fast at a place."""
+    found_length = None
+    for it in reversed(every):
+        if it.speed_ups.get(place, 0) < 2:
+            break
+        found_length = it.microseconds[place[0]]
+    return "none" if found_length is None else f"{found_length:.1f}"
+
+
 def body(rows):
-    places = [("heat", 1, 4), ("heat", 2, 2), ("heat", 4, 1), ("oneTBB flow graph", 1, 4), ("OpenMP tasks", 1, 4)]
-    lines = [[it.block, cell(it.microseconds.get("heat"), "{:.1f}"), *(cell(it.speed_ups.get(place)) for place in places)] for it in bodies(rows)]
-    head = ["Cells of a block", "microseconds of a body", *(f"{name}, {nodes} by {workers}" for name, nodes, workers in places)]
-    return "How many times as fast as one worker of the same program:\n\n" + table(head, lines)
+    every = bodies(rows)
+    lines = [[it.block, cell(it.microseconds.get("heat"), "{:.1f}"), *(cell(it.speed_ups.get(at)) for at in BODY_PLACES)] for it in every]
+    lines.append(["twice as fast from on", "", *(twice_as_fast(every, at) for at in BODY_PLACES)])
+    head = ["Cells of a block", "microseconds of a body", *(f"{name}, {nodes} by {workers}" for name, nodes, workers in BODY_PLACES)]
+    told = "How many times as fast as one worker of the same program. The last line tells, in microseconds of that program's own body,"
+    return f"{told}\nfrom which length on all that were measured are at least twice as fast:\n\n{table(head, lines)}"
 
 
 # ---- the library
@@ -178,14 +193,27 @@ def of(measurement, rows):
     return TABLES[measurement](rows)
 
 
+def plain(rows):
+    """All rows, for the screen."""
+    lines = [
+        [
+            it.case, it.program, it.where, str(it.load), f"{it.milliseconds:.2f}", f"{it.lower_quartile:.2f} to {it.upper_quartile:.2f}",
+            f"{it.processor_milliseconds:.2f}", f"{it.context_switches:.0f}", f"{it.page_faults:.0f}", f"{it.MiB:.1f}",
+            cell(ratio(it.instructions, it.units), "{:,.0f}"),
+        ]
+        for it in rows
+    ]
+    head = ["Case", "Program", "at", "load", "ms", "quartiles", "processor ms", "switches", "faults", "MiB"]
+    return table([*head, f"instructions a {rows[0].unit}"], lines)
+
+
 def of_origins(origins):
     """When and where each measurement was made."""
     shown = ["date", "commit", "form", "rounds", "seconds", "load_average"]
     lines = [[f"`{it.measurement}`", *(str(getattr(it, name)) for name in shown)] for it in origins]
-    places = [Origin._fields[7:]]
-    machines = dict.fromkeys(tuple(getattr(it, name) for name in places[0]) for it in origins)
+    machines = dict.fromkeys(tuple(it)[Origin._fields.index("processor"):] for it in origins)
     told = [
-        f"{name}, {processors} processors, {memory:.0f} GiB; {system}; {compilers}; instructions by {counter or 'nothing'}."
+        f"{name}, {processors} processors, {memory:.0f} GiB; {system}; {compilers}{'; instructions by ' * bool(counter)}{counter}."
         for name, processors, memory, system, compilers, counter in machines
     ]
     return "\n\n".join([table(["Measurement", *(it.replace("_", " ") for it in shown)], lines), *told])
