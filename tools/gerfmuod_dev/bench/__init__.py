@@ -36,17 +36,17 @@ def measurement(word):
 def arguments(parser):
     parser.add_argument("measurements", nargs="*", metavar="NAME", type=measurement, help=", ".join(MEASUREMENTS))
     form = parser.add_mutually_exclusive_group()
-    form.add_argument("--quick", action="store_true", help=f"few cases, {ROUNDS['quick']} rounds (so it is without --full)")
-    form.add_argument("--full", action="store_true", help=f"all cases, {ROUNDS['full']} rounds, instructions, `run` under load too")
+    form.add_argument("--quick", action="store_true", help=f"few cases, {ROUNDS['quick']} rounds: the default")
+    form.add_argument("--full", action="store_true", help=f"all cases, {ROUNDS['full']} rounds, instructions, load")
     parser.add_argument("--rounds", type=int, metavar="N", help="how often each program runs on each case")
     parser.add_argument("--load", type=int, metavar="N", help="N busy processes beside, in place of none")
     parser.add_argument("--instructions", action="store_true", help="count instructions in the quick form too")
     parser.add_argument("--only", default="", metavar="WORD", help="only cases whose name has the word in it")
     parser.add_argument("--csv", metavar="FILE", help="write the rows to this file too")
     kept = parser.add_mutually_exclusive_group()
-    kept.add_argument("--write", action="store_true", help="keep the rows in docs/measurements, and do what --draw does")
-    kept.add_argument("--draw", action="store_true", help="measure nothing: plots and tables of docs of the rows that are kept")
-    kept.add_argument("--check", action="store_true", help="measure nothing: are plots and tables of docs those of the rows?")
+    kept.add_argument("--write", action="store_true", help="keep the rows in docs, and do what --draw does")
+    kept.add_argument("--draw", action="store_true", help="measure nothing: plots and tables of the kept rows")
+    kept.add_argument("--check", action="store_true", help="measure nothing: are plots and tables those?")
 
 
 def has_measuring_words(words):
@@ -55,7 +55,7 @@ def has_measuring_words(words):
 
 
 def loads(words, name):
-    """How many busy processes stand beside: in full, `run` is measured without any and once more with one a processor."""
+    """How many busy processes stand beside: in full, `run` is measured without any and again with one a processor."""
     if words.load is not None:
         return [words.load]
     return [0, len(os.sched_getaffinity(0))] if words.full and name == "run" else [0]
@@ -84,7 +84,8 @@ def measure_all(words, names, folder):
             print(f"{name}: no case has {words.only!r} in its name", file=sys.stderr)
             continue
         told = origin.origin_of(name, form, found, time.monotonic() - from_time, load_average)
-        print("\n\n".join([f"## {name}", tables.plain(found), tables.of(name, found), tables.of_origins([told]), ""]), flush=True)
+        parts = [f"## {name}", tables.plain(found), tables.of(name, found), tables.of_origins([told]), ""]
+        print("\n\n".join(parts), flush=True)
         every += found
         if words.write:
             rows.keep(name, found, told)

@@ -11,6 +11,7 @@ PROGRAMS = {"sim": TP, "audit": TP, "run": TP, "rod": HEAT, "body": HEAT, "produ
 TASKS = {"product:64:4:0": 4_096, "wavefront:64:64:0": 4_096, "reduce:1024:0": 2_047, "product:64:1:0": 262_144}
 PLACES = [(1, 1), (1, 2), (1, 4), (2, 1), (2, 2), (4, 1), (4, 4), (8, 8)]
 ROD_PLACES = [(1, 1), (1, 2), (1, 4), (2, 2), (4, 1)]
+PRODUCT_PLACES = [(1, 1), (1, 2), (1, 4), (2, 2)]
 RODS = [(640_000, 10_000, 100), (640_000, 1_000, 100), (64_000, 100, 100)]
 BODY_CELLS, BODY_STEPS = 120_000, 100
 BODIES = [100, 200, 500, 800, 1_000, 1_500, 2_000, 4_000, 10_000]
@@ -34,9 +35,11 @@ def texts(bench, measurement, kind, lines, write):
     path = bench.file(f"{measurement}-{kind}-{lines}".replace(" ", "-"), write)
     with open(path, encoding="ascii") as text:
         count = sum(1 for _ in text)
+    hashed = bench.peers.rust("texts", "texts.rs")
+    ordered = bench.peers.rust("texts_sorted", "texts.rs", "--cfg", "sorted")
     peers = [
-        Candidate("core by hand, HashMap", [bench.peers.rust("texts", "texts.rs"), measurement]),
-        Candidate("core by hand, BTreeMap", [bench.peers.rust("texts_sorted", "texts.rs", "--cfg", "sorted"), measurement]),
+        Candidate("core by hand, HashMap", [hashed, measurement]),
+        Candidate("core by hand, BTreeMap", [ordered, measurement]),
     ]
     case = Case(measurement, name, "line", count, path)
     return measure(bench, case, there(Candidate("tp", [TP, measurement]), *peers))
@@ -72,7 +75,8 @@ def run(bench):
                 *by_workers("OpenMP tasks", [peers.depend("depend_pools"), pool], [place]),
             )
             if place == (1, 1):
-                candidates += there(Candidate("one after the other", [peers.rust("plain_pools", "plain_pools.rs"), pool]))
+                plain = peers.rust("plain_pools", "plain_pools.rs")
+                candidates += there(Candidate("one after the other", [plain, pool]))
             yield from measure(bench, Case("run", pool, "task", tasks), candidates)
 
 
@@ -101,7 +105,7 @@ def rod(bench):
 
 
 def body(bench):
-    """`heat` in blocks of many sizes, after one step and after many: what lies between is bodies, and handing them out."""
+    """`heat` in blocks of many sizes, after one step and after many: bodies and handing them out lie between."""
     path = bench.file(f"cells-{BODY_CELLS}", lambda out: inputs.write_cells(out, BODY_CELLS))
     for block in BODIES[::2] if bench.is_quick else BODIES:
         for count in (1, BODY_STEPS + 1):
@@ -120,7 +124,7 @@ def product(bench):
         name = f"order {order}, tiles of {side}"
         if chosen(bench, name):
             path = bench.file(f"matrices-{order}", lambda out, order=order: inputs.write_matrices(out, order))
-            candidates = by_workers("product", [PRODUCT, str(side)], [(1, 1), (1, 2), (1, 4), (2, 2)])
+            candidates = by_workers("product", [PRODUCT, str(side)], PRODUCT_PLACES)
             case = Case("product", name, "multiplication", order**3, path)
             yield from measure(bench, case, there(*candidates, Candidate("three loops", [loops])))
 
@@ -137,4 +141,4 @@ def library(bench):
             yield from measure(bench, Case("library", f"{steps:,} steps of {kind}", "step", steps), candidates)
 
 
-MEASUREMENTS = {"sim": sim, "audit": audit, "run": run, "rod": rod, "body": body, "product": product, "library": library}
+MEASUREMENTS = dict(sim=sim, audit=audit, run=run, rod=rod, body=body, product=product, library=library)

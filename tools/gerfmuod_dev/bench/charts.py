@@ -107,8 +107,12 @@ def picture(panels, names, tall=46):
     last = max(panel for panel, _ in panels)
     width = max(last.x + last.width, LEFT + sum(32 + 7 * len(it) for it in names)) + 24
     height = TOP + HEIGHT + tall
-    head = f'<svg xmlns="http://www.w3.org/2000/svg" width="{width}" height="{height}" viewBox="0 0 {width} {height}" {FONT}>'
-    parts = [head, f'<rect width="{width}" height="{height}" fill="white"/>', *key(names, LEFT + 4.0)]
+    size = f'width="{width}" height="{height}" viewBox="0 0 {width} {height}"'
+    parts = [
+        f'<svg xmlns="http://www.w3.org/2000/svg" {size} {FONT}>',
+        f'<rect width="{width}" height="{height}" fill="white"/>',
+        *key(names, LEFT + 4.0),
+    ]
     for _, drawn in panels:
         parts += drawn
     return "\n".join([*parts, "</svg>", ""])
@@ -137,7 +141,8 @@ def lines_panel(panel, title, lines, unit, across, is_log=False, words=None):
     for order, some in enumerate(lines):
         spots = [(flat.place(x), upright.place(y)) for x, y in some]
         way = " ".join(f"{x:.1f},{y:.1f}" for x, y in spots)
-        parts.append(f'<polyline points="{way}" fill="none" stroke="{COLOURS[order % len(COLOURS)]}" stroke-width="1.6"/>')
+        colour = COLOURS[order % len(COLOURS)]
+        parts.append(f'<polyline points="{way}" fill="none" stroke="{colour}" stroke-width="1.6"/>')
         parts += [mark(x, y, order) for x, y in spots]
     return panel, parts
 

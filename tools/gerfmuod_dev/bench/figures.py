@@ -20,10 +20,10 @@ def time_by_nodes(rows):
     for pool in [it for it in POOLS if any(row.case == it for row in rows)]:
         lines = []
         for program in RUNTIMES:
-            mine = [it for it in rest(rows) if (it.case, it.program) == (pool, program) and (it.nodes, it.workers) in PLACES]
+            mine = [it for it in rest(rows) if (it.case, it.program) == (pool, program)]
             lines.append([(PLACES.index((it.nodes, it.workers)), it.milliseconds * 1000 / it.units) for it in mine])
-        across = "nodes × workers"
-        panels.append(charts.lines_panel(charts.Panel(len(panels), 300), pool, lines, "microseconds a task", across, True, words))
+        panel, names = charts.Panel(len(panels), 300), ("microseconds a task", "nodes × workers")
+        panels.append(charts.lines_panel(panel, pool, lines, *names, True, words))
     return charts.picture(panels, RUNTIMES)
 
 
@@ -43,7 +43,10 @@ def instructions_a_task(rows):
 def speed_up_by_body(rows):
     """How many times as fast as one worker, against the length of a body."""
     names = ["heat, 1×4", "heat, 2×2", "heat, 4×1", "oneTBB, 4 threads", "OpenMP, 4 threads"]
-    lines = [[(it.microseconds[place[0]], it.speed_ups[place]) for it in bodies(rows) if place in it.speed_ups] for place in BODY_PLACES]
+    lines = []
+    for place in BODY_PLACES:
+        mine = [it for it in bodies(rows) if place in it.speed_ups]
+        lines.append([(it.microseconds[place[0]], it.speed_ups[place]) for it in mine])
     across = "microseconds of a body at one worker"
     panel = charts.lines_panel(charts.Panel(0, 640), "", lines, "times as fast as one worker", across)
     return charts.picture([panel], names)

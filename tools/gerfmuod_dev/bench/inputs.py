@@ -8,6 +8,11 @@ STRETCH = 4_000
 # what a step is, and how often it is tried
 KINDS = {"insert": 16, "supply": 24, "begin": 16, "done": 16, "send": 5, "receive": 6, "end": 6, "open": 3, "close": 3}
 
+# steps that are refused, with a fresh number
+WRONG = [
+    "supply {}", "begin {}", "done {}", "insert 8 {} 1", "close 0 999999", "recv 0 999999", "send 3 3 {}", "up 0",
+]
+
 
 def write_cells(out, count):
     chance = random.Random(3)
@@ -117,8 +122,7 @@ class Maker:
     def refused(self):
         """A step that is refused, whatever has happened."""
         fresh = len(self.home)
-        wrong = ["supply {}", "begin {}", "done {}", "insert 8 {} 1", "close 0 999999", "recv 0 999999", "send 3 3 {}", "up 0"]
-        self.say(self.chance.choice(wrong).format(fresh))
+        self.say(self.chance.choice(WRONG).format(fresh))
 
     def drain(self, left):
         """Everything comes to its end but so many messages."""

@@ -64,8 +64,10 @@ class Bench(NamedTuple):
 
 def by_workers(program, words, configurations):
     """A candidate for each number of nodes and workers."""
-    options = [(nodes, workers, ["--nodes", str(nodes), "--workers", str(workers)]) for nodes, workers in configurations]
-    return [Candidate(program, [*words, *more], nodes, workers) for nodes, workers, more in options]
+    return [
+        Candidate(program, [*words, "--nodes", str(nodes), "--workers", str(workers)], nodes, workers)
+        for nodes, workers in configurations
+    ]
 
 
 def answer_of(candidate, case):
@@ -83,20 +85,25 @@ def compare(case, candidates):
     wanted, sent = answer_of(candidates[0], case)
     for candidate in candidates[1:]:
         answer, messages = answer_of(candidate, case)
-        if answer != wanted or messages and sent and messages != sent and candidate.nodes == candidates[0].nodes:
-            raise SystemExit(f"{case.measurement}, {case.name}: {candidate.program} answers otherwise: {' '.join(candidate.words)}")
+        are_told = messages and sent and candidate.nodes == candidates[0].nodes
+        if answer != wanted or are_told and messages != sent:
+            raise SystemExit(f"{case.measurement}, {case.name}: answered otherwise: {' '.join(candidate.words)}")
 
 
 def take(bench, candidate, case):
     with open(case.stdin, "rb") as given:
-        told = subprocess.run([bench.peers.measure, *candidate.words], stdin=given, stdout=subprocess.PIPE, stderr=subprocess.DEVNULL, text=True)
-    found = dict(re.findall(r"^(\w+) (\d+)$", told.stdout, re.M))
+        words = [bench.peers.measure, *candidate.words]
+        told = subprocess.run(words, stdin=given, stdout=subprocess.PIPE, stderr=subprocess.DEVNULL, text=True).stdout
+    found = dict(re.findall(r"^(\w+) (\d+)$", told, re.M))
     if found.get("status") != "0":
         raise SystemExit(f"{' '.join(candidate.words)}: wait tells {found.get('status')}")
     return Taken(*(int(found[it]) for it in Taken._fields))
 
 
-CACHEGRIND = ["valgrind", "--tool=cachegrind", "--cache-sim=no", f"--cachegrind-out-file={os.devnull}"], rb"I +refs: +([\d,]+)"
+CACHEGRIND = (
+    ["valgrind", "--tool=cachegrind", "--cache-sim=no", f"--cachegrind-out-file={os.devnull}"],
+    rb"I +refs: +([\d,]+)",
+)
 PERF = ["perf", "stat", "-x", ";", "-e", "instructions:u"], rb"^(\d+);"
 
 

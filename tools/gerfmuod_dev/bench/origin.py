@@ -31,10 +31,11 @@ def processor():
 def origin_of(measurement, form, rows, seconds, load_average):
     counted_by = counter() if any(it.instructions for it in rows) else ""
     memory = re.search(r"^MemTotal: +(\d+)", text_of("/proc/meminfo", ""), re.M)
+    gibibytes = int(memory[1]) / 2**20 if memory else 0.0
     compilers = [first_line("rustc", "--version"), first_line("g++", "--version")]
     return Origin(
-        measurement, time.strftime("%Y-%m-%d"), commit(), form, rows[0].rounds, round(seconds), load_average, processor(), processors(),
-        int(memory[1]) / 2**20 if memory else 0.0, f"{platform.system()} {platform.release()}",
+        measurement, time.strftime("%Y-%m-%d"), commit(), form, rows[0].rounds, round(seconds), load_average,
+        processor(), processors(), gibibytes, f"{platform.system()} {platform.release()}",
         "; ".join(re.sub(r" *\([^)]*\)", "", it) for it in compilers if it), counted_by,
     )
 

@@ -29,7 +29,8 @@ class Peers:
             if ran.returncode == 0:
                 return made
             wants = " or ".join(WANTED[it] for it in (*words, *after) if it in WANTED)
-            why = f"it does not compile{', which wants ' + wants if wants else ''}: {(ran.stderr.splitlines() or ['?'])[0]}"
+            said = (ran.stderr.splitlines() or ["?"])[0]
+            why = f"it does not compile{', which wants ' + wants if wants else ''}: {said}"
         print(f"{source} is left out: {why}", file=sys.stderr)
         return None
 

@@ -1,5 +1,6 @@
 """What was measured, as rows of CSV files."""
 import csv
+import io
 import os
 from typing import NamedTuple
 
@@ -69,8 +70,11 @@ def spelt(value):
 
 
 def text_of(rows, kind=Row):
-    lines = [named(kind), *([spelt(it) for it in row] for row in rows)]
-    return "".join(",".join(it if not set(it) & set(',"') else '"' + it.replace('"', '""') + '"' for it in line) + "\n" for line in lines)
+    out = io.StringIO()
+    lines = csv.writer(out, lineterminator="\n")
+    lines.writerow(named(kind))
+    lines.writerows([spelt(it) for it in row] for row in rows)
+    return out.getvalue()
 
 
 def read(path, kind=Row):
