@@ -38,8 +38,8 @@ def texts(bench, measurement, kind, lines, write):
     hashed = bench.peers.rust("texts", "texts.rs")
     ordered = bench.peers.rust("texts_sorted", "texts.rs", "--cfg", "sorted")
     peers = [
-        Candidate("core by hand, HashMap", [hashed, measurement]),
-        Candidate("core by hand, BTreeMap", [ordered, measurement]),
+        Candidate("core with a HashMap", [hashed, measurement]),
+        Candidate("core with a BTreeMap", [ordered, measurement]),
     ]
     case = Case(measurement, name, "line", count, path)
     return measure(bench, case, there(Candidate("tp", [TP, measurement]), *peers))
@@ -135,8 +135,8 @@ def library(bench):
         for steps in (0, LIBRARY_STEPS) if chosen(bench, f"steps of {kind}") else ():
             words = [kind, str(steps)]
             candidates = there(
-                Candidate("library, from C", [bench.peers.library_steps(), *words]),
-                Candidate("core by hand, HashMap", [bench.peers.rust("core_steps", "core_steps.rs"), *words]),
+                Candidate("library from C", [bench.peers.library_steps(), *words]),
+                Candidate("core with a HashMap", [bench.peers.rust("core_steps", "core_steps.rs"), *words]),
             )
             yield from measure(bench, Case("library", f"{steps:,} steps of {kind}", "step", steps), candidates)
 

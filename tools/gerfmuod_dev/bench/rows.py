@@ -77,6 +77,11 @@ def text_of(rows, kind=Row):
     return out.getvalue()
 
 
+def read_word(to, word):
+    """The value of a word, which is None where a number is not there."""
+    return to(word) if word or to is str else None
+
+
 def read(path, kind=Row):
     """The rows of a file; none where it is not there."""
     if not os.path.exists(path):
@@ -86,7 +91,10 @@ def read(path, kind=Row):
     if first != named(kind):
         raise SystemExit(f"{path}: its columns are not {','.join(named(kind))}")
     types = [kind.__annotations__[it] for it in kind._fields]
-    return [kind(*(to(it) if it else None if to is not str else "" for to, it in zip(types, line))) for line in lines]
+    try:
+        return [kind(*(read_word(to, it) for to, it in zip(types, line))) for line in lines]
+    except (TypeError, ValueError) as why:
+        raise SystemExit(f"{path}: a row is not one: {why}") from None
 
 
 def write(path, rows, kind=Row):

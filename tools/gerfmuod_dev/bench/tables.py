@@ -109,16 +109,19 @@ def pools(rows):
 
 
 def milliseconds(rows, places):
-    """A line for each case and program, with its time at each place and its memory at the last."""
-    lines = []
-    for case, program in dict.fromkeys((it.case, it.program) for it in rows):
-        mine = [it for it in rows if (it.case, it.program) == (case, program)]
-        here = [found(mine, nodes=nodes, workers=workers) for nodes, workers in places]
-        counted = next(filter(None, map(each_unit, mine)), None)
-        times = [cell(it and it.milliseconds, "{:.1f}") for it in here]
-        lines.append([case, program, *times, f"{mine[-1].MiB:.0f}", cell(counted, "{:.1f}")])
-    head = ["Case", "Program", *spelt(places), "MiB", f"instructions a {rows[0].unit}"]
-    return f"Milliseconds of the whole process, and its instructions at one worker:\n\n{table(head, lines)}"
+    """A table for each case, with a line for each program: its time at each place, its memory at the last."""
+    parts = []
+    for case in dict.fromkeys(it.case for it in rows):
+        lines = []
+        for program in dict.fromkeys(it.program for it in rows if it.case == case):
+            mine = [it for it in rows if (it.case, it.program) == (case, program)]
+            here = [found(mine, nodes=nodes, workers=workers) for nodes, workers in places]
+            counted = next(filter(None, map(each_unit, mine)), None)
+            times = [cell(it and it.milliseconds, "{:.1f}") for it in here]
+            lines.append([program, *times, f"{mine[-1].MiB:.0f}", cell(counted, "{:.1f}")])
+        head = ["Milliseconds of the whole process", *spelt(places), "MiB", f"instructions a {rows[0].unit}"]
+        parts += [f"{case[0].upper()}{case[1:]}:", table(head, lines)]
+    return "\n\n".join(parts)
 
 
 def rods(rows):
@@ -235,5 +238,5 @@ def of_origins(origins):
     for it in dict.fromkeys(tuple(it)[Origin._fields.index("processor") :] for it in origins):
         name, processors, memory, system, compilers, counter = it
         counts = f"; instructions by {counter}" if counter else ""
-        parts.append(f"{name}, {processors} processors, {memory:.0f} GiB; {system}; {compilers}{counts}.")
+        parts.append(f"{name}, {processors} processors, {memory:.0f} GiB; {system};\n{compilers}{counts}.")
     return "\n\n".join(parts)
