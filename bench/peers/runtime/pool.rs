@@ -208,7 +208,8 @@ impl<G: Graph> RunningPool<G> {
 pub fn run<G: Graph>(graph: G, nodes: u32, workers: u32) -> Result<(Vec<Value>, u32), Refusal> {
     let pool = RunningPool::new(graph, nodes);
     thread::scope(|scope| {
-        for home in pool.nodes.iter().flat_map(|it| (0..workers).map(move |_| it)) {
+        // first one worker at each node, then a second one: a node opens as soon as it has one
+        for home in (0..workers).flat_map(|_| &pool.nodes) {
             scope.spawn(|| pool.work(home));
         }
     });
