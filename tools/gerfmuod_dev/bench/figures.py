@@ -15,16 +15,18 @@ POOLS = [it for it in TASKS if it != "product:64:1:0"]
 
 def time_by_nodes(rows):
     """Microseconds a task against nodes and workers, a panel for each pool."""
+    rows = rest(rows)
+    programs = [name for name in RUNTIMES if any(it.program == name for it in rows)]
     panels = []
     words = [f"{nodes}×{workers}" for nodes, workers in PLACES]
     for pool in [it for it in POOLS if any(row.case == it for row in rows)]:
         lines = []
-        for program in RUNTIMES:
-            mine = [it for it in rest(rows) if (it.case, it.program) == (pool, program)]
+        for program in programs:
+            mine = [it for it in rows if (it.case, it.program) == (pool, program)]
             lines.append([(PLACES.index((it.nodes, it.workers)), it.milliseconds * 1000 / it.units) for it in mine])
         panel, names = charts.Panel(len(panels), 300), ("microseconds a task", "nodes × workers")
         panels.append(charts.lines_panel(panel, pool, lines, *names, True, words))
-    return charts.picture(panels, RUNTIMES)
+    return charts.picture(panels, programs) if panels else ""
 
 
 def instructions_a_task(rows):
@@ -47,6 +49,8 @@ def speed_up_by_body(rows):
     for place in BODY_PLACES:
         mine = [it for it in bodies(rows) if place in it.speed_ups]
         lines.append([(it.microseconds[place[0]], it.speed_ups[place]) for it in mine])
+    if not any(lines):
+        return ""
     across = "microseconds of a body at one worker"
     panel = charts.lines_panel(charts.Panel(0, 640), "", lines, "times as fast as one worker", across)
     return charts.picture([panel], names)
