@@ -7,7 +7,8 @@
 # make soak     each sample pool 200 times at 8 nodes with 8 workers each, compares what they make and audits their traces;
 #               then the program with strange streams and texts, every stored text cut after each byte, and texts by chance
 # make lib      proves the detector for other languages, and builds it: lib/libgerfmuod.a, its header and its pkg-config file
-# make bench    what a step costs that a program in C tells the library: instructions and time
+# make bench    what a step costs that a program in C tells the library, and all programs beside others that do the same, in a
+#               quick form of some minutes (FULL=1: all cases, kept as the numbers of docs/PERFORMANCE.md; see bench/README.md)
 # make install PREFIX=/usr/local     puts the proved programs and the library in place
 .PHONY: all lib demo test gate wrong times soak bench install clean
 
@@ -32,6 +33,7 @@ test:
 	@tools/dev try
 	@tools/dev capi
 	@tools/dev docs
+	@tools/dev bench --check
 	@tools/dev wrong --stale
 
 # (one job a check: each further job of a check loads the libraries anew)
@@ -50,8 +52,9 @@ soak: bin/tp
 	tools/dev limits cuts bin/tp
 	tools/dev limits random bin/tp
 
-bench: lib/libgerfmuod.a
+bench: bin/tp lib/libgerfmuod.a
 	@tools/dev capi --bench
+	@tools/dev bench $(if $(FULL),--full --write,--quick)
 
 install: bin/tp lib/libgerfmuod.a
 	install -D -m 755 bin/tp $(DESTDIR)$(PREFIX)/bin/tp

@@ -5,7 +5,7 @@ status 2.
 """
 import argparse
 
-from . import build, capi, demo, docs, gate_times, lanes, library, limits, soak, tries, wrong
+from . import bench, build, capi, demo, docs, gate_times, lanes, library, limits, soak, tries, wrong
 from .limits import cuts, generations, hostile_numbers, memory, random_texts, refuse, refuse_tests, stacks, strange
 
 COMMANDS = {
@@ -19,6 +19,7 @@ COMMANDS = {
     "lanes": lanes,
     "docs": docs,
     "soak": soak,
+    "bench": bench,
 }
 LIMITS = {
     "refuse": refuse,

@@ -2,7 +2,7 @@
 
 - the table of docs/MEMORY.md: each public call that can be refused memory stands in it, and no other
 - each block of code in docs/WRITING-A-POOL.md stands, as it is, in the file that the line above it names
-- each relative link of README.md, CONTRIBUTING.md and docs/*.md leads to a file, and to a heading where it names one
+- each relative link of README.md, CONTRIBUTING.md, bench/README.md and docs/*.md leads to a file, and to a heading where it names one
 - README.md has at most 150 lines, none of them over 120 columns: warnings, unless --strict is given
 - the pictures are those that tools/pictures.py makes, where there is such a file (its --check)
 
@@ -66,7 +66,7 @@ def leads(path, link):
 
 
 def check_links(tally):
-    documents = [it for it in ("README.md", "CONTRIBUTING.md", *sorted(glob.glob("docs/*.md"))) if os.path.exists(it)]
+    documents = [it for it in ("README.md", "CONTRIBUTING.md", "bench/README.md", *sorted(glob.glob("docs/*.md"))) if os.path.exists(it)]
     links = [(path, link) for path in documents for link in links_of(path)]
     dead = 0
     for path, link in links:

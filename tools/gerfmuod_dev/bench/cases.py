@@ -1,0 +1,144 @@
+"""What is measured: for each measurement its cases, and the programs that are compared on them."""
+from ..repository import TOP
+from . import inputs
+from .measuring import Candidate, Case, by_workers, measure
+
+TP, HEAT, PRODUCT = (f"{TOP}/bin/{name}" for name in ("tp", "heat", "product"))
+ARCHIVE = f"{TOP}/lib/libgerfmuod.a"
+# what each measurement measures
+PROGRAMS = {"sim": TP, "audit": TP, "run": TP, "rod": HEAT, "body": HEAT, "product": PRODUCT, "library": ARCHIVE}
+
+TASKS = {"product:64:4:0": 4_096, "wavefront:64:64:0": 4_096, "reduce:1024:0": 2_047, "product:64:1:0": 262_144}
+PLACES = [(1, 1), (1, 2), (1, 4), (2, 1), (2, 2), (4, 1), (4, 4), (8, 8)]
+ROD_PLACES = [(1, 1), (1, 2), (1, 4), (2, 2), (4, 1)]
+PRODUCT_PLACES = [(1, 1), (1, 2), (1, 4), (2, 2)]
+RODS = [(640_000, 10_000, 100), (640_000, 1_000, 100), (64_000, 100, 100)]
+BODY_CELLS, BODY_STEPS = 120_000, 100
+BODIES = [100, 200, 500, 800, 1_000, 1_500, 2_000, 4_000, 10_000]
+LIBRARY_STEPS = 999_999
+
+
+def there(*candidates):
+    """Those whose program could be compiled."""
+    return [it for it in candidates if it.words[0]]
+
+
+def chosen(bench, *names):
+    return bench.only in " ".join(names)
+
+
+def texts(bench, measurement, kind, lines, write):
+    """`tp sim` or `tp audit` on a text, beside the core by hand with each kind of map."""
+    name = f"{kind}, {lines:,} lines"
+    if not chosen(bench, name):
+        return []
+    path = bench.file(f"{measurement}-{kind}-{lines}".replace(" ", "-"), write)
+    with open(path, encoding="ascii") as text:
+        count = sum(1 for _ in text)
+    hashed = bench.peers.rust("texts", "texts.rs")
+    ordered = bench.peers.rust("texts_sorted", "texts.rs", "--cfg", "sorted")
+    peers = [
+        Candidate("core with a HashMap", [hashed, measurement]),
+        Candidate("core with a BTreeMap", [ordered, measurement]),
+    ]
+    case = Case(measurement, name, "line", count, path)
+    return measure(bench, case, there(Candidate("tp", [TP, measurement]), *peers))
+
+
+def sizes(bench):
+    return [200_000] if bench.is_quick else [200_000, 1_000_000]
+
+
+def sim(bench):
+    for lines in sizes(bench):
+        yield from texts(bench, "sim", "steps of tasks", lines, lambda out: inputs.write_task_steps(out, lines))
+        yield from texts(bench, "sim", "all steps", lines, lambda out: inputs.write_all_steps(out, lines, False))
+
+
+def audit(bench):
+    for lines in sizes(bench):
+        yield from texts(bench, "audit", "all steps", lines, lambda out: inputs.write_all_steps(out, lines, True))
+
+
+def run(bench):
+    """`tp run`, at nodes by workers, beside the other runtimes and the tasks one after the other."""
+    peers = bench.peers
+    for pool, tasks in TASKS.items():
+        # the events of the last pool are too many at two nodes and more
+        places = [it for it in PLACES if pool != "product:64:1:0" or it[0] == 1]
+        places = [it for it in places if not bench.is_quick or it in [(1, 1), (2, 2), (8, 8)]]
+        for place in places if chosen(bench, pool) else []:
+            candidates = there(
+                *by_workers("tp", [TP, "run", pool], [place]),
+                *by_workers("runtime by hand", [peers.rust("runtime", "runtime/main.rs"), pool], [place]),
+                *by_workers("oneTBB flow graph", [peers.flow_graph("flow_graph_pools"), pool], [place]),
+                *by_workers("OpenMP tasks", [peers.depend("depend_pools"), pool], [place]),
+            )
+            if place == (1, 1):
+                plain = peers.rust("plain_pools", "plain_pools.rs")
+                candidates += there(Candidate("one after the other", [plain, pool]))
+            yield from measure(bench, Case("run", pool, "task", tasks), candidates)
+
+
+def rod_peers(bench, words, places):
+    return [
+        *by_workers("oneTBB flow graph", [bench.peers.flow_graph("flow_graph_rod"), *words], places),
+        *by_workers("OpenMP tasks", [bench.peers.depend("depend_rod"), *words], places),
+    ]
+
+
+def rod(bench):
+    """`heat` on a rod of cells, with reading and printing, which are measured apart by no steps at all."""
+    loop = bench.peers.rust("rod", "rod.rs")
+    for cells, block, steps in [RODS[0][:2] + (0,), *(RODS[-1:] if bench.is_quick else RODS)]:
+        name = f"{cells:,} cells in blocks of {block:,}, {steps} steps"
+        if not chosen(bench, name):
+            continue
+        path = bench.file(f"cells-{cells}", lambda out, cells=cells: inputs.write_cells(out, cells))
+        words = [str(steps), str(block)]
+        places = ROD_PLACES if steps else ROD_PLACES[:1]
+        candidates = [*by_workers("heat", [HEAT, *words], places), Candidate("plain loop", [loop, *words])]
+        if steps:
+            candidates += by_workers("threads and a barrier", [loop, *words, "--threads"], places)
+        candidates += rod_peers(bench, words, places)
+        yield from measure(bench, Case("rod", name, "cell", cells, path), there(*candidates))
+
+
+def body(bench):
+    """`heat` in blocks of many sizes, after one step and after many: bodies and handing them out lie between."""
+    path = bench.file(f"cells-{BODY_CELLS}", lambda out: inputs.write_cells(out, BODY_CELLS))
+    for block in BODIES[::2] if bench.is_quick else BODIES:
+        for count in (1, BODY_STEPS + 1):
+            words = [str(count), str(block)]
+            name = f"blocks of {block:,}, {count} steps"
+            if chosen(bench, name):
+                candidates = by_workers("heat", [HEAT, *words], [(1, 1), (1, 4), (2, 2), (4, 1)])
+                candidates += rod_peers(bench, words, [(1, 1), (1, 4)])
+                case = Case("body", name, "body", -(-BODY_CELLS // block) * count, path)
+                yield from measure(bench._replace(counts=False), case, there(*candidates))
+
+
+def product(bench):
+    loops = bench.peers.rust("product", "product.rs")
+    for order, side in [(64, 16)] if bench.is_quick else [(64, 16), (512, 64)]:
+        name = f"order {order}, tiles of {side}"
+        if chosen(bench, name):
+            path = bench.file(f"matrices-{order}", lambda out, order=order: inputs.write_matrices(out, order))
+            candidates = by_workers("product", [PRODUCT, str(side)], PRODUCT_PLACES)
+            case = Case("product", name, "multiplication", order**3, path)
+            yield from measure(bench, case, there(*candidates, Candidate("three loops", [loops])))
+
+
+def library(bench):
+    """Steps that a program in C tells the library, and the same steps told the core by hand: none of them, and many."""
+    for kind in ("tasks", "messages"):
+        for steps in (0, LIBRARY_STEPS) if chosen(bench, f"steps of {kind}") else ():
+            words = [kind, str(steps)]
+            candidates = there(
+                Candidate("library from C", [bench.peers.library_steps(), *words]),
+                Candidate("core with a HashMap", [bench.peers.rust("core_steps", "core_steps.rs"), *words]),
+            )
+            yield from measure(bench, Case("library", f"{steps:,} steps of {kind}", "step", steps), candidates)
+
+
+MEASUREMENTS = dict(sim=sim, audit=audit, run=run, rod=rod, body=body, product=product, library=library)

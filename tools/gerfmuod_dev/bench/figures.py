@@ -1,0 +1,97 @@
+"""The plots of docs/figures, each out of the rows of one measurement."""
+import os
+from xml.dom import minidom
+
+from ..repository import TOP, text_of
+from . import charts
+from .cases import PLACES, TASKS
+from .tables import BODY_PLACES, bodies, rest
+from .rows import kept
+
+FOLDER = f"{TOP}/docs/figures"
+RUNTIMES = ["tp", "runtime by hand", "oneTBB flow graph", "OpenMP tasks"]
+POOLS = [it for it in TASKS if it != "product:64:1:0"]
+
+
+def time_by_nodes(rows):
+    """Microseconds a task against nodes and workers, a panel for each pool."""
+    rows = rest(rows)
+    programs = [name for name in RUNTIMES if any(it.program == name for it in rows)]
+    panels = []
+    words = [f"{nodes}×{workers}" for nodes, workers in PLACES]
+    for pool in [it for it in POOLS if any(row.case == it for row in rows)]:
+        lines = []
+        for program in programs:
+            mine = [it for it in rows if (it.case, it.program) == (pool, program)]
+            lines.append([(PLACES.index((it.nodes, it.workers)), it.milliseconds * 1000 / it.units) for it in mine])
+        panel, names = charts.Panel(len(panels), 300), ("microseconds a task", "nodes × workers")
+        panels.append(charts.lines_panel(panel, pool, lines, *names, True, words))
+    return charts.picture(panels, programs) if panels else ""
+
+
+def instructions_a_task(rows):
+    """Instructions a task of each program, at one node with one worker."""
+    names = [*RUNTIMES, "one after the other"]
+    groups = []
+    for pool in TASKS:
+        found = {it.program: it.instructions / it.units for it in rows if it.case == pool and it.instructions}
+        if found:
+            groups.append((pool, [found.get(name) for name in names]))
+    if not groups:
+        return ""
+    return charts.picture([charts.bars_panel(charts.Panel(0, 640), "", groups, "instructions a task")], names, 30)
+
+
+def speed_up_by_body(rows):
+    """How many times as fast as one worker, against the length of a body."""
+    names = ["heat, 1×4", "heat, 2×2", "heat, 4×1", "oneTBB, 4 threads", "OpenMP, 4 threads"]
+    lines = []
+    for place in BODY_PLACES:
+        mine = [it for it in bodies(rows) if place in it.speed_ups]
+        lines.append([(it.microseconds[place[0]], it.speed_ups[place]) for it in mine])
+    if not any(lines):
+        return ""
+    across = "microseconds of a body at one worker"
+    panel = charts.lines_panel(charts.Panel(0, 640), "", lines, "times as fast as one worker", across)
+    return charts.picture([panel], names)
+
+
+# each plot with the measurement that it is of
+PLOTS = {
+    "time-by-nodes": ("run", time_by_nodes),
+    "instructions-a-task": ("run", instructions_a_task),
+    "speed-up-by-body": ("body", speed_up_by_body),
+}
+
+
+def drawn():
+    """Each plot's name and its text, of the rows that are kept; an empty text where there are none."""
+    for name, (measurement, draw) in PLOTS.items():
+        rows = kept(measurement)
+        yield name, draw(rows) if rows else ""
+
+
+def path_of(name):
+    return f"{FOLDER}/{name}.svg"
+
+
+def of(measurement):
+    """The plots that there are of a measurement."""
+    return [name for name, text in drawn() if text and PLOTS[name][0] == measurement]
+
+
+def write():
+    for name, text in drawn():
+        if text:
+            with open(path_of(name), "w", encoding="utf-8") as out:
+                out.write(text)
+        elif os.path.exists(path_of(name)):
+            os.remove(path_of(name))
+
+
+def check(tally):
+    for name, text in drawn():
+        if text:
+            minidom.parseString(text)
+        told = os.path.relpath(path_of(name), TOP)
+        tally.judge(text_of(path_of(name), "") == text, f"{told} is not drawn of today's rows: tools/dev bench --draw")
