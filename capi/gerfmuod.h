@@ -19,7 +19,9 @@
  * Every other wrong argument is told by a refusal or by an outcome, and then nothing has changed.
  *
  * Units: nodes, tasks, actions, messages, generations, waves and steps are counted; lengths and rooms are bytes. Nodes
- * count from 0, waves and generations from 1. Numbers of tasks, actions and messages are the caller's, any uint32_t.
+ * count from 0, generations from 1, and in each generation waves from 1. Numbers of tasks, actions and messages are the
+ * caller's, any uint32_t: one row of numbers for the tasks of all nodes, one for all messages, one for the actions of
+ * each node. A text that is written ends with no zero byte: print it by its length.
  *
  * Link with -lgerfmuod alone, or by pkg-config gerfmuod.
  */
@@ -37,8 +39,8 @@ extern "C" {
 /* 0.1.0. gerfmuod_version() tells the library's. */
 #define GERFMUOD_VERSION 100u
 #define GERFMUOD_MAX_NODES 8u
-/* Of all generations of a core together. A task takes its inputs and 2, or 3 without inputs; a message 3; a wave 3 a
- * node; gerfmuod_settle at most 9 a node, where it is not refused. */
+/* Of all generations of a core together. A task takes 3 and one for each input; a message 3; a wave 3 a node;
+ * gerfmuod_settle 6 a node, and up to 3 more where a wave was open, where it is not refused. */
 #define GERFMUOD_MAX_STEPS 1048576u
 #define GERFMUOD_MAX_INPUTS 16u
 /* The generation of a pool that was not reopened. */
