@@ -1,11 +1,11 @@
 ghost use Rattle.std.specs.Prelude.{◌≡◌, ◌<◌, IfOk};
 
+use pool_chain::Chain;
 use std::alloc::Global;
 use std::test::Fail;
 use tp_base::{Generation, MessageId, NodeId, Refusal, TaskId};
 use tp_graph::{Message, Parcel, feed_of, run_body, serial};
 use tp_link::Link;
-use pool_chain::Chain;
 
 /// The number of each task of a chain, worked out on one thread.
 fn numbers(alloc: Global, chain: Chain) -> Result<Vec<(TaskId, i64)>, Refusal> {

@@ -1,9 +1,9 @@
 ghost use Rattle.std.specs.Prelude.{◌<◌, ◌≤◌, ◌*◌};
 
+use pool_samples::{Product, Wavefront, checked};
 use std::test::Fail;
 use tp_base::{MAX_NODES, NodeId, Refusal, TaskId};
 use tp_graph::Graph;
-use pool_samples::{Product, Wavefront, checked};
 
 #[test]
 fn words_out_of_the_rules_are_refused(rt: HostRuntime) -> Result<(), Fail> {

@@ -1,8 +1,8 @@
+use pool_samples::checked;
 use std::alloc::Global;
 use std::test::Fail;
 use tp_base::Refusal;
 use tp_graph::serial;
-use pool_samples::checked;
 use tp_table::print_table;
 
 /// What is printed of the values of a pool, each worked out on one thread.

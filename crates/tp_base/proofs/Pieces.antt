@@ -35,9 +35,14 @@ module _ {X : Type 0} where
   pub counted : (full : Vec (Vec X Global) Global) (last : Vec X Global) → All IsFull full.items
       → length (reverse (joined full.items ++ last.items)) ≡ vec_len full * PIECE + vec_len last
   counted full last h =
-      omega
-      (arith, length-reverse (joined full.items ++ last.items), length-append (joined full.items) last.items, length_joined full.items h,
-      full.ok.0, last.ok.0)
+      omega (
+        arith,
+        length-reverse (joined full.items ++ last.items),
+        length-append (joined full.items) last.items,
+        length_joined full.items h,
+        full.ok.0,
+        last.ok.0,
+      )
 
   at_piece-from : (pieces : List (Vec X Global)) (last : List X) (i j : ℕ) (p : Vec X Global)
       → All IsFull pieces → slice_get pieces i ≡ Some p → j < PIECE → slice_get (joined pieces ++ last) (i * PIECE + j) ≡ slice_get p.items j
