@@ -1,5 +1,6 @@
 -- What a page that is put in the place of another leaves in the pages.
-use Rattle.std.proofs.Common.{ℕ, zero, suc, ◌≡◌, ◌≢◌, ◌≤◌, ◌<◌, ◌/◌, ◌%◌, ◌==◌, ◌++◌, ◌∙◌, List, [], ◌∷◌, length, slice_get, set, length-set}
+use Rattle.std.proofs.Common.{ℕ, zero, suc, ◌≡◌, ◌≢◌, ◌≤◌, ◌<◌, ◌/◌, ◌%◌, ◌==◌, ◌++◌, ◌∙◌, List, [], ◌∷◌, length, slice_get}
+use Rattle.std.proofs.Common.{set, length-set, slice_index_or}
 use Rattle.std.proofs.Common.{Vec, vec_len, Option, Some, None, Result, true, false, IsTrue, refl, sym, ap, subst, inl, inr, arith}
 use Rattle.std.specs.Prelude.{Ok, Err, OnOk, OnErr, IsSome, if◌then◌else◌}
 use Rattle.std.specs.List.{list_all}
@@ -7,7 +8,7 @@ use Rattle.std.specs.declared.alloc.Global.{Global}
 use Rattle.std.proofs.lemmas.Bool.{and_parts, cases_eq}
 use Rattle.std.proofs.lemmas.Bool.Decides.{nat_tests}
 use Rattle.std.proofs.lemmas.Nat.{div-add-mod'}
-use Rattle.std.proofs.lemmas.Option.{slice_get-get_or, slice_get_past, slice_get_within}
+use Rattle.std.proofs.lemmas.Option.{slice_get-get_or, slice_get_past, slice_get_read, slice_get_within}
 use Rattle.tp_base.specs.Pages.{flat, in_page, place, near, is_whole, AreWhole, HasPlace}
 
 -- ---- lists
@@ -85,6 +86,10 @@ module _ {V : Type 0} where
   in_more (q ∷ qs) page zero j none = refl
   in_more (q ∷ qs) page (suc i) j none = in_more qs page i j none
 
+  pub page_at : (pages : Vec (Page V) Global) (i : ℕ) (page : Page V) → i < vec_len pages → page ≡ slice_index_or pages.items i page
+      → slice_get pages.items i ≡ Some page
+  page_at pages i page within is = slice_get_read pages.items (vec_len pages) i page pages.ok.0 within is
+
   -- a page without places
   pub place_more : (pages : List (Page V)) (page : Page V) (k : ℕ) → page.items ≡ [] → place (pages ++ page ∷ []) k ≡ place pages k
   place_more pages page k none = in_more pages page (k / 64) (k % 64) none
@@ -100,7 +105,8 @@ module _ {V : Type 0} where
     there : (k : ℕ) → k / 64 ≢ i → place (set pages i page) k ≡ place pages k
     there k apart = ap (λ o. in_page o (k % 64)) (set_there pages i (k / 64) page apart)
 
-    pub same_values : ((j : ℕ) → flat (slice_get page.items j) ≡ flat (slice_get old.items j)) → (k : ℕ) → near (set pages i page) k ≡ near pages k
+    pub same_values : ((j : ℕ) → flat (slice_get page.items j) ≡ flat (slice_get old.items j)) → (k : ℕ)
+        → near (set pages i page) k ≡ near pages k
     same_values same k = elim (cases_eq (k / 64) i) [
       | inl row ↦ ap flat (here k row) ∙ same (k % 64) ∙ sym (ap flat (was k row))
       | inr apart ↦ ap flat (there k apart)
@@ -121,8 +127,8 @@ module _ {V : Type 0} where
     no_place k row past = was k row ∙ slice_get_past old.items (k % 64) (omega (arith, past, old.ok.0))
 
   -- a value is put at a place that is there
-  module _ (pages : List (Page V)) (key : ℕ) (old page : Page V) (value : V) (is : slice_get pages (key / 64) ≡ Some old) (put : page.items ≡ set old.items (key % 64) (Some value))
-      (there_is : HasPlace pages key) where
+  module _ (pages : List (Page V)) (key : ℕ) (old page : Page V) (value : V) (is : slice_get pages (key / 64) ≡ Some old)
+      (put : page.items ≡ set old.items (key % 64) (Some value)) (there_is : HasPlace pages key) where
     now_there : near (set pages (key / 64) page) key ≡ Some value
     now_there = go (slice_get old.items (key % 64)) refl (is_some_by _ _ (sym (was pages (key / 64) old page is key refl)) there_is)
       where

@@ -30,7 +30,8 @@ impl<G: Graph, K: Ledgers> Node<G, K> {
         requires { (1 ≤ max) × (max ≤ 8) }
         ensures none { ready_count self.old ≡ 0 → IsOk result }
         ensures begun { IfOk result (λ works. BeginsSome self.old self.new board.old board.new (min (ready_count self.old) max) works.items) }
-        ensures refusal { AnswersBy (full_check (min (ready_count self.old) max) board.old ∷ []) (min (ready_count self.old) max) board.old result }
+        ensures refusal { AnswersBy (full_check (min (ready_count self.old) max) board.old ∷ [])
+            (min (ready_count self.old) max) board.old result }
         ensures refused { OnErr result (Appends [] board.old board.new × (self.new ≡ self.old)) }
     {
         let count = self.counts().ready.min(max);

@@ -47,7 +47,8 @@ impl<G: Graph, K: Ledgers> Node<G, K> {
     pub fn begin(&mut self, board: &mut Board<K>) -> Result<Option<Work<G>>, Refusal>
         ensures none { front self.old.state.store.ready ≡ None → result ≡ Ok None }
         ensures begun { IfOk result (λ work. MatchOption work ((front self.old.state.store.ready ≡ None) × Rests self.old self.new board.old board.new) (Begins self.old self.new board.old board.new)) }
-        ensures refusal { MatchOption (front self.old.state.store.ready) (Unit {0}) (λ t. AnswersBy (begin_checks board.old) 1 board.old result) }
+        ensures refusal { MatchOption (front self.old.state.store.ready) (Unit {0})
+            (λ t. AnswersBy (begin_checks board.old) 1 board.old result) }
         ensures refused { OnErr result (Appends [] board.old board.new × (self.new ≡ self.old)) }
     {
         if !self.local.has_ready() {
