@@ -66,7 +66,7 @@ same_answer-to (Some g) want (Err e) (Ok y) same answer = absurd cc
 same_answer-to (Some g) want (Err e) (Err f) same answer = let first : f ≡ g = cc in ap Err first
 
 -- What a call answers that returns another's error.
-same_answer : {A B : Type 0} (cs : List Check) (more : ℕ) (b : BoardState) (r : Result A Refusal) (q : Result B Refusal) → result_err r ≡ result_err q → AnswersBy cs more b r → AnswersBy cs more b q
+pub same_answer : {A B : Type 0} (cs : List Check) (more : ℕ) (b : BoardState) (r : Result A Refusal) (q : Result B Refusal) → result_err r ≡ result_err q → AnswersBy cs more b r → AnswersBy cs more b q
 same_answer cs more b r q same answer = same_answer-to (first_refusal cs) (b.reserved < more) r q same answer
 
 -- where it does not, and the event is added or refused

@@ -1,5 +1,5 @@
 -- What a call of a node does to the board, and why it is refused.
-use Rattle.std.specs.Prelude.{◌+◌, ◌≡◌, ◌≤◌, List, ◌++◌, length, Result, Err, MatchOption, IfErr}
+use Rattle.std.specs.Prelude.{ℕ, ◌+◌, ◌≡◌, ◌≤◌, ◌<◌, List, ◌++◌, length, Result, Err, MatchOption, IfErr}
 use Rattle.tp_base.specs.History.{Event}
 use Rattle.tp_base.specs.declared.refusal.Refusal.{Refusal}
 use Rattle.tp_base.specs.declared.refusal.Refusal.TheVariants.{NoMemory}
@@ -20,3 +20,8 @@ Answers checks result = MatchOption (first_refusal checks) (IfErr result (λ e. 
 -- The same, where what was moved in comes back beside the refusal.
 abbrev pub AnswersWith : {A B : Type 0} → List Check → B → Result A (Refusal × B) → Type 0
 AnswersWith checks back result = MatchOption (first_refusal checks) (IfErr result (λ e. e ≡ (NoMemory, back))) (λ e. result ≡ Err (e, back))
+
+-- The same of a call that wants memory for so many events alone, and finds none only where it had to ask for some.
+abbrev pub AnswersByWith : {A B : Type 0} → List Check → ℕ → BoardState → B → Result A (Refusal × B) → Type 0
+AnswersByWith checks more b back result =
+    MatchOption (first_refusal checks) (IfErr result (λ e. (e ≡ (NoMemory, back)) × (b.reserved < more))) (λ e. result ≡ Err (e, back))

@@ -21,7 +21,7 @@ use Rattle.tp_core.specs.World.{World, IsQuiet}
 use Rattle.tp_core.specs.Pool.{after}
 use Rattle.tp_core.specs.Run.{world, IsLawful, IsLawfulRun}
 use Rattle.tp_core.specs.Accepted.{numbers_in}
-use Rattle.tp_core.specs.Settling.{MaySettle, IsTold, IsTaken, GoesOn, AreTaken}
+use Rattle.tp_core.specs.ToTheEnd.{MaySettle, IsTold, IsTaken, GoesOn, AreTaken}
 use Rattle.tp_core.proofs.Bounds.{count_bound}
 use Rattle.tp_core.proofs.Keeping.{zeros, moved, numbers_stay}
 use Rattle.tp_core.proofs.Quiet.{nothing_pending_when_quiet}

@@ -26,7 +26,8 @@ use tp_store::Counts;
 /// A node of a pool: what lies under its lock.
 ///
 /// Its type keeps that its pending number counts its unfinished tasks and its open actions, that what it has sent, received
-/// and done are the numbers of its shares, and that each value in it is the one that the graph defines. Contracts see its
+/// and done are the numbers of its shares, that each task in it lives there, and that each value in it is the one that
+/// the graph defines. Contracts see its
 /// graph, how many nodes the pool has, its own state, and the numbers of its shares.
 #[derive(Drop)]
 pub struct Node<G: Graph, K: Ledgers> {

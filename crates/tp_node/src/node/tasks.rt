@@ -1,9 +1,9 @@
 ghost use Rattle.std.specs.Prelude.{◌≡◌, ◌≤◌, ◌<◌, ◌+◌, ◌-◌, ℕ, [], ◌∷◌, false, Some, None, if◌then◌else◌, is_some, IfErr, IfOk, IsTrue, MatchBool, MatchOption, OnErr, OnOk};
 ghost use Rattle.tp_base.specs.declared.refusal.Refusal.TheVariants.{NoMemory, StoreFull, WrongLife};
-ghost use Rattle.tp_board.specs.States.{full_check};
+ghost use Rattle.tp_board.specs.States.{AnswersBy, full_check};
 ghost use Rattle.tp_graph.specs.Carried.{IsFeed};
 ghost use Rattle.tp_graph.specs.Values.{IsInput};
-ghost use Rattle.tp_board.specs.Calls.{Answers, AnswersWith, Appends};
+ghost use Rattle.tp_board.specs.Calls.{Answers, AnswersByWith, Appends};
 ghost use Rattle.tp_node.specs.Calls.{Begins, Rests, SeedsIf};
 ghost use Rattle.tp_node.specs.Feeds.{HasFeed, next_feed_of, next_home, passed_on};
 ghost use Rattle.tp_node.specs.Nodes.{HasNoSeed, IsFirst, IsNextSeed, IsSeed, IsSeedOf, done_with, event_of, fed_with, inserting, putting_at, seeded, seeding, task_at};
@@ -42,11 +42,13 @@ impl<G: Graph, K: Ledgers> Node<G, K> {
     /// Begins the next ready task, of the lowest class that has one. Its inputs are moved out. It answers `None` where no
     /// task is ready.
     ///
-    /// Refused, where a task is ready: `HistoryFull` where the history has reached its limit; `NoMemory`.
+    /// Refused, where a task is ready: `HistoryFull` where the history has reached its limit; `NoMemory` where the board has
+    /// to ask for memory for the event.
     pub fn begin(&mut self, board: &mut Board<K>) -> Result<Option<Work<G>>, Refusal>
         ensures none { front self.old.state.store.ready ≡ None → result ≡ Ok None }
         ensures begun { IfOk result (λ work. MatchOption work ((front self.old.state.store.ready ≡ None) × Rests self.old self.new board.old board.new) (Begins self.old self.new board.old board.new)) }
-        ensures refusal { MatchOption (front self.old.state.store.ready) (Unit {0}) (λ t. Answers (begin_checks board.old) result) }
+        ensures refusal { MatchOption (front self.old.state.store.ready) (Unit {0})
+            (λ t. AnswersBy (begin_checks board.old) 1 board.old result) }
         ensures refused { OnErr result (Appends [] board.old board.new × (self.new ≡ self.old)) }
     {
         if !self.local.has_ready() {
@@ -91,7 +93,7 @@ impl<G: Graph, K: Ledgers> Node<G, K> {
     /// one, and its feeds count as passed on.
     ///
     /// Refused: `WrongLife` where the task does not run here; `HistoryFull` where the history has reached its limit;
-    /// `NoMemory`. The finished task comes back then.
+    /// `NoMemory` where the board has to ask for memory for the event. The finished task comes back then.
     pub fn done(
         &mut self,
         board: &mut Board<K>,
@@ -101,7 +103,7 @@ impl<G: Graph, K: Ledgers> Node<G, K> {
         requires all_fed { finished.fed ≡ (G.meaning self.old.graph).feeds finished.task.0 }
         ensures event { OnOk result (Appends (event_of self.old (steps.Done finished.task) ∷ []) board.old board.new) }
         ensures done { OnOk result (self.new ≡ done_with finished.task finished.value self.old) }
-        ensures refusal { AnswersWith (done_checks self.old board.old finished.task) finished result }
+        ensures refusal { AnswersByWith (done_checks self.old board.old finished.task) 1 board.old finished result }
         ensures refused { OnErr result (Appends [] board.old board.new × (self.new ≡ self.old)) }
     {
         let task = finished.task();
@@ -201,6 +203,7 @@ impl<G: Graph, K: Ledgers> Node<G, K> {
         requires reserved { 0 < board.old.reserved }
         requires active { 0 < self.old.numbers.pending }
         requires feed { IsFeed (G.meaning self.old.graph) feed }
+        requires here { (G.meaning self.old.graph).home feed.target.0 self.old.nodes ≡ self.old.numbers.node }
         requires input { IsInput (G.meaning self.old.graph) feed.target.0 feed.slot value }
         requires free { refusal_of_deliver self.old.state.store feed.target ((G.meaning self.old.graph).arity feed.target.0) feed.slot ≡ None }
         ensures event { OnOk result (Appends (event_of self.old (putting_at (G.meaning self.old.graph) feed self.old) ∷ []) board.old board.new) }
