@@ -73,8 +73,8 @@ pub(crate) struct Line<G: Graph, K: Ledgers> {
     pub length: AtomicU64,
 }
 
-/// How often a held lock is tried, with a moment's spin between, before a thread sleeps on it. Most holds are shorter than so
-/// many tries, some microseconds together, and a sleep and its wake cost more than that. Measured, as docs/DECISIONS.md says.
+/// How often a held lock is tried, with a spin between, before a thread sleeps on it: a lock is mostly free before so many
+/// tries are over, and a sleep and its wake cost more. docs/DECISIONS.md has the measurements.
 const TRIES: u32 = 100;
 
 /// Takes a lock. Where it is held, the thread tries it again for a moment, and then sleeps as std has it. It does not yield: one

@@ -19,8 +19,8 @@ use tp_node::{Finished, Node, Turn as ControlTurn, Work};
 /// How many tasks are inserted in one hold of the board's lock.
 const SEEDS_IN_A_HOLD: u32 = 64;
 
-/// How often an idle worker looks at the hints before its first sleep, with a moment's spin before each look. A message or a
-/// task mostly comes within so many looks, some ten microseconds together. Measured, as docs/DECISIONS.md says.
+/// How often an idle worker looks at the hints before its first sleep, with a moment's spin before each look: a message or a
+/// task mostly comes before so many looks are over. docs/DECISIONS.md has the measurements.
 const LOOKS: u32 = 300;
 
 /// How long that moment is, in spins: the looks themselves are not to slow down those who write the hints.
