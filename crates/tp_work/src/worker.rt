@@ -87,10 +87,14 @@ impl<'a, G: Comparable, K: Ledgers, A: Gate, R: Wait> Worker<'a, G, K, A, R> {
         }
     }
 
-    /// Works until the pool has ended. What stops it before is the pool's fault.
-    pub fn run(&self) {
-        if let Err(refusal) = self.take_turns() {
-            set_fault(self.rt, self.locks, refusal);
+    /// Works until the pool has ended. What stops it before is the pool's fault, which it sets and answers.
+    pub fn run(&self) -> Option<Refusal> {
+        match self.take_turns() {
+            Ok(()) => None,
+            Err(refusal) => {
+                set_fault(self.rt, self.locks, refusal);
+                Some(refusal)
+            }
         }
     }
 
