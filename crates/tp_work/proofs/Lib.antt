@@ -1,3 +1,4 @@
+pub mod Beginning
 pub mod Counted
 pub mod Gathering
 pub mod Living

@@ -1,3 +1,4 @@
+pub mod Desks
 pub mod Feeds
 pub mod Lives
 pub mod Places
