@@ -1,8 +1,9 @@
 -- What a report tells of a pool whose nodes are at their places.
-use Rattle.std.proofs.Common.{◌≡◌, ◌*◌, ℕ, List, [], ◌∷◌, true, false, Option, Some, IsFalse, IsTrue, MatchOption, length, refl, sym, ap, subst, ◌∙◌, inl, inr}
+use Rattle.std.proofs.Common.{◌≡◌, ◌*◌, ◌↔◌, ℕ, List, [], ◌∷◌, Bool, true, false, Option, None, Some, Result, Ok, Err, IfOk, MatchResult, IsFalse, IsTrue, MatchOption, length, refl, sym, ap, subst, ◌∙◌, inl, inr}
 use Rattle.std.proofs.lemmas.Bool.{cases_Bool}
-use Rattle.std.specs.Prelude.{sum_by}
-use Rattle.tp_base.specs.declared.refusal.Refusal.TheVariants.{NoMemory}
+use Rattle.std.specs.Prelude.{sum_by, if◌then◌else◌}
+use Rattle.tp_base.specs.declared.refusal.Refusal.{Refusal}
+use Rattle.tp_base.specs.declared.refusal.Refusal.TheVariants.{Missing, NoMemory}
 use Rattle.tp_board.specs.Numbers.{is_done, is_send}
 use Rattle.tp_board.specs.States.{BoardState}
 use Rattle.tp_graph.specs.Graphs.{TaskGraph}
@@ -17,7 +18,8 @@ use Rattle.tp_wave.specs.Steps.{any, count, is_reopen}
 use Rattle.tp_wave.specs.Sums.{is_ended, total}
 use Rattle.tp_work.proofs.Gathering.{sum_by-map}
 use Rattle.tp_work.proofs.Placing.{sum_by-same, total-range}
-use Rattle.tp_work.specs.Outcomes.{IsAnswer, IsComplete, IsFault, IsLack, IsOutcome, IsUngathered}
+use Rattle.tp_work.specs.Lives.{LivesOnce}
+use Rattle.tp_work.specs.Outcomes.{HasEachOnce, IsAnswer, IsComplete, IsFault, IsLack, IsOutcome, IsUngathered}
 use Rattle.tp_work.specs.Places.{AreInOrder, AreOf, IsWhole}
 use Rattle.tp_work.specs.Reports.{AreOfTheRun, IsGathered, IsOfItsRun, IsReport, IsReportOf}
 use Rattle.tp_work.specs.declared.config.Fault.{Fault}
@@ -56,6 +58,21 @@ all_present (e ∷ past) none =
       | inl reopens ↦ absurd (let bad : true ≡ false = rw reopens at none in cc)
       | inr on ↦ present-goes_on e past on ∙ ap (λ (xs : History). e ∷ xs) (all_present past (rw on at none))
     ]
+
+-- What a pool lacks whose end was judged and told to each node, by whether it was made once.
+pub lack_by_made : {E : Type 0} (n tasks : ℕ) (r : Report) (made : Result Bool E) (answer : Option Refusal) → IsTrue r.ended → r.announced ≡ n
+    → IfOk made (λ yes. IsTrue yes ↔ (HasEachOnce tasks r.results.items × LivesOnce tasks (steps_of r.history.events)))
+    → MatchResult made (λ yes. answer ≡ (if yes then None else Some Missing)) (λ _. answer ≡ Some NoMemory)
+    → MatchOption answer (IsComplete n tasks r) (IsLack n tasks r)
+lack_by_made n tasks r (Ok true) answer ended announced told is =
+    let once = told.0 refl in
+    subst (λ (o : Option Refusal). MatchOption o (IsComplete n tasks r) (IsLack n tasks r)) (sym is)
+    (record { ended = ended; announced = announced; each_once = once.0; lives = once.1 })
+lack_by_made n tasks r (Ok false) answer ended announced told is =
+    subst (λ (o : Option Refusal). MatchOption o (IsComplete n tasks r) (IsLack n tasks r)) (sym is)
+    (inl (refl, λ complete. let no : false ≡ true = told.1 (complete.each_once, complete.lives) in cc))
+lack_by_made n tasks r (Err e) answer ended announced told is =
+    subst (λ (o : Option Refusal). MatchOption o (IsComplete n tasks r) (IsLack n tasks r)) (sym is) (inr (refl, ended, announced))
 
 -- What is told of a complete pool is its outcome.
 pub is_outcome : (n workers answered : ℕ) (g : TaskGraph) (r : Report) → IsReport n g r → IsComplete n g.tasks r → answered ≡ n * workers

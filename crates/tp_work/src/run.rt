@@ -1,5 +1,5 @@
-ghost use Rattle.std.specs.Prelude.{◌≡◌, ◌↔◌, ◌*◌, length, IfErr, IfNone, IfOk, IfSome, IsTrue, MatchOption, None, OnOk, Some};
-ghost use Rattle.tp_base.specs.declared.refusal.Refusal.TheVariants.{NoMemory};
+ghost use Rattle.std.specs.Prelude.{◌≡◌, ◌↔◌, ◌*◌, length, IfErr, IfNone, IfOk, IfSome, IsTrue, MatchOption, MatchResult, None, OnOk, Some, if◌then◌else◌};
+ghost use Rattle.tp_base.specs.declared.refusal.Refusal.TheVariants.{Missing, NoMemory};
 ghost use Rattle.tp_graph.specs.Graphs.{TaskGraph};
 ghost use Rattle.tp_work.specs.Outcomes.{HasEachOnce, IsAnswer, IsComplete, IsFault, IsLack, IsOutcome, IsWithinLimits};
 ghost use Rattle.tp_wave.specs.Machine.{steps_of};
@@ -182,7 +182,15 @@ fn lack_of(alloc: Global, nodes: u32, tasks: u32, report: &Report) -> Option<Ref
     if !report.ended || report.announced != nodes {
         return Some(Refusal::Missing);
     }
-    match is_made_once(alloc, tasks, report) {
+    lack_by(is_made_once(alloc, tasks, report))
+}
+
+/// What a pool lacks of an outcome whose end was judged and told to each node, where it was looked whether it was made once:
+/// `Missing` where it was not, and `NoMemory` where there was no memory to look.
+fn lack_by(made: Result<bool, AllocError>) -> Option<Refusal>
+    ensures { MatchResult made (λ yes. result ≡ (if yes then None else Some Missing)) (λ _. result ≡ Some NoMemory) }
+{
+    match made {
         Ok(true) => None,
         Ok(false) => Some(Refusal::Missing),
         Err(_) => Some(Refusal::NoMemory),
