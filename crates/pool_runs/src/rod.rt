@@ -6,11 +6,11 @@ ghost use Rattle.pool_runs.specs.Faults.{IsHeatFault, IsPartFault};
 ghost use Rattle.tp_work.specs.Outcomes.{IsWithinLimits};
 
 use crate::fault::LentFault;
+use pool_rod::{Heat, rod_of};
 use std::alloc::Global;
 use std::sync::Wait;
 use std::thread::Threads;
 use tp_base::{MAX_STEPS, Refusal};
-use pool_rod::{Heat, rod_of};
 use tp_work::{Config, OpenGate, run_pool};
 
 /// Heat in a rod of some cells, after so many steps, worked out by a pool of threads in blocks of so many cells. `BadInput` where

@@ -1,12 +1,12 @@
 ghost use Rattle.std.specs.Prelude.{◌≤◌};
 
 use crate::one_hand::{Play, played_alone, seed_all};
+use pool_samples::Reduce;
 use std::alloc::Global;
 use std::test::Fail;
 use tp_base::Refusal;
 use tp_board::{Board, Ledgers};
 use tp_node::{Node, Wire};
-use pool_samples::Reduce;
 
 /// A tree of sixteen leaves.
 const TREE: Reduce = Reduce {

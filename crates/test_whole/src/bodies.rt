@@ -2,12 +2,12 @@ ghost use Rattle.pool_samples.specs.TreeLaws.{reduce_lawful};
 ghost use Rattle.pool_samples.specs.Trees.{reduce_graph};
 
 use crate::gates::Meeting;
+use pool_samples::Reduce;
 use std::alloc::Global;
 use std::sync::atomic::{AtomicBool, Ordering};
 use std::test::Fail;
 use tp_base::{NodeId, Refusal, TaskId};
 use tp_graph::{Graph, Value};
-use pool_samples::Reduce;
 use tp_work::{Config, OpenGate, run_pool};
 
 /// A tree of two leaves at one node, whose bodies wait for each other.

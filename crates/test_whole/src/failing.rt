@@ -1,12 +1,12 @@
 ghost use Rattle.std.specs.Prelude.{◌≡◌, ◌≤◌};
 ghost use Rattle.test_whole.specs.Broken.{broken_graph, broken_lawful};
 
+use pool_samples::Reduce;
 use std::alloc::Global;
 use std::sync::Wait;
 use std::thread::Threads;
 use tp_base::{NodeId, Refusal, TaskId};
 use tp_graph::{Graph, Value};
-use pool_samples::Reduce;
 use tp_work::{Config, OpenGate, run_pool};
 
 /// A tree whose tasks make their numbers; the body of task 5 fails.

@@ -2,13 +2,13 @@ ghost use Rattle.std.specs.Prelude.{◌≤◌};
 ghost use Rattle.tp_work.specs.Outcomes.{IsWithinLimits};
 
 use crossbeam_utils::Backoff;
+use pool_samples::Reduce;
 use std::alloc::Global;
 use std::sync::Wait;
 use std::sync::atomic::{AtomicBool, AtomicU64, Ordering};
 use std::test::Fail;
 use std::thread::Threads;
 use tp_base::{NodeId, Refusal, TaskId};
-use pool_samples::Reduce;
 use tp_work::{Config, Fault, Gate, Outcome, run_pool};
 
 /// How long a gate waits before it answers false.

@@ -2,13 +2,13 @@ ghost use Rattle.tp_wave.specs.Generations.{AreRuns};
 ghost use Rattle.std.specs.Prelude.{◌≤◌};
 
 use crate::pools::{POOLS, are_plain};
+use pool_samples::{AnyGraph, checked};
 use std::alloc::Global;
 use std::sync::Wait;
 use std::test::Fail;
 use std::thread::Threads;
 use tp_base::{History, Refusal, TaskId};
 use tp_graph::{Value, serial};
-use pool_samples::{AnyGraph, checked};
 use tp_text::{TextFault, Verdict, audit, print_trace};
 use tp_work::{Config, OpenGate, Round, run_generations};
 

@@ -2,13 +2,13 @@ ghost use Rattle.std.specs.Prelude.{◌≡◌};
 ghost use Rattle.tp_node.specs.Nodes.{HasBrought};
 
 use crate::one_hand::{Pair, Play, Summary, TREE, pass_on, played, receive, record};
+use pool_samples::Reduce;
 use std::alloc::Global;
 use std::test::Fail;
 use tp_base::{ActionId, Refusal};
 use tp_board::{Board, Ledgers};
 use tp_graph::{Graph, Parcel};
 use tp_node::{Finished, Node, Turn, Wire, Work};
-use pool_samples::Reduce;
 
 // tools/dev limits refuse refuses each growth of each of these tests in turn; docs/MEMORY.md has the table.
 

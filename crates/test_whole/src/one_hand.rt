@@ -1,6 +1,7 @@
 ghost use Rattle.std.specs.Prelude.{◌≡◌, ◌≤◌, vec_len, IfOk, MatchOption};
 ghost use Rattle.tp_node.specs.Nodes.{HasBrought};
 
+use pool_samples::Reduce;
 use std::alloc::Global;
 use std::process::Abort;
 use std::test::Fail;
@@ -8,7 +9,6 @@ use tp_base::{ActionId, Refusal};
 use tp_board::{Blanks, Board, Brand, Ended, Ledgers};
 use tp_graph::{Comparable, Parcel, is_same};
 use tp_node::{Finished, Node, Pool, Turn, Wire, open_pool};
-use pool_samples::Reduce;
 use tp_work::{Report, finish};
 
 /// A tree of four leaves: 0, 11, 22 and 33.

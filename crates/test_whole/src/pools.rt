@@ -1,5 +1,6 @@
 ghost use Rattle.std.specs.Prelude.{◌≤◌};
 
+use pool_samples::{AnyGraph, checked};
 use std::alloc::Global;
 use std::process::Abort;
 use std::sync::Wait;
@@ -7,7 +8,6 @@ use std::test::Fail;
 use std::thread::Threads;
 use tp_base::{Refusal, TaskId};
 use tp_graph::{Value, serial};
-use pool_samples::{AnyGraph, checked};
 use tp_work::{Config, OpenGate, run_pool};
 
 /// The word of each pool, and how many tasks it has.

@@ -3,13 +3,13 @@ ghost use Rattle.std.specs.Prelude.{◌≡◌, ◌≤◌, vec_len, IsTrue};
 use crate::memory::say;
 use crate::one_hand::{Pair, Play, Summary, TREE, gathered};
 use crate::strangers::{Coming, Hour, strange};
+use pool_samples::Reduce;
 use std::alloc::Global;
 use std::test::Fail;
 use tp_base::{Refusal, TaskId};
 use tp_board::{Blanks, Board, Brand, Ended, Ledgers};
 use tp_graph::Value;
 use tp_node::{Node, Pool, Reopened, Wire, open_pool};
-use pool_samples::Reduce;
 
 // tools/dev limits refuse-tests refuses each growth of the first of these tests in turn; docs/MEMORY.md has the table.
 

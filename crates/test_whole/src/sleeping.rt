@@ -1,13 +1,13 @@
 ghost use Rattle.pool_samples.specs.Trees.{reduce_graph};
 ghost use Rattle.pool_samples.specs.TreeLaws.{reduce_lawful};
 
+use pool_samples::Reduce;
 use std::alloc::Global;
 use std::test::Fail;
 use std::thread;
 use std::time::Duration;
 use tp_base::{NodeId, Refusal, TaskId};
 use tp_graph::{Graph, Value};
-use pool_samples::Reduce;
 use tp_work::{Config, OpenGate, run_pool};
 
 /// A tree whose bodies sleep for two seconds first.

@@ -3,13 +3,13 @@ ghost use Rattle.std.specs.Prelude.{◌≡◌};
 use crate::one_hand::{
     Pair, Play, Summary, TREE, hand_in, opened, played, receive_one, run_body, run_one,
 };
+use pool_samples::Reduce;
 use std::alloc::Global;
 use std::test::Fail;
 use tp_base::{NodeId, Refusal};
 use tp_board::{Blanks, Board, Brand, Judgement, Ledgers, Shares};
 use tp_graph::{Feed, Graph, Message};
 use tp_node::{Finished, Node, Pool, Turn, Wire};
-use pool_samples::Reduce;
 
 // At two nodes a tree of four leaves has three messages: of task 1 to 4, of 2 to 5, and of 5 to 6. Tasks 0, 2, 4 and 6
 // live at node 0.

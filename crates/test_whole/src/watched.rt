@@ -4,6 +4,7 @@ ghost use Rattle.std.specs.Prelude.{◌≤◌};
 ghost use Rattle.tp_work.specs.Outcomes.{IsWithinLimits};
 
 use crossbeam_utils::Backoff;
+use pool_samples::Reduce;
 use std::alloc::Global;
 use std::sync::Wait;
 use std::sync::atomic::{AtomicBool, AtomicU64, Ordering};
@@ -11,7 +12,6 @@ use std::test::Fail;
 use std::thread::Threads;
 use tp_base::{NodeId, Refusal, TaskId};
 use tp_graph::{Graph, Value};
-use pool_samples::Reduce;
 use tp_work::{Config, Gate, run_pool};
 
 /// How long a body waits for others before it goes on without them.

@@ -3,12 +3,12 @@ ghost use Rattle.tp_base.specs.declared.refusal.Refusal.TheVariants.{NoMemory};
 ghost use Rattle.tp_several.specs.Answers.{AreRun, AreRunAnswers, IsRunAnswer};
 ghost use Rattle.tp_work.specs.Outcomes.{IsWithinLimits};
 
+use pool_samples::AnyGraph;
 use std::alloc::{AllocError, Global};
 use std::sync::Wait;
 use std::thread::{self, Threads};
 use tp_base::Refusal;
 use tp_pools::Registry;
-use pool_samples::AnyGraph;
 use tp_work::{Config, Fault, Gate, Outcome, run_pool};
 
 /// Runs each registered pool of a registry, all at once, each by threads of its own, and waits for all. The answers are those

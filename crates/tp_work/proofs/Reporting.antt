@@ -98,7 +98,7 @@ pub is_fault : (n tasks : ℕ) (g : TaskGraph) (f : Fault) (r : Report) → task
     → MatchOption r.fault (IsLack n tasks r f.refusal) (λ e. IsAnswer (length r.history.events) e f.refusal) → IsFault n g f
 is_fault n tasks g f r same report is why =
     subst (λ (o : Option Report). MatchOption o (IsUngathered f.refusal)
-      (λ s. IsReport n g s × MatchOption s.fault (IsLack n g.tasks s f.refusal) (λ e. IsAnswer (length s.history.events) e f.refusal))) (sym is)
+    (λ s. IsReport n g s × MatchOption s.fault (IsLack n g.tasks s f.refusal) (λ e. IsAnswer (length s.history.events) e f.refusal))) (sym is)
     (report, subst (λ (k : ℕ). MatchOption r.fault (IsLack n k r f.refusal) (λ e. IsAnswer (length r.history.events) e f.refusal)) same why)
 
 module _ {G : Type 0} where

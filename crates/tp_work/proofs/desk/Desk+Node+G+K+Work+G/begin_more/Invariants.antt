@@ -7,5 +7,5 @@ invariant-loop g l =
     record {
       room : vec_len l.self.begun + (l.count - l.counter) ≤ vec_capacity l.self.begun;
       few : vec_len l.self.begun ≤ l.counter;
-      each : BeginsEach l.initial.self.node l.self.node l.initial.board l.board l.self.begun.items;
+      each : BeginsEach l.fn.self.node l.self.node l.fn.board l.board l.self.begun.items;
     }
