@@ -5,9 +5,9 @@ use Rattle.tp_base.specs.History.{Event}
 use Rattle.tp_board.specs.Calls.{Appends}
 use Rattle.tp_board.specs.States.{BoardState}
 use Rattle.tp_graph.specs.Carried.{Begun}
+use Rattle.tp_node.specs.Begins.{next_task}
 use Rattle.tp_node.specs.Calls.{Begins, Rests}
 use Rattle.tp_node.specs.Nodes.{NodeState}
-use Rattle.tp_slots.specs.Content.{front}
 use Rattle.tp_work.specs.Desks.{BeginsEach}
 
 -- nothing, and then these events
@@ -58,7 +58,7 @@ module _ {G : Type 0} where
 
   -- the first one, where there is one, and then these
   pub each_with : (o : Option (Begun G)) (a b c : NodeState G) (p q r : BoardState) (ws : List (Begun G))
-      → MatchOption o ((front a.state.store.ready ≡ None) × Rests a b p q) (Begins a b p q) → BeginsEach b c q r ws
+      → MatchOption o ((next_task a ≡ None) × Rests a b p q) (Begins a b p q) → BeginsEach b c q r ws
       → BeginsEach a c p r (option_to_list o ++ ws)
   each_with None a b c p q r ws first each = each_after a b c p q r ws first.1 each
   each_with (Some w) a b c p q r ws first each = (b, q, first, each)

@@ -1,4 +1,4 @@
-use Rattle.std.proofs.Common.{rules, ◌≡◌, ◌∙◌, ◌+◌, ℕ, IsTrue, length, map, reverse, ap, subst}
+use Rattle.std.proofs.Common.{rules, ◌≡◌, ◌∙◌, ◌+◌, ℕ, IsTrue, length, map, reverse, ap, subst, vec_len}
 use Rattle.std.proofs.lemmas.List.{length-map, length-reverse}
 use Rattle.tp_work.proofs.Rounds.{is_series}
 use Rattle.tp_work.specs.Lives.{LivesInEach, generations, sent_in}

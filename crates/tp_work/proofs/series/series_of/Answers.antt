@@ -5,10 +5,10 @@ use Rattle.tp_work.specs.Lives.{generations}
 use Rattle.tp_work.proofs.series.series_of.Goals as goal
 
 pub series_from-requires-clause-workers : goal.series_from-requires-clause-workers
-series_from-requires-clause-workers g c = λ none. c.requires.workers (sym c.in-Ok.ensures.report.fault ∙ none)
+series_from-requires-clause-workers g c κs within = λ none. c.requires.workers (sym c.in-Ok.ensures.report.fault ∙ none)
 
 pub series_from-requires-clause-number : goal.series_from-requires-clause-number
-series_from-requires-clause-number g c = ap (λ (h : History). length (generations h)) c.in-Ok.ensures.report.history ∙ c.requires.number
+series_from-requires-clause-number g c κs within = ap (λ (h : History). length (generations h)) c.in-Ok.ensures.report.history ∙ c.requires.number
 
 pub returns-in-Ok-clause-no_fault : goal.returns-in-Ok-clause-no_fault
 returns-in-Ok-clause-no_fault g c = on_ok_weaker c.series_from.result (λ none. sym c.in-Ok.ensures.report.fault ∙ none) c.series_from.ensures.no_fault
