@@ -4,6 +4,9 @@ use Rattle.tp_wave.specs.Machine.{History}
 use Rattle.tp_work.specs.Lives.{generations}
 use Rattle.tp_work.proofs.series.series_of.Goals as goal
 
+pub series_from-requires-clause-report : goal.series_from-requires-clause-report
+series_from-requires-clause-report g c κs within = c.in-Ok.ensures.report.report
+
 pub series_from-requires-clause-workers : goal.series_from-requires-clause-workers
 series_from-requires-clause-workers g c κs within = λ none. c.requires.workers (sym c.in-Ok.ensures.report.fault ∙ none)
 
