@@ -1,4 +1,3 @@
-pub mod Beginning
 pub mod Counted
 pub mod Gathering
 pub mod Living

@@ -1,4 +1,3 @@
-pub mod Desks
 pub mod Feeds
 pub mod Lives
 pub mod Places

