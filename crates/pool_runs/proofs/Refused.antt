@@ -86,15 +86,15 @@ next_part cells rod size steps left part Holds is h k some holds =
     (steps - left, part, some, omega (arith, h, k), subst Holds (part-graph cells rod size (steps - left) part is) holds)
 
 -- the fault of a part of the steps is one of the whole
-pub part_fault : (n : ℕ) (cells rod : List ℤ) (size steps left part most : ℕ) (fault : LentFault) → rod ≡ evolve (steps - left) cells → left ≤ steps → part ≤ left → part ≤ most → 1 ≤ part →
-    TakeSteps (length cells) size n most → IsHeatFault n rod size part fault → IsPartFault n cells size steps fault
-part_fault n cells rod size steps left part most BadInput is h k few some takes why =
+pub part_fault : (n workers : ℕ) (cells rod : List ℤ) (size steps left part most : ℕ) (fault : LentFault) → rod ≡ evolve (steps - left) cells → left ≤ steps → part ≤ left → part ≤ most → 1 ≤ part →
+    TakeSteps (length cells) size n most → IsHeatFault n workers rod size part fault → IsPartFault n workers cells size steps fault
+part_fault n workers cells rod size steps left part most BadInput is h k few some takes why =
     let same : length rod ≡ length cells = ap length is ∙ evolved-length (steps - left) cells in
     absurd (is_rod (length cells) size n most part takes few (subst (λ count. IsNoRod count size part) same why))
-part_fault n cells rod size steps left part most (Run fault) is h k few some takes why =
+part_fault n workers cells rod size steps left part most (Run fault) is h k few some takes why =
     next_part cells rod size steps left part (λ g. IsFault n g fault) is h k some why
-part_fault n cells rod size steps left part most (Unmade outcome) is h k few some takes why =
-    next_part cells rod size steps left part (λ g. IsOutcome n g outcome) is h k some why
+part_fault n workers cells rod size steps left part most (Unmade outcome) is h k few some takes why =
+    next_part cells rod size steps left part (λ g. IsOutcome n workers g outcome) is h k some why
 
 -- the graph of the product, by what was lent
 pub product-graph : (product_left product_right left right : List ℤ) (tiles product_side order side : ℕ) → 1 ≤ side →

@@ -16,16 +16,17 @@ refusal_of BadInput = BadSpec
 refusal_of (Run fault) = fault.refusal
 refusal_of (Unmade outcome) = NoMemory
 
--- At n nodes: the input is at fault, or the graph's pool has the very fault, or the very outcome, that the answer holds.
-abbrev pub IsLentFault : ℕ → Type 0 → TaskGraph → LentFault → Type 0
-IsLentFault n IsAtFault g BadInput = IsAtFault
-IsLentFault n IsAtFault g (Run fault) = IsFault n g fault
-IsLentFault n IsAtFault g (Unmade outcome) = IsOutcome n g outcome
+-- At n nodes, with so many workers at each: the input is at fault, or the graph's pool has the very fault, or the very outcome,
+-- that the answer holds.
+abbrev pub IsLentFault : ℕ → ℕ → Type 0 → TaskGraph → LentFault → Type 0
+IsLentFault n workers IsAtFault g BadInput = IsAtFault
+IsLentFault n workers IsAtFault g (Run fault) = IsFault n g fault
+IsLentFault n workers IsAtFault g (Unmade outcome) = IsOutcome n workers g outcome
 
 -- the cells are no rod for so many steps, or its pool gave none
-abbrev pub IsHeatFault : ℕ → List ℤ → ℕ → ℕ → LentFault → Type 0
-IsHeatFault n cells size steps =
-    IsLentFault n (IsNoRod (length cells) size steps) (heat_graph cells (blocks_of (length cells) size) size steps)
+abbrev pub IsHeatFault : ℕ → ℕ → List ℤ → ℕ → ℕ → LentFault → Type 0
+IsHeatFault n workers cells size steps =
+    IsLentFault n workers (IsNoRod (length cells) size steps) (heat_graph cells (blocks_of (length cells) size) size steps)
 
 -- This holds of the pool of a part of the steps, one or more, over the rod that those done before gave.
 abbrev pub IsOfPart : List ℤ → ℕ → ℕ → (TaskGraph → Type 0) → Type 0
@@ -33,12 +34,12 @@ IsOfPart cells size steps Holds = (done : ℕ) × (part : ℕ) × (1 ≤ part) �
     × Holds (heat_graph (evolve done cells) (blocks_of (length cells) size) size part)
 
 -- the cells take no step, or, after some of the steps, the pool of some of those left gave no rod
-abbrev pub IsPartFault : ℕ → List ℤ → ℕ → ℕ → LentFault → Type 0
-IsPartFault n cells size steps BadInput = TakeNoStep (length cells) size n
-IsPartFault n cells size steps (Run fault) = IsOfPart cells size steps (λ g. IsFault n g fault)
-IsPartFault n cells size steps (Unmade outcome) = IsOfPart cells size steps (λ g. IsOutcome n g outcome)
+abbrev pub IsPartFault : ℕ → ℕ → List ℤ → ℕ → ℕ → LentFault → Type 0
+IsPartFault n workers cells size steps BadInput = TakeNoStep (length cells) size n
+IsPartFault n workers cells size steps (Run fault) = IsOfPart cells size steps (λ g. IsFault n g fault)
+IsPartFault n workers cells size steps (Unmade outcome) = IsOfPart cells size steps (λ g. IsOutcome n workers g outcome)
 
 -- the lists are no such matrices, or their pool gave no product
-abbrev pub IsProductFault : ℕ → List ℤ → List ℤ → ℕ → ℕ → LentFault → Type 0
-IsProductFault n left right order side =
-    IsLentFault n (AreNoMatrices order side (length left) (length right)) (matrix_graph left right (order / side) side)
+abbrev pub IsProductFault : ℕ → ℕ → List ℤ → List ℤ → ℕ → ℕ → LentFault → Type 0
+IsProductFault n workers left right order side =
+    IsLentFault n workers (AreNoMatrices order side (length left) (length right)) (matrix_graph left right (order / side) side)

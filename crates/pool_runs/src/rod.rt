@@ -25,7 +25,7 @@ pub fn run_heat<R: Threads + Wait + Sync>(
     config: Config,
 ) -> Result<Vec<i64>, LentFault>
     requires { IsWithinLimits config }
-    ensures { MatchResult result (λ rod. rod.items ≡ evolve steps cells.now) (IsHeatFault config.nodes cells.now size steps) }
+    ensures { MatchResult result (λ rod. rod.items ≡ evolve steps cells.now) (IsHeatFault config.nodes config.workers cells.now size steps) }
 {
     let Some(heat) = Heat::new(cells, size, steps) else {
         return Err(LentFault::BadInput);
@@ -102,7 +102,7 @@ pub fn run_heat_in_parts<R: Threads + Wait + Sync>(
     config: Config,
 ) -> Result<Vec<i64>, LentFault>
     requires { IsWithinLimits config }
-    ensures { MatchResult result (λ rod. rod.items ≡ evolve steps cells.items) (IsPartFault config.nodes cells.items size steps) }
+    ensures { MatchResult result (λ rod. rod.items ≡ evolve steps cells.items) (IsPartFault config.nodes config.workers cells.items size steps) }
 {
     let Some(most) = steps_at_once(cells.len() as u64, size, config.nodes) else {
         return Err(LentFault::BadInput);

@@ -43,3 +43,5 @@ mod sleeping;
 mod strangers;
 #[cfg(test)]
 mod text;
+#[cfg(test)]
+mod watched;
