@@ -20,12 +20,12 @@ use std::alloc::Global;
 use std::io::Write;
 use std::sync::Wait;
 use std::thread::Threads;
-use tp_shell::{Diagnostics, Input};
+use tp_shell::{Diagnostics, Source};
 
 /// Runs the program `product` on the words of its command line, its own name first, and answers the exit status: 0 where the
 /// product is printed, or help or the version was asked for; 1 where the words, the reading or the writing are at fault; 2 where
 /// the input is, or the tiles do not suit it; 3 where a number leaves 64 bits, or the run was refused or memory was.
-pub fn product_with<R: Threads + Wait + Sync, I: Input, O: Write, E: Diagnostics>(
+pub fn product_with<R: Threads + Wait + Sync, I: Source, O: Write, E: Diagnostics>(
     rt: &R,
     alloc: Global,
     words: &[&str],

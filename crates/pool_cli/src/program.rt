@@ -15,7 +15,7 @@ use std::io::Write;
 use std::str;
 use std::sync::Wait;
 use std::thread::Threads;
-use tp_shell::{Diagnostics, Input, Status, complain, show, write_text};
+use tp_shell::{Diagnostics, Source, Status, complain, show, write_text};
 
 /// A program over lent data, as the request that words make of it: what it reads, and what it writes.
 pub(crate) trait Program: Copy {
@@ -57,7 +57,7 @@ pub(crate) trait Program: Copy {
 pub(crate) fn program_with<
     P: Program,
     R: Threads + Wait + Sync,
-    I: Input,
+    I: Source,
     O: Write,
     E: Diagnostics,
 >(
@@ -86,7 +86,7 @@ pub(crate) fn program_with<
 }
 
 /// Writes what the words ask for, or shows help or the version where they ask for that.
-fn answer_words<P: Program, R: Threads + Wait + Sync, I: Input, O: Write>(
+fn answer_words<P: Program, R: Threads + Wait + Sync, I: Source, O: Write>(
     rt: &R,
     alloc: Global,
     words: &[&str],
@@ -110,7 +110,7 @@ fn answer_words<P: Program, R: Threads + Wait + Sync, I: Input, O: Write>(
 }
 
 /// Reads all, and writes what the program makes of it. Nothing is written before all of it is known.
-fn answer<P: Program, R: Threads + Wait + Sync, I: Input, O: Write>(
+fn answer<P: Program, R: Threads + Wait + Sync, I: Source, O: Write>(
     rt: &R,
     alloc: Global,
     request: P,

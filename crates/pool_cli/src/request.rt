@@ -22,8 +22,7 @@ pub(crate) struct Request {
 
 /// What the words ask for.
 pub(crate) fn requested(alloc: Global, words: &[&str]) -> Result<Request, Error>
-    ensures limits { IfOk result (λ request. IsWithinLimits request.config) }
-    ensures asked { IfOk result (AsksForHeat (map (λ w. w.now) words.now)) }
+    ensures asked { IfOk result (λ request. AsksForHeat (map (λ w. w.now) words.now) request × IsWithinLimits request.config) }
     ensures why { IfErr result (λ error. FailsAs heat_app MissingRequiredArgument (LackSteps (matches_of heat_app (map (λ w. w.now) words.now)))
         (map (λ w. w.now) words.now) (kind_of error)) }
 {

@@ -17,7 +17,7 @@ pub enum ReadFault {
 /// What a program reads, as standard input is.
 ///
 /// In code that is generic over it, that all was read, or that not all could be, is known by a call of `read_all` alone.
-pub trait Input {
+pub trait Source {
     // Relates what was there before, bytes, and what is there after all was read and these were all there were.
     ghost gives: { Self → List ℕ → Self → Type 0 };
 
@@ -30,7 +30,7 @@ pub trait Input {
 }
 
 // Of a reader that failed nothing is known.
-impl<I: Read> Input for I {
+impl<I: Read> Source for I {
     ghost gives = { λ old bytes new. ReadsAll (I.remaining old) (I.remaining new) bytes };
 
     ghost fails = { λ old fault new. ⊤ };
