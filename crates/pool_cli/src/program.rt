@@ -105,7 +105,10 @@ fn answer_words<P: Program, R: Threads + Wait + Sync, I: Source, O: Write>(
 {
     match P::requested(alloc, words) {
         Ok(request) => answer(rt, alloc, request, reader, out),
-        Err(error) => show(alloc, &error, out).map_err(Fault::Words),
+        Err(error) => match show(alloc, &error, out) {
+            Ok(()) => Ok(()),
+            Err(fault) => Err(Fault::Words(fault)),
+        },
     }
 }
 
@@ -130,7 +133,10 @@ fn answer<P: Program, R: Threads + Wait + Sync, I: Source, O: Write>(
         Err(fault) => return Err(Fault::Read(fault)),
     };
     let text = text_of(rt, alloc, request, &bytes)?;
-    write_text(out, &text).map_err(|_| Fault::Write)
+    match write_text(out, &text) {
+        Ok(()) => Ok(()),
+        Err(_) => Err(Fault::Write),
+    }
 }
 
 /// The text that a program makes of all that was read.
@@ -145,8 +151,9 @@ fn text_of<P: Program, R: Threads + Wait + Sync>(
         (λ text. IsMade P.about request bytes.now text.items)
         (λ fault. ((fault ≡ Fault.NotText) × ¬ IsUtf8 bytes.now) ⊎ IsUnmade P.about request bytes.now fault) }
 {
-    let Ok(input) = str::from_utf8(bytes) else {
-        return Err(Fault::NotText);
+    let input = match str::from_utf8(bytes) {
+        Ok(input) => input,
+        Err(_) => return Err(Fault::NotText),
     };
     let data = P::spelt(alloc, input)?;
     request.check(&data)?;

@@ -1,13 +1,13 @@
 -- What each exit status says of the words, of what was read, and of what was written; and by which faults there is no answer. The
 -- reader and the writer are seen by the bytes that they had before and have now.
-use Rattle.std.specs.Prelude.{ℕ, ◌+◌, ◌≡◌, ◌⊎◌, Bool, true, false, List, Option, length}
-use Rattle.std.specs.Io.KnownBytes.{Appends, Consumes}
+use Rattle.std.specs.Prelude.{ℕ, ◌⊎◌, Bool, true, false, List, Option}
+use Rattle.std.specs.Io.KnownBytes.{Appends}
 use Rattle.clap.specs.Words.{Text}
 use Rattle.tp_base.specs.declared.refusal.Refusal.{Refusal}
-use Rattle.tp_cli.specs.Command.{AsksForForm, AsksForGenerations, AsksForNothing, AsksForPools, AsksForPoolsAt, AsksForRun, AsksForRunAt, AsksForText, ReadsAText, tp_app}
+use Rattle.tp_cli.specs.Command.{AsksForForm, AsksForGenerations, AsksForNothing, AsksForPools, AsksForPoolsAt, AsksForRun, AsksForRunAt, AsksForText, tp_app}
 use Rattle.tp_cli.specs.Pools.{AreInVain, IsPoolsText, MayNamePools}
 use Rattle.tp_cli.specs.Runs.{IsRefusedRun, IsTextFor, NamesNoGraph}
-use Rattle.tp_cli.specs.Texts.{IsAnswerTo}
+use Rattle.tp_cli.specs.Texts.{IsAnswerTo, IsUnansweredText}
 use Rattle.tp_cli.specs.declared.fault.Fault.{Fault}
 use Rattle.tp_cli.specs.declared.fault.Fault.TheVariants as faults
 use Rattle.tp_cli.specs.declared.fault.RunFault.{RunFault}
@@ -18,7 +18,6 @@ use Rattle.tp_shell.specs.Streams.{HasShown}
 use Rattle.tp_shell.specs.declared.status.Status.{Status}
 use Rattle.tp_shell.specs.declared.status.Status.TheVariants as statuses
 use Rattle.tp_shell.specs.declared.words.WordsFault.TheVariants as words
-use Rattle.tp_text.specs.declared.input.TheConstants.{MAX_TEXT}
 use Rattle.tp_text.specs.declared.TextFault.{TextFault}
 use Rattle.tp_text.specs.declared.TextFault.TheVariants as texts
 use Rattle.tp_text.specs.declared.Verdict.{Verdict}
@@ -88,13 +87,9 @@ CouldNotWrite words read_old read_new faults.Write =
     ((text : List ℕ) × IsRunText words text) ⊎ ((each_ended : Bool) × (text : List ℕ) × IsTextOfPools words each_ended text)
 CouldNotWrite words read_old read_new fault = ⊥
 
--- the text that the words ask for could not be read, or is too long: one byte more was read than a text may have
-abbrev pub IsUnreadText : List Text → Option (List ℕ) → Option (List ℕ) → TextFault → Type 0
-IsUnreadText words read_old read_new texts.Read = ReadsAText words
-IsUnreadText words read_old read_new texts.TooLong =
-    ReadsAText words × ((bytes : List ℕ) × Consumes read_old read_new bytes × (length bytes ≡ MAX_TEXT + 1))
-IsUnreadText words read_old read_new texts.Write = ⊥
-IsUnreadText words read_old read_new texts.Memory = ReadsAText words
+-- The words ask for the answer to a text, and by this fault there is none.
+abbrev pub LacksAnswer : List Text → Option (List ℕ) → Option (List ℕ) → TextFault → Type 0
+LacksAnswer words read_old read_new fault = (kind : TextKind) × AsksForText kind words × IsUnansweredText kind read_old read_new fault
 
 -- the words are those of several pools, and in vain, for this
 abbrev pub NamesPoolsInVain : List Text → Refusal → Type 0
@@ -107,7 +102,7 @@ MayRunPools words = (specs : List Text) × AsksForPools words specs × MayNamePo
 -- By this fault nothing was written.
 abbrev pub HasNothing : List Text → Option (List ℕ) → Option (List ℕ) → Fault → Type 0
 HasNothing words read_old read_new (faults.Words fault) = IsWordsFault tp_app (AsksForNothing words) words fault
-HasNothing words read_old read_new (faults.Text fault) = IsUnreadText words read_old read_new fault
+HasNothing words read_old read_new (faults.Text fault) = LacksAnswer words read_old read_new fault
 HasNothing words read_old read_new faults.NoPool = (word : Text) × AsksForRun words word × NamesNoGraph word
 HasNothing words read_old read_new (faults.InVain refusal) = NamesPoolsInVain words refusal
 HasNothing words read_old read_new (faults.Run fault) = LacksRunText words fault

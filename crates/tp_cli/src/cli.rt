@@ -1,23 +1,27 @@
-ghost use Rattle.std.specs.Prelude.{◌≡◌, ◌≢◌, ◌≤◌, ◌⊎◌, List, IfErr, IfOk, map};
+ghost use Rattle.std.specs.Prelude.{◌≡◌, ◌≢◌, ◌≤◌, ◌⊎◌, List, ℕ, IfErr, IfOk, map};
 ghost use Rattle.std.specs.Io.KnownBytes.{Appends};
+ghost use Rattle.clap.specs.Values.{kind_of};
 ghost use Rattle.tp_cli.specs.Command.{ReadsAText};
 ghost use Rattle.tp_cli.specs.Ends.{CouldNotWrite, HasAnswered, HasNothing, RefusedPool, RefusedText, Succeeded};
 ghost use Rattle.tp_cli.specs.Faults.{line_of, status_of};
-ghost use Rattle.tp_cli.specs.Texts.{status_of_verdict};
-ghost use Rattle.tp_cli.specs.Pools.{status_of_pools};
-ghost use Rattle.tp_cli.specs.declared.fault.Fault.{Fault};
+ghost use Rattle.tp_cli.specs.Texts.{IsAnswerTo, IsUnansweredText, status_of_verdict};
+ghost use Rattle.tp_shell.specs.Command.{IsMetBy, IsToBeShown};
 ghost use Rattle.tp_shell.specs.Statuses.{code_of};
+ghost use Rattle.tp_shell.specs.Streams.{HasShown};
+ghost use Rattle.tp_shell.specs.declared.status.Status.TheVariants.{Done};
 
 use crate::fault::Fault;
 use crate::pools::run_several;
 use crate::request::{Request, requested};
 use crate::run::run;
+use crate::text::TextKind;
+use clap::Error;
 use std::alloc::Global;
 use std::io::{Read, Write};
 use std::sync::Wait;
 use std::thread::Threads;
-use tp_shell::{Diagnostics, Status, complain, show};
-use tp_text::Verdict;
+use tp_shell::{Diagnostics, Status, WordsFault, complain, show};
+use tp_text::{TextFault, Verdict};
 
 /// Runs the program on the words of its command line, its own name first. It reads from `reader`, writes its output to
 /// `out` and its complaints to `err`, and answers the exit status: 0 where it is done, or help or the version was asked
@@ -75,22 +79,29 @@ fn answer_words<R: Threads + Wait + Sync, I: Read, O: Write>(
     ensures unread { ReadsAText (map (λ w. w.now) words.now) ⊎ (reader.new ≡ reader.old) }
 {
     match requested(alloc, words) {
-        Ok(Request::Answer(kind)) => match kind.answer(alloc, reader, out) {
-            Ok(verdict) => Ok(status_of_verdict(verdict)),
-            Err(fault) => Err(Fault::Text(fault)),
-        },
-        Ok(Request::Run(spec, plan)) => match run(rt, alloc, spec, plan, out) {
-            Ok(()) => Ok(Status::Done),
-            Err(fault) => Err(fault),
-        },
-        Ok(Request::Pools(specs, config)) => match run_several(rt, alloc, &specs, config, out) {
-            Ok(each_ended) => Ok(status_of_pools(each_ended)),
-            Err(fault) => Err(fault),
-        },
-        Err(error) => match show(alloc, &error, out) {
-            Ok(()) => Ok(Status::Done),
-            Err(fault) => Err(Fault::Words(fault)),
-        },
+        Ok(Request::Answer(kind)) => answer_text(alloc, kind, reader, out),
+        Ok(Request::Run(spec, plan)) => run(rt, alloc, spec, plan, out),
+        Ok(Request::Pools(specs, config)) => run_several(rt, alloc, &specs, config, out),
+        Err(error) => show_asked(alloc, &error, out),
+    }
+}
+
+/// Answers a text of a kind.
+fn answer_text<I: Read, O: Write>(
+    alloc: Global,
+    kind: TextKind,
+    reader: &mut I,
+    out: &mut O,
+) -> Result<Status, Fault>
+    ensures answered { IfOk result (λ status. (verdict : Verdict) × (text : List ℕ) × (status ≡ status_of_verdict verdict)
+        × IsAnswerTo kind (I.remaining reader.old) (I.remaining reader.new) verdict text
+        × Appends (O.contents out.old) (O.contents out.new) text) }
+    ensures why { IfErr result (λ fault. (met : TextFault) × (fault ≡ Fault.Text met)
+        × IsUnansweredText kind (I.remaining reader.old) (I.remaining reader.new) met × (met ≢ TextFault.Write → out.new ≡ out.old)) }
+{
+    match kind.answer(alloc, reader, out) {
+        Ok(verdict) => Ok(status_of_verdict(verdict)),
+        Err(fault) => Err(Fault::Text(fault)),
     }
 }
 
@@ -104,13 +115,14 @@ fn status_of_verdict(verdict: Verdict) -> Status
     }
 }
 
-/// The status of several pools that were run, each of which ended or not.
-fn status_of_pools(each_ended: bool) -> Status
-    ensures { result ≡ status_of_pools each_ended }
+/// Shows help or the version where the words asked for it.
+fn show_asked<O: Write>(alloc: Global, error: &Error, out: &mut O) -> Result<Status, Fault>
+    ensures shown { IfOk result (λ status. (status ≡ Done) × IsToBeShown (kind_of error.now) × HasShown (O.contents out.old) (O.contents out.new)) }
+    ensures why { IfErr result (λ fault. (met : WordsFault) × (fault ≡ Fault.Words met)
+        × IsMetBy (kind_of error.now) met × (met ≢ WordsFault.Write → out.new ≡ out.old)) }
 {
-    if each_ended {
-        Status::Done
-    } else {
-        Status::Failed
+    match show(alloc, error, out) {
+        Ok(()) => Ok(Status::Done),
+        Err(fault) => Err(Fault::Words(fault)),
     }
 }

@@ -1,11 +1,11 @@
-ghost use Rattle.std.specs.Prelude.{◌≡◌, ◌≢◌, List, ℕ, IfErr, IfOk, MatchResult, length, map};
+ghost use Rattle.std.specs.Prelude.{◌≡◌, ◌≢◌, Bool, List, ℕ, IfErr, IfOk, MatchResult, length, map};
 ghost use Rattle.std.specs.Io.KnownBytes.{Appends};
 ghost use Rattle.std.specs.List.{list_all};
 ghost use Rattle.std.specs.Result.{is_ok};
 ghost use Rattle.std.specs.String.{string_bytes};
 ghost use Rattle.tp_base.specs.Refusals.{name_of, number_of};
 ghost use Rattle.tp_base.specs.declared.refusal.Refusal.TheVariants.{NoMemory};
-ghost use Rattle.tp_cli.specs.Pools.{AreNamed, IsPoolsFault, IsPoolsText, IsWordsFault, lines_from, pool_line, pools_of, word_fault};
+ghost use Rattle.tp_cli.specs.Pools.{AreNamed, IsPoolsFault, IsPoolsText, IsWordsFault, lines_from, pool_line, pools_of, status_of_pools, word_fault};
 ghost use Rattle.pool_samples.specs.declared.any.AnyGraph.{AnyGraph};
 ghost use Rattle.tp_several.specs.Answers.{AreRunAnswers};
 ghost use Rattle.tp_work.specs.Outcomes.{IsWithinLimits};
@@ -18,30 +18,49 @@ use std::thread::Threads;
 use tp_base::{MAX_POOLS, Refusal};
 use tp_pools::Registry;
 use tp_several::run_pools;
-use tp_shell::write_text;
+use tp_shell::{Status, write_text};
 use tp_work::{Config, OpenGate, Outcome};
 
 /// Runs the pools that the words name, all at once, and writes a line for each, in the order of the words. Nothing is written
-/// before all of it is known. Answers whether each pool ended.
+/// before all of it is known. Answers the status by whether each pool ended.
 pub(crate) fn run_several<O: Write, R: Threads + Wait + Sync>(
     rt: &R,
     alloc: Global,
     words: &[&str],
     config: Config,
     out: &mut O,
-) -> Result<bool, Fault>
+) -> Result<Status, Fault>
     requires { IsWithinLimits config }
-    ensures ran { IfOk result (λ each_ended. (text : List ℕ)
+    ensures ran { IfOk result (λ status. (each_ended : Bool) × (text : List ℕ) × (status ≡ status_of_pools each_ended)
         × IsPoolsText (map (λ w. w.now) words.now) config.nodes config.workers each_ended text
         × Appends (O.contents out.old) (O.contents out.new) text) }
     ensures why { IfErr result (IsPoolsFault (map (λ w. w.now) words.now) config.nodes config.workers) }
     ensures unwritten { IfErr result (λ fault. fault ≢ Fault.Write → out.new ≡ out.old) }
 {
     let registry = registry_of(alloc, words)?;
-    let answers = answers_of(rt, alloc, registry, config).map_err(|_| Fault::Memory)?;
-    let text = text_of_pools(alloc, words, &answers).map_err(|_| Fault::Memory)?;
-    write_text(out, &text).map_err(|_| Fault::Write)?;
-    Ok(each_ended(&answers))
+    let answers = match answers_of(rt, alloc, registry, config) {
+        Ok(answers) => answers,
+        Err(_) => return Err(Fault::Memory),
+    };
+    let text = match text_of_pools(alloc, words, &answers) {
+        Ok(text) => text,
+        Err(_) => return Err(Fault::Memory),
+    };
+    match write_text(out, &text) {
+        Ok(()) => Ok(status_of_pools(each_ended(&answers))),
+        Err(_) => Err(Fault::Write),
+    }
+}
+
+/// The status of several pools that were run, each of which ended or not.
+fn status_of_pools(each_ended: bool) -> Status
+    ensures { result ≡ status_of_pools each_ended }
+{
+    if each_ended {
+        Status::Done
+    } else {
+        Status::Failed
+    }
 }
 
 /// Whether each run ended.

@@ -1,10 +1,11 @@
-ghost use Rattle.std.specs.Prelude.{◌≡◌, ◌≢◌, ◌≤◌, ◌↔◌, ℕ, List, Err, IfErr, IfOk, MatchResult, OnOk};
+ghost use Rattle.std.specs.Prelude.{◌≡◌, ◌≢◌, ◌≤◌, ◌↔◌, ℕ, List, Err, IfErr, IfOk, MatchResult};
 ghost use Rattle.std.specs.Io.KnownBytes.{Appends};
 ghost use Rattle.std.specs.String.{string_bytes};
 ghost use Rattle.tp_base.specs.declared.limits.TheConstants.{MAX_NODES};
 ghost use Rattle.tp_cli.specs.Runs.{IsPlan, IsPrintOf, IsRunFault, IsTextFor, IsTextOf, IsTextOfOne, IsUnprinted, IsUntold, IsWithoutOne, IsWithoutText, NamesNoGraph, run_text, totals_text};
 ghost use Rattle.tp_graph.specs.Serial.{AreRight};
 ghost use Rattle.pool_samples.specs.Any.{any_graph};
+ghost use Rattle.tp_shell.specs.declared.status.Status.TheVariants.{Done};
 ghost use Rattle.tp_work.specs.Outcomes.{IsOutcome, IsWithinLimits};
 
 use crate::fault::{Fault, RunFault};
@@ -16,7 +17,7 @@ use std::thread::Threads;
 use tp_base::{Refusal, TaskId};
 use tp_graph::Value;
 use pool_samples::{AnyGraph, checked};
-use tp_shell::write_text;
+use tp_shell::{Status, write_text};
 use tp_table::print_table;
 use tp_text::print_trace;
 use tp_work::{Config, OpenGate, Outcome, run_pool};
@@ -49,23 +50,27 @@ pub(crate) fn run<O: Write, R: Threads + Wait + Sync>(
     spec: &str,
     plan: Plan,
     out: &mut O,
-) -> Result<(), Fault>
+) -> Result<Status, Fault>
     requires { IsPlan plan }
-    ensures ran { OnOk result ((text : List ℕ)
+    ensures ran { IfOk result (λ status. (status ≡ Done) × ((text : List ℕ)
         × IsTextFor plan.form spec.now plan.config.nodes plan.config.workers plan.generations text
-        × Appends (O.contents out.old) (O.contents out.new) text) }
+        × Appends (O.contents out.old) (O.contents out.new) text)) }
     ensures unnamed { (result ≡ Err Fault.NoPool) ↔ NamesNoGraph spec.now }
     ensures why { IfErr result (IsRunFault plan spec.now) }
     ensures unwritten { IfErr result (λ fault. fault ≢ Fault.Write → out.new ≡ out.old) }
 {
-    let Ok(graph) = checked(spec) else {
-        return Err(Fault::NoPool);
+    let graph = match checked(spec) {
+        Ok(graph) => graph,
+        Err(_) => return Err(Fault::NoPool),
     };
     let text = match text_of_run(rt, alloc, graph, plan) {
         Ok(text) => text,
         Err(fault) => return Err(Fault::Run(fault)),
     };
-    write_text(out, &text).map_err(|_| Fault::Write)
+    match write_text(out, &text) {
+        Ok(()) => Ok(Status::Done),
+        Err(_) => Err(Fault::Write),
+    }
 }
 
 /// Runs a pool of a graph, in so many generations: what is printed of them.
