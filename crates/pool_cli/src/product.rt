@@ -1,11 +1,9 @@
-ghost use Rattle.std.specs.Prelude.{◌≡◌, ◌≤◌, ◌⊎◌, List, MatchResult, map};
-ghost use Rattle.std.specs.Str.Lines.{lines};
+ghost use Rattle.std.specs.Prelude.{◌≡◌, ◌≤◌, ◌⊎◌, List, ℕ, MatchResult, map};
 ghost use Rattle.pool_matrix.specs.Matrices.{product_of};
 ghost use Rattle.pool_cli.specs.Faults.{complaint, status_of};
-ghost use Rattle.pool_cli.specs.Products.{AreBadRows, AreFilled, AreUnfilled, IsWithoutProduct, product_program};
+ghost use Rattle.pool_cli.specs.Products.{AreBadRows, AreFilled, AreSpelt, AreUnfilled, IsWithoutProduct, product_program};
 ghost use Rattle.pool_cli.specs.Programs.{AsksForSome, CouldNotWrite, HasNothing, HasPrinted, HasShownAsked};
-ghost use Rattle.pool_cli.specs.Tiles.{IsWithinEvents};
-ghost use Rattle.pool_rows.specs.Matrices.{AreMatrices, rows_text};
+ghost use Rattle.pool_rows.specs.Matrices.{rows_text};
 ghost use Rattle.tp_shell.specs.Statuses.{code_of};
 ghost use Rattle.tp_work.specs.Outcomes.{IsWithinLimits};
 
@@ -82,8 +80,7 @@ impl Program for ProductRequest {
 
 /// Two matrices, from their text.
 fn rows_of(alloc: Global, input: &str) -> Result<Matrices, Fault>
-    ensures { MatchResult result
-        (λ matrices. AreMatrices (lines input.now) matrices.order matrices.left.items matrices.right.items) (AreBadRows input.now) }
+    ensures { MatchResult result (AreSpelt input.now) (AreBadRows input.now) }
 {
     match matrices_of(alloc, input) {
         Ok(matrices) => Ok(matrices),
@@ -93,7 +90,7 @@ fn rows_of(alloc: Global, input: &str) -> Result<Matrices, Fault>
 
 /// Whether such tiles fill the matrices, and the product's run takes no more events than a run may have.
 fn check_tiles(request: ProductRequest, matrices: &Matrices) -> Result<(), Fault>
-    requires { 1 ≤ matrices.now.order }
+    requires { (bytes : List ℕ) × AreSpelt bytes matrices.now }
     ensures { MatchResult result (λ _. AreFilled request matrices.now) (AreUnfilled request matrices.now) }
 {
     match tiled_order(matrices.order, request.side, request.config.nodes) {

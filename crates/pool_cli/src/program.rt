@@ -37,6 +37,7 @@ pub(crate) trait Program: Copy {
 
     /// Whether they can be worked on.
     fn check(self, data: &Self::Data) -> Result<(), Fault>
+        requires { (bytes : List ℕ) × about.spells bytes data.now }
         ensures { MatchResult result (λ _. about.suits self data.now) (about.unsuited self data.now) };
 
     /// The text that is made of them.
