@@ -40,12 +40,12 @@ pub record About (Request Data : Type 0) : Type 1 where
 module _ {Request Data : Type 0} (a : About Request Data) where
   -- The text spells data that can be worked on, and this is what is made of them.
   abbrev pub IsMade : Request → List ℕ → List ℕ → Type 0
-  IsMade request bytes text = (data : Data) × a.spells bytes data × a.suits request data × a.makes request data text
+  IsMade request bytes text = (loaded : Data) × a.spells bytes loaded × a.suits request loaded × a.makes request loaded text
 
   -- By this fault nothing is made of the text: it spells no data, or such as cannot be worked on, or nothing is made of them.
   abbrev pub IsUnmade : Request → List ℕ → Fault → Type 0
   IsUnmade request bytes fault = a.misspells bytes fault
-      ⊎ ((data : Data) × a.spells bytes data × (a.unsuited request data fault ⊎ (a.suits request data × a.fails request data fault)))
+      ⊎ ((loaded : Data) × a.spells bytes loaded × (a.unsuited request loaded fault ⊎ (a.suits request loaded × a.fails request loaded fault)))
 
   -- All was read, and this is the text that is made of it.
   abbrev pub IsMadeOfAll : Request → (List ℕ → Type 0) → List ℕ → Type 0

@@ -132,10 +132,6 @@ fn tell_refusal<E: Diagnostics>(refusal: Refusal, err: &mut E)
 {
     match refusal {
         Refusal::NoMemory => err.tell("there is no memory\n"),
-        _ => err.tell(format_args!(
-            "refused {} {}\n",
-            refusal.number(),
-            refusal.name()
-        )),
+        _ => err.tell(format_args!("refused {} {}\n", refusal.number(), refusal.name())),
     }
 }

@@ -65,7 +65,7 @@ impl Program for Request {
         requested(alloc, words)
     }
 
-    fn spelt(alloc: Global, input: &str) -> Result<Cells, Fault> {
+    fn load(alloc: Global, input: &str) -> Result<Cells, Fault> {
         cells_of(alloc, input)
     }
 

@@ -60,7 +60,7 @@ impl Program for ProductRequest {
         product_requested(alloc, words)
     }
 
-    fn spelt(alloc: Global, input: &str) -> Result<Matrices, Fault> {
+    fn load(alloc: Global, input: &str) -> Result<Matrices, Fault> {
         rows_of(alloc, input)
     }
 

@@ -5,8 +5,9 @@ ghost use Rattle.clap.specs.Words.{matches_of};
 ghost use Rattle.clap.specs.declared.error.kind.ErrorKind.TheVariants.{MissingRequiredArgument};
 ghost use Rattle.pool_cli.specs.Faults.{complaint, status_of};
 ghost use Rattle.pool_cli.specs.Programs.{About, AsksForSome, CouldNotWrite, HasNothing, HasPrinted, HasShownAsked, IsMade, IsMadeOfAll, IsUnanswered, IsUnmade, IsUnwritten};
-ghost use Rattle.tp_shell.specs.Command.{FailsAs};
+ghost use Rattle.tp_shell.specs.Command.{FailsAs, IsMetBy, IsToBeShown};
 ghost use Rattle.tp_shell.specs.Statuses.{code_of};
+ghost use Rattle.tp_shell.specs.Streams.{HasShown};
 
 use crate::fault::Fault;
 use clap::Error;
@@ -15,7 +16,7 @@ use std::io::Write;
 use std::str;
 use std::sync::Wait;
 use std::thread::Threads;
-use tp_shell::{Diagnostics, Source, Status, complain, show, write_text};
+use tp_shell::{Diagnostics, Source, Status, WordsFault, complain, show, write_text};
 
 /// A program over lent data, as the request that words make of it: what it reads, and what it writes.
 pub(crate) trait Program: Copy {
@@ -32,24 +33,24 @@ pub(crate) trait Program: Copy {
             (about.lacks (matches_of about.app (map (λ w. w.now) words.now))) (map (λ w. w.now) words.now) (kind_of error)) };
 
     /// The data that a text spells.
-    fn spelt(alloc: Global, input: &str) -> Result<Self::Data, Fault>
+    fn load(alloc: Global, input: &str) -> Result<Self::Data, Fault>
         ensures { MatchResult result (about.spells input.now) (about.misspells input.now) };
 
     /// Whether they can be worked on.
-    fn check(self, data: &Self::Data) -> Result<(), Fault>
-        requires { (bytes : List ℕ) × about.spells bytes data.now }
-        ensures { MatchResult result (λ _. about.suits self data.now) (about.unsuited self data.now) };
+    fn check(self, loaded: &Self::Data) -> Result<(), Fault>
+        requires { (bytes : List ℕ) × about.spells bytes loaded.now }
+        ensures { MatchResult result (λ _. about.suits self loaded.now) (about.unsuited self loaded.now) };
 
     /// The text that is made of them.
     fn make<R: Threads + Wait + Sync>(
         self,
         rt: &R,
         alloc: Global,
-        data: Self::Data,
+        loaded: Self::Data,
     ) -> Result<Vec<u8>, Fault>
         requires allowed { about.allows self }
-        requires suitable { about.suits self data }
-        ensures { MatchResult result (λ text. about.makes self data text.items) (about.fails self data) };
+        requires suitable { about.suits self loaded }
+        ensures { MatchResult result (λ text. about.makes self loaded text.items) (about.fails self loaded) };
 }
 
 /// Runs a program on the words of its command line, its own name first, and answers the exit status: 0 where what the words ask
@@ -61,14 +62,7 @@ pub(crate) fn program_with<
     I: Source,
     O: Write,
     E: Diagnostics,
->(
-    rt: &R,
-    alloc: Global,
-    words: &[&str],
-    reader: &mut I,
-    out: &mut O,
-    err: &mut E,
-) -> u8
+>(rt: &R, alloc: Global, words: &[&str], reader: &mut I, out: &mut O, err: &mut E) -> u8
     ensures range { result ≤ 3 }
     ensures succeeded { result ≡ 0 → (err.new ≡ err.old)
         × (HasPrinted P.about (map (λ w. w.now) words.now) (λ bytes. I.gives reader.old bytes reader.new)
@@ -80,10 +74,11 @@ pub(crate) fn program_with<
         (λ bytes. I.gives reader.old bytes reader.new) (λ read. I.fails reader.old read reader.new) fault)) }
     ensures unread { AsksForSome P.about (map (λ w. w.now) words.now) ⊎ (reader.new ≡ reader.old) }
 {
-    match answer_words::<P, R, I, O>(rt, alloc, words, reader, out) {
-        Ok(()) => Status::Done.code(),
-        Err(fault) => complain(&fault, err).code(),
-    }
+    let status = match answer_words::<P, R, I, O>(rt, alloc, words, reader, out) {
+        Ok(()) => Status::Done,
+        Err(fault) => complain(&fault, err),
+    };
+    status.code()
 }
 
 /// Writes what the words ask for, or shows help or the version where they ask for that.
@@ -106,10 +101,19 @@ fn answer_words<P: Program, R: Threads + Wait + Sync, I: Source, O: Write>(
 {
     match P::requested(alloc, words) {
         Ok(request) => answer(rt, alloc, request, reader, out),
-        Err(error) => match show(alloc, &error, out) {
-            Ok(()) => Ok(()),
-            Err(fault) => Err(Fault::Words(fault)),
-        },
+        Err(error) => show_asked(alloc, &error, out),
+    }
+}
+
+/// Shows help or the version where the words asked for it.
+fn show_asked<O: Write>(alloc: Global, error: &Error, out: &mut O) -> Result<(), Fault>
+    ensures shown { OnOk result (IsToBeShown (kind_of error.now) × HasShown (O.contents out.old) (O.contents out.new)) }
+    ensures why { IfErr result (λ fault. (met : WordsFault) × (fault ≡ Fault.Words met)
+        × IsMetBy (kind_of error.now) met × (met ≢ WordsFault.Write → out.new ≡ out.old)) }
+{
+    match show(alloc, error, out) {
+        Ok(()) => Ok(()),
+        Err(fault) => Err(Fault::Words(fault)),
     }
 }
 
@@ -156,7 +160,7 @@ fn text_of<P: Program, R: Threads + Wait + Sync>(
         Ok(input) => input,
         Err(_) => return Err(Fault::NotText),
     };
-    let data = P::spelt(alloc, input)?;
-    request.check(&data)?;
-    request.make(rt, alloc, data)
+    let loaded = P::load(alloc, input)?;
+    request.check(&loaded)?;
+    request.make(rt, alloc, loaded)
 }

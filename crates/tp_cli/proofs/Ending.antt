@@ -7,7 +7,7 @@ use Rattle.clap.specs.declared.error.kind.ErrorKind.{ErrorKind}
 use Rattle.clap.specs.declared.error.kind.ErrorKind.TheVariants.{MissingSubcommand}
 use Rattle.tp_cli.specs.Asked.{IsRunOf}
 use Rattle.tp_cli.specs.Command.{AsksForNothing, AsksForPools, AsksForText, IsAt, tp_app}
-use Rattle.tp_cli.specs.Ends.{CouldNotWrite, HasAnswered, HasNothing, IsRunText, IsTextOfPools, LacksRunText}
+use Rattle.tp_cli.specs.Ends.{CouldNotWrite, HasAnswered, HasNothing, IsRunText, IsTextOfPools, RefusedPool, RefusedText, Succeeded}
 use Rattle.tp_cli.specs.Faults.{status_of}
 use Rattle.tp_cli.specs.Pools.{IsPoolsFault, IsPoolsText, status_of_pools}
 use Rattle.tp_cli.specs.Runs.{IsRefusedRun, IsRunFault, IsTextFor, NamesNoGraph}
@@ -25,6 +25,7 @@ use Rattle.tp_shell.specs.Statuses.{code_of}
 use Rattle.tp_shell.specs.Streams.{HasShown}
 use Rattle.tp_shell.specs.declared.status.Status.{Status}
 use Rattle.tp_shell.specs.declared.status.Status.TheVariants.{Done}
+use Rattle.tp_shell.specs.declared.status.Status.TheVariants as statuses
 use Rattle.tp_shell.specs.declared.words.WordsFault.{WordsFault}
 use Rattle.tp_shell.specs.declared.words.WordsFault.TheVariants as words
 use Rattle.tp_text.specs.declared.TextFault.{TextFault}
@@ -155,8 +156,10 @@ module _ (asking : List Text) (read_old read_new : Option (List ℕ)) where
       → IsRunFault plan spec fault → (fault ≢ faults.Write → Same)
       → CouldNotWrite asking read_old read_new fault ⊎ (Same × HasNothing asking read_old read_new fault)
   run_fault spec plan Same faults.NoPool asked why kept = inr (kept (λ e. cc), (spec, asked.0, why))
-  run_fault spec plan Same (faults.Run met) asked why kept = inr (kept (λ e. cc),
-      (spec, plan.config.nodes, plan.config.workers, plan.generations, plan.form, asked.0, asked.2, asked.3, asked.4, why))
+  run_fault spec plan Same (faults.Run met) asked why kept = inr (
+    kept (λ e. cc),
+    (spec, plan.config.nodes, plan.config.workers, plan.generations, plan.form, asked.0, asked.2, asked.3, asked.4, why),
+  )
   run_fault spec plan Same faults.Write asked why kept = inl (inl (why.0, run_text spec plan why.0 asked why.1))
   run_fault spec plan Same (faults.Words met) asked why kept = absurd why
   run_fault spec plan Same (faults.Text met) asked why kept = absurd why
@@ -194,3 +197,32 @@ faulty (faults.InVain refusal) = inl refl
 faulty (faults.Run met) = inr refl
 faulty faults.Memory = inr refl
 faulty faults.Write = inl refl
+
+-- what was answered, by its status
+module _ (asking : List Text) (read_old read_new written_old written_new : Option (List ℕ)) where
+  pub if_done : (s : Status) → code_of s ≡ 0 → HasAnswered asking read_old read_new written_old written_new s
+      → Succeeded asking read_old read_new written_old written_new
+  if_done statuses.Done is did = did
+  if_done statuses.Fault is did = absurd did
+  if_done statuses.Refused is did = cc
+  if_done statuses.Failed is did = cc
+
+  pub if_fault : (s : Status) → code_of s ≡ 1 → ¬ HasAnswered asking read_old read_new written_old written_new s
+  if_fault statuses.Done is did = cc
+  if_fault statuses.Fault is did = did
+  if_fault statuses.Refused is did = cc
+  if_fault statuses.Failed is did = cc
+
+  pub if_refused : (s : Status) → code_of s ≡ 2 → HasAnswered asking read_old read_new written_old written_new s
+      → RefusedText asking read_old read_new written_old written_new
+  if_refused statuses.Done is did = cc
+  if_refused statuses.Fault is did = absurd did
+  if_refused statuses.Refused is did = did
+  if_refused statuses.Failed is did = cc
+
+  pub if_failed : (s : Status) → code_of s ≡ 3 → HasAnswered asking read_old read_new written_old written_new s
+      → RefusedPool asking written_old written_new
+  if_failed statuses.Done is did = cc
+  if_failed statuses.Fault is did = absurd did
+  if_failed statuses.Refused is did = cc
+  if_failed statuses.Failed is did = did

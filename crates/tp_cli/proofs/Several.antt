@@ -148,13 +148,16 @@ first_refused k words pools word told r h lt at few unregistered is =
 -- some pools may be named, where the word behind those that are registered names one
 may_name : (k : ℕ) (words : List Word) (pools : Pools) (word : Word) → AreRegisteredTo k words pools → k < length words
     → word ≡ get_or words k word → length words ≤ MAX_POOLS → ¬ NamesNoGraph word → MayNamePools words
-may_name zero words pools word h lt at few named = (few, λ i w r below here refused.
-    let first : i ≡ 0 = omega (arith, below) in
-    let w_is : word ≡ w = at ∙ sym (ap (λ j. get_or words j word) first) ∙ get_or_from_slice_get words i word w here in
-    elim refused [
-      | inl unnamed ↦ named (subst NamesNoGraph (sym w_is) unnamed.1)
-      | inr known ↦ true≢false (sym known.1 ∙ ap (λ j. is_among (take j words) w) first)
-    ])
+may_name zero words pools word h lt at few named = (
+  few,
+  λ i w r below here refused.
+      let first : i ≡ 0 = omega (arith, below) in
+      let w_is : word ≡ w = at ∙ sym (ap (λ j. get_or words j word) first) ∙ get_or_from_slice_get words i word w here in
+      elim refused [
+        | inl unnamed ↦ named (subst NamesNoGraph (sym w_is) unnamed.1)
+        | inr known ↦ true≢false (sym known.1 ∙ ap (λ j. is_among (take j words) w) first)
+      ],
+)
 may_name (suc k) words pools word h lt at few named = (few, λ i w r below here refused. h.taken i w r (omega (arith, below)) here refused)
 
 -- the fault of a word that was not registered

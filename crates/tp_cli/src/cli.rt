@@ -58,10 +58,11 @@ pub fn main_with<R: Threads + Wait + Sync, I: Read, O: Write, E: Diagnostics>(
     // A script or a trace alone is read.
     ensures unread { ReadsAText (map (λ w. w.now) words.now) ⊎ (reader.new ≡ reader.old) }
 {
-    match answer_words(rt, alloc, words, reader, out) {
-        Ok(status) => status.code(),
-        Err(fault) => complain(&fault, err).code(),
-    }
+    let status = match answer_words(rt, alloc, words, reader, out) {
+        Ok(ended) => ended,
+        Err(fault) => complain(&fault, err),
+    };
+    status.code()
 }
 
 /// Writes what the words ask for, or shows help or the version where they ask for that.

@@ -99,11 +99,7 @@ fn text_line(fault: TextFault) -> &'static str
 fn tell_refusal<E: Diagnostics>(refusal: Refusal, err: &mut E)
     ensures { E.tells err.old (refusal_line refusal) err.new }
 {
-    err.tell(format_args!(
-        "refused {} {}\n",
-        refusal.number(),
-        refusal.name()
-    ));
+    err.tell(format_args!("refused {} {}\n", refusal.number(), refusal.name()));
 }
 
 /// What is complained of, and the exit status, where the words of the command line could not be had: memory was refused, or

@@ -10,13 +10,13 @@ ghost use Rattle.tp_work.specs.Outcomes.{IsOutcome, IsWithinLimits};
 
 use crate::fault::{Fault, RunFault};
 use crate::series::text_of_generations;
+use pool_samples::{AnyGraph, checked};
 use std::alloc::{AllocError, Global};
 use std::io::Write;
 use std::sync::Wait;
 use std::thread::Threads;
 use tp_base::{Refusal, TaskId};
 use tp_graph::Value;
-use pool_samples::{AnyGraph, checked};
 use tp_shell::{Status, write_text};
 use tp_table::print_table;
 use tp_text::print_trace;

@@ -8,11 +8,11 @@ ghost use Rattle.tp_work.specs.Series.{IsSeries};
 
 use crate::fault::RunFault;
 use crate::run::{Form, Plan, text_of_results};
+use pool_samples::AnyGraph;
 use std::alloc::Global;
 use std::sync::Wait;
 use std::thread::Threads;
 use tp_base::Refusal;
-use pool_samples::AnyGraph;
 use tp_text::print_trace;
 use tp_work::{OpenGate, Round, Series, run_generations};
 

@@ -10,7 +10,7 @@ mod words;
 
 pub use diagnostics::{Diagnostics, Told, complain};
 pub use environment::{arguments, words_of};
-pub use options::{VERSION, count_of, count_option, with_counts};
+pub use options::{VERSION, config_of, count_of, count_option, with_counts};
 pub use status::Status;
 pub use streams::{ReadFault, Source, write_text};
 pub use words::{WordsFault, show, without_words};

@@ -1,12 +1,14 @@
 ghost use Rattle.std.specs.Prelude.{◌≡◌, ◌≤◌, IfOk, List, Some, ℕ, false};
 ghost use Rattle.std.specs.Str.Parse.{IsNumeral, digits_value, without_leading_plus};
-ghost use Rattle.clap.specs.Words.{app_of, found_of, one_text, rule_of};
+ghost use Rattle.clap.specs.Words.{app_of, found_of, one_text, rows_of, rule_of};
 ghost use Rattle.clap.specs.declared.builder.command.Command.TheViews.{out-Command};
-ghost use Rattle.tp_shell.specs.Command.{count_rule, with_count_rules};
+ghost use Rattle.tp_shell.specs.Command.{AreCountsIn, count_rule, with_count_rules};
+ghost use Rattle.tp_work.specs.Outcomes.{IsWithinLimits};
 
 use clap::{Arg, ArgMatches, Command, value_parser};
 use std::alloc::{AllocError, Global};
 use tp_base::{MAX_NODES, MAX_WORKERS};
+use tp_work::Config;
 
 /// The version of the programs.
 pub static VERSION: &str = "0.1.0";
@@ -34,6 +36,17 @@ pub fn count_option<'a>(alloc: Global, name: &'a str, range: &'a str, most: u32)
         .value_name(range)
         .value_parser(value_parser!(u32).range(1..=i64::from(most)))
         .default_value("1")
+}
+
+/// How pools run: at so many nodes and with so many workers as the words ask for, as patient as [`Config::new`] makes them.
+pub fn config_of(matches: &ArgMatches) -> Config
+    ensures limits { IsWithinLimits result }
+    ensures asked { AreCountsIn (rows_of (found_of matches.now)) result.nodes result.workers }
+    ensures patient { result.idle_turns ≡ 100000000 }
+{
+    let nodes = count_of(matches, "nodes", MAX_NODES);
+    let workers = count_of(matches, "workers", MAX_WORKERS);
+    Config::new(nodes, workers)
 }
 
 /// The value of an option that takes a number from 1 to so many. The parser has let no other through.
