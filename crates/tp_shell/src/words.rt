@@ -3,10 +3,10 @@ ghost use Rattle.clap.specs.Values.{kind_of};
 ghost use Rattle.tp_shell.specs.Command.{IsMetBy, IsToBeShown};
 ghost use Rattle.tp_shell.specs.Streams.{HasShown};
 
-use crate::status::Status;
 use clap::Error;
+use clap::error::ErrorKind;
 use std::alloc::{AllocError, Global};
-use std::io::{self, ErrorKind, Write};
+use std::io::{self, Write};
 
 /// Why words make no request, and nothing is shown for them.
 #[derive(Drop)]
@@ -19,31 +19,44 @@ pub enum WordsFault {
     Write,
 }
 
-impl From<AllocError> for WordsFault {
-    ghost use Rattle.std.specs.Prelude.{◌≡◌};
-    ghost use Rattle.tp_shell.specs.declared.words.WordsFault.TheVariants.{Memory};
-
-    ghost from_gives = { λ _ fault. fault ≡ Memory };
-
-    fn from(_: AllocError) -> Self {
-        WordsFault::Memory
-    }
-}
-
 /// Shows help or the version where the words asked for it, and else answers what is wrong with them.
 pub fn show<O: Write>(alloc: Global, error: &Error, out: &mut O) -> Result<(), WordsFault>
     ensures shown { OnOk result (IsToBeShown (kind_of error.now) × HasShown (O.contents out.old) (O.contents out.new)) }
     ensures why { IfErr result (IsMetBy (kind_of error.now)) }
     ensures unwritten { IfErr result (λ fault. fault ≢ WordsFault.Write → out.new ≡ out.old) }
 {
-    if error.kind() == clap::error::ErrorKind::OutOfMemory {
-        return Err(WordsFault::Memory);
+    match error.kind() {
+        ErrorKind::OutOfMemory => Err(WordsFault::Memory),
+        ErrorKind::DisplayHelp | ErrorKind::DisplayVersion => { show_text(alloc, error, out) }
+        _ => Err(words_fault(alloc, error)),
     }
-    let text = text_of(alloc, error)?;
-    if error.use_stderr() {
-        return Err(WordsFault::Words(text));
+}
+
+/// Shows help or the version.
+fn show_text<O: Write>(alloc: Global, error: &Error, out: &mut O) -> Result<(), WordsFault>
+    requires { IsToBeShown (kind_of error.now) }
+    ensures shown { OnOk result (IsToBeShown (kind_of error.now) × HasShown (O.contents out.old) (O.contents out.new)) }
+    ensures why { IfErr result (IsMetBy (kind_of error.now)) }
+    ensures unwritten { IfErr result (λ fault. fault ≢ WordsFault.Write → out.new ≡ out.old) }
+{
+    let text = match text_of(alloc, error) {
+        Ok(text) => text,
+        Err(_) => return Err(WordsFault::Memory),
+    };
+    match write_line(out, &text) {
+        Ok(()) => Ok(()),
+        Err(_) => Err(WordsFault::Write),
     }
-    write_line(out, &text).map_err(|_| WordsFault::Write)
+}
+
+/// What is wrong with the words.
+fn words_fault(alloc: Global, error: &Error) -> WordsFault
+    ensures { result ≢ WordsFault.Write }
+{
+    match text_of(alloc, error) {
+        Ok(text) => WordsFault::Words(text),
+        Err(_) => WordsFault::Memory,
+    }
 }
 
 /// The parser's own text, but for the line feed at its end.
@@ -61,20 +74,4 @@ fn write_line<O: Write>(out: &mut O, text: &str) -> io::Result<()>
 {
     writeln!(out, "{text}")?;
     out.flush()
-}
-
-/// What is told, and the exit status, where the words of the command line could not be had: memory was refused, or one of them
-/// is not UTF-8. What is told of both is the caller's.
-pub fn without_words(
-    fault: ErrorKind,
-    no_memory: &'static str,
-    not_text: &'static str,
-) -> (&'static str, u8)
-    ensures memory { fault ≡ ErrorKind.OutOfMemory → (result.0.now ≡ no_memory.now) × (result.1 ≡ 3) }
-    ensures words { fault ≢ ErrorKind.OutOfMemory → (result.0.now ≡ not_text.now) × (result.1 ≡ 1) }
-{
-    match fault {
-        ErrorKind::OutOfMemory => (no_memory, Status::Failed.code()),
-        _ => (not_text, Status::Fault.code()),
-    }
 }
