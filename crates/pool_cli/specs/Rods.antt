@@ -1,7 +1,6 @@
 -- The program `heat`: a rod of cells, and its text after some steps.
 use Rattle.std.specs.Prelude.{ℕ, ◌≡◌, ◌<◌, ◌⊎◌, [], length, List}
 use Rattle.tp_base.specs.declared.limits.TheConstants.{MAX_STEPS}
-use Rattle.clap.specs.Words.{Text}
 use Rattle.pool_cells.specs.Texts.{AreLines, IsFirstBad, lines_of}
 use Rattle.pool_cells.specs.declared.fault.LineFault.TheVariants.{Line, Memory}
 use Rattle.pool_rod.specs.Heats.{blocks_of, evolve}

@@ -1,6 +1,4 @@
-ghost use Rattle.std.specs.Prelude.{◌≡◌};
 ghost use Rattle.pool_cli.specs.Faults.{complaint, line_complaint, product_complaint, refusal_complaint, row_complaint, status_of, tile_complaint, words_complaint};
-ghost use Rattle.pool_runs.specs.Faults.{refusal_of};
 
 use crate::tiles::TileFault;
 use pool_cells::LineFault;

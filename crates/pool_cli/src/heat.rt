@@ -1,4 +1,4 @@
-ghost use Rattle.std.specs.Prelude.{◌≡◌, ◌≤◌, ◌⊎◌, List, MatchResult, map};
+ghost use Rattle.std.specs.Prelude.{◌≡◌, ◌≤◌, ◌⊎◌, MatchResult, map};
 ghost use Rattle.pool_cells.specs.Texts.{AreLines, lines_of};
 ghost use Rattle.pool_rod.specs.Heats.{evolve};
 ghost use Rattle.pool_cli.specs.Faults.{complaint, status_of};

@@ -1,5 +1,5 @@
 -- What a caller knows of a parse of the command line.
-use Rattle.std.proofs.Common.{◌≡◌, ◌≢◌, ◌∙◌, refl, ap, sym, subst, arith, inl, inr, ℕ, List, Option, Some, None, MatchOption, true, option_map, codes, slice_index, unwrap_or}
+use Rattle.std.proofs.Common.{◌≡◌, ◌≢◌, ◌∙◌, refl, ap, sym, subst, arith, ℕ, List, Option, Some, None, MatchOption, option_map, codes, slice_index, unwrap_or}
 use Rattle.std.specs.Prelude.{Box}
 use Rattle.std.specs.Box.{box_value}
 use Rattle.clap.specs.Words.{App, HasMatchesOf, Row, Text, all_of, first_of, is_simple, subcommand_of, subcommand_rows, subcommand_rows_of}

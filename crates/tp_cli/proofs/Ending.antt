@@ -1,5 +1,5 @@
 -- How a run ends.
-use Rattle.std.proofs.Common.{◌≡◌, ◌≢◌, ◌∙◌, ◌⊎◌, ℕ, Bool, true, false, List, Option, Result, Ok, Err, IfErr, ap, codes, inl, inr, map, refl, subst, sym}
+use Rattle.std.proofs.Common.{◌≡◌, ◌≢◌, ◌∙◌, ◌⊎◌, ℕ, Bool, true, false, List, Option, Result, Ok, Err, IfErr, codes, inl, inr, map, refl, subst, sym}
 use Rattle.std.specs.Io.KnownBytes.{Appends}
 use Rattle.tp_base.specs.declared.refusal.Refusal.{Refusal}
 use Rattle.clap.specs.Words.{Text, subcommand_of}
@@ -10,17 +10,16 @@ use Rattle.tp_cli.specs.Command.{AsksForNothing, AsksForPools, AsksForText, IsAt
 use Rattle.tp_cli.specs.Ends.{CouldNotWrite, HasAnswered, HasNothing, IsRunText, IsTextOfPools, RefusedPool, RefusedText, Succeeded}
 use Rattle.tp_cli.specs.Faults.{status_of}
 use Rattle.tp_cli.specs.Pools.{IsPoolsFault, IsPoolsText, status_of_pools}
-use Rattle.tp_cli.specs.Runs.{IsRefusedRun, IsRunFault, IsTextFor, NamesNoGraph}
+use Rattle.tp_cli.specs.Runs.{IsRunFault, IsTextFor, NamesNoGraph}
 use Rattle.tp_cli.specs.Texts.{IsAnswerTo, IsUnansweredText, status_of_verdict}
 use Rattle.tp_cli.specs.declared.fault.Fault.{Fault}
 use Rattle.tp_cli.specs.declared.fault.Fault.TheVariants as faults
-use Rattle.tp_cli.specs.declared.fault.RunFault.{RunFault}
 use Rattle.tp_cli.specs.declared.run.Plan.{Plan}
 use Rattle.tp_cli.specs.declared.text.TextKind.{TextKind}
 use Rattle.pool_samples.specs.Words.{word_of}
 use Rattle.pool_samples.specs.declared.any.AnyGraph.{AnyGraph}
 use Rattle.tp_shell.proofs.Asked.{shown_asked, words_fault}
-use Rattle.tp_shell.specs.Command.{AsksToBeShown, FailsAs, IsMetBy, IsToBeShown}
+use Rattle.tp_shell.specs.Command.{FailsAs, IsMetBy, IsToBeShown}
 use Rattle.tp_shell.specs.Statuses.{code_of}
 use Rattle.tp_shell.specs.Streams.{HasShown}
 use Rattle.tp_shell.specs.declared.status.Status.{Status}

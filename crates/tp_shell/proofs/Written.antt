@@ -1,7 +1,7 @@
 -- What was written and told.
-use Rattle.std.proofs.Common.{◌≡◌, ◌∙◌, ◌++◌, ℕ, Bool, true, false, true≢false, List, Option, Some, None, Result, Ok, Err, OnOk, IfSome, IsTrue, codes, refl, sym}
+use Rattle.std.proofs.Common.{◌∙◌, ℕ, true, false, true≢false, List, Option, Some, None, Result, Ok, Err, OnOk, IfSome, sym}
 use Rattle.std.specs.Io.KnownBytes.{Appends, Keeps}
-use Rattle.tp_shell.specs.Streams.{HasShown, IsToldTo}
+use Rattle.tp_shell.specs.Streams.{IsToldTo}
 
 -- what was appended stays
 pub appends_kept : (old now new : Option (List ℕ)) (text : List ℕ) → Appends old now text → Keeps now new → Appends old new text

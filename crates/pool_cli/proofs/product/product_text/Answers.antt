@@ -1,5 +1,4 @@
-use Rattle.std.proofs.Common.{◌≡◌, ◌∙◌, ap, ap₂, length, rules}
-use Rattle.pool_matrix.specs.Matrices.{product_of}
+use Rattle.std.proofs.Common.{◌∙◌, ap, length, rules}
 use Rattle.pool_cli.proofs.Products.{product_full}
 use Rattle.pool_cli.proofs.product.product_text.Goals as goal
 

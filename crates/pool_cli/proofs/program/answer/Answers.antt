@@ -1,6 +1,5 @@
-use Rattle.std.proofs.Common.{◌≡◌, inl, inr, refl, rules, subst, sym}
+use Rattle.std.proofs.Common.{inl, inr, refl, rules}
 use Rattle.clap.proofs.TakesLemmas.{passed_up}
-use Rattle.pool_cli.specs.Programs.{IsMade, IsUnmade}
 use Rattle.pool_cli.proofs.program.answer.Goals as goal
 
 pub returns-in-Err-clause-why : goal.returns-in-Err-clause-why

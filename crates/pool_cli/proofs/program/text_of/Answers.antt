@@ -1,4 +1,4 @@
-use Rattle.std.proofs.Common.{inl, inr, refl}
+use Rattle.std.proofs.Common.{inl, refl}
 use Rattle.pool_cli.proofs.program.text_of.Goals as goal
 
 pub returns-in-Err : goal.returns-in-Err

@@ -1,4 +1,4 @@
-use Rattle.std.proofs.Common.{◌≡◌, ◌∙◌, arith, inl, inr, refl, rules, sym}
+use Rattle.std.proofs.Common.{◌≡◌, arith, inl, inr, refl, rules}
 use Rattle.tp_cli.proofs.Ending.{faulty, if_done, if_failed, if_fault, if_refused, written_status}
 use Rattle.tp_cli.specs.Faults.{status_of}
 use Rattle.tp_shell.specs.Statuses.{code_of}

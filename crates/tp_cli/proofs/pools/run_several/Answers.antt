@@ -1,4 +1,4 @@
-use Rattle.std.proofs.Common.{◌≡◌, ◌∙◌, List, ap, map, refl}
+use Rattle.std.proofs.Common.{◌≡◌, ◌∙◌, ap, map, refl}
 use Rattle.std.specs.List.{list_all}
 use Rattle.std.specs.Result.{is_ok}
 use Rattle.clap.proofs.TakesLemmas.{passed_up}

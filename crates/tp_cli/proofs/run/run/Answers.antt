@@ -1,6 +1,5 @@
 use Rattle.std.proofs.Common.{rules, ◌≡◌, Err, refl, subst, sym}
 use Rattle.tp_base.specs.declared.refusal.Refusal.TheVariants.{BadSpec}
-use Rattle.pool_samples.specs.Words.{word_of}
 use Rattle.tp_cli.proofs.Ending.{names_none}
 use Rattle.tp_cli.specs.Runs.{IsTextOf}
 use Rattle.tp_cli.proofs.run.run.Goals as goal

@@ -1,4 +1,3 @@
-use Rattle.std.proofs.lemmas.Result.{IfErr-at_err, IfOk-at_ok}
 use Rattle.tp_cli.proofs.run.text_of_one.Goals as goal
 
 pub returns-in-Ok-text_of_outcome : goal.returns-in-Ok-text_of_outcome
