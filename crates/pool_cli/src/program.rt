@@ -160,7 +160,12 @@ fn text_of<P: Program, R: Threads + Wait + Sync>(
         Ok(input) => input,
         Err(_) => return Err(Fault::NotText),
     };
-    let loaded = P::load(alloc, input)?;
-    request.check(&loaded)?;
-    request.make(rt, alloc, loaded)
+    let loaded = match P::load(alloc, input) {
+        Ok(loaded) => loaded,
+        Err(fault) => return Err(fault),
+    };
+    match request.check(&loaded) {
+        Ok(()) => request.make(rt, alloc, loaded),
+        Err(fault) => Err(fault),
+    }
 }

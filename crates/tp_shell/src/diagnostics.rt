@@ -23,8 +23,15 @@ impl<W: Write> Diagnostics for W {
     ghost tells = { λ old text new. IsToldTo (W.contents old) (W.contents new) text };
 
     fn tell<D: Display + Drop>(&mut self, text: D) {
-        let _ = self.write_fmt(text);
+        try_to_write(self, text);
     }
+}
+
+/// Tries to write a text. Whether it was written is not answered.
+fn try_to_write<W: Write, D: Display + Drop>(writer: &mut W, text: D)
+    ensures { IfSome (D.output text) (IsToldTo (W.contents writer.old) (W.contents writer.new)) }
+{
+    let _ = writer.write_fmt(text);
 }
 
 /// A fault of a program: what is told of it, and the exit status that it gives.
