@@ -1,0 +1,71 @@
+-- When a pattern comes again.
+use Rattle.std.proofs.Common.{◌≡◌, ◌<◌, ◌≤◌, ◌+◌, ◌-◌, ◌*◌, ◌/◌, ◌%◌, ◌^◌, ℕ, zero, suc, Bool, true, false, min, max, if◌then◌else◌, refl, ap, sym, ◌∙◌, subst, arith, ⊎_elim}
+use Rattle.std.specs.Prelude.{◌==◌, ◌||◌, ◌&&◌, nat_le}
+use Rattle.std.specs.Int.{abs_diff}
+use Rattle.std.proofs.Math.Nat.{add-mod_right, pow-le-pow_right}
+use Rattle.std.proofs.lemmas.Bool.{cases_lt, le-leb, lt-leb}
+use Rattle.std.proofs.lemmas.Nat.{pow_below}
+use Rattle.pool_patterns.specs.Grids.{ComesAgain}
+use Rattle.pool_patterns.specs.Ranks.{rank}
+use Rattle.pool_patterns.specs.Relations.{doublings, fifth, period_of, relates}
+use Rattle.pool_patterns.specs.declared.pattern.Pattern.{Pattern}
+use Rattle.pool_patterns.specs.declared.pattern.Pattern.TheVariants.{Trivial, NoComm, Stencil, StencilPeriodic, Dom, Tree, Fft, AllToAll, Nearest, Spread, RandomNearest}
+
+suc_true : (b : Bool) (m : ℕ) → b ≡ true → (if b then suc m else m) ≡ suc m
+suc_true true m e = refl
+suc_true false m e = absurd (cc)
+
+suc_false : (b : Bool) (m : ℕ) → b ≡ false → (if b then suc m else m) ≡ m
+suc_false true m e = absurd (cc)
+suc_false false m e = refl
+
+-- of the powers up to 2 ^ n, those up to 2 ^ k are at most w
+powers_below : (w k n : ℕ) → 2 ^ k ≤ w → w < 2 * 2 ^ k → rank (λ i. nat_le (2 ^ (i + 1)) w) n ≡ min n k
+powers_below w k zero low high = omega arith
+powers_below w k (suc n) low high =
+    let rest = powers_below w k n low high in
+    ⊎_elim
+    (λ (h : n < k).
+    let le : 2 ^ (n + 1) ≤ 2 ^ k = pow-le-pow_right {n = 2} (omega arith) (omega arith) in
+    suc_true (nat_le (2 ^ (n + 1)) w) (rank (λ i. nat_le (2 ^ (i + 1)) w) n) (le-leb (2 ^ (n + 1)) w (omega (arith, le, low))) ∙ omega (arith, rest, h))
+    (λ (h : k ≤ n).
+    let double : 2 ^ suc k ≡ 2 * 2 ^ k = omega arith in
+    let le : 2 ^ (k + 1) ≤ 2 ^ (n + 1) = pow-le-pow_right {n = 2} (omega arith) (omega arith) in
+    suc_false (nat_le (2 ^ (n + 1)) w) (rank (λ i. nat_le (2 ^ (i + 1)) w) n) (lt-leb (2 ^ (n + 1)) w (omega (arith, le, high, double))) ∙ omega (arith, rest, h))
+    (cases_lt n k)
+
+pub doublings_are : (w k m : ℕ) → w < 2 ^ 20 → 2 ^ k ≤ w → w < 2 * 2 ^ k → m ≡ max k 1 → (m ≡ doublings w) × (m ≤ 20)
+doublings_are w k m few low high is =
+    let under : k < 20 =
+    ⊎_elim (λ (h : k < 20). h) (λ (h : 20 ≤ k). let le : 2 ^ 20 ≤ 2 ^ k = pow-le-pow_right {n = 2} (omega arith) h in absurd (omega (arith, le, low, few))) (cases_lt k 20) in
+    let powers = powers_below w k 20 low high in
+    let same : rank (λ i. nat_le (2 ^ (i + 1)) w) 20 ≡ k = omega (arith, powers, under) in
+    (is ∙ ap (λ x. max x 1) (sym same), omega (arith, is, under))
+
+-- a row later by the width
+fifth_again : (w t seed i k : ℕ) → 1 ≤ t → fifth w (t + w) seed i k ≡ fifth w t seed i k
+fifth_again w t seed i k some =
+    let later : i + k * w / 5 + (t + w - 1) + seed ≡ (i + k * w / 5 + (t - 1) + seed) + w = omega arith in
+    ap (λ x. x % w) later ∙ add-mod_right (i + k * w / 5 + (t - 1) + seed) w
+
+by_period : (p : Pattern) (w steps : ℕ) → ComesAgain (relates p w) w steps (period_of p w steps)
+by_period Fft w steps t j i some few a b =
+    let later : t + doublings w - 1 ≡ (t - 1) + doublings w = omega arith in
+    ap (λ m. (j == i) || (abs_diff j i == (2 ^ m))) (ap (λ x. x % doublings w) later ∙ add-mod_right (t - 1) (doublings w))
+by_period (Spread seed) w steps t j i some few a b =
+    ap (λ x. (j == i) || ((j == x) || ((j == fifth w (t + w) seed i 2) || ((j == fifth w (t + w) seed i 3) || (j == fifth w (t + w) seed i 4))))) (fifth_again w t seed i 1 some)
+    ∙ ap (λ x. (j == i) || ((j == fifth w t seed i 1) || ((j == x) || ((j == fifth w (t + w) seed i 3) || (j == fifth w (t + w) seed i 4))))) (fifth_again w t seed i 2 some)
+    ∙ ap (λ x. (j == i) || ((j == fifth w t seed i 1) || ((j == fifth w t seed i 2) || ((j == x) || (j == fifth w (t + w) seed i 4))))) (fifth_again w t seed i 3 some)
+    ∙ ap (λ x. (j == i) || ((j == fifth w t seed i 1) || ((j == fifth w t seed i 2) || ((j == fifth w t seed i 3) || (j == x))))) (fifth_again w t seed i 4 some)
+by_period (RandomNearest radius seed) w steps t j i some few a b = absurd (omega arith)
+by_period Trivial w steps t j i some few a b = refl
+by_period NoComm w steps t j i some few a b = refl
+by_period Stencil w steps t j i some few a b = refl
+by_period StencilPeriodic w steps t j i some few a b = refl
+by_period Dom w steps t j i some few a b = refl
+by_period Tree w steps t j i some few a b = refl
+by_period AllToAll w steps t j i some few a b = refl
+by_period (Nearest radius) w steps t j i some few a b = refl
+
+pub comes_again : (p : Pattern) (w steps n : ℕ) → n ≡ period_of p w steps → ComesAgain (relates p w) w steps n
+comes_again p w steps n is = subst (ComesAgain (relates p w) w steps) (sym is) (by_period p w steps)
