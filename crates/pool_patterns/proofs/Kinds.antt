@@ -8,10 +8,9 @@ use Rattle.std.proofs.lemmas.Nat.{div-add-mod', div-mul-add, mod-mul-add, mul-ad
 use Rattle.pool_patterns.specs.Grids.{Relation, ComesAgain, IsNarrow, inputs, outputs, output}
 use Rattle.pool_patterns.specs.Kinds.{AreArities, AreKinds, AreSeen, AreSpans, outputs_to, picked}
 use Rattle.pool_patterns.specs.Ranks.{rank, nth, nth_is, rank_is}
-use Rattle.pool_patterns.specs.Tables.{AreOutputs, IsSpot, output_at}
+use Rattle.pool_patterns.specs.Tables.{AreOutputs, IsOutput}
 use Rattle.pool_patterns.specs.declared.spots.Output.{Output}
 use Rattle.pool_patterns.specs.declared.spots.Span.{Span}
-use Rattle.pool_patterns.specs.declared.spots.Spot.{Spot}
 use Rattle.pool_patterns.proofs.More.{rank_alike, nth_alike, rank_grows, rank_more}
 use Rattle.pool_patterns.proofs.Picked.{picked_at, picked_long}
 
@@ -103,7 +102,7 @@ pub outputs_stay : (r : Relation) (w t j : ℕ) (all more : List Output) (start 
 outputs_stay r w t j all more start count h = record {
   whole = h.whole;
   inside = omega (arith, h.inside, length-append all more);
-  each = λ k d few. get_or_append_left all more d (start + k) (omega (arith, h.inside)) ∙ h.each k d few;
+  each = λ k d few. subst (IsOutput r w t j k) (sym (get_or_append_left all more d (start + k) (omega (arith, h.inside)))) (h.each k d few);
 }
 
 -- the outputs that were put behind all others
@@ -113,7 +112,10 @@ outputs_put r w t j all count is =
     record {
       whole = is;
       inside = omega (arith, is, length-append all (outputs_to r t j w), picked_long (λ i. r t j i) v w);
-      each = λ k d few. get_or-append-add all (outputs_to r t j w) k d ∙ picked_at (λ i. r t j i) v d w k (omega (arith, is));
+      each = λ k d few.
+          let at : get_or (all ++ outputs_to r t j w) (length all + k) d ≡ v (nth (λ i. r t j i) w k) =
+          get_or-append-add all (outputs_to r t j w) k d ∙ picked_at (λ i. r t j i) v d w k (omega (arith, is)) in
+          record { column = ap (λ o. o.column) at; slot = ap (λ o. o.slot) at };
     }
 
 pub spans_more : (r : Relation) (w t j n : ℕ) (spans next : List Span) (all more : List Output) (span : Span) → j < w → n ≡ t * w + j → AreSpans r w n spans all →
@@ -203,7 +205,6 @@ outputs_alike r w t u j all start count b same h =
           let inside = (nth_is (λ i. r t j i) w k many).below in
           let place : rank (λ c. r t c (nth (λ i. r t j i) w k)) j ≡ rank (λ c. r u c (nth (λ i. r t j i) w k)) j =
           rank_alike (λ c. r t c (nth (λ i. r t j i) w k)) (λ c. r u c (nth (λ i. r t j i) w k)) j (λ c e. same c (nth (λ i. r t j i) w k) (omega (arith, e, b)) inside) in
-          h.each k d few
-          ∙ ap (λ x. record { column = nth (λ i. r t j i) w k; slot = x }) place
-          ∙ ap (λ x. record { column = x; slot = rank (λ c. r u c x) j }) to;
+          let found = h.each k d few in
+          record { column = found.column ∙ to; slot = found.slot ∙ place ∙ ap (λ x. rank (λ c. r u c x) j) to };
     }

@@ -8,7 +8,7 @@ use Rattle.pool_patterns.specs.Grids.{Relation, ComesAgain, IsNarrow, inputs, ou
 use Rattle.pool_patterns.specs.Kinds.{AreArities, AreKinds, AreSpans}
 use Rattle.pool_patterns.specs.GridLaws.{some_if}
 use Rattle.pool_patterns.specs.Ranks.{rank, nth, nth_is}
-use Rattle.pool_patterns.specs.Tables.{AreOutputs, AreSpots, IsSpot, output_at}
+use Rattle.pool_patterns.specs.Tables.{AreOutputs, AreSpots, IsOutput, IsSpot}
 use Rattle.pool_patterns.specs.declared.spots.Output.{Output}
 use Rattle.pool_patterns.specs.declared.spots.Span.{Span}
 use Rattle.pool_patterns.specs.declared.spots.Spot.{Spot}
@@ -45,7 +45,7 @@ module _ (r : Relation) (w steps period : ℕ) (spans : List Span) (all : List O
       other (omega arith) ∙ ap (λ x. get_or arities (x % period * w + c) 0) e ∙ inputs_there q c b (omega arith)
 
   feeds_are : (q c : ℕ) (span : Span) → c < w → (steps ≤ q + 1 → (span.start ≡ 0) × (span.count ≡ 0)) → ((d : Span) → q + 1 < steps → span ≡ get_or spans (q % period * w + c) d) →
-      (span.count ≡ outputs r w steps q c) × ((span.start + span.count ≤ length all) × ((k : ℕ) (d : Output) → k < span.count → get_or all (span.start + k) d ≡ output_at r w (suc q) c k))
+      (span.count ≡ outputs r w steps q c) × ((span.start + span.count ≤ length all) × ((k : ℕ) (d : Output) → k < span.count → IsOutput r w (suc q) c k (get_or all (span.start + k) d)))
   feeds_are q c span b last other =
       ⊎_elim
       (λ (lower : q + 1 < steps).
@@ -72,7 +72,9 @@ module _ (r : Relation) (w steps period : ℕ) (spans : List Span) (all : List O
         arity = arity_is q c arity b h first other ∙ ap (λ x. inputs r w x c) row ∙ ap (λ y. inputs r w (p / w) y) column;
         feeds = fed.0 ∙ ap (λ x. outputs r w steps x c) row ∙ ap (λ y. outputs r w steps (p / w) y) column;
         inside = fed.1.0;
-        each = λ k d few. fed.1.1 k d few ∙ ap (λ x. output_at r w (suc x) c k) row ∙ ap (λ y. output_at r w (suc (p / w)) y k) column;
+        each = λ k d few.
+            subst (λ y. IsOutput r w (suc (p / w)) y k (get_or all (span.start + k) d)) column
+            (subst (λ x. IsOutput r w (suc x) c k (get_or all (span.start + k) d)) row (fed.1.1 k d few));
       } in
       subst (IsSpot r w steps all p) (sym is) made
 
@@ -96,10 +98,10 @@ spots_more r w steps n spots next all spot h new is = record {
 }
 
 -- what an output of a spot is, and that its column is one
-pub output_there : (r : Relation) (w steps p k : ℕ) (all : List Output) (spot : Spot) (output d : Output) → IsSpot r w steps all p spot → k < spot.feeds → output ≡ get_or all (spot.start + k) d →
-    (output ≡ output_at r w (suc (p / w)) (p % w) k) × (output.column < w)
-output_there r w steps p k all spot output d h few is =
-    let same : output ≡ output_at r w (suc (p / w)) (p % w) k = is ∙ h.each k d few in
-    let many : k < rank (λ i. r (suc (p / w)) (p % w) i) w = (some_if (nat_lt (suc (p / w)) steps) k (rank (λ i. r (suc (p / w)) (p % w) i) w) (omega (arith, h.feeds, few))).1 in
-    let below = (nth_is (λ i. r (suc (p / w)) (p % w) i) w k many).below in
-    (same, subst (λ x. x.column < w) (sym same) below)
+pub output_there : (r : Relation) (w steps p k : ℕ) (all : List Output) (spot : Spot) (found d : Output) → IsSpot r w steps all p spot → k < spot.feeds → found ≡ get_or all (spot.start + k) d →
+    IsOutput r w (suc (p / w)) (p % w) k found × (found.column < w)
+output_there r w steps p k all spot found d h few is =
+    let here : IsOutput r w (suc (p / w)) (p % w) k found = subst (IsOutput r w (suc (p / w)) (p % w) k) (sym is) (h.each k d few) in
+    let many : k < rank (λ i. r (suc (p / w)) (p % w) i) w =
+    (some_if (nat_lt (suc (p / w)) steps) k (rank (λ i. r (suc (p / w)) (p % w) i) w) (omega (arith, h.feeds, few))).1 in
+    (here, omega (arith, here.column, (nth_is (λ i. r (suc (p / w)) (p % w) i) w k many).below))

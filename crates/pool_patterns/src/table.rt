@@ -1,6 +1,6 @@
 ghost use Rattle.std.specs.Prelude.{◌≡◌, ◌≤◌, ◌<◌, ◌*◌, ◌/◌, ◌%◌, ◌^◌, suc, MatchResult};
 ghost use Rattle.pool_patterns.specs.Faults.{IsTableFault};
-ghost use Rattle.pool_patterns.specs.Tables.{IsSpot, IsTable, output_at};
+ghost use Rattle.pool_patterns.specs.Tables.{IsOutput, IsSpot, IsTable};
 
 use crate::fault::TableFault;
 use crate::kinds::{Kinds, kinds_of};
@@ -90,9 +90,8 @@ impl<P: Relation> Table<P> {
         requires right { IsSpot (P.relation self.now.pattern self.now.width) self.now.width self.now.steps
             self.now.outputs.items task.0 spot }
         requires within { turn < spot.feeds }
-        ensures same { result ≡
-            output_at (P.relation self.now.pattern self.now.width) self.now.width (suc (task.0 / self.now.width))
-            (task.0 % self.now.width) turn }
+        ensures same { IsOutput (P.relation self.now.pattern self.now.width) self.now.width (suc (task.0 / self.now.width))
+            (task.0 % self.now.width) turn result }
         ensures inside { result.column < self.now.width }
     {
         self.outputs[spot.start + turn as usize]
