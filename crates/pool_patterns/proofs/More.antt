@@ -4,6 +4,20 @@ use Rattle.std.proofs.lemmas.Bool.{cases_lt}
 use Rattle.pool_patterns.specs.Ranks.{rank, nth, nth_is, rank_is}
 use Rattle.pool_patterns.specs.Kernels.{stir, stirred}
 
+pub suc_true : (b : Bool) (m : ℕ) → b ≡ true → (if b then suc m else m) ≡ suc m
+suc_true true m e = refl
+suc_true false m e = absurd (cc)
+
+pub suc_false : (b : Bool) (m : ℕ) → b ≡ false → (if b then suc m else m) ≡ m
+suc_false true m e = absurd (cc)
+suc_false false m e = refl
+
+pub rank_more_suc : (f : ℕ → Bool) (n : ℕ) → f n ≡ true → rank f (suc n) ≡ suc (rank f n)
+rank_more_suc f n e = suc_true (f n) (rank f n) e
+
+pub rank_same_suc : (f : ℕ → Bool) (n : ℕ) → f n ≡ false → rank f (suc n) ≡ rank f n
+rank_same_suc f n e = suc_false (f n) (rank f n) e
+
 when_true : (b : Bool) (m : ℕ) → b ≡ true → (if b then suc m else m) ≡ m + 1
 when_true true m e = omega arith
 when_true false m e = absurd (cc)

@@ -12,7 +12,7 @@ use Rattle.pool_patterns.specs.Tables.{AreOutputs, AreSpots, IsOutput, IsSpot}
 use Rattle.pool_patterns.specs.declared.spots.Output.{Output}
 use Rattle.pool_patterns.specs.declared.spots.Span.{Span}
 use Rattle.pool_patterns.specs.declared.spots.Spot.{Spot}
-use Rattle.pool_patterns.proofs.Kinds.{kind_within, outputs_alike, same_kind}
+use Rattle.pool_patterns.proofs.Counted.{kind_within, outputs_alike, same_kind}
 use Rattle.pool_patterns.proofs.More.{rank_alike}
 
 module _ (r : Relation) (w steps period : ℕ) (spans : List Span) (all : List Output) (arities : List ℕ) (some : 1 ≤ period) (kinds : AreKinds r w steps period spans all arities) where

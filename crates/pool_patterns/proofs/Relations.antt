@@ -10,14 +10,7 @@ use Rattle.pool_patterns.specs.Ranks.{rank}
 use Rattle.pool_patterns.specs.Relations.{doublings, fifth, period_of, relates}
 use Rattle.pool_patterns.specs.declared.pattern.Pattern.{Pattern}
 use Rattle.pool_patterns.specs.declared.pattern.Pattern.TheVariants.{Trivial, NoComm, Stencil, StencilPeriodic, Dom, Tree, Fft, AllToAll, Nearest, Spread, RandomNearest}
-
-suc_true : (b : Bool) (m : ℕ) → b ≡ true → (if b then suc m else m) ≡ suc m
-suc_true true m e = refl
-suc_true false m e = absurd (cc)
-
-suc_false : (b : Bool) (m : ℕ) → b ≡ false → (if b then suc m else m) ≡ m
-suc_false true m e = absurd (cc)
-suc_false false m e = refl
+use Rattle.pool_patterns.proofs.More.{suc_false, suc_true}
 
 -- of the powers up to 2 ^ n, those up to 2 ^ k are at most w
 powers_below : (w k n : ℕ) → 2 ^ k ≤ w → w < 2 * 2 ^ k → rank (λ i. nat_le (2 ^ (i + 1)) w) n ≡ min n k

@@ -55,8 +55,7 @@ fn add_row<P: Relation>(
     kinds: &mut Kinds,
 ) -> Result<(), TableFault>
     requires sizes { AreSizes width (rows + 1) }
-    requires spans {
-        AreSpans (P.relation pattern.now width) width (rows * width) kinds.old.spans.items kinds.old.outputs.items }
+    requires spans { AreSpans (P.relation pattern.now width) width (rows * width) kinds.old.spans.items kinds.old.outputs.items }
     requires arities { AreArities (P.relation pattern.now width) width (rows * width) kinds.old.arities.items }
     ensures spans { IfOk result (λ _.
         AreSpans (P.relation pattern.now width) width ((rows + 1) * width) kinds.new.spans.items kinds.new.outputs.items) }
@@ -67,7 +66,14 @@ fn add_row<P: Relation>(
     let mut seen = vec![in alloc; 0; width as usize]?;
     for from in 0..width {
         let start = kinds.outputs.len();
-        let count = add_column(pattern, width, rows + 1, from, &mut seen, &mut kinds.outputs)?;
+        let count = add_column(
+            pattern,
+            width,
+            rows + 1,
+            from,
+            &mut seen,
+            &mut kinds.outputs,
+        )?;
         kinds.spans.push(Span { start, count })?;
     }
     kinds.arities.extend_from_slice(&seen)?;

@@ -73,7 +73,7 @@ fn spot_of(kinds: &Kinds, width: u32, steps: u32, period: u32, task: u32) -> Spo
 }
 
 /// Which outputs are those of a column of a row: none in the last row.
-#[tactic(auto, using(crate::proofs::Kinds::kind_within))]
+#[tactic(auto, using(crate::proofs::Counted::kind_within))]
 fn span_of(spans: &[Span], width: u32, steps: u32, period: u32, row: u32, column: u32) -> Span
     requires sizes { AreSizes width steps }
     requires some { 1 ≤ period }
@@ -90,7 +90,7 @@ fn span_of(spans: &[Span], width: u32, steps: u32, period: u32, row: u32, column
 }
 
 /// How many inputs a column of a row has: none in the first row.
-#[tactic(auto, using(crate::proofs::Kinds::kind_within))]
+#[tactic(auto, using(crate::proofs::Counted::kind_within))]
 fn arity_of(arities: &[u8], width: u32, period: u32, row: u32, column: u32) -> u8
     requires some { 1 ≤ period }
     requires within { (row < 2 ^ 20) × (width < 2 ^ 20) × (column < width) }

@@ -70,7 +70,10 @@ fn fifth(width: u32, step: u32, seed: u32, to: u32, fifths: u32) -> u32
     requires within { (to < width) × (fifths ≤ 4) }
     ensures { result ≡ fifth width step seed to fifths }
 {
-    let moved = u64::from(to) + u64::from(fifths * width / 5) + u64::from(step - 1) + u64::from(seed);
+    let moved = u64::from(to)
+        + u64::from(fifths * width / 5)
+        + u64::from(step - 1)
+        + u64::from(seed);
     (moved % u64::from(width)) as u32
 }
 

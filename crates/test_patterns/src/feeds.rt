@@ -68,7 +68,10 @@ fn a_tree_of_four_columns_comes_again_in_each_row(rt: HostRuntime) -> Result<(),
         (5, 11, 0),
     ];
     assert_eq!(rt; feeds.as_slice(), wanted.as_slice());
-    assert_eq!(rt; arities.as_slice(), [0, 0, 0, 0, 1, 1, 1, 1, 1, 1, 1, 1].as_slice());
+    assert_eq!(rt;
+        arities.as_slice(),
+        [0, 0, 0, 0, 1, 1, 1, 1, 1, 1, 1, 1].as_slice()
+    );
     Ok(())
 }
 
@@ -106,6 +109,9 @@ fn a_butterfly_of_four_columns_has_two_kinds_of_rows(rt: HostRuntime) -> Result<
         (11, 15, 1),
     ];
     assert_eq!(rt; feeds.as_slice(), wanted.as_slice());
-    assert_eq!(rt; arities.as_slice(), [0, 0, 0, 0, 2, 3, 3, 2, 2, 2, 2, 2, 2, 3, 3, 2].as_slice());
+    assert_eq!(rt;
+        arities.as_slice(),
+        [0, 0, 0, 0, 2, 3, 3, 2, 2, 2, 2, 2, 2, 3, 3, 2].as_slice()
+    );
     Ok(())
 }

@@ -20,14 +20,28 @@ fn what_is_no_table(rt: HostRuntime) -> Result<(), Fail> {
         // A single row has no inputs.
         (Pattern::AllToAll, 17, 1, None),
         (Pattern::Nearest { radius: 7 }, 20, 2, None),
-        (Pattern::Nearest { radius: 8 }, 20, 2, Some(TableFault::TooManyInputs)),
+        (
+            Pattern::Nearest { radius: 8 },
+            20,
+            2,
+            Some(TableFault::TooManyInputs),
+        ),
         (Pattern::Nearest { radius: 4294967295 }, 16, 2, None),
         // Three events for each of 16 tasks, and 18 for each of the other rows: 1,048,368 and 1,048,656.
         (Pattern::AllToAll, 16, 3641, None),
         (Pattern::AllToAll, 16, 3642, Some(TableFault::TooManyEvents)),
-        (Pattern::Trivial, 4294967295, 4294967295, Some(TableFault::TooManyEvents)),
+        (
+            Pattern::Trivial,
+            4294967295,
+            4294967295,
+            Some(TableFault::TooManyEvents),
+        ),
     ] {
-        assert_eq!(rt; fault(rt.alloc(), pattern, width, steps), wanted, "at {pattern:?} {width} {steps}");
+        assert_eq!(rt;
+            fault(rt.alloc(), pattern, width, steps),
+            wanted,
+            "at {pattern:?} {width} {steps}"
+        );
     }
     Ok(())
 }

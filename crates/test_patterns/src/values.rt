@@ -31,6 +31,9 @@ fn a_checksum_is_a_sum_of_31_bits(rt: HostRuntime) -> Result<(), Fail> {
     assert_eq!(rt; checksum(&[]), 0);
     assert_eq!(rt; checksum(&[13, 22, 19]), 54);
     assert_eq!(rt; checksum(&[2147483647, 2]), 1);
-    assert_eq!(rt; checksum(&[18446744073709551615, 18446744073709551615]), 2147483646);
+    assert_eq!(rt;
+        checksum(&[18446744073709551615, 18446744073709551615]),
+        2147483646
+    );
     Ok(())
 }

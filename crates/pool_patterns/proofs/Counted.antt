@@ -11,7 +11,7 @@ use Rattle.pool_patterns.specs.Ranks.{rank, nth, nth_is, rank_is}
 use Rattle.pool_patterns.specs.Tables.{AreOutputs, IsOutput}
 use Rattle.pool_patterns.specs.declared.spots.Output.{Output}
 use Rattle.pool_patterns.specs.declared.spots.Span.{Span}
-use Rattle.pool_patterns.proofs.More.{rank_alike, nth_alike, rank_grows, rank_more}
+use Rattle.pool_patterns.proofs.More.{rank_alike, nth_alike, rank_grows, rank_more_suc, rank_same_suc}
 use Rattle.pool_patterns.proofs.Picked.{picked_at, picked_long}
 
 -- the place of a column among the rows that were worked out
@@ -19,20 +19,6 @@ pub kind_within : (q period steps w c : ℕ) → 1 ≤ period → q + 1 < steps 
 kind_within q period steps w c some h b =
     let low : q % period < min period (steps - 1) = grind (arith, nat_tests, mod_below q period some, mod-le q period) in
     omega (arith, mul-add-lt (q % period) w c (min period (steps - 1)) low b)
-
-suc_true : (b : Bool) (m : ℕ) → b ≡ true → (if b then suc m else m) ≡ suc m
-suc_true true m e = refl
-suc_true false m e = absurd (cc)
-
-suc_false : (b : Bool) (m : ℕ) → b ≡ false → (if b then suc m else m) ≡ m
-suc_false true m e = absurd (cc)
-suc_false false m e = refl
-
-rank_more_suc : (f : ℕ → Bool) (n : ℕ) → f n ≡ true → rank f (suc n) ≡ suc (rank f n)
-rank_more_suc f n e = suc_true (f n) (rank f n) e
-
-rank_same_suc : (f : ℕ → Bool) (n : ℕ) → f n ≡ false → rank f (suc n) ≡ rank f n
-rank_same_suc f n e = suc_false (f n) (rank f n) e
 
 -- what was seen of the columns below one, of column j as well
 pub seen_first : (r : Relation) (w t : ℕ) → AreSeen r w t 0 0 (replicate w 0)
@@ -54,14 +40,14 @@ seen_next r w t j n seen all h =
     }
 
 pub seen_same : (r : Relation) (w t j n : ℕ) (seen : List ℕ) → n < w → r t j n ≡ false → AreSeen r w t j n seen → AreSeen r w t j (n + 1) seen
-seen_same r w t j n seen b no h = record {
+seen_same r w t j n seen b fails h = record {
   long = h.long;
   done = λ i e c.
       ⊎_elim
       (λ (lower : i < n). h.done i lower c)
       (λ (not : n ≤ i).
       let same : n ≡ i = omega arith in
-      h.left i not c ∙ sym (rank_same_suc (λ x. r t x i) j (ap (r t j) (sym same) ∙ no)))
+      h.left i not c ∙ sym (rank_same_suc (λ x. r t x i) j (ap (r t j) (sym same) ∙ fails)))
       (cases_lt i n);
   left = λ i e c. h.left i (omega arith) c;
   few = h.few;
