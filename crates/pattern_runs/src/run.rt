@@ -22,7 +22,7 @@ pub struct PatternRun {
 
 /// The last row of a table's grid, with so many iterations of the kernel in each task, worked out by a pool of threads. `Run` with
 /// what [`run_pool`] answered where it was refused, and `Unmade` with its outcome where there was no memory for the row.
-pub fn run_pattern<P: Relation, R: Threads + Wait + Sync>(
+pub fn run_pattern<P: Relation + Send + Sync, R: Threads + Wait + Sync>(
     rt: &R,
     alloc: Global,
     table: &Table<P>,

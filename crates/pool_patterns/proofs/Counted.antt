@@ -1,5 +1,5 @@
 -- The outputs of rows, worked out column by column.
-use Rattle.std.proofs.Common.{◌≡◌, ◌≢◌, ◌<◌, ◌≤◌, ◌+◌, ◌-◌, ◌*◌, ◌/◌, ◌%◌, ℕ, zero, suc, Bool, true, false, List, [], ◌∷◌, ◌++◌, length, get_or, set, replicate, min, if◌then◌else◌, eqb, refl, ap, sym, ◌∙◌, subst, arith, ⊎_elim, length-append}
+use Rattle.std.proofs.Common.{◌≡◌, ◌≢◌, ◌<◌, ◌≤◌, ◌+◌, ◌-◌, ◌*◌, ◌/◌, ◌%◌, ℕ, zero, suc, Bool, true, false, List, [], ◌∷◌, ◌++◌, length, get_or, set, replicate, min, if◌then◌else◌, eqb, refl, ap, sym, ◌∙◌, subst, arith, ⊎_elim, append_assoc, length-append}
 use Rattle.std.proofs.lemmas.Bool.{cases_lt, cases_eq, eqb-true, eqb-false}
 use Rattle.std.proofs.lemmas.Bool.Decides.{nat_tests}
 use Rattle.std.proofs.lemmas.List.{get_or-append-add, get_or-append_right, get_or-set_other, get_or-set_same, get_or_append_left, get_or_at, get_or-replicate, length-replicate, length-set}
@@ -12,7 +12,7 @@ use Rattle.pool_patterns.specs.Tables.{AreOutputs, IsOutput}
 use Rattle.pool_patterns.specs.declared.spots.Output.{Output}
 use Rattle.pool_patterns.specs.declared.spots.Span.{Span}
 use Rattle.pool_patterns.proofs.More.{rank_alike, nth_alike, rank_grows, rank_more_suc, rank_same_suc}
-use Rattle.pool_patterns.proofs.Picked.{picked_at, picked_long}
+use Rattle.pool_patterns.proofs.Picked.{picked_at, picked_long, picked_more, picked_same}
 
 -- the place of a column among the rows that were worked out
 pub kind_within : (q period steps w c : ℕ) → 1 ≤ period → q + 1 < steps → c < w → q % period * w + c < min period (steps - 1) * w
@@ -21,13 +21,15 @@ kind_within q period steps w c some h b =
     omega (arith, mul-add-lt (q % period) w c (min period (steps - 1)) low b)
 
 -- what was seen of the columns below one, of column j as well
-pub seen_first : (r : Relation) (w t : ℕ) → AreSeen r w t 0 0 (replicate w 0)
-seen_first r w t = record {
-  long = length-replicate w 0;
-  done = λ i h b. absurd (omega arith);
-  left = λ i h b. get_or-replicate w i 0 0 b;
-  few = λ i b. let is : get_or (replicate w 0) i 0 ≡ 0 = get_or-replicate w i 0 0 b in omega (arith, is);
-}
+pub seen_first : (r : Relation) (w t : ℕ) (seen : List ℕ) → seen ≡ replicate w 0 → AreSeen r w t 0 0 seen
+seen_first r w t seen is =
+    let none : (i : ℕ) → i < w → get_or seen i 0 ≡ 0 = λ i b. ap (λ l. get_or l i 0) is ∙ get_or-replicate {A = ℕ} w i 0 0 b in
+    record {
+      long = ap length is ∙ length-replicate {A = ℕ} w 0;
+      done = λ i h b. absurd (omega arith);
+      left = λ i h b. none i b;
+      few = λ i b. omega (arith, none i b);
+    }
 
 pub seen_next : (r : Relation) (w t j n : ℕ) (seen : List ℕ) → w ≤ n → AreSeen r w t j n seen → AreSeen r w t (j + 1) 0 seen
 seen_next r w t j n seen all h =
@@ -55,7 +57,7 @@ seen_same r w t j n seen b fails h = record {
 
 pub seen_more : (r : Relation) (w t j n slot : ℕ) (seen next : List ℕ) → n < w → r t j n ≡ true → slot ≡ get_or seen n 0 → slot < 16 → next ≡ set seen n (slot + 1) →
     AreSeen r w t j n seen → AreSeen r w t j (n + 1) next
-seen_more r w t j n slot seen next b yes at few is h =
+seen_more r w t j n slot seen next b yes read few is h =
     let known : n < length seen = omega (arith, h.long) in
     let here : get_or next n 0 ≡ slot + 1 = ap (λ l. get_or l n 0) is ∙ get_or-set_same seen n (slot + 1) 0 known in
     let others : (i : ℕ) → i ≢ n → get_or next i 0 ≡ get_or seen i 0 = λ i e. ap (λ l. get_or l i 0) is ∙ get_or-set_other seen n i (slot + 1) 0 e in
@@ -66,7 +68,7 @@ seen_more r w t j n slot seen next b yes at few is h =
           (λ (lower : i < n). others i (omega arith) ∙ h.done i lower c)
           (λ (not : n ≤ i).
           let same : n ≡ i = omega arith in
-          let one : slot + 1 ≡ rank (λ x. r t x n) (suc j) = omega (arith, at, h.left n (omega arith) b, rank_more_suc (λ x. r t x n) j yes) in
+          let one : slot + 1 ≡ rank (λ x. r t x n) (suc j) = omega (arith, read, h.left n (omega arith) b, rank_more_suc (λ x. r t x n) j yes) in
           subst (λ x. get_or next x 0 ≡ rank (λ c. r t c x) (suc j)) same (here ∙ one))
           (cases_lt i n);
       left = λ i e c. others i (omega arith) ∙ h.left i (omega arith) c;
@@ -80,8 +82,23 @@ seen_more r w t j n slot seen next b yes at few is h =
 -- a column that has 16 inputs and is fed once more has too many
 pub seen_wide : (r : Relation) (w t j n slot : ℕ) (seen : List ℕ) → j < w → n < w → r t j n ≡ true → slot ≡ get_or seen n 0 → 16 ≤ slot → AreSeen r w t j n seen →
     (i : ℕ) × (i < w) × (16 < rank (λ c. r t c i) w)
-seen_wide r w t j n slot seen a b yes at many h =
-    (n, b, omega (arith, at, h.left n (omega arith) b, rank_more_suc (λ c. r t c n) j yes, rank_grows (λ c. r t c n) w (suc j) (omega arith)))
+seen_wide r w t j n slot seen a b yes read many h =
+    (n, b, omega (arith, read, h.left n (omega arith) b, rank_more_suc (λ c. r t c n) j yes, rank_grows (λ c. r t c n) w (suc j) (omega arith)))
+
+-- one column more of those that a column feeds, or one that it does not feed
+pub outputs_more : (r : Relation) (t j n slot : ℕ) (old now next : List Output) → r t j n ≡ true → slot ≡ rank (λ c. r t c n) j → now ≡ old ++ outputs_to r t j n →
+    next ≡ now ++ record { column = n; slot = slot } ∷ [] → next ≡ old ++ outputs_to r t j (n + 1)
+outputs_more r t j n slot old now next yes counted e is =
+    let v : ℕ → Output = λ i. record { column = i; slot = rank (λ c. r t c i) j } in
+    let one : Output = record { column = n; slot = slot } in
+    let same : one ≡ v n = ap (λ x. record { column = n; slot = x }) counted in
+    is ∙ ap (λ l. l ++ one ∷ []) e ∙ append_assoc old (outputs_to r t j n) (one ∷ []) ∙ ap (λ o. old ++ (outputs_to r t j n ++ o ∷ [])) same
+    ∙ ap (λ l. old ++ l) (sym (picked_more (λ i. r t j i) v n yes))
+
+pub outputs_same : (r : Relation) (t j n : ℕ) (old now : List Output) → r t j n ≡ false → now ≡ old ++ outputs_to r t j n → now ≡ old ++ outputs_to r t j (n + 1)
+outputs_same r t j n old now fails e =
+    let v : ℕ → Output = λ i. record { column = i; slot = rank (λ c. r t c i) j } in
+    e ∙ ap (λ l. old ++ l) (sym (picked_same (λ i. r t j i) v n fails))
 
 -- the outputs of a column stay where they are
 pub outputs_stay : (r : Relation) (w t j : ℕ) (all more : List Output) (start count : ℕ) → AreOutputs r w t j all start count → AreOutputs r w t j (all ++ more) start count
@@ -99,9 +116,9 @@ outputs_put r w t j all count is =
       whole = is;
       inside = omega (arith, is, length-append all (outputs_to r t j w), picked_long (λ i. r t j i) v w);
       each = λ k d few.
-          let at : get_or (all ++ outputs_to r t j w) (length all + k) d ≡ v (nth (λ i. r t j i) w k) =
+          let found : get_or (all ++ outputs_to r t j w) (length all + k) d ≡ v (nth (λ i. r t j i) w k) =
           get_or-append-add all (outputs_to r t j w) k d ∙ picked_at (λ i. r t j i) v d w k (omega (arith, is)) in
-          record { column = ap (λ o. o.column) at; slot = ap (λ o. o.slot) at };
+          record { column = ap (λ o. o.column) found; slot = ap (λ o. o.slot) found };
     }
 
 pub spans_more : (r : Relation) (w t j n : ℕ) (spans next : List Span) (all more : List Output) (span : Span) → j < w → n ≡ t * w + j → AreSpans r w n spans all →

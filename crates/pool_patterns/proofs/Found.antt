@@ -30,7 +30,7 @@ row_more v n next row is here = ap (λ l. l ++ next ∷ []) is ∙ ap (λ x. map
 -- one number more of a sum mod 2 ^ 31
 pub sum_more : (row : List ℕ) (i total number more d : ℕ) → i < length row → total ≡ sum (take i row) % 2147483648 → number ≡ get_or row i d → more ≡ (total + number % 2147483648) % 2147483648 →
     more ≡ sum (take (i + 1) row) % 2147483648
-sum_more row i total number more d b same at is =
+sum_more row i total number more d b same read is =
     let whole = sum_by_more (λ x. x) row i d b in
     is ∙ add-mod-mod total number 2147483648 ∙ ap (λ x. (x + number) % 2147483648) same ∙ mod-add-mod (sum (take i row)) 2147483648 number
-    ∙ ap (λ x. (sum (take i row) + x) % 2147483648) at ∙ ap (λ x. x % 2147483648) (sym whole)
+    ∙ ap (λ x. (sum (take i row) + x) % 2147483648) read ∙ ap (λ x. x % 2147483648) (sym whole)

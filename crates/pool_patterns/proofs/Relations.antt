@@ -2,9 +2,9 @@
 use Rattle.std.proofs.Common.{◌≡◌, ◌<◌, ◌≤◌, ◌+◌, ◌-◌, ◌*◌, ◌/◌, ◌%◌, ◌^◌, ℕ, zero, suc, Bool, true, false, min, max, if◌then◌else◌, refl, ap, sym, ◌∙◌, subst, arith, ⊎_elim}
 use Rattle.std.specs.Prelude.{◌==◌, ◌||◌, ◌&&◌, nat_le}
 use Rattle.std.specs.Int.{abs_diff}
-use Rattle.std.proofs.Math.Nat.{add-mod_right, pow-le-pow_right}
-use Rattle.std.proofs.lemmas.Bool.{cases_lt, le-leb, lt-leb}
-use Rattle.std.proofs.lemmas.Nat.{pow_below}
+use Rattle.std.proofs.Math.Nat.{add-mod_right}
+use Rattle.std.proofs.lemmas.Bool.{cases_eq, cases_lt, le-leb, lt-leb}
+use Rattle.std.proofs.lemmas.Nat.{pow-add, pow_below}
 use Rattle.pool_patterns.specs.Grids.{ComesAgain}
 use Rattle.pool_patterns.specs.Ranks.{rank}
 use Rattle.pool_patterns.specs.Relations.{doublings, fifth, period_of, relates}
@@ -12,27 +12,43 @@ use Rattle.pool_patterns.specs.declared.pattern.Pattern.{Pattern}
 use Rattle.pool_patterns.specs.declared.pattern.Pattern.TheVariants.{Trivial, NoComm, Stencil, StencilPeriodic, Dom, Tree, Fft, AllToAll, Nearest, Spread, RandomNearest}
 use Rattle.pool_patterns.proofs.More.{suc_false, suc_true}
 
+power_le : (i j : ℕ) → i ≤ j → 2 ^ i ≤ 2 ^ j
+power_le i j h = ⊎_elim (λ (e : i ≡ j). subst (λ x. 2 ^ i ≤ 2 ^ x) e (omega arith)) (λ (d : i ≡ j → ⊥). let less : i < j = omega (arith, h, d) in let lt = pow_below i j less in omega (arith, lt)) (cases_eq i j)
+
+double : (k : ℕ) → 2 ^ (k + 1) ≡ 2 * 2 ^ k
+double k = let one : 2 ^ 1 ≡ 2 = refl in pow-add 2 k 1 ∙ omega (arith, one)
+
+zero_min : (k : ℕ) → min 0 k ≡ 0
+zero_min k = omega arith
+
+least : (n k : ℕ) → n ≤ k → min n k ≡ n
+least n k h = omega (arith, h)
+
+most : (n k : ℕ) → k ≤ n → min n k ≡ k
+most n k h = omega (arith, h)
+
 -- of the powers up to 2 ^ n, those up to 2 ^ k are at most w
 powers_below : (w k n : ℕ) → 2 ^ k ≤ w → w < 2 * 2 ^ k → rank (λ i. nat_le (2 ^ (i + 1)) w) n ≡ min n k
-powers_below w k zero low high = omega arith
+powers_below w k zero low high = sym (zero_min k)
 powers_below w k (suc n) low high =
-    let rest = powers_below w k n low high in
     ⊎_elim
     (λ (h : n < k).
-    let le : 2 ^ (n + 1) ≤ 2 ^ k = pow-le-pow_right {n = 2} (omega arith) (omega arith) in
-    suc_true (nat_le (2 ^ (n + 1)) w) (rank (λ i. nat_le (2 ^ (i + 1)) w) n) (le-leb (2 ^ (n + 1)) w (omega (arith, le, low))) ∙ omega (arith, rest, h))
+    let le : 2 ^ (n + 1) ≤ 2 ^ k = power_le (n + 1) k (omega (arith, h)) in
+    let rest : rank (λ i. nat_le (2 ^ (i + 1)) w) n ≡ n = powers_below w k n low high ∙ least n k (omega (arith, h)) in
+    suc_true (nat_le (2 ^ (n + 1)) w) (rank (λ i. nat_le (2 ^ (i + 1)) w) n) (le-leb (2 ^ (n + 1)) w (omega (arith, le, low)))
+    ∙ ap suc rest ∙ sym (least (suc n) k (omega (arith, h))))
     (λ (h : k ≤ n).
-    let double : 2 ^ suc k ≡ 2 * 2 ^ k = omega arith in
-    let le : 2 ^ (k + 1) ≤ 2 ^ (n + 1) = pow-le-pow_right {n = 2} (omega arith) (omega arith) in
-    suc_false (nat_le (2 ^ (n + 1)) w) (rank (λ i. nat_le (2 ^ (i + 1)) w) n) (lt-leb (2 ^ (n + 1)) w (omega (arith, le, high, double))) ∙ omega (arith, rest, h))
+    let le : 2 ^ (k + 1) ≤ 2 ^ (n + 1) = power_le (k + 1) (n + 1) (omega (arith, h)) in
+    let rest : rank (λ i. nat_le (2 ^ (i + 1)) w) n ≡ k = powers_below w k n low high ∙ most n k h in
+    suc_false (nat_le (2 ^ (n + 1)) w) (rank (λ i. nat_le (2 ^ (i + 1)) w) n) (lt-leb (2 ^ (n + 1)) w (omega (arith, le, high, double k)))
+    ∙ rest ∙ sym (most (suc n) k (omega (arith, h))))
     (cases_lt n k)
 
 pub doublings_are : (w k m : ℕ) → w < 2 ^ 20 → 2 ^ k ≤ w → w < 2 * 2 ^ k → m ≡ max k 1 → (m ≡ doublings w) × (m ≤ 20)
 doublings_are w k m few low high is =
     let under : k < 20 =
-    ⊎_elim (λ (h : k < 20). h) (λ (h : 20 ≤ k). let le : 2 ^ 20 ≤ 2 ^ k = pow-le-pow_right {n = 2} (omega arith) h in absurd (omega (arith, le, low, few))) (cases_lt k 20) in
-    let powers = powers_below w k 20 low high in
-    let same : rank (λ i. nat_le (2 ^ (i + 1)) w) 20 ≡ k = omega (arith, powers, under) in
+    ⊎_elim (λ (h : k < 20). h) (λ (h : 20 ≤ k). let le : 2 ^ 20 ≤ 2 ^ k = power_le 20 k h in absurd (omega (arith, le, low, few))) (cases_lt k 20) in
+    let same : rank (λ i. nat_le (2 ^ (i + 1)) w) 20 ≡ k = powers_below w k 20 low high ∙ most 20 k (omega (arith, under)) in
     (is ∙ ap (λ x. max x 1) (sym same), omega (arith, is, under))
 
 -- a row later by the width

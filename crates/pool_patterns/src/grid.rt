@@ -32,10 +32,18 @@ impl<'a, P: Relation> Grid<'a, P> {
     {
         self.table
     }
+
+    /// The task of a column of the last row.
+    pub(crate) fn last(&self, column: u32) -> TaskId
+        requires { column < self.now.table.now.width }
+        ensures { result.0 ≡ (self.now.table.now.steps - 1) * self.now.table.now.width + column }
+    {
+        TaskId((self.table.steps() - 1) * self.table.width() + column)
+    }
 }
 
 #[tactic(auto, unfolding(crate::specs::Grids::grid_graph))]
-impl<'a, P: Relation> Graph for Grid<'a, P> {
+impl<'a, P: Relation + Send + Sync> Graph for Grid<'a, P> {
     ghost meaning = { λ g.
         kernel_graph (P.relation g.table.now.pattern g.table.now.width) g.table.now.width g.table.now.steps g.iterations };
 

@@ -46,7 +46,8 @@ pub(crate) fn spots_of(
 
 /// How many events a task of so many inputs takes at one node.
 fn task_events(inputs: u8) -> u32
-    ensures { result ≡ task_events inputs }
+    ensures same { result ≡ task_events inputs }
+    ensures few { result ≤ 257 }
 {
     if inputs > 0 { u32::from(inputs) + 2 } else { 3 }
 }
@@ -63,27 +64,27 @@ fn spot_of(kinds: &Kinds, width: u32, steps: u32, period: u32, task: u32) -> Spo
         IsSpot r width steps kinds.now.outputs.items task result }
 {
     let (row, column) = (task / width, task % width);
-    let span = span_of(&kinds.spans, width, steps, period, row, column);
+    let span = span_of(kinds, width, steps, period, row, column);
     Spot {
         start: span.start,
         feeds: span.count,
         column,
-        arity: arity_of(&kinds.arities, width, period, row, column),
+        arity: arity_of(kinds, width, period, row, column),
     }
 }
 
 /// Which outputs are those of a column of a row: none in the last row.
 #[tactic(auto, using(crate::proofs::Counted::kind_within))]
-fn span_of(spans: &[Span], width: u32, steps: u32, period: u32, row: u32, column: u32) -> Span
+fn span_of(kinds: &Kinds, width: u32, steps: u32, period: u32, row: u32, column: u32) -> Span
     requires sizes { AreSizes width steps }
     requires some { 1 ≤ period }
-    requires long { length spans.now ≡ min period (steps - 1) * width }
+    requires long { length kinds.now.spans.items ≡ min period (steps - 1) * width }
     requires within { (row < steps) × (column < width) }
     ensures last { steps ≤ row + 1 → (result.start ≡ 0) × (result.count ≡ 0) }
-    ensures other { (d : Span) → row + 1 < steps → result ≡ slice_index_or spans.now (row % period * width + column) d }
+    ensures other { (d : Span) → row + 1 < steps → result ≡ slice_index_or kinds.now.spans.items (row % period * width + column) d }
 {
     if row + 1 < steps {
-        spans[(row % period) as usize * width as usize + column as usize]
+        kinds.spans[(row % period) as usize * width as usize + column as usize]
     } else {
         Span { start: 0, count: 0 }
     }
@@ -91,16 +92,16 @@ fn span_of(spans: &[Span], width: u32, steps: u32, period: u32, row: u32, column
 
 /// How many inputs a column of a row has: none in the first row.
 #[tactic(auto, using(crate::proofs::Counted::kind_within))]
-fn arity_of(arities: &[u8], width: u32, period: u32, row: u32, column: u32) -> u8
+fn arity_of(kinds: &Kinds, width: u32, period: u32, row: u32, column: u32) -> u8
     requires some { 1 ≤ period }
     requires within { (row < 2 ^ 20) × (width < 2 ^ 20) × (column < width) }
-    requires long { 1 ≤ row → (row - 1) % period * width + column < length arities.now }
+    requires long { 1 ≤ row → (row - 1) % period * width + column < length kinds.now.arities.items }
     ensures first { row ≡ 0 → result ≡ 0 }
-    ensures other { 1 ≤ row → result ≡ slice_index_or arities.now ((row - 1) % period * width + column) 0 }
+    ensures other { 1 ≤ row → result ≡ slice_index_or kinds.now.arities.items ((row - 1) % period * width + column) 0 }
 {
     if row == 0 {
         0
     } else {
-        arities[((row - 1) % period) as usize * width as usize + column as usize]
+        kinds.arities[((row - 1) % period) as usize * width as usize + column as usize]
     }
 }

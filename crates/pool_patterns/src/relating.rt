@@ -55,7 +55,6 @@ fn period_of(pattern: Pattern, width: u32, steps: u32) -> u32
 }
 
 /// How many of 2, 4, 8 and so on are at most a width, but 1 at least.
-#[tactic(auto, using(crate::proofs::Relations::doublings_are))]
 fn doublings(width: u32) -> u32
     requires { (1 ≤ width) × (width < 2 ^ 20) }
     ensures same { result ≡ doublings width }

@@ -3,7 +3,7 @@ ghost use Rattle.pool_patterns.specs.Grids.{AreSizes, ComesAgain};
 
 /// Which columns of a row feed which of the next: all that a pattern is. Whoever writes one has the grid of tasks over it with
 /// its laws.
-pub trait Relation: Copy + Send + Sync {
+pub trait Relation: Copy {
     ghost relation: { Self → ℕ → ℕ → ℕ → ℕ → Bool };
 
     /// Whether column `from` of the row before feeds column `to` of row `step`, which is 1 or more, in rows of so many columns.

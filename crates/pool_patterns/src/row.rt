@@ -51,7 +51,7 @@ fn cell_at<P: Relation>(
         cell (P.relation grid.now.table.now.pattern grid.now.table.now.width) grid.now.table.now.width grid.now.iterations
         (grid.now.table.now.steps - 1) column }
 {
-    let task = TaskId((grid.table().steps() - 1) * grid.table().width() + column);
+    let task = grid.last(column);
     match value_at(results, places, task) {
         Some(value) => match number_of(value) {
             Ok(number) => number,

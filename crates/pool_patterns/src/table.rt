@@ -1,4 +1,4 @@
-ghost use Rattle.std.specs.Prelude.{◌≡◌, ◌≤◌, ◌<◌, ◌*◌, ◌/◌, ◌%◌, ◌^◌, suc, MatchResult};
+ghost use Rattle.std.specs.Prelude.{◌≡◌, ◌≤◌, ◌<◌, ◌*◌, ◌/◌, ◌%◌, ◌^◌, suc, IfErr, IfOk};
 ghost use Rattle.pool_patterns.specs.Faults.{IsTableFault};
 ghost use Rattle.pool_patterns.specs.Tables.{IsOutput, IsSpot, IsTable};
 
@@ -27,15 +27,15 @@ impl<P: Relation> Table<P> {
     /// task has more than 16, with `TooManyEvents` where the tasks take more than 1,048,576 events at one node, and with
     /// `NoMemory` where memory is refused first. It takes O(width * width) for each row up to where the relation comes again
     /// ([`Relation::period`]), and memory for each task and for each feed of those rows.
+    #[tactic(auto, using(crate::proofs::Events::too_many, crate::proofs::Events::too_many_columns, crate::proofs::Events::too_many_rows))]
     pub fn new(alloc: Global, pattern: P, width: u32, steps: u32) -> Result<Self, TableFault>
-        ensures { MatchResult result
-            (λ table. (table.pattern ≡ pattern) × (table.width ≡ width) × (table.steps ≡ steps))
-            (IsTableFault (P.relation pattern width) width steps) }
+        ensures made { IfOk result (λ table. (table.pattern ≡ pattern) × (table.width ≡ width) × (table.steps ≡ steps)) }
+        ensures refused { IfErr result (IsTableFault (P.relation pattern width) width steps) }
     {
         if width == 0 || steps == 0 {
             return Err(TableFault::Empty);
         }
-        if width >= 1 << 20 || steps >= 1 << 20 || u64::from(width) * u64::from(steps) >= 1 << 20 {
+        if width >= 1 << 20 || steps >= 1 << 20 || u64::from(steps) * u64::from(width) >= 1 << 20 {
             return Err(TableFault::TooManyEvents);
         }
         let period = pattern.period(width, steps);
