@@ -1,8 +1,8 @@
 -- The outputs of rows, worked out column by column.
-use Rattle.std.proofs.Common.{◌≡◌, ◌≢◌, ◌<◌, ◌≤◌, ◌+◌, ◌-◌, ◌*◌, ◌/◌, ◌%◌, ℕ, zero, suc, Bool, true, false, List, [], ◌∷◌, ◌++◌, length, get_or, set, replicate, min, if◌then◌else◌, eqb, refl, ap, sym, ◌∙◌, subst, arith, ⊎_elim, append_assoc, length-append}
+use Rattle.std.proofs.Common.{◌≡◌, ◌≢◌, ◌<◌, ◌≤◌, ◌+◌, ◌-◌, ◌*◌, ◌/◌, ◌%◌, ℕ, zero, suc, Bool, true, false, List, [], ◌∷◌, ◌++◌, length, get_or, set, min, if◌then◌else◌, eqb, refl, ap, sym, ◌∙◌, subst, arith, ⊎_elim, append_assoc, length-append}
 use Rattle.std.proofs.lemmas.Bool.{cases_lt, cases_eq, eqb-true, eqb-false}
 use Rattle.std.proofs.lemmas.Bool.Decides.{nat_tests}
-use Rattle.std.proofs.lemmas.List.{get_or-append-add, get_or-append_right, get_or-set_other, get_or-set_same, get_or_append_left, get_or_at, get_or-replicate, length-replicate, length-set}
+use Rattle.std.proofs.lemmas.List.{get_or-append-add, get_or-append_right, get_or-set_other, get_or-set_same, get_or_append_left, get_or_at, length-set}
 use Rattle.std.proofs.Math.Nat.{mod-le, div-add-mod}
 use Rattle.std.proofs.lemmas.Nat.{div-add-mod', div-mul-add, mod-mul-add, mul-add-lt, mod_below, mul-le, div_below}
 use Rattle.pool_patterns.specs.Grids.{Relation, ComesAgain, IsNarrow, inputs, outputs, output}
@@ -21,16 +21,6 @@ kind_within q period steps w c some h b =
     omega (arith, mul-add-lt (q % period) w c (min period (steps - 1)) low b)
 
 -- what was seen of the columns below one, of column j as well
-pub seen_first : (r : Relation) (w t : ℕ) (seen : List ℕ) → seen ≡ replicate w 0 → AreSeen r w t 0 0 seen
-seen_first r w t seen is =
-    let none : (i : ℕ) → i < w → get_or seen i 0 ≡ 0 = λ i b. ap (λ l. get_or l i 0) is ∙ get_or-replicate {A = ℕ} w i 0 0 b in
-    record {
-      long = ap length is ∙ length-replicate {A = ℕ} w 0;
-      done = λ i h b. absurd (omega arith);
-      left = λ i h b. none i b;
-      few = λ i b. omega (arith, none i b);
-    }
-
 pub seen_next : (r : Relation) (w t j n : ℕ) (seen : List ℕ) → w ≤ n → AreSeen r w t j n seen → AreSeen r w t (j + 1) 0 seen
 seen_next r w t j n seen all h =
     let s : j + 1 ≡ suc j = omega arith in

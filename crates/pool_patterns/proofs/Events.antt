@@ -4,7 +4,7 @@ use Rattle.std.proofs.lemmas.Bool.Decides.{nat_tests}
 use Rattle.std.proofs.lemmas.Nat.{mul-le, div_below, mod_below}
 use Rattle.pool_patterns.specs.Faults.{IsTableFault, IsWide, events_below, grid_events, task_events}
 use Rattle.pool_patterns.specs.Grids.{Relation, IsNarrow, inputs}
-use Rattle.pool_patterns.specs.Kinds.{AreKinds, IsRowFault}
+use Rattle.pool_patterns.specs.Kinds.{IsRowFault, IsRowsFault}
 use Rattle.pool_patterns.specs.Ranks.{rank}
 use Rattle.pool_patterns.specs.declared.fault.TableFault.{TableFault}
 use Rattle.pool_patterns.specs.declared.fault.TableFault.TheVariants.{Empty, TooManyInputs, TooManyEvents, NoMemory}
@@ -32,16 +32,23 @@ events_more r w n before now count e is sum =
     let s : n + 1 ≡ suc n = omega arith in
     sum ∙ ap (λ x. x + task_events count) e ∙ ap (λ x. events_below r w n + task_events x) is ∙ ap (events_below r w) (sym s)
 
--- a row that has too many inputs is one of the grid
-pub row_fault : (r : Relation) (w row rows : ℕ) (fault : TableFault) → row < rows → IsRowFault r w (row + 1) fault → IsTableFault r w (rows + 1) fault
+-- a row that has too many inputs is one of so many
+pub row_fault : (r : Relation) (w row rows : ℕ) (fault : TableFault) → row < rows → IsRowFault r w (row + 1) fault → IsRowsFault r w (rows + 1) fault
 row_fault r w row rows Empty h why = absurd why
 row_fault r w row rows TooManyInputs h why =
     let s : row + 1 ≡ suc row = omega arith in
     record {
       row = suc row;
       column = why.0;
-      known = (omega arith, why.1);
-      many = subst (λ x. 16 < rank (λ j. r x j why.0) w) s why.2;
+      known = (omega (arith, h), why.1.0);
+      many = subst (λ x. 16 < rank (λ j. r x j why.0) w) s why.1.1;
     }
 row_fault r w row rows TooManyEvents h why = absurd why
 row_fault r w row rows NoMemory h why = why
+
+-- one of these rows is one of the grid
+pub rows_fault : (r : Relation) (w rows steps : ℕ) (fault : TableFault) → rows ≤ steps → IsRowsFault r w rows fault → IsTableFault r w steps fault
+rows_fault r w rows steps Empty h why = absurd why
+rows_fault r w rows steps TooManyInputs h why = record { row = why.row; column = why.column; known = (omega (arith, why.known.0, h), why.known.1); many = why.many }
+rows_fault r w rows steps TooManyEvents h why = absurd why
+rows_fault r w rows steps NoMemory h why = why

@@ -1,6 +1,7 @@
 -- The outputs of rows, worked out column by column.
 use Rattle.std.specs.Prelude.{◌≡◌, ◌<◌, ◌≤◌, ◌+◌, ◌-◌, ◌*◌, ◌/◌, ◌%◌, ℕ, zero, suc, Bool, List, [], ◌∷◌, ◌++◌, length, slice_index_or, if◌then◌else◌, min, ⊤}
 use Rattle.pool_patterns.specs.Grids.{Relation, ComesAgain}
+use Rattle.pool_patterns.specs.Faults.{IsWide}
 use Rattle.pool_patterns.specs.Ranks.{rank}
 use Rattle.pool_patterns.specs.Tables.{AreOutputs}
 use Rattle.pool_patterns.specs.declared.fault.TableFault.{TableFault}
@@ -40,6 +41,12 @@ abbrev pub IsRowFault : Relation → ℕ → ℕ → TableFault → Type 0
 IsRowFault r w t TooManyInputs = (i : ℕ) × (i < w) × (16 < rank (λ j. r t j i) w)
 IsRowFault r w t NoMemory = ⊤
 IsRowFault r w t _ = ⊥
+
+-- the same of several rows: one of them has a column with more than 16 inputs, or there was no memory
+abbrev pub IsRowsFault : Relation → ℕ → ℕ → TableFault → Type 0
+IsRowsFault r w steps TooManyInputs = IsWide r w steps
+IsRowsFault r w steps NoMemory = ⊤
+IsRowsFault r w steps _ = ⊥
 
 -- What was worked out of a grid's relation: the outputs and inputs of its rows up to where it comes again, or of all.
 pub record AreKinds (r : Relation) (w steps period : ℕ) (spans : List Span) (all : List Output) (arities : List ℕ) : Type 0 where

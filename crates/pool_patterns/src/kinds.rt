@@ -1,7 +1,6 @@
 ghost use Rattle.std.specs.Prelude.{◌≡◌, ◌≤◌, ◌<◌, ◌+◌, ◌-◌, ◌*◌, ◌++◌, ◌^◌, IfOk, IfErr};
-ghost use Rattle.pool_patterns.specs.Faults.{IsTableFault};
 ghost use Rattle.pool_patterns.specs.Grids.{AreSizes};
-ghost use Rattle.pool_patterns.specs.Kinds.{AreArities, AreSeen, AreSpans, IsRowFault, outputs_to};
+ghost use Rattle.pool_patterns.specs.Kinds.{AreArities, AreSeen, AreSpans, IsRowFault, IsRowsFault, outputs_to};
 ghost use Rattle.pool_patterns.specs.Ranks.{rank};
 
 use crate::fault::TableFault;
@@ -33,7 +32,7 @@ pub(crate) fn kinds_of<P: Relation>(
         AreSpans (P.relation pattern.now width) width (rows * width) kinds.spans.items kinds.outputs.items) }
     ensures arities { IfOk result (λ kinds.
         AreArities (P.relation pattern.now width) width (rows * width) kinds.arities.items) }
-    ensures refused { IfErr result (IsTableFault (P.relation pattern.now width) width (rows + 1)) }
+    ensures refused { IfErr result (IsRowsFault (P.relation pattern.now width) width (rows + 1)) }
 {
     let mut kinds = Kinds {
         spans: Vec::new(alloc),

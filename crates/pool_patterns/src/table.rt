@@ -27,7 +27,6 @@ impl<P: Relation> Table<P> {
     /// task has more than 16, with `TooManyEvents` where the tasks take more than 1,048,576 events at one node, and with
     /// `NoMemory` where memory is refused first. It takes O(width * width) for each row up to where the relation comes again
     /// ([`Relation::period`]), and memory for each task and for each feed of those rows.
-    #[tactic(auto, using(crate::proofs::Events::too_many, crate::proofs::Events::too_many_columns, crate::proofs::Events::too_many_rows))]
     pub fn new(alloc: Global, pattern: P, width: u32, steps: u32) -> Result<Self, TableFault>
         ensures made { IfOk result (λ table. (table.pattern ≡ pattern) × (table.width ≡ width) × (table.steps ≡ steps)) }
         ensures refused { IfErr result (IsTableFault (P.relation pattern width) width steps) }

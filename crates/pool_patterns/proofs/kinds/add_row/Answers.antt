@@ -1,17 +1,8 @@
 use Rattle.std.proofs.Common.{◌≡◌, ◌+◌, ◌*◌, ◌++◌, ◌∙◌, ap, refl, subst, arith, rules}
-use Rattle.pool_patterns.proofs.Counted.{arities_more, seen_first, spans_more}
+use Rattle.pool_patterns.proofs.Counted.{arities_more, spans_more}
 use Rattle.pool_patterns.specs.Grids.{Relation}
-use Rattle.pool_patterns.specs.Kinds.{AreSeen, AreSpans}
+use Rattle.pool_patterns.specs.Kinds.{AreSeen}
 use Rattle.pool_patterns.proofs.kinds.add_row.Goals as goal
-
-pub loop-from-init : goal.loop-from-init
-loop-from-init g c =
-    let r : Relation = g.P.Relation.relation c.args.pattern.now c.args.width in
-    record {
-      spans = search rules;
-      seen = seen_first r c.args.width (c.args.rows + 1) c.in_ok-seen.seen.items (search rules);
-      arities = refl;
-    }
 
 pub loop-from-preserved : goal.loop-from-preserved
 loop-from-preserved g c =
@@ -24,13 +15,6 @@ loop-from-preserved g c =
       seen = made.seen;
       arities = before.arities;
     }
-
-pub returns-clause-spans : goal.returns-clause-spans
-returns-clause-spans g c =
-    let r : Relation = g.P.Relation.relation c.args.pattern.now c.args.width in
-    let all : c.loop-from.from ≡ c.args.width = omega arith in
-    let whole : c.args.rows * c.args.width + c.loop-from.from ≡ (c.args.rows + 1) * c.args.width = omega (arith, all) in
-    subst (λ n. AreSpans r c.args.width n c.loop-from.kinds.spans.items c.loop-from.kinds.outputs.items) whole c.loop-from.invariant.spans
 
 pub returns-clause-arities : goal.returns-clause-arities
 returns-clause-arities g c =

@@ -18,8 +18,8 @@ unreachable-requires g c =
     let bad : None ≡ Some (cell r t.width k (t.steps - 1) c.args.column) = sym c.in-Err.ensures.1 ∙ there in
     absurd (cc)
 
-pub unreachable-requires-2 : goal.unreachable-requires-2
-unreachable-requires-2 g c =
+pub unreachable-requires-in-None : goal.unreachable-requires-in-None
+unreachable-requires-in-None g c =
     let t = c.args.grid.now.table.now in
     let lower : t.steps - 1 < t.steps = omega (arith, t.in_rules.some_steps) in
     let known : c.last-task.result.0 < t.steps * t.width = omega (arith, c.last-task.ensures, mul-add-lt (t.steps - 1) t.width c.args.column t.steps lower c.requires.within) in
