@@ -1,5 +1,5 @@
 ghost use Rattle.std.specs.Prelude.{◌≡◌, ◌-◌, IfOk, IfErr};
-ghost use Rattle.pattern_runs.specs.Faults.{IsPatternFault};
+ghost use Rattle.pool_pattern_runs.specs.Faults.{IsPatternFault};
 ghost use Rattle.pool_patterns.specs.Kernels.{kernel_graph};
 ghost use Rattle.pool_patterns.specs.Rows.{row_at};
 ghost use Rattle.tp_work.specs.Outcomes.{IsOutcome, IsWithinLimits};

@@ -3,8 +3,8 @@ use Rattle.std.specs.Prelude.{ℕ}
 use Rattle.tp_base.specs.declared.refusal.Refusal.{Refusal}
 use Rattle.tp_base.specs.declared.refusal.Refusal.TheVariants.{NoMemory}
 use Rattle.tp_graph.specs.Graphs.{TaskGraph}
-use Rattle.pattern_runs.specs.declared.fault.PatternFault.{PatternFault}
-use Rattle.pattern_runs.specs.declared.fault.PatternFault.TheVariants.{Run, Unmade}
+use Rattle.pool_pattern_runs.specs.declared.fault.PatternFault.{PatternFault}
+use Rattle.pool_pattern_runs.specs.declared.fault.PatternFault.TheVariants.{Run, Unmade}
 use Rattle.tp_work.specs.Outcomes.{IsFault, IsOutcome}
 
 -- the refusal that a fault is told as: that of the pool's own fault is its own

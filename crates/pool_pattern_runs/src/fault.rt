@@ -1,5 +1,5 @@
 ghost use Rattle.std.specs.Prelude.{◌≡◌};
-ghost use Rattle.pattern_runs.specs.Faults.{refusal_of};
+ghost use Rattle.pool_pattern_runs.specs.Faults.{refusal_of};
 
 use tp_base::Refusal;
 use tp_work::{Fault, Outcome};
