@@ -38,34 +38,35 @@ seen_same r w t j n seen b fails h = record {
       ⊎_elim
       (λ (lower : i < n). h.done i lower c)
       (λ (not : n ≤ i).
-      let same : n ≡ i = omega arith in
+      let same : n ≡ i = omega (arith, not, e) in
       h.left i not c ∙ sym (rank_same_suc (λ x. r t x i) j (ap (r t j) (sym same) ∙ fails)))
       (cases_lt i n);
-  left = λ i e c. h.left i (omega arith) c;
+  left = λ i e c. let past : n ≤ i = omega (arith, e) in h.left i past c;
   few = h.few;
 }
 
 pub seen_more : (r : Relation) (w t j n slot : ℕ) (seen next : List ℕ) → n < w → r t j n ≡ true → slot ≡ get_or seen n 0 → slot < 16 → next ≡ set seen n (slot + 1) →
     AreSeen r w t j n seen → AreSeen r w t j (n + 1) next
 seen_more r w t j n slot seen next b yes read few is h =
-    let known : n < length seen = omega (arith, h.long) in
+    let known : n < length seen = omega (arith, h.long, b) in
+    let least : n ≤ n = omega arith in
     let here : get_or next n 0 ≡ slot + 1 = ap (λ l. get_or l n 0) is ∙ get_or-set_same seen n (slot + 1) 0 known in
-    let others : (i : ℕ) → i ≢ n → get_or next i 0 ≡ get_or seen i 0 = λ i e. ap (λ l. get_or l i 0) is ∙ get_or-set_other seen n i (slot + 1) 0 e in
+    let others : (i : ℕ) → (i ≡ n → ⊥) → get_or next i 0 ≡ get_or seen i 0 = λ i e. ap (λ l. get_or l i 0) is ∙ get_or-set_other seen n i (slot + 1) 0 e in
+    let before : slot ≡ rank (λ x. r t x n) j = read ∙ h.left n least b in
+    let more : slot + 1 ≡ suc (rank (λ x. r t x n) j) = omega (arith, before) in
+    let one : get_or next n 0 ≡ rank (λ x. r t x n) (suc j) = here ∙ more ∙ sym (rank_more_suc (λ x. r t x n) j yes) in
     record {
       long = ap length is ∙ length-set seen n (slot + 1) ∙ h.long;
       done = λ i e c.
           ⊎_elim
-          (λ (lower : i < n). others i (omega arith) ∙ h.done i lower c)
-          (λ (not : n ≤ i).
-          let same : n ≡ i = omega arith in
-          let one : slot + 1 ≡ rank (λ x. r t x n) (suc j) = omega (arith, read, h.left n (omega arith) b, rank_more_suc (λ x. r t x n) j yes) in
-          subst (λ x. get_or next x 0 ≡ rank (λ c. r t c x) (suc j)) same (here ∙ one))
+          (λ (lower : i < n). others i (λ same. absurd (omega (arith, lower, same))) ∙ h.done i lower c)
+          (λ (not : n ≤ i). let same : n ≡ i = omega (arith, not, e) in subst (λ x. get_or next x 0 ≡ rank (λ c. r t c x) (suc j)) same one)
           (cases_lt i n);
-      left = λ i e c. others i (omega arith) ∙ h.left i (omega arith) c;
+      left = λ i e c. let past : n ≤ i = omega (arith, e) in others i (λ same. absurd (omega (arith, e, same))) ∙ h.left i past c;
       few = λ i c.
           ⊎_elim
-          (λ (same : i ≡ n). rw same (omega (arith, here)))
-          (λ (other : i ≢ n). omega (arith, others i other, h.few i c))
+          (λ (same : i ≡ n). subst (λ x. get_or next x 0 ≤ 16) (sym same) (omega (arith, here, few)))
+          (λ (other : i ≡ n → ⊥). subst (λ x. x ≤ 16) (sym (others i other)) (h.few i c))
           (cases_eq i n);
     }
 
@@ -73,7 +74,12 @@ seen_more r w t j n slot seen next b yes read few is h =
 pub seen_wide : (r : Relation) (w t j n slot : ℕ) (seen : List ℕ) → j < w → n < w → r t j n ≡ true → slot ≡ get_or seen n 0 → 16 ≤ slot → AreSeen r w t j n seen →
     (i : ℕ) × (i < w) × (16 < rank (λ c. r t c i) w)
 seen_wide r w t j n slot seen a b yes read many h =
-    (n, b, omega (arith, read, h.left n (omega arith) b, rank_more_suc (λ c. r t c n) j yes, rank_grows (λ c. r t c n) w (suc j) (omega arith)))
+    let least : n ≤ n = omega arith in
+    let above : suc j ≤ w = omega (arith, a) in
+    let before : slot ≡ rank (λ c. r t c n) j = read ∙ h.left n least b in
+    let grows : suc (rank (λ c. r t c n) j) ≤ rank (λ c. r t c n) w =
+    subst (λ x. x ≤ rank (λ c. r t c n) w) (rank_more_suc (λ c. r t c n) j yes) (rank_grows (λ c. r t c n) w (suc j) above) in
+    (n, (b, omega (arith, before, many, grows)))
 
 -- one column more of those that a column feeds, or one that it does not feed
 pub outputs_more : (r : Relation) (t j n slot : ℕ) (old now next : List Output) → r t j n ≡ true → slot ≡ rank (λ c. r t c n) j → now ≡ old ++ outputs_to r t j n →
