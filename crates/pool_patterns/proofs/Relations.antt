@@ -2,9 +2,9 @@
 use Rattle.std.proofs.Common.{◌≡◌, ◌<◌, ◌≤◌, ◌+◌, ◌-◌, ◌*◌, ◌/◌, ◌%◌, ◌^◌, ℕ, zero, suc, Bool, true, false, min, max, if◌then◌else◌, refl, ap, sym, ◌∙◌, subst, arith, ⊎_elim}
 use Rattle.std.specs.Prelude.{◌==◌, ◌||◌, ◌&&◌, nat_le}
 use Rattle.std.specs.Int.{abs_diff}
-use Rattle.std.proofs.Math.Nat.{add-mod_right}
+use Rattle.std.proofs.Math.Nat.{add-mod_right, pow-suc}
 use Rattle.std.proofs.lemmas.Bool.{cases_eq, cases_lt, le-leb, lt-leb}
-use Rattle.std.proofs.lemmas.Nat.{pow-add, pow_below}
+use Rattle.std.proofs.lemmas.Nat.{pow_below}
 use Rattle.pool_patterns.specs.Grids.{ComesAgain}
 use Rattle.pool_patterns.specs.Ranks.{rank}
 use Rattle.pool_patterns.specs.Relations.{doublings, fifth, period_of, relates}
@@ -16,7 +16,11 @@ power_le : (i j : ℕ) → i ≤ j → 2 ^ i ≤ 2 ^ j
 power_le i j h = ⊎_elim (λ (e : i ≡ j). subst (λ x. 2 ^ i ≤ 2 ^ x) e (omega arith)) (λ (d : i ≡ j → ⊥). let less : i < j = omega (arith, h, d) in let lt = pow_below i j less in omega (arith, lt)) (cases_eq i j)
 
 double : (k : ℕ) → 2 ^ (k + 1) ≡ 2 * 2 ^ k
-double k = let one : 2 ^ 1 ≡ 2 = refl in pow-add 2 k 1 ∙ omega (arith, one)
+double k = let s : k + 1 ≡ suc k = omega arith in ap (λ x. 2 ^ x) s ∙ pow-suc 2 k ∙ omega arith
+
+below_power : (k : ℕ) → k < 2 ^ k
+below_power zero = omega arith
+below_power (suc k) = let before = below_power k in omega (arith, before, pow-suc 2 k)
 
 zero_min : (k : ℕ) → min 0 k ≡ 0
 zero_min k = omega arith
@@ -48,7 +52,8 @@ pub doublings_are : (w k m : ℕ) → w < 2 ^ 20 → 2 ^ k ≤ w → w < 2 * 2 ^
 doublings_are w k m few low high is =
     let under : k < 20 =
     ⊎_elim (λ (h : k < 20). h) (λ (h : 20 ≤ k). let le : 2 ^ 20 ≤ 2 ^ k = power_le 20 k h in absurd (omega (arith, le, low, few))) (cases_lt k 20) in
-    let same : rank (λ i. nat_le (2 ^ (i + 1)) w) 20 ≡ k = powers_below w k 20 low high ∙ most 20 k (omega (arith, under)) in
+    let within : k ≤ w = omega (arith, below_power k, low) in
+    let same : rank (λ i. nat_le (2 ^ (i + 1)) w) w ≡ k = powers_below w k w low high ∙ most w k within in
     (is ∙ ap (λ x. max x 1) (sym same), omega (arith, is, under))
 
 -- a row later by the width

@@ -6,9 +6,9 @@ use Rattle.pool_patterns.specs.Ranks.{rank}
 use Rattle.pool_patterns.specs.declared.pattern.Pattern.{Pattern}
 use Rattle.pool_patterns.specs.declared.pattern.Pattern.TheVariants.{Trivial, NoComm, Stencil, StencilPeriodic, Dom, Tree, Fft, AllToAll, Nearest, Spread, RandomNearest}
 
--- how many of 2, 4, 8 and so on up to 2 ^ 20 are at most w, but 1 at least
+-- how many of 2, 4, 8 and so on are at most w, but 1 at least
 abbrev pub doublings : ℕ → ℕ
-doublings w = max (rank (λ k. nat_le (2 ^ (k + 1)) w) 20) 1
+doublings w = max (rank (λ k. nat_le (2 ^ (k + 1)) w) w) 1
 
 -- the column k fifths of a row to the right of i, moved by one column from row to row
 abbrev pub fifth : ℕ → ℕ → ℕ → ℕ → ℕ → ℕ
