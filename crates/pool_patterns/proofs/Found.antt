@@ -1,12 +1,11 @@
 -- The values of the last row, among results in any order.
-use Rattle.std.proofs.Common.{◌≡◌, ◌≢◌, ◌<◌, ◌≤◌, ◌+◌, ◌-◌, ◌*◌, ◌%◌, ℕ, suc, zero, ℤ, List, [], ◌∷◌, length, get_or, take, map, cond, refl, sym, ap, ◌∙◌, arith}
+use Rattle.std.proofs.Common.{◌≡◌, ◌≢◌, ◌<◌, ◌≤◌, ◌+◌, ℕ, suc, List, [], ◌∷◌, ◌++◌, map, cond, refl, sym, ap, ◌∙◌, arith}
 use Rattle.std.specs.Prelude.{◌==◌}
-use Rattle.std.specs.List.{All, count_by, range_with_len, sum}
-use Rattle.std.proofs.Math.Nat.{add-mod-mod, mod-add-mod}
-use Rattle.std.proofs.lemmas.Bool.{ne_eqb, lt-ltb}
+use Rattle.std.specs.List.{All, count_by, range_with_len}
+use Rattle.std.proofs.lemmas.Bool.{ne_eqb}
 use Rattle.std.proofs.lemmas.Bool.Decides.{nat_tests}
 use Rattle.std.proofs.lemmas.List.FromFn.{map-range_with_len_more}
-use Rattle.std.proofs.lemmas.List.Sums.{sum_by-cons, sum_by_more}
+use Rattle.std.proofs.lemmas.List.Sums.{sum_by-cons}
 use Rattle.tp_graph.specs.Found.{HasOneOfEach}
 use Rattle.tp_graph.specs.Serial.{Results}
 
@@ -26,11 +25,3 @@ has_one tasks t results once h none =
 -- one column more
 pub row_more : (v : ℕ → ℕ) (n next : ℕ) (row : List ℕ) → row ≡ map v (range_with_len 0 n) → next ≡ v n → row ++ next ∷ [] ≡ map v (range_with_len 0 (n + 1))
 row_more v n next row is here = ap (λ l. l ++ next ∷ []) is ∙ ap (λ x. map v (range_with_len 0 n) ++ x ∷ []) here ∙ sym (map-range_with_len_more v 0 n n (omega arith))
-
--- one number more of a sum mod 2 ^ 31
-pub sum_more : (row : List ℕ) (i total number more d : ℕ) → i < length row → total ≡ sum (take i row) % 2147483648 → number ≡ get_or row i d → more ≡ (total + number % 2147483648) % 2147483648 →
-    more ≡ sum (take (i + 1) row) % 2147483648
-sum_more row i total number more d b same read is =
-    let whole = sum_by_more (λ x. x) row i d b in
-    is ∙ add-mod-mod total number 2147483648 ∙ ap (λ x. (x + number) % 2147483648) same ∙ mod-add-mod (sum (take i row)) 2147483648 number
-    ∙ ap (λ x. (sum (take i row) + x) % 2147483648) read ∙ ap (λ x. x % 2147483648) (sym whole)
