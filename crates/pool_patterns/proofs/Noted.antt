@@ -15,6 +15,15 @@ use Rattle.pool_patterns.specs.declared.spots.Spot.{Spot}
 use Rattle.pool_patterns.proofs.Counted.{kind_within, outputs_alike, same_kind}
 use Rattle.pool_patterns.proofs.More.{rank_alike}
 
+-- what was worked out of so many rows is what was worked out of the grid's relation
+pub kinds_are : (r : Relation) (w steps period rows : ℕ) (spans : List Span) (all : List Output) (arities : List ℕ) → rows ≡ min period (steps - 1) → AreSpans r w (rows * w) spans all →
+    AreArities r w (rows * w) arities → ComesAgain r w steps period → AreKinds r w steps period spans all arities
+kinds_are r w steps period rows spans all arities is outputs inputs again = record {
+  spans_are = subst (λ n. AreSpans r w (n * w) spans all) is outputs;
+  arities_are = subst (λ n. AreArities r w (n * w) arities) is inputs;
+  again = again;
+}
+
 module _ (r : Relation) (w steps period : ℕ) (spans : List Span) (all : List Output) (arities : List ℕ) (some : 1 ≤ period) (kinds : AreKinds r w steps period spans all arities) where
   -- the outputs that a column of a row has in the next row
   outputs_there : (q c : ℕ) (d : Span) → c < w → q + 1 < steps → AreOutputs r w (suc q) c all (get_or spans (q % period * w + c) d).start (get_or spans (q % period * w + c) d).count

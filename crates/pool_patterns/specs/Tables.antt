@@ -1,6 +1,6 @@
 -- What a table of a grid has of each task, so that it is looked up.
-use Rattle.std.specs.Prelude.{◌≡◌, ◌<◌, ◌≤◌, ◌+◌, ◌*◌, ◌/◌, ◌%◌, ◌^◌, ℕ, suc, List, length, slice_index_or}
-use Rattle.pool_patterns.specs.Grids.{Relation, IsNarrow, inputs, outputs, output, slot}
+use Rattle.std.specs.Prelude.{◌≡◌, ◌<◌, ◌≤◌, ◌+◌, ◌/◌, ◌%◌, ℕ, suc, List, length, slice_index_or}
+use Rattle.pool_patterns.specs.Grids.{Relation, inputs, outputs, output}
 use Rattle.pool_patterns.specs.Ranks.{rank}
 use Rattle.pool_patterns.specs.declared.spots.Output.{Output}
 use Rattle.pool_patterns.specs.declared.spots.Spot.{Spot}
@@ -28,13 +28,3 @@ pub record IsSpot (r : Relation) (w steps : ℕ) (all : List Output) (p : ℕ) (
 pub record AreSpots (r : Relation) (w steps n : ℕ) (spots : List Spot) (all : List Output) : Type 0 where
   pub long : length spots ≡ n
   pub each : (p : ℕ) (d : Spot) → p < n → IsSpot r w steps all p (slice_index_or spots p d)
-
--- a table of the grid: fewer than 1,048,576 tasks, none with more than 16 inputs, and a spot for each
-pub record IsTable (r : Relation) (w steps : ℕ) (spots : List Spot) (all : List Output) : Type 0 where
-  pub some_columns : 1 ≤ w
-  pub few_columns : w < 2 ^ 20
-  pub some_steps : 1 ≤ steps
-  pub few_steps : steps < 2 ^ 20
-  pub few_tasks : steps * w < 2 ^ 20
-  pub narrow : IsNarrow r w steps
-  pub spots_are : AreSpots r w steps (steps * w) spots all

@@ -49,7 +49,7 @@ impl<'a, P: Relation + Send + Sync> Graph for Grid<'a, P> {
 
     ghost lawful = { λ g.
         grid_lawful (P.relation g.table.now.pattern g.table.now.width) g.table.now.width g.table.now.steps
-        (kernel_rule g.table.now.width g.iterations) g.table.now.in_rules.some_columns g.table.now.in_rules.narrow };
+        (kernel_rule g.table.now.width g.iterations) g.table.now.some_columns g.table.now.narrow };
 
     fn tasks(&self) -> u32 {
         self.table.steps() * self.table.width()

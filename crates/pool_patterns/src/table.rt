@@ -1,6 +1,7 @@
 ghost use Rattle.std.specs.Prelude.{◌≡◌, ◌≤◌, ◌<◌, ◌*◌, ◌/◌, ◌%◌, ◌^◌, suc, IfErr, IfOk};
 ghost use Rattle.pool_patterns.specs.Faults.{IsTableFault};
-ghost use Rattle.pool_patterns.specs.Tables.{IsOutput, IsSpot, IsTable};
+ghost use Rattle.pool_patterns.specs.Grids.{IsNarrow};
+ghost use Rattle.pool_patterns.specs.Tables.{AreSpots, IsOutput, IsSpot};
 
 use crate::fault::TableFault;
 use crate::kinds::{Kinds, kinds_of};
@@ -19,7 +20,13 @@ pub struct Table<P: Relation> {
     steps: u32,
     spots: Vec<Spot>,
     outputs: Vec<Output>,
-    ghost in_rules: { IsTable (P.relation pattern width) width steps spots.items outputs.items },
+    ghost some_columns: { 1 ≤ width },
+    ghost few_columns: { width < 2 ^ 20 },
+    ghost some_steps: { 1 ≤ steps },
+    ghost few_steps: { steps < 2 ^ 20 },
+    ghost few_tasks: { steps * width < 2 ^ 20 },
+    ghost narrow: { IsNarrow (P.relation pattern width) width steps },
+    ghost noted: { AreSpots (P.relation pattern width) width steps (steps * width) spots.items outputs.items },
 }
 
 impl<P: Relation> Table<P> {

@@ -1,10 +1,10 @@
 use Rattle.std.proofs.Common.{◌≡◌, ◌<◌, ◌≤◌, ◌+◌, ◌*◌, ◌-◌, min, sym, subst, arith, rules}
 use Rattle.std.proofs.lemmas.Result.{err_from_is_err_and}
 use Rattle.pool_patterns.proofs.Events.{rows_fault, too_many, too_many_columns, too_many_rows}
-use Rattle.pool_patterns.proofs.Noted.{none_wide}
+use Rattle.pool_patterns.proofs.Noted.{kinds_are, none_wide}
 use Rattle.pool_patterns.specs.Faults.{IsTableFault}
 use Rattle.pool_patterns.specs.Grids.{Relation}
-use Rattle.pool_patterns.specs.Kinds.{AreArities, AreKinds, AreSpans, IsRowsFault}
+use Rattle.pool_patterns.specs.Kinds.{IsRowsFault}
 use Rattle.pool_patterns.proofs.table.Table.new.Goals as goal
 use Rattle.pool_patterns.proofs.table.Table.new.Goals.{then-width-via-then-width, then-width-via-else-width+then-steps, then-width-via-else-width+else-steps+then-from}
 
@@ -34,33 +34,28 @@ returns-in_err-spots-clause-refused g c =
     let r : Relation = g.P.Relation.relation c.args.pattern w in
     let rows : c.min.result ≡ min c.period-period.result (steps - 1) = search rules in
     let k = c.in_ok-kinds.kinds in
-    let kinds : AreKinds r w steps c.period-period.result k.spans.items k.outputs.items k.arities.items = record {
-      spans_are = subst (λ n. AreSpans r w (n * w) k.spans.items k.outputs.items) rows c.in_ok-kinds.ensures.spans;
-      arities_are = subst (λ n. AreArities r w (n * w) k.arities.items) rows c.in_ok-kinds.ensures.arities;
-      again = c.period-period.ensures.again;
-    } in
+    let kinds =
+    kinds_are r w steps c.period-period.result c.min.result k.spans.items k.outputs.items k.arities.items rows c.in_ok-kinds.ensures.spans c.in_ok-kinds.ensures.arities c.period-period.ensures.again in
     let passed = err_from_is_err_and c.from_residual-in_err-spots.result c.from_residual-in_err-spots.ensures.1 in
     let why = subst (IsTableFault r w steps) (sym passed.2) (c.in_err-spots.ensures.refused r kinds) in
     rw passed.1 why
 
-pub invariant_of-result : goal.invariant_of-result
-invariant_of-result g c =
+pub invariant_of-result-clause-narrow : goal.invariant_of-result-clause-narrow
+invariant_of-result-clause-narrow g c =
     let w = c.args.width in
     let steps = c.args.steps in
     let r : Relation = g.P.Relation.relation c.args.pattern w in
     let rows : c.min.result ≡ min c.period-period.result (steps - 1) = search rules in
     let k = c.in_ok-kinds.kinds in
-    let kinds : AreKinds r w steps c.period-period.result k.spans.items k.outputs.items k.arities.items = record {
-      spans_are = subst (λ n. AreSpans r w (n * w) k.spans.items k.outputs.items) rows c.in_ok-kinds.ensures.spans;
-      arities_are = subst (λ n. AreArities r w (n * w) k.arities.items) rows c.in_ok-kinds.ensures.arities;
-      again = c.period-period.ensures.again;
-    } in
-    record {
-      some_columns = search rules;
-      few_columns = search rules;
-      some_steps = search rules;
-      few_steps = search rules;
-      few_tasks = search rules;
-      narrow = none_wide r w steps c.period-period.result k.spans.items k.outputs.items k.arities.items c.period-period.ensures.some kinds;
-      spots_are = c.in_ok-spots.ensures.made r kinds;
-    }
+    none_wide r w steps c.period-period.result k.spans.items k.outputs.items k.arities.items c.period-period.ensures.some
+    (kinds_are r w steps c.period-period.result c.min.result k.spans.items k.outputs.items k.arities.items rows c.in_ok-kinds.ensures.spans c.in_ok-kinds.ensures.arities c.period-period.ensures.again)
+
+pub invariant_of-result-clause-noted : goal.invariant_of-result-clause-noted
+invariant_of-result-clause-noted g c =
+    let w = c.args.width in
+    let steps = c.args.steps in
+    let r : Relation = g.P.Relation.relation c.args.pattern w in
+    let rows : c.min.result ≡ min c.period-period.result (steps - 1) = search rules in
+    let k = c.in_ok-kinds.kinds in
+    c.in_ok-spots.ensures.made r
+    (kinds_are r w steps c.period-period.result c.min.result k.spans.items k.outputs.items k.arities.items rows c.in_ok-kinds.ensures.spans c.in_ok-kinds.ensures.arities c.period-period.ensures.again)
