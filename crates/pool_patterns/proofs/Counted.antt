@@ -47,14 +47,14 @@ seen_same r w t j n seen b fails h = record {
 
 pub seen_more : (r : Relation) (w t j n slot : ℕ) (seen next : List ℕ) → n < w → r t j n ≡ true → slot ≡ get_or seen n 0 → slot < 16 → next ≡ set seen n (slot + 1) →
     AreSeen r w t j n seen → AreSeen r w t j (n + 1) next
-seen_more r w t j n slot seen next b yes read few is h =
+seen_more r w t j n slot seen next b fed read few is h =
     let known : n < length seen = omega (arith, h.long, b) in
     let least : n ≤ n = omega arith in
     let here : get_or next n 0 ≡ slot + 1 = ap (λ l. get_or l n 0) is ∙ get_or-set_same seen n (slot + 1) 0 known in
     let others : (i : ℕ) → (i ≡ n → ⊥) → get_or next i 0 ≡ get_or seen i 0 = λ i e. ap (λ l. get_or l i 0) is ∙ get_or-set_other seen n i (slot + 1) 0 e in
     let before : slot ≡ rank (λ x. r t x n) j = read ∙ h.left n least b in
     let more : slot + 1 ≡ suc (rank (λ x. r t x n) j) = omega (arith, before) in
-    let one : get_or next n 0 ≡ rank (λ x. r t x n) (suc j) = here ∙ more ∙ sym (rank_more_suc (λ x. r t x n) j yes) in
+    let one : get_or next n 0 ≡ rank (λ x. r t x n) (suc j) = here ∙ more ∙ sym (rank_more_suc (λ x. r t x n) j fed) in
     record {
       long = ap length is ∙ length-set seen n (slot + 1) ∙ h.long;
       done = λ i e c.
@@ -73,23 +73,23 @@ seen_more r w t j n slot seen next b yes read few is h =
 -- a column that has 16 inputs and is fed once more has too many
 pub seen_wide : (r : Relation) (w t j n slot : ℕ) (seen : List ℕ) → j < w → n < w → r t j n ≡ true → slot ≡ get_or seen n 0 → 16 ≤ slot → AreSeen r w t j n seen →
     (i : ℕ) × (i < w) × (16 < rank (λ c. r t c i) w)
-seen_wide r w t j n slot seen a b yes read many h =
+seen_wide r w t j n slot seen a b fed read many h =
     let least : n ≤ n = omega arith in
     let above : suc j ≤ w = omega (arith, a) in
     let before : slot ≡ rank (λ c. r t c n) j = read ∙ h.left n least b in
     let grows : suc (rank (λ c. r t c n) j) ≤ rank (λ c. r t c n) w =
-    subst (λ x. x ≤ rank (λ c. r t c n) w) (rank_more_suc (λ c. r t c n) j yes) (rank_grows (λ c. r t c n) w (suc j) above) in
-    (n, (b, omega (arith, before, many, grows)))
+    subst (λ x. x ≤ rank (λ c. r t c n) w) (rank_more_suc (λ c. r t c n) j fed) (rank_grows (λ c. r t c n) w (suc j) above) in
+    (n, b, omega (arith, before, many, grows))
 
 -- one column more of those that a column feeds, or one that it does not feed
 pub outputs_more : (r : Relation) (t j n slot : ℕ) (old now next : List Output) → r t j n ≡ true → slot ≡ rank (λ c. r t c n) j → now ≡ old ++ outputs_to r t j n →
     next ≡ now ++ record { column = n; slot = slot } ∷ [] → next ≡ old ++ outputs_to r t j (n + 1)
-outputs_more r t j n slot old now next yes counted e is =
+outputs_more r t j n slot old now next fed counted e is =
     let v : ℕ → Output = λ i. record { column = i; slot = rank (λ c. r t c i) j } in
     let one : Output = record { column = n; slot = slot } in
     let same : one ≡ v n = ap (λ x. record { column = n; slot = x }) counted in
     is ∙ ap (λ l. l ++ one ∷ []) e ∙ append_assoc old (outputs_to r t j n) (one ∷ []) ∙ ap (λ o. old ++ (outputs_to r t j n ++ o ∷ [])) same
-    ∙ ap (λ l. old ++ l) (sym (picked_more (λ i. r t j i) v n yes))
+    ∙ ap (λ l. old ++ l) (sym (picked_more (λ i. r t j i) v n fed))
 
 pub outputs_same : (r : Relation) (t j n : ℕ) (old now : List Output) → r t j n ≡ false → now ≡ old ++ outputs_to r t j n → now ≡ old ++ outputs_to r t j (n + 1)
 outputs_same r t j n old now fails e =

@@ -40,8 +40,8 @@ row_fault r w row rows TooManyInputs h why =
     record {
       row = suc row;
       column = why.0;
-      known = (omega (arith, h), why.1.0);
-      many = subst (λ x. 16 < rank (λ j. r x j why.0) w) s why.1.1;
+      known = (omega (arith, h), why.1);
+      many = subst (λ x. 16 < rank (λ j. r x j why.0) w) s why.2;
     }
 row_fault r w row rows TooManyEvents h why = absurd why
 row_fault r w row rows NoMemory h why = why

@@ -1,4 +1,4 @@
-ghost use Rattle.std.specs.Prelude.{◌≡◌};
+ghost use Rattle.std.specs.Prelude.{◌≡◌, ◌<◌, ◌+◌, ◌-◌, ◌*◌};
 ghost use Rattle.pool_patterns.specs.GridLaws.{grid_lawful};
 ghost use Rattle.pool_patterns.specs.Kernels.{kernel_graph, kernel_rule};
 

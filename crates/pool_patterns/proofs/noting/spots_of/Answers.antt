@@ -12,7 +12,7 @@ loop-task-preserved c =
     record {
       made = λ r kinds. spots_more r c.args.width c.args.steps c.loop-task.task c.loop-task.spots.items _ c.args.kinds.now.outputs.items spot (before.made r kinds) (c.spot_of-spot.ensures r kinds) c.push_reserved.ensures.items;
       counted = λ r kinds. events_more r c.args.width c.loop-task.task c.loop-task.events _ spot.arity (before.counted r kinds) (c.spot_of-spot.ensures r kinds).arity (search rules);
-      few = omega (arith, before.few, c.task_events.ensures.few);
+      few = omega (arith, before.few, c.task_events-events.ensures.few);
       long = omega (arith, before.long, c.push_reserved.ensures.len);
       room = omega (arith, before.room, c.push_reserved.ensures.capacity);
     }

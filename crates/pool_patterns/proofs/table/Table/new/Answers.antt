@@ -11,7 +11,7 @@ use Rattle.pool_patterns.proofs.table.Table.new.Goals.{then-width-via-then-width
 pub returns-then-width-clause-refused : goal.returns-then-width-clause-refused
 returns-then-width-clause-refused g c =
     let r : Relation = g.P.Relation.relation c.args.pattern c.args.width in
-    elim c.if-width.branch [
+    elim c.then-width.branch [
       | then-width-via-then-width w ↦ too_many_columns r c.args.width c.args.steps (search rules) (search rules)
       | then-width-via-else-width+then-steps w ↦ too_many_rows r c.args.width c.args.steps (search rules) (search rules)
       | then-width-via-else-width+else-steps+then-from w ↦ too_many r c.args.width c.args.steps (search rules)
