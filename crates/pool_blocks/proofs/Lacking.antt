@@ -1,4 +1,4 @@
--- Which blocks of the last row have a result.
+-- Which blocks of the last step have a result.
 use Rattle.std.proofs.Common.{◌≡◌, ◌≢◌, ◌<◌, ◌≤◌, ◌+◌, ◌*◌, ℕ, ℤ, List, [], sym, ap, ◌∙◌, ⊎_elim, subst, arith}
 use Rattle.std.specs.List.{All, Contains}
 use Rattle.std.proofs.lemmas.Bool.{cases_lt}
@@ -7,7 +7,7 @@ use Rattle.tp_base.specs.declared.Refusal.{Refusal}
 use Rattle.tp_base.specs.declared.Refusal.TheVariants.{NoMemory}
 use Rattle.tp_graph.specs.Found.{ArePlaces}
 use Rattle.tp_graph.specs.Serial.{AreValues, Results}
-use Rattle.pool_rod.specs.Heats.{heat_graph, IsRodRefusal, LacksBlock}
+use Rattle.pool_blocks.specs.Stencils.{BlockStep, IsCellsRefusal, LacksBlock, block_graph}
 
 -- one block more has a result
 pub one_more_there : (blocks steps nr_blocks nr_steps b : ℕ) (results : Results) (value : List ℤ) → nr_blocks ≡ blocks → nr_steps ≡ steps →
@@ -36,14 +36,14 @@ lacking blocks steps nr_blocks nr_steps b results places shown n m h same kept m
     }
 
 -- the values of all tasks lack none
-pub all_there : (cells : List ℤ) (blocks size steps : ℕ) (results : Results) → AreValues (heat_graph cells blocks size steps) (heat_graph cells blocks size steps).tasks results → LacksBlock blocks steps results → ⊥
-unfolding heat_graph
-all_there cells blocks size steps results values lack =
+pub all_there : (next : BlockStep) (cells : List ℤ) (blocks size steps : ℕ) (results : Results) → AreValues (block_graph next cells blocks size steps) (block_graph next cells blocks size steps).tasks results → LacksBlock blocks steps results → ⊥
+unfolding block_graph
+all_there next cells blocks size steps results values lack =
     let t : ℕ = steps * blocks + lack.block in
     let known : t < (steps + 1) * blocks = omega (arith, lack.within) in
     let d : TaskId × List ℤ = (record { 0 = 0 }, []) in
     lack.none t d (omega (arith, values.long, known)) (values.rise t d known)
 
 -- where no block lacks a result, only memory can be refused
-pub only_memory : (blocks steps : ℕ) (results : Results) (refusal : Refusal) → (LacksBlock blocks steps results → ⊥) → IsRodRefusal blocks steps results refusal → refusal ≡ NoMemory
+pub only_memory : (blocks steps : ℕ) (results : Results) (refusal : Refusal) → (LacksBlock blocks steps results → ⊥) → IsCellsRefusal blocks steps results refusal → refusal ≡ NoMemory
 only_memory blocks steps results refusal whole why = ⊎_elim (λ e. e) (λ t. absurd (whole t.1)) why

@@ -1,0 +1,5 @@
+pub mod Lists
+pub mod Sums
+pub mod Blocks
+pub mod Lacking
+pub mod Valued
