@@ -17,7 +17,7 @@ plus-small (pos a) (negsuc b) = omega (arith, ints)
 plus-small (negsuc a) (pos b) = omega (arith, ints)
 plus-small (negsuc a) (negsuc b) = omega (arith, ints)
 
--- the two ways to say that a number has 64 bits
+-- a number of 64 bits, as the prover's own words have it
 pub fits-signed : (z : ℤ) → fits z ≡ true → FitsSigned w64 z
 fits-signed (pos n) h =
     let few : n < 2 ^ 63 = grind (arith, nat_tests) in
@@ -25,14 +25,6 @@ fits-signed (pos n) h =
 fits-signed (negsuc n) h =
     let few : n < 2 ^ 63 = grind (arith, nat_tests) in
     record { sfits = omega (arith, ints, few) }
-
-pub signed-fits : (z : ℤ) → FitsSigned w64 z → fits z ≡ true
-signed-fits (pos n) h =
-    let few : n < 2 ^ 63 = omega (arith, ints, h) in
-    grind (arith, nat_tests)
-signed-fits (negsuc n) h =
-    let few : n < 2 ^ 63 = omega (arith, ints, h) in
-    grind (arith, nat_tests)
 
 -- a sum in 128 bits, a multiple, and a number of 64 bits in 128, as a call is passed it
 pub sum-is : (r a b x y : ℤ) → FitsSigned w128 r → r ≡ a +ℤ b → a ≡ x → b ≡ y → to_z w128 (of_z w128 r) ≡ x +ℤ y

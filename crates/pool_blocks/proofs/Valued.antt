@@ -1,29 +1,15 @@
 -- Each task has a value: no cell leaves 64 bits.
 use Rattle.std.proofs.Common.{◌≡◌, ◌<◌, ◌≤◌, ◌+◌, ◌*◌, inl, inr, ℕ, zero, suc, ℤ, List, [], ◌∷◌, length, get_or, take, drop, Bool, true, false, if◌then◌else◌, nat_lt, Some, None, refl, ap, sym, ◌∙◌, arith}
-use Rattle.std.proofs.lemmas.Bool.{and_parts, and_from}
 use Rattle.tp_base.specs.declared.Refusal.{Refusal}
 use Rattle.tp_base.specs.declared.Refusal.TheVariants.{NoMemory}
 use Rattle.tp_graph.proofs.Valued.{value_made}
 use Rattle.tp_graph.specs.Blocks.{block_of}
 use Rattle.tp_graph.specs.Graphs.{TaskGraph}
 use Rattle.tp_graph.specs.Serial.{IsSerialRefusal}
-use Rattle.tp_graph.specs.Values.{all_fit, fits, fitting, value_of}
+use Rattle.tp_graph.specs.Values.{all_fit, fitting, value_of}
+use Rattle.pool_blocks.proofs.Fits.{drop-fits, one-list-fits, take-fits}
 use Rattle.pool_blocks.specs.StencilLaws.{block_lawful}
 use Rattle.pool_blocks.specs.Stencils.{BlockStep, KeepsFit, befores, block_graph, next_of}
-
-pub take_fit : (n : ℕ) (xs : List ℤ) → all_fit xs ≡ true → all_fit (take n xs) ≡ true
-take_fit zero xs h = refl
-take_fit (suc n) [] h = refl
-take_fit (suc n) (x ∷ xs) h = let both = and_parts (fits x) (all_fit xs) h in and_from (fits x) (all_fit (take n xs)) both.0 (take_fit n xs both.1)
-
-pub drop_fit : (n : ℕ) (xs : List ℤ) → all_fit xs ≡ true → all_fit (drop n xs) ≡ true
-drop_fit zero xs h = h
-drop_fit (suc n) [] h = refl
-drop_fit (suc n) (x ∷ xs) h = drop_fit n xs (and_parts (fits x) (all_fit xs) h).1
-
-one_fit : (b : Bool) (xs ys : List ℤ) → all_fit xs ≡ true → all_fit ys ≡ true → all_fit (if b then xs else ys) ≡ true
-one_fit true xs ys p q = p
-one_fit false xs ys p q = q
 
 fitting-all : (xs : List ℤ) → all_fit xs ≡ true → fitting xs ≡ Some xs
 fitting-all xs h = rw h refl
@@ -47,10 +33,10 @@ module _ (next : BlockStep) (cells : List ℤ) (blocks size steps : ℕ) (some :
   made_fit : (t : ℕ) (inputs : List (List ℤ)) → ((s : ℕ) → all_fit (get_or inputs s []) ≡ true) →
       all_fit (if nat_lt t blocks then block_of size t cells else next_of next (befores blocks t) inputs) ≡ true
   made_fit t inputs each =
-      one_fit (nat_lt t blocks) (block_of size t cells) (next_of next (befores blocks t) inputs)
-      (take_fit size (drop (t * size) cells) (drop_fit (t * size) cells fit))
+      one-list-fits (nat_lt t blocks) (block_of size t cells) (next_of next (befores blocks t) inputs)
+      (take-fits size (drop (t * size) cells) (drop-fits (t * size) cells fit))
       (keeps (if nat_lt 0 (befores blocks t) then get_or inputs 0 [] else []) (get_or inputs (befores blocks t) []) (get_or inputs (befores blocks t + 1) [])
-      (one_fit (nat_lt 0 (befores blocks t)) (get_or inputs 0 []) [] (each 0) refl) (each (befores blocks t)) (each (befores blocks t + 1)))
+      (one-list-fits (nat_lt 0 (befores blocks t)) (get_or inputs 0 []) [] (each 0) refl) (each (befores blocks t)) (each (befores blocks t + 1)))
 
   has_value : (n t : ℕ) → t < n → t < (steps + 1) * blocks → HasValue (block_graph next cells blocks size steps) t
   unfolding block_graph
