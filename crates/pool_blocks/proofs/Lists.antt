@@ -3,7 +3,6 @@ use Rattle.std.proofs.Common.{◌≡◌, ◌<◌, ◌≤◌, ◌+◌, ◌-◌, �
 use Rattle.std.proofs.Math.Seq.{take-nil}
 use Rattle.std.proofs.lemmas.Bool.Decides.{leb_tells}
 use Rattle.std.proofs.lemmas.List.{drop_all, get_or-take, get_or-drop}
-use Rattle.tp_graph.proofs.Rows.{mod_down}
 use Rattle.tp_graph.specs.Blocks.{block_of}
 use Rattle.pool_blocks.specs.Lists.{at, list_of}
 
@@ -35,13 +34,6 @@ lt-same a b c d to from =
     (λ (t : (nat_lt a b ≡ false) × (b ≤ a)).
     ⊎_elim (λ (u : (nat_lt c d ≡ true) × (c < d)). absurd (omega (arith, from u.1, t.1))) (λ (u : (nat_lt c d ≡ false) × (d ≤ c)). t.0 ∙ sym u.0) (lt-tells c d))
     (lt-tells a b)
-
--- whole rows further
-pub mod-shift : (q w e : ℕ) → 0 < w → (q * w + e) % w ≡ e % w
-mod-shift zero w e h = let z : zero * w + e ≡ e = omega arith in ap (λ n. n % w) z
-mod-shift (suc q) w e h =
-    let z : suc q * w + e ≡ (q * w + e) + w = omega arith in
-    ap (λ n. n % w) z ∙ mod_down w (q * w + e) h ∙ mod-shift q w e h
 
 -- how long a block is, its numbers, and that there is none where the list has ended
 pub block-long : (size b : ℕ) (xs : List ℤ) → length (block_of size b xs) ≡ min size (length xs - b * size)

@@ -3,7 +3,8 @@ use Rattle.std.proofs.Common.{◌≡◌, ◌<◌, ◌≤◌, ◌+◌, ◌-◌, �
 use Rattle.std.proofs.lemmas.List.{get_or_append_left, get_or-append_right, length-append}
 use Rattle.std.proofs.lemmas.Bool.{cases_lt, cases_Bool}
 use Rattle.std.proofs.lemmas.Bool.Decides.{nat_tests}
-use Rattle.pool_blocks.proofs.Lists.{lt-same, mod-shift}
+use Rattle.std.proofs.Math.Nat.{mul-add-mod_self_right}
+use Rattle.pool_blocks.proofs.Lists.{lt-same}
 use Rattle.pool_blocks.specs.Lists.{at}
 use Rattle.pool_grid.specs.Grids.{mixed, inner, cell_after}
 
@@ -86,7 +87,7 @@ module _ (w q : ℕ) (xs above own below : List ℤ) (some : 0 < w) (up : IsAbov
       ⊎_elim
       (λ (t : length above ≡ w).
       let one : length above + e ≡ 1 * w + e = omega (arith, t) in
-      ap (λ n. n % w) one ∙ mod-shift 1 w e some ∙ sym (mod-shift q w e some))
+      ap (λ n. n % w) one ∙ mul-add-mod_self_right 1 w e ∙ sym (mul-add-mod_self_right q w e))
       (λ (t : (length above ≡ 0) × (q * w ≡ 0)).
       let same : length above + e ≡ q * w + e = omega (arith, t.0, t.1) in
       ap (λ n. n % w) same)

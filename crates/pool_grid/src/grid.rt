@@ -1,4 +1,4 @@
-ghost use Rattle.std.specs.Prelude.{◌≡◌, ◌≤◌, ◌*◌, IfNone, IfSome, length};
+ghost use Rattle.std.specs.Prelude.{◌≡◌, ◌≤◌, ◌*◌, ◌^◌, ◌⊎◌, IfNone, IfSome, length};
 ghost use Rattle.pool_grid.specs.Grids.{IsGrid, IsNoGrid, are_whole_rows, block_relaxed, blocks_of, relaxed};
 ghost use Rattle.pool_grid.specs.GridLaws.{relaxed-by-blocks, relaxed-fit, relaxed-long};
 
@@ -12,19 +12,6 @@ use std::alloc::{AllocError, Global};
 pub struct FivePoints {
     width: u32,
     ghost some: { 1 ≤ width },
-}
-
-impl FivePoints {
-    /// The stencil over a grid in rows of so many cells. None where a row is of none.
-    pub fn new(width: u32) -> Option<Self>
-        ensures made { IfSome result (λ stencil. stencil.width ≡ width) }
-        ensures refused { IfNone result (width ≡ 0) }
-    {
-        if width == 0 {
-            return None;
-        }
-        Some(FivePoints { width })
-    }
 }
 
 impl Stencil for FivePoints {
@@ -52,6 +39,19 @@ impl Stencil for FivePoints {
 /// A grid of cells, row by row, worked on in blocks of rows: a task is a block after so many steps.
 pub type Grid<'a> = Steps<'a, FivePoints>;
 
+/// The stencil over a grid in rows of so many cells, and how many cells a block of so many rows has. None where a row is of none,
+/// or a block has 2^32 cells or more.
+pub fn block_of_rows(width: u32, rows: u32) -> Option<(FivePoints, u32)>
+    ensures made { IfSome result (λ made. (made.0.width ≡ width) × (made.1 ≡ rows * width)) }
+    ensures refused { IfNone result ((width ≡ 0) ⊎ (2 ^ 32 ≤ rows * width)) }
+{
+    let size = u64::from(rows) * u64::from(width);
+    if width == 0 || size >= 1 << 32 {
+        return None;
+    }
+    Some((FivePoints { width }, size as u32))
+}
+
 /// A grid of some cells, which are lent, in rows of so many and blocks of so many rows, that takes so many steps. None where
 /// there is no cell, a row or a block is of none, the last row is not whole, a block has 2^32 cells or more, or the tasks, one
 /// for each block after each step, would be 1,048,576 or more.
@@ -62,10 +62,6 @@ pub fn grid_in_blocks<'a>(cells: &'a [i64], width: u32, rows: u32, steps: u32) -
     ensures right { IfSome result (λ grid. IsGrid (length cells.now) width rows steps) }
     ensures refused { IfNone result (IsNoGrid (length cells.now) width rows steps) }
 {
-    let points = FivePoints::new(width)?;
-    let size = u64::from(rows) * u64::from(width);
-    if size >= 1 << 32 {
-        return None;
-    }
-    Steps::new(points, cells, size as u32, steps)
+    let (points, size) = block_of_rows(width, rows)?;
+    Steps::new(points, cells, size, steps)
 }
