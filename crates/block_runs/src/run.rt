@@ -4,7 +4,7 @@ ghost use Rattle.block_runs.specs.Faults.{IsLentFault};
 ghost use Rattle.tp_work.specs.Outcomes.{IsWithinLimits};
 
 use crate::fault::LentFault;
-use pool_blocks::{Steps, Stencil, cells_of};
+use pool_blocks::{Stencil, Steps, cells_of};
 use std::alloc::Global;
 use std::sync::Wait;
 use std::thread::Threads;

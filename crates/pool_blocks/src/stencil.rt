@@ -18,7 +18,13 @@ pub trait Stencil: Copy + Send + Sync {
 
     /// A block after a step, from the block before it, itself and the block behind it; a neighbour that is not there has no
     /// cells.
-    fn next(&self, alloc: Global, before: &[i64], own: &[i64], behind: &[i64]) -> Result<Vec<i64>, AllocError>
+    fn next(
+        &self,
+        alloc: Global,
+        before: &[i64],
+        own: &[i64],
+        behind: &[i64],
+    ) -> Result<Vec<i64>, AllocError>
         ensures { IfOk result (λ made. (made.items ≡ next self.now before.now own.now behind.now) × (all_fit made.items ≡ true)) };
 
     /// A step keeps the number of cells.

@@ -47,9 +47,9 @@ module _ (width rows : ℕ) (xs : List ℤ) (some_width : 1 ≤ width) (some_row
       record {
         long = omega (arith, row, start, row-small);
         places = λ k q.
-        let inside : length blk - width + k < length blk = omega (arith, whole, row-small, row, q) in
-        let place : c * (rows * width) + (length blk - width + k) ≡ b * rows * width - length (drop (length blk - width) blk) + k = omega (arith, row, start, whole, row-small) in
-        get_or-drop (length blk - width) blk k (pos 0) ∙ block-at (rows * width) c xs (length blk - width + k) inside ∙ ap (at xs) place;
+            let inside : length blk - width + k < length blk = omega (arith, whole, row-small, row, q) in
+            let place : c * (rows * width) + (length blk - width + k) ≡ b * rows * width - length (drop (length blk - width) blk) + k = omega (arith, row, start, whole, row-small) in
+            get_or-drop (length blk - width) blk k (pos 0) ∙ block-at (rows * width) c xs (length blk - width + k) inside ∙ ap (at xs) place;
         row = inl row;
       }
 
@@ -80,8 +80,8 @@ module _ (width rows : ℕ) (xs : List ℤ) (some_width : 1 ≤ width) (some_row
       let row : length (take width blk) ≡ width = length-take width blk ∙ omega (arith, block-long (rows * width) (b + 1) xs, more, rows-of, row-small) in
       record {
         places = λ k q.
-        let place : (b + 1) * (rows * width) + k ≡ b * rows * width + length (block_of (rows * width) b xs) + k = omega (arith, own) in
-        get_or-take width blk k (pos 0) (omega (arith, q, row)) ∙ block-at (rows * width) (b + 1) xs k (omega (arith, q, length-take width blk)) ∙ ap (at xs) place;
+            let place : (b + 1) * (rows * width) + k ≡ b * rows * width + length (block_of (rows * width) b xs) + k = omega (arith, own) in
+            get_or-take width blk k (pos 0) (omega (arith, q, row)) ∙ block-at (rows * width) (b + 1) xs k (omega (arith, q, length-take width blk)) ∙ ap (at xs) place;
         row = inl (row, omega (arith, own, more, rows-of));
       })
       (λ (t : length xs ≤ (b + 1) * (rows * width)).

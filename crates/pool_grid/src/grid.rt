@@ -31,7 +31,13 @@ impl Stencil for FivePoints {
         cells % self.width as usize == 0 && size % self.width == 0
     }
 
-    fn next(&self, alloc: Global, before: &[i64], own: &[i64], behind: &[i64]) -> Result<Vec<i64>, AllocError> {
+    fn next(
+        &self,
+        alloc: Global,
+        before: &[i64],
+        own: &[i64],
+        behind: &[i64],
+    ) -> Result<Vec<i64>, AllocError> {
         sweep_block(alloc, self.width as usize, before, own, behind)
     }
 }

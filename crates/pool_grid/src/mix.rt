@@ -56,8 +56,18 @@ fn cell_after(cells: &[i64], width: usize, place: usize) -> i64
     ensures same { result ≡ cell_after width cells.now place }
     ensures fit { fits result ≡ true }
 {
-    if place >= width && width < cells.len() - place && place % width > 0 && place % width + 1 < width {
-        mixed(cells[place - width], cells[place - 1], cells[place], cells[place + 1], cells[place + width])
+    if place >= width
+        && width < cells.len() - place
+        && place % width > 0
+        && place % width + 1 < width
+    {
+        mixed(
+            cells[place - width],
+            cells[place - 1],
+            cells[place],
+            cells[place + 1],
+            cells[place + width],
+        )
     } else {
         cells[place]
     }

@@ -27,7 +27,13 @@ impl Stencil for ThreePoints {
         true
     }
 
-    fn next(&self, alloc: Global, before: &[i64], own: &[i64], behind: &[i64]) -> Result<Vec<i64>, AllocError> {
+    fn next(
+        &self,
+        alloc: Global,
+        before: &[i64],
+        own: &[i64],
+        behind: &[i64],
+    ) -> Result<Vec<i64>, AllocError> {
         sweep(alloc, last_of(before), own, first_of(behind))
     }
 }

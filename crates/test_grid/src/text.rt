@@ -1,6 +1,6 @@
+use grid_rows::{GridFault, RowCount, grid_of, text_of_grid};
 use std::alloc::Global;
 use std::test::Fail;
-use grid_rows::{GridFault, RowCount, grid_of, text_of_grid};
 
 /// How wide a grid is that a text gives, and its numbers.
 fn read(alloc: Global, text: &str) -> Result<(usize, Vec<i64>), GridFault> {
@@ -16,7 +16,10 @@ fn a_grid_is_read_and_written(rt: HostRuntime) -> Result<(), Fail> {
     };
     assert_eq!(rt; width, 3);
     assert_eq!(rt; numbers.as_slice(), [1, -2, 3, 4, 5, i64::MAX].as_slice());
-    assert_eq!(rt; text_of_grid(rt.alloc(), 2, 3, &[1, -2, 3, 4, 5, 6])?.as_slice(), "1 -2 3\n4 5 6\n".as_bytes());
+    assert_eq!(rt;
+        text_of_grid(rt.alloc(), 2, 3, &[1, -2, 3, 4, 5, 6])?.as_slice(),
+        "1 -2 3\n4 5 6\n".as_bytes()
+    );
     Ok(())
 }
 

@@ -14,9 +14,10 @@ returns c =
     let two : c.extend_from_slice-2.new.self.items ≡ above ++ own = c.in_ok-extend_from_slice-2.ensures.items ∙ ap (λ l. l ++ own) one in
     let window : c.as_slice.result.now ≡ (above ++ own) ++ below = c.as_slice.ensures.value ∙ c.in_ok-extend_from_slice-3.ensures.items ∙ ap (λ l. l ++ below) two in
     IfOk-weaker c.sweep.result _ _
-    (λ made is.
-    (is.0 ∙ ap (λ l. list_of (length own) (λ e. cell_after w l (length above + e))) window
-    ∙ ap (λ l. swept_between w l own below) c.last_row-above.ensures
-    ∙ ap (λ l. swept_between w (last_row w c.args.above.now) own l) c.first_row-below.ensures,
-    is.1))
+    (λ made is. (
+      is.0 ∙ ap (λ l. list_of (length own) (λ e. cell_after w l (length above + e))) window
+          ∙ ap (λ l. swept_between w l own below) c.last_row-above.ensures
+          ∙ ap (λ l. swept_between w (last_row w c.args.above.now) own l) c.first_row-below.ensures,
+      is.1,
+    ))
     c.sweep.ensures
