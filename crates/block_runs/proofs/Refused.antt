@@ -1,8 +1,8 @@
 -- Why a run over lent cells gives nothing.
-use Rattle.std.proofs.Common.{◌≡◌, ◌≢◌, ◌<◌, ◌≤◌, ◌+◌, ◌-◌, ◌*◌, ◌^◌, ℕ, suc, ℤ, Bool, true, List, [], ◌∷◌, length, cond, refl, sym, ap, subst, ◌∙◌, ⊎_elim, arith}
-use Rattle.std.specs.Prelude.{◌==◌}
+use Rattle.std.proofs.Common.{◌≡◌, ◌≢◌, ◌<◌, ◌≤◌, ◌+◌, ◌-◌, ◌*◌, ◌^◌, ℕ, suc, ℤ, Bool, true, Result, Ok, Err, List, [], ◌∷◌, length, cond, refl, sym, ap, subst, ◌∙◌, ⊎_elim, inl, inr, arith}
+use Rattle.std.specs.Prelude.{◌==◌, MatchResult}
 use Rattle.std.specs.List.{All}
-use Rattle.std.proofs.lemmas.Bool.{ne_eqb}
+use Rattle.std.proofs.lemmas.Bool.{false≢true, ne_eqb}
 use Rattle.std.proofs.lemmas.Bool.Decides.{nat_tests}
 use Rattle.std.proofs.lemmas.List.Sums.{sum_by-cons}
 use Rattle.std.proofs.lemmas.Nat.{mul-le}
@@ -17,6 +17,11 @@ use Rattle.block_runs.specs.Faults.{IsLentFault, IsOfPart, IsPartFault}
 use Rattle.block_runs.specs.declared.fault.LentFault.{LentFault}
 use Rattle.block_runs.specs.declared.fault.LentFault.TheVariants.{BadInput, Run, Unmade}
 use Rattle.tp_work.specs.Outcomes.{HasEachOnce, IsFault, IsOutcome, times}
+
+-- what follows from what is known of an answer
+pub match_weaker : {T E : Type 0} (r : Result T E) (P P2 : T → Type 0) (Q Q2 : E → Type 0) → ((x : T) → P x → P2 x) → ((e : E) → Q e → Q2 e) → MatchResult r P Q → MatchResult r P2 Q2
+match_weaker (Ok x) P P2 Q Q2 f h m = f x m
+match_weaker (Err e) P P2 Q Q2 f h m = h e m
 
 -- a task that no result is of has none
 times-none : (t : ℕ) (results : Results) → All (λ r. r.0.0 ≢ t) results → times t results ≡ 0
@@ -56,6 +61,13 @@ are_steps takes cells size n most part taken all few =
       taken = taken;
       few_tasks = omega (arith, events, all.few_events);
     }
+
+-- what is taken is not refused
+pub are_not_none : (takes : ℕ → ℕ → Bool) (count size steps : ℕ) → AreSteps takes count size steps → AreNoSteps takes count size steps → ⊥
+are_not_none takes count size steps are (inl none) = omega (arith, are.some_cells, none)
+are_not_none takes count size steps are (inr (inl empty)) = omega (arith, are.some_size, empty)
+are_not_none takes count size steps are (inr (inr (inl cut))) = false≢true (sym cut ∙ are.taken)
+are_not_none takes count size steps are (inr (inr (inr many))) = omega (arith, are.few_tasks, many)
 
 -- the graph of a part, by the cells that the whole began with
 part-graph : (step : Step) (next : BlockStep) (cells made : List ℤ) (size done part : ℕ) → KeepsLength step → made ≡ after step done cells →

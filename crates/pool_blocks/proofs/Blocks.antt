@@ -45,7 +45,7 @@ behind-part blocks size b xs inputs long whole h =
     ⊎_elim
     (λ (t : (nat_lt (b + 1) blocks ≡ true) × (b + 1 < blocks)). h t.1)
     (λ (t : (nat_lt (b + 1) blocks ≡ false) × (blocks ≤ b + 1)).
-    let none : to_behind blocks b ≡ 0 = grind (arith, nat_tests) in
+    let none : to_behind blocks b ≡ 0 = rw t.0 refl in
     let past : length xs ≤ (b + 1) * size = omega (arith, whole, mul-le blocks size (b + 1) size t.1 (omega arith)) in
     get_or_past inputs (to_before b + 1) [] (omega (arith, long, none)) ∙ sym (block-past size (b + 1) xs past))
     (lt-tells (b + 1) blocks)
