@@ -18,7 +18,7 @@ fn cells_at(inputs: &[Value], slot: usize) -> &[i64]
 
 /// The cells of the block before, where there is one.
 fn cells_before(inputs: &[Value], befores: usize) -> &[i64]
-    ensures { result.now ≡ if nat_lt 0 befores then slice_index_or inputs.now 0 [] else [] }
+    ensures { result.now ≡ (if nat_lt 0 befores then slice_index_or inputs.now 0 [] else []) }
 {
     if 0 < befores {
         cells_at(inputs, 0)
