@@ -1,12 +1,12 @@
 -- Why a run over a grid gives nothing.
-use Rattle.std.proofs.Common.{◌≡◌, ◌≢◌, ◌≤◌, ◌*◌, ℕ, ℤ, Bool, false, List, length, sym, ap, subst, ◌∙◌, inl, inr}
+use Rattle.std.proofs.Common.{◌≡◌, ◌≢◌, ◌≤◌, ◌*◌, ◌^◌, ◌⊎◌, ℕ, ℤ, Bool, false, List, length, sym, ap, subst, ◌∙◌, inl, inr}
 use Rattle.tp_graph.specs.Graphs.{TaskGraph}
 use Rattle.pool_grid.proofs.Cuts.{no_row}
 use Rattle.pool_grid.specs.Grids.{are_whole_rows, block_relaxed, blocks_of, grid_graph, relaxed}
 use Rattle.block_runs.specs.Faults.{IsLentFault, IsPartFault}
 use Rattle.block_runs.specs.declared.fault.LentFault.{LentFault}
 use Rattle.block_runs.specs.declared.fault.LentFault.TheVariants.{BadInput, Run, Unmade}
-use Rattle.grid_runs.specs.Faults.{IsGridPartFault}
+use Rattle.grid_runs.specs.Faults.{GridTakesNoStep, IsGridPartFault}
 use Rattle.tp_work.specs.Outcomes.{IsFault, IsOutcome}
 
 -- the fault of a pool, whatever else may be at fault
@@ -33,3 +33,8 @@ grid_part n cells width rows steps BadInput (inl cut) = inr (inr (inl (no_row wi
 grid_part n cells width rows steps BadInput (inr none) = inr (inr (inr none))
 grid_part n cells width rows steps (Run fault) why = why
 grid_part n cells width rows steps (Unmade outcome) why = why
+
+-- no blocks, no step
+pub takes_none : (n count width rows : ℕ) → (width ≡ 0) ⊎ (2 ^ 32 ≤ rows * width) → GridTakesNoStep n count width rows
+takes_none n count width rows (inl none) = inl none
+takes_none n count width rows (inr large) = inr (inl large)

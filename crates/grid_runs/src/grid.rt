@@ -4,7 +4,7 @@ ghost use Rattle.grid_runs.specs.Faults.{IsGridFault, IsGridPartFault};
 ghost use Rattle.tp_work.specs.Outcomes.{IsWithinLimits};
 
 use block_runs::{LentFault, run_in_parts, run_steps};
-use pool_grid::{block_of_rows, grid_in_blocks};
+use pool_grid::{grid_in_blocks, row_blocks};
 use std::alloc::Global;
 use std::sync::Wait;
 use std::thread::Threads;
@@ -49,8 +49,8 @@ pub fn run_grid_in_parts<R: Threads + Wait + Sync>(
         (λ grid. grid.items ≡ evolve width steps cells.items)
         (IsGridPartFault config.nodes cells.items width rows steps) }
 {
-    let Some((points, size)) = block_of_rows(width, rows) else {
+    let Some(blocks) = row_blocks(width, rows) else {
         return Err(LentFault::BadInput);
     };
-    run_in_parts(rt, alloc, points, cells, size, steps, config)
+    run_in_parts(rt, alloc, blocks.points, cells, blocks.size, steps, config)
 }

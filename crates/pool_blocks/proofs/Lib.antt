@@ -4,3 +4,4 @@ pub mod Fits
 pub mod Blocks
 pub mod Lacking
 pub mod Valued
+pub mod Cuts

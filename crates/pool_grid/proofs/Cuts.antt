@@ -42,3 +42,8 @@ is_grid width rows count steps some small are =
       whole_rows = eqb-true (count % width) 0 parts.0;
       few_tasks = are.few_tasks;
     }
+
+-- no blocks, no grid
+pub no_blocks : (width rows count steps : ℕ) → (width ≡ 0) ⊎ (2 ^ 32 ≤ rows * width) → IsNoGrid count width rows steps
+no_blocks width rows count steps (inl none) = inr (inl none)
+no_blocks width rows count steps (inr large) = inr (inr (inr (inl large)))

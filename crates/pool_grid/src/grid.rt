@@ -1,4 +1,4 @@
-ghost use Rattle.std.specs.Prelude.{◌≡◌, ◌≤◌, ◌*◌, ◌^◌, ◌⊎◌, IfNone, IfSome, length};
+ghost use Rattle.std.specs.Prelude.{◌≡◌, ◌≤◌, ◌<◌, ◌*◌, ◌^◌, ◌⊎◌, IfNone, IfSome, length};
 ghost use Rattle.pool_grid.specs.Grids.{IsGrid, IsNoGrid, are_whole_rows, block_relaxed, blocks_of, relaxed};
 ghost use Rattle.pool_grid.specs.GridLaws.{relaxed-by-blocks, relaxed-fit, relaxed-long};
 
@@ -45,17 +45,27 @@ impl Stencil for FivePoints {
 /// A grid of cells, row by row, worked on in blocks of rows: a task is a block after so many steps.
 pub type Grid<'a> = Steps<'a, FivePoints>;
 
-/// The stencil over a grid in rows of so many cells, and how many cells a block of so many rows has. None where a row is of none,
-/// or a block has 2^32 cells or more.
-pub fn block_of_rows(width: u32, rows: u32) -> Option<(FivePoints, u32)>
-    ensures made { IfSome result (λ made. (made.0.width ≡ width) × (made.1 ≡ rows * width)) }
+/// The stencil over a grid in rows of so many cells, and how many cells a block of so many rows has.
+#[derive(Clone, Copy)]
+pub struct RowBlocks {
+    pub points: FivePoints,
+    pub size: u32,
+}
+
+/// Blocks of so many rows of so many cells. None where a row is of none, or a block has 2^32 cells or more.
+pub fn row_blocks(width: u32, rows: u32) -> Option<RowBlocks>
+    ensures made { IfSome result (λ blocks. (blocks.points.width ≡ width) × (blocks.size ≡ rows * width)) }
+    ensures small { IfSome result (λ blocks. (1 ≤ width) × (rows * width < 2 ^ 32)) }
     ensures refused { IfNone result ((width ≡ 0) ⊎ (2 ^ 32 ≤ rows * width)) }
 {
     let size = u64::from(rows) * u64::from(width);
     if width == 0 || size >= 1 << 32 {
         return None;
     }
-    Some((FivePoints { width }, size as u32))
+    Some(RowBlocks {
+        points: FivePoints { width },
+        size: size as u32,
+    })
 }
 
 /// A grid of some cells, which are lent, in rows of so many and blocks of so many rows, that takes so many steps. None where
@@ -68,6 +78,8 @@ pub fn grid_in_blocks<'a>(cells: &'a [i64], width: u32, rows: u32, steps: u32) -
     ensures right { IfSome result (λ grid. IsGrid (length cells.now) width rows steps) }
     ensures refused { IfNone result (IsNoGrid (length cells.now) width rows steps) }
 {
-    let (points, size) = block_of_rows(width, rows)?;
-    Steps::new(points, cells, size, steps)
+    let Some(blocks) = row_blocks(width, rows) else {
+        return None;
+    };
+    Steps::new(blocks.points, cells, blocks.size, steps)
 }

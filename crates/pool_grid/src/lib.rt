@@ -5,5 +5,5 @@ mod grid;
 mod mix;
 mod result;
 
-pub use grid::{FivePoints, Grid, block_of_rows, grid_in_blocks};
+pub use grid::{FivePoints, Grid, RowBlocks, grid_in_blocks, row_blocks};
 pub use result::{grid_by_one, grid_of};
