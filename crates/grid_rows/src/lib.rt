@@ -7,6 +7,6 @@ mod rows;
 mod write;
 
 pub use fault::{GridFault, RowCount};
-pub use read::grid_of;
+pub use read::rows_of;
 pub use rows::Rows;
 pub use write::text_of_grid;

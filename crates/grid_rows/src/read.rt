@@ -11,7 +11,7 @@ use std::alloc::Global;
 
 /// The grid that a text gives: its rows as lines, the numbers of a row by single spaces. Refused with the first line that is no
 /// row, or has another count of numbers than the first line; where there is no line; and where memory is refused.
-pub fn grid_of(alloc: Global, text: &str) -> Result<Rows, GridFault>
+pub fn rows_of(alloc: Global, text: &str) -> Result<Rows, GridFault>
     ensures read { IfOk result (λ read. AreGrid (lines text.now) read.width read.numbers.items) }
     ensures bad { IfErr result (IsTextFault text.now) }
 {

@@ -1,10 +1,10 @@
-use grid_rows::{GridFault, RowCount, grid_of, text_of_grid};
+use grid_rows::{GridFault, RowCount, rows_of, text_of_grid};
 use std::alloc::Global;
 use std::test::Fail;
 
 /// How wide a grid is that a text gives, and its numbers.
 fn read(alloc: Global, text: &str) -> Result<(usize, Vec<i64>), GridFault> {
-    let rows = grid_of(alloc, text)?;
+    let rows = rows_of(alloc, text)?;
     Ok((rows.width, rows.numbers))
 }
 

@@ -9,7 +9,7 @@ use Rattle.pool_rows.proofs.Counts.{few_seen}
 use Rattle.pool_rows.proofs.Yields.{one_more, none_left}
 use Rattle.grid_rows.proofs.Taken.{nothing}
 use Rattle.grid_rows.specs.Grids.{AreGrid}
-use Rattle.grid_rows.proofs.read.grid_of.Goals as goal
+use Rattle.grid_rows.proofs.read.rows_of.Goals as goal
 
 pub loop-line-init : goal.loop-line-init
 loop-line-init c =

@@ -3,7 +3,7 @@ use Rattle.std.specs.Iterator.{AlwaysYields}
 use Rattle.std.specs.Str.Iter.{lines_steps}
 use Rattle.std.specs.Str.Lines.{lines}
 use Rattle.pool_rows.specs.Matrices.{AreRows}
-use Rattle.grid_rows.proofs.read.grid_of.Given as goal
+use Rattle.grid_rows.proofs.read.rows_of.Given as goal
 
 abbrev pub invariant-loop-line : goal.invariant-loop-line
 invariant-loop-line l =
