@@ -1,3 +1,3 @@
-pub mod Parts
+pub mod Planned
 pub mod Refused
 pub mod Crossings

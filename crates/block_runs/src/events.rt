@@ -41,7 +41,7 @@ fn row_events(blocks: u64, nodes: u32) -> u64
 }
 
 /// As many steps as are planned for a run whose first row takes so many events, and each step so many: one at least.
-#[tactic(auto, using(crate::proofs::Parts::planned_fit))]
+#[tactic(auto, using(crate::proofs::Planned::planned_fit))]
 fn planned_steps(first: u64, row: u64, kept: u64) -> u64
     requires { (1 ≤ row) × (first + row ≤ MAX_STEPS) }
     ensures same { result ≡ max (min ((1000000 - first) / row) kept) 1 }

@@ -1,10 +1,10 @@
-ghost use Rattle.std.specs.Prelude.{◌≡◌, ◌<◌, ◌≤◌, ◌+◌, ◌*◌, ◌^◌, pos, true, length, slice_index_or, IfNone, IfSome};
+ghost use Rattle.std.specs.Prelude.{◌≡◌, ◌<◌, ◌≤◌, ◌+◌, ◌-◌, ◌*◌, ◌^◌, pos, true, length, slice_index_or, IfNone, IfSome};
 ghost use Rattle.tp_graph.specs.Blocks.{block_of};
 ghost use Rattle.tp_graph.specs.Values.{all_fit, fits};
 ghost use Rattle.pool_blocks.specs.Stencils.{AreNoSteps, AreSteps, IsCut, befores, behinds, block_graph, blocks_of};
 ghost use Rattle.pool_blocks.specs.StencilLaws.{block_lawful};
 
-use crate::inputs::next_of;
+use crate::inputs::{cells_at, cells_before};
 use crate::stencil::Stencil;
 use std::alloc::Global;
 use tp_base::{NodeId, Refusal, TaskId};
@@ -74,37 +74,34 @@ impl<'a, S: Stencil> Steps<'a, S> {
     {
         read_all(self.cells);
     }
+}
 
-    /// A block of the cells as they were lent.
-    fn block(&self, block: u32) -> &'a [i64]
-        requires { block < self.now.blocks }
-        ensures { result.now ≡ block_of self.now.size block self.now.cells.now }
-    {
-        let start = block as usize * self.size as usize;
-        let (_, rest) = self.cells.split_at(start);
-        let (block, _) = rest.split_at(rest.len().min(self.size as usize));
-        block
-    }
+/// A block of some cells, which are cut into so many of so many cells each but the last.
+fn block_at(cells: &[i64], blocks: u32, size: u32, block: u32) -> &[i64]
+    requires known { block < blocks }
+    requires none_empty { (blocks - 1) * size < length cells.now }
+    ensures { result.now ≡ block_of size block cells.now }
+{
+    let start = block as usize * size as usize;
+    let (_, rest) = cells.split_at(start);
+    let (block, _) = rest.split_at(rest.len().min(size as usize));
+    block
+}
 
-    /// Whether a task's block has one before it: 1, or else 0.
-    fn befores(&self, task: TaskId) -> u32
-        requires { 1 ≤ self.now.blocks }
-        ensures { result ≡ befores self.now.blocks task.0 }
-    {
-        if 0 < task.0 % self.blocks { 1 } else { 0 }
-    }
+/// Whether a task's block has one before it: 1, or else 0.
+fn befores(blocks: u32, task: TaskId) -> u32
+    requires { 1 ≤ blocks }
+    ensures { result ≡ befores blocks task.0 }
+{
+    if 0 < task.0 % blocks { 1 } else { 0 }
+}
 
-    /// Whether a task's block has one behind it: 1, or else 0.
-    fn behinds(&self, task: TaskId) -> u32
-        requires { 1 ≤ self.now.blocks }
-        ensures { result ≡ behinds self.now.blocks task.0 }
-    {
-        if task.0 % self.blocks + 1 < self.blocks {
-            1
-        } else {
-            0
-        }
-    }
+/// Whether a task's block has one behind it: 1, or else 0.
+fn behinds(blocks: u32, task: TaskId) -> u32
+    requires { 1 ≤ blocks }
+    ensures { result ≡ behinds blocks task.0 }
+{
+    if task.0 % blocks + 1 < blocks { 1 } else { 0 }
 }
 
 /// Reads each cell: what is read is known to fit 64 bits.
@@ -139,7 +136,7 @@ impl<'a, S: Stencil> Graph for Steps<'a, S> {
         if task.0 < self.blocks {
             0
         } else {
-            (self.befores(task) + 1 + self.behinds(task)) as u8
+            (befores(self.blocks, task) + 1 + behinds(self.blocks, task)) as u8
         }
     }
 
@@ -149,15 +146,15 @@ impl<'a, S: Stencil> Graph for Steps<'a, S> {
 
     fn feeds(&self, task: TaskId) -> u32 {
         if task.0 + self.blocks < (self.steps + 1) * self.blocks {
-            self.befores(task) + 1 + self.behinds(task)
+            befores(self.blocks, task) + 1 + behinds(self.blocks, task)
         } else {
             0
         }
     }
 
     fn feed(&self, task: TaskId, turn: u32) -> (TaskId, u8) {
-        let target = TaskId(task.0 + self.blocks + turn - self.befores(task));
-        let slot = self.befores(target) + self.befores(task) - turn;
+        let target = TaskId(task.0 + self.blocks + turn - befores(self.blocks, task));
+        let slot = befores(self.blocks, target) + befores(self.blocks, task) - turn;
         (target, slot as u8)
     }
 
@@ -167,9 +164,13 @@ impl<'a, S: Stencil> Graph for Steps<'a, S> {
 
     fn body(&self, alloc: Global, task: TaskId, inputs: &[Value]) -> Result<Value, Refusal> {
         if task.0 < self.blocks {
-            return Ok(Value::of(alloc, self.block(task.0))?);
+            return Ok(Value::of(alloc, block_at(self.cells, self.blocks, self.size, task.0))?);
         }
-        let made = next_of(alloc, &self.stencil, self.befores(task) as usize, inputs)?;
+        let befores = befores(self.blocks, task) as usize;
+        let before = cells_before(inputs, befores);
+        let own = cells_at(inputs, befores);
+        let behind = cells_at(inputs, befores + 1);
+        let made = self.stencil.next(alloc, before, own, behind)?;
         Ok(Value::from_vec(made)?)
     }
 }

@@ -2,7 +2,7 @@ use Rattle.std.proofs.Common.{◌≡◌, ◌≤◌, ◌∙◌, ap, arith, length
 use Rattle.std.proofs.lemmas.Result.{err_from_is_err_and}
 use Rattle.pool_blocks.proofs.Blocks.{after-length}
 use Rattle.pool_blocks.specs.Stencils.{AreSteps}
-use Rattle.block_runs.proofs.Parts.{part_more}
+use Rattle.block_runs.proofs.Planned.{part_more}
 use Rattle.block_runs.proofs.Refused.{are_steps, part_fault}
 use Rattle.block_runs.specs.Events.{TakeSteps}
 use Rattle.block_runs.proofs.parts.run_in_parts.Goals as goal
