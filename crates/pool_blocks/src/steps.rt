@@ -166,10 +166,10 @@ impl<'a, S: Stencil> Graph for Steps<'a, S> {
         if task.0 < self.blocks {
             return Ok(Value::of(alloc, block_at(self.cells, self.blocks, self.size, task.0))?);
         }
-        let befores = befores(self.blocks, task) as usize;
-        let before = cells_before(inputs, befores);
-        let own = cells_at(inputs, befores);
-        let behind = cells_at(inputs, befores + 1);
+        let slot = befores(self.blocks, task) as usize;
+        let before = cells_before(inputs, slot);
+        let own = cells_at(inputs, slot);
+        let behind = cells_at(inputs, slot + 1);
         let made = self.stencil.next(alloc, before, own, behind)?;
         Ok(Value::from_vec(made)?)
     }
