@@ -1,5 +1,5 @@
 -- Why a run over lent cells gives nothing, by cases of the fault that is answered.
-use Rattle.std.specs.Prelude.{ℕ, ℤ, Bool, false, ⊥, ◌≡◌, ◌≤◌, ◌+◌, ◌⊎◌, List, length}
+use Rattle.std.specs.Prelude.{ℕ, ℤ, Bool, false, ◌≡◌, ◌≤◌, ◌+◌, ◌⊎◌, List, length}
 use Rattle.tp_base.specs.declared.refusal.Refusal.{Refusal}
 use Rattle.tp_base.specs.declared.refusal.Refusal.TheVariants.{BadSpec, NoMemory}
 use Rattle.tp_graph.specs.Graphs.{TaskGraph}

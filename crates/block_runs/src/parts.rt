@@ -1,4 +1,4 @@
-ghost use Rattle.std.specs.Prelude.{◌≡◌, ⊥, MatchResult, length};
+ghost use Rattle.std.specs.Prelude.{◌≡◌, MatchResult, length};
 ghost use Rattle.pool_blocks.specs.Stencils.{AreSteps, after, block_graph, blocks_of};
 ghost use Rattle.block_runs.specs.Faults.{IsLentFault, IsPartFault};
 ghost use Rattle.tp_work.specs.Outcomes.{IsWithinLimits};

@@ -1,4 +1,4 @@
-ghost use Rattle.std.specs.Prelude.{◌≡◌, ⊥, MatchResult};
+ghost use Rattle.std.specs.Prelude.{◌≡◌, MatchResult};
 ghost use Rattle.pool_blocks.specs.Stencils.{after, block_graph};
 ghost use Rattle.block_runs.specs.Faults.{IsLentFault};
 ghost use Rattle.tp_work.specs.Outcomes.{IsWithinLimits};
