@@ -61,7 +61,7 @@ def calls():
 
 
 def listed():
-    rows = re.findall(r"^\| ((?:tp|pool)_\w+) \| `([\w:]+)` \|", repository.text_of("docs/MEMORY.md"), re.M)
+    rows = re.findall(r"^\| ([a-z]+_\w+) \| `([\w:]+)` \|", repository.text_of("docs/MEMORY.md"), re.M)
     return {f"{crate}: {call}" for crate, call in rows}
 
 
