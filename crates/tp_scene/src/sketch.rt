@@ -1,0 +1,100 @@
+ghost use Rattle.std.specs.Prelude.{◌≡◌, ◌∷◌, ◌×◌, ◌≤◌, ◌<◌, [], ℕ, List, length, reverse, IfOk, IfErr, OnOk};
+ghost use Rattle.tp_base.specs.declared.Step.{Step};
+ghost use Rattle.tp_base.specs.declared.limits.TheConstants.{MAX_NODES};
+ghost use Rattle.tp_core.specs.Generations.{AreRuns};
+ghost use Rattle.tp_scene.specs.Following.{Follows};
+ghost use Rattle.tp_scene.specs.Scene.{IsSceneOf, IsRefused};
+
+use crate::lanes::Lanes;
+use crate::messages::Messages;
+use crate::scene::Scene;
+use crate::tracks::Tracks;
+use crate::waves::Waves;
+use std::alloc::{AllocError, Global};
+use tp_base::{Refusal, Step};
+use tp_core::Core;
+
+/// Follows steps in turn, with a core of its own, and keeps what is drawn of them.
+#[derive(Drop)]
+struct Sketch {
+    nodes: u32,
+    core: Core,
+    tracks: Tracks,
+    messages: Messages,
+    waves: Waves,
+    lanes: Lanes,
+    reopened: Vec<u32>,
+}
+
+impl Sketch {
+    /// Nothing was followed yet over so many nodes, 1 to 8.
+    fn new(alloc: Global, nodes: u32) -> Sketch
+        requires { (1 ≤ nodes) × (nodes ≤ MAX_NODES) }
+        ensures { Follows nodes [] result }
+    {
+        Sketch {
+            nodes,
+            core: Core::new(alloc, nodes),
+            tracks: Tracks::new(alloc),
+            messages: Messages::new(alloc),
+            waves: Waves::new(alloc),
+            lanes: Lanes::new(alloc, nodes),
+            reopened: Vec::new(alloc),
+        }
+    }
+
+    /// Follows the next step, before which so many had come, or refuses it as a core does.
+    fn take(&mut self, step: Step, place: u32) -> Result<(), Refusal>
+        requires { (n : ℕ) × (past : List Step) × Follows n past self.old }
+        ensures { (n : ℕ) (past : List Step) → Follows n past self.old → place ≡ length past → OnOk result (Follows n (step ∷ past) self.new) }
+    {
+        let reply = self.core.step(step)?;
+        self.tracks.take(step, place)?;
+        self.messages.take(step, place)?;
+        self.waves.take(step, reply, place)?;
+        self.lanes.take(&self.core.numbers().nodes, place)?;
+        if let Step::Reopen = step {
+            self.reopened.push(place)?;
+        }
+        Ok(())
+    }
+
+    /// What is drawn of so many steps.
+    fn finish(self, events: u32) -> Result<Scene, AllocError>
+        ensures { (n : ℕ) (past : List Step) → Follows n past self → events ≡ length past → IfOk result (IsSceneOf n past) }
+    {
+        Ok(Scene {
+            nodes: self.nodes,
+            events,
+            rows: self.tracks.rows,
+            bars: self.tracks.bars,
+            running: self.tracks.running,
+            arrows: self.messages.arrows,
+            under_way: self.messages.under_way,
+            cuts: self.waves.cuts,
+            ends: self.waves.ends,
+            pauses: self.lanes.finish(events)?,
+            reopened: self.reopened,
+        })
+    }
+}
+
+/// What is drawn of these steps over the nodes 0 to `nodes` - 1, which are 1 to 8. It takes as much memory as a core of the steps, and
+/// what is drawn.
+///
+/// Refused: a step that a core refuses after those before it, as the core refuses it; and `NoMemory`.
+pub fn scene(alloc: Global, nodes: u32, steps: &[Step]) -> Result<Scene, Refusal>
+    requires { (1 ≤ nodes) × (nodes ≤ MAX_NODES) }
+    ensures ok { IfOk result (IsSceneOf nodes (reverse steps.now)) }
+    // Only of a run something is drawn.
+    ensures run { IfOk result (λ _. AreRuns nodes (reverse steps.now)) }
+    ensures refused { IfErr result (IsRefused nodes steps.now) }
+{
+    let mut sketch = Sketch::new(alloc, nodes);
+    let mut place = 0;
+    for step in steps {
+        sketch.take(*step, place)?;
+        place += 1;
+    }
+    Ok(sketch.finish(place)?)
+}
