@@ -15,8 +15,9 @@ use Rattle.tp_scene.specs.declared.messages.Messages.{Messages}
 use Rattle.tp_scene.specs.declared.waves.Waves.{Waves}
 use Rattle.tp_scene.specs.declared.lanes.Lanes.{Lanes}
 use Rattle.tp_scene.specs.declared.sketch.Sketch.{Sketch}
-use Rattle.tp_scene.specs.Scene.{running, bars, rows, under_way, arrows, gave, cuts, ends, reopened, resting, pauses}
+use Rattle.tp_scene.specs.Scene.{running, bars, rows, under_way, arrows, gave, cuts, seams, ends, resting, pauses}
 use Rattle.tp_wave.specs.Sums.{visit}
+use Rattle.tp_text.specs.AuditText.{last_judgement}
 
 abbrev pub home : Task → NodeId
 home x = record { 0 = x.home }
@@ -35,7 +36,9 @@ pub record HasWaves (n : ℕ) (past : List Step) (w : Waves) : Type 0 where
   pub gives : (i : ℕ) → i < 8 → slice_index_or w.gives i 0 ≡ gave i past
   pub earlier : w.earlier ≡ gave 0 (visit 0 past)
   pub cuts : w.cuts.items ≡ cuts n past
+  pub seams : w.seams.items ≡ seams past
   pub ends : w.ends.items ≡ ends n past
+  pub ended : w.ended ≡ last_judgement n past
 
 -- what is pending at each node
 abbrev pub ArePending : ℕ → List Step → List NodeNumbers → Type 0
@@ -54,4 +57,3 @@ pub record Follows (n : ℕ) (past : List Step) (s : Sketch) : Type 0 where
   pub messages : HasMessages past s.messages
   pub waves : HasWaves n past s.waves
   pub lanes : HasLanes n past s.lanes
-  pub reopened : s.reopened.items ≡ reopened past

@@ -5,7 +5,7 @@ use Rattle.std.specs.List.{find, list_any, range_with_len, slice_index_or}
 use Rattle.tp_base.specs.declared.Step.{Step}
 use Rattle.tp_base.specs.declared.Step.TheVariants.{Begin, Done, Send, Recv, Give, Judge, Reopen}
 use Rattle.tp_wave.specs.Sums.{visit, sums_of, judgement}
-use Rattle.tp_wave.specs.Generations.{present}
+use Rattle.tp_wave.specs.Generations.{present, generation}
 use Rattle.tp_core.specs.World.{home_of}
 use Rattle.tp_core.specs.Pool.{without}
 use Rattle.tp_core.specs.Checks.{is_idle}
@@ -13,6 +13,7 @@ use Rattle.tp_core.specs.Generations.{world_after, AreRuns}
 use Rattle.tp_core.specs.Accepted.{refusal}
 use Rattle.tp_base.specs.declared.Refusal.{Refusal}
 use Rattle.tp_base.specs.declared.Refusal.TheVariants.{NoMemory}
+use Rattle.tp_text.specs.AuditText.{last_judgement}
 use Rattle.tp_scene.specs.declared.scene.Running.{Running}
 use Rattle.tp_scene.specs.declared.scene.Bar.{Bar}
 use Rattle.tp_scene.specs.declared.scene.Sending.{Sending}
@@ -20,6 +21,7 @@ use Rattle.tp_scene.specs.declared.scene.Arrow.{Arrow}
 use Rattle.tp_scene.specs.declared.scene.Cut.{Cut}
 use Rattle.tp_scene.specs.declared.scene.Pause.{Pause}
 use Rattle.tp_scene.specs.declared.scene.End.{End}
+use Rattle.tp_scene.specs.declared.scene.Seam.{Seam}
 use Rattle.tp_scene.specs.declared.scene.Scene.{Scene}
 
 -- ---- tasks
@@ -123,10 +125,10 @@ ends n (Judge ∷ past) = ends n past ++ end_of (judgement n (present past)) pas
 ends n (s ∷ past) = ends n past
 
 -- where the pool was reopened
-abbrev pub reopened : List Step → List ℕ
-reopened [] = []
-reopened (Reopen ∷ past) = reopened past ++ length past ∷ []
-reopened (s ∷ past) = reopened past
+abbrev pub seams : List Step → List Seam
+seams [] = []
+seams (Reopen ∷ past) = seams past ++ record { generation = record { 0 = generation past + 1 }; at = length past } ∷ []
+seams (s ∷ past) = seams past
 
 -- ---- lanes
 -- since which event nothing has been pending at node i, if nothing is
@@ -171,8 +173,10 @@ pub record IsSceneOf (n : ℕ) (steps : List Step) (s : Scene) : Type 0 where
   pub under_way : s.under_way.items ≡ under_way steps
   pub cuts : s.cuts.items ≡ cuts n steps
   pub pauses : s.pauses.items ≡ pauses n steps ++ last_pauses n steps
-  pub reopened : s.reopened.items ≡ reopened steps
+  pub seams : s.seams.items ≡ seams steps
   pub ends : s.ends.items ≡ ends n steps
+  -- what `tp audit` answers: `ended W`, or `not ended`
+  pub ended : s.ended ≡ last_judgement n steps
 
 -- ---- refusals
 -- Of these steps, the oldest first, some are a run, and the next one is refused for this; or memory was refused.

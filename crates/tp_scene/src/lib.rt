@@ -1,13 +1,19 @@
 //! A picture of a run: what is drawn of the steps of a core, and how it is written.
 #![tactic(auto)]
 
+mod cuts;
 mod keyed;
 mod lanes;
+mod layout;
+mod marks;
 mod messages;
+mod page;
+mod pieces;
 mod scene;
 mod sketch;
 mod tracks;
 mod waves;
 
-pub use scene::{Arrow, Bar, Cut, End, Pause, Running, Scene, Sending};
+pub use page::svg;
+pub use scene::{Arrow, Bar, Cut, End, Pause, Running, Scene, Seam, Sending};
 pub use sketch::scene;

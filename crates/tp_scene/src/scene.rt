@@ -1,4 +1,4 @@
-use tp_base::{MessageId, NodeId, Sums, TaskId};
+use tp_base::{Generation, MessageId, NodeId, Sums, TaskId};
 
 /// A task that runs: in the lane of its home, on one of the lane's tracks, from one event on. Events are numbered from 0.
 #[derive(Clone, Copy, Debug, PartialEq, Eq)]
@@ -55,6 +55,13 @@ pub struct End {
     pub judged: u32,
 }
 
+/// At this event the pool was reopened, for this generation.
+#[derive(Clone, Copy, Debug, PartialEq, Eq)]
+pub struct Seam {
+    pub generation: Generation,
+    pub at: u32,
+}
+
 /// What is drawn of a run. Each list stands in the order of time.
 #[derive(Drop)]
 pub struct Scene {
@@ -74,8 +81,10 @@ pub struct Scene {
     pub cuts: Vec<Cut>,
     /// Where nothing was pending, node by node.
     pub pauses: Vec<Pause>,
-    /// The events at which the pool was reopened.
-    pub reopened: Vec<u32>,
+    /// Where the pool was reopened.
+    pub seams: Vec<Seam>,
     /// Where the end was judged: at most once a generation.
     pub ends: Vec<End>,
+    /// The wave with which the pool was last judged to have ended in its present generation.
+    pub ended: Option<u32>,
 }

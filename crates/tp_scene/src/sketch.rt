@@ -23,7 +23,6 @@ struct Sketch {
     messages: Messages,
     waves: Waves,
     lanes: Lanes,
-    reopened: Vec<u32>,
 }
 
 impl Sketch {
@@ -39,7 +38,6 @@ impl Sketch {
             messages: Messages::new(alloc),
             waves: Waves::new(alloc),
             lanes: Lanes::new(alloc, nodes),
-            reopened: Vec::new(alloc),
         }
     }
 
@@ -53,9 +51,6 @@ impl Sketch {
         self.messages.take(step, place)?;
         self.waves.take(step, reply, place)?;
         self.lanes.take(&self.core.numbers().nodes, place)?;
-        if let Step::Reopen = step {
-            self.reopened.push(place)?;
-        }
         Ok(())
     }
 
@@ -72,9 +67,10 @@ impl Sketch {
             arrows: self.messages.arrows,
             under_way: self.messages.under_way,
             cuts: self.waves.cuts,
+            seams: self.waves.seams,
             ends: self.waves.ends,
+            ended: self.waves.ended,
             pauses: self.lanes.finish(events)?,
-            reopened: self.reopened,
         })
     }
 }

@@ -3,19 +3,22 @@ ghost use Rattle.tp_base.specs.declared.Step.{Step};
 ghost use Rattle.tp_core.specs.Accepted.{reply_to};
 ghost use Rattle.tp_scene.specs.Following.{HasWaves};
 
-use crate::scene::{Cut, End};
+use crate::scene::{Cut, End, Seam};
 use std::alloc::{AllocError, Global};
 use tp_base::{NodeId, Step};
 use tp_core::Reply;
 
-/// The waves of the steps so far: where each node gave last, the cuts of those that ended, and where the end was judged.
+/// The waves of the steps so far: where each node gave last, the cuts of those that ended, where the pool was reopened, and
+/// where the end was judged.
 #[derive(Drop)]
 pub(crate) struct Waves {
     gives: [u32; 8],
     // where the root gave before it gave last
     earlier: u32,
     pub(crate) cuts: Vec<Cut>,
+    pub(crate) seams: Vec<Seam>,
     pub(crate) ends: Vec<End>,
+    pub(crate) ended: Option<u32>,
 }
 
 impl Waves {
@@ -27,7 +30,9 @@ impl Waves {
             gives: [0; 8],
             earlier: 0,
             cuts: Vec::new(alloc),
+            seams: Vec::new(alloc),
             ends: Vec::new(alloc),
+            ended: None,
         }
     }
 
@@ -44,12 +49,23 @@ impl Waves {
                 sums,
                 gives: self.gives,
             })?,
-            Reply::Over(wave) => self.ends.push(End {
-                wave,
-                since: self.earlier,
-                judged: place,
-            })?,
-            _ => {}
+            Reply::Over(wave) => {
+                self.ends.push(End {
+                    wave,
+                    since: self.earlier,
+                    judged: place,
+                })?;
+                self.ended = Some(wave);
+            }
+            Reply::Not => self.ended = None,
+            Reply::Opened(generation) => {
+                self.seams.push(Seam {
+                    generation,
+                    at: place,
+                })?;
+                self.ended = None;
+            }
+            Reply::Plain => {}
         }
         Ok(())
     }
