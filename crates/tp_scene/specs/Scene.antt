@@ -179,7 +179,11 @@ pub record IsSceneOf (n : ℕ) (steps : List Step) (s : Scene) : Type 0 where
   pub ended : s.ended ≡ last_judgement n steps
 
 -- ---- refusals
--- Of these steps, the oldest first, some are a run, and the next one is refused for this; or memory was refused.
+-- After these steps the next one is refused for this, as a core refuses it, or memory is.
+abbrev pub IsRefusedAfter : ℕ → List Step → Step → Refusal → Type 0
+IsRefusedAfter n past s r = (r ≡ NoMemory) ⊎ (refusal (record { nodes = n; steps = past }) s ≡ Some r)
+
+-- Of these steps, the oldest first, some are a run, and the next one is refused for this; or memory is.
 abbrev pub IsRefused : ℕ → List Step → Refusal → Type 0
 IsRefused n steps r = (r ≡ NoMemory) ⊎ ((before : List Step) × (s : Step) × (later : List Step)
     × (steps ≡ before ++ s ∷ later) × AreRuns n (reverse before) × (refusal (record { nodes = n; steps = reverse before }) s ≡ Some r))

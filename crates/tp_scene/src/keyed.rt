@@ -1,5 +1,5 @@
-ghost use Rattle.std.specs.Prelude.{◌≡◌, ◌==◌, ◌<◌, ◌×◌, ℕ, length, MatchOption, None, Some};
-ghost use Rattle.std.specs.List.{find};
+ghost use Rattle.std.specs.Prelude.{◌≡◌, ◌==◌, ◌<◌, ℕ, length, slice_get, MatchOption, None};
+ghost use Rattle.std.specs.List.{find, remove};
 ghost use Rattle.tp_core.specs.Pool.{without};
 
 /// What stands in a list under a number.
@@ -15,7 +15,8 @@ pub(crate) trait Keyed: Copy {
 fn position_of<K: Keyed>(items: &[K], number: u32) -> Option<usize>
     ensures { MatchOption result
         ((find (λ x. K.key x == number) items.now ≡ None) × (without (λ x. K.key x == number) items.now ≡ items.now))
-        (λ k. (k < length items.now)) }
+        (λ k. (k < length items.now) × (find (λ x. K.key x == number) items.now ≡ slice_get items.now k)
+        × (without (λ x. K.key x == number) items.now ≡ remove items.now k)) }
 {
     for (k, item) in items.iter().enumerate() {
         if item.key() == number {

@@ -1,9 +1,9 @@
-ghost use Rattle.std.specs.Prelude.{◌≡◌, ◌∷◌, ◌×◌, ◌≤◌, ◌<◌, [], ℕ, List, length, reverse, IfOk, IfErr, OnOk};
+ghost use Rattle.std.specs.Prelude.{◌≡◌, ◌∷◌, ◌≤◌, ◌<◌, [], ℕ, List, length, reverse, IfOk, IfErr, OnOk};
 ghost use Rattle.tp_base.specs.declared.Step.{Step};
-ghost use Rattle.tp_base.specs.declared.limits.TheConstants.{MAX_NODES};
-ghost use Rattle.tp_core.specs.Generations.{AreRuns};
+ghost use Rattle.tp_base.specs.declared.limits.TheConstants.{MAX_NODES, MAX_STEPS};
+ghost use Rattle.tp_core.specs.Generations.{AreRuns, MayCome};
 ghost use Rattle.tp_scene.specs.Following.{Follows};
-ghost use Rattle.tp_scene.specs.Scene.{IsSceneOf, IsRefused};
+ghost use Rattle.tp_scene.specs.Scene.{IsSceneOf, IsRefused, IsRefusedAfter};
 
 use crate::lanes::Lanes;
 use crate::messages::Messages;
@@ -43,8 +43,10 @@ impl Sketch {
 
     /// Follows the next step, before which so many had come, or refuses it as a core does.
     fn take(&mut self, step: Step, place: u32) -> Result<(), Refusal>
-        requires { (n : ℕ) × (past : List Step) × Follows n past self.old }
-        ensures { (n : ℕ) (past : List Step) → Follows n past self.old → place ≡ length past → OnOk result (Follows n (step ∷ past) self.new) }
+        requires { (n : ℕ) × (past : List Step) × Follows n past self.old × (place ≡ length past) }
+        ensures follows { (n : ℕ) (past : List Step) → Follows n past self.old → place ≡ length past → OnOk result (Follows n (step ∷ past) self.new) }
+        ensures came { (n : ℕ) (past : List Step) → Follows n past self.old → OnOk result (MayCome n past step × (length past < MAX_STEPS)) }
+        ensures refused { (n : ℕ) (past : List Step) → Follows n past self.old → IfErr result (IsRefusedAfter n past step) }
     {
         let reply = self.core.step(step)?;
         self.tracks.take(step, place)?;
