@@ -1,5 +1,5 @@
 -- What is known of steps that were followed one by one.
-use Rattle.std.specs.Prelude.{ℕ, ◌≡◌, ◌==◌, ◌<◌, ◌≤◌, List, None}
+use Rattle.std.specs.Prelude.{ℕ, ◌≡◌, ◌==◌, ◌<◌, ◌≤◌, List, None, length, slice_index}
 use Rattle.std.specs.List.{find, slice_index_or}
 use Rattle.std.specs.Option.{option_map}
 use Rattle.tp_base.specs.declared.limits.TheConstants.{MAX_NODES}
@@ -12,6 +12,7 @@ use Rattle.tp_core.specs.Generations.{AreRuns, world_after}
 use Rattle.tp_core.specs.Accepted.{no_numbers}
 use Rattle.tp_scene.specs.declared.tracks.Tracks.{Tracks}
 use Rattle.tp_scene.specs.declared.messages.Messages.{Messages}
+use Rattle.tp_scene.specs.declared.waves.Gives.{Gives}
 use Rattle.tp_scene.specs.declared.waves.Waves.{Waves}
 use Rattle.tp_scene.specs.declared.lanes.Lanes.{Lanes}
 use Rattle.tp_scene.specs.declared.sketch.Sketch.{Sketch}
@@ -24,7 +25,7 @@ home x = record { 0 = x.home }
 
 pub record HasTracks (n : ℕ) (past : List Step) (t : Tracks) : Type 0 where
   pub homes : (k : ℕ) → lookup t.homes k ≡ option_map home (find (λ x. x.number == k) (world_after n past).tasks)
-  pub rows : (i : ℕ) → i < 8 → slice_index_or t.rows i 0 ≡ rows n i past
+  pub rows : (i : ℕ) → i < 8 → slice_index t.rows i ≡ rows n i past
   pub running : t.running.items ≡ running n past
   pub bars : t.bars.items ≡ bars n past
 
@@ -32,9 +33,13 @@ pub record HasMessages (past : List Step) (m : Messages) : Type 0 where
   pub under_way : m.under_way.items ≡ under_way past
   pub arrows : m.arrows.items ≡ arrows past
 
+pub record HasGiven (past : List Step) (g : Gives) : Type 0 where
+  pub size : length g.last ≡ 8
+  pub last : (i : ℕ) → i < 8 → slice_index g.last i ≡ gave i past
+  pub earlier : g.earlier ≡ gave 0 (visit 0 past)
+
 pub record HasWaves (n : ℕ) (past : List Step) (w : Waves) : Type 0 where
-  pub gives : (i : ℕ) → i < 8 → slice_index_or w.gives i 0 ≡ gave i past
-  pub earlier : w.earlier ≡ gave 0 (visit 0 past)
+  pub gives : HasGiven past w.gives
   pub cuts : w.cuts.items ≡ cuts n past
   pub seams : w.seams.items ≡ seams past
   pub ends : w.ends.items ≡ ends n past

@@ -1,6 +1,5 @@
 -- Where things stand on the page, in tenths of a pixel.
-use Rattle.std.specs.Prelude.{ℕ, ◌+◌, ◌-◌, ◌*◌, ◌/◌, nat_le, max, min, if◌then◌else◌}
-use Rattle.std.specs.List.{slice_index_or}
+use Rattle.std.specs.Prelude.{ℕ, ◌+◌, ◌-◌, ◌*◌, ◌/◌, nat_le, max, min, slice_index, if◌then◌else◌}
 use Rattle.tp_wave.specs.Sums.{total}
 use Rattle.tp_scene.specs.declared.layout.Detail.{Detail}
 use Rattle.tp_scene.specs.declared.layout.Detail.TheVariants.{Fine, Medium, Coarse}
@@ -48,7 +47,7 @@ unfoldable pub reach : Scene → ℕ → ℕ
 reach s e = min (middle s e) (right s)
 
 unfoldable pub rows_of : Scene → ℕ → ℕ
-rows_of s i = slice_index_or s.rows i 0
+rows_of s i = slice_index s.rows i
 
 -- from a track to the next
 abbrev pub pitch : Scene → ℕ

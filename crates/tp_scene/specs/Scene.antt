@@ -1,7 +1,7 @@
 -- What is drawn of the steps of a run on n nodes. A list of steps has the newest first; what is drawn of it stands in the order of
 -- time. An event has as its number how many had come before it.
-use Rattle.std.specs.Prelude.{ℕ, zero, suc, ◌+◌, ◌==◌, ◌&&◌, ◌≡◌, ◌<◌, ◌++◌, ◌⊎◌, List, [], ◌∷◌, Bool, not, Option, Some, None, length, map, max, reverse, unwrap_or, if◌then◌else◌}
-use Rattle.std.specs.List.{find, list_any, range_with_len, slice_index_or}
+use Rattle.std.specs.Prelude.{ℕ, zero, suc, ◌+◌, ◌==◌, ◌&&◌, ◌≡◌, ◌<◌, ◌++◌, ◌⊎◌, List, [], ◌∷◌, Bool, not, Option, Some, None, length, map, max, reverse, slice_index, unwrap_or, if◌then◌else◌}
+use Rattle.std.specs.List.{find, list_any, range_with_len}
 use Rattle.tp_base.specs.declared.Step.{Step}
 use Rattle.tp_base.specs.declared.Step.TheVariants.{Begin, Done, Send, Recv, Give, Judge, Reopen}
 use Rattle.tp_wave.specs.Sums.{visit, sums_of, judgement}
@@ -166,7 +166,7 @@ last_pauses n steps = pauses_now n n steps
 pub record IsSceneOf (n : ℕ) (steps : List Step) (s : Scene) : Type 0 where
   pub nodes : s.nodes ≡ n
   pub events : s.events ≡ length steps
-  pub rows : (i : ℕ) → i < 8 → slice_index_or s.rows i 0 ≡ rows n i steps
+  pub rows : (i : ℕ) → i < 8 → slice_index s.rows i ≡ rows n i steps
   pub bars : s.bars.items ≡ bars n steps
   pub running : s.running.items ≡ running n steps
   pub arrows : s.arrows.items ≡ arrows steps

@@ -4,6 +4,7 @@ ghost use Rattle.tp_scene.specs.Cuts.{tells, wave_class, cut_at, crossing, cross
 
 use crate::layout::{Detail, TOP};
 use crate::pieces::{Area, Mark, Point, push_area, push_count, push_point, push_tenths};
+use crate::places::place_of;
 use crate::scene::{Cut, End, Scene};
 use std::alloc::AllocError;
 
@@ -37,7 +38,7 @@ fn cut_at(scene: &Scene, cut: &Cut, node: u32) -> u64
     ensures value { result ≡ cut_at scene.now cut.now node }
     ensures bound { result < 2 ^ 42 }
 {
-    scene.middle(cut.gives.get(node as usize).copied().unwrap_or(0))
+    scene.middle(place_of(&cut.gives, node))
 }
 
 /// The line of a wave through the lane of a node.

@@ -1,6 +1,7 @@
 ghost use Rattle.std.specs.Prelude.{◌≡◌, ◌≤◌, ◌<◌, ◌*◌, ◌^◌, min};
 ghost use Rattle.tp_scene.specs.Layout.{detail_of, step_of, bar_of, gap_of, between_of, edge, middle, right, reach, rows_of, height_of, top_of, foot, track_of, bottom, width, page_height};
 
+use crate::places::place_of;
 use crate::scene::Scene;
 
 /// Where the lanes begin, in tenths of a pixel, as all that follows.
@@ -138,7 +139,7 @@ impl Scene {
         ensures value { result ≡ rows_of self.now node }
         ensures bound { result < 2 ^ 32 }
     {
-        u64::from(self.rows.get(node as usize).copied().unwrap_or(0))
+        u64::from(place_of(&self.rows, node))
     }
 
     /// How high the lane of a node is.

@@ -9,6 +9,7 @@ mod marks;
 mod messages;
 mod page;
 mod pieces;
+mod places;
 mod scene;
 mod sketch;
 mod tracks;

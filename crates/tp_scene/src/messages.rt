@@ -1,11 +1,14 @@
-ghost use Rattle.std.specs.Prelude.{◌≡◌, ◌∷◌, [], ℕ, List, length, OnOk};
+ghost use Rattle.std.specs.Prelude.{◌≡◌, ◌∷◌, ◌++◌, [], List, length, OnOk};
 ghost use Rattle.tp_base.specs.declared.Step.{Step};
+ghost use Rattle.std.specs.List.{find};
+ghost use Rattle.tp_core.specs.Pool.{without};
+ghost use Rattle.tp_scene.specs.Scene.{is_sending_of, arrow_of};
 ghost use Rattle.tp_scene.specs.Following.{HasMessages};
 
 use crate::keyed::{Keyed, take_out};
 use crate::scene::{Arrow, Sending};
 use std::alloc::{AllocError, Global};
-use tp_base::Step;
+use tp_base::{MessageId, Step};
 
 impl Keyed for Sending {
     ghost key = { λ sending. sending.message.0 };
@@ -38,24 +41,39 @@ impl Messages {
         ensures { (past : List Step) → HasMessages past self.old → place ≡ length past → OnOk result (HasMessages (step ∷ past) self.new) }
     {
         match step {
-            Step::Send(from, to, message, _) => {
-                self.under_way.push(Sending {
-                    message,
-                    from,
-                    to,
-                    sent: place,
-                })?;
-            }
-            Step::Recv(_, message, _) => {
-                if let Some(sending) = take_out(&mut self.under_way, message.0) {
-                    self.arrows.push(Arrow {
-                        sending,
-                        received: place,
-                    })?;
-                }
-            }
-            _ => {}
+            Step::Send(from, to, message, _) => self.send(Sending {
+                message,
+                from,
+                to,
+                sent: place,
+            }),
+            Step::Recv(_, message, _) => self.receive(message, place),
+            _ => Ok(()),
         }
+    }
+
+    /// A message is under way.
+    fn send(&mut self, sending: Sending) -> Result<(), AllocError>
+        ensures under_way { OnOk result (self.new.under_way.items ≡ self.old.under_way.items ++ sending ∷ []) }
+        ensures arrows { self.new.arrows.items ≡ self.old.arrows.items }
+    {
+        self.under_way.push(sending)?;
+        Ok(())
+    }
+
+    /// A message is received: its arrow ends.
+    fn receive(&mut self, message: MessageId, place: u32) -> Result<(), AllocError>
+        ensures under_way { OnOk result (self.new.under_way.items ≡ without (is_sending_of message.0) self.old.under_way.items) }
+        ensures arrows { OnOk result (self.new.arrows.items
+            ≡ self.old.arrows.items ++ arrow_of (find (is_sending_of message.0) self.old.under_way.items) place) }
+    {
+        let Some(sending) = take_out(&mut self.under_way, message.0) else {
+            return Ok(());
+        };
+        self.arrows.push(Arrow {
+            sending,
+            received: place,
+        })?;
         Ok(())
     }
 }

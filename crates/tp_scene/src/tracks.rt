@@ -1,11 +1,14 @@
-ghost use Rattle.std.specs.Prelude.{◌≡◌, ◌<◌, ℕ, List, length, OnOk};
-ghost use Rattle.std.specs.List.{list_any};
+ghost use Rattle.std.specs.Prelude.{◌≡◌, ◌∷◌, ◌++◌, ◌<◌, ◌≤◌, [], ℕ, List, length, OnOk};
+ghost use Rattle.std.specs.List.{find, list_any};
+ghost use Rattle.tp_base.specs.Table.{HasSame};
+ghost use Rattle.tp_core.specs.Pool.{without};
 ghost use Rattle.tp_base.specs.declared.Step.{Step};
 ghost use Rattle.tp_base.specs.declared.limits.TheConstants.{MAX_STEPS};
-ghost use Rattle.tp_scene.specs.Scene.{is_on, free_track};
+ghost use Rattle.tp_scene.specs.Scene.{is_on, is_run_of, bar_of, free_track};
 ghost use Rattle.tp_scene.specs.Following.{HasTracks};
 
 use crate::keyed::{Keyed, take_out};
+use crate::places::{place_of, put};
 use crate::scene::{Bar, Running};
 use std::alloc::{AllocError, Global};
 use tp_base::{NodeId, Step, Table, TaskId};
@@ -66,9 +69,8 @@ impl Tracks {
     {
         let node = self.homes.get(task.0).unwrap_or(NodeId(0));
         let track = free_track(&self.running, node, place);
-        if let Some(rows) = self.rows.get_mut(node.0 as usize) {
-            *rows = (*rows).max(track + 1);
-        }
+        let rows = place_of(&self.rows, node.0).max(track + 1);
+        put(&mut self.rows, node.0, rows);
         self.running.push(Running {
             task,
             node,
@@ -80,12 +82,15 @@ impl Tracks {
 
     /// A task is done: its bar ends.
     fn done(&mut self, task: TaskId, place: u32) -> Result<(), AllocError>
-        ensures { (n : ℕ) (past : List Step) → HasTracks n past self.old → place ≡ length past
-            → OnOk result (HasTracks n (Step.Done task ∷ past) self.new) }
+        ensures running { OnOk result (self.new.running.items ≡ without (is_run_of task.0) self.old.running.items) }
+        ensures bars { OnOk result (self.new.bars.items
+            ≡ self.old.bars.items ++ bar_of (find (is_run_of task.0) self.old.running.items) place) }
+        ensures others { OnOk result (HasSame self.old.homes self.new.homes × (self.new.rows ≡ self.old.rows)) }
     {
-        if let Some(run) = take_out(&mut self.running, task.0) {
-            self.bars.push(Bar { run, to: place })?;
-        }
+        let Some(run) = take_out(&mut self.running, task.0) else {
+            return Ok(());
+        };
+        self.bars.push(Bar { run, to: place })?;
         Ok(())
     }
 }

@@ -1,20 +1,42 @@
 ghost use Rattle.std.specs.Prelude.{◌≡◌, ◌∷◌, [], ℕ, List, length, OnOk};
 ghost use Rattle.tp_base.specs.declared.Step.{Step};
 ghost use Rattle.tp_core.specs.Accepted.{reply_to};
-ghost use Rattle.tp_scene.specs.Following.{HasWaves};
+ghost use Rattle.tp_scene.specs.Following.{HasWaves, HasGiven};
 
+use crate::places::{place_of, put};
 use crate::scene::{Cut, End, Seam};
 use std::alloc::{AllocError, Global};
 use tp_base::{NodeId, Step};
 use tp_core::Reply;
 
+/// Where each node gave last, and where the root gave before.
+#[derive(Clone, Copy, Debug, PartialEq, Eq)]
+pub(crate) struct Gives {
+    last: [u32; 8],
+    earlier: u32,
+}
+
+impl Gives {
+    /// A node gives, as the step of which so many had come before.
+    fn give(self, node: NodeId, place: u32) -> Gives
+        ensures { (past : List Step) → HasGiven past self → place ≡ length past → HasGiven (Step.Give node ∷ past) result }
+    {
+        let mut last = self.last;
+        let earlier = if node.0 == 0 {
+            place_of(&last, 0)
+        } else {
+            self.earlier
+        };
+        put(&mut last, node.0, place);
+        Gives { last, earlier }
+    }
+}
+
 /// The waves of the steps so far: where each node gave last, the cuts of those that ended, where the pool was reopened, and
 /// where the end was judged.
 #[derive(Drop)]
 pub(crate) struct Waves {
-    gives: [u32; 8],
-    // where the root gave before it gave last
-    earlier: u32,
+    gives: Gives,
     pub(crate) cuts: Vec<Cut>,
     pub(crate) seams: Vec<Seam>,
     pub(crate) ends: Vec<End>,
@@ -27,8 +49,10 @@ impl Waves {
         ensures { (n : ℕ) → HasWaves n [] result }
     {
         Waves {
-            gives: [0; 8],
-            earlier: 0,
+            gives: Gives {
+                last: [0; 8],
+                earlier: 0,
+            },
             cuts: Vec::new(alloc),
             seams: Vec::new(alloc),
             ends: Vec::new(alloc),
@@ -41,42 +65,59 @@ impl Waves {
         ensures { (n : ℕ) (past : List Step) → HasWaves n past self.old → place ≡ length past → reply ≡ reply_to n past step
             → OnOk result (HasWaves n (step ∷ past) self.new) }
     {
-        if let Step::Give(node) = step {
-            self.give(node, place);
+        match step {
+            Step::Give(node) => self.give(node, reply, place),
+            Step::Judge => self.judge(reply, place),
+            Step::Reopen => self.reopen(reply, place),
+            _ => Ok(()),
         }
-        match reply {
-            Reply::WaveSums(sums) => self.cuts.push(Cut {
-                sums,
-                gives: self.gives,
-            })?,
-            Reply::Over(wave) => {
-                self.ends.push(End {
-                    wave,
-                    since: self.earlier,
-                    judged: place,
-                })?;
-                self.ended = Some(wave);
-            }
-            Reply::Not => self.ended = None,
-            Reply::Opened(generation) => {
-                self.seams.push(Seam {
-                    generation,
-                    at: place,
-                })?;
-                self.ended = None;
-            }
-            Reply::Plain => {}
-        }
+    }
+
+    /// A node gives. Where it is the root, the wave ends.
+    fn give(&mut self, node: NodeId, reply: Reply, place: u32) -> Result<(), AllocError>
+        ensures { (n : ℕ) (past : List Step) → HasWaves n past self.old → place ≡ length past → reply ≡ reply_to n past (Step.Give node)
+            → OnOk result (HasWaves n (Step.Give node ∷ past) self.new) }
+    {
+        self.gives = self.gives.give(node, place);
+        let Reply::WaveSums(sums) = reply else {
+            return Ok(());
+        };
+        let gives = self.gives.last;
+        self.cuts.push(Cut { sums, gives })?;
         Ok(())
     }
 
-    /// A node gives.
-    fn give(&mut self, node: NodeId, place: u32) {
-        if node.0 == 0 {
-            self.earlier = self.gives[0];
-        }
-        if let Some(last) = self.gives.get_mut(node.0 as usize) {
-            *last = place;
-        }
+    /// A wave is judged.
+    fn judge(&mut self, reply: Reply, place: u32) -> Result<(), AllocError>
+        ensures { (n : ℕ) (past : List Step) → HasWaves n past self.old → place ≡ length past → reply ≡ reply_to n past Step.Judge
+            → OnOk result (HasWaves n (Step.Judge ∷ past) self.new) }
+    {
+        let Reply::Over(wave) = reply else {
+            self.ended = None;
+            return Ok(());
+        };
+        self.ended = Some(wave);
+        self.ends.push(End {
+            wave,
+            since: self.gives.earlier,
+            judged: place,
+        })?;
+        Ok(())
+    }
+
+    /// The pool is reopened.
+    fn reopen(&mut self, reply: Reply, place: u32) -> Result<(), AllocError>
+        ensures { (n : ℕ) (past : List Step) → HasWaves n past self.old → place ≡ length past → reply ≡ reply_to n past Step.Reopen
+            → OnOk result (HasWaves n (Step.Reopen ∷ past) self.new) }
+    {
+        self.ended = None;
+        let Reply::Opened(generation) = reply else {
+            return Ok(());
+        };
+        self.seams.push(Seam {
+            generation,
+            at: place,
+        })?;
+        Ok(())
     }
 }
