@@ -17,4 +17,4 @@ mod waves;
 
 pub use page::svg;
 pub use scene::{Arrow, Bar, Cut, End, Pause, Running, Scene, Seam, Sending};
-pub use sketch::scene;
+pub use sketch::scene_of;

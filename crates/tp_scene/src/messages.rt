@@ -1,8 +1,7 @@
-ghost use Rattle.std.specs.Prelude.{◌≡◌, ◌∷◌, ◌++◌, [], List, length, OnOk};
+ghost use Rattle.std.specs.Prelude.{◌≡◌, ◌∷◌, [], List, length, OnOk};
 ghost use Rattle.tp_base.specs.declared.Step.{Step};
-ghost use Rattle.std.specs.List.{find};
-ghost use Rattle.tp_core.specs.Pool.{without};
-ghost use Rattle.tp_scene.specs.Scene.{is_sending_of, arrow_of};
+ghost use Rattle.tp_base.specs.declared.ids.Generation.{Generation};
+ghost use Rattle.tp_base.specs.declared.ids.NodeId.{NodeId};
 ghost use Rattle.tp_scene.specs.Following.{HasMessages};
 
 use crate::keyed::{Keyed, take_out};
@@ -54,8 +53,8 @@ impl Messages {
 
     /// A message is under way.
     fn send(&mut self, sending: Sending) -> Result<(), AllocError>
-        ensures under_way { OnOk result (self.new.under_way.items ≡ self.old.under_way.items ++ sending ∷ []) }
-        ensures arrows { self.new.arrows.items ≡ self.old.arrows.items }
+        ensures { (past : List Step) (g : Generation) → HasMessages past self.old → sending.sent ≡ length past
+            → OnOk result (HasMessages (Step.Send sending.from sending.to sending.message g ∷ past) self.new) }
     {
         self.under_way.push(sending)?;
         Ok(())
@@ -63,9 +62,8 @@ impl Messages {
 
     /// A message is received: its arrow ends.
     fn receive(&mut self, message: MessageId, place: u32) -> Result<(), AllocError>
-        ensures under_way { OnOk result (self.new.under_way.items ≡ without (is_sending_of message.0) self.old.under_way.items) }
-        ensures arrows { OnOk result (self.new.arrows.items
-            ≡ self.old.arrows.items ++ arrow_of (find (is_sending_of message.0) self.old.under_way.items) place) }
+        ensures { (past : List Step) (j : NodeId) (g : Generation) → HasMessages past self.old → place ≡ length past
+            → OnOk result (HasMessages (Step.Recv j message g ∷ past) self.new) }
     {
         let Some(sending) = take_out(&mut self.under_way, message.0) else {
             return Ok(());

@@ -81,7 +81,7 @@ impl Sketch {
 /// what is drawn.
 ///
 /// Refused: a step that a core refuses after those before it, as the core refuses it; and `NoMemory`.
-pub fn scene(alloc: Global, nodes: u32, steps: &[Step]) -> Result<Scene, Refusal>
+pub fn scene_of(alloc: Global, nodes: u32, steps: &[Step]) -> Result<Scene, Refusal>
     requires { (1 ≤ nodes) × (nodes ≤ MAX_NODES) }
     ensures ok { IfOk result (IsSceneOf nodes (reverse steps.now)) }
     // Only of a run something is drawn.

@@ -1,10 +1,8 @@
-ghost use Rattle.std.specs.Prelude.{◌≡◌, ◌∷◌, ◌++◌, ◌<◌, ◌≤◌, [], ℕ, List, length, OnOk};
-ghost use Rattle.std.specs.List.{find, list_any};
-ghost use Rattle.tp_base.specs.Table.{HasSame};
-ghost use Rattle.tp_core.specs.Pool.{without};
+ghost use Rattle.std.specs.Prelude.{◌≡◌, ◌∷◌, ◌<◌, ◌≤◌, [], ℕ, List, length, OnOk};
+ghost use Rattle.std.specs.List.{list_any};
 ghost use Rattle.tp_base.specs.declared.Step.{Step};
 ghost use Rattle.tp_base.specs.declared.limits.TheConstants.{MAX_STEPS};
-ghost use Rattle.tp_scene.specs.Scene.{is_on, is_run_of, bar_of, free_track};
+ghost use Rattle.tp_scene.specs.Scene.{is_on, free_track};
 ghost use Rattle.tp_scene.specs.Following.{HasTracks};
 
 use crate::keyed::{Keyed, take_out};
@@ -82,10 +80,8 @@ impl Tracks {
 
     /// A task is done: its bar ends.
     fn done(&mut self, task: TaskId, place: u32) -> Result<(), AllocError>
-        ensures running { OnOk result (self.new.running.items ≡ without (is_run_of task.0) self.old.running.items) }
-        ensures bars { OnOk result (self.new.bars.items
-            ≡ self.old.bars.items ++ bar_of (find (is_run_of task.0) self.old.running.items) place) }
-        ensures others { OnOk result (HasSame self.old.homes self.new.homes × (self.new.rows ≡ self.old.rows)) }
+        ensures { (n : ℕ) (past : List Step) → HasTracks n past self.old → place ≡ length past
+            → OnOk result (HasTracks n (Step.Done task ∷ past) self.new) }
     {
         let Some(run) = take_out(&mut self.running, task.0) else {
             return Ok(());

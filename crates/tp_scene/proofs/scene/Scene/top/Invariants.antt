@@ -1,7 +1,7 @@
 use Rattle.std.proofs.Common.{◌≡◌, ◌+◌, ◌*◌, ◌^◌, ◌≤◌}
 use Rattle.tp_wave.specs.Sums.{total}
 use Rattle.tp_scene.specs.Layout.{detail_of, height_of, between_of}
-use Rattle.tp_scene.proofs.layout.Scene.top.Given as goal
+use Rattle.tp_scene.proofs.scene.Scene.top.Given as goal
 
 abbrev pub invariant-loop-above : goal.invariant-loop-above
 invariant-loop-above l = record {

@@ -1,7 +1,7 @@
 use Rattle.std.proofs.Common.{◌≡◌, ◌≤◌, take, reverse}
 use Rattle.tp_core.specs.Generations.{AreRuns}
 use Rattle.tp_scene.specs.Following.{Follows}
-use Rattle.tp_scene.proofs.sketch.scene.Given as goal
+use Rattle.tp_scene.proofs.sketch.scene_of.Given as goal
 
 abbrev pub invariant-loop-step : goal.invariant-loop-step
 invariant-loop-step l = record {
