@@ -1,5 +1,5 @@
 -- What is known of steps that were followed, one step further.
-use Rattle.std.proofs.Common.{◌≡◌, ◌≢◌, ℕ, ◌+◌, ◌<◌, ◌==◌, Bool, true, false, List, [], ◌∷◌, ◌++◌, length, Option, Some, None, slice_index, max, if◌then◌else◌, refl, sym, ap, ◌∙◌, eqb-true, arith}
+use Rattle.std.proofs.Common.{◌≡◌, ◌≢◌, ℕ, ◌+◌, ◌<◌, ◌==◌, Bool, true, false, List, [], ◌∷◌, ◌++◌, length, Option, Some, None, slice_index, max, if◌then◌else◌, refl, sym, ap, subst, ◌∙◌, eqb-true, arith}
 use Rattle.std.specs.Prelude.{OnOk, Result, Ok, Err, unwrap_or, map}
 use Rattle.std.specs.List.{find, range_with_len}
 use Rattle.std.specs.Option.{option_map}
@@ -25,7 +25,7 @@ use Rattle.tp_core.specs.World.{Task, home_of}
 use Rattle.tp_core.specs.Pool.{with_life, without, supplied, lacking}
 use Rattle.tp_core.specs.Generations.{world_after}
 use Rattle.tp_core.specs.Accepted.{judged, reply_to}
-use Rattle.tp_text.specs.AuditText.{last_judgement}
+use Rattle.tp_scene.specs.Temp.{last_judgement}
 use Rattle.tp_scene.specs.declared.scene.Running.{Running}
 use Rattle.tp_scene.specs.declared.scene.Sending.{Sending}
 use Rattle.tp_scene.specs.declared.scene.Cut.{Cut}
@@ -52,25 +52,29 @@ picked : (i : NodeId) (x : Task) (b : Bool) (o : Option Task) → i ≡ home x �
 picked i x true o e = ap Some e
 picked i x false o e = refl
 
-pub tracks_inserted : (n : ℕ) (past : List Step) (i : NodeId) (t : TaskId) (k : Inputs) (old new : Tracks) → HasTracks n past old
+pub tracks_inserted : (n : ℕ) (past : List Step) (s : Step) (i : NodeId) (t : TaskId) (k : Inputs) (old new : Tracks) → s ≡ Insert i t k → HasTracks n past old
     → Puts old.homes new.homes t.0 i → new.rows ≡ old.rows → new.running.items ≡ old.running.items → new.bars.items ≡ old.bars.items
-    → HasTracks n (Insert i t k ∷ past) new
-tracks_inserted n past i t k old new h puts same run bar = record {
-  homes = λ q. puts q ∙ rw (h.homes q)
-      (picked i (record { number = t.0; home = i.0; life = lacking k.count }) (t.0 == q) (find (λ x. x.number == q) (world_after n past).tasks) refl);
-  rows = λ j l. ap (λ r. slice_index r j) same ∙ h.rows j l;
-  running = run ∙ h.running;
-  bars = bar ∙ h.bars;
-}
+    → HasTracks n (s ∷ past) new
+tracks_inserted n past s i t k old new is h puts same run bar =
+    let P : Step → Type 0 = λ x. HasTracks n (x ∷ past) new in
+    subst P (sym is) (record {
+      homes = λ q. puts q ∙ rw (h.homes q)
+          (picked i (record { number = t.0; home = i.0; life = lacking k.count }) (t.0 == q) (find (λ x. x.number == q) (world_after n past).tasks) refl);
+      rows = λ j l. ap (λ r. slice_index r j) same ∙ h.rows j l;
+      running = run ∙ h.running;
+      bars = bar ∙ h.bars;
+    })
 
-pub tracks_reopened : (n : ℕ) (past : List Step) (old new : Tracks) → HasTracks n past old → ((q : ℕ) → lookup new.homes q ≡ None)
-    → new.rows ≡ old.rows → new.running.items ≡ old.running.items → new.bars.items ≡ old.bars.items → HasTracks n (Reopen ∷ past) new
-tracks_reopened n past old new h none same run bar = record {
-  homes = none;
-  rows = λ j l. ap (λ r. slice_index r j) same ∙ h.rows j l;
-  running = run ∙ h.running;
-  bars = bar ∙ h.bars;
-}
+pub tracks_reopened : (n : ℕ) (past : List Step) (s : Step) (old new : Tracks) → s ≡ Reopen → HasTracks n past old → ((q : ℕ) → lookup new.homes q ≡ None)
+    → new.rows ≡ old.rows → new.running.items ≡ old.running.items → new.bars.items ≡ old.bars.items → HasTracks n (s ∷ past) new
+tracks_reopened n past s old new is h none same run bar =
+    let P : Step → Type 0 = λ x. HasTracks n (x ∷ past) new in
+    subst P (sym is) (record {
+      homes = none;
+      rows = λ j l. ap (λ r. slice_index r j) same ∙ h.rows j l;
+      running = run ∙ h.running;
+      bars = bar ∙ h.bars;
+    })
 
 pub tracks_other : (n : ℕ) (past : List Step) (s : Step) (t : Tracks) → HasTracks n past t
     → ((i : NodeId) (u : TaskId) (k : Inputs) → s ≢ Insert i u k) → ((u : TaskId) → s ≢ Begin u) → ((u : TaskId) → s ≢ Done u) → (s ≢ Reopen)
@@ -122,6 +126,12 @@ tracks_begun n past t node track place old new h at node_is track_is same put ru
         ≡ (if b then max (rows n i past) (track + 1) else rows n i past)
     choose i l true e = ap (λ r. max r (track + 1)) (ap (slice_index old.rows) (eqb-true node.0 i e) ∙ h.rows i l)
     choose i l false e = h.rows i l
+
+pub rows_put : (old new : List ℕ) (node track at value : ℕ) → at ≡ slice_index old node → value ≡ max at (track + 1)
+    → ((i : ℕ) → i < 8 → slice_index new i ≡ (if node == i then value else slice_index old i))
+    → (i : ℕ) → i < 8 → slice_index new i ≡ (if node == i then max (slice_index old node) (track + 1) else slice_index old i)
+rows_put old new node track at value is greater put i l =
+    put i l ∙ ap (λ v. if node == i then v else slice_index old i) (greater ∙ ap (λ a. max a (track + 1)) is)
 
 pub tracks_done : (n : ℕ) (past : List Step) (t : TaskId) (place : ℕ) (old new : Tracks) (found : Option Running) → HasTracks n past old → place ≡ length past
     → found ≡ find (is_run_of t.0) old.running.items

@@ -80,11 +80,11 @@ label_text s cut row =
 abbrev pub label : Scene → Cut → Option Cut → ℕ → List ℕ
 label s cut next row = if has_room s cut next then label_text s cut row else []
 
+abbrev pub label_at : Scene → List Cut → Option Cut → ℕ → List ℕ
+label_at s cuts None k = []
+label_at s cuts (Some cut) k = label s cut (slice_get cuts (k + 2)) (k % 2)
+
 -- the labels of the first k of the waves, in two rows
 abbrev pub labels : Scene → List Cut → ℕ → List ℕ
 labels s cuts zero = []
 labels s cuts (suc k) = labels s cuts k ++ label_at s cuts (slice_get cuts k) k
-
-abbrev pub label_at : Scene → List Cut → Option Cut → ℕ → List ℕ
-label_at s cuts None k = []
-label_at s cuts (Some cut) k = label s cut (slice_get cuts (k + 2)) (k % 2)

@@ -5,3 +5,5 @@ pub mod Pieces
 pub mod Marks
 pub mod Cuts
 pub mod Page
+pub mod Laws
+pub mod Temp

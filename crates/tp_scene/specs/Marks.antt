@@ -24,6 +24,10 @@ area x y width height = record { corner = at x y; width = width; height = height
 abbrev pub event : ℕ → List ℕ
 event e = decimal (e + 1)
 
+abbrev pub is_fine : Detail → Bool
+is_fine Fine = true
+is_fine _ = false
+
 abbrev pub is_detailed : Detail → Bool
 is_detailed Coarse = false
 is_detailed _ = true
@@ -89,10 +93,6 @@ curve_text from to =
 unfoldable pub arrow_class : Scene → List ℕ
 arrow_class s =
     if nat_lt 150 (length s.arrows.items) then codes "arrow many" else (if is_fine (detail_of s.events) then codes "arrow" else codes "arrow some")
-
-abbrev pub is_fine : Detail → Bool
-is_fine Fine = true
-is_fine _ = false
 
 unfoldable pub dot_text : Scene → Point → List ℕ
 dot_text s p =

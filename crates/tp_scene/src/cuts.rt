@@ -154,7 +154,7 @@ impl Mark for End {
 
 /// Whether there is room for a wave's label beside that of the next wave in its row.
 fn has_room(scene: &Scene, cut: &Cut, next: Option<&Cut>) -> bool
-    ensures { result ≡ has_room scene.now cut.now (option_copied next) }
+    ensures { result ≡ has_room scene.now cut.now (option_copied next.entry) }
 {
     let at = cut_at(scene, cut, 0);
     let room = if at < LABEL { 2 * LABEL } else { LABEL };

@@ -60,19 +60,42 @@ impl Sketch {
     fn finish(self, events: u32) -> Result<Scene, AllocError>
         ensures { (n : ℕ) (past : List Step) → Follows n past self → events ≡ length past → IfOk result (IsSceneOf n past) }
     {
+        let Sketch {
+            nodes,
+            core: _,
+            tracks,
+            messages,
+            waves,
+            lanes,
+        } = self;
+        let Tracks {
+            homes: _,
+            rows,
+            running,
+            bars,
+        } = tracks;
+        let Messages { under_way, arrows } = messages;
+        let Waves {
+            gives: _,
+            cuts,
+            seams,
+            ends,
+            ended,
+        } = waves;
+        let pauses = lanes.finish(events)?;
         Ok(Scene {
-            nodes: self.nodes,
+            nodes,
             events,
-            rows: self.tracks.rows,
-            bars: self.tracks.bars,
-            running: self.tracks.running,
-            arrows: self.messages.arrows,
-            under_way: self.messages.under_way,
-            cuts: self.waves.cuts,
-            seams: self.waves.seams,
-            ends: self.waves.ends,
-            ended: self.waves.ended,
-            pauses: self.lanes.finish(events)?,
+            rows,
+            bars,
+            running,
+            arrows,
+            under_way,
+            cuts,
+            pauses,
+            seams,
+            ends,
+            ended,
         })
     }
 }

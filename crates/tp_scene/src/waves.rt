@@ -36,7 +36,7 @@ impl Gives {
 /// where the end was judged.
 #[derive(Drop)]
 pub(crate) struct Waves {
-    gives: Gives,
+    pub(crate) gives: Gives,
     pub(crate) cuts: Vec<Cut>,
     pub(crate) seams: Vec<Seam>,
     pub(crate) ends: Vec<End>,

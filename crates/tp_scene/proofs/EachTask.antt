@@ -1,0 +1,306 @@
+-- Each task that is done has one bar, and each that runs.
+use Rattle.std.proofs.Common.{◌≡◌, ℕ, ◌+◌, ◌-◌, ◌≤◌, ◌==◌, ◌||◌, Bool, true, false, not, List, [], ◌∷◌, ◌++◌, length, map, Option, Some, None, refl, sym, ap, subst, ◌∙◌, eqb-true, arith, if◌then◌else◌}
+use Rattle.std.specs.Prelude.{IsFalse, IsTrue}
+use Rattle.std.specs.List.{find, list_any}
+use Rattle.std.specs.Option.{option_map}
+use Rattle.std.proofs.lemmas.Bool.Decides.{nat_tests}
+use Rattle.std.proofs.lemmas.List.{map-append}
+use Rattle.tp_base.specs.declared.ids.Inputs.{Inputs}
+use Rattle.tp_base.specs.declared.ids.NodeId.{NodeId}
+use Rattle.tp_base.specs.declared.ids.TaskId.{TaskId}
+use Rattle.tp_base.specs.declared.Step.{Step}
+use Rattle.tp_base.specs.declared.Step.TheVariants.{Insert, Supply, Begin, Done, Reopen}
+use Rattle.tp_wave.specs.Steps.{before_newest}
+use Rattle.tp_wave.specs.Sums.{is_ended}
+use Rattle.tp_wave.specs.Generations.{present}
+use Rattle.tp_wave.specs.Machine.{steps_of}
+use Rattle.tp_wave.proofs.Judged.{judged_law}
+use Rattle.tp_core.specs.declared.life.Life.{Life}
+use Rattle.tp_core.specs.declared.life.Life.TheVariants as life
+use Rattle.tp_core.specs.World.{Task, IsQuiet, how_many, home_of, life_of, is_done}
+use Rattle.tp_core.specs.Pool.{with_life, without, lacking, supplied}
+use Rattle.tp_core.specs.Checks.{is_running}
+use Rattle.tp_core.specs.NeverEarly.{is_begin_of}
+use Rattle.tp_core.specs.Run.{world, history}
+use Rattle.tp_core.specs.Generations.{AreRuns, MayCome, world_after}
+use Rattle.tp_core.proofs.Counting.{home_in, life_in, home-with_life, is_run, steps_of-history}
+use Rattle.tp_core.proofs.Generations.{present_run}
+use Rattle.tp_core.proofs.Quiet.{quiet_seen}
+use Rattle.tp_scene.specs.declared.scene.Running.{Running}
+use Rattle.tp_scene.specs.declared.scene.Bar.{Bar}
+use Rattle.tp_scene.specs.Scene.{is_run_of, begun, running, bars, bar_of}
+use Rattle.tp_scene.specs.Laws.{Span, span_of, done_spans, HasEachTask, EachTaskOnce}
+
+-- ---- lists
+abbrev one : Bool → ℕ
+one b = if b then 1 else 0
+
+counted-push : {A : Type 0} (test : A → Bool) (xs : List A) (y : A) → how_many test (xs ++ y ∷ []) ≡ how_many test xs + one (test y)
+counted-push test [] y = grind arith
+counted-push test (x ∷ xs) y = grind (arith, counted-push test xs y)
+
+find-push : {A : Type 0} (test : A → Bool) (xs : List A) (y : A) → how_many test xs ≡ 0 → test y ≡ true → find test (xs ++ y ∷ []) ≡ Some y
+find-push test [] y none yes = rw yes refl
+find-push {A} test (x ∷ xs) y none yes = choose (test x) none
+  where
+    choose : (b : Bool) → one b + how_many test xs ≡ 0 → (if b then Some x else find test (xs ++ y ∷ [])) ≡ Some y
+    choose true e = absurd (omega (arith, e))
+    choose false e = find-push test xs y (omega (arith, e)) yes
+
+find-push_other : {A : Type 0} (test : A → Bool) (xs : List A) (y : A) → test y ≡ false → find test (xs ++ y ∷ []) ≡ find test xs
+find-push_other test [] y no = rw no refl
+find-push_other {A} test (x ∷ xs) y no = choose (test x)
+  where
+    choose : (b : Bool) → (if b then Some x else find test (xs ++ y ∷ [])) ≡ (if b then Some x else find test xs)
+    choose true = refl
+    choose false = find-push_other test xs y no
+
+counted-without : {A : Type 0} (test : A → Bool) (xs : List A) → how_many test xs ≡ 1 → how_many test (without test xs) ≡ 0
+counted-without test [] h = h ∙ absurd (omega (arith, h))
+counted-without {A} test (x ∷ xs) h = choose (test x) refl h
+  where
+    choose : (b : Bool) → test x ≡ b → one b + how_many test xs ≡ 1 → how_many test (if b then xs else x ∷ without test xs) ≡ 0
+    choose true is e = omega (arith, e)
+    choose false is e = rw is (omega (arith, counted-without test xs (omega (arith, e))))
+
+counted-without_other : {A : Type 0} (p q : A → Bool) (xs : List A) → ((x : A) → q x ≡ true → p x ≡ false) → how_many p (without q xs) ≡ how_many p xs
+counted-without_other p q [] apart = refl
+counted-without_other {A} p q (x ∷ xs) apart = choose (q x) refl
+  where
+    choose : (b : Bool) → q x ≡ b → how_many p (if b then xs else x ∷ without q xs) ≡ how_many p (x ∷ xs)
+    choose true is = rw (apart x is) (omega arith)
+    choose false is = omega (arith, counted-without_other p q xs apart)
+
+find-without_other : {A : Type 0} (p q : A → Bool) (xs : List A) → ((x : A) → q x ≡ true → p x ≡ false) → find p (without q xs) ≡ find p xs
+find-without_other p q [] apart = refl
+find-without_other {A} p q (x ∷ xs) apart = choose (q x) refl
+  where
+    rest : (b : Bool) → (if b then Some x else find p (without q xs)) ≡ (if b then Some x else find p xs)
+    rest true = refl
+    rest false = find-without_other p q xs apart
+
+    choose : (b : Bool) → q x ≡ b → find p (if b then xs else x ∷ without q xs) ≡ find p (x ∷ xs)
+    choose true is = rw (apart x is) refl
+    choose false is = rest (p x)
+
+counted-found : {A : Type 0} (test : A → Bool) (xs : List A) (y : A) → find test xs ≡ Some y → 1 ≤ how_many test xs
+counted-found test [] y e = cc
+counted-found {A} test (x ∷ xs) y e = choose (test x) e
+  where
+    choose : (b : Bool) → (if b then Some x else find test xs) ≡ Some y → 1 ≤ one b + how_many test xs
+    choose true found = omega arith
+    choose false found = omega (arith, counted-found test xs y found)
+
+found-counted : {A : Type 0} (test : A → Bool) (xs : List A) → 1 ≤ how_many test xs → (y : A) × (find test xs ≡ Some y)
+found-counted test [] h = absurd (omega (arith, h))
+found-counted {A} test (x ∷ xs) h = choose (test x) h
+  where
+    choose : (b : Bool) → 1 ≤ one b + how_many test xs → (y : A) × ((if b then Some x else find test xs) ≡ Some y)
+    choose true some = (x, refl)
+    choose false some = found-counted test xs (omega (arith, some))
+
+-- ---- lives
+life_in-with_life : (t u : ℕ) (f : Life → Life) (tasks : List Task)
+    → life_in t (with_life u f tasks) ≡ (if u == t then option_map f (life_in t tasks) else life_in t tasks)
+life_in-with_life t u f [] = grind arith
+life_in-with_life t u f (x ∷ xs) = grind (arith, nat_tests, life_in-with_life t u f xs)
+
+lacking_rests : (k : ℕ) → is_running (Some (lacking k)) ≡ false
+lacking_rests k = choose (k == 0)
+  where
+    choose : (b : Bool) → is_running (Some (if b then life.Ready else life.Waiting k)) ≡ false
+    choose true = refl
+    choose false = refl
+
+none_runs : (t : ℕ) (tasks : List Task) → IsFalse (list_any (λ x. not (is_done x.life)) tasks) → is_running (life_in t tasks) ≡ false
+none_runs t [] h = refl
+none_runs t (x ∷ xs) h = choose (x.number == t) (x.life) h
+  where
+    choose : (b : Bool) (l : Life) → IsFalse (not (is_done l) || list_any (λ x. not (is_done x.life)) xs)
+        → is_running (option_map (λ x. x.life) (if b then Some (record x { life = l }) else find (λ x. x.number == t) xs)) ≡ false
+    choose true (life.Waiting k) e = refl
+    choose true life.Ready e = refl
+    choose true life.Running e = cc
+    choose true life.Done e = refl
+    choose false (life.Waiting k) e = cc
+    choose false life.Ready e = cc
+    choose false life.Running e = cc
+    choose false life.Done e = none_runs t xs e
+
+-- ---- all steps
+record IsRunOf (n : ℕ) (steps : List Step) (t : ℕ) (r : Running) : Type 0 where
+  task : r.task.0 ≡ t
+  node : r.node.0 ≡ home_of t (world_after n steps)
+  from : r.from ≡ length (before_newest (is_begin_of t) steps)
+
+record Runs (n : ℕ) (steps : List Step) : Type 0 where
+  once : (t : ℕ) → how_many (is_run_of t) (running n steps) ≡ one (is_running (life_of t (world_after n steps)))
+  there : (t : ℕ) (r : Running) → find (is_run_of t) (running n steps) ≡ Some r → IsRunOf n steps t r
+
+runs_inserted : (n : ℕ) (past : List Step) (i : NodeId) (u : TaskId) (k : Inputs) → life_of u.0 (world_after n past) ≡ None → Runs n past
+    → Runs n (Insert i u k ∷ past)
+runs_inserted n past i u k new h = record { once = λ t. once t (u.0 == t) refl; there = λ t r found. there t r found (u.0 == t) refl }
+  where
+    none : (t : ℕ) → (u.0 == t) ≡ true → how_many (is_run_of t) (running n past) ≡ 0
+    none t e = let same : u.0 ≡ t = eqb-true u.0 t e in h.once t ∙ ap (λ x. one (is_running (life_of x (world_after n past)))) (sym same) ∙ ap (λ o. one (is_running o)) new
+
+    once : (t : ℕ) (b : Bool) → (u.0 == t) ≡ b → how_many (is_run_of t) (running n past)
+        ≡ one (is_running (option_map (λ x. x.life) (if b then Some (record { number = u.0; home = i.0; life = lacking k.count }) else find (λ x. x.number == t) (world_after n past).tasks)))
+    once t true e = none t e ∙ ap one (sym (lacking_rests k.count))
+    once t false e = h.once t
+
+    there : (t : ℕ) (r : Running) → find (is_run_of t) (running n past) ≡ Some r → (b : Bool) → (u.0 == t) ≡ b → IsRunOf n (Insert i u k ∷ past) t r
+    there t r found true e = absurd (omega (arith, none t e, counted-found (is_run_of t) (running n past) r found))
+    there t r found false e = let old = h.there t r found in record { task = old.task; node = rw e old.node; from = old.from }
+
+-- a life that does not begin or end to run
+runs_relived : (n : ℕ) (past : List Step) (u : TaskId) (l : Life) → life_of u.0 (world_after n past) ≡ Some l → is_running (Some l) ≡ false
+    → is_running (Some (supplied l)) ≡ false → Runs n past → Runs n (Supply u ∷ past)
+runs_relived n past u l is rests still h = record { once = once; there = there }
+  where
+    choose : (t : ℕ) (b : Bool) → (u.0 == t) ≡ b
+        → is_running (if b then option_map supplied (life_of t (world_after n past)) else life_of t (world_after n past)) ≡ is_running (life_of t (world_after n past))
+    choose t true e =
+        let same : u.0 ≡ t = eqb-true u.0 t e in
+        let here : life_of t (world_after n past) ≡ Some l = ap (λ x. life_of x (world_after n past)) (sym same) ∙ is in
+        ap (λ o. is_running (option_map supplied o)) here ∙ still ∙ sym rests ∙ ap is_running (sym here)
+    choose t false e = refl
+
+    once : (t : ℕ) → how_many (is_run_of t) (running n past) ≡ one (is_running (life_of t (world_after n (Supply u ∷ past))))
+    once t = h.once t ∙ ap one (sym (choose t (u.0 == t) refl)) ∙ ap (λ o. one (is_running o)) (sym (life_in-with_life t u.0 supplied (world_after n past).tasks))
+
+    there : (t : ℕ) (r : Running) → find (is_run_of t) (running n past) ≡ Some r → IsRunOf n (Supply u ∷ past) t r
+    there t r found =
+        let old = h.there t r found in
+        record { task = old.task; node = old.node ∙ sym (home-with_life t u.0 supplied (world_after n past).tasks); from = old.from }
+
+runs_begun : (n : ℕ) (past : List Step) (u : TaskId) → life_of u.0 (world_after n past) ≡ Some life.Ready → Runs n past → Runs n (Begin u ∷ past)
+runs_begun n past u is h = record { once = once; there = λ t r found. there t r (u.0 == t) refl found }
+  where
+    now : Running
+    now = begun n past (running n past) u.0
+
+    none : (t : ℕ) → (u.0 == t) ≡ true → how_many (is_run_of t) (running n past) ≡ 0
+    none t e = let same : u.0 ≡ t = eqb-true u.0 t e in h.once t ∙ ap (λ x. one (is_running (life_of x (world_after n past)))) (sym same) ∙ ap (λ o. one (is_running o)) is
+
+    choose : (t : ℕ) (b : Bool) → (u.0 == t) ≡ b → how_many (is_run_of t) (running n past) + one b
+        ≡ one (is_running (if b then option_map (λ _. life.Running) (life_of t (world_after n past)) else life_of t (world_after n past)))
+    choose t true e =
+        let same : u.0 ≡ t = eqb-true u.0 t e in
+        let here : life_of t (world_after n past) ≡ Some life.Ready = ap (λ x. life_of x (world_after n past)) (sym same) ∙ is in
+        ap (λ m. m + 1) (none t e) ∙ sym (ap (λ o. one (is_running (option_map (λ _. life.Running) o))) here)
+    choose t false e = omega (arith, h.once t)
+
+    once : (t : ℕ) → how_many (is_run_of t) (running n past ++ now ∷ []) ≡ one (is_running (life_of t (world_after n (Begin u ∷ past))))
+    once t =
+        counted-push (is_run_of t) (running n past) now ∙ choose t (u.0 == t) refl
+        ∙ ap (λ o. one (is_running o)) (sym (life_in-with_life t u.0 (λ _. life.Running) (world_after n past).tasks))
+
+    there : (t : ℕ) (r : Running) (b : Bool) → (u.0 == t) ≡ b → find (is_run_of t) (running n past ++ now ∷ []) ≡ Some r → IsRunOf n (Begin u ∷ past) t r
+    there t r true e found =
+        let same : u.0 ≡ t = eqb-true u.0 t e in
+        let this : now ≡ r = let first : find (is_run_of t) (running n past ++ now ∷ []) ≡ Some now = find-push (is_run_of t) (running n past) now (none t e) e in cc in
+        let P : Running → Type 0 = IsRunOf n (Begin u ∷ past) t in
+        subst P this (record {
+          task = same;
+          node = ap (λ x. home_of x (world_after n past)) same ∙ sym (home-with_life t u.0 (λ _. life.Running) (world_after n past).tasks);
+          from = sym (rw e refl);
+        })
+    there t r false e found =
+        let old = h.there t r (sym (find-push_other (is_run_of t) (running n past) now e) ∙ found) in
+        record { task = old.task; node = old.node ∙ sym (home-with_life t u.0 (λ _. life.Running) (world_after n past).tasks); from = old.from ∙ sym (rw e refl) }
+
+other_number : (t u : ℕ) → (u == t) ≡ false → (r : Running) → is_run_of u r ≡ true → is_run_of t r ≡ false
+other_number t u apart r is = grind (arith, nat_tests, apart, is)
+
+runs_done : (n : ℕ) (past : List Step) (u : TaskId) → life_of u.0 (world_after n past) ≡ Some life.Running → Runs n past → Runs n (Done u ∷ past)
+runs_done n past u is h = record { once = λ t. once t (u.0 == t) refl; there = λ t r found. there t r (u.0 == t) refl found }
+  where
+    left : (t : ℕ) → (u.0 == t) ≡ true → how_many (is_run_of t) (without (is_run_of u.0) (running n past)) ≡ 0
+    left t e =
+        let same : u.0 ≡ t = eqb-true u.0 t e in
+        ap (λ x. how_many (is_run_of x) (without (is_run_of u.0) (running n past))) (sym same)
+        ∙ counted-without (is_run_of u.0) (running n past) (h.once u.0 ∙ ap (λ o. one (is_running o)) is)
+
+    once : (t : ℕ) (b : Bool) → (u.0 == t) ≡ b → how_many (is_run_of t) (without (is_run_of u.0) (running n past))
+        ≡ one (is_running (life_of t (world_after n (Done u ∷ past))))
+    once t true e =
+        let same : u.0 ≡ t = eqb-true u.0 t e in
+        let here : life_of t (world_after n past) ≡ Some life.Running = ap (λ x. life_of x (world_after n past)) (sym same) ∙ is in
+        left t e ∙ sym (ap (λ o. one (is_running o)) (life_in-with_life t u.0 (λ _. life.Done) (world_after n past).tasks ∙ rw (e, here) refl))
+    once t false e =
+        counted-without_other (is_run_of t) (is_run_of u.0) (running n past) (other_number t u.0 e) ∙ h.once t
+        ∙ sym (ap (λ o. one (is_running o)) (life_in-with_life t u.0 (λ _. life.Done) (world_after n past).tasks ∙ rw e refl))
+
+    there : (t : ℕ) (r : Running) (b : Bool) → (u.0 == t) ≡ b → find (is_run_of t) (without (is_run_of u.0) (running n past)) ≡ Some r → IsRunOf n (Done u ∷ past) t r
+    there t r true e found =
+        absurd (omega (arith, left t e, counted-found (is_run_of t) (without (is_run_of u.0) (running n past)) r found))
+    there t r false e found =
+        let old = h.there t r (sym (find-without_other (is_run_of t) (is_run_of u.0) (running n past) (other_number t u.0 e)) ∙ found) in
+        record { task = old.task; node = old.node ∙ sym (home-with_life t u.0 (λ _. life.Done) (world_after n past).tasks); from = old.from }
+
+-- Where a pool is reopened nothing runs.
+quiet_before : (n : ℕ) (past : List Step) → 1 ≤ n → AreRuns n past → MayCome n past Reopen → IsQuiet (world n (present past))
+quiet_before n past some runs comes =
+    let lawful = present_run n past runs in
+    let ended : IsTrue (is_ended n (steps_of (history n (present past)))) =
+    subst (λ ss. IsTrue (is_ended n ss)) (sym (steps_of-history n (present past))) (comes.reopens refl) in
+    (quiet_seen n (present past) some lawful).0 (judged_law n (history n (present past)) (is_run n (present past) some lawful) ended)
+
+runs_reopened : (n : ℕ) (past : List Step) → IsQuiet (world n (present past)) → Runs n past → Runs n (Reopen ∷ past)
+runs_reopened n past quiet h = record {
+  once = none;
+  there = λ t r found. absurd (omega (arith, none t, counted-found (is_run_of t) (running n past) r found));
+}
+  where
+    none : (t : ℕ) → how_many (is_run_of t) (running n past) ≡ 0
+    none t = h.once t ∙ ap one (none_runs t (world_after n past).tasks quiet.0)
+
+runs_kept : (n : ℕ) (past : List Step) (s : Step) → Runs n past → running n (s ∷ past) ≡ running n past
+    → (world_after n (s ∷ past)).tasks ≡ (world_after n past).tasks
+    → ((t : ℕ) → before_newest (is_begin_of t) (s ∷ past) ≡ before_newest (is_begin_of t) past) → Runs n (s ∷ past)
+runs_kept n past s h same_running same_tasks same_begin = record {
+  once = λ t. ap (how_many (is_run_of t)) same_running ∙ h.once t ∙ ap (λ xs. one (is_running (life_in t xs))) (sym same_tasks);
+  there = λ t r found.
+      let old = h.there t r (ap (find (is_run_of t)) (sym same_running) ∙ found) in
+      record {
+        task = old.task;
+        node = old.node ∙ ap (home_in t) (sym same_tasks);
+        from = old.from ∙ ap length (sym (same_begin t));
+      };
+}
+
+runs : (n : ℕ) (steps : List Step) → 1 ≤ n → AreRuns n steps → Runs n steps
+runs n [] some h = record { once = λ t. refl; there = λ t r found. cc }
+runs n (Insert i u k ∷ past) some h = runs_inserted n past i u k (h.0.goes_on refl).0.1 (runs n past some h.1)
+runs n (Supply u ∷ past) some h =
+    let may = (h.0.goes_on refl).0 in
+    runs_relived n past u (life.Waiting may.0) may.1 refl (lacking_rests (may.0 - 1)) (runs n past some h.1)
+runs n (Begin u ∷ past) some h = runs_begun n past u (h.0.goes_on refl).0 (runs n past some h.1)
+runs n (Done u ∷ past) some h = runs_done n past u (h.0.goes_on refl).0 (runs n past some h.1)
+runs n (Reopen ∷ past) some h = runs_reopened n past (quiet_before n past some h.1 h.0) (runs n past some h.1)
+runs n (s ∷ past) some h = runs_kept n past s (runs n past some h.1) refl refl (λ t. refl)
+
+spans_done : (n : ℕ) (past : List Step) (u : TaskId) → life_of u.0 (world_after n past) ≡ Some life.Running → Runs n past
+    → map span_of (bars n past) ≡ done_spans n past → map span_of (bars n (Done u ∷ past)) ≡ done_spans n (Done u ∷ past)
+spans_done n past u is h before =
+    let some = found-counted (is_run_of u.0) (running n past) (omega (arith, h.once u.0 ∙ ap (λ o. one (is_running o)) is)) in
+    let run = h.there u.0 some.0 some.1 in
+    let same : span_of (record { run = some.0; to = length past }) ≡ record {
+      task = u.0;
+      node = home_of u.0 (world_after n past);
+      from = length (before_newest (is_begin_of u.0) past);
+      to = length past;
+    } = let task = run.task in let node = run.node in let from = run.from in cc in
+    ap (λ f. map span_of (bars n past ++ bar_of f (length past))) some.1
+    ∙ map-append span_of (bars n past) (record { run = some.0; to = length past } ∷ [])
+    ∙ ap (λ l. l ++ span_of (record { run = some.0; to = length past }) ∷ []) before
+    ∙ ap (λ x. done_spans n past ++ x ∷ []) same
+
+spans : (n : ℕ) (steps : List Step) → 1 ≤ n → AreRuns n steps → map span_of (bars n steps) ≡ done_spans n steps
+spans n [] some h = refl
+spans n (Done u ∷ past) some h = spans_done n past u (h.0.goes_on refl).0 (runs n past some h.1) (spans n past some h.1)
+spans n (s ∷ past) some h = spans n past some h.1
+
+pub each_task : EachTaskOnce
+each_task n steps some h = record { done = spans n steps some h; open_once = (runs n steps some h).once }

@@ -1,0 +1,58 @@
+-- What holds of all that is drawn.
+use Rattle.std.specs.Prelude.{ℕ, ◌≡◌, ◌<◌, ◌≤◌, ◌++◌, List, [], ◌∷◌, length, map, if◌then◌else◌}
+use Rattle.std.specs.List.{All, AllPairs}
+use Rattle.tp_base.specs.declared.Step.{Step}
+use Rattle.tp_base.specs.declared.Step.TheVariants.{Done}
+use Rattle.tp_wave.specs.Steps.{before_newest}
+use Rattle.tp_core.specs.World.{how_many, home_of, life_of}
+use Rattle.tp_core.specs.Checks.{is_running}
+use Rattle.tp_core.specs.NeverEarly.{is_begin_of}
+use Rattle.tp_core.specs.Generations.{AreRuns, world_after}
+use Rattle.tp_scene.specs.declared.scene.Running.{Running}
+use Rattle.tp_scene.specs.declared.scene.Bar.{Bar}
+use Rattle.tp_scene.specs.Scene.{is_run_of, bars, running}
+
+-- ---- bars lie apart
+abbrev pub AreOnOneTrack : Running → Running → Type 0
+AreOnOneTrack r q = (r.node.0 ≡ q.node.0) × (r.track ≡ q.track)
+
+-- No two bars on one track overlap. Of two tasks that are done the earlier one was done before the other began; one that still
+-- runs began after those that are done; and no two that still run are on one track.
+pub record LieApart (over : List Bar) (open_bars : List Running) : Type 0 where
+  pub done : AllPairs (λ (a b : Bar). AreOnOneTrack a.run b.run → a.to < b.run.from) over
+  pub before : All (λ (a : Bar). All (λ (r : Running). AreOnOneTrack a.run r → a.to < r.from) open_bars) over
+  pub open_apart : AllPairs (λ (r q : Running). ¬ AreOnOneTrack r q) open_bars
+
+abbrev pub BarsLieApart : Type 0
+BarsLieApart = (n : ℕ) (steps : List Step) → LieApart (bars n steps) (running n steps)
+
+-- ---- each task once
+-- a bar without its track
+pub record Span : Type 0 where
+  pub task : ℕ
+  pub node : ℕ
+  pub from : ℕ
+  pub to : ℕ
+
+abbrev pub span_of : Bar → Span
+span_of bar = record { task = bar.run.task.0; node = bar.run.node.0; from = bar.run.from; to = bar.to }
+
+-- for each task that is done: its home, as the core has it, its begin and its done
+abbrev pub done_spans : ℕ → List Step → List Span
+done_spans n [] = []
+done_spans n (Done t ∷ past) = done_spans n past ++ record {
+  task = t.0;
+  node = home_of t.0 (world_after n past);
+  from = length (before_newest (is_begin_of t.0) past);
+  to = length past;
+} ∷ []
+done_spans n (s ∷ past) = done_spans n past
+
+-- In a run each task that is done has one bar, in the lane of its home, from its begin to its done, and there is no other; and of the
+-- tasks that are begun and not done each that the core runs has one, and no other has any.
+pub record HasEachTask (n : ℕ) (steps : List Step) : Type 0 where
+  pub done : map span_of (bars n steps) ≡ done_spans n steps
+  pub open_once : (t : ℕ) → how_many (is_run_of t) (running n steps) ≡ (if is_running (life_of t (world_after n steps)) then 1 else 0)
+
+abbrev pub EachTaskOnce : Type 0
+EachTaskOnce = (n : ℕ) (steps : List Step) → 1 ≤ n → AreRuns n steps → HasEachTask n steps

@@ -1,0 +1,12 @@
+ghost use Rattle.tp_scene.specs.Laws.{BarsLieApart, EachTaskOnce};
+
+/// On no track two bars overlap, whatever the steps are.
+pub fn bars_lie_apart()
+    ensures { BarsLieApart }
+{}
+
+/// In a run each task that is done has one bar, from its begin to its done, in the lane of its home, and nothing else has one; and each
+/// task that the core runs has one that is open.
+pub fn each_task_once()
+    ensures { EachTaskOnce }
+{}
