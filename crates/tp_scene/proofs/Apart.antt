@@ -102,11 +102,11 @@ first_is test zero k = inr (omega arith, λ j low high. absurd (omega (arith, lo
 first_is test (suc many) k = choose (test k) refl
   where
     later : test k ≡ false → IsFirst test many (k + 1) (first_from test many (k + 1)) → IsFirst test (suc many) k (first_from test many (k + 1))
-    later no (inl passes) = inl passes
-    later no (inr none) = inr (omega (arith, none.0), λ j low high. here j (k == j) refl low high)
+    later fails (inl passes) = inl passes
+    later fails (inr none) = inr (omega (arith, none.0), λ j low high. here j (k == j) refl low high)
       where
         here : (j : ℕ) → (b : Bool) → (k == j) ≡ b → k ≤ j → j < k + suc many → test j ≡ false
-        here j true e low high = let same : k ≡ j = grind (arith, nat_tests, e) in ap test (sym same) ∙ no
+        here j true e low high = let same : k ≡ j = grind (arith, nat_tests, e) in ap test (sym same) ∙ fails
         here j false e low high = none.1 j (grind (arith, nat_tests, e, low)) (omega (arith, high))
 
     choose : (b : Bool) → test k ≡ b → IsFirst test (suc many) k (if b then k else first_from test many (k + 1))

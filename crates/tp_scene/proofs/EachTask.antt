@@ -26,78 +26,11 @@ use Rattle.tp_core.specs.Generations.{AreRuns, MayCome, world_after}
 use Rattle.tp_core.proofs.Counting.{home_in, life_in, home-with_life, is_run, steps_of-history}
 use Rattle.tp_core.proofs.Generations.{present_run}
 use Rattle.tp_core.proofs.Quiet.{quiet_seen}
+use Rattle.tp_scene.proofs.Lists.{one, counted-push, find-push, find-push_other, counted-without, counted-without_other, find-without_other, counted-found, found-counted}
 use Rattle.tp_scene.specs.declared.scene.Running.{Running}
 use Rattle.tp_scene.specs.declared.scene.Bar.{Bar}
 use Rattle.tp_scene.specs.Scene.{is_run_of, begun, running, bars, bar_of}
 use Rattle.tp_scene.specs.Laws.{Span, span_of, done_spans, HasEachTask, EachTaskOnce}
-
--- ---- lists
-abbrev one : Bool → ℕ
-one b = if b then 1 else 0
-
-counted-push : {A : Type 0} (test : A → Bool) (xs : List A) (y : A) → how_many test (xs ++ y ∷ []) ≡ how_many test xs + one (test y)
-counted-push test [] y = grind arith
-counted-push test (x ∷ xs) y = grind (arith, counted-push test xs y)
-
-find-push : {A : Type 0} (test : A → Bool) (xs : List A) (y : A) → how_many test xs ≡ 0 → test y ≡ true → find test (xs ++ y ∷ []) ≡ Some y
-find-push test [] y none yes = rw yes refl
-find-push {A} test (x ∷ xs) y none yes = choose (test x) none
-  where
-    choose : (b : Bool) → one b + how_many test xs ≡ 0 → (if b then Some x else find test (xs ++ y ∷ [])) ≡ Some y
-    choose true e = absurd (omega (arith, e))
-    choose false e = find-push test xs y (omega (arith, e)) yes
-
-find-push_other : {A : Type 0} (test : A → Bool) (xs : List A) (y : A) → test y ≡ false → find test (xs ++ y ∷ []) ≡ find test xs
-find-push_other test [] y no = rw no refl
-find-push_other {A} test (x ∷ xs) y no = choose (test x)
-  where
-    choose : (b : Bool) → (if b then Some x else find test (xs ++ y ∷ [])) ≡ (if b then Some x else find test xs)
-    choose true = refl
-    choose false = find-push_other test xs y no
-
-counted-without : {A : Type 0} (test : A → Bool) (xs : List A) → how_many test xs ≡ 1 → how_many test (without test xs) ≡ 0
-counted-without test [] h = h ∙ absurd (omega (arith, h))
-counted-without {A} test (x ∷ xs) h = choose (test x) refl h
-  where
-    choose : (b : Bool) → test x ≡ b → one b + how_many test xs ≡ 1 → how_many test (if b then xs else x ∷ without test xs) ≡ 0
-    choose true is e = omega (arith, e)
-    choose false is e = rw is (omega (arith, counted-without test xs (omega (arith, e))))
-
-counted-without_other : {A : Type 0} (p q : A → Bool) (xs : List A) → ((x : A) → q x ≡ true → p x ≡ false) → how_many p (without q xs) ≡ how_many p xs
-counted-without_other p q [] apart = refl
-counted-without_other {A} p q (x ∷ xs) apart = choose (q x) refl
-  where
-    choose : (b : Bool) → q x ≡ b → how_many p (if b then xs else x ∷ without q xs) ≡ how_many p (x ∷ xs)
-    choose true is = rw (apart x is) (omega arith)
-    choose false is = omega (arith, counted-without_other p q xs apart)
-
-find-without_other : {A : Type 0} (p q : A → Bool) (xs : List A) → ((x : A) → q x ≡ true → p x ≡ false) → find p (without q xs) ≡ find p xs
-find-without_other p q [] apart = refl
-find-without_other {A} p q (x ∷ xs) apart = choose (q x) refl
-  where
-    rest : (b : Bool) → (if b then Some x else find p (without q xs)) ≡ (if b then Some x else find p xs)
-    rest true = refl
-    rest false = find-without_other p q xs apart
-
-    choose : (b : Bool) → q x ≡ b → find p (if b then xs else x ∷ without q xs) ≡ find p (x ∷ xs)
-    choose true is = rw (apart x is) refl
-    choose false is = rest (p x)
-
-counted-found : {A : Type 0} (test : A → Bool) (xs : List A) (y : A) → find test xs ≡ Some y → 1 ≤ how_many test xs
-counted-found test [] y e = cc
-counted-found {A} test (x ∷ xs) y e = choose (test x) e
-  where
-    choose : (b : Bool) → (if b then Some x else find test xs) ≡ Some y → 1 ≤ one b + how_many test xs
-    choose true found = omega arith
-    choose false found = omega (arith, counted-found test xs y found)
-
-found-counted : {A : Type 0} (test : A → Bool) (xs : List A) → 1 ≤ how_many test xs → (y : A) × (find test xs ≡ Some y)
-found-counted test [] h = absurd (omega (arith, h))
-found-counted {A} test (x ∷ xs) h = choose (test x) h
-  where
-    choose : (b : Bool) → 1 ≤ one b + how_many test xs → (y : A) × ((if b then Some x else find test xs) ≡ Some y)
-    choose true some = (x, refl)
-    choose false some = found-counted test xs (omega (arith, some))
 
 -- ---- lives
 life_in-with_life : (t u : ℕ) (f : Life → Life) (tasks : List Task)
@@ -240,7 +173,7 @@ runs_done n past u is h = record { once = λ t. once t (u.0 == t) refl; there = 
         record { task = old.task; node = old.node ∙ sym (home-with_life t u.0 (λ _. life.Done) (world_after n past).tasks); from = old.from }
 
 -- Where a pool is reopened nothing runs.
-quiet_before : (n : ℕ) (past : List Step) → 1 ≤ n → AreRuns n past → MayCome n past Reopen → IsQuiet (world n (present past))
+pub quiet_before : (n : ℕ) (past : List Step) → 1 ≤ n → AreRuns n past → MayCome n past Reopen → IsQuiet (world n (present past))
 quiet_before n past some runs comes =
     let lawful = present_run n past runs in
     let ended : IsTrue (is_ended n (steps_of (history n (present past)))) =

@@ -1,10 +1,10 @@
 -- What is known of steps that were followed, one step further.
-use Rattle.std.proofs.Common.{◌≡◌, ◌≢◌, ℕ, ◌+◌, ◌<◌, ◌==◌, Bool, true, false, List, [], ◌∷◌, ◌++◌, length, Option, Some, None, slice_index, max, if◌then◌else◌, refl, sym, ap, subst, ◌∙◌, eqb-true, arith}
+use Rattle.std.proofs.Common.{◌≡◌, ◌≢◌, ℕ, ◌+◌, ◌<◌, ◌==◌, Bool, true, false, List, [], ◌∷◌, ◌++◌, length, Option, Some, None, slice_index, slice_set, max, if◌then◌else◌, refl, sym, ap, subst, ◌∙◌, eqb-true, arith}
 use Rattle.std.specs.Prelude.{OnOk, Result, Ok, Err, unwrap_or, map}
 use Rattle.std.specs.List.{find, range_with_len}
 use Rattle.std.specs.Option.{option_map}
 use Rattle.std.proofs.lemmas.Bool.Decides.{nat_tests}
-use Rattle.std.proofs.lemmas.List.{append-nil}
+use Rattle.std.proofs.lemmas.List.{append-nil, get_or-set_same, get_or-set_other, length-set}
 use Rattle.std.proofs.lemmas.List.FromFn.{fill_by_all}
 use Rattle.tp_base.specs.declared.ids.Generation.{Generation}
 use Rattle.tp_base.specs.declared.ids.Inputs.{Inputs}
@@ -52,6 +52,14 @@ picked : (i : NodeId) (x : Task) (b : Bool) (o : Option Task) → i ≡ home x �
 picked i x true o e = ap Some e
 picked i x false o e = refl
 
+-- a list of numbers after one was put in a place
+pub put_is : (old new : List ℕ) (node v k : ℕ) → new ≡ slice_set old node v → k < length old
+    → slice_index new k ≡ (if node == k then v else slice_index old k)
+put_is old new node v k is within = ap (λ xs. slice_index xs k) is ∙ grind (arith, nat_tests, get_or-set_same, get_or-set_other, within)
+
+pub put_size : (old new : List ℕ) (node v : ℕ) → new ≡ slice_set old node v → length old ≡ 8 → length new ≡ 8
+put_size old new node v is size = ap length is ∙ length-set old node v ∙ size
+
 pub tracks_inserted : (n : ℕ) (past : List Step) (s : Step) (i : NodeId) (t : TaskId) (k : Inputs) (old new : Tracks) → s ≡ Insert i t k → HasTracks n past old
     → Puts old.homes new.homes t.0 i → new.rows ≡ old.rows → new.running.items ≡ old.running.items → new.bars.items ≡ old.bars.items
     → HasTracks n (s ∷ past) new
@@ -60,6 +68,7 @@ tracks_inserted n past s i t k old new is h puts same run bar =
     subst P (sym is) (record {
       homes = λ q. puts q ∙ rw (h.homes q)
           (picked i (record { number = t.0; home = i.0; life = lacking k.count }) (t.0 == q) (find (λ x. x.number == q) (world_after n past).tasks) refl);
+      size = ap length same ∙ h.size;
       rows = λ j l. ap (λ r. slice_index r j) same ∙ h.rows j l;
       running = run ∙ h.running;
       bars = bar ∙ h.bars;
@@ -71,6 +80,7 @@ tracks_reopened n past s old new is h none same run bar =
     let P : Step → Type 0 = λ x. HasTracks n (x ∷ past) new in
     subst P (sym is) (record {
       homes = none;
+      size = ap length same ∙ h.size;
       rows = λ j l. ap (λ r. slice_index r j) same ∙ h.rows j l;
       running = run ∙ h.running;
       bars = bar ∙ h.bars;
@@ -85,26 +95,33 @@ tracks_other n past (Done u) t h insert begin done reopen = absurd (done u refl)
 tracks_other n past Reopen t h insert begin done reopen = absurd (reopen refl)
 tracks_other n past (Supply u) t h insert begin done reopen = record {
   homes = λ q. h.homes q ∙ sym (homes-with_life u.0 q supplied (world_after n past).tasks);
+  size = h.size;
   rows = h.rows;
   running = h.running;
   bars = h.bars;
 }
-tracks_other n past s t h insert begin done reopen = record { homes = h.homes; rows = h.rows; running = h.running; bars = h.bars }
+tracks_other n past s t h insert begin done reopen = record { homes = h.homes; size = h.size; rows = h.rows; running = h.running; bars = h.bars }
 
 home_found : (o : Option Task) → unwrap_or (option_map home o) (record { 0 = 0 }) ≡ record { 0 = unwrap_or (option_map (λ x. x.home) o) 0 }
 home_found None = refl
 home_found (Some x) = refl
 
+pub node_read : (node : NodeId) (got there : Option NodeId) → got ≡ there → node ≡ unwrap_or got (record { 0 = 0 })
+    → node ≡ unwrap_or there (record { 0 = 0 })
+node_read node got there is e = e ∙ ap (λ o. unwrap_or o (record { 0 = 0 })) is
+
 pub tracks_begun : (n : ℕ) (past : List Step) (t : TaskId) (node : NodeId) (track place : ℕ) (old new : Tracks) → HasTracks n past old → place ≡ length past
     → node ≡ unwrap_or (lookup old.homes t.0) (record { 0 = 0 }) → track ≡ free_track node.0 place old.running.items
     → ((q : ℕ) → lookup new.homes q ≡ lookup old.homes q)
-    → ((i : ℕ) → i < 8 → slice_index new.rows i ≡ (if node.0 == i then max (slice_index old.rows node.0) (track + 1) else slice_index old.rows i))
+    → new.rows ≡ slice_set old.rows node.0 (max (slice_index old.rows node.0) (track + 1))
     → new.running.items ≡ old.running.items ++ record { task = t; node = node; track = track; from = place } ∷ []
     → new.bars.items ≡ old.bars.items
     → HasTracks n (Begin t ∷ past) new
 tracks_begun n past t node track place old new h at node_is track_is same put run bar = record {
   homes = λ q. same q ∙ h.homes q ∙ sym (homes-with_life t.0 q (λ _. life.Running) (world_after n past).tasks);
-  rows = λ i l. put i l ∙ choose i l (node.0 == i) refl ∙ ap (λ r. with_row i r (rows n i past)) is;
+  size = put_size old.rows new.rows node.0 (max (slice_index old.rows node.0) (track + 1)) put h.size;
+  rows = λ i l. put_is old.rows new.rows node.0 (max (slice_index old.rows node.0) (track + 1)) i put (omega (arith, l, h.size))
+      ∙ choose i l (node.0 == i) refl ∙ ap (λ r. with_row i r (rows n i past)) is;
   running = run ∙ ap (λ rs. rs ++ record { task = t; node = node; track = track; from = place } ∷ []) h.running ∙ ap (λ r. running n past ++ r ∷ []) is;
   bars = bar ∙ h.bars;
 }
@@ -118,20 +135,18 @@ tracks_begun n past t node track place old new h at node_is track_is same put ru
         ∙ ap (λ p. free_track (home_of t.0 (world_after n past)) p old.running.items) at
         ∙ ap (λ rs. free_track (home_of t.0 (world_after n past)) (length past) rs) h.running
 
-    is : record { task = t; node = node; track = track; from = place } ≡ begun n past (running n past) t.0
-    is = cc
+    made : NodeId → ℕ → ℕ → Running
+    made m k p = record { task = t; node = m; track = k; from = p }
+    is : made node track place ≡ made (record { 0 = home_of t.0 (world_after n past) }) (free_track (home_of t.0 (world_after n past)) (length past) (running n past)) (length past)
+    is =
+        ap (λ (m : NodeId). made m track place) there ∙ ap (λ k. made (record { 0 = home_of t.0 (world_after n past) }) k place) free
+        ∙ ap (λ p. made (record { 0 = home_of t.0 (world_after n past) }) (free_track (home_of t.0 (world_after n past)) (length past) (running n past)) p) at
 
     choose : (i : ℕ) → i < 8 → (b : Bool) → (node.0 == i) ≡ b
         → (if b then max (slice_index old.rows node.0) (track + 1) else slice_index old.rows i)
         ≡ (if b then max (rows n i past) (track + 1) else rows n i past)
     choose i l true e = ap (λ r. max r (track + 1)) (ap (slice_index old.rows) (eqb-true node.0 i e) ∙ h.rows i l)
     choose i l false e = h.rows i l
-
-pub rows_put : (old new : List ℕ) (node track at value : ℕ) → at ≡ slice_index old node → value ≡ max at (track + 1)
-    → ((i : ℕ) → i < 8 → slice_index new i ≡ (if node == i then value else slice_index old i))
-    → (i : ℕ) → i < 8 → slice_index new i ≡ (if node == i then max (slice_index old node) (track + 1) else slice_index old i)
-rows_put old new node track at value is greater put i l =
-    put i l ∙ ap (λ v. if node == i then v else slice_index old i) (greater ∙ ap (λ a. max a (track + 1)) is)
 
 pub tracks_done : (n : ℕ) (past : List Step) (t : TaskId) (place : ℕ) (old new : Tracks) (found : Option Running) → HasTracks n past old → place ≡ length past
     → found ≡ find (is_run_of t.0) old.running.items
@@ -141,6 +156,7 @@ pub tracks_done : (n : ℕ) (past : List Step) (t : TaskId) (place : ℕ) (old n
     → HasTracks n (Done t ∷ past) new
 tracks_done n past t place old new found h at is same row run bar = record {
   homes = λ q. same q ∙ h.homes q ∙ sym (homes-with_life t.0 q (λ _. life.Done) (world_after n past).tasks);
+  size = ap length row ∙ h.size;
   rows = λ i l. ap (λ r. slice_index r i) row ∙ h.rows i l;
   running = run ∙ ap (λ rs. without (is_run_of t.0) rs) h.running;
   bars =
@@ -153,9 +169,9 @@ pub messages_sent : (past : List Step) (x : Sending) (g : Generation) (old new :
     → new.under_way.items ≡ old.under_way.items ++ x ∷ [] → new.arrows.items ≡ old.arrows.items
     → HasMessages (Send x.from x.to x.message g ∷ past) new
 messages_sent past x g old new h at more same =
-    let is : x ≡ record { message = x.message; from = x.from; to = x.to; sent = length past } = cc in
+    let made : ℕ → Sending = λ p. record { message = x.message; from = x.from; to = x.to; sent = p } in
     record {
-      under_way = more ∙ ap (λ xs. xs ++ x ∷ []) h.under_way ∙ ap (λ y. under_way past ++ y ∷ []) is;
+      under_way = more ∙ ap (λ xs. xs ++ x ∷ []) h.under_way ∙ ap (λ p. under_way past ++ made p ∷ []) at;
       arrows = same ∙ h.arrows;
     }
 
@@ -179,12 +195,12 @@ messages_other past (Recv j m g) x h send recv = absurd (recv j m g refl)
 messages_other past s x h send recv = record { under_way = h.under_way; arrows = h.arrows }
 
 -- ---- waves
-pub given_more : (past : List Step) (node : NodeId) (place : ℕ) (old new : Gives) → HasGiven past old → place ≡ length past → length new.last ≡ 8
-    → ((k : ℕ) → k < 8 → slice_index new.last k ≡ (if node.0 == k then place else slice_index old.last k))
+pub given_more : (past : List Step) (node : NodeId) (place : ℕ) (old new : Gives) → HasGiven past old → place ≡ length past
+    → new.last ≡ slice_set old.last node.0 place
     → new.earlier ≡ (if node.0 == 0 then slice_index old.last 0 else old.earlier) → HasGiven (Give node ∷ past) new
-given_more past node place old new h at size put before = record {
-  size = size;
-  last = λ k l. put k l ∙ last k l (node.0 == k);
+given_more past node place old new h at put before = record {
+  size = put_size old.last new.last node.0 place put h.size;
+  last = λ k l. put_is old.last new.last node.0 place k put (omega (arith, l, h.size)) ∙ last k l (node.0 == k);
   earlier = before ∙ earlier (node.0 == 0);
 }
   where

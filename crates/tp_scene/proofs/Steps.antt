@@ -32,16 +32,16 @@ first_more test (suc more) k some = let e : suc more - 1 ≡ more = omega arith 
 
 -- what fails the test is passed over
 pub find_cons : {A : Type 0} (test : A → Bool) (x : A) (xs : List A) → test x ≡ false → find test (x ∷ xs) ≡ find test xs
-find_cons test x xs no = rw no refl
+find_cons test x xs fails = rw fails refl
 
 pub without_cons : {A : Type 0} (test : A → Bool) (x : A) (xs : List A) → test x ≡ false → without test (x ∷ xs) ≡ x ∷ without test xs
-without_cons test x xs no = rw no refl
+without_cons test x xs fails = rw fails refl
 
 pub find_here : {A : Type 0} (test : A → Bool) (x : A) (xs : List A) → test x ≡ true → find test (x ∷ xs) ≡ Some x
-find_here test x xs yes = rw yes refl
+find_here test x xs passes = rw passes refl
 
 pub without_here : {A : Type 0} (test : A → Bool) (x : A) (xs : List A) → test x ≡ true → without test (x ∷ xs) ≡ xs
-without_here test x xs yes = rw yes refl
+without_here test x xs passes = rw passes refl
 
 -- Of a list none of the first k passes the test.
 pub record PassesOver {A : Type 0} (test : A → Bool) (xs : List A) (k : ℕ) : Type 0 where
@@ -56,21 +56,21 @@ suc_is k = sym (add-one k)
 
 pub passes_more : {A : Type 0} (test : A → Bool) (xs : List A) (k : ℕ) (x : A) → k < length xs → x ≡ get_or xs k x → test x ≡ false
     → PassesOver test xs k → PassesOver test xs (k + 1)
-passes_more {A} test xs k x fits is no over =
+passes_more {A} test xs k x fits is fails over =
     let cut : drop k xs ≡ x ∷ drop (k + 1) xs = drop-cons xs k x fits ∙ ap (λ y. y ∷ drop (suc k) xs) (sym is) ∙ ap (λ j. x ∷ drop j xs) (suc_is k) in
     record {
-      found = over.found ∙ ap (find test) cut ∙ find_cons test x (drop (k + 1) xs) no;
-      left = over.left ∙ ap (λ l. take k xs ++ without test l) cut ∙ ap (λ l. take k xs ++ l) (without_cons test x (drop (k + 1) xs) no)
+      found = over.found ∙ ap (find test) cut ∙ find_cons test x (drop (k + 1) xs) fails;
+      left = over.left ∙ ap (λ l. take k xs ++ without test l) cut ∙ ap (λ l. take k xs ++ l) (without_cons test x (drop (k + 1) xs) fails)
           ∙ sym (append_assoc (take k xs) (x ∷ []) (without test (drop (k + 1) xs)))
           ∙ ap (λ l. l ++ without test (drop (k + 1) xs)) (ap (λ y. take k xs ++ y ∷ []) is ∙ sym (take_more xs k x fits));
     }
 
 pub passes_here : {A : Type 0} (test : A → Bool) (xs : List A) (k : ℕ) (x : A) → k < length xs → x ≡ get_or xs k x → test x ≡ true
     → PassesOver test xs k → (find test xs ≡ slice_get xs k) × (without test xs ≡ remove xs k)
-passes_here {A} test xs k x fits is yes over =
+passes_here {A} test xs k x fits is passes over =
     let cut : drop k xs ≡ x ∷ drop (suc k) xs = drop-cons xs k x fits ∙ ap (λ y. y ∷ drop (suc k) xs) (sym is) in (
-      over.found ∙ ap (find test) cut ∙ find_here test x (drop (suc k) xs) yes ∙ ap Some is ∙ sym (slice_get-get_or xs k x fits),
-      over.left ∙ ap (λ l. take k xs ++ without test l) cut ∙ ap (λ l. take k xs ++ l) (without_here test x (drop (suc k) xs) yes),
+      over.found ∙ ap (find test) cut ∙ find_here test x (drop (suc k) xs) passes ∙ ap Some is ∙ sym (slice_get-get_or xs k x fits),
+      over.left ∙ ap (λ l. take k xs ++ without test l) cut ∙ ap (λ l. take k xs ++ l) (without_here test x (drop (suc k) xs) passes),
     )
 
 pub passes_all : {A : Type 0} (test : A → Bool) (xs : List A) → PassesOver test xs (length xs)

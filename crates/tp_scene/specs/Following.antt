@@ -25,6 +25,7 @@ home x = record { 0 = x.home }
 
 pub record HasTracks (n : ℕ) (past : List Step) (t : Tracks) : Type 0 where
   pub homes : (k : ℕ) → lookup t.homes k ≡ option_map home (find (λ x. x.number == k) (world_after n past).tasks)
+  pub size : length t.rows ≡ 8
   pub rows : (i : ℕ) → i < 8 → slice_index t.rows i ≡ rows n i past
   pub running : t.running.items ≡ running n past
   pub bars : t.bars.items ≡ bars n past
@@ -52,6 +53,7 @@ ArePending n steps numbers = (i : ℕ) → i < n → (slice_index_or numbers i n
 pub record HasLanes (n : ℕ) (past : List Step) (l : Lanes) : Type 0 where
   pub nodes : l.nodes ≡ n
   pub few : n ≤ MAX_NODES
+  pub size : length l.resting ≡ 8
   pub resting : (i : ℕ) → i < n → slice_index_or l.resting i None ≡ resting n i past
   pub pauses : l.pauses.items ≡ pauses n past
 

@@ -1,16 +1,20 @@
 -- What holds of all that is drawn.
-use Rattle.std.specs.Prelude.{ℕ, ◌≡◌, ◌<◌, ◌≤◌, ◌++◌, List, [], ◌∷◌, length, map, if◌then◌else◌}
-use Rattle.std.specs.List.{All, AllPairs}
+use Rattle.std.specs.Prelude.{ℕ, ◌≡◌, ◌==◌, ◌<◌, ◌≤◌, ◌++◌, List, [], ◌∷◌, length, map, reverse, unwrap_or, if◌then◌else◌}
+use Rattle.std.specs.List.{All, AllPairs, find}
+use Rattle.std.specs.Option.{option_map}
 use Rattle.tp_base.specs.declared.Step.{Step}
-use Rattle.tp_base.specs.declared.Step.TheVariants.{Done}
+use Rattle.tp_base.specs.declared.Step.TheVariants.{Done, Recv}
 use Rattle.tp_wave.specs.Steps.{before_newest}
-use Rattle.tp_core.specs.World.{how_many, home_of, life_of}
+use Rattle.tp_wave.specs.Machine.{is_send_numbered}
+use Rattle.tp_core.specs.World.{World, Message, how_many, home_of, life_of}
 use Rattle.tp_core.specs.Checks.{is_running}
 use Rattle.tp_core.specs.NeverEarly.{is_begin_of}
 use Rattle.tp_core.specs.Generations.{AreRuns, world_after}
 use Rattle.tp_scene.specs.declared.scene.Running.{Running}
 use Rattle.tp_scene.specs.declared.scene.Bar.{Bar}
-use Rattle.tp_scene.specs.Scene.{is_run_of, bars, running}
+use Rattle.tp_scene.specs.declared.scene.Sending.{Sending}
+use Rattle.tp_scene.specs.declared.scene.Arrow.{Arrow}
+use Rattle.tp_scene.specs.Scene.{is_run_of, bars, running, arrows, under_way}
 
 -- ---- bars lie apart
 abbrev pub AreOnOneTrack : Running → Running → Type 0
@@ -56,3 +60,50 @@ pub record HasEachTask (n : ℕ) (steps : List Step) : Type 0 where
 
 abbrev pub EachTaskOnce : Type 0
 EachTaskOnce = (n : ℕ) (steps : List Step) → 1 ≤ n → AreRuns n steps → HasEachTask n steps
+
+-- ---- each message once
+-- the message of an arrow, as the core has it
+abbrev pub letter_of : Sending → Message
+letter_of x = record { number = x.message.0; from = x.from.0; to = x.to.0 }
+
+-- a message from its send to its recv
+pub record Hop : Type 0 where
+  pub message : ℕ
+  pub from : ℕ
+  pub to : ℕ
+  pub sent : ℕ
+  pub received : ℕ
+
+abbrev pub hop_of : Arrow → Hop
+hop_of arrow = record {
+  message = arrow.sending.message.0;
+  from = arrow.sending.from.0;
+  to = arrow.sending.to.0;
+  sent = arrow.sending.sent;
+  received = arrow.received;
+}
+
+-- the sender of a message that is under way
+abbrev pub sender_of : ℕ → World → ℕ
+sender_of m w = unwrap_or (option_map (λ x. x.from) (find (λ x. x.number == m) w.messages)) 0
+
+-- for each message that is received: its sender, as the core has it, its receiver, its send and its recv
+abbrev pub hops : ℕ → List Step → List Hop
+hops n [] = []
+hops n (Recv j m g ∷ past) = hops n past ++ record {
+  message = m.0;
+  from = sender_of m.0 (world_after n past);
+  to = j.0;
+  sent = length (before_newest (is_send_numbered m.0) past);
+  received = length past;
+} ∷ []
+hops n (s ∷ past) = hops n past
+
+-- In a run each message that is received has one arrow, from its send to its recv, and there is no other; and what is drawn as not
+-- received are the messages that are under way in the core's world, which has the newest first.
+pub record HasEachMessage (n : ℕ) (steps : List Step) : Type 0 where
+  pub received : map hop_of (arrows steps) ≡ hops n steps
+  pub open_once : map letter_of (under_way steps) ≡ reverse (world_after n steps).messages
+
+abbrev pub EachMessageOnce : Type 0
+EachMessageOnce = (n : ℕ) (steps : List Step) → 1 ≤ n → AreRuns n steps → HasEachMessage n steps

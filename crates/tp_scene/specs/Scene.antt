@@ -131,18 +131,26 @@ seams (Reopen ∷ past) = seams past ++ record { generation = record { 0 = gener
 seams (s ∷ past) = seams past
 
 -- ---- lanes
+-- since when something has been so, where it is so now, and was so since then or was not
+abbrev pub since_when : Bool → Option ℕ → ℕ → Option ℕ
+since_when now before place = if now then Some (unwrap_or before place) else None
+
 -- since which event nothing has been pending at node i, if nothing is
 abbrev pub resting : ℕ → ℕ → List Step → Option ℕ
 resting n i [] = None
-resting n i (s ∷ past) = if is_idle i (world_after n (s ∷ past)) then Some (unwrap_or (resting n i past) (length past)) else None
+resting n i (s ∷ past) = since_when (is_idle i (world_after n (s ∷ past))) (resting n i past) (length past)
 
 abbrev pub pause_of : ℕ → Option ℕ → ℕ → List Pause
 pause_of i None place = []
 pause_of i (Some from) place = record { node = record { 0 = i }; from = from; to = place } ∷ []
 
--- With the newest of these steps something is pending at node i again.
+-- it ends where something is pending again
+abbrev pub ended_pause : Bool → ℕ → Option ℕ → ℕ → List Pause
+ended_pause rests i from place = if rests then [] else pause_of i from place
+
+-- the pause of node i that ends with this step
 abbrev pub pause_before : ℕ → ℕ → Step → List Step → List Pause
-pause_before n i s past = if is_idle i (world_after n (s ∷ past)) then [] else pause_of i (resting n i past) (length past)
+pause_before n i s past = ended_pause (is_idle i (world_after n (s ∷ past))) i (resting n i past) (length past)
 
 -- those of the first k nodes
 abbrev pub pauses_before : ℕ → ℕ → Step → List Step → List Pause

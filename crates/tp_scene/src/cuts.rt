@@ -12,6 +12,7 @@ use std::alloc::AllocError;
 const LABEL: u64 = 1_700;
 
 /// Whether a wave is one of the two that tell an end.
+#[tactic(auto, unfolding(crate::specs::Cuts::tells))]
 fn tells(scene: &Scene, cut: &Cut) -> bool
     ensures { result ≡ tells scene.now.ends.items cut.now }
 {
@@ -23,6 +24,7 @@ fn tells(scene: &Scene, cut: &Cut) -> bool
 }
 
 /// How a wave is drawn: one that tells an end stands out.
+#[tactic(auto, unfolding(crate::specs::Cuts::wave_class))]
 fn wave_class(scene: &Scene, cut: &Cut) -> &'static [u8]
     ensures { result.now ≡ wave_class scene.now cut.now }
 {
@@ -34,6 +36,7 @@ fn wave_class(scene: &Scene, cut: &Cut) -> &'static [u8]
 }
 
 /// Where a wave crosses the lane of a node: at the event at which the node gave.
+#[tactic(auto, unfolding(crate::specs::Cuts::cut_at))]
 fn cut_at(scene: &Scene, cut: &Cut, node: u32) -> u64
     ensures value { result ≡ cut_at scene.now cut.now node }
     ensures bound { result < 2 ^ 42 }
@@ -42,6 +45,7 @@ fn cut_at(scene: &Scene, cut: &Cut, node: u32) -> u64
 }
 
 /// The line of a wave through the lane of a node.
+#[tactic(auto, unfolding(crate::specs::Cuts::crossing))]
 fn push_crossing(out: &mut Vec<u8>, scene: &Scene, cut: &Cut, node: u32) -> Result<(), AllocError>
     ensures { OnOk result (out.new.items ≡ out.old.items ++ crossing scene.now cut.now node) }
 {
@@ -69,6 +73,7 @@ fn push_crossings(out: &mut Vec<u8>, scene: &Scene, cut: &Cut) -> Result<(), All
 }
 
 /// A ring where a node gave.
+#[tactic(auto, unfolding(crate::specs::Cuts::ring_text))]
 fn push_ring(out: &mut Vec<u8>, scene: &Scene, cut: &Cut, node: u32) -> Result<(), AllocError>
     ensures { OnOk result (out.new.items ≡ out.old.items ++ ring_text scene.now cut.now node) }
 {
@@ -90,6 +95,7 @@ fn push_rings(out: &mut Vec<u8>, scene: &Scene, cut: &Cut) -> Result<(), AllocEr
 }
 
 /// What a wave has added up.
+#[tactic(auto, unfolding(crate::specs::Cuts::sums_text))]
 fn push_sums(out: &mut Vec<u8>, cut: &Cut) -> Result<(), AllocError>
     ensures { OnOk result (out.new.items ≡ out.old.items ++ sums_text cut.now) }
 {
@@ -102,6 +108,7 @@ fn push_sums(out: &mut Vec<u8>, cut: &Cut) -> Result<(), AllocError>
 impl Mark for Cut {
     ghost text = { cut_text };
 
+    #[tactic(auto, unfolding(crate::specs::Cuts::cut_text))]
     fn push(&self, scene: &Scene, out: &mut Vec<u8>) -> Result<(), AllocError> {
         out.extend_from_slice(b"<polyline class=\"")?;
         out.extend_from_slice(wave_class(scene, self))?;
@@ -118,6 +125,7 @@ impl Mark for Cut {
 }
 
 /// The ground from the end of the wave that is named to the judgement.
+#[tactic(auto, unfolding(crate::specs::Cuts::over))]
 fn over(scene: &Scene, end: &End) -> Area
     ensures { result ≡ over scene.now end.now }
 {
@@ -135,6 +143,7 @@ fn over(scene: &Scene, end: &End) -> Area
 impl Mark for End {
     ghost text = { end_text };
 
+    #[tactic(auto, unfolding(crate::specs::Cuts::end_text))]
     fn push(&self, scene: &Scene, out: &mut Vec<u8>) -> Result<(), AllocError> {
         let x = scene.middle(self.judged);
         out.extend_from_slice(b"<rect class=\"over\"")?;
@@ -153,6 +162,7 @@ impl Mark for End {
 }
 
 /// Whether there is room for a wave's label beside that of the next wave in its row.
+#[tactic(auto, unfolding(crate::specs::Cuts::has_room))]
 fn has_room(scene: &Scene, cut: &Cut, next: Option<&Cut>) -> bool
     ensures { result ≡ has_room scene.now cut.now (option_copied next.entry) }
 {
@@ -165,6 +175,7 @@ fn has_room(scene: &Scene, cut: &Cut, next: Option<&Cut>) -> bool
 }
 
 /// The label of a wave over its line at node 0: to the left of it, or to the right where there is no room on the left.
+#[tactic(auto, unfolding(crate::specs::Cuts::label_text))]
 fn push_label(out: &mut Vec<u8>, scene: &Scene, cut: &Cut, row: u64) -> Result<(), AllocError>
     requires { row < 2 }
     ensures { OnOk result (out.new.items ≡ out.old.items ++ label_text scene.now cut.now row) }

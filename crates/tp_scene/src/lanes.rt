@@ -1,7 +1,8 @@
-ghost use Rattle.std.specs.Prelude.{◌≡◌, ◌∷◌, ◌++◌, ◌≤◌, [], ℕ, List, length, IfOk, OnOk};
+ghost use Rattle.std.specs.Prelude.{◌≡◌, ◌∷◌, ◌++◌, ◌<◌, ◌≤◌, [], ℕ, List, None, length, slice_set, IfOk, OnOk};
 ghost use Rattle.tp_base.specs.declared.Step.{Step};
 ghost use Rattle.tp_base.specs.declared.limits.TheConstants.{MAX_NODES};
-ghost use Rattle.tp_scene.specs.Scene.{pauses, last_pauses};
+ghost use Rattle.std.specs.List.{slice_index_or};
+ghost use Rattle.tp_scene.specs.Scene.{ended_pause, last_pauses, pauses, since_when};
 ghost use Rattle.tp_scene.specs.Following.{HasLanes, ArePending};
 
 use crate::scene::Pause;
@@ -37,21 +38,35 @@ impl Lanes {
             → ArePending n (step ∷ past) numbers.now → OnOk result (HasLanes n (step ∷ past) self.new) }
     {
         for i in 0..self.nodes {
-            let at = i as usize;
-            let is_idle = numbers[at].pending == 0;
-            match self.resting[at] {
-                None if is_idle => self.resting[at] = Some(place),
-                Some(from) if !is_idle => {
-                    self.resting[at] = None;
-                    self.pauses.push(Pause {
-                        node: NodeId(i),
-                        from,
-                        to: place,
-                    })?;
-                }
-                _ => {}
-            }
+            self.note(i, numbers[i as usize].pending == 0, place)?;
         }
+        Ok(())
+    }
+
+    /// Notes whether nothing is pending at a node after a step.
+    fn note(&mut self, node: u32, is_idle: bool, place: u32) -> Result<(), AllocError>
+        requires { node < 8 }
+        ensures resting { OnOk result (self.new.resting
+            ≡ slice_set self.old.resting node (since_when is_idle (slice_index_or self.old.resting node None) place)) }
+        ensures pauses { OnOk result (self.new.pauses.items
+            ≡ self.old.pauses.items ++ ended_pause is_idle node (slice_index_or self.old.resting node None) place) }
+        ensures nodes { self.new.nodes ≡ self.old.nodes }
+    {
+        let at = node as usize;
+        let since = self.resting[at];
+        if is_idle {
+            self.resting[at] = Some(since.unwrap_or(place));
+            return Ok(());
+        }
+        self.resting[at] = None;
+        let Some(from) = since else {
+            return Ok(());
+        };
+        self.pauses.push(Pause {
+            node: NodeId(node),
+            from,
+            to: place,
+        })?;
         Ok(())
     }
 

@@ -1,4 +1,4 @@
-ghost use Rattle.tp_scene.specs.Laws.{BarsLieApart, EachTaskOnce};
+ghost use Rattle.tp_scene.specs.Laws.{BarsLieApart, EachMessageOnce, EachTaskOnce};
 
 /// On no track two bars overlap, whatever the steps are.
 pub fn bars_lie_apart()
@@ -9,4 +9,10 @@ pub fn bars_lie_apart()
 /// task that the core runs has one that is open.
 pub fn each_task_once()
     ensures { EachTaskOnce }
+{}
+
+/// In a run each message that is received has one arrow, from its send to its recv, between its nodes, and nothing else has one; what
+/// is drawn as not received are the messages that are under way.
+pub fn each_message_once()
+    ensures { EachMessageOnce }
 {}

@@ -55,6 +55,7 @@ impl Scene {
     }
 
     /// How wide an event is.
+    #[tactic(auto, unfolding(crate::specs::Layout::step_of))]
     pub(crate) fn step(&self) -> u64
         ensures value { result ≡ step_of self.now.events }
         ensures bound { result ≤ 260 }
@@ -103,6 +104,7 @@ impl Scene {
     }
 
     /// Where the strip of an event begins.
+    #[tactic(auto, unfolding(crate::specs::Layout::edge))]
     pub(crate) fn edge(&self, event: u32) -> u64
         ensures value { result ≡ edge self.now event }
         ensures bound { result < 2 ^ 41 }
@@ -111,6 +113,7 @@ impl Scene {
     }
 
     /// The middle of an event.
+    #[tactic(auto, unfolding(crate::specs::Layout::middle))]
     pub(crate) fn middle(&self, event: u32) -> u64
         ensures value { result ≡ middle self.now event }
         ensures bound { result < 2 ^ 42 }
@@ -119,6 +122,7 @@ impl Scene {
     }
 
     /// Where the lanes end on the right.
+    #[tactic(auto, unfolding(crate::specs::Layout::right))]
     pub(crate) fn right(&self) -> u64
         ensures value { result ≡ right self.now }
         ensures bound { result < 2 ^ 41 }
@@ -127,6 +131,7 @@ impl Scene {
     }
 
     /// Where something ends that lasts to the middle of an event, or to the end of the trace.
+    #[tactic(auto, unfolding(crate::specs::Layout::reach))]
     pub(crate) fn reach(&self, event: u32) -> u64
         ensures value { result ≡ reach self.now event }
         ensures bound { result < 2 ^ 41 }
@@ -135,6 +140,7 @@ impl Scene {
     }
 
     /// How many tracks the lane of a node has, none beyond the eighth node.
+    #[tactic(auto, unfolding(crate::specs::Layout::rows_of))]
     fn rows_of(&self, node: u32) -> u64
         ensures value { result ≡ rows_of self.now node }
         ensures bound { result < 2 ^ 32 }
@@ -143,6 +149,7 @@ impl Scene {
     }
 
     /// How high the lane of a node is.
+    #[tactic(auto, unfolding(crate::specs::Layout::height_of))]
     pub(crate) fn height(&self, node: u32) -> u64
         ensures value { result ≡ height_of self.now node }
         ensures bound { result < 2 ^ 41 }
@@ -152,6 +159,7 @@ impl Scene {
     }
 
     /// Where the lane of a node begins; that of a node beyond the eighth where the ninth would.
+    #[tactic(auto, unfolding(crate::specs::Layout::top_of))]
     pub(crate) fn top(&self, node: u32) -> u64
         ensures value { result ≡ top_of self.now node }
         ensures bound { (1500 ≤ result) × (result < 2 ^ 46) }
@@ -164,6 +172,7 @@ impl Scene {
     }
 
     /// Where the lane of a node ends.
+    #[tactic(auto, unfolding(crate::specs::Layout::foot))]
     pub(crate) fn foot(&self, node: u32) -> u64
         ensures value { result ≡ foot self.now node }
         ensures bound { (1500 ≤ result) × (result < 2 ^ 47) }
@@ -172,6 +181,7 @@ impl Scene {
     }
 
     /// Where a track of a node's lane begins.
+    #[tactic(auto, unfolding(crate::specs::Layout::track_of))]
     pub(crate) fn track(&self, node: u32, track: u32) -> u64
         ensures value { result ≡ track_of self.now node track }
         ensures bound { result < 2 ^ 47 }
@@ -180,6 +190,7 @@ impl Scene {
     }
 
     /// Where the last lane ends.
+    #[tactic(auto, unfolding(crate::specs::Layout::bottom))]
     pub(crate) fn bottom(&self) -> u64
         ensures value { result ≡ bottom self.now }
         ensures bound { result < 2 ^ 46 }
@@ -188,6 +199,7 @@ impl Scene {
     }
 
     /// How wide the page is.
+    #[tactic(auto, unfolding(crate::specs::Layout::width))]
     pub(crate) fn width(&self) -> u64
         ensures value { result ≡ width self.now }
         ensures bound { result < 2 ^ 42 }
@@ -196,6 +208,7 @@ impl Scene {
     }
 
     /// How high the page is.
+    #[tactic(auto, unfolding(crate::specs::Layout::page_height))]
     pub(crate) fn page_height(&self) -> u64
         ensures value { result ≡ page_height self.now }
         ensures bound { result < 2 ^ 47 }

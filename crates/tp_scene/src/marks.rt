@@ -17,6 +17,7 @@ fn push_event(out: &mut Vec<u8>, label: &[u8], event: u32) -> Result<(), AllocEr
 }
 
 /// Where a task runs, up to a place on the page; at least a pixel wide.
+#[tactic(auto, unfolding(crate::specs::Marks::run_area))]
 fn run_area(scene: &Scene, run: &Running, to: u64) -> Area
     ensures { result ≡ run_area scene.now run.now to }
 {
@@ -32,6 +33,7 @@ fn run_area(scene: &Scene, run: &Running, to: u64) -> Area
 }
 
 /// A bar up to its title.
+#[tactic(auto, unfolding(crate::specs::Marks::run_text))]
 fn push_run(out: &mut Vec<u8>, run: &Running, area: Area) -> Result<(), AllocError>
     ensures { OnOk result (out.new.items ≡ out.old.items ++ run_text run.now area) }
 {
@@ -43,6 +45,7 @@ fn push_run(out: &mut Vec<u8>, run: &Running, area: Area) -> Result<(), AllocErr
 }
 
 /// The number of a task inside its bar, where it fits.
+#[tactic(auto, unfolding(crate::specs::Marks::number_text))]
 fn push_number(
     out: &mut Vec<u8>,
     scene: &Scene,
@@ -70,6 +73,7 @@ fn push_number(
 }
 
 /// Whether the number of a task fits into its bar: 7 pixels a digit.
+#[tactic(auto, unfolding(crate::specs::Marks::has_number))]
 fn has_number(scene: &Scene, run: &Running, area: Area) -> bool
     ensures { result ≡ has_number scene.now run.now area }
 {
@@ -80,6 +84,7 @@ fn has_number(scene: &Scene, run: &Running, area: Area) -> bool
 impl Mark for Bar {
     ghost text = { bar_text };
 
+    #[tactic(auto, unfolding(crate::specs::Marks::bar_text))]
     fn push(&self, scene: &Scene, out: &mut Vec<u8>) -> Result<(), AllocError> {
         let area = run_area(scene, &self.run, scene.reach(self.to));
         push_run(out, &self.run, area)?;
@@ -92,6 +97,7 @@ impl Mark for Bar {
 impl Mark for Running {
     ghost text = { running_text };
 
+    #[tactic(auto, unfolding(crate::specs::Marks::running_text))]
     fn push(&self, scene: &Scene, out: &mut Vec<u8>) -> Result<(), AllocError> {
         let area = run_area(scene, self, scene.right());
         push_run(out, self, area)?;
@@ -103,6 +109,7 @@ impl Mark for Running {
 impl Mark for Pause {
     ghost text = { pause_text };
 
+    #[tactic(auto, unfolding(crate::specs::Marks::pause_text))]
     fn push(&self, scene: &Scene, out: &mut Vec<u8>) -> Result<(), AllocError> {
         let from = scene.middle(self.from);
         out.extend_from_slice(b"<rect class=\"idle\"")?;
@@ -122,6 +129,7 @@ impl Mark for Pause {
 }
 
 /// From which edge of the sender's lane to which of the receiver's a message goes.
+#[tactic(auto, unfolding(crate::specs::Marks::ends_of))]
 fn ends_of(scene: &Scene, sending: &Sending) -> (u64, u64)
     ensures value { result ≡ ends_of scene.now sending.now }
     ensures bound { (result.0 < 2 ^ 47) × (result.1 < 2 ^ 47) }
@@ -134,6 +142,7 @@ fn ends_of(scene: &Scene, sending: &Sending) -> (u64, u64)
 }
 
 /// A curve from one place to another, vertical at both.
+#[tactic(auto, unfolding(crate::specs::Marks::curve_text))]
 fn push_curve(out: &mut Vec<u8>, from: Point, to: Point) -> Result<(), AllocError>
     requires { (from.y < 2 ^ 47) × (to.y < 2 ^ 47) }
     ensures { OnOk result (out.new.items ≡ out.old.items ++ curve_text from to) }
@@ -161,6 +170,7 @@ fn push_curve(out: &mut Vec<u8>, from: Point, to: Point) -> Result<(), AllocErro
 }
 
 /// How messages are drawn: fainter the more there are.
+#[tactic(auto, unfolding(crate::specs::Marks::arrow_class))]
 fn arrow_class(scene: &Scene) -> &'static [u8]
     ensures { result.now ≡ arrow_class scene.now }
 {
@@ -174,6 +184,7 @@ fn arrow_class(scene: &Scene) -> &'static [u8]
 }
 
 /// A dot where a message was sent, where there are few events.
+#[tactic(auto, unfolding(crate::specs::Marks::dot_text))]
 fn push_dot(out: &mut Vec<u8>, scene: &Scene, at: Point) -> Result<(), AllocError>
     ensures { OnOk result (out.new.items ≡ out.old.items ++ dot_text scene.now at) }
 {
@@ -188,6 +199,7 @@ fn push_dot(out: &mut Vec<u8>, scene: &Scene, at: Point) -> Result<(), AllocErro
 impl Mark for Arrow {
     ghost text = { arrow_text };
 
+    #[tactic(auto, unfolding(crate::specs::Marks::arrow_text))]
     fn push(&self, scene: &Scene, out: &mut Vec<u8>) -> Result<(), AllocError> {
         let sending = &self.sending;
         let (start, end) = ends_of(scene, sending);
@@ -211,6 +223,7 @@ impl Mark for Arrow {
 }
 
 /// What is said of a message.
+#[tactic(auto, unfolding(crate::specs::Marks::sending_text))]
 fn push_sending(out: &mut Vec<u8>, label: &[u8], sending: &Sending) -> Result<(), AllocError>
     ensures { OnOk result (out.new.items ≡ out.old.items ++ (label.now ++ sending_text sending.now)) }
 {
@@ -224,6 +237,7 @@ fn push_sending(out: &mut Vec<u8>, label: &[u8], sending: &Sending) -> Result<()
 impl Mark for Sending {
     ghost text = { lost_text };
 
+    #[tactic(auto, unfolding(crate::specs::Marks::lost_text))]
     fn push(&self, scene: &Scene, out: &mut Vec<u8>) -> Result<(), AllocError> {
         out.extend_from_slice(b"<path class=\"lost\" d=\"")?;
         push_point(
@@ -242,6 +256,7 @@ impl Mark for Sending {
 impl Mark for Seam {
     ghost text = { seam_text };
 
+    #[tactic(auto, unfolding(crate::specs::Marks::seam_text))]
     fn push(&self, scene: &Scene, out: &mut Vec<u8>) -> Result<(), AllocError> {
         let x = scene.edge(self.at);
         push_point(

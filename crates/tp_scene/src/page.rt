@@ -41,6 +41,7 @@ pub const LEGEND: &[u8] =
 ";
 
 /// The size of the page, and how things look on it.
+#[tactic(auto, unfolding(crate::specs::Page::head))]
 fn push_head(out: &mut Vec<u8>, scene: &Scene) -> Result<(), AllocError>
     ensures { OnOk result (out.new.items ≡ out.old.items ++ head scene.now) }
 {
@@ -57,6 +58,7 @@ fn push_head(out: &mut Vec<u8>, scene: &Scene) -> Result<(), AllocError>
 }
 
 /// How many there are of something, by its name for one, behind a label.
+#[tactic(auto, unfolding(crate::specs::Page::counted))]
 fn push_counted(out: &mut Vec<u8>, label: &[u8], count: u64, name: &[u8]) -> Result<(), AllocError>
     ensures { OnOk result (out.new.items ≡ out.old.items ++ (label.now ++ counted count name.now)) }
 {
@@ -69,6 +71,7 @@ fn push_counted(out: &mut Vec<u8>, label: &[u8], count: u64, name: &[u8]) -> Res
 }
 
 /// What the run came to: the four counts.
+#[tactic(auto, unfolding(crate::specs::Page::headline))]
 fn push_headline(out: &mut Vec<u8>, scene: &Scene) -> Result<(), AllocError>
     ensures { OnOk result (out.new.items ≡ out.old.items ++ headline scene.now) }
 {
@@ -85,6 +88,7 @@ fn push_headline(out: &mut Vec<u8>, scene: &Scene) -> Result<(), AllocError>
 }
 
 /// Whether it was judged that the pool had ended.
+#[tactic(auto, unfolding(crate::specs::Page::verdict))]
 fn push_verdict(out: &mut Vec<u8>, ended: Option<u32>) -> Result<(), AllocError>
     ensures { OnOk result (out.new.items ≡ out.old.items ++ verdict ended) }
 {
@@ -102,6 +106,7 @@ fn push_verdict(out: &mut Vec<u8>, ended: Option<u32>) -> Result<(), AllocError>
 }
 
 /// The lane of a node.
+#[tactic(auto, unfolding(crate::specs::Page::lane))]
 fn lane(scene: &Scene, node: u32) -> Area
     ensures value { result ≡ lane scene.now node }
     ensures bound { (result.corner.y < 2 ^ 46) × (result.height < 2 ^ 41) }
@@ -117,6 +122,7 @@ fn lane(scene: &Scene, node: u32) -> Area
 }
 
 /// The ground of a lane.
+#[tactic(auto, unfolding(crate::specs::Page::ground))]
 fn push_ground(out: &mut Vec<u8>, scene: &Scene, node: u32) -> Result<(), AllocError>
     ensures { OnOk result (out.new.items ≡ out.old.items ++ ground scene.now node) }
 {
@@ -137,6 +143,7 @@ fn push_grounds(out: &mut Vec<u8>, scene: &Scene) -> Result<(), AllocError>
 }
 
 /// The frame of a lane, and its node's name.
+#[tactic(auto, unfolding(crate::specs::Page::frame))]
 fn push_frame(out: &mut Vec<u8>, scene: &Scene, node: u32) -> Result<(), AllocError>
     ensures { OnOk result (out.new.items ≡ out.old.items ++ frame scene.now node) }
 {
@@ -164,8 +171,10 @@ fn push_frames(out: &mut Vec<u8>, scene: &Scene) -> Result<(), AllocError>
 }
 
 /// How many events lie between two ticks of the axis: at least 60 pixels.
+#[tactic(auto, unfolding(crate::specs::Page::unit))]
 fn unit(scene: &Scene) -> u32
-    ensures { result ≡ unit scene.now }
+    ensures value { result ≡ unit scene.now }
+    ensures some { 0 < result }
 {
     match scene.step() {
         120.. => 5,
@@ -177,6 +186,7 @@ fn unit(scene: &Scene) -> u32
 }
 
 /// A tick of the axis, at the middle of an event that counts from 1.
+#[tactic(auto, unfolding(crate::specs::Page::tick))]
 fn push_tick(out: &mut Vec<u8>, scene: &Scene, count: u32) -> Result<(), AllocError>
     requires { 0 < count }
     ensures { OnOk result (out.new.items ≡ out.old.items ++ tick scene.now count) }
@@ -208,6 +218,7 @@ fn push_ticks(out: &mut Vec<u8>, scene: &Scene) -> Result<(), AllocError>
 }
 
 /// The axis, which counts events.
+#[tactic(auto, unfolding(crate::specs::Page::axis))]
 fn push_axis(out: &mut Vec<u8>, scene: &Scene) -> Result<(), AllocError>
     ensures { OnOk result (out.new.items ≡ out.old.items ++ axis scene.now) }
 {
@@ -223,6 +234,7 @@ fn push_axis(out: &mut Vec<u8>, scene: &Scene) -> Result<(), AllocError>
 }
 
 /// What lies below the waves: the lanes, where nothing is pending, and the messages below the tasks.
+#[tactic(auto, unfolding(crate::specs::Page::run))]
 fn push_run(out: &mut Vec<u8>, scene: &Scene) -> Result<(), AllocError>
     ensures { OnOk result (out.new.items ≡ out.old.items ++ run scene.now) }
 {
@@ -236,6 +248,7 @@ fn push_run(out: &mut Vec<u8>, scene: &Scene) -> Result<(), AllocError>
 }
 
 /// The waves, the ends and the generations.
+#[tactic(auto, unfolding(crate::specs::Page::waves))]
 fn push_waves(out: &mut Vec<u8>, scene: &Scene) -> Result<(), AllocError>
     ensures { OnOk result (out.new.items ≡ out.old.items ++ waves scene.now) }
 {
@@ -246,6 +259,7 @@ fn push_waves(out: &mut Vec<u8>, scene: &Scene) -> Result<(), AllocError>
 }
 
 /// The picture of a scene, as an SVG of version 1.1 in UTF-8. It takes memory for the text alone; where that is refused, so is it.
+#[tactic(auto, unfolding(crate::specs::Page::svg_of))]
 pub fn svg(alloc: Global, scene: &Scene) -> Result<Vec<u8>, AllocError>
     ensures { IfOk result (λ text. text.items ≡ svg_of scene.now) }
 {

@@ -1,9 +1,8 @@
-ghost use Rattle.std.specs.Prelude.{◌≡◌, ◌==◌, ◌<◌, ℕ, length, slice_index, if◌then◌else◌};
+ghost use Rattle.std.specs.Prelude.{◌≡◌, slice_index, slice_set};
 
 /// Puts a number in the place of a node; there is none beyond the eighth.
 pub(crate) fn put(places: &mut [u32; 8], node: u32, number: u32)
-    ensures size { length places.new ≡ 8 }
-    ensures value { (k : ℕ) → k < 8 → slice_index places.new k ≡ (if node == k then number else slice_index places.old k) }
+    ensures { places.new ≡ slice_set places.old node number }
 {
     if let Some(place) = places.get_mut(node as usize) {
         *place = number;

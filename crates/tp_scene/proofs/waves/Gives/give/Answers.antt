@@ -3,4 +3,4 @@ use Rattle.tp_scene.proofs.Followed.{given_more}
 use Rattle.tp_scene.proofs.waves.Gives.give.Goals as goal
 
 pub returns : goal.returns
-returns c = λ past h at. given_more past c.args.node c.args.place c.args.self _ h at c.put.ensures.size c.put.ensures.value (search rules)
+returns c = λ past h at. given_more past c.args.node c.args.place c.args.self _ h at c.put.ensures (search rules)
