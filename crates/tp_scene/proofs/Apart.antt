@@ -17,7 +17,7 @@ use Rattle.tp_scene.specs.Scene.{is_on, is_run_of, first_from, free_track, begun
 use Rattle.tp_scene.specs.Laws.{AreOnOneTrack, LieApart, BarsLieApart}
 
 -- ---- lists
-abbrev Each : {A : Type 0} → (A → Type 0) → List A → Type 0
+abbrev pub Each : {A : Type 0} → (A → Type 0) → List A → Type 0
 Each P [] = Unit {0}
 Each P (x ∷ xs) = P x × Each P xs
 
@@ -25,7 +25,7 @@ abbrev Pairs : {A : Type 0} → (A → A → Type 0) → List A → Type 0
 Pairs R [] = Unit {0}
 Pairs R (x ∷ xs) = Each (R x) xs × Pairs R xs
 
-each_all : {A : Type 0} (P : A → Type 0) (xs : List A) → Each P xs → All P xs
+pub each_all : {A : Type 0} (P : A → Type 0) (xs : List A) → Each P xs → All P xs
 each_all P [] h = All-nil P
 each_all P (x ∷ xs) h = All-cons P x xs h.0 (each_all P xs h.1)
 
@@ -33,15 +33,15 @@ pairs_all : {A : Type 0} (R : A → A → Type 0) (xs : List A) → Pairs R xs �
 pairs_all R [] h = λ i j d below short. absurd (omega arith)
 pairs_all R (x ∷ xs) h = AllPairs-cons R x xs (each_all (R x) xs h.0) (pairs_all R xs h.1)
 
-each_push : {A : Type 0} (P : A → Type 0) (xs : List A) (y : A) → Each P xs → P y → Each P (xs ++ y ∷ [])
+pub each_push : {A : Type 0} (P : A → Type 0) (xs : List A) (y : A) → Each P xs → P y → Each P (xs ++ y ∷ [])
 each_push P [] y h p = (p, tt)
 each_push P (x ∷ xs) y h p = (h.0, each_push P xs y h.1 p)
 
-each_map : {A : Type 0} (P Q : A → Type 0) (xs : List A) → ((x : A) → P x → Q x) → Each P xs → Each Q xs
+pub each_map : {A : Type 0} (P Q : A → Type 0) (xs : List A) → ((x : A) → P x → Q x) → Each P xs → Each Q xs
 each_map P Q [] f h = tt
 each_map P Q (x ∷ xs) f h = (f x h.0, each_map P Q xs f h.1)
 
-each_zip : {A : Type 0} (P Q S : A → Type 0) (xs : List A) → ((x : A) → P x → Q x → S x) → Each P xs → Each Q xs → Each S xs
+pub each_zip : {A : Type 0} (P Q S : A → Type 0) (xs : List A) → ((x : A) → P x → Q x → S x) → Each P xs → Each Q xs → Each S xs
 each_zip P Q S [] f h k = tt
 each_zip P Q S (x ∷ xs) f h k = (f x h.0 k.0, each_zip P Q S xs f h.1 k.1)
 
@@ -49,7 +49,7 @@ pairs_push : {A : Type 0} (R : A → A → Type 0) (xs : List A) (y : A) → Pai
 pairs_push R [] y h k = (tt, tt)
 pairs_push R (x ∷ xs) y h k = (each_push (R x) xs y h.0 k.0, pairs_push R xs y h.1 k.1)
 
-each_without : {A : Type 0} (P : A → Type 0) (test : A → Bool) (xs : List A) → Each P xs → Each P (without test xs)
+pub each_without : {A : Type 0} (P : A → Type 0) (test : A → Bool) (xs : List A) → Each P xs → Each P (without test xs)
 each_without P test [] h = tt
 each_without {A} P test (x ∷ xs) h = choose (test x)
   where
@@ -74,7 +74,7 @@ length-without {A} test (x ∷ xs) = choose (test x)
     choose false = omega (arith, length-without test xs)
 
 -- what holds of each holds of the one that is found
-each_found : {A : Type 0} (P : A → Type 0) (test : A → Bool) (xs : List A) (y : A) → find test xs ≡ Some y → Each P xs → P y
+pub each_found : {A : Type 0} (P : A → Type 0) (test : A → Bool) (xs : List A) (y : A) → find test xs ≡ Some y → Each P xs → P y
 each_found P test [] y found h = cc
 each_found {A} P test (x ∷ xs) y found h = choose (test x) found
   where

@@ -137,6 +137,7 @@ tracks_begun n past t node track place old new h at node_is track_is same put ru
 
     made : NodeId → ℕ → ℕ → Running
     made m k p = record { task = t; node = m; track = k; from = p }
+
     is : made node track place ≡ made (record { 0 = home_of t.0 (world_after n past) }) (free_track (home_of t.0 (world_after n past)) (length past) (running n past)) (length past)
     is =
         ap (λ (m : NodeId). made m track place) there ∙ ap (λ k. made (record { 0 = home_of t.0 (world_after n past) }) k place) free

@@ -57,6 +57,7 @@ noted_more n s past k place pends old new h less at is same rest pause = record 
         let within : k < length old.resting = omega (arith, less, h.few, h.size) in
         ap (λ xs. slice_index_or xs i None) rest
         ∙ written old.resting k i (since_when (pends == 0) (slice_index_or old.resting k None) place) None within
+
     was : slice_index_or old.resting k None ≡ resting n k past
     was = h.above k (omega arith) less
 

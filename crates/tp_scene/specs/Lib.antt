@@ -6,4 +6,5 @@ pub mod Marks
 pub mod Cuts
 pub mod Page
 pub mod Laws
+pub mod Inside
 pub mod Temp

@@ -1,3 +1,4 @@
+ghost use Rattle.tp_scene.specs.Inside.{AllIsInside};
 ghost use Rattle.tp_scene.specs.Laws.{BarsLieApart, EachMessageOnce, EachTaskOnce};
 
 /// On no track two bars overlap, whatever the steps are.
@@ -15,4 +16,9 @@ pub fn each_task_once()
 /// is drawn as not received are the messages that are under way.
 pub fn each_message_once()
     ensures { EachMessageOnce }
+{}
+
+/// All that is drawn of a run lies on the page.
+pub fn all_is_inside()
+    ensures { AllIsInside }
 {}
