@@ -3,7 +3,7 @@ use Rattle.std.proofs.Common.{◌≡◌, ℕ, zero, suc, ◌+◌, ◌-◌, ◌*�
 use Rattle.std.specs.Prelude.{unwrap_or}
 use Rattle.std.specs.List.{All, find, range_with_len}
 use Rattle.std.proofs.lemmas.Bool.Decides.{nat_tests}
-use Rattle.std.proofs.Math.Nat.{mul-le-mul_right, div-le_self}
+use Rattle.std.proofs.Math.Nat.{mul-le-mul_right, div-le_of_le-mul}
 use Rattle.std.proofs.lemmas.List.{append-nil}
 use Rattle.tp_base.specs.declared.ids.TaskId.{TaskId}
 use Rattle.tp_base.specs.declared.limits.TheConstants.{MAX_NODES}
@@ -29,18 +29,22 @@ use Rattle.tp_scene.specs.declared.scene.Seam.{Seam}
 use Rattle.tp_scene.specs.declared.scene.End.{End}
 use Rattle.tp_scene.specs.declared.scene.Scene.{Scene}
 use Rattle.tp_scene.specs.Scene.{IsSceneOf, is_run_of, begun, running, bars, bar_of, with_row, rows, is_sending_of, under_way, arrows, arrow_of, gave, cut, cuts, ends, end_of, seams, since_when, resting, pause_of, ended_pause, pause_before, pauses_before, pauses, pauses_now, last_pauses}
-use Rattle.tp_scene.specs.Layout.{detail_of, step_of, between_of, gap_of, edge, middle, right, reach, rows_of, height_of, top_of, foot, track_of, bottom, width, page_height, pitch}
+use Rattle.tp_scene.specs.Layout.{detail_of, span_of, between_of, gap_of, edge, middle, right, reach, rows_of, height_of, top_of, foot, track_of, bottom, width, page_height, pitch}
 use Rattle.tp_scene.specs.Layout as layout
 use Rattle.tp_scene.specs.Inside.{IsRunThere, IsSendingThere, AreThere, IsOnPage, AllIsInside}
 use Rattle.tp_scene.proofs.Apart.{Each, each_all, each_push, each_map, each_without, each_found}
 
 -- ---- the page
+shared : (k span events : ℕ) → 0 < events → k ≤ events → k * span / events ≤ span
+shared k span events some fits =
+    div-le_of_le-mul events (let whole : k * span ≤ events * span = mul-le-mul_right span fits in whole)
+
 across : (s : Scene) (e : ℕ) → e < s.events → (740 ≤ middle s e) × (middle s e + 440 ≤ width s)
-unfolding edge middle right width
+unfolding middle right width
 across s e less =
-    let whole : (e + 1) * step_of s.events ≤ s.events * step_of s.events = mul-le-mul_right (step_of s.events) (omega (arith, less)) in
-    let half : step_of s.events / 2 ≤ step_of s.events = div-le_self (step_of s.events) 2 in
-    (omega arith, omega (arith, whole, half))
+    let inside : (2 * e + 1) * span_of s.events / (2 * max s.events 1) ≤ span_of s.events =
+    shared (2 * e + 1) (span_of s.events) (2 * max s.events 1) (omega arith) (omega (arith, less)) in
+    (omega arith, omega (arith, inside))
 
 reaches : (s : Scene) (e : ℕ) → reach s e + 440 ≤ width s
 unfolding reach width
@@ -49,8 +53,9 @@ reaches s e = omega arith
 edges : (s : Scene) (e : ℕ) → e < s.events → (740 ≤ edge s e) × (edge s e + 440 ≤ width s)
 unfolding edge right width
 edges s e less =
-    let whole : e * step_of s.events ≤ s.events * step_of s.events = mul-le-mul_right (step_of s.events) (omega (arith, less)) in
-    (omega arith, omega (arith, whole))
+    let inside : e * span_of s.events / max s.events 1 ≤ span_of s.events =
+    shared e (span_of s.events) (max s.events 1) (omega arith) (omega (arith, less)) in
+    (omega arith, omega (arith, inside))
 
 total-le : (f : ℕ → ℕ) (a b : ℕ) → a ≤ b → total a f ≤ total b f
 total-le f a zero h = let e : a ≡ 0 = omega (arith, h) in rw e (omega arith)

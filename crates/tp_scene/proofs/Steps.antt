@@ -1,5 +1,5 @@
 -- Steps of loops, over plain lists and numbers.
-use Rattle.std.proofs.Common.{◌≡◌, ℕ, zero, suc, ◌+◌, ◌-◌, ◌<◌, Bool, true, false, List, [], ◌∷◌, ◌++◌, length, get_or, take, drop, refl, sym, ap, ◌∙◌, add-one, append_assoc, arith, rules, if◌then◌else◌}
+use Rattle.std.proofs.Common.{◌≡◌, ℕ, zero, suc, ◌+◌, ◌-◌, ◌%◌, ◌<◌, Bool, true, false, List, [], ◌∷◌, ◌++◌, length, get_or, take, drop, refl, sym, ap, ◌∙◌, add-one, append_assoc, arith, rules, if◌then◌else◌}
 use Rattle.std.proofs.Math.Seq.{drop-cons, drop-length, take-length}
 use Rattle.std.proofs.lemmas.List.{append-nil, flat_map_more, take_more}
 use Rattle.std.proofs.lemmas.Option.{slice_get-get_or}
@@ -7,6 +7,9 @@ use Rattle.std.specs.Prelude.{Some, None, slice_get}
 use Rattle.std.specs.List.{find, flat_map, remove}
 use Rattle.tp_core.specs.Pool.{without}
 use Rattle.tp_wave.specs.Sums.{total}
+use Rattle.tp_scene.specs.declared.scene.Cut.{Cut}
+use Rattle.tp_scene.specs.declared.scene.Scene.{Scene}
+use Rattle.tp_scene.specs.Cuts.{label, label_at, labels}
 use Rattle.tp_scene.specs.Scene.{first_from}
 
 -- what a loop over numbers has written, one number further
@@ -79,3 +82,9 @@ passes_all test xs over = (
   over.found ∙ ap (find test) (drop-length xs),
   over.left ∙ ap (λ l. take (length xs) xs ++ without test l) (drop-length xs) ∙ append-nil (take (length xs) xs) ∙ take-length xs,
 )
+
+pub labels_more : (s : Scene) (cuts : List Cut) (k : ℕ) (c : Cut) → k < length cuts → c ≡ get_or cuts k c
+    → labels s cuts (k + 1) ≡ labels s cuts k ++ label s c (slice_get cuts (k + 2)) (k % 2)
+labels_more s cuts k c fits is =
+    let here : slice_get cuts k ≡ Some c = slice_get-get_or cuts k c fits ∙ ap Some (sym is) in
+    rw add-one (ap (λ o. labels s cuts k ++ label_at s cuts o k) here)

@@ -31,16 +31,20 @@ between_of Fine = 460
 between_of Medium = 340
 between_of Coarse = 260
 
+-- how wide the lanes are: above 2,500 events the width no longer grows
+unfoldable pub span_of : ℕ → ℕ
+span_of events = if nat_le events 2500 then events * step_of events else 15000
+
 -- where the strip of an event begins, and its middle
 unfoldable pub edge : Scene → ℕ → ℕ
-edge s e = 740 + e * step_of s.events
+edge s e = 740 + e * span_of s.events / max s.events 1
 
 unfoldable pub middle : Scene → ℕ → ℕ
-middle s e = edge s e + step_of s.events / 2
+middle s e = 740 + (2 * e + 1) * span_of s.events / (2 * max s.events 1)
 
 -- where the lanes end on the right
 unfoldable pub right : Scene → ℕ
-right s = edge s s.events
+right s = 740 + span_of s.events
 
 -- where something ends that lasts to the middle of an event, or to the end of the trace
 unfoldable pub reach : Scene → ℕ → ℕ

@@ -53,11 +53,13 @@ frames s zero = []
 frames s (suc k) = frames s k ++ frame s k
 
 -- ---- the axis
--- how many events lie between two ticks: at least 60 pixels
+-- how many events lie between two ticks, so that they are at least 60 pixels apart
+abbrev pub unit_by : ℕ → ℕ
+unit_by step = if nat_le 120 step then 5 else (if nat_le 60 step then 10 else (if nat_le 30 step then 20 else (if nat_le 12 step then 50 else 100)))
+
 unfoldable pub unit : Scene → ℕ
 unit s =
-    if nat_le 120 (step_of s.events) then 5 else (if nat_le 60 (step_of s.events) then 10 else (if nat_le 30 (step_of s.events)
-    then 20 else (if nat_le 12 (step_of s.events) then 50 else 100)))
+    if nat_le s.events 2500 then unit_by (step_of s.events) else (if nat_le s.events 25000 then 1000 else (if nat_le s.events 250000 then 10000 else 50000))
 
 -- the tick at this event, counted from 1
 unfoldable pub tick : Scene → ℕ → List ℕ

@@ -1,6 +1,6 @@
 ghost use Rattle.std.specs.Prelude.{◌≡◌, ◌++◌, ◌<◌, ◌^◌, OnOk, slice_index, decimal};
 ghost use Rattle.std.specs.Prelude.{option_copied, length};
-ghost use Rattle.tp_scene.specs.Cuts.{tells, wave_class, cut_at, crossing, crossings, rings, ring_text, cut_text, sums_text, over, end_text, label_text, labels, has_room};
+ghost use Rattle.tp_scene.specs.Cuts.{tells, wave_class, cut_at, crossing, crossings, rings, ring_text, cut_text, sums_text, over, end_text, label, label_text, labels, has_room};
 
 use crate::layout::{Detail, TOP};
 use crate::pieces::{Area, Mark, Point, push_area, push_count, push_point, push_tenths};
@@ -39,7 +39,7 @@ fn wave_class(scene: &Scene, cut: &Cut) -> &'static [u8]
 #[tactic(auto, unfolding(crate::specs::Cuts::cut_at))]
 fn cut_at(scene: &Scene, cut: &Cut, node: u32) -> u64
     ensures value { result ≡ cut_at scene.now cut.now node }
-    ensures bound { result < 2 ^ 42 }
+    ensures bound { result < 2 ^ 54 }
 {
     scene.middle(place_of(&cut.gives, node))
 }
@@ -192,14 +192,29 @@ fn push_label(out: &mut Vec<u8>, scene: &Scene, cut: &Cut, row: u64) -> Result<(
     out.extend_from_slice(b"</text>\n")
 }
 
+/// The label of a wave, where there is room for it beside that of the next wave in its row.
+fn push_label_beside(
+    out: &mut Vec<u8>,
+    scene: &Scene,
+    cut: &Cut,
+    next: Option<&Cut>,
+    row: u64,
+) -> Result<(), AllocError>
+    requires { row < 2 }
+    ensures { OnOk result (out.new.items ≡ out.old.items ++ label scene.now cut.now (option_copied next.entry) row) }
+{
+    if !has_room(scene, cut, next) {
+        return Ok(());
+    }
+    push_label(out, scene, cut, row)
+}
+
 /// The labels of the waves, in two rows: one is left out where the next of its row has no room beside it.
 pub(crate) fn push_labels(out: &mut Vec<u8>, scene: &Scene) -> Result<(), AllocError>
     ensures { OnOk result (out.new.items ≡ out.old.items ++ labels scene.now scene.now.cuts.items (length scene.now.cuts.items)) }
 {
     for (k, cut) in scene.cuts.iter().enumerate() {
-        if has_room(scene, cut, scene.cuts.get(k + 2)) {
-            push_label(out, scene, cut, (k % 2) as u64)?;
-        }
+        push_label_beside(out, scene, cut, scene.cuts.get(k + 2), (k % 2) as u64)?;
     }
     Ok(())
 }

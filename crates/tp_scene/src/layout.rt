@@ -1,5 +1,5 @@
 ghost use Rattle.std.specs.Prelude.{◌≡◌, ◌≤◌, ◌<◌, ◌*◌, ◌^◌, min};
-ghost use Rattle.tp_scene.specs.Layout.{detail_of, step_of, bar_of, gap_of, between_of, edge, middle, right, reach, rows_of, height_of, top_of, foot, track_of, bottom, width, page_height};
+ghost use Rattle.tp_scene.specs.Layout.{detail_of, step_of, span_of, bar_of, gap_of, between_of, edge, middle, right, reach, rows_of, height_of, top_of, foot, track_of, bottom, width, page_height};
 
 use crate::places::place_of;
 use crate::scene::Scene;
@@ -103,22 +103,35 @@ impl Scene {
         }
     }
 
+    /// How wide the lanes are: above 2,500 events the width no longer grows.
+    #[tactic(auto, unfolding(crate::specs::Layout::span_of))]
+    fn span(&self) -> u64
+        ensures value { result ≡ span_of self.now.events }
+        ensures bound { result ≤ 650000 }
+    {
+        if self.events <= 2_500 {
+            u64::from(self.events) * self.step()
+        } else {
+            15_000
+        }
+    }
+
     /// Where the strip of an event begins.
     #[tactic(auto, unfolding(crate::specs::Layout::edge))]
     pub(crate) fn edge(&self, event: u32) -> u64
         ensures value { result ≡ edge self.now event }
-        ensures bound { result < 2 ^ 41 }
+        ensures bound { result < 2 ^ 53 }
     {
-        LEFT + u64::from(event) * self.step()
+        LEFT + u64::from(event) * self.span() / u64::from(self.events.max(1))
     }
 
     /// The middle of an event.
     #[tactic(auto, unfolding(crate::specs::Layout::middle))]
     pub(crate) fn middle(&self, event: u32) -> u64
         ensures value { result ≡ middle self.now event }
-        ensures bound { result < 2 ^ 42 }
+        ensures bound { result < 2 ^ 54 }
     {
-        self.edge(event) + self.step() / 2
+        LEFT + (2 * u64::from(event) + 1) * self.span() / (2 * u64::from(self.events.max(1)))
     }
 
     /// Where the lanes end on the right.
@@ -127,7 +140,7 @@ impl Scene {
         ensures value { result ≡ right self.now }
         ensures bound { result < 2 ^ 41 }
     {
-        self.edge(self.events)
+        LEFT + self.span()
     }
 
     /// Where something ends that lasts to the middle of an event, or to the end of the trace.

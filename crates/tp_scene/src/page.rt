@@ -176,12 +176,17 @@ fn unit(scene: &Scene) -> u32
     ensures value { result ≡ unit scene.now }
     ensures some { 0 < result }
 {
-    match scene.step() {
-        120.. => 5,
-        60.. => 10,
-        30.. => 20,
-        12.. => 50,
-        _ => 100,
+    match scene.events {
+        0..=2_500 => match scene.step() {
+            120.. => 5,
+            60.. => 10,
+            30.. => 20,
+            12.. => 50,
+            _ => 100,
+        },
+        2_501..=25_000 => 1_000,
+        25_001..=250_000 => 10_000,
+        _ => 50_000,
     }
 }
 
