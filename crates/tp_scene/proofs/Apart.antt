@@ -11,6 +11,7 @@ use Rattle.tp_base.specs.declared.Step.{Step}
 use Rattle.tp_base.specs.declared.Step.TheVariants.{Begin, Done}
 use Rattle.tp_core.specs.World.{how_many}
 use Rattle.tp_core.specs.Pool.{without}
+use Rattle.tp_scene.proofs.Lists.{some_same, none_some}
 use Rattle.tp_scene.specs.declared.scene.Running.{Running}
 use Rattle.tp_scene.specs.declared.scene.Bar.{Bar}
 use Rattle.tp_scene.specs.Scene.{is_on, is_run_of, first_from, free_track, begun, running, bars, bar_of}
@@ -75,11 +76,11 @@ length-without {A} test (x ∷ xs) = choose (test x)
 
 -- what holds of each holds of the one that is found
 pub each_found : {A : Type 0} (P : A → Type 0) (test : A → Bool) (xs : List A) (y : A) → find test xs ≡ Some y → Each P xs → P y
-each_found P test [] y found h = cc
+each_found P test [] y found h = absurd (none_some y found)
 each_found {A} P test (x ∷ xs) y found h = choose (test x) found
   where
     choose : (b : Bool) → (if b then Some x else find test xs) ≡ Some y → P y
-    choose true e = let same : x ≡ y = cc in subst P same h.0
+    choose true e = subst P (some_same x y e) h.0
     choose false e = each_found P test xs y e h.1
 
 -- the one that is found stands to each other one as each two do
@@ -89,7 +90,7 @@ found_others R test [] y both found h = tt
 found_others {A} R test (x ∷ xs) y both found h = choose (test x) found
   where
     choose : (b : Bool) → (if b then Some x else find test xs) ≡ Some y → Each (R y) (if b then xs else x ∷ without test xs)
-    choose true e = let same : x ≡ y = cc in let P : A → Type 0 = λ a. Each (R a) xs in subst P same h.0
+    choose true e = let P : A → Type 0 = λ a. Each (R a) xs in subst P (some_same x y e) h.0
     choose false e = (both x y (each_found (R x) test xs y e h.0), found_others R test xs y both e h.1)
 
 -- ---- the free track
@@ -97,21 +98,23 @@ found_others {A} R test (x ∷ xs) y both found h = choose (test x) found
 abbrev IsFirst : (ℕ → Bool) → ℕ → ℕ → ℕ → Type 0
 IsFirst test many k r = (test r ≡ true) ⊎ ((r ≡ k + many) × ((j : ℕ) → k ≤ j → j < k + many → test j ≡ false))
 
+first_here : (test : ℕ → Bool) (many k j : ℕ) → test k ≡ false → ((m : ℕ) → k + 1 ≤ m → m < k + 1 + many → test m ≡ false) → (b : Bool) → (k == j) ≡ b
+    → k ≤ j → j < k + suc many → test j ≡ false
+first_here test many k j fails rest true e low high = ap test (sym (eqb-true k j e)) ∙ fails
+first_here test many k j fails rest false e low high = rest j (grind (arith, nat_tests, e, low)) (omega (arith, high))
+
+first_later : (test : ℕ → Bool) (many k r : ℕ) → test k ≡ false → IsFirst test many (k + 1) r → IsFirst test (suc many) k r
+first_later test many k r fails (inl passes) = inl passes
+first_later test many k r fails (inr none) =
+    inr (omega (arith, none.0), λ j low high. first_here test many k j fails none.1 (k == j) refl low high)
+
 first_is : (test : ℕ → Bool) (many k : ℕ) → IsFirst test many k (first_from test many k)
 first_is test zero k = inr (omega arith, λ j low high. absurd (omega (arith, low, high)))
 first_is test (suc many) k = choose (test k) refl
   where
-    later : test k ≡ false → IsFirst test many (k + 1) (first_from test many (k + 1)) → IsFirst test (suc many) k (first_from test many (k + 1))
-    later fails (inl passes) = inl passes
-    later fails (inr none) = inr (omega (arith, none.0), λ j low high. here j (k == j) refl low high)
-      where
-        here : (j : ℕ) → (b : Bool) → (k == j) ≡ b → k ≤ j → j < k + suc many → test j ≡ false
-        here j true e low high = let same : k ≡ j = grind (arith, nat_tests, e) in ap test (sym same) ∙ fails
-        here j false e low high = none.1 j (grind (arith, nat_tests, e, low)) (omega (arith, high))
-
     choose : (b : Bool) → test k ≡ b → IsFirst test (suc many) k (if b then k else first_from test many (k + 1))
     choose true e = inl e
-    choose false e = later e (first_is test many (k + 1))
+    choose false e = first_later test many k (first_from test many (k + 1)) e (first_is test many (k + 1))
 
 abbrev is_below : ℕ → ℕ → Running → Bool
 is_below i m run = (run.node.0 == i) && nat_lt run.track m
@@ -133,13 +136,16 @@ taken_below i zero runs h = omega arith
 taken_below i (suc m) runs h =
     omega (arith, below_more i m runs, taken_below i m runs (λ j l. h j (omega (arith, l))), some_counted (is_on i m) runs (h m (omega arith)))
 
+true_false : true ≡ false → ⊥
+true_false e = cc
+
 not_taken : (b : Bool) → not b ≡ true → b ≡ false
-not_taken true e = cc
+not_taken true e = absurd (true_false (sym e))
 not_taken false e = refl
 
 is_taken : (b : Bool) → not b ≡ false → b ≡ true
 is_taken true e = refl
-is_taken false e = cc
+is_taken false e = absurd (true_false e)
 
 -- Nothing runs on the free track, where no more run than there are tracks to look at.
 free_is_free : (i many : ℕ) (runs : List Running) → length runs ≤ many → list_any (is_on i (free_track i many runs)) runs ≡ false
@@ -184,33 +190,34 @@ apart_kept n past s h same_bars same_running = record {
   few = rw same_running (omega (arith, h.few));
 }
 
+abbrev now : ℕ → List Step → TaskId → Running
+now n past t = begun n past (running n past) t.0
+
 apart_begun : (n : ℕ) (past : List Step) (t : TaskId) → Apart n past → Apart n (Begin t ∷ past)
 apart_begun n past t h = record {
   done = h.done;
   before =
       each_zip (λ (a : Bar). Each (λ (r : Running). AreOnOneTrack a.run r → a.to < r.from) (running n past)) (λ (a : Bar). a.to < length past)
-      (λ (a : Bar). Each (λ (r : Running). AreOnOneTrack a.run r → a.to < r.from) (running n past ++ now ∷ [])) (bars n past)
-      (λ a others l. each_push (λ (r : Running). AreOnOneTrack a.run r → a.to < r.from) (running n past) now others (λ _. l)) h.before h.over;
+      (λ (a : Bar). Each (λ (r : Running). AreOnOneTrack a.run r → a.to < r.from) (running n past ++ (now n past t) ∷ [])) (bars n past)
+      (λ a others l. each_push (λ (r : Running). AreOnOneTrack a.run r → a.to < r.from) (running n past) (now n past t) others (λ _. l)) h.before h.over;
   open_apart =
-      pairs_push (λ (r q : Running). ¬ AreOnOneTrack r q) (running n past) now h.open_apart
-      (none_on now.node.0 now.track (running n past) now refl refl (free_is_free now.node.0 (length past) (running n past) h.few));
+      pairs_push (λ (r q : Running). ¬ AreOnOneTrack r q) (running n past) (now n past t) h.open_apart
+      (none_on (now n past t).node.0 (now n past t).track (running n past) (now n past t) refl refl (free_is_free (now n past t).node.0 (length past) (running n past) h.few));
   over = longer (Begin t) past (bars n past) h.over;
-  few = omega (arith, length-append (running n past) (now ∷ []), h.few);
+  few = omega (arith, length-append (running n past) ((now n past t) ∷ []), h.few);
 }
-  where
-    now : Running
-    now = begun n past (running n past) t.0
+
+-- what has to hold of the bars when a task is done
+abbrev After : ℕ → List Step → TaskId → List Bar → Type 0
+After n past t over =
+    Pairs (λ (a b : Bar). AreOnOneTrack a.run b.run → a.to < b.run.from) over
+    × Each (λ (a : Bar). Each (λ (r : Running). AreOnOneTrack a.run r → a.to < r.from) (without (is_run_of t.0) (running n past))) over
+    × Each (λ (a : Bar). a.to < length (Done t ∷ past)) over
 
 apart_done : (n : ℕ) (past : List Step) (t : TaskId) → Apart n past → Apart n (Done t ∷ past)
 apart_done n past t h = choose (find (is_run_of t.0) (running n past)) refl
   where
-    After : List Bar → Type 0
-    After over =
-        Pairs (λ (a b : Bar). AreOnOneTrack a.run b.run → a.to < b.run.from) over
-        × Each (λ (a : Bar). Each (λ (r : Running). AreOnOneTrack a.run r → a.to < r.from) (without (is_run_of t.0) (running n past))) over
-        × Each (λ (a : Bar). a.to < length (Done t ∷ past)) over
-
-    whole : (over : List Bar) → bars n (Done t ∷ past) ≡ over → After over → Apart n (Done t ∷ past)
+    whole : (over : List Bar) → bars n (Done t ∷ past) ≡ over → After n past t over → Apart n (Done t ∷ past)
     whole over is a = record {
       done = rw is a.0;
       before = rw is a.1;
@@ -225,7 +232,7 @@ apart_done n past t h = choose (find (is_run_of t.0) (running n past)) refl
         (λ (a : Bar). Each (λ (r : Running). AreOnOneTrack a.run r → a.to < r.from) (without (is_run_of t.0) (running n past))) (bars n past)
         (λ a others. each_without (λ (r : Running). AreOnOneTrack a.run r → a.to < r.from) (is_run_of t.0) (running n past) others) h.before
 
-    ended : (run : Running) → find (is_run_of t.0) (running n past) ≡ Some run → After (bars n past ++ record { run = run; to = length past } ∷ [])
+    ended : (run : Running) → find (is_run_of t.0) (running n past) ≡ Some run → After n past t (bars n past ++ record { run = run; to = length past } ∷ [])
     ended run found =
         let bar : Bar = record { run = run; to = length past } in (
           pairs_push (λ (a b : Bar). AreOnOneTrack a.run b.run → a.to < b.run.from) (bars n past) bar h.done

@@ -17,7 +17,7 @@ use Rattle.tp_core.specs.World.{Message, IsQuiet, how_many, is_message, is_known
 use Rattle.tp_core.specs.Pool.{without}
 use Rattle.tp_core.specs.Run.{world}
 use Rattle.tp_core.specs.Generations.{AreRuns, world_after}
-use Rattle.tp_scene.proofs.Lists.{one, counted-push, find-push, find-push_other, counted-without, counted-without_le, find-without_other, counted-found, found-counted, counted-reverse, counted-map, reverse-cons, reverse-without, find-reverse, find-map, map-without, without-same, find-same, some_counted, counted-le, found-passes}
+use Rattle.tp_scene.proofs.Lists.{one, same_some, none_some, counted-push, find-push, find-push_other, counted-without, counted-without_le, find-without_other, counted-found, found-counted, counted-reverse, counted-map, reverse-cons, reverse-without, find-reverse, find-map, map-without, without-same, find-same, some_counted, counted-le, found-passes}
 use Rattle.tp_scene.proofs.EachTask.{quiet_before}
 use Rattle.tp_scene.specs.declared.scene.Sending.{Sending}
 use Rattle.tp_scene.specs.declared.scene.Arrow.{Arrow}
@@ -43,41 +43,44 @@ numbered_once n past m h =
     ∙ counted-map letter_of (has_number m) (under_way past)
 
 -- ---- a message is sent
+abbrev now : List Step → NodeId → NodeId → MessageId → Sending
+now past i j k = record { message = k; from = i; to = j; sent = length past }
+
+true_false : true ≡ false → ⊥
+true_false e = cc
+
 flights_sent : (n : ℕ) (past : List Step) (i j : NodeId) (k : MessageId) (g : Generation) → is_known_message k.0 (world_after n past) ≡ false → Flights n past
     → Flights n (Send i j k g ∷ past)
 flights_sent n past i j k g unknown h = record {
   same =
-      map-append letter_of (under_way past) (now ∷ []) ∙ ap (λ l. l ++ letter_of now ∷ []) h.same
-      ∙ sym (reverse-cons (letter_of now) (world_after n past).messages);
+      map-append letter_of (under_way past) ((now past i j k) ∷ []) ∙ ap (λ l. l ++ letter_of (now past i j k) ∷ []) h.same
+      ∙ sym (reverse-cons (letter_of (now past i j k)) (world_after n past).messages);
   fresh = λ m. fresh m (k.0 == m) refl;
   once = λ m. once m (k.0 == m) refl;
   there = λ m x found. there m x (k.0 == m) refl found;
 }
   where
-    now : Sending
-    now = record { message = k; from = i; to = j; sent = length past }
-
     none : (m : ℕ) → (k.0 == m) ≡ true → how_many (is_sending_of m) (under_way past) ≡ 0
     none m e = h.fresh m (ap (λ x. is_known_message x (world_after n past)) (sym (eqb-true k.0 m e)) ∙ unknown)
 
-    fresh : (m : ℕ) (b : Bool) → (k.0 == m) ≡ b → (b || is_known_message m (world_after n past)) ≡ false → how_many (is_sending_of m) (under_way past ++ now ∷ []) ≡ 0
-    fresh m true e known = cc
-    fresh m false e known = counted-push (is_sending_of m) (under_way past) now ∙ rw e (omega (arith, h.fresh m known))
+    fresh : (m : ℕ) (b : Bool) → (k.0 == m) ≡ b → (b || is_known_message m (world_after n past)) ≡ false → how_many (is_sending_of m) (under_way past ++ (now past i j k) ∷ []) ≡ 0
+    fresh m true e known = absurd (true_false known)
+    fresh m false e known = counted-push (is_sending_of m) (under_way past) (now past i j k) ∙ rw e (omega (arith, h.fresh m known))
 
-    once : (m : ℕ) (b : Bool) → (k.0 == m) ≡ b → how_many (is_sending_of m) (under_way past ++ now ∷ []) ≤ 1
-    once m true e = let pushed : how_many (is_sending_of m) (under_way past ++ now ∷ []) ≡ how_many (is_sending_of m) (under_way past) + one true =
-        counted-push (is_sending_of m) (under_way past) now ∙ ap (λ b. how_many (is_sending_of m) (under_way past) + one b) e in omega (arith, pushed, none m e)
-    once m false e = let pushed : how_many (is_sending_of m) (under_way past ++ now ∷ []) ≡ how_many (is_sending_of m) (under_way past) + one false =
-        counted-push (is_sending_of m) (under_way past) now ∙ ap (λ b. how_many (is_sending_of m) (under_way past) + one b) e in omega (arith, pushed, h.once m)
+    once : (m : ℕ) (b : Bool) → (k.0 == m) ≡ b → how_many (is_sending_of m) (under_way past ++ (now past i j k) ∷ []) ≤ 1
+    once m true e = let pushed : how_many (is_sending_of m) (under_way past ++ (now past i j k) ∷ []) ≡ how_many (is_sending_of m) (under_way past) + one true =
+        counted-push (is_sending_of m) (under_way past) (now past i j k) ∙ ap (λ b. how_many (is_sending_of m) (under_way past) + one b) e in omega (arith, pushed, none m e)
+    once m false e = let pushed : how_many (is_sending_of m) (under_way past ++ (now past i j k) ∷ []) ≡ how_many (is_sending_of m) (under_way past) + one false =
+        counted-push (is_sending_of m) (under_way past) (now past i j k) ∙ ap (λ b. how_many (is_sending_of m) (under_way past) + one b) e in omega (arith, pushed, h.once m)
 
-    there : (m : ℕ) (x : Sending) (b : Bool) → (k.0 == m) ≡ b → find (is_sending_of m) (under_way past ++ now ∷ []) ≡ Some x → IsSendingOf (Send i j k g ∷ past) m x
+    there : (m : ℕ) (x : Sending) (b : Bool) → (k.0 == m) ≡ b → find (is_sending_of m) (under_way past ++ (now past i j k) ∷ []) ≡ Some x → IsSendingOf (Send i j k g ∷ past) m x
     there m x true e found =
-        let this : now ≡ x =
-        let first : find (is_sending_of m) (under_way past ++ now ∷ []) ≡ Some now = find-push (is_sending_of m) (under_way past) now (none m e) e in cc in
+        let this : (now past i j k) ≡ x =
+        same_some (find (is_sending_of m) (under_way past ++ (now past i j k) ∷ [])) (now past i j k) x (find-push (is_sending_of m) (under_way past) (now past i j k) (none m e) e) found in
         let P : Sending → Type 0 = IsSendingOf (Send i j k g ∷ past) m in
         subst P this (record { message = eqb-true k.0 m e; sent = sym (rw e refl) })
     there m x false e found =
-        let old = h.there m x (sym (find-push_other (is_sending_of m) (under_way past) now e) ∙ found) in
+        let old = h.there m x (sym (find-push_other (is_sending_of m) (under_way past) (now past i j k) e) ∙ found) in
         record { message = old.message; sent = old.sent ∙ sym (rw e refl) }
 
 -- ---- a message is received
@@ -152,11 +155,14 @@ flights_kept n past s h same_list same_messages same_numbers same_sends = record
 }
 
 flights : (n : ℕ) (steps : List Step) → 1 ≤ n → AreRuns n steps → Flights n steps
-flights n [] some h = record { same = refl; fresh = λ m known. refl; once = λ m. omega arith; there = λ m x found. cc }
+flights n [] some h = record { same = refl; fresh = λ m known. refl; once = λ m. omega arith; there = λ m x found. absurd (none_some x found) }
 flights n (Send i j k g ∷ past) some h = flights_sent n past i j k g (h.0.goes_on refl).0.3 (flights n past some h.1)
 flights n (Recv j k g ∷ past) some h = flights_received n past j k g (h.0.goes_on refl).0.1 (flights n past some h.1)
 flights n (Reopen ∷ past) some h = flights_reopened n past (quiet_before n past some h.1 h.0) (flights n past some h.1)
 flights n (s ∷ past) some h = flights_kept n past s (flights n past some h.1) refl refl refl (λ m. refl)
+
+abbrev hop : List Step → ℕ → ℕ → ℕ → ℕ → Hop
+hop past m from to sent = record { message = m; from = from; to = to; sent = sent; received = length past }
 
 hops_received : (n : ℕ) (past : List Step) (j : NodeId) (k : MessageId) (g : Generation) → is_under_way k.0 j.0 (world_after n past) ≡ true → Flights n past
     → map hop_of (arrows past) ≡ hops n past → map hop_of (arrows (Recv j k g ∷ past)) ≡ hops n (Recv j k g ∷ past)
@@ -171,13 +177,11 @@ hops_received n past j k g there_is h before =
     let to : some.0.to.0 ≡ j.0 =
     to_receiver k.0 j.0 (letter_of some.0) (found-passes (is_message k.0 j.0) (world_after n past).messages (letter_of some.0)
     (sym (find-same (is_message k.0 j.0) (has_number k.0) (world_after n past).messages (to_number k.0 j.0) few there_is) ∙ known)) in
-    let same : hop_of (record { sending = some.0; received = length past }) ≡ record {
-      message = k.0;
-      from = sender_of k.0 (world_after n past);
-      to = j.0;
-      sent = length (before_newest (is_send_numbered k.0) past);
-      received = length past;
-    } = let message = here.message in let sent = here.sent in cc in
+    let same : hop past some.0.message.0 some.0.from.0 some.0.to.0 some.0.sent
+    ≡ hop past k.0 (sender_of k.0 (world_after n past)) j.0 (length (before_newest (is_send_numbered k.0) past)) =
+    ap (λ m. hop past m some.0.from.0 some.0.to.0 some.0.sent) here.message ∙ ap (λ f. hop past k.0 f some.0.to.0 some.0.sent) from
+    ∙ ap (λ t. hop past k.0 (sender_of k.0 (world_after n past)) t some.0.sent) to
+    ∙ ap (λ at. hop past k.0 (sender_of k.0 (world_after n past)) j.0 at) here.sent in
     ap (λ f. map hop_of (arrows past ++ arrow_of f (length past))) some.1
     ∙ map-append hop_of (arrows past) (record { sending = some.0; received = length past } ∷ [])
     ∙ ap (λ l. l ++ hop_of (record { sending = some.0; received = length past }) ∷ []) before

@@ -1,5 +1,5 @@
 -- Each task that is done has one bar, and each that runs.
-use Rattle.std.proofs.Common.{◌≡◌, ℕ, ◌+◌, ◌-◌, ◌≤◌, ◌==◌, ◌||◌, Bool, true, false, not, List, [], ◌∷◌, ◌++◌, length, map, Option, Some, None, refl, sym, ap, subst, ◌∙◌, eqb-true, arith, if◌then◌else◌}
+use Rattle.std.proofs.Common.{◌≡◌, ℕ, ◌+◌, ◌-◌, ◌<◌, ◌≤◌, ◌==◌, ◌||◌, Bool, true, false, not, List, [], ◌∷◌, ◌++◌, length, map, Option, Some, None, refl, sym, ap, subst, ◌∙◌, eqb-true, arith, if◌then◌else◌}
 use Rattle.std.specs.Prelude.{IsFalse, IsTrue}
 use Rattle.std.specs.List.{find, list_any}
 use Rattle.std.specs.Option.{option_map}
@@ -26,7 +26,7 @@ use Rattle.tp_core.specs.Generations.{AreRuns, MayCome, world_after}
 use Rattle.tp_core.proofs.Counting.{home_in, life_in, home-with_life, is_run, steps_of-history}
 use Rattle.tp_core.proofs.Generations.{present_run}
 use Rattle.tp_core.proofs.Quiet.{quiet_seen}
-use Rattle.tp_scene.proofs.Lists.{one, counted-push, find-push, find-push_other, counted-without, counted-without_other, find-without_other, counted-found, found-counted}
+use Rattle.tp_scene.proofs.Lists.{one, same_some, none_some, counted-push, find-push, find-push_other, counted-without, counted-without_other, find-without_other, counted-found, found-counted}
 use Rattle.tp_scene.specs.declared.scene.Running.{Running}
 use Rattle.tp_scene.specs.declared.scene.Bar.{Bar}
 use Rattle.tp_scene.specs.Scene.{is_run_of, begun, running, bars, bar_of}
@@ -107,12 +107,12 @@ runs_relived n past u l is rests still h = record { once = once; there = there }
         let old = h.there t r found in
         record { task = old.task; node = old.node ∙ sym (home-with_life t u.0 supplied (world_after n past).tasks); from = old.from }
 
+abbrev now : ℕ → List Step → TaskId → Running
+now n past u = begun n past (running n past) u.0
+
 runs_begun : (n : ℕ) (past : List Step) (u : TaskId) → life_of u.0 (world_after n past) ≡ Some life.Ready → Runs n past → Runs n (Begin u ∷ past)
 runs_begun n past u is h = record { once = once; there = λ t r found. there t r (u.0 == t) refl found }
   where
-    now : Running
-    now = begun n past (running n past) u.0
-
     none : (t : ℕ) → (u.0 == t) ≡ true → how_many (is_run_of t) (running n past) ≡ 0
     none t e = let same : u.0 ≡ t = eqb-true u.0 t e in h.once t ∙ ap (λ x. one (is_running (life_of x (world_after n past)))) (sym same) ∙ ap (λ o. one (is_running o)) is
 
@@ -124,15 +124,15 @@ runs_begun n past u is h = record { once = once; there = λ t r found. there t r
         ap (λ m. m + 1) (none t e) ∙ sym (ap (λ o. one (is_running (option_map (λ _. life.Running) o))) here)
     choose t false e = omega (arith, h.once t)
 
-    once : (t : ℕ) → how_many (is_run_of t) (running n past ++ now ∷ []) ≡ one (is_running (life_of t (world_after n (Begin u ∷ past))))
+    once : (t : ℕ) → how_many (is_run_of t) (running n past ++ (now n past u) ∷ []) ≡ one (is_running (life_of t (world_after n (Begin u ∷ past))))
     once t =
-        counted-push (is_run_of t) (running n past) now ∙ choose t (u.0 == t) refl
+        counted-push (is_run_of t) (running n past) (now n past u) ∙ choose t (u.0 == t) refl
         ∙ ap (λ o. one (is_running o)) (sym (life_in-with_life t u.0 (λ _. life.Running) (world_after n past).tasks))
 
-    there : (t : ℕ) (r : Running) (b : Bool) → (u.0 == t) ≡ b → find (is_run_of t) (running n past ++ now ∷ []) ≡ Some r → IsRunOf n (Begin u ∷ past) t r
+    there : (t : ℕ) (r : Running) (b : Bool) → (u.0 == t) ≡ b → find (is_run_of t) (running n past ++ (now n past u) ∷ []) ≡ Some r → IsRunOf n (Begin u ∷ past) t r
     there t r true e found =
         let same : u.0 ≡ t = eqb-true u.0 t e in
-        let this : now ≡ r = let first : find (is_run_of t) (running n past ++ now ∷ []) ≡ Some now = find-push (is_run_of t) (running n past) now (none t e) e in cc in
+        let this : (now n past u) ≡ r = same_some (find (is_run_of t) (running n past ++ (now n past u) ∷ [])) (now n past u) r (find-push (is_run_of t) (running n past) (now n past u) (none t e) e) found in
         let P : Running → Type 0 = IsRunOf n (Begin u ∷ past) t in
         subst P this (record {
           task = same;
@@ -140,7 +140,7 @@ runs_begun n past u is h = record { once = once; there = λ t r found. there t r
           from = sym (rw e refl);
         })
     there t r false e found =
-        let old = h.there t r (sym (find-push_other (is_run_of t) (running n past) now e) ∙ found) in
+        let old = h.there t r (sym (find-push_other (is_run_of t) (running n past) (now n past u) e) ∙ found) in
         record { task = old.task; node = old.node ∙ sym (home-with_life t u.0 (λ _. life.Running) (world_after n past).tasks); from = old.from ∙ sym (rw e refl) }
 
 other_number : (t u : ℕ) → (u == t) ≡ false → (r : Running) → is_run_of u r ≡ true → is_run_of t r ≡ false
@@ -176,9 +176,10 @@ runs_done n past u is h = record { once = λ t. once t (u.0 == t) refl; there = 
 pub quiet_before : (n : ℕ) (past : List Step) → 1 ≤ n → AreRuns n past → MayCome n past Reopen → IsQuiet (world n (present past))
 quiet_before n past some runs comes =
     let lawful = present_run n past runs in
+    let pos : 0 < n = omega (arith, some) in
     let ended : IsTrue (is_ended n (steps_of (history n (present past)))) =
     subst (λ ss. IsTrue (is_ended n ss)) (sym (steps_of-history n (present past))) (comes.reopens refl) in
-    (quiet_seen n (present past) some lawful).0 (judged_law n (history n (present past)) (is_run n (present past) some lawful) ended)
+    (quiet_seen n (present past) pos lawful).0 (judged_law n (history n (present past)) (is_run n (present past) pos lawful) ended)
 
 runs_reopened : (n : ℕ) (past : List Step) → IsQuiet (world n (present past)) → Runs n past → Runs n (Reopen ∷ past)
 runs_reopened n past quiet h = record {
@@ -204,7 +205,7 @@ runs_kept n past s h same_running same_tasks same_begin = record {
 }
 
 runs : (n : ℕ) (steps : List Step) → 1 ≤ n → AreRuns n steps → Runs n steps
-runs n [] some h = record { once = λ t. refl; there = λ t r found. cc }
+runs n [] some h = record { once = λ t. refl; there = λ t r found. absurd (none_some r found) }
 runs n (Insert i u k ∷ past) some h = runs_inserted n past i u k (h.0.goes_on refl).0.1 (runs n past some h.1)
 runs n (Supply u ∷ past) some h =
     let may = (h.0.goes_on refl).0 in
@@ -214,17 +215,19 @@ runs n (Done u ∷ past) some h = runs_done n past u (h.0.goes_on refl).0 (runs 
 runs n (Reopen ∷ past) some h = runs_reopened n past (quiet_before n past some h.1 h.0) (runs n past some h.1)
 runs n (s ∷ past) some h = runs_kept n past s (runs n past some h.1) refl refl (λ t. refl)
 
+abbrev span : List Step → ℕ → ℕ → ℕ → Span
+span past t i from = record { task = t; node = i; from = from; to = length past }
+
 spans_done : (n : ℕ) (past : List Step) (u : TaskId) → life_of u.0 (world_after n past) ≡ Some life.Running → Runs n past
     → map span_of (bars n past) ≡ done_spans n past → map span_of (bars n (Done u ∷ past)) ≡ done_spans n (Done u ∷ past)
 spans_done n past u is h before =
-    let some = found-counted (is_run_of u.0) (running n past) (omega (arith, h.once u.0 ∙ ap (λ o. one (is_running o)) is)) in
+    let single : how_many (is_run_of u.0) (running n past) ≡ 1 = h.once u.0 ∙ ap (λ o. one (is_running o)) is in
+    let some = found-counted (is_run_of u.0) (running n past) (omega (arith, single)) in
     let run = h.there u.0 some.0 some.1 in
-    let same : span_of (record { run = some.0; to = length past }) ≡ record {
-      task = u.0;
-      node = home_of u.0 (world_after n past);
-      from = length (before_newest (is_begin_of u.0) past);
-      to = length past;
-    } = let task = run.task in let node = run.node in let from = run.from in cc in
+    let same : span past some.0.task.0 some.0.node.0 some.0.from
+    ≡ span past u.0 (home_of u.0 (world_after n past)) (length (before_newest (is_begin_of u.0) past)) =
+    ap (λ t. span past t some.0.node.0 some.0.from) run.task ∙ ap (λ i. span past u.0 i some.0.from) run.node
+    ∙ ap (λ f. span past u.0 (home_of u.0 (world_after n past)) f) run.from in
     ap (λ f. map span_of (bars n past ++ bar_of f (length past))) some.1
     ∙ map-append span_of (bars n past) (record { run = some.0; to = length past } ∷ [])
     ∙ ap (λ l. l ++ span_of (record { run = some.0; to = length past }) ∷ []) before

@@ -106,6 +106,9 @@ home_found : (o : Option Task) → unwrap_or (option_map home o) (record { 0 = 0
 home_found None = refl
 home_found (Some x) = refl
 
+abbrev made : TaskId → NodeId → ℕ → ℕ → Running
+made t node track place = record { task = t; node = node; track = track; from = place }
+
 pub node_read : (node : NodeId) (got there : Option NodeId) → got ≡ there → node ≡ unwrap_or got (record { 0 = 0 })
     → node ≡ unwrap_or there (record { 0 = 0 })
 node_read node got there is e = e ∙ ap (λ o. unwrap_or o (record { 0 = 0 })) is
@@ -135,13 +138,10 @@ tracks_begun n past t node track place old new h at node_is track_is same put ru
         ∙ ap (λ p. free_track (home_of t.0 (world_after n past)) p old.running.items) at
         ∙ ap (λ rs. free_track (home_of t.0 (world_after n past)) (length past) rs) h.running
 
-    made : NodeId → ℕ → ℕ → Running
-    made m k p = record { task = t; node = m; track = k; from = p }
-
-    is : made node track place ≡ made (record { 0 = home_of t.0 (world_after n past) }) (free_track (home_of t.0 (world_after n past)) (length past) (running n past)) (length past)
+    is : made t node track place ≡ made t (record { 0 = home_of t.0 (world_after n past) }) (free_track (home_of t.0 (world_after n past)) (length past) (running n past)) (length past)
     is =
-        ap (λ (m : NodeId). made m track place) there ∙ ap (λ k. made (record { 0 = home_of t.0 (world_after n past) }) k place) free
-        ∙ ap (λ p. made (record { 0 = home_of t.0 (world_after n past) }) (free_track (home_of t.0 (world_after n past)) (length past) (running n past)) p) at
+        ap (λ (m : NodeId). made t m track place) there ∙ ap (λ k. made t (record { 0 = home_of t.0 (world_after n past) }) k place) free
+        ∙ ap (λ p. made t (record { 0 = home_of t.0 (world_after n past) }) (free_track (home_of t.0 (world_after n past)) (length past) (running n past)) p) at
 
     choose : (i : ℕ) → i < 8 → (b : Bool) → (node.0 == i) ≡ b
         → (if b then max (slice_index old.rows node.0) (track + 1) else slice_index old.rows i)

@@ -32,6 +32,7 @@ use Rattle.tp_scene.specs.Scene.{IsSceneOf, is_run_of, begun, running, bars, bar
 use Rattle.tp_scene.specs.Layout.{detail_of, span_of, between_of, gap_of, edge, middle, right, reach, rows_of, height_of, top_of, foot, track_of, bottom, width, page_height, pitch}
 use Rattle.tp_scene.specs.Layout as layout
 use Rattle.tp_scene.specs.Inside.{IsRunThere, IsSendingThere, AreThere, IsOnPage, AllIsInside}
+use Rattle.tp_scene.proofs.Lists.{some_same, none_some}
 use Rattle.tp_scene.proofs.Apart.{Each, each_all, each_push, each_map, each_without, each_found}
 
 -- ---- the page
@@ -217,12 +218,15 @@ row-grows i r k = choose (r.node.0 == i)
     choose true = omega arith
     choose false = omega arith
 
+false_true : false ≡ true → ⊥
+false_true e = cc
+
 in_row : (r : Running) (k : ℕ) → r.track < with_row r.node.0 r k
 in_row r k = choose (r.node.0 == r.node.0) (grind (arith, nat_tests))
   where
     choose : (b : Bool) → b ≡ true → r.track < (if b then max k (r.track + 1) else k)
     choose true e = omega arith
-    choose false e = cc
+    choose false e = absurd (false_true e)
 
 runs_in : (n : ℕ) (steps : List Step) → Each (IsInRow n steps) (running n steps)
 runs_in n [] = tt
@@ -277,13 +281,13 @@ arrows_at n (s ∷ past) h = arrows_at n past h.1
 
 -- ---- pauses
 resting_before : (n i a : ℕ) (steps : List Step) → resting n i steps ≡ Some a → a < length steps
-resting_before n i a [] e = cc
+resting_before n i a [] e = absurd (none_some a e)
 resting_before n i a (s ∷ past) e = choose (is_idle i (world_after n (s ∷ past))) (resting n i past) refl e
   where
     choose : (b : Bool) (o : Option ℕ) → resting n i past ≡ o → since_when b o (length past) ≡ Some a → a < length past + 1
-    choose true (Some c) is now = let before = resting_before n i c past is in let same : c ≡ a = cc in omega (arith, before, same)
-    choose true None is now = let same : length past ≡ a = cc in omega (arith, same)
-    choose false o is now = cc
+    choose true (Some c) is now = let before = resting_before n i c past is in let same = some_same c a now in omega (arith, before, same)
+    choose true None is now = let same = some_same (length past) a now in omega (arith, same)
+    choose false o is now = absurd (none_some a now)
 
 abbrev IsPauseIn : ℕ → ℕ → Pause → Type 0
 IsPauseIn n e pause = (pause.node.0 < n) × (pause.from < e) × (pause.to ≤ e)

@@ -6,6 +6,15 @@ use Rattle.std.proofs.lemmas.List.{append-nil, reverse-append}
 use Rattle.tp_core.specs.World.{how_many}
 use Rattle.tp_core.specs.Pool.{without}
 
+pub some_same : {A : Type 0} (x y : A) → Some x ≡ Some y → x ≡ y
+some_same x y e = cc
+
+pub same_some : {A : Type 0} (o : Option A) (x y : A) → o ≡ Some x → o ≡ Some y → x ≡ y
+same_some o x y e f = cc
+
+pub none_some : {A : Type 0} (x : A) → None ≡ Some x → ⊥
+none_some x e = cc
+
 abbrev pub one : Bool → ℕ
 one b = if b then 1 else 0
 
@@ -58,7 +67,7 @@ find-without_other {A} p q (x ∷ xs) apart = choose (q x) refl
     choose false is = rest (p x)
 
 pub counted-found : {A : Type 0} (test : A → Bool) (xs : List A) (y : A) → find test xs ≡ Some y → 1 ≤ how_many test xs
-counted-found test [] y e = cc
+counted-found test [] y e = absurd (none_some y e)
 counted-found {A} test (x ∷ xs) y e = choose (test x) e
   where
     choose : (b : Bool) → (if b then Some x else find test xs) ≡ Some y → 1 ≤ one b + how_many test xs
@@ -199,9 +208,9 @@ find-same {A} q r (x ∷ xs) implies few there = choose (q x) (r x) refl refl fe
     choose false false is also e some = find-same q r xs implies (omega (arith, e)) some
 
 pub found-passes : {A : Type 0} (test : A → Bool) (xs : List A) (y : A) → find test xs ≡ Some y → test y ≡ true
-found-passes test [] y e = cc
+found-passes test [] y e = absurd (none_some y e)
 found-passes {A} test (x ∷ xs) y e = choose (test x) refl e
   where
     choose : (b : Bool) → test x ≡ b → (if b then Some x else find test xs) ≡ Some y → test y ≡ true
-    choose true is found = let same : x ≡ y = cc in ap test (sym same) ∙ is
+    choose true is found = ap test (sym (some_same x y found)) ∙ is
     choose false is found = found-passes test xs y found
