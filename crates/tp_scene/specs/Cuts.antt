@@ -5,13 +5,17 @@ use Rattle.tp_scene.specs.declared.pieces.Area.{Area}
 use Rattle.tp_scene.specs.declared.scene.Cut.{Cut}
 use Rattle.tp_scene.specs.declared.scene.End.{End}
 use Rattle.tp_scene.specs.declared.scene.Scene.{Scene}
-use Rattle.tp_scene.specs.Layout.{detail_of, middle, height_of, top_of, foot, bottom}
+use Rattle.tp_scene.specs.Layout.{detail_of, is_detailed, middle, height_of, top_of, foot, bottom}
 use Rattle.tp_scene.specs.Pieces.{tenths, point, box_text}
-use Rattle.tp_scene.specs.Marks.{at, area, is_detailed}
+use Rattle.tp_scene.specs.Marks.{at, area}
 
--- It is one of the two waves that tell an end: it ended from the end of the wave that is named to the judgement.
+-- An event lies from the end of the wave that is named to the judgement.
+abbrev pub is_told_at : ℕ → End → Bool
+is_told_at e end = nat_le end.since e && nat_le e end.judged
+
+-- It is one of the two waves that tell an end: there it ended.
 unfoldable pub tells : List End → Cut → Bool
-tells ends cut = list_any (λ end. nat_le end.since (slice_index cut.gives 0) && nat_le (slice_index cut.gives 0) end.judged) ends
+tells ends cut = list_any (is_told_at (slice_index cut.gives 0)) ends
 
 unfoldable pub wave_class : Scene → Cut → List ℕ
 wave_class s cut = if tells s.ends.items cut then codes "wave tells" else codes "wave"
@@ -60,8 +64,11 @@ end_text s end =
 
 -- ---- labels
 -- A label is at most 170 pixels wide. It stands to the left of its wave's line at node 0, or to the right where there is no room.
-abbrev pub stands_right : Scene → Cut → Bool
+unfoldable pub stands_right : Scene → Cut → Bool
 stands_right s cut = nat_lt (cut_at s cut 0) 1700
+
+unfoldable pub side : Scene → Cut → List ℕ
+side s cut = if stands_right s cut then codes " right" else codes " left"
 
 abbrev pub needed : Bool → ℕ
 needed b = if b then 3400 else 1700
@@ -73,7 +80,7 @@ has_room s cut (Some next) = nat_le (needed (stands_right s cut)) (cut_at s next
 
 unfoldable pub label_text : Scene → Cut → ℕ → List ℕ
 label_text s cut row =
-    codes "<text class=\"" ++ wave_class s cut ++ (if stands_right s cut then codes " right" else codes " left") ++ codes "\" x=\""
+    codes "<text class=\"" ++ wave_class s cut ++ side s cut ++ codes "\" x=\""
     ++ tenths (cut_at s cut 0) ++ codes "\" y=\"" ++ tenths (1300 - 150 * row) ++ codes "\">" ++ sums_text cut ++ codes "</text>\n"
 
 -- the label of a wave, where there is room

@@ -1,5 +1,5 @@
 -- Where things stand on the page, in tenths of a pixel.
-use Rattle.std.specs.Prelude.{ℕ, ◌+◌, ◌-◌, ◌*◌, ◌/◌, nat_le, max, min, slice_index, if◌then◌else◌}
+use Rattle.std.specs.Prelude.{ℕ, ◌+◌, ◌-◌, ◌*◌, ◌/◌, Bool, true, false, nat_le, max, min, slice_index, if◌then◌else◌}
 use Rattle.tp_wave.specs.Sums.{total}
 use Rattle.tp_scene.specs.declared.layout.Detail.{Detail}
 use Rattle.tp_scene.specs.declared.layout.Detail.TheVariants.{Fine, Medium, Coarse}
@@ -8,6 +8,14 @@ use Rattle.tp_scene.specs.declared.scene.Scene.{Scene}
 -- how much is drawn of each of so many events
 abbrev pub detail_of : ℕ → Detail
 detail_of events = if nat_le events 150 then Fine else (if nat_le events 700 then Medium else Coarse)
+
+abbrev pub is_fine : Detail → Bool
+is_fine Fine = true
+is_fine _ = false
+
+abbrev pub is_detailed : Detail → Bool
+is_detailed Coarse = false
+is_detailed _ = true
 
 abbrev pub least_step : Detail → ℕ
 least_step Fine = 170

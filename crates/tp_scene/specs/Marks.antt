@@ -1,7 +1,5 @@
 -- What is drawn of each thing of a scene.
-use Rattle.std.specs.Prelude.{ℕ, ◌+◌, ◌-◌, ◌*◌, ◌/◌, ◌&&◌, ◌++◌, List, [], Bool, true, false, max, nat_lt, nat_le, codes, decimal, length, if◌then◌else◌}
-use Rattle.tp_scene.specs.declared.layout.Detail.{Detail}
-use Rattle.tp_scene.specs.declared.layout.Detail.TheVariants.{Fine, Medium, Coarse}
+use Rattle.std.specs.Prelude.{ℕ, ◌+◌, ◌-◌, ◌*◌, ◌/◌, ◌&&◌, ◌++◌, List, [], Bool, max, nat_lt, nat_le, codes, decimal, length, vec_len, if◌then◌else◌}
 use Rattle.tp_scene.specs.declared.pieces.Point.{Point}
 use Rattle.tp_scene.specs.declared.pieces.Area.{Area}
 use Rattle.tp_scene.specs.declared.scene.Running.{Running}
@@ -11,7 +9,7 @@ use Rattle.tp_scene.specs.declared.scene.Arrow.{Arrow}
 use Rattle.tp_scene.specs.declared.scene.Pause.{Pause}
 use Rattle.tp_scene.specs.declared.scene.Seam.{Seam}
 use Rattle.tp_scene.specs.declared.scene.Scene.{Scene}
-use Rattle.tp_scene.specs.Layout.{detail_of, bar_of, edge, middle, right, reach, height_of, top_of, foot, track_of, bottom}
+use Rattle.tp_scene.specs.Layout.{detail_of, is_fine, is_detailed, bar_of, edge, middle, right, reach, height_of, top_of, foot, track_of, bottom}
 use Rattle.tp_scene.specs.Pieces.{tenths, point, box_text}
 
 abbrev pub at : ℕ → ℕ → Point
@@ -23,14 +21,6 @@ area x y width height = record { corner = at x y; width = width; height = height
 -- Events are counted from 1 for a reader.
 abbrev pub event : ℕ → List ℕ
 event e = decimal (e + 1)
-
-abbrev pub is_fine : Detail → Bool
-is_fine Fine = true
-is_fine _ = false
-
-abbrev pub is_detailed : Detail → Bool
-is_detailed Coarse = false
-is_detailed _ = true
 
 -- ---- tasks
 -- where a task runs, from the middle of an event to a place; at least a pixel wide
@@ -92,7 +82,7 @@ curve_text from to =
 -- fainter the more there are
 unfoldable pub arrow_class : Scene → List ℕ
 arrow_class s =
-    if nat_lt 150 (length s.arrows.items) then codes "arrow many" else (if is_fine (detail_of s.events) then codes "arrow" else codes "arrow some")
+    if nat_lt 150 (vec_len s.arrows) then codes "arrow many" else (if is_fine (detail_of s.events) then codes "arrow" else codes "arrow some")
 
 unfoldable pub dot_text : Scene → Point → List ℕ
 dot_text s p =

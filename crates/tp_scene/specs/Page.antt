@@ -1,12 +1,12 @@
 -- The picture of a scene, as text.
-use Rattle.std.specs.Prelude.{ℕ, zero, suc, ◌+◌, ◌-◌, ◌*◌, ◌/◌, ◌==◌, ◌++◌, List, [], nat_le, Option, Some, None, codes, decimal, length, if◌then◌else◌}
+use Rattle.std.specs.Prelude.{ℕ, zero, suc, ◌+◌, ◌-◌, ◌/◌, ◌%◌, ◌==◌, ◌++◌, List, [], nat_le, Option, Some, None, codes, decimal, length, vec_len, if◌then◌else◌}
 use Rattle.std.specs.List.{flat_map}
 use Rattle.tp_scene.specs.declared.page.TheConstants.{STYLE, LEGEND}
 use Rattle.tp_scene.specs.declared.pieces.Area.{Area}
 use Rattle.tp_scene.specs.declared.scene.Scene.{Scene}
 use Rattle.tp_scene.specs.Layout.{step_of, middle, right, top_of, height_of, bottom, width, page_height}
 use Rattle.tp_scene.specs.Pieces.{tenths, point, box_text}
-use Rattle.tp_scene.specs.Marks.{at, area, bar_text, running_text, pause_text, arrow_text, lost_text, seam_text}
+use Rattle.tp_scene.specs.Marks.{at, area, event, bar_text, running_text, pause_text, arrow_text, lost_text, seam_text}
 use Rattle.tp_scene.specs.Cuts.{cut_text, end_text, labels}
 
 -- the size of the page, and how things look on it
@@ -22,8 +22,8 @@ counted k name = decimal k ++ name ++ (if k == 1 then [] else codes "s")
 -- the four counts
 unfoldable pub headline : Scene → List ℕ
 headline s =
-    codes "<text class=\"head\" x=\"74\" y=\"28\">" ++ counted (length s.bars.items) (codes " task") ++ codes ", "
-    ++ counted (length s.arrows.items) (codes " message") ++ codes ", " ++ counted s.nodes (codes " node") ++ codes ", "
+    codes "<text class=\"head\" x=\"74\" y=\"28\">" ++ counted (vec_len s.bars) (codes " task") ++ codes ", "
+    ++ counted (vec_len s.arrows) (codes " message") ++ codes ", " ++ counted s.nodes (codes " node") ++ codes ", "
     ++ counted s.events (codes " event") ++ codes "</text>\n"
 
 unfoldable pub verdict : Option ℕ → List ℕ
@@ -61,20 +61,24 @@ unfoldable pub unit : Scene → ℕ
 unit s =
     if nat_le s.events 2500 then unit_by (step_of s.events) else (if nat_le s.events 25000 then 1000 else (if nat_le s.events 250000 then 10000 else 50000))
 
--- the tick at this event, counted from 1
+-- the tick at an event
 unfoldable pub tick : Scene → ℕ → List ℕ
-tick s count =
-    codes "<path class=\"axis\" d=\"M" ++ point (at (middle s (count - 1)) (bottom s + 440)) ++ codes "v5\"/><text class=\"scale\" x=\""
-    ++ tenths (middle s (count - 1)) ++ codes "\" y=\"" ++ tenths (bottom s + 610) ++ codes "\">" ++ decimal count ++ codes "</text>\n"
+tick s e =
+    codes "<path class=\"axis\" d=\"M" ++ point (at (middle s e) (bottom s + 440)) ++ codes "v5\"/><text class=\"scale\" x=\""
+    ++ tenths (middle s e) ++ codes "\" y=\"" ++ tenths (bottom s + 610) ++ codes "\">" ++ event e ++ codes "</text>\n"
 
--- the first k ticks
+-- Each so many events have one.
+abbrev pub tick_where : Scene → ℕ → ℕ → List ℕ
+tick_where s unit e = if (e + 1) % unit == 0 then tick s e else []
+
+-- those of the first k events
 abbrev pub ticks : Scene → ℕ → ℕ → List ℕ
 ticks s unit zero = []
-ticks s unit (suc k) = ticks s unit k ++ tick s ((k + 1) * unit)
+ticks s unit (suc k) = ticks s unit k ++ tick_where s unit k
 
 unfoldable pub axis : Scene → List ℕ
 axis s =
-    ticks s (unit s) (s.events / unit s) ++ codes "<path class=\"axis\" d=\"M74," ++ tenths (bottom s + 440) ++ codes "H" ++ tenths (right s)
+    ticks s (unit s) s.events ++ codes "<path class=\"axis\" d=\"M74," ++ tenths (bottom s + 440) ++ codes "H" ++ tenths (right s)
     ++ codes "\"/>\n<text class=\"name scale\" x=\"62\" y=\"" ++ tenths (bottom s + 480) ++ codes "\">event</text>\n"
 
 -- ---- all

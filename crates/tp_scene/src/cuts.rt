@@ -1,8 +1,8 @@
 ghost use Rattle.std.specs.Prelude.{◌≡◌, ◌++◌, ◌<◌, ◌^◌, OnOk, slice_index, decimal};
 ghost use Rattle.std.specs.Prelude.{option_copied, length};
-ghost use Rattle.tp_scene.specs.Cuts.{tells, wave_class, cut_at, crossing, crossings, rings, ring_text, cut_text, sums_text, over, end_text, label, label_text, labels, has_room};
+ghost use Rattle.tp_scene.specs.Cuts.{tells, wave_class, cut_at, crossing, crossings, rings, ring_text, cut_text, sums_text, over, end_text, label, label_text, labels, has_room, needed, side, stands_right};
 
-use crate::layout::{Detail, TOP};
+use crate::layout::TOP;
 use crate::pieces::{Area, Mark, Point, push_area, push_count, push_point, push_tenths};
 use crate::places::place_of;
 use crate::scene::{Cut, End, Scene};
@@ -117,10 +117,10 @@ impl Mark for Cut {
         out.extend_from_slice(b"\"><title>")?;
         push_sums(out, self)?;
         out.extend_from_slice(b"</title></polyline>\n")?;
-        if scene.detail() == Detail::Coarse {
-            return Ok(());
+        if scene.detail().is_detailed() {
+            return push_rings(out, scene, self);
         }
-        push_rings(out, scene, self)
+        Ok(())
     }
 }
 
@@ -161,15 +161,43 @@ impl Mark for End {
     }
 }
 
+/// Whether a wave's label stands to the right of its line: where there is no room on the left.
+#[tactic(auto, unfolding(crate::specs::Cuts::stands_right))]
+fn stands_right(scene: &Scene, cut: &Cut) -> bool
+    ensures { result ≡ stands_right scene.now cut.now }
+{
+    cut_at(scene, cut, 0) < LABEL
+}
+
+/// On which side of its line a wave's label stands.
+#[tactic(auto, unfolding(crate::specs::Cuts::side))]
+fn side(scene: &Scene, cut: &Cut) -> &'static [u8]
+    ensures { result.now ≡ side scene.now cut.now }
+{
+    if stands_right(scene, cut) {
+        b" right"
+    } else {
+        b" left"
+    }
+}
+
+/// How far the next wave of a row has to be from one whose label stands so.
+fn needed(is_right: bool) -> u64
+    ensures { result ≡ needed is_right }
+{
+    if is_right { 2 * LABEL } else { LABEL }
+}
+
 /// Whether there is room for a wave's label beside that of the next wave in its row.
 #[tactic(auto, unfolding(crate::specs::Cuts::has_room))]
 fn has_room(scene: &Scene, cut: &Cut, next: Option<&Cut>) -> bool
     ensures { result ≡ has_room scene.now cut.now (option_copied next.entry) }
 {
-    let at = cut_at(scene, cut, 0);
-    let room = if at < LABEL { 2 * LABEL } else { LABEL };
     match next {
-        Some(next) => cut_at(scene, next, 0).saturating_sub(at) >= room,
+        Some(next) => {
+            let apart = cut_at(scene, next, 0).saturating_sub(cut_at(scene, cut, 0));
+            needed(stands_right(scene, cut)) <= apart
+        }
         None => true,
     }
 }
@@ -180,12 +208,10 @@ fn push_label(out: &mut Vec<u8>, scene: &Scene, cut: &Cut, row: u64) -> Result<(
     requires { row < 2 }
     ensures { OnOk result (out.new.items ≡ out.old.items ++ label_text scene.now cut.now row) }
 {
-    let at = cut_at(scene, cut, 0);
     out.extend_from_slice(b"<text class=\"")?;
     out.extend_from_slice(wave_class(scene, cut))?;
-    let side: &[u8] = if at < LABEL { b" right" } else { b" left" };
-    out.extend_from_slice(side)?;
-    push_tenths(out, b"\" x=\"", at)?;
+    out.extend_from_slice(side(scene, cut))?;
+    push_tenths(out, b"\" x=\"", cut_at(scene, cut, 0))?;
     push_tenths(out, b"\" y=\"", TOP - 200 - 150 * row)?;
     out.extend_from_slice(b"\">")?;
     push_sums(out, cut)?;

@@ -1,5 +1,5 @@
-ghost use Rattle.std.specs.Prelude.{◌≡◌, ◌≤◌, ◌<◌, ◌*◌, ◌^◌, min};
-ghost use Rattle.tp_scene.specs.Layout.{detail_of, step_of, span_of, bar_of, gap_of, between_of, edge, middle, right, reach, rows_of, height_of, top_of, foot, track_of, bottom, width, page_height};
+ghost use Rattle.std.specs.Prelude.{◌≡◌, ◌≤◌, ◌<◌, ◌*◌, ◌/◌, ◌^◌};
+ghost use Rattle.tp_scene.specs.Layout.{detail_of, is_detailed, is_fine, least_step, step_of, span_of, bar_of, gap_of, between_of, edge, middle, right, reach, rows_of, height_of, top_of, foot, track_of, bottom, width, page_height};
 
 use crate::places::place_of;
 use crate::scene::Scene;
@@ -44,6 +44,47 @@ impl Detail {
             Detail::Coarse
         }
     }
+
+    /// How wide an event is at least.
+    fn least_step(self) -> u64
+        ensures value { result ≡ least_step self }
+        ensures bound { result ≤ 170 }
+    {
+        match self {
+            Detail::Fine => 170,
+            _ => 10,
+        }
+    }
+
+    /// Whether there are so few events that each thing is drawn in full.
+    pub(crate) fn is_fine(self) -> bool
+        ensures { result ≡ is_fine self }
+    {
+        match self {
+            Detail::Fine => true,
+            _ => false,
+        }
+    }
+
+    /// Whether there is room for numbers and rings.
+    pub(crate) fn is_detailed(self) -> bool
+        ensures { result ≡ is_detailed self }
+    {
+        match self {
+            Detail::Coarse => false,
+            _ => true,
+        }
+    }
+}
+
+/// What so many of so many make of a width.
+fn share(count: u64, of: u64, width: u64) -> u64
+    requires { (count < 2 ^ 34) × (0 < of) × (width ≤ 650000) }
+    ensures value { result ≡ count * width / of }
+    ensures bound { result < 2 ^ 54 }
+{
+    let whole = count * width;
+    whole / of
 }
 
 impl Scene {
@@ -61,11 +102,7 @@ impl Scene {
         ensures bound { result ≤ 260 }
     {
         let share = 11_000 / u64::from(self.events.max(1));
-        let least = match self.detail() {
-            Detail::Fine => 170,
-            _ => 10,
-        };
-        share.max(least).min(260)
+        share.max(self.detail().least_step()).min(260)
     }
 
     /// How high a bar is.
@@ -120,18 +157,22 @@ impl Scene {
     #[tactic(auto, unfolding(crate::specs::Layout::edge))]
     pub(crate) fn edge(&self, event: u32) -> u64
         ensures value { result ≡ edge self.now event }
-        ensures bound { result < 2 ^ 53 }
+        ensures bound { result < 2 ^ 55 }
     {
-        LEFT + u64::from(event) * self.span() / u64::from(self.events.max(1))
+        LEFT + share(u64::from(event), u64::from(self.events.max(1)), self.span())
     }
 
     /// The middle of an event.
     #[tactic(auto, unfolding(crate::specs::Layout::middle))]
     pub(crate) fn middle(&self, event: u32) -> u64
         ensures value { result ≡ middle self.now event }
-        ensures bound { result < 2 ^ 54 }
+        ensures bound { result < 2 ^ 55 }
     {
-        LEFT + (2 * u64::from(event) + 1) * self.span() / (2 * u64::from(self.events.max(1)))
+        LEFT + share(
+            2 * u64::from(event) + 1,
+            2 * u64::from(self.events.max(1)),
+            self.span(),
+        )
     }
 
     /// Where the lanes end on the right.

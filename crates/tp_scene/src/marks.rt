@@ -3,14 +3,14 @@ ghost use Rattle.tp_scene.specs.Pieces.{tenths};
 ghost use Rattle.tp_scene.specs.Layout.{middle, reach, foot, top_of};
 ghost use Rattle.tp_scene.specs.Marks.{run_area, run_text, number_text, has_number, bar_text, running_text, pause_text, arrow_text, arrow_class, curve_text, dot_text, ends_of, sending_text, lost_text, seam_text};
 
-use crate::layout::{Detail, TOP};
+use crate::layout::TOP;
 use crate::pieces::{Area, Mark, Point, push_area, push_count, push_point, push_tenths};
 use crate::scene::{Arrow, Bar, Pause, Running, Scene, Seam, Sending};
 use itoa::Buffer;
 use std::alloc::AllocError;
 
 /// Events are counted from 1 for a reader.
-fn push_event(out: &mut Vec<u8>, label: &[u8], event: u32) -> Result<(), AllocError>
+pub(crate) fn push_event(out: &mut Vec<u8>, label: &[u8], event: u32) -> Result<(), AllocError>
     ensures { OnOk result (out.new.items ≡ out.old.items ++ (label.now ++ decimal (event + 1))) }
 {
     push_count(out, label, u64::from(event) + 1)
@@ -78,7 +78,7 @@ fn has_number(scene: &Scene, run: &Running, area: Area) -> bool
     ensures { result ≡ has_number scene.now run.now area }
 {
     let digits = Buffer::new().format(run.task.0).len() as u64;
-    scene.detail() != Detail::Coarse && digits * 70 + 40 <= area.width
+    scene.detail().is_detailed() && digits * 70 + 40 <= area.width
 }
 
 impl Mark for Bar {
@@ -134,7 +134,7 @@ fn ends_of(scene: &Scene, sending: &Sending) -> (u64, u64)
     ensures value { result ≡ ends_of scene.now sending.now }
     ensures bound { (result.0 < 2 ^ 47) × (result.1 < 2 ^ 47) }
 {
-    if sending.from < sending.to {
+    if sending.from.0 < sending.to.0 {
         (scene.foot(sending.from.0), scene.top(sending.to.0))
     } else {
         (scene.top(sending.from.0), scene.foot(sending.to.0))
@@ -176,7 +176,7 @@ fn arrow_class(scene: &Scene) -> &'static [u8]
 {
     if scene.arrows.len() > 150 {
         b"arrow many"
-    } else if scene.detail() == Detail::Fine {
+    } else if scene.detail().is_fine() {
         b"arrow"
     } else {
         b"arrow some"
@@ -188,7 +188,7 @@ fn arrow_class(scene: &Scene) -> &'static [u8]
 fn push_dot(out: &mut Vec<u8>, scene: &Scene, at: Point) -> Result<(), AllocError>
     ensures { OnOk result (out.new.items ≡ out.old.items ++ dot_text scene.now at) }
 {
-    if scene.detail() != Detail::Fine {
+    if !scene.detail().is_fine() {
         return Ok(());
     }
     push_tenths(out, b"<circle class=\"dot\" cx=\"", at.x)?;

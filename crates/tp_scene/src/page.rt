@@ -1,8 +1,9 @@
-ghost use Rattle.std.specs.Prelude.{◌≡◌, ◌++◌, ◌/◌, ◌<◌, ◌^◌, OnOk, IfOk, decimal};
-ghost use Rattle.tp_scene.specs.Page.{head, headline, counted, verdict, lane, ground, grounds, frame, frames, unit, tick, ticks, axis, run, waves, svg_of};
+ghost use Rattle.std.specs.Prelude.{◌≡◌, ◌++◌, ◌<◌, ◌^◌, OnOk, IfOk, decimal};
+ghost use Rattle.tp_scene.specs.Page.{head, headline, counted, verdict, lane, ground, grounds, frame, frames, unit_by, unit, tick, tick_where, ticks, axis, run, waves, svg_of};
 
 use crate::cuts::push_labels;
 use crate::layout::LEFT;
+use crate::marks::push_event;
 use crate::pieces::{Area, Point, push_all, push_area, push_count, push_point, push_tenths};
 use crate::scene::Scene;
 use std::alloc::{AllocError, Global};
@@ -170,33 +171,50 @@ fn push_frames(out: &mut Vec<u8>, scene: &Scene) -> Result<(), AllocError>
     Ok(())
 }
 
-/// How many events lie between two ticks of the axis: at least 60 pixels.
+/// How many events of this width lie between two ticks of the axis: at least 60 pixels.
+fn unit_by(step: u64) -> u32
+    ensures value { result ≡ unit_by step }
+    ensures some { 0 < result }
+{
+    if step >= 120 {
+        return 5;
+    }
+    if step >= 60 {
+        return 10;
+    }
+    if step >= 30 {
+        return 20;
+    }
+    if step >= 12 {
+        return 50;
+    }
+    100
+}
+
+/// How many events lie between two ticks of the axis.
 #[tactic(auto, unfolding(crate::specs::Page::unit))]
 fn unit(scene: &Scene) -> u32
     ensures value { result ≡ unit scene.now }
     ensures some { 0 < result }
 {
-    match scene.events {
-        0..=2_500 => match scene.step() {
-            120.. => 5,
-            60.. => 10,
-            30.. => 20,
-            12.. => 50,
-            _ => 100,
-        },
-        2_501..=25_000 => 1_000,
-        25_001..=250_000 => 10_000,
-        _ => 50_000,
+    if scene.events <= 2_500 {
+        return unit_by(scene.step());
     }
+    if scene.events <= 25_000 {
+        return 1_000;
+    }
+    if scene.events <= 250_000 {
+        return 10_000;
+    }
+    50_000
 }
 
-/// A tick of the axis, at the middle of an event that counts from 1.
+/// A tick of the axis, at the middle of an event.
 #[tactic(auto, unfolding(crate::specs::Page::tick))]
-fn push_tick(out: &mut Vec<u8>, scene: &Scene, count: u32) -> Result<(), AllocError>
-    requires { 0 < count }
-    ensures { OnOk result (out.new.items ≡ out.old.items ++ tick scene.now count) }
+fn push_tick(out: &mut Vec<u8>, scene: &Scene, event: u32) -> Result<(), AllocError>
+    ensures { OnOk result (out.new.items ≡ out.old.items ++ tick scene.now event) }
 {
-    let x = scene.middle(count - 1);
+    let x = scene.middle(event);
     push_point(
         out,
         b"<path class=\"axis\" d=\"M",
@@ -207,17 +225,33 @@ fn push_tick(out: &mut Vec<u8>, scene: &Scene, count: u32) -> Result<(), AllocEr
     )?;
     push_tenths(out, b"v5\"/><text class=\"scale\" x=\"", x)?;
     push_tenths(out, b"\" y=\"", scene.bottom() + 610)?;
-    push_count(out, b"\">", u64::from(count))?;
+    push_event(out, b"\">", event)?;
     out.extend_from_slice(b"</text>\n")
+}
+
+/// A tick at an event that is one of each so many.
+fn push_tick_where(
+    out: &mut Vec<u8>,
+    scene: &Scene,
+    unit: u32,
+    event: u32,
+) -> Result<(), AllocError>
+    requires { (0 < unit) × (event < scene.now.events) }
+    ensures { OnOk result (out.new.items ≡ out.old.items ++ tick_where scene.now unit event) }
+{
+    if (event + 1) % unit == 0 {
+        return push_tick(out, scene, event);
+    }
+    Ok(())
 }
 
 /// The ticks of the axis.
 fn push_ticks(out: &mut Vec<u8>, scene: &Scene) -> Result<(), AllocError>
-    ensures { OnOk result (out.new.items ≡ out.old.items ++ ticks scene.now (unit scene.now) (scene.now.events / unit scene.now)) }
+    ensures { OnOk result (out.new.items ≡ out.old.items ++ ticks scene.now (unit scene.now) scene.now.events) }
 {
     let unit = unit(scene);
-    for k in 0..scene.events / unit {
-        push_tick(out, scene, (k + 1) * unit)?;
+    for event in 0..scene.events {
+        push_tick_where(out, scene, unit, event)?;
     }
     Ok(())
 }
