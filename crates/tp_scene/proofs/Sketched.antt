@@ -1,5 +1,5 @@
 -- A sketch that has followed one step more, and a list of steps that was followed.
-use Rattle.std.proofs.Common.{◌≡◌, ℕ, ◌+◌, ◌<◌, ◌≤◌, ◌⊎◌, inl, inr, Bool, List, [], ◌∷◌, ◌++◌, length, take, drop, reverse, get_or, Option, Some, None, refl, sym, ap, subst, ◌∙◌, add-one, arith}
+use Rattle.std.proofs.Common.{◌≡◌, ℕ, ◌+◌, ◌<◌, ◌≤◌, ◌⊎◌, inl, inr, Bool, List, [], ◌∷◌, ◌++◌, length, take, drop, reverse, get_or, suc, Option, Some, None, refl, sym, ap, subst, ◌∙◌, arith}
 use Rattle.std.specs.Prelude.{IsTrue}
 use Rattle.std.specs.List.{slice_index_or}
 use Rattle.std.proofs.Math.Seq.{drop-cons}
@@ -48,22 +48,19 @@ refused n past s a asks r is h =
     let P : Accepted → Type 0 = λ x. (r ≡ NoMemory) ⊎ (refusal x s ≡ Some r) in subst P is (refused_for (refusal a s) asks r h)
 
 -- ---- a list of steps
-pub next_step : (xs : List Step) (k : ℕ) (x : Step) → k < length xs → x ≡ get_or xs k x → reverse (take (k + 1) xs) ≡ x ∷ reverse (take k xs)
-next_step xs k x fits is =
-    ap reverse (take_more xs k x fits ∙ ap (λ y. take k xs ++ y ∷ []) (sym is)) ∙ reverse-append (take k xs) (x ∷ [])
+pub next_step : (xs : List Step) (k : ℕ) (d : Step) → k < length xs → reverse (take (k + 1) xs) ≡ get_or xs k d ∷ reverse (take k xs)
+next_step xs k d fits = ap reverse (take_more xs k d fits) ∙ reverse-append (take k xs) (get_or xs k d ∷ [])
 
 pub length_so_far : (xs : List Step) (k : ℕ) → k ≤ length xs → length (reverse (take k xs)) ≡ k
 length_so_far xs k fits = length-reverse (take k xs) ∙ length-take-le k xs fits
 
-split_at : (xs : List Step) (k : ℕ) (x : Step) → k < length xs → x ≡ get_or xs k x → xs ≡ take k xs ++ x ∷ drop (k + 1) xs
-split_at xs k x fits is =
-    sym (take-append-drop k xs)
-    ∙ ap (λ l. take k xs ++ l) (drop-cons xs k x fits ∙ ap (λ y. y ∷ drop (suc k) xs) (sym is) ∙ ap (λ j. x ∷ drop j xs) (sym (add-one k)))
+split_at : (xs : List Step) (k : ℕ) (d : Step) → k < length xs → xs ≡ take k xs ++ get_or xs k d ∷ drop (suc k) xs
+split_at xs k d fits = sym (take-append-drop k xs) ∙ ap (λ l. take k xs ++ l) (drop-cons xs k d fits)
 
-pub refused_at : (n : ℕ) (xs : List Step) (k : ℕ) (x : Step) (r : Refusal) → k < length xs → x ≡ get_or xs k x → AreRuns n (reverse (take k xs))
-    → IsRefusedAfter n (reverse (take k xs)) x r → IsRefused n xs r
-refused_at n xs k x r fits is runs (inl none) = inl none
-refused_at n xs k x r fits is runs (inr told) = inr (take k xs, x, drop (k + 1) xs, split_at xs k x fits is, runs, told)
+pub refused_at : (n : ℕ) (xs : List Step) (k : ℕ) (d : Step) (r : Refusal) → k < length xs → AreRuns n (reverse (take k xs))
+    → IsRefusedAfter n (reverse (take k xs)) (get_or xs k d) r → IsRefused n xs r
+refused_at n xs k d r fits runs (inl none) = inl none
+refused_at n xs k d r fits runs (inr told) = inr (take k xs, get_or xs k d, drop (suc k) xs, split_at xs k d fits, runs, told)
 
 -- What is known of the first k steps of a list.
 pub record FollowsTo (n : ℕ) (xs : List Step) (k place : ℕ) (s : Sketch) : Type 0 where
@@ -78,12 +75,12 @@ follows_none n xs s h = record { follows = h; runs = tt; place_is = refl; few = 
 pub at_place : (n : ℕ) (xs : List Step) (k place : ℕ) (s : Sketch) → k ≤ length xs → FollowsTo n xs k place s → place ≡ length (reverse (take k xs))
 at_place n xs k place s fits h = h.place_is ∙ sym (length_so_far xs k fits)
 
-pub follows_more : (n : ℕ) (xs : List Step) (k place : ℕ) (x : Step) (old new : Sketch) → k < length xs → x ≡ get_or xs k x → FollowsTo n xs k place old
-    → Follows n (x ∷ reverse (take k xs)) new → MayCome n (reverse (take k xs)) x × (length (reverse (take k xs)) < MAX_STEPS)
+pub follows_more : (n : ℕ) (xs : List Step) (k place : ℕ) (d : Step) (old new : Sketch) → k < length xs → FollowsTo n xs k place old
+    → Follows n (get_or xs k d ∷ reverse (take k xs)) new → MayCome n (reverse (take k xs)) (get_or xs k d) × (length (reverse (take k xs)) < MAX_STEPS)
     → FollowsTo n xs (k + 1) (place + 1) new
-follows_more n xs k place x old new fits is h follows may = record {
-  follows = rw (next_step xs k x fits is) follows;
-  runs = rw (next_step xs k x fits is) (may.0, h.runs);
+follows_more n xs k place d old new fits h follows may = record {
+  follows = rw (next_step xs k d fits) follows;
+  runs = rw (next_step xs k d fits) (may.0, h.runs);
   place_is = ap (λ p. p + 1) h.place_is;
   few = omega (arith, may.1, length_so_far xs k (omega (arith, fits)), h.place_is);
 }
