@@ -59,15 +59,17 @@ impl Lanes {
             return Ok(());
         }
         self.resting[at] = None;
-        let Some(from) = since else {
-            return Ok(());
-        };
-        self.pauses.push(Pause {
-            node: NodeId(node),
-            from,
-            to: place,
-        })?;
-        Ok(())
+        match since {
+            Some(from) => {
+                self.pauses.push(Pause {
+                    node: NodeId(node),
+                    from,
+                    to: place,
+                })?;
+                Ok(())
+            }
+            None => Ok(()),
+        }
     }
 
     /// All pauses: those at the end last to this event.
