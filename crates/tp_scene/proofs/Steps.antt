@@ -33,6 +33,11 @@ pub first_more : (test : ℕ → Bool) (more k : ℕ) → 0 < more
 first_more test zero k some = absurd (omega (arith, some))
 first_more test (suc more) k some = let e : suc more - 1 ≡ more = omega arith in rw e refl
 
+pub first_passed : (test : ℕ → Bool) (many k : ℕ) → k < many → test k ≡ false
+    → first_from test (many - k) k ≡ first_from test (many - (k + 1)) (k + 1)
+first_passed test many k less fails =
+    first_more test (many - k) k (omega (arith, less)) ∙ rw fails refl ∙ ap (λ m. first_from test m (k + 1)) (omega arith)
+
 -- what fails the test is passed over
 pub find_cons : {A : Type 0} (test : A → Bool) (x : A) (xs : List A) → test x ≡ false → find test (x ∷ xs) ≡ find test xs
 find_cons test x xs fails = rw fails refl
@@ -83,8 +88,6 @@ passes_all test xs over = (
   over.left ∙ ap (λ l. take (length xs) xs ++ without test l) (drop-length xs) ∙ append-nil (take (length xs) xs) ∙ take-length xs,
 )
 
-pub labels_more : (s : Scene) (cuts : List Cut) (k : ℕ) (c : Cut) → k < length cuts → c ≡ get_or cuts k c
-    → labels s cuts (k + 1) ≡ labels s cuts k ++ label s c (slice_get cuts (k + 2)) (k % 2)
-labels_more s cuts k c fits is =
-    let here : slice_get cuts k ≡ Some c = slice_get-get_or cuts k c fits ∙ ap Some (sym is) in
-    rw add-one (ap (λ o. labels s cuts k ++ label_at s cuts o k) here)
+pub labels_more : (s : Scene) (cuts : List Cut) (k : ℕ) (d : Cut) → k < length cuts
+    → labels s cuts (k + 1) ≡ labels s cuts k ++ label s (get_or cuts k d) (slice_get cuts (k + 2)) (k % 2)
+labels_more s cuts k d fits = rw add-one (ap (λ o. labels s cuts k ++ label_at s cuts o k) (slice_get-get_or cuts k d fits))
