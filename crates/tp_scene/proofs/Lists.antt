@@ -6,6 +6,9 @@ use Rattle.std.proofs.lemmas.List.{append-nil, reverse-append}
 use Rattle.tp_core.specs.World.{how_many}
 use Rattle.tp_core.specs.Pool.{without}
 
+pub true_false : true ≡ false → ⊥
+true_false e = cc
+
 pub some_same : {A : Type 0} (x y : A) → Some x ≡ Some y → x ≡ y
 some_same x y e = cc
 
@@ -39,7 +42,7 @@ find-push_other {A} test (x ∷ xs) y fails = choose (test x)
     choose false = find-push_other test xs y fails
 
 pub counted-without : {A : Type 0} (test : A → Bool) (xs : List A) → how_many test xs ≡ 1 → how_many test (without test xs) ≡ 0
-counted-without test [] h = h ∙ absurd (omega (arith, h))
+counted-without test [] h = refl
 counted-without {A} test (x ∷ xs) h = choose (test x) refl h
   where
     choose : (b : Bool) → test x ≡ b → one b + how_many test xs ≡ 1 → how_many test (if b then xs else x ∷ without test xs) ≡ 0
@@ -92,7 +95,7 @@ counted-le {A} q r (x ∷ xs) implies = choose (q x) (r x) refl refl
   where
     choose : (b d : Bool) → q x ≡ b → r x ≡ d → one b + how_many q xs ≤ one d + how_many r xs
     choose true true is also = omega (arith, counted-le q r xs implies)
-    choose true false is also = let passes : r x ≡ true = implies x is in absurd (grind (arith, passes, also))
+    choose true false is also = absurd (true_false (sym (implies x is) ∙ also))
     choose false true is also = omega (arith, counted-le q r xs implies)
     choose false false is also = omega (arith, counted-le q r xs implies)
 
@@ -189,7 +192,7 @@ without-same {A} q r (x ∷ xs) implies few there = choose (q x) (r x) refl refl
     choose : (b d : Bool) → q x ≡ b → r x ≡ d → one d + how_many r xs ≤ 1 → (b || list_any q xs) ≡ true
         → (if b then xs else x ∷ without q xs) ≡ (if d then xs else x ∷ without r xs)
     choose true true is also e some = refl
-    choose true false is also e some = let passes : r x ≡ true = implies x is in absurd (grind (arith, passes, also))
+    choose true false is also e some = absurd (true_false (sym (implies x is) ∙ also))
     choose false true is also e some =
         let more : 1 ≤ how_many q xs = some_counted q xs some in let fewer = counted-le q r xs implies in absurd (omega (arith, more, fewer, e))
     choose false false is also e some = ap (λ l. x ∷ l) (without-same q r xs implies (omega (arith, e)) some)
@@ -202,7 +205,7 @@ find-same {A} q r (x ∷ xs) implies few there = choose (q x) (r x) refl refl fe
     choose : (b d : Bool) → q x ≡ b → r x ≡ d → one d + how_many r xs ≤ 1 → (b || list_any q xs) ≡ true
         → (if d then Some x else find r xs) ≡ (if b then Some x else find q xs)
     choose true true is also e some = refl
-    choose true false is also e some = let passes : r x ≡ true = implies x is in absurd (grind (arith, passes, also))
+    choose true false is also e some = absurd (true_false (sym (implies x is) ∙ also))
     choose false true is also e some =
         let more : 1 ≤ how_many q xs = some_counted q xs some in let fewer = counted-le q r xs implies in absurd (omega (arith, more, fewer, e))
     choose false false is also e some = find-same q r xs implies (omega (arith, e)) some

@@ -36,7 +36,9 @@ first_more test (suc more) k some = let e : suc more - 1 ≡ more = omega arith 
 pub first_passed : (test : ℕ → Bool) (many k : ℕ) → k < many → test k ≡ false
     → first_from test (many - k) k ≡ first_from test (many - (k + 1)) (k + 1)
 first_passed test many k less fails =
-    first_more test (many - k) k (omega (arith, less)) ∙ rw fails refl ∙ ap (λ m. first_from test m (k + 1)) (omega arith)
+    let skipped : (if test k then k else first_from test (many - k - 1) (k + 1)) ≡ first_from test (many - k - 1) (k + 1) = rw fails refl in
+    let fewer : many - k - 1 ≡ many - (k + 1) = omega arith in
+    first_more test (many - k) k (omega (arith, less)) ∙ skipped ∙ ap (λ m. first_from test m (k + 1)) fewer
 
 -- what fails the test is passed over
 pub find_cons : {A : Type 0} (test : A → Bool) (x : A) (xs : List A) → test x ≡ false → find test (x ∷ xs) ≡ find test xs
