@@ -11,7 +11,7 @@ use Rattle.tp_base.specs.declared.Step.{Step}
 use Rattle.tp_base.specs.declared.Step.TheVariants.{Begin, Done}
 use Rattle.tp_core.specs.World.{how_many}
 use Rattle.tp_core.specs.Pool.{without}
-use Rattle.tp_scene.proofs.Lists.{some_same, none_some}
+use Rattle.tp_scene.proofs.Lists.{some_same, none_some, true_false}
 use Rattle.tp_scene.specs.declared.scene.Running.{Running}
 use Rattle.tp_scene.specs.declared.scene.Bar.{Bar}
 use Rattle.tp_scene.specs.Scene.{is_on, is_run_of, first_from, free_track, begun, running, bars, bar_of}
@@ -135,9 +135,6 @@ taken_below : (i m : ℕ) (runs : List Running) → ((j : ℕ) → j < m → lis
 taken_below i zero runs h = omega arith
 taken_below i (suc m) runs h =
     omega (arith, below_more i m runs, taken_below i m runs (λ j l. h j (omega (arith, l))), some_counted (is_on i m) runs (h m (omega arith)))
-
-true_false : true ≡ false → ⊥
-true_false e = cc
 
 not_taken : (b : Bool) → not b ≡ true → b ≡ false
 not_taken true e = absurd (true_false (sym e))

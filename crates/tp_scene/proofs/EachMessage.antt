@@ -17,7 +17,7 @@ use Rattle.tp_core.specs.World.{Message, IsQuiet, how_many, is_message, is_known
 use Rattle.tp_core.specs.Pool.{without}
 use Rattle.tp_core.specs.Run.{world}
 use Rattle.tp_core.specs.Generations.{AreRuns, world_after}
-use Rattle.tp_scene.proofs.Lists.{one, same_some, none_some, counted-push, find-push, find-push_other, counted-without, counted-without_le, find-without_other, counted-found, found-counted, counted-reverse, counted-map, reverse-cons, reverse-without, find-reverse, find-map, map-without, without-same, find-same, some_counted, counted-le, found-passes}
+use Rattle.tp_scene.proofs.Lists.{one, same_some, none_some, true_false, counted-push, find-push, find-push_other, counted-without, counted-without_le, find-without_other, counted-found, found-counted, counted-reverse, counted-map, reverse-cons, reverse-without, find-reverse, find-map, map-without, without-same, find-same, some_counted, counted-le, found-passes}
 use Rattle.tp_scene.proofs.EachTask.{quiet_before}
 use Rattle.tp_scene.specs.declared.scene.Sending.{Sending}
 use Rattle.tp_scene.specs.declared.scene.Arrow.{Arrow}
@@ -45,9 +45,6 @@ numbered_once n past m h =
 -- ---- a message is sent
 abbrev now : List Step → NodeId → NodeId → MessageId → Sending
 now past i j k = record { message = k; from = i; to = j; sent = length past }
-
-true_false : true ≡ false → ⊥
-true_false e = cc
 
 flights_sent : (n : ℕ) (past : List Step) (i j : NodeId) (k : MessageId) (g : Generation) → is_known_message k.0 (world_after n past) ≡ false → Flights n past
     → Flights n (Send i j k g ∷ past)

@@ -79,7 +79,7 @@ ticks s unit (suc k) = ticks s unit k ++ tick_where s unit k
 unfoldable pub axis : Scene → List ℕ
 axis s =
     ticks s (unit s) s.events ++ codes "<path class=\"axis\" d=\"M74," ++ tenths (bottom s + 440) ++ codes "H" ++ tenths (right s)
-    ++ codes "\"/>\n<text class=\"name scale\" x=\"62\" y=\"" ++ tenths (bottom s + 480) ++ codes "\">event</text>\n"
+    ++ codes "\"/>\n<text class=\"unit\" x=\"62\" y=\"" ++ tenths (bottom s + 480) ++ codes "\">event</text>\n"
 
 -- ---- all
 unfoldable pub run : Scene → List ℕ
