@@ -1,5 +1,6 @@
 -- Each message that is received has one arrow, and those that are drawn as not received are under way.
-use Rattle.std.proofs.Common.{◌≡◌, ℕ, ◌+◌, ◌≤◌, ◌==◌, ◌&&◌, ◌||◌, Bool, true, false, List, [], ◌∷◌, ◌++◌, length, map, reverse, Option, Some, None, refl, sym, ap, subst, ◌∙◌, eqb-true, arith, if◌then◌else◌}
+use Rattle.std.proofs.Common.{◌≡◌, ℕ, ◌+◌, ◌≤◌, ◌==◌, ◌&&◌, ◌||◌, Bool, true, false, List, [], ◌∷◌, ◌++◌, length, map, reverse, Option}
+use Rattle.std.proofs.Common.{Some, None, refl, sym, ap, subst, ◌∙◌, eqb-true, arith, if◌then◌else◌}
 use Rattle.std.specs.Prelude.{unwrap_or}
 use Rattle.std.specs.List.{find, list_any}
 use Rattle.std.specs.Option.{option_map}
@@ -17,7 +18,10 @@ use Rattle.tp_core.specs.World.{Message, IsQuiet, how_many, is_message, is_known
 use Rattle.tp_core.specs.Pool.{without}
 use Rattle.tp_core.specs.Run.{world}
 use Rattle.tp_core.specs.Generations.{AreRuns, world_after}
-use Rattle.tp_scene.proofs.Lists.{one, same_some, none_some, true_false, counted-push, find-push, find-push_other, counted-without, counted-without_le, find-without_other, counted-found, found-counted, counted-reverse, counted-map, reverse-cons, reverse-without, find-reverse, find-map, map-without, without-same, find-same, some_counted, counted-le, found-passes}
+use Rattle.tp_scene.proofs.Lists.{one, same_some, none_some, true_false, counted-push, find-push, find-push_other, counted-without}
+use Rattle.tp_scene.proofs.Lists.{counted-without_le, find-without_other, counted-found, found-counted, counted-reverse, counted-map}
+use Rattle.tp_scene.proofs.Lists.{reverse-cons, reverse-without, find-reverse, find-map, map-without, without-same, find-same}
+use Rattle.tp_scene.proofs.Lists.{some_counted, counted-le, found-passes}
 use Rattle.tp_scene.proofs.EachTask.{quiet_before}
 use Rattle.tp_scene.specs.declared.scene.Sending.{Sending}
 use Rattle.tp_scene.specs.declared.scene.Arrow.{Arrow}

@@ -1,5 +1,6 @@
 -- Each task that is done has one bar, and each that runs.
-use Rattle.std.proofs.Common.{◌≡◌, ℕ, ◌+◌, ◌-◌, ◌<◌, ◌≤◌, ◌==◌, ◌||◌, Bool, true, false, not, List, [], ◌∷◌, ◌++◌, length, map, Option, Some, None, refl, sym, ap, subst, ◌∙◌, eqb-true, arith, if◌then◌else◌}
+use Rattle.std.proofs.Common.{◌≡◌, ℕ, ◌+◌, ◌-◌, ◌<◌, ◌≤◌, ◌==◌, ◌||◌, Bool, true, false, not, List, [], ◌∷◌, ◌++◌, length, map, Option}
+use Rattle.std.proofs.Common.{Some, None, refl, sym, ap, subst, ◌∙◌, eqb-true, arith, if◌then◌else◌}
 use Rattle.std.specs.Prelude.{IsFalse, IsTrue}
 use Rattle.std.specs.List.{find, list_any}
 use Rattle.std.specs.Option.{option_map}
@@ -26,7 +27,8 @@ use Rattle.tp_core.specs.Generations.{AreRuns, MayCome, world_after}
 use Rattle.tp_core.proofs.Counting.{home_in, life_in, home-with_life, is_run, steps_of-history}
 use Rattle.tp_core.proofs.Generations.{present_run}
 use Rattle.tp_core.proofs.Quiet.{quiet_seen}
-use Rattle.tp_scene.proofs.Lists.{one, same_some, none_some, counted-push, find-push, find-push_other, counted-without, counted-without_other, find-without_other, counted-found, found-counted}
+use Rattle.tp_scene.proofs.Lists.{one, same_some, none_some, counted-push, find-push, find-push_other, counted-without}
+use Rattle.tp_scene.proofs.Lists.{counted-without_other, find-without_other, counted-found, found-counted}
 use Rattle.tp_scene.specs.declared.scene.Running.{Running}
 use Rattle.tp_scene.specs.declared.scene.Bar.{Bar}
 use Rattle.tp_scene.specs.Scene.{is_run_of, begun, running, bars, bar_of}

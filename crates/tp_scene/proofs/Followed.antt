@@ -1,5 +1,6 @@
 -- What is known of steps that were followed, one step further.
-use Rattle.std.proofs.Common.{◌≡◌, ◌≢◌, ℕ, ◌+◌, ◌<◌, ◌==◌, Bool, true, false, List, [], ◌∷◌, ◌++◌, length, Option, Some, None, slice_index, slice_set, max, if◌then◌else◌, refl, sym, ap, subst, ◌∙◌, eqb-true, arith}
+use Rattle.std.proofs.Common.{◌≡◌, ◌≢◌, ℕ, ◌+◌, ◌<◌, ◌==◌, Bool, true, false, List, [], ◌∷◌, ◌++◌, length, Option, Some, None, slice_index}
+use Rattle.std.proofs.Common.{slice_set, max, if◌then◌else◌, refl, sym, ap, subst, ◌∙◌, eqb-true, arith}
 use Rattle.std.specs.Prelude.{OnOk, Result, Ok, Err, unwrap_or, map}
 use Rattle.std.specs.List.{find, range_with_len}
 use Rattle.std.specs.Option.{option_map}
@@ -35,7 +36,8 @@ use Rattle.tp_scene.specs.declared.tracks.Tracks.{Tracks}
 use Rattle.tp_scene.specs.declared.messages.Messages.{Messages}
 use Rattle.tp_scene.specs.declared.waves.Waves.{Waves}
 use Rattle.tp_scene.specs.declared.waves.Gives.{Gives}
-use Rattle.tp_scene.specs.Scene.{is_run_of, is_sending_of, free_track, begun, running, bars, bar_of, rows, with_row, under_way, arrows, arrow_of, gave, cut, cuts, ends, end_of, seams}
+use Rattle.tp_scene.specs.Scene.{is_run_of, is_sending_of, free_track, begun, running, bars, bar_of, rows, with_row, under_way, arrows}
+use Rattle.tp_scene.specs.Scene.{arrow_of, gave, cut, cuts, ends, end_of, seams}
 use Rattle.tp_scene.specs.Following.{home, HasTracks, HasMessages, HasGiven, HasWaves}
 
 pub ok_then : {A E P Q : Type 0} (r : Result A E) → (P → Q) → OnOk r P → OnOk r Q

@@ -1,5 +1,7 @@
 -- All that is drawn lies on the page.
-use Rattle.std.proofs.Common.{◌≡◌, ℕ, zero, suc, ◌+◌, ◌-◌, ◌*◌, ◌/◌, ◌<◌, ◌≤◌, ◌==◌, Bool, true, false, List, [], ◌∷◌, ◌++◌, length, map, max, min, slice_index, Option, Some, None, refl, sym, ap, subst, ◌∙◌, eqb-true, add-one, arith, is_some, if◌then◌else◌}
+use Rattle.std.proofs.Common.{◌≡◌, ℕ, zero, suc, ◌+◌, ◌-◌, ◌*◌, ◌/◌, ◌<◌, ◌≤◌, ◌==◌, Bool, true, false, List, [], ◌∷◌, ◌++◌, length, map}
+use Rattle.std.proofs.Common.{max, min, slice_index, Option, Some, None, refl, sym, ap, subst, ◌∙◌, eqb-true, add-one, arith, is_some}
+use Rattle.std.proofs.Common.{if◌then◌else◌}
 use Rattle.std.specs.Prelude.{unwrap_or}
 use Rattle.std.specs.List.{All, find, range_with_len}
 use Rattle.std.proofs.lemmas.Bool.Decides.{nat_tests}
@@ -28,8 +30,11 @@ use Rattle.tp_scene.specs.declared.scene.Pause.{Pause}
 use Rattle.tp_scene.specs.declared.scene.Seam.{Seam}
 use Rattle.tp_scene.specs.declared.scene.End.{End}
 use Rattle.tp_scene.specs.declared.scene.Scene.{Scene}
-use Rattle.tp_scene.specs.Scene.{IsSceneOf, is_run_of, begun, running, bars, bar_of, with_row, rows, is_sending_of, under_way, arrows, arrow_of, gave, cut, cuts, ends, end_of, seams, since_when, resting, pause_of, ended_pause, pause_before, pauses_before, pauses, pauses_now, last_pauses}
-use Rattle.tp_scene.specs.Layout.{detail_of, span_of, between_of, gap_of, edge, middle, right, reach, rows_of, height_of, top_of, foot, track_of, bottom, width, page_height, pitch}
+use Rattle.tp_scene.specs.Scene.{IsSceneOf, is_run_of, begun, running, bars, bar_of, with_row, rows, is_sending_of, under_way, arrows}
+use Rattle.tp_scene.specs.Scene.{arrow_of, gave, cut, cuts, ends, end_of, seams, since_when, resting, pause_of, ended_pause, pause_before}
+use Rattle.tp_scene.specs.Scene.{pauses_before, pauses, pauses_now, last_pauses}
+use Rattle.tp_scene.specs.Layout.{detail_of, span_of, between_of, gap_of, edge, middle, right, reach, rows_of, height_of, top_of, foot}
+use Rattle.tp_scene.specs.Layout.{track_of, bottom, width, page_height, pitch}
 use Rattle.tp_scene.specs.Layout as layout
 use Rattle.tp_scene.specs.Inside.{IsRunThere, IsSendingThere, AreThere, IsOnPage, AllIsInside}
 use Rattle.tp_scene.proofs.Lists.{some_same, none_some}

@@ -1,5 +1,6 @@
 -- How waves and ends are drawn.
-use Rattle.std.specs.Prelude.{ℕ, zero, suc, ◌+◌, ◌-◌, ◌*◌, ◌/◌, ◌%◌, ◌&&◌, ◌++◌, List, [], ◌∷◌, Bool, true, nat_lt, nat_le, Option, Some, None, codes, decimal, slice_index, slice_get, if◌then◌else◌}
+use Rattle.std.specs.Prelude.{ℕ, zero, suc, ◌+◌, ◌-◌, ◌*◌, ◌/◌, ◌%◌, ◌&&◌, ◌++◌, List, [], ◌∷◌, Bool, true, nat_lt, nat_le, Option, Some}
+use Rattle.std.specs.Prelude.{None, codes, decimal, slice_index, slice_get, if◌then◌else◌}
 use Rattle.std.specs.List.{list_any}
 use Rattle.tp_scene.specs.declared.pieces.Area.{Area}
 use Rattle.tp_scene.specs.declared.scene.Cut.{Cut}
@@ -45,7 +46,8 @@ rings s cut (suc k) = rings s cut k ++ ring_text s cut k
 -- what the wave has added up
 unfoldable pub sums_text : Cut → List ℕ
 sums_text cut =
-    codes "wave " ++ decimal cut.sums.wave ++ codes ": " ++ decimal cut.sums.sent ++ codes " sent, " ++ decimal cut.sums.received ++ codes " received"
+    codes "wave " ++ decimal cut.sums.wave ++ codes ": " ++ decimal cut.sums.sent ++ codes " sent, " ++ decimal cut.sums.received
+    ++ codes " received"
 
 unfoldable pub cut_text : Scene → Cut → List ℕ
 cut_text s cut =

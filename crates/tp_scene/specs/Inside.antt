@@ -45,4 +45,5 @@ pub record IsOnPage (s : Scene) : Type 0 where
       → (top_of s i ≤ track_of s i k) × (track_of s i k + bar_of (detail_of s.events) ≤ foot s i)
 
 abbrev pub AllIsInside : Type 0
-AllIsInside = (n : ℕ) (steps : List Step) (s : Scene) → 1 ≤ n → n ≤ MAX_NODES → AreRuns n steps → IsSceneOf n steps s → AreThere s × IsOnPage s
+AllIsInside = (n : ℕ) (steps : List Step) (s : Scene) → 1 ≤ n → n ≤ MAX_NODES → AreRuns n steps → IsSceneOf n steps s
+    → AreThere s × IsOnPage s

@@ -1,5 +1,6 @@
 -- What is drawn of each thing of a scene.
-use Rattle.std.specs.Prelude.{ℕ, ◌+◌, ◌-◌, ◌*◌, ◌/◌, ◌&&◌, ◌++◌, List, [], Bool, max, nat_lt, nat_le, codes, decimal, length, vec_len, if◌then◌else◌}
+use Rattle.std.specs.Prelude.{ℕ, ◌+◌, ◌-◌, ◌*◌, ◌/◌, ◌&&◌, ◌++◌, List, [], Bool, max, nat_lt, nat_le, codes, decimal, length, vec_len}
+use Rattle.std.specs.Prelude.{if◌then◌else◌}
 use Rattle.tp_scene.specs.declared.pieces.Point.{Point}
 use Rattle.tp_scene.specs.declared.pieces.Area.{Area}
 use Rattle.tp_scene.specs.declared.scene.Running.{Running}
@@ -9,7 +10,8 @@ use Rattle.tp_scene.specs.declared.scene.Arrow.{Arrow}
 use Rattle.tp_scene.specs.declared.scene.Pause.{Pause}
 use Rattle.tp_scene.specs.declared.scene.Seam.{Seam}
 use Rattle.tp_scene.specs.declared.scene.Scene.{Scene}
-use Rattle.tp_scene.specs.Layout.{detail_of, is_fine, is_detailed, bar_of, edge, middle, right, reach, height_of, top_of, foot, track_of, bottom}
+use Rattle.tp_scene.specs.Layout.{detail_of, is_fine, is_detailed, bar_of, edge, middle, right, reach, height_of, top_of, foot, track_of}
+use Rattle.tp_scene.specs.Layout.{bottom}
 use Rattle.tp_scene.specs.Pieces.{tenths, point, box_text}
 
 abbrev pub at : ℕ → ℕ → Point
@@ -25,13 +27,14 @@ event e = decimal (e + 1)
 -- ---- tasks
 -- where a task runs, from the middle of an event to a place; at least a pixel wide
 unfoldable pub run_area : Scene → Running → ℕ → Area
-run_area s run to = area (middle s run.from) (track_of s run.node.0 run.track) (max (to - middle s run.from) 10) (bar_of (detail_of s.events))
+run_area s run to =
+    area (middle s run.from) (track_of s run.node.0 run.track) (max (to - middle s run.from) 10) (bar_of (detail_of s.events))
 
 -- a bar up to its title
 unfoldable pub run_text : Running → Area → List ℕ
 run_text run where_it_is =
-    codes "<rect class=\"n" ++ decimal run.node.0 ++ codes "\"" ++ box_text where_it_is ++ codes " rx=\"3\"><title>task " ++ decimal run.task.0
-    ++ codes ", from " ++ event run.from
+    codes "<rect class=\"n" ++ decimal run.node.0 ++ codes "\"" ++ box_text where_it_is ++ codes " rx=\"3\"><title>task "
+    ++ decimal run.task.0 ++ codes ", from " ++ event run.from
 
 -- the number of a task fits into its bar: 7 pixels a digit
 unfoldable pub has_number : Scene → Running → Area → Bool
@@ -82,7 +85,9 @@ curve_text from to =
 -- fainter the more there are
 unfoldable pub arrow_class : Scene → List ℕ
 arrow_class s =
-    if nat_lt 150 (vec_len s.arrows) then codes "arrow many" else (if is_fine (detail_of s.events) then codes "arrow" else codes "arrow some")
+    if nat_lt 150 (vec_len s.arrows)
+    then codes "arrow many"
+    else (if is_fine (detail_of s.events) then codes "arrow" else codes "arrow some")
 
 unfoldable pub dot_text : Scene → Point → List ℕ
 dot_text s p =
@@ -116,5 +121,5 @@ lost_text s sending =
 unfoldable pub seam_text : Scene → Seam → List ℕ
 seam_text s seam =
     codes "<path class=\"seam\" d=\"M" ++ point (at (edge s seam.at) 1060) ++ codes "V" ++ tenths (bottom s + 220)
-    ++ codes "\"/><text class=\"seam\" x=\"" ++ tenths (edge s seam.at + 40) ++ codes "\" y=\"112\">generation " ++ decimal seam.generation.0
-    ++ codes "</text>\n"
+    ++ codes "\"/><text class=\"seam\" x=\"" ++ tenths (edge s seam.at + 40) ++ codes "\" y=\"112\">generation "
+    ++ decimal seam.generation.0 ++ codes "</text>\n"

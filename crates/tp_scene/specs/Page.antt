@@ -1,5 +1,6 @@
 -- The picture of a scene, as text.
-use Rattle.std.specs.Prelude.{ℕ, zero, suc, ◌+◌, ◌-◌, ◌/◌, ◌%◌, ◌==◌, ◌++◌, List, [], nat_le, Option, Some, None, codes, decimal, length, vec_len, if◌then◌else◌}
+use Rattle.std.specs.Prelude.{ℕ, zero, suc, ◌+◌, ◌-◌, ◌/◌, ◌%◌, ◌==◌, ◌++◌, List, [], nat_le, Option, Some, None, codes, decimal, length}
+use Rattle.std.specs.Prelude.{vec_len, if◌then◌else◌}
 use Rattle.std.specs.List.{flat_map}
 use Rattle.tp_scene.specs.declared.page.TheConstants.{STYLE, LEGEND}
 use Rattle.tp_scene.specs.declared.pieces.Area.{Area}
@@ -45,8 +46,8 @@ grounds s (suc k) = grounds s k ++ ground s k
 
 unfoldable pub frame : Scene → ℕ → List ℕ
 frame s i =
-    codes "<rect class=\"frame\"" ++ box_text (lane s i) ++ codes " rx=\"4\"/>\n<text class=\"name n" ++ decimal i ++ codes "\" x=\"62\" y=\""
-    ++ tenths (top_of s i + height_of s i / 2 + 50) ++ codes "\">node " ++ decimal i ++ codes "</text>\n"
+    codes "<rect class=\"frame\"" ++ box_text (lane s i) ++ codes " rx=\"4\"/>\n<text class=\"name n" ++ decimal i
+    ++ codes "\" x=\"62\" y=\"" ++ tenths (top_of s i + height_of s i / 2 + 50) ++ codes "\">node " ++ decimal i ++ codes "</text>\n"
 
 abbrev pub frames : Scene → ℕ → List ℕ
 frames s zero = []
@@ -55,11 +56,14 @@ frames s (suc k) = frames s k ++ frame s k
 -- ---- the axis
 -- how many events lie between two ticks, so that they are at least 60 pixels apart
 abbrev pub unit_by : ℕ → ℕ
-unit_by step = if nat_le 120 step then 5 else (if nat_le 60 step then 10 else (if nat_le 30 step then 20 else (if nat_le 12 step then 50 else 100)))
+unit_by step =
+    if nat_le 120 step then 5 else (if nat_le 60 step then 10 else (if nat_le 30 step then 20
+    else (if nat_le 12 step then 50 else 100)))
 
 unfoldable pub unit : Scene → ℕ
 unit s =
-    if nat_le s.events 2500 then unit_by (step_of s.events) else (if nat_le s.events 25000 then 1000 else (if nat_le s.events 250000 then 10000 else 50000))
+    if nat_le s.events 2500 then unit_by (step_of s.events) else (if nat_le s.events 25000 then 1000
+    else (if nat_le s.events 250000 then 10000 else 50000))
 
 -- the tick at an event
 unfoldable pub tick : Scene → ℕ → List ℕ

@@ -1,6 +1,7 @@
 -- What is drawn of the steps of a run on n nodes. A list of steps has the newest first; what is drawn of it stands in the order of
 -- time. An event has as its number how many had come before it.
-use Rattle.std.specs.Prelude.{ℕ, zero, suc, ◌+◌, ◌==◌, ◌&&◌, ◌≡◌, ◌<◌, ◌++◌, ◌⊎◌, List, [], ◌∷◌, Bool, not, Option, Some, None, length, map, max, reverse, slice_index, unwrap_or, if◌then◌else◌}
+use Rattle.std.specs.Prelude.{ℕ, zero, suc, ◌+◌, ◌==◌, ◌&&◌, ◌≡◌, ◌<◌, ◌++◌, ◌⊎◌, List, [], ◌∷◌, Bool, not, Option, Some, None, length}
+use Rattle.std.specs.Prelude.{map, max, reverse, slice_index, unwrap_or, if◌then◌else◌}
 use Rattle.std.specs.List.{find, list_any, range_with_len}
 use Rattle.tp_base.specs.declared.Step.{Step}
 use Rattle.tp_base.specs.declared.Step.TheVariants.{Begin, Done, Send, Recv, Give, Judge, Reopen}

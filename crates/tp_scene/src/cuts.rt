@@ -1,6 +1,7 @@
 ghost use Rattle.std.specs.Prelude.{◌≡◌, ◌++◌, ◌<◌, ◌^◌, OnOk, slice_index, decimal};
 ghost use Rattle.std.specs.Prelude.{option_copied, length};
-ghost use Rattle.tp_scene.specs.Cuts.{tells, wave_class, cut_at, crossing, crossings, rings, ring_text, cut_text, sums_text, over, end_text, label, label_text, labels, has_room, needed, side, stands_right};
+ghost use Rattle.tp_scene.specs.Cuts.{tells, wave_class, cut_at, crossing, crossings, rings, ring_text, cut_text, sums_text, over};
+ghost use Rattle.tp_scene.specs.Cuts.{end_text, label, label_text, labels, has_room, needed, side, stands_right};
 
 use crate::layout::TOP;
 use crate::pieces::{Area, Mark, Point, push_area, push_count, push_point, push_tenths};

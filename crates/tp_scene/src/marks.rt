@@ -1,7 +1,8 @@
 ghost use Rattle.std.specs.Prelude.{◌≡◌, ◌++◌, ◌+◌, ◌*◌, ◌<◌, ◌≤◌, ◌^◌, OnOk, IsTrue, decimal, length};
 ghost use Rattle.tp_scene.specs.Pieces.{tenths};
 ghost use Rattle.tp_scene.specs.Layout.{middle, reach, foot, top_of};
-ghost use Rattle.tp_scene.specs.Marks.{run_area, run_text, number_text, has_number, bar_text, running_text, pause_text, arrow_text, arrow_class, curve_text, dot_text, ends_of, sending_text, lost_text, seam_text};
+ghost use Rattle.tp_scene.specs.Marks.{run_area, run_text, number_text, has_number, bar_text, running_text, pause_text, arrow_text};
+ghost use Rattle.tp_scene.specs.Marks.{arrow_class, curve_text, dot_text, ends_of, sending_text, lost_text, seam_text};
 
 use crate::layout::TOP;
 use crate::pieces::{Area, Mark, Point, push_area, push_count, push_point, push_tenths};

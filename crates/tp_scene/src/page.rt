@@ -1,5 +1,6 @@
 ghost use Rattle.std.specs.Prelude.{◌≡◌, ◌++◌, ◌<◌, ◌^◌, OnOk, IfOk, decimal};
-ghost use Rattle.tp_scene.specs.Page.{head, headline, counted, verdict, lane, ground, grounds, frame, frames, unit_by, unit, tick, tick_where, ticks, axis, run, waves, svg_of};
+ghost use Rattle.tp_scene.specs.Page.{head, headline, counted, verdict, lane, ground, grounds, frame, frames, unit_by, unit, tick};
+ghost use Rattle.tp_scene.specs.Page.{tick_where, ticks, axis, run, waves, svg_of};
 
 use crate::cuts::push_labels;
 use crate::layout::LEFT;
@@ -16,7 +17,8 @@ text{font-family:Helvetica,Arial,sans-serif;font-size:11px;fill:#6b727b}
 .p0{fill:#e9f0f9}.p1{fill:#fbeee7}.p2{fill:#eaf5ec}.p3{fill:#f3ecf7}.p4{fill:#f9f3df}.p5{fill:#e3f4f4}.p6{fill:#f9e9f0}.p7{fill:#f1f2e2}
 .open{fill-opacity:.6}.frame{fill:none;stroke:#d9dde2}
 .name{font-size:13px;font-weight:600;text-anchor:end}.head{font-size:16px;font-weight:600;fill:#22262b}
-.number{fill:#fff;text-anchor:middle}.scale{font-size:10px;text-anchor:middle}.unit{font-size:10px;text-anchor:end}.axis{stroke:#6b727b;stroke-width:.8}
+.number{fill:#fff;text-anchor:middle}.scale{font-size:10px;text-anchor:middle}
+.unit{font-size:10px;text-anchor:end}.axis{stroke:#6b727b;stroke-width:.8}
 .arrow{fill:none;stroke:#49525c;stroke-width:1.3;stroke-opacity:.85;marker-end:url(#a)}.some{stroke-width:1;stroke-opacity:.6}
 .many{stroke-width:.7;stroke-opacity:.3;marker-end:none}.dot{fill:#49525c}.lost{stroke:#b00020;stroke-width:1.3;stroke-dasharray:2 2}
 polyline.wave,circle.wave{fill:none;stroke:#d08a00;stroke-width:1.1;stroke-opacity:.75;stroke-linejoin:round}

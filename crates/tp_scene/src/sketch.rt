@@ -44,8 +44,10 @@ impl Sketch {
     /// Follows the next step, before which so many had come, or refuses it as a core does.
     fn take(&mut self, step: Step, place: u32) -> Result<(), Refusal>
         requires { (n : ℕ) × (past : List Step) × Follows n past self.old × (place ≡ length past) }
-        ensures follows { (n : ℕ) (past : List Step) → Follows n past self.old → place ≡ length past → OnOk result (Follows n (step ∷ past) self.new) }
-        ensures came { (n : ℕ) (past : List Step) → Follows n past self.old → OnOk result (MayCome n past step × (length past < MAX_STEPS)) }
+        ensures follows { (n : ℕ) (past : List Step) → Follows n past self.old → place ≡ length past
+            → OnOk result (Follows n (step ∷ past) self.new) }
+        ensures came { (n : ℕ) (past : List Step) → Follows n past self.old
+            → OnOk result (MayCome n past step × (length past < MAX_STEPS)) }
         ensures refused { (n : ℕ) (past : List Step) → Follows n past self.old → IfErr result (IsRefusedAfter n past step) }
     {
         let reply = self.core.step(step)?;

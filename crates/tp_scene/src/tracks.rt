@@ -45,7 +45,8 @@ impl Tracks {
     /// Takes the next step, before which so many had come.
     pub(crate) fn take(&mut self, step: Step, place: u32) -> Result<(), AllocError>
         requires { place < MAX_STEPS }
-        ensures { (n : ℕ) (past : List Step) → HasTracks n past self.old → place ≡ length past → OnOk result (HasTracks n (step ∷ past) self.new) }
+        ensures { (n : ℕ) (past : List Step) → HasTracks n past self.old → place ≡ length past
+            → OnOk result (HasTracks n (step ∷ past) self.new) }
     {
         match step {
             Step::Insert(home, task, _) => self.homes.insert(task.0, home),
