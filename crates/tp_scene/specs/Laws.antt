@@ -12,9 +12,15 @@ use Rattle.tp_core.specs.NeverEarly.{is_begin_of}
 use Rattle.tp_core.specs.Generations.{AreRuns, world_after}
 use Rattle.tp_scene.specs.declared.scene.Running.{Running}
 use Rattle.tp_scene.specs.declared.scene.Bar.{Bar}
+use Rattle.tp_base.specs.declared.Sums.{Sums}
+use Rattle.tp_core.specs.declared.reply.Reply.{Reply}
+use Rattle.tp_core.specs.declared.reply.Reply.TheVariants.{WaveSums, Over}
+use Rattle.tp_core.specs.Accepted.{reply_to}
+use Rattle.tp_scene.specs.declared.scene.Cut.{Cut}
+use Rattle.tp_scene.specs.declared.scene.End.{End}
 use Rattle.tp_scene.specs.declared.scene.Sending.{Sending}
 use Rattle.tp_scene.specs.declared.scene.Arrow.{Arrow}
-use Rattle.tp_scene.specs.Scene.{is_run_of, bars, running, arrows, under_way}
+use Rattle.tp_scene.specs.Scene.{is_run_of, bars, running, arrows, under_way, cuts, ends}
 
 -- ---- bars lie apart
 abbrev pub AreOnOneTrack : Running → Running → Type 0
@@ -107,3 +113,37 @@ pub record HasEachMessage (n : ℕ) (steps : List Step) : Type 0 where
 
 abbrev pub EachMessageOnce : Type 0
 EachMessageOnce = (n : ℕ) (steps : List Step) → 1 ≤ n → AreRuns n steps → HasEachMessage n steps
+
+-- ---- each wave once
+abbrev pub sums_in : Reply → List Sums
+sums_in (WaveSums sums) = sums ∷ []
+sums_in _ = []
+
+-- the sums that a core answered to these steps, one for each wave that ended
+abbrev pub sums_answered : ℕ → List Step → List Sums
+sums_answered n [] = []
+sums_answered n (s ∷ past) = sums_answered n past ++ sums_in (reply_to n past s)
+
+-- It was answered that the pool had ended with this wave, at this event.
+pub record Mark : Type 0 where
+  pub wave : ℕ
+  pub at : ℕ
+
+abbrev pub mark_in : Reply → ℕ → List Mark
+mark_in (Over w) place = record { wave = w; at = place } ∷ []
+mark_in _ place = []
+
+abbrev pub ends_answered : ℕ → List Step → List Mark
+ends_answered n [] = []
+ends_answered n (s ∷ past) = ends_answered n past ++ mark_in (reply_to n past s) (length past)
+
+abbrev pub mark_of : End → Mark
+mark_of end = record { wave = end.wave; at = end.judged }
+
+-- Each wave that ended has one cut, with the sums that the core answered, and each judgement of the end one mark; nothing else has any.
+pub record HasEachWave (n : ℕ) (steps : List Step) : Type 0 where
+  pub cuts_are : map (λ (c : Cut). c.sums) (cuts n steps) ≡ sums_answered n steps
+  pub ends_are : map mark_of (ends n steps) ≡ ends_answered n steps
+
+abbrev pub EachWaveOnce : Type 0
+EachWaveOnce = (n : ℕ) (steps : List Step) → HasEachWave n steps

@@ -1,5 +1,5 @@
 ghost use Rattle.tp_scene.specs.Inside.{AllIsInside};
-ghost use Rattle.tp_scene.specs.Laws.{BarsLieApart, EachMessageOnce, EachTaskOnce};
+ghost use Rattle.tp_scene.specs.Laws.{BarsLieApart, EachMessageOnce, EachTaskOnce, EachWaveOnce};
 
 /// On no track two bars overlap, whatever the steps are.
 pub fn bars_lie_apart()
@@ -21,4 +21,10 @@ pub fn each_message_once()
 /// All that is drawn of a run lies on the page.
 pub fn all_is_inside()
     ensures { AllIsInside }
+{}
+
+/// Each wave that ended has one cut, with the sums that the core answered, and each judgement of the end one mark; nothing else has
+/// any.
+pub fn each_wave_once()
+    ensures { EachWaveOnce }
 {}

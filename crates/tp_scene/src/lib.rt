@@ -16,7 +16,7 @@ mod sketch;
 mod tracks;
 mod waves;
 
-pub use laws::{all_is_inside, bars_lie_apart, each_message_once, each_task_once};
+pub use laws::{all_is_inside, bars_lie_apart, each_message_once, each_task_once, each_wave_once};
 pub use page::svg;
 pub use scene::{Arrow, Bar, Cut, End, Pause, Running, Scene, Seam, Sending};
 pub use sketch::scene_of;
