@@ -1,6 +1,6 @@
 -- Bars on one track lie apart.
 use Rattle.std.proofs.Common.{◌≡◌, ℕ, zero, suc, ◌+◌, ◌<◌, ◌≤◌, ◌==◌, ◌&&◌, ◌⊎◌, inl, inr, Bool, true, false, not, List, [], ◌∷◌, ◌++◌}
-use Rattle.std.proofs.Common.{length, refl, sym, ap, ◌∙◌, subst, arith, if◌then◌else◌}
+use Rattle.std.proofs.Common.{length, refl, sym, ap, eqb-true, ◌∙◌, subst, arith, if◌then◌else◌}
 use Rattle.std.specs.Prelude.{nat_lt, Option, Some, None}
 use Rattle.std.specs.List.{All, AllPairs, find, list_any}
 use Rattle.std.proofs.lemmas.Bool.Decides.{nat_tests}
@@ -53,46 +53,46 @@ pairs_push R (x ∷ xs) y h k = (each_push (R x) xs y h.0 k.0, pairs_push R xs y
 
 pub each_without : {A : Type 0} (P : A → Type 0) (test : A → Bool) (xs : List A) → Each P xs → Each P (without test xs)
 each_without P test [] h = tt
-each_without {A} P test (x ∷ xs) h = choose (test x)
-  where
-    choose : (b : Bool) → Each P (if b then xs else x ∷ without test xs)
-    choose true = h.1
-    choose false = (h.0, each_without P test xs h.1)
+each_without {A} P test (x ∷ xs) h =
+    let choose : (b : Bool) → Each P (if b then xs else x ∷ without test xs) =
+    elim [ true ↦ h.1 | false ↦ (h.0, each_without P test xs h.1) ]
+    in
+    choose (test x)
 
 pairs_without : {A : Type 0} (R : A → A → Type 0) (test : A → Bool) (xs : List A) → Pairs R xs → Pairs R (without test xs)
 pairs_without R test [] h = tt
-pairs_without {A} R test (x ∷ xs) h = choose (test x)
-  where
-    choose : (b : Bool) → Pairs R (if b then xs else x ∷ without test xs)
-    choose true = h.1
-    choose false = (each_without (R x) test xs h.0, pairs_without R test xs h.1)
+pairs_without {A} R test (x ∷ xs) h =
+    let choose : (b : Bool) → Pairs R (if b then xs else x ∷ without test xs) =
+    elim [ true ↦ h.1 | false ↦ (each_without (R x) test xs h.0, pairs_without R test xs h.1) ]
+    in
+    choose (test x)
 
 length-without : {A : Type 0} (test : A → Bool) (xs : List A) → length (without test xs) ≤ length xs
 length-without test [] = omega arith
-length-without {A} test (x ∷ xs) = choose (test x)
-  where
-    choose : (b : Bool) → length (if b then xs else x ∷ without test xs) ≤ length (x ∷ xs)
-    choose true = omega arith
-    choose false = omega (arith, length-without test xs)
+length-without {A} test (x ∷ xs) =
+    let choose : (b : Bool) → length (if b then xs else x ∷ without test xs) ≤ length (x ∷ xs) =
+    elim [ true ↦ omega arith | false ↦ omega (arith, length-without test xs) ]
+    in
+    choose (test x)
 
 -- what holds of each holds of the one that is found
 pub each_found : {A : Type 0} (P : A → Type 0) (test : A → Bool) (xs : List A) (y : A) → find test xs ≡ Some y → Each P xs → P y
 each_found P test [] y found h = absurd (none_some y found)
-each_found {A} P test (x ∷ xs) y found h = choose (test x) found
-  where
-    choose : (b : Bool) → (if b then Some x else find test xs) ≡ Some y → P y
-    choose true e = subst P (some_same x y e) h.0
-    choose false e = each_found P test xs y e h.1
+each_found {A} P test (x ∷ xs) y found h =
+    let choose : (b : Bool) → (if b then Some x else find test xs) ≡ Some y → P y =
+    elim [ true ↦ λ e. subst P (some_same x y e) h.0 | false ↦ λ e. each_found P test xs y e h.1 ]
+    in
+    choose (test x) found
 
 -- the one that is found stands to each other one as each two do
 found_others : {A : Type 0} (R : A → A → Type 0) (test : A → Bool) (xs : List A) (y : A) → ((a b : A) → R a b → R b a) → find test xs ≡ Some y
     → Pairs R xs → Each (R y) (without test xs)
 found_others R test [] y both found h = tt
-found_others {A} R test (x ∷ xs) y both found h = choose (test x) found
-  where
-    choose : (b : Bool) → (if b then Some x else find test xs) ≡ Some y → Each (R y) (if b then xs else x ∷ without test xs)
-    choose true e = let P : A → Type 0 = λ a. Each (R a) xs in subst P (some_same x y e) h.0
-    choose false e = (both x y (each_found (R x) test xs y e h.0), found_others R test xs y both e h.1)
+found_others {A} R test (x ∷ xs) y both found h =
+    let choose : (b : Bool) → (if b then Some x else find test xs) ≡ Some y → Each (R y) (if b then xs else x ∷ without test xs) =
+    elim [ true ↦ λ e. let P : A → Type 0 = λ a. Each (R a) xs in subst P (some_same x y e) h.0 | false ↦ λ e. (both x y (each_found (R x) test xs y e h.0), found_others R test xs y both e h.1) ]
+    in
+    choose (test x) found
 
 -- ---- the free track
 -- It passes, or none of so many does.
@@ -111,11 +111,11 @@ first_later test many k r fails (inr none) =
 
 first_is : (test : ℕ → Bool) (many k : ℕ) → IsFirst test many k (first_from test many k)
 first_is test zero k = inr (omega arith, λ j low high. absurd (omega (arith, low, high)))
-first_is test (suc many) k = choose (test k) refl
-  where
-    choose : (b : Bool) → test k ≡ b → IsFirst test (suc many) k (if b then k else first_from test many (k + 1))
-    choose true e = inl e
-    choose false e = first_later test many k (first_from test many (k + 1)) e (first_is test many (k + 1))
+first_is test (suc many) k =
+    let choose : (b : Bool) → test k ≡ b → IsFirst test (suc many) k (if b then k else first_from test many (k + 1)) =
+    elim [ true ↦ λ e. inl e | false ↦ λ e. first_later test many k (first_from test many (k + 1)) e (first_is test many (k + 1)) ]
+    in
+    choose (test k) refl
 
 abbrev is_below : ℕ → ℕ → Running → Bool
 is_below i m run = (run.node.0 == i) && nat_lt run.track m

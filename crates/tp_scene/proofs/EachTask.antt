@@ -27,7 +27,7 @@ use Rattle.tp_core.specs.Generations.{AreRuns, MayCome, world_after}
 use Rattle.tp_core.proofs.Counting.{home_in, life_in, home-with_life, is_run, steps_of-history}
 use Rattle.tp_core.proofs.Generations.{present_run}
 use Rattle.tp_core.proofs.Quiet.{quiet_seen}
-use Rattle.tp_scene.proofs.Lists.{one, same_some, none_some, counted-push, find-push, find-push_other, counted-without}
+use Rattle.tp_scene.proofs.Lists.{one, same_some, none_some, true_false, counted-push, find-push, find-push_other, counted-without}
 use Rattle.tp_scene.proofs.Lists.{counted-without_other, find-without_other, counted-found, found-counted}
 use Rattle.tp_scene.specs.declared.scene.Running.{Running}
 use Rattle.tp_scene.specs.declared.scene.Bar.{Bar}
@@ -49,18 +49,20 @@ lacking_rests k = choose (k == 0)
 
 none_runs : (t : ℕ) (tasks : List Task) → IsFalse (list_any (λ x. not (is_done x.life)) tasks) → is_running (life_in t tasks) ≡ false
 none_runs t [] h = refl
-none_runs t (x ∷ xs) h = choose (x.number == t) (x.life) h
-  where
-    choose : (b : Bool) (l : Life) → IsFalse (not (is_done l) || list_any (λ x. not (is_done x.life)) xs)
-        → is_running (option_map (λ x. x.life) (if b then Some (record x { life = l }) else find (λ x. x.number == t) xs)) ≡ false
-    choose true (life.Waiting k) e = refl
-    choose true life.Ready e = refl
-    choose true life.Running e = cc
-    choose true life.Done e = refl
-    choose false (life.Waiting k) e = cc
-    choose false life.Ready e = cc
-    choose false life.Running e = cc
-    choose false life.Done e = none_runs t xs e
+none_runs t (x ∷ xs) h =
+    let choose : (b : Bool) (l : Life) → (not (is_done l) || list_any (λ y. not (is_done y.life)) xs) ≡ false
+    → is_running (option_map (λ y. y.life) (if b then Some (record x { life = l }) else find (λ y. y.number == t) xs)) ≡ false =
+    elim [
+      | true ↦ elim [ life.Waiting k ↦ λ e. refl | life.Ready ↦ λ e. refl | life.Running ↦ λ e. absurd (true_false e) | life.Done ↦ λ e. refl ]
+      | false ↦ elim [
+        | life.Waiting k ↦ λ e. none_runs t xs (absurd (true_false e))
+        | life.Ready ↦ λ e. none_runs t xs (absurd (true_false e))
+        | life.Running ↦ λ e. none_runs t xs (absurd (true_false e))
+        | life.Done ↦ λ e. none_runs t xs e
+      ]
+    ]
+    in
+    choose (x.number == t) x.life h
 
 -- ---- all steps
 record IsRunOf (n : ℕ) (steps : List Step) (t : ℕ) (r : Running) : Type 0 where
@@ -162,10 +164,14 @@ runs_done n past u is h = record { once = λ t. once t (u.0 == t) refl; there = 
     once t true e =
         let same : u.0 ≡ t = eqb-true u.0 t e in
         let here : life_of t (world_after n past) ≡ Some life.Running = ap (λ x. life_of x (world_after n past)) (sym same) ∙ is in
-        left t e ∙ sym (ap (λ o. one (is_running o)) (life_in-with_life t u.0 (λ _. life.Done) (world_after n past).tasks ∙ rw (e, here) refl))
+        let done : life_of t (world_after n (Done u ∷ past)) ≡ Some life.Done =
+        life_in-with_life t u.0 (λ _. life.Done) (world_after n past).tasks ∙ rw (e, here) refl in
+        left t e ∙ sym (ap (λ o. one (is_running o)) done)
     once t false e =
+        let same : life_of t (world_after n (Done u ∷ past)) ≡ life_of t (world_after n past) =
+        life_in-with_life t u.0 (λ _. life.Done) (world_after n past).tasks ∙ rw e refl in
         counted-without_other (is_run_of t) (is_run_of u.0) (running n past) (other_number t u.0 e) ∙ h.once t
-        ∙ sym (ap (λ o. one (is_running o)) (life_in-with_life t u.0 (λ _. life.Done) (world_after n past).tasks ∙ rw e refl))
+        ∙ sym (ap (λ o. one (is_running o)) same)
 
     there : (t : ℕ) (r : Running) (b : Bool) → (u.0 == t) ≡ b → find (is_run_of t) (without (is_run_of u.0) (running n past)) ≡ Some r → IsRunOf n (Done u ∷ past) t r
     there t r true e found =

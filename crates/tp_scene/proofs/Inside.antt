@@ -65,11 +65,11 @@ edges s e less =
 
 total-le : (f : ℕ → ℕ) (a b : ℕ) → a ≤ b → total a f ≤ total b f
 total-le f a zero h = let e : a ≡ 0 = omega (arith, h) in rw e (omega arith)
-total-le f a (suc b) h = choose (a == suc b) refl
-  where
-    choose : (t : Bool) → (a == suc b) ≡ t → total a f ≤ total (suc b) f
-    choose true is = rw (eqb-true a (suc b) is) (omega arith)
-    choose false is = omega (arith, total-le f a b (grind (arith, nat_tests, is, h)))
+total-le f a (suc b) h =
+    let choose : (t : Bool) → (a == suc b) ≡ t → total a f ≤ total (suc b) f =
+        elim [ true ↦ λ is. rw (eqb-true a (suc b) is) (omega arith) | false ↦ λ is. omega (arith, total-le f a b (grind (arith, nat_tests, is, h))) ]
+    in
+    choose (a == suc b) refl
 
 lanes : (s : Scene) (i : ℕ) → s.nodes ≤ 8 → i < s.nodes → (1500 ≤ top_of s i) × (foot s i + 700 ≤ page_height s)
 unfolding top_of foot bottom page_height
@@ -91,11 +91,11 @@ tracks s i k less =
 -- ---- events
 before_newest-le : (test : Step → Bool) (steps : List Step) → length (before_newest test steps) ≤ length steps - 1
 before_newest-le test [] = omega arith
-before_newest-le test (s ∷ past) = choose (test s)
-  where
-    choose : (b : Bool) → length (if b then past else before_newest test past) ≤ length (s ∷ past) - 1
-    choose true = omega arith
-    choose false = omega (arith, before_newest-le test past)
+before_newest-le test (s ∷ past) =
+    let choose : (b : Bool) → length (if b then past else before_newest test past) ≤ length (s ∷ past) - 1 =
+        elim [ true ↦ omega arith | false ↦ omega (arith, before_newest-le test past) ]
+    in
+    choose (test s)
 
 abbrev IsBarBefore : ℕ → Bar → Type 0
 IsBarBefore e bar = (bar.run.from < e) × (bar.to < e)
@@ -106,76 +106,67 @@ IsArrowBefore e arrow = (arrow.sending.sent < e) × (arrow.received < e)
 abbrev IsEndBefore : ℕ → End → Type 0
 IsEndBefore e end = (end.since < e) × (end.judged < e)
 
-later : {A : Type 0} (P : ℕ → A → Type 0) (e : ℕ) (xs : List A) → ((x : A) → P e x → P (e + 1) x) → Each (P e) xs → Each (P (e + 1)) xs
-later P e xs grows h = each_map (P e) (P (e + 1)) xs grows h
+later : {A : Type 0} (P : ℕ → A → Type 0) (e : ℕ) (xs : List A) → ((x : A) → P e x → P (suc e) x) → Each (P e) xs → Each (P (suc e)) xs
+later P e xs grows h = each_map (P e) (P (suc e)) xs grows h
 
 runs_before : (n : ℕ) (steps : List Step) → Each (λ (r : Running). r.from < length steps) (running n steps)
 runs_before n [] = tt
 runs_before n (Begin t ∷ past) =
-    each_push (λ (r : Running). r.from < length past + 1) (running n past) (begun n past (running n past) t.0)
+    each_push (λ (r : Running). r.from < suc (length past)) (running n past) (begun n past (running n past) t.0)
     (later (λ e (r : Running). r.from < e) (length past) (running n past) (λ r l. omega (arith, l)) (runs_before n past)) (omega arith)
 runs_before n (Done t ∷ past) =
-    each_without (λ (r : Running). r.from < length past + 1) (is_run_of t.0) (running n past)
+    each_without (λ (r : Running). r.from < suc (length past)) (is_run_of t.0) (running n past)
     (later (λ e (r : Running). r.from < e) (length past) (running n past) (λ r l. omega (arith, l)) (runs_before n past))
 runs_before n (s ∷ past) = later (λ e (r : Running). r.from < e) (length past) (running n past) (λ r l. omega (arith, l)) (runs_before n past)
 
 bars_before : (n : ℕ) (steps : List Step) → Each (IsBarBefore (length steps)) (bars n steps)
 bars_before n [] = tt
-bars_before n (Done t ∷ past) = choose (find (is_run_of t.0) (running n past)) refl
-  where
-    old : Each (IsBarBefore (length past + 1)) (bars n past)
-    old = later IsBarBefore (length past) (bars n past) (λ b h. (omega (arith, h.0), omega (arith, h.1))) (bars_before n past)
-
-    choose : (found : Option Running) → find (is_run_of t.0) (running n past) ≡ found → Each (IsBarBefore (length past + 1)) (bars n past ++ bar_of found (length past))
-    choose None e = rw (append-nil (bars n past)) old
-    choose (Some run) e =
-        let before = each_found (λ (r : Running). r.from < length past) (is_run_of t.0) (running n past) run e (runs_before n past) in
-        each_push (IsBarBefore (length past + 1)) (bars n past) (record { run = run; to = length past }) old (omega (arith, before), omega arith)
+bars_before n (Done t ∷ past) =
+    let old : Each (IsBarBefore (suc (length past))) (bars n past) = later IsBarBefore (length past) (bars n past) (λ b h. (omega (arith, h.0), omega (arith, h.1))) (bars_before n past) in
+    let choose : (found : Option Running) → find (is_run_of t.0) (running n past) ≡ found → Each (IsBarBefore (suc (length past))) (bars n past ++ bar_of found (length past)) =
+        elim [ None ↦ λ e. rw (append-nil (bars n past)) old | Some run ↦ λ e. let before = each_found (λ (r : Running). r.from < length past) (is_run_of t.0) (running n past) run e (runs_before n past) in
+        each_push (IsBarBefore (suc (length past))) (bars n past) (record { run = run; to = length past }) old (omega (arith, before), omega arith) ]
+    in
+    choose (find (is_run_of t.0) (running n past)) refl
 bars_before n (s ∷ past) = later IsBarBefore (length past) (bars n past) (λ b h. (omega (arith, h.0), omega (arith, h.1))) (bars_before n past)
 
 sent_before : (steps : List Step) → Each (λ (x : Sending). x.sent < length steps) (under_way steps)
 sent_before [] = tt
 sent_before (Send i j m g ∷ past) =
-    each_push (λ (x : Sending). x.sent < length past + 1) (under_way past) (record { message = m; from = i; to = j; sent = length past })
+    each_push (λ (x : Sending). x.sent < suc (length past)) (under_way past) (record { message = m; from = i; to = j; sent = length past })
     (later (λ e (x : Sending). x.sent < e) (length past) (under_way past) (λ x l. omega (arith, l)) (sent_before past)) (omega arith)
 sent_before (Recv j m g ∷ past) =
-    each_without (λ (x : Sending). x.sent < length past + 1) (is_sending_of m.0) (under_way past)
+    each_without (λ (x : Sending). x.sent < suc (length past)) (is_sending_of m.0) (under_way past)
     (later (λ e (x : Sending). x.sent < e) (length past) (under_way past) (λ x l. omega (arith, l)) (sent_before past))
 sent_before (s ∷ past) = later (λ e (x : Sending). x.sent < e) (length past) (under_way past) (λ x l. omega (arith, l)) (sent_before past)
 
 arrows_before : (steps : List Step) → Each (IsArrowBefore (length steps)) (arrows steps)
 arrows_before [] = tt
-arrows_before (Recv j m g ∷ past) = choose (find (is_sending_of m.0) (under_way past)) refl
-  where
-    old : Each (IsArrowBefore (length past + 1)) (arrows past)
-    old = later IsArrowBefore (length past) (arrows past) (λ a h. (omega (arith, h.0), omega (arith, h.1))) (arrows_before past)
-
-    choose : (found : Option Sending) → find (is_sending_of m.0) (under_way past) ≡ found → Each (IsArrowBefore (length past + 1)) (arrows past ++ arrow_of found (length past))
-    choose None e = rw (append-nil (arrows past)) old
-    choose (Some x) e =
-        let before = each_found (λ (y : Sending). y.sent < length past) (is_sending_of m.0) (under_way past) x e (sent_before past) in
-        each_push (IsArrowBefore (length past + 1)) (arrows past) (record { sending = x; received = length past }) old (omega (arith, before), omega arith)
+arrows_before (Recv j m g ∷ past) =
+    let old : Each (IsArrowBefore (suc (length past))) (arrows past) = later IsArrowBefore (length past) (arrows past) (λ a h. (omega (arith, h.0), omega (arith, h.1))) (arrows_before past) in
+    let choose : (found : Option Sending) → find (is_sending_of m.0) (under_way past) ≡ found → Each (IsArrowBefore (suc (length past))) (arrows past ++ arrow_of found (length past)) =
+        elim [ None ↦ λ e. rw (append-nil (arrows past)) old | Some x ↦ λ e. let before = each_found (λ (y : Sending). y.sent < length past) (is_sending_of m.0) (under_way past) x e (sent_before past) in
+        each_push (IsArrowBefore (suc (length past))) (arrows past) (record { sending = x; received = length past }) old (omega (arith, before), omega arith) ]
+    in
+    choose (find (is_sending_of m.0) (under_way past)) refl
 arrows_before (s ∷ past) = later IsArrowBefore (length past) (arrows past) (λ a h. (omega (arith, h.0), omega (arith, h.1))) (arrows_before past)
 
 seams_before : (steps : List Step) → Each (λ (x : Seam). x.at < length steps) (seams steps)
 seams_before [] = tt
 seams_before (Reopen ∷ past) =
-    each_push (λ (x : Seam). x.at < length past + 1) (seams past) (record { generation = record { 0 = generation past + 1 }; at = length past })
+    each_push (λ (x : Seam). x.at < suc (length past)) (seams past) (record { generation = record { 0 = generation past + 1 }; at = length past })
     (later (λ e (x : Seam). x.at < e) (length past) (seams past) (λ x l. omega (arith, l)) (seams_before past)) (omega arith)
 seams_before (s ∷ past) = later (λ e (x : Seam). x.at < e) (length past) (seams past) (λ x l. omega (arith, l)) (seams_before past)
 
 ends_before : (n : ℕ) (steps : List Step) → Each (IsEndBefore (length steps)) (ends n steps)
 ends_before n [] = tt
-ends_before n (Judge ∷ past) = choose (judgement n (present past))
-  where
-    old : Each (IsEndBefore (length past + 1)) (ends n past)
-    old = later IsEndBefore (length past) (ends n past) (λ x h. (omega (arith, h.0), omega (arith, h.1))) (ends_before n past)
-
-    choose : (o : Option ℕ) → Each (IsEndBefore (length past + 1)) (ends n past ++ end_of o past)
-    choose None = rw (append-nil (ends n past)) old
-    choose (Some w) =
-        each_push (IsEndBefore (length past + 1)) (ends n past) (record { wave = w; since = gave 0 (visit 0 past); judged = length past }) old
-        (omega (arith, before_newest-le (is_give 0) (visit 0 past), before_newest-le (is_give 0) past), omega arith)
+ends_before n (Judge ∷ past) =
+    let old : Each (IsEndBefore (suc (length past))) (ends n past) = later IsEndBefore (length past) (ends n past) (λ x h. (omega (arith, h.0), omega (arith, h.1))) (ends_before n past) in
+    let choose : (o : Option ℕ) → Each (IsEndBefore (suc (length past))) (ends n past ++ end_of o past) =
+        elim [ None ↦ rw (append-nil (ends n past)) old | Some w ↦ each_push (IsEndBefore (suc (length past))) (ends n past) (record { wave = w; since = gave 0 (visit 0 past); judged = length past }) old
+        (omega (arith, before_newest-le (is_give 0) (visit 0 past), before_newest-le (is_give 0) past), omega arith) ]
+    in
+    choose (judgement n (present past))
 ends_before n (s ∷ past) = later IsEndBefore (length past) (ends n past) (λ x h. (omega (arith, h.0), omega (arith, h.1))) (ends_before n past)
 
 -- the places of eight nodes
@@ -188,18 +179,15 @@ IsCutBefore e c = Each (λ g. g < e) c.gives
 
 cuts_before : (n : ℕ) (steps : List Step) → Each (IsCutBefore (length steps)) (cuts n steps)
 cuts_before n [] = tt
-cuts_before n (Give i ∷ past) = choose (i.0 == 0)
-  where
-    old : Each (IsCutBefore (length past + 1)) (cuts n past)
-    old = later IsCutBefore (length past) (cuts n past) (λ c h. each_map (λ g. g < length past) (λ g. g < length past + 1) c.gives (λ g l. omega (arith, l)) h) (cuts_before n past)
-
-    choose : (b : Bool) → Each (IsCutBefore (length past + 1)) (if b then cuts n past ++ cut n (Give i ∷ past) ∷ [] else cuts n past)
-    choose true =
-        each_push (IsCutBefore (length past + 1)) (cuts n past) (cut n (Give i ∷ past)) old
-        (all_places (length past + 1) (λ j. gave j (Give i ∷ past)) (λ j. omega (arith, before_newest-le (is_give j) (Give i ∷ past))) (range_with_len 0 8))
-    choose false = old
+cuts_before n (Give i ∷ past) =
+    let old : Each (IsCutBefore (suc (length past))) (cuts n past) = later IsCutBefore (length past) (cuts n past) (λ c h. each_map (λ g. g < length past) (λ g. g < suc (length past)) c.gives (λ g l. omega (arith, l)) h) (cuts_before n past) in
+    let choose : (b : Bool) → Each (IsCutBefore (suc (length past))) (if b then cuts n past ++ cut n (Give i ∷ past) ∷ [] else cuts n past) =
+        elim [ true ↦ each_push (IsCutBefore (suc (length past))) (cuts n past) (cut n (Give i ∷ past)) old
+        (all_places (suc (length past)) (λ j. gave j (Give i ∷ past)) (λ j. omega (arith, before_newest-le (is_give j) (Give i ∷ past))) (range_with_len 0 8)) | false ↦ old ]
+    in
+    choose (i.0 == 0)
 cuts_before n (s ∷ past) =
-    later IsCutBefore (length past) (cuts n past) (λ c h. each_map (λ g. g < length past) (λ g. g < length past + 1) c.gives (λ g l. omega (arith, l)) h) (cuts_before n past)
+    later IsCutBefore (length past) (cuts n past) (λ c h. each_map (λ g. g < length past) (λ g. g < suc (length past)) c.gives (λ g l. omega (arith, l)) h) (cuts_before n past)
 
 -- ---- nodes and tracks
 home_there : (n : ℕ) (past : List Step) (t : ℕ) → AreRuns n past → life_of t (world_after n past) ≡ Some life.Ready → home_of t (world_after n past) < n
@@ -251,15 +239,14 @@ bars_at n [] h = tt
 bars_at n (Begin t ∷ past) h =
     each_map (IsBarAt n past) (IsBarAt n (Begin t ∷ past)) (bars n past)
     (λ b l. (l.0, omega (arith, l.1, row-grows b.run.node.0 (begun n past (running n past) t.0) (rows n b.run.node.0 past)))) (bars_at n past h.1)
-bars_at n (Done t ∷ past) h = choose (find (is_run_of t.0) (running n past)) refl
-  where
-    choose : (found : Option Running) → find (is_run_of t.0) (running n past) ≡ found → Each (IsBarAt n past) (bars n past ++ bar_of found (length past))
-    choose None e = rw (append-nil (bars n past)) (bars_at n past h.1)
-    choose (Some run) e =
-        each_push (IsBarAt n past) (bars n past) (record { run = run; to = length past }) (bars_at n past h.1) (
+bars_at n (Done t ∷ past) h =
+    let choose : (found : Option Running) → find (is_run_of t.0) (running n past) ≡ found → Each (IsBarAt n past) (bars n past ++ bar_of found (length past)) =
+        elim [ None ↦ λ e. rw (append-nil (bars n past)) (bars_at n past h.1) | Some run ↦ λ e. each_push (IsBarAt n past) (bars n past) (record { run = run; to = length past }) (bars_at n past h.1) (
           each_found (λ (r : Running). r.node.0 < n) (is_run_of t.0) (running n past) run e (runs_at n past h.1),
           each_found (IsInRow n past) (is_run_of t.0) (running n past) run e (runs_in n past),
-        )
+        ) ]
+    in
+    choose (find (is_run_of t.0) (running n past)) refl
 bars_at n (s ∷ past) h = bars_at n past h.1
 
 abbrev IsSentAt : ℕ → Sending → Type 0
@@ -275,24 +262,22 @@ sent_at n (s ∷ past) h = sent_at n past h.1
 
 arrows_at : (n : ℕ) (steps : List Step) → AreRuns n steps → Each (λ (a : Arrow). IsSentAt n a.sending) (arrows steps)
 arrows_at n [] h = tt
-arrows_at n (Recv j m g ∷ past) h = choose (find (is_sending_of m.0) (under_way past)) refl
-  where
-    choose : (found : Option Sending) → find (is_sending_of m.0) (under_way past) ≡ found → Each (λ (a : Arrow). IsSentAt n a.sending) (arrows past ++ arrow_of found (length past))
-    choose None e = rw (append-nil (arrows past)) (arrows_at n past h.1)
-    choose (Some x) e =
-        each_push (λ (a : Arrow). IsSentAt n a.sending) (arrows past) (record { sending = x; received = length past }) (arrows_at n past h.1)
-        (each_found (IsSentAt n) (is_sending_of m.0) (under_way past) x e (sent_at n past h.1))
+arrows_at n (Recv j m g ∷ past) h =
+    let choose : (found : Option Sending) → find (is_sending_of m.0) (under_way past) ≡ found → Each (λ (a : Arrow). IsSentAt n a.sending) (arrows past ++ arrow_of found (length past)) =
+        elim [ None ↦ λ e. rw (append-nil (arrows past)) (arrows_at n past h.1) | Some x ↦ λ e. each_push (λ (a : Arrow). IsSentAt n a.sending) (arrows past) (record { sending = x; received = length past }) (arrows_at n past h.1)
+        (each_found (IsSentAt n) (is_sending_of m.0) (under_way past) x e (sent_at n past h.1)) ]
+    in
+    choose (find (is_sending_of m.0) (under_way past)) refl
 arrows_at n (s ∷ past) h = arrows_at n past h.1
 
 -- ---- pauses
 resting_before : (n i a : ℕ) (steps : List Step) → resting n i steps ≡ Some a → a < length steps
 resting_before n i a [] e = absurd (none_some a e)
-resting_before n i a (s ∷ past) e = choose (is_idle i (world_after n (s ∷ past))) (resting n i past) refl e
-  where
-    choose : (b : Bool) (o : Option ℕ) → resting n i past ≡ o → since_when b o (length past) ≡ Some a → a < length past + 1
-    choose true (Some c) is now = let before = resting_before n i c past is in let same = some_same c a now in omega (arith, before, same)
-    choose true None is now = let same = some_same (length past) a now in omega (arith, same)
-    choose false o is now = absurd (none_some a now)
+resting_before n i a (s ∷ past) e =
+    let choose : (b : Bool) (o : Option ℕ) → resting n i past ≡ o → since_when b o (length past) ≡ Some a → a < suc (length past) =
+        elim [ true ↦ λ (Some c) is now. let before = resting_before n i c past is in let same = some_same c a now in omega (arith, before, same) | true ↦ λ None is now. let same = some_same (length past) a now in omega (arith, same) | false ↦ λ o is now. absurd (none_some a now) ]
+    in
+    choose (is_idle i (world_after n (s ∷ past))) (resting n i past) refl e
 
 abbrev IsPauseIn : ℕ → ℕ → Pause → Type 0
 IsPauseIn n e pause = (pause.node.0 < n) × (pause.from < e) × (pause.to ≤ e)
@@ -305,21 +290,21 @@ each_append : {A : Type 0} (P : A → Type 0) (xs ys : List A) → Each P xs →
 each_append P [] ys h k = k
 each_append P (x ∷ xs) ys h k = (h.0, each_append P xs ys h.1 k)
 
-ended_in : (n i : ℕ) (past : List Step) (b : Bool) → i < n → Each (IsPauseIn n (length past + 1)) (ended_pause b i (resting n i past) (length past))
+ended_in : (n i : ℕ) (past : List Step) (b : Bool) → i < n → Each (IsPauseIn n (suc (length past))) (ended_pause b i (resting n i past) (length past))
 ended_in n i past true less = tt
 ended_in n i past false less =
-    one_pause n i (length past + 1) (length past) (resting n i past) less (omega arith) (λ a e. omega (arith, resting_before n i a past e))
+    one_pause n i (suc (length past)) (length past) (resting n i past) less (omega arith) (λ a e. omega (arith, resting_before n i a past e))
 
-pauses_step : (n k : ℕ) (s : Step) (past : List Step) → k ≤ n → Each (IsPauseIn n (length past + 1)) (pauses_before n k s past)
+pauses_step : (n k : ℕ) (s : Step) (past : List Step) → k ≤ n → Each (IsPauseIn n (suc (length past))) (pauses_before n k s past)
 pauses_step n zero s past fits = tt
 pauses_step n (suc k) s past fits =
-    each_append (IsPauseIn n (length past + 1)) (pauses_before n k s past) (pause_before n k s past) (pauses_step n k s past (omega (arith, fits)))
+    each_append (IsPauseIn n (suc (length past))) (pauses_before n k s past) (pause_before n k s past) (pauses_step n k s past (omega (arith, fits)))
     (ended_in n k past (is_idle k (world_after n (s ∷ past))) (omega (arith, fits)))
 
 pauses_in : (n : ℕ) (steps : List Step) → Each (IsPauseIn n (length steps)) (pauses n steps)
 pauses_in n [] = tt
 pauses_in n (s ∷ past) =
-    each_append (IsPauseIn n (length past + 1)) (pauses n past) (pauses_before n n s past)
+    each_append (IsPauseIn n (suc (length past))) (pauses n past) (pauses_before n n s past)
     (later (IsPauseIn n) (length past) (pauses n past) (λ p h. (h.0, omega (arith, h.1), omega (arith, h.2))) (pauses_in n past))
     (pauses_step n n s past (omega arith))
 
@@ -337,7 +322,10 @@ rows_there n steps s h i less = h.rows i less
 abbrev IsThereBy : Scene → ℕ → ℕ → (ℕ → ℕ) → Running → Type 0
 IsThereBy s e n row run = (run.from < e) × (run.node.0 < n) × (run.track < row run.node.0)
 
-run_there : (n : ℕ) (steps : List Step) (s : Scene) → n ≤ 8 → IsSceneOf n steps s → (run : Running) → run.from < length steps → run.node.0 < n
+run_drawn : {A : Type 0} (xs : List A) (P : A → Type 0) (ys : List A) → Each P ys → xs ≡ ys → All P xs
+drawn {A} xs P ys h is = let Q : List A → Type 0 = λ l. All P l in subst Q (sym is) (each_all P ys h)
+
+there : (n : ℕ) (steps : List Step) (s : Scene) → n ≤ 8 → IsSceneOf n steps s → (run : Running) → run.from < length steps → run.node.0 < n
     → run.track < rows n run.node.0 steps → IsRunThere s run
 run_there n steps s few h run from node track =
     (omega (arith, from, h.events), omega (arith, node, h.nodes), omega (arith, track, rows_there n steps s h run.node.0 (omega (arith, node, few))))
@@ -348,34 +336,34 @@ each_both P Q S (x ∷ xs) f h k = (f x h.0 k.0, each_both P Q S xs f h.1 k.1)
 
 there : (n : ℕ) (steps : List Step) (s : Scene) → n ≤ 8 → AreRuns n steps → IsSceneOf n steps s → AreThere s
 there n steps s few runs h = record {
-  bars = rw h.bars (each_all (λ (bar : Bar). IsRunThere s bar.run × (bar.to < s.events)) (bars n steps)
+  bars = drawn s.bars.items (λ (bar : Bar). IsRunThere s bar.run × (bar.to < s.events)) (bars n steps)
       (each_both (IsBarBefore (length steps)) (IsBarAt n steps) (λ (bar : Bar). IsRunThere s bar.run × (bar.to < s.events)) (bars n steps)
-      (λ b before at. (run_there n steps s few h b.run before.0 at.0 at.1, omega (arith, before.1, h.events))) (bars_before n steps) (bars_at n steps runs)));
-  running = rw h.running (each_all (λ (run : Running). IsRunThere s run) (running n steps)
+      (λ b before at. (run_there n steps s few h b.run before.0 at.0 at.1, omega (arith, before.1, h.events))) (bars_before n steps) (bars_at n steps runs)) h.bars;
+  running = drawn s.running.items (λ (run : Running). IsRunThere s run) (running n steps)
       (each_both (λ (r : Running). r.from < length steps) (λ (r : Running). (r.node.0 < n) × (r.track < rows n r.node.0 steps)) (λ (run : Running). IsRunThere s run) (running n steps)
       (λ r before at. run_there n steps s few h r before at.0 at.1) (runs_before n steps)
       (each_both (λ (r : Running). r.node.0 < n) (IsInRow n steps) (λ (r : Running). (r.node.0 < n) × (r.track < rows n r.node.0 steps)) (running n steps)
-      (λ r node track. (node, track)) (runs_at n steps runs) (runs_in n steps))));
-  arrows = rw h.arrows (each_all (λ (a : Arrow). IsSendingThere s a.sending × (a.received < s.events)) (arrows steps)
+      (λ r node track. (node, track)) (runs_at n steps runs) (runs_in n steps))) h.running;
+  arrows = drawn s.arrows.items (λ (a : Arrow). IsSendingThere s a.sending × (a.received < s.events)) (arrows steps)
       (each_both (IsArrowBefore (length steps)) (λ (a : Arrow). IsSentAt n a.sending) (λ (a : Arrow). IsSendingThere s a.sending × (a.received < s.events)) (arrows steps)
       (λ a before at. ((omega (arith, before.0, h.events), omega (arith, at.0, h.nodes), omega (arith, at.1, h.nodes)), omega (arith, before.1, h.events)))
-      (arrows_before steps) (arrows_at n steps runs)));
-  under_way = rw h.under_way (each_all (λ (x : Sending). IsSendingThere s x) (under_way steps)
+      (arrows_before steps) (arrows_at n steps runs)) h.arrows;
+  under_way = drawn s.under_way.items (λ (x : Sending). IsSendingThere s x) (under_way steps)
       (each_both (λ (x : Sending). x.sent < length steps) (IsSentAt n) (λ (x : Sending). IsSendingThere s x) (under_way steps)
-      (λ x before at. (omega (arith, before, h.events), omega (arith, at.0, h.nodes), omega (arith, at.1, h.nodes))) (sent_before steps) (sent_at n steps runs)));
-  cuts = rw h.cuts (each_all (λ (c : Cut). All (λ g. g < s.events) c.gives) (cuts n steps)
+      (λ x before at. (omega (arith, before, h.events), omega (arith, at.0, h.nodes), omega (arith, at.1, h.nodes))) (sent_before steps) (sent_at n steps runs)) h.under_way;
+  cuts = drawn s.cuts.items (λ (c : Cut). All (λ g. g < s.events) c.gives) (cuts n steps)
       (each_map (IsCutBefore (length steps)) (λ (c : Cut). All (λ g. g < s.events) c.gives) (cuts n steps)
       (λ c before. each_all (λ g. g < s.events) c.gives (each_map (λ g. g < length steps) (λ g. g < s.events) c.gives (λ g l. omega (arith, l, h.events)) before))
-      (cuts_before n steps)));
-  pauses = rw h.pauses (each_all (λ (p : Pause). (p.node.0 < s.nodes) × (p.from < s.events) × (p.to ≤ s.events)) (pauses n steps ++ last_pauses n steps)
+      (cuts_before n steps)) h.cuts;
+  pauses = drawn s.pauses.items (λ (p : Pause). (p.node.0 < s.nodes) × (p.from < s.events) × (p.to ≤ s.events)) (pauses n steps ++ last_pauses n steps)
       (each_map (IsPauseIn n (length steps)) (λ (p : Pause). (p.node.0 < s.nodes) × (p.from < s.events) × (p.to ≤ s.events)) (pauses n steps ++ last_pauses n steps)
       (λ p inside. (omega (arith, inside.0, h.nodes), omega (arith, inside.1, h.events), omega (arith, inside.2, h.events)))
-      (each_append (IsPauseIn n (length steps)) (pauses n steps) (last_pauses n steps) (pauses_in n steps) (last_in n n steps (omega arith)))));
-  seams = rw h.seams (each_all (λ (x : Seam). x.at < s.events) (seams steps)
-      (each_map (λ (x : Seam). x.at < length steps) (λ (x : Seam). x.at < s.events) (seams steps) (λ x l. omega (arith, l, h.events)) (seams_before steps)));
-  ends = rw h.ends (each_all (λ (x : End). (x.since < s.events) × (x.judged < s.events)) (ends n steps)
+      (each_append (IsPauseIn n (length steps)) (pauses n steps) (last_pauses n steps) (pauses_in n steps) (last_in n n steps (omega arith)))) h.pauses;
+  seams = drawn s.seams.items (λ (x : Seam). x.at < s.events) (seams steps)
+      (each_map (λ (x : Seam). x.at < length steps) (λ (x : Seam). x.at < s.events) (seams steps) (λ x l. omega (arith, l, h.events)) (seams_before steps)) h.seams;
+  ends = drawn s.ends.items (λ (x : End). (x.since < s.events) × (x.judged < s.events)) (ends n steps)
       (each_map (IsEndBefore (length steps)) (λ (x : End). (x.since < s.events) × (x.judged < s.events)) (ends n steps)
-      (λ x l. (omega (arith, l.0, h.events), omega (arith, l.1, h.events))) (ends_before n steps)));
+      (λ x l. (omega (arith, l.0, h.events), omega (arith, l.1, h.events))) (ends_before n steps)) h.ends;
 }
 
 pub all_inside : AllIsInside

@@ -1,4 +1,5 @@
 -- Steps of loops, over plain lists and numbers.
+use Rattle.std.proofs.Common.{◌≤◌, set}
 use Rattle.std.proofs.Common.{◌≡◌, ℕ, zero, suc, ◌+◌, ◌-◌, ◌%◌, ◌<◌, Bool, true, false, List, [], ◌∷◌, ◌++◌, length, get_or, take, drop}
 use Rattle.std.proofs.Common.{refl, sym, ap, ◌∙◌, add-one, append_assoc, arith, rules, if◌then◌else◌}
 use Rattle.std.proofs.Math.Seq.{drop-cons, drop-length, take-length}
@@ -17,6 +18,11 @@ use Rattle.tp_scene.specs.Scene.{first_from}
 pub written_more : (f : ℕ → List ℕ) (k : ℕ) (x start old new : List ℕ) → old ≡ start ++ f k → new ≡ old ++ x → f (k + 1) ≡ f k ++ x
     → new ≡ start ++ f (k + 1)
 written_more f k x start old new before e more = e ∙ ap (λ l. l ++ x) before ∙ append_assoc start (f k) x ∙ ap (λ l. start ++ l) (sym more)
+
+pub set_past : (xs : List ℕ) (i v : ℕ) → length xs ≤ i → set xs i v ≡ xs
+set_past [] i v past = refl
+set_past (x ∷ xs) zero v past = absurd (omega (arith, past))
+set_past (x ∷ xs) (suc i) v past = ap (λ l. x ∷ l) (set_past xs i v (omega (arith, past)))
 
 pub total_more : (n : ℕ) (f : ℕ → ℕ) → total (n + 1) f ≡ total n f + f n
 total_more n f = rw add-one refl

@@ -49,10 +49,16 @@ sums_text cut =
     codes "wave " ++ decimal cut.sums.wave ++ codes ": " ++ decimal cut.sums.sent ++ codes " sent, " ++ decimal cut.sums.received
     ++ codes " received"
 
-unfoldable pub cut_text : Scene → Cut → List ℕ
-cut_text s cut =
+unfoldable pub line_text : Scene → Cut → List ℕ
+line_text s cut =
     codes "<polyline class=\"" ++ wave_class s cut ++ codes "\" points=\"" ++ crossings s cut s.nodes ++ codes "\"><title>" ++ sums_text cut
-    ++ codes "</title></polyline>\n" ++ (if is_detailed (detail_of s.events) then rings s cut s.nodes else [])
+    ++ codes "</title></polyline>\n"
+
+unfoldable pub rings_text : Scene → Cut → List ℕ
+rings_text s cut = if is_detailed (detail_of s.events) then rings s cut s.nodes else []
+
+unfoldable pub cut_text : Scene → Cut → List ℕ
+cut_text s cut = line_text s cut ++ rings_text s cut
 
 -- the ground from the end of the wave that is named to the judgement
 unfoldable pub over : Scene → End → Area

@@ -41,12 +41,13 @@ unfoldable pub has_number : Scene → Running → Area → Bool
 has_number s run where_it_is =
     is_detailed (detail_of s.events) && nat_le (length (decimal run.task.0) * 70 + 40) where_it_is.width
 
-unfoldable pub number_text : Scene → Running → Area → List ℕ
-number_text s run where_it_is =
-    if has_number s run where_it_is
-    then codes "<text class=\"number\" x=\"" ++ tenths (where_it_is.corner.x + where_it_is.width / 2) ++ codes "\" y=\""
+abbrev pub inside_text : Running → Area → List ℕ
+inside_text run where_it_is =
+    codes "<text class=\"number\" x=\"" ++ tenths (where_it_is.corner.x + where_it_is.width / 2) ++ codes "\" y=\""
     ++ tenths (where_it_is.corner.y + where_it_is.height - 40) ++ codes "\">" ++ decimal run.task.0 ++ codes "</text>\n"
-    else []
+
+unfoldable pub number_text : Scene → Running → Area → List ℕ
+number_text s run where_it_is = if has_number s run where_it_is then inside_text run where_it_is else []
 
 unfoldable pub bar_text : Scene → Bar → List ℕ
 bar_text s bar =
@@ -89,11 +90,11 @@ arrow_class s =
     then codes "arrow many"
     else (if is_fine (detail_of s.events) then codes "arrow" else codes "arrow some")
 
+abbrev pub spot_text : Point → List ℕ
+spot_text p = codes "<circle class=\"dot\" cx=\"" ++ tenths p.x ++ codes "\" cy=\"" ++ tenths p.y ++ codes "\" r=\"2.2\"/>\n"
+
 unfoldable pub dot_text : Scene → Point → List ℕ
-dot_text s p =
-    if is_fine (detail_of s.events)
-    then codes "<circle class=\"dot\" cx=\"" ++ tenths p.x ++ codes "\" cy=\"" ++ tenths p.y ++ codes "\" r=\"2.2\"/>\n"
-    else []
+dot_text s p = if is_fine (detail_of s.events) then spot_text p else []
 
 unfoldable pub sending_text : Sending → List ℕ
 sending_text sending =

@@ -1,6 +1,6 @@
 ghost use Rattle.std.specs.Prelude.{◌≡◌, ◌++◌, ◌<◌, ◌^◌, OnOk, slice_index, decimal};
 ghost use Rattle.std.specs.Prelude.{option_copied, length};
-ghost use Rattle.tp_scene.specs.Cuts.{tells, wave_class, cut_at, crossing, crossings, rings, ring_text, cut_text, sums_text, over};
+ghost use Rattle.tp_scene.specs.Cuts.{tells, wave_class, cut_at, crossing, crossings, rings, ring_text, cut_text, line_text, rings_text, sums_text, over};
 ghost use Rattle.tp_scene.specs.Cuts.{end_text, label, label_text, labels, has_room, needed, side, stands_right};
 
 use crate::layout::TOP;
@@ -40,7 +40,7 @@ fn wave_class(scene: &Scene, cut: &Cut) -> &'static [u8]
 #[tactic(auto, unfolding(crate::specs::Cuts::cut_at))]
 fn cut_at(scene: &Scene, cut: &Cut, node: u32) -> u64
     ensures value { result ≡ cut_at scene.now cut.now node }
-    ensures bound { result < 2 ^ 54 }
+    ensures bound { result < 2 ^ 55 }
 {
     scene.middle(place_of(&cut.gives, node))
 }
@@ -106,22 +106,39 @@ fn push_sums(out: &mut Vec<u8>, cut: &Cut) -> Result<(), AllocError>
     out.extend_from_slice(b" received")
 }
 
+/// The line of a wave.
+#[tactic(auto, unfolding(crate::specs::Cuts::line_text))]
+fn push_line(out: &mut Vec<u8>, scene: &Scene, cut: &Cut) -> Result<(), AllocError>
+    ensures { OnOk result (out.new.items ≡ out.old.items ++ line_text scene.now cut.now) }
+{
+    out.extend_from_slice(b"<polyline class=\"")?;
+    out.extend_from_slice(wave_class(scene, cut))?;
+    out.extend_from_slice(b"\" points=\"")?;
+    push_crossings(out, scene, cut)?;
+    out.extend_from_slice(b"\"><title>")?;
+    push_sums(out, cut)?;
+    out.extend_from_slice(b"</title></polyline>\n")?;
+    Ok(())
+}
+
+/// The rings of a wave, where there is room for them.
+#[tactic(auto, unfolding(crate::specs::Cuts::rings_text))]
+fn push_rings_where(out: &mut Vec<u8>, scene: &Scene, cut: &Cut) -> Result<(), AllocError>
+    ensures { OnOk result (out.new.items ≡ out.old.items ++ rings_text scene.now cut.now) }
+{
+    if scene.detail().is_detailed() {
+        return push_rings(out, scene, cut);
+    }
+    Ok(())
+}
+
 impl Mark for Cut {
     ghost text = { cut_text };
 
     #[tactic(auto, unfolding(crate::specs::Cuts::cut_text))]
     fn push(&self, scene: &Scene, out: &mut Vec<u8>) -> Result<(), AllocError> {
-        out.extend_from_slice(b"<polyline class=\"")?;
-        out.extend_from_slice(wave_class(scene, self))?;
-        out.extend_from_slice(b"\" points=\"")?;
-        push_crossings(out, scene, self)?;
-        out.extend_from_slice(b"\"><title>")?;
-        push_sums(out, self)?;
-        out.extend_from_slice(b"</title></polyline>\n")?;
-        if scene.detail().is_detailed() {
-            return push_rings(out, scene, self);
-        }
-        Ok(())
+        push_line(out, scene, self)?;
+        push_rings_where(out, scene, self)
     }
 }
 

@@ -2,7 +2,7 @@ ghost use Rattle.std.specs.Prelude.{◌≡◌, ◌++◌, ◌+◌, ◌*◌, ◌<�
 ghost use Rattle.tp_scene.specs.Pieces.{tenths};
 ghost use Rattle.tp_scene.specs.Layout.{middle, reach, foot, top_of};
 ghost use Rattle.tp_scene.specs.Marks.{run_area, run_text, number_text, has_number, bar_text, running_text, pause_text, arrow_text};
-ghost use Rattle.tp_scene.specs.Marks.{arrow_class, curve_text, dot_text, ends_of, sending_text, lost_text, seam_text};
+ghost use Rattle.tp_scene.specs.Marks.{arrow_class, curve_text, dot_text, spot_text, inside_text, ends_of, sending_text, lost_text, seam_text};
 
 use crate::layout::TOP;
 use crate::pieces::{Area, Mark, Point, push_area, push_count, push_point, push_tenths};
@@ -20,7 +20,9 @@ pub(crate) fn push_event(out: &mut Vec<u8>, label: &[u8], event: u32) -> Result<
 /// Where a task runs, up to a place on the page; at least a pixel wide.
 #[tactic(auto, unfolding(crate::specs::Marks::run_area))]
 fn run_area(scene: &Scene, run: &Running, to: u64) -> Area
-    ensures { result ≡ run_area scene.now run.now to }
+    requires { to < 2 ^ 59 }
+    ensures value { result ≡ run_area scene.now run.now to }
+    ensures bound { (result.corner.x < 2 ^ 60) × (result.corner.y < 2 ^ 60) × (result.width < 2 ^ 60) × (result.height < 2 ^ 60) }
 {
     let from = scene.middle(run.from);
     Area {
@@ -56,9 +58,17 @@ fn push_number(
     requires { (area.corner.x < 2 ^ 60) × (area.corner.y < 2 ^ 60) × (area.width < 2 ^ 60) × (area.height < 2 ^ 60) }
     ensures { OnOk result (out.new.items ≡ out.old.items ++ number_text scene.now run.now area) }
 {
-    if !has_number(scene, run, area) {
-        return Ok(());
+    if has_number(scene, run, area) {
+        return push_inside(out, run, area);
     }
+    Ok(())
+}
+
+/// The number of a task inside its bar.
+fn push_inside(out: &mut Vec<u8>, run: &Running, area: Area) -> Result<(), AllocError>
+    requires { (area.corner.x < 2 ^ 60) × (area.corner.y < 2 ^ 60) × (area.width < 2 ^ 60) × (area.height < 2 ^ 60) }
+    ensures { OnOk result (out.new.items ≡ out.old.items ++ inside_text run.now area) }
+{
     push_tenths(
         out,
         b"<text class=\"number\" x=\"",
@@ -189,9 +199,16 @@ fn arrow_class(scene: &Scene) -> &'static [u8]
 fn push_dot(out: &mut Vec<u8>, scene: &Scene, at: Point) -> Result<(), AllocError>
     ensures { OnOk result (out.new.items ≡ out.old.items ++ dot_text scene.now at) }
 {
-    if !scene.detail().is_fine() {
-        return Ok(());
+    if scene.detail().is_fine() {
+        return push_spot(out, at);
     }
+    Ok(())
+}
+
+/// A dot.
+fn push_spot(out: &mut Vec<u8>, at: Point) -> Result<(), AllocError>
+    ensures { OnOk result (out.new.items ≡ out.old.items ++ spot_text at) }
+{
     push_tenths(out, b"<circle class=\"dot\" cx=\"", at.x)?;
     push_tenths(out, b"\" cy=\"", at.y)?;
     out.extend_from_slice(b"\" r=\"2.2\"/>\n")

@@ -60,6 +60,7 @@ impl Sketch {
 
     /// What is drawn of so many steps.
     fn finish(self, events: u32) -> Result<Scene, AllocError>
+        requires { (n : ℕ) × (past : List Step) × Follows n past self }
         ensures { (n : ℕ) (past : List Step) → Follows n past self → events ≡ length past → IfOk result (IsSceneOf n past) }
     {
         let Sketch {

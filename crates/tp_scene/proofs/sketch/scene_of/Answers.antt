@@ -27,8 +27,13 @@ loop-step-preserved c =
 
 pub returns-in_err-take-clause-refused : goal.returns-in_err-take-clause-refused
 returns-in_err-take-clause-refused c =
-    refused_at c.args.nodes c.args.steps.now c.loop-step.step-index no_step _ c.loop-step-test.true c.loop-step.invariant.runs
-    (c.in_err-take.ensures.refused c.args.nodes (reverse (take c.loop-step.step-index c.args.steps.now)) c.loop-step.invariant.follows)
+    rw c.from_residual.ensures (refused_at c.args.nodes c.args.steps.now c.loop-step.step-index no_step _ c.loop-step-test.true c.loop-step.invariant.runs
+    (c.in_err-take.ensures.refused c.args.nodes (reverse (take c.loop-step.step-index c.args.steps.now)) c.loop-step.invariant.follows))
+
+pub finish-requires : goal.finish-requires
+finish-requires c =
+    let all = follows_all c.args.nodes c.args.steps.now c.loop-step.step-index c.loop-step.place c.loop-step.sketch (omega arith) (omega arith) c.loop-step.invariant in
+    (c.args.nodes, reverse c.args.steps.now, all.0)
 
 pub returns-clause-ok : goal.returns-clause-ok
 returns-clause-ok c =

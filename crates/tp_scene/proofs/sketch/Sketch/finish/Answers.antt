@@ -15,3 +15,6 @@ returns c = λ n past h at. record {
   ends = h.waves.ends;
   ended = h.waves.ended;
 }
+
+pub finish-requires : goal.finish-requires
+finish-requires c = (c.requires.0, c.requires.1, c.requires.2.lanes)
