@@ -32,9 +32,9 @@ pub fn run_pattern<P: Relation + Send + Sync, R: Threads + Wait + Sync>(
     requires { IsWithinLimits config }
     ensures row { IfOk result (λ run. run.row.items ≡
         row_at (P.relation table.now.pattern table.now.width) table.now.width iterations (table.now.steps - 1)) }
-    ensures outcome { IfOk result (λ run. IsOutcome config.nodes
+    ensures outcome { IfOk result (λ run. IsOutcome config.nodes config.workers
         (kernel_graph (P.relation table.now.pattern table.now.width) table.now.width table.now.steps iterations) run.outcome) }
-    ensures refused { IfErr result (IsPatternFault config.nodes
+    ensures refused { IfErr result (IsPatternFault config.nodes config.workers
         (kernel_graph (P.relation table.now.pattern table.now.width) table.now.width table.now.steps iterations)) }
 {
     let grid = Grid::new(table, iterations);
