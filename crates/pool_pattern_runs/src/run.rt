@@ -5,7 +5,7 @@ ghost use Rattle.pool_patterns.specs.Rows.{row_at};
 ghost use Rattle.tp_work.specs.Outcomes.{IsOutcome, IsWithinLimits};
 
 use crate::fault::PatternFault;
-use pool_patterns::{Grid, Relation, Table, last_row};
+use pool_patterns::{Grid, Relation, last_row};
 use std::alloc::Global;
 use std::sync::Wait;
 use std::thread::Threads;
@@ -20,26 +20,27 @@ pub struct PatternRun {
     pub outcome: Outcome,
 }
 
-/// The last row of a table's grid, with so many iterations of the kernel in each task, worked out by a pool of threads. `Run` with
-/// what [`run_pool`] answered where it was refused, and `Unmade` with its outcome where there was no memory for the row.
+/// The last row of a grid, worked out by a pool of threads. `Run` with what [`run_pool`] answered where it was refused, and
+/// `Unmade` with its outcome where there was no memory for the row.
 pub fn run_pattern<P: Relation + Send + Sync, R: Threads + Wait + Sync>(
     rt: &R,
     alloc: Global,
-    table: &Table<P>,
-    iterations: u64,
+    grid: &Grid<P>,
     config: Config,
 ) -> Result<PatternRun, PatternFault>
     requires { IsWithinLimits config }
     ensures row { IfOk result (λ run. run.row.items ≡
-        row_at (P.relation table.now.pattern table.now.width) table.now.width iterations (table.now.steps - 1)) }
+        row_at (P.relation grid.now.table.now.pattern grid.now.table.now.width) grid.now.table.now.width grid.now.iterations
+        (grid.now.table.now.steps - 1)) }
     ensures outcome { IfOk result (λ run. IsOutcome config.nodes config.workers
-        (kernel_graph (P.relation table.now.pattern table.now.width) table.now.width table.now.steps iterations) run.outcome) }
+        (kernel_graph (P.relation grid.now.table.now.pattern grid.now.table.now.width) grid.now.table.now.width
+        grid.now.table.now.steps grid.now.iterations) run.outcome) }
     ensures refused { IfErr result (IsPatternFault config.nodes config.workers
-        (kernel_graph (P.relation table.now.pattern table.now.width) table.now.width table.now.steps iterations)) }
+        (kernel_graph (P.relation grid.now.table.now.pattern grid.now.table.now.width) grid.now.table.now.width
+        grid.now.table.now.steps grid.now.iterations)) }
 {
-    let grid = Grid::new(table, iterations);
-    match run_pool(rt, alloc, grid, config, &OpenGate) {
-        Ok(outcome) => match last_row(alloc, &grid, &outcome.results) {
+    match run_pool(rt, alloc, *grid, config, &OpenGate) {
+        Ok(outcome) => match last_row(alloc, grid, &outcome.results) {
             Ok(row) => Ok(PatternRun { row, outcome }),
             Err(_) => Err(PatternFault::Unmade(outcome)),
         },
