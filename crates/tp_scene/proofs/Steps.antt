@@ -9,9 +9,6 @@ use Rattle.std.specs.Prelude.{Some, None, slice_get, Result, Ok, Err, is_ok, OnO
 use Rattle.std.specs.List.{find, flat_map, remove}
 use Rattle.tp_core.specs.Pool.{without}
 use Rattle.tp_wave.specs.Sums.{total}
-use Rattle.tp_scene.specs.declared.scene.Cut.{Cut}
-use Rattle.tp_scene.specs.declared.scene.Scene.{Scene}
-use Rattle.tp_scene.specs.Cuts.{label, label_at, labels}
 use Rattle.tp_scene.specs.Scene.{first_from}
 
 -- What is written behind what was written: one text, or a label and a text.
@@ -113,7 +110,3 @@ passes_all test xs over = (
   over.found ∙ ap (find test) (drop-length xs),
   over.left ∙ ap (λ l. take (length xs) xs ++ without test l) (drop-length xs) ∙ append-nil (take (length xs) xs) ∙ take-length xs,
 )
-
-pub labels_more : (s : Scene) (cuts : List Cut) (k : ℕ) (d : Cut) → k < length cuts
-    → labels s cuts (k + 1) ≡ labels s cuts k ++ label s (get_or cuts k d) (slice_get cuts (k + 2)) (k % 2)
-labels_more s cuts k d fits = rw add-one (ap (λ o. labels s cuts k ++ label_at s cuts o k) (slice_get-get_or cuts k d fits))
