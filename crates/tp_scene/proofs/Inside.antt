@@ -346,10 +346,7 @@ rows_there n steps s h i less = h.rows i less
 abbrev IsThereBy : Scene → ℕ → ℕ → (ℕ → ℕ) → Running → Type 0
 IsThereBy s e n row run = (run.from < e) × (run.node.0 < n) × (run.track < row run.node.0)
 
-run_drawn : {A : Type 0} (xs : List A) (P : A → Type 0) (ys : List A) → Each P ys → xs ≡ ys → All P xs
-drawn {A} xs P ys h is = let Q : List A → Type 0 = λ l. All P l in subst Q (sym is) (each_all P ys h)
-
-there : (n : ℕ) (steps : List Step) (s : Scene) → n ≤ 8 → IsSceneOf n steps s → (run : Running) → run.from < length steps → run.node.0 < n
+run_there : (n : ℕ) (steps : List Step) (s : Scene) → n ≤ 8 → IsSceneOf n steps s → (run : Running) → run.from < length steps → run.node.0 < n
     → run.track < rows n run.node.0 steps → IsRunThere s run
 run_there n steps s few h run from node track =
     (omega (arith, from, h.events), omega (arith, node, h.nodes), omega (arith, track, rows_there n steps s h run.node.0 (omega (arith, node, few))))
@@ -357,6 +354,9 @@ run_there n steps s few h run from node track =
 each_both : {A : Type 0} (P Q S : A → Type 0) (xs : List A) → ((x : A) → P x → Q x → S x) → Each P xs → Each Q xs → Each S xs
 each_both P Q S [] f h k = tt
 each_both P Q S (x ∷ xs) f h k = (f x h.0 k.0, each_both P Q S xs f h.1 k.1)
+
+drawn : {A : Type 0} (xs : List A) (P : A → Type 0) (ys : List A) → Each P ys → xs ≡ ys → All P xs
+drawn {A} xs P ys h is = let Q : List A → Type 0 = λ l. All P l in subst Q (sym is) (each_all P ys h)
 
 there : (n : ℕ) (steps : List Step) (s : Scene) → n ≤ 8 → AreRuns n steps → IsSceneOf n steps s → AreThere s
 there n steps s few runs h = record {

@@ -11,22 +11,14 @@ use Rattle.tp_core.specs.Pool.{without}
 use Rattle.tp_wave.specs.Sums.{total}
 use Rattle.tp_scene.specs.Scene.{first_from}
 
--- What is written behind what was written: one text, or a label and a text.
-pub behind : (o a b x y : List ℕ) → x ≡ o ++ a → y ≡ x ++ b → y ≡ o ++ (a ++ b)
-behind o a b x y before e = e ∙ ap (λ l. l ++ b) before ∙ append_assoc o a b
-
-pub behind_two : (o a l t x y : List ℕ) → x ≡ o ++ a → y ≡ x ++ (l ++ t) → y ≡ o ++ ((a ++ l) ++ t)
-behind_two o a l t x y before e =
-    e ∙ ap (λ z. z ++ (l ++ t)) before ∙ append_assoc o a (l ++ t) ∙ ap (λ z. o ++ z) (sym (append_assoc a l t))
-
 -- what the last call has written, where its result is returned as it is
 pub ok_items : {A E : Type 0} (r : Result A E) (old other new : List ℕ) → new ≡ (if is_ok r then old ++ other else old) → OnOk r (new ≡ old ++ other)
 ok_items (Ok x) old other new h = h
 ok_items (Err e) old other new h = tt
 
-pub then_ok : {A E P Q : Type 0} (r : Result A E) → (P → Q) → OnOk r P → OnOk r Q
-then_ok (Ok x) f h = f h
-then_ok (Err e) f h = h
+pub then_ok : {A E P Q : Type 0} (r : Result A E) → OnOk r P → (P → Q) → OnOk r Q
+then_ok (Ok x) h f = f h
+then_ok (Err e) h f = h
 
 -- what a loop over numbers has written, one number further
 pub written_more : (f : ℕ → List ℕ) (k : ℕ) (x start old new : List ℕ) → old ≡ start ++ f k → new ≡ old ++ x → f (k + 1) ≡ f k ++ x

@@ -1,11 +1,10 @@
-use Rattle.std.proofs.Common.{refl, ◌≡◌}
-use Rattle.tp_scene.proofs.Steps.{behind, behind_two, ok_items, then_ok}
+use Rattle.std.proofs.Common.{append_assoc, ◌∙◌}
+use Rattle.tp_scene.proofs.Steps.{ok_items, then_ok}
 use Rattle.tp_scene.specs.Marks.{inside_text}
 use Rattle.tp_scene.proofs.marks.push_inside.Goals as goal
 
 pub returns : goal.returns
 returns c =
-    then_ok c.extend_from_slice.result
-    (behind _ _ _ _ _ (behind_two _ _ _ _ _ _ (behind_two _ _ _ _ _ _ c.in_ok-push_tenths.ensures
-    (rw c.saturating_sub.ensures at c.in_ok-push_tenths-2.ensures)) c.in_ok-push_count.ensures))
-    (ok_items c.extend_from_slice.result _ _ _ c.extend_from_slice.ensures.items)
+    let down = rw c.saturating_sub.ensures at c.in_ok-push_tenths-2.ensures in
+    then_ok c.extend_from_slice.result (ok_items c.extend_from_slice.result _ _ _ c.extend_from_slice.ensures.items)
+    (λ e. e ∙ simp (c.in_ok-push_count.ensures, down, c.in_ok-push_tenths.ensures, append_assoc))

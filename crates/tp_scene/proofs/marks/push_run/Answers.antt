@@ -1,11 +1,10 @@
-use Rattle.std.proofs.Common.{refl, ◌≡◌}
-use Rattle.tp_scene.proofs.Steps.{behind, behind_two, ok_items, then_ok}
+use Rattle.std.proofs.Common.{append_assoc, ◌∙◌}
+use Rattle.tp_scene.proofs.Steps.{ok_items, then_ok}
 use Rattle.tp_scene.specs.Marks.{run_text}
 use Rattle.tp_scene.proofs.marks.push_run.Goals as goal
 
 pub returns : goal.returns
 unfolding run_text
 returns c =
-    then_ok c.push_event.result
-    (behind_two _ _ _ _ _ _ (behind_two _ _ _ _ _ _ (behind _ _ _ _ _ (behind _ _ _ _ _ c.in_ok-push_count.ensures c.in_ok-extend_from_slice.ensures.items)
-    c.in_ok-push_area.ensures) c.in_ok-push_count-2.ensures)) c.push_event.ensures
+    then_ok c.push_event.result c.push_event.ensures
+    (λ e. e ∙ simp (c.in_ok-push_count-2.ensures, c.in_ok-push_area.ensures, c.in_ok-extend_from_slice.ensures.items, c.in_ok-push_count.ensures, append_assoc))

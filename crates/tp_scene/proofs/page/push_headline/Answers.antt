@@ -1,5 +1,5 @@
-use Rattle.std.proofs.Common.{refl, ◌≡◌}
-use Rattle.tp_scene.proofs.Steps.{behind, behind_two, ok_items, then_ok}
+use Rattle.std.proofs.Common.{append_assoc, ◌∙◌}
+use Rattle.tp_scene.proofs.Steps.{ok_items, then_ok}
 use Rattle.tp_scene.specs.Page.{headline}
 use Rattle.tp_scene.proofs.page.push_headline.Goals as goal
 
@@ -10,6 +10,5 @@ returns c =
     let messages = rw c.len-2.ensures at c.in_ok-push_counted-2.ensures in
     let nodes = rw c.from.ensures at c.in_ok-push_counted-3.ensures in
     let events = rw c.from-2.ensures at c.in_ok-push_counted-4.ensures in
-    then_ok c.extend_from_slice.result
-    (behind _ _ _ _ _ (behind_two _ _ _ _ _ _ (behind_two _ _ _ _ _ _ (behind_two _ _ _ _ _ _ tasks messages) nodes) events))
-    (ok_items c.extend_from_slice.result _ _ _ c.extend_from_slice.ensures.items)
+    then_ok c.extend_from_slice.result (ok_items c.extend_from_slice.result _ _ _ c.extend_from_slice.ensures.items)
+    (λ e. e ∙ simp (events, nodes, messages, tasks, append_assoc))

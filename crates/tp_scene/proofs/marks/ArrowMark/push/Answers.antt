@@ -1,5 +1,5 @@
-use Rattle.std.proofs.Common.{refl, ◌≡◌}
-use Rattle.tp_scene.proofs.Steps.{behind, behind_two, ok_items, then_ok}
+use Rattle.std.proofs.Common.{append_assoc, ◌∙◌}
+use Rattle.tp_scene.proofs.Steps.{ok_items, then_ok}
 use Rattle.tp_scene.specs.Marks.{arrow_text}
 use Rattle.tp_scene.proofs.marks.ArrowMark.push.Goals as goal
 
@@ -9,5 +9,5 @@ returns c =
     let class = rw c.arrow_class.ensures at c.in_ok-extend_from_slice-2.ensures.items in
     let curve = rw (c.ends_of.ensures.value, c.middle.ensures.value, c.middle-2.ensures.value) at c.in_ok-push_curve.ensures in
     let dot = rw (c.ends_of.ensures.value, c.middle.ensures.value) at c.push_dot.ensures in
-    then_ok c.push_dot.result
-    (behind _ _ _ _ _ (behind _ _ _ _ _ (behind_two _ _ _ _ _ _ (behind_two _ _ _ _ _ _ (behind _ _ _ _ _ (behind _ _ _ _ _ (behind _ _ _ _ _ c.in_ok-extend_from_slice.ensures.items class) c.in_ok-extend_from_slice-3.ensures.items) curve) c.in_ok-push_sending.ensures) c.in_ok-push_event.ensures) c.in_ok-extend_from_slice-4.ensures.items)) dot
+    then_ok c.push_dot.result dot
+    (λ e. e ∙ simp (c.in_ok-extend_from_slice-4.ensures.items, c.in_ok-push_event.ensures, c.in_ok-push_sending.ensures, curve, c.in_ok-extend_from_slice-3.ensures.items, class, c.in_ok-extend_from_slice.ensures.items, append_assoc))

@@ -1,5 +1,5 @@
-use Rattle.std.proofs.Common.{refl, ◌≡◌}
-use Rattle.tp_scene.proofs.Steps.{behind, behind_two, ok_items, then_ok}
+use Rattle.std.proofs.Common.{append_assoc, ◌∙◌}
+use Rattle.tp_scene.proofs.Steps.{ok_items, then_ok}
 use Rattle.tp_scene.specs.Marks.{bar_text}
 use Rattle.tp_scene.proofs.marks.BarMark.push.Goals as goal
 
@@ -8,5 +8,5 @@ unfolding bar_text
 returns c =
     let run = rw (c.run_area-area.ensures.value, c.reach.ensures.value) at c.in_ok-push_run.ensures in
     let number = rw (c.run_area-area.ensures.value, c.reach.ensures.value) at c.push_number.ensures in
-    then_ok c.push_number.result
-    (behind _ _ _ _ _ (behind _ _ _ _ _ (behind_two _ _ _ _ _ _ run c.in_ok-push_event.ensures) c.in_ok-extend_from_slice.ensures.items)) number
+    then_ok c.push_number.result number
+    (λ e. e ∙ simp (c.in_ok-extend_from_slice.ensures.items, c.in_ok-push_event.ensures, run, append_assoc))
