@@ -5,17 +5,13 @@ use Rattle.std.proofs.Common.{refl, sym, ap, ◌∙◌, add-one, append_assoc, a
 use Rattle.std.proofs.Math.Seq.{drop-cons, drop-length, take-length}
 use Rattle.std.proofs.lemmas.List.{append-nil, flat_map_more, take_more}
 use Rattle.std.proofs.lemmas.Option.{slice_get-get_or}
-use Rattle.std.specs.Prelude.{Some, None, slice_get, Result, Ok, Err, is_ok, OnOk}
+use Rattle.std.specs.Prelude.{Some, None, slice_get, Result, Ok, Err, OnOk}
 use Rattle.std.specs.List.{find, flat_map, remove}
 use Rattle.tp_core.specs.Pool.{without}
 use Rattle.tp_wave.specs.Sums.{total}
 use Rattle.tp_scene.specs.Scene.{first_from}
 
--- what the last call has written, where its result is returned as it is
-pub ok_items : {A E : Type 0} (r : Result A E) (old other new : List ℕ) → new ≡ (if is_ok r then old ++ other else old) → OnOk r (new ≡ old ++ other)
-ok_items (Ok x) old other new h = h
-ok_items (Err e) old other new h = tt
-
+-- what follows where a call has answered `Ok`
 pub then_ok : {A E P Q : Type 0} (r : Result A E) → OnOk r P → (P → Q) → OnOk r Q
 then_ok (Ok x) h f = f h
 then_ok (Err e) h f = h

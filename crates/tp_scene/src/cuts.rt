@@ -82,7 +82,8 @@ fn push_ring(out: &mut Vec<u8>, scene: &Scene, cut: &Cut, node: u32) -> Result<(
     out.extend_from_slice(wave_class(scene, cut))?;
     push_tenths(out, b" ring\" cx=\"", cut_at(scene, cut, node))?;
     push_tenths(out, b"\" cy=\"", scene.top(node) + scene.height(node) / 2)?;
-    out.extend_from_slice(b"\" r=\"3\"/>\n")
+    out.extend_from_slice(b"\" r=\"3\"/>\n")?;
+    Ok(())
 }
 
 /// The rings of a wave.
@@ -103,7 +104,8 @@ fn push_sums(out: &mut Vec<u8>, cut: &Cut) -> Result<(), AllocError>
     push_count(out, b"wave ", u64::from(cut.sums.wave))?;
     push_count(out, b": ", u64::from(cut.sums.sent))?;
     push_count(out, b" sent, ", u64::from(cut.sums.received))?;
-    out.extend_from_slice(b" received")
+    out.extend_from_slice(b" received")?;
+    Ok(())
 }
 
 /// The line of a wave.
@@ -175,7 +177,8 @@ impl Mark for End {
         push_tenths(out, b"\"/><text class=\"told\" x=\"", x)?;
         push_tenths(out, b"\" y=\"", scene.bottom() + 340)?;
         push_count(out, b"\">ended ", u64::from(self.wave))?;
-        out.extend_from_slice(b"</text>\n")
+        out.extend_from_slice(b"</text>\n")?;
+        Ok(())
     }
 }
 
@@ -233,7 +236,8 @@ fn push_label(out: &mut Vec<u8>, scene: &Scene, cut: &Cut, row: u64) -> Result<(
     push_tenths(out, b"\" y=\"", TOP - 200 - 150 * row)?;
     out.extend_from_slice(b"\">")?;
     push_sums(out, cut)?;
-    out.extend_from_slice(b"</text>\n")
+    out.extend_from_slice(b"</text>\n")?;
+    Ok(())
 }
 
 /// The label of a wave, where there is room for it beside that of the next wave in its row.

@@ -1,5 +1,5 @@
 use Rattle.std.proofs.Common.{append_assoc, ◌∙◌}
-use Rattle.tp_scene.proofs.Steps.{ok_items, then_ok}
+use Rattle.tp_scene.proofs.Steps.{then_ok}
 use Rattle.tp_scene.specs.Page.{axis}
 use Rattle.tp_scene.proofs.page.push_axis.Goals as goal
 
@@ -9,5 +9,4 @@ returns c =
     let line = rw c.bottom.ensures.value at c.in_ok-push_tenths.ensures in
     let end = rw c.right.ensures.value at c.in_ok-push_tenths-2.ensures in
     let down = rw c.bottom-2.ensures.value at c.in_ok-push_tenths-3.ensures in
-    then_ok c.extend_from_slice.result (ok_items c.extend_from_slice.result _ _ _ c.extend_from_slice.ensures.items)
-    (λ e. e ∙ simp (down, end, line, c.in_ok-push_ticks.ensures, append_assoc))
+    c.in_ok-extend_from_slice.ensures.items ∙ simp (down, end, line, c.in_ok-push_ticks.ensures, append_assoc)

@@ -1,5 +1,5 @@
 use Rattle.std.proofs.Common.{append_assoc, ◌∙◌}
-use Rattle.tp_scene.proofs.Steps.{ok_items, then_ok}
+use Rattle.tp_scene.proofs.Steps.{then_ok}
 use Rattle.tp_scene.specs.Page.{frame, lane}
 use Rattle.tp_scene.proofs.page.push_frame.Goals as goal
 
@@ -8,5 +8,4 @@ unfolding frame lane
 returns c =
     let box = rw c.lane-lane.ensures.value at c.in_ok-push_area.ensures in
     let down = rw c.lane-lane.ensures.value at c.in_ok-push_tenths.ensures in
-    then_ok c.extend_from_slice-2.result (ok_items c.extend_from_slice-2.result _ _ _ c.extend_from_slice-2.ensures.items)
-    (λ e. e ∙ simp (c.in_ok-push_count-2.ensures, down, c.in_ok-push_count.ensures, box, c.in_ok-extend_from_slice.ensures.items, append_assoc))
+    c.in_ok-extend_from_slice-2.ensures.items ∙ simp (c.in_ok-push_count-2.ensures, down, c.in_ok-push_count.ensures, box, c.in_ok-extend_from_slice.ensures.items, append_assoc)

@@ -1,5 +1,5 @@
 use Rattle.std.proofs.Common.{append_assoc, ◌∙◌}
-use Rattle.tp_scene.proofs.Steps.{ok_items, then_ok}
+use Rattle.tp_scene.proofs.Steps.{then_ok}
 use Rattle.tp_scene.specs.Page.{head}
 use Rattle.tp_scene.proofs.page.push_head.Goals as goal
 
@@ -10,5 +10,4 @@ returns c =
     let high = rw c.page_height.ensures.value at c.in_ok-push_tenths-2.ensures in
     let wide_again = rw c.width-2.ensures.value at c.in_ok-push_tenths-3.ensures in
     let high_again = rw c.page_height-2.ensures.value at c.in_ok-push_tenths-4.ensures in
-    then_ok c.extend_from_slice-2.result (ok_items c.extend_from_slice-2.result _ _ _ c.extend_from_slice-2.ensures.items)
-    (λ e. e ∙ simp (c.in_ok-extend_from_slice.ensures.items, high_again, wide_again, high, wide, append_assoc))
+    c.in_ok-extend_from_slice-2.ensures.items ∙ simp (c.in_ok-extend_from_slice.ensures.items, high_again, wide_again, high, wide, append_assoc)

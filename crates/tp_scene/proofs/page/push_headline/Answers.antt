@@ -1,5 +1,5 @@
 use Rattle.std.proofs.Common.{append_assoc, ◌∙◌}
-use Rattle.tp_scene.proofs.Steps.{ok_items, then_ok}
+use Rattle.tp_scene.proofs.Steps.{then_ok}
 use Rattle.tp_scene.specs.Page.{headline}
 use Rattle.tp_scene.proofs.page.push_headline.Goals as goal
 
@@ -10,5 +10,4 @@ returns c =
     let messages = rw c.len-2.ensures at c.in_ok-push_counted-2.ensures in
     let nodes = rw c.from.ensures at c.in_ok-push_counted-3.ensures in
     let events = rw c.from-2.ensures at c.in_ok-push_counted-4.ensures in
-    then_ok c.extend_from_slice.result (ok_items c.extend_from_slice.result _ _ _ c.extend_from_slice.ensures.items)
-    (λ e. e ∙ simp (events, nodes, messages, tasks, append_assoc))
+    c.in_ok-extend_from_slice.ensures.items ∙ simp (events, nodes, messages, tasks, append_assoc)

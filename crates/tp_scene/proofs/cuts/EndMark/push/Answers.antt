@@ -1,5 +1,5 @@
 use Rattle.std.proofs.Common.{append_assoc, ◌∙◌}
-use Rattle.tp_scene.proofs.Steps.{ok_items, then_ok}
+use Rattle.tp_scene.proofs.Steps.{then_ok}
 use Rattle.tp_scene.specs.Cuts.{end_text}
 use Rattle.tp_scene.proofs.cuts.EndMark.push.Goals as goal
 
@@ -11,5 +11,4 @@ returns c =
     let foot = rw c.bottom.ensures.value at c.in_ok-push_tenths.ensures in
     let across = rw c.middle-x.ensures.value at c.in_ok-push_tenths-2.ensures in
     let down = rw c.bottom-2.ensures.value at c.in_ok-push_tenths-3.ensures in
-    then_ok c.extend_from_slice-2.result (ok_items c.extend_from_slice-2.result _ _ _ c.extend_from_slice-2.ensures.items)
-    (λ e. e ∙ simp (c.in_ok-push_count.ensures, down, across, foot, line, ground, c.in_ok-extend_from_slice.ensures.items, append_assoc))
+    c.in_ok-extend_from_slice-2.ensures.items ∙ simp (c.in_ok-push_count.ensures, down, across, foot, line, ground, c.in_ok-extend_from_slice.ensures.items, append_assoc)

@@ -1,5 +1,5 @@
 use Rattle.std.proofs.Common.{append_assoc, ◌∙◌}
-use Rattle.tp_scene.proofs.Steps.{ok_items, then_ok}
+use Rattle.tp_scene.proofs.Steps.{then_ok}
 use Rattle.tp_scene.specs.Marks.{bar_text}
 use Rattle.tp_scene.proofs.marks.BarMark.push.Goals as goal
 

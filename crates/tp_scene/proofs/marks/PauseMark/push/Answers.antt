@@ -1,5 +1,5 @@
 use Rattle.std.proofs.Common.{append_assoc, ◌∙◌}
-use Rattle.tp_scene.proofs.Steps.{ok_items, then_ok}
+use Rattle.tp_scene.proofs.Steps.{then_ok}
 use Rattle.tp_scene.specs.Marks.{pause_text}
 use Rattle.tp_scene.proofs.marks.PauseMark.push.Goals as goal
 
@@ -8,5 +8,4 @@ unfolding pause_text
 returns c =
     let place = rw (c.saturating_sub.ensures, c.middle-from.ensures.value, c.top.ensures.value, c.reach.ensures.value, c.height.ensures.value)
     at c.in_ok-push_area.ensures in
-    then_ok c.extend_from_slice-2.result (ok_items c.extend_from_slice-2.result _ _ _ c.extend_from_slice-2.ensures.items)
-    (λ e. e ∙ simp (place, c.in_ok-extend_from_slice.ensures.items, append_assoc))
+    c.in_ok-extend_from_slice-2.ensures.items ∙ simp (place, c.in_ok-extend_from_slice.ensures.items, append_assoc)
