@@ -26,7 +26,7 @@ use Rattle.tp_core.specs.World.{Task, home_of}
 use Rattle.tp_core.specs.Pool.{with_life, without, supplied, lacking}
 use Rattle.tp_core.specs.Generations.{world_after}
 use Rattle.tp_core.specs.Accepted.{judged, reply_to}
-use Rattle.tp_scene.specs.Temp.{last_judgement}
+use Rattle.tp_text.specs.AuditText.{last_judgement}
 use Rattle.tp_scene.specs.declared.scene.Running.{Running}
 use Rattle.tp_scene.specs.declared.scene.Sending.{Sending}
 use Rattle.tp_scene.specs.declared.scene.Cut.{Cut}

@@ -18,7 +18,7 @@ use Rattle.tp_scene.specs.declared.lanes.Lanes.{Lanes}
 use Rattle.tp_scene.specs.declared.sketch.Sketch.{Sketch}
 use Rattle.tp_scene.specs.Scene.{running, bars, rows, under_way, arrows, gave, cuts, seams, ends, resting, pauses}
 use Rattle.tp_wave.specs.Sums.{visit}
-use Rattle.tp_scene.specs.Temp.{last_judgement}
+use Rattle.tp_text.specs.AuditText.{last_judgement}
 
 abbrev pub home : Task → NodeId
 home x = record { 0 = x.home }

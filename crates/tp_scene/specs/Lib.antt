@@ -7,4 +7,3 @@ pub mod Cuts
 pub mod Page
 pub mod Laws
 pub mod Inside
-pub mod Temp

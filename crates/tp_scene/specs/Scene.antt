@@ -14,7 +14,7 @@ use Rattle.tp_core.specs.Generations.{world_after, AreRuns}
 use Rattle.tp_core.specs.Accepted.{refusal}
 use Rattle.tp_base.specs.declared.Refusal.{Refusal}
 use Rattle.tp_base.specs.declared.Refusal.TheVariants.{NoMemory}
-use Rattle.tp_scene.specs.Temp.{last_judgement}
+use Rattle.tp_text.specs.AuditText.{last_judgement}
 use Rattle.tp_scene.specs.declared.scene.Running.{Running}
 use Rattle.tp_scene.specs.declared.scene.Bar.{Bar}
 use Rattle.tp_scene.specs.declared.scene.Sending.{Sending}
