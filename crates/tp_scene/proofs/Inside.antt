@@ -67,7 +67,7 @@ total-le : (f : ℕ → ℕ) (a b : ℕ) → a ≤ b → total a f ≤ total b f
 total-le f a zero h = let e : a ≡ 0 = omega (arith, h) in rw e (omega arith)
 total-le f a (suc b) h =
     let choose : (t : Bool) → (a == suc b) ≡ t → total a f ≤ total (suc b) f =
-        elim [ true ↦ λ is. rw (eqb-true a (suc b) is) (omega arith) | false ↦ λ is. omega (arith, total-le f a b (grind (arith, nat_tests, is, h))) ]
+    elim [ true ↦ λ is. rw (eqb-true a (suc b) is) (omega arith) | false ↦ λ is. omega (arith, total-le f a b (grind (arith, nat_tests, is, h))) ]
     in
     choose (a == suc b) refl
 
@@ -93,7 +93,7 @@ before_newest-le : (test : Step → Bool) (steps : List Step) → length (before
 before_newest-le test [] = omega arith
 before_newest-le test (s ∷ past) =
     let choose : (b : Bool) → length (if b then past else before_newest test past) ≤ length (s ∷ past) - 1 =
-        elim [ true ↦ omega arith | false ↦ omega (arith, before_newest-le test past) ]
+    elim [ true ↦ omega arith | false ↦ omega (arith, before_newest-le test past) ]
     in
     choose (test s)
 
@@ -124,8 +124,11 @@ bars_before n [] = tt
 bars_before n (Done t ∷ past) =
     let old : Each (IsBarBefore (suc (length past))) (bars n past) = later IsBarBefore (length past) (bars n past) (λ b h. (omega (arith, h.0), omega (arith, h.1))) (bars_before n past) in
     let choose : (found : Option Running) → find (is_run_of t.0) (running n past) ≡ found → Each (IsBarBefore (suc (length past))) (bars n past ++ bar_of found (length past)) =
-        elim [ None ↦ λ e. rw (append-nil (bars n past)) old | Some run ↦ λ e. let before = each_found (λ (r : Running). r.from < length past) (is_run_of t.0) (running n past) run e (runs_before n past) in
-        each_push (IsBarBefore (suc (length past))) (bars n past) (record { run = run; to = length past }) old (omega (arith, before), omega arith) ]
+    elim [
+      | None ↦ λ e. rw (append-nil (bars n past)) old
+      | Some run ↦ λ e. let before = each_found (λ (r : Running). r.from < length past) (is_run_of t.0) (running n past) run e (runs_before n past) in
+          each_push (IsBarBefore (suc (length past))) (bars n past) (record { run = run; to = length past }) old (omega (arith, before), omega arith)
+    ]
     in
     choose (find (is_run_of t.0) (running n past)) refl
 bars_before n (s ∷ past) = later IsBarBefore (length past) (bars n past) (λ b h. (omega (arith, h.0), omega (arith, h.1))) (bars_before n past)
@@ -145,8 +148,11 @@ arrows_before [] = tt
 arrows_before (Recv j m g ∷ past) =
     let old : Each (IsArrowBefore (suc (length past))) (arrows past) = later IsArrowBefore (length past) (arrows past) (λ a h. (omega (arith, h.0), omega (arith, h.1))) (arrows_before past) in
     let choose : (found : Option Sending) → find (is_sending_of m.0) (under_way past) ≡ found → Each (IsArrowBefore (suc (length past))) (arrows past ++ arrow_of found (length past)) =
-        elim [ None ↦ λ e. rw (append-nil (arrows past)) old | Some x ↦ λ e. let before = each_found (λ (y : Sending). y.sent < length past) (is_sending_of m.0) (under_way past) x e (sent_before past) in
-        each_push (IsArrowBefore (suc (length past))) (arrows past) (record { sending = x; received = length past }) old (omega (arith, before), omega arith) ]
+    elim [
+      | None ↦ λ e. rw (append-nil (arrows past)) old
+      | Some x ↦ λ e. let before = each_found (λ (y : Sending). y.sent < length past) (is_sending_of m.0) (under_way past) x e (sent_before past) in
+          each_push (IsArrowBefore (suc (length past))) (arrows past) (record { sending = x; received = length past }) old (omega (arith, before), omega arith)
+    ]
     in
     choose (find (is_sending_of m.0) (under_way past)) refl
 arrows_before (s ∷ past) = later IsArrowBefore (length past) (arrows past) (λ a h. (omega (arith, h.0), omega (arith, h.1))) (arrows_before past)
@@ -163,8 +169,11 @@ ends_before n [] = tt
 ends_before n (Judge ∷ past) =
     let old : Each (IsEndBefore (suc (length past))) (ends n past) = later IsEndBefore (length past) (ends n past) (λ x h. (omega (arith, h.0), omega (arith, h.1))) (ends_before n past) in
     let choose : (o : Option ℕ) → Each (IsEndBefore (suc (length past))) (ends n past ++ end_of o past) =
-        elim [ None ↦ rw (append-nil (ends n past)) old | Some w ↦ each_push (IsEndBefore (suc (length past))) (ends n past) (record { wave = w; since = gave 0 (visit 0 past); judged = length past }) old
-        (omega (arith, before_newest-le (is_give 0) (visit 0 past), before_newest-le (is_give 0) past), omega arith) ]
+    elim [
+      | None ↦ rw (append-nil (ends n past)) old
+      | Some w ↦ each_push (IsEndBefore (suc (length past))) (ends n past) (record { wave = w; since = gave 0 (visit 0 past); judged = length past }) old
+          (omega (arith, before_newest-le (is_give 0) (visit 0 past), before_newest-le (is_give 0) past), omega arith)
+    ]
     in
     choose (judgement n (present past))
 ends_before n (s ∷ past) = later IsEndBefore (length past) (ends n past) (λ x h. (omega (arith, h.0), omega (arith, h.1))) (ends_before n past)
@@ -182,8 +191,11 @@ cuts_before n [] = tt
 cuts_before n (Give i ∷ past) =
     let old : Each (IsCutBefore (suc (length past))) (cuts n past) = later IsCutBefore (length past) (cuts n past) (λ c h. each_map (λ g. g < length past) (λ g. g < suc (length past)) c.gives (λ g l. omega (arith, l)) h) (cuts_before n past) in
     let choose : (b : Bool) → Each (IsCutBefore (suc (length past))) (if b then cuts n past ++ cut n (Give i ∷ past) ∷ [] else cuts n past) =
-        elim [ true ↦ each_push (IsCutBefore (suc (length past))) (cuts n past) (cut n (Give i ∷ past)) old
-        (all_places (suc (length past)) (λ j. gave j (Give i ∷ past)) (λ j. omega (arith, before_newest-le (is_give j) (Give i ∷ past))) (range_with_len 0 8)) | false ↦ old ]
+    elim [
+      | true ↦ each_push (IsCutBefore (suc (length past))) (cuts n past) (cut n (Give i ∷ past)) old
+          (all_places (suc (length past)) (λ j. gave j (Give i ∷ past)) (λ j. omega (arith, before_newest-le (is_give j) (Give i ∷ past))) (range_with_len 0 8))
+      | false ↦ old
+    ]
     in
     choose (i.0 == 0)
 cuts_before n (s ∷ past) =
@@ -241,10 +253,13 @@ bars_at n (Begin t ∷ past) h =
     (λ b l. (l.0, omega (arith, l.1, row-grows b.run.node.0 (begun n past (running n past) t.0) (rows n b.run.node.0 past)))) (bars_at n past h.1)
 bars_at n (Done t ∷ past) h =
     let choose : (found : Option Running) → find (is_run_of t.0) (running n past) ≡ found → Each (IsBarAt n past) (bars n past ++ bar_of found (length past)) =
-        elim [ None ↦ λ e. rw (append-nil (bars n past)) (bars_at n past h.1) | Some run ↦ λ e. each_push (IsBarAt n past) (bars n past) (record { run = run; to = length past }) (bars_at n past h.1) (
-          each_found (λ (r : Running). r.node.0 < n) (is_run_of t.0) (running n past) run e (runs_at n past h.1),
-          each_found (IsInRow n past) (is_run_of t.0) (running n past) run e (runs_in n past),
-        ) ]
+    elim [
+      | None ↦ λ e. rw (append-nil (bars n past)) (bars_at n past h.1)
+      | Some run ↦ λ e. each_push (IsBarAt n past) (bars n past) (record { run = run; to = length past }) (bars_at n past h.1) (
+        each_found (λ (r : Running). r.node.0 < n) (is_run_of t.0) (running n past) run e (runs_at n past h.1),
+        each_found (IsInRow n past) (is_run_of t.0) (running n past) run e (runs_in n past),
+      )
+    ]
     in
     choose (find (is_run_of t.0) (running n past)) refl
 bars_at n (s ∷ past) h = bars_at n past h.1
@@ -264,8 +279,11 @@ arrows_at : (n : ℕ) (steps : List Step) → AreRuns n steps → Each (λ (a : 
 arrows_at n [] h = tt
 arrows_at n (Recv j m g ∷ past) h =
     let choose : (found : Option Sending) → find (is_sending_of m.0) (under_way past) ≡ found → Each (λ (a : Arrow). IsSentAt n a.sending) (arrows past ++ arrow_of found (length past)) =
-        elim [ None ↦ λ e. rw (append-nil (arrows past)) (arrows_at n past h.1) | Some x ↦ λ e. each_push (λ (a : Arrow). IsSentAt n a.sending) (arrows past) (record { sending = x; received = length past }) (arrows_at n past h.1)
-        (each_found (IsSentAt n) (is_sending_of m.0) (under_way past) x e (sent_at n past h.1)) ]
+    elim [
+      | None ↦ λ e. rw (append-nil (arrows past)) (arrows_at n past h.1)
+      | Some x ↦ λ e. each_push (λ (a : Arrow). IsSentAt n a.sending) (arrows past) (record { sending = x; received = length past }) (arrows_at n past h.1)
+          (each_found (IsSentAt n) (is_sending_of m.0) (under_way past) x e (sent_at n past h.1))
+    ]
     in
     choose (find (is_sending_of m.0) (under_way past)) refl
 arrows_at n (s ∷ past) h = arrows_at n past h.1
@@ -275,7 +293,13 @@ resting_before : (n i a : ℕ) (steps : List Step) → resting n i steps ≡ Som
 resting_before n i a [] e = absurd (none_some a e)
 resting_before n i a (s ∷ past) e =
     let choose : (b : Bool) (o : Option ℕ) → resting n i past ≡ o → since_when b o (length past) ≡ Some a → a < suc (length past) =
-        elim [ true ↦ λ (Some c) is now. let before = resting_before n i c past is in let same = some_same c a now in omega (arith, before, same) | true ↦ λ None is now. let same = some_same (length past) a now in omega (arith, same) | false ↦ λ o is now. absurd (none_some a now) ]
+    elim [
+      | true ↦ elim [
+        | Some c ↦ λ is now. omega (arith, resting_before n i c past is, some_same c a now)
+        | None ↦ λ is now. omega (arith, some_same (length past) a now)
+      ]
+      | false ↦ λ o is now. absurd (none_some a now)
+    ]
     in
     choose (is_idle i (world_after n (s ∷ past))) (resting n i past) refl e
 
@@ -322,10 +346,7 @@ rows_there n steps s h i less = h.rows i less
 abbrev IsThereBy : Scene → ℕ → ℕ → (ℕ → ℕ) → Running → Type 0
 IsThereBy s e n row run = (run.from < e) × (run.node.0 < n) × (run.track < row run.node.0)
 
-run_drawn : {A : Type 0} (xs : List A) (P : A → Type 0) (ys : List A) → Each P ys → xs ≡ ys → All P xs
-drawn {A} xs P ys h is = let Q : List A → Type 0 = λ l. All P l in subst Q (sym is) (each_all P ys h)
-
-there : (n : ℕ) (steps : List Step) (s : Scene) → n ≤ 8 → IsSceneOf n steps s → (run : Running) → run.from < length steps → run.node.0 < n
+run_there : (n : ℕ) (steps : List Step) (s : Scene) → n ≤ 8 → IsSceneOf n steps s → (run : Running) → run.from < length steps → run.node.0 < n
     → run.track < rows n run.node.0 steps → IsRunThere s run
 run_there n steps s few h run from node track =
     (omega (arith, from, h.events), omega (arith, node, h.nodes), omega (arith, track, rows_there n steps s h run.node.0 (omega (arith, node, few))))
@@ -333,6 +354,9 @@ run_there n steps s few h run from node track =
 each_both : {A : Type 0} (P Q S : A → Type 0) (xs : List A) → ((x : A) → P x → Q x → S x) → Each P xs → Each Q xs → Each S xs
 each_both P Q S [] f h k = tt
 each_both P Q S (x ∷ xs) f h k = (f x h.0 k.0, each_both P Q S xs f h.1 k.1)
+
+drawn : {A : Type 0} (xs : List A) (P : A → Type 0) (ys : List A) → Each P ys → xs ≡ ys → All P xs
+drawn {A} xs P ys h is = let Q : List A → Type 0 = λ l. All P l in subst Q (sym is) (each_all P ys h)
 
 there : (n : ℕ) (steps : List Step) (s : Scene) → n ≤ 8 → AreRuns n steps → IsSceneOf n steps s → AreThere s
 there n steps s few runs h = record {

@@ -5,14 +5,16 @@ use Rattle.std.proofs.Common.{refl, sym, ap, ◌∙◌, add-one, append_assoc, a
 use Rattle.std.proofs.Math.Seq.{drop-cons, drop-length, take-length}
 use Rattle.std.proofs.lemmas.List.{append-nil, flat_map_more, take_more}
 use Rattle.std.proofs.lemmas.Option.{slice_get-get_or}
-use Rattle.std.specs.Prelude.{Some, None, slice_get}
+use Rattle.std.specs.Prelude.{Some, None, slice_get, Result, Ok, Err, OnOk}
 use Rattle.std.specs.List.{find, flat_map, remove}
 use Rattle.tp_core.specs.Pool.{without}
 use Rattle.tp_wave.specs.Sums.{total}
-use Rattle.tp_scene.specs.declared.scene.Cut.{Cut}
-use Rattle.tp_scene.specs.declared.scene.Scene.{Scene}
-use Rattle.tp_scene.specs.Cuts.{label, label_at, labels}
 use Rattle.tp_scene.specs.Scene.{first_from}
+
+-- what follows where a call has answered `Ok`
+pub then_ok : {A E P Q : Type 0} (r : Result A E) → OnOk r P → (P → Q) → OnOk r Q
+then_ok (Ok x) h f = f h
+then_ok (Err e) h f = h
 
 -- what a loop over numbers has written, one number further
 pub written_more : (f : ℕ → List ℕ) (k : ℕ) (x start old new : List ℕ) → old ≡ start ++ f k → new ≡ old ++ x → f (k + 1) ≡ f k ++ x
@@ -96,7 +98,3 @@ passes_all test xs over = (
   over.found ∙ ap (find test) (drop-length xs),
   over.left ∙ ap (λ l. take (length xs) xs ++ without test l) (drop-length xs) ∙ append-nil (take (length xs) xs) ∙ take-length xs,
 )
-
-pub labels_more : (s : Scene) (cuts : List Cut) (k : ℕ) (d : Cut) → k < length cuts
-    → labels s cuts (k + 1) ≡ labels s cuts k ++ label s (get_or cuts k d) (slice_get cuts (k + 2)) (k % 2)
-labels_more s cuts k d fits = rw add-one (ap (λ o. labels s cuts k ++ label_at s cuts o k) (slice_get-get_or cuts k d fits))

@@ -93,7 +93,7 @@ run s =
 
 unfoldable pub waves : Scene → List ℕ
 waves s =
-    flat_map (end_text s) s.ends.items ++ flat_map (cut_text s) s.cuts.items ++ labels s s.cuts.items (length s.cuts.items)
+    flat_map (end_text s) s.ends.items ++ flat_map (cut_text s) s.cuts.items ++ labels s s.cuts.items (vec_len s.cuts)
     ++ flat_map (seam_text s) s.seams.items
 
 -- the picture of a scene

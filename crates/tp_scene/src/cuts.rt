@@ -1,7 +1,7 @@
 ghost use Rattle.std.specs.Prelude.{◌≡◌, ◌++◌, ◌<◌, ◌^◌, OnOk, slice_index, decimal};
-ghost use Rattle.std.specs.Prelude.{option_copied, length};
+ghost use Rattle.std.specs.Prelude.{◌+◌, slice_get, vec_len};
 ghost use Rattle.tp_scene.specs.Cuts.{tells, wave_class, cut_at, crossing, crossings, rings, ring_text, cut_text, line_text, rings_text, sums_text, over};
-ghost use Rattle.tp_scene.specs.Cuts.{end_text, label, label_text, labels, has_room, needed, side, stands_right};
+ghost use Rattle.tp_scene.specs.Cuts.{end_text, label, label_at, label_text, labels, has_room, needed, side, stands_right};
 
 use crate::layout::TOP;
 use crate::pieces::{Area, Mark, Point, push_area, push_count, push_point, push_tenths};
@@ -82,7 +82,8 @@ fn push_ring(out: &mut Vec<u8>, scene: &Scene, cut: &Cut, node: u32) -> Result<(
     out.extend_from_slice(wave_class(scene, cut))?;
     push_tenths(out, b" ring\" cx=\"", cut_at(scene, cut, node))?;
     push_tenths(out, b"\" cy=\"", scene.top(node) + scene.height(node) / 2)?;
-    out.extend_from_slice(b"\" r=\"3\"/>\n")
+    out.extend_from_slice(b"\" r=\"3\"/>\n")?;
+    Ok(())
 }
 
 /// The rings of a wave.
@@ -103,7 +104,8 @@ fn push_sums(out: &mut Vec<u8>, cut: &Cut) -> Result<(), AllocError>
     push_count(out, b"wave ", u64::from(cut.sums.wave))?;
     push_count(out, b": ", u64::from(cut.sums.sent))?;
     push_count(out, b" sent, ", u64::from(cut.sums.received))?;
-    out.extend_from_slice(b" received")
+    out.extend_from_slice(b" received")?;
+    Ok(())
 }
 
 /// The line of a wave.
@@ -175,7 +177,8 @@ impl Mark for End {
         push_tenths(out, b"\"/><text class=\"told\" x=\"", x)?;
         push_tenths(out, b"\" y=\"", scene.bottom() + 340)?;
         push_count(out, b"\">ended ", u64::from(self.wave))?;
-        out.extend_from_slice(b"</text>\n")
+        out.extend_from_slice(b"</text>\n")?;
+        Ok(())
     }
 }
 
@@ -208,12 +211,12 @@ fn needed(is_right: bool) -> u64
 
 /// Whether there is room for a wave's label beside that of the next wave in its row.
 #[tactic(auto, unfolding(crate::specs::Cuts::has_room))]
-fn has_room(scene: &Scene, cut: &Cut, next: Option<&Cut>) -> bool
-    ensures { result ≡ has_room scene.now cut.now (option_copied next.entry) }
+fn has_room(scene: &Scene, cut: &Cut, next: Option<Cut>) -> bool
+    ensures { result ≡ has_room scene.now cut.now next }
 {
     match next {
         Some(next) => {
-            let apart = cut_at(scene, next, 0).saturating_sub(cut_at(scene, cut, 0));
+            let apart = cut_at(scene, &next, 0).saturating_sub(cut_at(scene, cut, 0));
             needed(stands_right(scene, cut)) <= apart
         }
         None => true,
@@ -233,7 +236,8 @@ fn push_label(out: &mut Vec<u8>, scene: &Scene, cut: &Cut, row: u64) -> Result<(
     push_tenths(out, b"\" y=\"", TOP - 200 - 150 * row)?;
     out.extend_from_slice(b"\">")?;
     push_sums(out, cut)?;
-    out.extend_from_slice(b"</text>\n")
+    out.extend_from_slice(b"</text>\n")?;
+    Ok(())
 }
 
 /// The label of a wave, where there is room for it beside that of the next wave in its row.
@@ -241,11 +245,11 @@ fn push_label_beside(
     out: &mut Vec<u8>,
     scene: &Scene,
     cut: &Cut,
-    next: Option<&Cut>,
+    next: Option<Cut>,
     row: u64,
 ) -> Result<(), AllocError>
     requires { row < 2 }
-    ensures { OnOk result (out.new.items ≡ out.old.items ++ label scene.now cut.now (option_copied next.entry) row) }
+    ensures { OnOk result (out.new.items ≡ out.old.items ++ label scene.now cut.now next row) }
 {
     if !has_room(scene, cut, next) {
         return Ok(());
@@ -253,12 +257,34 @@ fn push_label_beside(
     push_label(out, scene, cut, row)
 }
 
+/// The wave at a place of the list.
+fn nth(scene: &Scene, k: usize) -> Option<Cut>
+    ensures { result ≡ slice_get scene.now.cuts.items k }
+{
+    match scene.cuts.get(k) {
+        Some(cut) => Some(*cut),
+        None => None,
+    }
+}
+
+/// The label of the wave at a place of the list; the next of its row is at another.
+fn push_label_at(out: &mut Vec<u8>, scene: &Scene, k: usize, next: usize) -> Result<(), AllocError>
+    requires { next ≡ k + 2 }
+    ensures { OnOk result (out.new.items ≡ out.old.items
+        ++ label_at scene.now scene.now.cuts.items (slice_get scene.now.cuts.items k) k) }
+{
+    match nth(scene, k) {
+        Some(cut) => push_label_beside(out, scene, &cut, nth(scene, next), (k % 2) as u64),
+        None => Ok(()),
+    }
+}
+
 /// The labels of the waves, in two rows: one is left out where the next of its row has no room beside it.
 pub(crate) fn push_labels(out: &mut Vec<u8>, scene: &Scene) -> Result<(), AllocError>
-    ensures { OnOk result (out.new.items ≡ out.old.items ++ labels scene.now scene.now.cuts.items (length scene.now.cuts.items)) }
+    ensures { OnOk result (out.new.items ≡ out.old.items ++ labels scene.now scene.now.cuts.items (vec_len scene.now.cuts)) }
 {
-    for (k, cut) in scene.cuts.iter().enumerate() {
-        push_label_beside(out, scene, cut, scene.cuts.get(k + 2), (k % 2) as u64)?;
+    for k in 0..scene.cuts.len() {
+        push_label_at(out, scene, k, k + 2)?;
     }
     Ok(())
 }

@@ -80,7 +80,8 @@ fn push_inside(out: &mut Vec<u8>, run: &Running, area: Area) -> Result<(), Alloc
         (area.corner.y + area.height).saturating_sub(40),
     )?;
     push_count(out, b"\">", u64::from(run.task.0))?;
-    out.extend_from_slice(b"</text>\n")
+    out.extend_from_slice(b"</text>\n")?;
+    Ok(())
 }
 
 /// Whether the number of a task fits into its bar: 7 pixels a digit.
@@ -135,7 +136,8 @@ impl Mark for Pause {
                 height: scene.height(self.node.0),
             },
         )?;
-        out.extend_from_slice(b"/>\n")
+        out.extend_from_slice(b"/>\n")?;
+        Ok(())
     }
 }
 
@@ -211,7 +213,8 @@ fn push_spot(out: &mut Vec<u8>, at: Point) -> Result<(), AllocError>
 {
     push_tenths(out, b"<circle class=\"dot\" cx=\"", at.x)?;
     push_tenths(out, b"\" cy=\"", at.y)?;
-    out.extend_from_slice(b"\" r=\"2.2\"/>\n")
+    out.extend_from_slice(b"\" r=\"2.2\"/>\n")?;
+    Ok(())
 }
 
 impl Mark for Arrow {
@@ -267,7 +270,8 @@ impl Mark for Sending {
             },
         )?;
         push_sending(out, b"l10,14\"><title>", self)?;
-        out.extend_from_slice(b", not received</title></path>\n")
+        out.extend_from_slice(b", not received</title></path>\n")?;
+        Ok(())
     }
 }
 
@@ -289,6 +293,7 @@ impl Mark for Seam {
             b"\" y=\"112\">generation ",
             u64::from(self.generation.0),
         )?;
-        out.extend_from_slice(b"</text>\n")
+        out.extend_from_slice(b"</text>\n")?;
+        Ok(())
     }
 }

@@ -57,7 +57,8 @@ fn push_head(out: &mut Vec<u8>, scene: &Scene) -> Result<(), AllocError>
     push_tenths(out, b"\" viewBox=\"0 0 ", scene.width())?;
     push_tenths(out, b" ", scene.page_height())?;
     out.extend_from_slice(b"\">\n")?;
-    out.extend_from_slice(STYLE)
+    out.extend_from_slice(STYLE)?;
+    Ok(())
 }
 
 /// How many there are of something, by its name for one, behind a label.
@@ -70,7 +71,8 @@ fn push_counted(out: &mut Vec<u8>, label: &[u8], count: u64, name: &[u8]) -> Res
     if count == 1 {
         return Ok(());
     }
-    out.extend_from_slice(b"s")
+    out.extend_from_slice(b"s")?;
+    Ok(())
 }
 
 /// What the run came to: the four counts.
@@ -87,7 +89,8 @@ fn push_headline(out: &mut Vec<u8>, scene: &Scene) -> Result<(), AllocError>
     push_counted(out, b", ", scene.arrows.len() as u64, b" message")?;
     push_counted(out, b", ", u64::from(scene.nodes), b" node")?;
     push_counted(out, b", ", u64::from(scene.events), b" event")?;
-    out.extend_from_slice(b"</text>\n")
+    out.extend_from_slice(b"</text>\n")?;
+    Ok(())
 }
 
 /// Whether it was judged that the pool had ended.
@@ -102,9 +105,13 @@ fn push_verdict(out: &mut Vec<u8>, ended: Option<u32>) -> Result<(), AllocError>
                 b"<text class=\"seen\" x=\"74\" y=\"47\">the end is judged: nothing was left when wave ",
                 u64::from(wave),
             )?;
-            out.extend_from_slice(b" ended</text>\n")
+            out.extend_from_slice(b" ended</text>\n")?;
+            Ok(())
         }
-        None => out.extend_from_slice(b"<text x=\"74\" y=\"47\">no end is judged</text>\n"),
+        None => {
+            out.extend_from_slice(b"<text x=\"74\" y=\"47\">no end is judged</text>\n")?;
+            Ok(())
+        }
     }
 }
 
@@ -132,7 +139,8 @@ fn push_ground(out: &mut Vec<u8>, scene: &Scene, node: u32) -> Result<(), AllocE
     push_count(out, b"<rect class=\"p", u64::from(node))?;
     out.extend_from_slice(b"\"")?;
     push_area(out, lane(scene, node))?;
-    out.extend_from_slice(b" rx=\"4\"/>\n")
+    out.extend_from_slice(b" rx=\"4\"/>\n")?;
+    Ok(())
 }
 
 /// The grounds of all lanes.
@@ -160,7 +168,8 @@ fn push_frame(out: &mut Vec<u8>, scene: &Scene, node: u32) -> Result<(), AllocEr
         lane.corner.y + lane.height / 2 + 50,
     )?;
     push_count(out, b"\">node ", u64::from(node))?;
-    out.extend_from_slice(b"</text>\n")
+    out.extend_from_slice(b"</text>\n")?;
+    Ok(())
 }
 
 /// The frames of all lanes.
@@ -228,7 +237,8 @@ fn push_tick(out: &mut Vec<u8>, scene: &Scene, event: u32) -> Result<(), AllocEr
     push_tenths(out, b"v5\"/><text class=\"scale\" x=\"", x)?;
     push_tenths(out, b"\" y=\"", scene.bottom() + 610)?;
     push_event(out, b"\">", event)?;
-    out.extend_from_slice(b"</text>\n")
+    out.extend_from_slice(b"</text>\n")?;
+    Ok(())
 }
 
 /// A tick at an event that is one of each so many.
@@ -271,7 +281,8 @@ fn push_axis(out: &mut Vec<u8>, scene: &Scene) -> Result<(), AllocError>
         b"\"/>\n<text class=\"unit\" x=\"62\" y=\"",
         scene.bottom() + 480,
     )?;
-    out.extend_from_slice(b"\">event</text>\n")
+    out.extend_from_slice(b"\">event</text>\n")?;
+    Ok(())
 }
 
 /// What lies below the waves: the lanes, where nothing is pending, and the messages below the tasks.

@@ -117,8 +117,10 @@ pub fn scene_of(alloc: Global, nodes: u32, steps: &[Step]) -> Result<Scene, Refu
     let mut sketch = Sketch::new(alloc, nodes);
     let mut place = 0;
     for step in steps {
-        sketch.take(*step, place)?;
-        place += 1;
+        match sketch.take(*step, place) {
+            Ok(()) => place += 1,
+            Err(refusal) => return Err(refusal),
+        }
     }
     Ok(sketch.finish(place)?)
 }

@@ -22,13 +22,13 @@ loop-step-preserved c =
     let past = reverse (take c.loop-step.step-index c.args.steps.now) in
     let at = at_place c.args.nodes c.args.steps.now c.loop-step.step-index c.loop-step.place c.loop-step.sketch (omega (arith, c.loop-step-test.true)) c.loop-step.invariant in
     follows_more c.args.nodes c.args.steps.now c.loop-step.step-index c.loop-step.place no_step c.loop-step.sketch _ c.loop-step-test.true c.loop-step.invariant
-    (c.in_ok-take.ensures.follows c.args.nodes past c.loop-step.invariant.follows at)
-    (c.in_ok-take.ensures.came c.args.nodes past c.loop-step.invariant.follows)
+    (c.in-Ok.ensures.follows c.args.nodes past c.loop-step.invariant.follows at)
+    (c.in-Ok.ensures.came c.args.nodes past c.loop-step.invariant.follows)
 
-pub returns-in_err-take-clause-refused : goal.returns-in_err-take-clause-refused
-returns-in_err-take-clause-refused c =
-    rw c.from_residual.ensures (refused_at c.args.nodes c.args.steps.now c.loop-step.step-index no_step _ c.loop-step-test.true c.loop-step.invariant.runs
-    (c.in_err-take.ensures.refused c.args.nodes (reverse (take c.loop-step.step-index c.args.steps.now)) c.loop-step.invariant.follows))
+pub returns-in-Err-clause-refused : goal.returns-in-Err-clause-refused
+returns-in-Err-clause-refused c =
+    refused_at c.args.nodes c.args.steps.now c.loop-step.step-index no_step _ c.loop-step-test.true c.loop-step.invariant.runs
+    (c.in-Err.ensures.refused c.args.nodes (reverse (take c.loop-step.step-index c.args.steps.now)) c.loop-step.invariant.follows)
 
 pub finish-requires : goal.finish-requires
 finish-requires c =
