@@ -133,7 +133,7 @@ module _ {V : Type 0} where
     now_there = go (slice_get old.items (key % 64)) refl (is_some_by _ _ (sym (was pages (key / 64) old page is key refl)) there_is)
       where
         go : (o : Option (Option V)) → slice_get old.items (key % 64) ≡ o → IsSome o → near (set pages (key / 64) page) key ≡ Some value
-        go None no has = cc
+        go None nothing has = cc
         go (Some x) at has =
             ap flat (here pages (key / 64) old page is key refl ∙ ap (λ xs. slice_get xs (key % 64)) put ∙ set_here old.items (key % 64) x (Some value) at)
 
