@@ -36,6 +36,8 @@ fn try_to_write<W: Write, D: Display + Drop>(writer: &mut W, text: D)
 
 /// A fault of a program: what is told of it, and the exit status that it gives.
 pub trait Told {
+    ghost use Rattle.tp_shell.specs.declared.status.Status.{Status};
+
     // what is told
     ghost line_of: { Self → List ℕ };
 

@@ -18,6 +18,8 @@ pub enum ReadFault {
 ///
 /// In code that is generic over it, that all was read, or that not all could be, is known by a call of `read_all` alone.
 pub trait Source {
+    ghost use Rattle.tp_shell.specs.declared.streams.ReadFault.{ReadFault};
+
     // Relates what was there before, bytes, and what is there after all was read and these were all there were.
     ghost gives: { Self → List ℕ → Self → Type 0 };
 
