@@ -52,9 +52,10 @@ impl<'a, S: Stencil> Steps<'a, S> {
         })
     }
 
-    /// The same steps again.
+    /// The same steps again: they have the same graph.
     pub fn copied(&self) -> Self
-        ensures { result ≡ self.now }
+        ensures { block_graph (S.next result.stencil) result.cells.now result.blocks result.size result.steps
+            ≡ block_graph (S.next self.now.stencil) self.now.cells.now self.now.blocks self.now.size self.now.steps }
     {
         Steps {
             stencil: self.stencil,
@@ -89,12 +90,19 @@ impl<'a, S: Stencil> Steps<'a, S> {
 }
 
 impl<'a, S: Stencil> Clone for Steps<'a, S> {
-    ghost is_clone = { λ work copy. copy ≡ work };
+    ghost is_clone = { λ work copy. (copy.stencil ≡ work.stencil) × (copy.cells.now ≡ work.cells.now)
+        × (copy.blocks ≡ work.blocks) × (copy.size ≡ work.size) × (copy.steps ≡ work.steps) };
 
     ghost is_infallible = { λ _. ⊤ };
 
     fn clone(&self) -> Result<Self, AllocError> {
-        Ok(self.copied())
+        Ok(Steps {
+            stencil: self.stencil,
+            cells: self.cells,
+            blocks: self.blocks,
+            size: self.size,
+            steps: self.steps,
+        })
     }
 }
 
