@@ -7,8 +7,8 @@ use Rattle.block_runs.proofs.Refused.{are_steps, part_fault}
 use Rattle.block_runs.specs.Events.{TakeSteps}
 use Rattle.block_runs.proofs.parts.run_in_parts.Goals as goal
 
-pub run_part-requires-taken : goal.run_part-requires-taken
-run_part-requires-taken g c =
+pub run_part-requires-clause-taken : goal.run_part-requires-clause-taken
+run_part-requires-clause-taken g c =
     let s = g.S.Stencil in
     let before = c.loop-left.invariant in
     let cells = c.args.cells.items in

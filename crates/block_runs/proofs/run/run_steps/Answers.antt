@@ -17,7 +17,7 @@ pub unreachable-requires : goal.unreachable-requires
 unreachable-requires g c =
     let w = c.args.work in
     let once = subst (λ (graph : TaskGraph). HasEachOnce graph.tasks c.in-Ok.outcome.results.items) c.copied.ensures c.in-Ok.ensures.outcome.each_once in
-    c.in_default-refusal.not-NoMemory
+    c.in_default.not-NoMemory
     (cells_refused (g.S.Stencil.next w.stencil) w.cells.now w.blocks w.size w.steps c.in-Ok.outcome.results.items c.in-Err-cells_of.refusal once
     (rw c.deref.ensures.value at c.in-Err-cells_of.ensures.refused))
 
