@@ -24,7 +24,7 @@ pub fn run_steps<S: Stencil, R: Threads + Wait + Sync>(
         (λ made. made.items ≡ after (S.step work.entry.stencil) work.entry.steps work.entry.cells.now)
         (IsLentFault config.nodes config.workers ⊥ (block_graph (S.next work.entry.stencil) work.entry.cells.now work.entry.blocks work.entry.size work.entry.steps)) }
 {
-    match run_pool(rt, alloc, work, config, &OpenGate) {
+    match run_pool(rt, alloc, work.copied(), config, &OpenGate) {
         Ok(outcome) => match cells_of(alloc, &work, &outcome.results) {
             Ok(made) => Ok(made),
             Err(refusal) => match refusal {

@@ -31,6 +31,20 @@ to_before b = if nat_lt 0 b then 1 else 0
 abbrev to_behind : ℕ → ℕ → ℕ
 to_behind blocks b = if nat_lt (b + 1) blocks then 1 else 0
 
+one-before : (b : ℕ) → 0 < b → to_before b ≡ 1
+one-before b h =
+    ⊎_elim
+    (λ (t : (nat_lt 0 b ≡ true) × (0 < b)). rw t.0 refl)
+    (λ (t : (nat_lt 0 b ≡ false) × (b ≤ 0)). absurd (omega (arith, t.1, h)))
+    (lt-tells 0 b)
+
+one-behind : (blocks b : ℕ) → b + 1 < blocks → to_behind blocks b ≡ 1
+one-behind blocks b h =
+    ⊎_elim
+    (λ (t : (nat_lt (b + 1) blocks ≡ true) × (b + 1 < blocks)). rw t.0 refl)
+    (λ (t : (nat_lt (b + 1) blocks ≡ false) × (blocks ≤ b + 1)). absurd (omega (arith, t.1, h)))
+    (lt-tells (b + 1) blocks)
+
 before-part : (size b : ℕ) (xs : List ℤ) (inputs : List (List ℤ)) → (0 < b → get_or inputs 0 [] ≡ block_of size (b - 1) xs) →
     (if nat_lt 0 (to_before b) then get_or inputs 0 [] else []) ≡ block_before size b xs
 before-part size b xs inputs h =
@@ -85,9 +99,9 @@ module _ (takes : ℕ → ℕ → Bool) (step : Step) (next : BlockStep) (cells 
       let from : source blocks t s ≡ r * blocks + c = rw column (omega (arith, f)) in
       block_after r c (get_or made.0 s []) (omega arith) q (ap (value_of (block_graph next cells blocks size steps)) (sym from) ∙ made.1.right s (omega (arith, many, i))) in
       let own : get_or made.0 (to_before b) [] ≡ block_of size b xs = input (to_before b) b (omega arith) p (omega (arith, at)) in
-      let lower : 0 < b → get_or made.0 0 [] ≡ block_of size (b - 1) xs = λ q. let one : to_before b ≡ 1 = grind (arith, nat_tests) in input 0 (b - 1) (omega arith) (omega arith) (omega (arith, at, one)) in
+      let lower : 0 < b → get_or made.0 0 [] ≡ block_of size (b - 1) xs = λ q. let one : to_before b ≡ 1 = one-before b q in input 0 (b - 1) (omega arith) (omega arith) (omega (arith, at, one)) in
       let upper : b + 1 < blocks → get_or made.0 (to_before b + 1) [] ≡ block_of size (b + 1) xs =
-      λ q. let one : to_behind blocks b ≡ 1 = grind (arith, nat_tests) in input (to_before b + 1) (b + 1) (omega (arith, one)) q (omega (arith, at)) in
+      λ q. let one : to_behind blocks b ≡ 1 = one-behind blocks b q in input (to_before b + 1) (b + 1) (omega (arith, one)) q (omega (arith, at)) in
       let whole : length xs ≤ blocks * size = omega (arith, after-length step r cells long, cut.whole) in
       some_same (sym made.2)
       ∙ ap (λ c. if c then block_of size t cells else next_of next (befores blocks t) made.0) no

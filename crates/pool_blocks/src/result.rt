@@ -39,7 +39,7 @@ pub fn cells_by_one<S: Stencil>(alloc: Global, work: Steps<S>) -> Result<Vec<i64
     ensures made { IfOk result (λ cells. cells.items ≡ after (S.step work.entry.stencil) work.entry.steps work.entry.cells.now) }
     ensures refused { IfErr result (λ refusal. refusal ≡ NoMemory) }
 {
-    let results = match serial(alloc, work) {
+    let results = match serial(alloc, work.copied()) {
         Ok(results) => results,
         Err(refusal) => {
             // No body fails, since no cell leaves 64 bits: those that were lent fit, as reading them shows.

@@ -1,4 +1,4 @@
-ghost use Rattle.std.specs.Prelude.{◌≡◌, ◌<◌, ◌≤◌, ◌+◌, ◌-◌, ◌*◌, ◌^◌, pos, true, length, slice_index_or, IfNone, IfSome};
+ghost use Rattle.std.specs.Prelude.{◌≡◌, ◌<◌, ◌≤◌, ◌+◌, ◌-◌, ◌*◌, ◌^◌, ⊤, pos, true, length, slice_index_or, IfNone, IfSome};
 ghost use Rattle.tp_graph.specs.Blocks.{block_of};
 ghost use Rattle.tp_graph.specs.Values.{all_fit, fits};
 ghost use Rattle.pool_blocks.specs.Stencils.{AreNoSteps, AreSteps, IsCut, befores, behinds, block_graph, blocks_of};
@@ -6,12 +6,11 @@ ghost use Rattle.pool_blocks.specs.StencilLaws.{block_lawful};
 
 use crate::inputs::{cells_at, cells_before};
 use crate::stencil::Stencil;
-use std::alloc::Global;
+use std::alloc::{AllocError, Global};
 use tp_base::{NodeId, Refusal, TaskId};
 use tp_graph::{Graph, Value};
 
 /// Steps of a stencil over some cells, which are worked on in blocks: a task is a block after so many steps.
-#[derive(Clone, Copy)]
 pub struct Steps<'a, S: Stencil> {
     stencil: S,
     cells: &'a [i64],
@@ -53,6 +52,20 @@ impl<'a, S: Stencil> Steps<'a, S> {
         })
     }
 
+    /// The same steps again: they have the same graph.
+    pub fn copied(&self) -> Self
+        ensures { block_graph (S.next result.stencil) result.cells.now result.blocks result.size result.steps
+            ≡ block_graph (S.next self.now.stencil) self.now.cells.now self.now.blocks self.now.size self.now.steps }
+    {
+        Steps {
+            stencil: self.stencil,
+            cells: self.cells,
+            blocks: self.blocks,
+            size: self.size,
+            steps: self.steps,
+        }
+    }
+
     /// How many blocks there are.
     pub(crate) fn blocks(&self) -> u32
         ensures same { result ≡ self.now.blocks }
@@ -75,6 +88,25 @@ impl<'a, S: Stencil> Steps<'a, S> {
         read_all(self.cells);
     }
 }
+
+impl<'a, S: Stencil> Clone for Steps<'a, S> {
+    ghost is_clone = { λ work copy. (copy.stencil ≡ work.stencil) × (copy.cells.now ≡ work.cells.now)
+        × (copy.blocks ≡ work.blocks) × (copy.size ≡ work.size) × (copy.steps ≡ work.steps) };
+
+    ghost is_infallible = { λ _. ⊤ };
+
+    fn clone(&self) -> Result<Self, AllocError> {
+        Ok(Steps {
+            stencil: self.stencil,
+            cells: self.cells,
+            blocks: self.blocks,
+            size: self.size,
+            steps: self.steps,
+        })
+    }
+}
+
+impl<'a, S: Stencil> Copy for Steps<'a, S> {}
 
 /// A block of some cells, which are cut into so many of so many cells each but the last.
 fn block_at(cells: &[i64], blocks: u32, size: u32, block: u32) -> &[i64]

@@ -1,4 +1,4 @@
-use Rattle.std.proofs.Common.{◌≡◌, ◌≤◌, ◌∙◌, ap, arith, length, rules, subst, sym, true}
+use Rattle.std.proofs.Common.{◌≡◌, ◌≤◌, ◌-◌, ◌∙◌, ap, arith, length, rules, subst, sym, true}
 use Rattle.std.proofs.lemmas.Result.{err_from_is_err_and}
 use Rattle.pool_blocks.proofs.Blocks.{after-length}
 use Rattle.pool_blocks.specs.Stencils.{AreSteps}
@@ -7,15 +7,15 @@ use Rattle.block_runs.proofs.Refused.{are_steps, part_fault}
 use Rattle.block_runs.specs.Events.{TakeSteps}
 use Rattle.block_runs.proofs.parts.run_in_parts.Goals as goal
 
-pub run_part-requires-taken : goal.run_part-requires-taken
-run_part-requires-taken g c =
+pub run_part-requires-clause-taken : goal.run_part-requires-clause-taken
+run_part-requires-clause-taken g c =
     let s = g.S.Stencil in
     let before = c.loop-left.invariant in
     let cells = c.args.cells.items in
     let count : c.len-2.result ≡ length cells = search rules in
     let takes = subst (λ count. TakeSteps count c.args.size c.args.config.nodes c.in-Some.most) count c.in-Some.ensures in
     let taken : s.takes c.args.stencil (length cells) c.args.size ≡ true = search rules in
-    let same : length cells ≡ length c.deref.result.now = sym (ap length (c.deref.ensures.value ∙ before.made) ∙ after-length (s.step c.args.stencil) (c.args.steps - c.loop-left.left) cells (g.met.S.Stencil.long c.args.stencil)) in
+    let same : length cells ≡ length c.deref.result.now = sym (ap length (c.deref.ensures.value ∙ before.made) ∙ after-length (s.step c.args.stencil) (c.args.steps - c.loop-left.left) cells ((g.met.S.Stencil g.world.𝓛 g.world.𝓜 g.world.𝓡 ((λ s x. x), (λ x. x), (λ x. x), λ x. x)).long c.args.stencil)) in
     subst (λ count. AreSteps (s.takes c.args.stencil) count c.args.size c.min-now.result) same
     (are_steps (s.takes c.args.stencil) (length cells) c.args.size c.args.config.nodes c.in-Some.most c.min-now.result taken takes (search rules))
 
@@ -37,4 +37,4 @@ returns-in_err-made g c =
     let takes = subst (λ count. TakeSteps count c.args.size c.args.config.nodes c.in-Some.most) count c.in-Some.ensures in
     let some : 1 ≤ c.min-now.result = omega (arith, takes.all_planned) in
     rw passed.1 (part_fault c.args.config.nodes c.args.config.workers (s.takes c.args.stencil) (s.step c.args.stencil) (s.next c.args.stencil) c.args.cells.items c.deref.result.now c.args.size c.args.steps c.loop-left.left c.min-now.result passed.0
-    (g.met.S.Stencil.long c.args.stencil) (c.deref.ensures.value ∙ before.made) before.few (search rules) some why)
+    ((g.met.S.Stencil g.world.𝓛 g.world.𝓜 g.world.𝓡 ((λ s x. x), (λ x. x), (λ x. x), λ x. x)).long c.args.stencil) (c.deref.ensures.value ∙ before.made) before.few (search rules) some why)

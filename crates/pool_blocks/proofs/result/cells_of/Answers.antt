@@ -8,7 +8,7 @@ pub loop-b-preserved : goal.loop-b-preserved
 loop-b-preserved g c =
     let w = c.args.work.now in
     let s = g.S.Stencil in
-    let met = g.met.S.Stencil in
+    let met = g.met.S.Stencil g.world.𝓛 g.world.𝓜 g.world.𝓡 ((λ s x. x), (λ x. x), (λ x. x), λ x. x) in
     let right = c.in-Some.ensures.right (block_graph (s.next w.stencil) w.cells.now w.blocks w.size w.steps) c.requires in
     record {
       made =
@@ -28,7 +28,7 @@ pub returns-clause-made : goal.returns-clause-made
 returns-clause-made g c =
     let w = c.args.work.now in
     let s = g.S.Stencil in
-    let met = g.met.S.Stencil in
+    let met = g.met.S.Stencil g.world.𝓛 g.world.𝓜 g.world.𝓡 ((λ s x. x), (λ x. x), (λ x. x), λ x. x) in
     cells_all (s.takes w.stencil) (s.step w.stencil) (s.next w.stencil) w.cells.now w.blocks w.size w.steps w.cut w.taken (met.long w.stencil) (met.by_blocks w.stencil)
     c.blocks-blocks.result c.loop-b.b c.loop-b.cells.items c.blocks-blocks.ensures.same (omega arith) c.loop-b.invariant.made
 
