@@ -85,7 +85,7 @@ lines_from i _ _ = []
 -- of what they answered.
 abbrev pub IsPoolsText : List Word → ℕ → ℕ → Bool → List ℕ → Type 0
 IsPoolsText words n workers each_ended text = (graphs : List AnyGraph) × (answers : List (Result Outcome ended.Fault))
-    × AreNamed words graphs × AreRunAnswers n graphs answers
+    × AreNamed words graphs × AreRunAnswers n workers graphs answers
     × (each_ended ≡ list_all is_ok answers) × (text ≡ lines_from 0 words answers)
 
 -- why the words' pools were not run, or the text of what they answered was not written: the words are in vain; or there was no

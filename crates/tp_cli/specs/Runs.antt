@@ -53,11 +53,11 @@ IsPrintOfSeries Trace g n s text = IsTraceOf n (steps_of s.history.events) text
 
 -- the text, in this form, of a run of a graph on n nodes, with so many workers at each, to its judged end
 abbrev pub IsTextOfOne : Form → AnyGraph → ℕ → ℕ → List ℕ → Type 0
-IsTextOfOne form g n workers text = (o : Outcome) × IsOutcome n (any_graph g) o × IsPrintOf form g n o text
+IsTextOfOne form g n workers text = (o : Outcome) × IsOutcome n workers (any_graph g) o × IsPrintOf form g n o text
 
 -- the text, in this form, of so many generations of a graph on n nodes, with so many workers at each, each run to its judged end
 abbrev pub IsTextOfSeries : Form → AnyGraph → ℕ → ℕ → ℕ → List ℕ → Type 0
-IsTextOfSeries form g n workers count text = (s : Series) × IsSeries n (any_graph g) count s × IsPrintOfSeries form g n s text
+IsTextOfSeries form g n workers count text = (s : Series) × IsSeries n workers (any_graph g) count s × IsPrintOfSeries form g n s text
 
 -- The text of a run in one generation, or of a series of more.
 abbrev pub IsTextOf : Form → AnyGraph → ℕ → ℕ → ℕ → List ℕ → Type 0
@@ -100,12 +100,12 @@ IsUnprintedSeries Trace g s r = IsUntraced s.history.events r
 -- printed, for this.
 abbrev pub IsWithoutOne : Form → AnyGraph → ℕ → ℕ → RunFault → Type 0
 IsWithoutOne form g n workers (Pool fault) = IsFault n (any_graph g) fault
-IsWithoutOne form g n workers (Text r) = (o : Outcome) × IsOutcome n (any_graph g) o × IsUnprinted form g o r
+IsWithoutOne form g n workers (Text r) = (o : Outcome) × IsOutcome n workers (any_graph g) o × IsUnprinted form g o r
 
 -- and of so many generations
 abbrev pub IsWithoutSeries : Form → AnyGraph → ℕ → ℕ → ℕ → RunFault → Type 0
 IsWithoutSeries form g n workers count (Pool fault) = IsSeriesFault n (any_graph g) count fault
-IsWithoutSeries form g n workers count (Text r) = (s : Series) × IsSeries n (any_graph g) count s × IsUnprintedSeries form g s r
+IsWithoutSeries form g n workers count (Text r) = (s : Series) × IsSeries n workers (any_graph g) count s × IsUnprintedSeries form g s r
 
 -- Why there is no text of a run in one generation, or of a series of more.
 abbrev pub IsWithoutText : Form → AnyGraph → ℕ → ℕ → ℕ → RunFault → Type 0

@@ -125,7 +125,7 @@ fn text_of_outcome(
     form: Form,
 ) -> Result<Vec<u8>, Refusal>
     requires nodes { (1 ≤ nodes) × (nodes ≤ MAX_NODES) }
-    requires made { IsOutcome nodes (any_graph graph) outcome.now }
+    requires made { (workers : ℕ) × IsOutcome nodes workers (any_graph graph) outcome.now }
     ensures text { IfOk result (λ text. IsPrintOf form graph nodes outcome.now text.items) }
     ensures none { IfErr result (λ refusal. IsUnprinted form graph outcome.now refusal) }
 {

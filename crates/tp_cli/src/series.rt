@@ -47,7 +47,7 @@ fn text_of_series(
     form: Form,
 ) -> Result<Vec<u8>, Refusal>
     requires nodes { (1 ≤ nodes) × (nodes ≤ MAX_NODES) }
-    requires made { (count : ℕ) × IsSeries nodes (any_graph graph) count series.now }
+    requires made { (workers : ℕ) × (count : ℕ) × IsSeries nodes workers (any_graph graph) count series.now }
     ensures text { IfOk result (λ text. IsPrintOfSeries form graph nodes series.now text.items) }
     ensures none { IfErr result (λ refusal. IsUnprintedSeries form graph series.now refusal) }
 {

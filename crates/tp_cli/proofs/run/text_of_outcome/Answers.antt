@@ -8,7 +8,7 @@ use Rattle.tp_text.proofs.Present.{run_in_each}
 use Rattle.tp_cli.proofs.run.text_of_outcome.Goals as goal
 
 pub text_of_results-requires-clause-tasks : goal.text_of_results-requires-clause-tasks
-text_of_results-requires-clause-tasks c = tasks-outcome c.args.nodes (any_graph c.args.graph) c.args.outcome.now c.requires.made
+text_of_results-requires-clause-tasks c = tasks-outcome c.args.nodes c.requires.made.0 (any_graph c.args.graph) c.args.outcome.now c.requires.made.1
 
 pub returns-in-Table-clause-text : goal.returns-in-Table-clause-text
 returns-in-Table-clause-text c =
@@ -17,7 +17,7 @@ returns-in-Table-clause-text c =
     c.text_of_results.ensures.text
 
 pub print_trace-requires-clause-run : goal.print_trace-requires-clause-run
-print_trace-requires-clause-run c = run_in_each c.args.nodes c.args.outcome.now.history.events c.requires.made.run
+print_trace-requires-clause-run c = run_in_each c.args.nodes c.args.outcome.now.history.events c.requires.made.1.run
 
 pub returns-in-Trace-clause-text : goal.returns-in-Trace-clause-text
 returns-in-Trace-clause-text c =

@@ -9,11 +9,11 @@ use Rattle.tp_cli.proofs.series.text_of_series.Goals as goal
 pub text_of_rounds-requires : goal.text_of_rounds-requires
 text_of_rounds-requires c = record {
   made = subst (All (IsRoundOf c.args.graph)) (sym c.deref.ensures.value)
-      (each_of c.args.nodes c.args.graph c.requires.made.0 c.args.series.now c.requires.made.1);
+      (each_of c.args.nodes c.requires.made.0 c.args.graph c.requires.made.1 c.args.series.now c.requires.made.2);
 }
 
 pub print_trace-requires-clause-run : goal.print_trace-requires-clause-run
-print_trace-requires-clause-run c = in_each c.args.nodes (any_graph c.args.graph) c.requires.made.0 c.args.series.now c.requires.made.1
+print_trace-requires-clause-run c = in_each c.args.nodes c.requires.made.0 (any_graph c.args.graph) c.requires.made.1 c.args.series.now c.requires.made.2
 
 pub returns-in-Table-clause-text : goal.returns-in-Table-clause-text
 returns-in-Table-clause-text c =
