@@ -3,12 +3,12 @@ ghost use Rattle.pool_runs.specs.Faults.{IsProductFault};
 ghost use Rattle.pool_matrix.specs.Matrices.{product_of};
 ghost use Rattle.tp_work.specs.Outcomes.{IsWithinLimits};
 
-use crate::fault::LentFault;
+use block_runs::LentFault;
+use pool_matrix::{Product, matrix_of};
 use std::alloc::Global;
 use std::sync::Wait;
 use std::thread::Threads;
 use tp_base::Refusal;
-use pool_matrix::{Product, matrix_of};
 use tp_work::{Config, OpenGate, run_pool};
 
 /// The product of two matrices of so many rows and columns, row by row, worked out by a pool of threads in tiles of so many
