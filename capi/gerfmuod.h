@@ -40,7 +40,7 @@ extern "C" {
 #define GERFMUOD_VERSION 100u
 #define GERFMUOD_MAX_NODES 8u
 /* Of all generations of a core together. A task takes 3 and one for each input; a message 3; a wave 3 a node;
- * gerfmuod_settle 6 a node, and up to 3 more where a wave was open, where it is not refused. */
+ * gerfmuod_settle at most 9 a node, where it is not refused. */
 #define GERFMUOD_MAX_STEPS 1048576u
 #define GERFMUOD_MAX_INPUTS 16u
 /* The generation of a pool that was not reopened. */
