@@ -4,9 +4,10 @@ They are those that the gate tries (crates/NAME/must-fail) and all others (wrong
 are tried whose note is not today's.
 
 What refused each wrong body is noted in wrong/NAME/JUDGED. The note is today's as long as the crate's own files, its
-wrong bodies, the definitions (specs/) of the crates directly below it and the toolchain are the same. Prints a line
-for each crate that is proved before, for each wrong body, and for each crate. The status is 1 where a wrong body is
-not refused by a clause, or, with --stale, where a note is not today's.
+wrong bodies and the definitions (specs/) of the crates directly below it are the same. It names the toolchain too: one
+of another machine makes no note stale, since it is none of the repository's text, but --stale tells of it. Prints a
+line for each crate that is proved before, for each wrong body, and for each crate. The status is 1 where a wrong body
+is not refused by a clause, or, with --stale, where a note is not today's.
 """
 import datetime
 import hashlib
@@ -36,7 +37,7 @@ def toolchain():
 
 def digest(crate):
     """Gives a sum of all that the judgement of a crate's wrong bodies is noted for."""
-    found = hashlib.sha256(toolchain().encode())
+    found = hashlib.sha256()
     folders = [f"crates/{crate.name}/{part}" for part in ("src", "specs", "proofs")] + [f"crates/{it}/specs" for it in crate.below]
     texts = [(it, it) for folder in folders for it in files_in(folder)] + sorted(edits_of(crate.name).items())
     for name, path in texts:
@@ -45,9 +46,19 @@ def digest(crate):
     return found.hexdigest()
 
 
+def noted(crate, word):
+    """Gives what a crate's note has behind this word, or nothing where it has no such line."""
+    found = re.search(rf"^{word} (.+)$", text_of(f"wrong/{crate.name}/JUDGED", ""), re.M)
+    return found and found[1]
+
+
 def is_todays(crate):
-    noted = re.search(r"^of (\w+)$", text_of(f"wrong/{crate.name}/JUDGED", ""), re.M)
-    return noted is not None and noted[1] == digest(crate)
+    return noted(crate, "of") == digest(crate)
+
+
+def logic(version):
+    """Gives the part of a toolchain's version that names its prover."""
+    return (version or "").partition("logic ")[2]
 
 
 def reason(said):
@@ -121,6 +132,9 @@ def run(words):
     if words.stale:
         for name in stale:
             print(f"{name} changed since its wrong bodies were tried: make wrong")
+        others = [it.name for it in having.values() if logic(noted(it, "by")) != logic(toolchain())]
+        if others:
+            print(f"Tried with another prover than this one, which `make wrong ALL=1` would ask: {' '.join(others)}")
         return 1 if stale else 0
     names = [*having] if words.all else list(dict.fromkeys(words.names)) or stale
     if not all(it in having for it in names):
