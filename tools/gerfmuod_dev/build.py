@@ -52,12 +52,13 @@ def prove(crate, room, jobs):
     return not ran.returncode, ran.stdout
 
 
-def give(crate, room, others):
-    """Gives the library of a crate that was proved in one copy to the other copies."""
-    for other in others:
-        made = f"{other}/crates/{crate.name}/out/rlib"
+def give(name, room, others):
+    """Gives the library of a crate that was proved in one copy to the other copies; there is none of a program."""
+    proved = f"{room}/crates/{name}/out/rlib"
+    for other in others if os.path.exists(proved) else []:
+        made = f"{other}/crates/{name}/out/rlib"
         shutil.rmtree(made, ignore_errors=True)
-        shutil.copytree(f"{room}/crates/{crate.name}/out/rlib", made, copy_function=os.link)
+        shutil.copytree(proved, made, copy_function=os.link)
 
 
 def shares(free, ready):
@@ -89,8 +90,8 @@ def prove_all(every, rooms_of_it):
                 free += jobs
                 proved, said = ended.result()
                 is_well = is_well and proved
-                if proved and os.path.exists(f"{room}/crates/{crate.name}/out/rlib"):
-                    give(crate, room, [it for it in all_rooms if it != room])
+                if proved:
+                    give(crate.name, room, [it for it in all_rooms if it != room])
                 done.add(crate.name)
                 tell(crate, proved, said, f"[{len(done)}/{len(every)}]", time.time() - since)
     print(f"{(time.time() - began) / 60:.0f} minutes.")
