@@ -1,4 +1,4 @@
-use pool_patterns::{Grid, Pattern, Table, TableFault};
+use pool_patterns::{Grid, Pattern, Relation, Table, TableFault};
 use std::alloc::{AllocError, Global};
 use std::test::Fail;
 use tp_base::TaskId;
@@ -26,9 +26,9 @@ fn arities_of<G: Graph>(alloc: Global, graph: G) -> Result<Vec<u8>, AllocError> 
 }
 
 /// The feeds of a grid, and how many inputs each of its tasks waits for.
-fn looks(
+pub(crate) fn looks<P: Relation + Send + Sync>(
     alloc: Global,
-    pattern: Pattern,
+    pattern: P,
     width: u32,
     steps: u32,
 ) -> Result<(Vec<(u32, u32, u8)>, Vec<u8>), TableFault> {

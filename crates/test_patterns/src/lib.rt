@@ -4,6 +4,8 @@
 #[cfg(test)]
 mod feeds;
 #[cfg(test)]
+mod own;
+#[cfg(test)]
 mod refusals;
 #[cfg(test)]
 mod relations;
