@@ -1,21 +1,16 @@
 -- Each task of a grid has the value that the plain method gives.
-use Rattle.std.proofs.Common.{◌≡◌, ◌<◌, ◌≤◌, ◌+◌, ◌-◌, ◌*◌, ◌/◌, ◌%◌, ◌^◌, ℕ, zero, suc, Bool, true, false, ℤ, pos, List, [], ◌∷◌, ◌++◌, Option, Some, None, length, get_or, if◌then◌else◌, nat_lt, eqb, refl, ap, sym, ◌∙◌, subst, arith, length-append}
-use Rattle.std.proofs.lemmas.Bool.{lt-ltb, eqb-true, eqb-false}
-use Rattle.std.proofs.lemmas.Bool.Decides.{nat_tests}
+use Rattle.std.proofs.Common.{◌≡◌, ◌<◌, ◌≤◌, ◌+◌, ◌-◌, ◌*◌, ◌/◌, ◌%◌, ℕ, zero, suc, Bool, true, false, ℤ, pos, List, [], ◌∷◌, ◌++◌, Option, Some, None, if◌then◌else◌, refl, ap, sym, ◌∙◌, subst, arith}
+use Rattle.std.proofs.lemmas.Bool.{lt-ltb}
 use Rattle.std.proofs.lemmas.Nat.{mod-mul-add, div-mul-add, mul-add-lt}
 use Rattle.tp_graph.proofs.Valued.{value_made, fitting-one}
-use Rattle.tp_graph.specs.Graphs.{TaskGraph, IsLawful}
 use Rattle.std.specs.Option.{unwrap_or}
 use Rattle.tp_graph.specs.Values.{value_of, outcome, then_some, fitting, AreInputs}
 use Rattle.pool_patterns.specs.Kinds.{picked}
-use Rattle.pool_patterns.specs.Ranks.{rank, nth, nth_is}
+use Rattle.pool_patterns.specs.Ranks.{rank, nth_is}
 use Rattle.pool_patterns.proofs.Picked.{picked_at, picked_long}
 use Rattle.pool_patterns.specs.Grids.{Relation, grid_graph, inputs, source, input, IsNarrow}
-use Rattle.pool_patterns.specs.Kernels.{made, stir, stirred, number_of, total_of, kernel_rule}
+use Rattle.pool_patterns.specs.Kernels.{made, stir, number_of, total_of, kernel_rule}
 use Rattle.pool_patterns.specs.Rows.{cell, sum_where}
-use Rattle.std.proofs.lemmas.List.Elements.{All-get_or}
-use Rattle.tp_base.specs.declared.TaskId.{TaskId}
-use Rattle.tp_graph.specs.Serial.{AreValues, Results}
 use Rattle.pool_patterns.specs.GridLaws.{grid_lawful}
 
 number_is : (n : ℕ) → n < 2147483648 → number_of (pos n ∷ []) ≡ Some n

@@ -1,13 +1,13 @@
 -- The outputs of rows, worked out column by column.
-use Rattle.std.proofs.Common.{◌≡◌, ◌≢◌, ◌<◌, ◌≤◌, ◌+◌, ◌-◌, ◌*◌, ◌/◌, ◌%◌, ℕ, zero, suc, Bool, true, false, List, [], ◌∷◌, ◌++◌, length, get_or, set, min, if◌then◌else◌, eqb, refl, ap, sym, ◌∙◌, subst, arith, ⊎_elim, append_assoc, length-append}
-use Rattle.std.proofs.lemmas.Bool.{cases_lt, cases_eq, eqb-true, eqb-false}
+use Rattle.std.proofs.Common.{◌≡◌, ◌<◌, ◌≤◌, ◌+◌, ◌-◌, ◌*◌, ◌/◌, ◌%◌, ℕ, zero, suc, true, false, List, [], ◌∷◌, ◌++◌, length, get_or, set, min, ap, sym, ◌∙◌, subst, arith, ⊎_elim, append_assoc, length-append}
+use Rattle.std.proofs.lemmas.Bool.{cases_lt, cases_eq}
 use Rattle.std.proofs.lemmas.Bool.Decides.{nat_tests}
 use Rattle.std.proofs.lemmas.List.{get_or-append-add, get_or-append_right, get_or-set_other, get_or-set_same, get_or_append_left, get_or_at, length-set}
-use Rattle.std.proofs.Math.Nat.{mod-le, div-add-mod}
-use Rattle.std.proofs.lemmas.Nat.{div-add-mod', div-mul-add, mod-mul-add, mul-add-lt, mod_below, mul-le, div_below}
-use Rattle.pool_patterns.specs.Grids.{Relation, ComesAgain, IsNarrow, inputs, outputs, output}
-use Rattle.pool_patterns.specs.Kinds.{AreArities, AreKinds, AreSeen, AreSpans, outputs_to, picked}
-use Rattle.pool_patterns.specs.Ranks.{rank, nth, nth_is, rank_is}
+use Rattle.std.proofs.Math.Nat.{mod-le}
+use Rattle.std.proofs.lemmas.Nat.{div-add-mod', div-mul-add, mod-mul-add, mul-add-lt, mod_below}
+use Rattle.pool_patterns.specs.Grids.{Relation, ComesAgain}
+use Rattle.pool_patterns.specs.Kinds.{AreArities, AreSeen, AreSpans, outputs_to}
+use Rattle.pool_patterns.specs.Ranks.{rank, nth, nth_is}
 use Rattle.pool_patterns.specs.Tables.{AreOutputs, IsOutput}
 use Rattle.pool_patterns.specs.declared.spots.Output.{Output}
 use Rattle.pool_patterns.specs.declared.spots.Span.{Span}

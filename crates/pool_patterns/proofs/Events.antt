@@ -1,9 +1,9 @@
 -- How many events a grid takes.
-use Rattle.std.proofs.Common.{◌≡◌, ◌<◌, ◌≤◌, ◌+◌, ◌-◌, ◌*◌, ◌/◌, ◌%◌, ◌^◌, ℕ, zero, suc, if◌then◌else◌, nat_lt, refl, ap, sym, ◌∙◌, subst, arith}
+use Rattle.std.proofs.Common.{◌≡◌, ◌<◌, ◌≤◌, ◌+◌, ◌*◌, ◌/◌, ◌%◌, ◌^◌, ℕ, zero, suc, ap, sym, ◌∙◌, subst, arith}
 use Rattle.std.proofs.lemmas.Bool.Decides.{nat_tests}
-use Rattle.std.proofs.lemmas.Nat.{mul-le, div_below, mod_below}
-use Rattle.pool_patterns.specs.Faults.{IsTableFault, IsWide, events_below, grid_events, task_events}
-use Rattle.pool_patterns.specs.Grids.{Relation, IsNarrow, inputs}
+use Rattle.std.proofs.lemmas.Nat.{mul-le}
+use Rattle.pool_patterns.specs.Faults.{IsTableFault, events_below, grid_events, task_events}
+use Rattle.pool_patterns.specs.Grids.{Relation, inputs}
 use Rattle.pool_patterns.specs.Kinds.{IsRowFault, IsRowsFault}
 use Rattle.pool_patterns.specs.Ranks.{rank}
 use Rattle.pool_patterns.specs.declared.fault.TableFault.{TableFault}

@@ -1,13 +1,12 @@
 -- What is noted of each task.
-use Rattle.std.proofs.Common.{◌≡◌, ◌≢◌, ◌<◌, ◌≤◌, ◌+◌, ◌-◌, ◌*◌, ◌/◌, ◌%◌, ℕ, zero, suc, Bool, true, false, List, [], ◌∷◌, ◌++◌, length, get_or, min, if◌then◌else◌, nat_lt, refl, ap, sym, ◌∙◌, subst, arith, ⊎_elim, length-append}
+use Rattle.std.proofs.Common.{◌≡◌, ◌<◌, ◌≤◌, ◌+◌, ◌-◌, ◌*◌, ◌/◌, ◌%◌, ℕ, zero, suc, true, false, List, [], ◌∷◌, ◌++◌, length, get_or, min, nat_lt, refl, ap, sym, ◌∙◌, subst, arith, ⊎_elim, length-append}
 use Rattle.std.proofs.lemmas.Bool.{cases_lt, lt-ltb, le-ltb}
-use Rattle.std.proofs.lemmas.Bool.Decides.{nat_tests}
 use Rattle.std.proofs.lemmas.List.{get_or_append_left, get_or_at}
-use Rattle.std.proofs.lemmas.Nat.{div-add-mod', div-mul-add, mod-mul-add, div_below, mod_below}
+use Rattle.std.proofs.lemmas.Nat.{div-mul-add, mod-mul-add, div_below, mod_below}
 use Rattle.pool_patterns.specs.Grids.{Relation, ComesAgain, IsNarrow, inputs, outputs}
 use Rattle.pool_patterns.specs.Kinds.{AreArities, AreKinds, AreSpans}
 use Rattle.pool_patterns.specs.GridLaws.{some_if}
-use Rattle.pool_patterns.specs.Ranks.{rank, nth, nth_is}
+use Rattle.pool_patterns.specs.Ranks.{rank, nth_is}
 use Rattle.pool_patterns.specs.Tables.{AreOutputs, AreSpots, IsOutput, IsSpot}
 use Rattle.pool_patterns.specs.declared.spots.Output.{Output}
 use Rattle.pool_patterns.specs.declared.spots.Span.{Span}

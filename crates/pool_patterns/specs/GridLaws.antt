@@ -1,10 +1,9 @@
 -- A grid is a task graph, whatever its relation: the s-th of those that feed a column and the rank among them are inverse to each other.
 use Rattle.std.proofs.Common.{◌≡◌, ◌<◌, ◌≤◌, ◌+◌, ◌*◌, ◌/◌, ◌%◌, ℕ, zero, suc, Bool, true, false, ℤ, List, Option, if◌then◌else◌, nat_lt, refl, ap, sym, ◌∙◌, subst, arith}
 use Rattle.std.proofs.lemmas.Bool.{lt-ltb, ltb-true}
-use Rattle.std.proofs.lemmas.Bool.Decides.{nat_tests}
 use Rattle.std.proofs.lemmas.Nat.{div-add-mod', mod-mul-add, div-mul-add, mul-add-lt, div_below}
-use Rattle.tp_graph.specs.Graphs.{TaskGraph, IsLawful, FillsSlot, IsFilled}
-use Rattle.pool_patterns.specs.Ranks.{rank, nth, nth_is, rank_is}
+use Rattle.tp_graph.specs.Graphs.{IsLawful, FillsSlot, IsFilled}
+use Rattle.pool_patterns.specs.Ranks.{rank, nth_is, rank_is}
 use Rattle.pool_patterns.specs.Grids.{Relation, grid_graph, inputs, outputs, input, output, source, turn, target, slot, IsNarrow}
 
 pub some_if : (b : Bool) (k n : ℕ) → k < (if b then n else 0) → (b ≡ true) × (k < n)

@@ -1,11 +1,11 @@
 -- The outputs of rows, worked out column by column.
-use Rattle.std.specs.Prelude.{◌≡◌, ◌<◌, ◌≤◌, ◌+◌, ◌-◌, ◌*◌, ◌/◌, ◌%◌, ℕ, zero, suc, Bool, List, [], ◌∷◌, ◌++◌, length, slice_index_or, if◌then◌else◌, min, ⊤}
+use Rattle.std.specs.Prelude.{◌≡◌, ◌<◌, ◌≤◌, ◌-◌, ◌*◌, ◌/◌, ◌%◌, ℕ, zero, suc, Bool, List, [], ◌∷◌, ◌++◌, length, slice_index_or, if◌then◌else◌, min, ⊤}
 use Rattle.pool_patterns.specs.Grids.{Relation, ComesAgain}
 use Rattle.pool_patterns.specs.Faults.{IsWide}
 use Rattle.pool_patterns.specs.Ranks.{rank}
 use Rattle.pool_patterns.specs.Tables.{AreOutputs}
 use Rattle.pool_patterns.specs.declared.fault.TableFault.{TableFault}
-use Rattle.pool_patterns.specs.declared.fault.TableFault.TheVariants.{Empty, TooManyInputs, TooManyEvents, NoMemory}
+use Rattle.pool_patterns.specs.declared.fault.TableFault.TheVariants.{TooManyInputs, NoMemory}
 use Rattle.pool_patterns.specs.declared.spots.Output.{Output}
 use Rattle.pool_patterns.specs.declared.spots.Span.{Span}
 

@@ -1,4 +1,4 @@
-use Rattle.std.proofs.Common.{◌≡◌, ◌<◌, ◌+◌, ◌∙◌, true, false, ap, sym, subst, arith, rules, get_or}
+use Rattle.std.proofs.Common.{◌≡◌, ◌<◌, ◌+◌, ◌∙◌, true, false, ap, sym, subst, arith, rules}
 use Rattle.std.proofs.lemmas.List.{get_or_read}
 use Rattle.pool_patterns.proofs.Counted.{outputs_more, outputs_same, seen_more, seen_same, seen_wide}
 use Rattle.pool_patterns.proofs.More.{rank_more, rank_same}

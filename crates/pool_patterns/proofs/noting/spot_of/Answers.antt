@@ -1,4 +1,4 @@
-use Rattle.std.proofs.Common.{◌≡◌, ◌<◌, ◌/◌, ◌%◌, ◌-◌, arith, refl}
+use Rattle.std.proofs.Common.{◌<◌, ◌/◌, ◌%◌, ◌-◌, arith, refl}
 use Rattle.std.proofs.lemmas.Nat.{div_below, mod_below}
 use Rattle.pool_patterns.proofs.Counted.{kind_within}
 use Rattle.pool_patterns.proofs.Noted.{spot_is}

@@ -1,10 +1,10 @@
-use Rattle.std.proofs.Common.{◌≡◌, ◌<◌, ◌-◌, ◌*◌, ◌+◌, ℕ, Option, None, Some, ap, sym, ◌∙◌, arith}
+use Rattle.std.proofs.Common.{◌≡◌, ◌<◌, ◌-◌, ◌*◌, None, Some, ap, sym, ◌∙◌, arith}
 use Rattle.std.specs.Option.{unwrap_or}
 use Rattle.std.proofs.lemmas.Nat.{mul-add-lt}
 use Rattle.pool_patterns.proofs.CellValues.{number_there}
 use Rattle.pool_patterns.proofs.Found.{has_one}
 use Rattle.pool_patterns.specs.Grids.{Relation}
-use Rattle.pool_patterns.specs.Kernels.{kernel_graph, number_of}
+use Rattle.pool_patterns.specs.Kernels.{kernel_graph}
 use Rattle.pool_patterns.specs.Rows.{cell}
 use Rattle.pool_patterns.proofs.row.cell_at.Goals as goal
 

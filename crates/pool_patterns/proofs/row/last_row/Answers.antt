@@ -1,4 +1,4 @@
-use Rattle.std.proofs.Common.{◌≡◌, ◌-◌, ◌∙◌, arith}
+use Rattle.std.proofs.Common.{◌-◌, ◌∙◌, arith}
 use Rattle.pool_patterns.proofs.Found.{row_more}
 use Rattle.pool_patterns.specs.Rows.{cell}
 use Rattle.pool_patterns.proofs.row.last_row.Goals as goal
