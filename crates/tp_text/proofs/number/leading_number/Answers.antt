@@ -1,5 +1,18 @@
+use Rattle.std.proofs.Common.{◌≡◌, true, false, refl, arith}
 use Rattle.tp_text.proofs.number.leading_number.Goals as goal
-use Rattle.tp_text.proofs.Numbers.{no_leading}
+use Rattle.tp_text.proofs.number.leading_number.Goals.{then-len-eq0-via-then-len-eq0, then-len-eq0-via-else-len-eq0+then-len-gt6, then-len-eq0-via-else-len-eq0+else-len-gt6+then-is_padded}
+use Rattle.tp_text.proofs.Numbers.{none_without, none_where_long, none_where_padded, spells_value}
 
-pub returns-in_err-number : goal.returns-in_err-number
-returns-in_err-number c = rw c.from_residual.ensures (no_leading _ _ _ c.leading_digits.ensures c.in_err-number.ensures)
+pub returns-then-len-eq0 : goal.returns-then-len-eq0
+returns-then-len-eq0 c =
+    let h = c.leading_digits-len.ensures in
+    elim c.then-len-eq0.branch [
+      | then-len-eq0-via-then-len-eq0 w ↦ none_without c.args.text.now c.leading_digits-len.result.0 c.leading_digits-len.result.1 (omega arith) h
+      | then-len-eq0-via-else-len-eq0+then-len-gt6 w ↦ none_where_long c.args.text.now _ _ h (omega arith)
+      | then-len-eq0-via-else-len-eq0+else-len-gt6+then-is_padded w ↦ none_where_padded c.args.text.now _ _ h (omega arith) (w.if-is_padded.ensures.0 refl)
+    ]
+
+pub returns : goal.returns
+returns c =
+    spells_value c.args.text.now _ _ c.leading_digits-len.ensures (omega arith) (omega arith)
+    (λ padded. let bad : false ≡ true = c.if-is_padded.ensures.1 padded in cc)
