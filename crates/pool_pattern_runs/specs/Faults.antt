@@ -1,0 +1,18 @@
+-- Why a run of a pattern gives no row, by cases of the fault that is answered.
+use Rattle.std.specs.Prelude.{ℕ}
+use Rattle.tp_base.specs.declared.refusal.Refusal.{Refusal}
+use Rattle.tp_base.specs.declared.refusal.Refusal.TheVariants.{NoMemory}
+use Rattle.tp_graph.specs.Graphs.{TaskGraph}
+use Rattle.pool_pattern_runs.specs.declared.fault.PatternFault.{PatternFault}
+use Rattle.pool_pattern_runs.specs.declared.fault.PatternFault.TheVariants.{Run, Unmade}
+use Rattle.tp_work.specs.Outcomes.{IsFault, IsOutcome}
+
+-- the refusal that a fault is told as: that of the pool's own fault is its own
+abbrev pub refusal_of : PatternFault → Refusal
+refusal_of (Run fault) = fault.refusal
+refusal_of (Unmade outcome) = NoMemory
+
+-- At n nodes the graph's pool has the very fault, or the very outcome, that the answer holds.
+abbrev pub IsPatternFault : ℕ → TaskGraph → PatternFault → Type 0
+IsPatternFault n g (Run fault) = IsFault n g fault
+IsPatternFault n g (Unmade outcome) = IsOutcome n g outcome

@@ -1,0 +1,35 @@
+-- What a task makes of its inputs: numbers below 2 ^ 31, stirred so many times.
+use Rattle.std.specs.Prelude.{◌+◌, ◌*◌, ◌%◌, ℕ, zero, suc, ℤ, pos, List, [], ◌∷◌, Option, Some, None, if◌then◌else◌, nat_lt}
+use Rattle.tp_graph.specs.Graphs.{TaskGraph}
+use Rattle.tp_graph.specs.Values.{then_some}
+use Rattle.pool_patterns.specs.Grids.{Relation, grid_graph}
+
+-- one iteration
+abbrev pub stirred : ℕ → ℕ
+stirred x = (x * (2 * x + 1) + 1013904223) % 2147483648
+
+-- so many iterations
+abbrev pub stir : ℕ → ℕ → ℕ
+stir zero x = x
+stir (suc n) x = stirred (stir n x)
+
+-- what column i makes of the sum of its inputs
+abbrev pub made : ℕ → ℕ → ℕ → ℕ
+made iterations i total = stir iterations ((total + i + 1) % 2147483648)
+
+-- the number of an input, which is below 2 ^ 31
+abbrev pub number_of : List ℤ → Option ℕ
+number_of (pos n ∷ []) = if nat_lt n 2147483648 then Some n else None
+number_of _ = None
+
+abbrev pub total_of : List (List ℤ) → Option ℕ
+total_of [] = Some 0
+total_of (a ∷ rest) = then_some (number_of a) (λ n. then_some (total_of rest) (λ m. Some (n + m)))
+
+-- the rule of the tasks of a grid of w columns
+abbrev pub kernel_rule : ℕ → ℕ → ℕ → List (List ℤ) → Option (List ℤ)
+kernel_rule w iterations t values = then_some (total_of values) (λ n. Some (pos (made iterations (t % w) n) ∷ []))
+
+-- a grid of tasks of this rule
+abbrev pub kernel_graph : Relation → ℕ → ℕ → ℕ → TaskGraph
+kernel_graph r w steps iterations = grid_graph r w steps (kernel_rule w iterations)

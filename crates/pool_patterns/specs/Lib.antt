@@ -1,0 +1,9 @@
+pub mod Ranks
+pub mod Grids
+pub mod Kernels
+pub mod Rows
+pub mod Relations
+pub mod Tables
+pub mod Faults
+pub mod Kinds
+pub mod GridLaws

@@ -1,0 +1,36 @@
+use std::alloc::{AllocError, AllocFailed};
+
+/// Why there is no table of a grid.
+#[derive(Clone, Copy, Debug, PartialEq, Eq)]
+pub enum TableFault {
+    /// There is no column, or no row.
+    Empty,
+    /// A task has more than 16 inputs.
+    TooManyInputs,
+    /// The tasks take more events than a run may have: 1,048,576.
+    TooManyEvents,
+    /// A growth of memory was refused.
+    NoMemory,
+}
+
+impl From<AllocError> for TableFault {
+    ghost use Rattle.std.specs.Prelude.{◌≡◌};
+    ghost use Rattle.pool_patterns.specs.declared.fault.TableFault.TheVariants.{NoMemory};
+
+    ghost from_gives = { λ _ e. e ≡ NoMemory };
+
+    fn from(_: AllocError) -> Self {
+        TableFault::NoMemory
+    }
+}
+
+impl<T: Drop> From<AllocFailed<T>> for TableFault {
+    ghost use Rattle.std.specs.Prelude.{◌≡◌};
+    ghost use Rattle.pool_patterns.specs.declared.fault.TableFault.TheVariants.{NoMemory};
+
+    ghost from_gives = { λ _ e. e ≡ NoMemory };
+
+    fn from(_: AllocFailed<T>) -> Self {
+        TableFault::NoMemory
+    }
+}

@@ -1,0 +1,66 @@
+ghost use Rattle.std.specs.Prelude.{◌≡◌, ◌<◌, ◌≤◌, MatchResult, Some, None, length};
+ghost use Rattle.tp_base.specs.declared.Refusal.TheVariants.{BodyFailed};
+ghost use Rattle.pool_patterns.specs.Kernels.{made, number_of, stir, stirred, total_of};
+
+use tp_base::Refusal;
+use tp_graph::Value;
+
+/// One iteration of the kernel.
+pub(crate) fn stirred(x: u64) -> u64
+    requires { x < 2147483648 }
+    ensures same { result ≡ stirred x }
+    ensures small { result < 2147483648 }
+{
+    (x * (2 * x + 1) + 1013904223) % 2147483648
+}
+
+/// So many iterations.
+#[tactic(auto, using(crate::proofs::More::stir_more))]
+fn stir(x: u64, iterations: u64) -> u64
+    requires { x < 2147483648 }
+    ensures same { result ≡ stir iterations x }
+    ensures small { result < 2147483648 }
+{
+    let mut y = x;
+    for _iteration in 0..iterations {
+        y = stirred(y);
+    }
+    y
+}
+
+/// What a column makes of the sum of its inputs.
+pub(crate) fn made(iterations: u64, column: u32, total: u64) -> u64
+    requires { total < 1099511627776 }
+    ensures same { result ≡ made iterations column total }
+    ensures small { result < 2147483648 }
+{
+    stir((total + u64::from(column) + 1) % 2147483648, iterations)
+}
+
+/// The number of an input, which is below 2 ^ 31. Refused with `BodyFailed` where it is none.
+pub(crate) fn number_of(value: &Value) -> Result<u64, Refusal>
+    ensures { MatchResult result
+        (λ n. (number_of value.now ≡ Some n) × (n < 2147483648))
+        (λ refusal. (refusal ≡ BodyFailed) × (number_of value.now ≡ None)) }
+{
+    let number = value.lone()?;
+    if 0 <= number && number < 2147483648 {
+        Ok(number as u64)
+    } else {
+        Err(Refusal::BodyFailed)
+    }
+}
+
+/// The sum of the numbers of some inputs. Refused with `BodyFailed` where one is none.
+pub(crate) fn total_of(values: &[Value]) -> Result<u64, Refusal>
+    requires { length values.now ≤ 16 }
+    ensures { MatchResult result
+        (λ n. (total_of values.now ≡ Some n) × (n < 1099511627776))
+        (λ refusal. (refusal ≡ BodyFailed) × (total_of values.now ≡ None)) }
+{
+    let mut total = 0;
+    for i in 0..values.len() {
+        total += number_of(&values[i])?;
+    }
+    Ok(total)
+}

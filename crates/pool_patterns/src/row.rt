@@ -1,0 +1,76 @@
+ghost use Rattle.std.specs.Prelude.{◌≡◌, ◌<◌, ◌-◌, ◌*◌, IfOk};
+ghost use Rattle.tp_graph.specs.Found.{ArePlaces, HasOneOfEach};
+ghost use Rattle.tp_graph.specs.Serial.{AreRight};
+ghost use Rattle.pool_patterns.specs.Kernels.{kernel_graph};
+ghost use Rattle.pool_patterns.specs.Rows.{cell, checksum, row_at};
+
+use crate::grid::Grid;
+use crate::kernel::number_of;
+use crate::relation::Relation;
+use std::alloc::{AllocError, Global};
+use tp_base::TaskId;
+use tp_graph::{Value, places, value_at};
+
+/// The numbers of the last row, column by column, from one result of each task, in any order: those of the plain method.
+pub fn last_row<P: Relation>(
+    alloc: Global,
+    grid: &Grid<P>,
+    results: &[(TaskId, Value)],
+) -> Result<Vec<u64>, AllocError>
+    requires right { AreRight
+        (kernel_graph (P.relation grid.now.table.now.pattern grid.now.table.now.width) grid.now.table.now.width
+        grid.now.table.now.steps grid.now.iterations) results.now }
+    requires once { HasOneOfEach (grid.now.table.now.steps * grid.now.table.now.width) results.now }
+    ensures { IfOk result (λ row. row.items ≡
+        row_at (P.relation grid.now.table.now.pattern grid.now.table.now.width) grid.now.table.now.width grid.now.iterations
+        (grid.now.table.now.steps - 1)) }
+{
+    let (width, steps) = (grid.table().width(), grid.table().steps());
+    let places = places(alloc, steps * width, results)?;
+    let mut row = Vec::with_capacity(alloc, width as usize)?;
+    for column in 0..width {
+        row.push_reserved(cell_at(grid, results, &places, column));
+    }
+    Ok(row)
+}
+
+/// The number of a column of the last row, by the places of the results.
+fn cell_at<P: Relation>(
+    grid: &Grid<P>,
+    results: &[(TaskId, Value)],
+    places: &[usize],
+    column: u32,
+) -> u64
+    requires within { column < grid.now.table.now.width }
+    requires right { AreRight
+        (kernel_graph (P.relation grid.now.table.now.pattern grid.now.table.now.width) grid.now.table.now.width
+        grid.now.table.now.steps grid.now.iterations) results.now }
+    requires once { HasOneOfEach (grid.now.table.now.steps * grid.now.table.now.width) results.now }
+    requires places { ArePlaces (grid.now.table.now.steps * grid.now.table.now.width) results.now places.now }
+    ensures { result ≡
+        cell (P.relation grid.now.table.now.pattern grid.now.table.now.width) grid.now.table.now.width grid.now.iterations
+        (grid.now.table.now.steps - 1) column }
+{
+    let task = grid.last(column);
+    match value_at(results, places, task) {
+        Some(value) => match number_of(value) {
+            Ok(number) => number,
+            // What a task has made is a number.
+            Err(_) => unreachable!(),
+        },
+        // Each task has a result.
+        None => unreachable!(),
+    }
+}
+
+/// The checksum of a row: the sum of its numbers mod 2 ^ 31.
+pub fn checksum(row: &[u64]) -> u64
+    ensures same { result ≡ checksum row.now }
+    ensures small { result < 2147483648 }
+{
+    let mut sum = 0;
+    for number in row {
+        sum = (sum + *number % 2147483648) % 2147483648;
+    }
+    sum
+}

@@ -1,0 +1,105 @@
+ghost use Rattle.std.specs.Prelude.{◌≡◌, ◌≤◌, ◌<◌, ◌*◌, ◌/◌, ◌%◌, ◌^◌, suc, IfErr, IfOk};
+ghost use Rattle.pool_patterns.specs.Faults.{IsTableFault};
+ghost use Rattle.pool_patterns.specs.Grids.{IsNarrow};
+ghost use Rattle.pool_patterns.specs.Tables.{AreSpots, IsOutput, IsSpot};
+
+use crate::fault::TableFault;
+use crate::kinds::{Kinds, kinds_of};
+use crate::noting::spots_of;
+use crate::relation::Relation;
+use crate::spots::{Output, Spot};
+use std::alloc::Global;
+use tp_base::TaskId;
+
+/// A grid of tasks over a pattern, so many rows of so many columns, with what each task waits for and feeds worked out once. A
+/// graph borrows it, so that each of its calls is a look.
+#[derive(Drop)]
+pub struct Table<P: Relation> {
+    pattern: P,
+    width: u32,
+    steps: u32,
+    spots: Vec<Spot>,
+    outputs: Vec<Output>,
+    ghost some_columns: { 1 ≤ width },
+    ghost few_columns: { width < 2 ^ 20 },
+    ghost some_steps: { 1 ≤ steps },
+    ghost few_steps: { steps < 2 ^ 20 },
+    ghost few_tasks: { steps * width < 2 ^ 20 },
+    ghost narrow: { IsNarrow (P.relation pattern width) width steps },
+    ghost noted: { AreSpots (P.relation pattern width) width steps (steps * width) spots.items outputs.items },
+}
+
+impl<P: Relation> Table<P> {
+    /// So many rows of so many columns. Refused with `Empty` where there is no column or no row, with `TooManyInputs` where a
+    /// task has more than 16, with `TooManyEvents` where the tasks take more than 1,048,576 events at one node, and with
+    /// `NoMemory` where memory is refused first. It takes O(width * width) for each row up to where the relation comes again
+    /// ([`Relation::period`]), and memory for each task and for each feed of those rows.
+    pub fn new(alloc: Global, pattern: P, width: u32, steps: u32) -> Result<Self, TableFault>
+        ensures made { IfOk result (λ table. (table.pattern ≡ pattern) × (table.width ≡ width) × (table.steps ≡ steps)) }
+        ensures refused { IfErr result (IsTableFault (P.relation pattern width) width steps) }
+    {
+        if width == 0 || steps == 0 {
+            return Err(TableFault::Empty);
+        }
+        if width >= 1 << 20 || steps >= 1 << 20 || u64::from(steps) * u64::from(width) >= 1 << 20 {
+            return Err(TableFault::TooManyEvents);
+        }
+        let period = pattern.period(width, steps);
+        let kinds = kinds_of(alloc, &pattern, width, period.min(steps - 1))?;
+        let spots = spots_of(alloc, &kinds, width, steps, period)?;
+        let Kinds { outputs, .. } = kinds;
+        Ok(Table {
+            pattern,
+            width,
+            steps,
+            spots,
+            outputs,
+        })
+    }
+
+    /// The pattern.
+    pub fn pattern(&self) -> P
+        ensures { result ≡ self.now.pattern }
+    {
+        self.pattern
+    }
+
+    /// How many columns a row has.
+    pub fn width(&self) -> u32
+        ensures same { result ≡ self.now.width }
+        ensures some { (1 ≤ result) × (result < 2 ^ 20) }
+    {
+        self.width
+    }
+
+    /// How many rows there are.
+    pub fn steps(&self) -> u32
+        ensures same { result ≡ self.now.steps }
+        ensures some { (1 ≤ result) × (result * self.now.width < 2 ^ 20) }
+    {
+        self.steps
+    }
+
+    /// What is noted of a task.
+    pub(crate) fn spot(&self, task: TaskId) -> Spot
+        requires { task.0 < self.now.steps * self.now.width }
+        ensures { IsSpot (P.relation self.now.pattern self.now.width) self.now.width self.now.steps
+            self.now.outputs.items task.0 result }
+    {
+        self.spots[task.0 as usize]
+    }
+
+    /// An output of a task: a column of the next row, and the slot there.
+    #[tactic(auto, using(crate::proofs::Noted::output_there))]
+    pub(crate) fn output(&self, task: TaskId, spot: Spot, turn: u32) -> Output
+        requires known { task.0 < self.now.steps * self.now.width }
+        requires right { IsSpot (P.relation self.now.pattern self.now.width) self.now.width self.now.steps
+            self.now.outputs.items task.0 spot }
+        requires within { turn < spot.feeds }
+        ensures same { IsOutput (P.relation self.now.pattern self.now.width) self.now.width (suc (task.0 / self.now.width))
+            (task.0 % self.now.width) turn result }
+        ensures inside { result.column < self.now.width }
+    {
+        self.outputs[spot.start + turn as usize]
+    }
+}
