@@ -1,0 +1,19 @@
+use Rattle.std.proofs.Common.{◌∷◌}
+use Rattle.tp_scene.proofs.Sketched.{replied, stepped, numbered, came, refused}
+use Rattle.tp_scene.proofs.sketch.Sketch.take.Goals as goal
+
+pub returns-clause-follows : goal.returns-clause-follows
+returns-clause-follows c = λ n past h at.
+    let core = stepped n past c.args.step c.args.self.now.core c.step.new.self h.core c.in_ok-reply.ensures.answers.2 in
+    record {
+      nodes = h.nodes;
+      core = core;
+      tracks = c.in_ok-take.ensures n past h.tracks at;
+      messages = c.in_ok-take-2.ensures past h.messages at;
+      waves = c.in_ok-take-3.ensures n past h.waves at (replied n past c.args.step _ c.args.self.now.core h.core c.in_ok-reply.ensures.answers.1);
+      lanes = c.in_ok-take-4.ensures n past c.args.step h.lanes at
+          (numbered n (c.args.step ∷ past) c.step.new.self c.numbers.result.nodes core c.numbers.ensures.nodes);
+    }
+
+pub returns-clause-came : goal.returns-clause-came
+returns-clause-came c = λ n past h. came n past c.args.step c.args.self.now.core h.core c.in_ok-reply.ensures.answers.0

@@ -1,0 +1,9 @@
+pub mod Scene
+pub mod Following
+pub mod Layout
+pub mod Pieces
+pub mod Marks
+pub mod Cuts
+pub mod Page
+pub mod Laws
+pub mod Inside

@@ -1,0 +1,22 @@
+//! A picture of a run: what is drawn of the steps of a core, and how it is written.
+#![tactic(auto)]
+
+mod cuts;
+mod keyed;
+mod lanes;
+mod laws;
+mod layout;
+mod marks;
+mod messages;
+mod page;
+mod pieces;
+mod places;
+mod scene;
+mod sketch;
+mod tracks;
+mod waves;
+
+pub use laws::{all_is_inside, bars_lie_apart, each_message_once, each_task_once, each_wave_once};
+pub use page::svg;
+pub use scene::{Arrow, Bar, Cut, End, Pause, Running, Scene, Seam, Sending};
+pub use sketch::scene_of;
