@@ -6,10 +6,10 @@ use Rattle.tp_base.specs.declared.Refusal.{Refusal}
 use Rattle.tp_base.specs.declared.Refusal.TheVariants.{Missing, NoMemory}
 use Rattle.tp_graph.specs.Graphs.{TaskGraph}
 use Rattle.tp_graph.specs.Serial.{Results}
-use Rattle.block_runs.proofs.Refused.{has_one}
-use Rattle.block_runs.specs.Faults as any
-use Rattle.block_runs.specs.declared.fault.LentFault.{LentFault}
-use Rattle.block_runs.specs.declared.fault.LentFault.TheVariants.{BadInput, Run, Unmade}
+use Rattle.pool_block_runs.proofs.Refused.{has_one}
+use Rattle.pool_block_runs.specs.Faults as any
+use Rattle.pool_block_runs.specs.declared.fault.LentFault.{LentFault}
+use Rattle.pool_block_runs.specs.declared.fault.LentFault.TheVariants.{BadInput, Run, Unmade}
 use Rattle.pool_rod.specs.Heats.{block_heated, blocks_of, heat_graph, heated}
 use Rattle.pool_runs.specs.Faults.{IsLentFault, IsPartFault}
 use Rattle.pool_matrix.specs.Matrices.{IsMatrixRefusal, LacksTile, matrix_graph}

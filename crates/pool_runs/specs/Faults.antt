@@ -1,13 +1,13 @@
 -- Why a run over lent data gives nothing, by cases of the fault that is answered.
 use Rattle.std.specs.Prelude.{ℕ, ℤ, ◌/◌, List, length}
-use Rattle.block_runs.specs.Faults.{IsOfPart}
-use Rattle.block_runs.specs.declared.fault.LentFault.{LentFault}
-use Rattle.block_runs.specs.declared.fault.LentFault.TheVariants.{BadInput, Run, Unmade}
+use Rattle.pool_block_runs.specs.Faults.{IsOfPart}
+use Rattle.pool_block_runs.specs.declared.fault.LentFault.{LentFault}
+use Rattle.pool_block_runs.specs.declared.fault.LentFault.TheVariants.{BadInput, Run, Unmade}
 use Rattle.pool_rod.specs.Heats.{IsNoRod, block_heated, blocks_of, heat_graph, heated}
 use Rattle.pool_runs.specs.Events.{TakeNoStep}
 use Rattle.pool_matrix.specs.Matrices.{AreNoMatrices, matrix_graph}
 use Rattle.tp_work.specs.Outcomes.{IsFault, IsOutcome}
-pub use Rattle.block_runs.specs.Faults.{IsLentFault, refusal_of}
+pub use Rattle.pool_block_runs.specs.Faults.{IsLentFault, refusal_of}
 
 -- the cells are no rod for so many steps, or its pool gave none
 abbrev pub IsHeatFault : ℕ → List ℤ → ℕ → ℕ → LentFault → Type 0

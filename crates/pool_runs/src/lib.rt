@@ -5,7 +5,7 @@ mod ordered;
 mod product;
 mod rod;
 
-pub use block_runs::{LentFault, steps_at_once};
 pub use ordered::run_in_order;
+pub use pool_block_runs::{LentFault, steps_at_once};
 pub use product::run_product;
 pub use rod::{run_heat, run_heat_in_parts};

@@ -3,7 +3,7 @@ ghost use Rattle.pool_rod.specs.Heats.{evolve};
 ghost use Rattle.pool_runs.specs.Faults.{IsHeatFault, IsPartFault};
 ghost use Rattle.tp_work.specs.Outcomes.{IsWithinLimits};
 
-use block_runs::{LentFault, run_in_parts, run_steps};
+use pool_block_runs::{LentFault, run_in_parts, run_steps};
 use pool_rod::{ThreePoints, heat_of};
 use std::alloc::Global;
 use std::sync::Wait;
@@ -32,7 +32,7 @@ pub fn run_heat<R: Threads + Wait + Sync>(
 
 /// Heat in a rod of some cells, after any number of steps, worked out by pools of threads one after the other, each over the
 /// rod that the one before gave. `BadInput` where the cells give no rod or the events of a single step are above the limit
-/// ([`steps_at_once`](block_runs::steps_at_once)), and else what [`run_heat`] answers for the part at which it ended.
+/// ([`steps_at_once`](pool_block_runs::steps_at_once)), and else what [`run_heat`] answers for the part at which it ended.
 pub fn run_heat_in_parts<R: Threads + Wait + Sync>(
     rt: &R,
     alloc: Global,

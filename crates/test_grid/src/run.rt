@@ -1,8 +1,8 @@
 ghost use Rattle.std.specs.Prelude.{◌≤◌};
 
 use crate::by_one::{AFTER_TWO, CELLS};
-use block_runs::steps_at_once;
-use grid_runs::{run_grid, run_grid_in_parts};
+use pool_block_runs::steps_at_once;
+use pool_grid_runs::{run_grid, run_grid_in_parts};
 use std::alloc::{AllocError, Global};
 use std::sync::Wait;
 use std::test::Fail;

@@ -1,4 +1,4 @@
-use grid_rows::{GridFault, RowCount, rows_of, text_of_grid};
+use pool_grid_rows::{GridFault, RowCount, rows_of, text_of_grid};
 use std::alloc::Global;
 use std::test::Fail;
 

@@ -1,5 +1,5 @@
 use Rattle.std.proofs.Common.{◌∙◌, ap}
-use Rattle.block_runs.proofs.Refused.{match_weaker}
+use Rattle.pool_block_runs.proofs.Refused.{match_weaker}
 use Rattle.pool_rod.specs.Heats.{evolve}
 use Rattle.pool_runs.proofs.Refused.{heat-is, lent_fault}
 use Rattle.pool_runs.proofs.rod.run_heat.Goals as goal

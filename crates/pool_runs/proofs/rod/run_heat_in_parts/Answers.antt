@@ -1,4 +1,4 @@
-use Rattle.block_runs.proofs.Refused.{match_weaker}
+use Rattle.pool_block_runs.proofs.Refused.{match_weaker}
 use Rattle.pool_runs.proofs.Refused.{heat_part}
 use Rattle.pool_runs.proofs.rod.run_heat_in_parts.Goals as goal
 
