@@ -1,5 +1,5 @@
 -- Lists by index, and lists in blocks.
-use Rattle.std.proofs.Common.{◌≡◌, ◌<◌, ◌≤◌, ◌+◌, ◌-◌, ◌*◌, ◌%◌, ℕ, zero, suc, ℤ, pos, List, [], ◌∷◌, ◌++◌, length, get_or, take, drop, min, true, false, if◌then◌else◌, nat_lt, length-take, length-drop, refl, ap, sym, ◌∙◌, ◌⊎◌, ⊎_elim, inl, inr, arith}
+use Rattle.std.proofs.Common.{◌≡◌, ◌<◌, ◌≤◌, ◌+◌, ◌-◌, ◌*◌, ℕ, zero, suc, ℤ, pos, List, [], ◌∷◌, ◌++◌, length, get_or, take, drop, min, true, false, nat_lt, length-take, length-drop, refl, ap, sym, ◌∙◌, ◌⊎◌, ⊎_elim, inl, inr, arith}
 use Rattle.std.proofs.Math.Seq.{take-nil}
 use Rattle.std.proofs.lemmas.Bool.Decides.{leb_tells}
 use Rattle.std.proofs.lemmas.List.{drop_all, get_or-take, get_or-drop}

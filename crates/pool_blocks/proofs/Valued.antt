@@ -1,5 +1,5 @@
 -- Each task has a value: no cell leaves 64 bits.
-use Rattle.std.proofs.Common.{◌≡◌, ◌<◌, ◌≤◌, ◌+◌, ◌*◌, inl, inr, ℕ, zero, suc, ℤ, List, [], ◌∷◌, length, get_or, take, drop, Bool, true, false, if◌then◌else◌, nat_lt, Some, None, refl, ap, sym, ◌∙◌, arith}
+use Rattle.std.proofs.Common.{◌≡◌, ◌<◌, ◌≤◌, ◌+◌, ◌*◌, inl, inr, ℕ, zero, suc, ℤ, List, [], ◌∷◌, length, get_or, drop, true, false, if◌then◌else◌, nat_lt, Some, None, refl, ap, sym, ◌∙◌, arith}
 use Rattle.std.proofs.lemmas.Bool.Decides.{nat_tests}
 use Rattle.tp_base.specs.declared.Refusal.{Refusal}
 use Rattle.tp_base.specs.declared.Refusal.TheVariants.{NoMemory}

@@ -1,4 +1,4 @@
-use Rattle.std.proofs.Common.{List, ℤ, subst, sym}
+use Rattle.std.proofs.Common.{subst, sym}
 use Rattle.std.proofs.lemmas.Result.{IfErr-weaker}
 use Rattle.tp_graph.specs.Graphs.{TaskGraph}
 use Rattle.tp_graph.specs.Serial.{AreRight, AreValues, IsSerialRefusal}
