@@ -1,5 +1,5 @@
 -- A line more of a grid.
-use Rattle.std.proofs.Common.{◌≡◌, ◌+◌, ◌≤◌, ℕ, ℤ, List, [], ◌∷◌, ◌++◌, length, refl, sym, ap, ◌∙◌, subst, append-nil, arith}
+use Rattle.std.proofs.Common.{◌≡◌, ℕ, ℤ, List, [], ◌∷◌, ◌++◌, length, refl, sym, ap, ◌∙◌, subst, append-nil, arith}
 use Rattle.pool_rows.proofs.Places.{rows_more}
 use Rattle.pool_rows.specs.Matrices.{AreRows, SpellsRow}
 

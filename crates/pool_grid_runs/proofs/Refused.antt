@@ -1,5 +1,5 @@
 -- Why a run over a grid gives nothing.
-use Rattle.std.proofs.Common.{◌≡◌, ◌≢◌, ◌≤◌, ◌*◌, ◌^◌, ◌⊎◌, ℕ, ℤ, Bool, false, List, length, sym, ap, subst, ◌∙◌, inl, inr}
+use Rattle.std.proofs.Common.{◌≡◌, ◌≤◌, ◌*◌, ◌^◌, ◌⊎◌, ℕ, ℤ, List, length, ap, subst, ◌∙◌, inl, inr}
 use Rattle.tp_graph.specs.Graphs.{TaskGraph}
 use Rattle.pool_grid.proofs.Cuts.{no_row}
 use Rattle.pool_grid.specs.Grids.{are_whole_rows, block_relaxed, blocks_of, grid_graph, relaxed}

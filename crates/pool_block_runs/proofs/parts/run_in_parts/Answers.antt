@@ -8,7 +8,7 @@ use Rattle.pool_block_runs.specs.Events.{TakeSteps}
 use Rattle.pool_block_runs.proofs.parts.run_in_parts.Goals as goal
 
 pub run_part-requires-clause-taken : goal.run_part-requires-clause-taken
-run_part-requires-clause-taken g c =
+run_part-requires-clause-taken g c κs within =
     let s = g.S.Stencil in
     let before = c.loop-left.invariant in
     let cells = c.args.cells.items in
