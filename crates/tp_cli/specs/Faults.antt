@@ -12,13 +12,12 @@ use Rattle.tp_shell.specs.declared.status.Status.{Status}
 use Rattle.tp_shell.specs.declared.status.Status.TheVariants as statuses
 use Rattle.tp_shell.specs.declared.words.WordsFault.{WordsFault}
 use Rattle.tp_shell.specs.declared.words.WordsFault.TheVariants as words
-use Rattle.tp_text.specs.Spelling.{line}
 use Rattle.tp_text.specs.declared.TextFault.{TextFault}
 use Rattle.tp_text.specs.declared.TextFault.TheVariants as texts
 
 -- the line of a refusal
 abbrev pub refusal_line : Refusal → List ℕ
-refusal_line r = line (codes "refused " ++ decimal (number_of r) ++ codes " " ++ name_of r)
+refusal_line r = codes "refused " ++ (decimal (number_of r) ++ (codes " " ++ (name_of r ++ codes "\n")))
 
 -- what a run is told to be refused for
 abbrev pub refusal_of : RunFault → Refusal

@@ -1,5 +1,5 @@
 -- A number of 32 bits is the lesser of itself and the greatest of them.
-use Rattle.std.proofs.Common.{◌≡◌, ◌≤◌, ◌∙◌, ℕ, ap, arith, cond, inl, inr, pos, refl, sym, true, false}
+use Rattle.std.proofs.Common.{◌≡◌, ◌≤◌, ℕ, ap, arith, inl, inr, pos, refl, sym, false}
 use Rattle.std.proofs.lemmas.Bool.{cases_Bool}
 use Rattle.std.proofs.lemmas.Bool.Decides.{nat_tests}
 use Rattle.std.specs.Int.{int_min}
