@@ -1,5 +1,5 @@
 -- How a run ends.
-use Rattle.std.proofs.Common.{◌≡◌, ◌≢◌, ◌∙◌, ◌⊎◌, ℕ, Bool, true, false, List, Option, Result, Ok, Err, IfErr, codes, inl, inr, map, refl, subst, sym}
+use Rattle.std.proofs.Common.{◌≡◌, ◌≢◌, ◌∙◌, ◌⊎◌, ℕ, Bool, true, false, List, Option, Result, Ok, Err, IfErr, ap, arith, codes, inl, inr, map, refl, subst, sym}
 use Rattle.std.specs.Io.KnownBytes.{Appends}
 use Rattle.tp_base.specs.declared.refusal.Refusal.{Refusal}
 use Rattle.clap.specs.Words.{Text, subcommand_of}
@@ -8,7 +8,7 @@ use Rattle.clap.specs.declared.error.kind.ErrorKind.TheVariants.{MissingSubcomma
 use Rattle.tp_cli.specs.Asked.{IsRunOf}
 use Rattle.tp_cli.specs.Command.{AsksForNothing, AsksForPools, AsksForText, IsAt, tp_app}
 use Rattle.tp_cli.specs.Ends.{CouldNotWrite, HasAnswered, HasNothing, IsRunText, IsTextOfPools, RefusedPool, RefusedText, Succeeded}
-use Rattle.tp_cli.specs.Faults.{status_of}
+use Rattle.tp_cli.specs.Faults.{line_of, status_of}
 use Rattle.tp_cli.specs.Pools.{IsPoolsFault, IsPoolsText, status_of_pools}
 use Rattle.tp_cli.specs.Runs.{IsRunFault, IsTextFor, NamesNoGraph}
 use Rattle.tp_cli.specs.Texts.{IsAnswerTo, IsUnansweredText, status_of_verdict}
@@ -196,6 +196,32 @@ faulty (faults.InVain refusal) = inl refl
 faulty (faults.Run met) = inr refl
 faulty faults.Memory = inr refl
 faulty faults.Write = inl refl
+
+-- a fault that was told, by the status and the number that were answered
+module _ {D : Type 0} (tells : D → List ℕ → D → Type 0) (fault : Fault) (old met new : D) (s t : Status) (code : ℕ)
+    (is : code ≡ code_of s) (same : s ≡ t) (status : t ≡ status_of fault) (err : new ≡ met) (told : tells old (line_of fault) met) where
+  by_status : code ≡ code_of (status_of fault)
+  by_status = is ∙ ap code_of (same ∙ status)
+
+  pub fault_undone : ¬ (code ≡ 0)
+  fault_undone zero = elim (faulty fault) [
+    | inl one ↦ absurd (omega (arith, by_status, zero, one))
+    | inr three ↦ absurd (omega (arith, by_status, zero, three))
+  ]
+
+  pub fault_told : (asking : List Text) (read_old read_new : Option (List ℕ)) (Same : Type 0)
+      → CouldNotWrite asking read_old read_new fault ⊎ (Same × HasNothing asking read_old read_new fault)
+      → (f : Fault) × (code ≡ code_of (status_of f)) × tells old (line_of f) new
+      × (CouldNotWrite asking read_old read_new f ⊎ (Same × HasNothing asking read_old read_new f))
+  fault_told asking read_old read_new Same why = (fault, by_status, subst (λ e. tells old (line_of fault) e) (sym err) told, why)
+
+  pub fault_failed : (asking : List Text) (read_old read_new : Option (List ℕ)) (Same : Type 0) → code ≡ 3
+      → CouldNotWrite asking read_old read_new fault ⊎ (Same × HasNothing asking read_old read_new fault)
+      → (f : Fault) × (code ≡ code_of (status_of f)) × tells old (line_of f) new × Same × HasNothing asking read_old read_new f
+  fault_failed asking read_old read_new Same three (inl unwritten) =
+      let one = written_status asking read_old read_new fault unwritten in absurd (omega (arith, by_status, three, one))
+  fault_failed asking read_old read_new Same three (inr nothing) =
+      (fault, by_status, subst (λ e. tells old (line_of fault) e) (sym err) told, nothing.0, nothing.1)
 
 -- what was answered, by its status
 module _ (asking : List Text) (read_old read_new written_old written_new : Option (List ℕ)) where

@@ -152,7 +152,7 @@ may_name zero words pools word h lt at few named = (
   few,
   λ i w r below here refused.
       let first : i ≡ 0 = omega (arith, below) in
-      let w_is : word ≡ w = at ∙ sym (ap (λ j. get_or words j word) first) ∙ get_or_from_slice_get words i word w here in
+      let w_is : word ≡ w = at ∙ sym (ap (λ j. get_or words j word) first) ∙ get_or_from_slice_get words i w word here in
       elim refused [
         | inl unnamed ↦ named (subst NamesNoGraph (sym w_is) unnamed.1)
         | inr known ↦ true≢false (sym known.1 ∙ ap (λ j. is_among (take j words) w) first)

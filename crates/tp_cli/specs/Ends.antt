@@ -17,7 +17,7 @@ use Rattle.tp_shell.specs.Command.{AsksToBeShown, IsWordsFault}
 use Rattle.tp_shell.specs.Streams.{HasShown}
 use Rattle.tp_shell.specs.declared.status.Status.{Status}
 use Rattle.tp_shell.specs.declared.status.Status.TheVariants as statuses
-use Rattle.tp_shell.specs.declared.words.WordsFault.TheVariants as words
+use Rattle.tp_shell.specs.declared.words.WordsFault.TheVariants.{Write}
 use Rattle.tp_text.specs.declared.TextFault.{TextFault}
 use Rattle.tp_text.specs.declared.TextFault.TheVariants as texts
 use Rattle.tp_text.specs.declared.Verdict.{Verdict}
@@ -80,7 +80,7 @@ HasAnswered words read_old read_new written_old written_new statuses.Failed = Re
 
 -- By this fault something may have been written: what was asked for was made, and then the writing failed.
 abbrev pub CouldNotWrite : List Text → Option (List ℕ) → Option (List ℕ) → Fault → Type 0
-CouldNotWrite words read_old read_new (faults.Words words.Write) = AsksToBeShown tp_app words
+CouldNotWrite words read_old read_new (faults.Words Write) = AsksToBeShown tp_app words
 CouldNotWrite words read_old read_new (faults.Text texts.Write) =
     (verdict : Verdict) × (text : List ℕ) × IsReadText words read_old read_new verdict text
 CouldNotWrite words read_old read_new faults.Write =

@@ -1,52 +1,88 @@
-use Rattle.std.proofs.Common.{◌≡◌, arith, inl, inr, refl, rules}
-use Rattle.tp_cli.proofs.Ending.{faulty, if_done, if_failed, if_fault, if_refused, written_status}
-use Rattle.tp_cli.specs.Faults.{status_of}
+use Rattle.std.proofs.Common.{◌≡◌, ◌∙◌, ap, inl, inr, map, sym}
+use Rattle.tp_cli.proofs.Ending.{fault_failed, fault_told, fault_undone, if_done, if_failed, if_fault}
 use Rattle.tp_shell.specs.Statuses.{code_of}
+use Rattle.tp_cli.proofs.cli.main_with.Goals.{in-Ok}
+use Rattle.tp_cli.proofs.cli.main_with.Goals.{in-Err+in-Words+in-Words-fault-2, in-Err+in-Words+in-Memory-1}
+use Rattle.tp_cli.proofs.cli.main_with.Goals.{in-Err+in-Run+in-Pool+in-Some-1, in-Err+in-Run+in-Pool+in-None-1}
+use Rattle.tp_cli.proofs.cli.main_with.Goals.{in-Err+in-Run+in-Text-1, in-Err+in-Text-1}
 use Rattle.tp_cli.proofs.cli.main_with.Goals as goal
 
-pub returns-in-Ok-clause-succeeded : goal.returns-in-Ok-clause-succeeded
-returns-in-Ok-clause-succeeded g c = λ zero.
-    let code : code_of c.in-Ok.ended ≡ 0 = search rules in
-    (refl, if_done _ _ _ _ _ c.in-Ok.ended code c.in-Ok.ensures.answered)
-
-pub returns-in-Ok-clause-complained : goal.returns-in-Ok-clause-complained
-returns-in-Ok-clause-complained g c = λ one.
-    let code : code_of c.in-Ok.ended ≡ 1 = search rules in
-    absurd (if_fault _ _ _ _ _ c.in-Ok.ended code c.in-Ok.ensures.answered)
-
-pub returns-in-Ok-clause-refused : goal.returns-in-Ok-clause-refused
-returns-in-Ok-clause-refused g c = λ two.
-    let code : code_of c.in-Ok.ended ≡ 2 = search rules in
-    (refl, if_refused _ _ _ _ _ c.in-Ok.ended code c.in-Ok.ensures.answered)
-
-pub returns-in-Ok-clause-failed : goal.returns-in-Ok-clause-failed
-returns-in-Ok-clause-failed g c = λ three.
-    let code : code_of c.in-Ok.ended ≡ 3 = search rules in
-    inr (refl, if_failed _ _ _ _ _ c.in-Ok.ended code c.in-Ok.ensures.answered)
-
-pub returns-in-Err-clause-succeeded : goal.returns-in-Err-clause-succeeded
-returns-in-Err-clause-succeeded g c = λ zero.
-    let code : code_of (status_of c.in-Err.fault) ≡ 0 = search rules in
-    elim (faulty c.in-Err.fault) [
-      | inl one ↦ absurd (omega (arith, code, one))
-      | inr three ↦ absurd (omega (arith, code, three))
+pub returns-clause-succeeded : goal.returns-clause-succeeded
+returns-clause-succeeded g c = λ zero.
+    let asking = map (λ w. w.now) c.args.words.now in
+    let read_old = g.I.Read.remaining c.args.reader.now in
+    let read_new = g.I.Read.remaining c.answer_words.new.reader in
+    let written_old = g.O.Write.contents c.args.out.now in
+    let written_new = g.O.Write.contents c.answer_words.new.out in
+    elim c.match-answer_words.branch [
+      | in-Ok w ↦ (
+        w.err-is,
+        if_done asking read_old read_new written_old written_new w.in-Ok.ended
+            (ap code_of (sym w.status-is) ∙ sym c.code.ensures.value ∙ zero) w.in-Ok.ensures.answered,
+      )
+      | in-Err+in-Words+in-Words-fault-2 w ↦ absurd (fault_undone g.E.Diagnostics.tells w.in-Err.fault _ _ _ _ _ _ c.code.ensures.value w.status-is
+          w.complain-status.ensures.status w.err-is w.complain-status.ensures.told zero)
+      | in-Err+in-Words+in-Memory-1 w ↦ absurd (fault_undone g.E.Diagnostics.tells w.in-Err.fault _ _ _ _ _ _ c.code.ensures.value w.status-is
+          w.complain-status.ensures.status w.err-is w.complain-status.ensures.told zero)
+      | in-Err+in-Run+in-Pool+in-Some-1 w ↦ absurd (fault_undone g.E.Diagnostics.tells w.in-Err.fault _ _ _ _ _ _ c.code.ensures.value w.status-is
+          w.complain-status.ensures.status w.err-is w.complain-status.ensures.told zero)
+      | in-Err+in-Run+in-Pool+in-None-1 w ↦ absurd (fault_undone g.E.Diagnostics.tells w.in-Err.fault _ _ _ _ _ _ c.code.ensures.value w.status-is
+          w.complain-status.ensures.status w.err-is w.complain-status.ensures.told zero)
+      | in-Err+in-Run+in-Text-1 w ↦ absurd (fault_undone g.E.Diagnostics.tells w.in-Err.fault _ _ _ _ _ _ c.code.ensures.value w.status-is
+          w.complain-status.ensures.status w.err-is w.complain-status.ensures.told zero)
+      | in-Err+in-Text-1 w ↦ absurd (fault_undone g.E.Diagnostics.tells w.in-Err.fault _ _ _ _ _ _ c.code.ensures.value w.status-is
+          w.complain-status.ensures.status w.err-is w.complain-status.ensures.told zero)
     ]
 
-pub returns-in-Err-clause-complained : goal.returns-in-Err-clause-complained
-returns-in-Err-clause-complained g c = λ one. (c.in-Err.fault, search rules, c.complain-status.ensures.told, c.in-Err.ensures.why)
-
-pub returns-in-Err-clause-refused : goal.returns-in-Err-clause-refused
-returns-in-Err-clause-refused g c = λ two.
-    let code : code_of (status_of c.in-Err.fault) ≡ 2 = search rules in
-    elim (faulty c.in-Err.fault) [
-      | inl one ↦ absurd (omega (arith, code, one))
-      | inr three ↦ absurd (omega (arith, code, three))
+pub returns-clause-complained : goal.returns-clause-complained
+returns-clause-complained g c = λ one.
+    let asking = map (λ w. w.now) c.args.words.now in
+    let read_old = g.I.Read.remaining c.args.reader.now in
+    let read_new = g.I.Read.remaining c.answer_words.new.reader in
+    let written_old = g.O.Write.contents c.args.out.now in
+    let written_new = g.O.Write.contents c.answer_words.new.out in
+    let same : Type 0 = c.answer_words.new.out ≡ c.args.out.now in
+    elim c.match-answer_words.branch [
+      | in-Ok w ↦ absurd (if_fault asking read_old read_new written_old written_new w.in-Ok.ended
+          (ap code_of (sym w.status-is) ∙ sym c.code.ensures.value ∙ one) w.in-Ok.ensures.answered)
+      | in-Err+in-Words+in-Words-fault-2 w ↦ fault_told g.E.Diagnostics.tells w.in-Err.fault _ _ _ _ _ _ c.code.ensures.value w.status-is
+          w.complain-status.ensures.status w.err-is w.complain-status.ensures.told asking read_old read_new same w.in-Err.ensures.why
+      | in-Err+in-Words+in-Memory-1 w ↦ fault_told g.E.Diagnostics.tells w.in-Err.fault _ _ _ _ _ _ c.code.ensures.value w.status-is
+          w.complain-status.ensures.status w.err-is w.complain-status.ensures.told asking read_old read_new same w.in-Err.ensures.why
+      | in-Err+in-Run+in-Pool+in-Some-1 w ↦ fault_told g.E.Diagnostics.tells w.in-Err.fault _ _ _ _ _ _ c.code.ensures.value w.status-is
+          w.complain-status.ensures.status w.err-is w.complain-status.ensures.told asking read_old read_new same w.in-Err.ensures.why
+      | in-Err+in-Run+in-Pool+in-None-1 w ↦ fault_told g.E.Diagnostics.tells w.in-Err.fault _ _ _ _ _ _ c.code.ensures.value w.status-is
+          w.complain-status.ensures.status w.err-is w.complain-status.ensures.told asking read_old read_new same w.in-Err.ensures.why
+      | in-Err+in-Run+in-Text-1 w ↦ fault_told g.E.Diagnostics.tells w.in-Err.fault _ _ _ _ _ _ c.code.ensures.value w.status-is
+          w.complain-status.ensures.status w.err-is w.complain-status.ensures.told asking read_old read_new same w.in-Err.ensures.why
+      | in-Err+in-Text-1 w ↦ fault_told g.E.Diagnostics.tells w.in-Err.fault _ _ _ _ _ _ c.code.ensures.value w.status-is
+          w.complain-status.ensures.status w.err-is w.complain-status.ensures.told asking read_old read_new same w.in-Err.ensures.why
     ]
 
-pub returns-in-Err-clause-failed : goal.returns-in-Err-clause-failed
-returns-in-Err-clause-failed g c = λ three.
-    let code : code_of (status_of c.in-Err.fault) ≡ 3 = search rules in
-    elim c.in-Err.ensures.why [
-      | inl unwritten ↦ let one = written_status _ _ _ c.in-Err.fault unwritten in absurd (omega (arith, code, one))
-      | inr nothing ↦ inl (c.in-Err.fault, search rules, c.complain-status.ensures.told, nothing.0, nothing.1)
+pub returns-clause-failed : goal.returns-clause-failed
+returns-clause-failed g c = λ three.
+    let asking = map (λ w. w.now) c.args.words.now in
+    let read_old = g.I.Read.remaining c.args.reader.now in
+    let read_new = g.I.Read.remaining c.answer_words.new.reader in
+    let written_old = g.O.Write.contents c.args.out.now in
+    let written_new = g.O.Write.contents c.answer_words.new.out in
+    let same : Type 0 = c.answer_words.new.out ≡ c.args.out.now in
+    elim c.match-answer_words.branch [
+      | in-Ok w ↦ inr (
+        w.err-is,
+        if_failed asking read_old read_new written_old written_new w.in-Ok.ended
+            (ap code_of (sym w.status-is) ∙ sym c.code.ensures.value ∙ three) w.in-Ok.ensures.answered,
+      )
+      | in-Err+in-Words+in-Words-fault-2 w ↦ inl (fault_failed g.E.Diagnostics.tells w.in-Err.fault _ _ _ _ _ _ c.code.ensures.value w.status-is
+          w.complain-status.ensures.status w.err-is w.complain-status.ensures.told asking read_old read_new same three w.in-Err.ensures.why)
+      | in-Err+in-Words+in-Memory-1 w ↦ inl (fault_failed g.E.Diagnostics.tells w.in-Err.fault _ _ _ _ _ _ c.code.ensures.value w.status-is
+          w.complain-status.ensures.status w.err-is w.complain-status.ensures.told asking read_old read_new same three w.in-Err.ensures.why)
+      | in-Err+in-Run+in-Pool+in-Some-1 w ↦ inl (fault_failed g.E.Diagnostics.tells w.in-Err.fault _ _ _ _ _ _ c.code.ensures.value w.status-is
+          w.complain-status.ensures.status w.err-is w.complain-status.ensures.told asking read_old read_new same three w.in-Err.ensures.why)
+      | in-Err+in-Run+in-Pool+in-None-1 w ↦ inl (fault_failed g.E.Diagnostics.tells w.in-Err.fault _ _ _ _ _ _ c.code.ensures.value w.status-is
+          w.complain-status.ensures.status w.err-is w.complain-status.ensures.told asking read_old read_new same three w.in-Err.ensures.why)
+      | in-Err+in-Run+in-Text-1 w ↦ inl (fault_failed g.E.Diagnostics.tells w.in-Err.fault _ _ _ _ _ _ c.code.ensures.value w.status-is
+          w.complain-status.ensures.status w.err-is w.complain-status.ensures.told asking read_old read_new same three w.in-Err.ensures.why)
+      | in-Err+in-Text-1 w ↦ inl (fault_failed g.E.Diagnostics.tells w.in-Err.fault _ _ _ _ _ _ c.code.ensures.value w.status-is
+          w.complain-status.ensures.status w.err-is w.complain-status.ensures.told asking read_old read_new same three w.in-Err.ensures.why)
     ]

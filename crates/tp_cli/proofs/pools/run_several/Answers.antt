@@ -22,8 +22,8 @@ returns-in-Err-text_of_pools-clause-why g c =
     let named = c.in_ok-registry.ensures in
     named_may (map (λ w. w.now) c.args.words.now) named.0 named.1
 
-pub returns-in-Err-write_text-clause-why : goal.returns-in-Err-write_text-clause-why
-returns-in-Err-write_text-clause-why g c =
+pub returns-clause-why : goal.returns-clause-why
+returns-clause-why g c =
     let words = map (λ w. w.now) c.args.words.now in
     let answers = c.in-Ok.answers.items in
     let named = c.in_ok-registry.ensures in
@@ -41,7 +41,7 @@ returns-in-Ok-write_text-clause-ran g c =
     let named = c.in_ok-registry.ensures in
     let text : c.deref-2.result.now ≡ lines_from 0 words answers =
     c.deref-2.ensures.value ∙ c.in-Ok-text_of_pools.ensures ∙ ap (λ rs. lines_from 0 words rs) c.deref.ensures.value in
-    let ended = c.each_ended.ensures ∙ ap (λ rs. list_all is_ok rs) c.deref-3.ensures.value in (
+    let ended = c.each_ended.ensures ∙ ap (λ rs. list_all is_ok rs) c.deref-in-Ok-write_text.ensures.value in (
       list_all is_ok answers,
       c.deref-2.result.now,
       c.status_of_pools.ensures ∙ ap status_of_pools ended,

@@ -1,4 +1,4 @@
-use Rattle.std.proofs.Common.{inr, refl}
+use Rattle.std.proofs.Common.{inr, map, refl}
 use Rattle.clap.proofs.TakesLemmas.{passed_up}
 use Rattle.clap.specs.Words.{app_of}
 use Rattle.clap.specs.declared.error.kind.ErrorKind.TheVariants.{MissingSubcommand}
@@ -10,8 +10,9 @@ use Rattle.tp_cli.proofs.request.requested.Goals as goal
 pub returns-in_err-matches-clause-why : goal.returns-in_err-matches-clause-why
 returns-in_err-matches-clause-why c =
     let error = c.in_err-matches.field-0.0 in
+    let asking = map (λ w. w.now) c.args.words.now in
     passed_up c.from_residual-in_err-matches.result error _ c.from_residual-in_err-matches.ensures.1
-    (fails_as tp_app (app_of c.in_ok-command.command) MissingSubcommand (AsksForNothing _) _ error refl
+    (fails_as tp_app (app_of c.in_ok-command.command) MissingSubcommand (AsksForNothing asking) asking error refl
     c.in_ok-command.ensures c.in_err-matches.ensures.kinds)
 
 pub returns-clause-why : goal.returns-clause-why

@@ -18,11 +18,8 @@ returns-in-Err-text_of_run-clause-why g c = (c.in-Ok.graph, c.in-Ok.ensures.only
 pub returns-in-Err-text_of_run-clause-unnamed : goal.returns-in-Err-text_of_run-clause-unnamed
 returns-in-Err-text_of_run-clause-unnamed g c = (λ is. cc, λ none. absurd (none c.in-Ok.graph c.in-Ok.ensures.only))
 
-pub returns-in-Err-write_text-clause-why : goal.returns-in-Err-write_text-clause-why
-returns-in-Err-write_text-clause-why g c = (c.in-Ok-text_of_run.text.items, (c.in-Ok.graph, c.in-Ok.ensures.only, c.in-Ok-text_of_run.ensures))
-
-pub returns-in-Err-write_text-clause-unnamed : goal.returns-in-Err-write_text-clause-unnamed
-returns-in-Err-write_text-clause-unnamed g c = (λ is. cc, λ none. absurd (none c.in-Ok.graph c.in-Ok.ensures.only))
+pub returns-clause-why : goal.returns-clause-why
+returns-clause-why g c = (c.in-Ok-text_of_run.text.items, (c.in-Ok.graph, c.in-Ok.ensures.only, c.in-Ok-text_of_run.ensures))
 
 pub returns-in-Ok-write_text-clause-ran : goal.returns-in-Ok-write_text-clause-ran
 returns-in-Ok-write_text-clause-ran g c =
