@@ -1,8 +1,8 @@
 """Proves all that the programs stand on, and builds them: bin/tp, bin/heat and bin/product.
 
 Crates are proved beside each other, in as many copies of the repository as there are processors: a command of the
-prover locks all crates below its own, and what is proved in one copy is taken over in the others. Of the crates that
-can begin, the one that the most lines wait for goes first, and takes the processors that the others leave. Prints a
+prover locks all crates below its own. The library that is proved in one copy is given to the others, with the stamp by
+which the prover knows the text that it was made from. Of the crates that can begin, the one that the most lines wait for goes first, and takes the processors that the others leave. Prints a
 line for each crate as it ends; where one is not proved, all that its check said, and the status is 1.
 """
 import os
@@ -52,6 +52,15 @@ def prove(crate, room, jobs):
     return not ran.returncode, ran.stdout
 
 
+def give(name, room, others):
+    """Gives the library of a crate that was proved in one copy to the other copies; there is none of a program."""
+    proved = f"{room}/crates/{name}/out/rlib"
+    for other in others if os.path.exists(proved) else []:
+        made = f"{other}/crates/{name}/out/rlib"
+        shutil.rmtree(made, ignore_errors=True)
+        shutil.copytree(proved, made, copy_function=os.link)
+
+
 def shares(free, ready):
     """Gives how many of the free processors each crate gets that can begin, the first in line what the others leave."""
     for at, crate in enumerate(ready):
@@ -65,7 +74,7 @@ def shares(free, ready):
 
 def prove_all(every, rooms_of_it):
     """Proves these crates in these copies; gives whether all were proved."""
-    longest, began = waiting_for(every), time.time()
+    longest, began, all_rooms = waiting_for(every), time.time(), [*rooms_of_it]
     done, running, free, is_well = set(), {}, len(rooms_of_it), True
     with ThreadPoolExecutor(len(rooms_of_it)) as lanes:
         while is_well and len(done) < len(every) or running:
@@ -81,6 +90,8 @@ def prove_all(every, rooms_of_it):
                 free += jobs
                 proved, said = ended.result()
                 is_well = is_well and proved
+                if proved:
+                    give(crate.name, room, [it for it in all_rooms if it != room])
                 done.add(crate.name)
                 tell(crate, proved, said, f"[{len(done)}/{len(every)}]", time.time() - since)
     print(f"{(time.time() - began) / 60:.0f} minutes.")

@@ -17,7 +17,7 @@ import shutil
 import subprocess
 
 from . import repository
-from .build import prove_all
+from .build import give, prove_all
 from .repository import files_in, text_of
 from .rooms import copy_to, rooms
 
@@ -78,9 +78,11 @@ def place(crate, room):
         shutil.copy2(path, f"{folder}/{name}")
 
 
-def judge(crates, room):
-    """Has the prover try the wrong bodies of these crates; gives what it said of each, by crate and name."""
+def judge(crates, below, proved, room):
+    """Has the prover try the wrong bodies of these crates, over what was proved in a copy; gives what it said of each."""
     copy_to(room)
+    for name in below:
+        give(name, proved, [room])
     for crate in crates:
         place(crate, room)
     told = {crate: {} for crate in crates}
@@ -121,7 +123,7 @@ def try_wrong_bodies(crates):
         below = {it: crate for it, crate in repository.crates(names).items() if not crate.is_program}
         if not prove_all(below, copies):
             return False
-        told = judge(names, f"{top}/wrong") if names else {}
+        told = judge(names, below, copies[0], f"{top}/wrong") if names else {}
     return all([note(it, told[it.name]) for it in crates])
 
 

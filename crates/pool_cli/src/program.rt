@@ -1,5 +1,6 @@
 ghost use Rattle.std.specs.Prelude.{◌≡◌, ◌≢◌, ◌≤◌, ◌⊎◌, List, ℕ, IfErr, IfOk, IsUtf8, MatchResult, OnOk, map};
 ghost use Rattle.std.specs.Io.KnownBytes.{Appends};
+ghost use Rattle.std.specs.Thread.{IsSync};
 ghost use Rattle.clap.specs.Values.{kind_of};
 ghost use Rattle.clap.specs.Words.{matches_of};
 ghost use Rattle.clap.specs.declared.error.kind.ErrorKind.TheVariants.{MissingRequiredArgument};
@@ -48,6 +49,8 @@ pub(crate) trait Program: Copy {
         alloc: Global,
         loaded: Self::Data,
     ) -> Result<Vec<u8>, Fault>
+        // as the bound says: of a trait's `fn` a proof knows it by a clause alone
+        requires shared { IsSync R.row }
         requires allowed { about.allows self }
         requires suitable { about.suits self loaded }
         ensures { MatchResult result (λ text. about.makes self loaded text.items) (about.fails self loaded) };

@@ -16,4 +16,4 @@ returns-in-Err-clause-succeeded g c = λ zero.
     absurd (faulty c.in-Err.fault code)
 
 pub returns-in-Err-clause-complained : goal.returns-in-Err-clause-complained
-returns-in-Err-clause-complained g c = λ some. (c.in-Err.fault, search rules, c.complain-status.ensures.told, c.in-Err.ensures.why)
+returns-in-Err-clause-complained g c = λ some. (c.in-Err.fault, search rules, search rules, c.in-Err.ensures.why)
