@@ -72,9 +72,10 @@ pub(crate) fn program_with<
         (O.contents out.old) (O.contents out.new)
         ⊎ (HasShownAsked P.about (map (λ w. w.now) words.now) (O.contents out.old) (O.contents out.new) × (reader.new ≡ reader.old))) }
     ensures complained { 1 ≤ result → (fault : Fault) × (result ≡ code_of (status_of fault)) × E.tells err.old (complaint fault) err.new
-        × (CouldNotWrite P.about (map (λ w. w.now) words.now) (λ bytes. I.gives reader.old bytes reader.new) fault
+        × (CouldNotWrite P.about (map (λ w. w.now) words.now) (λ bytes. I.gives reader.old bytes reader.new)
+        (reader.new ≡ reader.old) fault
         ⊎ ((out.new ≡ out.old) × HasNothing P.about (map (λ w. w.now) words.now)
-        (λ bytes. I.gives reader.old bytes reader.new) (λ read. I.fails reader.old read reader.new) fault)) }
+        (λ bytes. I.gives reader.old bytes reader.new) (λ read. I.fails reader.old read reader.new) (reader.new ≡ reader.old) fault)) }
     ensures unread { AsksForSome P.about (map (λ w. w.now) words.now) ⊎ (reader.new ≡ reader.old) }
 {
     let status = match answer_words::<P, R, I, O>(rt, alloc, words, reader, out) {
@@ -97,9 +98,10 @@ fn answer_words<P: Program, R: Threads + Wait + Sync, I: Source, O: Write>(
         (O.contents out.old) (O.contents out.new)
         ⊎ (HasShownAsked P.about (map (λ w. w.now) words.now) (O.contents out.old) (O.contents out.new) × (reader.new ≡ reader.old))) }
     ensures why { IfErr result (λ fault.
-        CouldNotWrite P.about (map (λ w. w.now) words.now) (λ bytes. I.gives reader.old bytes reader.new) fault
+        CouldNotWrite P.about (map (λ w. w.now) words.now) (λ bytes. I.gives reader.old bytes reader.new)
+        (reader.new ≡ reader.old) fault
         ⊎ ((out.new ≡ out.old) × HasNothing P.about (map (λ w. w.now) words.now)
-        (λ bytes. I.gives reader.old bytes reader.new) (λ read. I.fails reader.old read reader.new) fault)) }
+        (λ bytes. I.gives reader.old bytes reader.new) (λ read. I.fails reader.old read reader.new) (reader.new ≡ reader.old) fault)) }
     ensures unread { AsksForSome P.about (map (λ w. w.now) words.now) ⊎ (reader.new ≡ reader.old) }
 {
     match P::requested(alloc, words) {
@@ -134,7 +136,7 @@ fn answer<P: Program, R: Threads + Wait + Sync, I: Source, O: Write>(
         × Appends (O.contents out.old) (O.contents out.new) text) }
     ensures why { IfErr result (λ fault. IsUnwritten P.about request (λ bytes. I.gives reader.old bytes reader.new) fault
         ⊎ ((out.new ≡ out.old) × IsUnanswered P.about request
-        (λ bytes. I.gives reader.old bytes reader.new) (λ read. I.fails reader.old read reader.new) fault)) }
+        (λ bytes. I.gives reader.old bytes reader.new) (λ read. I.fails reader.old read reader.new) (reader.new ≡ reader.old) fault)) }
 {
     let bytes = match reader.read_all(alloc) {
         Ok(bytes) => bytes,
