@@ -78,10 +78,19 @@ pub(crate) fn program_with<
         (λ bytes. I.gives reader.old bytes reader.new) (λ read. I.fails reader.old read reader.new) (reader.new ≡ reader.old) fault)) }
     ensures unread { AsksForSome P.about (map (λ w. w.now) words.now) ⊎ (reader.new ≡ reader.old) }
 {
-    let status = match answer_words::<P, R, I, O>(rt, alloc, words, reader, out) {
-        Ok(()) => Status::Done,
-        Err(fault) => complain(&fault, err),
-    };
+    match answer_words::<P, R, I, O>(rt, alloc, words, reader, out) {
+        Ok(()) => Status::Done.code(),
+        Err(fault) => complain_of(fault, err),
+    }
+}
+
+/// Tells a fault, and answers the number of its exit status.
+fn complain_of<E: Diagnostics>(fault: Fault, err: &mut E) -> u8
+    ensures range { result ≤ 3 }
+    ensures value { result ≡ code_of (status_of fault) }
+    ensures told { E.tells err.old (complaint fault) err.new }
+{
+    let status = complain(&fault, err);
     status.code()
 }
 
@@ -136,7 +145,7 @@ fn answer<P: Program, R: Threads + Wait + Sync, I: Source, O: Write>(
         × Appends (O.contents out.old) (O.contents out.new) text) }
     ensures why { IfErr result (λ fault. IsUnwritten P.about request (λ bytes. I.gives reader.old bytes reader.new) fault
         ⊎ ((out.new ≡ out.old) × IsUnanswered P.about request
-        (λ bytes. I.gives reader.old bytes reader.new) (λ read. I.fails reader.old read reader.new) (reader.new ≡ reader.old) fault)) }
+        (λ bytes. I.gives reader.old bytes reader.new) (λ read. I.fails reader.old read reader.new) fault)) }
 {
     let bytes = match reader.read_all(alloc) {
         Ok(bytes) => bytes,
