@@ -27,25 +27,26 @@ module _ {Request Data : Type 0} (a : About Request Data) (asking : List Text) (
   pub shown : IsToBeShown kind → AsksToBeShown a.app asking
   shown = shown_asked a.app MissingRequiredArgument (a.lacks (matches_of a.app asking)) asking kind hidden fails
 
-  module _ (Reads : List ℕ → Type 0) (Fails : ReadFault → Type 0) (Same : Type 0) where
+  module _ (Reads : List ℕ → Type 0) (Fails : ReadFault → Type 0) (Same Unread : Type 0) (unread : Unread) where
     met_words : (met : WordsFault) → IsMetBy kind met → (met ≢ words.Write → Same)
-        → CouldNotWrite a asking Reads (faults.Words met) ⊎ (Same × HasNothing a asking Reads Fails (faults.Words met))
+        → CouldNotWrite a asking Reads Unread (faults.Words met) ⊎ (Same × HasNothing a asking Reads Fails Unread (faults.Words met))
     met_words (words.Words text) why kept = inr (
       kept (λ e. cc),
       inl (
         words.Words text,
         refl,
         words_fault a.app MissingRequiredArgument (a.lacks (matches_of a.app asking)) asking kind (words.Words text) hidden fails why,
+        unread,
       ),
     )
-    met_words words.Memory why kept = inr (kept (λ e. cc), inl (words.Memory, refl, tt))
-    met_words words.Write why kept = inl (inl (refl, shown why))
+    met_words words.Memory why kept = inr (kept (λ e. cc), inl (words.Memory, refl, tt, unread))
+    met_words words.Write why kept = inl (inl (refl, shown why, unread))
 
     -- why words make no request, and whether anything was written
     pub words_met : (fault : Fault) (met : WordsFault) → fault ≡ faults.Words met → IsMetBy kind met → (met ≢ words.Write → Same)
-        → CouldNotWrite a asking Reads fault ⊎ (Same × HasNothing a asking Reads Fails fault)
+        → CouldNotWrite a asking Reads Unread fault ⊎ (Same × HasNothing a asking Reads Fails Unread fault)
     words_met fault met is why kept =
-        subst (λ f. CouldNotWrite a asking Reads f ⊎ (Same × HasNothing a asking Reads Fails f)) (sym is) (met_words met why kept)
+        subst (λ f. CouldNotWrite a asking Reads Unread f ⊎ (Same × HasNothing a asking Reads Fails Unread f)) (sym is) (met_words met why kept)
 
 -- no fault gives status 0
 pub faulty : (fault : Fault) → code_of (status_of fault) ≢ 0

@@ -35,8 +35,8 @@ pub record About (Request Data : Type 0) : Type 1 where
   -- or, by this fault, none
   pub fails : Request → Data → Fault → Type 0
 
--- What was read is known by two facts: `Reads bytes` is that these bytes were read and were all there were, and `Fails fault` that
--- by this fault not all could be read.
+-- What was read is known by three facts: `Reads bytes` is that these bytes were read and were all there were, `Fails fault` that by
+-- this fault not all could be read, and `Unread` that nothing was.
 module _ {Request Data : Type 0} (a : About Request Data) where
   -- The text spells data that can be worked on, and this is what is made of them.
   abbrev pub IsMade : Request → List ℕ → List ℕ → Type 0
@@ -71,15 +71,15 @@ module _ {Request Data : Type 0} (a : About Request Data) where
   abbrev pub HasShownAsked : List Text → Option (List ℕ) → Option (List ℕ) → Type 0
   HasShownAsked words written_old written_new = AsksToBeShown a.app words × HasShown written_old written_new
 
-  -- By this fault nothing was made: the words make no request, or nothing was made for it.
-  abbrev pub HasNothing : List Text → (List ℕ → Type 0) → (ReadFault → Type 0) → Fault → Type 0
-  HasNothing words Reads Fails fault =
-      ((met : WordsFault) × (fault ≡ faults.Words met) × IsWordsFault a.app (a.lacks (matches_of a.app words)) words met)
+  -- By this fault nothing was made: the words make no request, and nothing was read; or nothing was made for it.
+  abbrev pub HasNothing : List Text → (List ℕ → Type 0) → (ReadFault → Type 0) → Type 0 → Fault → Type 0
+  HasNothing words Reads Fails Unread fault =
+      ((met : WordsFault) × (fault ≡ faults.Words met) × IsWordsFault a.app (a.lacks (matches_of a.app words)) words met × Unread)
       ⊎ ((request : Request) × a.asks words request × IsUnanswered request Reads Fails fault)
 
-  -- By this fault not all was written: of help or the version, or of the text that the words ask for.
-  abbrev pub CouldNotWrite : List Text → (List ℕ → Type 0) → Fault → Type 0
-  CouldNotWrite words Reads fault = ((fault ≡ faults.Words wording.Write) × AsksToBeShown a.app words)
+  -- By this fault not all was written: of help or the version, and nothing was read; or of the text that the words ask for.
+  abbrev pub CouldNotWrite : List Text → (List ℕ → Type 0) → Type 0 → Fault → Type 0
+  CouldNotWrite words Reads Unread fault = ((fault ≡ faults.Words wording.Write) × AsksToBeShown a.app words × Unread)
       ⊎ ((request : Request) × a.asks words request × IsUnwritten request Reads fault)
 
   -- The words make a request.

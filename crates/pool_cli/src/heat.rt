@@ -38,12 +38,13 @@ pub fn heat_with<R: Threads + Wait + Sync, I: Source, O: Write, E: Diagnostics>(
         (O.contents out.old) (O.contents out.new)
         ⊎ (HasShownAsked heat_program (map (λ w. w.now) words.now) (O.contents out.old) (O.contents out.new) × (reader.new ≡ reader.old))) }
     // Else one fault was met: the status is its own, and it is complained of by its own line and by nothing else. The writing
-    // failed, of what was made in full; or nothing was written, for a fault of the words, of the reading, of all that was read,
-    // or of the run.
+    // failed, of what was made in full; or nothing was written, for a fault of the words, by which nothing was read, of the
+    // reading, of all that was read, or of the run.
     ensures complained { 1 ≤ result → (fault : Fault) × (result ≡ code_of (status_of fault)) × E.tells err.old (complaint fault) err.new
-        × (CouldNotWrite heat_program (map (λ w. w.now) words.now) (λ bytes. I.gives reader.old bytes reader.new) fault
+        × (CouldNotWrite heat_program (map (λ w. w.now) words.now) (λ bytes. I.gives reader.old bytes reader.new)
+        (reader.new ≡ reader.old) fault
         ⊎ ((out.new ≡ out.old) × HasNothing heat_program (map (λ w. w.now) words.now)
-        (λ bytes. I.gives reader.old bytes reader.new) (λ read. I.fails reader.old read reader.new) fault)) }
+        (λ bytes. I.gives reader.old bytes reader.new) (λ read. I.fails reader.old read reader.new) (reader.new ≡ reader.old) fault)) }
     // Only for a rod is the input read.
     ensures unread { AsksForSome heat_program (map (λ w. w.now) words.now) ⊎ (reader.new ≡ reader.old) }
 {

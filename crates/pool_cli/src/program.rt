@@ -1,5 +1,6 @@
 ghost use Rattle.std.specs.Prelude.{◌≡◌, ◌≢◌, ◌≤◌, ◌⊎◌, List, ℕ, IfErr, IfOk, IsUtf8, MatchResult, OnOk, map};
 ghost use Rattle.std.specs.Io.KnownBytes.{Appends};
+ghost use Rattle.std.specs.Thread.{IsSync};
 ghost use Rattle.clap.specs.Values.{kind_of};
 ghost use Rattle.clap.specs.Words.{matches_of};
 ghost use Rattle.clap.specs.declared.error.kind.ErrorKind.TheVariants.{MissingRequiredArgument};
@@ -48,6 +49,8 @@ pub(crate) trait Program: Copy {
         alloc: Global,
         loaded: Self::Data,
     ) -> Result<Vec<u8>, Fault>
+        // as the bound says: of a trait's `fn` a proof knows it by a clause alone
+        requires shared { IsSync R.row }
         requires allowed { about.allows self }
         requires suitable { about.suits self loaded }
         ensures { MatchResult result (λ text. about.makes self loaded text.items) (about.fails self loaded) };
@@ -69,15 +72,25 @@ pub(crate) fn program_with<
         (O.contents out.old) (O.contents out.new)
         ⊎ (HasShownAsked P.about (map (λ w. w.now) words.now) (O.contents out.old) (O.contents out.new) × (reader.new ≡ reader.old))) }
     ensures complained { 1 ≤ result → (fault : Fault) × (result ≡ code_of (status_of fault)) × E.tells err.old (complaint fault) err.new
-        × (CouldNotWrite P.about (map (λ w. w.now) words.now) (λ bytes. I.gives reader.old bytes reader.new) fault
+        × (CouldNotWrite P.about (map (λ w. w.now) words.now) (λ bytes. I.gives reader.old bytes reader.new)
+        (reader.new ≡ reader.old) fault
         ⊎ ((out.new ≡ out.old) × HasNothing P.about (map (λ w. w.now) words.now)
-        (λ bytes. I.gives reader.old bytes reader.new) (λ read. I.fails reader.old read reader.new) fault)) }
+        (λ bytes. I.gives reader.old bytes reader.new) (λ read. I.fails reader.old read reader.new) (reader.new ≡ reader.old) fault)) }
     ensures unread { AsksForSome P.about (map (λ w. w.now) words.now) ⊎ (reader.new ≡ reader.old) }
 {
-    let status = match answer_words::<P, R, I, O>(rt, alloc, words, reader, out) {
-        Ok(()) => Status::Done,
-        Err(fault) => complain(&fault, err),
-    };
+    match answer_words::<P, R, I, O>(rt, alloc, words, reader, out) {
+        Ok(()) => Status::Done.code(),
+        Err(fault) => complain_of(fault, err),
+    }
+}
+
+/// Tells a fault, and answers the number of its exit status.
+fn complain_of<E: Diagnostics>(fault: Fault, err: &mut E) -> u8
+    ensures range { result ≤ 3 }
+    ensures value { result ≡ code_of (status_of fault) }
+    ensures told { E.tells err.old (complaint fault) err.new }
+{
+    let status = complain(&fault, err);
     status.code()
 }
 
@@ -94,9 +107,10 @@ fn answer_words<P: Program, R: Threads + Wait + Sync, I: Source, O: Write>(
         (O.contents out.old) (O.contents out.new)
         ⊎ (HasShownAsked P.about (map (λ w. w.now) words.now) (O.contents out.old) (O.contents out.new) × (reader.new ≡ reader.old))) }
     ensures why { IfErr result (λ fault.
-        CouldNotWrite P.about (map (λ w. w.now) words.now) (λ bytes. I.gives reader.old bytes reader.new) fault
+        CouldNotWrite P.about (map (λ w. w.now) words.now) (λ bytes. I.gives reader.old bytes reader.new)
+        (reader.new ≡ reader.old) fault
         ⊎ ((out.new ≡ out.old) × HasNothing P.about (map (λ w. w.now) words.now)
-        (λ bytes. I.gives reader.old bytes reader.new) (λ read. I.fails reader.old read reader.new) fault)) }
+        (λ bytes. I.gives reader.old bytes reader.new) (λ read. I.fails reader.old read reader.new) (reader.new ≡ reader.old) fault)) }
     ensures unread { AsksForSome P.about (map (λ w. w.now) words.now) ⊎ (reader.new ≡ reader.old) }
 {
     match P::requested(alloc, words) {

@@ -1,6 +1,6 @@
-use Rattle.std.proofs.Common.{inr, refl, subst}
+use Rattle.std.proofs.Common.{inr, map, refl, subst, List}
 use Rattle.clap.proofs.TakesLemmas.{passed_up}
-use Rattle.clap.specs.Words.{app_of, matches_of}
+use Rattle.clap.specs.Words.{Text, app_of, matches_of}
 use Rattle.clap.specs.declared.error.kind.ErrorKind.TheVariants.{MissingRequiredArgument}
 use Rattle.pool_cli.specs.Command.{IsSideIn, LackSide, product_app}
 use Rattle.tp_shell.proofs.Asked.{fails_as, none_asked, rows_asked}
@@ -10,8 +10,9 @@ use Rattle.pool_cli.proofs.product_request.product_requested.Goals as goal
 pub returns-in_err-matches-clause-why : goal.returns-in_err-matches-clause-why
 returns-in_err-matches-clause-why c =
     let error = c.in_err-matches.field-0.0 in
+    let words : List Text = map (λ w. w.now) c.args.words.now in
     passed_up c.from_residual-in_err-matches.result error _ c.from_residual-in_err-matches.ensures.1
-    (fails_as product_app (app_of c.in_ok-command.command) MissingRequiredArgument (LackSide (matches_of product_app _)) _ error refl
+    (fails_as product_app (app_of c.in_ok-command.command) MissingRequiredArgument (LackSide (matches_of product_app words)) words error refl
     c.in_ok-command.ensures c.in_err-matches.ensures.kinds)
 
 pub returns-in-Some-clause-asked : goal.returns-in-Some-clause-asked

@@ -28,7 +28,7 @@ pub returns-in-Err-clause-why : goal.returns-in-Err-clause-why
 returns-in-Err-clause-why g c =
     IfErr-weaker c.show_asked.result _ _
     (λ fault met. words_met g.P.Program.about (map (λ w. w.now) c.args.words.now) (kind_of c.in-Err.error) c.in-Err.ensures.why
-    _ _ _ fault met.0 met.1 met.2 met.3)
+    _ _ _ _ refl fault met.0 met.1 met.2 met.3)
     c.show_asked.ensures.why
 
 pub returns-in-Err-clause-unread : goal.returns-in-Err-clause-unread

@@ -1,7 +1,5 @@
-use Rattle.std.proofs.Common.{◌≡◌, arith, refl, rules}
+use Rattle.std.proofs.Common.{◌∙◌, arith, refl, sym}
 use Rattle.pool_cli.proofs.Ending.{faulty}
-use Rattle.pool_cli.specs.Faults.{status_of}
-use Rattle.tp_shell.specs.Statuses.{code_of}
 use Rattle.pool_cli.proofs.program.program_with.Goals as goal
 
 pub returns-in-Ok-clause-succeeded : goal.returns-in-Ok-clause-succeeded
@@ -11,9 +9,8 @@ pub returns-in-Ok-clause-complained : goal.returns-in-Ok-clause-complained
 returns-in-Ok-clause-complained g c = λ some. absurd (omega (arith, some, c.code.ensures.value))
 
 pub returns-in-Err-clause-succeeded : goal.returns-in-Err-clause-succeeded
-returns-in-Err-clause-succeeded g c = λ zero.
-    let code : code_of (status_of c.in-Err.fault) ≡ 0 = search rules in
-    absurd (faulty c.in-Err.fault code)
+returns-in-Err-clause-succeeded g c = λ zero. absurd (faulty c.in-Err.fault (sym c.complain_of.ensures.value ∙ zero))
 
 pub returns-in-Err-clause-complained : goal.returns-in-Err-clause-complained
-returns-in-Err-clause-complained g c = λ some. (c.in-Err.fault, search rules, c.complain-status.ensures.told, c.in-Err.ensures.why)
+returns-in-Err-clause-complained g c =
+    λ some. (c.in-Err.fault, c.complain_of.ensures.value, c.complain_of.ensures.told, c.in-Err.ensures.why)
