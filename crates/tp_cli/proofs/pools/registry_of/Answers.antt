@@ -1,4 +1,4 @@
-use Rattle.std.proofs.Common.{◌≡◌, ◌<◌, ◌≤◌, arith, inl, length, map, refl, rules, subst, sym}
+use Rattle.std.proofs.Common.{◌<◌, ◌≤◌, arith, inl, length, map, refl, rules, subst, sym}
 use Rattle.std.proofs.lemmas.List.{get_or-map, length-map}
 use Rattle.tp_base.specs.declared.limits.TheConstants.{MAX_POOLS}
 use Rattle.tp_cli.proofs.Several.{all_named, one_registered, refused_word}
