@@ -15,11 +15,12 @@ import os
 import re
 import shutil
 import subprocess
+from concurrent.futures import ThreadPoolExecutor
 
 from . import repository
-from .build import give, prove_all
+from .build import prove_all
 from .repository import files_in, text_of
-from .rooms import copy_to, rooms
+from .rooms import rooms
 
 # what is said of a wrong body that no clause refuses
 NOTHING = re.compile(r"NOT REFUSED|NOT TRIED|BAD EDIT|\(only because|\(only by a limit")
@@ -78,23 +79,33 @@ def place(crate, room):
         shutil.copy2(path, f"{folder}/{name}")
 
 
-def judge(crates, below, proved, room):
-    """Has the prover try the wrong bodies of these crates, over what was proved in a copy; gives what it said of each."""
-    copy_to(room)
-    for name in below:
-        give(name, proved, [room])
-    for crate in crates:
-        place(crate, room)
-    told = {crate: {} for crate in crates}
-    jobs = os.environ.get("RT_JOBS") or str(repository.lanes(repository.MEMORY_OF_A_CHECK))
+def judge(crate, room):
+    """Has the prover try the wrong bodies of a crate in a copy in which all below it is proved; gives what it said of each."""
+    place(crate.name, room)
+    told = {}
     streams = {"stdin": subprocess.DEVNULL, "stdout": subprocess.PIPE, "text": True}
-    with subprocess.Popen(["rt", "must-fail", *crates], cwd=room, env={**os.environ, "RT_JOBS": jobs}, **streams) as ran:
+    with subprocess.Popen(["rt", "must-fail", crate.name], cwd=room, env={**os.environ, "RT_JOBS": "1"}, **streams) as ran:
         for line in ran.stdout:
-            found = re.match(r"rt: must-fail (\w+)/(\S+)\.edit: (.*)", line)
+            found = re.match(r"rt: must-fail \w+/(\S+)\.edit: (.*)", line)
             if found:
-                told[found[1]][found[2]] = found[3]
-                print(f"{found[1]}/{found[2]}: {found[3] if NOTHING.search(found[3]) else 'refused: ' + reason(found[3])}", flush=True)
+                told[found[1]] = found[2]
+                print(f"{crate.name}/{found[1]}: {found[2] if NOTHING.search(found[2]) else 'refused: ' + reason(found[2])}", flush=True)
     return told
+
+
+def judge_all(crates, copies):
+    """Judges crates beside each other, the longest first, one in each copy; gives whether each wrong body was refused by a clause."""
+    free = [*copies]
+
+    def judged(crate):
+        room = free.pop()
+        try:
+            return note(crate, judge(crate, room))
+        finally:
+            free.append(room)
+
+    with ThreadPoolExecutor(len(copies)) as lanes:
+        return all([*lanes.map(judged, sorted(crates, key=lambda it: -it.lines))])
 
 
 def note(crate, told):
@@ -105,7 +116,8 @@ def note(crate, told):
         with open(f"wrong/{crate.name}/JUDGED", "w", encoding="utf-8") as text:
             text.write(f"of {digest(crate)}\nby {toolchain()}\non {datetime.date.today()}\n")
             text.writelines(f"{name}: {reason(said)}\n" for name, said in sorted(told.items()))
-    print(f"{crate.name}: {f'{len(told)} wrong bodies refused' if is_well else 'NOT EACH of its wrong bodies was refused by a clause'}")
+    said = f"{len(told)} wrong bodies refused" if is_well else "NOT EACH of its wrong bodies was refused by a clause"
+    print(f"{crate.name}: {said}", flush=True)
     return is_well
 
 
@@ -118,13 +130,9 @@ def arguments(parser):
 
 def try_wrong_bodies(crates):
     """Has the prover try the wrong bodies of these crates; gives whether each was refused by a clause."""
-    names = [it.name for it in crates]
-    with rooms() as (top, copies):
-        below = {it: crate for it, crate in repository.crates(names).items() if not crate.is_program}
-        if not prove_all(below, copies):
-            return False
-        told = judge(names, below, copies[0], f"{top}/wrong") if names else {}
-    return all([note(it, told[it.name]) for it in crates])
+    below = repository.crates([name for it in crates for name in it.below])
+    with rooms() as (_, copies):
+        return prove_all(below, copies) and judge_all(crates, copies)
 
 
 def run(words):
