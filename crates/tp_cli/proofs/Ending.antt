@@ -1,5 +1,5 @@
 -- How a run ends.
-use Rattle.std.proofs.Common.{◌≡◌, ◌≢◌, ◌∙◌, ◌⊎◌, ℕ, Bool, true, false, List, Option, Result, Ok, Err, IfErr, ap, arith, codes, inl, inr, map, refl, subst, sym}
+use Rattle.std.proofs.Common.{◌≡◌, ◌≢◌, ◌∙◌, ◌⊎◌, ℕ, Bool, true, false, List, Option, Result, Ok, Err, IfErr, IfOk, ap, arith, codes, inl, inr, map, refl, subst, sym}
 use Rattle.std.specs.Io.KnownBytes.{Appends}
 use Rattle.tp_base.specs.declared.refusal.Refusal.{Refusal}
 use Rattle.clap.specs.Words.{Text, subcommand_of}
@@ -251,3 +251,48 @@ module _ (asking : List Text) (read_old read_new written_old written_new : Optio
   if_failed statuses.Fault is did = absurd did
   if_failed statuses.Refused is did = cc
   if_failed statuses.Failed is did = did
+
+-- what was written and told of what was answered, by the number that was answered
+module _ {D : Type 0} (tells : D → List ℕ → D → Type 0) (asking : List Text) (read_old read_new written_old written_new : Option (List ℕ))
+    (Same : Type 0) (old new : D) (s : Status) (code : ℕ) (is : code ≡ code_of s) where
+  abbrev WasAnswered : Result Status Fault → Type 0
+  WasAnswered r = IfOk r (HasAnswered asking read_old read_new written_old written_new)
+
+  abbrev Lacks : Fault → Type 0
+  Lacks f = CouldNotWrite asking read_old read_new f ⊎ (Same × HasNothing asking read_old read_new f)
+
+  abbrev WasKept : Result Status Fault → Type 0
+  WasKept r = IfOk r (λ t. (s ≡ t) × (new ≡ old))
+
+  abbrev WasTold : Result Status Fault → Type 0
+  WasTold r = IfErr r (λ f. (s ≡ status_of f) × tells old (line_of f) new)
+
+  pub ended_done : (r : Result Status Fault) → WasAnswered r → WasKept r → WasTold r → code ≡ 0
+      → (new ≡ old) × Succeeded asking read_old read_new written_old written_new
+  ended_done (Ok t) answered kept told zero =
+      (kept.1, if_done asking read_old read_new written_old written_new t (ap code_of (sym kept.0) ∙ sym is ∙ zero) answered)
+  ended_done (Err f) answered kept told zero = absurd (fault_undone tells f old new new s s code is refl told.0 refl told.1 zero)
+
+  pub ended_complained : (r : Result Status Fault) → WasAnswered r → IfErr r Lacks → WasKept r → WasTold r → code ≡ 1
+      → (f : Fault) × (code ≡ code_of (status_of f)) × tells old (line_of f) new × Lacks f
+  ended_complained (Ok t) answered why kept told one =
+      absurd (if_fault asking read_old read_new written_old written_new t (ap code_of (sym kept.0) ∙ sym is ∙ one) answered)
+  ended_complained (Err f) answered why kept told one =
+      fault_told tells f old new new s s code is refl told.0 refl told.1 asking read_old read_new Same why
+
+  pub ended_refused : (r : Result Status Fault) → WasAnswered r → WasKept r → WasTold r → code ≡ 2
+      → (new ≡ old) × RefusedText asking read_old read_new written_old written_new
+  ended_refused (Ok t) answered kept told two =
+      (kept.1, if_refused asking read_old read_new written_old written_new t (ap code_of (sym kept.0) ∙ sym is ∙ two) answered)
+  ended_refused (Err f) answered kept told two = elim (faulty f) [
+    | inl one ↦ absurd (omega (arith, is ∙ ap code_of told.0, two, one))
+    | inr three ↦ absurd (omega (arith, is ∙ ap code_of told.0, two, three))
+  ]
+
+  pub ended_failed : (r : Result Status Fault) → WasAnswered r → IfErr r Lacks → WasKept r → WasTold r → code ≡ 3
+      → ((f : Fault) × (code ≡ code_of (status_of f)) × tells old (line_of f) new × Same × HasNothing asking read_old read_new f)
+      ⊎ ((new ≡ old) × RefusedPool asking written_old written_new)
+  ended_failed (Ok t) answered why kept told three =
+      inr (kept.1, if_failed asking read_old read_new written_old written_new t (ap code_of (sym kept.0) ∙ sym is ∙ three) answered)
+  ended_failed (Err f) answered why kept told three =
+      inl (fault_failed tells f old new new s s code is refl told.0 refl told.1 asking read_old read_new Same three why)

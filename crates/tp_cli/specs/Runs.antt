@@ -51,11 +51,11 @@ abbrev pub IsPrintOfSeries : Form → AnyGraph → ℕ → Series → List ℕ �
 IsPrintOfSeries Table g n s text = text ≡ rounds_text g 1 s.rounds.items
 IsPrintOfSeries Trace g n s text = IsTraceOf n (steps_of s.history.events) text
 
--- the text, in this form, of a run of a graph on n nodes, with so many workers at each, to its judged end
+-- the text, in this form, of a run of a graph on n nodes to its judged end; how many workers there were no outcome tells
 abbrev pub IsTextOfOne : Form → AnyGraph → ℕ → ℕ → List ℕ → Type 0
 IsTextOfOne form g n workers text = (o : Outcome) × IsOutcome n (any_graph g) o × IsPrintOf form g n o text
 
--- the text, in this form, of so many generations of a graph on n nodes, with so many workers at each, each run to its judged end
+-- the text, in this form, of so many generations of a graph on n nodes, each run to its judged end
 abbrev pub IsTextOfSeries : Form → AnyGraph → ℕ → ℕ → ℕ → List ℕ → Type 0
 IsTextOfSeries form g n workers count text = (s : Series) × IsSeries n (any_graph g) count s × IsPrintOfSeries form g n s text
 
@@ -64,7 +64,7 @@ abbrev pub IsTextOf : Form → AnyGraph → ℕ → ℕ → ℕ → List ℕ →
 IsTextOf form g n workers count text =
     ((count ≡ 1) × IsTextOfOne form g n workers text) ⊎ ((2 ≤ count) × IsTextOfSeries form g n workers count text)
 
--- The word names a graph, and this is the text, in this form, of so many generations of it on n nodes, with so many workers.
+-- The word names a graph, and this is the text, in this form, of so many generations of it on n nodes.
 abbrev pub IsTextFor : Form → List ℕ → ℕ → ℕ → ℕ → List ℕ → Type 0
 IsTextFor form word n workers count text = (g : AnyGraph) × (word ≡ word_of g) × IsTextOf form g n workers count text
 

@@ -58,11 +58,19 @@ pub fn main_with<R: Threads + Wait + Sync, I: Read, O: Write, E: Diagnostics>(
     // A script or a trace alone is read.
     ensures unread { ReadsAText (map (λ w. w.now) words.now) ⊎ (reader.new ≡ reader.old) }
 {
-    let status = match answer_words(rt, alloc, words, reader, out) {
-        Ok(ended) => ended,
+    let ended = answer_words(rt, alloc, words, reader, out);
+    told(ended, err).code()
+}
+
+/// The status with which the program ended, or that of its fault, which is told.
+fn told<E: Diagnostics>(ended: Result<Status, Fault>, err: &mut E) -> Status
+    ensures done { IfOk ended (λ status. (result ≡ status) × (err.new ≡ err.old)) }
+    ensures faulty { IfErr ended (λ fault. (result ≡ status_of fault) × E.tells err.old (line_of fault) err.new) }
+{
+    match ended {
+        Ok(status) => status,
         Err(fault) => complain(&fault, err),
-    };
-    status.code()
+    }
 }
 
 /// Writes what the words ask for, or shows help or the version where they ask for that.
