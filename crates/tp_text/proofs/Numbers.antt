@@ -9,7 +9,7 @@ use Rattle.std.specs.List.{All}
 use Rattle.std.specs.Prelude.{slice_index}
 use Rattle.std.specs.Str.Parse.{digits_value}
 use Rattle.tp_text.specs.Spelling.{IsNumber}
-use Rattle.tp_text.specs.Words.{IsDigit, BeginsWithout, HasDigits, Splits}
+use Rattle.tp_text.specs.Words.{IsDigit, BeginsWithout, Splits}
 use Rattle.tp_text.proofs.Splits.{All-head, All-tail, split_unique}
 
 abbrev AreDigits : List ℕ → Type 0
@@ -34,6 +34,14 @@ pub value_more : (text : List ℕ) (n value : ℕ) → n < length text → IsDig
 value_more text n value l digit e = omega (arith, digits_value_more 10 text n l, digit_value_digit (get_or text n 0) digit)
 
 -- ---- the digits at the front
+
+-- So many digits stand there, all that do or the first seven of them, and this is their value.
+pub record HasDigits (text : List ℕ) (len value : ℕ) : Type 0 where
+  pub few : len ≤ 7
+  pub within : len ≤ length text
+  pub digits : (i : ℕ) → i < len → IsDigit (slice_index text i)
+  pub stops : len < 7 → len < length text → ¬ IsDigit (slice_index text len)
+  pub value_is : value ≡ digits_value 10 (take len text)
 
 digits_in : (text : List ℕ) (n : ℕ) → n ≤ length text → ((i : ℕ) → i < n → IsDigit (slice_index text i)) → AreDigits (take n text)
 digits_in text n within digits i l =

@@ -1,7 +1,6 @@
 -- Words and numbers at the front of a text.
-use Rattle.std.specs.Prelude.{ℕ, ◌<◌, ◌≤◌, ◌≡◌, ◌≢◌, ◌++◌, List, [], ◌∷◌, length, slice_index, take}
+use Rattle.std.specs.Prelude.{ℕ, ◌≤◌, ◌≡◌, ◌≢◌, ◌++◌, List, [], ◌∷◌}
 use Rattle.std.specs.List.{All}
-use Rattle.std.specs.Str.Parse.{digits_value}
 use Rattle.tp_text.specs.declared.words.Operands.{Operands}
 use Rattle.tp_text.specs.declared.words.Operands.TheVariants as operands
 
@@ -20,14 +19,6 @@ BeginsWithout P (b ∷ text) = ¬ P b
 -- The text is its front, which holds all the bytes of this kind up to the first of another, and then the rest.
 abbrev pub Splits : (ℕ → Type 0) → List ℕ → List ℕ → List ℕ → Type 0
 Splits P text front rest = (text ≡ front ++ rest) × All P front × BeginsWithout P rest
-
--- So many digits stand at the front, all that do or the first seven of them, and this is their value.
-pub record HasDigits (text : List ℕ) (len value : ℕ) : Type 0 where
-  pub few : len ≤ 7
-  pub within : len ≤ length text
-  pub digits : (i : ℕ) → i < len → IsDigit (slice_index text i)
-  pub stops : len < 7 → len < length text → ¬ IsDigit (slice_index text len)
-  pub value_is : value ≡ digits_value 10 (take len text)
 
 -- the numbers, as a list
 abbrev pub numbers_in : Operands → List ℕ

@@ -1,10 +1,15 @@
-ghost use Rattle.std.specs.Prelude.{◌≡◌, ◌≢◌, ◌<◌, ◌≤◌, ◌↔◌, ◌++◌, ℕ, List, length, slice_index, decimal, IsTrue, MatchOption};
+ghost use Rattle.std.specs.Prelude.{◌≡◌, ◌≢◌, ◌<◌, ◌≤◌, ◌↔◌, ◌++◌, ℕ, List, length, slice_index, take, decimal, IsTrue, MatchOption};
+ghost use Rattle.std.specs.Str.Parse.{digits_value};
 ghost use Rattle.tp_text.specs.Spelling.{IsNumber};
-ghost use Rattle.tp_text.specs.Words.{IsDigit, BeginsWithout, HasDigits};
+ghost use Rattle.tp_text.specs.Words.{IsDigit, BeginsWithout};
 
 /// How many digits stand at the front, and their value: of seven digits or more those of the first seven.
 fn leading_digits(text: &[u8]) -> (usize, u32)
-    ensures { HasDigits text.now result.0 result.1 }
+    ensures few { result.0 ≤ 7 }
+    ensures within { result.0 ≤ length text.now }
+    ensures digits { (i : ℕ) → i < result.0 → IsDigit (slice_index text.now i) }
+    ensures stops { result.0 < 7 → result.0 < length text.now → ¬ IsDigit (slice_index text.now result.0) }
+    ensures value { result.1 ≡ digits_value 10 (take result.0 text.now) }
 {
     let most = text.len().min(7);
     let mut len = 0;
