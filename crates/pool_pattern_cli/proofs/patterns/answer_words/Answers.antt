@@ -1,9 +1,9 @@
 use Rattle.std.proofs.Common.{List, inl, inr, map}
 use Rattle.std.proofs.lemmas.Result.{IfErr-weaker, on_ok_weaker}
 use Rattle.clap.specs.Values.{kind_of}
-use Rattle.clap.specs.Words.{Row}
+use Rattle.clap.specs.Words.{Row, matches_of}
 use Rattle.pool_pattern_cli.proofs.Ending.{shown, words_met}
-use Rattle.pool_pattern_cli.specs.Command.{IsMadeBy}
+use Rattle.pool_pattern_cli.specs.Command.{IsMadeBy, patterns_app}
 use Rattle.pool_pattern_cli.specs.Runs.{IsLawful}
 use Rattle.pool_pattern_cli.specs.declared.request.Asked.{Asked}
 use Rattle.pool_pattern_cli.specs.declared.request.Asked.TheVariants as what
@@ -15,7 +15,7 @@ lawful rows (what.Run request) made = made.2
 lawful rows what.NoPattern made = tt
 
 pub answer-requires : goal.answer-requires
-answer-requires g c = lawful _ c.in-Ok.asked c.in-Ok.ensures.asked
+answer-requires g c = lawful (matches_of patterns_app (map (λ w. w.now) c.args.words.now)) c.in-Ok.asked c.in-Ok.ensures.asked
 
 pub returns-in-Ok-clause-printed : goal.returns-in-Ok-clause-printed
 returns-in-Ok-clause-printed g c =
