@@ -1,0 +1,3 @@
+pub mod Layered
+pub mod Asked
+pub mod Ending

@@ -1,0 +1,203 @@
+ghost use Rattle.std.specs.Prelude.{◌≡◌, ◌++◌, ◌≤◌, ◌<◌, OnOk};
+ghost use Rattle.tp_base.specs.declared.limits.TheConstants.{MAX_NODES};
+ghost use Rattle.tp_draw.specs.Chart.{IsDrawn};
+ghost use Rattle.tp_draw.specs.GraphMarks.{circle_text, curve_text, disc_text, feed_text, feed_where, inside_text, is_message, message_text};
+ghost use Rattle.tp_draw.specs.GraphPage.{feeds_of};
+
+use crate::chart::Chart;
+use crate::parts::{Part, push_parts};
+use std::alloc::AllocError;
+use tp_base::TaskId;
+use tp_graph::Graph;
+
+/// A graph on so many nodes, and where its circles stand.
+#[derive(Clone, Copy)]
+pub(crate) struct Drawing<'a, G: Graph> {
+    pub(crate) graph: G,
+    pub(crate) nodes: u32,
+    pub(crate) chart: &'a Chart,
+}
+
+/// Whether a feed becomes a message: its ends are at two nodes.
+pub(crate) fn is_message<G: Graph>(graph: G, nodes: u32, task: u32, turn: u32) -> bool
+    requires nodes { (1 ≤ nodes) × (nodes ≤ MAX_NODES) }
+    requires known { task < (G.meaning graph).tasks }
+    requires within { turn < (G.meaning graph).feeds task }
+    ensures { result ≡ is_message (G.meaning graph) nodes task turn }
+{
+    let (target, _) = graph.feed(TaskId(task), turn);
+    graph.home(TaskId(task), nodes) != graph.home(target, nodes)
+}
+
+impl<'a, G: Graph> Drawing<'a, G> {
+    /// A circle for a task, with its number where there is room.
+    #[tactic(auto, unfolding(crate::specs::GraphMarks::circle_text))]
+    pub(crate) fn push_circle(self, out: &mut Vec<u8>, task: u32) -> Result<(), AllocError>
+        requires drawn { IsDrawn (G.meaning self.graph) self.nodes self.chart.now }
+        requires known { task < (G.meaning self.graph).tasks }
+        ensures { OnOk result (out.new.items ≡ out.old.items ++ circle_text (G.meaning self.graph) self.nodes self.chart.now.layers.items task) }
+    {
+        self.push_disc(out, task)?;
+        if self.chart.radius() >= 80 {
+            return self.push_inside(out, task);
+        }
+        Ok(())
+    }
+
+    #[tactic(auto, unfolding(crate::specs::GraphMarks::disc_text))]
+    fn push_disc(self, out: &mut Vec<u8>, task: u32) -> Result<(), AllocError>
+        requires drawn { IsDrawn (G.meaning self.graph) self.nodes self.chart.now }
+        requires known { task < (G.meaning self.graph).tasks }
+        ensures { OnOk result (out.new.items ≡ out.old.items ++ disc_text (G.meaning self.graph) self.nodes self.chart.now.layers.items task) }
+    {
+        let home = u64::from(self.graph.home(TaskId(task), self.nodes).0);
+        push_parts(
+            out,
+            &[
+                Part::Text(b"<circle class=\"n"),
+                Part::Number(home),
+                Part::Text(b"\" cx=\""),
+                Part::Tenths(self.chart.x(task)),
+                Part::Text(b"\" cy=\""),
+                Part::Tenths(self.chart.y(task)),
+                Part::Text(b"\" r=\""),
+                Part::Tenths(self.chart.radius()),
+                Part::Text(b"\"><title>task "),
+                Part::Number(u64::from(task)),
+                Part::Text(b" at node "),
+                Part::Number(home),
+                Part::Text(b"</title></circle>\n"),
+            ],
+        )
+    }
+
+    #[tactic(auto, unfolding(crate::specs::GraphMarks::inside_text))]
+    fn push_inside(self, out: &mut Vec<u8>, task: u32) -> Result<(), AllocError>
+        requires drawn { IsDrawn (G.meaning self.graph) self.nodes self.chart.now }
+        requires known { task < (G.meaning self.graph).tasks }
+        ensures { OnOk result (out.new.items ≡ out.old.items ++ inside_text self.chart.now.layers.items task) }
+    {
+        push_parts(
+            out,
+            &[
+                Part::Text(b"<text class=\"number\" x=\""),
+                Part::Tenths(self.chart.x(task)),
+                Part::Text(b"\" y=\""),
+                Part::Tenths(self.chart.y(task) + 33),
+                Part::Text(b"\">"),
+                Part::Number(u64::from(task)),
+                Part::Text(b"</text>\n"),
+            ],
+        )
+    }
+
+    /// A curve from the circle of a task to that of another, vertical at both.
+    #[tactic(auto, unfolding(crate::specs::GraphMarks::curve_text))]
+    fn push_curve(self, out: &mut Vec<u8>, from: u32, to: u32) -> Result<(), AllocError>
+        requires drawn { IsDrawn (G.meaning self.graph) self.nodes self.chart.now }
+        requires known { (from < (G.meaning self.graph).tasks) × (to < (G.meaning self.graph).tasks) }
+        ensures { OnOk result (out.new.items ≡ out.old.items ++ curve_text self.chart.now.layers.items from to) }
+    {
+        let middle = (self.chart.y(from) + self.chart.y(to)) / 2;
+        push_parts(
+            out,
+            &[
+                Part::Text(b"M"),
+                Part::Tenths(self.chart.x(from)),
+                Part::Text(b","),
+                Part::Tenths(self.chart.y(from)),
+                Part::Text(b"C"),
+                Part::Tenths(self.chart.x(from)),
+                Part::Text(b","),
+                Part::Tenths(middle),
+                Part::Text(b" "),
+                Part::Tenths(self.chart.x(to)),
+                Part::Text(b","),
+                Part::Tenths(middle),
+                Part::Text(b" "),
+                Part::Tenths(self.chart.x(to)),
+                Part::Text(b","),
+                Part::Tenths(self.chart.y(to)),
+                Part::Text(b"\"><title>task "),
+                Part::Number(u64::from(from)),
+                Part::Text(b" to task "),
+                Part::Number(u64::from(to)),
+                Part::Text(b"</title></path>\n"),
+            ],
+        )
+    }
+
+    /// A feed within a node, pale.
+    #[tactic(auto, unfolding(crate::specs::GraphMarks::feed_text))]
+    fn push_feed(self, out: &mut Vec<u8>, task: u32, turn: u32) -> Result<(), AllocError>
+        requires drawn { IsDrawn (G.meaning self.graph) self.nodes self.chart.now }
+        requires known { task < (G.meaning self.graph).tasks }
+        requires within { turn < (G.meaning self.graph).feeds task }
+        ensures { OnOk result (out.new.items ≡ out.old.items ++ feed_text (G.meaning self.graph) self.chart.now.layers.items task turn) }
+    {
+        let (target, _) = self.graph.feed(TaskId(task), turn);
+        out.extend_from_slice(b"<path class=\"feed\" d=\"")?;
+        self.push_curve(out, task, target.0)
+    }
+
+    /// A feed that becomes a message, strong in its sender's colour.
+    #[tactic(auto, unfolding(crate::specs::GraphMarks::message_text))]
+    fn push_message(self, out: &mut Vec<u8>, task: u32, turn: u32) -> Result<(), AllocError>
+        requires drawn { IsDrawn (G.meaning self.graph) self.nodes self.chart.now }
+        requires known { task < (G.meaning self.graph).tasks }
+        requires within { turn < (G.meaning self.graph).feeds task }
+        ensures { OnOk result (out.new.items ≡ out.old.items ++ message_text (G.meaning self.graph) self.nodes self.chart.now.layers.items task turn) }
+    {
+        let (target, _) = self.graph.feed(TaskId(task), turn);
+        let home = self.graph.home(TaskId(task), self.nodes).0;
+        push_parts(
+            out,
+            &[
+                Part::Text(b"<path class=\"message s"),
+                Part::Number(u64::from(home)),
+                Part::Text(b"\" d=\""),
+            ],
+        )?;
+        self.push_curve(out, task, target.0)
+    }
+
+    /// A feed, where it is one of those that are drawn now.
+    fn push_feed_where(
+        self,
+        out: &mut Vec<u8>,
+        strong: bool,
+        task: u32,
+        turn: u32,
+    ) -> Result<(), AllocError>
+        requires drawn { IsDrawn (G.meaning self.graph) self.nodes self.chart.now }
+        requires known { task < (G.meaning self.graph).tasks }
+        requires within { turn < (G.meaning self.graph).feeds task }
+        ensures { OnOk result (out.new.items ≡ out.old.items ++ feed_where (G.meaning self.graph) self.nodes self.chart.now.layers.items strong task turn) }
+    {
+        if is_message(self.graph, self.nodes, task, turn) != strong {
+            return Ok(());
+        }
+        if strong {
+            self.push_message(out, task, turn)
+        } else {
+            self.push_feed(out, task, turn)
+        }
+    }
+
+    /// The feeds of a task: those within its node, or those that become messages.
+    pub(crate) fn push_feeds(
+        self,
+        out: &mut Vec<u8>,
+        strong: bool,
+        task: u32,
+    ) -> Result<(), AllocError>
+        requires drawn { IsDrawn (G.meaning self.graph) self.nodes self.chart.now }
+        requires known { task < (G.meaning self.graph).tasks }
+        ensures { OnOk result (out.new.items ≡ out.old.items ++ feeds_of (G.meaning self.graph) self.nodes self.chart.now.layers.items strong task) }
+    {
+        for turn in 0..self.graph.feeds(TaskId(task)) {
+            self.push_feed_where(out, strong, task, turn)?;
+        }
+        Ok(())
+    }
+}

@@ -1,0 +1,21 @@
+//! The program `draw` as a call over its words, its input and its output: pictures of runs and of graphs.
+#![tactic(auto)]
+
+mod chart;
+mod cli;
+mod command;
+mod dot;
+mod fault;
+mod graph_marks;
+mod graph_page;
+mod layers;
+mod parts;
+mod picture;
+mod request;
+mod scaled;
+mod stand_in;
+
+pub use cli::draw_with;
+pub use dot::dot;
+pub use fault::without_words;
+pub use graph_page::{MAX_TASKS, graph_page};
