@@ -3,7 +3,7 @@ use Rattle.std.specs.Prelude.{ℕ, zero, suc, ◌+◌, ◌-◌, ◌*◌, ◌/◌
 use Rattle.tp_base.specs.declared.limits.TheConstants.{MAX_NODES}
 use Rattle.tp_graph.specs.Graphs.{TaskGraph}
 use Rattle.tp_draw.specs.declared.chart.Chart.{Chart}
-use Rattle.tp_draw.specs.declared.graph_page.TheConstants.{MAX_TASKS}
+use Rattle.tp_draw.specs.declared.page.TheConstants.{MAX_TASKS}
 use Rattle.tp_draw.specs.Layers.{AreLayers}
 
 -- how many of the first k tasks stand in layer l

@@ -1,7 +1,7 @@
 -- A graph on m nodes as text for graphviz.
 use Rattle.std.specs.Prelude.{ℕ, ◌+◌, ◌==◌, ◌++◌, List, [], codes, decimal, if◌then◌else◌}
 use Rattle.tp_graph.specs.Graphs.{TaskGraph}
-use Rattle.tp_draw.specs.declared.dot.TheConstants.{DOT_HEAD}
+use Rattle.tp_draw.specs.declared.graphviz.TheConstants.{DOT_HEAD}
 use Rattle.tp_draw.specs.Parts.{joined}
 
 -- task t stands in the cluster of its home

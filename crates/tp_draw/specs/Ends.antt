@@ -29,7 +29,7 @@ use Rattle.tp_draw.specs.Layers.{AreLayers}
 use Rattle.tp_draw.specs.Scaled.{shown}
 use Rattle.tp_draw.specs.declared.fault.Fault.{Fault}
 use Rattle.tp_draw.specs.declared.fault.Fault.TheVariants as faults
-use Rattle.tp_draw.specs.declared.graph_page.TheConstants.{MAX_TASKS}
+use Rattle.tp_draw.specs.declared.page.TheConstants.{MAX_TASKS}
 use Rattle.tp_draw.specs.declared.request.Form.{Form}
 use Rattle.tp_draw.specs.declared.request.Form.TheVariants.{Picture, Dot}
 use Rattle.tp_draw.specs.declared.request.Plan.{Plan}

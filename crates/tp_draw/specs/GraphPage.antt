@@ -3,7 +3,7 @@ use Rattle.std.specs.Prelude.{ℕ, zero, suc, ◌+◌, ◌*◌, ◌==◌, ◌++�
 use Rattle.tp_graph.specs.Graphs.{TaskGraph}
 use Rattle.tp_wave.specs.Sums.{total}
 use Rattle.tp_scene.specs.Pieces.{tenths}
-use Rattle.tp_draw.specs.declared.graph_page.TheConstants.{STYLE, LEGEND}
+use Rattle.tp_draw.specs.declared.page.TheConstants.{STYLE, LEGEND}
 use Rattle.tp_draw.specs.Chart.{wide, last_layer, page_width, page_height}
 use Rattle.tp_draw.specs.GraphMarks.{is_message, circle_text, feed_where}
 use Rattle.tp_draw.specs.Layers.{AreLayers}

@@ -1,7 +1,7 @@
 ghost use Rattle.std.specs.Prelude.{◌≡◌, ◌≤◌, ◌<◌, ◌^◌, ℕ, IfOk, length, slice_index};
 ghost use Rattle.tp_graph.specs.Graphs.{TaskGraph};
 ghost use Rattle.tp_draw.specs.Chart.{IsChart, across, count_in, fall_of, last_layer, page_height, page_width, radius_of, step_of, wide, x_of, y_of};
-ghost use Rattle.tp_draw.specs.declared.graph_page.TheConstants.{MAX_TASKS};
+ghost use Rattle.tp_draw.specs.declared.page.TheConstants.{MAX_TASKS};
 
 use crate::layers::layers_of;
 use std::alloc::{AllocError, Global};

@@ -7,15 +7,15 @@ ghost use Rattle.tp_base.specs.declared.limits.TheConstants.{MAX_NODES};
 ghost use Rattle.tp_text.specs.AuditText.{IsComplaint};
 ghost use Rattle.tp_draw.specs.Command.{AsksForRun, IsPlan, IsWithin};
 ghost use Rattle.tp_draw.specs.Ends.{CouldNotWrite, HasNoPicture, HasNothing, IsDrawnFor, IsPictureOf, IsPictureOfAll, IsTextOfGraph, IsUndrawn, Succeeded};
-ghost use Rattle.tp_draw.specs.declared.graph_page.TheConstants.{MAX_TASKS};
+ghost use Rattle.tp_draw.specs.declared.page.TheConstants.{MAX_TASKS};
 ghost use Rattle.tp_draw.specs.Faults.{line_of, status_of};
 ghost use Rattle.tp_shell.specs.Command.{IsMetBy, IsToBeShown};
 ghost use Rattle.tp_shell.specs.Statuses.{code_of};
 ghost use Rattle.tp_shell.specs.Streams.{HasShown};
 
-use crate::dot::dot;
+use crate::graphviz::dot;
 use crate::fault::Fault;
-use crate::graph_page::{MAX_TASKS, graph_page};
+use crate::page::{MAX_TASKS, graph_page};
 use crate::picture::Picture;
 use crate::request::{Form, Plan, Request, requested};
 use crate::scaled::shown;

@@ -11,11 +11,11 @@ use tp_base::TaskId;
 use tp_graph::Graph;
 
 /// A graph on so many nodes, and where its circles stand.
-#[derive(Clone, Copy)]
-pub(crate) struct Drawing<'a, G: Graph> {
+#[derive(Drop)]
+pub(crate) struct Drawing<G: Graph> {
     pub(crate) graph: G,
     pub(crate) nodes: u32,
-    pub(crate) chart: &'a Chart,
+    pub(crate) chart: Chart,
 }
 
 /// Whether a feed becomes a message: its ends are at two nodes.
@@ -29,13 +29,13 @@ pub(crate) fn is_message<G: Graph>(graph: G, nodes: u32, task: u32, turn: u32) -
     graph.home(TaskId(task), nodes) != graph.home(target, nodes)
 }
 
-impl<'a, G: Graph> Drawing<'a, G> {
+impl<G: Graph> Drawing<G> {
     /// A circle for a task, with its number where there is room.
     #[tactic(auto, unfolding(crate::specs::GraphMarks::circle_text))]
-    pub(crate) fn push_circle(self, out: &mut Vec<u8>, task: u32) -> Result<(), AllocError>
-        requires drawn { IsDrawn (G.meaning self.graph) self.nodes self.chart.now }
-        requires known { task < (G.meaning self.graph).tasks }
-        ensures { OnOk result (out.new.items ≡ out.old.items ++ circle_text (G.meaning self.graph) self.nodes self.chart.now.layers.items task) }
+    pub(crate) fn push_circle(&self, out: &mut Vec<u8>, task: u32) -> Result<(), AllocError>
+        requires drawn { IsDrawn (G.meaning self.now.graph) self.now.nodes self.now.chart }
+        requires known { task < (G.meaning self.now.graph).tasks }
+        ensures { OnOk result (out.new.items ≡ out.old.items ++ circle_text (G.meaning self.now.graph) self.now.nodes self.now.chart.layers.items task) }
     {
         self.push_disc(out, task)?;
         if self.chart.radius() >= 80 {
@@ -45,10 +45,10 @@ impl<'a, G: Graph> Drawing<'a, G> {
     }
 
     #[tactic(auto, unfolding(crate::specs::GraphMarks::disc_text))]
-    fn push_disc(self, out: &mut Vec<u8>, task: u32) -> Result<(), AllocError>
-        requires drawn { IsDrawn (G.meaning self.graph) self.nodes self.chart.now }
-        requires known { task < (G.meaning self.graph).tasks }
-        ensures { OnOk result (out.new.items ≡ out.old.items ++ disc_text (G.meaning self.graph) self.nodes self.chart.now.layers.items task) }
+    fn push_disc(&self, out: &mut Vec<u8>, task: u32) -> Result<(), AllocError>
+        requires drawn { IsDrawn (G.meaning self.now.graph) self.now.nodes self.now.chart }
+        requires known { task < (G.meaning self.now.graph).tasks }
+        ensures { OnOk result (out.new.items ≡ out.old.items ++ disc_text (G.meaning self.now.graph) self.now.nodes self.now.chart.layers.items task) }
     {
         let home = u64::from(self.graph.home(TaskId(task), self.nodes).0);
         push_parts(
@@ -72,10 +72,10 @@ impl<'a, G: Graph> Drawing<'a, G> {
     }
 
     #[tactic(auto, unfolding(crate::specs::GraphMarks::inside_text))]
-    fn push_inside(self, out: &mut Vec<u8>, task: u32) -> Result<(), AllocError>
-        requires drawn { IsDrawn (G.meaning self.graph) self.nodes self.chart.now }
-        requires known { task < (G.meaning self.graph).tasks }
-        ensures { OnOk result (out.new.items ≡ out.old.items ++ inside_text self.chart.now.layers.items task) }
+    fn push_inside(&self, out: &mut Vec<u8>, task: u32) -> Result<(), AllocError>
+        requires drawn { IsDrawn (G.meaning self.now.graph) self.now.nodes self.now.chart }
+        requires known { task < (G.meaning self.now.graph).tasks }
+        ensures { OnOk result (out.new.items ≡ out.old.items ++ inside_text self.now.chart.layers.items task) }
     {
         push_parts(
             out,
@@ -93,10 +93,10 @@ impl<'a, G: Graph> Drawing<'a, G> {
 
     /// A curve from the circle of a task to that of another, vertical at both.
     #[tactic(auto, unfolding(crate::specs::GraphMarks::curve_text))]
-    fn push_curve(self, out: &mut Vec<u8>, from: u32, to: u32) -> Result<(), AllocError>
-        requires drawn { IsDrawn (G.meaning self.graph) self.nodes self.chart.now }
-        requires known { (from < (G.meaning self.graph).tasks) × (to < (G.meaning self.graph).tasks) }
-        ensures { OnOk result (out.new.items ≡ out.old.items ++ curve_text self.chart.now.layers.items from to) }
+    fn push_curve(&self, out: &mut Vec<u8>, from: u32, to: u32) -> Result<(), AllocError>
+        requires drawn { IsDrawn (G.meaning self.now.graph) self.now.nodes self.now.chart }
+        requires known { (from < (G.meaning self.now.graph).tasks) × (to < (G.meaning self.now.graph).tasks) }
+        ensures { OnOk result (out.new.items ≡ out.old.items ++ curve_text self.now.chart.layers.items from to) }
     {
         let middle = (self.chart.y(from) + self.chart.y(to)) / 2;
         push_parts(
@@ -129,11 +129,11 @@ impl<'a, G: Graph> Drawing<'a, G> {
 
     /// A feed within a node, pale.
     #[tactic(auto, unfolding(crate::specs::GraphMarks::feed_text))]
-    fn push_feed(self, out: &mut Vec<u8>, task: u32, turn: u32) -> Result<(), AllocError>
-        requires drawn { IsDrawn (G.meaning self.graph) self.nodes self.chart.now }
-        requires known { task < (G.meaning self.graph).tasks }
-        requires within { turn < (G.meaning self.graph).feeds task }
-        ensures { OnOk result (out.new.items ≡ out.old.items ++ feed_text (G.meaning self.graph) self.chart.now.layers.items task turn) }
+    fn push_feed(&self, out: &mut Vec<u8>, task: u32, turn: u32) -> Result<(), AllocError>
+        requires drawn { IsDrawn (G.meaning self.now.graph) self.now.nodes self.now.chart }
+        requires known { task < (G.meaning self.now.graph).tasks }
+        requires within { turn < (G.meaning self.now.graph).feeds task }
+        ensures { OnOk result (out.new.items ≡ out.old.items ++ feed_text (G.meaning self.now.graph) self.now.chart.layers.items task turn) }
     {
         let (target, _) = self.graph.feed(TaskId(task), turn);
         out.extend_from_slice(b"<path class=\"feed\" d=\"")?;
@@ -142,11 +142,11 @@ impl<'a, G: Graph> Drawing<'a, G> {
 
     /// A feed that becomes a message, strong in its sender's colour.
     #[tactic(auto, unfolding(crate::specs::GraphMarks::message_text))]
-    fn push_message(self, out: &mut Vec<u8>, task: u32, turn: u32) -> Result<(), AllocError>
-        requires drawn { IsDrawn (G.meaning self.graph) self.nodes self.chart.now }
-        requires known { task < (G.meaning self.graph).tasks }
-        requires within { turn < (G.meaning self.graph).feeds task }
-        ensures { OnOk result (out.new.items ≡ out.old.items ++ message_text (G.meaning self.graph) self.nodes self.chart.now.layers.items task turn) }
+    fn push_message(&self, out: &mut Vec<u8>, task: u32, turn: u32) -> Result<(), AllocError>
+        requires drawn { IsDrawn (G.meaning self.now.graph) self.now.nodes self.now.chart }
+        requires known { task < (G.meaning self.now.graph).tasks }
+        requires within { turn < (G.meaning self.now.graph).feeds task }
+        ensures { OnOk result (out.new.items ≡ out.old.items ++ message_text (G.meaning self.now.graph) self.now.nodes self.now.chart.layers.items task turn) }
     {
         let (target, _) = self.graph.feed(TaskId(task), turn);
         let home = self.graph.home(TaskId(task), self.nodes).0;
@@ -163,16 +163,16 @@ impl<'a, G: Graph> Drawing<'a, G> {
 
     /// A feed, where it is one of those that are drawn now.
     fn push_feed_where(
-        self,
+        &self,
         out: &mut Vec<u8>,
         strong: bool,
         task: u32,
         turn: u32,
     ) -> Result<(), AllocError>
-        requires drawn { IsDrawn (G.meaning self.graph) self.nodes self.chart.now }
-        requires known { task < (G.meaning self.graph).tasks }
-        requires within { turn < (G.meaning self.graph).feeds task }
-        ensures { OnOk result (out.new.items ≡ out.old.items ++ feed_where (G.meaning self.graph) self.nodes self.chart.now.layers.items strong task turn) }
+        requires drawn { IsDrawn (G.meaning self.now.graph) self.now.nodes self.now.chart }
+        requires known { task < (G.meaning self.now.graph).tasks }
+        requires within { turn < (G.meaning self.now.graph).feeds task }
+        ensures { OnOk result (out.new.items ≡ out.old.items ++ feed_where (G.meaning self.now.graph) self.now.nodes self.now.chart.layers.items strong task turn) }
     {
         if is_message(self.graph, self.nodes, task, turn) != strong {
             return Ok(());
@@ -186,14 +186,14 @@ impl<'a, G: Graph> Drawing<'a, G> {
 
     /// The feeds of a task: those within its node, or those that become messages.
     pub(crate) fn push_feeds(
-        self,
+        &self,
         out: &mut Vec<u8>,
         strong: bool,
         task: u32,
     ) -> Result<(), AllocError>
-        requires drawn { IsDrawn (G.meaning self.graph) self.nodes self.chart.now }
-        requires known { task < (G.meaning self.graph).tasks }
-        ensures { OnOk result (out.new.items ≡ out.old.items ++ feeds_of (G.meaning self.graph) self.nodes self.chart.now.layers.items strong task) }
+        requires drawn { IsDrawn (G.meaning self.now.graph) self.now.nodes self.now.chart }
+        requires known { task < (G.meaning self.now.graph).tasks }
+        ensures { OnOk result (out.new.items ≡ out.old.items ++ feeds_of (G.meaning self.now.graph) self.now.nodes self.now.chart.layers.items strong task) }
     {
         for turn in 0..self.graph.feeds(TaskId(task)) {
             self.push_feed_where(out, strong, task, turn)?;

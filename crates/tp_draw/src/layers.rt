@@ -1,6 +1,6 @@
 ghost use Rattle.std.specs.Prelude.{◌≡◌, ◌≢◌, ◌≤◌, ◌<◌, ℕ, IfOk, length, max, slice_index};
 ghost use Rattle.tp_draw.specs.Layers.{AreLayers};
-ghost use Rattle.tp_draw.specs.declared.graph_page.TheConstants.{MAX_TASKS};
+ghost use Rattle.tp_draw.specs.declared.page.TheConstants.{MAX_TASKS};
 
 use std::alloc::{AllocError, Global};
 use tp_base::TaskId;

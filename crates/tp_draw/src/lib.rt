@@ -4,10 +4,10 @@
 mod chart;
 mod cli;
 mod command;
-mod dot;
+mod graphviz;
 mod fault;
 mod graph_marks;
-mod graph_page;
+mod page;
 mod layers;
 mod parts;
 mod picture;
@@ -16,6 +16,6 @@ mod scaled;
 mod stand_in;
 
 pub use cli::draw_with;
-pub use dot::dot;
+pub use graphviz::dot;
 pub use fault::without_words;
-pub use graph_page::{MAX_TASKS, graph_page};
+pub use page::{MAX_TASKS, graph_page};

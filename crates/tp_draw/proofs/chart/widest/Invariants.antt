@@ -1,6 +1,6 @@
 use Rattle.std.proofs.Common.{◌≡◌, ◌≤◌}
 use Rattle.tp_draw.specs.Chart.{widest}
-use Rattle.tp_draw.specs.declared.graph_page.TheConstants.{MAX_TASKS}
+use Rattle.tp_draw.specs.declared.page.TheConstants.{MAX_TASKS}
 use Rattle.tp_draw.proofs.chart.widest.Given as goal
 
 abbrev pub invariant-loop-k : goal.invariant-loop-k

@@ -1,6 +1,6 @@
 use Rattle.std.proofs.Common.{◌≡◌, ◌≤◌, ◌*◌}
 use Rattle.tp_draw.specs.GraphPage.{messages_to}
-use Rattle.tp_draw.proofs.graph_page.messages.Given as goal
+use Rattle.tp_draw.proofs.page.messages.Given as goal
 
 abbrev pub invariant-loop-task : goal.invariant-loop-task
 invariant-loop-task g l = record {

@@ -1,6 +1,6 @@
 use Rattle.std.proofs.Common.{◌≡◌, ◌≤◌}
 use Rattle.tp_draw.specs.GraphPage.{messages_of}
-use Rattle.tp_draw.proofs.graph_page.messages_of.Given as goal
+use Rattle.tp_draw.proofs.page.messages_of.Given as goal
 
 abbrev pub invariant-loop-turn : goal.invariant-loop-turn
 invariant-loop-turn g l = record {

@@ -1,7 +1,7 @@
 use Rattle.std.proofs.Common.{◌≡◌, ◌++◌}
 use Rattle.tp_draw.specs.GraphMarks.{circle_text}
 use Rattle.tp_draw.specs.Parts.{joined}
-use Rattle.tp_draw.proofs.graph_page.push_circles.Given as goal
+use Rattle.tp_draw.proofs.page.push_circles.Given as goal
 
 abbrev pub invariant-loop-task : goal.invariant-loop-task
 invariant-loop-task g l = l.out.items

@@ -37,7 +37,7 @@ path{fill:none}circle{stroke:#fff;stroke-width:1.5}
 
 /// What the colours mean, below the headline.
 pub const LEGEND: &[u8] =
-    b"<text x=\"24\" y=\"66\">circle: a task, in its node's colour \xc2\xb7 pale: a feed within a node \xc2\xb7 strong: a message</text>\n";
+    b"<text x=\"24\" y=\"66\">circle: a task \xc2\xb7 pale: a feed within a node \xc2\xb7 strong: one that is a message</text>\n";
 
 /// The size of the page, and how things look on it.
 #[tactic(auto, unfolding(crate::specs::GraphPage::head_text))]
@@ -180,11 +180,11 @@ fn push_nodes(out: &mut Vec<u8>, nodes: u32) -> Result<(), AllocError>
 /// All feeds within nodes, or all that become messages.
 fn push_all_feeds<G: Graph>(
     out: &mut Vec<u8>,
-    drawing: Drawing<'_, G>,
+    drawing: &Drawing<G>,
     strong: bool,
 ) -> Result<(), AllocError>
-    requires drawn { IsDrawn (G.meaning drawing.graph) drawing.nodes drawing.chart.now }
-    ensures { OnOk result (out.new.items ≡ out.old.items ++ all_feeds (G.meaning drawing.graph) drawing.nodes drawing.chart.now.layers.items strong) }
+    requires drawn { IsDrawn (G.meaning drawing.now.graph) drawing.now.nodes drawing.now.chart }
+    ensures { OnOk result (out.new.items ≡ out.old.items ++ all_feeds (G.meaning drawing.now.graph) drawing.now.nodes drawing.now.chart.layers.items strong) }
 {
     for task in 0..drawing.graph.tasks() {
         drawing.push_feeds(out, strong, task)?;
@@ -193,9 +193,9 @@ fn push_all_feeds<G: Graph>(
 }
 
 /// All circles.
-fn push_circles<G: Graph>(out: &mut Vec<u8>, drawing: Drawing<'_, G>) -> Result<(), AllocError>
-    requires drawn { IsDrawn (G.meaning drawing.graph) drawing.nodes drawing.chart.now }
-    ensures { OnOk result (out.new.items ≡ out.old.items ++ joined (circle_text (G.meaning drawing.graph) drawing.nodes drawing.chart.now.layers.items) (G.meaning drawing.graph).tasks) }
+fn push_circles<G: Graph>(out: &mut Vec<u8>, drawing: &Drawing<G>) -> Result<(), AllocError>
+    requires drawn { IsDrawn (G.meaning drawing.now.graph) drawing.now.nodes drawing.now.chart }
+    ensures { OnOk result (out.new.items ≡ out.old.items ++ joined (circle_text (G.meaning drawing.now.graph) drawing.now.nodes drawing.now.chart.layers.items) (G.meaning drawing.now.graph).tasks) }
 {
     for task in 0..drawing.graph.tasks() {
         drawing.push_circle(out, task)?;
@@ -219,24 +219,23 @@ pub fn graph_page<G: Graph>(
         × (picture.width ≡ page_width (wide layers)) × (picture.height ≡ page_height (wide layers) (last_layer layers))
         × (1 ≤ picture.width) × (picture.height < 2 ^ 49)) }
 {
-    let chart = Chart::of(alloc, graph)?;
     let drawing = Drawing {
         graph,
         nodes,
-        chart: &chart,
+        chart: Chart::of(alloc, graph)?,
     };
     let mut text = Vec::new(alloc);
-    push_head(&mut text, &chart)?;
+    push_head(&mut text, &drawing.chart)?;
     push_headline(&mut text, name, graph, nodes)?;
     text.extend_from_slice(LEGEND)?;
     push_nodes(&mut text, nodes)?;
-    push_all_feeds(&mut text, drawing, false)?;
-    push_all_feeds(&mut text, drawing, true)?;
-    push_circles(&mut text, drawing)?;
+    push_all_feeds(&mut text, &drawing, false)?;
+    push_all_feeds(&mut text, &drawing, true)?;
+    push_circles(&mut text, &drawing)?;
     text.extend_from_slice(b"</svg>\n")?;
     Ok(Picture {
-        width: chart.width(),
-        height: chart.height(),
+        width: drawing.chart.width(),
+        height: drawing.chart.height(),
         text,
     })
 }
