@@ -5,16 +5,11 @@ use Rattle.std.proofs.Common.{refl, sym, ap, ◌∙◌, add-one, append_assoc, a
 use Rattle.std.proofs.Math.Seq.{drop-cons, drop-length, take-length}
 use Rattle.std.proofs.lemmas.List.{append-nil, flat_map_more, take_more}
 use Rattle.std.proofs.lemmas.Option.{slice_get-get_or}
-use Rattle.std.specs.Prelude.{Some, None, slice_get, Result, Ok, Err, OnOk}
+use Rattle.std.specs.Prelude.{Some, None, slice_get}
 use Rattle.std.specs.List.{find, flat_map, remove}
 use Rattle.tp_core.specs.Pool.{without}
 use Rattle.tp_wave.specs.Sums.{total}
 use Rattle.tp_scene.specs.Scene.{first_from}
-
--- what follows where a call has answered `Ok`
-pub then_ok : {A E P Q : Type 0} (r : Result A E) → OnOk r P → (P → Q) → OnOk r Q
-then_ok (Ok x) h f = f h
-then_ok (Err e) h f = h
 
 -- what a loop over numbers has written, one number further
 pub written_more : (f : ℕ → List ℕ) (k : ℕ) (x start old new : List ℕ) → old ≡ start ++ f k → new ≡ old ++ x → f (k + 1) ≡ f k ++ x

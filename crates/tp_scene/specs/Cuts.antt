@@ -1,5 +1,5 @@
 -- How waves and ends are drawn.
-use Rattle.std.specs.Prelude.{ℕ, zero, suc, ◌+◌, ◌-◌, ◌*◌, ◌/◌, ◌%◌, ◌&&◌, ◌++◌, List, [], ◌∷◌, Bool, true, nat_lt, nat_le, Option, Some}
+use Rattle.std.specs.Prelude.{ℕ, zero, suc, ◌+◌, ◌-◌, ◌*◌, ◌/◌, ◌%◌, ◌&&◌, List, [], ◌∷◌, Bool, true, nat_lt, nat_le, Option, Some}
 use Rattle.std.specs.Prelude.{None, codes, decimal, slice_index, slice_get, if◌then◌else◌}
 use Rattle.std.specs.List.{list_any}
 use Rattle.tp_scene.specs.declared.pieces.Area.{Area}
@@ -7,7 +7,7 @@ use Rattle.tp_scene.specs.declared.scene.Cut.{Cut}
 use Rattle.tp_scene.specs.declared.scene.End.{End}
 use Rattle.tp_scene.specs.declared.scene.Scene.{Scene}
 use Rattle.tp_scene.specs.Layout.{detail_of, is_detailed, middle, height_of, top_of, foot, bottom}
-use Rattle.tp_scene.specs.Pieces.{tenths, point, box_text}
+use Rattle.tp_scene.specs.Pieces.{◌⧺◌, tenths, point, box_text, sums_text}
 use Rattle.tp_scene.specs.Marks.{at, area}
 
 -- An event lies from the end of the wave that is named to the judgement.
@@ -27,38 +27,37 @@ cut_at s cut i = middle s (slice_index cut.gives i)
 
 unfoldable pub crossing : Scene → Cut → ℕ → List ℕ
 crossing s cut i =
-    codes " " ++ point (at (cut_at s cut i) (top_of s i - 80)) ++ codes " " ++ point (at (cut_at s cut i) (foot s i + 80))
+    codes " " ⧺ point (at (cut_at s cut i) (top_of s i - 80)) ⧺ codes " " ⧺ point (at (cut_at s cut i) (foot s i + 80))
 
 -- through the lanes of the first k nodes
 abbrev pub crossings : Scene → Cut → ℕ → List ℕ
 crossings s cut zero = []
-crossings s cut (suc k) = crossings s cut k ++ crossing s cut k
+crossings s cut (suc k) = crossings s cut k ⧺ crossing s cut k
 
 unfoldable pub ring_text : Scene → Cut → ℕ → List ℕ
 ring_text s cut i =
-    codes "<circle class=\"" ++ wave_class s cut ++ codes " ring\" cx=\"" ++ tenths (cut_at s cut i) ++ codes "\" cy=\""
-    ++ tenths (top_of s i + height_of s i / 2) ++ codes "\" r=\"3\"/>\n"
+    codes "<circle class=\"" ⧺ wave_class s cut ⧺ codes " ring\" cx=\"" ⧺ tenths (cut_at s cut i) ⧺ codes "\" cy=\""
+    ⧺ tenths (top_of s i + height_of s i / 2) ⧺ codes "\" r=\"3\"/>\n"
 
 abbrev pub rings : Scene → Cut → ℕ → List ℕ
 rings s cut zero = []
-rings s cut (suc k) = rings s cut k ++ ring_text s cut k
+rings s cut (suc k) = rings s cut k ⧺ ring_text s cut k
 
--- what the wave has added up
-unfoldable pub sums_text : Cut → List ℕ
-sums_text cut =
-    codes "wave " ++ decimal cut.sums.wave ++ codes ": " ++ decimal cut.sums.sent ++ codes " sent, " ++ decimal cut.sums.received
-    ++ codes " received"
+unfoldable pub line_begin : Scene → Cut → List ℕ
+line_begin s cut = codes "<polyline class=\"" ⧺ wave_class s cut ⧺ codes "\" points=\""
 
+unfoldable pub line_end : Cut → List ℕ
+line_end cut = codes "\"><title>" ⧺ sums_text cut.sums ⧺ codes "</title></polyline>\n"
+
+-- its line through all lanes, with its sums as title
 unfoldable pub line_text : Scene → Cut → List ℕ
-line_text s cut =
-    codes "<polyline class=\"" ++ wave_class s cut ++ codes "\" points=\"" ++ crossings s cut s.nodes ++ codes "\"><title>" ++ sums_text cut
-    ++ codes "</title></polyline>\n"
+line_text s cut = line_begin s cut ⧺ crossings s cut s.nodes ⧺ line_end cut
 
 unfoldable pub rings_text : Scene → Cut → List ℕ
 rings_text s cut = if is_detailed (detail_of s.events) then rings s cut s.nodes else []
 
 unfoldable pub cut_text : Scene → Cut → List ℕ
-cut_text s cut = line_text s cut ++ rings_text s cut
+cut_text s cut = line_text s cut ⧺ rings_text s cut
 
 -- the ground from the end of the wave that is named to the judgement
 unfoldable pub over : Scene → End → Area
@@ -66,9 +65,9 @@ over s end = area (middle s end.since) 1360 (middle s end.judged - middle s end.
 
 unfoldable pub end_text : Scene → End → List ℕ
 end_text s end =
-    codes "<rect class=\"over\"" ++ box_text (over s end) ++ codes "/>\n<path class=\"end\" d=\"M" ++ point (at (middle s end.judged) 1360)
-    ++ codes "V" ++ tenths (bottom s + 220) ++ codes "\"/><text class=\"told\" x=\"" ++ tenths (middle s end.judged) ++ codes "\" y=\""
-    ++ tenths (bottom s + 340) ++ codes "\">ended " ++ decimal end.wave ++ codes "</text>\n"
+    codes "<rect class=\"over\"" ⧺ box_text (over s end) ⧺ codes "/>\n<path class=\"end\" d=\"M" ⧺ point (at (middle s end.judged) 1360)
+    ⧺ codes "V" ⧺ tenths (bottom s + 220) ⧺ codes "\"/><text class=\"told\" x=\"" ⧺ tenths (middle s end.judged) ⧺ codes "\" y=\""
+    ⧺ tenths (bottom s + 340) ⧺ codes "\">ended " ⧺ decimal end.wave ⧺ codes "</text>\n"
 
 -- ---- labels
 -- A label is at most 170 pixels wide. It stands to the left of its wave's line at node 0, or to the right where there is no room.
@@ -88,8 +87,8 @@ has_room s cut (Some next) = nat_le (needed (stands_right s cut)) (cut_at s next
 
 unfoldable pub label_text : Scene → Cut → ℕ → List ℕ
 label_text s cut row =
-    codes "<text class=\"" ++ wave_class s cut ++ side s cut ++ codes "\" x=\""
-    ++ tenths (cut_at s cut 0) ++ codes "\" y=\"" ++ tenths (1300 - 150 * row) ++ codes "\">" ++ sums_text cut ++ codes "</text>\n"
+    codes "<text class=\"" ⧺ wave_class s cut ⧺ side s cut ⧺ codes "\" x=\""
+    ⧺ tenths (cut_at s cut 0) ⧺ codes "\" y=\"" ⧺ tenths (1300 - 150 * row) ⧺ codes "\">" ⧺ sums_text cut.sums ⧺ codes "</text>\n"
 
 -- the label of a wave, where there is room
 abbrev pub label : Scene → Cut → Option Cut → ℕ → List ℕ
@@ -102,4 +101,4 @@ label_at s cuts (Some cut) k = label s cut (slice_get cuts (k + 2)) (k % 2)
 -- the labels of the first k of the waves, in two rows
 abbrev pub labels : Scene → List Cut → ℕ → List ℕ
 labels s cuts zero = []
-labels s cuts (suc k) = labels s cuts k ++ label_at s cuts (slice_get cuts k) k
+labels s cuts (suc k) = labels s cuts k ⧺ label_at s cuts (slice_get cuts k) k

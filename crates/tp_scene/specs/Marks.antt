@@ -1,5 +1,5 @@
 -- What is drawn of each thing of a scene.
-use Rattle.std.specs.Prelude.{ℕ, ◌+◌, ◌-◌, ◌*◌, ◌/◌, ◌&&◌, ◌++◌, List, [], Bool, max, nat_lt, nat_le, codes, decimal, length, vec_len}
+use Rattle.std.specs.Prelude.{ℕ, ◌+◌, ◌-◌, ◌*◌, ◌/◌, ◌&&◌, List, [], Bool, max, nat_lt, nat_le, codes, decimal, length, vec_len}
 use Rattle.std.specs.Prelude.{if◌then◌else◌}
 use Rattle.tp_scene.specs.declared.pieces.Point.{Point}
 use Rattle.tp_scene.specs.declared.pieces.Area.{Area}
@@ -12,7 +12,7 @@ use Rattle.tp_scene.specs.declared.scene.Seam.{Seam}
 use Rattle.tp_scene.specs.declared.scene.Scene.{Scene}
 use Rattle.tp_scene.specs.Layout.{detail_of, is_fine, is_detailed, bar_of, edge, middle, right, reach, height_of, top_of, foot, track_of}
 use Rattle.tp_scene.specs.Layout.{bottom}
-use Rattle.tp_scene.specs.Pieces.{tenths, point, box_text}
+use Rattle.tp_scene.specs.Pieces.{◌⧺◌, event, tenths, point, box_text, sending_text}
 
 abbrev pub at : ℕ → ℕ → Point
 at x y = record { x = x; y = y }
@@ -20,50 +20,48 @@ at x y = record { x = x; y = y }
 abbrev pub area : ℕ → ℕ → ℕ → ℕ → Area
 area x y width height = record { corner = at x y; width = width; height = height }
 
--- Events are counted from 1 for a reader.
-abbrev pub event : ℕ → List ℕ
-event e = decimal (e + 1)
-
 -- ---- tasks
 -- where a task runs, from the middle of an event to a place; at least a pixel wide
 unfoldable pub run_area : Scene → Running → ℕ → Area
 run_area s run to =
     area (middle s run.from) (track_of s run.node.0 run.track) (max (to - middle s run.from) 10) (bar_of (detail_of s.events))
 
--- a bar up to its title
+-- a bar up to the event at which it begins
 unfoldable pub run_text : Running → Area → List ℕ
 run_text run where_it_is =
-    codes "<rect class=\"n" ++ decimal run.node.0 ++ codes "\"" ++ box_text where_it_is ++ codes " rx=\"3\"><title>task "
-    ++ decimal run.task.0 ++ codes ", from " ++ event run.from
+    codes "<rect class=\"n" ⧺ decimal run.node.0 ⧺ codes "\"" ⧺ box_text where_it_is ⧺ codes " rx=\"3\"><title>task "
+    ⧺ decimal run.task.0 ⧺ codes ", from " ⧺ event run.from
+
+unfoldable pub until_text : ℕ → List ℕ
+until_text to = codes " to " ⧺ event to ⧺ codes "</title></rect>\n"
 
 -- the number of a task fits into its bar: 7 pixels a digit
 unfoldable pub has_number : Scene → Running → Area → Bool
 has_number s run where_it_is =
     is_detailed (detail_of s.events) && nat_le (length (decimal run.task.0) * 70 + 40) where_it_is.width
 
-abbrev pub inside_text : Running → Area → List ℕ
+unfoldable pub inside_text : Running → Area → List ℕ
 inside_text run where_it_is =
-    codes "<text class=\"number\" x=\"" ++ tenths (where_it_is.corner.x + where_it_is.width / 2) ++ codes "\" y=\""
-    ++ tenths (where_it_is.corner.y + where_it_is.height - 40) ++ codes "\">" ++ decimal run.task.0 ++ codes "</text>\n"
+    codes "<text class=\"number\" x=\"" ⧺ tenths (where_it_is.corner.x + where_it_is.width / 2) ⧺ codes "\" y=\""
+    ⧺ tenths (where_it_is.corner.y + where_it_is.height - 40) ⧺ codes "\">" ⧺ decimal run.task.0 ⧺ codes "</text>\n"
 
 unfoldable pub number_text : Scene → Running → Area → List ℕ
 number_text s run where_it_is = if has_number s run where_it_is then inside_text run where_it_is else []
 
 unfoldable pub bar_text : Scene → Bar → List ℕ
 bar_text s bar =
-    run_text bar.run (run_area s bar.run (reach s bar.to)) ++ codes " to " ++ event bar.to ++ codes "</title></rect>\n"
-    ++ number_text s bar.run (run_area s bar.run (reach s bar.to))
+    run_text bar.run (run_area s bar.run (reach s bar.to)) ⧺ until_text bar.to ⧺ number_text s bar.run (run_area s bar.run (reach s bar.to))
 
 unfoldable pub running_text : Scene → Running → List ℕ
 running_text s run =
-    run_text run (run_area s run (right s)) ++ codes ", not done</title></rect>\n" ++ number_text s run (run_area s run (right s))
+    run_text run (run_area s run (right s)) ⧺ codes ", not done</title></rect>\n" ⧺ number_text s run (run_area s run (right s))
 
 -- ---- lanes
 unfoldable pub pause_text : Scene → Pause → List ℕ
 pause_text s pause =
     codes "<rect class=\"idle\""
-    ++ box_text (area (middle s pause.from) (top_of s pause.node.0) (reach s pause.to - middle s pause.from) (height_of s pause.node.0))
-    ++ codes "/>\n"
+    ⧺ box_text (area (middle s pause.from) (top_of s pause.node.0) (reach s pause.to - middle s pause.from) (height_of s pause.node.0))
+    ⧺ codes "/>\n"
 
 -- ---- messages
 -- from which edge of the sender's lane to which of the receiver's a message goes
@@ -77,11 +75,9 @@ ends_of s sending =
 abbrev pub bend : ℕ → ℕ → ℕ
 bend from to = (to - from) * 9 / 20
 
--- a curve from one place to another, vertical at both
-unfoldable pub curve_text : Point → Point → List ℕ
-curve_text from to =
-    codes "M" ++ point from ++ codes "C" ++ point (at from.x (from.y + bend from.y to.y - bend to.y from.y)) ++ codes " "
-    ++ point (at to.x (to.y + bend to.y from.y - bend from.y to.y)) ++ codes " " ++ point to
+-- where the handle of a curve lies that leaves a place for another: straight above or below it
+unfoldable pub handle : Point → Point → Point
+handle from to = at from.x (from.y + bend from.y to.y - bend to.y from.y)
 
 -- fainter the more there are
 unfoldable pub arrow_class : Scene → List ℕ
@@ -90,16 +86,11 @@ arrow_class s =
     then codes "arrow many"
     else (if is_fine (detail_of s.events) then codes "arrow" else codes "arrow some")
 
-abbrev pub spot_text : Point → List ℕ
-spot_text p = codes "<circle class=\"dot\" cx=\"" ++ tenths p.x ++ codes "\" cy=\"" ++ tenths p.y ++ codes "\" r=\"2.2\"/>\n"
+unfoldable pub spot_text : Point → List ℕ
+spot_text p = codes "<circle class=\"dot\" cx=\"" ⧺ tenths p.x ⧺ codes "\" cy=\"" ⧺ tenths p.y ⧺ codes "\" r=\"2.2\"/>\n"
 
 unfoldable pub dot_text : Scene → Point → List ℕ
 dot_text s p = if is_fine (detail_of s.events) then spot_text p else []
-
-unfoldable pub sending_text : Sending → List ℕ
-sending_text sending =
-    codes "message " ++ decimal sending.message.0 ++ codes ": node " ++ decimal sending.from.0 ++ codes " to node " ++ decimal sending.to.0
-    ++ codes ", sent at " ++ event sending.sent
 
 abbrev pub arrow_start : Scene → Arrow → Point
 arrow_start s arrow = at (middle s arrow.sending.sent) (ends_of s arrow.sending).0
@@ -107,20 +98,24 @@ arrow_start s arrow = at (middle s arrow.sending.sent) (ends_of s arrow.sending)
 abbrev pub arrow_end : Scene → Arrow → Point
 arrow_end s arrow = at (middle s arrow.received) (ends_of s arrow.sending).1
 
+-- a message from one place to another, by a curve that is vertical at both
+unfoldable pub path_text : Scene → Arrow → Point → Point → List ℕ
+path_text s arrow from to =
+    codes "<path class=\"" ⧺ arrow_class s ⧺ codes "\" d=\"M" ⧺ point from ⧺ codes "C" ⧺ point (handle from to) ⧺ codes " "
+    ⧺ point (handle to from) ⧺ codes " " ⧺ point to ⧺ codes "\"><title>" ⧺ sending_text arrow.sending ⧺ codes ", received at "
+    ⧺ event arrow.received ⧺ codes "</title></path>\n"
+
 unfoldable pub arrow_text : Scene → Arrow → List ℕ
-arrow_text s arrow =
-    codes "<path class=\"" ++ arrow_class s ++ codes "\" d=\"" ++ curve_text (arrow_start s arrow) (arrow_end s arrow)
-    ++ codes "\"><title>" ++ sending_text arrow.sending ++ codes ", received at " ++ event arrow.received ++ codes "</title></path>\n"
-    ++ dot_text s (arrow_start s arrow)
+arrow_text s arrow = path_text s arrow (arrow_start s arrow) (arrow_end s arrow) ⧺ dot_text s (arrow_start s arrow)
 
 unfoldable pub lost_text : Scene → Sending → List ℕ
 lost_text s sending =
-    codes "<path class=\"lost\" d=\"M" ++ point (at (middle s sending.sent) (foot s sending.from.0)) ++ codes "l10,14\"><title>"
-    ++ sending_text sending ++ codes ", not received</title></path>\n"
+    codes "<path class=\"lost\" d=\"M" ⧺ point (at (middle s sending.sent) (foot s sending.from.0)) ⧺ codes "l10,14\"><title>"
+    ⧺ sending_text sending ⧺ codes ", not received</title></path>\n"
 
 -- ---- generations
 unfoldable pub seam_text : Scene → Seam → List ℕ
 seam_text s seam =
-    codes "<path class=\"seam\" d=\"M" ++ point (at (edge s seam.at) 1060) ++ codes "V" ++ tenths (bottom s + 220)
-    ++ codes "\"/><text class=\"seam\" x=\"" ++ tenths (edge s seam.at + 40) ++ codes "\" y=\"112\">generation "
-    ++ decimal seam.generation.0 ++ codes "</text>\n"
+    codes "<path class=\"seam\" d=\"M" ⧺ point (at (edge s seam.at) 1060) ⧺ codes "V" ⧺ tenths (bottom s + 220)
+    ⧺ codes "\"/><text class=\"seam\" x=\"" ⧺ tenths (edge s seam.at + 40) ⧺ codes "\" y=\"112\">generation "
+    ⧺ decimal seam.generation.0 ⧺ codes "</text>\n"

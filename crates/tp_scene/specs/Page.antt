@@ -1,57 +1,57 @@
 -- The picture of a scene, as text.
-use Rattle.std.specs.Prelude.{ℕ, zero, suc, ◌+◌, ◌-◌, ◌/◌, ◌%◌, ◌==◌, ◌++◌, List, [], nat_le, Option, Some, None, codes, decimal, length}
+use Rattle.std.specs.Prelude.{ℕ, zero, suc, ◌+◌, ◌-◌, ◌/◌, ◌%◌, ◌==◌, List, [], nat_le, Option, Some, None, codes, decimal, length}
 use Rattle.std.specs.Prelude.{vec_len, if◌then◌else◌}
 use Rattle.std.specs.List.{flat_map}
 use Rattle.tp_scene.specs.declared.page.TheConstants.{STYLE, LEGEND}
 use Rattle.tp_scene.specs.declared.pieces.Area.{Area}
 use Rattle.tp_scene.specs.declared.scene.Scene.{Scene}
 use Rattle.tp_scene.specs.Layout.{step_of, middle, right, top_of, height_of, bottom, width, page_height}
-use Rattle.tp_scene.specs.Pieces.{tenths, point, box_text}
-use Rattle.tp_scene.specs.Marks.{at, area, event, bar_text, running_text, pause_text, arrow_text, lost_text, seam_text}
+use Rattle.tp_scene.specs.Pieces.{◌⧺◌, event, tenths, point, box_text}
+use Rattle.tp_scene.specs.Marks.{at, area, bar_text, running_text, pause_text, arrow_text, lost_text, seam_text}
 use Rattle.tp_scene.specs.Cuts.{cut_text, end_text, labels}
 
 -- the size of the page, and how things look on it
 unfoldable pub head : Scene → List ℕ
 head s =
-    codes "<svg xmlns=\"http://www.w3.org/2000/svg\" width=\"" ++ tenths (width s) ++ codes "\" height=\"" ++ tenths (page_height s)
-    ++ codes "\" viewBox=\"0 0 " ++ tenths (width s) ++ codes " " ++ tenths (page_height s) ++ codes "\">\n" ++ STYLE.now
+    codes "<svg xmlns=\"http://www.w3.org/2000/svg\" width=\"" ⧺ tenths (width s) ⧺ codes "\" height=\"" ⧺ tenths (page_height s)
+    ⧺ codes "\" viewBox=\"0 0 " ⧺ tenths (width s) ⧺ codes " " ⧺ tenths (page_height s) ⧺ codes "\">\n" ⧺ STYLE.now
 
--- how many there are, with a plural
-unfoldable pub counted : ℕ → List ℕ → List ℕ
-counted k name = decimal k ++ name ++ (if k == 1 then [] else codes "s")
+abbrev pub plural : ℕ → List ℕ
+plural count = if count == 1 then [] else codes "s"
 
 -- the four counts
 unfoldable pub headline : Scene → List ℕ
 headline s =
-    codes "<text class=\"head\" x=\"74\" y=\"28\">" ++ counted (vec_len s.bars) (codes " task") ++ codes ", "
-    ++ counted (vec_len s.arrows) (codes " message") ++ codes ", " ++ counted s.nodes (codes " node") ++ codes ", "
-    ++ counted s.events (codes " event") ++ codes "</text>\n"
+    codes "<text class=\"head\" x=\"74\" y=\"28\">" ⧺ decimal (vec_len s.bars) ⧺ codes " task" ⧺ plural (vec_len s.bars) ⧺ codes ", "
+    ⧺ decimal (vec_len s.arrows) ⧺ codes " message" ⧺ plural (vec_len s.arrows) ⧺ codes ", "
+    ⧺ decimal s.nodes ⧺ codes " node" ⧺ plural s.nodes ⧺ codes ", "
+    ⧺ decimal s.events ⧺ codes " event" ⧺ plural s.events ⧺ codes "</text>\n"
 
 unfoldable pub verdict : Option ℕ → List ℕ
 verdict None = codes "<text x=\"74\" y=\"47\">no end is judged</text>\n"
 verdict (Some w) =
-    codes "<text class=\"seen\" x=\"74\" y=\"47\">the end is judged: nothing was left when wave " ++ decimal w ++ codes " ended</text>\n"
+    codes "<text class=\"seen\" x=\"74\" y=\"47\">the end is judged: nothing was left when wave " ⧺ decimal w ⧺ codes " ended</text>\n"
 
 -- ---- lanes
 unfoldable pub lane : Scene → ℕ → Area
 lane s i = area 740 (top_of s i) (right s - 740) (height_of s i)
 
 unfoldable pub ground : Scene → ℕ → List ℕ
-ground s i = codes "<rect class=\"p" ++ decimal i ++ codes "\"" ++ box_text (lane s i) ++ codes " rx=\"4\"/>\n"
+ground s i = codes "<rect class=\"p" ⧺ decimal i ⧺ codes "\"" ⧺ box_text (lane s i) ⧺ codes " rx=\"4\"/>\n"
 
 -- those of the first k nodes
 abbrev pub grounds : Scene → ℕ → List ℕ
 grounds s zero = []
-grounds s (suc k) = grounds s k ++ ground s k
+grounds s (suc k) = grounds s k ⧺ ground s k
 
 unfoldable pub frame : Scene → ℕ → List ℕ
 frame s i =
-    codes "<rect class=\"frame\"" ++ box_text (lane s i) ++ codes " rx=\"4\"/>\n<text class=\"name n" ++ decimal i
-    ++ codes "\" x=\"62\" y=\"" ++ tenths (top_of s i + height_of s i / 2 + 50) ++ codes "\">node " ++ decimal i ++ codes "</text>\n"
+    codes "<rect class=\"frame\"" ⧺ box_text (lane s i) ⧺ codes " rx=\"4\"/>\n<text class=\"name n" ⧺ decimal i
+    ⧺ codes "\" x=\"62\" y=\"" ⧺ tenths (top_of s i + height_of s i / 2 + 50) ⧺ codes "\">node " ⧺ decimal i ⧺ codes "</text>\n"
 
 abbrev pub frames : Scene → ℕ → List ℕ
 frames s zero = []
-frames s (suc k) = frames s k ++ frame s k
+frames s (suc k) = frames s k ⧺ frame s k
 
 -- ---- the axis
 -- how many events lie between two ticks, so that they are at least 60 pixels apart
@@ -68,8 +68,8 @@ unit s =
 -- the tick at an event
 unfoldable pub tick : Scene → ℕ → List ℕ
 tick s e =
-    codes "<path class=\"axis\" d=\"M" ++ point (at (middle s e) (bottom s + 440)) ++ codes "v5\"/><text class=\"scale\" x=\""
-    ++ tenths (middle s e) ++ codes "\" y=\"" ++ tenths (bottom s + 610) ++ codes "\">" ++ event e ++ codes "</text>\n"
+    codes "<path class=\"axis\" d=\"M" ⧺ point (at (middle s e) (bottom s + 440)) ⧺ codes "v5\"/><text class=\"scale\" x=\""
+    ⧺ tenths (middle s e) ⧺ codes "\" y=\"" ⧺ tenths (bottom s + 610) ⧺ codes "\">" ⧺ event e ⧺ codes "</text>\n"
 
 -- Each so many events have one.
 abbrev pub tick_where : Scene → ℕ → ℕ → List ℕ
@@ -78,24 +78,28 @@ tick_where s unit e = if (e + 1) % unit == 0 then tick s e else []
 -- those of the first k events
 abbrev pub ticks : Scene → ℕ → ℕ → List ℕ
 ticks s unit zero = []
-ticks s unit (suc k) = ticks s unit k ++ tick_where s unit k
+ticks s unit (suc k) = ticks s unit k ⧺ tick_where s unit k
+
+-- its line, and its name
+unfoldable pub axis_line : Scene → List ℕ
+axis_line s =
+    codes "<path class=\"axis\" d=\"M74," ⧺ tenths (bottom s + 440) ⧺ codes "H" ⧺ tenths (right s)
+    ⧺ codes "\"/>\n<text class=\"unit\" x=\"62\" y=\"" ⧺ tenths (bottom s + 480) ⧺ codes "\">event</text>\n"
 
 unfoldable pub axis : Scene → List ℕ
-axis s =
-    ticks s (unit s) s.events ++ codes "<path class=\"axis\" d=\"M74," ++ tenths (bottom s + 440) ++ codes "H" ++ tenths (right s)
-    ++ codes "\"/>\n<text class=\"unit\" x=\"62\" y=\"" ++ tenths (bottom s + 480) ++ codes "\">event</text>\n"
+axis s = ticks s (unit s) s.events ⧺ axis_line s
 
 -- ---- all
 unfoldable pub run : Scene → List ℕ
 run s =
-    grounds s s.nodes ++ flat_map (pause_text s) s.pauses.items ++ frames s s.nodes ++ flat_map (arrow_text s) s.arrows.items
-    ++ flat_map (lost_text s) s.under_way.items ++ flat_map (bar_text s) s.bars.items ++ flat_map (running_text s) s.running.items
+    grounds s s.nodes ⧺ flat_map (pause_text s) s.pauses.items ⧺ frames s s.nodes ⧺ flat_map (arrow_text s) s.arrows.items
+    ⧺ flat_map (lost_text s) s.under_way.items ⧺ flat_map (bar_text s) s.bars.items ⧺ flat_map (running_text s) s.running.items
 
 unfoldable pub waves : Scene → List ℕ
 waves s =
-    flat_map (end_text s) s.ends.items ++ flat_map (cut_text s) s.cuts.items ++ labels s s.cuts.items (vec_len s.cuts)
-    ++ flat_map (seam_text s) s.seams.items
+    flat_map (end_text s) s.ends.items ⧺ flat_map (cut_text s) s.cuts.items ⧺ labels s s.cuts.items (vec_len s.cuts)
+    ⧺ flat_map (seam_text s) s.seams.items
 
 -- the picture of a scene
 unfoldable pub svg_of : Scene → List ℕ
-svg_of s = head s ++ headline s ++ verdict s.ended ++ LEGEND.now ++ run s ++ waves s ++ axis s ++ codes "</svg>\n"
+svg_of s = head s ⧺ headline s ⧺ verdict s.ended ⧺ LEGEND.now ⧺ run s ⧺ waves s ⧺ axis s ⧺ codes "</svg>\n"

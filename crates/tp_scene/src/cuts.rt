@@ -1,10 +1,11 @@
-ghost use Rattle.std.specs.Prelude.{◌≡◌, ◌++◌, ◌<◌, ◌^◌, OnOk, slice_index, decimal};
+ghost use Rattle.std.specs.Prelude.{◌≡◌, ◌++◌, ◌<◌, ◌^◌, OnOk, slice_index};
 ghost use Rattle.std.specs.Prelude.{◌+◌, slice_get, vec_len};
-ghost use Rattle.tp_scene.specs.Cuts.{tells, wave_class, cut_at, crossing, crossings, rings, ring_text, cut_text, line_text, rings_text, sums_text, over};
+ghost use Rattle.tp_scene.specs.Cuts.{tells, wave_class, cut_at, crossing, crossings, rings, ring_text, cut_text, over};
+ghost use Rattle.tp_scene.specs.Cuts.{line_text, line_begin, line_end, rings_text};
 ghost use Rattle.tp_scene.specs.Cuts.{end_text, label, label_at, label_text, labels, has_room, needed, side, stands_right};
 
 use crate::layout::TOP;
-use crate::pieces::{Area, Mark, Point, push_area, push_count, push_point, push_tenths};
+use crate::pieces::{Area, Mark, Part, Point, push_parts};
 use crate::places::place_of;
 use crate::scene::{Cut, End, Scene};
 use std::alloc::AllocError;
@@ -59,8 +60,15 @@ fn push_crossing(out: &mut Vec<u8>, scene: &Scene, cut: &Cut, node: u32) -> Resu
         x,
         y: scene.foot(node) + 80,
     };
-    push_point(out, b" ", top)?;
-    push_point(out, b" ", foot)
+    push_parts(
+        out,
+        &[
+            Part::Text(b" "),
+            Part::Place(top),
+            Part::Text(b" "),
+            Part::Place(foot),
+        ],
+    )
 }
 
 /// The line of a wave through all lanes.
@@ -78,12 +86,21 @@ fn push_crossings(out: &mut Vec<u8>, scene: &Scene, cut: &Cut) -> Result<(), All
 fn push_ring(out: &mut Vec<u8>, scene: &Scene, cut: &Cut, node: u32) -> Result<(), AllocError>
     ensures { OnOk result (out.new.items ≡ out.old.items ++ ring_text scene.now cut.now node) }
 {
-    out.extend_from_slice(b"<circle class=\"")?;
-    out.extend_from_slice(wave_class(scene, cut))?;
-    push_tenths(out, b" ring\" cx=\"", cut_at(scene, cut, node))?;
-    push_tenths(out, b"\" cy=\"", scene.top(node) + scene.height(node) / 2)?;
-    out.extend_from_slice(b"\" r=\"3\"/>\n")?;
-    Ok(())
+    let class = wave_class(scene, cut);
+    let x = cut_at(scene, cut, node);
+    let y = scene.top(node) + scene.height(node) / 2;
+    push_parts(
+        out,
+        &[
+            Part::Text(b"<circle class=\""),
+            Part::Text(class),
+            Part::Text(b" ring\" cx=\""),
+            Part::Length(x),
+            Part::Text(b"\" cy=\""),
+            Part::Length(y),
+            Part::Text(b"\" r=\"3\"/>\n"),
+        ],
+    )
 }
 
 /// The rings of a wave.
@@ -96,16 +113,35 @@ fn push_rings(out: &mut Vec<u8>, scene: &Scene, cut: &Cut) -> Result<(), AllocEr
     Ok(())
 }
 
-/// What a wave has added up.
-#[tactic(auto, unfolding(crate::specs::Cuts::sums_text))]
-fn push_sums(out: &mut Vec<u8>, cut: &Cut) -> Result<(), AllocError>
-    ensures { OnOk result (out.new.items ≡ out.old.items ++ sums_text cut.now) }
+/// How the line of a wave begins.
+#[tactic(auto, unfolding(crate::specs::Cuts::line_begin))]
+fn push_line_begin(out: &mut Vec<u8>, scene: &Scene, cut: &Cut) -> Result<(), AllocError>
+    ensures { OnOk result (out.new.items ≡ out.old.items ++ line_begin scene.now cut.now) }
 {
-    push_count(out, b"wave ", u64::from(cut.sums.wave))?;
-    push_count(out, b": ", u64::from(cut.sums.sent))?;
-    push_count(out, b" sent, ", u64::from(cut.sums.received))?;
-    out.extend_from_slice(b" received")?;
-    Ok(())
+    let class = wave_class(scene, cut);
+    push_parts(
+        out,
+        &[
+            Part::Text(b"<polyline class=\""),
+            Part::Text(class),
+            Part::Text(b"\" points=\""),
+        ],
+    )
+}
+
+/// How the line of a wave ends, with its title.
+#[tactic(auto, unfolding(crate::specs::Cuts::line_end))]
+fn push_line_end(out: &mut Vec<u8>, cut: &Cut) -> Result<(), AllocError>
+    ensures { OnOk result (out.new.items ≡ out.old.items ++ line_end cut.now) }
+{
+    push_parts(
+        out,
+        &[
+            Part::Text(b"\"><title>"),
+            Part::Wave(cut.sums),
+            Part::Text(b"</title></polyline>\n"),
+        ],
+    )
 }
 
 /// The line of a wave.
@@ -113,14 +149,9 @@ fn push_sums(out: &mut Vec<u8>, cut: &Cut) -> Result<(), AllocError>
 fn push_line(out: &mut Vec<u8>, scene: &Scene, cut: &Cut) -> Result<(), AllocError>
     ensures { OnOk result (out.new.items ≡ out.old.items ++ line_text scene.now cut.now) }
 {
-    out.extend_from_slice(b"<polyline class=\"")?;
-    out.extend_from_slice(wave_class(scene, cut))?;
-    out.extend_from_slice(b"\" points=\"")?;
+    push_line_begin(out, scene, cut)?;
     push_crossings(out, scene, cut)?;
-    out.extend_from_slice(b"\"><title>")?;
-    push_sums(out, cut)?;
-    out.extend_from_slice(b"</title></polyline>\n")?;
-    Ok(())
+    push_line_end(out, cut)
 }
 
 /// The rings of a wave, where there is room for them.
@@ -165,20 +196,27 @@ impl Mark for End {
 
     #[tactic(auto, unfolding(crate::specs::Cuts::end_text))]
     fn push(&self, scene: &Scene, out: &mut Vec<u8>) -> Result<(), AllocError> {
+        let ground = over(scene, self);
         let x = scene.middle(self.judged);
-        out.extend_from_slice(b"<rect class=\"over\"")?;
-        push_area(out, over(scene, self))?;
-        push_point(
+        let bottom = scene.bottom();
+        push_parts(
             out,
-            b"/>\n<path class=\"end\" d=\"M",
-            Point { x, y: TOP - 140 },
-        )?;
-        push_tenths(out, b"V", scene.bottom() + 220)?;
-        push_tenths(out, b"\"/><text class=\"told\" x=\"", x)?;
-        push_tenths(out, b"\" y=\"", scene.bottom() + 340)?;
-        push_count(out, b"\">ended ", u64::from(self.wave))?;
-        out.extend_from_slice(b"</text>\n")?;
-        Ok(())
+            &[
+                Part::Text(b"<rect class=\"over\""),
+                Part::Rectangle(ground),
+                Part::Text(b"/>\n<path class=\"end\" d=\"M"),
+                Part::Place(Point { x, y: TOP - 140 }),
+                Part::Text(b"V"),
+                Part::Length(bottom + 220),
+                Part::Text(b"\"/><text class=\"told\" x=\""),
+                Part::Length(x),
+                Part::Text(b"\" y=\""),
+                Part::Length(bottom + 340),
+                Part::Text(b"\">ended "),
+                Part::Number(self.wave as u64),
+                Part::Text(b"</text>\n"),
+            ],
+        )
     }
 }
 
@@ -229,15 +267,24 @@ fn push_label(out: &mut Vec<u8>, scene: &Scene, cut: &Cut, row: u64) -> Result<(
     requires { row < 2 }
     ensures { OnOk result (out.new.items ≡ out.old.items ++ label_text scene.now cut.now row) }
 {
-    out.extend_from_slice(b"<text class=\"")?;
-    out.extend_from_slice(wave_class(scene, cut))?;
-    out.extend_from_slice(side(scene, cut))?;
-    push_tenths(out, b"\" x=\"", cut_at(scene, cut, 0))?;
-    push_tenths(out, b"\" y=\"", TOP - 200 - 150 * row)?;
-    out.extend_from_slice(b"\">")?;
-    push_sums(out, cut)?;
-    out.extend_from_slice(b"</text>\n")?;
-    Ok(())
+    let class = wave_class(scene, cut);
+    let side = side(scene, cut);
+    let x = cut_at(scene, cut, 0);
+    push_parts(
+        out,
+        &[
+            Part::Text(b"<text class=\""),
+            Part::Text(class),
+            Part::Text(side),
+            Part::Text(b"\" x=\""),
+            Part::Length(x),
+            Part::Text(b"\" y=\""),
+            Part::Length(TOP - 200 - 150 * row),
+            Part::Text(b"\">"),
+            Part::Wave(cut.sums),
+            Part::Text(b"</text>\n"),
+        ],
+    )
 }
 
 /// The label of a wave, where there is room for it beside that of the next wave in its row.

@@ -1,21 +1,14 @@
-ghost use Rattle.std.specs.Prelude.{◌≡◌, ◌++◌, ◌+◌, ◌*◌, ◌<◌, ◌≤◌, ◌^◌, OnOk, IsTrue, decimal, length};
-ghost use Rattle.tp_scene.specs.Pieces.{tenths};
+ghost use Rattle.std.specs.Prelude.{◌≡◌, ◌++◌, ◌+◌, ◌*◌, ◌<◌, ◌≤◌, ◌^◌, OnOk, IsTrue, length};
 ghost use Rattle.tp_scene.specs.Layout.{middle, reach, foot, top_of};
-ghost use Rattle.tp_scene.specs.Marks.{run_area, run_text, number_text, has_number, bar_text, running_text, pause_text, arrow_text};
-ghost use Rattle.tp_scene.specs.Marks.{arrow_class, curve_text, dot_text, spot_text, inside_text, ends_of, sending_text, lost_text, seam_text};
+ghost use Rattle.tp_scene.specs.Marks.{run_area, run_text, until_text, number_text, has_number, bar_text, running_text, pause_text};
+ghost use Rattle.tp_scene.specs.Marks.{arrow_class, handle, path_text, arrow_text, dot_text, spot_text, inside_text, ends_of, lost_text};
+ghost use Rattle.tp_scene.specs.Marks.{seam_text};
 
 use crate::layout::TOP;
-use crate::pieces::{Area, Mark, Point, push_area, push_count, push_point, push_tenths};
+use crate::pieces::{Area, Mark, Part, Point, push_parts};
 use crate::scene::{Arrow, Bar, Pause, Running, Scene, Seam, Sending};
 use itoa::Buffer;
 use std::alloc::AllocError;
-
-/// Events are counted from 1 for a reader.
-pub(crate) fn push_event(out: &mut Vec<u8>, label: &[u8], event: u32) -> Result<(), AllocError>
-    ensures { OnOk result (out.new.items ≡ out.old.items ++ (label.now ++ decimal (event + 1))) }
-{
-    push_count(out, label, u64::from(event) + 1)
-}
 
 /// Where a task runs, up to a place on the page; at least a pixel wide.
 #[tactic(auto, unfolding(crate::specs::Marks::run_area))]
@@ -35,16 +28,39 @@ fn run_area(scene: &Scene, run: &Running, to: u64) -> Area
     }
 }
 
-/// A bar up to its title.
+/// A bar up to the event at which it begins.
 #[tactic(auto, unfolding(crate::specs::Marks::run_text))]
 fn push_run(out: &mut Vec<u8>, run: &Running, area: Area) -> Result<(), AllocError>
     ensures { OnOk result (out.new.items ≡ out.old.items ++ run_text run.now area) }
 {
-    push_count(out, b"<rect class=\"n", u64::from(run.node.0))?;
-    out.extend_from_slice(b"\"")?;
-    push_area(out, area)?;
-    push_count(out, b" rx=\"3\"><title>task ", u64::from(run.task.0))?;
-    push_event(out, b", from ", run.from)
+    push_parts(
+        out,
+        &[
+            Part::Text(b"<rect class=\"n"),
+            Part::Number(run.node.0 as u64),
+            Part::Text(b"\""),
+            Part::Rectangle(area),
+            Part::Text(b" rx=\"3\"><title>task "),
+            Part::Number(run.task.0 as u64),
+            Part::Text(b", from "),
+            Part::Event(run.from),
+        ],
+    )
+}
+
+/// The event at which a bar ends.
+#[tactic(auto, unfolding(crate::specs::Marks::until_text))]
+fn push_until(out: &mut Vec<u8>, to: u32) -> Result<(), AllocError>
+    ensures { OnOk result (out.new.items ≡ out.old.items ++ until_text to) }
+{
+    push_parts(
+        out,
+        &[
+            Part::Text(b" to "),
+            Part::Event(to),
+            Part::Text(b"</title></rect>\n"),
+        ],
+    )
 }
 
 /// The number of a task inside its bar, where it fits.
@@ -65,23 +81,24 @@ fn push_number(
 }
 
 /// The number of a task inside its bar.
+#[tactic(auto, unfolding(crate::specs::Marks::inside_text))]
 fn push_inside(out: &mut Vec<u8>, run: &Running, area: Area) -> Result<(), AllocError>
     requires { (area.corner.x < 2 ^ 60) × (area.corner.y < 2 ^ 60) × (area.width < 2 ^ 60) × (area.height < 2 ^ 60) }
     ensures { OnOk result (out.new.items ≡ out.old.items ++ inside_text run.now area) }
 {
-    push_tenths(
+    let foot = (area.corner.y + area.height).saturating_sub(40);
+    push_parts(
         out,
-        b"<text class=\"number\" x=\"",
-        area.corner.x + area.width / 2,
-    )?;
-    push_tenths(
-        out,
-        b"\" y=\"",
-        (area.corner.y + area.height).saturating_sub(40),
-    )?;
-    push_count(out, b"\">", u64::from(run.task.0))?;
-    out.extend_from_slice(b"</text>\n")?;
-    Ok(())
+        &[
+            Part::Text(b"<text class=\"number\" x=\""),
+            Part::Length(area.corner.x + area.width / 2),
+            Part::Text(b"\" y=\""),
+            Part::Length(foot),
+            Part::Text(b"\">"),
+            Part::Number(run.task.0 as u64),
+            Part::Text(b"</text>\n"),
+        ],
+    )
 }
 
 /// Whether the number of a task fits into its bar: 7 pixels a digit.
@@ -100,8 +117,7 @@ impl Mark for Bar {
     fn push(&self, scene: &Scene, out: &mut Vec<u8>) -> Result<(), AllocError> {
         let area = run_area(scene, &self.run, scene.reach(self.to));
         push_run(out, &self.run, area)?;
-        push_event(out, b" to ", self.to)?;
-        out.extend_from_slice(b"</title></rect>\n")?;
+        push_until(out, self.to)?;
         push_number(out, scene, &self.run, area)
     }
 }
@@ -124,20 +140,22 @@ impl Mark for Pause {
     #[tactic(auto, unfolding(crate::specs::Marks::pause_text))]
     fn push(&self, scene: &Scene, out: &mut Vec<u8>) -> Result<(), AllocError> {
         let from = scene.middle(self.from);
-        out.extend_from_slice(b"<rect class=\"idle\"")?;
-        push_area(
-            out,
-            Area {
-                corner: Point {
-                    x: from,
-                    y: scene.top(self.node.0),
-                },
-                width: scene.reach(self.to).saturating_sub(from),
-                height: scene.height(self.node.0),
+        let area = Area {
+            corner: Point {
+                x: from,
+                y: scene.top(self.node.0),
             },
-        )?;
-        out.extend_from_slice(b"/>\n")?;
-        Ok(())
+            width: scene.reach(self.to).saturating_sub(from),
+            height: scene.height(self.node.0),
+        };
+        push_parts(
+            out,
+            &[
+                Part::Text(b"<rect class=\"idle\""),
+                Part::Rectangle(area),
+                Part::Text(b"/>\n"),
+            ],
+        )
     }
 }
 
@@ -154,32 +172,18 @@ fn ends_of(scene: &Scene, sending: &Sending) -> (u64, u64)
     }
 }
 
-/// A curve from one place to another, vertical at both.
-#[tactic(auto, unfolding(crate::specs::Marks::curve_text))]
-fn push_curve(out: &mut Vec<u8>, from: Point, to: Point) -> Result<(), AllocError>
+/// Where the handle of a curve lies that leaves a place for another: straight above or below it.
+#[tactic(auto, unfolding(crate::specs::Marks::handle))]
+fn handle(from: Point, to: Point) -> Point
     requires { (from.y < 2 ^ 47) × (to.y < 2 ^ 47) }
-    ensures { OnOk result (out.new.items ≡ out.old.items ++ curve_text from to) }
+    ensures { result ≡ handle from to }
 {
     let down = to.y.saturating_sub(from.y) * 9 / 20;
     let up = from.y.saturating_sub(to.y) * 9 / 20;
-    push_point(out, b"M", from)?;
-    push_point(
-        out,
-        b"C",
-        Point {
-            x: from.x,
-            y: (from.y + down).saturating_sub(up),
-        },
-    )?;
-    push_point(
-        out,
-        b" ",
-        Point {
-            x: to.x,
-            y: (to.y + up).saturating_sub(down),
-        },
-    )?;
-    push_point(out, b" ", to)
+    Point {
+        x: from.x,
+        y: (from.y + down).saturating_sub(up),
+    }
 }
 
 /// How messages are drawn: fainter the more there are.
@@ -208,13 +212,57 @@ fn push_dot(out: &mut Vec<u8>, scene: &Scene, at: Point) -> Result<(), AllocErro
 }
 
 /// A dot.
+#[tactic(auto, unfolding(crate::specs::Marks::spot_text))]
 fn push_spot(out: &mut Vec<u8>, at: Point) -> Result<(), AllocError>
     ensures { OnOk result (out.new.items ≡ out.old.items ++ spot_text at) }
 {
-    push_tenths(out, b"<circle class=\"dot\" cx=\"", at.x)?;
-    push_tenths(out, b"\" cy=\"", at.y)?;
-    out.extend_from_slice(b"\" r=\"2.2\"/>\n")?;
-    Ok(())
+    push_parts(
+        out,
+        &[
+            Part::Text(b"<circle class=\"dot\" cx=\""),
+            Part::Length(at.x),
+            Part::Text(b"\" cy=\""),
+            Part::Length(at.y),
+            Part::Text(b"\" r=\"2.2\"/>\n"),
+        ],
+    )
+}
+
+/// A message from one place to another, by a curve that is vertical at both.
+#[tactic(auto, unfolding(crate::specs::Marks::path_text))]
+fn push_path(
+    out: &mut Vec<u8>,
+    scene: &Scene,
+    arrow: &Arrow,
+    from: Point,
+    to: Point,
+) -> Result<(), AllocError>
+    requires { (from.y < 2 ^ 47) × (to.y < 2 ^ 47) }
+    ensures { OnOk result (out.new.items ≡ out.old.items ++ path_text scene.now arrow.now from to) }
+{
+    let class = arrow_class(scene);
+    let first = handle(from, to);
+    let second = handle(to, from);
+    push_parts(
+        out,
+        &[
+            Part::Text(b"<path class=\""),
+            Part::Text(class),
+            Part::Text(b"\" d=\"M"),
+            Part::Place(from),
+            Part::Text(b"C"),
+            Part::Place(first),
+            Part::Text(b" "),
+            Part::Place(second),
+            Part::Text(b" "),
+            Part::Place(to),
+            Part::Text(b"\"><title>"),
+            Part::Message(arrow.sending),
+            Part::Text(b", received at "),
+            Part::Event(arrow.received),
+            Part::Text(b"</title></path>\n"),
+        ],
+    )
 }
 
 impl Mark for Arrow {
@@ -222,37 +270,18 @@ impl Mark for Arrow {
 
     #[tactic(auto, unfolding(crate::specs::Marks::arrow_text))]
     fn push(&self, scene: &Scene, out: &mut Vec<u8>) -> Result<(), AllocError> {
-        let sending = &self.sending;
-        let (start, end) = ends_of(scene, sending);
+        let (start, end) = ends_of(scene, &self.sending);
         let from = Point {
-            x: scene.middle(sending.sent),
+            x: scene.middle(self.sending.sent),
             y: start,
         };
         let to = Point {
             x: scene.middle(self.received),
             y: end,
         };
-        out.extend_from_slice(b"<path class=\"")?;
-        out.extend_from_slice(arrow_class(scene))?;
-        out.extend_from_slice(b"\" d=\"")?;
-        push_curve(out, from, to)?;
-        push_sending(out, b"\"><title>", sending)?;
-        push_event(out, b", received at ", self.received)?;
-        out.extend_from_slice(b"</title></path>\n")?;
+        push_path(out, scene, self, from, to)?;
         push_dot(out, scene, from)
     }
-}
-
-/// What is said of a message.
-#[tactic(auto, unfolding(crate::specs::Marks::sending_text))]
-fn push_sending(out: &mut Vec<u8>, label: &[u8], sending: &Sending) -> Result<(), AllocError>
-    ensures { OnOk result (out.new.items ≡ out.old.items ++ (label.now ++ sending_text sending.now)) }
-{
-    out.extend_from_slice(label)?;
-    push_count(out, b"message ", u64::from(sending.message.0))?;
-    push_count(out, b": node ", u64::from(sending.from.0))?;
-    push_count(out, b" to node ", u64::from(sending.to.0))?;
-    push_event(out, b", sent at ", sending.sent)
 }
 
 impl Mark for Sending {
@@ -260,18 +289,20 @@ impl Mark for Sending {
 
     #[tactic(auto, unfolding(crate::specs::Marks::lost_text))]
     fn push(&self, scene: &Scene, out: &mut Vec<u8>) -> Result<(), AllocError> {
-        out.extend_from_slice(b"<path class=\"lost\" d=\"")?;
-        push_point(
+        let from = Point {
+            x: scene.middle(self.sent),
+            y: scene.foot(self.from.0),
+        };
+        push_parts(
             out,
-            b"M",
-            Point {
-                x: scene.middle(self.sent),
-                y: scene.foot(self.from.0),
-            },
-        )?;
-        push_sending(out, b"l10,14\"><title>", self)?;
-        out.extend_from_slice(b", not received</title></path>\n")?;
-        Ok(())
+            &[
+                Part::Text(b"<path class=\"lost\" d=\"M"),
+                Part::Place(from),
+                Part::Text(b"l10,14\"><title>"),
+                Part::Message(*self),
+                Part::Text(b", not received</title></path>\n"),
+            ],
+        )
     }
 }
 
@@ -281,19 +312,20 @@ impl Mark for Seam {
     #[tactic(auto, unfolding(crate::specs::Marks::seam_text))]
     fn push(&self, scene: &Scene, out: &mut Vec<u8>) -> Result<(), AllocError> {
         let x = scene.edge(self.at);
-        push_point(
+        let bottom = scene.bottom();
+        push_parts(
             out,
-            b"<path class=\"seam\" d=\"M",
-            Point { x, y: TOP - 440 },
-        )?;
-        push_tenths(out, b"V", scene.bottom() + 220)?;
-        push_tenths(out, b"\"/><text class=\"seam\" x=\"", x + 40)?;
-        push_count(
-            out,
-            b"\" y=\"112\">generation ",
-            u64::from(self.generation.0),
-        )?;
-        out.extend_from_slice(b"</text>\n")?;
-        Ok(())
+            &[
+                Part::Text(b"<path class=\"seam\" d=\"M"),
+                Part::Place(Point { x, y: TOP - 440 }),
+                Part::Text(b"V"),
+                Part::Length(bottom + 220),
+                Part::Text(b"\"/><text class=\"seam\" x=\""),
+                Part::Length(x + 40),
+                Part::Text(b"\" y=\"112\">generation "),
+                Part::Number(self.generation.0 as u64),
+                Part::Text(b"</text>\n"),
+            ],
+        )
     }
 }

@@ -1,11 +1,10 @@
-ghost use Rattle.std.specs.Prelude.{◌≡◌, ◌++◌, ◌<◌, ◌^◌, OnOk, IfOk, decimal};
-ghost use Rattle.tp_scene.specs.Page.{head, headline, counted, verdict, lane, ground, grounds, frame, frames, unit_by, unit, tick};
-ghost use Rattle.tp_scene.specs.Page.{tick_where, ticks, axis, run, waves, svg_of};
+ghost use Rattle.std.specs.Prelude.{◌≡◌, ◌++◌, ◌<◌, ◌^◌, OnOk, IfOk};
+ghost use Rattle.tp_scene.specs.Page.{head, headline, plural, verdict, lane, ground, grounds, frame, frames, unit_by, unit, tick};
+ghost use Rattle.tp_scene.specs.Page.{tick_where, ticks, axis_line, axis, run, waves, svg_of};
 
 use crate::cuts::push_labels;
 use crate::layout::LEFT;
-use crate::marks::push_event;
-use crate::pieces::{Area, Point, push_all, push_area, push_count, push_point, push_tenths};
+use crate::pieces::{Area, Part, Point, push_all, push_parts};
 use crate::scene::Scene;
 use std::alloc::{AllocError, Global};
 
@@ -48,31 +47,30 @@ pub const LEGEND: &[u8] =
 fn push_head(out: &mut Vec<u8>, scene: &Scene) -> Result<(), AllocError>
     ensures { OnOk result (out.new.items ≡ out.old.items ++ head scene.now) }
 {
-    push_tenths(
+    let width = scene.width();
+    let height = scene.page_height();
+    push_parts(
         out,
-        b"<svg xmlns=\"http://www.w3.org/2000/svg\" width=\"",
-        scene.width(),
-    )?;
-    push_tenths(out, b"\" height=\"", scene.page_height())?;
-    push_tenths(out, b"\" viewBox=\"0 0 ", scene.width())?;
-    push_tenths(out, b" ", scene.page_height())?;
-    out.extend_from_slice(b"\">\n")?;
-    out.extend_from_slice(STYLE)?;
-    Ok(())
+        &[
+            Part::Text(b"<svg xmlns=\"http://www.w3.org/2000/svg\" width=\""),
+            Part::Length(width),
+            Part::Text(b"\" height=\""),
+            Part::Length(height),
+            Part::Text(b"\" viewBox=\"0 0 "),
+            Part::Length(width),
+            Part::Text(b" "),
+            Part::Length(height),
+            Part::Text(b"\">\n"),
+            Part::Text(STYLE),
+        ],
+    )
 }
 
-/// How many there are of something, by its name for one, behind a label.
-#[tactic(auto, unfolding(crate::specs::Page::counted))]
-fn push_counted(out: &mut Vec<u8>, label: &[u8], count: u64, name: &[u8]) -> Result<(), AllocError>
-    ensures { OnOk result (out.new.items ≡ out.old.items ++ (label.now ++ counted count name.now)) }
+/// How the name of what is counted ends.
+fn plural(count: u64) -> &'static [u8]
+    ensures { result.now ≡ plural count }
 {
-    push_count(out, label, count)?;
-    out.extend_from_slice(name)?;
-    if count == 1 {
-        return Ok(());
-    }
-    out.extend_from_slice(b"s")?;
-    Ok(())
+    if count == 1 { b"" } else { b"s" }
 }
 
 /// What the run came to: the four counts.
@@ -80,17 +78,30 @@ fn push_counted(out: &mut Vec<u8>, label: &[u8], count: u64, name: &[u8]) -> Res
 fn push_headline(out: &mut Vec<u8>, scene: &Scene) -> Result<(), AllocError>
     ensures { OnOk result (out.new.items ≡ out.old.items ++ headline scene.now) }
 {
-    push_counted(
+    let tasks = scene.bars.len() as u64;
+    let messages = scene.arrows.len() as u64;
+    push_parts(
         out,
-        b"<text class=\"head\" x=\"74\" y=\"28\">",
-        scene.bars.len() as u64,
-        b" task",
-    )?;
-    push_counted(out, b", ", scene.arrows.len() as u64, b" message")?;
-    push_counted(out, b", ", u64::from(scene.nodes), b" node")?;
-    push_counted(out, b", ", u64::from(scene.events), b" event")?;
-    out.extend_from_slice(b"</text>\n")?;
-    Ok(())
+        &[
+            Part::Text(b"<text class=\"head\" x=\"74\" y=\"28\">"),
+            Part::Number(tasks),
+            Part::Text(b" task"),
+            Part::Text(plural(tasks)),
+            Part::Text(b", "),
+            Part::Number(messages),
+            Part::Text(b" message"),
+            Part::Text(plural(messages)),
+            Part::Text(b", "),
+            Part::Number(scene.nodes as u64),
+            Part::Text(b" node"),
+            Part::Text(plural(scene.nodes as u64)),
+            Part::Text(b", "),
+            Part::Number(scene.events as u64),
+            Part::Text(b" event"),
+            Part::Text(plural(scene.events as u64)),
+            Part::Text(b"</text>\n"),
+        ],
+    )
 }
 
 /// Whether it was judged that the pool had ended.
@@ -99,19 +110,15 @@ fn push_verdict(out: &mut Vec<u8>, ended: Option<u32>) -> Result<(), AllocError>
     ensures { OnOk result (out.new.items ≡ out.old.items ++ verdict ended) }
 {
     match ended {
-        Some(wave) => {
-            push_count(
-                out,
-                b"<text class=\"seen\" x=\"74\" y=\"47\">the end is judged: nothing was left when wave ",
-                u64::from(wave),
-            )?;
-            out.extend_from_slice(b" ended</text>\n")?;
-            Ok(())
-        }
-        None => {
-            out.extend_from_slice(b"<text x=\"74\" y=\"47\">no end is judged</text>\n")?;
-            Ok(())
-        }
+        Some(wave) => push_parts(
+            out,
+            &[
+                Part::Text(b"<text class=\"seen\" x=\"74\" y=\"47\">the end is judged: nothing was left when wave "),
+                Part::Number(wave as u64),
+                Part::Text(b" ended</text>\n"),
+            ],
+        ),
+        None => out.extend_from_slice(b"<text x=\"74\" y=\"47\">no end is judged</text>\n"),
     }
 }
 
@@ -136,11 +143,17 @@ fn lane(scene: &Scene, node: u32) -> Area
 fn push_ground(out: &mut Vec<u8>, scene: &Scene, node: u32) -> Result<(), AllocError>
     ensures { OnOk result (out.new.items ≡ out.old.items ++ ground scene.now node) }
 {
-    push_count(out, b"<rect class=\"p", u64::from(node))?;
-    out.extend_from_slice(b"\"")?;
-    push_area(out, lane(scene, node))?;
-    out.extend_from_slice(b" rx=\"4\"/>\n")?;
-    Ok(())
+    let lane = lane(scene, node);
+    push_parts(
+        out,
+        &[
+            Part::Text(b"<rect class=\"p"),
+            Part::Number(node as u64),
+            Part::Text(b"\""),
+            Part::Rectangle(lane),
+            Part::Text(b" rx=\"4\"/>\n"),
+        ],
+    )
 }
 
 /// The grounds of all lanes.
@@ -159,17 +172,20 @@ fn push_frame(out: &mut Vec<u8>, scene: &Scene, node: u32) -> Result<(), AllocEr
     ensures { OnOk result (out.new.items ≡ out.old.items ++ frame scene.now node) }
 {
     let lane = lane(scene, node);
-    out.extend_from_slice(b"<rect class=\"frame\"")?;
-    push_area(out, lane)?;
-    push_count(out, b" rx=\"4\"/>\n<text class=\"name n", u64::from(node))?;
-    push_tenths(
+    push_parts(
         out,
-        b"\" x=\"62\" y=\"",
-        lane.corner.y + lane.height / 2 + 50,
-    )?;
-    push_count(out, b"\">node ", u64::from(node))?;
-    out.extend_from_slice(b"</text>\n")?;
-    Ok(())
+        &[
+            Part::Text(b"<rect class=\"frame\""),
+            Part::Rectangle(lane),
+            Part::Text(b" rx=\"4\"/>\n<text class=\"name n"),
+            Part::Number(node as u64),
+            Part::Text(b"\" x=\"62\" y=\""),
+            Part::Length(lane.corner.y + lane.height / 2 + 50),
+            Part::Text(b"\">node "),
+            Part::Number(node as u64),
+            Part::Text(b"</text>\n"),
+        ],
+    )
 }
 
 /// The frames of all lanes.
@@ -226,19 +242,24 @@ fn push_tick(out: &mut Vec<u8>, scene: &Scene, event: u32) -> Result<(), AllocEr
     ensures { OnOk result (out.new.items ≡ out.old.items ++ tick scene.now event) }
 {
     let x = scene.middle(event);
-    push_point(
+    let bottom = scene.bottom();
+    push_parts(
         out,
-        b"<path class=\"axis\" d=\"M",
-        Point {
-            x,
-            y: scene.bottom() + 440,
-        },
-    )?;
-    push_tenths(out, b"v5\"/><text class=\"scale\" x=\"", x)?;
-    push_tenths(out, b"\" y=\"", scene.bottom() + 610)?;
-    push_event(out, b"\">", event)?;
-    out.extend_from_slice(b"</text>\n")?;
-    Ok(())
+        &[
+            Part::Text(b"<path class=\"axis\" d=\"M"),
+            Part::Place(Point {
+                x,
+                y: bottom + 440,
+            }),
+            Part::Text(b"v5\"/><text class=\"scale\" x=\""),
+            Part::Length(x),
+            Part::Text(b"\" y=\""),
+            Part::Length(bottom + 610),
+            Part::Text(b"\">"),
+            Part::Event(event),
+            Part::Text(b"</text>\n"),
+        ],
+    )
 }
 
 /// A tick at an event that is one of each so many.
@@ -268,21 +289,34 @@ fn push_ticks(out: &mut Vec<u8>, scene: &Scene) -> Result<(), AllocError>
     Ok(())
 }
 
+/// The line of the axis, and its name.
+#[tactic(auto, unfolding(crate::specs::Page::axis_line))]
+fn push_axis_line(out: &mut Vec<u8>, scene: &Scene) -> Result<(), AllocError>
+    ensures { OnOk result (out.new.items ≡ out.old.items ++ axis_line scene.now) }
+{
+    let bottom = scene.bottom();
+    let right = scene.right();
+    push_parts(
+        out,
+        &[
+            Part::Text(b"<path class=\"axis\" d=\"M74,"),
+            Part::Length(bottom + 440),
+            Part::Text(b"H"),
+            Part::Length(right),
+            Part::Text(b"\"/>\n<text class=\"unit\" x=\"62\" y=\""),
+            Part::Length(bottom + 480),
+            Part::Text(b"\">event</text>\n"),
+        ],
+    )
+}
+
 /// The axis, which counts events.
 #[tactic(auto, unfolding(crate::specs::Page::axis))]
 fn push_axis(out: &mut Vec<u8>, scene: &Scene) -> Result<(), AllocError>
     ensures { OnOk result (out.new.items ≡ out.old.items ++ axis scene.now) }
 {
     push_ticks(out, scene)?;
-    push_tenths(out, b"<path class=\"axis\" d=\"M74,", scene.bottom() + 440)?;
-    push_tenths(out, b"H", scene.right())?;
-    push_tenths(
-        out,
-        b"\"/>\n<text class=\"unit\" x=\"62\" y=\"",
-        scene.bottom() + 480,
-    )?;
-    out.extend_from_slice(b"\">event</text>\n")?;
-    Ok(())
+    push_axis_line(out, scene)
 }
 
 /// What lies below the waves: the lanes, where nothing is pending, and the messages below the tasks.
