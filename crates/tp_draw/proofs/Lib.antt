@@ -1,3 +1,4 @@
+pub mod Written
 pub mod Layered
 pub mod Asked
 pub mod Ending

@@ -1,12 +1,12 @@
 -- A picture that is shown in another size.
-use Rattle.std.specs.Prelude.{ℕ, ◌*◌, ◌/◌, ◌++◌, List, Option, Some, None, codes, decimal}
-use Rattle.tp_scene.specs.Pieces.{tenths}
+use Rattle.std.specs.Prelude.{ℕ, ◌*◌, ◌/◌, List, Option, Some, None, codes, decimal}
+use Rattle.tp_scene.specs.Pieces.{◌⧺◌, tenths}
 
 -- so many pixels wide, and as high as that makes it
 unfoldable pub scaled_text : ℕ → ℕ → ℕ → List ℕ → List ℕ
 scaled_text pixels width height picture =
-    codes "<svg xmlns=\"http://www.w3.org/2000/svg\" width=\"" ++ decimal pixels ++ codes "\" height=\"" ++ decimal (pixels * height / width)
-    ++ codes "\" viewBox=\"0 0 " ++ tenths width ++ codes " " ++ tenths height ++ codes "\">\n" ++ picture ++ codes "</svg>\n"
+    codes "<svg xmlns=\"http://www.w3.org/2000/svg\" width=\"" ⧺ decimal pixels ⧺ codes "\" height=\"" ⧺ decimal (pixels * height / width)
+    ⧺ codes "\" viewBox=\"0 0 " ⧺ tenths width ⧺ codes " " ⧺ tenths height ⧺ codes "\">\n" ⧺ picture ⧺ codes "</svg>\n"
 
 -- in its own size where none is asked for
 abbrev pub shown : Option ℕ → ℕ → ℕ → List ℕ → List ℕ

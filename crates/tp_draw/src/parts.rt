@@ -1,7 +1,7 @@
 ghost use Rattle.std.specs.Prelude.{◌≡◌, ◌++◌, OnOk, decimal};
 ghost use Rattle.std.specs.List.{flat_map};
 ghost use Rattle.tp_scene.specs.Pieces.{tenths};
-ghost use Rattle.tp_draw.specs.Parts.{part_text};
+ghost use Rattle.tp_draw.specs.Parts.{part_text, text_of};
 
 use itoa::Buffer;
 use std::alloc::AllocError;
@@ -23,6 +23,7 @@ fn push_number(out: &mut Vec<u8>, number: u64) -> Result<(), AllocError>
     out.extend_from_slice(Buffer::new().format(number).as_bytes())
 }
 
+#[tactic(auto, unfolding(tp_scene::specs::Pieces::tenths))]
 fn push_tenths(out: &mut Vec<u8>, length: u64) -> Result<(), AllocError>
     ensures { OnOk result (out.new.items ≡ out.old.items ++ tenths length) }
 {
@@ -31,7 +32,7 @@ fn push_tenths(out: &mut Vec<u8>, length: u64) -> Result<(), AllocError>
     push_number(out, length % 10)
 }
 
-fn push_part(out: &mut Vec<u8>, part: Part) -> Result<(), AllocError>
+fn push_part(out: &mut Vec<u8>, part: Part<'_>) -> Result<(), AllocError>
     ensures { OnOk result (out.new.items ≡ out.old.items ++ part_text part) }
 {
     match part {
@@ -41,12 +42,19 @@ fn push_part(out: &mut Vec<u8>, part: Part) -> Result<(), AllocError>
     }
 }
 
-/// The parts, one behind the other.
-pub(crate) fn push_parts(out: &mut Vec<u8>, parts: &[Part]) -> Result<(), AllocError>
+/// Parts, each in turn.
+fn push_each(out: &mut Vec<u8>, parts: &[Part<'_>]) -> Result<(), AllocError>
     ensures { OnOk result (out.new.items ≡ out.old.items ++ flat_map part_text parts.now) }
 {
     for part in parts {
         push_part(out, *part)?;
     }
     Ok(())
+}
+
+/// Parts, one behind the other.
+pub(crate) fn push_parts(out: &mut Vec<u8>, parts: &[Part<'_>]) -> Result<(), AllocError>
+    ensures { OnOk result (out.new.items ≡ out.old.items ++ text_of parts.now) }
+{
+    push_each(out, parts)
 }
