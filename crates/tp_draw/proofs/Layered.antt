@@ -16,6 +16,10 @@ pub record AreTo (g : TaskGraph) (p k : ℕ) (layers : List ℕ) : Type 0 where
   pub present : (j : ℕ) → j < k → slice_index layers p < slice_index layers (g.target p j)
   pub close : (t : ℕ) → t < g.tasks → (slice_index layers t ≡ 0) ⊎ IsBelow g layers p t
 
+pub record Lowered (g : TaskGraph) (p k least : ℕ) (layers : List ℕ) : Type 0 where
+  pub layers : AreTo g p (k + 1) layers
+  pub below : least ≡ slice_index layers p + 1
+
 same_or : (a b : ℕ) → (a ≡ b) ⊎ (a ≢ b)
 same_or zero zero = inl refl
 same_or zero (suc b) = inr (λ e. omega (arith, e))
@@ -76,6 +80,21 @@ module _ (g : TaskGraph) (p k : ℕ) (old new : List ℕ) (known : p < g.tasks) 
     ];
   }
 
+-- the same, of a call that lowers one task
+pub same_at : (g : TaskGraph) (p k task least : ℕ) (old new : List ℕ) → task ≡ g.target p k → least ≡ slice_index old p + 1 → p < g.tasks
+    → k < g.feeds p → ((q j : ℕ) → q < g.tasks → j < g.feeds q → FillsSlot g q j) → length new ≡ length old
+    → slice_index new task ≡ max (slice_index old task) least → ((t : ℕ) → t ≢ task → slice_index new t ≡ slice_index old t)
+    → AreTo g p k old → Lowered g p k least new
+same_at g p k task least old new at is known within fills size here same h =
+    let there : slice_index new (g.target p k) ≡ max (slice_index old (g.target p k)) (slice_index old p + 1) =
+    ap (slice_index new) (sym at) ∙ here ∙ ap (λ t. max (slice_index old t) least) at ∙ ap (max (slice_index old (g.target p k))) is in
+    let others : (t : ℕ) → t ≢ g.target p k → slice_index new t ≡ slice_index old t = λ t other. same t (λ e. other (e ∙ at)) in
+    let apart : p ≢ g.target p k = λ e. let above = (fills p k known within).higher in omega (arith, above, e) in
+    record {
+      layers = next_feed g p k old new known within fills size there others h;
+      below = is ∙ ap (λ x. x + 1) (sym (others p apart));
+    }
+
 -- the next task
 pub next_task : (g : TaskGraph) (p k : ℕ) (layers : List ℕ) → k ≡ g.feeds p → AreTo g p k layers → AreTo g (p + 1) 0 layers
 next_task g p k layers all h = record {
@@ -107,7 +126,7 @@ all_feeds g layers h = record {
   size = h.size;
   falls = h.falls;
   close = λ t less. elim (h.close t less) [
-    | inl zero ↦ inl zero
+    | inl zero_is ↦ inl zero_is
     | inr below ↦ inr (below.0, below.1, below.3, below.4, below.5, below.6)
   ];
 }

@@ -12,6 +12,7 @@ use Rattle.tp_draw.specs.declared.request.Plan.{Plan}
 use Rattle.tp_draw.specs.declared.request.Request.{Request}
 use Rattle.tp_draw.specs.declared.request.Request.TheVariants.{Run, Graph}
 use Rattle.tp_draw.specs.declared.scaled.TheConstants.{MIN_PIXELS, MAX_PIXELS}
+use Rattle.tp_draw.specs.Scaled.{IsWithin}
 use Rattle.tp_shell.specs.Command.{IsCount, count_rule, with_version}
 
 -- the word that names a pool
@@ -43,11 +44,6 @@ abbrev pub draw_app : App
 draw_app = with_subcommand (with_subcommand (with_required (with_version (new_app (codes "draw")))) run_app.top) graph_app.top
 
 -- ---- what was found: a subcommand and its matches
-
--- where it is asked for, so many pixels
-abbrev pub IsWithin : Option ℕ → Type 0
-IsWithin None = Unit {0}
-IsWithin (Some pixels) = (MIN_PIXELS ≤ pixels) × (pixels ≤ MAX_PIXELS)
 
 -- Where the option's text spells a number in that range, the picture is shown so many pixels wide; where the option is left out, in
 -- its own size.

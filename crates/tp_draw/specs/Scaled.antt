@@ -1,6 +1,12 @@
 -- A picture that is shown in another size.
-use Rattle.std.specs.Prelude.{ℕ, ◌*◌, ◌/◌, List, Option, Some, None, codes, decimal}
+use Rattle.std.specs.Prelude.{ℕ, ◌≤◌, ◌*◌, ◌/◌, List, Option, Some, None, codes, decimal}
+use Rattle.tp_draw.specs.declared.scaled.TheConstants.{MIN_PIXELS, MAX_PIXELS}
 use Rattle.tp_scene.specs.Pieces.{◌⧺◌, tenths}
+
+-- Where a width is asked for, it is a number of pixels within bounds.
+abbrev pub IsWithin : Option ℕ → Type 0
+IsWithin None = Unit {0}
+IsWithin (Some pixels) = (MIN_PIXELS ≤ pixels) × (pixels ≤ MAX_PIXELS)
 
 -- so many pixels wide, and as high as that makes it
 unfoldable pub scaled_text : ℕ → ℕ → ℕ → List ℕ → List ℕ

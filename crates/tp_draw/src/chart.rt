@@ -103,6 +103,7 @@ fn across(most: u64, size: u64, rank: u64) -> u64
 }
 
 /// The middle of each task's circle, from the left.
+#[tactic(auto, unfolding(crate::specs::Chart::x_of))]
 fn all_across(alloc: Global, layers: &[u32], most: u64) -> Result<Vec<u64>, AllocError>
     requires { (length layers.now ≤ MAX_TASKS) × (most ≡ wide layers.now) × (1 ≤ most) × (most ≤ MAX_TASKS) }
     ensures size { IfOk result (λ xs. length xs.items ≡ length layers.now) }

@@ -50,22 +50,25 @@ impl<G: Graph> Drawing<G> {
         requires known { task < (G.meaning self.now.graph).tasks }
         ensures { OnOk result (out.new.items ≡ out.old.items ++ disc_text (G.meaning self.now.graph) self.now.nodes self.now.chart.layers.items task) }
     {
-        let home = u64::from(self.graph.home(TaskId(task), self.nodes).0);
+        let home = self.graph.home(TaskId(task), self.nodes);
+        let x = self.chart.x(task);
+        let y = self.chart.y(task);
+        let radius = self.chart.radius();
         push_parts(
             out,
             &[
                 Part::Text(b"<circle class=\"n"),
-                Part::Number(home),
+                Part::Number(home.0 as u64),
                 Part::Text(b"\" cx=\""),
-                Part::Tenths(self.chart.x(task)),
+                Part::Tenths(x),
                 Part::Text(b"\" cy=\""),
-                Part::Tenths(self.chart.y(task)),
+                Part::Tenths(y),
                 Part::Text(b"\" r=\""),
-                Part::Tenths(self.chart.radius()),
+                Part::Tenths(radius),
                 Part::Text(b"\"><title>task "),
-                Part::Number(u64::from(task)),
+                Part::Number(task as u64),
                 Part::Text(b" at node "),
-                Part::Number(home),
+                Part::Number(home.0 as u64),
                 Part::Text(b"</title></circle>\n"),
             ],
         )
@@ -77,15 +80,17 @@ impl<G: Graph> Drawing<G> {
         requires known { task < (G.meaning self.now.graph).tasks }
         ensures { OnOk result (out.new.items ≡ out.old.items ++ inside_text self.now.chart.layers.items task) }
     {
+        let x = self.chart.x(task);
+        let y = self.chart.y(task);
         push_parts(
             out,
             &[
                 Part::Text(b"<text class=\"number\" x=\""),
-                Part::Tenths(self.chart.x(task)),
+                Part::Tenths(x),
                 Part::Text(b"\" y=\""),
-                Part::Tenths(self.chart.y(task) + 33),
+                Part::Tenths(y + 33),
                 Part::Text(b"\">"),
-                Part::Number(u64::from(task)),
+                Part::Number(task as u64),
                 Part::Text(b"</text>\n"),
             ],
         )
@@ -98,30 +103,34 @@ impl<G: Graph> Drawing<G> {
         requires known { (from < (G.meaning self.now.graph).tasks) × (to < (G.meaning self.now.graph).tasks) }
         ensures { OnOk result (out.new.items ≡ out.old.items ++ curve_text self.now.chart.layers.items from to) }
     {
-        let middle = (self.chart.y(from) + self.chart.y(to)) / 2;
+        let start = self.chart.x(from);
+        let end = self.chart.x(to);
+        let top = self.chart.y(from);
+        let foot = self.chart.y(to);
+        let middle = (top + foot) / 2;
         push_parts(
             out,
             &[
                 Part::Text(b"M"),
-                Part::Tenths(self.chart.x(from)),
+                Part::Tenths(start),
                 Part::Text(b","),
-                Part::Tenths(self.chart.y(from)),
+                Part::Tenths(top),
                 Part::Text(b"C"),
-                Part::Tenths(self.chart.x(from)),
+                Part::Tenths(start),
                 Part::Text(b","),
                 Part::Tenths(middle),
                 Part::Text(b" "),
-                Part::Tenths(self.chart.x(to)),
+                Part::Tenths(end),
                 Part::Text(b","),
                 Part::Tenths(middle),
                 Part::Text(b" "),
-                Part::Tenths(self.chart.x(to)),
+                Part::Tenths(end),
                 Part::Text(b","),
-                Part::Tenths(self.chart.y(to)),
+                Part::Tenths(foot),
                 Part::Text(b"\"><title>task "),
-                Part::Number(u64::from(from)),
+                Part::Number(from as u64),
                 Part::Text(b" to task "),
-                Part::Number(u64::from(to)),
+                Part::Number(to as u64),
                 Part::Text(b"</title></path>\n"),
             ],
         )
@@ -149,12 +158,12 @@ impl<G: Graph> Drawing<G> {
         ensures { OnOk result (out.new.items ≡ out.old.items ++ message_text (G.meaning self.now.graph) self.now.nodes self.now.chart.layers.items task turn) }
     {
         let (target, _) = self.graph.feed(TaskId(task), turn);
-        let home = self.graph.home(TaskId(task), self.nodes).0;
+        let home = self.graph.home(TaskId(task), self.nodes);
         push_parts(
             out,
             &[
                 Part::Text(b"<path class=\"message s"),
-                Part::Number(u64::from(home)),
+                Part::Number(home.0 as u64),
                 Part::Text(b"\" d=\""),
             ],
         )?;

@@ -1,6 +1,6 @@
 ghost use Rattle.std.specs.Prelude.{◌≡◌, ◌++◌, ◌≤◌, ◌<◌, IfOk, OnOk};
 ghost use Rattle.tp_base.specs.declared.limits.TheConstants.{MAX_NODES};
-ghost use Rattle.tp_draw.specs.Dot.{cluster, dot_of, edge, edges, member};
+ghost use Rattle.tp_draw.specs.Dot.{cluster, cluster_begin, dot_of, edge, edges, member};
 ghost use Rattle.tp_draw.specs.Parts.{joined};
 
 use crate::parts::{Part, push_parts};
@@ -31,7 +31,7 @@ fn push_member<G: Graph>(
         out,
         &[
             Part::Text(b"t"),
-            Part::Number(u64::from(task)),
+            Part::Number(task as u64),
             Part::Text(b";\n"),
         ],
     )
@@ -64,20 +64,28 @@ fn push_cluster<G: Graph>(
     requires nodes { (1 ≤ nodes) × (nodes ≤ MAX_NODES) }
     ensures { OnOk result (out.new.items ≡ out.old.items ++ cluster (G.meaning graph) nodes node) }
 {
+    push_cluster_begin(out, node)?;
+    push_members(out, graph, nodes, node)?;
+    out.extend_from_slice(b"}\n")
+}
+
+/// How the cluster of a node begins.
+#[tactic(auto, unfolding(crate::specs::Dot::cluster_begin))]
+fn push_cluster_begin(out: &mut Vec<u8>, node: u32) -> Result<(), AllocError>
+    ensures { OnOk result (out.new.items ≡ out.old.items ++ cluster_begin node) }
+{
     push_parts(
         out,
         &[
             Part::Text(b"subgraph cluster_"),
-            Part::Number(u64::from(node)),
+            Part::Number(node as u64),
             Part::Text(b" {\nlabel=\"node "),
-            Part::Number(u64::from(node)),
+            Part::Number(node as u64),
             Part::Text(b"\";\nnode [fillcolor="),
-            Part::Number(u64::from(node) + 1),
+            Part::Number(node as u64 + 1),
             Part::Text(b"];\n"),
         ],
-    )?;
-    push_members(out, graph, nodes, node)?;
-    out.extend_from_slice(b"}\n")
+    )
 }
 
 /// The clusters of all nodes.
@@ -108,9 +116,9 @@ fn push_edge<G: Graph>(
         out,
         &[
             Part::Text(b"t"),
-            Part::Number(u64::from(task)),
+            Part::Number(task as u64),
             Part::Text(b" -> t"),
-            Part::Number(u64::from(target.0)),
+            Part::Number(target.0 as u64),
             Part::Text(b";\n"),
         ],
     )

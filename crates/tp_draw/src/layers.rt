@@ -24,11 +24,11 @@ pub(crate) fn layers_of<G: Graph>(alloc: Global, graph: G) -> Result<Vec<u32>, A
 }
 
 /// Puts a task into this layer, where it stands above it.
-fn lower(layers: &mut [u32], task: usize, least: u32)
-    requires { task < length layers.old }
-    ensures size { length layers.new ≡ length layers.old }
-    ensures here { slice_index layers.new task ≡ max (slice_index layers.old task) least }
-    ensures same { (t : ℕ) → t ≢ task → slice_index layers.new t ≡ slice_index layers.old t }
+fn lower(layers: &mut Vec<u32>, task: usize, least: u32)
+    requires { task < length layers.old.items }
+    ensures size { length layers.new.items ≡ length layers.old.items }
+    ensures here { slice_index layers.new.items task ≡ max (slice_index layers.old.items task) least }
+    ensures same { (t : ℕ) → t ≢ task → slice_index layers.new.items t ≡ slice_index layers.old.items t }
 {
     layers[task] = layers[task].max(least);
 }

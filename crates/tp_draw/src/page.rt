@@ -45,17 +45,19 @@ fn push_head(out: &mut Vec<u8>, chart: &Chart) -> Result<(), AllocError>
     requires { (g : TaskGraph) × IsChart g chart.now }
     ensures { OnOk result (out.new.items ≡ out.old.items ++ head_text chart.now.layers.items) }
 {
+    let width = chart.width();
+    let height = chart.height();
     push_parts(
         out,
         &[
             Part::Text(b"<svg xmlns=\"http://www.w3.org/2000/svg\" width=\""),
-            Part::Tenths(chart.width()),
+            Part::Tenths(width),
             Part::Text(b"\" height=\""),
-            Part::Tenths(chart.height()),
+            Part::Tenths(height),
             Part::Text(b"\" viewBox=\"0 0 "),
-            Part::Tenths(chart.width()),
+            Part::Tenths(width),
             Part::Text(b" "),
-            Part::Tenths(chart.height()),
+            Part::Tenths(height),
             Part::Text(b"\">\n"),
             Part::Text(STYLE),
         ],
@@ -69,7 +71,7 @@ fn feeds<G: Graph>(graph: G) -> u64
 {
     let mut count = 0;
     for task in 0..graph.tasks() {
-        count += u64::from(graph.feeds(TaskId(task)));
+        count += graph.feeds(TaskId(task)) as u64;
     }
     count
 }
@@ -122,27 +124,31 @@ fn push_headline<G: Graph>(
     requires few { (G.meaning graph).tasks ≤ MAX_TASKS }
     ensures { OnOk result (out.new.items ≡ out.old.items ++ headline_text name.now (G.meaning graph) nodes) }
 {
+    let tasks = graph.tasks() as u64;
     let feeds = feeds(graph);
-    let tasks = u64::from(graph.tasks());
+    let messages = messages(graph, nodes);
+    let of_nodes = plural(nodes as u64);
+    let of_tasks = plural(tasks);
+    let of_feeds = plural(feeds);
     push_parts(
         out,
         &[
             Part::Text(b"<text class=\"head\" x=\"24\" y=\"28\">"),
             Part::Text(name),
             Part::Text(b", "),
-            Part::Number(u64::from(nodes)),
+            Part::Number(nodes as u64),
             Part::Text(b" node"),
-            Part::Text(plural(u64::from(nodes))),
+            Part::Text(of_nodes),
             Part::Text(b"</text>\n<text x=\"24\" y=\"46\">"),
             Part::Number(tasks),
             Part::Text(b" task"),
-            Part::Text(plural(tasks)),
+            Part::Text(of_tasks),
             Part::Text(b", "),
             Part::Number(feeds),
             Part::Text(b" feed"),
-            Part::Text(plural(feeds)),
+            Part::Text(of_feeds),
             Part::Text(b", "),
-            Part::Number(messages(graph, nodes)),
+            Part::Number(messages),
             Part::Text(b" of them messages</text>\n"),
         ],
     )
@@ -157,11 +163,11 @@ fn push_node(out: &mut Vec<u8>, node: u32) -> Result<(), AllocError>
         out,
         &[
             Part::Text(b"<text class=\"name n"),
-            Part::Number(u64::from(node)),
+            Part::Number(node as u64),
             Part::Text(b"\" x=\""),
-            Part::Number(24 + 54 * u64::from(node)),
+            Part::Number(24 + 54 * node as u64),
             Part::Text(b"\" y=\"86\">node "),
-            Part::Number(u64::from(node)),
+            Part::Number(node as u64),
             Part::Text(b"</text>\n"),
         ],
     )

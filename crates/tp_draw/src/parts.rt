@@ -33,7 +33,7 @@ fn push_tenths(out: &mut Vec<u8>, length: u64) -> Result<(), AllocError>
 }
 
 fn push_part(out: &mut Vec<u8>, part: Part<'_>) -> Result<(), AllocError>
-    ensures { OnOk result (out.new.items ≡ out.old.items ++ part_text part) }
+    ensures { OnOk result (out.new.items ≡ out.old.items ++ part_text part.entry) }
 {
     match part {
         Part::Text(bytes) => out.extend_from_slice(bytes),

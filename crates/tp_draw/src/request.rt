@@ -2,7 +2,8 @@ ghost use Rattle.std.specs.Prelude.{◌≡◌, Some, None, IfErr, IfOk, MatchOpt
 ghost use Rattle.clap.specs.Values.{kind_of};
 ghost use Rattle.clap.specs.Words.{first_value, found_of, rows_of, subcommand_rows_of};
 ghost use Rattle.clap.specs.declared.error.kind.ErrorKind.TheVariants.{MissingSubcommand};
-ghost use Rattle.tp_draw.specs.Command.{AsksForNothing, IsAskedBy, IsFormIn, IsLawfulForm, IsMadeBy, IsNeither, IsPlan, IsWidthIn, IsWithin, draw_app};
+ghost use Rattle.tp_draw.specs.Command.{AsksForNothing, IsAskedBy, IsFormIn, IsLawfulForm, IsMadeBy, IsNeither, IsPlan, IsWidthIn, draw_app};
+ghost use Rattle.tp_draw.specs.Scaled.{IsWithin};
 ghost use Rattle.tp_base.specs.declared.limits.TheConstants.{MAX_NODES};
 ghost use Rattle.tp_shell.specs.Command.{FailsAs, IsCount};
 

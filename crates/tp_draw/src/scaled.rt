@@ -1,5 +1,5 @@
 ghost use Rattle.std.specs.Prelude.{◌≡◌, ◌≤◌, ◌<◌, ◌^◌, IfOk};
-ghost use Rattle.tp_draw.specs.Scaled.{shown, scaled_text};
+ghost use Rattle.tp_draw.specs.Scaled.{IsWithin, scaled_text, shown};
 
 use crate::parts::{Part, push_parts};
 use crate::picture::Picture;
@@ -18,7 +18,7 @@ pub(crate) fn shown(
     pixels: Option<u32>,
 ) -> Result<Vec<u8>, AllocError>
     requires size { (1 ≤ picture.width) × (picture.height < 2 ^ 49) }
-    requires pixels { (p : ℕ) → pixels ≡ Some p → p ≤ MAX_PIXELS }
+    requires pixels { IsWithin pixels }
     ensures { IfOk result (λ text. text.items ≡ shown pixels picture.width picture.height picture.text.items) }
 {
     match pixels {

@@ -1,4 +1,4 @@
-use Rattle.std.proofs.Common.{◌≡◌, ◌≤◌, ◌×◌}
+use Rattle.std.proofs.Common.{◌≡◌, ◌≤◌}
 use Rattle.tp_draw.specs.Chart.{count_in}
 use Rattle.tp_draw.proofs.chart.count_in.Given as goal
 
