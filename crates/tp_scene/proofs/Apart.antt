@@ -16,7 +16,7 @@ use Rattle.tp_scene.proofs.Lists.{some_same, none_some, true_false}
 use Rattle.tp_scene.specs.declared.scene.Running.{Running}
 use Rattle.tp_scene.specs.declared.scene.Bar.{Bar}
 use Rattle.tp_scene.specs.Scene.{is_on, is_run_of, first_from, free_track, begun, running, bars, bar_of}
-use Rattle.tp_scene.specs.Laws.{AreOnOneTrack, LieApart, BarsLieApart}
+use Rattle.tp_scene.specs.Laws.{AreOnOneTrack, BarsLieApart}
 
 -- ---- lists
 abbrev pub Each : {A : Type 0} → (A → Type 0) → List A → Type 0

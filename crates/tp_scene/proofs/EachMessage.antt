@@ -1,6 +1,6 @@
 -- Each message that is received has one arrow, and those that are drawn as not received are under way.
-use Rattle.std.proofs.Common.{◌≡◌, ℕ, ◌+◌, ◌≤◌, ◌==◌, ◌&&◌, ◌||◌, Bool, true, false, List, [], ◌∷◌, ◌++◌, length, map, reverse, Option}
-use Rattle.std.proofs.Common.{Some, None, refl, sym, ap, subst, ◌∙◌, eqb-true, arith, if◌then◌else◌}
+use Rattle.std.proofs.Common.{◌≡◌, ℕ, ◌+◌, ◌≤◌, ◌==◌, ◌||◌, Bool, true, false, List, [], ◌∷◌, ◌++◌, length, map, reverse}
+use Rattle.std.proofs.Common.{Some, refl, sym, ap, subst, ◌∙◌, eqb-true, arith}
 use Rattle.std.specs.Prelude.{unwrap_or}
 use Rattle.std.specs.List.{find, list_any}
 use Rattle.std.specs.Option.{option_map}
@@ -24,9 +24,8 @@ use Rattle.tp_scene.proofs.Lists.{reverse-cons, reverse-without, find-reverse, f
 use Rattle.tp_scene.proofs.Lists.{some_counted, counted-le, found-passes}
 use Rattle.tp_scene.proofs.EachTask.{quiet_before}
 use Rattle.tp_scene.specs.declared.scene.Sending.{Sending}
-use Rattle.tp_scene.specs.declared.scene.Arrow.{Arrow}
 use Rattle.tp_scene.specs.Scene.{is_sending_of, under_way, arrows, arrow_of}
-use Rattle.tp_scene.specs.Laws.{Hop, letter_of, hop_of, hops, sender_of, HasEachMessage, EachMessageOnce}
+use Rattle.tp_scene.specs.Laws.{Hop, letter_of, hop_of, hops, sender_of, EachMessageOnce}
 
 abbrev has_number : ℕ → Message → Bool
 has_number m x = x.number == m

@@ -1,5 +1,5 @@
 -- Each task that is done has one bar, and each that runs.
-use Rattle.std.proofs.Common.{◌≡◌, ℕ, ◌+◌, ◌-◌, ◌<◌, ◌≤◌, ◌==◌, ◌||◌, Bool, true, false, not, List, [], ◌∷◌, ◌++◌, length, map, Option}
+use Rattle.std.proofs.Common.{◌≡◌, ℕ, ◌+◌, ◌-◌, ◌<◌, ◌≤◌, ◌==◌, ◌||◌, Bool, true, false, not, List, [], ◌∷◌, ◌++◌, length, map}
 use Rattle.std.proofs.Common.{Some, None, refl, sym, ap, subst, ◌∙◌, eqb-true, arith, if◌then◌else◌}
 use Rattle.std.specs.Prelude.{IsFalse, IsTrue}
 use Rattle.std.specs.List.{find, list_any}
@@ -30,9 +30,8 @@ use Rattle.tp_core.proofs.Quiet.{quiet_seen}
 use Rattle.tp_scene.proofs.Lists.{one, same_some, none_some, true_false, counted-push, find-push, find-push_other, counted-without}
 use Rattle.tp_scene.proofs.Lists.{counted-without_other, find-without_other, counted-found, found-counted}
 use Rattle.tp_scene.specs.declared.scene.Running.{Running}
-use Rattle.tp_scene.specs.declared.scene.Bar.{Bar}
 use Rattle.tp_scene.specs.Scene.{is_run_of, begun, running, bars, bar_of}
-use Rattle.tp_scene.specs.Laws.{Span, span_of, done_spans, HasEachTask, EachTaskOnce}
+use Rattle.tp_scene.specs.Laws.{Span, span_of, done_spans, EachTaskOnce}
 
 -- ---- lives
 life_in-with_life : (t u : ℕ) (f : Life → Life) (tasks : List Task)

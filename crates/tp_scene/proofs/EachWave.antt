@@ -1,18 +1,16 @@
 -- Each wave that ended has one cut, and each judgement of the end one mark.
 use Rattle.std.proofs.Common.{◌≡◌, ℕ, ◌==◌, Bool, true, false, List, [], ◌∷◌, ◌++◌, length, map, Option, Some, None, refl, sym, ap, ◌∙◌, if◌then◌else◌}
 use Rattle.std.proofs.lemmas.List.{append-nil, map-append}
-use Rattle.tp_base.specs.declared.ids.NodeId.{NodeId}
 use Rattle.tp_base.specs.declared.Step.{Step}
 use Rattle.tp_base.specs.declared.Step.TheVariants.{Give, Judge}
 use Rattle.tp_base.specs.declared.Sums.{Sums}
 use Rattle.tp_wave.specs.Sums.{sums_of, judgement, visit}
 use Rattle.tp_wave.specs.Generations.{present}
 use Rattle.tp_core.specs.declared.reply.Reply.TheVariants.{Plain, WaveSums}
-use Rattle.tp_core.specs.Accepted.{judged, reply_to}
+use Rattle.tp_core.specs.Accepted.{judged}
 use Rattle.tp_scene.specs.declared.scene.Cut.{Cut}
-use Rattle.tp_scene.specs.declared.scene.End.{End}
 use Rattle.tp_scene.specs.Scene.{cut, cuts, ends, end_of, gave}
-use Rattle.tp_scene.specs.Laws.{Mark, sums_in, sums_answered, mark_in, mark_of, ends_answered, HasEachWave, EachWaveOnce}
+use Rattle.tp_scene.specs.Laws.{sums_in, sums_answered, mark_in, mark_of, ends_answered, EachWaveOnce}
 
 abbrev sums_of_cut : Cut → Sums
 sums_of_cut c = c.sums

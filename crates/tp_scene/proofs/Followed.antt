@@ -15,7 +15,7 @@ use Rattle.tp_base.specs.declared.ids.TaskId.{TaskId}
 use Rattle.tp_base.specs.declared.Sums.{Sums}
 use Rattle.tp_base.specs.declared.Step.{Step}
 use Rattle.tp_base.specs.declared.Step.TheVariants.{Insert, Supply, Begin, Done, Send, Recv, Give, Judge, Reopen}
-use Rattle.tp_base.specs.Table.{lookup, HasSame, Puts}
+use Rattle.tp_base.specs.Table.{lookup, Puts}
 use Rattle.tp_wave.specs.Sums.{sums_of, visit, judgement}
 use Rattle.tp_wave.specs.Generations.{present, generation}
 use Rattle.tp_core.specs.declared.life.Life.{Life}
@@ -26,17 +26,13 @@ use Rattle.tp_core.specs.World.{Task, home_of}
 use Rattle.tp_core.specs.Pool.{with_life, without, supplied, lacking}
 use Rattle.tp_core.specs.Generations.{world_after}
 use Rattle.tp_core.specs.Accepted.{judged, reply_to}
-use Rattle.tp_text.specs.AuditText.{last_judgement}
 use Rattle.tp_scene.specs.declared.scene.Running.{Running}
 use Rattle.tp_scene.specs.declared.scene.Sending.{Sending}
-use Rattle.tp_scene.specs.declared.scene.Cut.{Cut}
-use Rattle.tp_scene.specs.declared.scene.End.{End}
-use Rattle.tp_scene.specs.declared.scene.Seam.{Seam}
 use Rattle.tp_scene.specs.declared.tracks.Tracks.{Tracks}
 use Rattle.tp_scene.specs.declared.messages.Messages.{Messages}
 use Rattle.tp_scene.specs.declared.waves.Waves.{Waves}
 use Rattle.tp_scene.specs.declared.waves.Gives.{Gives}
-use Rattle.tp_scene.specs.Scene.{is_run_of, is_sending_of, free_track, begun, running, bars, bar_of, rows, with_row, under_way, arrows}
+use Rattle.tp_scene.specs.Scene.{is_run_of, is_sending_of, free_track, running, bars, bar_of, rows, with_row, under_way, arrows}
 use Rattle.tp_scene.specs.Scene.{arrow_of, gave, cut, cuts, ends, end_of, seams}
 use Rattle.tp_scene.specs.Following.{home, HasTracks, HasMessages, HasGiven, HasWaves}
 

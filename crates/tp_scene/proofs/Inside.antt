@@ -1,14 +1,11 @@
 -- All that is drawn lies on the page.
 use Rattle.std.proofs.Common.{◌≡◌, ℕ, zero, suc, ◌+◌, ◌-◌, ◌*◌, ◌/◌, ◌<◌, ◌≤◌, ◌==◌, Bool, true, false, List, [], ◌∷◌, ◌++◌, length, map}
-use Rattle.std.proofs.Common.{max, min, slice_index, Option, Some, None, refl, sym, ap, subst, ◌∙◌, eqb-true, add-one, arith, is_some}
+use Rattle.std.proofs.Common.{max, min, Option, Some, None, refl, sym, ap, subst, eqb-true, add-one, arith, is_some}
 use Rattle.std.proofs.Common.{if◌then◌else◌}
-use Rattle.std.specs.Prelude.{unwrap_or}
 use Rattle.std.specs.List.{All, find, range_with_len}
 use Rattle.std.proofs.lemmas.Bool.Decides.{nat_tests}
 use Rattle.std.proofs.Math.Nat.{mul-le-mul_right, div-le_of_le-mul}
 use Rattle.std.proofs.lemmas.List.{append-nil}
-use Rattle.tp_base.specs.declared.ids.TaskId.{TaskId}
-use Rattle.tp_base.specs.declared.limits.TheConstants.{MAX_NODES}
 use Rattle.tp_base.specs.declared.Step.{Step}
 use Rattle.tp_base.specs.declared.Step.TheVariants.{Begin, Done, Send, Recv, Give, Judge, Reopen}
 use Rattle.tp_wave.specs.Steps.{before_newest, is_give}
@@ -16,7 +13,6 @@ use Rattle.tp_wave.specs.Sums.{total, visit, judgement}
 use Rattle.tp_wave.specs.Generations.{present, generation}
 use Rattle.tp_core.specs.declared.life.Life.TheVariants as life
 use Rattle.tp_core.specs.World.{home_of, life_of}
-use Rattle.tp_core.specs.Pool.{without}
 use Rattle.tp_core.specs.Checks.{is_idle}
 use Rattle.tp_core.specs.Generations.{AreRuns, world_after}
 use Rattle.tp_core.proofs.Counting.{home_inside}
@@ -36,7 +32,7 @@ use Rattle.tp_scene.specs.Scene.{pauses_before, pauses, pauses_now, last_pauses}
 use Rattle.tp_scene.specs.Layout.{detail_of, span_of, between_of, gap_of, edge, middle, right, reach, rows_of, height_of, top_of, foot}
 use Rattle.tp_scene.specs.Layout.{track_of, bottom, width, page_height, pitch}
 use Rattle.tp_scene.specs.Layout as layout
-use Rattle.tp_scene.specs.Inside.{IsRunThere, IsSendingThere, AreThere, IsOnPage, AllIsInside}
+use Rattle.tp_scene.specs.Inside.{IsRunThere, IsSendingThere, AreThere, AllIsInside}
 use Rattle.tp_scene.proofs.Lists.{some_same, none_some}
 use Rattle.tp_scene.proofs.Apart.{Each, each_all, each_push, each_map, each_without, each_found}
 

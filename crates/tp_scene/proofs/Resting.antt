@@ -1,7 +1,7 @@
 -- The lanes of the first nodes after a step.
 use Rattle.std.proofs.Common.{◌≡◌, ℕ, ◌+◌, ◌<◌, ◌≤◌, ◌==◌, Bool, true, false, List, ◌∷◌, ◌++◌, length, refl, sym, ap, ◌∙◌, eqb-true}
 use Rattle.std.proofs.Common.{add-one, append-nil, append_assoc, arith, if◌then◌else◌}
-use Rattle.std.specs.Prelude.{Option, Some, None, slice_set}
+use Rattle.std.specs.Prelude.{Option, None, slice_set}
 use Rattle.std.proofs.lemmas.List.{length-set}
 use Rattle.tp_core.proofs.Written.{written}
 use Rattle.std.specs.List.{slice_index_or}

@@ -1,23 +1,21 @@
 -- A sketch that has followed one step more, and a list of steps that was followed.
 use Rattle.std.proofs.Common.{◌≡◌, ℕ, ◌+◌, ◌<◌, ◌≤◌, ◌⊎◌, inl, inr, Bool, List, [], ◌∷◌, ◌++◌, length, take, drop, reverse, get_or, suc}
 use Rattle.std.proofs.Common.{Option, Some, None, refl, sym, ap, subst, ◌∙◌, arith}
-use Rattle.std.specs.Prelude.{IsTrue}
 use Rattle.std.specs.List.{slice_index_or}
 use Rattle.std.proofs.Math.Seq.{drop-cons}
 use Rattle.std.proofs.lemmas.List.{take_all, take_more, take-append-drop, reverse-append, length-reverse, length-take-le}
-use Rattle.tp_base.specs.declared.limits.TheConstants.{MAX_NODES, MAX_STEPS}
+use Rattle.tp_base.specs.declared.limits.TheConstants.{MAX_STEPS}
 use Rattle.tp_base.specs.declared.Refusal.{Refusal}
 use Rattle.tp_base.specs.declared.Refusal.TheVariants.{NoMemory}
 use Rattle.tp_base.specs.declared.Step.{Step}
 use Rattle.tp_core.specs.declared.NodeNumbers.{NodeNumbers}
 use Rattle.tp_core.specs.declared.reply.Reply.{Reply}
-use Rattle.tp_core.specs.World.{pending}
-use Rattle.tp_core.specs.Generations.{AreRuns, MayCome, world_after}
-use Rattle.tp_core.specs.Accepted.{Accepted, IsRefusedFor, refusal, reply_to, with_step, asks_memory, numbers_at, no_numbers}
+use Rattle.tp_core.specs.Generations.{AreRuns, MayCome}
+use Rattle.tp_core.specs.Accepted.{Accepted, IsRefusedFor, refusal, reply_to, with_step, numbers_at, no_numbers}
 use Rattle.tp_core.proofs.Exact.{lawful_where_none}
 use Rattle.tp_scene.specs.declared.sketch.Sketch.{Sketch}
 use Rattle.tp_scene.specs.Scene.{IsRefused, IsRefusedAfter}
-use Rattle.tp_scene.specs.Following.{HasTracks, HasMessages, HasWaves, HasLanes, ArePending, Follows}
+use Rattle.tp_scene.specs.Following.{ArePending, Follows}
 
 abbrev at_steps : ℕ → List Step → Accepted
 at_steps n past = record { nodes = n; steps = past }

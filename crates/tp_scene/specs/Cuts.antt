@@ -1,5 +1,5 @@
 -- How waves and ends are drawn.
-use Rattle.std.specs.Prelude.{ℕ, zero, suc, ◌+◌, ◌-◌, ◌*◌, ◌/◌, ◌%◌, ◌&&◌, List, [], ◌∷◌, Bool, true, nat_lt, nat_le, Option, Some}
+use Rattle.std.specs.Prelude.{ℕ, zero, suc, ◌+◌, ◌-◌, ◌*◌, ◌/◌, ◌%◌, ◌&&◌, List, [], Bool, true, nat_lt, nat_le, Option, Some}
 use Rattle.std.specs.Prelude.{None, codes, decimal, slice_index, slice_get, if◌then◌else◌}
 use Rattle.std.specs.List.{list_any}
 use Rattle.tp_scene.specs.declared.pieces.Area.{Area}

@@ -26,10 +26,10 @@ unfoldable pub run_area : Scene → Running → ℕ → Area
 run_area s run to =
     area (middle s run.from) (track_of s run.node.0 run.track) (max (to - middle s run.from) 10) (bar_of (detail_of s.events))
 
--- a bar up to the event at which it begins
-unfoldable pub run_text : Running → Area → List ℕ
-run_text run where_it_is =
-    codes "<rect class=\"n" ⧺ decimal run.node.0 ⧺ codes "\"" ⧺ box_text where_it_is ⧺ codes " rx=\"3\"><title>task "
+-- a bar up to the event at which it begins; more is said of how it looks
+unfoldable pub run_text : Running → Area → List ℕ → List ℕ
+run_text run where_it_is more =
+    codes "<rect class=\"n" ⧺ decimal run.node.0 ⧺ more ⧺ codes "\"" ⧺ box_text where_it_is ⧺ codes " rx=\"3\"><title>task "
     ⧺ decimal run.task.0 ⧺ codes ", from " ⧺ event run.from
 
 unfoldable pub until_text : ℕ → List ℕ
@@ -43,18 +43,18 @@ has_number s run where_it_is =
 unfoldable pub inside_text : Running → Area → List ℕ
 inside_text run where_it_is =
     codes "<text class=\"number\" x=\"" ⧺ tenths (where_it_is.corner.x + where_it_is.width / 2) ⧺ codes "\" y=\""
-    ⧺ tenths (where_it_is.corner.y + where_it_is.height - 40) ⧺ codes "\">" ⧺ decimal run.task.0 ⧺ codes "</text>\n"
+    ⧺ tenths (where_it_is.corner.y + where_it_is.height / 2 + 40) ⧺ codes "\">" ⧺ decimal run.task.0 ⧺ codes "</text>\n"
 
 unfoldable pub number_text : Scene → Running → Area → List ℕ
 number_text s run where_it_is = if has_number s run where_it_is then inside_text run where_it_is else []
 
 unfoldable pub bar_text : Scene → Bar → List ℕ
 bar_text s bar =
-    run_text bar.run (run_area s bar.run (reach s bar.to)) ⧺ until_text bar.to ⧺ number_text s bar.run (run_area s bar.run (reach s bar.to))
+    run_text bar.run (run_area s bar.run (reach s bar.to)) [] ⧺ until_text bar.to ⧺ number_text s bar.run (run_area s bar.run (reach s bar.to))
 
 unfoldable pub running_text : Scene → Running → List ℕ
 running_text s run =
-    run_text run (run_area s run (right s)) ⧺ codes ", not done</title></rect>\n" ⧺ number_text s run (run_area s run (right s))
+    run_text run (run_area s run (right s)) (codes " open") ⧺ codes ", not done</title></rect>\n" ⧺ number_text s run (run_area s run (right s))
 
 -- ---- lanes
 unfoldable pub pause_text : Scene → Pause → List ℕ
@@ -116,6 +116,6 @@ lost_text s sending =
 -- ---- generations
 unfoldable pub seam_text : Scene → Seam → List ℕ
 seam_text s seam =
-    codes "<path class=\"seam\" d=\"M" ⧺ point (at (edge s seam.at) 1060) ⧺ codes "V" ⧺ tenths (bottom s + 220)
-    ⧺ codes "\"/><text class=\"seam\" x=\"" ⧺ tenths (edge s seam.at + 40) ⧺ codes "\" y=\"112\">generation "
+    codes "<path class=\"seam\" d=\"M" ⧺ point (at (edge s seam.at) 940) ⧺ codes "V" ⧺ tenths (bottom s + 220)
+    ⧺ codes "\"/><text class=\"seam\" x=\"" ⧺ tenths (edge s seam.at + 40) ⧺ codes "\" y=\"98\">generation "
     ⧺ decimal seam.generation.0 ⧺ codes "</text>\n"

@@ -1,5 +1,5 @@
 -- The picture of a scene, as text.
-use Rattle.std.specs.Prelude.{ℕ, zero, suc, ◌+◌, ◌-◌, ◌/◌, ◌%◌, ◌==◌, List, [], nat_le, Option, Some, None, codes, decimal, length}
+use Rattle.std.specs.Prelude.{ℕ, zero, suc, ◌+◌, ◌-◌, ◌/◌, ◌%◌, ◌==◌, List, [], nat_le, Option, Some, None, codes, decimal}
 use Rattle.std.specs.Prelude.{vec_len, if◌then◌else◌}
 use Rattle.std.specs.List.{flat_map}
 use Rattle.tp_scene.specs.declared.page.TheConstants.{STYLE, LEGEND}
@@ -16,7 +16,7 @@ head s =
     codes "<svg xmlns=\"http://www.w3.org/2000/svg\" width=\"" ⧺ tenths (width s) ⧺ codes "\" height=\"" ⧺ tenths (page_height s)
     ⧺ codes "\" viewBox=\"0 0 " ⧺ tenths (width s) ⧺ codes " " ⧺ tenths (page_height s) ⧺ codes "\">\n" ⧺ STYLE.now
 
-abbrev pub plural : ℕ → List ℕ
+unfoldable pub plural : ℕ → List ℕ
 plural count = if count == 1 then [] else codes "s"
 
 -- the four counts
@@ -90,10 +90,18 @@ unfoldable pub axis : Scene → List ℕ
 axis s = ticks s (unit s) s.events ⧺ axis_line s
 
 -- ---- all
+-- the lanes, white where nothing is pending
+unfoldable pub lanes : Scene → List ℕ
+lanes s = grounds s s.nodes ⧺ flat_map (pause_text s) s.pauses.items ⧺ frames s s.nodes
+
+unfoldable pub messages : Scene → List ℕ
+messages s = flat_map (arrow_text s) s.arrows.items ⧺ flat_map (lost_text s) s.under_way.items
+
+unfoldable pub tasks : Scene → List ℕ
+tasks s = flat_map (bar_text s) s.bars.items ⧺ flat_map (running_text s) s.running.items
+
 unfoldable pub run : Scene → List ℕ
-run s =
-    grounds s s.nodes ⧺ flat_map (pause_text s) s.pauses.items ⧺ frames s s.nodes ⧺ flat_map (arrow_text s) s.arrows.items
-    ⧺ flat_map (lost_text s) s.under_way.items ⧺ flat_map (bar_text s) s.bars.items ⧺ flat_map (running_text s) s.running.items
+run s = lanes s ⧺ messages s ⧺ tasks s
 
 unfoldable pub waves : Scene → List ℕ
 waves s =

@@ -253,18 +253,18 @@ impl Scene {
         self.top(self.nodes) - self.between()
     }
 
-    /// How wide the page is.
+    /// How wide the page is, in tenths of a pixel.
     #[tactic(auto, unfolding(crate::specs::Layout::width))]
-    pub(crate) fn width(&self) -> u64
+    pub fn width(&self) -> u64
         ensures value { result ≡ width self.now }
-        ensures bound { result < 2 ^ 42 }
+        ensures bound { (6400 ≤ result) × (result < 2 ^ 42) }
     {
         (self.right() + BEHIND).max(LEAST_WIDTH)
     }
 
-    /// How high the page is.
+    /// How high the page is, in tenths of a pixel.
     #[tactic(auto, unfolding(crate::specs::Layout::page_height))]
-    pub(crate) fn page_height(&self) -> u64
+    pub fn page_height(&self) -> u64
         ensures value { result ≡ page_height self.now }
         ensures bound { result < 2 ^ 47 }
     {

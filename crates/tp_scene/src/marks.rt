@@ -28,16 +28,17 @@ fn run_area(scene: &Scene, run: &Running, to: u64) -> Area
     }
 }
 
-/// A bar up to the event at which it begins.
+/// A bar up to the event at which it begins; more is said of how it looks.
 #[tactic(auto, unfolding(crate::specs::Marks::run_text))]
-fn push_run(out: &mut Vec<u8>, run: &Running, area: Area) -> Result<(), AllocError>
-    ensures { OnOk result (out.new.items ≡ out.old.items ++ run_text run.now area) }
+fn push_run(out: &mut Vec<u8>, run: &Running, area: Area, more: &[u8]) -> Result<(), AllocError>
+    ensures { OnOk result (out.new.items ≡ out.old.items ++ run_text run.now area more.now) }
 {
     push_parts(
         out,
         &[
             Part::Text(b"<rect class=\"n"),
             Part::Number(run.node.0 as u64),
+            Part::Text(more),
             Part::Text(b"\""),
             Part::Rectangle(area),
             Part::Text(b" rx=\"3\"><title>task "),
@@ -86,14 +87,13 @@ fn push_inside(out: &mut Vec<u8>, run: &Running, area: Area) -> Result<(), Alloc
     requires { (area.corner.x < 2 ^ 60) × (area.corner.y < 2 ^ 60) × (area.width < 2 ^ 60) × (area.height < 2 ^ 60) }
     ensures { OnOk result (out.new.items ≡ out.old.items ++ inside_text run.now area) }
 {
-    let foot = (area.corner.y + area.height).saturating_sub(40);
     push_parts(
         out,
         &[
             Part::Text(b"<text class=\"number\" x=\""),
             Part::Length(area.corner.x + area.width / 2),
             Part::Text(b"\" y=\""),
-            Part::Length(foot),
+            Part::Length(area.corner.y + area.height / 2 + 40),
             Part::Text(b"\">"),
             Part::Number(run.task.0 as u64),
             Part::Text(b"</text>\n"),
@@ -116,7 +116,7 @@ impl Mark for Bar {
     #[tactic(auto, unfolding(crate::specs::Marks::bar_text))]
     fn push(&self, scene: &Scene, out: &mut Vec<u8>) -> Result<(), AllocError> {
         let area = run_area(scene, &self.run, scene.reach(self.to));
-        push_run(out, &self.run, area)?;
+        push_run(out, &self.run, area, b"")?;
         push_until(out, self.to)?;
         push_number(out, scene, &self.run, area)
     }
@@ -128,7 +128,7 @@ impl Mark for Running {
     #[tactic(auto, unfolding(crate::specs::Marks::running_text))]
     fn push(&self, scene: &Scene, out: &mut Vec<u8>) -> Result<(), AllocError> {
         let area = run_area(scene, self, scene.right());
-        push_run(out, self, area)?;
+        push_run(out, self, area, b" open")?;
         out.extend_from_slice(b", not done</title></rect>\n")?;
         push_number(out, scene, self, area)
     }
@@ -317,12 +317,12 @@ impl Mark for Seam {
             out,
             &[
                 Part::Text(b"<path class=\"seam\" d=\"M"),
-                Part::Place(Point { x, y: TOP - 440 }),
+                Part::Place(Point { x, y: TOP - 560 }),
                 Part::Text(b"V"),
                 Part::Length(bottom + 220),
                 Part::Text(b"\"/><text class=\"seam\" x=\""),
                 Part::Length(x + 40),
-                Part::Text(b"\" y=\"112\">generation "),
+                Part::Text(b"\" y=\"98\">generation "),
                 Part::Number(self.generation.0 as u64),
                 Part::Text(b"</text>\n"),
             ],

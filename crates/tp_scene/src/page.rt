@@ -1,6 +1,6 @@
 ghost use Rattle.std.specs.Prelude.{◌≡◌, ◌++◌, ◌<◌, ◌^◌, OnOk, IfOk};
 ghost use Rattle.tp_scene.specs.Page.{head, headline, plural, verdict, lane, ground, grounds, frame, frames, unit_by, unit, tick};
-ghost use Rattle.tp_scene.specs.Page.{tick_where, ticks, axis_line, axis, run, waves, svg_of};
+ghost use Rattle.tp_scene.specs.Page.{tick_where, ticks, axis_line, axis, lanes, messages, tasks, run, waves, svg_of};
 
 use crate::cuts::push_labels;
 use crate::layout::LEFT;
@@ -14,7 +14,7 @@ text{font-family:Helvetica,Arial,sans-serif;font-size:11px;fill:#6b727b}
 .page{fill:#fff}.idle{fill:#fff;fill-opacity:.82}
 .n0{fill:#2f6db5}.n1{fill:#c4572a}.n2{fill:#3f8f4f}.n3{fill:#8a55a8}.n4{fill:#b58a17}.n5{fill:#1f8f94}.n6{fill:#b0436f}.n7{fill:#6b6f2a}
 .p0{fill:#e9f0f9}.p1{fill:#fbeee7}.p2{fill:#eaf5ec}.p3{fill:#f3ecf7}.p4{fill:#f9f3df}.p5{fill:#e3f4f4}.p6{fill:#f9e9f0}.p7{fill:#f1f2e2}
-.open{fill-opacity:.6}.frame{fill:none;stroke:#d9dde2}
+.open{fill-opacity:.6}rect[rx=\"3\"]{stroke:#fff;stroke-width:.4}.frame{fill:none;stroke:#d9dde2}
 .name{font-size:13px;font-weight:600;text-anchor:end}.head{font-size:16px;font-weight:600;fill:#22262b}
 .number{fill:#fff;text-anchor:middle}.scale{font-size:10px;text-anchor:middle}
 .unit{font-size:10px;text-anchor:end}.axis{stroke:#6b727b;stroke-width:.8}
@@ -28,7 +28,8 @@ path.seam{stroke:#22262b;stroke-width:1.2;stroke-dasharray:6 3}text.seam{fill:#2
 @media (prefers-color-scheme:dark){text{fill:#9aa3ad}.page{fill:#15181c}.idle{fill:#15181c}
 .p0{fill:#1c2a3a}.p1{fill:#35231b}.p2{fill:#1d3022}.p3{fill:#2b2233}.p4{fill:#322b16}.p5{fill:#1a2f30}.p6{fill:#341f29}.p7{fill:#2a2b1b}
 .n0{fill:#6fa3e0}.n1{fill:#e08a62}.n2{fill:#74bd83}.n3{fill:#b98ad4}.n4{fill:#d9b452}.n5{fill:#58bcc0}.n6{fill:#db7ea3}.n7{fill:#aab05a}
-.number{fill:#15181c}.head,text.seam{fill:#e6e9ed}.frame{stroke:#39404a}.arrow{stroke:#aab3bd}.dot{fill:#aab3bd}.axis{stroke:#9aa3ad}
+rect[rx=\"3\"]{stroke:#15181c}.number{fill:#15181c}.head,text.seam{fill:#e6e9ed}
+.frame{stroke:#39404a}.arrow{stroke:#aab3bd}.dot{fill:#aab3bd}.axis{stroke:#9aa3ad}
 polyline.wave,circle.wave{stroke:#e0a83a}polyline.tells,circle.tells,.end{stroke:#4fc47a}circle.ring{fill:#15181c}text.wave{fill:#e0a83a}
 text.tells,.told,.seen{fill:#4fc47a}.over{fill:#4fc47a;fill-opacity:.12}.lost{stroke:#ff6b81}path.seam{stroke:#e6e9ed}}
 </style>
@@ -67,6 +68,7 @@ fn push_head(out: &mut Vec<u8>, scene: &Scene) -> Result<(), AllocError>
 }
 
 /// How the name of what is counted ends.
+#[tactic(auto, unfolding(crate::specs::Page::plural))]
 fn plural(count: u64) -> &'static [u8]
     ensures { result.now ≡ plural count }
 {
@@ -113,7 +115,9 @@ fn push_verdict(out: &mut Vec<u8>, ended: Option<u32>) -> Result<(), AllocError>
         Some(wave) => push_parts(
             out,
             &[
-                Part::Text(b"<text class=\"seen\" x=\"74\" y=\"47\">the end is judged: nothing was left when wave "),
+                Part::Text(
+                    b"<text class=\"seen\" x=\"74\" y=\"47\">the end is judged: nothing was left when wave ",
+                ),
                 Part::Number(wave as u64),
                 Part::Text(b" ended</text>\n"),
             ],
@@ -247,10 +251,7 @@ fn push_tick(out: &mut Vec<u8>, scene: &Scene, event: u32) -> Result<(), AllocEr
         out,
         &[
             Part::Text(b"<path class=\"axis\" d=\"M"),
-            Part::Place(Point {
-                x,
-                y: bottom + 440,
-            }),
+            Part::Place(Point { x, y: bottom + 440 }),
             Part::Text(b"v5\"/><text class=\"scale\" x=\""),
             Part::Length(x),
             Part::Text(b"\" y=\""),
@@ -319,18 +320,42 @@ fn push_axis(out: &mut Vec<u8>, scene: &Scene) -> Result<(), AllocError>
     push_axis_line(out, scene)
 }
 
-/// What lies below the waves: the lanes, where nothing is pending, and the messages below the tasks.
+/// The lanes, and where nothing is pending in them.
+#[tactic(auto, unfolding(crate::specs::Page::lanes))]
+fn push_lanes(out: &mut Vec<u8>, scene: &Scene) -> Result<(), AllocError>
+    ensures { OnOk result (out.new.items ≡ out.old.items ++ lanes scene.now) }
+{
+    push_grounds(out, scene)?;
+    push_all(out, scene, &scene.pauses)?;
+    push_frames(out, scene)
+}
+
+/// The messages that were received, and those that were not.
+#[tactic(auto, unfolding(crate::specs::Page::messages))]
+fn push_messages(out: &mut Vec<u8>, scene: &Scene) -> Result<(), AllocError>
+    ensures { OnOk result (out.new.items ≡ out.old.items ++ messages scene.now) }
+{
+    push_all(out, scene, &scene.arrows)?;
+    push_all(out, scene, &scene.under_way)
+}
+
+/// The tasks that were done, and those that were not.
+#[tactic(auto, unfolding(crate::specs::Page::tasks))]
+fn push_tasks(out: &mut Vec<u8>, scene: &Scene) -> Result<(), AllocError>
+    ensures { OnOk result (out.new.items ≡ out.old.items ++ tasks scene.now) }
+{
+    push_all(out, scene, &scene.bars)?;
+    push_all(out, scene, &scene.running)
+}
+
+/// What lies below the waves: the lanes, and the messages below the tasks.
 #[tactic(auto, unfolding(crate::specs::Page::run))]
 fn push_run(out: &mut Vec<u8>, scene: &Scene) -> Result<(), AllocError>
     ensures { OnOk result (out.new.items ≡ out.old.items ++ run scene.now) }
 {
-    push_grounds(out, scene)?;
-    push_all(out, scene, &scene.pauses)?;
-    push_frames(out, scene)?;
-    push_all(out, scene, &scene.arrows)?;
-    push_all(out, scene, &scene.under_way)?;
-    push_all(out, scene, &scene.bars)?;
-    push_all(out, scene, &scene.running)
+    push_lanes(out, scene)?;
+    push_messages(out, scene)?;
+    push_tasks(out, scene)
 }
 
 /// The waves, the ends and the generations.

@@ -3,4 +3,7 @@ use Rattle.tp_scene.proofs.page.push_headline.Goals as goal
 
 pub returns : goal.returns
 unfolding headline
-returns c = rw (c.len-tasks.ensures, c.len-messages.ensures, c.plural.ensures, c.plural-2.ensures, c.plural-3.ensures, c.plural-4.ensures) at c.push_parts.ensures
+returns c =
+    let tasks = rw c.len-tasks.ensures at c.plural.ensures in
+    let messages = rw c.len-messages.ensures at c.plural-2.ensures in
+    rw (tasks, messages, c.plural-3.ensures, c.plural-4.ensures, c.len-tasks.ensures, c.len-messages.ensures) at c.push_parts.ensures

@@ -1,4 +1,4 @@
-use Rattle.std.proofs.Common.{refl, append-nil, sym}
+use Rattle.std.proofs.Common.{append-nil, sym}
 use Rattle.tp_scene.proofs.Followed.{messages_received}
 use Rattle.tp_scene.proofs.messages.Messages.receive.Goals as goal
 

@@ -1,5 +1,5 @@
 use Rattle.std.proofs.Common.{◌∷◌}
-use Rattle.tp_scene.proofs.Sketched.{replied, stepped, numbered, came, refused}
+use Rattle.tp_scene.proofs.Sketched.{replied, stepped, numbered, came}
 use Rattle.tp_scene.proofs.sketch.Sketch.take.Goals as goal
 
 pub returns-clause-follows : goal.returns-clause-follows

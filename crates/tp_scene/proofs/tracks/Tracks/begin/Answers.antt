@@ -1,6 +1,4 @@
 use Rattle.std.proofs.Common.{◌+◌, List, max, slice_set, refl, ap, ◌∙◌}
-use Rattle.std.specs.Prelude.{unwrap_or}
-use Rattle.tp_base.specs.declared.ids.NodeId.{NodeId}
 use Rattle.tp_scene.specs.declared.scene.Running.{Running}
 use Rattle.tp_scene.specs.Scene.{free_track}
 use Rattle.tp_scene.proofs.Followed.{tracks_begun, node_read}

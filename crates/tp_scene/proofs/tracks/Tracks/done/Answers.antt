@@ -1,4 +1,4 @@
-use Rattle.std.proofs.Common.{refl, append-nil, sym, ◌∙◌}
+use Rattle.std.proofs.Common.{refl, append-nil, sym}
 use Rattle.tp_scene.proofs.Followed.{tracks_done}
 use Rattle.tp_scene.proofs.tracks.Tracks.done.Goals as goal
 
