@@ -5,6 +5,7 @@ pub mod GraphMarks
 pub mod GraphPage
 pub mod Dot
 pub mod Scaled
+pub mod StandIn
 pub mod Command
 pub mod Faults
 pub mod Ends

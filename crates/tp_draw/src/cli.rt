@@ -4,7 +4,8 @@ ghost use Rattle.clap.specs.Values.{kind_of};
 ghost use Rattle.std.specs.String.{string_bytes};
 ghost use Rattle.pool_samples.specs.Any.{any_graph};
 ghost use Rattle.tp_base.specs.declared.limits.TheConstants.{MAX_NODES};
-ghost use Rattle.tp_text.specs.AuditText.{IsComplaint};
+ghost use Rattle.tp_text.specs.AuditText.{IsAuditText};
+ghost use Rattle.tp_text.specs.declared.verdict.Verdict.TheVariants.{Refused};
 ghost use Rattle.tp_draw.specs.Command.{AsksForRun, IsPlan};
 ghost use Rattle.tp_draw.specs.Ends.{CouldNotWrite, HasNoPicture, HasNothing, IsDrawnFor, IsPictureOf, IsPictureOfAll, IsTextOfGraph, IsUndrawn, Succeeded};
 ghost use Rattle.tp_draw.specs.Scaled.{IsWithin};
@@ -125,7 +126,7 @@ fn text_of_run<I: Read>(
 
 /// A trace that is not sound, with what is answered to it.
 fn unsound(text: Vec<u8>) -> Fault
-    requires { (bytes : List ℕ) × IsComplaint bytes text.items }
+    requires { (bytes : List ℕ) × IsAuditText bytes Refused text.items }
     ensures { (told : String) × (result ≡ Fault.Unsound told) × (string_bytes told ≡ text.items) }
 {
     match String::from_utf8(text) {

@@ -1,3 +1,9 @@
+ghost use Rattle.std.specs.Prelude.{◌≡◌, ◌+◌, ◌≤◌, ℕ, List, length, IfOk, IsErrOf};
+ghost use Rattle.std.specs.Io.KnownBytes.{Consumes};
+ghost use Rattle.tp_draw.specs.StandIn.{IsReading};
+ghost use Rattle.tp_text.specs.Input.{ReadsAll};
+ghost use Rattle.tp_text.specs.declared.input.TheConstants.{MAX_TEXT};
+
 use std::alloc::Global;
 use std::io::Read;
 use std::str::{self, SplitWhitespace};
@@ -20,7 +26,13 @@ pub(crate) enum Reading {
     Unsound(Vec<u8>),
 }
 
-pub(crate) fn read_trace<R: Read>(alloc: Global, reader: &mut R) -> Result<Reading, TextFault> {
+pub(crate) fn read_trace<R: Read>(alloc: Global, reader: &mut R) -> Result<Reading, TextFault>
+    ensures ok { IfOk result (λ reading. (bytes : List ℕ)
+        × ReadsAll (R.remaining reader.old) (R.remaining reader.new) bytes × (length bytes ≤ MAX_TEXT) × IsReading bytes reading) }
+    ensures too_long { IsErrOf result TextFault.TooLong → (bytes : List ℕ)
+        × Consumes (R.remaining reader.old) (R.remaining reader.new) bytes × (length bytes ≡ MAX_TEXT + 1) }
+    ensures unwritten { IsErrOf result TextFault.Write → ⊥ }
+{
     let mut bytes = Vec::new(alloc);
     if reader.read_to_end(&mut bytes).is_err() {
         return Err(TextFault::Read);
