@@ -66,7 +66,7 @@ module _ (g : TaskGraph) (p k : ℕ) (old new : List ℕ) (known : p < g.tasks) 
     size = size ∙ h.size;
     bound = λ t less. elim (same_or t (g.target p k)) [
       | inl is ↦ subst (λ u. slice_index new u ≤ u) (sym is)
-      (omega (arith, here, higher, h.bound p known, h.bound (g.target p k) (fills p k known within).known))
+          (omega (arith, here, higher, h.bound p known, h.bound (g.target p k) (fills p k known within).known))
       | inr other ↦ omega (arith, same t other, h.bound t less)
     ];
     falls = λ q j before within_q. omega (arith, stays q (omega (arith, before)), h.falls q j before within_q, least (g.target q j));
@@ -102,7 +102,7 @@ next_task g p k layers all h = record {
   bound = h.bound;
   falls = λ q j before within. elim (same_or q p) [
     | inl is ↦ subst (λ u. slice_index layers u < slice_index layers (g.target u j)) (sym is)
-    (h.present j (omega (arith, all, subst (λ u. j < g.feeds u) is within)))
+        (h.present j (omega (arith, all, subst (λ u. j < g.feeds u) is within)))
     | inr other ↦ h.falls q j (omega (arith, before, other)) within
   ];
   present = λ j less. absurd (omega (arith, less));

@@ -15,8 +15,8 @@ ghost use Rattle.tp_shell.specs.Command.{IsMetBy, IsToBeShown};
 ghost use Rattle.tp_shell.specs.Statuses.{code_of};
 ghost use Rattle.tp_shell.specs.Streams.{HasShown};
 
-use crate::graphviz::dot;
 use crate::fault::Fault;
+use crate::graphviz::dot;
 use crate::page::{MAX_TASKS, graph_page};
 use crate::picture::Picture;
 use crate::request::{Form, Plan, Request, requested};

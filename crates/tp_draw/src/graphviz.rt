@@ -101,12 +101,7 @@ fn push_clusters<G: Graph>(out: &mut Vec<u8>, graph: G, nodes: u32) -> Result<()
 
 /// A feed.
 #[tactic(auto, unfolding(crate::specs::Dot::edge))]
-fn push_edge<G: Graph>(
-    out: &mut Vec<u8>,
-    graph: G,
-    task: u32,
-    turn: u32,
-) -> Result<(), AllocError>
+fn push_edge<G: Graph>(out: &mut Vec<u8>, graph: G, task: u32, turn: u32) -> Result<(), AllocError>
     requires known { task < (G.meaning graph).tasks }
     requires within { turn < (G.meaning graph).feeds task }
     ensures { OnOk result (out.new.items ≡ out.old.items ++ edge (G.meaning graph) task turn) }

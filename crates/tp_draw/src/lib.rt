@@ -4,11 +4,11 @@
 mod chart;
 mod cli;
 mod command;
-mod graphviz;
 mod fault;
 mod graph_marks;
-mod page;
+mod graphviz;
 mod layers;
+mod page;
 mod parts;
 mod picture;
 mod request;
@@ -16,6 +16,6 @@ mod scaled;
 mod stand_in;
 
 pub use cli::draw_with;
-pub use graphviz::dot;
 pub use fault::without_words;
+pub use graphviz::dot;
 pub use page::{MAX_TASKS, graph_page};

@@ -14,4 +14,4 @@ loop-k-preserved g c =
     let target : c.feed.result.0.0 ≡ m.target c.loop-p.p c.loop-k.k = search rules in
     let step = same_at m c.loop-p.p c.loop-k.k c.feed.result.0.0 (c.index.result.now + 1) old new target c.loop-k.invariant.below known within fills
     c.lower.ensures.size c.lower.ensures.here c.lower.ensures.same c.loop-k.invariant.layers in
-    record { layers = step.layers; below = step.below; }
+    record { layers = step.layers; below = step.below }
