@@ -1,5 +1,5 @@
 -- The lines of a trace, taken one by one.
-use Rattle.std.proofs.Common.{◌≡◌, ◌≢◌, ℕ, ◌+◌, ◌≤◌, ◌<◌, Bool, true, false, List, [], ◌∷◌, ◌++◌, length, Option, Some, None, Result, Ok, Err, refl, sym, ap, subst, ◌∙◌, append_assoc, append-nil, length-append, arith, inl, inr, codes, decimal, is_some}
+use Rattle.std.proofs.Common.{◌≡◌, ◌≢◌, ℕ, ◌+◌, ◌≤◌, ◌<◌, Bool, true, false, List, [], ◌∷◌, ◌++◌, length, Option, Some, None, Result, Ok, Err, refl, sym, ap, subst, ◌∙◌, append_assoc, append-nil, length-append, arith, inl, inr, codes, decimal, is_some, reverse}
 use Rattle.std.specs.Prelude.{MatchOption}
 use Rattle.std.specs.List.{All}
 use Rattle.tp_base.specs.declared.Refusal.{Refusal}
@@ -20,6 +20,8 @@ use Rattle.tp_text.specs.declared.verdict.Verdict.{Verdict}
 use Rattle.tp_text.specs.declared.verdict.Verdict.TheVariants.{Sound, Refused}
 use Rattle.tp_text.specs.AuditText.{account, flaw_line, steps_in, step_in, summary, taken, HasFlawAt, IsAuditText, IsJustified, IsSound}
 use Rattle.tp_text.specs.Auditing.{AreTaken, IsFound, IsTold, Knows}
+use Rattle.tp_core.specs.Generations.{AreRuns}
+use Rattle.tp_text.specs.Reading.{IsSoundTraceOf}
 use Rattle.tp_text.specs.Script.{nodes_line, IsNodeCount, BeginsWithNodes}
 use Rattle.tp_text.specs.Spelling.{line}
 use Rattle.tp_text.specs.Trace.{format_line, trace, trace_line, words, BeginsWithFormat, BeginsWithLine, BreaksOff, IsTrace, IsWritten}
@@ -159,7 +161,7 @@ reads_one v text n lines rest number l behind h found = record {
   short = omega (arith, h.short, ap length found.1, line_counts v l behind);
 }
 
-reads_trace : (v : Version) (text : List ℕ) (n : ℕ) (lines : List TraceLine) (rest : List ℕ) (number : ℕ)
+pub reads_trace : (v : Version) (text : List ℕ) (n : ℕ) (lines : List TraceLine) (rest : List ℕ) (number : ℕ)
     → Reads v text n lines rest number → length rest ≡ 0 → IsTrace text v n lines
 reads_trace v text n lines rest number h none = record {
   nodes = h.count;
@@ -177,17 +179,33 @@ pub answer_as : (v : Version) (a : Auditor) (o : Option (ℕ × Flaw)) (verdict 
 answer_as v a None verdict out h = h
 answer_as v a (Some found) verdict out h = h
 
-answer_found : (v : Version) (text : List ℕ) (n : ℕ) (lines : List TraceLine) (a : Auditor) (o : Option (ℕ × Flaw)) (verdict : Verdict) (out : List ℕ)
+pub answer_found : (v : Version) (text : List ℕ) (n : ℕ) (lines : List TraceLine) (a : Auditor) (o : Option (ℕ × Flaw)) (verdict : Verdict) (out : List ℕ)
     → IsTrace text v n lines → IsFound n lines a o → IsAnswerOf v a o verdict out → IsAuditText text verdict out
 answer_found v text n lines a None verdict out t h (is, e) =
     subst (λ w. IsAuditText text w out) (sym is) (v, n, lines, t, h.sound, e ∙ ap (summary v) h.account)
 answer_found v text n lines a (Some found) verdict out t h (is, e) =
     subst (λ w. IsAuditText text w out) (sym is) (inr (v, n, lines, found.0, found.1, t, h, e))
 
-pub reads_all : (v : Version) (text : List ℕ) (n : ℕ) (lines : List TraceLine) (rest : List ℕ) (number : ℕ) (a : Auditor) (verdict : Verdict) (out : List ℕ)
-    → Reads v text n lines rest number → length rest ≡ 0 → Knows n lines a → IsAnswerOf v a a.flaw verdict out
-    → IsAuditText text verdict out
-reads_all v text n lines rest number a verdict out h none knows is = answer_found v text n lines a a.flaw verdict out (reads_trace v text n lines rest number h none) knows is
+-- a line was flawed, and the answer tells the first such
+pub flaw_answered : (v : Version) (text : List ℕ) (n : ℕ) (lines : List TraceLine) (a : Auditor) (o : Option (ℕ × Flaw)) (verdict : Verdict) (out : List ℕ)
+    → true ≡ is_some o → IsTrace text v n lines → IsFound n lines a o
+    → MatchOption o ((verdict ≡ Sound) × (out ≡ summary v a.account)) (λ found. (verdict ≡ Refused) × (out ≡ flaw_line found.0 found.1))
+    → IsAuditText text Refused out
+flaw_answered v text n lines a None verdict out flawed t h e = cc
+flaw_answered v text n lines a (Some found) verdict out flawed t h e = inr (v, n, lines, found.0, found.1, t, h, e.1)
+
+-- the lines are sound, and these are their steps
+pub sound_read : (v : Version) (text : List ℕ) (n : ℕ) (lines : List TraceLine) (a : Auditor) (steps : List Step)
+    → false ≡ is_some a.flaw → IsTrace text v n lines → Knows n lines a → reverse steps ≡ a.core.steps → IsSoundTraceOf text n steps
+sound_read v text n lines a steps none t knows e =
+    let known = none_found n lines a a.flaw none knows in
+    (v, lines, t, known.sound, sym (e ∙ ap (λ (x : Accepted). x.steps) known.core))
+
+pub sound_runs : (n : ℕ) (lines : List TraceLine) (a : Auditor) (steps : List Step) → false ≡ is_some a.flaw → Knows n lines a
+    → reverse steps ≡ a.core.steps → AreRuns n (reverse steps)
+sound_runs n lines a steps none knows e =
+    let known = none_found n lines a a.flaw none knows in
+    subst (AreRuns n) (sym (e ∙ ap (λ (x : Accepted). x.steps) known.core)) known.sound.run
 
 pub reads_fault : (v : Version) (text : List ℕ) (n : ℕ) (lines : List TraceLine) (rest : List ℕ) (number : ℕ) (out : List ℕ)
     → Reads v text n lines rest number → 0 < length rest

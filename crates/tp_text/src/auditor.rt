@@ -1,4 +1,4 @@
-ghost use Rattle.std.specs.Prelude.{◌≡◌, ◌+◌, ◌≤◌, ◌++◌, ◌∷◌, [], ℕ, List, length, ◌↔◌, IfErr, IfOk, IsTrue, OnOk, MatchOption};
+ghost use Rattle.std.specs.Prelude.{◌≡◌, ◌+◌, ◌≤◌, ◌++◌, ◌∷◌, [], ℕ, List, length, reverse, is_some, ◌↔◌, IfErr, IfOk, IsTrue, OnOk, MatchOption};
 ghost use Rattle.tp_base.specs.declared.limits.TheConstants.{MAX_NODES};
 ghost use Rattle.tp_text.specs.AuditText.{flaw_line, summary};
 ghost use Rattle.tp_text.specs.Auditing.{IsTold, Knows};
@@ -12,7 +12,7 @@ use crate::traced::TraceLine;
 use crate::verdict::Verdict;
 use crate::version::Version;
 use std::alloc::{AllocError, Global};
-use tp_base::Refusal;
+use tp_base::{Refusal, Step};
 use tp_core::{Core, Reply};
 
 /// What is wrong with a line.
@@ -66,6 +66,22 @@ impl Auditor {
             Ok(_) => self.flaw = Some((number, Flaw::Unjustified)),
         }
         Ok(())
+    }
+
+    /// Whether a line was flawed.
+    pub(crate) fn is_flawed(&self) -> bool
+        ensures { result ≡ is_some self.now.flaw }
+    {
+        self.flaw.is_some()
+    }
+
+    /// The steps that were taken, the oldest first.
+    pub(crate) fn steps(&self, alloc: Global) -> Result<Vec<Step>, AllocError>
+        ensures { IfOk result (λ steps. reverse steps.items ≡ self.now.core.steps) }
+    {
+        let mut steps = Vec::new(alloc);
+        steps.extend_from_slice(self.core.steps())?;
+        Ok(steps)
     }
 
     /// The verdict and the answer: what the lines add up to, or the first that is flawed.

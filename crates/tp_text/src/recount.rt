@@ -2,6 +2,7 @@ ghost use Rattle.std.specs.Prelude.{◌≡◌, ◌≢◌, ◌+◌, ◌≤◌, �
 ghost use Rattle.std.specs.Io.KnownBytes.{Consumes, Appends};
 ghost use Rattle.tp_text.specs.AuditText.{IsAuditText};
 ghost use Rattle.tp_text.specs.Input.{ReadsAll};
+ghost use Rattle.tp_text.specs.Reading.{IsRecounted};
 ghost use Rattle.tp_text.specs.TracedEnd.{EndedIsOver, NotEndedClaimsNoEnd, ReopenedIsOver};
 ghost use Rattle.tp_text.specs.declared.verdict.Verdict.{Verdict};
 ghost use Rattle.tp_text.specs.declared.input.TheConstants.{MAX_TEXT};
@@ -13,32 +14,53 @@ use crate::parse::{behind_format, first_line, next_line};
 use crate::printing::syntax_line;
 use crate::simulation::write_answer;
 use crate::verdict::Verdict;
+use crate::version::Version;
 use std::alloc::Global;
 use std::io::{Read, Write};
 
-/// What the lines of a trace add up to, or the first of them that is at fault.
-fn audited(alloc: Global, text: &[u8]) -> Result<(Verdict, Vec<u8>), TextFault>
-    ensures ok { IfOk result (λ answer. IsAuditText text.now answer.0 answer.1.items) }
+/// The lines of a trace, taken one by one.
+#[derive(Drop)]
+pub(crate) enum Recounted {
+    /// One is not of the grammar, and this line tells the first such.
+    Broken(Vec<u8>),
+    /// All were taken, on so many nodes.
+    Whole(Version, u32, Auditor),
+}
+
+/// Takes the lines of a trace, up to the first that is not of the grammar.
+pub(crate) fn recounted(alloc: Global, text: &[u8]) -> Result<Recounted, TextFault>
+    ensures ok { IfOk result (IsRecounted text.now) }
     ensures err { IfErr result (λ fault. fault ≡ TextFault.Memory) }
 {
     let Some((version, behind)) = behind_format(text) else {
-        return Ok((Verdict::Refused, syntax_line(alloc, 1)?));
+        return Ok(Recounted::Broken(syntax_line(alloc, 1)?));
     };
     let Some((nodes, lines)) = first_line(behind) else {
-        return Ok((Verdict::Refused, syntax_line(alloc, 2)?));
+        return Ok(Recounted::Broken(syntax_line(alloc, 2)?));
     };
     let mut auditor = Auditor::new(alloc, nodes);
     let mut rest = lines;
     let mut number = 3;
     while !rest.is_empty() {
         let Some((line, behind)) = next_line(version, rest) else {
-            return Ok((Verdict::Refused, syntax_line(alloc, number)?));
+            return Ok(Recounted::Broken(syntax_line(alloc, number)?));
         };
         auditor.take(line, number)?;
         rest = behind;
         number += 1;
     }
-    Ok(auditor.answer(version, alloc)?)
+    Ok(Recounted::Whole(version, nodes, auditor))
+}
+
+/// What the lines of a trace add up to, or the first of them that is at fault.
+fn audited(alloc: Global, text: &[u8]) -> Result<(Verdict, Vec<u8>), TextFault>
+    ensures ok { IfOk result (λ answer. IsAuditText text.now answer.0 answer.1.items) }
+    ensures err { IfErr result (λ fault. fault ≡ TextFault.Memory) }
+{
+    match recounted(alloc, text)? {
+        Recounted::Broken(complaint) => Ok((Verdict::Refused, complaint)),
+        Recounted::Whole(version, _, auditor) => Ok(auditor.answer(version, alloc)?),
+    }
 }
 
 /// Judges a trace: reads all of the reader, takes the steps of the trace in turn with a new core, and counts messages afresh,
