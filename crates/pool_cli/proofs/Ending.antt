@@ -1,45 +1,69 @@
--- How a run of a program ends.
-use Rattle.std.proofs.Common.{◌≡◌, ◌≢◌, ◌∙◌, ◌⊎◌, ℕ, List, Option, Some, None, Result, Ok, Err, OnOk, ap, inl, inr, refl}
-use Rattle.std.specs.Io.KnownBytes.{Appends, Keeps}
-use Rattle.pool_cells.specs.Texts.{IsFirstBad}
-use Rattle.pool_cells.specs.declared.fault.LineFault.{LineFault}
-use Rattle.pool_cells.specs.declared.fault.LineFault.TheVariants.{Line, Memory}
+-- How a program ends.
+use Rattle.std.proofs.Common.{◌≡◌, ◌≢◌, ◌⊎◌, ℕ, List, inl, inr, refl, subst, sym}
+use Rattle.clap.specs.Words.{Text, matches_of}
+use Rattle.clap.specs.declared.error.kind.ErrorKind.{ErrorKind}
+use Rattle.clap.specs.declared.error.kind.ErrorKind.TheVariants.{MissingRequiredArgument}
+use Rattle.pool_cells.specs.declared.fault.LineFault.TheVariants as lines
 use Rattle.pool_cli.specs.Faults.{status_of}
-use Rattle.pool_cli.specs.Rods.{IsBadRod}
+use Rattle.pool_cli.specs.Programs.{About, CouldNotWrite, HasNothing}
 use Rattle.pool_cli.specs.declared.fault.Fault.{Fault}
-use Rattle.pool_cli.specs.declared.fault.Fault.TheVariants.{Read, Text, Empty, TooMany, Tiles, Overflow, Run, Write}
+use Rattle.pool_cli.specs.declared.fault.Fault.TheVariants as faults
+use Rattle.pool_rows.specs.declared.fault.RowFault.TheVariants as rows
+use Rattle.tp_shell.proofs.Asked.{shown_asked, words_fault}
+use Rattle.tp_shell.specs.Command.{AsksToBeShown, FailsAs, IsMetBy, IsToBeShown}
+use Rattle.tp_shell.specs.Statuses.{code_of}
+use Rattle.tp_shell.specs.declared.streams.ReadFault.{ReadFault}
+use Rattle.tp_shell.specs.declared.streams.ReadFault.TheVariants as reading
+use Rattle.tp_shell.specs.declared.words.WordsFault.{WordsFault}
+use Rattle.tp_shell.specs.declared.words.WordsFault.TheVariants as words
 
--- the status of a fault of the writing is 1
-pub not_written : (fault : Fault) (status : ℕ) → status ≡ status_of fault → status ≢ 1 → fault ≢ Write
-not_written fault status is other written =
-    let one : status_of fault ≡ 1 = ap status_of written in
-    other (is ∙ one)
+module _ {Request Data : Type 0} (a : About Request Data) (asking : List Text) (kind : ErrorKind)
+    (fails : FailsAs a.app MissingRequiredArgument (a.lacks (matches_of a.app asking)) asking kind) where
+  hidden : ¬ IsToBeShown MissingRequiredArgument
+  hidden (inl help) = cc
+  hidden (inr version) = cc
 
--- a fault of status 1 is one of the writing or not
-pub is_written : (fault : Fault) → status_of fault ≡ 1 → (fault ≡ Write) ⊎ (fault ≢ Write)
-is_written Write one = inl refl
-is_written Read one = inr (λ e. cc)
-is_written Empty one = inr (λ e. cc)
-is_written TooMany one = inr (λ e. cc)
-is_written Overflow one = inr (λ e. cc)
-is_written (Tiles fault) one = inr (λ e. cc)
-is_written (Text line) one = inr (λ e. cc)
-is_written (Run refusal) one = inr (λ e. cc)
+  -- what is shown was asked for
+  pub shown : IsToBeShown kind → AsksToBeShown a.app asking
+  shown = shown_asked a.app MissingRequiredArgument (a.lacks (matches_of a.app asking)) asking kind hidden fails
 
--- a fault of the lines that is told to be one of the input is its first bad line
-pub first_bad_line : (block nodes : ℕ) (bytes : List ℕ) (fault : LineFault) → ((k : ℕ) → fault ≡ Line k → IsFirstBad bytes k)
-    → status_of (Text fault) ≡ 2 → IsBadRod block nodes bytes (Text fault)
-first_bad_line block nodes bytes (Line k) bad two = bad k refl
-first_bad_line block nodes bytes Memory bad two = cc
+  module _ (Reads : List ℕ → Type 0) (Fails : ReadFault → Type 0) (Same Unread : Type 0) (unread : Unread) where
+    met_words : (met : WordsFault) → IsMetBy kind met → (met ≢ words.Write → Same)
+        → CouldNotWrite a asking Reads Unread (faults.Words met) ⊎ (Same × HasNothing a asking Reads Fails Unread (faults.Words met))
+    met_words (words.Words text) why kept = inr (
+      kept (λ e. cc),
+      inl (
+        words.Words text,
+        refl,
+        words_fault a.app MissingRequiredArgument (a.lacks (matches_of a.app asking)) asking kind (words.Words text) hidden fails why,
+        unread,
+      ),
+    )
+    met_words words.Memory why kept = inr (kept (λ e. cc), inl (words.Memory, refl, tt, unread))
+    met_words words.Write why kept = inl (inl (refl, shown why, unread))
 
--- what was appended stays
-pub appends_kept : (old now new : Option (List ℕ)) (text : List ℕ) → Appends old now text → Keeps now new → Appends old new text
-appends_kept None now new text wrote kept = tt
-appends_kept (Some xs) None new text wrote kept = absurd wrote
-appends_kept (Some xs) (Some ys) None text wrote kept = absurd kept
-appends_kept (Some xs) (Some ys) (Some zs) text wrote kept = kept ∙ wrote
+    -- why words make no request, and whether anything was written
+    pub words_met : (fault : Fault) (met : WordsFault) → fault ≡ faults.Words met → IsMetBy kind met → (met ≢ words.Write → Same)
+        → CouldNotWrite a asking Reads Unread fault ⊎ (Same × HasNothing a asking Reads Fails Unread fault)
+    words_met fault met is why kept =
+        subst (λ f. CouldNotWrite a asking Reads Unread f ⊎ (Same × HasNothing a asking Reads Fails Unread f)) (sym is) (met_words met why kept)
 
--- what holds, holds where there is a value
-pub on_ok : {T E P : Type 0} (r : Result T E) → P → OnOk r P
-on_ok (Ok x) p = p
-on_ok (Err e) p = tt
+-- no fault gives status 0
+pub faulty : (fault : Fault) → code_of (status_of fault) ≢ 0
+faulty (faults.Words (words.Words text)) = λ e. cc
+faulty (faults.Words words.Memory) = λ e. cc
+faulty (faults.Words words.Write) = λ e. cc
+faulty (faults.Read reading.Failed) = λ e. cc
+faulty (faults.Read reading.Memory) = λ e. cc
+faulty faults.NotText = λ e. cc
+faulty (faults.Lines (lines.Line k)) = λ e. cc
+faulty (faults.Lines lines.Memory) = λ e. cc
+faulty (faults.Rows (rows.Line k)) = λ e. cc
+faulty (faults.Rows rows.Memory) = λ e. cc
+faulty faults.Empty = λ e. cc
+faulty faults.TooMany = λ e. cc
+faulty (faults.Tiles fault) = λ e. cc
+faulty (faults.Rod fault) = λ e. cc
+faulty (faults.Product fault) = λ e. cc
+faulty faults.Memory = λ e. cc
+faulty faults.Write = λ e. cc

@@ -1,10 +1,8 @@
 -- Lengths of products, and sizes of tiles.
 use Rattle.std.proofs.Common.{◌≡◌, ◌∙◌, ◌≤◌, ◌<◌, ◌+◌, ◌-◌, ◌*◌, ◌/◌, ◌%◌, ◌^◌, ℕ, zero, suc, ℤ, List, length, ap, refl, arith, rules, tests}
 use Rattle.std.proofs.lemmas.Nat.{div-add-mod', mul-le}
-use Rattle.std.specs.Str.Lines.{lines}
 use Rattle.pool_matrix.specs.Matrices.{list_of, product_of}
-use Rattle.pool_rows.specs.Matrices.{AreMatrices, rows_text}
-use Rattle.pool_cli.specs.Tiles.{IsProductText, IsWithinEvents, message_events, product_events, task_events}
+use Rattle.pool_cli.specs.Tiles.{message_events, product_events, task_events}
 
 length-list_of : {A : Type 0} (count : ℕ) (f : ℕ → A) → length (list_of count f) ≡ count
 length-list_of zero f = refl
@@ -14,13 +12,6 @@ length-list_of (suc count) f = ap suc (length-list_of count (λ e. f (suc e)))
 pub product_full : (order rows : ℕ) (left right made : List ℤ) → rows ≡ order → made ≡ product_of rows left right → length made ≡ order * order
 product_full order rows left right made same is =
     ap length is ∙ length-list_of (rows * rows) _ ∙ ap (λ n. n * n) same
-
--- the text that was made is that of the product
-pub product_text_is : (side nodes : ℕ) (bytes : List ℕ) (order rows : ℕ) (left right made : List ℤ) (text : List ℕ)
-    → AreMatrices (lines bytes) order left right → rows ≡ order → IsWithinEvents order side nodes → made ≡ product_of rows left right
-    → text ≡ rows_text order made → IsProductText side nodes bytes text
-product_text_is side nodes bytes order rows left right made text are same within made_is text_is =
-    (order, left, right, are, within, text_is ∙ ap (rows_text order) (made_is ∙ ap (λ n. product_of n left right) same))
 
 -- what fills some rows is not nothing
 not_none : (rows side tiles : ℕ) → 1 ≤ rows → tiles * side ≡ rows → 1 ≤ tiles

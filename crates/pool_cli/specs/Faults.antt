@@ -1,41 +1,97 @@
--- What is said of a fault, and its exit status.
+-- What is told of a fault on standard error, and the exit status that it gives.
 use Rattle.std.specs.Prelude.{ℕ, ◌++◌, List, codes, decimal}
+use Rattle.std.specs.String.{string_bytes}
 use Rattle.tp_base.specs.Refusals.{number_of, name_of}
 use Rattle.tp_base.specs.declared.refusal.Refusal.{Refusal}
-use Rattle.tp_base.specs.declared.refusal.Refusal.TheVariants.{NoMemory}
-use Rattle.pool_cells.specs.declared.fault.LineFault.TheVariants.{Line, Memory}
+use Rattle.tp_base.specs.declared.refusal.Refusal.TheVariants.{BodyFailed, NoMemory}
+use Rattle.pool_cells.specs.declared.fault.LineFault.{LineFault}
+use Rattle.pool_cells.specs.declared.fault.LineFault.TheVariants as lines
+use Rattle.pool_rows.specs.declared.fault.RowFault.{RowFault}
+use Rattle.pool_rows.specs.declared.fault.RowFault.TheVariants as rows
+use Rattle.pool_runs.specs.Faults.{refusal_of}
 use Rattle.pool_cli.specs.declared.fault.Fault.{Fault}
-use Rattle.pool_cli.specs.declared.fault.Fault.TheVariants.{Read, Text, Empty, TooMany, Tiles, Overflow, Run, Write}
+use Rattle.pool_cli.specs.declared.fault.Fault.TheVariants as faults
+use Rattle.pool_cli.specs.declared.tiles.TileFault.{TileFault}
 use Rattle.pool_cli.specs.declared.tiles.TileFault.TheVariants.{TooManyRows, Unfilled, TooManyEvents}
+use Rattle.tp_shell.specs.declared.status.Status.{Status}
+use Rattle.tp_shell.specs.declared.status.Status.TheVariants as statuses
+use Rattle.tp_shell.specs.declared.streams.ReadFault.TheVariants as reading
+use Rattle.tp_shell.specs.declared.words.WordsFault.{WordsFault}
+use Rattle.tp_shell.specs.declared.words.WordsFault.TheVariants as words
 
--- 1 where the reading or the writing is at fault, 2 where the input is, 3 where a number leaves 64 bits,
--- or the run was refused or memory was
-abbrev pub status_of : Fault → ℕ
-status_of Read = 1
-status_of Write = 1
-status_of (Text (Line k)) = 2
-status_of Empty = 2
-status_of TooMany = 2
-status_of (Tiles fault) = 2
-status_of (Text Memory) = 3
-status_of (Run refusal) = 3
-status_of Overflow = 3
+-- 1 where the words, the reading or the writing are at fault, 2 where the input is, 3 where the run was refused or memory was
+abbrev pub status_of : Fault → Status
+status_of (faults.Words (words.Words text)) = statuses.Fault
+status_of (faults.Words words.Memory) = statuses.Failed
+status_of (faults.Words words.Write) = statuses.Fault
+status_of (faults.Read reading.Failed) = statuses.Fault
+status_of (faults.Read reading.Memory) = statuses.Failed
+status_of faults.NotText = statuses.Fault
+status_of (faults.Lines (lines.Line k)) = statuses.Refused
+status_of (faults.Lines lines.Memory) = statuses.Failed
+status_of (faults.Rows (rows.Line k)) = statuses.Refused
+status_of (faults.Rows rows.Memory) = statuses.Failed
+status_of faults.Empty = statuses.Refused
+status_of faults.TooMany = statuses.Refused
+status_of (faults.Tiles fault) = statuses.Refused
+status_of (faults.Rod fault) = statuses.Failed
+status_of (faults.Product fault) = statuses.Failed
+status_of faults.Memory = statuses.Failed
+status_of faults.Write = statuses.Fault
 
--- the line of a run that was refused
-abbrev pub refusal_line : Refusal → List ℕ
-refusal_line NoMemory = codes "there is no memory\n"
-refusal_line r = codes "refused " ++ (decimal (number_of r) ++ (codes " " ++ (name_of r ++ codes "\n")))
+abbrev pub no_memory : List ℕ
+no_memory = codes "there is no memory\n"
 
--- what is said of a fault on standard error
+abbrev pub not_read : List ℕ
+not_read = codes "the input cannot be read as text\n"
+
+abbrev pub not_written : List ℕ
+not_written = codes "the output cannot be written\n"
+
+-- of a run that was refused
+abbrev pub refusal_complaint : Refusal → List ℕ
+refusal_complaint NoMemory = no_memory
+refusal_complaint r = codes "refused " ++ (decimal (number_of r) ++ (codes " " ++ (name_of r ++ codes "\n")))
+
+-- of a product's run that was refused
+abbrev pub product_complaint : Refusal → List ℕ
+product_complaint BodyFailed = codes "a number of the product leaves 64 bits\n"
+product_complaint r = refusal_complaint r
+
+abbrev pub bad_line : ℕ → List ℕ
+bad_line k = codes "line " ++ (decimal k ++ codes " is not as it has to be\n")
+
+abbrev pub line_complaint : LineFault → List ℕ
+line_complaint (lines.Line k) = bad_line k
+line_complaint lines.Memory = no_memory
+
+abbrev pub row_complaint : RowFault → List ℕ
+row_complaint (rows.Line k) = bad_line k
+row_complaint rows.Memory = no_memory
+
+abbrev pub tile_complaint : TileFault → List ℕ
+tile_complaint TooManyRows = codes "the matrices have 32,768 rows or more\n"
+tile_complaint Unfilled = codes "tiles of SIDE rows and columns do not fill the matrices\n"
+tile_complaint TooManyEvents = codes "a run may have 1,048,576 events, and the product takes more: make SIDE larger\n"
+
+-- of words that are at fault, the parser's own text
+abbrev pub words_complaint : WordsFault → List ℕ
+words_complaint (words.Words text) = string_bytes text ++ codes "\n"
+words_complaint words.Memory = no_memory
+words_complaint words.Write = not_written
+
+-- what is told of a fault
 abbrev pub complaint : Fault → List ℕ
-complaint Read = codes "the input cannot be read as text\n"
-complaint (Text (Line k)) = codes "line " ++ (decimal k ++ codes " is not as it has to be\n")
-complaint (Text Memory) = codes "there is no memory\n"
-complaint Empty = codes "the input has no number\n"
-complaint TooMany = codes "a run may have 1,048,576 events, and one step takes more: make the blocks larger\n"
-complaint (Tiles TooManyRows) = codes "the matrices have 32,768 rows or more\n"
-complaint (Tiles Unfilled) = codes "tiles of SIDE rows and columns do not fill the matrices\n"
-complaint (Tiles TooManyEvents) = codes "a run may have 1,048,576 events, and the product takes more: make SIDE larger\n"
-complaint Overflow = codes "a number of the product leaves 64 bits\n"
-complaint (Run refusal) = refusal_line refusal
-complaint Write = codes "the output cannot be written\n"
+complaint (faults.Words fault) = words_complaint fault
+complaint (faults.Read reading.Failed) = not_read
+complaint (faults.Read reading.Memory) = no_memory
+complaint faults.NotText = not_read
+complaint (faults.Lines fault) = line_complaint fault
+complaint (faults.Rows fault) = row_complaint fault
+complaint faults.Empty = codes "the input has no number\n"
+complaint faults.TooMany = codes "a run may have 1,048,576 events, and one step takes more: make the blocks larger\n"
+complaint (faults.Tiles fault) = tile_complaint fault
+complaint (faults.Rod fault) = refusal_complaint (refusal_of fault)
+complaint (faults.Product fault) = product_complaint (refusal_of fault)
+complaint faults.Memory = no_memory
+complaint faults.Write = not_written

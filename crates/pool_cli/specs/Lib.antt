@@ -1,5 +1,6 @@
 pub mod Command
-pub mod Ends
 pub mod Faults
+pub mod Products
+pub mod Programs
 pub mod Rods
 pub mod Tiles

@@ -1,12 +1,6 @@
 -- The tiles that a product is worked out in, and how many events its run takes, the waves apart.
-use Rattle.std.specs.Prelude.{ℕ, ℤ, ◌≡◌, ◌<◌, ◌≤◌, ◌+◌, ◌-◌, ◌*◌, ◌/◌, ◌%◌, ◌^◌, List, nat_lt, if◌then◌else◌}
-use Rattle.std.specs.Str.Lines.{lines}
+use Rattle.std.specs.Prelude.{ℕ, ◌≡◌, ◌<◌, ◌≤◌, ◌+◌, ◌-◌, ◌*◌, ◌/◌, ◌%◌, ◌^◌, nat_lt, if◌then◌else◌}
 use Rattle.tp_base.specs.declared.limits.TheConstants.{MAX_STEPS}
-use Rattle.pool_matrix.specs.Matrices.{product_of}
-use Rattle.pool_cells.specs.declared.fault.LineFault.TheVariants.{Line}
-use Rattle.pool_rows.specs.Matrices.{AreMatrices, IsFirstBad, rows_text}
-use Rattle.pool_cli.specs.declared.fault.Fault.{Fault}
-use Rattle.pool_cli.specs.declared.fault.Fault.TheVariants.{Text, Tiles}
 use Rattle.pool_cli.specs.declared.tiles.TileFault.{TileFault}
 use Rattle.pool_cli.specs.declared.tiles.TileFault.TheVariants.{TooManyRows, Unfilled, TooManyEvents}
 
@@ -23,31 +17,15 @@ abbrev pub product_events : ℕ → ℕ → ℕ
 product_events tiles nodes = task_events tiles + message_events tiles nodes
 
 -- tiles of so many rows and columns fill a matrix of so many
-abbrev pub AreFilled : ℕ → ℕ → Type 0
-AreFilled order side = (1 ≤ side) × (order % side ≡ 0)
+abbrev pub FillRows : ℕ → ℕ → Type 0
+FillRows order side = (1 ≤ side) × (order % side ≡ 0)
 
 -- Such tiles fill a matrix of fewer than 32,768 rows and columns, and its product takes no more events than a run may have.
 abbrev pub IsWithinEvents : ℕ → ℕ → ℕ → Type 0
-IsWithinEvents order side nodes = (order < 2 ^ 15) × AreFilled order side × (product_events (order / side) nodes ≤ MAX_STEPS)
+IsWithinEvents order side nodes = (order < 2 ^ 15) × FillRows order side × (product_events (order / side) nodes ≤ MAX_STEPS)
 
 -- why a product of so many rows and columns is not worked out in tiles of so many
 abbrev pub IsTileFault : ℕ → ℕ → ℕ → TileFault → Type 0
 IsTileFault order side nodes TooManyRows = 2 ^ 15 ≤ order
-IsTileFault order side nodes Unfilled = (order < 2 ^ 15) × ¬ (AreFilled order side)
-IsTileFault order side nodes TooManyEvents = (order < 2 ^ 15) × AreFilled order side × (MAX_STEPS < product_events (order / side) nodes)
-
--- The lines of the input are two matrices, which such tiles fill, and this is the text of their product.
-abbrev pub IsProductText : ℕ → ℕ → List ℕ → List ℕ → Type 0
-IsProductText side nodes bytes text = (order : ℕ) × (left : List ℤ) × (right : List ℤ)
-    × AreMatrices (lines bytes) order left right × IsWithinEvents order side nodes × (text ≡ rows_text order (product_of order left right))
-
--- The lines of the input are two matrices, and by this fault they have no product in such tiles.
-abbrev pub HasNoProduct : ℕ → ℕ → List ℕ → TileFault → Type 0
-HasNoProduct side nodes bytes fault = (order : ℕ) × (left : List ℤ) × (right : List ℤ)
-    × AreMatrices (lines bytes) order left right × IsTileFault order side nodes fault
-
--- The input is at fault: a line is the first that is not as it has to be, or the two matrices have no product in such tiles.
-abbrev pub IsBadProduct : ℕ → ℕ → List ℕ → Fault → Type 0
-IsBadProduct side nodes bytes (Text (Line k)) = IsFirstBad bytes k
-IsBadProduct side nodes bytes (Tiles fault) = HasNoProduct side nodes bytes fault
-IsBadProduct side nodes bytes fault = ⊥
+IsTileFault order side nodes Unfilled = (order < 2 ^ 15) × ¬ (FillRows order side)
+IsTileFault order side nodes TooManyEvents = (order < 2 ^ 15) × FillRows order side × (MAX_STEPS < product_events (order / side) nodes)

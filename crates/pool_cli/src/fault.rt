@@ -1,138 +1,135 @@
-ghost use Rattle.std.specs.Prelude.{◌≡◌, ◌≢◌, ◌≤◌, ℕ, OnOk};
-ghost use Rattle.std.specs.Io.KnownBytes.{Appends};
-ghost use Rattle.tp_base.specs.declared.refusal.Refusal.TheVariants.{BodyFailed, NoMemory};
-ghost use Rattle.pool_cells.specs.declared.fault.LineFault.TheVariants.{Line};
-ghost use Rattle.pool_runs.specs.Faults.{refusal_of};
-ghost use Rattle.pool_cli.specs.Faults.{complaint, status_of};
+ghost use Rattle.pool_cli.specs.Faults.{complaint, line_complaint, product_complaint, refusal_complaint, row_complaint, status_of, tile_complaint, words_complaint};
 
 use crate::tiles::TileFault;
 use pool_cells::LineFault;
 use pool_rows::RowFault;
 use pool_runs::LentFault;
-use std::io::{self, ErrorKind, Write};
 use tp_base::Refusal;
+use tp_shell::{Diagnostics, ReadFault, Status, Told, WordsFault};
 
 /// Why nothing was printed, or not all of it.
-#[derive(Clone, Copy, Debug, PartialEq, Eq)]
+#[derive(Drop)]
 pub enum Fault {
-    /// The input could not be read, or is not UTF-8.
-    Read,
-    /// A line of the input is not as it has to be, or there is no memory for what it gives.
-    Text(LineFault),
+    /// The words make no request, and nothing was shown for them.
+    Words(WordsFault),
+    /// The input could not be read.
+    Read(ReadFault),
+    /// The input is not UTF-8.
+    NotText,
+    /// The lines of the input give no rod.
+    Lines(LineFault),
+    /// The lines of the input give no two matrices.
+    Rows(RowFault),
     /// The input has no number.
     Empty,
     /// Even one step takes more events than a run may have.
     TooMany,
     /// The matrices have no product in such tiles.
     Tiles(TileFault),
-    /// A number of the product leaves 64 bits.
-    Overflow,
-    /// The run was refused, or there is no memory for the input or the output.
-    Run(Refusal),
+    /// The run gave no rod: this is its own fault.
+    Rod(LentFault),
+    /// The run gave no product: this is its own fault. Where a body of its pool failed, a number of the product leaves 64 bits.
+    Product(LentFault),
+    /// There is no memory for the output.
+    Memory,
     /// The output could not be written.
     Write,
 }
 
-impl Fault {
-    /// Why the input could not be read, where the reader fails by this kind of error.
-    pub(crate) fn of_reading(kind: ErrorKind) -> Fault
-        ensures memory { kind ≡ ErrorKind.OutOfMemory → result ≡ Fault.Run NoMemory }
-        ensures other { kind ≢ ErrorKind.OutOfMemory → result ≡ Fault.Read }
-        ensures never { result ≢ Fault.Write }
-        ensures unread { status_of result ≢ 2 }
-    {
-        match kind {
-            ErrorKind::OutOfMemory => Fault::Run(Refusal::NoMemory),
-            _ => Fault::Read,
-        }
-    }
+impl Told for Fault {
+    ghost line_of = { complaint };
 
-    /// Why the input gives no matrices.
-    pub(crate) fn of_rows(fault: RowFault) -> Fault
-        ensures line { (k : ℕ) → fault ≡ RowFault.Line k → result ≡ Fault.Text (Line k) }
-        ensures memory { fault ≡ RowFault.Memory → result ≡ Fault.Run NoMemory }
-    {
-        match fault {
-            RowFault::Line(line) => Fault::Text(LineFault::Line(line)),
-            RowFault::Memory => Fault::Run(Refusal::NoMemory),
-        }
-    }
+    ghost status_of = { status_of };
 
-    /// Why the run gave no rod: the refusal of the fault that it answered.
-    pub(crate) fn of_rod(fault: &LentFault) -> Fault
-        ensures { result ≡ Fault.Run (refusal_of fault.now) }
-    {
-        Fault::Run(fault.refusal())
-    }
-
-    /// Why the run gave no product: where a body of its pool failed a number left 64 bits, and else it is the refusal of the
-    /// fault that the run answered.
-    pub(crate) fn of_product(fault: &LentFault) -> Fault
-        ensures overflow { refusal_of fault.now ≡ BodyFailed → result ≡ Fault.Overflow }
-        ensures other { refusal_of fault.now ≢ BodyFailed → result ≡ Fault.Run (refusal_of fault.now) }
-        ensures status { status_of result ≡ 3 }
-    {
-        let refusal = fault.refusal();
-        match refusal {
-            Refusal::BodyFailed => Fault::Overflow,
-            _ => Fault::Run(refusal),
-        }
-    }
-
-    /// Says what is wrong, and answers the exit status.
-    pub(crate) fn complain<E: Write>(self, err: &mut E) -> u8
-        ensures range { (1 ≤ result) × (result ≤ 3) }
-        ensures value { result ≡ status_of self }
-    {
-        let _ = self.tell(err);
-        self.status()
-    }
-
-    /// Says what is wrong, on a line.
-    fn tell<E: Write>(self, err: &mut E) -> io::Result<()>
-        ensures { OnOk result (Appends (E.contents err.old) (E.contents err.new) (complaint self)) }
-    {
+    fn tell<E: Diagnostics>(&self, err: &mut E) {
         match self {
-            Fault::Read => err.write_all(b"the input cannot be read as text\n"),
-            Fault::Text(LineFault::Line(line)) => {
-                writeln!(err, "line {line} is not as it has to be")
+            Fault::Words(fault) => tell_words(fault, err),
+            Fault::Lines(fault) => tell_line(*fault, err),
+            Fault::Rows(fault) => tell_row(*fault, err),
+            Fault::Tiles(fault) => tell_tiles(*fault, err),
+            Fault::Rod(fault) => tell_refusal(fault.refusal(), err),
+            Fault::Product(fault) => tell_product(fault.refusal(), err),
+            Fault::Read(ReadFault::Failed) | Fault::NotText => {
+                err.tell("the input cannot be read as text\n")
             }
-            Fault::Empty => err.write_all(b"the input has no number\n"),
-            Fault::TooMany => err.write_all(
-                b"a run may have 1,048,576 events, and one step takes more: make the blocks larger\n",
+            Fault::Empty => err.tell("the input has no number\n"),
+            Fault::TooMany => err.tell(
+                "a run may have 1,048,576 events, and one step takes more: make the blocks larger\n",
             ),
-            Fault::Tiles(TileFault::TooManyRows) => {
-                err.write_all(b"the matrices have 32,768 rows or more\n")
-            }
-            Fault::Tiles(TileFault::Unfilled) => {
-                err.write_all(b"tiles of SIDE rows and columns do not fill the matrices\n")
-            }
-            Fault::Tiles(TileFault::TooManyEvents) => err.write_all(
-                b"a run may have 1,048,576 events, and the product takes more: make SIDE larger\n",
-            ),
-            Fault::Overflow => err.write_all(b"a number of the product leaves 64 bits\n"),
-            Fault::Text(LineFault::Memory) | Fault::Run(Refusal::NoMemory) => {
-                err.write_all(b"there is no memory\n")
-            }
-            Fault::Run(refusal) => {
-                writeln!(err, "refused {} {}", refusal.number(), refusal.name())
-            }
-            Fault::Write => err.write_all(b"the output cannot be written\n"),
+            Fault::Read(ReadFault::Memory) | Fault::Memory => err.tell("there is no memory\n"),
+            Fault::Write => err.tell("the output cannot be written\n"),
         }
     }
 
-    /// The exit status: 1 where the words, the reading or the writing are at fault, 2 where the input is, 3 where the run was
-    /// refused or memory was.
-    fn status(self) -> u8
-        ensures range { (1 ≤ result) × (result ≤ 3) }
-        ensures value { result ≡ status_of self }
-    {
+    fn status(&self) -> Status {
         match self {
-            Fault::Read | Fault::Write => 1,
-            Fault::Text(LineFault::Line(_)) | Fault::Empty | Fault::TooMany => 2,
-            Fault::Tiles(_) => 2,
-            Fault::Text(LineFault::Memory) | Fault::Run(_) => 3,
-            Fault::Overflow => 3,
+            Fault::Words(WordsFault::Words(_) | WordsFault::Write) => Status::Fault,
+            Fault::Read(ReadFault::Failed) | Fault::NotText | Fault::Write => Status::Fault,
+            Fault::Lines(LineFault::Line(_)) | Fault::Rows(RowFault::Line(_)) => Status::Refused,
+            Fault::Empty | Fault::TooMany | Fault::Tiles(_) => Status::Refused,
+            Fault::Words(WordsFault::Memory) | Fault::Read(ReadFault::Memory) => Status::Failed,
+            Fault::Lines(LineFault::Memory) | Fault::Rows(RowFault::Memory) => Status::Failed,
+            Fault::Rod(_) | Fault::Product(_) | Fault::Memory => Status::Failed,
         }
+    }
+}
+
+fn tell_words<E: Diagnostics>(fault: &WordsFault, err: &mut E)
+    ensures { E.tells err.old (words_complaint fault.now) err.new }
+{
+    match fault {
+        WordsFault::Words(text) => err.tell(format_args!("{text}\n")),
+        WordsFault::Memory => err.tell("there is no memory\n"),
+        WordsFault::Write => err.tell("the output cannot be written\n"),
+    }
+}
+
+fn tell_line<E: Diagnostics>(fault: LineFault, err: &mut E)
+    ensures { E.tells err.old (line_complaint fault) err.new }
+{
+    match fault {
+        LineFault::Line(line) => err.tell(format_args!("line {line} is not as it has to be\n")),
+        LineFault::Memory => err.tell("there is no memory\n"),
+    }
+}
+
+fn tell_row<E: Diagnostics>(fault: RowFault, err: &mut E)
+    ensures { E.tells err.old (row_complaint fault) err.new }
+{
+    match fault {
+        RowFault::Line(line) => err.tell(format_args!("line {line} is not as it has to be\n")),
+        RowFault::Memory => err.tell("there is no memory\n"),
+    }
+}
+
+fn tell_tiles<E: Diagnostics>(fault: TileFault, err: &mut E)
+    ensures { E.tells err.old (tile_complaint fault) err.new }
+{
+    match fault {
+        TileFault::TooManyRows => err.tell("the matrices have 32,768 rows or more\n"),
+        TileFault::Unfilled => {
+            err.tell("tiles of SIDE rows and columns do not fill the matrices\n")
+        }
+        TileFault::TooManyEvents => err.tell(
+            "a run may have 1,048,576 events, and the product takes more: make SIDE larger\n",
+        ),
+    }
+}
+
+fn tell_product<E: Diagnostics>(refusal: Refusal, err: &mut E)
+    ensures { E.tells err.old (product_complaint refusal) err.new }
+{
+    match refusal {
+        Refusal::BodyFailed => err.tell("a number of the product leaves 64 bits\n"),
+        _ => tell_refusal(refusal, err),
+    }
+}
+
+fn tell_refusal<E: Diagnostics>(refusal: Refusal, err: &mut E)
+    ensures { E.tells err.old (refusal_complaint refusal) err.new }
+{
+    match refusal {
+        Refusal::NoMemory => err.tell("there is no memory\n"),
+        _ => err.tell(format_args!("refused {} {}\n", refusal.number(), refusal.name())),
     }
 }

@@ -3,14 +3,15 @@
 
 mod fault;
 mod heat;
-mod options;
 mod product;
 mod product_request;
+mod program;
 mod request;
-mod streams;
 mod tiles;
+mod words;
 
 pub use fault::Fault;
-pub use heat::{answer_heat, heat_with};
-pub use product::{answer_product, product_with};
+pub use heat::heat_with;
+pub use product::product_with;
 pub use tiles::TileFault;
+pub use words::without_words;

@@ -1,13 +1,15 @@
-ghost use Rattle.std.specs.Prelude.{◌≡◌, IfErr, IfOk, MatchOption, ⊤, codes, map};
+ghost use Rattle.std.specs.Prelude.{◌≡◌, IfErr, IfOk, MatchOption, ⊤, map};
 ghost use Rattle.clap.specs.Values.{kind_of};
-ghost use Rattle.clap.specs.Words.{app_of, found_of, rows_of};
-ghost use Rattle.pool_cli.specs.Command.{AreCountsIn, AsksForCounts, AsksForSide, FailsAs, IsSideIn, LackSide, product_app};
+ghost use Rattle.clap.specs.Words.{app_of, found_of, matches_of, rows_of};
+ghost use Rattle.clap.specs.declared.error.kind.ErrorKind.TheVariants.{MissingRequiredArgument};
+ghost use Rattle.pool_cli.specs.Command.{AsksForProduct, IsSideIn, LackSide, product_app};
+ghost use Rattle.tp_shell.specs.Command.{AreCountsIn, FailsAs};
 ghost use Rattle.tp_work.specs.Outcomes.{IsWithinLimits};
 
-use crate::options::{VERSION, config_of, with_counts};
 use clap::error::ErrorKind;
 use clap::{Arg, ArgMatches, Command, Error, value_parser};
 use std::alloc::{AllocError, Global};
+use tp_shell::{VERSION, config_of, with_counts};
 use tp_work::Config;
 
 /// What `product` is asked for.
@@ -19,11 +21,9 @@ pub(crate) struct ProductRequest {
 
 /// What the words ask for.
 pub(crate) fn product_requested(alloc: Global, words: &[&str]) -> Result<ProductRequest, Error>
-    ensures limits { IfOk result (λ request. IsWithinLimits request.config) }
-    ensures asked { IfOk result (λ request. AsksForSide (map (λ w. w.now) words.now) request.side) }
-    ensures counts { IfOk result
-        (λ request. AsksForCounts product_app (map (λ w. w.now) words.now) request.config.nodes request.config.workers) }
-    ensures why { IfErr result (λ error. FailsAs product_app LackSide (map (λ w. w.now) words.now) (kind_of error)) }
+    ensures asked { IfOk result (λ request. AsksForProduct (map (λ w. w.now) words.now) request × IsWithinLimits request.config) }
+    ensures why { IfErr result (λ error. FailsAs product_app MissingRequiredArgument (LackSide (matches_of product_app (map (λ w. w.now) words.now)))
+        (map (λ w. w.now) words.now) (kind_of error)) }
 {
     let mut command = product_command(alloc)?;
     let matches = command.try_get_matches_from_mut(words)?;

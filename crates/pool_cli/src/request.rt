@@ -1,13 +1,15 @@
 ghost use Rattle.std.specs.Prelude.{◌≡◌, IfErr, IfOk, MatchOption, ⊤, codes, map};
 ghost use Rattle.clap.specs.Values.{kind_of};
-ghost use Rattle.clap.specs.Words.{app_of, found_of, rows_of};
-ghost use Rattle.pool_cli.specs.Command.{AreCountsIn, AreStepsIn, AsksForCounts, AsksForSteps, FailsAs, IsNumberOf, LackSteps, LacksNumber, heat_app};
+ghost use Rattle.clap.specs.Words.{app_of, found_of, matches_of, rows_of};
+ghost use Rattle.clap.specs.declared.error.kind.ErrorKind.TheVariants.{MissingRequiredArgument};
+ghost use Rattle.pool_cli.specs.Command.{AreStepsIn, AsksForHeat, IsNumberOf, LackSteps, LacksNumber, heat_app};
+ghost use Rattle.tp_shell.specs.Command.{AreCountsIn, FailsAs};
 ghost use Rattle.tp_work.specs.Outcomes.{IsWithinLimits};
 
-use crate::options::{VERSION, config_of, with_counts};
 use clap::error::ErrorKind;
 use clap::{Arg, ArgMatches, Command, Error, value_parser};
 use std::alloc::{AllocError, Global};
+use tp_shell::{VERSION, config_of, with_counts};
 use tp_work::Config;
 
 /// What `heat` is asked for.
@@ -20,10 +22,9 @@ pub(crate) struct Request {
 
 /// What the words ask for.
 pub(crate) fn requested(alloc: Global, words: &[&str]) -> Result<Request, Error>
-    ensures limits { IfOk result (λ request. IsWithinLimits request.config) }
-    ensures asked { IfOk result (λ request. AsksForSteps (map (λ w. w.now) words.now) request.steps request.block) }
-    ensures counts { IfOk result (λ request. AsksForCounts heat_app (map (λ w. w.now) words.now) request.config.nodes request.config.workers) }
-    ensures why { IfErr result (λ error. FailsAs heat_app LackSteps (map (λ w. w.now) words.now) (kind_of error)) }
+    ensures asked { IfOk result (λ request. AsksForHeat (map (λ w. w.now) words.now) request × IsWithinLimits request.config) }
+    ensures why { IfErr result (λ error. FailsAs heat_app MissingRequiredArgument (LackSteps (matches_of heat_app (map (λ w. w.now) words.now)))
+        (map (λ w. w.now) words.now) (kind_of error)) }
 {
     let mut command = heat_command(alloc)?;
     let matches = command.try_get_matches_from_mut(words)?;

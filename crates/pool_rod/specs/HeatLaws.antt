@@ -1,62 +1,115 @@
-use Rattle.std.proofs.Common.{◌≡◌, ◌<◌, ◌≤◌, ◌+◌, ◌-◌, ◌*◌, ◌%◌, ℕ, List, ℤ, arith}
+-- A step of a rod is one of its blocks, and no cell leaves 64 bits.
+use Rattle.std.proofs.Common.{◌≡◌, ◌<◌, ◌≤◌, ◌+◌, ◌-◌, ◌*◌, ◌/◌, ◌^◌, ℕ, zero, suc, ℤ, pos, negsuc, neg_ℤ, ◌+ℤ◌, Bool, List, [], ◌∷◌, ◌++◌, length, take, drop, true, false, if◌then◌else◌, nat_lt, length-take, length-drop, refl, ap, sym, ◌∙◌, ⊎_elim, arith}
+use Rattle.std.specs.Prelude.{unsigned_abs}
+use Rattle.std.proofs.Math.Seq.{take-add}
+use Rattle.std.proofs.lemmas.Bool.{and_parts, and_from}
 use Rattle.std.proofs.lemmas.Bool.Decides.{nat_tests}
-use Rattle.tp_graph.proofs.Rows.{column-down, column-up, row-within, row-same}
-use Rattle.tp_graph.specs.Graphs.{IsLawful, FillsSlot, IsFilled}
-use Rattle.pool_rod.specs.Heats.{heat_graph, lefts, rights, source, target}
+use Rattle.std.proofs.lemmas.List.{drop-drop}
+use Rattle.std.proofs.lemmas.Nat.{mul-le}
+use Rattle.tp_graph.proofs.Fits.{fits-from}
+use Rattle.tp_graph.specs.Blocks.{block_of}
+use Rattle.tp_graph.specs.Values.{all_fit, fits}
+use Rattle.pool_blocks.proofs.Lists.{block-long, lt-tells}
+use Rattle.pool_blocks.proofs.Sums.{abs-neg, plus-small}
+use Rattle.pool_blocks.specs.Lists.{block_before, block_behind}
+use Rattle.pool_blocks.specs.Stencils.{IsByBlocks, KeepsFit, KeepsLength}
+use Rattle.pool_rod.specs.Heats.{block_heated, first_or, heated, last_or, mixed, sweep, third}
 
-module _ (cells : List ℤ) (blocks size steps : ℕ) (some : 0 < blocks) where
-  -- the slot that a feed goes to is not below 0
-  pub turn_small : (p k : ℕ) → p < (steps + 1) * blocks → k < (heat_graph cells blocks size steps).feeds p → k ≤ lefts blocks (target blocks p k) + lefts blocks p
-  unfolding heat_graph
-  turn_small p k h q =
-      let here : p % blocks < blocks = omega arith in
-      let few : k < lefts blocks p + 1 + rights blocks p = grind (arith, nat_tests) in
-      let inside : p % blocks + k - lefts blocks p < blocks = grind (arith, nat_tests) in
-      let place : target blocks p k + p % blocks ≡ p + blocks + (p % blocks + k - lefts blocks p) = grind (arith, nat_tests) in
-      let column : target blocks p k % blocks ≡ p % blocks + k - lefts blocks p = column-down blocks p (target blocks p k) (p % blocks + k - lefts blocks p) inside place in
-      grind (arith, nat_tests)
+swept-length : (l : ℤ) (xs : List ℤ) (r : ℤ) → length (sweep l xs r) ≡ length xs
+swept-length l [] r = refl
+swept-length l (x ∷ xs) r = ap suc (swept-length x xs r)
 
-  fills : (p k : ℕ) → p < (steps + 1) * blocks → k < (heat_graph cells blocks size steps).feeds p → FillsSlot (heat_graph cells blocks size steps) p k
-  unfolding heat_graph
-  fills p k h q =
-      let here : p % blocks < blocks = omega arith in
-      let below : p + blocks < (steps + 1) * blocks = grind (arith, nat_tests) in
-      let few : k < lefts blocks p + 1 + rights blocks p = grind (arith, nat_tests) in
-      let inside : p % blocks + k - lefts blocks p < blocks = grind (arith, nat_tests) in
-      let place : target blocks p k + p % blocks ≡ p + blocks + (p % blocks + k - lefts blocks p) = grind (arith, nat_tests) in
-      let column : target blocks p k % blocks ≡ p % blocks + k - lefts blocks p = column-down blocks p (target blocks p k) (p % blocks + k - lefts blocks p) inside place in
-      let within : target blocks p k < (steps + 1) * blocks = row-within (steps + 1) blocks p (target blocks p k) (p % blocks + k - lefts blocks p) inside below place in
-      record {
-        higher = grind (arith, nat_tests);
-        known = within;
-        within = grind (arith, nat_tests);
-        source_is = grind (arith, nat_tests);
-        turn_is = grind (arith, nat_tests);
-      }
+pub heated-long : KeepsLength heated
+heated-long cells = swept-length (pos 0) cells (pos 0)
 
-  filled : (t s : ℕ) → t < (steps + 1) * blocks → s < (heat_graph cells blocks size steps).arity t → IsFilled (heat_graph cells blocks size steps) t s
-  unfolding heat_graph
-  filled t s h q =
-      let here : t % blocks < blocks = omega arith in
-      let above : blocks ≤ t = grind (arith, nat_tests) in
-      let few : s < lefts blocks t + 1 + rights blocks t = grind (arith, nat_tests) in
-      let inside : t % blocks + s - lefts blocks t < blocks = grind (arith, nat_tests) in
-      let place : source blocks t s + blocks + t % blocks ≡ t + (t % blocks + s - lefts blocks t) = grind (arith, nat_tests) in
-      let column : source blocks t s % blocks ≡ t % blocks + s - lefts blocks t = column-up blocks t (source blocks t s) (t % blocks + s - lefts blocks t) inside above place in
-      let below : source blocks t s + blocks < (steps + 1) * blocks = row-same (steps + 1) blocks t (source blocks t s + blocks) (t % blocks + s - lefts blocks t) inside h place in
-      record {
-        lower = grind (arith, nat_tests);
-        within = grind (arith, nat_tests);
-        target_is = grind (arith, nat_tests);
-        slot_is = grind (arith, nat_tests);
-      }
+first-of : (n : ℕ) (xs : List ℤ) (r : ℤ) → first_or r xs ≡ first_or (first_or r (drop n xs)) (take n xs)
+first-of zero xs r = refl
+first-of (suc n) [] r = refl
+first-of (suc n) (x ∷ xs) r = refl
 
-pub heat_lawful : (cells : List ℤ) (blocks size steps : ℕ) → 1 ≤ blocks → IsLawful (heat_graph cells blocks size steps)
-unfolding heat_graph
-heat_lawful cells blocks size steps some = record {
-  few_inputs = λ t p. grind (arith, nat_tests);
-  few_classes = λ t p. omega arith;
-  homes = λ t m p q r. omega arith;
-  feeds_fill = λ p k a b. fills cells blocks size steps (omega (arith, some)) p k a b;
-  slots_filled = λ t s a b. filled cells blocks size steps (omega (arith, some)) t s a b;
-}
+take-swept : (n : ℕ) (l : ℤ) (xs : List ℤ) (r : ℤ) → take n (sweep l xs r) ≡ sweep l (take n xs) (first_or r (drop n xs))
+take-swept zero l xs r = refl
+take-swept (suc n) l [] r = refl
+take-swept (suc n) l (x ∷ xs) r = ap (λ z. mixed l x z ∷ take n (sweep x xs r)) (first-of n xs r) ∙ ap (λ m. mixed l x (first_or (first_or r (drop n xs)) (take n xs)) ∷ m) (take-swept n x xs r)
+
+drop-swept : (n : ℕ) (l : ℤ) (xs : List ℤ) (r : ℤ) → drop n (sweep l xs r) ≡ sweep (last_or l (take n xs)) (drop n xs) r
+drop-swept zero l xs r = refl
+drop-swept (suc n) l [] r = refl
+drop-swept (suc n) l (x ∷ xs) r = drop-swept n x xs r
+
+-- the last of some cells and of those behind them
+last-joined : (d : ℤ) (xs ys : List ℤ) → last_or d (xs ++ ys) ≡ last_or (last_or d xs) ys
+last-joined d [] ys = refl
+last-joined d (x ∷ xs) ys = last-joined x xs ys
+
+last-any : (d e : ℤ) (xs : List ℤ) → 0 < length xs → last_or d xs ≡ last_or e xs
+last-any d e [] h = absurd (omega arith)
+last-any d e (x ∷ xs) h = refl
+
+first-any : (d : ℤ) (n : ℕ) (xs : List ℤ) → 0 < n → first_or d (take n xs) ≡ first_or d xs
+first-any d zero xs h = absurd (omega arith)
+first-any d (suc n) [] h = refl
+first-any d (suc n) (x ∷ xs) h = refl
+
+-- the number to the left of a block
+left-is : (size : ℕ) (xs : List ℤ) (b : ℕ) → 1 ≤ size → b * size < length xs → last_or (pos 0) (take (b * size) xs) ≡ last_or (pos 0) (block_before size b xs)
+left-is size xs zero some h =
+    let none : zero * size ≡ 0 = omega arith in
+    ap (λ k. last_or (pos 0) (take k xs)) none
+left-is size xs (suc b) some h =
+    let at : suc b * size ≡ b * size + size = omega arith in
+    let back : suc b - 1 ≡ b = omega arith in
+    let yes : nat_lt 0 (suc b) ≡ true = grind (arith, nat_tests) in
+    let cells : 0 < length (block_of size b xs) = omega (arith, block-long size b xs, at, some, h) in
+    ap (λ k. last_or (pos 0) (take k xs)) at
+    ∙ ap (last_or (pos 0)) (take-add (b * size) size xs)
+    ∙ last-joined (pos 0) (take (b * size) xs) (block_of size b xs)
+    ∙ last-any (last_or (pos 0) (take (b * size) xs)) (pos 0) (block_of size b xs) cells
+    ∙ ap (λ m. last_or (pos 0) (block_of size m xs)) (sym back)
+    ∙ ap (λ t. last_or (pos 0) (if t then block_of size (suc b - 1) xs else [])) (sym yes)
+
+-- the number to its right
+right-is : (size : ℕ) (xs : List ℤ) (b : ℕ) → 1 ≤ size → first_or (pos 0) (drop size (drop (b * size) xs)) ≡ first_or (pos 0) (block_behind size b xs)
+right-is size xs b some =
+    let at : b * size + size ≡ (b + 1) * size = omega arith in
+    let behind : drop size (drop (b * size) xs) ≡ drop ((b + 1) * size) xs = drop-drop size (b * size) xs ∙ ap (λ k. drop k xs) at in
+    ap (first_or (pos 0)) behind ∙ sym (first-any (pos 0) size (drop ((b + 1) * size) xs) (omega (arith, some)))
+
+pub heated-by-blocks : IsByBlocks (λ count size. true) heated block_heated
+heated-by-blocks xs size b some taken h =
+    ap (take size) (drop-swept (b * size) (pos 0) xs (pos 0))
+    ∙ take-swept size (last_or (pos 0) (take (b * size) xs)) (drop (b * size) xs) (pos 0)
+    ∙ ap (λ z. sweep z (block_of size b xs) (first_or (pos 0) (drop size (drop (b * size) xs)))) (left-is size xs b some h)
+    ∙ ap (sweep (last_or (pos 0) (block_before size b xs)) (block_of size b xs)) (right-is size xs b some)
+
+-- a third of a number of 64 bits
+third-small : (z : ℤ) → fits z ≡ true → unsigned_abs (third z) ≤ 3074457345618258602
+third-small (pos n) h =
+    let few : n < 2 ^ 63 = grind (arith, nat_tests) in
+    omega (arith, few)
+third-small (negsuc n) h =
+    let few : n < 2 ^ 63 = grind (arith, nat_tests) in
+    omega (arith, few, abs-neg (suc n / 3))
+
+mixed-fits : (a b c : ℤ) → fits a ≡ true → fits b ≡ true → fits c ≡ true → fits (mixed a b c) ≡ true
+mixed-fits a b c p q r =
+    let two = plus-small (third a) (third b) in
+    let three = plus-small (third a +ℤ third b) (third c) in
+    fits-from (mixed a b c) (omega (arith, two, three, third-small a p, third-small b q, third-small c r))
+
+first-fits : (d : ℤ) (xs : List ℤ) → fits d ≡ true → all_fit xs ≡ true → fits (first_or d xs) ≡ true
+first-fits d [] p q = p
+first-fits d (x ∷ xs) p q = (and_parts (fits x) (all_fit xs) q).0
+
+last-fits : (d : ℤ) (xs : List ℤ) → fits d ≡ true → all_fit xs ≡ true → fits (last_or d xs) ≡ true
+last-fits d [] p q = p
+last-fits d (x ∷ xs) p q = let both = and_parts (fits x) (all_fit xs) q in last-fits x xs both.0 both.1
+
+swept-fit : (left : ℤ) (xs : List ℤ) (right : ℤ) → fits left ≡ true → all_fit xs ≡ true → fits right ≡ true → all_fit (sweep left xs right) ≡ true
+swept-fit left [] right p q r = refl
+swept-fit left (x ∷ xs) right p q r =
+    let both = and_parts (fits x) (all_fit xs) q in
+    and_from (fits (mixed left x (first_or right xs))) (all_fit (sweep x xs right)) (mixed-fits left x (first_or right xs) p both.0 (first-fits right xs r both.1)) (swept-fit x xs right both.0 both.1 r)
+
+pub heated-fit : KeepsFit block_heated
+heated-fit before own behind p q r = swept-fit (last_or (pos 0) before) own (first_or (pos 0) behind) (last-fits (pos 0) before refl p) q (first-fits (pos 0) behind refl r)

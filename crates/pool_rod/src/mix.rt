@@ -66,15 +66,6 @@ fn cell_or(cells: &[i64], place: usize, end: i64) -> i64
     }
 }
 
-/// Reads each cell: what is read is known to fit 64 bits.
-pub(crate) fn read_all(cells: &[i64])
-    ensures { all_fit cells.now ≡ true }
-{
-    for i in 0..cells.len() {
-        cell_or(cells, i, 0);
-    }
-}
-
 /// Cells after a step, between a number on the left and one on the right.
 pub(crate) fn sweep(
     alloc: Global,

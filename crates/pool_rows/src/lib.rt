@@ -10,4 +10,5 @@ mod write;
 pub use fault::RowFault;
 pub use matrices::Matrices;
 pub use read::matrices_of;
-pub use write::text_of_rows;
+pub use row::push_row;
+pub use write::{push_line, text_of_rows};

@@ -4,7 +4,7 @@ ghost use Rattle.pool_rows.specs.Matrices.{SpellsRow};
 use std::alloc::AllocError;
 
 /// Keeps the numbers of a row behind those that are there, and answers how many they are; none where the line is no row.
-pub(crate) fn push_row(numbers: &mut Vec<i64>, line: &str) -> Result<Option<usize>, AllocError>
+pub fn push_row(numbers: &mut Vec<i64>, line: &str) -> Result<Option<usize>, AllocError>
     ensures { IfOk result (λ count. MatchOption count
         ((row : List ℤ) → ¬ (SpellsRow line.now row))
         (λ count. (row : List ℤ) × SpellsRow line.now row × (count ≡ length row) × (numbers.new.items ≡ numbers.old.items ++ row))) }

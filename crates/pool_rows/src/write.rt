@@ -16,7 +16,8 @@ pub fn text_of_rows(alloc: Global, order: usize, numbers: &[i64]) -> Result<Vec<
     Ok(text)
 }
 
-fn push_line(text: &mut Vec<u8>, row: &[i64]) -> Result<(), AllocError>
+/// Keeps a row as a line behind a text: its numbers in decimal by single spaces, and a line feed.
+pub fn push_line(text: &mut Vec<u8>, row: &[i64]) -> Result<(), AllocError>
     ensures { OnOk result (text.new.items ≡ text.old.items ++ row_text row.now) }
 {
     for (place, number) in row.iter().enumerate() {

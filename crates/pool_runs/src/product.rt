@@ -3,7 +3,7 @@ ghost use Rattle.pool_runs.specs.Faults.{IsProductFault};
 ghost use Rattle.pool_matrix.specs.Matrices.{product_of};
 ghost use Rattle.tp_work.specs.Outcomes.{IsWithinLimits};
 
-use crate::fault::LentFault;
+use pool_block_runs::LentFault;
 use pool_matrix::{Product, matrix_of};
 use std::alloc::Global;
 use std::sync::Wait;

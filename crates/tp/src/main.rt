@@ -1,20 +1,16 @@
 //! The program `tp`.
 #![tactic(auto)]
 
-use std::alloc::{AllocError, Global};
 use std::io::{ErrorKind, IsTerminal};
 use std::process::ExitCode;
 use tp_cli::{main_with, without_words};
+use tp_shell::{arguments, words_of};
 
 /// The exit status is that of `main_with`. Where there is no memory for the words, or one of them is not UTF-8, a line says so.
 fn main(rt: HostRuntime) -> ExitCode {
-    let arguments = match std::env::args(&rt) {
+    let arguments = match arguments(&rt) {
         Ok(arguments) => arguments,
-        Err(error) => return complain(&rt, error.kind()),
-    };
-    let arguments: Vec<String> = match arguments.collect(rt.alloc()) {
-        Ok(arguments) => arguments,
-        Err(_) => return complain(&rt, ErrorKind::OutOfMemory),
+        Err(fault) => return complain(&rt, fault),
     };
     let words = match words_of(rt.alloc(), &arguments) {
         Ok(words) => words,
@@ -34,14 +30,6 @@ fn main(rt: HostRuntime) -> ExitCode {
         &mut rt.stderr(),
     );
     ExitCode::from(status)
-}
-
-fn words_of(alloc: Global, arguments: &[String]) -> Result<Vec<&str>, AllocError> {
-    let mut words = Vec::with_capacity(alloc, arguments.len())?;
-    for argument in arguments {
-        words.push(argument.as_str())?;
-    }
-    Ok(words)
 }
 
 /// Says why the words could not be had.

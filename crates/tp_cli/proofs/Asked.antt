@@ -1,21 +1,14 @@
 -- What a caller knows of a parse of the command line.
-use Rattle.std.proofs.Common.{◌≡◌, ◌≢◌, ◌∙◌, refl, ap, sym, subst, arith, inl, inr, ℕ, List, Option, Some, None, MatchOption, true, option_map, codes, slice_index, unwrap_or}
+use Rattle.std.proofs.Common.{◌≡◌, ◌≢◌, ◌∙◌, refl, ap, sym, subst, arith, ℕ, List, Option, Some, None, MatchOption, option_map, codes, slice_index, unwrap_or}
 use Rattle.std.specs.Prelude.{Box}
 use Rattle.std.specs.Box.{box_value}
-use Rattle.clap.specs.Faults.{fault_of, is_simple_and_free}
-use Rattle.clap.specs.Kinds.{HasKind, IsAmong}
-use Rattle.clap.specs.Values.{kind_of}
 use Rattle.clap.specs.Words.{App, HasMatchesOf, Row, Text, all_of, first_of, is_simple, subcommand_of, subcommand_rows, subcommand_rows_of}
-use Rattle.clap.specs.declared.error.Error.{Error}
-use Rattle.clap.specs.declared.error.kind.ErrorKind.{ErrorKind}
-use Rattle.clap.specs.declared.error.kind.ErrorKind.TheVariants.{OutOfMemory}
 use Rattle.clap.specs.declared.parser.matches.ArgMatches.{ArgMatches}
 use Rattle.clap.specs.declared.parser.matches.ArgMatches.TheViews.{out-SubCommand}
 use Rattle.clap.specs.declared.parser.matches.SubCommand.{SubCommand}
-use Rattle.tp_cli.specs.Command.{AreAtFault, AsksForNothing, FailsAs, IsNeither, IsToBeShown, reading_word, tp_app}
+use Rattle.tp_cli.specs.Command.{AsksForNothing, IsNeither, reading_word, tp_app}
 use Rattle.tp_cli.specs.declared.text.TextKind.{TextKind}
 use Rattle.tp_cli.specs.declared.text.TextKind.TheVariants.{Script, Trace}
-use Rattle.tp_cli.specs.Ends.{AsksToBeShown}
 
 -- the name and the rows of the subcommand that was found
 pub found_as : {Z : Type 0} (o : Option (Box SubCommand Z)) (name : Text) (rows : List Row)
@@ -83,34 +76,6 @@ pub neither_asked : (app : App) (words : List Text) (m : ArgMatches) → app ≡
     → IsNeither (subcommand_rows_of m) → AsksForNothing words
 neither_asked app words m is has neither =
     subst IsNeither ((has (ap is_simple is)).1 ∙ ap (λ (a : App). subcommand_of a words) is) neither
-
--- why a parse fails
-pub fails_as : (e : Error) (app : App) (words : List Text) → app ≡ tp_app
-    → (is_simple_and_free app ≡ true → HasKind (fault_of app words) e) → FailsAs words (kind_of e)
-fails_as e app words is kinds = elim (kinds (ap is_simple_and_free is)) [
-  | inl no_memory ↦ inl no_memory
-  | inr among ↦ inr (inl (subst (λ (a : App). IsAmong (kind_of e) (fault_of a words)) is among))
-]
-
--- what is shown was asked for
-pub shown_asked : (words : List Text) (kind : ErrorKind) → FailsAs words kind → IsToBeShown kind → AsksToBeShown words
-shown_asked words kind (inl no_memory) (inl help) = cc
-shown_asked words kind (inl no_memory) (inr version) = cc
-shown_asked words kind (inr (inl among)) (inl help) = inl (subst (λ (k : ErrorKind). IsAmong k (fault_of tp_app words)) help among)
-shown_asked words kind (inr (inl among)) (inr version) = inr (subst (λ (k : ErrorKind). IsAmong k (fault_of tp_app words)) version among)
-shown_asked words kind (inr (inr missing)) (inl help) = let m = missing.0 in cc
-shown_asked words kind (inr (inr missing)) (inr version) = let m = missing.0 in cc
-
--- what is neither shown nor want of memory is a fault of the words
-pub at_fault : (words : List Text) (kind : ErrorKind) → FailsAs words kind → kind ≢ OutOfMemory → ¬ IsToBeShown kind → AreAtFault words
-at_fault words kind (inl no_memory) other unasked = absurd (other no_memory)
-at_fault words kind (inr (inl among)) other unasked = inl (kind, unasked, among)
-at_fault words kind (inr (inr missing)) other unasked = inr missing.1
-
--- what holds of nothing
-pub none_asked : {X : Type 0} (o : Option X) (P : Type 0) (Q : X → Type 0) → o ≡ None → MatchOption o P Q → P
-none_asked None P Q is p = p
-none_asked (Some x) P Q is p = cc
 
 -- what follows for nothing, and for something
 pub asked_as : {X : Type 0} (o : Option X) (P P' : Type 0) (Q Q' : X → Type 0) → (P → P') → ((x : X) → Q x → Q' x) → MatchOption o P Q → MatchOption o P' Q'

@@ -1,5 +1,4 @@
 pub mod Asked
-pub mod Bounded
 pub mod Counted
 pub mod Ending
 pub mod Printed

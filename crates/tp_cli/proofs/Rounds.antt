@@ -1,5 +1,5 @@
 -- The rounds of a series, and their text.
-use Rattle.std.proofs.Common.{◌≡◌, ◌∙◌, ◌+◌, ◌<◌, ◌≤◌, ◌++◌, ℕ, suc, List, [], ◌∷◌, Some, refl, sym, ap, ap₂, subst, arith, length, drop, append-nil, append_assoc, drop_of_length-le, codes, decimal}
+use Rattle.std.proofs.Common.{◌≡◌, ◌∙◌, ◌+◌, ◌<◌, ◌≤◌, ◌++◌, ℕ, suc, List, ◌∷◌, Some, sym, ap, ap₂, subst, arith, length, drop, append-nil, append_assoc, drop_of_length-le, codes, decimal}
 use Rattle.std.proofs.lemmas.Option.{slice_get-get_or}
 use Rattle.std.proofs.lemmas.Slice.Zip.{AllZip-right}
 use Rattle.std.proofs.Math.Seq.{drop-cons}

@@ -1,5 +1,5 @@
 -- Pools that are registered one after the other, each under its word, and what their runs answer.
-use Rattle.std.proofs.Common.{◌≡◌, ◌≢◌, ◌==◌, ◌∙◌, ◌+◌, ◌<◌, ◌≤◌, ◌⊎◌, ◌++◌, ◌||◌, ℕ, suc, Bool, true, false, true≢false, cond, List, [], ◌∷◌, Some, refl, sym, ap, ap₂, subst, arith}
+use Rattle.std.proofs.Common.{◌≡◌, ◌≢◌, ◌==◌, ◌∙◌, ◌+◌, ◌<◌, ◌≤◌, ◌⊎◌, ◌++◌, ◌||◌, ℕ, zero, suc, Bool, true, false, true≢false, cond, List, [], ◌∷◌, Some, refl, sym, ap, ap₂, subst, arith}
 use Rattle.std.proofs.Common.{Result, Ok, Err, IfErr, IfOk, MatchOption, inl, inr, length, map, drop, take, append-nil, append_assoc, drop_of_length-le}
 use Rattle.std.proofs.lemmas.Bool.{cases_lt}
 use Rattle.std.proofs.lemmas.List.{length-map, length-take-le, map-append, take-map}
@@ -21,10 +21,12 @@ use Rattle.tp_pools.specs.Runs.{is_waiting, rank}
 use Rattle.pool_samples.specs.Words.{word_of}
 use Rattle.pool_samples.specs.declared.any.AnyGraph.{AnyGraph}
 use Rattle.tp_several.specs.Answers.{AreRun, AreRunAnswers}
-use Rattle.tp_work.specs.declared.config.Fault.{Fault}
+use Rattle.tp_work.specs.declared.config.Fault as ended
 use Rattle.tp_work.specs.declared.config.Outcome.{Outcome}
-use Rattle.tp_cli.specs.Pools.{AreInVain, AreNamed, AreTakenTo, Word, is_among, lines_from, pool_line, pools_of}
+use Rattle.tp_cli.specs.Pools.{AreInVain, AreNamed, AreTakenTo, IsPoolsFault, IsWordsFault, MayNamePools, Word, is_among, lines_from, pool_line, pools_of, word_fault}
 use Rattle.tp_cli.specs.Runs.{NamesNoGraph}
+use Rattle.tp_cli.specs.declared.fault.Fault.{Fault}
+use Rattle.tp_cli.specs.declared.fault.Fault.TheVariants as faults
 
 -- ---- words
 
@@ -143,6 +145,46 @@ first_refused k words pools word told r h lt at few unregistered is =
       ),
     )
 
+-- some pools may be named, where the word behind those that are registered names one
+may_name : (k : ℕ) (words : List Word) (pools : Pools) (word : Word) → AreRegisteredTo k words pools → k < length words
+    → word ≡ get_or words k word → length words ≤ MAX_POOLS → ¬ NamesNoGraph word → MayNamePools words
+may_name zero words pools word h lt at few named = (
+  few,
+  λ i w r below here refused.
+      let first : i ≡ 0 = omega (arith, below) in
+      let w_is : word ≡ w = at ∙ sym (ap (λ j. get_or words j word) first) ∙ get_or_from_slice_get words i w word here in
+      elim refused [
+        | inl unnamed ↦ named (subst NamesNoGraph (sym w_is) unnamed.1)
+        | inr known ↦ true≢false (sym known.1 ∙ ap (λ j. is_among (take j words) w) first)
+      ],
+)
+may_name (suc k) words pools word h lt at few named = (few, λ i w r below here refused. h.taken i w r (omega (arith, below)) here refused)
+
+-- the fault of a word that was not registered
+pub refused_word : (k : ℕ) (words : List Word) (pools : Pools) (word : Word) (r : Refusal) → AreRegisteredTo k words pools → k < length words
+    → word ≡ get_or words k word → length words ≤ MAX_POOLS → IsUnregistered pools word word r → (NamesNoGraph word → r ≡ BadSpec)
+    → IsWordsFault words (word_fault r)
+refused_word k words pools word NoMemory h lt at few why no_spec = may_name k words pools word h lt at few (λ none. let e = no_spec none in cc)
+refused_word k words pools word BadSpec h lt at few why no_spec = first_refused k words pools word BadSpec BadSpec h lt at few why (refl, λ e. cc)
+refused_word k words pools word PoolKnown h lt at few why no_spec = first_refused k words pools word PoolKnown PoolKnown h lt at few why (refl, λ e. cc)
+refused_word k words pools word StoreFull h lt at few why no_spec = first_refused k words pools word StoreFull StoreFull h lt at few why (refl, λ e. cc)
+refused_word k words pools word _ h lt at few why no_spec = absurd why
+
+-- of words that name pools the first is taken
+pub named_may : (words : List Word) (graphs : List AnyGraph) → AreNamed words graphs → MayNamePools words
+named_may [] graphs named = (named.few, λ i w r below here refused. cc)
+named_may (word ∷ words) graphs named = (named.few, λ i w r below here refused. named.taken i w r (omega (arith, below)) here refused)
+
+-- the fault of words is one of their pools
+pub words_in_vain : (words : List Word) (n workers : ℕ) (fault : Fault) → IsWordsFault words fault → IsPoolsFault words n workers fault
+words_in_vain words n workers (faults.InVain r) why = why
+words_in_vain words n workers faults.Memory why = why
+words_in_vain words n workers (faults.Words met) why = absurd why
+words_in_vain words n workers (faults.Text met) why = absurd why
+words_in_vain words n workers faults.NoPool why = absurd why
+words_in_vain words n workers (faults.Run met) why = absurd why
+words_in_vain words n workers faults.Write why = absurd why
+
 -- ---- answers
 
 all_wait : (graphs : List AnyGraph) → count_by is_waiting (pools_of graphs) ≡ length graphs
@@ -153,7 +195,7 @@ rank_waiting : (graphs : List AnyGraph) (i : ℕ) → i ≤ length graphs → ra
 rank_waiting graphs i le = ap (count_by is_waiting) (take-map entered i graphs) ∙ all_wait (take i graphs) ∙ length-take-le i graphs le
 
 -- each pool has the answer of its own place
-pub answers_in_order : (n : ℕ) (graphs : List AnyGraph) (answers : List (Result Outcome Fault)) (old new : Pools) → old ≡ pools_of graphs
+pub answers_in_order : (n : ℕ) (graphs : List AnyGraph) (answers : List (Result Outcome ended.Fault)) (old new : Pools) → old ≡ pools_of graphs
     → AreRun n answers old new → AreRunAnswers n graphs answers
 answers_in_order n graphs answers old new is run =
     let ran : AreRun n answers (pools_of graphs) new = subst (λ ps. AreRun n answers ps new) is run in
@@ -169,7 +211,7 @@ answers_in_order n graphs answers old new is run =
 -- ---- lines
 
 -- a line more
-pub line_more : (i : ℕ) (words : List Word) (answers : List (Result Outcome Fault)) (word : Word) (answer : Result Outcome Fault)
+pub line_more : (i : ℕ) (words : List Word) (answers : List (Result Outcome ended.Fault)) (word : Word) (answer : Result Outcome ended.Fault)
     (text more line whole : List ℕ) → i < length words → i < length answers → word ≡ get_or words i word → answer ≡ get_or answers i answer
     → line ≡ pool_line i word answer → more ≡ text ++ line
     → text ++ lines_from i (drop i words) (drop i answers) ≡ whole
@@ -185,7 +227,7 @@ line_more i words answers word answer text more line whole lt lt' word_at answer
     ∙ ap (λ l. text ++ l) (sym (ap₂ (lines_from i) word_first answer_first)) ∙ before)
 
 -- no line is left
-pub lines_done : (i : ℕ) (words : List Word) (answers : List (Result Outcome Fault)) (text whole : List ℕ) → length words ≤ i
+pub lines_done : (i : ℕ) (words : List Word) (answers : List (Result Outcome ended.Fault)) (text whole : List ℕ) → length words ≤ i
     → text ++ lines_from i (drop i words) (drop i answers) ≡ whole → text ≡ whole
 unfolding lines_from
 lines_done i words answers text whole past before =

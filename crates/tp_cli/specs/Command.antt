@@ -1,29 +1,14 @@
 -- The command line as plain data, and what its words ask for. Of a parse clap says what it finds for each argument, and by
 -- which faults it fails, as functions of the command and the words.
-use Rattle.std.specs.Prelude.{ℕ, ◌≡◌, ◌≤◌, ◌⊎◌, List, [], ◌∷◌, Option, Some, pos, true, codes}
-use Rattle.std.specs.Str.Parse.{IsNumeral, without_leading_plus, digits_value}
-use Rattle.tp_base.specs.declared.limits.TheConstants.{MAX_NODES, MAX_WORKERS}
+use Rattle.std.specs.Prelude.{ℕ, ◌≡◌, List, Option, Some, true, codes}
 use Rattle.tp_cli.specs.declared.command.TheConstants.{MAX_GENERATIONS}
 use Rattle.tp_cli.specs.declared.run.Form.{Form}
 use Rattle.tp_cli.specs.declared.run.Form.TheVariants as forms
 use Rattle.tp_cli.specs.declared.text.TextKind.{TextKind}
 use Rattle.tp_cli.specs.declared.text.TextKind.TheVariants.{Script, Trace}
-use Rattle.clap.specs.Faults.{fault_of}
-use Rattle.clap.specs.Kinds.{IsAmong}
 use Rattle.clap.specs.Words.{App, Row, Rule, Text, all_of, first_of, one_of, new_app, new_rule, subcommand_of, with_rule, with_subcommand}
 use Rattle.clap.specs.declared.builder.action.ArgAction.TheVariants.{Append, SetTrue}
-use Rattle.clap.specs.declared.builder.value_parser.ValueParser.TheVariants.{Signed}
-use Rattle.clap.specs.declared.error.kind.ErrorKind.{ErrorKind}
-use Rattle.clap.specs.declared.error.kind.ErrorKind.TheVariants.{DisplayHelp, DisplayVersion, MissingSubcommand, OutOfMemory}
-
--- an option that takes a number from 1 to so many, and is 1 where it is left out
-abbrev pub count_rule : Text → ℕ → Rule
-count_rule name most = record (new_rule name) {
-  long = Some name;
-  value_names = 1;
-  defaults = codes "1" ∷ [];
-  parser = Some (Signed (pos 1) (pos most));
-}
+use Rattle.tp_shell.specs.Command.{AreCountsIn, IsCount, count_rule, with_count_rules, with_version}
 
 -- a flag, which asks for the trace of a run
 abbrev pub trace_rule : Rule
@@ -38,10 +23,6 @@ sim_app = new_app (codes "sim")
 
 abbrev pub audit_app : App
 audit_app = new_app (codes "audit")
-
--- and the numbers of nodes and of workers
-abbrev pub with_count_rules : App → App
-with_count_rules a = with_rule (with_rule a (count_rule (codes "nodes") MAX_NODES)) (count_rule (codes "workers") MAX_WORKERS)
 
 -- and the number of generations
 abbrev pub with_generations_rule : App → App
@@ -59,9 +40,6 @@ pools_app = with_count_rules (with_rule (new_app (codes "pools")) specs_rule)
 
 abbrev pub with_required : App → App
 with_required a = record a { top = record a.top { subcommand_required = true } }
-
-abbrev pub with_version : App → App
-with_version a = record a { top = record a.top { has_version = true } }
 
 -- The subcommands that read a text, `sim` and `audit`. It has a version, and a subcommand is required.
 abbrev pub texts_app : App
@@ -86,18 +64,9 @@ IsReading kind found = (rows : List Row) × (found ≡ Some (reading_word kind, 
 abbrev pub IsRunNaming : Text → Option (Text × List Row) → Type 0
 IsRunNaming spec found = (rows : List Row) × (found ≡ Some (codes "run", rows)) × (first_of (codes "SPEC") rows ≡ Some spec)
 
--- Where the option's text spells a number from 1 to so many, that is this one.
-abbrev pub IsCount : ℕ → Text → List Row → ℕ → Type 0
-IsCount most name rows k = (t : Text) → one_of name rows ≡ Some t → IsNumeral 10 (without_leading_plus t)
-    → 1 ≤ digits_value 10 (without_leading_plus t) → digits_value 10 (without_leading_plus t) ≤ most → k ≡ digits_value 10 (without_leading_plus t)
-
--- so many nodes with so many workers
-abbrev pub AreCounts : ℕ → ℕ → List Row → Type 0
-AreCounts nodes workers rows = IsCount MAX_NODES (codes "nodes") rows nodes × IsCount MAX_WORKERS (codes "workers") rows workers
-
 -- it is the one of this name, at so many nodes with so many workers
 abbrev pub IsAt : Text → ℕ → ℕ → Option (Text × List Row) → Type 0
-IsAt name nodes workers found = (rows : List Row) × (found ≡ Some (name, rows)) × AreCounts nodes workers rows
+IsAt name nodes workers found = (rows : List Row) × (found ≡ Some (name, rows)) × AreCountsIn rows nodes workers
 
 -- it is `run`, in so many generations
 abbrev pub IsRunOver : ℕ → Option (Text × List Row) → Type 0
@@ -123,14 +92,6 @@ IsNeither found = ((kind : TextKind) → ¬ IsReading kind found)
 
 -- ---- what the words ask for
 
--- help
-abbrev pub AsksForHelp : List Text → Type 0
-AsksForHelp words = IsAmong DisplayHelp (fault_of tp_app words)
-
--- the version
-abbrev pub AsksForVersion : List Text → Type 0
-AsksForVersion words = IsAmong DisplayVersion (fault_of tp_app words)
-
 -- the answer to a text of this kind, to a script or to a trace
 abbrev pub AsksForText : TextKind → List Text → Type 0
 AsksForText kind words = IsReading kind (subcommand_of tp_app words)
@@ -143,9 +104,9 @@ ReadsAText words = (kind : TextKind) × AsksForText kind words
 abbrev pub AsksForRun : List Text → Text → Type 0
 AsksForRun words spec = IsRunNaming spec (subcommand_of tp_app words)
 
--- a run at so many nodes, with some number of workers
-abbrev pub AsksForNodes : List Text → ℕ → Type 0
-AsksForNodes words nodes = (workers : ℕ) × IsAt (codes "run") nodes workers (subcommand_of tp_app words)
+-- a run at so many nodes, with so many workers
+abbrev pub AsksForRunAt : List Text → ℕ → ℕ → Type 0
+AsksForRunAt words nodes workers = IsAt (codes "run") nodes workers (subcommand_of tp_app words)
 
 -- a run in so many generations
 abbrev pub AsksForGenerations : List Text → ℕ → Type 0
@@ -159,25 +120,10 @@ AsksForForm words form = IsRunIn form (subcommand_of tp_app words)
 abbrev pub AsksForPools : List Text → List Text → Type 0
 AsksForPools words specs = IsPoolsNaming specs (subcommand_of tp_app words)
 
--- these at so many nodes each, with some number of workers
-abbrev pub AsksForPoolsAt : List Text → ℕ → Type 0
-AsksForPoolsAt words nodes = (workers : ℕ) × IsAt (codes "pools") nodes workers (subcommand_of tp_app words)
+-- these at so many nodes each, with so many workers
+abbrev pub AsksForPoolsAt : List Text → ℕ → ℕ → Type 0
+AsksForPoolsAt words nodes workers = IsAt (codes "pools") nodes workers (subcommand_of tp_app words)
 
 -- nothing that is known
 abbrev pub AsksForNothing : List Text → Type 0
 AsksForNothing words = IsNeither (subcommand_of tp_app words)
-
--- ---- why the words make no request
-
--- help or the version is asked for
-abbrev pub IsToBeShown : ErrorKind → Type 0
-IsToBeShown kind = (kind ≡ DisplayHelp) ⊎ (kind ≡ DisplayVersion)
-
--- The words make no request by this kind: there was no memory, or it is among the faults of the words, or they ask for nothing.
-abbrev pub FailsAs : List Text → ErrorKind → Type 0
-FailsAs words kind =
-    (kind ≡ OutOfMemory) ⊎ (IsAmong kind (fault_of tp_app words) ⊎ ((kind ≡ MissingSubcommand) × AsksForNothing words))
-
--- The words are at fault: of their faults one asks for neither help nor the version, or they ask for nothing.
-abbrev pub AreAtFault : List Text → Type 0
-AreAtFault words = ((kind : ErrorKind) × ¬ IsToBeShown kind × IsAmong kind (fault_of tp_app words)) ⊎ AsksForNothing words

@@ -1,49 +1,62 @@
--- What each exit status says of the words, of what was read, and of what was written. The reader and the writer are seen by the
--- bytes that they had before and have now.
+-- What each exit status says of the words, of what was read, and of what was written; and by which faults there is no answer. The
+-- reader and the writer are seen by the bytes that they had before and have now.
 use Rattle.std.specs.Prelude.{ℕ, ◌⊎◌, Bool, true, false, List, Option}
 use Rattle.std.specs.Io.KnownBytes.{Appends}
 use Rattle.clap.specs.Words.{Text}
-use Rattle.tp_cli.specs.Command.{AreAtFault, AsksForForm, AsksForGenerations, AsksForHelp, AsksForNodes, AsksForPools, AsksForPoolsAt, AsksForRun, AsksForText, AsksForVersion, ReadsAText}
-use Rattle.tp_cli.specs.Pools.{AreInVain, IsPoolsText}
-use Rattle.tp_cli.specs.Runs.{IsTextFor, NamesNoGraph}
 use Rattle.tp_base.specs.declared.refusal.Refusal.{Refusal}
-use Rattle.tp_cli.specs.Texts.{IsAnswerTo}
+use Rattle.tp_cli.specs.Command.{AsksForForm, AsksForGenerations, AsksForNothing, AsksForPools, AsksForPoolsAt, AsksForRun, AsksForRunAt, AsksForText, tp_app}
+use Rattle.tp_cli.specs.Pools.{AreInVain, IsPoolsText, MayNamePools}
+use Rattle.tp_cli.specs.Runs.{IsRefusedRun, IsTextFor, NamesNoGraph}
+use Rattle.tp_cli.specs.Texts.{IsAnswerTo, IsUnansweredText}
+use Rattle.tp_cli.specs.declared.fault.Fault.{Fault}
+use Rattle.tp_cli.specs.declared.fault.Fault.TheVariants as faults
+use Rattle.tp_cli.specs.declared.fault.RunFault.{RunFault}
 use Rattle.tp_cli.specs.declared.run.Form.{Form}
 use Rattle.tp_cli.specs.declared.text.TextKind.{TextKind}
+use Rattle.tp_shell.specs.Command.{AsksToBeShown, IsWordsFault}
+use Rattle.tp_shell.specs.Streams.{HasShown}
+use Rattle.tp_shell.specs.declared.status.Status.{Status}
+use Rattle.tp_shell.specs.declared.status.Status.TheVariants as statuses
+use Rattle.tp_shell.specs.declared.words.WordsFault.TheVariants.{Write}
+use Rattle.tp_text.specs.declared.TextFault.{TextFault}
+use Rattle.tp_text.specs.declared.TextFault.TheVariants as texts
 use Rattle.tp_text.specs.declared.Verdict.{Verdict}
 use Rattle.tp_text.specs.declared.Verdict.TheVariants.{Sound, Refused}
 
 -- The words ask for the answer to a script or to a trace, and all was read and this is answered to it, with this verdict.
 abbrev pub IsReadText : List Text → Option (List ℕ) → Option (List ℕ) → Verdict → List ℕ → Type 0
-IsReadText words read_old read_new verdict text = (kind : TextKind) × AsksForText kind words × IsAnswerTo kind read_old read_new verdict text
+IsReadText words read_old read_new verdict text =
+    (kind : TextKind) × AsksForText kind words × IsAnswerTo kind read_old read_new verdict text
 
--- The words ask for a run of a pool, and this is the text of such a run, each of its generations to its judged end, in the
--- form that they ask for.
+-- The words ask for a run of a pool, and this is the text of such a run, at so many nodes as they ask for,
+-- each of its generations to its judged end, in the form that they ask for.
 abbrev pub IsRunText : List Text → List ℕ → Type 0
-IsRunText words text = (word : Text) × (nodes : ℕ) × (count : ℕ) × (form : Form)
-    × AsksForRun words word × AsksForNodes words nodes × AsksForGenerations words count × AsksForForm words form
-    × IsTextFor form word nodes count text
+IsRunText words text = (word : Text) × (nodes : ℕ) × (workers : ℕ) × (count : ℕ) × (form : Form)
+    × AsksForRun words word × AsksForRunAt words nodes workers × AsksForGenerations words count × AsksForForm words form
+    × IsTextFor form word nodes workers count text
+
+-- The words ask for a run of a pool, and by this fault there is no text of it.
+abbrev pub LacksRunText : List Text → RunFault → Type 0
+LacksRunText words fault = (word : Text) × (nodes : ℕ) × (workers : ℕ) × (count : ℕ) × (form : Form)
+    × AsksForRun words word × AsksForRunAt words nodes workers × AsksForGenerations words count × AsksForForm words form
+    × IsRefusedRun form word nodes workers count fault
 
 -- The words ask for runs of several pools, which were run, each of them ended or not, and this is the text of what they answered.
 abbrev pub IsTextOfPools : List Text → Bool → List ℕ → Type 0
-IsTextOfPools words each_ended text = (specs : List Text) × (nodes : ℕ)
-    × AsksForPools words specs × AsksForPoolsAt words nodes × IsPoolsText specs nodes each_ended text
+IsTextOfPools words each_ended text = (specs : List Text) × (nodes : ℕ) × (workers : ℕ)
+    × AsksForPools words specs × AsksForPoolsAt words nodes workers × IsPoolsText specs nodes workers each_ended text
 
 -- This is what was asked for and came to its end: the answer to a sound text, or the text of a run, or of several.
 abbrev pub IsTextAskedFor : List Text → Option (List ℕ) → Option (List ℕ) → List ℕ → Type 0
 IsTextAskedFor words read_old read_new text =
     IsReadText words read_old read_new Sound text ⊎ (IsRunText words text ⊎ IsTextOfPools words true text)
 
--- The words ask for help or for the version.
-abbrev pub AsksToBeShown : List Text → Type 0
-AsksToBeShown words = AsksForHelp words ⊎ AsksForVersion words
-
 -- 0: the answer to a sound script or trace, or the text of a pool's run, or of the runs of several pools that all ended, was
--- written and nothing else, or help or the version was shown.
+-- written and nothing else; or help or the version was asked for and shown.
 abbrev pub Succeeded : List Text → Option (List ℕ) → Option (List ℕ) → Option (List ℕ) → Option (List ℕ) → Type 0
 Succeeded words read_old read_new written_old written_new =
     ((text : List ℕ) × IsTextAskedFor words read_old read_new text × Appends written_old written_new text)
-    ⊎ AsksToBeShown words
+    ⊎ (AsksToBeShown tp_app words × HasShown written_old written_new)
 
 -- 2: the script is not of the grammar, or the trace is not sound, which was written and nothing else.
 abbrev pub RefusedText : List Text → Option (List ℕ) → Option (List ℕ) → Option (List ℕ) → Option (List ℕ) → Type 0
@@ -55,19 +68,43 @@ RefusedText words read_old read_new written_old written_new =
 abbrev pub RefusedPool : List Text → Option (List ℕ) → Option (List ℕ) → Type 0
 RefusedPool words written_old written_new = (text : List ℕ) × IsTextOfPools words false text × Appends written_old written_new text
 
--- 1, where something may have been written: what was asked for was made, and then the writing failed.
-abbrev pub CouldNotWrite : List Text → Option (List ℕ) → Option (List ℕ) → Type 0
-CouldNotWrite words read_old read_new =
-    ((verdict : Verdict) × (text : List ℕ) × IsReadText words read_old read_new verdict text)
-    ⊎ (((text : List ℕ) × IsRunText words text)
-    ⊎ (((each_ended : Bool) × (text : List ℕ) × IsTextOfPools words each_ended text) ⊎ AsksToBeShown words))
+-- what was written where there was an answer, by its status
+abbrev pub HasAnswered : List Text → Option (List ℕ) → Option (List ℕ) → Option (List ℕ) → Option (List ℕ) → Status → Type 0
+HasAnswered words read_old read_new written_old written_new statuses.Done = Succeeded words read_old read_new written_old written_new
+HasAnswered words read_old read_new written_old written_new statuses.Fault = ⊥
+HasAnswered words read_old read_new written_old written_new statuses.Refused =
+    RefusedText words read_old read_new written_old written_new
+HasAnswered words read_old read_new written_old written_new statuses.Failed = RefusedPool words written_old written_new
 
--- the words are those of several pools, and in vain
-abbrev pub NamesPoolsInVain : List Text → Type 0
-NamesPoolsInVain words = (specs : List Text) × (refusal : Refusal) × AsksForPools words specs × AreInVain specs refusal
+-- ---- faults
 
--- 1, where nothing was written: the words are at fault, or name no pool, or pools in vain, or the text could not be read or is
--- too long.
-abbrev pub Complained : List Text → Type 0
-Complained words = AreAtFault words
-    ⊎ (((word : Text) × AsksForRun words word × NamesNoGraph word) ⊎ (NamesPoolsInVain words ⊎ ReadsAText words))
+-- By this fault something may have been written: what was asked for was made, and then the writing failed.
+abbrev pub CouldNotWrite : List Text → Option (List ℕ) → Option (List ℕ) → Fault → Type 0
+CouldNotWrite words read_old read_new (faults.Words Write) = AsksToBeShown tp_app words
+CouldNotWrite words read_old read_new (faults.Text texts.Write) =
+    (verdict : Verdict) × (text : List ℕ) × IsReadText words read_old read_new verdict text
+CouldNotWrite words read_old read_new faults.Write =
+    ((text : List ℕ) × IsRunText words text) ⊎ ((each_ended : Bool) × (text : List ℕ) × IsTextOfPools words each_ended text)
+CouldNotWrite words read_old read_new fault = ⊥
+
+-- The words ask for the answer to a text, and by this fault there is none.
+abbrev pub LacksAnswer : List Text → Option (List ℕ) → Option (List ℕ) → TextFault → Type 0
+LacksAnswer words read_old read_new fault = (kind : TextKind) × AsksForText kind words × IsUnansweredText kind read_old read_new fault
+
+-- the words are those of several pools, and in vain, for this
+abbrev pub NamesPoolsInVain : List Text → Refusal → Type 0
+NamesPoolsInVain words refusal = (specs : List Text) × AsksForPools words specs × AreInVain specs refusal
+
+-- The words are those of several pools, and nothing is found against them by the first.
+abbrev pub MayRunPools : List Text → Type 0
+MayRunPools words = (specs : List Text) × AsksForPools words specs × MayNamePools specs
+
+-- By this fault nothing was written.
+abbrev pub HasNothing : List Text → Option (List ℕ) → Option (List ℕ) → Fault → Type 0
+HasNothing words read_old read_new (faults.Words fault) = IsWordsFault tp_app (AsksForNothing words) words fault
+HasNothing words read_old read_new (faults.Text fault) = LacksAnswer words read_old read_new fault
+HasNothing words read_old read_new faults.NoPool = (word : Text) × AsksForRun words word × NamesNoGraph word
+HasNothing words read_old read_new (faults.InVain refusal) = NamesPoolsInVain words refusal
+HasNothing words read_old read_new (faults.Run fault) = LacksRunText words fault
+HasNothing words read_old read_new faults.Memory = MayRunPools words
+HasNothing words read_old read_new faults.Write = ⊥

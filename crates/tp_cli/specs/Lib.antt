@@ -1,7 +1,7 @@
 pub mod Asked
 pub mod Command
 pub mod Ends
+pub mod Faults
 pub mod Pools
 pub mod Runs
-pub mod Status
 pub mod Texts

@@ -1,18 +1,22 @@
 -- The words of several pools: which of them are refused, and the text of their runs.
-use Rattle.std.specs.Prelude.{ℕ, suc, ◌≡◌, ◌≤◌, ◌<◌, ◌⊎◌, ◌++◌, Bool, true, List, [], ◌∷◌, Some, Result, Ok, Err, codes, decimal, length, map, slice_get, take}
+use Rattle.std.specs.Prelude.{ℕ, suc, ◌≡◌, ◌≤◌, ◌<◌, ◌⊎◌, ◌++◌, Bool, true, false, List, [], ◌∷◌, Some, Result, Ok, Err, codes, decimal, length, map, slice_get, take}
 use Rattle.std.specs.List.{list_all, list_any}
 use Rattle.std.specs.Result.{is_ok}
 use Rattle.std.specs.Str.{bytes_eq}
 use Rattle.tp_base.specs.Refusals.{number_of, name_of}
 use Rattle.tp_base.specs.declared.limits.TheConstants.{MAX_POOLS}
 use Rattle.tp_base.specs.declared.refusal.Refusal.{Refusal}
-use Rattle.tp_base.specs.declared.refusal.Refusal.TheVariants.{BadSpec, PoolKnown, StoreFull}
+use Rattle.tp_base.specs.declared.refusal.Refusal.TheVariants.{BadSpec, NoMemory, PoolKnown, StoreFull}
 use Rattle.tp_cli.specs.Runs.{NamesNoGraph}
+use Rattle.tp_cli.specs.declared.fault.Fault.{Fault}
+use Rattle.tp_cli.specs.declared.fault.Fault.TheVariants as faults
 use Rattle.tp_pools.specs.Pools.{Pools, registered}
 use Rattle.pool_samples.specs.Words.{word_of}
 use Rattle.pool_samples.specs.declared.any.AnyGraph.{AnyGraph}
 use Rattle.tp_several.specs.Answers.{AreRunAnswers}
-use Rattle.tp_work.specs.declared.config.Fault.{Fault}
+use Rattle.tp_shell.specs.declared.status.Status.{Status}
+use Rattle.tp_shell.specs.declared.status.Status.TheVariants.{Done, Failed}
+use Rattle.tp_work.specs.declared.config.Fault as ended
 use Rattle.tp_work.specs.declared.config.Outcome.{Outcome}
 
 abbrev pub Word : Type 0
@@ -32,11 +36,26 @@ IsRefusedBehind before word r = ((r ≡ BadSpec) × NamesNoGraph word) ⊎ ((r �
 abbrev pub AreTakenTo : ℕ → List Word → Type 0
 AreTakenTo k words = (i : ℕ) (word : Word) (r : Refusal) → i < k → slice_get words i ≡ Some word → ¬ IsRefusedBehind (take i words) word r
 
+-- The words may name pools: there are at most 8, and the first is not refused.
+abbrev pub MayNamePools : List Word → Type 0
+MayNamePools words = (length words ≤ MAX_POOLS) × AreTakenTo 1 words
+
 -- These words are refused for this: there are more than 8 of them, or else for the first that is refused behind those before it.
 abbrev pub AreInVain : List Word → Refusal → Type 0
 AreInVain words r = ((MAX_POOLS < length words) × (r ≡ StoreFull))
     ⊎ ((length words ≤ MAX_POOLS)
     × ((i : ℕ) × (word : Word) × (slice_get words i ≡ Some word) × AreTakenTo i words × IsRefusedBehind (take i words) word r))
+
+-- the fault of a word that was refused: want of memory is none of its own
+abbrev pub word_fault : Refusal → Fault
+word_fault NoMemory = faults.Memory
+word_fault r = faults.InVain r
+
+-- why the words' pools are not registered: they are in vain, for this; or there was no memory, and they may name pools
+abbrev pub IsWordsFault : List Word → Fault → Type 0
+IsWordsFault words (faults.InVain r) = AreInVain words r
+IsWordsFault words faults.Memory = MayNamePools words
+IsWordsFault words fault = ⊥
 
 -- The words name these graphs, no two are the same, and there are at most 8.
 pub record AreNamed (words : List Word) (graphs : List AnyGraph) : Type 0 where
@@ -51,19 +70,31 @@ pools_of graphs = map (λ g. registered (word_of g) g) graphs
 -- ---- the text
 
 -- the line of the pool of this number and word: its tasks and messages where it ended, or what it was refused for
-abbrev pub pool_line : ℕ → Word → Result Outcome Fault → List ℕ
+abbrev pub pool_line : ℕ → Word → Result Outcome ended.Fault → List ℕ
 pool_line i word (Ok o) = codes "pool " ++ (decimal i ++ (codes " " ++ (word
     ++ (codes " ended tasks " ++ (decimal o.tasks ++ (codes " messages " ++ (decimal o.messages ++ codes "\n")))))))
 pool_line i word (Err f) = codes "pool " ++ (decimal i ++ (codes " " ++ (word
     ++ (codes " refused " ++ (decimal (number_of f.refusal) ++ (codes " " ++ (name_of f.refusal ++ codes "\n")))))))
 
 -- the lines of these words' pools by their answers, in their order, the first being of this number
-unfoldable pub lines_from : ℕ → List Word → List (Result Outcome Fault) → List ℕ
+unfoldable pub lines_from : ℕ → List Word → List (Result Outcome ended.Fault) → List ℕ
 lines_from i (word ∷ words) (answer ∷ answers) = pool_line i word answer ++ lines_from (suc i) words answers
 lines_from i _ _ = []
 
--- The words name pools, these were run on n nodes, each of them ended or not, and this is the text of what they answered.
-abbrev pub IsPoolsText : List Word → ℕ → Bool → List ℕ → Type 0
-IsPoolsText words n each_ended text = (graphs : List AnyGraph) × (answers : List (Result Outcome Fault))
+-- The words name pools, these were run on n nodes, each of them ended or not, and this is the text of what they answered; how many
+-- workers there were no outcome tells.
+abbrev pub IsPoolsText : List Word → ℕ → ℕ → Bool → List ℕ → Type 0
+IsPoolsText words n workers each_ended text = (graphs : List AnyGraph) × (answers : List (Result Outcome ended.Fault))
     × AreNamed words graphs × AreRunAnswers n graphs answers
     × (each_ended ≡ list_all is_ok answers) × (text ≡ lines_from 0 words answers)
+
+-- why the words' pools were not run, or the text of what they answered was not written: the words are in vain; or there was no
+-- memory, and they may name pools; or there is a text, and it could not be written
+abbrev pub IsPoolsFault : List Word → ℕ → ℕ → Fault → Type 0
+IsPoolsFault words n workers faults.Write = (each_ended : Bool) × (text : List ℕ) × IsPoolsText words n workers each_ended text
+IsPoolsFault words n workers fault = IsWordsFault words fault
+
+-- the status of several pools that were run, each of which ended or not
+abbrev pub status_of_pools : Bool → Status
+status_of_pools true = Done
+status_of_pools false = Failed

@@ -1,6 +1,5 @@
 -- The text of a pool's run, in one generation or in several.
 use Rattle.std.specs.Prelude.{ℕ, suc, ◌≡◌, ◌≢◌, ◌≤◌, ◌⊎◌, ◌++◌, List, [], ◌∷◌, Some, codes, decimal, slice_get, vec_len}
-use Rattle.tp_base.specs.Refusals.{number_of, name_of}
 use Rattle.tp_base.specs.declared.refusal.Refusal.{Refusal}
 use Rattle.tp_base.specs.declared.refusal.Refusal.TheVariants.{BadSpec, Missing, NoMemory}
 use Rattle.tp_graph.specs.Serial.{AreRight, Results}
@@ -9,6 +8,10 @@ use Rattle.pool_samples.specs.Tables.{LacksCell, table_of, table_text}
 use Rattle.pool_samples.specs.Words.{word_of}
 use Rattle.pool_samples.specs.declared.any.AnyGraph.{AnyGraph}
 use Rattle.tp_cli.specs.declared.command.TheConstants.{MAX_GENERATIONS}
+use Rattle.tp_cli.specs.declared.fault.Fault.{Fault}
+use Rattle.tp_cli.specs.declared.fault.Fault.TheVariants as faults
+use Rattle.tp_cli.specs.declared.fault.RunFault.{RunFault}
+use Rattle.tp_cli.specs.declared.fault.RunFault.TheVariants.{Pool, Text}
 use Rattle.tp_cli.specs.declared.run.Form.{Form}
 use Rattle.tp_cli.specs.declared.run.Form.TheVariants.{Table, Trace}
 use Rattle.tp_cli.specs.declared.run.Plan.{Plan}
@@ -17,7 +20,6 @@ use Rattle.tp_text.specs.TraceOf.{CanBeTraced, IsTraceOf}
 use Rattle.tp_wave.specs.Machine.{History, steps_of}
 use Rattle.tp_work.specs.Outcomes.{HasEachOnce, IsFault, IsOutcome, IsWithinLimits}
 use Rattle.tp_work.specs.Series.{IsSeries, IsSeriesFault}
-use Rattle.tp_work.specs.declared.config.Fault.{Fault}
 use Rattle.tp_work.specs.declared.config.Outcome.{Outcome}
 use Rattle.tp_work.specs.declared.series.Round.{Round}
 use Rattle.tp_work.specs.declared.series.Series.{Series}
@@ -49,21 +51,22 @@ abbrev pub IsPrintOfSeries : Form → AnyGraph → ℕ → Series → List ℕ �
 IsPrintOfSeries Table g n s text = text ≡ rounds_text g 1 s.rounds.items
 IsPrintOfSeries Trace g n s text = IsTraceOf n (steps_of s.history.events) text
 
--- the text, in this form, of a run of a graph on n nodes to its judged end
-abbrev pub IsTextOfOne : Form → AnyGraph → ℕ → List ℕ → Type 0
-IsTextOfOne form g n text = (o : Outcome) × IsOutcome n (any_graph g) o × IsPrintOf form g n o text
+-- the text, in this form, of a run of a graph on n nodes to its judged end; how many workers there were no outcome tells
+abbrev pub IsTextOfOne : Form → AnyGraph → ℕ → ℕ → List ℕ → Type 0
+IsTextOfOne form g n workers text = (o : Outcome) × IsOutcome n (any_graph g) o × IsPrintOf form g n o text
 
 -- the text, in this form, of so many generations of a graph on n nodes, each run to its judged end
-abbrev pub IsTextOfSeries : Form → AnyGraph → ℕ → ℕ → List ℕ → Type 0
-IsTextOfSeries form g n count text = (s : Series) × IsSeries n (any_graph g) count s × IsPrintOfSeries form g n s text
+abbrev pub IsTextOfSeries : Form → AnyGraph → ℕ → ℕ → ℕ → List ℕ → Type 0
+IsTextOfSeries form g n workers count text = (s : Series) × IsSeries n (any_graph g) count s × IsPrintOfSeries form g n s text
 
 -- The text of a run in one generation, or of a series of more.
-abbrev pub IsTextOf : Form → AnyGraph → ℕ → ℕ → List ℕ → Type 0
-IsTextOf form g n count text = ((count ≡ 1) × IsTextOfOne form g n text) ⊎ ((2 ≤ count) × IsTextOfSeries form g n count text)
+abbrev pub IsTextOf : Form → AnyGraph → ℕ → ℕ → ℕ → List ℕ → Type 0
+IsTextOf form g n workers count text =
+    ((count ≡ 1) × IsTextOfOne form g n workers text) ⊎ ((2 ≤ count) × IsTextOfSeries form g n workers count text)
 
 -- The word names a graph, and this is the text, in this form, of so many generations of it on n nodes.
-abbrev pub IsTextFor : Form → List ℕ → ℕ → ℕ → List ℕ → Type 0
-IsTextFor form word n count text = (g : AnyGraph) × (word ≡ word_of g) × IsTextOf form g n count text
+abbrev pub IsTextFor : Form → List ℕ → ℕ → ℕ → ℕ → List ℕ → Type 0
+IsTextFor form word n workers count text = (g : AnyGraph) × (word ≡ word_of g) × IsTextOf form g n workers count text
 
 -- what makes a round one of a graph: each task has one result, the value that the graph defines, and no other task has any
 pub record IsRoundOf (g : AnyGraph) (round : Round) : Type 0 where
@@ -93,23 +96,25 @@ abbrev pub IsUnprintedSeries : Form → AnyGraph → Series → Refusal → Type
 IsUnprintedSeries Table g s r = IsUntoldRound g s.rounds.items r
 IsUnprintedSeries Trace g s r = IsUntraced s.history.events r
 
--- Why there is no text, in this form, of a run of a graph on n nodes: the run has this fault, or its outcome is not printed.
-abbrev pub IsWithoutOne : Form → AnyGraph → ℕ → Refusal → Type 0
-IsWithoutOne form g n r = ((f : Fault) × IsFault n (any_graph g) f × (f.refusal ≡ r))
-    ⊎ ((o : Outcome) × IsOutcome n (any_graph g) o × IsUnprinted form g o r)
+-- Why there is no text, in this form, of a run of a graph on n nodes: this is the fault of its run, or its outcome is not
+-- printed, for this.
+abbrev pub IsWithoutOne : Form → AnyGraph → ℕ → ℕ → RunFault → Type 0
+IsWithoutOne form g n workers (Pool fault) = IsFault n (any_graph g) fault
+IsWithoutOne form g n workers (Text r) = (o : Outcome) × IsOutcome n (any_graph g) o × IsUnprinted form g o r
 
 -- and of so many generations
-abbrev pub IsWithoutSeries : Form → AnyGraph → ℕ → ℕ → Refusal → Type 0
-IsWithoutSeries form g n count r = ((f : Fault) × IsSeriesFault n (any_graph g) count f × (f.refusal ≡ r))
-    ⊎ ((s : Series) × IsSeries n (any_graph g) count s × IsUnprintedSeries form g s r)
+abbrev pub IsWithoutSeries : Form → AnyGraph → ℕ → ℕ → ℕ → RunFault → Type 0
+IsWithoutSeries form g n workers count (Pool fault) = IsSeriesFault n (any_graph g) count fault
+IsWithoutSeries form g n workers count (Text r) = (s : Series) × IsSeries n (any_graph g) count s × IsUnprintedSeries form g s r
 
 -- Why there is no text of a run in one generation, or of a series of more.
-abbrev pub IsWithoutText : Form → AnyGraph → ℕ → ℕ → Refusal → Type 0
-IsWithoutText form g n count r = ((count ≡ 1) × IsWithoutOne form g n r) ⊎ ((2 ≤ count) × IsWithoutSeries form g n count r)
+abbrev pub IsWithoutText : Form → AnyGraph → ℕ → ℕ → ℕ → RunFault → Type 0
+IsWithoutText form g n workers count fault =
+    ((count ≡ 1) × IsWithoutOne form g n workers fault) ⊎ ((2 ≤ count) × IsWithoutSeries form g n workers count fault)
 
--- The word names a graph, and for this there is no text, in this form, of so many generations of it on n nodes.
-abbrev pub IsRefusedRun : Form → List ℕ → ℕ → ℕ → Refusal → Type 0
-IsRefusedRun form word n count r = (g : AnyGraph) × (word ≡ word_of g) × IsWithoutText form g n count r
+-- The word names a graph, and by this fault there is no text, in this form, of so many generations of it on n nodes.
+abbrev pub IsRefusedRun : Form → List ℕ → ℕ → ℕ → ℕ → RunFault → Type 0
+IsRefusedRun form word n workers count fault = (g : AnyGraph) × (word ≡ word_of g) × IsWithoutText form g n workers count fault
 
 -- how a pool may be run
 abbrev pub IsPlan : Plan → Type 0
@@ -119,6 +124,10 @@ IsPlan p = IsWithinLimits p.config × (1 ≤ p.generations) × (p.generations �
 abbrev pub NamesNoGraph : List ℕ → Type 0
 NamesNoGraph word = (g : AnyGraph) → word ≢ word_of g
 
--- the line of a refusal
-abbrev pub refusal_line : Refusal → List ℕ
-refusal_line r = line (codes "refused " ++ decimal (number_of r) ++ codes " " ++ name_of r)
+-- Why a word's pool was not run by this plan, or its text not written: it names no graph; or by this fault there is no text; or
+-- there is one, and it could not be written.
+abbrev pub IsRunFault : Plan → List ℕ → Fault → Type 0
+IsRunFault p word faults.NoPool = NamesNoGraph word
+IsRunFault p word (faults.Run fault) = IsRefusedRun p.form word p.config.nodes p.config.workers p.generations fault
+IsRunFault p word faults.Write = (text : List ℕ) × IsTextFor p.form word p.config.nodes p.config.workers p.generations text
+IsRunFault p word fault = ⊥

@@ -1,11 +1,19 @@
 -- What is answered to a text that is read. The reader is seen by the bytes that it had before and has now.
-use Rattle.std.specs.Prelude.{ℕ, List, Option}
+use Rattle.std.specs.Prelude.{ℕ, ◌≡◌, ◌+◌, List, Option, length}
+use Rattle.std.specs.Io.KnownBytes.{Consumes}
 use Rattle.tp_cli.specs.declared.text.TextKind.{TextKind}
 use Rattle.tp_cli.specs.declared.text.TextKind.TheVariants.{Script, Trace}
 use Rattle.tp_text.specs.AuditText.{IsAuditText}
 use Rattle.tp_text.specs.Input.{ReadsAll}
 use Rattle.tp_text.specs.SimText.{IsSimText}
+use Rattle.tp_shell.specs.declared.status.Status.{Status}
+use Rattle.tp_shell.specs.declared.status.Status.TheVariants.{Done}
+use Rattle.tp_shell.specs.declared.status.Status.TheVariants as statuses
+use Rattle.tp_text.specs.declared.TextFault.{TextFault}
+use Rattle.tp_text.specs.declared.TextFault.TheVariants as texts
 use Rattle.tp_text.specs.declared.Verdict.{Verdict}
+use Rattle.tp_text.specs.declared.input.TheConstants.{MAX_TEXT}
+use Rattle.tp_text.specs.declared.Verdict.TheVariants.{Sound, Refused}
 
 -- This text is what is answered to bytes of this kind, with this verdict.
 abbrev pub IsTextTo : TextKind → List ℕ → Verdict → List ℕ → Type 0
@@ -15,3 +23,16 @@ IsTextTo Trace bytes verdict text = IsAuditText bytes verdict text
 -- All that the reader had was read, and this text is what is answered to it, with this verdict.
 abbrev pub IsAnswerTo : TextKind → Option (List ℕ) → Option (List ℕ) → Verdict → List ℕ → Type 0
 IsAnswerTo kind read_old read_new verdict text = (bytes : List ℕ) × ReadsAll read_old read_new bytes × IsTextTo kind bytes verdict text
+
+-- Why nothing is answered to what is read, or the answer was not written: more than a text may have was read, one byte more; or
+-- the answer could not be written; or the reading failed, or there was no memory.
+abbrev pub IsUnansweredText : TextKind → Option (List ℕ) → Option (List ℕ) → TextFault → Type 0
+IsUnansweredText kind read_old read_new texts.Read = Unit {0}
+IsUnansweredText kind read_old read_new texts.TooLong = (bytes : List ℕ) × Consumes read_old read_new bytes × (length bytes ≡ MAX_TEXT + 1)
+IsUnansweredText kind read_old read_new texts.Write = (verdict : Verdict) × (text : List ℕ) × IsAnswerTo kind read_old read_new verdict text
+IsUnansweredText kind read_old read_new texts.Memory = Unit {0}
+
+-- the status of a text that was answered
+abbrev pub status_of_verdict : Verdict → Status
+status_of_verdict Sound = Done
+status_of_verdict Refused = statuses.Refused

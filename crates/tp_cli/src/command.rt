@@ -1,17 +1,15 @@
 ghost use Rattle.std.specs.Prelude.{◌≡◌, IfOk, codes, false};
 ghost use Rattle.clap.specs.Words.{app_of, rule_of};
 ghost use Rattle.clap.specs.declared.builder.command.Command.TheViews.{out-Command};
-ghost use Rattle.tp_cli.specs.Command.{audit_app, count_rule, pools_app, run_app, sim_app, spec_rule, texts_app, tp_app, trace_rule, with_count_rules};
+ghost use Rattle.tp_cli.specs.Command.{audit_app, pools_app, run_app, sim_app, spec_rule, texts_app, tp_app, trace_rule};
+ghost use Rattle.tp_shell.specs.Command.{count_rule};
 
-use clap::{Arg, ArgAction, Command, value_parser};
+use clap::{Arg, ArgAction, Command};
 use std::alloc::{AllocError, Global};
-use tp_base::{MAX_NODES, MAX_WORKERS};
+use tp_shell::{VERSION, count_option, with_counts};
 
 /// The most generations that a pool is run in.
 pub(crate) const MAX_GENERATIONS: u32 = 9;
-
-/// The version of the program.
-static VERSION: &str = "0.1.0";
 
 /// The command line: one level of subcommands.
 pub(crate) fn tp_command<'a>(alloc: Global) -> Result<Command<'a>, AllocError>
@@ -107,31 +105,6 @@ fn pools_command<'a>(alloc: Global) -> Result<Command<'a>, AllocError>
         .after_help(POOLS_HELP)
         .arg(specs)?;
     with_counts(alloc, command)
-}
-
-/// The command with the options that say how many nodes and workers there are.
-fn with_counts<'a>(alloc: Global, command: Command<'a>) -> Result<Command<'a>, AllocError>
-    ensures app { IfOk result (λ counted. app_of counted ≡ with_count_rules (app_of command.entry)) }
-    ensures local { (out-Command command.entry).has_globals ≡ false → IfOk result (λ counted. (out-Command counted).has_globals ≡ false) }
-{
-    let nodes = count_option(alloc, "nodes", "1-8", MAX_NODES).help("N, how many nodes there are");
-    let workers = count_option(alloc, "workers", "1-8", MAX_WORKERS).help(
-        "W, how many threads work at each node",
-    );
-    command.arg(nodes)?.arg(workers)
-}
-
-/// An option that takes a number from 1 to so many. Its value is named by that range, so that a complaint of any other word
-/// says what is wanted.
-fn count_option<'a>(alloc: Global, name: &'a str, range: &'a str, most: u32) -> Arg<'a>
-    ensures rule { rule_of result ≡ count_rule name.entry.now most }
-    ensures local { result.global ≡ false }
-{
-    Arg::new(alloc, name)
-        .long(name)
-        .value_name(range)
-        .value_parser(value_parser!(u32).range(1..=i64::from(most)))
-        .default_value("1")
 }
 
 static TP_HELP: &str = "Try the life of a task:

@@ -3,12 +3,12 @@
 
 mod cli;
 mod command;
+mod fault;
 mod pools;
 mod request;
 mod run;
 mod series;
-mod status;
 mod text;
 
 pub use cli::main_with;
-pub use status::{Status, without_words};
+pub use fault::without_words;

@@ -1,17 +1,16 @@
-ghost use Rattle.std.specs.Prelude.{◌≡◌, ◌≢◌, List, ℕ, IfErr, IfOk, Bool, length, map};
+ghost use Rattle.std.specs.Prelude.{◌≡◌, ◌≢◌, Bool, List, ℕ, IfErr, IfOk, MatchResult, length, map};
 ghost use Rattle.std.specs.Io.KnownBytes.{Appends};
 ghost use Rattle.std.specs.List.{list_all};
 ghost use Rattle.std.specs.Result.{is_ok};
 ghost use Rattle.std.specs.String.{string_bytes};
 ghost use Rattle.tp_base.specs.Refusals.{name_of, number_of};
-ghost use Rattle.tp_base.specs.declared.refusal.Refusal.{Refusal};
 ghost use Rattle.tp_base.specs.declared.refusal.Refusal.TheVariants.{NoMemory};
-ghost use Rattle.tp_cli.specs.Pools.{AreInVain, AreNamed, IsPoolsText, lines_from, pool_line, pools_of};
+ghost use Rattle.tp_cli.specs.Pools.{AreNamed, IsPoolsFault, IsPoolsText, IsWordsFault, lines_from, pool_line, pools_of, status_of_pools, word_fault};
 ghost use Rattle.pool_samples.specs.declared.any.AnyGraph.{AnyGraph};
 ghost use Rattle.tp_several.specs.Answers.{AreRunAnswers};
 ghost use Rattle.tp_work.specs.Outcomes.{IsWithinLimits};
 
-use crate::run::{RunFault, write_text};
+use crate::fault::Fault;
 use std::alloc::{AllocError, Global};
 use std::io::Write;
 use std::sync::Wait;
@@ -19,50 +18,68 @@ use std::thread::Threads;
 use tp_base::{MAX_POOLS, Refusal};
 use tp_pools::Registry;
 use tp_several::run_pools;
-use tp_work::{Config, Fault, OpenGate, Outcome};
+use tp_shell::{Status, write_text};
+use tp_work::{Config, OpenGate, Outcome};
 
 /// Runs the pools that the words name, all at once, and writes a line for each, in the order of the words. Nothing is written
-/// before all of it is known. Answers whether each pool ended.
+/// before all of it is known. Answers the status by whether each pool ended.
 pub(crate) fn run_several<O: Write, R: Threads + Wait + Sync>(
     rt: &R,
     alloc: Global,
     words: &[&str],
     config: Config,
     out: &mut O,
-) -> Result<bool, RunFault>
+) -> Result<Status, Fault>
     requires { IsWithinLimits config }
-    ensures ran { IfOk result (λ each_ended. (text : List ℕ) × IsPoolsText (map (λ w. w.now) words.now) config.nodes each_ended text
+    ensures ran { IfOk result (λ status. (each_ended : Bool) × (text : List ℕ) × (status ≡ status_of_pools each_ended)
+        × IsPoolsText (map (λ w. w.now) words.now) config.nodes config.workers each_ended text
         × Appends (O.contents out.old) (O.contents out.new) text) }
-    // Where the text could not be written, it was made.
-    ensures made { IfErr result (λ fault. fault ≡ RunFault.Write
-        → (each_ended : Bool) × (text : List ℕ) × IsPoolsText (map (λ w. w.now) words.now) config.nodes each_ended text) }
-    ensures vain { IfErr result (λ fault. (refusal : Refusal) → fault ≡ RunFault.Spec refusal → AreInVain (map (λ w. w.now) words.now) refusal) }
-    ensures memory { IfErr result (λ fault. (refusal : Refusal) → fault ≡ RunFault.Run refusal → refusal ≡ NoMemory) }
-    ensures unwritten { IfErr result (λ fault. fault ≢ RunFault.Write → out.new ≡ out.old) }
+    ensures why { IfErr result (IsPoolsFault (map (λ w. w.now) words.now) config.nodes config.workers) }
+    ensures unwritten { IfErr result (λ fault. fault ≢ Fault.Write → out.new ≡ out.old) }
 {
     let registry = registry_of(alloc, words)?;
-    let answers = answers_of(rt, alloc, registry, config).map_err(RunFault::Run)?;
-    let text = text_of_pools(alloc, words, &answers).map_err(|_| RunFault::Run(Refusal::NoMemory))?;
-    write_text(out, &text)?;
-    Ok(each_ended(&answers))
+    let answers = match answers_of(rt, alloc, registry, config) {
+        Ok(answers) => answers,
+        Err(_) => return Err(Fault::Memory),
+    };
+    let text = match text_of_pools(alloc, words, &answers) {
+        Ok(text) => text,
+        Err(_) => return Err(Fault::Memory),
+    };
+    match write_text(out, &text) {
+        Ok(()) => Ok(status_of_pools(each_ended(&answers))),
+        Err(_) => Err(Fault::Write),
+    }
+}
+
+/// The status of several pools that were run, each of which ended or not.
+fn status_of_pools(each_ended: bool) -> Status
+    ensures { result ≡ status_of_pools each_ended }
+{
+    if each_ended {
+        Status::Done
+    } else {
+        Status::Failed
+    }
 }
 
 /// Whether each run ended.
-fn each_ended(answers: &[Result<Outcome, Fault>]) -> bool
+fn each_ended(answers: &[Result<Outcome, tp_work::Fault>]) -> bool
     ensures { result ≡ list_all is_ok answers.now }
 {
     answers.iter().all(|answer| answer.is_ok())
 }
 
-/// The registry in which the words' pools are registered, each under its word.
-fn registry_of(alloc: Global, words: &[&str]) -> Result<Registry, RunFault>
-    ensures named { IfOk result (λ registry. (graphs : List AnyGraph) × AreNamed (map (λ w. w.now) words.now) graphs × (registry ≡ pools_of graphs)) }
-    ensures vain { IfErr result (λ fault. (refusal : Refusal) → fault ≡ RunFault.Spec refusal → AreInVain (map (λ w. w.now) words.now) refusal) }
-    ensures memory { IfErr result (λ fault. (refusal : Refusal) → fault ≡ RunFault.Run refusal → refusal ≡ NoMemory) }
-    ensures unwritten { IfErr result (λ fault. fault ≢ RunFault.Write) }
+/// The registry in which the words' pools are registered, each under its word. Refused: `StoreFull` where there are more than 8
+/// words, and else for the first word in vain `BadSpec` where it names no pool, or `PoolKnown` where it stands before; and
+/// `Memory`, where the words before are not in vain.
+fn registry_of(alloc: Global, words: &[&str]) -> Result<Registry, Fault>
+    ensures { MatchResult result
+        (λ registry. (graphs : List AnyGraph) × AreNamed (map (λ w. w.now) words.now) graphs × (registry ≡ pools_of graphs))
+        (IsWordsFault (map (λ w. w.now) words.now)) }
 {
     if words.len() > MAX_POOLS as usize {
-        return Err(RunFault::Spec(Refusal::StoreFull));
+        return Err(Fault::InVain(Refusal::StoreFull));
     }
     let mut registry = Registry::new(alloc);
     for word in words {
@@ -74,14 +91,12 @@ fn registry_of(alloc: Global, words: &[&str]) -> Result<Registry, RunFault>
 }
 
 /// The fault of a word that was refused. Want of memory is none of its own.
-fn word_fault(refusal: Refusal) -> RunFault
-    ensures word { (r : Refusal) → result ≡ RunFault.Spec r → (refusal ≡ r) × (r ≢ NoMemory) }
-    ensures memory { (r : Refusal) → result ≡ RunFault.Run r → (refusal ≡ r) × (r ≡ NoMemory) }
-    ensures unwritten { result ≢ RunFault.Write }
+fn word_fault(refusal: Refusal) -> Fault
+    ensures { result ≡ word_fault refusal }
 {
     match refusal {
-        Refusal::NoMemory => RunFault::Run(refusal),
-        _ => RunFault::Spec(refusal),
+        Refusal::NoMemory => Fault::Memory,
+        _ => Fault::InVain(refusal),
     }
 }
 
@@ -91,7 +106,7 @@ fn answers_of<R: Threads + Wait + Sync>(
     alloc: Global,
     mut registry: Registry,
     config: Config,
-) -> Result<Vec<Result<Outcome, Fault>>, Refusal>
+) -> Result<Vec<Result<Outcome, tp_work::Fault>>, Refusal>
     requires { IsWithinLimits config }
     ensures ran { IfOk result (λ answers. (graphs : List AnyGraph) → registry ≡ pools_of graphs → AreRunAnswers config.nodes graphs answers.items) }
     ensures memory { IfErr result (λ refusal. refusal ≡ NoMemory) }
@@ -103,7 +118,7 @@ fn answers_of<R: Threads + Wait + Sync>(
 fn text_of_pools(
     alloc: Global,
     words: &[&str],
-    answers: &[Result<Outcome, Fault>],
+    answers: &[Result<Outcome, tp_work::Fault>],
 ) -> Result<Vec<u8>, AllocError>
     requires { length answers.now ≡ length words.now }
     ensures { IfOk result (λ text. text.items ≡ lines_from 0 (map (λ w. w.now) words.now) answers.now) }
@@ -121,7 +136,7 @@ fn pool_line(
     alloc: Global,
     number: usize,
     word: &str,
-    answer: &Result<Outcome, Fault>,
+    answer: &Result<Outcome, tp_work::Fault>,
 ) -> Result<String, AllocError>
     ensures { IfOk result (λ line. string_bytes line ≡ pool_line number word.now answer.now) }
 {
@@ -148,7 +163,7 @@ fn refused_line(
     alloc: Global,
     number: usize,
     word: &str,
-    fault: &Fault,
+    fault: &tp_work::Fault,
 ) -> Result<String, AllocError>
     ensures { IfOk result (λ line. string_bytes line ≡ pool_line number word.now (Err fault.now)) }
 {

@@ -1,11 +1,11 @@
-ghost use Rattle.std.specs.Prelude.{◌≡◌, ◌≤◌, ℕ, List, Some, None, IfErr, IfOk, MatchOption, codes, map};
-ghost use Rattle.std.specs.Str.Parse.{IsNumeral, without_leading_plus, digits_value};
+ghost use Rattle.std.specs.Prelude.{◌≡◌, Some, None, IfErr, IfOk, MatchOption, codes, map};
 ghost use Rattle.clap.specs.Values.{kind_of};
-ghost use Rattle.clap.specs.Words.{all_of, first_value, found_of, one_text, rows_of, subcommand_rows_of};
+ghost use Rattle.clap.specs.Words.{all_of, first_value, found_of, rows_of, subcommand_rows_of};
+ghost use Rattle.clap.specs.declared.error.kind.ErrorKind.TheVariants.{MissingSubcommand};
 ghost use Rattle.tp_cli.specs.Asked.{IsAskedBy, IsMadeBy};
-ghost use Rattle.tp_cli.specs.Command.{AreCounts, FailsAs, IsCount, IsFormOf, IsNeither};
+ghost use Rattle.tp_cli.specs.Command.{AsksForNothing, IsFormOf, IsNeither, tp_app};
 ghost use Rattle.tp_cli.specs.Runs.{IsPlan};
-ghost use Rattle.tp_work.specs.Outcomes.{IsWithinLimits};
+ghost use Rattle.tp_shell.specs.Command.{AreCountsIn, FailsAs, IsCount};
 
 use crate::command::{MAX_GENERATIONS, tp_command};
 use crate::run::{Form, Plan};
@@ -13,11 +13,8 @@ use crate::text::TextKind;
 use clap::error::ErrorKind;
 use clap::{ArgMatches, Error};
 use std::alloc::{AllocError, Global};
-use tp_base::{MAX_NODES, MAX_WORKERS};
+use tp_shell::{config_of, count_of};
 use tp_work::Config;
-
-/// The idle turns after which a worker gives a pool up.
-const IDLE_TURNS: u32 = 100_000_000;
 
 /// What the words ask for.
 #[derive(Drop)]
@@ -33,7 +30,8 @@ pub(crate) enum Request<'a> {
 /// The request that the words make.
 pub(crate) fn requested<'a>(alloc: Global, words: &'a [&'a str]) -> Result<Request<'a>, Error>
     ensures asked { IfOk result (IsAskedBy (map (λ w. w.now) words.entry.now)) }
-    ensures why { IfErr result (λ error. FailsAs (map (λ w. w.now) words.entry.now) (kind_of error)) }
+    ensures why { IfErr result (λ error.
+        FailsAs tp_app MissingSubcommand (AsksForNothing (map (λ w. w.now) words.entry.now)) (map (λ w. w.now) words.entry.now) (kind_of error)) }
 {
     let mut command = tp_command(alloc)?;
     let matches = command.try_get_matches_from_mut(words)?;
@@ -98,7 +96,8 @@ fn pools_asked<'a>(
 /// How the pool is run, and what is printed of it.
 fn plan_of(arguments: &ArgMatches) -> Plan
     ensures lawful { IsPlan result }
-    ensures counts { AreCounts result.config.nodes result.config.workers (rows_of (found_of arguments.now)) }
+    ensures patient { result.config.idle_turns ≡ 100000000 }
+    ensures counts { AreCountsIn (rows_of (found_of arguments.now)) result.config.nodes result.config.workers }
     ensures generations { IsCount MAX_GENERATIONS (codes "generations") (rows_of (found_of arguments.now)) result.generations }
     ensures form { IsFormOf (rows_of (found_of arguments.now)) result.form }
 {
@@ -106,18 +105,6 @@ fn plan_of(arguments: &ArgMatches) -> Plan
         config: config_of(arguments),
         generations: count_of(arguments, "generations", MAX_GENERATIONS),
         form: form_of(arguments),
-    }
-}
-
-/// At how many nodes and with how many workers pools run.
-fn config_of(arguments: &ArgMatches) -> Config
-    ensures limits { IsWithinLimits result }
-    ensures asked { AreCounts result.nodes result.workers (rows_of (found_of arguments.now)) }
-{
-    Config {
-        nodes: count_of(arguments, "nodes", MAX_NODES),
-        workers: count_of(arguments, "workers", MAX_WORKERS),
-        idle_turns: IDLE_TURNS,
     }
 }
 
@@ -130,16 +117,4 @@ fn form_of(arguments: &ArgMatches) -> Form
     } else {
         Form::Table
     }
-}
-
-/// The value of an option that takes a number from 1 to so many. The parser has let no other through.
-fn count_of(arguments: &ArgMatches, id: &str, most: u32) -> u32
-    requires { 1 ≤ most }
-    ensures range { (1 ≤ result) × (result ≤ most) }
-    // Where the option's text spells a number in that range, it is that number.
-    ensures asked { (t : List ℕ) → one_text (found_of arguments.now) id.now ≡ Some t → IsNumeral 10 (without_leading_plus t)
-        → 1 ≤ digits_value 10 (without_leading_plus t) → digits_value 10 (without_leading_plus t) ≤ most
-        → result ≡ digits_value 10 (without_leading_plus t) }
-{
-    arguments.get_one::<u32>(id).unwrap_or(1).clamp(1, most)
 }

@@ -1,21 +1,23 @@
-ghost use Rattle.std.specs.Prelude.{◌≡◌, ◌≢◌, ◌≤◌, ◌↔◌, ℕ, List, IfErr, IfOk, OnOk, Err};
+ghost use Rattle.std.specs.Prelude.{◌≡◌, ◌≢◌, ◌≤◌, ◌↔◌, ℕ, List, Err, IfErr, IfOk, MatchResult};
 ghost use Rattle.std.specs.Io.KnownBytes.{Appends};
 ghost use Rattle.std.specs.String.{string_bytes};
-ghost use Rattle.tp_base.specs.declared.refusal.Refusal.TheVariants.{BadSpec, NoMemory};
 ghost use Rattle.tp_base.specs.declared.limits.TheConstants.{MAX_NODES};
-ghost use Rattle.tp_cli.specs.Runs.{IsPlan, IsPrintOf, IsRefusedRun, IsTextFor, IsTextOf, IsTextOfOne, IsUnprinted, IsUntold, IsWithoutOne, IsWithoutText, NamesNoGraph, refusal_line, run_text, totals_text};
+ghost use Rattle.tp_cli.specs.Runs.{IsPlan, IsPrintOf, IsRunFault, IsTextFor, IsTextOf, IsTextOfOne, IsUnprinted, IsUntold, IsWithoutOne, IsWithoutText, NamesNoGraph, run_text, totals_text};
 ghost use Rattle.tp_graph.specs.Serial.{AreRight};
 ghost use Rattle.pool_samples.specs.Any.{any_graph};
+ghost use Rattle.tp_shell.specs.declared.status.Status.TheVariants.{Done};
 ghost use Rattle.tp_work.specs.Outcomes.{IsOutcome, IsWithinLimits};
 
+use crate::fault::{Fault, RunFault};
 use crate::series::text_of_generations;
 use pool_samples::{AnyGraph, checked};
 use std::alloc::{AllocError, Global};
-use std::io::{self, Write};
+use std::io::Write;
 use std::sync::Wait;
 use std::thread::Threads;
 use tp_base::{Refusal, TaskId};
 use tp_graph::Value;
+use tp_shell::{Status, write_text};
 use tp_table::print_table;
 use tp_text::print_trace;
 use tp_work::{Config, OpenGate, Outcome, run_pool};
@@ -40,17 +42,6 @@ pub(crate) struct Plan {
     pub(crate) form: Form,
 }
 
-/// Why a pool was not run to its end, or nothing is known of what was written.
-#[derive(Clone, Copy, Debug, PartialEq, Eq)]
-pub(crate) enum RunFault {
-    /// The word names no pool.
-    Spec(Refusal),
-    /// The run was refused, or its trace, or there was no memory for its text.
-    Run(Refusal),
-    /// The text could not be written; how much of it was is not known.
-    Write,
-}
-
 /// Runs the pool that a word names, in so many generations, and writes their tables and totals or their one trace. Nothing is
 /// written before all of it is known.
 pub(crate) fn run<O: Write, R: Threads + Wait + Sync>(
@@ -59,31 +50,27 @@ pub(crate) fn run<O: Write, R: Threads + Wait + Sync>(
     spec: &str,
     plan: Plan,
     out: &mut O,
-) -> Result<(), RunFault>
+) -> Result<Status, Fault>
     requires { IsPlan plan }
-    ensures ran { OnOk result ((text : List ℕ) × IsTextFor plan.form spec.now plan.config.nodes plan.generations text
-        × Appends (O.contents out.old) (O.contents out.new) text) }
-    // Where the text could not be written, it was made.
-    ensures made { IfErr result (λ fault. fault ≡ RunFault.Write
-        → (text : List ℕ) × IsTextFor plan.form spec.now plan.config.nodes plan.generations text) }
-    ensures unnamed { (result ≡ Err (RunFault.Spec BadSpec)) ↔ NamesNoGraph spec.now }
-    ensures named { IfErr result (λ fault. (refusal : _) → fault ≡ RunFault.Spec refusal → refusal ≡ BadSpec) }
-    ensures refused { IfErr result (λ fault. (refusal : _) → fault ≡ RunFault.Run refusal
-        → IsRefusedRun plan.form spec.now plan.config.nodes plan.generations refusal) }
-    ensures unwritten { IfErr result (λ fault. fault ≢ RunFault.Write → out.new ≡ out.old) }
+    ensures ran { IfOk result (λ status. (status ≡ Done) × ((text : List ℕ)
+        × IsTextFor plan.form spec.now plan.config.nodes plan.config.workers plan.generations text
+        × Appends (O.contents out.old) (O.contents out.new) text)) }
+    ensures unnamed { (result ≡ Err Fault.NoPool) ↔ NamesNoGraph spec.now }
+    ensures why { IfErr result (IsRunFault plan spec.now) }
+    ensures unwritten { IfErr result (λ fault. fault ≢ Fault.Write → out.new ≡ out.old) }
 {
-    let graph = checked(spec).map_err(RunFault::Spec)?;
-    let text = text_of_run(rt, alloc, graph, plan).map_err(RunFault::Run)?;
-    write_text(out, &text)
-}
-
-/// Writes a text and nothing else.
-pub(crate) fn write_text<O: Write>(out: &mut O, text: &[u8]) -> Result<(), RunFault>
-    ensures ok { OnOk result (Appends (O.contents out.old) (O.contents out.new) text.now) }
-    ensures err { IfErr result (λ fault. fault ≡ RunFault.Write) }
-{
-    out.write_all(text).map_err(|_| RunFault::Write)?;
-    out.flush().map_err(|_| RunFault::Write)
+    let graph = match checked(spec) {
+        Ok(graph) => graph,
+        Err(_) => return Err(Fault::NoPool),
+    };
+    let text = match text_of_run(rt, alloc, graph, plan) {
+        Ok(text) => text,
+        Err(fault) => return Err(Fault::Run(fault)),
+    };
+    match write_text(out, &text) {
+        Ok(()) => Ok(Status::Done),
+        Err(_) => Err(Fault::Write),
+    }
 }
 
 /// Runs a pool of a graph, in so many generations: what is printed of them.
@@ -92,10 +79,11 @@ fn text_of_run<R: Threads + Wait + Sync>(
     alloc: Global,
     graph: AnyGraph,
     plan: Plan,
-) -> Result<Vec<u8>, Refusal>
+) -> Result<Vec<u8>, RunFault>
     requires { IsPlan plan }
-    ensures text { IfOk result (λ text. IsTextOf plan.form graph plan.config.nodes plan.generations text.items) }
-    ensures none { IfErr result (λ refusal. IsWithoutText plan.form graph plan.config.nodes plan.generations refusal) }
+    ensures { MatchResult result
+        (λ text. IsTextOf plan.form graph plan.config.nodes plan.config.workers plan.generations text.items)
+        (IsWithoutText plan.form graph plan.config.nodes plan.config.workers plan.generations) }
 {
     // a pool of one generation is never opened for a second one
     if plan.generations == 1 {
@@ -112,16 +100,20 @@ fn text_of_one<R: Threads + Wait + Sync>(
     graph: AnyGraph,
     config: Config,
     form: Form,
-) -> Result<Vec<u8>, Refusal>
+) -> Result<Vec<u8>, RunFault>
     requires { IsWithinLimits config }
-    ensures text { IfOk result (λ text. IsTextOfOne form graph config.nodes text.items) }
-    ensures none { IfErr result (λ refusal. IsWithoutOne form graph config.nodes refusal) }
+    ensures { MatchResult result
+        (λ text. IsTextOfOne form graph config.nodes config.workers text.items)
+        (IsWithoutOne form graph config.nodes config.workers) }
 {
     let outcome = match run_pool(rt, alloc, graph, config, &OpenGate) {
         Ok(outcome) => outcome,
-        Err(fault) => return Err(fault.refusal),
+        Err(fault) => return Err(RunFault::Pool(fault)),
     };
-    text_of_outcome(alloc, graph, &outcome, config.nodes, form)
+    match text_of_outcome(alloc, graph, &outcome, config.nodes, form) {
+        Ok(text) => Ok(text),
+        Err(refusal) => Err(RunFault::Text(refusal)),
+    }
 }
 
 /// What is printed of what a pool of a graph has made on so many nodes.
@@ -173,11 +165,4 @@ fn totals(alloc: Global, tasks: u32, messages: u32) -> Result<String, AllocError
     ensures { IfOk result (λ text. string_bytes text ≡ totals_text tasks messages) }
 {
     format!(in alloc; "tasks {tasks}\nmessages {messages}\nended\n")
-}
-
-/// Writes the line of a refusal. It takes no memory.
-pub(crate) fn write_refusal<E: Write>(err: &mut E, refusal: Refusal) -> io::Result<()>
-    ensures { OnOk result (Appends (E.contents err.old) (E.contents err.new) (refusal_line refusal)) }
-{
-    writeln!(err, "refused {} {}", refusal.number(), refusal.name())
 }

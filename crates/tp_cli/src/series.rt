@@ -1,4 +1,4 @@
-ghost use Rattle.std.specs.Prelude.{◌≡◌, ◌≤◌, ◌⊎◌, ◌++◌, ℕ, IfErr, IfOk, OnOk};
+ghost use Rattle.std.specs.Prelude.{◌≡◌, ◌≤◌, ◌⊎◌, ◌++◌, ℕ, IfErr, IfOk, MatchResult, OnOk};
 ghost use Rattle.std.specs.List.{All};
 ghost use Rattle.tp_base.specs.declared.limits.TheConstants.{MAX_NODES};
 ghost use Rattle.tp_base.specs.declared.refusal.Refusal.TheVariants.{NoMemory};
@@ -6,6 +6,7 @@ ghost use Rattle.tp_cli.specs.Runs.{IsPlan, IsPrintOfSeries, IsRoundOf, IsTextOf
 ghost use Rattle.pool_samples.specs.Any.{any_graph};
 ghost use Rattle.tp_work.specs.Series.{IsSeries};
 
+use crate::fault::RunFault;
 use crate::run::{Form, Plan, text_of_results};
 use pool_samples::AnyGraph;
 use std::alloc::Global;
@@ -21,14 +22,19 @@ pub(crate) fn text_of_generations<R: Threads + Wait + Sync>(
     alloc: Global,
     graph: AnyGraph,
     plan: Plan,
-) -> Result<Vec<u8>, Refusal>
+) -> Result<Vec<u8>, RunFault>
     requires { IsPlan plan }
-    ensures text { IfOk result (λ text. IsTextOfSeries plan.form graph plan.config.nodes plan.generations text.items) }
-    ensures none { IfErr result (λ refusal. IsWithoutSeries plan.form graph plan.config.nodes plan.generations refusal) }
+    ensures { MatchResult result
+        (λ text. IsTextOfSeries plan.form graph plan.config.nodes plan.config.workers plan.generations text.items)
+        (IsWithoutSeries plan.form graph plan.config.nodes plan.config.workers plan.generations) }
 {
-    match run_generations(rt, alloc, graph, plan.config, &OpenGate, plan.generations) {
-        Ok(series) => text_of_series(alloc, graph, &series, plan.config.nodes, plan.form),
-        Err(fault) => Err(fault.refusal),
+    let series = match run_generations(rt, alloc, graph, plan.config, &OpenGate, plan.generations) {
+        Ok(series) => series,
+        Err(fault) => return Err(RunFault::Pool(fault)),
+    };
+    match text_of_series(alloc, graph, &series, plan.config.nodes, plan.form) {
+        Ok(text) => Ok(text),
+        Err(refusal) => Err(RunFault::Text(refusal)),
     }
 }
 

@@ -1,7 +1,6 @@
-ghost use Rattle.std.specs.Prelude.{◌≡◌, ◌≢◌, List, ℕ, IfErr, IfOk, IsErrOf};
+ghost use Rattle.std.specs.Prelude.{◌≡◌, ◌≢◌, List, ℕ, IfErr, IfOk};
 ghost use Rattle.std.specs.Io.KnownBytes.{Appends};
-ghost use Rattle.tp_cli.specs.Texts.{IsAnswerTo};
-ghost use Rattle.tp_text.specs.declared.Verdict.{Verdict};
+ghost use Rattle.tp_cli.specs.Texts.{IsAnswerTo, IsUnansweredText};
 
 use std::alloc::Global;
 use std::io::{Read, Write};
@@ -27,9 +26,7 @@ impl TextKind {
         ensures ok { IfOk result (λ verdict. (text : List ℕ)
             × IsAnswerTo self (I.remaining reader.old) (I.remaining reader.new) verdict text
             × Appends (O.contents out.old) (O.contents out.new) text) }
-        // Where the answer could not be written, it was made.
-        ensures made { IsErrOf result TextFault.Write → (verdict : Verdict) × (text : List ℕ)
-            × IsAnswerTo self (I.remaining reader.old) (I.remaining reader.new) verdict text }
+        ensures why { IfErr result (IsUnansweredText self (I.remaining reader.old) (I.remaining reader.new)) }
         ensures unwritten { IfErr result (λ fault. fault ≢ TextFault.Write → out.new ≡ out.old) }
     {
         match self {

@@ -1,9 +1,15 @@
-use Rattle.pool_runs.proofs.Refused.{rod_refused}
+use Rattle.std.proofs.Common.{◌∙◌, ap}
+use Rattle.pool_block_runs.proofs.Refused.{match_weaker}
+use Rattle.pool_rod.specs.Heats.{evolve}
+use Rattle.pool_runs.proofs.Refused.{heat-is, lent_fault}
 use Rattle.pool_runs.proofs.rod.run_heat.Goals as goal
 
-pub unreachable-requires : goal.unreachable-requires
-unreachable-requires g c =
+pub returns : goal.returns
+returns g c =
+    let a = c.args in
     let heat = c.in-Some.heat in
-    c.in_default-refusal.not-NoMemory
-    (rod_refused heat.cells.now heat.blocks heat.size heat.steps c.in-Ok.outcome.results.items c.in-Err-rod_of.refusal c.in-Ok.ensures.outcome.each_once
-    (rw c.deref.ensures.value at c.in-Err-rod_of.ensures.refused))
+    let made = c.in-Some.ensures.made in
+    match_weaker c.run_steps.result _ _ _ _
+    (λ rod is. is ∙ ap (λ n. evolve n heat.cells.now) made.3 ∙ ap (evolve a.steps) made.0)
+    (λ fault why. lent_fault a.config.nodes _ _ _ fault (heat-is heat.blocks heat.size a.size heat.steps a.steps heat.cells.now a.cells.now made) why)
+    c.run_steps.ensures

@@ -1,19 +1,20 @@
-use Rattle.std.proofs.Common.{◌≡◌, ◌<◌, ◌≤◌, arith, inl, length, map, sym}
+use Rattle.std.proofs.Common.{◌<◌, ◌≤◌, arith, inl, length, map, refl, rules, subst, sym}
 use Rattle.std.proofs.lemmas.List.{get_or-map, length-map}
 use Rattle.tp_base.specs.declared.limits.TheConstants.{MAX_POOLS}
-use Rattle.tp_base.specs.declared.refusal.Refusal.TheVariants.{StoreFull}
-use Rattle.tp_cli.proofs.Several.{all_named, first_refused, one_registered}
+use Rattle.tp_cli.proofs.Several.{all_named, one_registered, refused_word}
+use Rattle.tp_cli.specs.Pools.{IsWordsFault}
 use Rattle.tp_cli.proofs.pools.registry_of.Goals as goal
 
-pub returns-in-Err-clause-vain : goal.returns-in-Err-clause-vain
-returns-in-Err-clause-vain c = λ refusal is.
+pub returns-in-Err : goal.returns-in-Err
+returns-in-Err c =
     let i = c.loop-word.word-index in
     let words = map (λ w. w.now) c.args.words.now in
     let inside : i < length c.args.words.now = c.loop-word-test.true in
     let lt : i < length words = omega (arith, inside, length-map c.args.words.now (λ w. w.now)) in
     let few : length words ≤ MAX_POOLS = omega (arith, c.if-words.false, length-map c.args.words.now (λ w. w.now)) in
-    first_refused i words c.loop-word.registry _ c.in-Err.refusal refusal c.loop-word.invariant lt (sym (get_or-map (λ w. w.now) c.args.words.now i _ _ inside)) few
-    c.in-Err.ensures.why (c.word_fault.ensures.word refusal is)
+    subst (IsWordsFault words) (sym c.word_fault.ensures)
+    (refused_word i words c.loop-word.registry _ c.in-Err.refusal c.loop-word.invariant lt (sym (get_or-map (λ w. w.now) c.args.words.now i _ _ inside)) few
+    c.in-Err.ensures.why (λ none. search rules))
 
 pub loop-word-preserved : goal.loop-word-preserved
 loop-word-preserved c =
@@ -24,14 +25,12 @@ loop-word-preserved c =
     one_registered i words c.loop-word.registry c.register.new.self _ c.register.result c.in_default.not-Err c.loop-word.invariant lt
     (sym (get_or-map (λ w. w.now) c.args.words.now i _ _ inside)) c.register.ensures.registered c.register.ensures.refusal
 
-pub returns-clause-named : goal.returns-clause-named
-returns-clause-named c =
+pub returns : goal.returns
+returns c =
     let words = map (λ w. w.now) c.args.words.now in
     let long = length-map c.args.words.now (λ w. w.now) in
     let few : length words ≤ MAX_POOLS = omega (arith, c.if-words.false, long) in
     all_named c.loop-word.word-index words c.loop-word.registry c.loop-word.invariant (omega (arith, c.loop-word-test.false, c.loop-word.auto.word-index-end, long)) few
 
-pub returns-then-words-clause-vain : goal.returns-then-words-clause-vain
-returns-then-words-clause-vain c = λ refusal is.
-    let full : refusal ≡ StoreFull = cc in
-    inl (omega (arith, c.if-words.true, length-map c.args.words.now (λ w. w.now)), full)
+pub returns-then-words : goal.returns-then-words
+returns-then-words c = inl (omega (arith, c.if-words.true, length-map c.args.words.now (λ w. w.now)), refl)

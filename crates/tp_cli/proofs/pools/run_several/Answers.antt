@@ -1,43 +1,50 @@
-use Rattle.std.proofs.Common.{rules, ◌≡◌, ◌∙◌, List, Ok, ap, map, refl}
-use Rattle.std.proofs.lemmas.Result.{IfOk-at_ok}
+use Rattle.std.proofs.Common.{◌≡◌, ◌∙◌, ap, map, refl}
 use Rattle.std.specs.List.{list_all}
 use Rattle.std.specs.Result.{is_ok}
-use Rattle.tp_cli.proofs.Ending.{IfErr-each}
-use Rattle.tp_cli.specs.Pools.{lines_from, pools_of}
-use Rattle.pool_samples.specs.declared.any.AnyGraph.{AnyGraph}
-use Rattle.tp_several.specs.Answers.{AreRunAnswers}
+use Rattle.clap.proofs.TakesLemmas.{passed_up}
+use Rattle.tp_cli.proofs.Several.{named_may, words_in_vain}
+use Rattle.tp_cli.specs.Pools.{lines_from, status_of_pools}
 use Rattle.tp_cli.proofs.pools.run_several.Goals as goal
 
-pub returns-in_err-write_text-clause-made : goal.returns-in_err-write_text-clause-made
-returns-in_err-write_text-clause-made g c =
+pub returns-in_err-registry-clause-why : goal.returns-in_err-registry-clause-why
+returns-in_err-registry-clause-why g c =
+    let fault = c.in_err-registry.field-0.0 in
+    passed_up c.from_residual.result fault _ c.from_residual.ensures.1
+    (words_in_vain (map (λ w. w.now) c.args.words.now) c.args.config.nodes c.args.config.workers fault c.in_err-registry.ensures)
+
+pub returns-in-Err-clause-why : goal.returns-in-Err-clause-why
+returns-in-Err-clause-why g c =
+    let named = c.in_ok-registry.ensures in
+    named_may (map (λ w. w.now) c.args.words.now) named.0 named.1
+
+pub returns-in-Err-text_of_pools-clause-why : goal.returns-in-Err-text_of_pools-clause-why
+returns-in-Err-text_of_pools-clause-why g c =
+    let named = c.in_ok-registry.ensures in
+    named_may (map (λ w. w.now) c.args.words.now) named.0 named.1
+
+pub returns-clause-why : goal.returns-clause-why
+returns-clause-why g c =
     let words = map (λ w. w.now) c.args.words.now in
-    let answers = c.in_ok-answers.answers.items in
-    let named = c.in_ok-registry.ensures.named in
-    let was_run : c.answers_of.result ≡ Ok c.in_ok-answers.answers = search rules in
-    let run = IfOk-at_ok (λ made. (graphs : List AnyGraph) → c.in_ok-registry.registry ≡ pools_of graphs → AreRunAnswers c.args.config.nodes graphs made.items)
-    was_run c.answers_of.ensures.ran in
-    let was_made : c.text_of_pools.result ≡ Ok c.in_ok-text.text = search rules in
-    let made = IfOk-at_ok (λ text. text.items ≡ lines_from 0 words c.deref.result.now) was_made c.text_of_pools.ensures in
-    let text : c.in_ok-text.text.items ≡ lines_from 0 words answers = made ∙ ap (λ rs. lines_from 0 words rs) c.deref.ensures.value in
-    IfErr-each c.from_residual-in_err-write_text.result _ (λ fault is same. (
+    let answers = c.in-Ok.answers.items in
+    let named = c.in_ok-registry.ensures in
+    let text : c.in-Ok-text_of_pools.text.items ≡ lines_from 0 words answers =
+    c.in-Ok-text_of_pools.ensures ∙ ap (λ rs. lines_from 0 words rs) c.deref.ensures.value in (
       list_all is_ok answers,
-      c.in_ok-text.text.items,
-      (named.0, answers, named.1, run named.0 named.2, refl, text),
-    ))
+      c.in-Ok-text_of_pools.text.items,
+      (named.0, answers, named.1, c.in-Ok.ensures.ran named.0 named.2, refl, text),
+    )
 
-pub returns-clause-ran : goal.returns-clause-ran
-returns-clause-ran g c =
+pub returns-in-Ok-write_text-clause-ran : goal.returns-in-Ok-write_text-clause-ran
+returns-in-Ok-write_text-clause-ran g c =
     let words = map (λ w. w.now) c.args.words.now in
-    let answers = c.in_ok-answers.answers.items in
-    let named = c.in_ok-registry.ensures.named in
-    let was_run : c.answers_of.result ≡ Ok c.in_ok-answers.answers = search rules in
-    let run = IfOk-at_ok (λ made. (graphs : List AnyGraph) → c.in_ok-registry.registry ≡ pools_of graphs → AreRunAnswers c.args.config.nodes graphs made.items)
-    was_run c.answers_of.ensures.ran in
-    let was_made : c.text_of_pools.result ≡ Ok c.in_ok-text.text = search rules in
-    let made = IfOk-at_ok (λ text. text.items ≡ lines_from 0 words c.deref.result.now) was_made c.text_of_pools.ensures in
-    let text : c.deref-2.result.now ≡ lines_from 0 words answers = c.deref-2.ensures.value ∙ made ∙ ap (λ rs. lines_from 0 words rs) c.deref.ensures.value in
-    let ended : c.each_ended.result ≡ list_all is_ok answers = c.each_ended.ensures ∙ ap (λ rs. list_all is_ok rs) c.deref-3.ensures.value in
-    (c.deref-2.result.now, (named.0, answers, named.1, run named.0 named.2, ended, text), c.in_ok-write_text.ensures.ok)
-
-pub returns-in_err-text-clause-memory : goal.returns-in_err-text-clause-memory
-returns-in_err-text-clause-memory g c = search rules
+    let answers = c.in-Ok.answers.items in
+    let named = c.in_ok-registry.ensures in
+    let text : c.deref-2.result.now ≡ lines_from 0 words answers =
+    c.deref-2.ensures.value ∙ c.in-Ok-text_of_pools.ensures ∙ ap (λ rs. lines_from 0 words rs) c.deref.ensures.value in
+    let ended = c.each_ended.ensures ∙ ap (λ rs. list_all is_ok rs) c.deref-in-Ok-write_text.ensures.value in (
+      list_all is_ok answers,
+      c.deref-2.result.now,
+      c.status_of_pools.ensures ∙ ap status_of_pools ended,
+      (named.0, answers, named.1, c.in-Ok.ensures.ran named.0 named.2, refl, text),
+      c.in-Ok-write_text.ensures,
+    )

@@ -1,49 +1,32 @@
-use Rattle.std.proofs.Common.{rules, ◌≡◌, Err, Ok}
-use Rattle.std.proofs.lemmas.Result.{IfErr-at_err, IfOk-at_ok, on_ok_weaker}
-use Rattle.tp_cli.specs.Runs.{IsTextOf, IsWithoutText}
+use Rattle.std.proofs.Common.{rules, ◌≡◌, Err, refl, subst, sym}
 use Rattle.tp_base.specs.declared.refusal.Refusal.TheVariants.{BadSpec}
-use Rattle.tp_cli.specs.declared.run.RunFault.TheVariants.{Spec}
-use Rattle.tp_cli.proofs.Ending.{IfErr-each, names_none}
-use Rattle.pool_samples.specs.Words.{word_of}
+use Rattle.tp_cli.proofs.Ending.{names_none}
+use Rattle.tp_cli.specs.Runs.{IsTextOf}
 use Rattle.tp_cli.proofs.run.run.Goals as goal
 
-pub returns-clause-ran : goal.returns-clause-ran
-returns-clause-ran g c =
-    let named : c.args.spec.now ≡ word_of c.in_ok-graph.graph = search rules in
-    let was : c.text_of_run.result ≡ Ok c.in_ok-text.text = search rules in
-    let made = IfOk-at_ok (λ text. IsTextOf c.args.plan.form c.in_ok-graph.graph c.args.plan.config.nodes c.args.plan.generations text.items) was c.text_of_run.ensures.text in
-    let text : IsTextOf c.args.plan.form c.in_ok-graph.graph c.args.plan.config.nodes c.args.plan.generations c.deref.result.now = rw c.deref.ensures.value made in
-    on_ok_weaker c.write_text.result (λ written. (c.deref.result.now, (c.in_ok-graph.graph, named, text), written)) c.write_text.ensures.ok
+pub returns-in-Err-clause-why : goal.returns-in-Err-clause-why
+returns-in-Err-clause-why g c =
+    names_none c.args.spec.now c.checked.result (λ graph is. let was : c.checked.result ≡ Err BadSpec = search rules in cc) c.checked.ensures.named
 
-pub returns-clause-made : goal.returns-clause-made
-returns-clause-made g c =
-    let named : c.args.spec.now ≡ word_of c.in_ok-graph.graph = search rules in
-    let was : c.text_of_run.result ≡ Ok c.in_ok-text.text = search rules in
-    let text = IfOk-at_ok (λ text. IsTextOf c.args.plan.form c.in_ok-graph.graph c.args.plan.config.nodes c.args.plan.generations text.items) was c.text_of_run.ensures.text in
-    IfErr-each c.write_text.result _ (λ fault is same. (c.in_ok-text.text.items, (c.in_ok-graph.graph, named, text)))
+pub returns-in-Err-clause-unnamed : goal.returns-in-Err-clause-unnamed
+returns-in-Err-clause-unnamed g c =
+    (λ is. names_none c.args.spec.now c.checked.result (λ graph ok. let was : c.checked.result ≡ Err BadSpec = search rules in cc) c.checked.ensures.named, λ none. refl)
 
-pub returns-in_err-text-clause-refused : goal.returns-in_err-text-clause-refused
-returns-in_err-text-clause-refused g c =
-    let named : c.args.spec.now ≡ word_of c.in_ok-graph.graph = search rules in
-    IfErr-each c.from_residual-in_err-text.result _ (λ fault is refusal same.
-    let was : c.text_of_run.result ≡ Err refusal = search rules in (
-      c.in_ok-graph.graph,
-      named,
-      IfErr-at_err (λ r. IsWithoutText c.args.plan.form c.in_ok-graph.graph c.args.plan.config.nodes c.args.plan.generations r) was c.text_of_run.ensures.none,
-    ))
+pub returns-in-Err-text_of_run-clause-why : goal.returns-in-Err-text_of_run-clause-why
+returns-in-Err-text_of_run-clause-why g c = (c.in-Ok.graph, c.in-Ok.ensures.only, c.in-Err-text_of_run.ensures)
 
-pub returns-in_err-graph-clause-unnamed : goal.returns-in_err-graph-clause-unnamed
-returns-in_err-graph-clause-unnamed g c =
-    let was : c.checked.result ≡ Err BadSpec = search rules in
-    let refused : c.from_residual.result ≡ Err (Spec BadSpec) = search rules in
-    (λ is. names_none c.args.spec.now c.checked.result BadSpec was c.checked.ensures.named, λ none. refused)
+pub returns-in-Err-text_of_run-clause-unnamed : goal.returns-in-Err-text_of_run-clause-unnamed
+returns-in-Err-text_of_run-clause-unnamed g c = (λ is. cc, λ none. absurd (none c.in-Ok.graph c.in-Ok.ensures.only))
 
-pub returns-in_err-text-clause-unnamed : goal.returns-in_err-text-clause-unnamed
-returns-in_err-text-clause-unnamed g c =
-    let named : c.args.spec.now ≡ word_of c.in_ok-graph.graph = search rules in
-    (search rules, λ none. absurd (none c.in_ok-graph.graph named))
+pub returns-clause-why : goal.returns-clause-why
+returns-clause-why g c = (c.in-Ok-text_of_run.text.items, (c.in-Ok.graph, c.in-Ok.ensures.only, c.in-Ok-text_of_run.ensures))
 
-pub returns-clause-unnamed : goal.returns-clause-unnamed
-returns-clause-unnamed g c =
-    let named : c.args.spec.now ≡ word_of c.in_ok-graph.graph = search rules in
-    (search rules, λ none. absurd (none c.in_ok-graph.graph named))
+pub returns-in-Ok-write_text-clause-ran : goal.returns-in-Ok-write_text-clause-ran
+returns-in-Ok-write_text-clause-ran g c =
+    let plan = c.args.plan in
+    let text = subst (IsTextOf plan.form c.in-Ok.graph plan.config.nodes plan.config.workers plan.generations)
+    (sym c.deref.ensures.value) c.in-Ok-text_of_run.ensures in
+    (refl, (c.deref.result.now, (c.in-Ok.graph, c.in-Ok.ensures.only, text), c.in-Ok-write_text.ensures))
+
+pub returns-in-Ok-write_text-clause-unnamed : goal.returns-in-Ok-write_text-clause-unnamed
+returns-in-Ok-write_text-clause-unnamed g c = (λ is. cc, λ none. absurd (none c.in-Ok.graph c.in-Ok.ensures.only))

@@ -1,8 +1,8 @@
-use Rattle.std.proofs.Common.{IfErr, IfOk, ◌∙◌, ap, subst, sym}
+use Rattle.std.proofs.Common.{IfOk, subst, sym}
 use Rattle.std.proofs.lemmas.Result.{IfErr-weaker, IfOk-weaker}
 use Rattle.std.specs.List.{All}
 use Rattle.tp_cli.proofs.Rounds.{each_of, in_each, printed_rounds, untold_rounds}
-use Rattle.tp_cli.specs.Runs.{IsPrintOfSeries, IsRoundOf, IsUnprintedSeries}
+use Rattle.tp_cli.specs.Runs.{IsPrintOfSeries, IsRoundOf}
 use Rattle.pool_samples.specs.Any.{any_graph}
 use Rattle.tp_cli.proofs.series.text_of_series.Goals as goal
 

@@ -1,0 +1,126 @@
+-- The values of the tasks are the blocks of the cells after so many steps.
+use Rattle.std.proofs.Common.{◌≡◌, ◌<◌, ◌≤◌, ◌+◌, ◌-◌, ◌*◌, ◌%◌, ℕ, zero, suc, ℤ, Bool, List, [], ◌++◌, length, get_or, take, true, false, if◌then◌else◌, nat_lt, refl, ap, sym, ◌∙◌, ⊎_elim, Some, arith}
+use Rattle.std.proofs.Math.Seq.{take-add}
+use Rattle.std.proofs.lemmas.Nat.{mul-le, mul-add-lt, mod-mul-add}
+use Rattle.std.proofs.lemmas.List.{get_or_past, take_all}
+use Rattle.std.proofs.lemmas.Bool.Decides.{nat_tests}
+use Rattle.tp_graph.proofs.Made.{inputs_of, some_same}
+use Rattle.tp_graph.specs.Blocks.{block_of}
+use Rattle.tp_graph.specs.Values.{value_of}
+use Rattle.pool_blocks.proofs.Lists.{block-past, lt-tells}
+use Rattle.pool_blocks.specs.Lists.{block_before, block_behind}
+use Rattle.pool_blocks.specs.StencilLaws.{block_lawful}
+use Rattle.pool_blocks.specs.Stencils.{BlockStep, IsByBlocks, IsCut, KeepsLength, Step, after, befores, block_graph, next_of, source}
+
+-- cells keep their number
+pub after-length : (step : Step) (steps : ℕ) (cells : List ℤ) → KeepsLength step → length (after step steps cells) ≡ length cells
+after-length step zero cells long = refl
+after-length step (suc steps) cells long = long (after step steps cells) ∙ after-length step steps cells long
+
+-- so many steps, and then so many more
+pub after-on : (step : Step) (a b : ℕ) (cells : List ℤ) → after step b (after step a cells) ≡ after step (a + b) cells
+after-on step a zero cells = let e : a ≡ a + 0 = omega arith in ap (λ k. after step k cells) e
+after-on step a (suc b) cells =
+    let e : suc (a + b) ≡ a + suc b = omega arith in
+    ap step (after-on step a b cells) ∙ ap (λ k. after step k cells) e
+
+-- 1 where a block has one before it, behind it
+abbrev to_before : ℕ → ℕ
+to_before b = if nat_lt 0 b then 1 else 0
+
+abbrev to_behind : ℕ → ℕ → ℕ
+to_behind blocks b = if nat_lt (b + 1) blocks then 1 else 0
+
+one-before : (b : ℕ) → 0 < b → to_before b ≡ 1
+one-before b h =
+    ⊎_elim
+    (λ (t : (nat_lt 0 b ≡ true) × (0 < b)). rw t.0 refl)
+    (λ (t : (nat_lt 0 b ≡ false) × (b ≤ 0)). absurd (omega (arith, t.1, h)))
+    (lt-tells 0 b)
+
+one-behind : (blocks b : ℕ) → b + 1 < blocks → to_behind blocks b ≡ 1
+one-behind blocks b h =
+    ⊎_elim
+    (λ (t : (nat_lt (b + 1) blocks ≡ true) × (b + 1 < blocks)). rw t.0 refl)
+    (λ (t : (nat_lt (b + 1) blocks ≡ false) × (blocks ≤ b + 1)). absurd (omega (arith, t.1, h)))
+    (lt-tells (b + 1) blocks)
+
+before-part : (size b : ℕ) (xs : List ℤ) (inputs : List (List ℤ)) → (0 < b → get_or inputs 0 [] ≡ block_of size (b - 1) xs) →
+    (if nat_lt 0 (to_before b) then get_or inputs 0 [] else []) ≡ block_before size b xs
+before-part size b xs inputs h =
+    ⊎_elim
+    (λ (t : (nat_lt 0 b ≡ true) × (0 < b)). rw t.0 (h t.1))
+    (λ (t : (nat_lt 0 b ≡ false) × (b ≤ 0)). rw t.0 refl)
+    (lt-tells 0 b)
+
+behind-part : (blocks size b : ℕ) (xs : List ℤ) (inputs : List (List ℤ)) → length inputs ≡ to_before b + 1 + to_behind blocks b → length xs ≤ blocks * size →
+    (b + 1 < blocks → get_or inputs (to_before b + 1) [] ≡ block_of size (b + 1) xs) → get_or inputs (to_before b + 1) [] ≡ block_behind size b xs
+behind-part blocks size b xs inputs long whole h =
+    ⊎_elim
+    (λ (t : (nat_lt (b + 1) blocks ≡ true) × (b + 1 < blocks)). h t.1)
+    (λ (t : (nat_lt (b + 1) blocks ≡ false) × (blocks ≤ b + 1)).
+    let none : to_behind blocks b ≡ 0 = rw t.0 refl in
+    let past : length xs ≤ (b + 1) * size = omega (arith, whole, mul-le blocks size (b + 1) size t.1 (omega arith)) in
+    get_or_past inputs (to_before b + 1) [] (omega (arith, long, none)) ∙ sym (block-past size (b + 1) xs past))
+    (lt-tells (b + 1) blocks)
+
+module _ (takes : ℕ → ℕ → Bool) (step : Step) (next : BlockStep) (cells : List ℤ) (blocks size steps : ℕ)
+    (cut : IsCut blocks size steps (length cells)) (taken : takes (length cells) size ≡ true) (long : KeepsLength step) (by : IsByBlocks takes step next) where
+  known : (r b : ℕ) → r ≤ steps → b < blocks → r * blocks + b < (steps + 1) * blocks
+  known r b h p = omega (arith, mul-add-lt r blocks b (steps + 1) (omega arith) p)
+
+  -- a block after one step more
+  block-next : (r b : ℕ) → b < blocks → block_of size b (after step (suc r) cells) ≡
+      next (block_before size b (after step r cells)) (block_of size b (after step r cells)) (block_behind size b (after step r cells))
+  block-next r b p =
+      let same : length (after step r cells) ≡ length cells = after-length step r cells long in
+      let begins : b * size < length (after step r cells) = omega (arith, same, cut.none_empty, mul-le b size (blocks - 1) size (omega (arith, p)) (omega arith)) in
+      by (after step r cells) size b cut.some_cells (ap (λ n. takes n size) same ∙ taken) begins
+
+  -- the value of a block after so many steps, where it has one, is that block of the cells after those steps
+  pub block_after : (r b : ℕ) (value : List ℤ) → r ≤ steps → b < blocks → value_of (block_graph next cells blocks size steps) (r * blocks + b) ≡ Some value → value ≡ block_of size b (after step r cells)
+  unfolding block_graph
+  block_after zero b value h p e =
+      let t : ℕ = zero * blocks + b in
+      let first : t ≡ b = omega arith in
+      let yes : nat_lt t blocks ≡ true = grind (arith, nat_tests) in
+      let made = inputs_of (block_graph next cells blocks size steps) t value (block_lawful next cells blocks size steps cut.some_blocks) (known zero b h p) e in
+      some_same (sym made.2) ∙ ap (λ c. if c then block_of size t cells else next_of next (befores blocks t) made.0) yes ∙ ap (λ c. block_of size c cells) first
+  block_after (suc r) b value h p e =
+      let t : ℕ = suc r * blocks + b in
+      let xs : List ℤ = after step r cells in
+      let at : t ≡ r * blocks + blocks + b = omega arith in
+      let column : t % blocks ≡ b = mod-mul-add (suc r) blocks b p in
+      let no : nat_lt t blocks ≡ false = grind (arith, nat_tests) in
+      let made = inputs_of (block_graph next cells blocks size steps) t value (block_lawful next cells blocks size steps cut.some_blocks) (known (suc r) b h p) e in
+      let many : (block_graph next cells blocks size steps).arity t ≡ to_before b + 1 + to_behind blocks b = rw (no, column) refl in
+      let input : (s c : ℕ) → s < to_before b + 1 + to_behind blocks b → c < blocks → t + s ≡ r * blocks + c + blocks + to_before b → get_or made.0 s [] ≡ block_of size c xs =
+      λ s c i q f.
+      let from : source blocks t s ≡ r * blocks + c = rw column (omega (arith, f)) in
+      block_after r c (get_or made.0 s []) (omega arith) q (ap (value_of (block_graph next cells blocks size steps)) (sym from) ∙ made.1.right s (omega (arith, many, i))) in
+      let own : get_or made.0 (to_before b) [] ≡ block_of size b xs = input (to_before b) b (omega arith) p (omega (arith, at)) in
+      let lower : 0 < b → get_or made.0 0 [] ≡ block_of size (b - 1) xs = λ q. let one : to_before b ≡ 1 = one-before b q in input 0 (b - 1) (omega arith) (omega arith) (omega (arith, at, one)) in
+      let upper : b + 1 < blocks → get_or made.0 (to_before b + 1) [] ≡ block_of size (b + 1) xs =
+      λ q. let one : to_behind blocks b ≡ 1 = one-behind blocks b q in input (to_before b + 1) (b + 1) (omega (arith, one)) q (omega (arith, at)) in
+      let whole : length xs ≤ blocks * size = omega (arith, after-length step r cells long, cut.whole) in
+      some_same (sym made.2)
+      ∙ ap (λ c. if c then block_of size t cells else next_of next (befores blocks t) made.0) no
+      ∙ ap (λ m. next_of next (to_before m) made.0) column
+      ∙ ap (λ z. next z (get_or made.0 (to_before b) []) (get_or made.0 (to_before b + 1) [])) (before-part size b xs made.0 lower)
+      ∙ ap (λ z. next (block_before size b xs) z (get_or made.0 (to_before b + 1) [])) own
+      ∙ ap (next (block_before size b xs) (block_of size b xs)) (behind-part blocks size b xs made.0 (made.1.long ∙ many) whole upper)
+      ∙ sym (block-next r b p)
+
+  -- one more block of the cells after the last step
+  pub cells_more : (nr_blocks nr_steps b : ℕ) (value made : List ℤ) → nr_blocks ≡ blocks → nr_steps ≡ steps → b < nr_blocks →
+      value_of (block_graph next cells blocks size steps) (nr_steps * nr_blocks + b) ≡ Some value → made ≡ take (b * size) (after step steps cells) → made ++ value ≡ take ((b + 1) * size) (after step steps cells)
+  cells_more nr_blocks nr_steps b value made n m h e before =
+      let place : nr_steps * nr_blocks + b ≡ steps * blocks + b = ap (λ k. k * nr_blocks + b) m ∙ ap (λ k. steps * k + b) n in
+      let next_place : b * size + size ≡ (b + 1) * size = omega arith in
+      let is : value ≡ block_of size b (after step steps cells) = block_after steps b value (omega arith) (omega (arith, n, h)) (sym (ap (value_of (block_graph next cells blocks size steps)) place) ∙ e) in
+      ap (λ l. l ++ value) before ∙ ap (λ l. take (b * size) (after step steps cells) ++ l) is ∙ sym (take-add (b * size) size (after step steps cells)) ∙ ap (λ k. take k (after step steps cells)) next_place
+
+  pub cells_all : (nr_blocks b : ℕ) (made : List ℤ) → nr_blocks ≡ blocks → nr_blocks ≤ b → made ≡ take (b * size) (after step steps cells) → made ≡ after step steps cells
+  cells_all nr_blocks b made n h e =
+      let past : length (after step steps cells) ≤ b * size = omega (arith, after-length step steps cells long, cut.whole, mul-le blocks size b size (omega (arith, n, h)) (omega arith)) in
+      e ∙ take_all (b * size) (after step steps cells) past

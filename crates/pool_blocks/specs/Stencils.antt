@@ -1,0 +1,106 @@
+-- Steps of a stencil over some cells in blocks: what a block becomes is made of itself and of its neighbours.
+use Rattle.std.specs.Prelude.{◌≡◌, ◌≢◌, ◌<◌, ◌≤◌, ◌+◌, ◌-◌, ◌*◌, ◌/◌, ◌%◌, ◌^◌, ◌⊎◌, All, ℕ, zero, suc, ℤ, Bool, true, false, List, [], length, slice_index_or, Some, if◌then◌else◌, nat_lt}
+use Rattle.tp_base.specs.declared.Refusal.{Refusal}
+use Rattle.tp_base.specs.declared.Refusal.TheVariants.{Missing, NoMemory}
+use Rattle.tp_graph.specs.Blocks.{block_of}
+use Rattle.tp_graph.specs.Graphs.{TaskGraph}
+use Rattle.tp_graph.specs.Serial.{Results}
+use Rattle.tp_graph.specs.Values.{all_fit}
+use Rattle.pool_blocks.specs.Lists.{block_before, block_behind}
+
+-- what cells become at a step, and what a block becomes, from the block before it, itself and the block behind it
+abbrev pub Step : Type 0
+Step = List ℤ → List ℤ
+
+abbrev pub BlockStep : Type 0
+BlockStep = List ℤ → List ℤ → List ℤ → List ℤ
+
+-- cells after so many steps
+abbrev pub after : Step → ℕ → List ℤ → List ℤ
+after step zero cells = cells
+after step (suc steps) cells = step (after step steps cells)
+
+-- a step keeps the number of cells
+abbrev pub KeepsLength : Step → Type 0
+KeepsLength step = (cells : List ℤ) → length (step cells) ≡ length cells
+
+-- For counts of cells and sizes of blocks that are taken, each block of the cells after a step is what the block becomes.
+abbrev pub IsByBlocks : (ℕ → ℕ → Bool) → Step → BlockStep → Type 0
+IsByBlocks takes step next = (cells : List ℤ) (size b : ℕ) → 1 ≤ size → takes (length cells) size ≡ true → b * size < length cells →
+    block_of size b (step cells) ≡ next (block_before size b cells) (block_of size b cells) (block_behind size b cells)
+
+-- no number leaves 64 bits
+abbrev pub KeepsFit : BlockStep → Type 0
+KeepsFit next = (before own behind : List ℤ) → all_fit before ≡ true → all_fit own ≡ true → all_fit behind ≡ true → all_fit (next before own behind) ≡ true
+
+-- how many blocks of so many cells there are, the last of which may be shorter
+abbrev pub blocks_of : ℕ → ℕ → ℕ
+blocks_of count size = (count - 1) / size + 1
+
+-- what steps of a stencil take: a cell, blocks that have some, a count and a size that the stencil takes, and fewer than
+-- 1,048,576 tasks, one for each block after each step
+pub record AreSteps (takes : ℕ → ℕ → Bool) (count size steps : ℕ) : Type 0 where
+  pub some_cells : 1 ≤ count
+  pub some_size : 1 ≤ size
+  pub taken : takes count size ≡ true
+  pub few_tasks : (steps + 1) * blocks_of count size < 2 ^ 20
+
+-- why there are no such steps of so many cells, in blocks of so many
+abbrev pub AreNoSteps : (ℕ → ℕ → Bool) → ℕ → ℕ → ℕ → Type 0
+AreNoSteps takes count size steps =
+    (count ≡ 0) ⊎ ((size ≡ 0) ⊎ ((takes count size ≡ false) ⊎ (2 ^ 20 ≤ (steps + 1) * blocks_of count size)))
+
+-- so many blocks, of so many cells each but the last, which may be shorter
+pub record IsCut (blocks : ℕ) (size : ℕ) (steps : ℕ) (count : ℕ) : Type 0 where
+  pub some_blocks : 1 ≤ blocks
+  pub some_cells : 1 ≤ size
+  pub none_empty : (blocks - 1) * size < count
+  pub whole : count ≤ blocks * size
+  pub few_tasks : (steps + 1) * blocks < 2 ^ 20
+
+-- Tasks are the blocks after each step, numbered step by step: task t is block t % blocks after t / blocks steps. One has a
+-- block before it unless it is the first of its step, and one behind it unless it is the last: 1, or else 0.
+abbrev pub befores : ℕ → ℕ → ℕ
+befores blocks t = if nat_lt 0 (t % blocks) then 1 else 0
+
+abbrev pub behinds : ℕ → ℕ → ℕ
+behinds blocks t = if nat_lt (t % blocks + 1) blocks then 1 else 0
+
+-- the producer that fills slot s of task t: the block before, itself and the block behind, as far as they are there, one
+-- step earlier
+abbrev pub source : ℕ → ℕ → ℕ → ℕ
+source blocks t s = t + s - (blocks + befores blocks t)
+
+-- where feed k of task p goes
+abbrev pub target : ℕ → ℕ → ℕ → ℕ
+target blocks p k = p + blocks + k - befores blocks p
+
+-- what a block becomes, from the inputs of its task
+abbrev pub next_of : BlockStep → ℕ → List (List ℤ) → List ℤ
+next_of next befores inputs =
+    next (if nat_lt 0 befores then slice_index_or inputs 0 [] else []) (slice_index_or inputs befores []) (slice_index_or inputs (befores + 1) [])
+
+-- The graph of so many steps. Blocks that lie together run at one node: each node has a range of them.
+unfoldable pub block_graph : BlockStep → List ℤ → ℕ → ℕ → ℕ → TaskGraph
+block_graph next cells blocks size steps = record {
+  tasks = (steps + 1) * blocks;
+  arity = λ t. if nat_lt t blocks then 0 else befores blocks t + 1 + behinds blocks t;
+  class = λ t. 0;
+  feeds = λ t. if nat_lt (t + blocks) ((steps + 1) * blocks) then befores blocks t + 1 + behinds blocks t else 0;
+  target = target blocks;
+  slot = λ t k. befores blocks (target blocks t k) + befores blocks t - k;
+  source = source blocks;
+  turn = λ t s. befores blocks t + befores blocks (source blocks t s) - s;
+  home = λ t m. (t % blocks) * m / blocks;
+  rule = λ t inputs. Some (if nat_lt t blocks then block_of size t cells else next_of next (befores blocks t) inputs);
+}
+
+-- a block of the last step has no result
+pub record LacksBlock (blocks steps : ℕ) (results : Results) : Type 0 where
+  pub block : ℕ
+  pub within : block < blocks
+  pub none : All (λ r. r.0.0 ≢ steps * blocks + block) results
+
+-- why there are no cells at the end: a block of the last step is not there, or there was no memory
+abbrev pub IsCellsRefusal : ℕ → ℕ → Results → Refusal → Type 0
+IsCellsRefusal blocks steps results refusal = (refusal ≡ NoMemory) ⊎ ((refusal ≡ Missing) × LacksBlock blocks steps results)

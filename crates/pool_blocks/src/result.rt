@@ -1,0 +1,51 @@
+ghost use Rattle.std.specs.Prelude.{◌≡◌, IfOk, IfErr};
+ghost use Rattle.tp_base.specs.declared.Refusal.TheVariants.{NoMemory};
+ghost use Rattle.tp_graph.specs.Serial.{AreRight};
+ghost use Rattle.pool_blocks.specs.Stencils.{IsCellsRefusal, LacksBlock, after, block_graph};
+
+use crate::stencil::Stencil;
+use crate::steps::Steps;
+use std::alloc::Global;
+use tp_base::{Refusal, TaskId};
+use tp_graph::{Value, places, serial, value_at};
+
+/// The cells after the last step, from the results of the tasks. Refused with `Missing` where a block of the last step has no
+/// result, and with `NoMemory` where memory is refused first.
+pub fn cells_of<S: Stencil>(
+    alloc: Global,
+    work: &Steps<S>,
+    results: &[(TaskId, Value)],
+) -> Result<Vec<i64>, Refusal>
+    requires { AreRight (block_graph (S.next work.now.stencil) work.now.cells.now work.now.blocks work.now.size work.now.steps) results.now }
+    ensures made { IfOk result (λ cells. cells.items ≡ after (S.step work.now.stencil) work.now.steps work.now.cells.now) }
+    ensures whole { IfOk result (λ cells. LacksBlock work.now.blocks work.now.steps results.now → ⊥) }
+    ensures refused { IfErr result (IsCellsRefusal work.now.blocks work.now.steps results.now) }
+{
+    let (blocks, steps) = (work.blocks(), work.steps());
+    let places = places(alloc, (steps + 1) * blocks, results)?;
+    let mut cells = Vec::new(alloc);
+    for b in 0..blocks {
+        let Some(value) = value_at(results, places.as_slice(), TaskId(steps * blocks + b)) else {
+            return Err(Refusal::Missing);
+        };
+        cells.extend_from_slice(value.as_slice())?;
+    }
+    Ok(cells)
+}
+
+/// The cells after the last step, worked out on one thread. Refused only with `NoMemory`: no cell leaves 64 bits, so each
+/// task has a value.
+pub fn cells_by_one<S: Stencil>(alloc: Global, work: Steps<S>) -> Result<Vec<i64>, Refusal>
+    ensures made { IfOk result (λ cells. cells.items ≡ after (S.step work.entry.stencil) work.entry.steps work.entry.cells.now) }
+    ensures refused { IfErr result (λ refusal. refusal ≡ NoMemory) }
+{
+    let results = match serial(alloc, work.copied()) {
+        Ok(results) => results,
+        Err(refusal) => {
+            // No body fails, since no cell leaves 64 bits: those that were lent fit, as reading them shows.
+            work.read_cells();
+            return Err(refusal);
+        }
+    };
+    cells_of(alloc, &work, results.as_slice())
+}

@@ -1,0 +1,3 @@
+pub mod Grids
+pub mod Windows
+pub mod GridLaws

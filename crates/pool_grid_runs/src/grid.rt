@@ -1,0 +1,56 @@
+ghost use Rattle.std.specs.Prelude.{◌≡◌, MatchResult};
+ghost use Rattle.pool_grid.specs.Grids.{evolve};
+ghost use Rattle.pool_grid_runs.specs.Faults.{IsGridFault, IsGridPartFault};
+ghost use Rattle.tp_work.specs.Outcomes.{IsWithinLimits};
+
+use pool_block_runs::{LentFault, run_in_parts, run_steps};
+use pool_grid::{grid_in_blocks, row_blocks};
+use std::alloc::Global;
+use std::sync::Wait;
+use std::thread::Threads;
+use tp_work::Config;
+
+/// A grid of some cells, row by row, in rows of so many, after so many steps, worked out by a pool of threads in blocks of so many
+/// rows. `BadInput` where the cells give no such grid ([`grid_in_blocks`]), and else what [`run_steps`] answered.
+pub fn run_grid<R: Threads + Wait + Sync>(
+    rt: &R,
+    alloc: Global,
+    cells: &[i64],
+    width: u32,
+    rows: u32,
+    steps: u32,
+    config: Config,
+) -> Result<Vec<i64>, LentFault>
+    requires { IsWithinLimits config }
+    ensures { MatchResult result
+        (λ grid. grid.items ≡ evolve width steps cells.now)
+        (IsGridFault config.nodes cells.now width rows steps) }
+{
+    let Some(grid) = grid_in_blocks(cells, width, rows, steps) else {
+        return Err(LentFault::BadInput);
+    };
+    run_steps(rt, alloc, grid, config)
+}
+
+/// A grid of some cells, row by row, in rows of so many, after any number of steps, worked out by pools of threads one after the
+/// other, each over the grid that the one before gave, in blocks of so many rows. `BadInput` where the cells give no such
+/// grid or take no step ([`steps_at_once`](pool_block_runs::steps_at_once)), and else what [`run_in_parts`] answered.
+pub fn run_grid_in_parts<R: Threads + Wait + Sync>(
+    rt: &R,
+    alloc: Global,
+    cells: Vec<i64>,
+    width: u32,
+    rows: u32,
+    steps: u64,
+    config: Config,
+) -> Result<Vec<i64>, LentFault>
+    requires { IsWithinLimits config }
+    ensures { MatchResult result
+        (λ grid. grid.items ≡ evolve width steps cells.items)
+        (IsGridPartFault config.nodes cells.items width rows steps) }
+{
+    let Some(blocks) = row_blocks(width, rows) else {
+        return Err(LentFault::BadInput);
+    };
+    run_in_parts(rt, alloc, blocks.points, cells, blocks.size, steps, config)
+}

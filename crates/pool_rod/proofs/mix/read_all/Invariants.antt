@@ -1,6 +1,0 @@
-use Rattle.std.proofs.Common.{◌≡◌, take, true}
-use Rattle.tp_graph.specs.Values.{all_fit}
-use Rattle.pool_rod.proofs.mix.read_all.Given as goal
-
-abbrev pub invariant-loop-i : goal.invariant-loop-i
-invariant-loop-i l = all_fit (take l.i l.cells) ≡ true

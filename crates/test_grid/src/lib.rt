@@ -1,0 +1,10 @@
+//! Tests of the pools over cells in blocks: rod, grid, and a grid as text. They stand apart from the crates that they test,
+//! whose functions would else be proved once more with them.
+#![tactic(auto)]
+
+#[cfg(test)]
+mod by_one;
+#[cfg(test)]
+mod run;
+#[cfg(test)]
+mod text;

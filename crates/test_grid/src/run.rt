@@ -1,0 +1,72 @@
+ghost use Rattle.std.specs.Prelude.{◌≤◌};
+
+use crate::by_one::{AFTER_TWO, CELLS};
+use pool_block_runs::steps_at_once;
+use pool_grid_runs::{run_grid, run_grid_in_parts};
+use std::alloc::{AllocError, Global};
+use std::sync::Wait;
+use std::test::Fail;
+use std::thread::Threads;
+use tp_work::Config;
+
+/// Whether so many nodes make the grid of two steps, in one run and in parts.
+fn is_made<R: Threads + Wait + Sync>(
+    rt: &R,
+    alloc: Global,
+    rows: u32,
+    nodes: u32,
+) -> Result<bool, AllocError>
+    requires { (1 ≤ nodes) × (nodes ≤ 8) }
+{
+    let config = Config::new(nodes, 2);
+    let whole = match run_grid(rt, alloc, &CELLS, 4, rows, 2, config) {
+        Ok(grid) => grid.as_slice() == AFTER_TWO.as_slice(),
+        Err(_) => false,
+    };
+    let mut cells = Vec::new(alloc);
+    cells.extend_from_slice(&CELLS)?;
+    let parts = match run_grid_in_parts(rt, alloc, cells, 4, rows, 2, config) {
+        Ok(grid) => grid.as_slice() == AFTER_TWO.as_slice(),
+        Err(_) => false,
+    };
+    Ok(whole && parts)
+}
+
+#[test]
+fn threads_make_the_plain_grid(rt: HostRuntime) -> Result<(), Fail> {
+    for nodes in 1..9 {
+        for rows in [1, 2, 3] {
+            assert_eq!(rt;
+                is_made(&rt, rt.alloc(), rows, nodes)?,
+                true,
+                "{nodes} {rows}"
+            );
+        }
+    }
+    Ok(())
+}
+
+#[test]
+fn steps_of_a_run_are_counted(rt: HostRuntime) -> Result<(), Fail> {
+    // 32 blocks of 32,000 cells: 96 events first, and a step 94 + 64 at one node, 6 more at two, 18 more at four; but
+    // 16,777,216 / 1,024,000 is 16
+    for (cells, size, nodes, steps) in [
+        (1_024_000, 32_000, 1, 16),
+        (32_000, 1_000, 1, 524),
+        (3_200, 100, 1, 5_242),
+        (3_200, 100, 2, 5_242),
+        (320, 10, 1, 6_328),
+        (320, 10, 2, 6_096),
+        (320, 10, 4, 5_681),
+    ] {
+        assert_eq!(rt;
+            steps_at_once(cells, size, nodes),
+            Some(steps),
+            "{cells} {size} {nodes}"
+        );
+    }
+    assert_eq!(rt; steps_at_once(0, 1, 1), None);
+    assert_eq!(rt; steps_at_once(1, 0, 1), None);
+    assert_eq!(rt; steps_at_once(200_000, 1, 1), None);
+    Ok(())
+}

@@ -1,5 +1,0 @@
-use Rattle.std.proofs.Common.{rules}
-use Rattle.tp_cli.proofs.request.count_of.Goals as goal
-
-pub returns-clause-asked : goal.returns-clause-asked
-returns-clause-asked c = search rules

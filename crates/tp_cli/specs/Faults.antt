@@ -1,0 +1,63 @@
+-- What is told of a fault on standard error, and the exit status that it gives.
+use Rattle.std.specs.Prelude.{ℕ, ◌++◌, List, codes, decimal}
+use Rattle.std.specs.String.{string_bytes}
+use Rattle.tp_base.specs.Refusals.{number_of, name_of}
+use Rattle.tp_base.specs.declared.refusal.Refusal.{Refusal}
+use Rattle.tp_base.specs.declared.refusal.Refusal.TheVariants.{BadSpec, NoMemory}
+use Rattle.tp_cli.specs.declared.fault.Fault.{Fault}
+use Rattle.tp_cli.specs.declared.fault.Fault.TheVariants as faults
+use Rattle.tp_cli.specs.declared.fault.RunFault.{RunFault}
+use Rattle.tp_cli.specs.declared.fault.RunFault.TheVariants as runs
+use Rattle.tp_shell.specs.declared.status.Status.{Status}
+use Rattle.tp_shell.specs.declared.status.Status.TheVariants as statuses
+use Rattle.tp_shell.specs.declared.words.WordsFault.{WordsFault}
+use Rattle.tp_shell.specs.declared.words.WordsFault.TheVariants as words
+use Rattle.tp_text.specs.declared.TextFault.{TextFault}
+use Rattle.tp_text.specs.declared.TextFault.TheVariants as texts
+
+-- the line of a refusal
+abbrev pub refusal_line : Refusal → List ℕ
+refusal_line r = codes "refused " ++ (decimal (number_of r) ++ (codes " " ++ (name_of r ++ codes "\n")))
+
+-- what a run is told to be refused for
+abbrev pub refusal_of : RunFault → Refusal
+refusal_of (runs.Pool fault) = fault.refusal
+refusal_of (runs.Text refusal) = refusal
+
+-- of a text that was not answered
+abbrev pub text_line : TextFault → List ℕ
+text_line texts.Read = codes "fault read\n"
+text_line texts.TooLong = codes "fault too long\n"
+text_line texts.Write = codes "fault write\n"
+text_line texts.Memory = codes "refused 17 NoMemory\n"
+
+-- of words that are at fault, the parser's own text
+abbrev pub words_line : WordsFault → List ℕ
+words_line (words.Words text) = string_bytes text ++ codes "\n"
+words_line words.Memory = text_line texts.Memory
+words_line words.Write = text_line texts.Write
+
+-- what is told of a fault
+abbrev pub line_of : Fault → List ℕ
+line_of (faults.Words fault) = words_line fault
+line_of (faults.Text fault) = text_line fault
+line_of faults.NoPool = refusal_line BadSpec
+line_of (faults.InVain refusal) = refusal_line refusal
+line_of (faults.Run fault) = refusal_line (refusal_of fault)
+line_of faults.Memory = refusal_line NoMemory
+line_of faults.Write = text_line texts.Write
+
+-- 1 where the words, the reading or the writing are at fault, 3 where a run was refused or memory was
+abbrev pub status_of : Fault → Status
+status_of (faults.Words (words.Words text)) = statuses.Fault
+status_of (faults.Words words.Memory) = statuses.Failed
+status_of (faults.Words words.Write) = statuses.Fault
+status_of (faults.Text texts.Read) = statuses.Fault
+status_of (faults.Text texts.TooLong) = statuses.Fault
+status_of (faults.Text texts.Write) = statuses.Fault
+status_of (faults.Text texts.Memory) = statuses.Failed
+status_of faults.NoPool = statuses.Fault
+status_of (faults.InVain refusal) = statuses.Fault
+status_of (faults.Run fault) = statuses.Failed
+status_of faults.Memory = statuses.Failed
+status_of faults.Write = statuses.Fault

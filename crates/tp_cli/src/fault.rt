@@ -1,0 +1,112 @@
+ghost use Rattle.std.specs.Prelude.{◌≡◌, ◌≢◌, codes};
+ghost use Rattle.tp_cli.specs.Faults.{line_of, refusal_line, refusal_of, status_of, text_line, words_line};
+
+use std::io::ErrorKind;
+use tp_base::Refusal;
+use tp_shell::{Diagnostics, Status, Told, WordsFault};
+use tp_text::TextFault;
+
+/// Why the program did not do what its words ask for.
+#[derive(Drop)]
+pub(crate) enum Fault {
+    /// The words make no request, and nothing was shown for them.
+    Words(WordsFault),
+    /// A script or a trace was not answered.
+    Text(TextFault),
+    /// The word names no pool.
+    NoPool,
+    /// The words of several pools are in vain, for this.
+    InVain(Refusal),
+    /// There is no text of the run of a pool.
+    Run(RunFault),
+    /// There was no memory for the runs of several pools, or for their text.
+    Memory,
+    /// The text could not be written; how much of it was is not known.
+    Write,
+}
+
+/// Why there is no text of the run of a pool.
+#[derive(Drop)]
+pub(crate) enum RunFault {
+    /// The run was refused: this is its own fault.
+    Pool(tp_work::Fault),
+    /// It came to its end, and for this there is no text of it.
+    Text(Refusal),
+}
+
+impl RunFault {
+    /// What is told of it.
+    fn refusal(&self) -> Refusal
+        ensures { result ≡ refusal_of self.now }
+    {
+        match self {
+            RunFault::Pool(fault) => fault.refusal,
+            RunFault::Text(refusal) => *refusal,
+        }
+    }
+}
+
+impl Told for Fault {
+    ghost line_of = { line_of };
+
+    ghost status_of = { status_of };
+
+    fn tell<E: Diagnostics>(&self, err: &mut E) {
+        match self {
+            Fault::Words(fault) => tell_words(fault, err),
+            Fault::Text(fault) => err.tell(text_line(*fault)),
+            Fault::NoPool => tell_refusal(Refusal::BadSpec, err),
+            Fault::InVain(refusal) => tell_refusal(*refusal, err),
+            Fault::Run(fault) => tell_refusal(fault.refusal(), err),
+            Fault::Memory => tell_refusal(Refusal::NoMemory, err),
+            Fault::Write => err.tell(text_line(TextFault::Write)),
+        }
+    }
+
+    fn status(&self) -> Status {
+        match self {
+            Fault::Words(WordsFault::Words(_) | WordsFault::Write) => Status::Fault,
+            Fault::Text(TextFault::Read | TextFault::TooLong | TextFault::Write) => Status::Fault,
+            Fault::NoPool | Fault::InVain(_) | Fault::Write => Status::Fault,
+            Fault::Words(WordsFault::Memory) | Fault::Text(TextFault::Memory) => Status::Failed,
+            Fault::Run(_) | Fault::Memory => Status::Failed,
+        }
+    }
+}
+
+fn tell_words<E: Diagnostics>(fault: &WordsFault, err: &mut E)
+    ensures { E.tells err.old (words_line fault.now) err.new }
+{
+    match fault {
+        WordsFault::Words(text) => err.tell(format_args!("{text}\n")),
+        WordsFault::Memory => err.tell(text_line(TextFault::Memory)),
+        WordsFault::Write => err.tell(text_line(TextFault::Write)),
+    }
+}
+
+/// What is told of a text that was not answered.
+fn text_line(fault: TextFault) -> &'static str
+    ensures { result.now ≡ text_line fault }
+{
+    match fault {
+        TextFault::Read => "fault read\n",
+        TextFault::TooLong => "fault too long\n",
+        TextFault::Write => "fault write\n",
+        TextFault::Memory => "refused 17 NoMemory\n",
+    }
+}
+
+fn tell_refusal<E: Diagnostics>(refusal: Refusal, err: &mut E)
+    ensures { E.tells err.old (refusal_line refusal) err.new }
+{
+    err.tell(format_args!("refused {} {}\n", refusal.number(), refusal.name()));
+}
+
+/// What is complained of, and the exit status, where the words of the command line could not be had: memory was refused, or
+/// one of them is not UTF-8.
+pub fn without_words(fault: ErrorKind) -> (&'static str, u8)
+    ensures memory { fault ≡ ErrorKind.OutOfMemory → (result.0.now ≡ codes "refused 17 NoMemory\n") × (result.1 ≡ 3) }
+    ensures words { fault ≢ ErrorKind.OutOfMemory → (result.0.now ≡ codes "fault words\n") × (result.1 ≡ 1) }
+{
+    tp_shell::without_words(fault, "refused 17 NoMemory\n", "fault words\n")
+}

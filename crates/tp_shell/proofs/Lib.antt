@@ -1,0 +1,4 @@
+pub mod Asked
+pub mod Bounded
+pub mod Statuses
+pub mod Written

@@ -1,0 +1,29 @@
+-- The status of a number.
+use Rattle.std.proofs.Common.{◌≡◌, refl}
+use Rattle.tp_shell.specs.Statuses.{code_of}
+use Rattle.tp_shell.specs.declared.status.Status.{Status}
+use Rattle.tp_shell.specs.declared.status.Status.TheVariants.{Done, Fault, Refused, Failed}
+
+pub is_done : (s : Status) → code_of s ≡ 0 → s ≡ Done
+is_done Done is = refl
+is_done Fault is = cc
+is_done Refused is = cc
+is_done Failed is = cc
+
+pub is_fault : (s : Status) → code_of s ≡ 1 → s ≡ Fault
+is_fault Done is = cc
+is_fault Fault is = refl
+is_fault Refused is = cc
+is_fault Failed is = cc
+
+pub is_refused : (s : Status) → code_of s ≡ 2 → s ≡ Refused
+is_refused Done is = cc
+is_refused Fault is = cc
+is_refused Refused is = refl
+is_refused Failed is = cc
+
+pub is_failed : (s : Status) → code_of s ≡ 3 → s ≡ Failed
+is_failed Done is = cc
+is_failed Fault is = cc
+is_failed Refused is = cc
+is_failed Failed is = refl

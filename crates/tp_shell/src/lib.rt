@@ -1,0 +1,16 @@
+//! What programs of the command line share: the options of a pool, what is told of a fault, and the exit statuses.
+#![tactic(auto)]
+
+mod diagnostics;
+mod environment;
+mod options;
+mod status;
+mod streams;
+mod words;
+
+pub use diagnostics::{Diagnostics, Told, complain};
+pub use environment::{arguments, without_words, words_of};
+pub use options::{VERSION, config_of, count_of, count_option, with_counts};
+pub use status::Status;
+pub use streams::{ReadFault, Source, write_text};
+pub use words::{WordsFault, show};
