@@ -37,15 +37,15 @@ ranked pools i p at waits =
 pub length-graphs_to_run : (pools : Pools) → length (graphs_to_run pools) ≡ count_by is_waiting pools
 length-graphs_to_run pools = length-map (filter is_waiting pools) (λ (p : Entered). p.graph) ∙ length-filter is_waiting pools
 
-pub are_run : (n : ℕ) (answers : List (Result Outcome Fault)) (old new : Pools) → AreRunAnswers n (graphs_to_run old) answers
-    → AreSettled answers old new → AreRun n answers old new
-are_run n answers old new made settled = record {
+pub are_run : (n workers : ℕ) (answers : List (Result Outcome Fault)) (old new : Pools) → AreRunAnswers n workers (graphs_to_run old) answers
+    → AreSettled answers old new → AreRun n workers answers old new
+are_run n workers answers old new made settled = record {
   own = λ i p answer at waits is.
       let graph : slice_get (graphs_to_run old) (rank old i) ≡ Some p.graph =
       slice_get-map (λ (q : Entered). q.graph) (filter is_waiting old) (rank old i) ∙ ap (option_map (λ (q : Entered). q.graph)) (ranked old i p at waits) in
       let lt : rank old i < length (graphs_to_run old) = slice_get_within (graphs_to_run old) (rank old i) p.graph graph in
-      subst (λ (g : AnyGraph). IsRunAnswer n g answer) (get_or_from_slice_get (graphs_to_run old) (rank old i) p.graph p.graph graph)
-      (subst (λ (a : Result Outcome Fault). IsRunAnswer n (get_or (graphs_to_run old) (rank old i) p.graph) a) (get_or_from_slice_get answers (rank old i) answer answer is)
+      subst (λ (g : AnyGraph). IsRunAnswer n workers g answer) (get_or_from_slice_get (graphs_to_run old) (rank old i) p.graph p.graph graph)
+      (subst (λ (a : Result Outcome Fault). IsRunAnswer n workers (get_or (graphs_to_run old) (rank old i) p.graph) a) (get_or_from_slice_get answers (rank old i) answer answer is)
       (made.each (rank old i) p.graph answer lt));
   settled = settled;
 }

@@ -8,20 +8,20 @@ use Rattle.tp_work.specs.Outcomes.{IsFault, IsOutcome}
 use Rattle.tp_work.specs.declared.config.Fault.{Fault}
 use Rattle.tp_work.specs.declared.config.Outcome.{Outcome}
 
--- what a run of a graph on n nodes answers: its outcome, or why it has none
-abbrev pub IsRunAnswer : ℕ → AnyGraph → Result Outcome Fault → Type 0
-IsRunAnswer n g (Ok outcome) = IsOutcome n (any_graph g) outcome
-IsRunAnswer n g (Err fault) = IsFault n (any_graph g) fault
+-- what a run of a graph on n nodes, with so many workers at each, answers: its outcome, or why it has none
+abbrev pub IsRunAnswer : ℕ → ℕ → AnyGraph → Result Outcome Fault → Type 0
+IsRunAnswer n workers g (Ok outcome) = IsOutcome n workers (any_graph g) outcome
+IsRunAnswer n workers g (Err fault) = IsFault n (any_graph g) fault
 
 -- The answers are those of runs of the graphs, one for each, in their order.
-pub record AreRunAnswers (n : ℕ) (graphs : List AnyGraph) (answers : List (Result Outcome Fault)) : Type 0 where
+pub record AreRunAnswers (n workers : ℕ) (graphs : List AnyGraph) (answers : List (Result Outcome Fault)) : Type 0 where
   pub many : length answers ≡ length graphs
   pub each : (i : ℕ) (g : AnyGraph) (answer : Result Outcome Fault) → i < length graphs
-      → IsRunAnswer n (slice_index_or graphs i g) (slice_index_or answers i answer)
+      → IsRunAnswer n workers (slice_index_or graphs i g) (slice_index_or answers i answer)
 
--- Each pool that could be run was run on n nodes, and the answer of its rank is that of its own graph. By these answers the
+-- Each pool that could be run was run on n nodes, with so many workers at each, and the answer of its rank is that of its own graph. By these answers the
 -- pools stand now: each that was run is over or failed, each other stands as it stood.
-pub record AreRun (n : ℕ) (answers : List (Result Outcome Fault)) (old new : Pools) : Type 0 where
+pub record AreRun (n workers : ℕ) (answers : List (Result Outcome Fault)) (old new : Pools) : Type 0 where
   pub own : (i : ℕ) (p : Entered) (answer : Result Outcome Fault) → slice_get old i ≡ Some p → is_waiting p ≡ true
-      → slice_get answers (rank old i) ≡ Some answer → IsRunAnswer n p.graph answer
+      → slice_get answers (rank old i) ≡ Some answer → IsRunAnswer n workers p.graph answer
   pub settled : AreSettled answers old new

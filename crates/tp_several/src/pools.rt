@@ -25,7 +25,7 @@ pub fn run_pools<A: Gate, R: Threads + Wait + Sync>(
     gate: &A,
 ) -> Result<Vec<Result<Outcome, Fault>>, Refusal>
     requires limits { IsWithinLimits config }
-    ensures ran { IfOk result (λ answers. AreRun config.nodes answers.items registry.old registry.new) }
+    ensures ran { IfOk result (λ answers. AreRun config.nodes config.workers answers.items registry.old registry.new) }
     ensures refused { OnErr result (registry.new ≡ registry.old) }
     ensures refusal { IfErr result (λ e. e ≡ NoMemory) }
 {
@@ -44,7 +44,7 @@ fn run_each<A: Gate, R: Threads + Wait + Sync>(
     gate: &A,
 ) -> Result<Vec<Result<Outcome, Fault>>, AllocError>
     requires limits { IsWithinLimits config }
-    ensures { IfOk result (λ answers. AreRunAnswers config.nodes graphs.items answers.items) }
+    ensures { IfOk result (λ answers. AreRunAnswers config.nodes config.workers graphs.items answers.items) }
 {
     let runner = Runner {
         rt,
@@ -57,7 +57,7 @@ fn run_each<A: Gate, R: Threads + Wait + Sync>(
         graphs,
         &|graph| -> Result<Outcome, Fault>
             requires { IsWithinLimits runner.config }
-            ensures { IsRunAnswer runner.entry.config.nodes graph result }
+            ensures { IsRunAnswer runner.entry.config.nodes runner.entry.config.workers graph result }
         { runner.run(graph) },
     )
 }
@@ -74,7 +74,7 @@ struct Runner<'a, A, R> {
 impl<A: Gate, R: Threads + Wait + Sync> Runner<'_, A, R> {
     fn run(&self, graph: AnyGraph) -> Result<Outcome, Fault>
         requires { IsWithinLimits self.now.config }
-        ensures { IsRunAnswer self.now.config.nodes graph result }
+        ensures { IsRunAnswer self.now.config.nodes self.now.config.workers graph result }
     {
         run_pool(self.rt, self.alloc, graph, self.config, self.gate)
     }

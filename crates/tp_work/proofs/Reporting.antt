@@ -1,8 +1,9 @@
 -- What a report tells of a pool whose nodes are at their places.
-use Rattle.std.proofs.Common.{◌≡◌, ℕ, List, [], ◌∷◌, true, false, Option, Some, None, IsFalse, IsTrue, MatchOption, length, refl, sym, ap, subst, ◌∙◌, inl, inr}
+use Rattle.std.proofs.Common.{◌≡◌, ◌*◌, ◌↔◌, ℕ, List, [], ◌∷◌, Bool, true, false, Option, None, Some, Result, Ok, Err, IfOk, MatchResult, IsFalse, IsTrue, MatchOption, length, refl, sym, ap, subst, ◌∙◌, inl, inr}
 use Rattle.std.proofs.lemmas.Bool.{cases_Bool}
-use Rattle.std.specs.Prelude.{sum_by}
+use Rattle.std.specs.Prelude.{sum_by, if◌then◌else◌}
 use Rattle.tp_base.specs.declared.refusal.Refusal.{Refusal}
+use Rattle.tp_base.specs.declared.refusal.Refusal.TheVariants.{Missing, NoMemory}
 use Rattle.tp_board.specs.Numbers.{is_done, is_send}
 use Rattle.tp_board.specs.States.{BoardState}
 use Rattle.tp_graph.specs.Graphs.{TaskGraph}
@@ -17,9 +18,11 @@ use Rattle.tp_wave.specs.Steps.{any, count, is_reopen}
 use Rattle.tp_wave.specs.Sums.{is_ended, total}
 use Rattle.tp_work.proofs.Gathering.{sum_by-map}
 use Rattle.tp_work.proofs.Placing.{sum_by-same, total-range}
-use Rattle.tp_work.specs.Outcomes.{IsAnswer, IsComplete, IsLack, IsOutcome}
+use Rattle.tp_work.specs.Lives.{LivesOnce}
+use Rattle.tp_work.specs.Outcomes.{HasEachOnce, IsAnswer, IsComplete, IsFault, IsLack, IsOutcome, IsUngathered}
 use Rattle.tp_work.specs.Places.{AreInOrder, AreOf, IsWhole}
-use Rattle.tp_work.specs.Reports.{AreOfTheRun, IsGathered, IsOfItsRun, IsReport}
+use Rattle.tp_work.specs.Reports.{AreOfTheRun, IsGathered, IsOfItsRun, IsReport, IsReportOf}
+use Rattle.tp_work.specs.declared.config.Fault.{Fault}
 use Rattle.tp_work.specs.declared.gathered.Report.{Report}
 use Rattle.std.specs.List.{range_with_len}
 
@@ -56,22 +59,25 @@ all_present (e ∷ past) none =
       | inr on ↦ present-goes_on e past on ∙ ap (λ (xs : History). e ∷ xs) (all_present past (rw on at none))
     ]
 
--- A pool that is refused for nothing is complete.
-complete_where : (n tasks : ℕ) (r : Report) (fault : Option Refusal) → r.fault ≡ fault
-    → (r.fault ≡ None → IsComplete n tasks r) → MatchOption fault (Unit {0}) (λ f. ⊥) → IsComplete n tasks r
-complete_where n tasks r None is lack none = lack is
-complete_where n tasks r (Some f) is lack none = elim none [ ]
-
-pub is_complete : (n tasks : ℕ) (r : Report) (answer : Option Refusal) → answer ≡ None
-    → (r.fault ≡ None → MatchOption answer (IsComplete n tasks r) (IsLack n tasks r))
-    → MatchOption r.fault (Unit {0}) (λ f. MatchOption answer ⊥ (IsAnswer (length r.history.events) f)) → IsComplete n tasks r
-is_complete n tasks r (Some e) is lack fault = cc
-is_complete n tasks r None is lack fault = complete_where n tasks r r.fault refl lack fault
+-- What a pool lacks whose end was judged and told to each node, by whether it was made once.
+pub lack_by_made : {E : Type 0} (n tasks : ℕ) (r : Report) (made : Result Bool E) (answer : Option Refusal) → IsTrue r.ended → r.announced ≡ n
+    → IfOk made (λ yes. IsTrue yes ↔ (HasEachOnce tasks r.results.items × LivesOnce tasks (steps_of r.history.events)))
+    → MatchResult made (λ yes. answer ≡ (if yes then None else Some Missing)) (λ _. answer ≡ Some NoMemory)
+    → MatchOption answer (IsComplete n tasks r) (IsLack n tasks r)
+lack_by_made n tasks r (Ok true) answer ended announced told is =
+    let once = told.0 refl in
+    subst (λ (o : Option Refusal). MatchOption o (IsComplete n tasks r) (IsLack n tasks r)) (sym is)
+    (record { ended = ended; announced = announced; each_once = once.0; lives = once.1 })
+lack_by_made n tasks r (Ok false) answer ended announced told is =
+    subst (λ (o : Option Refusal). MatchOption o (IsComplete n tasks r) (IsLack n tasks r)) (sym is)
+    (inl (refl, λ complete. let no : false ≡ true = told.1 (complete.each_once, complete.lives) in cc))
+lack_by_made n tasks r (Err e) answer ended announced told is =
+    subst (λ (o : Option Refusal). MatchOption o (IsComplete n tasks r) (IsLack n tasks r)) (sym is) (inr (refl, ended, announced))
 
 -- What is told of a complete pool is its outcome.
-pub is_outcome : (n : ℕ) (g : TaskGraph) (r : Report) → IsReport n g r → IsComplete n g.tasks r
-    → IsOutcome n g (record { results = r.results; tasks = r.done; messages = r.sent; announced = r.announced; history = r.history })
-is_outcome n g r report complete =
+pub is_outcome : (n workers answered : ℕ) (g : TaskGraph) (r : Report) → IsReport n g r → IsComplete n g.tasks r → answered ≡ n * workers
+    → IsOutcome n workers g (record { results = r.results; tasks = r.done; messages = r.sent; announced = r.announced; workers = answered; history = r.history })
+is_outcome n workers answered g r report complete all_answered =
     let h = r.history.events in
     let all : present_events h ≡ h = all_present h complete.lives.one_generation in
     let steps : present (steps_of h) ≡ steps_of h = sym (steps-present h) ∙ ap steps_of all in
@@ -84,4 +90,19 @@ is_outcome n g r report complete =
       lives = complete.lives;
       tasks = (report.done, report.of_run.done ∙ ap (count is_done) steps);
       messages = report.of_run.sent ∙ ap (count is_send) steps;
+      answered = all_answered;
     }
+
+-- What is told of a pool that has no outcome, and of which this was gathered, is its fault.
+pub is_fault : (n tasks : ℕ) (g : TaskGraph) (f : Fault) (r : Report) → tasks ≡ g.tasks → IsReport n g r → f.report ≡ Some r
+    → MatchOption r.fault (IsLack n tasks r f.refusal) (λ e. IsAnswer (length r.history.events) e f.refusal) → IsFault n g f
+is_fault n tasks g f r same report is why =
+    subst (λ (o : Option Report). MatchOption o (IsUngathered f.refusal)
+    (λ s. IsReport n g s × MatchOption s.fault (IsLack n g.tasks s f.refusal) (λ e. IsAnswer (length s.history.events) e f.refusal))) (sym is)
+    (report, subst (λ (k : ℕ). MatchOption r.fault (IsLack n k r f.refusal) (λ e. IsAnswer (length r.history.events) e f.refusal)) same why)
+
+module _ {G : Type 0} where
+  -- The report that it holds is of these nodes and this board.
+  pub of_report : (n : ℕ) (g : TaskGraph) (f : Fault) (r : Report) (nodes : List (NodeState G)) (board : BoardState) → IsReportOf n g nodes board r → f.report ≡ Some r
+      → MatchOption f.report (f.refusal ≡ NoMemory) (IsReportOf n g nodes board)
+  of_report n g f r nodes board report is = subst (λ (o : Option Report). MatchOption o (f.refusal ≡ NoMemory) (IsReportOf n g nodes board)) (sym is) report

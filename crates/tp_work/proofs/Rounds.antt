@@ -1,5 +1,5 @@
 -- Rounds beside the events of their generations.
-use Rattle.std.proofs.Common.{◌≡◌, ◌∙◌, ◌+◌, ◌<◌, ◌≤◌, ◌⊎◌, ℕ, true, false, List, [], ◌∷◌, ◌++◌, length, map, reverse, Option, Some, None, IfErr, IsTrue, MatchOption, Result, Err, refl, sym, ap, subst, inl, inr, arith, get_or, vec_len}
+use Rattle.std.proofs.Common.{◌≡◌, ◌∙◌, ◌+◌, ◌<◌, ◌≤◌, ◌⊎◌, ℕ, true, false, List, [], ◌∷◌, ◌++◌, length, map, reverse, Option, Some, None, IfErr, IsTrue, MatchOption, OnOk, Result, Ok, Err, refl, sym, ap, subst, inl, inr, arith, get_or, vec_len}
 use Rattle.std.specs.List.{All, AllZip}
 use Rattle.std.specs.List.{range_with_len}
 use Rattle.std.specs.Prelude.{nat_lt}
@@ -25,7 +25,7 @@ use Rattle.tp_work.proofs.Walking.{reverse-cons}
 use Rattle.tp_work.specs.Lives.{LivesInEach, LivesOnce, generations, sent_in}
 use Rattle.tp_work.specs.Outcomes.{IsAnswer, IsUngathered}
 use Rattle.tp_work.specs.Places.{IsWhole}
-use Rattle.tp_work.specs.Reports.{IsReport}
+use Rattle.tp_work.specs.Reports.{IsReport, IsReportOf, told_of_end}
 use Rattle.tp_work.specs.Series.{IsKept, IsRound, IsSeries, IsSeriesFault, IsSeriesLack, IsTold, with_messages}
 use Rattle.tp_work.specs.declared.config.Fault.{Fault}
 use Rattle.tp_work.specs.declared.gathered.Report.{Report}
@@ -46,14 +46,19 @@ some_of : {X : Type 0} (xs : List X) (k : ℕ) → k < length xs → X
 some_of [] k within = absurd (omega (arith, within))
 some_of (x ∷ xs) k within = x
 
+-- ---- answers
+pub both_ok : {T E P Q R : Type 0} (r : Result T E) → (P → Q → R) → OnOk r P → OnOk r Q → OnOk r R
+both_ok (Ok x) f p q = f p q
+both_ok (Err e) f p q = p
+
 -- ---- messages that are told
 module _ (old new : List Round) (sent : List ℕ) (many : length new ≡ length old)
     (told : (k : ℕ) (r : Round) → k < length old → get_or new k r ≡ with_messages (get_or sent k 0) (get_or old k r)) where
-  pub kept-told : (g : TaskGraph) → All (IsKept g) old → All (IsKept g) new
-  kept-told g all = λ k d within.
+  pub kept-told : (n workers : ℕ) (g : TaskGraph) → All (IsKept n workers g) old → All (IsKept n workers g) new
+  kept-told n workers g all = λ k d within.
       let inside : k < length old = omega (arith, within, many) in
       let was = all k d inside in
-      subst (IsKept g) (sym (told k d inside)) (record { each_once = was.each_once; right = was.right; tasks = was.tasks })
+      subst (IsKept n workers g) (sym (told k d inside)) (record { each_once = was.each_once; right = was.right; tasks = was.tasks; answered = was.answered })
 
   pub messages-told : length old ≡ length sent → map (λ (r : Round). r.messages) new ≡ sent
   messages-told long = same_lists (map (λ (r : Round). r.messages) new) sent (length-map new (λ (r : Round). r.messages) ∙ many ∙ long) (λ k d within.
@@ -68,14 +73,14 @@ record IsWell (n tasks : ℕ) (h : History) : Type 0 where
   pub ended : IsTrue (is_ended n (steps_of h))
   pub lives : LivesOnce tasks (steps_of h)
 
-rounds-beside : (n : ℕ) (g : TaskGraph) (hs : List History) (rs : List Round) → All (IsWell n g.tasks) hs → All (IsKept g) rs
-    → map (λ (r : Round). r.messages) rs ≡ map sent_in hs → AllZip (IsRound n g) hs rs
-rounds-beside n g [] [] well kept same = tt
-rounds-beside n g [] (r ∷ rs) well kept same = cc
-rounds-beside n g (h ∷ hs) [] well kept same = cc
-rounds-beside n g (h ∷ hs) (r ∷ rs) well kept same =
+rounds-beside : (n workers : ℕ) (g : TaskGraph) (hs : List History) (rs : List Round) → All (IsWell n g.tasks) hs → All (IsKept n workers g) rs
+    → map (λ (r : Round). r.messages) rs ≡ map sent_in hs → AllZip (IsRound n workers g) hs rs
+rounds-beside n workers g [] [] well kept same = tt
+rounds-beside n workers g [] (r ∷ rs) well kept same = cc
+rounds-beside n workers g (h ∷ hs) [] well kept same = cc
+rounds-beside n workers g (h ∷ hs) (r ∷ rs) well kept same =
     let one = All-head (IsWell n g.tasks) h hs well in
-    let own = All-head (IsKept g) r rs kept in (
+    let own = All-head (IsKept n workers g) r rs kept in (
       record {
         ended = one.ended;
         lives = one.lives;
@@ -83,8 +88,9 @@ rounds-beside n g (h ∷ hs) (r ∷ rs) well kept same =
         right = own.right;
         tasks = (own.tasks ∙ sym (length-once g.tasks r.results.items own.each_once) ∙ sym r.results.ok.0, own.tasks ∙ sym (count-done g.tasks (steps_of h) one.lives));
         messages = cc;
+        answered = own.answered;
       },
-      rounds-beside n g hs rs (All-tail (IsWell n g.tasks) h hs well) (All-tail (IsKept g) r rs kept) (cc),
+      rounds-beside n workers g hs rs (All-tail (IsWell n g.tasks) h hs well) (All-tail (IsKept n workers g) r rs kept) (cc),
     )
 
 all_well : (n tasks : ℕ) (h : History) → AreRuns n h → IsTrue (is_ended n (present (steps_of h))) → LivesInEach tasks h → All (IsWell n tasks) (generations h)
@@ -95,15 +101,15 @@ all_well n tasks h runs ended lives =
     λ k d within. record { ended = ends k d within; lives = lives k d within }
 
 -- What is told of a series that lacks nothing.
-pub is_series : (n : ℕ) (g : TaskGraph) (count : ℕ) (s : Series) → AreRuns n s.history.events → IsTrue (is_ended n (present (steps_of s.history.events)))
-    → LivesInEach g.tasks s.history.events → All (IsKept g) s.rounds.items → map (λ (r : Round). r.messages) s.rounds.items ≡ reverse (map sent_in (generations s.history.events))
-    → vec_len s.rounds ≡ count → IsSeries n g count s
-is_series n g count s runs ended lives kept told many =
+pub is_series : (n workers : ℕ) (g : TaskGraph) (count : ℕ) (s : Series) → AreRuns n s.history.events → IsTrue (is_ended n (present (steps_of s.history.events)))
+    → LivesInEach g.tasks s.history.events → All (IsKept n workers g) s.rounds.items → map (λ (r : Round). r.messages) s.rounds.items ≡ reverse (map sent_in (generations s.history.events))
+    → vec_len s.rounds ≡ count → IsSeries n workers g count s
+is_series n workers g count s runs ended lives kept told many =
     let h = s.history.events in
     record {
       many = many;
       runs = runs;
-      each = rounds-beside n g (reverse (generations h)) s.rounds.items (All-reverse (IsWell n g.tasks) (generations h) (all_well n g.tasks h runs ended lives)) kept
+      each = rounds-beside n workers g (reverse (generations h)) s.rounds.items (All-reverse (IsWell n g.tasks) (generations h) (all_well n g.tasks h runs ended lives)) kept
           (told ∙ sym (map-reverse sent_in (generations h)));
     }
 
@@ -112,21 +118,22 @@ pub where_none : {A : Type 0} (B : Refusal → Type 0) (fault : Option Refusal) 
 where_none B None other a = a
 where_none B (Some e) other a = absurd (other e refl)
 
-is_fault-with : (n : ℕ) (g : TaskGraph) (count : ℕ) (report : Option Report) (own refusal : Refusal) (fault : Option Refusal) (h : History)
-    → MatchOption report (own ≡ NoMemory) (λ r. (own ≡ refusal) × IsReport n g r × (r.fault ≡ fault) × (r.history.events ≡ h)) → fault ≡ None
-    → ((r : Report) → IsReport n g r → r.history.events ≡ h → IsSeriesLack n g.tasks count r refusal)
-    → MatchOption report (IsUngathered own) (λ r. IsReport n g r × MatchOption r.fault (IsSeriesLack n g.tasks count r own) (λ e. IsAnswer (length r.history.events) e own))
-is_fault-with n g count None own refusal fault h told none lacks = inl told
-is_fault-with n g count (Some r) own refusal fault h told none lacks = (
-  told.1,
-  subst (λ (o : Option Refusal). MatchOption o (IsSeriesLack n g.tasks count r own) (λ e. IsAnswer (length r.history.events) e own)) (sym (told.2 ∙ none))
-      (subst (IsSeriesLack n g.tasks count r) (sym told.0) (lacks r told.1 told.3)),
-)
+module _ {G : Type 0} where
+  is_fault-with : (n : ℕ) (g : TaskGraph) (count : ℕ) (report : Option Report) (own refusal : Refusal) (nodes : List (NodeState G)) (board : BoardState)
+      → MatchOption report (own ≡ NoMemory) (λ r. (own ≡ refusal) × IsReportOf n g nodes board r) → board.fault ≡ None
+      → ((r : Report) → IsReportOf n g nodes board r → IsSeriesLack n g.tasks count r refusal)
+      → MatchOption report (IsUngathered own) (λ r. IsReport n g r × MatchOption r.fault (IsSeriesLack n g.tasks count r own) (λ e. IsAnswer (length r.history.events) e own))
+  is_fault-with n g count None own refusal nodes board told none lacks = inl told
+  is_fault-with n g count (Some r) own refusal nodes board told none lacks = (
+    told.1.report,
+    subst (λ (o : Option Refusal). MatchOption o (IsSeriesLack n g.tasks count r own) (λ e. IsAnswer (length r.history.events) e own)) (sym (told.1.fault ∙ none))
+        (subst (IsSeriesLack n g.tasks count r) (sym told.0) (lacks r told.1)),
+  )
 
--- The fault of a pool that stops for a refusal, where no fault was set and this is what it lacks.
-pub is_fault : (n : ℕ) (g : TaskGraph) (count : ℕ) (f : Fault) (refusal : Refusal) (fault : Option Refusal) (h : History) → IsTold n g refusal fault h f → fault ≡ None
-    → ((r : Report) → IsReport n g r → r.history.events ≡ h → IsSeriesLack n g.tasks count r refusal) → IsSeriesFault n g count f
-is_fault n g count f refusal fault h told none lacks = is_fault-with n g count f.report f.refusal refusal fault h told none lacks
+  -- The fault of a pool that stops for a refusal, where no fault was set and this is what it lacks.
+  pub is_fault : (n : ℕ) (g : TaskGraph) (count : ℕ) (f : Fault) (refusal : Refusal) (nodes : List (NodeState G)) (board : BoardState) → IsTold n g refusal nodes board f → board.fault ≡ None
+      → ((r : Report) → IsReportOf n g nodes board r → IsSeriesLack n g.tasks count r refusal) → IsSeriesFault n g count f
+  is_fault n g count f refusal nodes board told none lacks = is_fault-with n g count f.report f.refusal refusal nodes board told none lacks
 
 -- Where nothing has happened in the present generation, its end was not judged.
 pub not_ended : (n : ℕ) (g : TaskGraph) (r : Report) (h : History) → IsReport n g r → r.history.events ≡ h → present_events h ≡ [] → IsTrue r.ended → ⊥
@@ -154,25 +161,26 @@ refused_by {A} {P} {T} b self pool ended token refusal result is answers =
     ]
 
 -- What a pool lacks that was to be reopened for another round, and was refused: memory or a place.
-pub lack_of_refusal : (n tasks count : ℕ) (r : Report) (b : BoardState) (refusal : Refusal) → IsTrue r.ended → length r.history.events ≤ MAX_STEPS → r.history.events ≡ b.history → b.limit ≡ MAX_STEPS
+pub lack_of_refusal : (n tasks count : ℕ) (r : Report) (b : BoardState) (refusal : Refusal) → IsTrue r.ended → r.announced ≡ n → length r.history.events ≤ MAX_STEPS → r.history.events ≡ b.history → b.limit ≡ MAX_STEPS
     → length (generations b.history) < count → (refusal ≡ NoMemory) ⊎ ((refusal ≡ HistoryFull (length b.history)) × (b.limit < length b.history + 1)) → IsSeriesLack n tasks count r refusal
-lack_of_refusal n tasks count r b refusal ended few events limit wanted (inl memory) = inr (inl (memory, inl ended))
-lack_of_refusal n tasks count r b refusal ended few events limit wanted (inr full) =
+lack_of_refusal n tasks count r b refusal ended announced few events limit wanted (inl memory) = inr (inl (memory, inl (ended, announced)))
+lack_of_refusal n tasks count r b refusal ended announced few events limit wanted (inr full) =
     let all : length r.history.events ≡ MAX_STEPS = omega (arith, few, ap length events, limit, full.1) in
     inr (inr (
       full.0 ∙ ap HistoryFull (ap length (sym events) ∙ all),
-      record { ended = ended; wanted = subst (λ (h : History). length (generations h) < count) (sym events) wanted; full = all },
+      record { ended = ended; announced = announced; wanted = subst (λ (h : History). length (generations h) < count) (sym events) wanted; full = all },
     ))
 
 -- The fault of a pool that was to be reopened for another round, where it and what came back are the same.
-pub not_reopened : (n : ℕ) (g : TaskGraph) (count : ℕ) (f : Fault) (refusal : Refusal) (b back : BoardState) → IsTold n g refusal back.fault back.history f → back ≡ b → b.fault ≡ None → b.limit ≡ MAX_STEPS
-    → IsTrue (is_ended n (present (steps_of b.history))) → length (generations b.history) < count
-    → (refusal ≡ NoMemory) ⊎ ((refusal ≡ HistoryFull (length b.history)) × (b.limit < length b.history + 1)) → IsSeriesFault n g count f
-not_reopened n g count f refusal b back told same none limit ended wanted why =
-    is_fault n g count f refusal b.fault b.history (subst (λ (s : BoardState). IsTold n g refusal s.fault s.history f) same told) none
-    (λ r report events.
-    let own : IsTrue r.ended = report.of_run.ended ∙ ap (λ (h : History). is_ended n (present (steps_of h))) events ∙ ended in
-    lack_of_refusal n g.tasks count r b refusal own report.of_run.few events limit wanted why)
+module _ {G : Type 0} where
+  pub not_reopened : (n : ℕ) (g : TaskGraph) (count : ℕ) (f : Fault) (refusal : Refusal) (nodes : List (NodeState G)) (b : BoardState) → IsTold n g refusal nodes b f → b.fault ≡ None → b.limit ≡ MAX_STEPS
+      → told_of_end nodes ≡ n → IsTrue (is_ended n (present (steps_of b.history))) → length (generations b.history) < count
+      → (refusal ≡ NoMemory) ⊎ ((refusal ≡ HistoryFull (length b.history)) × (b.limit < length b.history + 1)) → IsSeriesFault n g count f
+  not_reopened n g count f refusal nodes b is_told none limit all_told ended wanted why =
+      is_fault n g count f refusal nodes b is_told none
+      (λ r report.
+      let own : IsTrue r.ended = report.report.of_run.ended ∙ ap (λ (h : History). is_ended n (present (steps_of h))) report.history ∙ ended in
+      lack_of_refusal n g.tasks count r b refusal own (report.announced ∙ all_told) report.report.of_run.few report.history limit wanted why)
 
 -- ---- a pool that was reopened
 module _ {G : Type 0} where

@@ -1,5 +1,5 @@
 -- What a pool answers once all its threads have ended.
-use Rattle.std.specs.Prelude.{ℕ, List, Bool, false, length, slice_index_or, ◌≡◌, ◌+◌, ◌≤◌, ◌==◌, ◌⊎◌, nat_lt, if◌then◌else◌, IsTrue, MatchOption, vec_len}
+use Rattle.std.specs.Prelude.{ℕ, List, Bool, false, length, slice_index_or, ◌≡◌, ◌+◌, ◌*◌, ◌≤◌, ◌==◌, ◌⊎◌, nat_lt, if◌then◌else◌, IsTrue, MatchOption, vec_len}
 use Rattle.std.specs.List.{count_by}
 use Rattle.tp_base.specs.declared.limits.TheConstants.{MAX_IDLE_TURNS, MAX_NODES, MAX_STEPS, MAX_WORKERS}
 use Rattle.tp_base.specs.declared.refusal.Refusal.{Refusal}
@@ -41,8 +41,9 @@ AreMarks results marks = (t : ℕ) → times t results ≡ (if is_marked marks t
 
 -- Each task of the graph has one result, which is the value that the graph defines, and no other task has any. The events
 -- are a run on n nodes whose end was judged and told to each node, in which each task of the graph was inserted, began and was
--- done once, with as many tasks done as there are results, and with the messages that are answered.
-pub record IsOutcome (n : ℕ) (g : TaskGraph) (o : Outcome) : Type 0 where
+-- done once, with as many tasks done as there are results, and with the messages that are answered. So many workers at each
+-- node have answered.
+pub record IsOutcome (n workers : ℕ) (g : TaskGraph) (o : Outcome) : Type 0 where
   pub each_once : HasEachOnce g.tasks o.results.items
   pub right : AreRight g o.results.items
   pub run : IsRun n o.history.events
@@ -51,6 +52,7 @@ pub record IsOutcome (n : ℕ) (g : TaskGraph) (o : Outcome) : Type 0 where
   pub lives : LivesOnce g.tasks (steps_of o.history.events)
   pub tasks : (o.tasks ≡ vec_len o.results) × (o.tasks ≡ count is_done (steps_of o.history.events))
   pub messages : o.messages ≡ count is_send (steps_of o.history.events)
+  pub answered : o.workers ≡ n * workers
 
 -- The end was judged and told to each of n nodes, each task has one result, and each task lived once.
 pub record IsComplete (n tasks : ℕ) (r : Report) : Type 0 where
@@ -59,9 +61,11 @@ pub record IsComplete (n tasks : ℕ) (r : Report) : Type 0 where
   pub each_once : HasEachOnce tasks r.results.items
   pub lives : LivesOnce tasks (steps_of r.history.events)
 
--- why a pool of so many tasks, in which no fault was set, has no outcome: it is not complete, or there was no memory to tell
+-- Why a pool of so many tasks, in which no fault was set, has no outcome: it is not complete; or its end was judged and told
+-- to each of n nodes, and there was no memory to tell whether each task has one result and lived once.
 abbrev pub IsLack : ℕ → ℕ → Report → Refusal → Type 0
-IsLack n tasks r e = ((e ≡ Missing) × (IsComplete n tasks r → ⊥)) ⊎ ((e ≡ NoMemory) × IsTrue r.ended)
+IsLack n tasks r e =
+    ((e ≡ Missing) × (IsComplete n tasks r → ⊥)) ⊎ ((e ≡ NoMemory) × IsTrue r.ended × (r.announced ≡ n))
 
 -- At most one place for an event is left.
 abbrev pub IsFull : ℕ → Type 0

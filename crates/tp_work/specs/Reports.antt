@@ -16,6 +16,10 @@ use Rattle.tp_wave.specs.Steps.{count}
 use Rattle.tp_wave.specs.Sums.{is_ended, total}
 use Rattle.tp_work.specs.declared.gathered.Report.{Report}
 
+-- how many of these nodes were told of the end
+abbrev pub told_of_end : {G : Type 0} → List (NodeState G) → ℕ
+told_of_end nodes = count_by (λ n. n.state.ended) nodes
+
 -- The report has the sums over the nodes and the links, each counted over its own state, how many nodes were told of the end,
 -- and the results of all nodes. Fault and events are the board's.
 pub record IsGathered {G : Type 0} (nodes : List (NodeState G)) (links : List (WireState G)) (board : BoardState) (r : Report) : Type 0 where
@@ -25,7 +29,7 @@ pub record IsGathered {G : Type 0} (nodes : List (NodeState G)) (links : List (W
   pub under : r.under ≡ sum_by (λ w. length w.messages) links
   pub balance : r.sent ≡ r.received + r.under
   pub done : r.done ≡ vec_len r.results
-  pub announced : r.announced ≡ count_by (λ n. n.state.ended) nodes
+  pub announced : r.announced ≡ told_of_end nodes
   pub results : r.results.items ≡ flat_map (λ n. n.state.store.results) nodes
   pub fault : r.fault ≡ board.fault
   pub history : r.history.events ≡ board.history
@@ -53,3 +57,11 @@ pub record IsReport (n : ℕ) (g : TaskGraph) (r : Report) : Type 0 where
   pub pending : r.pending ≡ total n (λ i. pending_at i (present_events r.history.events))
   pub done : r.done ≡ vec_len r.results
   pub right : AreRight g r.results.items
+
+-- The report of a pool with these nodes and this board: it tells how many of them were told of the end, and the fault and the
+-- events that the board has.
+pub record IsReportOf (n : ℕ) (g : TaskGraph) {G : Type 0} (nodes : List (NodeState G)) (board : BoardState) (r : Report) : Type 0 where
+  pub report : IsReport n g r
+  pub announced : r.announced ≡ told_of_end nodes
+  pub fault : r.fault ≡ board.fault
+  pub history : r.history.events ≡ board.history

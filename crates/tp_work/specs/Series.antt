@@ -1,19 +1,21 @@
 -- A series: the generations of a pool that is reopened and run again.
-use Rattle.std.specs.Prelude.{ℕ, ◌+◌, ◌≡◌, ◌<◌, ◌⊎◌, List, Option, IsTrue, MatchOption, length, reverse, vec_len}
+use Rattle.std.specs.Prelude.{ℕ, ◌+◌, ◌*◌, ◌≡◌, ◌<◌, ◌⊎◌, List, IsTrue, MatchOption, length, reverse, vec_len}
 use Rattle.std.specs.List.{All, AllZip}
 use Rattle.tp_base.specs.declared.limits.TheConstants.{MAX_STEPS}
 use Rattle.tp_base.specs.declared.refusal.Refusal.{Refusal}
 use Rattle.tp_base.specs.declared.refusal.Refusal.TheVariants.{HistoryFull, Missing, NoMemory}
 use Rattle.tp_board.specs.Numbers.{is_done}
+use Rattle.tp_board.specs.States.{BoardState}
 use Rattle.tp_graph.specs.Graphs.{TaskGraph}
 use Rattle.tp_graph.specs.Serial.{AreRight}
+use Rattle.tp_node.specs.Nodes.{NodeState}
 use Rattle.tp_wave.specs.Generations.{AreRuns, present_events}
 use Rattle.tp_wave.specs.Machine.{History, steps_of}
 use Rattle.tp_wave.specs.Steps.{count}
 use Rattle.tp_wave.specs.Sums.{is_ended}
 use Rattle.tp_work.specs.Lives.{LivesInEach, LivesOnce, generations, sent_in}
 use Rattle.tp_work.specs.Outcomes.{HasEachOnce, IsAnswer, IsUngathered}
-use Rattle.tp_work.specs.Reports.{IsReport}
+use Rattle.tp_work.specs.Reports.{IsReport, IsReportOf}
 use Rattle.tp_work.specs.declared.config.Fault.{Fault}
 use Rattle.tp_work.specs.declared.gathered.Report.{Report}
 use Rattle.tp_work.specs.declared.series.Round.{Round}
@@ -21,21 +23,22 @@ use Rattle.tp_work.specs.declared.series.Series.{Series}
 
 -- A round, beside the events of its generation: the end was judged on n nodes, each task of the graph lived once and has one
 -- result, which is the value that the graph defines, and no other task has any. As many tasks were done as there are results,
--- and as many messages were sent, as are answered.
-pub record IsRound (n : ℕ) (g : TaskGraph) (h : History) (r : Round) : Type 0 where
+-- and as many messages were sent, as are answered. So many workers at each node have answered.
+pub record IsRound (n workers : ℕ) (g : TaskGraph) (h : History) (r : Round) : Type 0 where
   pub ended : IsTrue (is_ended n (steps_of h))
   pub lives : LivesOnce g.tasks (steps_of h)
   pub each_once : HasEachOnce g.tasks r.results.items
   pub right : AreRight g r.results.items
   pub tasks : (r.tasks ≡ vec_len r.results) × (r.tasks ≡ count is_done (steps_of h))
   pub messages : r.messages ≡ sent_in h
+  pub answered : r.workers ≡ n * workers
 
 -- As many rounds, and a history that is runs on n nodes through as many generations: each generation, the oldest first, has
 -- its round.
-pub record IsSeries (n : ℕ) (g : TaskGraph) (rounds : ℕ) (s : Series) : Type 0 where
+pub record IsSeries (n workers : ℕ) (g : TaskGraph) (rounds : ℕ) (s : Series) : Type 0 where
   pub many : vec_len s.rounds ≡ rounds
   pub runs : AreRuns n s.history.events
-  pub each : AllZip (IsRound n g) (reverse (generations s.history.events)) s.rounds.items
+  pub each : AllZip (IsRound n workers g) (reverse (generations s.history.events)) s.rounds.items
 
 -- The end of the present generation was judged and told to each of n nodes, each task has one result, and each task lived
 -- once in it; and where it is the last of so many rounds, each task did so in every generation before it.
@@ -46,13 +49,15 @@ pub record IsCompleteSoFar (n tasks rounds : ℕ) (r : Report) : Type 0 where
   pub lives : LivesOnce tasks (steps_of (present_events r.history.events))
   pub earlier : length (generations r.history.events) ≡ rounds → LivesInEach tasks r.history.events
 
--- The end of some generation was judged: of the present one, or it is not the first.
-abbrev pub HasEnded : Report → Type 0
-HasEnded r = IsTrue r.ended ⊎ (1 < length (generations r.history.events))
+-- The end of some generation was judged and told to each of n nodes: of the present one, or it is not the first.
+abbrev pub HasEnded : ℕ → Report → Type 0
+HasEnded n r = (IsTrue r.ended × (r.announced ≡ n)) ⊎ (1 < length (generations r.history.events))
 
--- A generation has ended and another is wanted, of which the history has no place for the first event.
-pub record IsAtLimit (rounds : ℕ) (r : Report) : Type 0 where
+-- A generation has ended, which each of n nodes was told, and another is wanted, of which the history has no place for the
+-- first event.
+pub record IsAtLimit (n rounds : ℕ) (r : Report) : Type 0 where
   pub ended : IsTrue r.ended
+  pub announced : r.announced ≡ n
   pub wanted : length (generations r.history.events) < rounds
   pub full : length r.history.events ≡ MAX_STEPS
 
@@ -61,7 +66,7 @@ pub record IsAtLimit (rounds : ℕ) (r : Report) : Type 0 where
 abbrev pub IsSeriesLack : ℕ → ℕ → ℕ → Report → Refusal → Type 0
 IsSeriesLack n tasks rounds r e =
     ((e ≡ Missing) × (IsCompleteSoFar n tasks rounds r → ⊥))
-    ⊎ (((e ≡ NoMemory) × HasEnded r) ⊎ ((e ≡ HistoryFull MAX_STEPS) × IsAtLimit rounds r))
+    ⊎ (((e ≡ NoMemory) × HasEnded n r) ⊎ ((e ≡ HistoryFull MAX_STEPS) × IsAtLimit n rounds r))
 
 -- Where a report was gathered and a fault was set, that is the refusal; a full history is told only where it is full. The
 -- report is of the present generation.
@@ -72,23 +77,25 @@ IsSeriesFault n g rounds f =
     (IsUngathered f.refusal)
     (λ r. IsReport n g r × MatchOption r.fault (IsSeriesLack n g.tasks rounds r f.refusal) (λ e. IsAnswer (length r.history.events) e f.refusal))
 
--- A round that was kept before its messages were told: each task has one result, which is right, and so many tasks were done.
-pub record IsKept (g : TaskGraph) (r : Round) : Type 0 where
+-- A round that was kept before its messages were told: each task has one result, which is right, so many tasks were done, and
+-- so many workers at each of n nodes have answered.
+pub record IsKept (n workers : ℕ) (g : TaskGraph) (r : Round) : Type 0 where
   pub each_once : HasEachOnce g.tasks r.results.items
   pub right : AreRight g r.results.items
   pub tasks : r.tasks ≡ g.tasks
+  pub answered : r.workers ≡ n * workers
 
 -- One such round was put behind the others.
-pub record AddsKept (g : TaskGraph) (old new : List Round) : Type 0 where
+pub record AddsKept (n workers : ℕ) (g : TaskGraph) (old new : List Round) : Type 0 where
   pub more : length new ≡ length old + 1
-  pub kept : All (IsKept g) old → All (IsKept g) new
+  pub kept : All (IsKept n workers g) old → All (IsKept n workers g) new
 
 -- the round with so many messages
 abbrev pub with_messages : ℕ → Round → Round
-with_messages sent r = record { results = r.results; tasks = r.tasks; messages = sent }
+with_messages sent r = record { results = r.results; tasks = r.tasks; messages = sent; workers = r.workers }
 
--- What is told of a pool that stops for a refusal, whose board has this fault and these events: that, and the pool's report;
--- or nothing could be gathered for want of memory.
-abbrev pub IsTold : ℕ → TaskGraph → Refusal → Option Refusal → History → Fault → Type 0
-IsTold n g refusal fault h f =
-    MatchOption f.report (f.refusal ≡ NoMemory) (λ r. (f.refusal ≡ refusal) × IsReport n g r × (r.fault ≡ fault) × (r.history.events ≡ h))
+-- What is told of a pool with these nodes and this board, which stops for a refusal: that, and the pool's report; or nothing
+-- could be gathered for want of memory.
+abbrev pub IsTold : ℕ → TaskGraph → Refusal → {G : Type 0} → List (NodeState G) → BoardState → Fault → Type 0
+IsTold n g refusal nodes board f =
+    MatchOption f.report (f.refusal ≡ NoMemory) (λ r. (f.refusal ≡ refusal) × IsReportOf n g nodes board r)

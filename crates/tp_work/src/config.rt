@@ -48,6 +48,8 @@ pub struct Outcome {
     pub messages: u32,
     /// How many nodes were told of the end.
     pub announced: u32,
+    /// How many workers there were, at all nodes together: those that have answered, each at its end.
+    pub workers: u32,
     /// The events.
     pub history: History,
 }

@@ -1,4 +1,4 @@
-ghost use Rattle.std.specs.Prelude.{◌≡◌, ◌+◌, ◌-◌, ◌++◌, ◌*◌, ◌/◌, ◌<◌, ◌≤◌, [], None, Some, IfErr, IfNone, IsOk, MatchOption, OnErr, OnOk, length, max, min, vec_len};
+ghost use Rattle.std.specs.Prelude.{◌≡◌, ◌≢◌, ◌⊎◌, ◌+◌, ◌-◌, ◌++◌, ◌*◌, ◌/◌, ◌<◌, ◌≤◌, [], None, Some, IfErr, IfNone, IsOk, MatchOption, OnErr, OnOk, length, max, min, vec_len};
 ghost use Rattle.std.specs.Option.{option_to_list};
 ghost use Rattle.tp_base.specs.declared.refusal.Refusal.TheVariants.{NoMemory};
 ghost use Rattle.tp_board.specs.Calls.{Answers, Appends};
@@ -27,6 +27,9 @@ impl Share {
     /// for nobody, and begins one at a time.
     pub fn new(nodes: u32, workers: u32) -> Self
         requires { 1 ≤ workers }
+        ensures workers { result.workers ≡ workers }
+        ensures alone { (nodes ≡ 1) × (workers ≡ 1) → result.most ≡ 1 }
+        ensures several { (nodes ≢ 1) ⊎ (workers ≢ 1) → result.most ≡ 8 }
     {
         Share {
             workers,
@@ -64,7 +67,8 @@ pub(crate) type NodeDesk<G, K> = Desk<Node<G, K>, Work<G>>;
 impl<N: Drop, W: Drop> Desk<N, W> {
     /// A node at which no work waits. It takes no memory.
     pub fn new(alloc: Global, node: N) -> Self
-        ensures { result.node ≡ node }
+        ensures node { result.node ≡ node }
+        ensures none { result.begun.items ≡ [] }
     {
         Desk {
             node,

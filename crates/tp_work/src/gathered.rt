@@ -1,10 +1,10 @@
 ghost use Rattle.std.specs.Prelude.{◌≡◌, ◌<◌, ◌≤◌, ◌+◌, ◌-◌, ◌*◌, ◌++◌, ◌∷◌, [], IfErr, IfOk, length, map, sum_by, vec_capacity, vec_len};
-ghost use Rattle.std.specs.List.{All, count_by, flat_map};
+ghost use Rattle.std.specs.List.{All, flat_map};
 ghost use Rattle.tp_base.specs.declared.refusal.Refusal.TheVariants.{NoMemory};
 ghost use Rattle.tp_graph.specs.Serial.{AreRight};
 ghost use Rattle.tp_node.specs.Nodes.{counted_of};
 ghost use Rattle.tp_node.specs.Wires.{link_of};
-ghost use Rattle.tp_work.specs.Reports.{AreOfTheRun, IsGathered, IsOfItsRun};
+ghost use Rattle.tp_work.specs.Reports.{AreOfTheRun, IsGathered, IsOfItsRun, told_of_end};
 
 use std::alloc::{AllocError, Global};
 use tp_base::{History, Refusal, TaskId};
@@ -132,9 +132,9 @@ fn gather<G: Graph, K: Ledgers>(pool: Pool<G, K>, room: ReportRoom<K>) -> Report
 }
 
 /// How many nodes were told of the end.
-fn count_told<G: Graph, K: Ledgers>(nodes: &[Node<G, K>]) -> u32
+pub(crate) fn count_told<G: Graph, K: Ledgers>(nodes: &[Node<G, K>]) -> u32
     requires { length nodes.now ≤ 8 }
-    ensures { result ≡ count_by (λ n. n.state.ended) nodes.now }
+    ensures { result ≡ told_of_end nodes.now }
 {
     let mut told = 0;
     for node in nodes {

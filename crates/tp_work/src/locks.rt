@@ -7,6 +7,7 @@ ghost use Rattle.tp_work.specs.Outcomes.{IsMisplaced};
 use crate::desk::{Desk, NodeDesk};
 use crate::doorbell::Doorbell;
 use std::alloc::{AllocError, Global};
+use std::hint::spin_loop;
 use std::sync::atomic::{AtomicBool, AtomicU64, Ordering};
 use std::sync::{Mutex, MutexGuard, Wait};
 use tp_base::{NodeId, Refusal};
@@ -72,14 +73,22 @@ pub(crate) struct Line<G: Graph, K: Ledgers> {
     pub length: AtomicU64,
 }
 
-/// Takes a lock. Where it is held, the thread sleeps as std has it: one that yielded would wait for all others that want its
-/// processor, and many that yield keep it from the one that holds the lock.
+/// How often a held lock is tried, with a spin between, before a thread sleeps on it: a lock is mostly free before so many
+/// tries are over, and a sleep and its wake cost more. docs/DECISIONS.md has the measurements.
+const TRIES: u32 = 100;
+
+/// Takes a lock. Where it is held, the thread tries it again for a moment, and then sleeps as std has it. It does not yield: one
+/// that yielded would wait for all others that want its processor, and many that yield keep it from the one that holds the
+/// lock.
 #[inline(always)]
 pub(crate) fn lock_soon<'l, T, R: Wait>(rt: &R, lock: &'l Mutex<T>) -> MutexGuard<'l, T> {
-    match lock.try_lock() {
-        Some(guard) => guard,
-        None => lock.lock(rt),
+    for _ in 0..TRIES {
+        if let Some(guard) = lock.try_lock() {
+            return guard;
+        }
+        spin_loop();
     }
+    lock.lock(rt)
 }
 
 /// Empty lists with room for the parts of a pool, as they are or under locks.

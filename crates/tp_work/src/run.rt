@@ -1,15 +1,18 @@
-ghost use Rattle.std.specs.Prelude.{◌≡◌, ◌↔◌, length, IfErr, IfOk, IsTrue, MatchOption, None, Some};
-ghost use Rattle.tp_work.specs.Outcomes.{HasEachOnce, IsAnswer, IsComplete, IsFault, IsLack, IsOutcome, IsUngathered, IsWithinLimits};
+ghost use Rattle.std.specs.Prelude.{◌≡◌, ◌↔◌, ◌*◌, length, IfErr, IfNone, IfOk, IfSome, IsTrue, MatchOption, MatchResult, None, OnOk, Some, if◌then◌else◌};
+ghost use Rattle.tp_base.specs.declared.refusal.Refusal.TheVariants.{Missing, NoMemory};
+ghost use Rattle.tp_graph.specs.Graphs.{TaskGraph};
+ghost use Rattle.tp_work.specs.Outcomes.{HasEachOnce, IsAnswer, IsComplete, IsFault, IsLack, IsOutcome, IsWithinLimits};
 ghost use Rattle.tp_wave.specs.Machine.{steps_of};
 ghost use Rattle.tp_work.specs.Lives.{LivesOnce};
-ghost use Rattle.tp_work.specs.Reports.{IsReport};
+ghost use Rattle.tp_work.specs.Places.{IsWhole};
+ghost use Rattle.tp_work.specs.Reports.{IsReport, IsReportOf, told_of_end};
 
 use crate::config::{Config, Fault, Outcome};
 use crate::gate::Gate;
 use crate::gathered::Report;
 use crate::lives::each_lives;
 use crate::once::each_once;
-use crate::runner::Runner;
+use crate::runner::{Ran, Runner, report_of, ungathered};
 use std::alloc::{AllocError, Global};
 use std::sync::Wait;
 use std::thread::Threads;
@@ -33,7 +36,7 @@ pub fn run_pool<G: Graph, A: Gate, R: Threads + Wait + Sync>(
     gate: &A,
 ) -> Result<Outcome, Fault>
     requires limits { IsWithinLimits config }
-    ensures outcome { IfOk result (IsOutcome config.nodes (G.meaning graph)) }
+    ensures outcome { IfOk result (IsOutcome config.nodes config.workers (G.meaning graph)) }
     ensures fault { IfErr result (IsFault config.nodes (G.meaning graph)) }
 {
     run_only::<G, Brand, A, R>(rt, alloc, graph, config, gate)
@@ -49,7 +52,7 @@ fn run_only<'a, G: Graph, D: Named<G> + Send + Sync, A: Gate, R: Threads + Wait 
 ) -> Result<Outcome, Fault>
     requires it { D.it ≡ Some graph }
     requires limits { IsWithinLimits config }
-    ensures outcome { IfOk result (IsOutcome config.nodes (G.meaning graph)) }
+    ensures outcome { IfOk result (IsOutcome config.nodes config.workers (G.meaning graph)) }
     ensures fault { IfErr result (IsFault config.nodes (G.meaning graph)) }
 {
     let runner = Runner {
@@ -60,34 +63,98 @@ fn run_only<'a, G: Graph, D: Named<G> + Send + Sync, A: Gate, R: Threads + Wait 
         gate,
     };
     let blanks = Blanks::new(config.nodes);
-    let report = match run::<Only<G, D>, Brand, A, R>(&runner, blanks) {
-        Ok(report) => report,
-        Err(refusal) => {
-            return Err(Fault {
-                refusal,
-                report: None,
-            });
-        }
-    };
-    if let Some(refusal) = refusal_of(alloc, config.nodes, graph.tasks(), &report) {
-        return Err(Fault {
-            refusal,
-            report: Some(report),
-        });
-    }
-    Ok(Outcome {
-        results: report.results,
-        tasks: report.done,
-        messages: report.sent,
-        announced: report.announced,
-        history: report.history,
-    })
+    run::<Only<G, D>, Brand, A, R>(&runner, blanks)
 }
 
-/// Why a pool of so many nodes and tasks, of which this was gathered, has no outcome.
+/// Opens a pool, runs it, and tells what it has made when all its threads have ended.
+fn run<G: Comparable, K: Ledgers + Send + Sync, A: Gate, R: Threads + Wait + Sync>(
+    runner: &Runner<'_, G, A, R>,
+    blanks: Blanks,
+) -> Result<Outcome, Fault>
+    requires names { blanks ≡ K.names }
+    requires nodes { blanks.nodes ≡ runner.now.config.nodes }
+    requires limits { IsWithinLimits runner.now.config }
+    ensures outcome { IfOk result (IsOutcome runner.now.config.nodes runner.now.config.workers (G.meaning runner.now.graph)) }
+    ensures fault { IfErr result (IsFault runner.now.config.nodes (G.meaning runner.now.graph)) }
+{
+    let pool = match runner.open::<K>(blanks) {
+        Ok(pool) => pool,
+        Err(refusal) => return Err(ungathered(refusal)),
+    };
+    match runner.run_generation(pool, 1) {
+        Ok(ran) => outcome_of(runner.alloc, &runner.graph, runner.config, ran),
+        Err(refusal) => Err(ungathered(refusal)),
+    }
+}
+
+/// What a pool has made that has run, or why it has no outcome.
+///
+/// Refused: the fault that was set, where one was; else `Missing` where the end was not judged or not told to each node, or a
+/// task has no result or more than one, or was not inserted, begun and done once; `NoMemory` where memory has to grow and does
+/// not.
+fn outcome_of<G: Graph, K: Ledgers>(
+    alloc: Global,
+    graph: &G,
+    config: Config,
+    ran: Ran<G, K>,
+) -> Result<Outcome, Fault>
+    requires nodes { config.nodes ≡ K.names.nodes }
+    requires whole { IsWhole K.names.nodes graph.now ran.pool.nodes.items ran.pool.links.items }
+    requires workers { ran.pool.board.fault ≡ None → ran.workers ≡ config.nodes * config.workers }
+    ensures outcome { IfOk result (IsOutcome config.nodes config.workers (G.meaning graph.now)) }
+    ensures no_fault { OnOk result (ran.pool.board.fault ≡ None) }
+    ensures all_told { OnOk result (told_of_end ran.pool.nodes.items ≡ config.nodes) }
+    ensures fault { IfErr result (IsFault config.nodes (G.meaning graph.now)) }
+    ensures of_pool { IfErr result (λ f. MatchOption f.report (f.refusal ≡ NoMemory) (IsReportOf config.nodes (G.meaning graph.now) ran.pool.nodes.items ran.pool.board)) }
+{
+    let Ran {
+        pool,
+        token: _,
+        workers,
+    } = ran;
+    match report_of(alloc, config.nodes, graph, pool) {
+        Ok(report) => outcome_from(alloc, graph.tasks(), config, report, workers),
+        Err(refusal) => Err(ungathered(refusal)),
+    }
+}
+
+/// The outcome of a pool of so many tasks, of which this was gathered, and of which so many workers have answered; or why it has
+/// none.
+fn outcome_from(
+    alloc: Global,
+    tasks: u32,
+    config: Config,
+    report: Report,
+    workers: u32,
+) -> Result<Outcome, Fault>
+    requires workers { report.fault ≡ None → workers ≡ config.nodes * config.workers }
+    ensures outcome { IfOk result (λ o. (g : TaskGraph) → tasks ≡ g.tasks → IsReport config.nodes g report → IsOutcome config.nodes config.workers g o) }
+    ensures no_fault { OnOk result (report.fault ≡ None) }
+    ensures all_told { OnOk result (report.announced ≡ config.nodes) }
+    ensures fault { IfErr result (λ f. (f.report ≡ Some report) × MatchOption report.fault (IsLack config.nodes tasks report f.refusal) (λ fault. IsAnswer (length report.history.events) fault f.refusal)) }
+{
+    match refusal_of(alloc, config.nodes, tasks, &report) {
+        Some(refusal) => Err(Fault {
+            refusal,
+            report: Some(report),
+        }),
+        None => Ok(Outcome {
+            results: report.results,
+            tasks: report.done,
+            messages: report.sent,
+            announced: report.announced,
+            workers,
+            history: report.history,
+        }),
+    }
+}
+
+/// Why a pool of so many nodes and tasks, of which this was gathered, has no outcome. None only where no fault was set, its end
+/// was judged and told to each node, and each task has one result and lived once.
 fn refusal_of(alloc: Global, nodes: u32, tasks: u32, report: &Report) -> Option<Refusal>
-    ensures lack { report.now.fault ≡ None → MatchOption result (IsComplete nodes tasks report.now) (IsLack nodes tasks report.now) }
-    ensures fault { MatchOption report.now.fault (Unit {0}) (λ fault. MatchOption result ⊥ (IsAnswer (length report.now.history.events) fault)) }
+    ensures no_fault { IfNone result (report.now.fault ≡ None) }
+    ensures complete { IfNone result (IsComplete nodes tasks report.now) }
+    ensures refusal { IfSome result (λ e. MatchOption report.now.fault (IsLack nodes tasks report.now e) (λ fault. IsAnswer (length report.now.history.events) fault e)) }
 {
     match report.fault {
         Some(fault) => Some(answer_to(fault, report.history.len())),
@@ -115,7 +182,15 @@ fn lack_of(alloc: Global, nodes: u32, tasks: u32, report: &Report) -> Option<Ref
     if !report.ended || report.announced != nodes {
         return Some(Refusal::Missing);
     }
-    match is_made_once(alloc, tasks, report) {
+    lack_by(is_made_once(alloc, tasks, report))
+}
+
+/// What a pool lacks of an outcome whose end was judged and told to each node, where it was looked whether it was made once:
+/// `Missing` where it was not, and `NoMemory` where there was no memory to look.
+fn lack_by(made: Result<bool, AllocError>) -> Option<Refusal>
+    ensures { MatchResult made (λ yes. result ≡ (if yes then None else Some Missing)) (λ _. result ≡ Some NoMemory) }
+{
+    match made {
         Ok(true) => None,
         Ok(false) => Some(Refusal::Missing),
         Err(_) => Some(Refusal::NoMemory),
@@ -127,19 +202,4 @@ fn is_made_once(alloc: Global, tasks: u32, report: &Report) -> Result<bool, Allo
     ensures { IfOk result (λ yes. IsTrue yes ↔ (HasEachOnce tasks report.now.results.items × LivesOnce tasks (steps_of report.now.history.events))) }
 {
     Ok(each_once(alloc, tasks, &report.results)? && each_lives(alloc, tasks, &report.history)?)
-}
-
-/// Opens a pool, runs it, and gathers it when all its threads have ended.
-fn run<G: Comparable, K: Ledgers + Send + Sync, A: Gate, R: Threads + Wait + Sync>(
-    runner: &Runner<'_, G, A, R>,
-    blanks: Blanks,
-) -> Result<Report, Refusal>
-    requires names { blanks ≡ K.names }
-    requires nodes { blanks.nodes ≡ runner.now.config.nodes }
-    requires limits { IsWithinLimits runner.now.config }
-    ensures report { IfOk result (IsReport runner.now.config.nodes (G.meaning runner.now.graph)) }
-    ensures refusal { IfErr result IsUngathered }
-{
-    let pool = runner.open::<K>(blanks)?;
-    runner.run_last(pool, 1)
 }

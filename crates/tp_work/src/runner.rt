@@ -1,21 +1,22 @@
-ghost use Rattle.std.specs.Prelude.{◌≡◌, ◌≤◌, ◌*◌, ◌-◌, length, vec_len, IfErr, IfOk, OnOk};
+ghost use Rattle.std.specs.Prelude.{◌≡◌, ◌≤◌, ◌*◌, ◌-◌, length, vec_len, IfErr, IfOk, IfSome, MatchOption, None, OnOk, Some};
 ghost use Rattle.tp_base.specs.declared.limits.TheConstants.{MAX_STEPS};
 ghost use Rattle.tp_base.specs.declared.refusal.Refusal.TheVariants.{NoMemory};
+ghost use Rattle.tp_board.specs.States.{with_fault};
 ghost use Rattle.tp_work.specs.Lives.{generations};
 ghost use Rattle.tp_work.specs.Outcomes.{IsMisplaced, IsUngathered, IsWithinLimits};
 ghost use Rattle.tp_work.specs.Places.{IsWhole};
-ghost use Rattle.tp_work.specs.Reports.{IsReport};
+ghost use Rattle.tp_work.specs.Reports.{IsReportOf};
 
-use crate::config::Config;
+use crate::config::{Config, Fault};
 use crate::desk::Share;
 use crate::gate::Gate;
 use crate::gathered::{Report, finish};
 use crate::locks::{Locks, check_places, lock_pool};
 use crate::worker::{Worker, set_fault};
-use std::alloc::Global;
+use std::alloc::{AllocError, Global};
 use std::sync::Wait;
 use std::thread;
-use std::thread::Threads;
+use std::thread::{JoinHandle, SpawnError, Threads};
 use tp_base::{MAX_STEPS, NodeId, Refusal};
 use tp_board::{Blanks, Board, Ended, Ledgers};
 use tp_graph::{Comparable, Graph};
@@ -45,27 +46,7 @@ impl<G: Comparable, A: Gate, R: Threads + Wait + Sync> Runner<'_, G, A, R> {
         open_pool(self.alloc, blanks, self.graph, self.config.nodes, MAX_STEPS)
     }
 
-    /// Runs a pool's last generation that is wanted, of this number, and gathers the pool.
-    ///
-    /// Refused as [`run_generation`](Runner::run_generation) is; and `NoMemory` where memory has to grow and does not.
-    pub fn run_last<K: Ledgers + Send + Sync>(
-        &self,
-        pool: Pool<G, K>,
-        number: u32,
-    ) -> Result<Report, Refusal>
-        requires limits { IsWithinLimits self.now.config }
-        requires nodes { vec_len pool.nodes ≡ K.names.nodes }
-        requires links { vec_len pool.links ≡ K.names.nodes * (K.names.nodes - 1) }
-        ensures report { IfOk result (IsReport K.names.nodes (G.meaning self.now.graph)) }
-        ensures number { IfOk result (λ r. length (generations r.history.events) ≡ number) }
-        ensures refusal { IfErr result IsUngathered }
-    {
-        let (pool, _) = self.run_generation(pool, number)?;
-        report_of(self.alloc, &self.graph, pool)
-    }
-
-    /// Runs a pool's generation of this number. The token of the end comes back where the end was judged and told to each
-    /// node.
+    /// Runs a pool's generation of this number.
     ///
     /// Refused: `NoMemory` where memory has to grow and does not; `NoNode` and `Stranger` where a part of the pool is not at
     /// its place afterwards. The pool is lost then.
@@ -73,41 +54,47 @@ impl<G: Comparable, A: Gate, R: Threads + Wait + Sync> Runner<'_, G, A, R> {
         &self,
         pool: Pool<G, K>,
         number: u32,
-    ) -> Result<(Pool<G, K>, Option<Ended<K>>), Refusal>
+    ) -> Result<Ran<G, K>, Refusal>
         requires limits { IsWithinLimits self.now.config }
         requires nodes { vec_len pool.nodes ≡ K.names.nodes }
         requires links { vec_len pool.links ≡ K.names.nodes * (K.names.nodes - 1) }
-        ensures whole { IfOk result (λ r. IsWhole K.names.nodes self.now.graph r.0.nodes.items r.0.links.items) }
-        ensures limit { IfOk result (λ r. r.0.board.limit ≡ MAX_STEPS) }
-        ensures number { IfOk result (λ r. length (generations r.0.board.history) ≡ number) }
+        ensures whole { IfOk result (λ r. IsWhole K.names.nodes self.now.graph r.pool.nodes.items r.pool.links.items) }
+        ensures limit { IfOk result (λ r. r.pool.board.limit ≡ MAX_STEPS) }
+        ensures number { IfOk result (λ r. length (generations r.pool.board.history) ≡ number) }
+        ensures workers { IfOk result (λ r. r.pool.board.fault ≡ None → r.workers ≡ self.now.config.nodes * self.now.config.workers) }
         ensures refusal { IfErr result IsUngathered }
     {
-        let (pool, token) = self.run_round(pool)?;
-        match check_whole(&pool, &self.graph, number) {
-            Ok(()) => Ok((pool, token)),
+        let ran = self.run_round(pool)?;
+        match check_whole(&ran.pool, &self.graph, number) {
+            Ok(()) => Ok(ran),
             Err(refusal) => Err(refusal),
         }
     }
 
     /// Puts a pool under locks, and takes it out when all its threads have ended, with the token of the end where it lies
-    /// there.
-    fn run_round<K: Ledgers + Send + Sync>(
-        &self,
-        pool: Pool<G, K>,
-    ) -> Result<(Pool<G, K>, Option<Ended<K>>), Refusal>
+    /// there. Where a worker answered a refusal, or not all could be started, that is the pool's fault unless it has one.
+    fn run_round<K: Ledgers + Send + Sync>(&self, pool: Pool<G, K>) -> Result<Ran<G, K>, Refusal>
         requires limits { IsWithinLimits self.now.config }
-        ensures nodes { IfOk result (λ r. vec_len r.0.nodes ≡ vec_len pool.nodes) }
-        ensures links { IfOk result (λ r. vec_len r.0.links ≡ vec_len pool.links) }
+        ensures nodes { IfOk result (λ r. vec_len r.pool.nodes ≡ vec_len pool.nodes) }
+        ensures links { IfOk result (λ r. vec_len r.pool.links ≡ vec_len pool.links) }
+        ensures workers { IfOk result (λ r. r.pool.board.fault ≡ None → r.workers ≡ self.now.config.nodes * self.now.config.workers) }
         ensures refusal { IfErr result (λ e. e ≡ NoMemory) }
     {
         let (locks, room) = lock_pool(self.alloc, pool)?;
-        self.start_workers(&locks);
-        Ok(locks.into_pool(room))
+        let answers = self.run_workers(&locks);
+        let (mut pool, token) = locks.into_pool(room);
+        tell_fault(&mut pool.board, answers.refusal);
+        Ok(Ran {
+            pool,
+            token,
+            workers: answers.workers,
+        })
     }
 
-    /// Starts all workers, and waits for them. Where one cannot be started, that is the pool's fault.
-    fn start_workers<K: Ledgers + Send + Sync>(&self, locks: &Locks<G, K>)
+    /// Starts all workers, and waits for their answers. Where one cannot be started, `NoMemory` is among the refusals.
+    fn run_workers<K: Ledgers + Send + Sync>(&self, locks: &Locks<G, K>) -> Answers
         requires limits { IsWithinLimits self.now.config }
+        ensures all { result.refusal ≡ None → result.workers ≡ self.now.config.nodes * self.now.config.workers }
     {
         let all = self.config.nodes * self.config.workers;
         let nodes = self.config.nodes;
@@ -121,42 +108,127 @@ impl<G: Comparable, A: Gate, R: Threads + Wait + Sync> Runner<'_, G, A, R> {
             locks,
             gate: self.gate,
         };
-        thread::scope(
+        let answers = thread::scope(
             thread::scope_env(),
             self.rt,
             |scope|
                 requires { 1 ≤ nodes }
             {
+                let mut handles = Vec::new(first.alloc);
                 for number in 0..all {
                     let worker = first.at(NodeId(number % nodes));
-                    if scope.spawn(move || worker.run()).is_err() {
+                    if keep(&mut handles, scope.spawn(move || worker.run())).is_err() {
                         set_fault(first.rt, first.locks, Refusal::NoMemory);
                         break;
                     }
                 }
+                answers_of(first.rt, handles)
             },
         );
+        answers.of_all(all)
     }
 }
 
-/// Gathers a pool.
+/// What is left of a pool when its threads have ended.
+#[derive(Drop)]
+pub(crate) struct Ran<G: Graph, K: Ledgers> {
+    /// The pool.
+    pub pool: Pool<G, K>,
+    /// The token of the end, where the end was judged and told to each node.
+    pub token: Option<Ended<K>>,
+    /// How many workers have answered.
+    pub workers: u32,
+}
+
+/// What the workers of a pool have answered.
+#[derive(Clone, Copy)]
+struct Answers {
+    /// How many have answered.
+    workers: u32,
+    /// A refusal that one of them answered, where there is one.
+    refusal: Option<Refusal>,
+}
+
+impl Answers {
+    /// The same, where so many workers were wanted: a worker that has not answered could not be started.
+    fn of_all(self, wanted: u32) -> Self
+        ensures workers { result.workers ≡ self.workers }
+        ensures all { result.refusal ≡ None → result.workers ≡ wanted }
+        ensures refusal { IfSome self.refusal (λ e. result.refusal ≡ Some e) }
+    {
+        if self.refusal.is_none() && self.workers != wanted {
+            return Answers {
+                workers: self.workers,
+                refusal: Some(Refusal::NoMemory),
+            };
+        }
+        self
+    }
+}
+
+/// Keeps the handle of a thread, where it could be started and there is room.
+fn keep<T: Drop, F: Drop>(
+    handles: &mut Vec<JoinHandle<T>>,
+    started: Result<JoinHandle<T>, SpawnError<F>>,
+) -> Result<(), AllocError> {
+    handles.push(started?)?;
+    Ok(())
+}
+
+/// Waits for each thread, and counts those that have answered.
+fn answers_of<R: Threads>(rt: &R, handles: Vec<JoinHandle<Option<Refusal>>>) -> Answers
+    ensures { result.workers ≤ vec_len handles }
+{
+    let mut answers = Answers {
+        workers: 0,
+        refusal: None,
+    };
+    for handle in handles {
+        let refusal = handle.join(rt);
+        answers.workers = answers.workers.saturating_add(1);
+        answers.refusal = answers.refusal.or(refusal);
+    }
+    answers
+}
+
+/// Sets a refusal that a worker answered as the fault, where none was set. The first one was set under the board's lock when
+/// its worker ended.
+fn tell_fault<K: Ledgers>(board: &mut Board<K>, refusal: Option<Refusal>)
+    ensures { MatchOption refusal (board.new ≡ board.old) (λ fault. board.new ≡ with_fault fault board.old) }
+{
+    if let Some(fault) = refusal {
+        board.set_fault(fault);
+    }
+}
+
+/// Gathers a pool of so many nodes.
 ///
 /// Refused: `NoMemory` where memory has to grow and does not. The pool is lost then.
 pub(crate) fn report_of<G: Graph, K: Ledgers>(
     alloc: Global,
+    nodes: u32,
     graph: &G,
     pool: Pool<G, K>,
 ) -> Result<Report, Refusal>
+    requires nodes { nodes ≡ K.names.nodes }
     requires whole { IsWhole K.names.nodes graph.now pool.nodes.items pool.links.items }
-    ensures report { IfOk result (IsReport K.names.nodes (G.meaning graph.now)) }
-    ensures fault { IfOk result (λ r. r.fault ≡ pool.board.fault) }
-    ensures history { IfOk result (λ r. r.history.events ≡ pool.board.history) }
+    ensures report { IfOk result (IsReportOf nodes (G.meaning graph.now) pool.nodes.items pool.board) }
     ensures refusal { IfErr result (λ e. e ≡ NoMemory) }
 {
-    let _graph = *graph;
+    let (_nodes, _graph) = (nodes, *graph);
     match finish(alloc, pool) {
         Ok(report) => Ok(report),
         Err((refusal, _)) => Err(refusal),
+    }
+}
+
+/// The fault of a pool of which nothing was gathered.
+pub(crate) fn ungathered(refusal: Refusal) -> Fault
+    ensures { result ≡ record { refusal = refusal; report = None } }
+{
+    Fault {
+        refusal,
+        report: None,
     }
 }
 

@@ -1,22 +1,23 @@
 ghost use Rattle.std.specs.Prelude.{◌≡◌, ◌≤◌, ◌<◌, ◌+◌, ◌*◌, ◌-◌, [], ℕ, length, map, reverse, slice_index, slice_index_or, vec_capacity, vec_len, IfErr, IfOk, IfSome, IsTrue, MatchOption, None, OnOk, Some};
 ghost use Rattle.std.specs.List.{All};
 ghost use Rattle.tp_base.specs.declared.limits.TheConstants.{MAX_STEPS};
+ghost use Rattle.tp_graph.specs.Graphs.{TaskGraph};
 ghost use Rattle.tp_graph.specs.Serial.{AreRight};
 ghost use Rattle.tp_wave.specs.Generations.{present_events};
 ghost use Rattle.tp_work.specs.Lives.{LivesInEach, generations, sent_in};
 ghost use Rattle.tp_work.specs.Outcomes.{HasEachOnce, IsAnswer, IsWithinLimits};
 ghost use Rattle.tp_work.specs.Places.{IsWhole};
-ghost use Rattle.tp_work.specs.Reports.{IsReport};
+ghost use Rattle.tp_work.specs.Reports.{IsReport, told_of_end};
 ghost use Rattle.tp_work.specs.Series.{AddsKept, IsKept, IsSeries, IsSeriesFault, IsSeriesLack, IsTold, with_messages};
 ghost use Rattle.tp_work.specs.declared.series.Round.{Round};
 
 use crate::config::{Config, Fault};
 use crate::gate::Gate;
-use crate::gathered::Report;
+use crate::gathered::{Report, count_told};
 use crate::lives::sent_in_each;
 use crate::once::each_once;
 use crate::run::answer_to;
-use crate::runner::{Runner, report_of};
+use crate::runner::{Ran, Runner, report_of, ungathered};
 use std::alloc::{AllocError, Global};
 use std::sync::Wait;
 use std::thread::Threads;
@@ -34,6 +35,8 @@ pub struct Round {
     pub tasks: u32,
     /// How many messages were sent.
     pub messages: u32,
+    /// How many workers there were, at all nodes together: those that have answered, each at its end.
+    pub workers: u32,
 }
 
 /// What the generations of a pool have made.
@@ -62,7 +65,7 @@ pub fn run_generations<G: Graph, A: Gate, R: Threads + Wait + Sync>(
 ) -> Result<Series, Fault>
     requires limits { IsWithinLimits config }
     requires count { (1 ≤ count) × (count ≤ 9) }
-    ensures series { IfOk result (IsSeries config.nodes (G.meaning graph) count) }
+    ensures series { IfOk result (IsSeries config.nodes config.workers (G.meaning graph) count) }
     ensures fault { IfErr result (IsSeriesFault config.nodes (G.meaning graph) count) }
 {
     run_only::<G, Brand, A, R>(rt, alloc, graph, config, gate, count)
@@ -80,7 +83,7 @@ fn run_only<'a, G: Graph, D: Named<G> + Send + Sync, A: Gate, R: Threads + Wait 
     requires it { D.it ≡ Some graph }
     requires limits { IsWithinLimits config }
     requires count { (1 ≤ count) × (count ≤ 9) }
-    ensures series { IfOk result (IsSeries config.nodes (G.meaning graph) count) }
+    ensures series { IfOk result (IsSeries config.nodes config.workers (G.meaning graph) count) }
     ensures fault { IfErr result (IsSeriesFault config.nodes (G.meaning graph) count) }
 {
     let runner = Runner {
@@ -90,41 +93,40 @@ fn run_only<'a, G: Graph, D: Named<G> + Send + Sync, A: Gate, R: Threads + Wait 
         config,
         gate,
     };
-    let mut rounds = match Vec::with_capacity(alloc, count as usize) {
+    let rounds = match Vec::with_capacity(alloc, count as usize) {
         Ok(rounds) => rounds,
         Err(_) => return Err(ungathered(Refusal::NoMemory)),
     };
     let blanks = Blanks::new(config.nodes);
-    let report = run_all::<Only<G, D>, Brand, A, R>(&runner, blanks, count, &mut rounds)?;
-    series_of(alloc, config.nodes, graph, report, rounds)
+    run_all::<Only<G, D>, Brand, A, R>(&runner, blanks, count, rounds)
 }
 
-/// Opens a pool, runs all its generations, keeps the rounds of all but the last, and gathers the pool.
+/// Opens a pool, runs all its generations, and keeps their rounds.
 fn run_all<G: Comparable, K: Ledgers + Send + Sync, A: Gate, R: Threads + Wait + Sync>(
     runner: &Runner<'_, G, A, R>,
     blanks: Blanks,
     count: u32,
-    rounds: &mut Vec<Round>,
-) -> Result<Report, Fault>
+    rounds: Vec<Round>,
+) -> Result<Series, Fault>
     requires names { blanks ≡ K.names }
     requires nodes { blanks.nodes ≡ runner.now.config.nodes }
     requires limits { IsWithinLimits runner.now.config }
     requires count { 1 ≤ count }
-    requires room { (rounds.old.items ≡ []) × (count ≤ vec_capacity rounds.old) }
-    ensures report { IfOk result (IsReport K.names.nodes (G.meaning runner.now.graph)) }
-    ensures number { IfOk result (λ r. length (generations r.history.events) ≡ count) }
-    ensures many { OnOk result (vec_len rounds.new + 1 ≡ count) }
-    ensures kept { OnOk result (All (IsKept (G.meaning runner.now.graph)) rounds.new.items) }
-    ensures room { vec_capacity rounds.new ≡ vec_capacity rounds.old }
-    ensures fault { IfErr result (IsSeriesFault K.names.nodes (G.meaning runner.now.graph) count) }
+    requires room { (rounds.items ≡ []) × (count ≤ vec_capacity rounds) }
+    ensures series { IfOk result (IsSeries runner.now.config.nodes runner.now.config.workers (G.meaning runner.now.graph) count) }
+    ensures fault { IfErr result (IsSeriesFault runner.now.config.nodes (G.meaning runner.now.graph) count) }
 {
+    let mut rounds = rounds;
     let pool = match runner.open::<K>(blanks) {
         Ok(pool) => pool,
         Err(refusal) => return Err(ungathered(refusal)),
     };
-    let pool = run_earlier(runner, pool, count, rounds)?;
-    match runner.run_last(pool, count) {
-        Ok(report) => Ok(report),
+    let pool = match run_earlier(runner, pool, count, &mut rounds) {
+        Ok(pool) => pool,
+        Err(fault) => return Err(fault),
+    };
+    match runner.run_generation(pool, count) {
+        Ok(ran) => series_of(runner.alloc, &runner.graph, runner.config, ran, rounds),
         Err(refusal) => Err(ungathered(refusal)),
     }
 }
@@ -137,6 +139,7 @@ fn run_earlier<G: Comparable, K: Ledgers + Send + Sync, A: Gate, R: Threads + Wa
     rounds: &mut Vec<Round>,
 ) -> Result<Pool<G, K>, Fault>
     requires limits { IsWithinLimits runner.now.config }
+    requires config { runner.now.config.nodes ≡ K.names.nodes }
     requires nodes { vec_len pool.nodes ≡ K.names.nodes }
     requires links { vec_len pool.links ≡ K.names.nodes * (K.names.nodes - 1) }
     requires count { 1 ≤ count }
@@ -144,9 +147,9 @@ fn run_earlier<G: Comparable, K: Ledgers + Send + Sync, A: Gate, R: Threads + Wa
     ensures nodes { IfOk result (λ p. vec_len p.nodes ≡ K.names.nodes) }
     ensures links { IfOk result (λ p. vec_len p.links ≡ K.names.nodes * (K.names.nodes - 1)) }
     ensures many { OnOk result (vec_len rounds.new + 1 ≡ count) }
-    ensures kept { OnOk result (All (IsKept (G.meaning runner.now.graph)) rounds.new.items) }
+    ensures kept { OnOk result (All (IsKept runner.now.config.nodes runner.now.config.workers (G.meaning runner.now.graph)) rounds.new.items) }
     ensures room { vec_capacity rounds.new ≡ vec_capacity rounds.old }
-    ensures fault { IfErr result (IsSeriesFault K.names.nodes (G.meaning runner.now.graph) count) }
+    ensures fault { IfErr result (IsSeriesFault runner.now.config.nodes (G.meaning runner.now.graph) count) }
 {
     let mut pool = pool;
     for number in 1..count {
@@ -166,61 +169,83 @@ fn run_and_reopen<G: Comparable, K: Ledgers + Send + Sync, A: Gate, R: Threads +
     rounds: &mut Vec<Round>,
 ) -> Result<Pool<G, K>, Fault>
     requires limits { IsWithinLimits runner.now.config }
+    requires config { runner.now.config.nodes ≡ K.names.nodes }
     requires nodes { vec_len pool.nodes ≡ K.names.nodes }
     requires links { vec_len pool.links ≡ K.names.nodes * (K.names.nodes - 1) }
     requires number { 1 ≤ number }
     requires room { vec_len rounds.old < vec_capacity rounds.old }
     ensures nodes { IfOk result (λ p. vec_len p.nodes ≡ K.names.nodes) }
     ensures links { IfOk result (λ p. vec_len p.links ≡ K.names.nodes * (K.names.nodes - 1)) }
-    ensures kept { OnOk result (AddsKept (G.meaning runner.now.graph) rounds.old.items rounds.new.items) }
+    ensures kept { OnOk result (AddsKept runner.now.config.nodes runner.now.config.workers (G.meaning runner.now.graph) rounds.old.items rounds.new.items) }
     ensures room { vec_capacity rounds.new ≡ vec_capacity rounds.old }
-    ensures fault { IfErr result (λ f. (count : ℕ) → number < count → IsSeriesFault K.names.nodes (G.meaning runner.now.graph) count f) }
+    ensures fault { IfErr result (λ f. (count : ℕ) → number < count → IsSeriesFault runner.now.config.nodes (G.meaning runner.now.graph) count f) }
 {
     match runner.run_generation(pool, number) {
-        Ok((pool, token)) => next_generation(runner.alloc, runner.graph, pool, token, rounds),
+        Ok(ran) => next_generation(runner.alloc, runner.graph, ran, rounds),
         Err(refusal) => Err(ungathered(refusal)),
     }
 }
 
-/// Reopens a pool whose threads have ended, where its end was judged and told and no fault was set, and keeps the round of the
+/// Reopens a pool that has run, where its end was judged and told to each node and no fault was set, and keeps the round of the
 /// generation that ended.
 fn next_generation<G: Graph, K: Ledgers>(
     alloc: Global,
     graph: G,
-    pool: Pool<G, K>,
-    token: Option<Ended<K>>,
+    ran: Ran<G, K>,
     rounds: &mut Vec<Round>,
 ) -> Result<Pool<G, K>, Fault>
-    requires whole { IsWhole K.names.nodes graph pool.nodes.items pool.links.items }
-    requires limit { pool.board.limit ≡ MAX_STEPS }
+    requires whole { IsWhole K.names.nodes graph ran.pool.nodes.items ran.pool.links.items }
+    requires limit { ran.pool.board.limit ≡ MAX_STEPS }
     requires room { vec_len rounds.old < vec_capacity rounds.old }
     ensures nodes { IfOk result (λ p. vec_len p.nodes ≡ K.names.nodes) }
     ensures links { IfOk result (λ p. vec_len p.links ≡ K.names.nodes * (K.names.nodes - 1)) }
-    ensures kept { OnOk result (AddsKept (G.meaning graph) rounds.old.items rounds.new.items) }
+    ensures kept { OnOk result ((workers : ℕ) → ran.workers ≡ K.names.nodes * workers → AddsKept K.names.nodes workers (G.meaning graph) rounds.old.items rounds.new.items) }
+    ensures no_fault { OnOk result (ran.pool.board.fault ≡ None) }
+    ensures all_told { OnOk result (told_of_end ran.pool.nodes.items ≡ K.names.nodes) }
     ensures room { vec_capacity rounds.new ≡ vec_capacity rounds.old }
-    ensures fault { IfErr result (λ f. (count : ℕ) → length (generations pool.board.history) < count → IsSeriesFault K.names.nodes (G.meaning graph) count f) }
+    ensures fault { IfErr result (λ f. (count : ℕ) → length (generations ran.pool.board.history) < count → IsSeriesFault K.names.nodes (G.meaning graph) count f) }
 {
+    let Ran {
+        pool,
+        token,
+        workers: answered,
+    } = ran;
     match token {
-        Some(ended) if pool.board.fault().is_none() => { reopen(alloc, graph, pool, ended, rounds) }
+        Some(ended) if is_free_of_fault(&pool) => {
+            reopen(alloc, graph, pool, ended, answered, rounds)
+        }
         _ => Err(stopped(alloc, graph, pool)),
     }
 }
 
-/// Reopens a pool in which no fault was set, with the token of its end, and keeps the round of the generation that ended.
+/// Whether no fault was set in a pool, and each node was told of the end.
+fn is_free_of_fault<G: Graph, K: Ledgers>(pool: &Pool<G, K>) -> bool
+    requires { vec_len pool.now.nodes ≡ K.names.nodes }
+    ensures no_fault { IsTrue result → pool.now.board.fault ≡ None }
+    ensures all_told { IsTrue result → told_of_end pool.now.nodes.items ≡ K.names.nodes }
+{
+    let nodes = pool.board.nodes();
+    pool.board.fault().is_none() && count_told(&pool.nodes) == nodes
+}
+
+/// Reopens a pool in which no fault was set, with the token of its end, which each node was told, and keeps the round of the
+/// generation that ended, with so many workers.
 fn reopen<G: Graph, K: Ledgers>(
     alloc: Global,
     graph: G,
     pool: Pool<G, K>,
     ended: Ended<K>,
+    answered: u32,
     rounds: &mut Vec<Round>,
 ) -> Result<Pool<G, K>, Fault>
     requires whole { IsWhole K.names.nodes graph pool.nodes.items pool.links.items }
     requires limit { pool.board.limit ≡ MAX_STEPS }
     requires fault { pool.board.fault ≡ None }
+    requires all_told { told_of_end pool.nodes.items ≡ K.names.nodes }
     requires room { vec_len rounds.old < vec_capacity rounds.old }
     ensures nodes { IfOk result (λ p. vec_len p.nodes ≡ K.names.nodes) }
     ensures links { IfOk result (λ p. vec_len p.links ≡ K.names.nodes * (K.names.nodes - 1)) }
-    ensures kept { OnOk result (AddsKept (G.meaning graph) rounds.old.items rounds.new.items) }
+    ensures kept { OnOk result ((workers : ℕ) → answered ≡ K.names.nodes * workers → AddsKept K.names.nodes workers (G.meaning graph) rounds.old.items rounds.new.items) }
     ensures room { vec_capacity rounds.new ≡ vec_capacity rounds.old }
     ensures fault { IfErr result (λ f. (count : ℕ) → length (generations pool.board.history) < count → IsSeriesFault K.names.nodes (G.meaning graph) count f) }
 {
@@ -228,18 +253,19 @@ fn reopen<G: Graph, K: Ledgers>(
     let mut ended = ended;
     pool.board.audit_ended(&mut ended);
     match pool.reopen(alloc, ended) {
-        Ok(Reopened { pool, results }) => keep(alloc, graph, pool, results, rounds),
-        Err((refusal, pool, _)) => Err(told(alloc, graph, pool, refusal)),
+        Ok(Reopened { pool, results }) => keep(alloc, graph, pool, results, answered, rounds),
+        Err((refusal, pool, _)) => Err(stopped_for(alloc, graph, pool, refusal)),
     }
 }
 
-/// Keeps the round of a generation that ended, with these results, where each task has one. The pool was reopened, and no
-/// fault was set.
+/// Keeps the round of a generation that ended, with these results, where each task has one, and so many workers. The pool was
+/// reopened, and no fault was set.
 fn keep<G: Graph, K: Ledgers>(
     alloc: Global,
     graph: G,
     pool: Pool<G, K>,
     results: Vec<(TaskId, Value)>,
+    answered: u32,
     rounds: &mut Vec<Round>,
 ) -> Result<Pool<G, K>, Fault>
     requires whole { IsWhole K.names.nodes graph pool.nodes.items pool.links.items }
@@ -249,7 +275,7 @@ fn keep<G: Graph, K: Ledgers>(
     requires room { vec_len rounds.old < vec_capacity rounds.old }
     ensures nodes { IfOk result (λ p. vec_len p.nodes ≡ K.names.nodes) }
     ensures links { IfOk result (λ p. vec_len p.links ≡ K.names.nodes * (K.names.nodes - 1)) }
-    ensures kept { OnOk result (AddsKept (G.meaning graph) rounds.old.items rounds.new.items) }
+    ensures kept { OnOk result ((workers : ℕ) → answered ≡ K.names.nodes * workers → AddsKept K.names.nodes workers (G.meaning graph) rounds.old.items rounds.new.items) }
     ensures room { vec_capacity rounds.new ≡ vec_capacity rounds.old }
     ensures fault { IfErr result (λ f. (count : ℕ) → IsSeriesFault K.names.nodes (G.meaning graph) count f) }
 {
@@ -260,11 +286,12 @@ fn keep<G: Graph, K: Ledgers>(
                 results,
                 tasks,
                 messages: 0,
+                workers: answered,
             });
             Ok(pool)
         }
-        Ok(false) => Err(told(alloc, graph, pool, Refusal::Missing)),
-        Err(_) => Err(told(alloc, graph, pool, Refusal::NoMemory)),
+        Ok(false) => Err(stopped_for(alloc, graph, pool, Refusal::Missing)),
+        Err(_) => Err(stopped_for(alloc, graph, pool, Refusal::NoMemory)),
     }
 }
 
@@ -275,7 +302,7 @@ fn stopped<G: Graph, K: Ledgers>(alloc: Global, graph: G, pool: Pool<G, K>) -> F
     ensures { (count : ℕ) → IsSeriesFault K.names.nodes (G.meaning graph) count result }
 {
     let nodes = pool.board.nodes();
-    match report_of(alloc, &graph, pool) {
+    match report_of(alloc, nodes, &graph, pool) {
         Ok(report) => fault_of(nodes, graph, report),
         Err(refusal) => ungathered(refusal),
     }
@@ -308,11 +335,17 @@ fn reason_of(nodes: u32, report: &Report) -> Option<Refusal>
 }
 
 /// The fault of a pool that stops for a refusal.
-fn told<G: Graph, K: Ledgers>(alloc: Global, graph: G, pool: Pool<G, K>, refusal: Refusal) -> Fault
+fn stopped_for<G: Graph, K: Ledgers>(
+    alloc: Global,
+    graph: G,
+    pool: Pool<G, K>,
+    refusal: Refusal,
+) -> Fault
     requires whole { IsWhole K.names.nodes graph pool.nodes.items pool.links.items }
-    ensures { IsTold K.names.nodes (G.meaning graph) refusal pool.board.fault pool.board.history result }
+    ensures { IsTold K.names.nodes (G.meaning graph) refusal pool.nodes.items pool.board result }
 {
-    match report_of(alloc, &graph, pool) {
+    let nodes = pool.board.nodes();
+    match report_of(alloc, nodes, &graph, pool) {
         Ok(report) => Fault {
             refusal,
             report: Some(report),
@@ -321,43 +354,67 @@ fn told<G: Graph, K: Ledgers>(alloc: Global, graph: G, pool: Pool<G, K>, refusal
     }
 }
 
-/// The fault of a pool of which nothing was gathered.
-fn ungathered(refusal: Refusal) -> Fault
-    ensures { result ≡ record { refusal = refusal; report = None } }
+/// The series of a pool that has run its last generation, with the rounds of the earlier ones.
+fn series_of<G: Graph, K: Ledgers>(
+    alloc: Global,
+    graph: &G,
+    config: Config,
+    ran: Ran<G, K>,
+    rounds: Vec<Round>,
+) -> Result<Series, Fault>
+    requires nodes { config.nodes ≡ K.names.nodes }
+    requires whole { IsWhole K.names.nodes graph.now ran.pool.nodes.items ran.pool.links.items }
+    requires workers { ran.pool.board.fault ≡ None → ran.workers ≡ config.nodes * config.workers }
+    requires number { length (generations ran.pool.board.history) ≡ vec_len rounds + 1 }
+    requires kept { All (IsKept config.nodes config.workers (G.meaning graph.now)) rounds.items }
+    requires room { vec_len rounds < vec_capacity rounds }
+    ensures series { IfOk result (IsSeries config.nodes config.workers (G.meaning graph.now) (vec_len rounds + 1)) }
+    ensures no_fault { OnOk result (ran.pool.board.fault ≡ None) }
+    ensures all_told { OnOk result (told_of_end ran.pool.nodes.items ≡ config.nodes) }
+    ensures fault { IfErr result (IsSeriesFault config.nodes (G.meaning graph.now) (vec_len rounds + 1)) }
 {
-    Fault {
-        refusal,
-        report: None,
+    let Ran {
+        pool,
+        token: _,
+        workers,
+    } = ran;
+    match report_of(alloc, config.nodes, graph, pool) {
+        Ok(report) => series_from(alloc, graph, config, report, workers, rounds),
+        Err(refusal) => Err(ungathered(refusal)),
     }
 }
 
-/// The series of a pool of which this was gathered in its last generation, with the rounds of the earlier ones.
-fn series_of<G: Graph>(
+/// The series of a pool of which this was gathered in its last generation, of which so many workers have answered, with the
+/// rounds of the earlier ones; or why there is none.
+fn series_from<G: Graph>(
     alloc: Global,
-    nodes: u32,
-    graph: G,
+    graph: &G,
+    config: Config,
     report: Report,
+    workers: u32,
     rounds: Vec<Round>,
 ) -> Result<Series, Fault>
-    requires report { IsReport nodes (G.meaning graph) report }
+    requires report { IsReport config.nodes (G.meaning graph.now) report }
+    requires workers { report.fault ≡ None → workers ≡ config.nodes * config.workers }
     requires number { length (generations report.history.events) ≡ vec_len rounds + 1 }
-    requires kept { All (IsKept (G.meaning graph)) rounds.items }
+    requires kept { All (IsKept config.nodes config.workers (G.meaning graph.now)) rounds.items }
     requires room { vec_len rounds < vec_capacity rounds }
-    ensures series { IfOk result (IsSeries nodes (G.meaning graph) (vec_len rounds + 1)) }
-    ensures fault { IfErr result (IsSeriesFault nodes (G.meaning graph) (vec_len rounds + 1)) }
+    ensures series { IfOk result (IsSeries config.nodes config.workers (G.meaning graph.now) (vec_len rounds + 1)) }
+    ensures no_fault { OnOk result (report.fault ≡ None) }
+    ensures all_told { OnOk result (report.announced ≡ config.nodes) }
+    ensures fault { IfErr result (IsSeriesFault config.nodes (G.meaning graph.now) (vec_len rounds + 1)) }
 {
     let tasks = graph.tasks();
-    let mut rounds = rounds;
-    match sent_of(alloc, nodes, tasks, rounds.len() + 1, &report) {
+    match sent_of(alloc, config.nodes, tasks, rounds.len() + 1, &report) {
         Ok(sent) => {
-            rounds.push_reserved(Round {
+            let last = Round {
                 results: report.results,
                 tasks,
                 messages: 0,
-            });
-            tell(&mut rounds, &sent);
+                workers,
+            };
             Ok(Series {
-                rounds,
+                rounds: told_rounds(rounds, last, &sent),
                 history: report.history,
             })
         }
@@ -366,6 +423,20 @@ fn series_of<G: Graph>(
             report: Some(report),
         }),
     }
+}
+
+/// The rounds with one more, each told how many messages its generation sent.
+fn told_rounds(rounds: Vec<Round>, last: Round, sent: &[u32]) -> Vec<Round>
+    requires room { vec_len rounds < vec_capacity rounds }
+    requires sent { length sent.now ≡ vec_len rounds + 1 }
+    ensures many { vec_len result ≡ vec_len rounds + 1 }
+    ensures kept { (n workers : ℕ) (g : TaskGraph) → All (IsKept n workers g) rounds.items → IsKept n workers g last → All (IsKept n workers g) result.items }
+    ensures sent { map (λ r. r.messages) result.items ≡ sent.now }
+{
+    let mut rounds = rounds;
+    rounds.push_reserved(last);
+    tell(&mut rounds, sent);
+    rounds
 }
 
 /// How many messages each of so many generations sent, the oldest first, where nothing is lacking of a series.
@@ -378,7 +449,9 @@ fn sent_of(
 ) -> Result<Vec<u32>, Refusal>
     requires few { length report.now.history.events ≤ MAX_STEPS }
     requires number { length (generations report.now.history.events) ≡ count }
+    ensures no_fault { OnOk result (report.now.fault ≡ None) }
     ensures ended { OnOk result (IsTrue report.now.ended) }
+    ensures announced { OnOk result (report.now.announced ≡ nodes) }
     ensures once { OnOk result (HasEachOnce tasks report.now.results.items × LivesInEach tasks report.now.history.events) }
     ensures sent { IfOk result (λ sent. sent.items ≡ reverse (map sent_in (generations report.now.history.events))) }
     ensures refusal { IfErr result (λ e. MatchOption report.now.fault (IsSeriesLack nodes tasks count report.now e) (λ fault. IsAnswer (length report.now.history.events) fault e)) }

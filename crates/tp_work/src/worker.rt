@@ -7,9 +7,9 @@ use crate::desk::{NodeDesk, Share};
 use crate::gate::Gate;
 use crate::locks::{Locks, Site, lock_soon};
 use std::alloc::Global;
+use std::hint::spin_loop;
 use std::sync::Wait;
 use std::sync::atomic::Ordering;
-use std::thread;
 use tp_base::{MAX_NODES, NodeId, Refusal};
 use tp_board::{Board, Ended, Ledgers};
 use tp_graph::{Comparable, Graph, is_same};
@@ -19,8 +19,12 @@ use tp_node::{Finished, Node, Turn as ControlTurn, Work};
 /// How many tasks are inserted in one hold of the board's lock.
 const SEEDS_IN_A_HOLD: u32 = 64;
 
-/// How often a worker yields, and looks at the hints, before its first sleep.
-const LOOKS: u32 = 4;
+/// How often an idle worker looks at the hints before its first sleep, with a moment's spin before each look: a message or a
+/// task mostly comes before so many looks are over. docs/DECISIONS.md has the measurements.
+const LOOKS: u32 = 300;
+
+/// How long that moment is, in spins: the looks themselves are not to slow down those who write the hints.
+const SPINS_BEFORE_A_LOOK: u32 = 4;
 
 /// A worker of a node, with what it shares with the others.
 #[derive(Drop)]
@@ -83,10 +87,14 @@ impl<'a, G: Comparable, K: Ledgers, A: Gate, R: Wait> Worker<'a, G, K, A, R> {
         }
     }
 
-    /// Works until the pool has ended. What stops it before is the pool's fault.
-    pub fn run(&self) {
-        if let Err(refusal) = self.take_turns() {
-            set_fault(self.rt, self.locks, refusal);
+    /// Works until the pool has ended. What stops it before is the pool's fault, which it sets and answers.
+    pub fn run(&self) -> Option<Refusal> {
+        match self.take_turns() {
+            Ok(()) => None,
+            Err(refusal) => {
+                set_fault(self.rt, self.locks, refusal);
+                Some(refusal)
+            }
         }
     }
 
@@ -127,8 +135,8 @@ impl<'a, G: Comparable, K: Ledgers, A: Gate, R: Wait> Worker<'a, G, K, A, R> {
         unreachable!()
     }
 
-    /// Yields a few times after the first idle turn in a row, and sleeps after each further one, as long as the hints tell of
-    /// nothing that a turn may find to do.
+    /// Looks around for a moment after the first idle turn in a row, and sleeps after each further one, as long as the hints
+    /// tell of nothing that a turn may find to do.
     #[cold]
     #[inline(never)]
     fn rest(&self, site: &Site<NodeDesk<G, K>>, seen: Option<Seen>, idle: u32) {
@@ -145,7 +153,7 @@ impl<'a, G: Comparable, K: Ledgers, A: Gate, R: Wait> Worker<'a, G, K, A, R> {
 
     fn look_around(&self, site: &Site<NodeDesk<G, K>>, seen: Option<Seen>) {
         for _ in 0..LOOKS {
-            thread::yield_now();
+            spin();
             if self.is_wanted(site, seen) {
                 return;
             }
@@ -321,6 +329,14 @@ impl<'a, G: Comparable, K: Ledgers, A: Gate, R: Wait> Worker<'a, G, K, A, R> {
             desk.node.quiet_under(ended, &mut board);
         }
         checked
+    }
+}
+
+/// Lets a moment pass, and keeps the processor.
+#[inline(always)]
+fn spin() {
+    for _ in 0..SPINS_BEFORE_A_LOOK {
+        spin_loop();
     }
 }
 

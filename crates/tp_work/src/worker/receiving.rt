@@ -1,3 +1,5 @@
+ghost use Rattle.std.specs.Prelude.{◌≡◌, ◌+◌, length, IfOk, IsFalse, IsTrue};
+
 use crate::desk::NodeDesk;
 use crate::gate::Gate;
 use crate::locks::{Line, Site, check_wire, link_place, lock_soon};
@@ -49,13 +51,17 @@ impl<'a, G: Comparable, K: Ledgers, A: Gate, R: Wait> Worker<'a, G, K, A, R> {
     }
 }
 
-/// Receives the next message of a wire from a node, and delivers its value, where there is one.
+/// Receives the next message of a wire from a node, and delivers its value, where there is one. That takes three events: the
+/// receipt, the value that is put, and the end of the message's action.
 fn receive_next<G: Comparable, K: Ledgers>(
     here: &mut Node<G, K>,
     wire: &mut Wire<G, K>,
     board: &mut Board<K>,
     from: NodeId,
-) -> Result<bool, Refusal> {
+) -> Result<bool, Refusal>
+    ensures delivered { IfOk result (λ took. IsTrue took → length board.new.history ≡ length board.old.history + 3) }
+    ensures none { IfOk result (λ took. IsFalse took → board.new.history ≡ board.old.history) }
+{
     check_wire(wire, from, here.number())?;
     let Some(parcel) = here.receive(wire, board)? else {
         return Ok(false);

@@ -13,6 +13,6 @@ settle-requires g c = ap length c.deref.ensures.value ∙ c.in_ok-answers.ensure
 pub returns-clause-ran : goal.returns-clause-ran
 returns-clause-ran g c =
     let answers = c.in_ok-answers.answers.items in
-    are_run c.args.config.nodes answers c.args.registry.now c.settle.new.self
-    (subst (λ (graphs : List AnyGraph). AreRunAnswers c.args.config.nodes graphs answers) c.in_ok-graphs.ensures c.in_ok-answers.ensures)
+    are_run c.args.config.nodes c.args.config.workers answers c.args.registry.now c.settle.new.self
+    (subst (λ (graphs : List AnyGraph). AreRunAnswers c.args.config.nodes c.args.config.workers graphs answers) c.in_ok-graphs.ensures c.in_ok-answers.ensures)
     (subst (λ (made : List (Result Outcome Fault)). AreSettled made c.args.registry.now c.settle.new.self) c.deref.ensures.value c.settle.ensures)

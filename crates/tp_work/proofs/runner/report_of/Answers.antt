@@ -1,7 +1,16 @@
+use Rattle.std.proofs.Common.{ℕ, sym, subst}
 use Rattle.tp_work.proofs.Reporting.{is_report}
+use Rattle.tp_work.specs.Reports.{IsReportOf}
 use Rattle.tp_work.proofs.runner.report_of.Goals as goal
 
 pub returns-in-Ok-clause-report : goal.returns-in-Ok-clause-report
 returns-in-Ok-clause-report g c =
-    is_report g.K.Ledgers.names.nodes g.G.Graph.meaning c.args.graph.now c.args.pool.nodes.items c.args.pool.links.items c.args.pool.board c.in-Ok.report
-    c.in-Ok.ensures.gathered c.in-Ok.ensures.of_its_run c.in-Ok.ensures.each_node c.requires.whole c.in-Ok.ensures.right
+    subst (λ (n : ℕ). IsReportOf n (g.G.Graph.meaning c.args.graph.now) c.args.pool.nodes.items c.args.pool.board c.in-Ok.report) (sym c.requires.nodes)
+    (record {
+      report =
+          is_report g.K.Ledgers.names.nodes g.G.Graph.meaning c.args.graph.now c.args.pool.nodes.items c.args.pool.links.items c.args.pool.board c.in-Ok.report
+          c.in-Ok.ensures.gathered c.in-Ok.ensures.of_its_run c.in-Ok.ensures.each_node c.requires.whole c.in-Ok.ensures.right;
+      announced = c.in-Ok.ensures.gathered.announced;
+      fault = c.in-Ok.ensures.gathered.fault;
+      history = c.in-Ok.ensures.gathered.history;
+    })

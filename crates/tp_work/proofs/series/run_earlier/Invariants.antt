@@ -9,6 +9,6 @@ invariant-loop-number g l =
       nodes : vec_len l.pool.nodes ≡ g.K.Ledgers.names.nodes;
       links : vec_len l.pool.links ≡ g.K.Ledgers.names.nodes * (g.K.Ledgers.names.nodes - 1);
       many : vec_len l.rounds + 1 ≡ l.number;
-      kept : All (IsKept (g.G.Graph.meaning l.runner.graph)) l.rounds.items;
+      kept : All (IsKept l.runner.config.nodes l.runner.config.workers (g.G.Graph.meaning l.runner.graph)) l.rounds.items;
       room : vec_capacity l.rounds ≡ vec_capacity l.initial.rounds;
     }

@@ -1,6 +1,6 @@
 use Rattle.std.proofs.Common.{◌*◌, ◌≤◌, arith}
 use Rattle.std.proofs.Math.Nat.{mul-le-mul_left}
-use Rattle.tp_work.proofs.runner.Runner.start_workers.Goals as goal
+use Rattle.tp_work.proofs.runner.Runner.run_workers.Goals as goal
 
 pub overflow_mul-all : goal.overflow_mul-all
 overflow_mul-all g c =
