@@ -83,10 +83,10 @@ next_part step next cells made size steps left part Holds long is h k some holds
     (steps - left, part, some, omega (arith, h, k), subst Holds (part-graph step next cells made size (steps - left) part long is) holds)
 
 -- the fault of a part of the steps is one of the whole
-pub part_fault : (n : ℕ) (takes : ℕ → ℕ → Bool) (step : Step) (next : BlockStep) (cells made : List ℤ) (size steps left part : ℕ) (fault : LentFault) → KeepsLength step → made ≡ after step (steps - left) cells → left ≤ steps → part ≤ left → 1 ≤ part →
-    IsLentFault n ⊥ (block_graph next made (blocks_of (length made) size) size part) fault → IsPartFault n takes step next cells size steps fault
-part_fault n takes step next cells made size steps left part BadInput long is h k some why = absurd why
-part_fault n takes step next cells made size steps left part (Run fault) long is h k some why =
+pub part_fault : (n workers : ℕ) (takes : ℕ → ℕ → Bool) (step : Step) (next : BlockStep) (cells made : List ℤ) (size steps left part : ℕ) (fault : LentFault) → KeepsLength step → made ≡ after step (steps - left) cells → left ≤ steps → part ≤ left → 1 ≤ part →
+    IsLentFault n workers ⊥ (block_graph next made (blocks_of (length made) size) size part) fault → IsPartFault n workers takes step next cells size steps fault
+part_fault n workers takes step next cells made size steps left part BadInput long is h k some why = absurd why
+part_fault n workers takes step next cells made size steps left part (Run fault) long is h k some why =
     next_part step next cells made size steps left part (λ g. IsFault n g fault) long is h k some why
-part_fault n takes step next cells made size steps left part (Unmade outcome) long is h k some why =
-    next_part step next cells made size steps left part (λ g. IsOutcome n g outcome) long is h k some why
+part_fault n workers takes step next cells made size steps left part (Unmade outcome) long is h k some why =
+    next_part step next cells made size steps left part (λ g. IsOutcome n workers g outcome) long is h k some why

@@ -27,7 +27,8 @@ pub fn run_in_parts<S: Stencil, R: Threads + Wait + Sync>(
     requires { IsWithinLimits config }
     ensures { MatchResult result
         (λ made. made.items ≡ after (S.step stencil) steps cells.items)
-        (IsPartFault config.nodes (S.takes stencil) (S.step stencil) (S.next stencil) cells.items size steps) }
+        (IsPartFault config.nodes config.workers (S.takes stencil) (S.step stencil) (S.next stencil)
+        cells.items size steps) }
 {
     if !stencil.takes(cells.len(), size) {
         return Err(LentFault::BadInput);
@@ -59,7 +60,8 @@ fn run_part<S: Stencil, R: Threads + Wait + Sync>(
     requires taken { AreSteps (S.takes stencil) (length cells.now) size steps }
     ensures { MatchResult result
         (λ made. made.items ≡ after (S.step stencil) steps cells.now)
-        (IsLentFault config.nodes ⊥ (block_graph (S.next stencil) cells.now (blocks_of (length cells.now) size) size steps)) }
+        (IsLentFault config.nodes config.workers ⊥
+        (block_graph (S.next stencil) cells.now (blocks_of (length cells.now) size) size steps)) }
 {
     let Some(work) = Steps::new(stencil, cells, size, steps) else {
         unreachable!()

@@ -22,7 +22,9 @@ pub fn run_steps<S: Stencil, R: Threads + Wait + Sync>(
     requires { IsWithinLimits config }
     ensures { MatchResult result
         (λ made. made.items ≡ after (S.step work.entry.stencil) work.entry.steps work.entry.cells.now)
-        (IsLentFault config.nodes ⊥ (block_graph (S.next work.entry.stencil) work.entry.cells.now work.entry.blocks work.entry.size work.entry.steps)) }
+        (IsLentFault config.nodes config.workers ⊥
+        (block_graph (S.next work.entry.stencil) work.entry.cells.now work.entry.blocks work.entry.size
+        work.entry.steps)) }
 {
     match run_pool(rt, alloc, work.copied(), config, &OpenGate) {
         Ok(outcome) => match cells_of(alloc, &work, &outcome.results) {

@@ -36,7 +36,7 @@ AreUnfilled request m fault = ⊥
 -- the run gave no product, and this is its own fault; or there is no memory for the product's text
 abbrev pub IsWithoutProduct : ProductRequest → Matrices → Fault → Type 0
 IsWithoutProduct request m (faults.Product fault) =
-    IsProductFault request.config.nodes m.left.items m.right.items m.order request.side fault
+    IsProductFault request.config.nodes request.config.workers m.left.items m.right.items m.order request.side fault
 IsWithoutProduct request m faults.Memory = Unit {0}
 IsWithoutProduct request m fault = ⊥
 

@@ -38,7 +38,7 @@ AreUnsuited request cells fault = ⊥
 -- a run over the cells gave no rod, and this is its own fault; or there is no memory for the rod's text
 abbrev pub IsWithoutRod : Request → Cells → Fault → Type 0
 IsWithoutRod request cells (faults.Rod fault) =
-    IsPartFault request.config.nodes cells.numbers.items request.block request.steps fault
+    IsPartFault request.config.nodes request.config.workers cells.numbers.items request.block request.steps fault
 IsWithoutRod request cells faults.Memory = Unit {0}
 IsWithoutRod request cells fault = ⊥
 

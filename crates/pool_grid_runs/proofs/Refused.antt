@@ -10,10 +10,10 @@ use Rattle.pool_grid_runs.specs.Faults.{GridTakesNoStep, IsGridPartFault}
 use Rattle.tp_work.specs.Outcomes.{IsFault, IsOutcome}
 
 -- the fault of a pool, whatever else may be at fault
-pub lent_fault : (n : ℕ) (P : Type 0) (g h : TaskGraph) (fault : LentFault) → g ≡ h → IsLentFault n ⊥ g fault → IsLentFault n P h fault
-lent_fault n P g h BadInput is why = absurd why
-lent_fault n P g h (Run fault) is why = subst (λ g. IsFault n g fault) is why
-lent_fault n P g h (Unmade outcome) is why = subst (λ g. IsOutcome n g outcome) is why
+pub lent_fault : (n workers : ℕ) (P : Type 0) (g h : TaskGraph) (fault : LentFault) → g ≡ h → IsLentFault n workers ⊥ g fault → IsLentFault n workers P h fault
+lent_fault n workers P g h BadInput is why = absurd why
+lent_fault n workers P g h (Run fault) is why = subst (λ g. IsFault n g fault) is why
+lent_fault n workers P g h (Unmade outcome) is why = subst (λ g. IsOutcome n workers g outcome) is why
 
 -- the graph of a grid, by what was lent
 pub grid-is : (grid_width width blocks size rows steps grid_steps : ℕ) (grid_cells cells : List ℤ) →
@@ -27,12 +27,12 @@ grid-is grid_width width blocks size rows steps grid_steps grid_cells cells made
     ∙ ap (grid_graph width cells (blocks_of (length cells) (rows * width)) (rows * width)) made.4
 
 -- the fault of a run in parts, in the grid's words
-pub grid_part : (n : ℕ) (cells : List ℤ) (width rows steps : ℕ) (fault : LentFault) →
-    IsPartFault n (are_whole_rows width) (relaxed width) (block_relaxed width) cells (rows * width) steps fault → IsGridPartFault n cells width rows steps fault
-grid_part n cells width rows steps BadInput (inl cut) = inr (inr (inl (no_row width rows (length cells) cut)))
-grid_part n cells width rows steps BadInput (inr none) = inr (inr (inr none))
-grid_part n cells width rows steps (Run fault) why = why
-grid_part n cells width rows steps (Unmade outcome) why = why
+pub grid_part : (n workers : ℕ) (cells : List ℤ) (width rows steps : ℕ) (fault : LentFault) →
+    IsPartFault n workers (are_whole_rows width) (relaxed width) (block_relaxed width) cells (rows * width) steps fault → IsGridPartFault n workers cells width rows steps fault
+grid_part n workers cells width rows steps BadInput (inl cut) = inr (inr (inl (no_row width rows (length cells) cut)))
+grid_part n workers cells width rows steps BadInput (inr none) = inr (inr (inr none))
+grid_part n workers cells width rows steps (Run fault) why = why
+grid_part n workers cells width rows steps (Unmade outcome) why = why
 
 -- no blocks, no step
 pub takes_none : (n count width rows : ℕ) → (width ≡ 0) ⊎ (2 ^ 32 ≤ rows * width) → GridTakesNoStep n count width rows

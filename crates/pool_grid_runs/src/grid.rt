@@ -24,7 +24,7 @@ pub fn run_grid<R: Threads + Wait + Sync>(
     requires { IsWithinLimits config }
     ensures { MatchResult result
         (λ grid. grid.items ≡ evolve width steps cells.now)
-        (IsGridFault config.nodes cells.now width rows steps) }
+        (IsGridFault config.nodes config.workers cells.now width rows steps) }
 {
     let Some(grid) = grid_in_blocks(cells, width, rows, steps) else {
         return Err(LentFault::BadInput);
@@ -47,7 +47,7 @@ pub fn run_grid_in_parts<R: Threads + Wait + Sync>(
     requires { IsWithinLimits config }
     ensures { MatchResult result
         (λ grid. grid.items ≡ evolve width steps cells.items)
-        (IsGridPartFault config.nodes cells.items width rows steps) }
+        (IsGridPartFault config.nodes config.workers cells.items width rows steps) }
 {
     let Some(blocks) = row_blocks(width, rows) else {
         return Err(LentFault::BadInput);

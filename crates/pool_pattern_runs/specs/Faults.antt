@@ -12,7 +12,8 @@ abbrev pub refusal_of : PatternFault → Refusal
 refusal_of (Run fault) = fault.refusal
 refusal_of (Unmade outcome) = NoMemory
 
--- At n nodes the graph's pool has the very fault, or the very outcome, that the answer holds.
-abbrev pub IsPatternFault : ℕ → TaskGraph → PatternFault → Type 0
-IsPatternFault n g (Run fault) = IsFault n g fault
-IsPatternFault n g (Unmade outcome) = IsOutcome n g outcome
+-- At n nodes, with so many workers at each, the graph's pool has the very fault, or the very outcome, that the answer
+-- holds.
+abbrev pub IsPatternFault : ℕ → ℕ → TaskGraph → PatternFault → Type 0
+IsPatternFault n workers g (Run fault) = IsFault n g fault
+IsPatternFault n workers g (Unmade outcome) = IsOutcome n workers g outcome

@@ -32,10 +32,10 @@ pub fn run_pattern<P: Relation + Send + Sync, R: Threads + Wait + Sync>(
     ensures row { IfOk result (λ run. run.row.items ≡
         row_at (P.relation grid.now.table.now.pattern grid.now.table.now.width) grid.now.table.now.width grid.now.iterations
         (grid.now.table.now.steps - 1)) }
-    ensures outcome { IfOk result (λ run. IsOutcome config.nodes
+    ensures outcome { IfOk result (λ run. IsOutcome config.nodes config.workers
         (kernel_graph (P.relation grid.now.table.now.pattern grid.now.table.now.width) grid.now.table.now.width
         grid.now.table.now.steps grid.now.iterations) run.outcome) }
-    ensures refused { IfErr result (IsPatternFault config.nodes
+    ensures refused { IfErr result (IsPatternFault config.nodes config.workers
         (kernel_graph (P.relation grid.now.table.now.pattern grid.now.table.now.width) grid.now.table.now.width
         grid.now.table.now.steps grid.now.iterations)) }
 {

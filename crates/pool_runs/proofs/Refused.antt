@@ -16,10 +16,10 @@ use Rattle.pool_matrix.specs.Matrices.{IsMatrixRefusal, LacksTile, matrix_graph}
 use Rattle.tp_work.specs.Outcomes.{HasEachOnce, IsFault, IsOutcome}
 
 -- the fault of a pool, whatever else may be at fault
-pub lent_fault : (n : ℕ) (P : Type 0) (g h : TaskGraph) (fault : LentFault) → g ≡ h → IsLentFault n ⊥ g fault → IsLentFault n P h fault
-lent_fault n P g h BadInput is why = absurd why
-lent_fault n P g h (Run fault) is why = subst (λ g. IsFault n g fault) is why
-lent_fault n P g h (Unmade outcome) is why = subst (λ g. IsOutcome n g outcome) is why
+pub lent_fault : (n workers : ℕ) (P : Type 0) (g h : TaskGraph) (fault : LentFault) → g ≡ h → IsLentFault n workers ⊥ g fault → IsLentFault n workers P h fault
+lent_fault n workers P g h BadInput is why = absurd why
+lent_fault n workers P g h (Run fault) is why = subst (λ g. IsFault n g fault) is why
+lent_fault n workers P g h (Unmade outcome) is why = subst (λ g. IsOutcome n workers g outcome) is why
 
 -- the graph of a rod, by what was lent
 pub heat-is : (blocks size_now size steps_now steps : ℕ) (cells_now cells : List ℤ) →
@@ -32,11 +32,11 @@ heat-is blocks size_now size steps_now steps cells_now cells made =
     ∙ ap (heat_graph cells (blocks_of (length cells) size) size) made.3
 
 -- the fault of a run in parts, in the rod's words
-pub heat_part : (n : ℕ) (cells : List ℤ) (size steps : ℕ) (fault : LentFault) → any.IsPartFault n (λ cells size. true) heated block_heated cells size steps fault → IsPartFault n cells size steps fault
-heat_part n cells size steps BadInput (inl cut) = absurd (false≢true (sym cut))
-heat_part n cells size steps BadInput (inr none) = none
-heat_part n cells size steps (Run fault) why = why
-heat_part n cells size steps (Unmade outcome) why = why
+pub heat_part : (n workers : ℕ) (cells : List ℤ) (size steps : ℕ) (fault : LentFault) → any.IsPartFault n workers (λ cells size. true) heated block_heated cells size steps fault → IsPartFault n workers cells size steps fault
+heat_part n workers cells size steps BadInput (inl cut) = absurd (false≢true (sym cut))
+heat_part n workers cells size steps BadInput (inr none) = none
+heat_part n workers cells size steps (Run fault) why = why
+heat_part n workers cells size steps (Unmade outcome) why = why
 
 pub product_refused : (left right : List ℤ) (tiles side : ℕ) (results : Results) (refusal : Refusal) → HasEachOnce (matrix_graph left right tiles side).tasks results →
     IsMatrixRefusal tiles results refusal → refusal ≡ NoMemory

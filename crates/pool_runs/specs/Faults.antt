@@ -9,18 +9,22 @@ use Rattle.pool_matrix.specs.Matrices.{AreNoMatrices, matrix_graph}
 use Rattle.tp_work.specs.Outcomes.{IsFault, IsOutcome}
 pub use Rattle.pool_block_runs.specs.Faults.{IsLentFault, refusal_of}
 
--- the cells are no rod for so many steps, or its pool gave none
-abbrev pub IsHeatFault : ℕ → List ℤ → ℕ → ℕ → LentFault → Type 0
-IsHeatFault n cells size steps =
-    IsLentFault n (IsNoRod (length cells) size steps) (heat_graph cells (blocks_of (length cells) size) size steps)
+-- the cells are no rod for so many steps, or its pool, on n nodes with so many workers at each, gave none
+abbrev pub IsHeatFault : ℕ → ℕ → List ℤ → ℕ → ℕ → LentFault → Type 0
+IsHeatFault n workers cells size steps =
+    IsLentFault n workers (IsNoRod (length cells) size steps)
+    (heat_graph cells (blocks_of (length cells) size) size steps)
 
 -- the cells take no step, or, after some of the steps, the pool of some of those left gave no rod
-abbrev pub IsPartFault : ℕ → List ℤ → ℕ → ℕ → LentFault → Type 0
-IsPartFault n cells size steps BadInput = TakeNoStep (length cells) size n
-IsPartFault n cells size steps (Run fault) = IsOfPart heated block_heated cells size steps (λ g. IsFault n g fault)
-IsPartFault n cells size steps (Unmade outcome) = IsOfPart heated block_heated cells size steps (λ g. IsOutcome n g outcome)
+abbrev pub IsPartFault : ℕ → ℕ → List ℤ → ℕ → ℕ → LentFault → Type 0
+IsPartFault n workers cells size steps BadInput = TakeNoStep (length cells) size n
+IsPartFault n workers cells size steps (Run fault) =
+    IsOfPart heated block_heated cells size steps (λ g. IsFault n g fault)
+IsPartFault n workers cells size steps (Unmade outcome) =
+    IsOfPart heated block_heated cells size steps (λ g. IsOutcome n workers g outcome)
 
 -- the lists are no such matrices, or their pool gave no product
-abbrev pub IsProductFault : ℕ → List ℤ → List ℤ → ℕ → ℕ → LentFault → Type 0
-IsProductFault n left right order side =
-    IsLentFault n (AreNoMatrices order side (length left) (length right)) (matrix_graph left right (order / side) side)
+abbrev pub IsProductFault : ℕ → ℕ → List ℤ → List ℤ → ℕ → ℕ → LentFault → Type 0
+IsProductFault n workers left right order side =
+    IsLentFault n workers (AreNoMatrices order side (length left) (length right))
+    (matrix_graph left right (order / side) side)

@@ -27,7 +27,7 @@ pub fn run_product<R: Threads + Wait + Sync>(
     requires { IsWithinLimits config }
     ensures { MatchResult result
         (λ made. made.items ≡ product_of order left.now right.now)
-        (IsProductFault config.nodes left.now right.now order side) }
+        (IsProductFault config.nodes config.workers left.now right.now order side) }
 {
     let Some(product) = Product::new(left, right, order, side) else {
         return Err(LentFault::BadInput);

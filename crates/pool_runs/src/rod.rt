@@ -22,7 +22,9 @@ pub fn run_heat<R: Threads + Wait + Sync>(
     config: Config,
 ) -> Result<Vec<i64>, LentFault>
     requires { IsWithinLimits config }
-    ensures { MatchResult result (λ rod. rod.items ≡ evolve steps cells.now) (IsHeatFault config.nodes cells.now size steps) }
+    ensures { MatchResult result
+        (λ rod. rod.items ≡ evolve steps cells.now)
+        (IsHeatFault config.nodes config.workers cells.now size steps) }
 {
     let Some(heat) = heat_of(cells, size, steps) else {
         return Err(LentFault::BadInput);
@@ -42,7 +44,9 @@ pub fn run_heat_in_parts<R: Threads + Wait + Sync>(
     config: Config,
 ) -> Result<Vec<i64>, LentFault>
     requires { IsWithinLimits config }
-    ensures { MatchResult result (λ rod. rod.items ≡ evolve steps cells.items) (IsPartFault config.nodes cells.items size steps) }
+    ensures { MatchResult result
+        (λ rod. rod.items ≡ evolve steps cells.items)
+        (IsPartFault config.nodes config.workers cells.items size steps) }
 {
     run_in_parts(rt, alloc, ThreePoints, cells, size, steps, config)
 }

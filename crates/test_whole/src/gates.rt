@@ -203,22 +203,26 @@ fn two_nodes_are_held_at_once(rt: HostRuntime) -> Result<(), Fail> {
 }
 
 /// Runs the wide tree on one node, where the bodies of tasks 0 and 1 wait for each other, and answers how many tasks were
-/// done.
-fn done_where_two_meet<R: Threads + Wait + Sync>(rt: &R, alloc: Global, workers: u32) -> u32
+/// done, and by how many workers.
+fn done_where_two_meet<R: Threads + Wait + Sync>(
+    rt: &R,
+    alloc: Global,
+    workers: u32,
+) -> (u32, u32)
     requires { (1 ≤ workers) × (workers ≤ 8) }
 {
     let gate = TestGate::BodiesMeet(Meeting::new());
     match run_pool(rt, alloc, WIDE, Config::new(1, workers), &gate) {
-        Ok(outcome) => outcome.tasks,
-        Err(_) => 0,
+        Ok(outcome) => (outcome.tasks, outcome.workers),
+        Err(_) => (0, 0),
     }
 }
 
 // Eight of the 64 ready tasks begin at once, 0 and 1 among them: one worker that kept them all would wait in vain.
 #[test]
 fn two_that_begin_together_wait_for_each_other(rt: HostRuntime) -> Result<(), Fail> {
-    assert_eq!(rt; done_where_two_meet(&rt, rt.alloc(), 2), 127);
-    assert_eq!(rt; done_where_two_meet(&rt, rt.alloc(), 8), 127);
+    assert_eq!(rt; done_where_two_meet(&rt, rt.alloc(), 2), (127, 2));
+    assert_eq!(rt; done_where_two_meet(&rt, rt.alloc(), 8), (127, 8));
     Ok(())
 }
 

@@ -12,8 +12,8 @@ use tp_graph::{Value, serial};
 use tp_text::{TextFault, Verdict, audit, print_trace};
 use tp_work::{Config, OpenGate, Round, run_generations};
 
-/// What nine generations come to: how many rounds there are, whether each has the plain results and no others, and whether
-/// the one trace of all is sound and tells them.
+/// What nine generations come to: how many rounds there are, whether each has the plain results and no others, by 64
+/// workers, and whether the one trace of all is sound and tells them.
 type Told = (usize, bool, bool);
 
 /// Runs a pool in nine generations at eight nodes with eight workers.
@@ -34,7 +34,9 @@ fn nine_of<R: Threads + Wait + Sync>(
 }
 
 fn is_plain(plain: &[(TaskId, Value)], round: &Round) -> bool {
-    round.tasks as usize == plain.len() && are_plain(plain, &round.results)
+    round.tasks as usize == plain.len()
+        && round.workers == 64
+        && are_plain(plain, &round.results)
 }
 
 /// Whether the trace of a history at eight nodes is sound, and tells nine generations with the tasks and the messages of

@@ -20,8 +20,8 @@ pub(crate) const POOLS: [(&str, u32); 6] = [
     ("reduce:32:5", 63),
 ];
 
-/// What a pool comes to on so many nodes, with so many workers at each: how many tasks were done, and whether its
-/// results are the plain ones, and no others.
+/// What a pool comes to on so many nodes, with so many workers at each: how many tasks were done, how many workers have
+/// answered, and whether its results are the plain ones, and no others.
 fn told<R: Threads + Wait + Sync>(
     rt: &R,
     alloc: Global,
@@ -29,7 +29,7 @@ fn told<R: Threads + Wait + Sync>(
     plain: &[(TaskId, Value)],
     nodes: u32,
     workers: u32,
-) -> Result<(u32, bool), Refusal>
+) -> Result<(u32, u32, bool), Refusal>
     requires nodes { (1 ≤ nodes) × (nodes ≤ 8) }
     requires workers { (1 ≤ workers) × (workers ≤ 8) }
 {
@@ -39,7 +39,11 @@ fn told<R: Threads + Wait + Sync>(
         idle_turns: 100_000_000,
     };
     match run_pool(rt, alloc, graph, config, &OpenGate) {
-        Ok(outcome) => Ok((outcome.tasks, are_plain(plain, &outcome.results))),
+        Ok(outcome) => Ok((
+            outcome.tasks,
+            outcome.workers,
+            are_plain(plain, &outcome.results),
+        )),
         Err(fault) => Err(fault.refusal),
     }
 }
@@ -64,7 +68,8 @@ fn each_pair<R: Threads + Wait + Sync + Abort>(
     for nodes in [1, 2, 4, 8] {
         for workers in [1, 2, 4, 8] {
             let made = told(rt, alloc, graph, plain, nodes, workers);
-            assert_eq!(rt; made, Ok((tasks, true)), "{word} at {nodes} by {workers}");
+            let all = nodes.saturating_mul(workers);
+            assert_eq!(rt; made, Ok((tasks, all, true)), "{word} at {nodes} by {workers}");
         }
     }
 }

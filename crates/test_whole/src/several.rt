@@ -36,11 +36,11 @@ fn three_pools(alloc: Global) -> Result<Registry, Refusal> {
     Ok(registry)
 }
 
-/// What is answered for each pool that was run, the number of its tasks or of its refusal, and how all pools stand.
-/// (Which turns were idle before a refusal is a matter of the schedule.)
+/// What is answered for each pool that was run, the numbers of its tasks and workers or of its refusal, and how all pools
+/// stand. (Which turns were idle before a refusal is a matter of the schedule.)
 #[derive(Debug, PartialEq, Eq, Drop)]
 struct Told {
-    tasks: Vec<Result<u32, u8>>,
+    answers: Vec<Result<(u32, u32), u8>>,
     standings: [Result<Standing, Refusal>; 3],
 }
 
@@ -50,22 +50,22 @@ fn run_behind<A: Gate, R: Threads + Wait + Sync>(
     gate: &A,
 ) -> Result<Told, Refusal> {
     let mut registry = three_pools(alloc)?;
-    let answers = run_pools(rt, alloc, &mut registry, TWO_NODES, gate)?;
-    let mut tasks = Vec::new(alloc);
-    for answer in &answers {
-        tasks.push(match answer {
-            Ok(outcome) => Ok(outcome.tasks),
+    let ran = run_pools(rt, alloc, &mut registry, TWO_NODES, gate)?;
+    let mut answers = Vec::new(alloc);
+    for answer in &ran {
+        answers.push(match answer {
+            Ok(outcome) => Ok((outcome.tasks, outcome.workers)),
             Err(fault) => Err(fault.refusal.number()),
         })?;
     }
     let standings = [PoolId(0), PoolId(1), PoolId(2)].map(|pool| registry.state(pool));
-    Ok(Told { tasks, standings })
+    Ok(Told { answers, standings })
 }
 
 #[test]
 fn registered_pools_are_run_and_no_others(rt: HostRuntime) -> Result<(), Fail> {
     let made = run_behind(&rt, rt.alloc(), &AllBut(TaskId(100)))?;
-    assert_eq!(rt; made.tasks.as_slice(), [Ok(7), Ok(6)].as_slice());
+    assert_eq!(rt; made.answers.as_slice(), [Ok((7, 4)), Ok((6, 4))].as_slice());
     assert_eq!(rt;
         made.standings,
         [Ok(Standing::Over), Ok(Standing::Active), Ok(Standing::Over)]
@@ -77,7 +77,7 @@ fn registered_pools_are_run_and_no_others(rt: HostRuntime) -> Result<(), Fail> {
 #[test]
 fn the_fault_of_one_pool_stops_no_other(rt: HostRuntime) -> Result<(), Fail> {
     let made = run_behind(&rt, rt.alloc(), &AllBut(TaskId(6)))?;
-    assert_eq!(rt; made.tasks.as_slice(), [Err(21), Ok(6)].as_slice());
+    assert_eq!(rt; made.answers.as_slice(), [Err(21), Ok((6, 4))].as_slice());
     assert_eq!(rt;
         made.standings,
         [

@@ -66,10 +66,10 @@ fn a_long_body_is_waited_for(rt: HostRuntime) -> Result<(), Fail> {
         idle_turns: 10_000,
     };
     let end = match run_pool(&rt, rt.alloc(), graph, config, &OpenGate) {
-        Ok(outcome) => (outcome.tasks, None),
-        Err(fault) => (0, Some(fault.refusal)),
+        Ok(outcome) => (outcome.tasks, outcome.workers, None),
+        Err(fault) => (0, 0, Some(fault.refusal)),
     };
-    assert_eq!(rt; end, (1, None));
+    assert_eq!(rt; end, (1, 8, None));
     Ok(())
 }
 
@@ -77,9 +77,9 @@ fn a_long_body_is_waited_for(rt: HostRuntime) -> Result<(), Fail> {
 fn a_patient_pool_is_worked_out(rt: HostRuntime) -> Result<(), Fail> {
     let tree = Reduce { leaves: 2, seed: 0 };
     let end = match run_pool(&rt, rt.alloc(), tree, Config::new(2, 2), &OpenGate) {
-        Ok(outcome) => (outcome.tasks, outcome.messages),
-        Err(_) => (0, 0),
+        Ok(outcome) => (outcome.tasks, outcome.messages, outcome.workers),
+        Err(_) => (0, 0, 0),
     };
-    assert_eq!(rt; end, (3, 1));
+    assert_eq!(rt; end, (3, 1, 4));
     Ok(())
 }

@@ -62,5 +62,5 @@ length-once tasks rs once =
     omega (arith, below-once tasks tasks rs once (omega arith), below-all tasks rs (λ t le. once t ∙ bit-above t tasks le))
 
 -- an outcome has as many tasks as the graph
-pub tasks-outcome : (n : ℕ) (g : TaskGraph) (o : Outcome) → IsOutcome n g o → o.tasks ≡ g.tasks
-tasks-outcome n g o is = is.tasks.0 ∙ o.results.ok.0 ∙ length-once g.tasks o.results.items is.each_once
+pub tasks-outcome : (n workers : ℕ) (g : TaskGraph) (o : Outcome) → IsOutcome n workers g o → o.tasks ≡ g.tasks
+tasks-outcome n workers g o is = is.tasks.0 ∙ o.results.ok.0 ∙ length-once g.tasks o.results.items is.each_once

@@ -22,24 +22,24 @@ use Rattle.tp_work.specs.Series.{IsRound, IsSeries}
 use Rattle.tp_work.specs.declared.series.Round.{Round}
 use Rattle.tp_work.specs.declared.series.Series.{Series}
 
-round_of : (n : ℕ) (g : AnyGraph) (h : Option History) (r : Round) → IsSomeAnd h (λ events. IsRound n (any_graph g) events r) → IsRoundOf g r
-round_of n g None r is = absurd is
-round_of n g (Some events) r is = record { each_once = is.each_once; right = is.right; tasks = is.tasks.0 }
+round_of : (n workers : ℕ) (g : AnyGraph) (h : Option History) (r : Round) → IsSomeAnd h (λ events. IsRound n workers (any_graph g) events r) → IsRoundOf g r
+round_of n workers g None r is = absurd is
+round_of n workers g (Some events) r is = record { each_once = is.each_once; right = is.right; tasks = is.tasks.0 }
 
-rounds_of : (n : ℕ) (g : AnyGraph) (hs : List History) (rounds : List Round) → AllZip (IsRound n (any_graph g)) hs rounds → All (IsRoundOf g) rounds
-rounds_of n g hs rounds all = λ k d lt.
+rounds_of : (n workers : ℕ) (g : AnyGraph) (hs : List History) (rounds : List Round) → AllZip (IsRound n workers (any_graph g)) hs rounds → All (IsRoundOf g) rounds
+rounds_of n workers g hs rounds all = λ k d lt.
     let here : slice_get rounds k ≡ Some (get_or rounds k d) = slice_get-get_or rounds k d lt in
-    let beside = AllZip-right (IsRound n (any_graph g)) hs rounds all k in
-    round_of n g (slice_get hs k) (get_or rounds k d)
-    (subst (λ o. MatchOption o (Unit {0}) (λ r. IsSomeAnd (slice_get hs k) (λ events. IsRound n (any_graph g) events r))) here beside)
+    let beside = AllZip-right (IsRound n workers (any_graph g)) hs rounds all k in
+    round_of n workers g (slice_get hs k) (get_or rounds k d)
+    (subst (λ o. MatchOption o (Unit {0}) (λ r. IsSomeAnd (slice_get hs k) (λ events. IsRound n workers (any_graph g) events r))) here beside)
 
 -- each round of a series is one of the graph
-pub each_of : (n : ℕ) (g : AnyGraph) (count : ℕ) (s : Series) → IsSeries n (any_graph g) count s → All (IsRoundOf g) s.rounds.items
-each_of n g count s is = rounds_of n g (reverse (generations s.history.events)) s.rounds.items is.each
+pub each_of : (n workers : ℕ) (g : AnyGraph) (count : ℕ) (s : Series) → IsSeries n workers (any_graph g) count s → All (IsRoundOf g) s.rounds.items
+each_of n workers g count s is = rounds_of n workers g (reverse (generations s.history.events)) s.rounds.items is.each
 
 -- the events of each of its generations are a run
-pub in_each : (n : ℕ) (g : TaskGraph) (count : ℕ) (s : Series) → IsSeries n g count s → InEach (IsRun n) s.history.events
-in_each n g count s is = generations_law n s.history.events is.runs
+pub in_each : (n workers : ℕ) (g : TaskGraph) (count : ℕ) (s : Series) → IsSeries n workers g count s → InEach (IsRun n) s.history.events
+in_each n workers g count s is = generations_law n s.history.events is.runs
 
 -- a round has as many tasks as the graph
 pub tasks-round : (g : AnyGraph) (r : Round) → IsRoundOf g r → r.tasks ≡ (any_graph g).tasks

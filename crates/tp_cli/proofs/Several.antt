@@ -195,10 +195,10 @@ rank_waiting : (graphs : List AnyGraph) (i : ℕ) → i ≤ length graphs → ra
 rank_waiting graphs i le = ap (count_by is_waiting) (take-map entered i graphs) ∙ all_wait (take i graphs) ∙ length-take-le i graphs le
 
 -- each pool has the answer of its own place
-pub answers_in_order : (n : ℕ) (graphs : List AnyGraph) (answers : List (Result Outcome ended.Fault)) (old new : Pools) → old ≡ pools_of graphs
-    → AreRun n answers old new → AreRunAnswers n graphs answers
-answers_in_order n graphs answers old new is run =
-    let ran : AreRun n answers (pools_of graphs) new = subst (λ ps. AreRun n answers ps new) is run in
+pub answers_in_order : (n workers : ℕ) (graphs : List AnyGraph) (answers : List (Result Outcome ended.Fault)) (old new : Pools) → old ≡ pools_of graphs
+    → AreRun n workers answers old new → AreRunAnswers n workers graphs answers
+answers_in_order n workers graphs answers old new is run =
+    let ran : AreRun n workers answers (pools_of graphs) new = subst (λ ps. AreRun n workers answers ps new) is run in
     let many : length answers ≡ length graphs = ran.settled.each ∙ all_wait graphs in
     record {
       many = many;

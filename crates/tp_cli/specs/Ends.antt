@@ -28,8 +28,8 @@ abbrev pub IsReadText : List Text → Option (List ℕ) → Option (List ℕ) �
 IsReadText words read_old read_new verdict text =
     (kind : TextKind) × AsksForText kind words × IsAnswerTo kind read_old read_new verdict text
 
--- The words ask for a run of a pool, and this is the text of such a run, at so many nodes as they ask for,
--- each of its generations to its judged end, in the form that they ask for.
+-- The words ask for a run of a pool, and this is the text of such a run, at as many nodes and with as many workers at each
+-- as they ask for, each of its generations to its judged end, in the form that they ask for.
 abbrev pub IsRunText : List Text → List ℕ → Type 0
 IsRunText words text = (word : Text) × (nodes : ℕ) × (workers : ℕ) × (count : ℕ) × (form : Form)
     × AsksForRun words word × AsksForRunAt words nodes workers × AsksForGenerations words count × AsksForForm words form

@@ -81,11 +81,11 @@ unfoldable pub lines_from : ℕ → List Word → List (Result Outcome ended.Fau
 lines_from i (word ∷ words) (answer ∷ answers) = pool_line i word answer ++ lines_from (suc i) words answers
 lines_from i _ _ = []
 
--- The words name pools, these were run on n nodes, each of them ended or not, and this is the text of what they answered; how many
--- workers there were no outcome tells.
+-- The words name pools, these were run on n nodes, with so many workers at each, each of them ended or not, and this is
+-- the text of what they answered.
 abbrev pub IsPoolsText : List Word → ℕ → ℕ → Bool → List ℕ → Type 0
 IsPoolsText words n workers each_ended text = (graphs : List AnyGraph) × (answers : List (Result Outcome ended.Fault))
-    × AreNamed words graphs × AreRunAnswers n graphs answers
+    × AreNamed words graphs × AreRunAnswers n workers graphs answers
     × (each_ended ≡ list_all is_ok answers) × (text ≡ lines_from 0 words answers)
 
 -- why the words' pools were not run, or the text of what they answered was not written: the words are in vain; or there was no

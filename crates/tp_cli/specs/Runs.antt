@@ -51,20 +51,23 @@ abbrev pub IsPrintOfSeries : Form → AnyGraph → ℕ → Series → List ℕ �
 IsPrintOfSeries Table g n s text = text ≡ rounds_text g 1 s.rounds.items
 IsPrintOfSeries Trace g n s text = IsTraceOf n (steps_of s.history.events) text
 
--- the text, in this form, of a run of a graph on n nodes to its judged end; how many workers there were no outcome tells
+-- the text, in this form, of a run of a graph to its judged end on n nodes, with so many workers at each
 abbrev pub IsTextOfOne : Form → AnyGraph → ℕ → ℕ → List ℕ → Type 0
-IsTextOfOne form g n workers text = (o : Outcome) × IsOutcome n (any_graph g) o × IsPrintOf form g n o text
+IsTextOfOne form g n workers text = (o : Outcome) × IsOutcome n workers (any_graph g) o × IsPrintOf form g n o text
 
--- the text, in this form, of so many generations of a graph on n nodes, each run to its judged end
+-- the text, in this form, of so many generations of a graph, each run to its judged end on n nodes, with so many
+-- workers at each
 abbrev pub IsTextOfSeries : Form → AnyGraph → ℕ → ℕ → ℕ → List ℕ → Type 0
-IsTextOfSeries form g n workers count text = (s : Series) × IsSeries n (any_graph g) count s × IsPrintOfSeries form g n s text
+IsTextOfSeries form g n workers count text =
+    (s : Series) × IsSeries n workers (any_graph g) count s × IsPrintOfSeries form g n s text
 
 -- The text of a run in one generation, or of a series of more.
 abbrev pub IsTextOf : Form → AnyGraph → ℕ → ℕ → ℕ → List ℕ → Type 0
 IsTextOf form g n workers count text =
     ((count ≡ 1) × IsTextOfOne form g n workers text) ⊎ ((2 ≤ count) × IsTextOfSeries form g n workers count text)
 
--- The word names a graph, and this is the text, in this form, of so many generations of it on n nodes.
+-- The word names a graph, and this is the text, in this form, of so many generations of it on n nodes, with so many
+-- workers at each.
 abbrev pub IsTextFor : Form → List ℕ → ℕ → ℕ → ℕ → List ℕ → Type 0
 IsTextFor form word n workers count text = (g : AnyGraph) × (word ≡ word_of g) × IsTextOf form g n workers count text
 
@@ -96,23 +99,25 @@ abbrev pub IsUnprintedSeries : Form → AnyGraph → Series → Refusal → Type
 IsUnprintedSeries Table g s r = IsUntoldRound g s.rounds.items r
 IsUnprintedSeries Trace g s r = IsUntraced s.history.events r
 
--- Why there is no text, in this form, of a run of a graph on n nodes: this is the fault of its run, or its outcome is not
--- printed, for this.
+-- Why there is no text, in this form, of a run of a graph on n nodes, with so many workers at each: this is the fault
+-- of its run, or its outcome is not printed, for this.
 abbrev pub IsWithoutOne : Form → AnyGraph → ℕ → ℕ → RunFault → Type 0
 IsWithoutOne form g n workers (Pool fault) = IsFault n (any_graph g) fault
-IsWithoutOne form g n workers (Text r) = (o : Outcome) × IsOutcome n (any_graph g) o × IsUnprinted form g o r
+IsWithoutOne form g n workers (Text r) = (o : Outcome) × IsOutcome n workers (any_graph g) o × IsUnprinted form g o r
 
 -- and of so many generations
 abbrev pub IsWithoutSeries : Form → AnyGraph → ℕ → ℕ → ℕ → RunFault → Type 0
 IsWithoutSeries form g n workers count (Pool fault) = IsSeriesFault n (any_graph g) count fault
-IsWithoutSeries form g n workers count (Text r) = (s : Series) × IsSeries n (any_graph g) count s × IsUnprintedSeries form g s r
+IsWithoutSeries form g n workers count (Text r) =
+    (s : Series) × IsSeries n workers (any_graph g) count s × IsUnprintedSeries form g s r
 
 -- Why there is no text of a run in one generation, or of a series of more.
 abbrev pub IsWithoutText : Form → AnyGraph → ℕ → ℕ → ℕ → RunFault → Type 0
 IsWithoutText form g n workers count fault =
     ((count ≡ 1) × IsWithoutOne form g n workers fault) ⊎ ((2 ≤ count) × IsWithoutSeries form g n workers count fault)
 
--- The word names a graph, and by this fault there is no text, in this form, of so many generations of it on n nodes.
+-- The word names a graph, and by this fault there is no text, in this form, of so many generations of it on n nodes,
+-- with so many workers at each.
 abbrev pub IsRefusedRun : Form → List ℕ → ℕ → ℕ → ℕ → RunFault → Type 0
 IsRefusedRun form word n workers count fault = (g : AnyGraph) × (word ≡ word_of g) × IsWithoutText form g n workers count fault
 

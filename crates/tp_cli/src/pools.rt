@@ -108,7 +108,8 @@ fn answers_of<R: Threads + Wait + Sync>(
     config: Config,
 ) -> Result<Vec<Result<Outcome, tp_work::Fault>>, Refusal>
     requires { IsWithinLimits config }
-    ensures ran { IfOk result (λ answers. (graphs : List AnyGraph) → registry ≡ pools_of graphs → AreRunAnswers config.nodes graphs answers.items) }
+    ensures ran { IfOk result (λ answers. (graphs : List AnyGraph) → registry ≡ pools_of graphs
+        → AreRunAnswers config.nodes config.workers graphs answers.items) }
     ensures memory { IfErr result (λ refusal. refusal ≡ NoMemory) }
 {
     run_pools(rt, alloc, &mut registry, config, &OpenGate)

@@ -1,7 +1,6 @@
-ghost use Rattle.std.specs.Prelude.{◌≡◌, ◌≢◌, ◌≤◌, ◌↔◌, ℕ, List, Err, IfErr, IfOk, MatchResult};
+ghost use Rattle.std.specs.Prelude.{◌≡◌, ◌≢◌, ◌↔◌, ℕ, List, Err, IfErr, IfOk, MatchResult};
 ghost use Rattle.std.specs.Io.KnownBytes.{Appends};
 ghost use Rattle.std.specs.String.{string_bytes};
-ghost use Rattle.tp_base.specs.declared.limits.TheConstants.{MAX_NODES};
 ghost use Rattle.tp_cli.specs.Runs.{IsPlan, IsPrintOf, IsRunFault, IsTextFor, IsTextOf, IsTextOfOne, IsUnprinted, IsUntold, IsWithoutOne, IsWithoutText, NamesNoGraph, run_text, totals_text};
 ghost use Rattle.tp_graph.specs.Serial.{AreRight};
 ghost use Rattle.pool_samples.specs.Any.{any_graph};
@@ -110,23 +109,23 @@ fn text_of_one<R: Threads + Wait + Sync>(
         Ok(outcome) => outcome,
         Err(fault) => return Err(RunFault::Pool(fault)),
     };
-    match text_of_outcome(alloc, graph, &outcome, config.nodes, form) {
+    match text_of_outcome(alloc, graph, &outcome, config, form) {
         Ok(text) => Ok(text),
         Err(refusal) => Err(RunFault::Text(refusal)),
     }
 }
 
-/// What is printed of what a pool of a graph has made on so many nodes.
+/// What is printed of what a pool of a graph has made that was run so.
 fn text_of_outcome(
     alloc: Global,
     graph: AnyGraph,
     outcome: &Outcome,
-    nodes: u32,
+    config: Config,
     form: Form,
 ) -> Result<Vec<u8>, Refusal>
-    requires nodes { (1 ≤ nodes) × (nodes ≤ MAX_NODES) }
-    requires made { IsOutcome nodes (any_graph graph) outcome.now }
-    ensures text { IfOk result (λ text. IsPrintOf form graph nodes outcome.now text.items) }
+    requires limits { IsWithinLimits config }
+    requires made { IsOutcome config.nodes config.workers (any_graph graph) outcome.now }
+    ensures text { IfOk result (λ text. IsPrintOf form graph config.nodes outcome.now text.items) }
     ensures none { IfErr result (λ refusal. IsUnprinted form graph outcome.now refusal) }
 {
     match form {
@@ -137,7 +136,7 @@ fn text_of_outcome(
             outcome.tasks,
             outcome.messages,
         ),
-        Form::Trace => print_trace(alloc, &outcome.history, nodes),
+        Form::Trace => print_trace(alloc, &outcome.history, config.nodes),
     }
 }
 

@@ -1,6 +1,5 @@
-ghost use Rattle.std.specs.Prelude.{◌≡◌, ◌≤◌, ◌⊎◌, ◌++◌, ℕ, IfErr, IfOk, MatchResult, OnOk};
+ghost use Rattle.std.specs.Prelude.{◌≡◌, ◌⊎◌, ◌++◌, IfErr, IfOk, MatchResult, OnOk};
 ghost use Rattle.std.specs.List.{All};
-ghost use Rattle.tp_base.specs.declared.limits.TheConstants.{MAX_NODES};
 ghost use Rattle.tp_base.specs.declared.refusal.Refusal.TheVariants.{NoMemory};
 ghost use Rattle.tp_cli.specs.Runs.{IsPlan, IsPrintOfSeries, IsRoundOf, IsTextOfSeries, IsUnprintedSeries, IsUntold, IsUntoldRound, IsWithoutSeries, round_text, rounds_text};
 ghost use Rattle.pool_samples.specs.Any.{any_graph};
@@ -32,28 +31,27 @@ pub(crate) fn text_of_generations<R: Threads + Wait + Sync>(
         Ok(series) => series,
         Err(fault) => return Err(RunFault::Pool(fault)),
     };
-    match text_of_series(alloc, graph, &series, plan.config.nodes, plan.form) {
+    match text_of_series(alloc, graph, &series, plan) {
         Ok(text) => Ok(text),
         Err(refusal) => Err(RunFault::Text(refusal)),
     }
 }
 
-/// What is printed of what a pool of a graph has made on so many nodes in all its generations.
+/// What is printed of what a pool of a graph has made, in all its generations, that was run by this plan.
 fn text_of_series(
     alloc: Global,
     graph: AnyGraph,
     series: &Series,
-    nodes: u32,
-    form: Form,
+    plan: Plan,
 ) -> Result<Vec<u8>, Refusal>
-    requires nodes { (1 ≤ nodes) × (nodes ≤ MAX_NODES) }
-    requires made { (count : ℕ) × IsSeries nodes (any_graph graph) count series.now }
-    ensures text { IfOk result (λ text. IsPrintOfSeries form graph nodes series.now text.items) }
-    ensures none { IfErr result (λ refusal. IsUnprintedSeries form graph series.now refusal) }
+    requires plan { IsPlan plan }
+    requires made { IsSeries plan.config.nodes plan.config.workers (any_graph graph) plan.generations series.now }
+    ensures text { IfOk result (λ text. IsPrintOfSeries plan.form graph plan.config.nodes series.now text.items) }
+    ensures none { IfErr result (λ refusal. IsUnprintedSeries plan.form graph series.now refusal) }
 {
-    match form {
+    match plan.form {
         Form::Table => text_of_rounds(alloc, graph, &series.rounds),
-        Form::Trace => print_trace(alloc, &series.history, nodes),
+        Form::Trace => print_trace(alloc, &series.history, plan.config.nodes),
     }
 }
 

@@ -36,5 +36,5 @@ returns-in_err-made g c =
     let count : c.len-2.result ≡ length c.args.cells.items = search rules in
     let takes = subst (λ count. TakeSteps count c.args.size c.args.config.nodes c.in-Some.most) count c.in-Some.ensures in
     let some : 1 ≤ c.min-now.result = omega (arith, takes.all_planned) in
-    rw passed.1 (part_fault c.args.config.nodes (s.takes c.args.stencil) (s.step c.args.stencil) (s.next c.args.stencil) c.args.cells.items c.deref.result.now c.args.size c.args.steps c.loop-left.left c.min-now.result passed.0
+    rw passed.1 (part_fault c.args.config.nodes c.args.config.workers (s.takes c.args.stencil) (s.step c.args.stencil) (s.next c.args.stencil) c.args.cells.items c.deref.result.now c.args.size c.args.steps c.loop-left.left c.min-now.result passed.0
     ((g.met.S.Stencil g.world.𝓛 g.world.𝓜 g.world.𝓡 ((λ s x. x), (λ x. x), (λ x. x), λ x. x)).long c.args.stencil) (c.deref.ensures.value ∙ before.made) before.few (search rules) some why)

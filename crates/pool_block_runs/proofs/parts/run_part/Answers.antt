@@ -23,5 +23,5 @@ returns g c =
     ∙ ap (block_graph (s.next a.stencil) a.cells.now blocks a.size) made.4 in
     match_weaker c.run_steps.result _ _ _ _
     (λ cells is. is ∙ ap (λ p. after (s.step p) work.steps work.cells.now) made.0 ∙ ap (λ n. after (s.step a.stencil) n work.cells.now) made.4 ∙ ap (after (s.step a.stencil) a.steps) made.1)
-    (λ fault why. subst (λ graph. IsLentFault a.config.nodes ⊥ graph fault) graph why)
+    (λ fault why. subst (λ graph. IsLentFault a.config.nodes a.config.workers ⊥ graph fault) graph why)
     c.run_steps.ensures

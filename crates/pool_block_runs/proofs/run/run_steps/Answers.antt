@@ -22,7 +22,7 @@ unreachable-requires g c =
     (rw c.deref.ensures.value at c.in-Err-cells_of.ensures.refused))
 
 pub returns-in-NoMemory : goal.returns-in-NoMemory
-returns-in-NoMemory g c = subst (λ graph. IsOutcome c.args.config.nodes graph c.in-Ok.outcome) c.copied.ensures c.in-Ok.ensures.outcome
+returns-in-NoMemory g c = subst (λ graph. IsOutcome c.args.config.nodes c.args.config.workers graph c.in-Ok.outcome) c.copied.ensures c.in-Ok.ensures.outcome
 
 pub returns-in-Err : goal.returns-in-Err
 returns-in-Err g c = subst (λ graph. IsFault c.args.config.nodes graph c.in-Err.fault) c.copied.ensures c.in-Err.ensures.fault

@@ -16,7 +16,7 @@ returns g c =
     match_weaker c.run_in_parts.result _ _ _ _
     (λ cells is. is ∙ ap (λ w. evolve w a.steps a.cells.items) cut.0)
     (λ fault why.
-    grid_part a.config.nodes a.cells.items a.width a.rows a.steps fault
-    (subst (λ k. IsPartFault a.config.nodes (are_whole_rows a.width) (relaxed a.width) (block_relaxed a.width) a.cells.items k a.steps fault) cut.1
-    (subst (λ w. IsPartFault a.config.nodes (are_whole_rows w) (relaxed w) (block_relaxed w) a.cells.items blocks.size a.steps fault) cut.0 why)))
+    grid_part a.config.nodes a.config.workers a.cells.items a.width a.rows a.steps fault
+    (subst (λ k. IsPartFault a.config.nodes a.config.workers (are_whole_rows a.width) (relaxed a.width) (block_relaxed a.width) a.cells.items k a.steps fault) cut.1
+    (subst (λ w. IsPartFault a.config.nodes a.config.workers (are_whole_rows w) (relaxed w) (block_relaxed w) a.cells.items blocks.size a.steps fault) cut.0 why)))
     c.run_in_parts.ensures

@@ -14,7 +14,7 @@ pub returns-in-NoMemory : goal.returns-in-NoMemory
 returns-in-NoMemory g c =
     let product = c.in-Some.product in
     let graph = product-graph product.left.now product.right.now c.args.left.now c.args.right.now product.tiles product.side c.args.order c.args.side c.in-Some.ensures.right.some_side c.in-Some.ensures.made in
-    subst (λ graph. IsOutcome c.args.config.nodes graph c.in-Ok.outcome) graph c.in-Ok.ensures.outcome
+    subst (λ graph. IsOutcome c.args.config.nodes c.args.config.workers graph c.in-Ok.outcome) graph c.in-Ok.ensures.outcome
 
 pub returns-in-Err : goal.returns-in-Err
 returns-in-Err g c =

@@ -8,17 +8,17 @@ use Rattle.tp_text.proofs.Present.{run_in_each}
 use Rattle.tp_cli.proofs.run.text_of_outcome.Goals as goal
 
 pub text_of_results-requires-clause-tasks : goal.text_of_results-requires-clause-tasks
-text_of_results-requires-clause-tasks c = tasks-outcome c.args.nodes (any_graph c.args.graph) c.args.outcome.now c.requires.made
+text_of_results-requires-clause-tasks c = tasks-outcome c.args.config.nodes c.args.config.workers (any_graph c.args.graph) c.args.outcome.now c.requires.made
 
 pub returns-in-Table-clause-text : goal.returns-in-Table-clause-text
 returns-in-Table-clause-text c =
     IfOk-weaker c.text_of_results.result _ _
-    (λ text printed. printed_table c.args.form c.args.graph c.args.nodes c.args.outcome.now text.items c.in-Table.is printed)
+    (λ text printed. printed_table c.args.form c.args.graph c.args.config.nodes c.args.outcome.now text.items c.in-Table.is printed)
     c.text_of_results.ensures.text
 
 pub print_trace-requires-clause-run : goal.print_trace-requires-clause-run
-print_trace-requires-clause-run c = run_in_each c.args.nodes c.args.outcome.now.history.events c.requires.made.run
+print_trace-requires-clause-run c = run_in_each c.args.config.nodes c.args.outcome.now.history.events c.requires.made.run
 
 pub returns-in-Trace-clause-text : goal.returns-in-Trace-clause-text
 returns-in-Trace-clause-text c =
-    subst (λ form. IfOk c.print_trace.result (λ text. IsPrintOf form c.args.graph c.args.nodes c.args.outcome.now text.items)) (sym c.in-Trace.is) c.print_trace.ensures.ok
+    subst (λ form. IfOk c.print_trace.result (λ text. IsPrintOf form c.args.graph c.args.config.nodes c.args.outcome.now text.items)) (sym c.in-Trace.is) c.print_trace.ensures.ok
