@@ -204,11 +204,7 @@ fn two_nodes_are_held_at_once(rt: HostRuntime) -> Result<(), Fail> {
 
 /// Runs the wide tree on one node, where the bodies of tasks 0 and 1 wait for each other, and answers how many tasks were
 /// done, and by how many workers.
-fn done_where_two_meet<R: Threads + Wait + Sync>(
-    rt: &R,
-    alloc: Global,
-    workers: u32,
-) -> (u32, u32)
+fn done_where_two_meet<R: Threads + Wait + Sync>(rt: &R, alloc: Global, workers: u32) -> (u32, u32)
     requires { (1 ≤ workers) × (workers ≤ 8) }
 {
     let gate = TestGate::BodiesMeet(Meeting::new());

@@ -34,9 +34,7 @@ fn nine_of<R: Threads + Wait + Sync>(
 }
 
 fn is_plain(plain: &[(TaskId, Value)], round: &Round) -> bool {
-    round.tasks as usize == plain.len()
-        && round.workers == 64
-        && are_plain(plain, &round.results)
+    round.tasks as usize == plain.len() && round.workers == 64 && are_plain(plain, &round.results)
 }
 
 /// Whether the trace of a history at eight nodes is sound, and tells nine generations with the tasks and the messages of

@@ -69,7 +69,11 @@ fn each_pair<R: Threads + Wait + Sync + Abort>(
         for workers in [1, 2, 4, 8] {
             let made = told(rt, alloc, graph, plain, nodes, workers);
             let all = nodes.saturating_mul(workers);
-            assert_eq!(rt; made, Ok((tasks, all, true)), "{word} at {nodes} by {workers}");
+            assert_eq!(rt;
+                made,
+                Ok((tasks, all, true)),
+                "{word} at {nodes} by {workers}"
+            );
         }
     }
 }

@@ -65,7 +65,10 @@ fn run_behind<A: Gate, R: Threads + Wait + Sync>(
 #[test]
 fn registered_pools_are_run_and_no_others(rt: HostRuntime) -> Result<(), Fail> {
     let made = run_behind(&rt, rt.alloc(), &AllBut(TaskId(100)))?;
-    assert_eq!(rt; made.answers.as_slice(), [Ok((7, 4)), Ok((6, 4))].as_slice());
+    assert_eq!(rt;
+        made.answers.as_slice(),
+        [Ok((7, 4)), Ok((6, 4))].as_slice()
+    );
     assert_eq!(rt;
         made.standings,
         [Ok(Standing::Over), Ok(Standing::Active), Ok(Standing::Over)]
