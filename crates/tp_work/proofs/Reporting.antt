@@ -1,11 +1,12 @@
 -- What a report tells of a pool whose nodes are at their places.
 use Rattle.std.proofs.Common.{◌≡◌, ◌*◌, ◌↔◌, ℕ, List, [], ◌∷◌, Bool, true, false, Option, None, Some, Result, Ok, Err, IfOk, MatchResult, IsFalse, IsTrue, MatchOption, length, refl, sym, ap, subst, ◌∙◌, inl, inr}
 use Rattle.std.proofs.lemmas.Bool.{cases_Bool}
+use Rattle.std.specs.Option.{option_or}
 use Rattle.std.specs.Prelude.{sum_by, if◌then◌else◌}
 use Rattle.tp_base.specs.declared.refusal.Refusal.{Refusal}
 use Rattle.tp_base.specs.declared.refusal.Refusal.TheVariants.{Missing, NoMemory}
 use Rattle.tp_board.specs.Numbers.{is_done, is_send}
-use Rattle.tp_board.specs.States.{BoardState}
+use Rattle.tp_board.specs.States.{BoardState, with_fault}
 use Rattle.tp_graph.specs.Graphs.{TaskGraph}
 use Rattle.tp_graph.specs.Serial.{AreRight}
 use Rattle.tp_local.specs.Locals.{pending}
@@ -48,6 +49,18 @@ module _ {G : Type 0} where
         done = gathered.done;
         right = right graph whole.of_graph;
       }
+
+-- ---- a refusal that workers answered
+-- The first fault of two is one.
+kept-first : (kept : Option Refusal) (e : Refusal) → option_or kept (Some e) ≡ None → ⊥
+kept-first None e none = let bad : Some e ≡ None = none in cc
+kept-first (Some first) e none = let bad : Some first ≡ None = none in cc
+
+-- Where a board to which this was told has no fault, nothing was told.
+pub untold : (told : Option Refusal) (old new : BoardState) → MatchOption told (new ≡ old) (λ fault. new ≡ with_fault fault old)
+    → new.fault ≡ None → told ≡ None
+untold None old new is none = refl
+untold (Some e) old new is none = absurd (kept-first old.fault e (sym (ap (λ (b : BoardState). b.fault) is) ∙ none))
 
 -- ---- one generation
 -- Where nothing was reopened, all events are of the present generation.

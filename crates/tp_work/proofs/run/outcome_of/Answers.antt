@@ -3,8 +3,8 @@ use Rattle.std.proofs.lemmas.Result.{IfErr-weaker, IfOk-weaker, on_ok_weaker}
 use Rattle.tp_work.proofs.Reporting.{is_fault, of_report}
 use Rattle.tp_work.proofs.run.outcome_of.Goals as goal
 
-pub outcome_from-requires-clause-workers : goal.outcome_from-requires-clause-workers
-outcome_from-requires-clause-workers g c = λ none. c.requires.workers (sym c.in-Ok.ensures.report.fault ∙ none)
+pub outcome_from-requires : goal.outcome_from-requires
+outcome_from-requires g c = record { workers = λ none. c.requires.workers (sym c.in-Ok.ensures.report.fault ∙ none) }
 
 pub returns-in-Ok-clause-outcome : goal.returns-in-Ok-clause-outcome
 returns-in-Ok-clause-outcome g c =
