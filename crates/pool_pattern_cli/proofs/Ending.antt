@@ -34,7 +34,8 @@ module _ (asking : List Text) (kind : ErrorKind)
       inl (
         words.Words text,
         refl,
-        words_fault patterns_app MissingRequiredArgument (LacksRun (matches_of patterns_app asking)) asking kind (words.Words text) hidden fails why,
+        words_fault patterns_app MissingRequiredArgument (LacksRun (matches_of patterns_app asking)) asking kind
+            (words.Words text) hidden fails why,
       ),
     )
     met_words words.Memory why kept = inr (kept (λ e. cc), inl (words.Memory, refl, tt))

@@ -3,7 +3,9 @@ ghost use Rattle.std.specs.Str.Parse.{IsNumeral, digits_value, without_leading_p
 ghost use Rattle.clap.specs.Values.{kind_of};
 ghost use Rattle.clap.specs.Words.{Text, app_of, found_of, matches_of, one_text, rows_of, rule_of};
 ghost use Rattle.clap.specs.declared.error.kind.ErrorKind.TheVariants.{MissingRequiredArgument};
-ghost use Rattle.pool_pattern_cli.specs.Command.{AsksFor, IsListed, IsMadeBy, IsName, IsNumberOf, IsUnlisted, IsWithOptions, LackWords, LacksNumber, LacksRun, grid_app, iterations_rule, list_rule, number_rule, option_rule, pattern_rule, patterns_app};
+ghost use Rattle.pool_pattern_cli.specs.Command.{AsksFor, IsListed, IsMadeBy, IsName, IsNumberOf, IsUnlisted, IsWithOptions};
+ghost use Rattle.pool_pattern_cli.specs.Command.{LackWords, LacksNumber, LacksRun};
+ghost use Rattle.pool_pattern_cli.specs.Command.{grid_app, iterations_rule, list_rule, number_rule, option_rule, pattern_rule, patterns_app};
 ghost use Rattle.pool_pattern_cli.specs.Names.{name_of};
 ghost use Rattle.pool_patterns.specs.declared.pattern.Pattern.{Pattern};
 ghost use Rattle.tp_shell.specs.Command.{FailsAs};
@@ -113,7 +115,8 @@ fn pattern_in(matches: &ArgMatches, name: &str) -> Option<Pattern>
 
 /// How many columns or rows are asked for.
 fn number_of(matches: &ArgMatches, id: &str) -> Option<u32>
-    ensures { MatchOption result (LacksNumber 32 id.now (rows_of (found_of matches.now))) (IsNumberOf id.now (rows_of (found_of matches.now))) }
+    ensures { MatchOption result (LacksNumber 32 id.now (rows_of (found_of matches.now)))
+        (IsNumberOf id.now (rows_of (found_of matches.now))) }
 {
     matches.get_one::<u32>(id)
 }

@@ -30,10 +30,10 @@ pub returns-in-Run-clause-why : goal.returns-in-Run-clause-why
 returns-in-Run-clause-why g c =
     IfErr-weaker c.answer_run.result _ _ (λ fault why. elim why [
       | inl unwritten ↦
-        inl (
-          unwritten.0,
-          (unwritten.1.0, subst (λ asked. IsPrintOf asked unwritten.1.0) (sym c.in-Run.is) unwritten.1.1),
-        )
+          inl (
+            unwritten.0,
+            (unwritten.1.0, subst (λ asked. IsPrintOf asked unwritten.1.0) (sym c.in-Run.is) unwritten.1.1),
+          )
       | inr nothing ↦ inr (nothing.0, subst (λ asked. IsUnmade asked fault) (sym c.in-Run.is) nothing.1)
     ]) c.answer_run.ensures.why
 

@@ -19,5 +19,5 @@ pub returns-else-is_listed : goal.returns-else-is_listed
 returns-else-is_listed c =
     let rows = rows_of (found_of c.args.matches.now) in
     let unlisted : IsUnlisted rows =
-        subst (λ (yes : Bool). MatchBool yes (IsListed rows) (IsUnlisted rows)) c.if-is_listed.false c.is_listed.ensures in
+    subst (λ (yes : Bool). MatchBool yes (IsListed rows) (IsUnlisted rows)) c.if-is_listed.false c.is_listed.ensures in
     asked_unlisted c.run_of.result rows unlisted c.run_of.ensures

@@ -6,7 +6,8 @@ use Rattle.pool_pattern_cli.specs.Names.{name_of, with_numbers}
 use Rattle.pool_patterns.specs.declared.pattern.Pattern.{Pattern}
 use Rattle.pool_pattern_cli.proofs.request.pattern_in.Goals as goal
 
-with_options : (found : Option Pattern) (name : Text) (rows : List Row) (radius seed : ℕ) → IsOption (codes "radius") rows radius → IsOption (codes "seed") rows seed
+with_options : (found : Option Pattern) (name : Text) (rows : List Row) (radius seed : ℕ)
+    → IsOption (codes "radius") rows radius → IsOption (codes "seed") rows seed
     → MatchOption found ((p : Pattern) → name ≢ name_of p) (λ p. (name ≡ name_of p) × (p ≡ with_numbers radius seed p))
     → MatchOption found ((p : Pattern) → name ≢ name_of p) (λ p. (name ≡ name_of p) × IsWithOptions rows p)
 with_options None name rows radius seed r s h = h

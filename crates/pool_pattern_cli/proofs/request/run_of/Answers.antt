@@ -19,16 +19,16 @@ returns-in-Some c = λ unlisted.
 
 pub returns-in-None : goal.returns-in-None
 returns-in-None c = λ unlisted. (
-      unlisted,
-      (
-        (
-          c.in_ok-width.width,
-          c.in_ok-steps.steps,
-          c.in_ok-iterations.iterations,
-          (c.in_ok-width.ensures, c.in_ok-steps.ensures, c.in_ok-iterations.ensures),
-        ),
-        c.in_ok-name.name.now,
-        c.in_ok-name.ensures,
-        c.in-None.ensures,
-      ),
-    )
+  unlisted,
+  (
+    (
+      c.in_ok-width.width,
+      c.in_ok-steps.steps,
+      c.in_ok-iterations.iterations,
+      (c.in_ok-width.ensures, c.in_ok-steps.ensures, c.in_ok-iterations.ensures),
+    ),
+    c.in_ok-name.name.now,
+    c.in_ok-name.ensures,
+    c.in-None.ensures,
+  ),
+)

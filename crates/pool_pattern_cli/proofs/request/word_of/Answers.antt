@@ -1,4 +1,4 @@
-use Rattle.std.proofs.Common.{◌≡◌, ◌∙◌, List, MatchOption, None, Option, Some, codes, option_map, sym, ℕ}
+use Rattle.std.proofs.Common.{◌≡◌, ◌∙◌, List, MatchOption, None, Option, Some, codes, option_map, sym}
 use Rattle.std.specs.Borrow.{Bor}
 use Rattle.clap.proofs.WalkLemmas.{first_value-rows}
 use Rattle.clap.specs.Words.{Row, Text, first_of, found_of, rows_of}
