@@ -1,0 +1,4 @@
+pub mod Names
+pub mod Command
+pub mod Faults
+pub mod Runs
