@@ -73,6 +73,6 @@ fn main() -> Result<(), String> {
     let grid = Grid::of_words(&words)?;
     let threads = option(&words, "--nodes", 1)? * option(&words, "--workers", 1)?;
     let sum = checksum(run(&grid, threads).into_iter());
-    println!("{sum}\ntasks {}\nended", grid.width * grid.steps);
+    println!("checksum {sum}\ntasks {}\nended", grid.width * grid.steps);
     Ok(())
 }

@@ -1,4 +1,4 @@
-//! A graph of tasks: who feeds whom, where a task is at home, and what it makes.
+//! A graph of tasks: who feeds whom, where a task is at home, what it makes, and what is printed.
 
 use std::fmt::Write as _;
 
@@ -19,18 +19,19 @@ pub trait Graph: Copy + Send + Sync {
     /// The node that runs it, of so many.
     fn home(&self, task: u32, nodes: u32) -> u32;
     fn value(&self, task: u32, inputs: &[Value]) -> Value;
-    /// The rows that are printed, from the values of all tasks by number.
-    fn table(&self, values: &[Value]) -> Vec<Vec<i64>>;
+    /// What is printed of the values of all tasks, by number.
+    fn told(&self, values: &[Value]) -> String;
 }
 
-/// The text of a run: the table, how many tasks there were and, where it is known, how many messages.
+/// Rows of numbers as lines.
+pub fn lines_of(rows: impl Iterator<Item = Vec<i64>>) -> String {
+    let line = |row: Vec<i64>| row.iter().map(i64::to_string).collect::<Vec<_>>().join(" ") + "\n";
+    rows.map(line).collect()
+}
+
+/// The text of a run: what is told of its values, how many tasks there were and, where it is known, how many messages.
 pub fn text_of<G: Graph>(graph: &G, values: &[Value], messages: Option<u32>) -> String {
-    let mut text = String::new();
-    for row in graph.table(values) {
-        let numbers: Vec<String> = row.iter().map(i64::to_string).collect();
-        text += &numbers.join(" ");
-        text.push('\n');
-    }
+    let mut text = graph.told(values);
     let _ = writeln!(text, "tasks {}", graph.tasks());
     if let Some(count) = messages {
         let _ = writeln!(text, "messages {count}");

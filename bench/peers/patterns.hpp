@@ -24,7 +24,7 @@ inline uint64_t made(uint64_t iterations, uint32_t column, uint64_t total) {
     return x;
 }
 
-enum class Pattern { trivial, no_comm, stencil, periodic, dom, tree, fft, all_to_all, nearest, spread, random_nearest };
+enum class Pattern { trivial, no_comm, stencil, stencil_periodic, dom, tree, fft, all_to_all, nearest, spread, random_nearest };
 
 // Which columns of a row of this width feed which of the next.
 struct Relation {
@@ -56,7 +56,7 @@ struct Relation {
             case Pattern::trivial: return false;
             case Pattern::no_comm: return from == to;
             case Pattern::stencil: return apart <= 1;
-            case Pattern::periodic: return apart <= 1 || apart + 1 == width;
+            case Pattern::stencil_periodic: return apart <= 1 || apart + 1 == width;
             case Pattern::dom: return from == to || from + 1 == to;
             case Pattern::tree: return from == to / 2;
             case Pattern::fft: return from == to || apart == uint32_t(1) << (step - 1) % doublings();
@@ -122,13 +122,13 @@ struct Grid {
     void print() const {
         uint64_t sum = 0;
         for (uint32_t task = tasks() - relation.width; task < tasks(); task++) sum = (sum + values[task]) % LIMIT;
-        std::printf("%llu\ntasks %u\nended\n", (unsigned long long)sum, tasks());
+        std::printf("checksum %llu\ntasks %u\nended\n", (unsigned long long)sum, tasks());
     }
 };
 
 // The place of a pattern's name among those of the patterns.
 inline Pattern pattern_of(const char *word) {
-    const char *names[] = {"trivial", "no_comm", "stencil", "periodic", "dom", "tree", "fft", "all_to_all", "nearest",
+    const char *names[] = {"trivial", "no_comm", "stencil", "stencil_periodic", "dom", "tree", "fft", "all_to_all", "nearest",
                            "spread", "random_nearest"};
     for (int k = 0; k < 11; k++)
         if (std::strcmp(word, names[k]) == 0) return Pattern(k);
@@ -143,6 +143,6 @@ inline Grid grid_of(int count, char **words) {
         std::fprintf(stderr, "wanted are PATTERN WIDTH STEPS ITERATIONS, one column and one row at least\n");
         std::exit(1);
     }
-    const uint32_t radius = option(count, words, "--radius", 2), seed = option(count, words, "--seed", 0);
+    const uint32_t radius = option(count, words, "--radius", 1), seed = option(count, words, "--seed", 0);
     return Grid({pattern_of(words[1]), width, radius, seed}, steps, std::strtoull(words[4], nullptr, 10));
 }

@@ -26,7 +26,7 @@ enum Pattern {
     Trivial,
     NoComm,
     Stencil,
-    Periodic,
+    StencilPeriodic,
     Dom,
     Tree,
     Fft,
@@ -62,7 +62,7 @@ impl Pattern {
             Pattern::Trivial => false,
             Pattern::NoComm => from == to,
             Pattern::Stencil => apart <= 1,
-            Pattern::Periodic => apart <= 1 || apart + 1 == width,
+            Pattern::StencilPeriodic => apart <= 1 || apart + 1 == width,
             Pattern::Dom => from == to || from + 1 == to,
             Pattern::Tree => from == to / 2,
             Pattern::Fft => from == to || apart == 1 << ((step - 1) % doublings(width)),
@@ -85,12 +85,12 @@ impl Pattern {
 
     /// The pattern that the words name: PATTERN [--radius K] [--seed S].
     fn of_words(words: &[String]) -> Result<Pattern, String> {
-        let (radius, seed) = (option(words, "--radius", 2)?, option(words, "--seed", 0)?);
+        let (radius, seed) = (option(words, "--radius", 1)?, option(words, "--seed", 0)?);
         match words.first().map(String::as_str) {
             Some("trivial") => Ok(Pattern::Trivial),
             Some("no_comm") => Ok(Pattern::NoComm),
             Some("stencil") => Ok(Pattern::Stencil),
-            Some("periodic") => Ok(Pattern::Periodic),
+            Some("stencil_periodic") => Ok(Pattern::StencilPeriodic),
             Some("dom") => Ok(Pattern::Dom),
             Some("tree") => Ok(Pattern::Tree),
             Some("fft") => Ok(Pattern::Fft),

@@ -47,8 +47,8 @@ impl Graph for GridGraph<'_> {
         vec![made(self.0.iterations, task % self.0.width, total) as i64]
     }
 
-    fn table(&self, values: &[Value]) -> Vec<Vec<i64>> {
+    fn told(&self, values: &[Value]) -> String {
         let last = values.iter().skip((self.tasks() - self.0.width) as usize);
-        vec![vec![checksum(last.map(|it| it[0] as u64)) as i64]]
+        format!("checksum {}\n", checksum(last.map(|it| it[0] as u64)))
     }
 }

@@ -2,7 +2,7 @@
 
 LIMIT = 2**31
 NAMES = [
-    "trivial", "no_comm", "stencil", "periodic", "dom", "tree", "fft", "nearest", "spread", "random_nearest",
+    "trivial", "no_comm", "stencil", "stencil_periodic", "dom", "tree", "fft", "nearest", "spread", "random_nearest",
     "all_to_all",
 ]
 QUICK = ["stencil", "spread"]
@@ -43,7 +43,7 @@ def relates(pattern, width, step, from_column, to):
         return pattern == "all_to_all"
     if pattern == "stencil":
         return apart <= 1
-    if pattern == "periodic":
+    if pattern == "stencil_periodic":
         return apart <= 1 or apart + 1 == width
     if pattern == "dom":
         return is_own or from_column + 1 == to
@@ -78,4 +78,4 @@ def answer(pattern, width, steps, iterations):
     row = [0] * width
     for step in range(steps):
         row = next_row(pattern, row, step, iterations)
-    return [f"{it}\n".encode() for it in (sum(row) % LIMIT, f"tasks {width * steps}", "ended")]
+    return [f"{it}\n".encode() for it in (f"checksum {sum(row) % LIMIT}", f"tasks {width * steps}", "ended")]
