@@ -14,14 +14,15 @@
 
 constexpr uint64_t LIMIT = uint64_t(1) << 31;
 
-// One iteration of the kernel: none can begin before the one before it has ended.
+// One iteration of the kernel.
 inline uint64_t stirred(uint64_t x) { return (x * (2 * x + 1) + 1013904223) % LIMIT; }
 
-// What a column makes of the sum of its inputs.
+// What a column makes of the sum of its inputs. The iterations are those of `stirred`, told of y = 2x + 1 mod 2^32: GCC makes
+// nearly as short a chain of these as LLVM does of those.
 inline uint64_t made(uint64_t iterations, uint32_t column, uint64_t total) {
-    uint64_t x = (total + column + 1) % LIMIT;
-    for (uint64_t k = 0; k < iterations; k++) x = stirred(x);
-    return x;
+    uint32_t y = uint32_t(2 * (total + column + 1) + 1);
+    for (uint64_t k = 0; k < iterations; k++) y = y * (y - 1) + 2027808447;
+    return y / 2;
 }
 
 enum class Pattern { trivial, no_comm, stencil, stencil_periodic, dom, tree, fft, all_to_all, nearest, spread, random_nearest };

@@ -3,7 +3,7 @@
 
 const LIMIT: u64 = 1 << 31;
 
-/// One iteration of the kernel: none can begin before the one before it has ended.
+/// One iteration of the kernel.
 fn stirred(x: u64) -> u64 {
     (x * (2 * x + 1) + 1_013_904_223) % LIMIT
 }
