@@ -1,9 +1,11 @@
 //! The tasks of a sample pool one after the other, in one thread: `plain_pools POOL`. No locks, no events, no waves.
 
 #[allow(dead_code)] // tasks have neither home nor class here
+mod graph;
 mod sample_pools;
 
-use sample_pools::{Graph, Pool, Value, text_of};
+use graph::{Graph, Value, text_of};
+use sample_pools::Pool;
 
 fn run<G: Graph>(graph: G) -> String {
     let mut inputs: Vec<Vec<Value>> = (0..graph.tasks()).map(|it| vec![Value::new(); graph.inputs(it).into()]).collect();

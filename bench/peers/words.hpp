@@ -4,11 +4,11 @@
 #include <cstdlib>
 #include <cstring>
 
-// The number behind an option, 1 where it is not there.
-inline int option(int count, char **words, const char *name) {
+// The number behind an option; the other one where it is not there.
+inline int option(int count, char **words, const char *name, int otherwise = 1) {
     for (int k = 1; k + 1 < count; k++)
         if (std::strcmp(words[k], name) == 0) return std::atoi(words[k + 1]);
-    return 1;
+    return otherwise;
 }
 
 // Nodes times workers: these programs know threads alone.

@@ -2,7 +2,7 @@
 
 use crate::Refusal;
 use crate::board::{Board, Control, Event};
-use crate::sample_pools::{Graph, Value};
+use crate::graph::{Graph, Value};
 use crate::store::{Delivery, Store};
 use std::collections::VecDeque;
 use std::sync::atomic::{AtomicBool, AtomicUsize, Ordering};

@@ -1,7 +1,7 @@
 //! The tasks of one node: where each lies, which are ready, and what those that are done made.
 
 use crate::Refusal;
-use crate::sample_pools::Value;
+use crate::graph::Value;
 use std::collections::{HashMap, VecDeque};
 
 const MOST_LIVE: usize = 65_536;

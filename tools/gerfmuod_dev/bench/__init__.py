@@ -2,6 +2,8 @@
 
     sim, audit   `tp sim` on scripts and `tp audit` on traces, beside a core by hand in Rust
     run          `tp run` at nodes by workers, beside a runtime by hand in Rust, oneTBB's flow graph, OpenMP's tasks
+    patterns     METG(50%) of `patterns`, the smallest task at which half of the machine is used, beside those runtimes
+                 and threads with a barrier
     rod          `heat` on a rod of cells, beside a plain loop, threads with a barrier, oneTBB and OpenMP
     body         how much faster four workers are than one, by the length of a task's body
     product      `product` on two matrices, beside three plain loops

@@ -1,12 +1,15 @@
 """What is measured: for each measurement its cases, and the programs that are compared on them."""
 from ..repository import TOP
-from . import inputs
+from . import inputs, patterns
 from .measuring import Candidate, Case, by_workers, measure
 
-TP, HEAT, PRODUCT = (f"{TOP}/bin/{name}" for name in ("tp", "heat", "product"))
+TP, HEAT, PRODUCT, PATTERNS = (f"{TOP}/bin/{name}" for name in ("tp", "heat", "product", "patterns"))
 ARCHIVE = f"{TOP}/lib/libgerfmuod.a"
 # what each measurement measures
-PROGRAMS = {"sim": TP, "audit": TP, "run": TP, "rod": HEAT, "body": HEAT, "product": PRODUCT, "library": ARCHIVE}
+PROGRAMS = {
+    "sim": TP, "audit": TP, "run": TP, "patterns": PATTERNS, "rod": HEAT, "body": HEAT, "product": PRODUCT,
+    "library": ARCHIVE,
+}
 
 TASKS = {"product:64:4:0": 4_096, "wavefront:64:64:0": 4_096, "reduce:1024:0": 2_047, "product:64:1:0": 262_144}
 PLACES = [(1, 1), (1, 2), (1, 4), (2, 1), (2, 2), (4, 1), (4, 4), (8, 8)]
@@ -16,6 +19,16 @@ RODS = [(640_000, 10_000, 100), (640_000, 1_000, 100), (64_000, 100, 100)]
 BODY_CELLS, BODY_STEPS = 120_000, 100
 BODIES = [100, 200, 500, 800, 1_000, 1_500, 2_000, 4_000, 10_000]
 LIBRARY_STEPS = 999_999
+GRID_WIDTH, GRID_STEPS = 16, 100
+GRID_TASKS = GRID_WIDTH * GRID_STEPS
+GRID_PLACES = [(1, 1), (1, 4), (2, 2), (4, 1)]
+# iterations of the kernel in a task, and which of these sizes one worker has, and four workers
+ITERATIONS = [50 * 2**it for it in range(11)]
+ALONE, TOGETHER = ITERATIONS[:8], ITERATIONS[3:]
+# how many the one task has by which an iteration is timed
+KERNEL_ITERATIONS = 20_000_000
+# up to how many the answer is worked out in Python too
+FEW_ITERATIONS = 400
 
 
 def there(*candidates):
@@ -80,6 +93,46 @@ def run(bench):
             yield from measure(bench, Case("run", pool, "task", tasks), candidates)
 
 
+def grid_programs(bench, words, places):
+    peers, shared = bench.peers, [it for it in places if it[0] == 1]
+    return there(
+        *by_workers("patterns", [PATTERNS, *words], places),
+        *by_workers("runtime by hand", [peers.rust("runtime", "runtime/main.rs"), *words], places),
+        *by_workers("oneTBB flow graph", [peers.flow_graph("flow_graph_patterns"), *words], shared),
+        *by_workers("OpenMP tasks", [peers.depend("depend_patterns"), *words], shared),
+        *by_workers("threads and a barrier", [peers.rust("barrier_patterns", "barrier_patterns.rs"), *words], shared),
+    )
+
+
+def kernel(bench):
+    """A task of no iterations and one of many: between them lies what an iteration takes."""
+    for iterations in (0, KERNEL_ITERATIONS):
+        candidates = grid_programs(bench, ["no_comm", "1", "1", str(iterations)], GRID_PLACES[:1])
+        yield from measure(bench, Case("patterns", f"one task, {iterations:,} iterations", "task", 1), candidates)
+
+
+def grid(bench, pattern, steps, iterations, places):
+    size = f"{iterations:,} iterations" if steps > 1 else "one step"
+    few = iterations <= FEW_ITERATIONS
+    answer = patterns.answer(pattern, GRID_WIDTH, steps, iterations) if few else None
+    case = Case("patterns", f"{pattern}, {size}", "task", GRID_WIDTH * steps, answer=answer)
+    words = [pattern, str(GRID_WIDTH), str(steps), str(iterations), *patterns.OPTIONS.get(pattern, [])]
+    return measure(bench, case, grid_programs(bench, words, places))
+
+
+def grids(bench):
+    """`patterns` on grids of Task Bench, with tasks of many sizes, and beginning and ending alone."""
+    bench = bench._replace(counts=False)
+    names = [it for it in (patterns.QUICK if bench.is_quick else patterns.NAMES) if chosen(bench, it)]
+    if names:
+        yield from kernel(bench)
+    for name in names:
+        yield from grid(bench, name, 1, 0, GRID_PLACES)
+        for iterations in ITERATIONS[::2] if bench.is_quick else ITERATIONS:
+            places = [it for it in GRID_PLACES if iterations in (ALONE if it == (1, 1) else TOGETHER)]
+            yield from grid(bench, name, GRID_STEPS, iterations, places)
+
+
 def rod_peers(bench, words, places):
     return [
         *by_workers("oneTBB flow graph", [bench.peers.flow_graph("flow_graph_rod"), *words], places),
@@ -141,4 +194,6 @@ def library(bench):
             yield from measure(bench, Case("library", f"{steps:,} steps of {kind}", "step", steps), candidates)
 
 
-MEASUREMENTS = dict(sim=sim, audit=audit, run=run, rod=rod, body=body, product=product, library=library)
+MEASUREMENTS = dict(
+    sim=sim, audit=audit, run=run, patterns=grids, rod=rod, body=body, product=product, library=library
+)

@@ -11,6 +11,8 @@ BLOCK = re.compile(r"(<!-- bench (\w+) -->\n).*?(<!-- end of bench -->\n)", re.S
 PLOT_WORDS = {
     "time-by-nodes": "Microseconds a task against nodes and workers, for three pools and four programs",
     "instructions-a-task": "Instructions a task of each program at one node with one worker",
+    "efficiency-by-task": "Which part of four workers' time is kernels, against the size of a task, for two patterns",
+    "metg-by-pattern": "METG(50%) of each pattern, for five programs at one node with four workers",
     "speed-up-by-body": "How many times as fast four workers are as one, against the length of a body",
 }
 

@@ -3,7 +3,7 @@ import os
 from xml.dom import minidom
 
 from ..repository import TOP, text_of
-from . import charts
+from . import charts, metg
 from .cases import PLACES, TASKS
 from .tables import BODY_PLACES, bodies, rest
 from .rows import kept
@@ -11,6 +11,8 @@ from .rows import kept
 FOLDER = f"{TOP}/docs/figures"
 RUNTIMES = ["tp", "runtime by hand", "oneTBB flow graph", "OpenMP tasks"]
 POOLS = [it for it in TASKS if it != "product:64:1:0"]
+GRID_PROGRAMS = ["patterns", "runtime by hand", "oneTBB flow graph", "OpenMP tasks", "threads and a barrier"]
+CURVES = ["stencil", "spread"]
 
 
 def time_by_nodes(rows):
@@ -42,6 +44,33 @@ def instructions_a_task(rows):
     return charts.picture([charts.bars_panel(charts.Panel(0, 640), "", groups, "instructions a task")], names, 30)
 
 
+def grid_programs(rows):
+    return [name for name in GRID_PROGRAMS if any(it.program == name for it in rows)]
+
+
+def efficiency_by_task(rows):
+    """Which part of four workers' time is kernels, against the size of a task, a panel for each of two patterns."""
+    programs, panels = grid_programs(rows), []
+    for pattern in [it for it in CURVES if it in metg.patterns_of(rows)]:
+        curves = [metg.curve(rows, pattern, name, 1, 4) for name in programs]
+        lines = [[(it.task, it.efficiency) for it in points if it.task > 0] for points in curves]
+        panel, names = charts.Panel(len(panels), 380), ("kernels by time of four workers", "microseconds a task")
+        panels.append(charts.lines_panel(panel, pattern, lines, *names))
+    return charts.picture(panels, [f"{name}, 1×4" for name in programs]) if panels else ""
+
+
+def metg_by_pattern(rows):
+    """METG(50%) of each program at one node with four workers, a group of bars for each pattern."""
+    programs, groups = grid_programs(rows), []
+    for pattern in metg.patterns_of(rows):
+        found = [metg.metg(metg.curve(rows, pattern, name, 1, 4)) for name in programs]
+        groups.append((pattern, [it.microseconds if it and not it.bound else None for it in found]))
+    if not any(it is not None for _, values in groups for it in values):
+        return ""
+    panel = charts.bars_panel(charts.Panel(0, 960), "", groups, "METG(50%), microseconds")
+    return charts.picture([panel], [f"{name}, 1×4" for name in programs], 30)
+
+
 def speed_up_by_body(rows):
     """How many times as fast as one worker, against the length of a body."""
     names = ["heat, 1×4", "heat, 2×2", "heat, 4×1", "oneTBB, 4 threads", "OpenMP, 4 threads"]
@@ -60,6 +89,8 @@ def speed_up_by_body(rows):
 PLOTS = {
     "time-by-nodes": ("run", time_by_nodes),
     "instructions-a-task": ("run", instructions_a_task),
+    "efficiency-by-task": ("patterns", efficiency_by_task),
+    "metg-by-pattern": ("patterns", metg_by_pattern),
     "speed-up-by-body": ("body", speed_up_by_body),
 }
 

@@ -13,14 +13,22 @@ from .. import running
 from .rows import Row
 
 
+# the measurements whose programs may tell how many messages they sent
+WITH_MESSAGES = ["run", "patterns"]
+
+
 class Case(NamedTuple):
-    """What all programs of a comparison have to do: so many units of work, on an input."""
+    """What all programs of a comparison have to do: so many units of work, on an input.
+
+    What they have to answer, its messages apart, is there where it was worked out apart from them.
+    """
 
     measurement: str
     name: str
     unit: str
     units: int
     stdin: str = os.devnull
+    answer: list = None
 
 
 class Candidate(NamedTuple):
@@ -76,17 +84,20 @@ def answer_of(candidate, case):
     if ran.status:
         raise SystemExit(f"{' '.join(candidate.words)}: {ran.told()}")
     lines = ran.out.splitlines(keepends=True)
-    messages = [it for it in lines if it.startswith(b"messages ")] if case.measurement == "run" else []
+    messages = [it for it in lines if it.startswith(b"messages ")] if case.measurement in WITH_MESSAGES else []
     return [it for it in lines if it not in messages], messages
 
 
 def compare(case, candidates):
-    """Ends with status 1 where one of the programs answers otherwise than the first."""
-    wanted, sent = answer_of(candidates[0], case)
-    for candidate in candidates[1:]:
+    """Ends with status 1 where one of the programs answers otherwise than the case wants, or than the first.
+
+    The first at the same number of nodes that tells its messages says how many there are.
+    """
+    wanted, sent = case.answer, {}
+    for candidate in candidates:
         answer, messages = answer_of(candidate, case)
-        are_told = messages and sent and candidate.nodes == candidates[0].nodes
-        if answer != wanted or are_told and messages != sent:
+        wanted = wanted or answer
+        if answer != wanted or messages and messages != sent.setdefault(candidate.nodes, messages):
             raise SystemExit(f"{case.measurement}, {case.name}: answered otherwise: {' '.join(candidate.words)}")
 
 

@@ -1,7 +1,8 @@
 """The tables that are printed, and that stand in docs/PERFORMANCE.md between marks."""
 from typing import NamedTuple
 
-from .cases import LIBRARY_STEPS, MEASUREMENTS, PLACES, PRODUCT_PLACES, ROD_PLACES, TASKS
+from . import metg
+from .cases import GRID_PLACES, LIBRARY_STEPS, MEASUREMENTS, PLACES, PRODUCT_PLACES, ROD_PLACES, TASKS
 from .rows import Origin
 
 
@@ -103,6 +104,34 @@ def pools(rows):
         parts += [f"Processor time, likewise{beside}:", by_places(mine, ratio_of("processor_milliseconds"))]
         parts += [f"Context switches a task, of tp and of the runtime by hand{beside}:", by_places(mine, switches)]
     return "\n\n".join(parts)
+
+
+# ---- patterns
+
+
+def iterations(rows):
+    """What an iteration of the kernel takes in each program."""
+    lines = [[program, cell(it)] for program, it in metg.kernels(rows).items()]
+    return table(["Program", "nanoseconds an iteration"], lines)
+
+
+def smallest_tasks(rows, places):
+    """A line for each pattern, with METG(50%) of each program at those places at which it was measured."""
+    there = {(it.program, it.nodes, it.workers) for it in rows if metg.pattern_of(it.case)}
+    programs = list(dict.fromkeys(it.program for it in rows))
+    columns = [(name, *place) for name in programs for place in places if (name, *place) in there]
+    lines = []
+    for pattern in metg.patterns_of(rows):
+        found = [metg.metg(metg.curve(rows, pattern, *column)) for column in columns]
+        lines.append([pattern, *("" if it is None else str(it) for it in found)])
+    heads = [f"{name}, {nodes} by {workers}" if len(places) > 1 else name for name, nodes, workers in columns]
+    return table(["Pattern", *heads], lines)
+
+
+def grids(rows):
+    parts = ["One worker, METG(50%) in microseconds:", smallest_tasks(rows, GRID_PLACES[:1])]
+    parts += ["Four workers, likewise:", smallest_tasks(rows, GRID_PLACES[1:])]
+    return "\n\n".join([*parts, "One worker at one task of many iterations:", iterations(rows)])
 
 
 # ---- rods and products
@@ -209,7 +238,9 @@ def library(rows):
     return table(["Steps of", "Program", "nanoseconds a step", "instructions a step", "bytes a step"], lines)
 
 
-TABLES = dict(sim=texts, audit=texts, run=pools, rod=rods, body=body, product=products, library=library)
+TABLES = dict(
+    sim=texts, audit=texts, run=pools, patterns=grids, rod=rods, body=body, product=products, library=library
+)
 assert TABLES.keys() == MEASUREMENTS.keys()
 
 
