@@ -49,7 +49,7 @@ IsLawful asked = Unit {0}
 -- the text of an outcome of the run
 abbrev pub IsRunText : Request → List ℕ → Type 0
 IsRunText q text = IsGrid q
-    × (o : Outcome) × IsOutcome q.config.nodes (graph_of q) o × (text ≡ lines_text (sum_of q) o.tasks o.messages)
+    × (o : Outcome) × IsOutcome q.config.nodes q.config.workers (graph_of q) o × (text ≡ lines_text (sum_of q) o.tasks o.messages)
 
 -- the text of what is asked for
 abbrev pub IsPrintOf : Asked → List ℕ → Type 0
@@ -61,7 +61,7 @@ IsPrintOf what.NoPattern text = ⊥
 -- this is its own fault, or there is no memory for the text.
 abbrev pub IsWithoutText : Request → Fault → Type 0
 IsWithoutText q (faults.Table fault) = IsTableFault (relates q.pattern q.width) q.width q.steps fault
-IsWithoutText q (faults.Run fault) = IsGrid q × IsPatternFault q.config.nodes (graph_of q) fault
+IsWithoutText q (faults.Run fault) = IsGrid q × IsPatternFault q.config.nodes q.config.workers (graph_of q) fault
 IsWithoutText q faults.Memory = IsGrid q
 IsWithoutText q fault = ⊥
 

@@ -13,7 +13,7 @@ returns-in-Err-run_pattern g c =
     let width : table.width ≡ q.width = search rules in
     let steps : table.steps ≡ q.steps = search rules in (
       same_grid q _ _ _ _ pattern width steps c.new-grid.ensures.iterations table.some_columns table.some_steps table.narrow,
-      subst (λ graph. IsPatternFault q.config.nodes graph c.in-Err-run_pattern.fault)
+      subst (λ graph. IsPatternFault q.config.nodes q.config.workers graph c.in-Err-run_pattern.fault)
           (same_graph q _ _ _ _ pattern width steps c.new-grid.ensures.iterations) c.in-Err-run_pattern.ensures.refused,
     )
 
@@ -37,7 +37,7 @@ returns-in-Ok-lines_of g c =
     let steps : table.steps ≡ q.steps = search rules in (
       same_grid q _ _ _ _ pattern width steps c.new-grid.ensures.iterations table.some_columns table.some_steps table.narrow,
       run.outcome,
-      subst (λ graph. IsOutcome q.config.nodes graph run.outcome)
+      subst (λ graph. IsOutcome q.config.nodes q.config.workers graph run.outcome)
           (same_graph q _ _ _ _ pattern width steps c.new-grid.ensures.iterations) made.outcome,
       c.in-Ok-lines_of.ensures
           ∙ ap (λ n. lines_text n run.outcome.tasks run.outcome.messages)
