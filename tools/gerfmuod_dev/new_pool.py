@@ -3,8 +3,8 @@
 FOLDER gets the crates of this repository that such a pool stands on, without their wrong bodies, and two more: NAME,
 the graph, and NAME_run, a program that runs it by threads and prints what came. With `--like chain` these are copies of
 pool_chain and chain, a chain of tasks that add; with `--like rod` of pool_rod and of a program that runs it, cells of
-its caller in blocks. Both bear the new names, and are proved as they stand. A NAME is lowercase letters, digits and _,
-and no crate of this repository or of the toolchain has it. docs/WRITING-A-POOL.md tells what comes next.
+its caller in blocks. Both bear the new names. A NAME is lowercase letters, digits and _, and no crate of this
+repository or of the toolchain has it, nor its NAME_run. docs/WRITING-A-POOL.md tells what comes next.
 
 Prints what to type next. The status is 1 where nothing was made: the folder exists, or the name can't be taken.
 """
