@@ -6,7 +6,8 @@ pool_chain and chain, a chain of tasks that add; with `--like rod` of pool_rod a
 its caller in blocks. Both bear the new names. A NAME is lowercase letters, digits and _, and no crate of this
 repository or of the toolchain has it, nor its NAME_run. docs/WRITING-A-POOL.md tells what comes next.
 
-Prints what to type next. The status is 1 where nothing was made: the folder exists, or the name can't be taken.
+Prints what to type next. The status is 1 where nothing was made: the folder has something in it, or the name can't be
+taken.
 """
 import os
 import re
@@ -41,12 +42,17 @@ def lines_of_crates():
     return {row[1]: row[0] for row in rows if row}
 
 
+def is_empty(folder):
+    """Whether it is a folder with nothing in it."""
+    return os.path.isdir(folder) and not os.listdir(folder)
+
+
 def fault_of(folder, name):
     """Why no such pool can be made; nothing where it can."""
     if not shutil.which("rt"):
         return "rt is not on the path"
-    if os.path.lexists(folder):
-        return f"{folder} is there already"
+    if os.path.lexists(folder) and not is_empty(folder):
+        return f"{folder} is there already, and is no empty folder"
     if not re.fullmatch(r"[a-z][a-z0-9_]*", name) or name in KEYWORDS:
         return f"{name} is no name of a crate: lowercase letters, digits and _, a letter first, no word of the language"
     for taken, owner in (lines_of_crates(), "this repository"), (libraries(), "the toolchain"):
@@ -100,7 +106,7 @@ def make(folder, name, like):
 
 
 def arguments(parser):
-    parser.add_argument("folder", metavar="FOLDER", help="the folder to make, which is not there yet")
+    parser.add_argument("folder", metavar="FOLDER", help="the folder to make; it is not there yet, or empty")
     parser.add_argument("name", metavar="NAME", help="the name of the new graph's crate")
     told = "what to begin from; chain where nothing is said"
     parser.add_argument("--like", choices=sorted(KINDS), default="chain", help=told)
@@ -117,4 +123,5 @@ def run(words):
     print(f"Made {folder}: the crates {words.name} and {words.name}_run, and {along} below them.")
     print("To run it, unproved:")
     print(f"  cd {folder}/crates/{words.name}_run && rt try")
+    print(f"What comes next: {os.path.abspath('docs/WRITING-A-POOL.md')}, from section 3 on.")
     return 0
