@@ -28,6 +28,8 @@ KEYWORDS = set(
     " trait true try type typeof unsafe unsized use virtual where while yield".split()
 )
 NOT_COPIED = shutil.ignore_patterns("out", "must-fail")
+# the end of the name of a file that is none of the repository's own code until it is copied
+TEMPLATE = ".text"
 
 
 def libraries():
@@ -72,6 +74,9 @@ def renamed(text, names):
 def copy(source, target, names):
     """Copies a crate's folder, with other names in each of its files."""
     shutil.copytree(source, target, ignore=NOT_COPIED)
+    for path in repository.files_in(target):
+        if path.endswith(TEMPLATE):
+            os.rename(path, path[: -len(TEMPLATE)])
     for path in repository.files_in(target):
         told = text_of(path)
         if told != renamed(told, names):
