@@ -1,4 +1,4 @@
-# make          proves all that the programs stand on, and builds them: bin/tp, bin/heat and bin/product (25 minutes on four cores the first time)
+# make          proves all that the programs stand on, and builds them: bin/tp, bin/heat, bin/product and bin/relax (25 minutes on four cores the first time)
 # make demo     two runs of the program, unproved (a minute)
 # make test     every test and every program, unproved (some minutes)
 # make gate     the gate: every proof from nothing, the wrong bodies, each test, each program (see docs/GATE.md)
@@ -60,6 +60,7 @@ install: bin/tp lib/libgerfmuod.a
 	install -D -m 755 bin/tp $(DESTDIR)$(PREFIX)/bin/tp
 	install -D -m 755 bin/heat $(DESTDIR)$(PREFIX)/bin/heat
 	install -D -m 755 bin/product $(DESTDIR)$(PREFIX)/bin/product
+	install -D -m 755 bin/relax $(DESTDIR)$(PREFIX)/bin/relax
 	install -D -m 644 lib/libgerfmuod.a $(DESTDIR)$(PREFIX)/lib/libgerfmuod.a
 	install -D -m 644 capi/gerfmuod.h $(DESTDIR)$(PREFIX)/include/gerfmuod.h
 	install -d $(DESTDIR)$(PREFIX)/lib/pkgconfig

@@ -1,4 +1,4 @@
-"""Proves all that the programs stand on, and builds them: bin/tp, bin/heat and bin/product.
+"""Proves all that the programs stand on, and builds them: bin/tp, bin/heat, bin/product and bin/relax.
 
 Crates are proved beside each other, in as many copies of the repository as there are processors: a command of the
 prover locks all crates below its own. The library that is proved in one copy is given to the others, with the stamp by
@@ -15,7 +15,7 @@ from concurrent.futures import FIRST_COMPLETED, ThreadPoolExecutor, wait
 from . import repository
 from .rooms import rooms
 
-PROGRAMS = ["tp", "heat", "product"]
+PROGRAMS = ["tp", "heat", "product", "relax"]
 # the crates that are built for programs in other languages, into lib/
 LIBRARIES = ["gerfmuod"]
 # a further job of a check loads all libraries anew, which fewer lines do not repay
@@ -118,8 +118,8 @@ def run(words):
     every = repository.crates(PROGRAMS)
     lanes = repository.lanes(repository.MEMORY_OF_A_CHECK)
     print(
-        f"Proves {len(every)} crates on {lanes} processors, and builds bin/tp, bin/heat and bin/product: "
-        "on four 25 minutes the first time, and later what changed.",
+        f"Proves {len(every)} crates on {lanes} processors, and builds bin/tp, bin/heat, bin/product and "
+        "bin/relax: on four 25 minutes the first time, and later what changed.",
         flush=True,
     )
     with rooms() as (_, copies):

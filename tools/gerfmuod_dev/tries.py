@@ -1,7 +1,7 @@
 """Runs every test and every program unproved.
 
 They are runs of `rt try`; what a program writes is compared with its stored answer. It proves nothing: `make gate`
-does. Prints a line for the tests of a crate, one for a program, and one for the exit statuses of the program `tp`;
+does. Prints a line for the tests of a crate, one for a program, and one for the exit statuses of `tp` and of `relax`;
 where something failed, what was said too. The last line is `N passed, M failed`, each test and each program counted;
 the status is 1 where one failed.
 """
@@ -14,8 +14,8 @@ from concurrent.futures import ThreadPoolExecutor
 from . import repository
 from .repository import text_of
 
-# cases whose names begin with the status that has to come
-STATUSES = "tools/data/statuses"
+# for a program cases whose names begin with the status that has to come
+STATUSES = {"tp": "tools/data/statuses", "relax": "tools/data/relax-statuses"}
 
 
 def has_tests(crate):
@@ -63,9 +63,10 @@ def try_program(crate):
 
 
 def try_statuses(crate):
-    """Runs the program on each case of the exit statuses."""
-    said, _ = tried(crate, "--seconds", "900", "--cases", f"../../{STATUSES}")
-    names = {it for it in os.listdir(STATUSES) if not it.endswith(".args")}
+    """Runs the program on each of its cases of the exit statuses."""
+    cases = STATUSES[crate]
+    said, _ = tried(crate, "--seconds", "900", "--cases", f"../../{cases}")
+    names = {it for it in os.listdir(cases) if not it.endswith(".args")}
     came = dict(re.findall(r"^case=(\S+) .*?\bstatus=(\d+)", said, re.M))
     well = sum(came.get(it) == it[0] for it in names)
     return f"{crate}: {well} of {len(names)} exit statuses came as they should", well, len(names) - well, said
@@ -77,7 +78,7 @@ def work_of(crates):
             yield try_tests, crate
         if os.path.exists(f"crates/{crate}/src/main.rt"):
             yield try_program, crate
-        if crate == "tp":
+        if crate in STATUSES:
             yield try_statuses, crate
 
 

@@ -10,7 +10,7 @@ none_lacks : {X : Type 0} (r : Option X) (P : Type 0) (Q : X → Type 0) → r �
 none_lacks None P Q is p = p
 none_lacks (Some x) P Q is p = cc
 
-same_text : (t u : Text) → ◌≡◌ {A = Option Text} (Some t) (Some u) → u ≡ t
+pub same_text : (t u : Text) → ◌≡◌ {A = Option Text} (Some t) (Some u) → u ≡ t
 same_text t u e = sym (ap (λ (o : Option Text). unwrap_or o t) e)
 
 -- the number that is read of an argument

@@ -8,6 +8,7 @@ use Rattle.pool_cli.specs.Faults.{status_of}
 use Rattle.pool_cli.specs.Programs.{About, CouldNotWrite, HasNothing}
 use Rattle.pool_cli.specs.declared.fault.Fault.{Fault}
 use Rattle.pool_cli.specs.declared.fault.Fault.TheVariants as faults
+use Rattle.pool_grid_rows.specs.declared.fault.GridFault.TheVariants as grids
 use Rattle.pool_rows.specs.declared.fault.RowFault.TheVariants as rows
 use Rattle.tp_shell.proofs.Asked.{shown_asked, words_fault}
 use Rattle.tp_shell.specs.Command.{AsksToBeShown, FailsAs, IsMetBy, IsToBeShown}
@@ -60,10 +61,16 @@ faulty (faults.Lines (lines.Line k)) = λ e. cc
 faulty (faults.Lines lines.Memory) = λ e. cc
 faulty (faults.Rows (rows.Line k)) = λ e. cc
 faulty (faults.Rows rows.Memory) = λ e. cc
+faulty (faults.Grid grids.Empty) = λ e. cc
+faulty (faults.Grid (grids.NoRow k)) = λ e. cc
+faulty (faults.Grid (grids.Uneven count)) = λ e. cc
+faulty (faults.Grid grids.Memory) = λ e. cc
 faulty faults.Empty = λ e. cc
 faulty faults.TooMany = λ e. cc
+faulty faults.LargeBlocks = λ e. cc
 faulty (faults.Tiles fault) = λ e. cc
 faulty (faults.Rod fault) = λ e. cc
 faulty (faults.Product fault) = λ e. cc
+faulty (faults.Relaxed fault) = λ e. cc
 faulty faults.Memory = λ e. cc
 faulty faults.Write = λ e. cc

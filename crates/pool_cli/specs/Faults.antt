@@ -6,6 +6,8 @@ use Rattle.tp_base.specs.declared.refusal.Refusal.{Refusal}
 use Rattle.tp_base.specs.declared.refusal.Refusal.TheVariants.{BodyFailed, NoMemory}
 use Rattle.pool_cells.specs.declared.fault.LineFault.{LineFault}
 use Rattle.pool_cells.specs.declared.fault.LineFault.TheVariants as lines
+use Rattle.pool_grid_rows.specs.declared.fault.GridFault.{GridFault}
+use Rattle.pool_grid_rows.specs.declared.fault.GridFault.TheVariants as grids
 use Rattle.pool_rows.specs.declared.fault.RowFault.{RowFault}
 use Rattle.pool_rows.specs.declared.fault.RowFault.TheVariants as rows
 use Rattle.pool_runs.specs.Faults.{refusal_of}
@@ -31,11 +33,17 @@ status_of (faults.Lines (lines.Line k)) = statuses.Refused
 status_of (faults.Lines lines.Memory) = statuses.Failed
 status_of (faults.Rows (rows.Line k)) = statuses.Refused
 status_of (faults.Rows rows.Memory) = statuses.Failed
+status_of (faults.Grid grids.Empty) = statuses.Refused
+status_of (faults.Grid (grids.NoRow k)) = statuses.Refused
+status_of (faults.Grid (grids.Uneven count)) = statuses.Refused
+status_of (faults.Grid grids.Memory) = statuses.Failed
 status_of faults.Empty = statuses.Refused
 status_of faults.TooMany = statuses.Refused
+status_of faults.LargeBlocks = statuses.Refused
 status_of (faults.Tiles fault) = statuses.Refused
 status_of (faults.Rod fault) = statuses.Failed
 status_of (faults.Product fault) = statuses.Failed
+status_of (faults.Relaxed fault) = statuses.Failed
 status_of faults.Memory = statuses.Failed
 status_of faults.Write = statuses.Fault
 
@@ -69,6 +77,14 @@ abbrev pub row_complaint : RowFault → List ℕ
 row_complaint (rows.Line k) = bad_line k
 row_complaint rows.Memory = no_memory
 
+-- of a text that is no grid
+abbrev pub grid_complaint : GridFault → List ℕ
+grid_complaint grids.Empty = codes "the input has no line\n"
+grid_complaint (grids.NoRow k) = codes "line " ++ (decimal k ++ codes " is not whole numbers of 64 bits by single spaces\n")
+grid_complaint (grids.Uneven count) = codes "line " ++ (decimal count.line ++ (codes " has not as many numbers as the first: "
+    ++ (decimal count.has ++ (codes " in place of " ++ (decimal count.due ++ codes "\n")))))
+grid_complaint grids.Memory = no_memory
+
 abbrev pub tile_complaint : TileFault → List ℕ
 tile_complaint TooManyRows = codes "the matrices have 32,768 rows or more\n"
 tile_complaint Unfilled = codes "tiles of SIDE rows and columns do not fill the matrices\n"
@@ -88,10 +104,13 @@ complaint (faults.Read reading.Memory) = no_memory
 complaint faults.NotText = not_read
 complaint (faults.Lines fault) = line_complaint fault
 complaint (faults.Rows fault) = row_complaint fault
+complaint (faults.Grid fault) = grid_complaint fault
 complaint faults.Empty = codes "the input has no number\n"
 complaint faults.TooMany = codes "a run may have 1,048,576 events, and one step takes more: make the blocks larger\n"
+complaint faults.LargeBlocks = codes "a block has 4,294,967,296 cells or more: make the blocks smaller\n"
 complaint (faults.Tiles fault) = tile_complaint fault
 complaint (faults.Rod fault) = refusal_complaint (refusal_of fault)
 complaint (faults.Product fault) = product_complaint (refusal_of fault)
+complaint (faults.Relaxed fault) = refusal_complaint (refusal_of fault)
 complaint faults.Memory = no_memory
 complaint faults.Write = not_written

@@ -1,7 +1,8 @@
-ghost use Rattle.pool_cli.specs.Faults.{complaint, line_complaint, product_complaint, refusal_complaint, row_complaint, status_of, tile_complaint, words_complaint};
+ghost use Rattle.pool_cli.specs.Faults.{complaint, grid_complaint, line_complaint, product_complaint, refusal_complaint, row_complaint, status_of, tile_complaint, words_complaint};
 
 use crate::tiles::TileFault;
 use pool_cells::LineFault;
+use pool_grid_rows::{GridFault, RowCount};
 use pool_rows::RowFault;
 use pool_runs::LentFault;
 use tp_base::Refusal;
@@ -20,16 +21,22 @@ pub enum Fault {
     Lines(LineFault),
     /// The lines of the input give no two matrices.
     Rows(RowFault),
+    /// The lines of the input give no grid.
+    Grid(GridFault),
     /// The input has no number.
     Empty,
     /// Even one step takes more events than a run may have.
     TooMany,
+    /// A block of rows has 4,294,967,296 cells or more.
+    LargeBlocks,
     /// The matrices have no product in such tiles.
     Tiles(TileFault),
     /// The run gave no rod: this is its own fault.
     Rod(LentFault),
     /// The run gave no product: this is its own fault. Where a body of its pool failed, a number of the product leaves 64 bits.
     Product(LentFault),
+    /// The run gave no grid: this is its own fault.
+    Relaxed(LentFault),
     /// There is no memory for the output.
     Memory,
     /// The output could not be written.
@@ -46,8 +53,9 @@ impl Told for Fault {
             Fault::Words(fault) => tell_words(fault, err),
             Fault::Lines(fault) => tell_line(*fault, err),
             Fault::Rows(fault) => tell_row(*fault, err),
+            Fault::Grid(fault) => tell_grid(*fault, err),
             Fault::Tiles(fault) => tell_tiles(*fault, err),
-            Fault::Rod(fault) => tell_refusal(fault.refusal(), err),
+            Fault::Rod(fault) | Fault::Relaxed(fault) => tell_refusal(fault.refusal(), err),
             Fault::Product(fault) => tell_product(fault.refusal(), err),
             Fault::Read(ReadFault::Failed) | Fault::NotText => {
                 err.tell("the input cannot be read as text\n")
@@ -55,6 +63,9 @@ impl Told for Fault {
             Fault::Empty => err.tell("the input has no number\n"),
             Fault::TooMany => err.tell(
                 "a run may have 1,048,576 events, and one step takes more: make the blocks larger\n",
+            ),
+            Fault::LargeBlocks => err.tell(
+                "a block has 4,294,967,296 cells or more: make the blocks smaller\n",
             ),
             Fault::Read(ReadFault::Memory) | Fault::Memory => err.tell("there is no memory\n"),
             Fault::Write => err.tell("the output cannot be written\n"),
@@ -66,10 +77,12 @@ impl Told for Fault {
             Fault::Words(WordsFault::Words(_) | WordsFault::Write) => Status::Fault,
             Fault::Read(ReadFault::Failed) | Fault::NotText | Fault::Write => Status::Fault,
             Fault::Lines(LineFault::Line(_)) | Fault::Rows(RowFault::Line(_)) => Status::Refused,
-            Fault::Empty | Fault::TooMany | Fault::Tiles(_) => Status::Refused,
+            Fault::Grid(GridFault::Empty | GridFault::NoRow(_) | GridFault::Uneven(_)) => { Status::Refused }
+            Fault::Empty | Fault::TooMany | Fault::LargeBlocks | Fault::Tiles(_) => { Status::Refused }
             Fault::Words(WordsFault::Memory) | Fault::Read(ReadFault::Memory) => Status::Failed,
             Fault::Lines(LineFault::Memory) | Fault::Rows(RowFault::Memory) => Status::Failed,
-            Fault::Rod(_) | Fault::Product(_) | Fault::Memory => Status::Failed,
+            Fault::Grid(GridFault::Memory) => Status::Failed,
+            Fault::Rod(_) | Fault::Product(_) | Fault::Relaxed(_) | Fault::Memory => Status::Failed,
         }
     }
 }
@@ -99,6 +112,21 @@ fn tell_row<E: Diagnostics>(fault: RowFault, err: &mut E)
     match fault {
         RowFault::Line(line) => err.tell(format_args!("line {line} is not as it has to be\n")),
         RowFault::Memory => err.tell("there is no memory\n"),
+    }
+}
+
+fn tell_grid<E: Diagnostics>(fault: GridFault, err: &mut E)
+    ensures { E.tells err.old (grid_complaint fault) err.new }
+{
+    match fault {
+        GridFault::Empty => err.tell("the input has no line\n"),
+        GridFault::NoRow(line) => err.tell(format_args!(
+            "line {line} is not whole numbers of 64 bits by single spaces\n"
+        )),
+        GridFault::Uneven(RowCount { line, has, due }) => err.tell(format_args!(
+            "line {line} has not as many numbers as the first: {has} in place of {due}\n"
+        )),
+        GridFault::Memory => err.tell("there is no memory\n"),
     }
 }
 

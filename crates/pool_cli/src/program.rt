@@ -39,7 +39,8 @@ pub(crate) trait Program: Copy {
 
     /// Whether they can be worked on.
     fn check(self, loaded: &Self::Data) -> Result<(), Fault>
-        requires { (bytes : List ℕ) × about.spells bytes loaded.now }
+        requires allowed { about.allows self }
+        requires spelt { (bytes : List ℕ) × about.spells bytes loaded.now }
         ensures { MatchResult result (λ _. about.suits self loaded.now) (about.unsuited self loaded.now) };
 
     /// The text that is made of them.

@@ -52,7 +52,7 @@ fn request_of(matches: &ArgMatches) -> Option<Request>
 }
 
 /// How many steps are asked for.
-fn steps_of(matches: &ArgMatches) -> Option<u64>
+pub(crate) fn steps_of(matches: &ArgMatches) -> Option<u64>
     ensures { MatchOption result (LacksNumber 64 (codes "STEPS") (rows_of (found_of matches.now)))
         (IsNumberOf (codes "STEPS") (rows_of (found_of matches.now))) }
 {
