@@ -1,9 +1,11 @@
-"""Proves all that the programs stand on, and builds them: bin/tp, bin/heat, bin/product and bin/patterns.
+"""Proves all that the programs stand on, and builds them: bin/tp, bin/draw, bin/heat, bin/product, bin/relax and
+bin/patterns.
 
 Crates are proved beside each other, in as many copies of the repository as there are processors: a command of the
 prover locks all crates below its own. The library that is proved in one copy is given to the others, with the stamp by
-which the prover knows the text that it was made from. Of the crates that can begin, the one that the most lines wait for goes first, and takes the processors that the others leave. Prints a
-line for each crate as it ends; where one is not proved, all that its check said, and the status is 1.
+which the prover knows the text that it was made from. Of the crates that can begin, the one that the most lines wait for
+goes first, and takes as many processors as its lines are worth. Prints a line for each crate as it ends; where one is not
+proved, all that its check said, and the status is 1.
 """
 import os
 import re
@@ -15,11 +17,11 @@ from concurrent.futures import FIRST_COMPLETED, ThreadPoolExecutor, wait
 from . import repository
 from .rooms import rooms
 
-PROGRAMS = ["tp", "heat", "product", "patterns"]
+PROGRAMS = ["tp", "draw", "heat", "product", "relax", "patterns"]
 # the crates that are built for programs in other languages, into lib/
 LIBRARIES = ["gerfmuod"]
 # a further job of a check loads all libraries anew, which fewer lines do not repay
-LINES_OF_A_JOB = 500
+LINES_OF_A_JOB = 1000
 QUIET = re.compile(r"(== |logic|statements|library|crate|by-macro|only=|so far:|empty contracts|rt: chose)|.*: proved$")
 
 
@@ -62,12 +64,12 @@ def give(name, room, others):
 
 
 def shares(free, ready):
-    """Gives how many of the free processors each crate gets that can begin, the first in line what the others leave."""
-    for at, crate in enumerate(ready):
-        if not free:
+    """Gives how many of the free processors each crate gets that can begin, the first in line before the others."""
+    for crate in ready:
+        if free <= 0:
             return
-        left = len(ready) - at - 1
-        jobs = max(1, min(free - left, crate.lines // LINES_OF_A_JOB))
+        # (two for a large one where one is free: what runs beside it mostly ends sooner)
+        jobs = max(1, min(max(free, 2), crate.lines // LINES_OF_A_JOB))
         free -= jobs
         yield crate, jobs
 
@@ -118,8 +120,8 @@ def run(words):
     every = repository.crates(PROGRAMS)
     lanes = repository.lanes(repository.MEMORY_OF_A_CHECK)
     print(
-        f"Proves {len(every)} crates on {lanes} processors, and builds bin/tp, bin/heat, bin/product and bin/patterns: "
-        "on four 25 minutes the first time, and later what changed.",
+        f"Proves {len(every)} crates on {lanes} processors, and builds bin/tp, bin/draw, bin/heat, bin/product, bin/relax and "
+        "bin/patterns: on four 25 minutes the first time, and later what changed.",
         flush=True,
     )
     with rooms() as (_, copies):

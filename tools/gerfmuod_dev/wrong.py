@@ -4,12 +4,14 @@ They are those that the gate tries (crates/NAME/must-fail) and all others (wrong
 are tried whose note is not today's.
 
 What refused each wrong body is noted in wrong/NAME/JUDGED. The note is today's as long as the crate's own files, its
-wrong bodies and the definitions (specs/) of the crates directly below it are the same. It names the toolchain too: one
-of another machine makes no note stale, since it is none of the repository's text, but --stale tells of it. Prints a
-line for each crate that is proved before, for each wrong body, and for each crate. The status is 1 where a wrong body
-is not refused by a clause, or, with --stale, where a note is not today's.
+wrong bodies and the definitions (specs/) of the crates directly below it say the same: comments and the breaks of lines
+do not count. It names the toolchain too: one of another machine makes no note stale, since it is none of the
+repository's text, but --stale tells of it. Prints a line for each crate that is proved before, for each wrong body, and
+for each crate. The status is 1 where a wrong body is not refused by a clause, or, with --stale, where a note is not
+today's.
 """
 import datetime
+import functools
 import hashlib
 import os
 import re
@@ -22,6 +24,10 @@ from .build import prove_all
 from .repository import files_in, text_of
 from .rooms import rooms
 
+# a string, a character, a comment, a bracket or a mark, or a word
+PART = re.compile(r""""(?:\\.|[^"\\])*"|'(?:\\[^'\n]+|[^'\\\n])'|(?<!\S)(?://|--)[^\n]*|[(){}\[\],;]|[^\s(){}\[\],;"]+""")
+# names that a text takes from one place
+IMPORT = re.compile(r"^ *(?:ghost )?use (\S+)\.\{([^{}]*)\};?$", re.M)
 # what is said of a wrong body that no clause refuses
 NOTHING = re.compile(r"NOT REFUSED|NOT TRIED|BAD EDIT|\(only because|\(only by a limit")
 
@@ -32,8 +38,21 @@ def edits_of(crate):
     return {os.path.basename(it): it for folder in folders for it in files_in(folder) if it.endswith(".edit")}
 
 
+@functools.cache
 def toolchain():
     return subprocess.run(["rt", "version"], stdout=subprocess.PIPE, text=True, check=True).stdout.strip()
+
+
+@functools.cache
+def said_in(path):
+    """Gives what a file says: a text without its comments, blanks and breaks of lines, and a wrong body as it is."""
+    text = text_of(path)
+    if path.endswith(".edit"):
+        return text
+    text = IMPORT.sub(lambda it: "".join(f"use {it[1]} {name}\n" for name in it[2].split(",")), text)
+    said = " ".join(it for it in PART.findall(text) if not it.startswith(("//", "--")))
+    # (the layout adds a last comma or semicolon, and a first bar, where a list is on several lines)
+    return re.sub(r"[,;] (?=[)}\]])|(?<=\[ )\| ", "", said)
 
 
 def digest(crate):
@@ -42,8 +61,7 @@ def digest(crate):
     folders = [f"crates/{crate.name}/{part}" for part in ("src", "specs", "proofs")] + [f"crates/{it}/specs" for it in crate.below]
     texts = [(it, it) for folder in folders for it in files_in(folder)] + sorted(edits_of(crate.name).items())
     for name, path in texts:
-        with open(path, "rb") as text:
-            found.update(repr((name, text.read())).encode())
+        found.update(f"{name}\n{said_in(path)}\n".encode())
     return found.hexdigest()
 
 
@@ -79,12 +97,13 @@ def place(crate, room):
         shutil.copy2(path, f"{folder}/{name}")
 
 
-def judge(crate, room):
-    """Has the prover try the wrong bodies of a crate in a copy in which all below it is proved; gives what it said of each."""
+def judge(crate, room, lanes):
+    """Has the prover try the wrong bodies of a crate, so many beside each other, in a copy in which all below it is proved; gives
+    what it said of each."""
     place(crate.name, room)
     told = {}
     streams = {"stdin": subprocess.DEVNULL, "stdout": subprocess.PIPE, "text": True}
-    with subprocess.Popen(["rt", "must-fail", crate.name], cwd=room, env={**os.environ, "RT_JOBS": "1"}, **streams) as ran:
+    with subprocess.Popen(["rt", "must-fail", crate.name], cwd=room, env={**os.environ, "RT_JOBS": str(lanes)}, **streams) as ran:
         for line in ran.stdout:
             found = re.match(r"rt: must-fail \w+/(\S+)\.edit: (.*)", line)
             if found:
@@ -95,12 +114,12 @@ def judge(crate, room):
 
 def judge_all(crates, copies):
     """Judges crates beside each other, the longest first, one in each copy; gives whether each wrong body was refused by a clause."""
-    free = [*copies]
+    free, lanes = [*copies], max(1, len(copies) // len(crates))
 
     def judged(crate):
         room = free.pop()
         try:
-            return note(crate, judge(crate, room))
+            return note(crate, judge(crate, room, lanes))
         finally:
             free.append(room)
 
