@@ -1,5 +1,7 @@
 -- The lines of a run that is followed.
-use Rattle.std.proofs.Common.{◌≡◌, ◌≢◌, ℕ, zero, suc, ◌+◌, ◌-◌, ◌*◌, ◌<◌, ◌≤◌, Bool, true, false, not, ◌||◌, ◌&&◌, ◌==◌, IsTrue, List, [], ◌∷◌, ◌++◌, length, reverse, drop, get_or, Option, Some, None, slice_get, slice_set, slice_index_or, nat_le, if◌then◌else◌, refl, sym, ap, subst, ◌∙◌, inl, inr, arith}
+use Rattle.std.proofs.Common.{◌≡◌, ◌≢◌, ℕ, zero, suc, ◌+◌, ◌-◌, ◌*◌, ◌<◌, ◌≤◌, Bool, true, false, not, ◌||◌, ◌&&◌, ◌==◌, IsTrue, List, []}
+use Rattle.std.proofs.Common.{◌∷◌, ◌++◌, length, reverse, drop, get_or, Option, Some, None, slice_get, slice_set, slice_index_or, nat_le}
+use Rattle.std.proofs.Common.{if◌then◌else◌, refl, sym, ap, subst, ◌∙◌, inl, inr, arith}
 use Rattle.std.specs.List.{All}
 use Rattle.std.specs.Prelude.{IsFalse, OnOk, Result, Ok, Err}
 use Rattle.std.specs.Result.{result_err}
@@ -79,8 +81,10 @@ record AreFewWaves (ss : List Step) : Type 0 where
 few_waves : (n : ℕ) (ss : List Step) → AreLawfulWaves n ss → AreFewWaves ss
 few_waves n [] h = record { most = omega arith; due = λ e. omega arith }
 few_waves n (Start ∷ past) h = record { most = omega (arith, (few_waves n past h.1).due (h.0 refl).1); due = λ e. cc }
-few_waves n (Judge ∷ past) h = record { most = omega (arith, (few_waves n past h.1).most); due = λ e. omega (arith, (few_waves n past h.1).most) }
-few_waves n (s ∷ past) h = record { most = omega (arith, (few_waves n past h.1).most); due = λ e. omega (arith, (few_waves n past h.1).due e) }
+few_waves n (Judge ∷ past) h =
+    record { most = omega (arith, (few_waves n past h.1).most); due = λ e. omega (arith, (few_waves n past h.1).most) }
+few_waves n (s ∷ past) h =
+    record { most = omega (arith, (few_waves n past h.1).most); due = λ e. omega (arith, (few_waves n past h.1).due e) }
 
 are_words : (b : Bool) (w : ℕ) → (IsTrue b → AreWords (Some w)) → AreWords (if b then Some w else None)
 are_words true w h = h refl
@@ -185,7 +189,8 @@ oldest_next h k e within at =
     let same : length h - 1 - k ≡ length h - (k + 1) = omega (arith, within) in
     let found : get_or h (length h - (k + 1)) e ≡ e =
     ap (λ i. get_or h i e) (sym same) ∙ sym (get_or-reverse h k e within) ∙ get_or_from_slice_get (reverse h) k e e at in
-    drop-cons h (length h - (k + 1)) e (omega (arith, within)) ∙ ap (λ x. x ∷ drop (suc (length h - (k + 1))) h) found ∙ ap (λ i. e ∷ drop i h) place
+    drop-cons h (length h - (k + 1)) e (omega (arith, within)) ∙ ap (λ x. x ∷ drop (suc (length h - (k + 1))) h) found
+    ∙ ap (λ i. e ∷ drop i h) place
 
 -- in each generation of the oldest events the same holds
 each-drop : (P : History → Type 0) (i : ℕ) (h : History) → histories.InEach P h → histories.InEach P (drop i h)
@@ -211,7 +216,8 @@ spelled_none v h = subst (λ x. All (IsSpelled v) (steps_of x)) (sym (oldest_non
 pub spelled_next : (v : Version) (h : List Event) (k : ℕ) (e : Event) → k < length h → slice_get (reverse h) k ≡ Some e → IsSpelled v e.1
     → All (IsSpelled v) (steps_of (oldest k h)) → All (IsSpelled v) (steps_of (oldest (k + 1) h))
 spelled_next v h k e within at p before =
-    subst (λ x. All (IsSpelled v) (steps_of x)) (sym (oldest_next h k e within at)) (All-cons (IsSpelled v) e.1 (steps_of (oldest k h)) p before)
+    subst (λ x. All (IsSpelled v) (steps_of x)) (sym (oldest_next h k e within at))
+    (All-cons (IsSpelled v) e.1 (steps_of (oldest k h)) p before)
 
 -- ---- the next step
 
@@ -288,7 +294,8 @@ reopened_there h k e within at is =
 pub none_next : (h : History) (k : ℕ) (e : Event) → k < length h → slice_get (reverse h) k ≡ Some e → e.1 ≢ Reopen
     → IsFalse (any is_reopen (steps_of (oldest k h))) → IsFalse (any is_reopen (steps_of (oldest (k + 1) h)))
 none_next h k e within at other before =
-    subst (λ x. IsFalse (any is_reopen (steps_of x))) (sym (oldest_next h k e within at)) (none_of_two e.1 (any is_reopen (steps_of (oldest k h))) other before)
+    subst (λ x. IsFalse (any is_reopen (steps_of x))) (sym (oldest_next h k e within at))
+    (none_of_two e.1 (any is_reopen (steps_of (oldest k h))) other before)
 
 pub begun : (v : Version) (n : ℕ) (h : History) (old new : List ℕ) → old ≡ [] → new ≡ old ++ trace v n []
     → new ≡ trace v n (lines_of n (steps_of (oldest 0 h)))
@@ -311,10 +318,12 @@ pub one_more : (n j : ℕ) (xs new : List ℕ) (f : ℕ → ℕ) → ((i : ℕ) 
     → new ≡ slice_set xs j (slice_index_or xs j 0 + 1) → (i : ℕ) → i < n → slice_index_or new i 0 ≡ (if j == i then f i + 1 else f i)
 one_more n j xs new f each known within is i below = elim (cases_eq j i) [
   | inl same ↦
-      rw (eq-eqb j i same) (ap (λ ys. slice_index_or ys i 0) is ∙ ap (λ k. slice_index_or (slice_set xs j (slice_index_or xs j 0 + 1)) k 0) (sym same)
+      rw (eq-eqb j i same) (ap (λ ys. slice_index_or ys i 0) is
+      ∙ ap (λ k. slice_index_or (slice_set xs j (slice_index_or xs j 0 + 1)) k 0) (sym same)
       ∙ get_or-set_same xs j (slice_index_or xs j 0 + 1) 0 within ∙ ap (λ m. m + 1) (ap (λ k. slice_index_or xs k 0) same ∙ each i below))
   | inr other ↦
-      rw (ne_eqb j i other) (ap (λ ys. slice_index_or ys i 0) is ∙ get_or-set_other xs j i (slice_index_or xs j 0 + 1) 0 (λ e. other (sym e)) ∙ each i below)
+      rw (ne_eqb j i other) (ap (λ ys. slice_index_or ys i 0) is
+      ∙ get_or-set_other xs j i (slice_index_or xs j 0 + 1) 0 (λ e. other (sym e)) ∙ each i below)
 ]
 
 pub few_sent : (n : ℕ) (past : List Step) (t : Tracer) (i : ℕ) → HasFollowed n past t → i < n → length past < MAX_STEPS
@@ -338,12 +347,14 @@ pub sent_one : (n : ℕ) (past : List Step) (s : Step) (i j : NodeId) (m : Messa
     → new ≡ slice_set t.sent i.0 (slice_index_or t.sent i.0 0 + 1)
     → HasFollowed n (present (s ∷ past)) (record { wave = t.wave; sent = new; received = t.received; nodes = t.nodes })
 sent_one n past s i j m g t new is h may within e =
-    subst (λ x. HasFollowed n (present (x ∷ past)) (record { wave = t.wave; sent = new; received = t.received; nodes = t.nodes })) (sym is) (record {
+    subst (λ x. HasFollowed n (present (x ∷ past)) (record { wave = t.wave; sent = new; received = t.received; nodes = t.nodes }))
+    (sym is) (record {
       some = h.some;
       nodes = h.nodes;
       over = h.over;
       wave = pool_step n (present past) (Send i j m g) t.wave refl h.wave;
-      sent = one_more n i.0 t.sent new (λ k. count (is_send_of k) (present past)) h.sent (sender n (present past) s i j m g is may) within e;
+      sent = one_more n i.0 t.sent new (λ k.
+          count (is_send_of k) (present past)) h.sent (sender n (present past) s i j m g is may) within e;
       received = h.received;
     })
 
@@ -352,13 +363,15 @@ pub received_one : (n : ℕ) (past : List Step) (s : Step) (j : NodeId) (m : Mes
     → new ≡ slice_set t.received j.0 (slice_index_or t.received j.0 0 + 1)
     → HasFollowed n (present (s ∷ past)) (record { wave = t.wave; sent = t.sent; received = new; nodes = t.nodes })
 received_one n past s j m g t new is h may within e =
-    subst (λ x. HasFollowed n (present (x ∷ past)) (record { wave = t.wave; sent = t.sent; received = new; nodes = t.nodes })) (sym is) (record {
+    subst (λ x. HasFollowed n (present (x ∷ past)) (record { wave = t.wave; sent = t.sent; received = new; nodes = t.nodes })) (sym is)
+    (record {
       some = h.some;
       nodes = h.nodes;
       over = h.over;
       wave = pool_step n (present past) (Recv j m g) t.wave refl h.wave;
       sent = h.sent;
-      received = one_more n j.0 t.received new (λ k. count (is_recv_at k) (present past)) h.received (receiver n (present past) s j m g is may) within e;
+      received = one_more n j.0 t.received new (λ k.
+          count (is_recv_at k) (present past)) h.received (receiver n (present past) s j m g is may) within e;
     })
 
 -- ---- the waves go along
@@ -394,4 +407,11 @@ other_step n past (Up i) t h send recv start down give up judge reopen = absurd 
 other_step n past Judge t h send recv start down give up judge reopen = absurd (judge refl)
 other_step n past Reopen t h send recv start down give up judge reopen = absurd (reopen refl)
 other_step n past s t h send recv start down give up judge reopen =
-    record { some = h.some; nodes = h.nodes; over = h.over; wave = pool_step n (present past) s t.wave refl h.wave; sent = h.sent; received = h.received }
+    record {
+      some = h.some;
+      nodes = h.nodes;
+      over = h.over;
+      wave = pool_step n (present past) s t.wave refl h.wave;
+      sent = h.sent;
+      received = h.received;
+    }

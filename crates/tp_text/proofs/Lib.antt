@@ -15,3 +15,4 @@ pub mod TracedEnds
 pub mod UniqueTraces
 pub mod UniqueAudits
 pub mod Following
+pub mod Readings

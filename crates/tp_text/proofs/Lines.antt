@@ -23,7 +23,9 @@ pub none_next : (n : ℕ) (text : List ℕ) → ((rest : List ℕ) → text ≢ 
     → ((k : ℕ) (rest : List ℕ) → IsNumber k → BeginsWithout IsDigit rest → text ≢ 32 ∷ (decimal k ++ rest)) → HasNoNumbers n text
 none_next n text end next [] rest p few e = end rest e
 none_next n text end next (k ∷ ks) rest p few e =
-    next k (spaced ks ++ 10 ∷ rest) (All-head IsNumber k ks p) (ends_number ks rest) (e ∙ ap (λ l. 32 ∷ l) (append_assoc (decimal k) (spaced ks) (10 ∷ rest)))
+    next k (spaced ks
+    ++ 10 ∷ rest) (All-head IsNumber k ks p) (ends_number ks rest) (e
+    ∙ ap (λ l. 32 ∷ l) (append_assoc (decimal k) (spaced ks) (10 ∷ rest)))
 
 pub none_behind : (n j : ℕ) (text rest : List ℕ) → IsNumber j × BeginsWithout IsDigit rest × (text ≡ 32 ∷ (decimal j ++ rest))
     → HasNoNumbers n rest → HasNoNumbers (n + 1) text

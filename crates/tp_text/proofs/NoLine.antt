@@ -25,7 +25,8 @@ pub alike : (xs ys : List ℕ) {zs : List ℕ} → false ≡ not (bytes_eq xs ys
 alike xs ys e is = (bytes_eq-Decides xs ys).0 (not_false (bytes_eq xs ys) e) ∙ is
 
 pub unlike : (xs ys : List ℕ) {zs : List ℕ} → true ≡ not (bytes_eq xs ys) → ys ≡ zs → xs ≢ zs
-unlike xs ys e is same = let yes : bytes_eq xs ys ≡ true = (bytes_eq-Decides xs ys).1 (same ∙ sym is) in let no : true ≡ not true = e ∙ ap not yes in cc
+unlike xs ys e is same = let yes : bytes_eq xs ys ≡ true = (bytes_eq-Decides xs ys).1 (same ∙ sym is) in let no : true ≡ not true =
+    e ∙ ap not yes in cc
 
 pub no_keyword : (v : Version) (text word a : List ℕ) → Splits IsWordByte text word a → ((k : Keyword) → word ≢ keyword_text k)
     → ¬ BeginsWithStep v text

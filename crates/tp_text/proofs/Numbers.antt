@@ -1,6 +1,8 @@
 -- Numbers as digits.
-use Rattle.std.proofs.Common.{◌≡◌, ◌≢◌, ℕ, zero, suc, ◌<◌, ◌≤◌, ◌+◌, ◌-◌, ◌*◌, List, [], ◌∷◌, ◌++◌, length, get_or, take, drop, decimal, sym, ap, ◌∙◌, subst, arith}
-use Rattle.std.proofs.lemmas.Fmt.{decimal_nonempty, first_decimal, decimal_digit, digits_decimal, decimal-digits_value, decimal_injective, length-decimal-le}
+use Rattle.std.proofs.Common.{◌≡◌, ◌≢◌, ℕ, zero, suc, ◌<◌, ◌≤◌, ◌+◌, ◌-◌, ◌*◌, List, [], ◌∷◌, ◌++◌, length, get_or, take, drop, decimal}
+use Rattle.std.proofs.Common.{sym, ap, ◌∙◌, subst, arith}
+use Rattle.std.proofs.lemmas.Fmt.{decimal_nonempty, first_decimal, decimal_digit, digits_decimal, decimal-digits_value, decimal_injective}
+use Rattle.std.proofs.lemmas.Fmt.{length-decimal-le}
 use Rattle.std.proofs.lemmas.Int.Digits.{digits_value_more}
 use Rattle.std.proofs.lemmas.List.{get_or_default, get_or-take, length-drop, length-take-le, take-append-drop, take_all}
 use Rattle.std.proofs.lemmas.Str.{digit_value_digit}
@@ -90,11 +92,19 @@ none_without text n value none h =
     none_by text n value h (omega arith) (λ k p e. omega (arith, ap length e, front text n value h, decimal_nonempty k (omega arith)))
 
 -- with a leading zero
-none_padded : (text : List ℕ) (n value : ℕ) → HasDigits text n value → 1 < n → slice_index text 0 ≡ 48 → (k : ℕ) → IsNumber k → take n text ≢ decimal k
+none_padded : (text : List ℕ) (n value : ℕ) → HasDigits text n value → 1 < n → slice_index text 0 ≡ 48 → (k : ℕ) → IsNumber k
+    → take n text ≢ decimal k
 none_padded text n value h several zero_first zero p e =
-    let one : length (decimal 0) ≡ 1 = ap length (decimal_digit 0 (omega arith)) in omega (arith, several, ap length e, front text n value h)
+    let one : length (decimal 0) ≡ 1 =
+    ap length (decimal_digit 0 (omega arith)) in omega (arith, several, ap length e, front text n value h)
 none_padded text n value h several zero_first (suc k) p e =
-    omega (arith, zero_first, first text n value h (omega arith), ap (λ l. get_or l 0 0) e, first_decimal (suc k) (omega arith) (omega arith))
+    omega (
+      arith,
+      zero_first,
+      first text n value h (omega arith),
+      ap (λ l. get_or l 0 0) e,
+      first_decimal (suc k) (omega arith) (omega arith),
+    )
 
 pub none_where_padded : (text : List ℕ) (n value : ℕ) → HasDigits text n value → n ≤ 6 → (1 < n) × (slice_index text 0 ≡ 48)
     → (k : ℕ) (b : List ℕ) → IsNumber k → BeginsWithout IsDigit b → text ≢ decimal k ++ b
@@ -127,13 +137,15 @@ lone_zero text n value h some plain e =
 
 -- these digits spell their value
 pub spells_value : (text : List ℕ) (n value : ℕ) → HasDigits text n value → 0 < n → n ≤ 6 → ¬ ((1 < n) × (slice_index text 0 ≡ 48))
-    → IsNumber value × BeginsWithout IsDigit (take (length text - n) (drop n text)) × (text ≡ decimal value ++ take (length text - n) (drop n text))
+    → IsNumber value × BeginsWithout IsDigit (take (length text - n) (drop n text))
+    × (text ≡ decimal value ++ take (length text - n) (drop n text))
 spells_value text n value h some few plain =
     let long = front text n value h in
     let small = value_small text n value few h.within h.digits h.value_is in
     let same : decimal value ≡ take n text =
     ap decimal h.value_is
-    ∙ decimal-digits_value own (take n text) (digits_there text n value h) (omega arith) (lone_zero text n value h some plain) (omega (arith, h.value_is)) in
+    ∙ decimal-digits_value own (take n text) (digits_there text n value h) (omega arith) (lone_zero text n value h some plain)
+    (omega (arith, h.value_is)) in
     let s = splits text n value h (omega arith) in
     let found : IsNumber value × BeginsWithout IsDigit (drop n text) × (text ≡ decimal value ++ drop n text) =
     (small, s.2, s.0 ∙ ap (λ ds. ds ++ drop n text) (sym same)) in

@@ -1,5 +1,6 @@
 -- Lines and sums, one node further.
-use Rattle.std.proofs.Common.{◌≡◌, ℕ, zero, suc, ◌+◌, ◌<◌, ◌≤◌, Bool, true, false, not, ◌&&◌, List, [], ◌∷◌, ◌++◌, length, take, codes, decimal, refl, sym, ap, ◌∙◌, add-one, append_assoc, arith, rules, if◌then◌else◌}
+use Rattle.std.proofs.Common.{◌≡◌, ℕ, zero, suc, ◌+◌, ◌<◌, ◌≤◌, Bool, true, false, not, ◌&&◌, List, [], ◌∷◌, ◌++◌, length, take, codes}
+use Rattle.std.proofs.Common.{decimal, refl, sym, ap, ◌∙◌, add-one, append_assoc, arith, rules, if◌then◌else◌}
 use Rattle.std.proofs.Math.Seq.{get_or-take, length-take-le}
 use Rattle.std.proofs.lemmas.Bool.Decides.{nat_tests}
 use Rattle.std.specs.Prelude.{IsTrue, IsFalse, ◌↔◌, ◌==◌}
@@ -12,9 +13,6 @@ use Rattle.tp_text.specs.Printed.{listed}
 use Rattle.tp_text.specs.SimText.{node_lines, node_line, counts, all_numbers, closing}
 use Rattle.tp_text.specs.Spelling.{line}
 
-pub total_more : (n : ℕ) (f : ℕ → ℕ) → total (n + 1) f ≡ total n f + f n
-total_more n f = rw add-one refl
-
 pub lines_more : (n : ℕ) (f : ℕ → NodeNumbers) → node_lines (n + 1) f ≡ node_lines n f ++ node_line n (f n)
 lines_more n f = rw add-one refl
 
@@ -22,7 +20,8 @@ lines_more n f = rw add-one refl
 pub lines_written : (n : ℕ) (f : ℕ → NodeNumbers) (start old new : List ℕ) (x : NodeNumbers) → x ≡ f n → old ≡ start ++ node_lines n f
     → new ≡ old ++ node_line n x → new ≡ start ++ node_lines (n + 1) f
 lines_written n f start old new x is before e =
-    e ∙ ap (λ y. old ++ node_line n y) is ∙ ap (λ l. l ++ node_line n (f n)) before ∙ append_assoc start (node_lines n f) (node_line n (f n))
+    e ∙ ap (λ y. old ++ node_line n y) is ∙ ap (λ l. l ++ node_line n (f n)) before
+    ∙ append_assoc start (node_lines n f) (node_line n (f n))
     ∙ ap (λ l. start ++ l) (sym (lines_more n f))
 
 -- what is written in four pieces
@@ -33,7 +32,8 @@ four_pieces out a b d e f x y z w p q r s = s ∙ simp (r, q, p, append_assoc)
 lines_same : (n : ℕ) (f g : ℕ → NodeNumbers) → ((i : ℕ) → i < n → f i ≡ g i) → node_lines n f ≡ node_lines n g
 lines_same zero f g same = refl
 lines_same (suc n) f g same =
-    ap (λ l. l ++ node_line n (f n)) (lines_same n f g (λ i h. same i (omega arith))) ∙ ap (λ x. node_lines n g ++ node_line n x) (same n (omega arith))
+    ap (λ l. l ++ node_line n (f n)) (lines_same n f g (λ i h. same i (omega arith)))
+    ∙ ap (λ x. node_lines n g ++ node_line n x) (same n (omega arith))
 
 total_same : (n : ℕ) (f g : ℕ → ℕ) → ((i : ℕ) → i < n → f i ≡ g i) → total n f ≡ total n g
 total_same zero f g same = refl
@@ -67,8 +67,10 @@ numbers_sums xs x a h t =
     let s : x.sent ≡ total a.nodes (λ i. (numbers_at i a).sent) = t.sent ∙ total_of xs a h (λ y. y.sent) in
     let r : x.received ≡ total a.nodes (λ i. (numbers_at i a).received) = t.received ∙ total_of xs a h (λ y. y.received) in
     ap (λ n. codes " pending " ++ decimal n ++ codes " sent " ++ decimal x.sent ++ codes " received " ++ decimal x.received) p
-    ∙ ap (λ n. codes " pending " ++ decimal (total a.nodes (λ i. (numbers_at i a).pending)) ++ codes " sent " ++ decimal n ++ codes " received " ++ decimal x.received) s
-    ∙ ap (λ n. codes " pending " ++ decimal (total a.nodes (λ i. (numbers_at i a).pending)) ++ codes " sent " ++ decimal (total a.nodes (λ i. (numbers_at i a).sent)) ++ codes " received " ++ decimal n) r
+    ∙ ap (λ n. codes " pending " ++ decimal (total a.nodes (λ i. (numbers_at i a).pending)) ++ codes " sent " ++ decimal n
+    ++ codes " received " ++ decimal x.received) s
+    ∙ ap (λ n. codes " pending " ++ decimal (total a.nodes (λ i. (numbers_at i a).pending)) ++ codes " sent "
+    ++ decimal (total a.nodes (λ i. (numbers_at i a).sent)) ++ codes " received " ++ decimal n) r
 
 no_truth : (b : Bool) → (IsTrue b → ⊥) → b ≡ false
 no_truth true h = absurd (h (search rules))
@@ -86,7 +88,8 @@ quiet_by_parts : (b t : Bool) (actions : List Action) (messages : List Message)
     → b ≡ (not t && ((length actions == 0) && (length messages == 0)))
 quiet_by_parts b true actions messages h = no_truth b (λ y. let no : IsFalse true = (h.0 y).0 in search (rules, no))
 quiet_by_parts b false [] [] h = truth b (h.1 (search rules, refl, refl))
-quiet_by_parts b false [] (y ∷ messages) h = no_truth b (λ z. let no : y ∷ messages ≡ [] = (h.0 z).2 in cc) ∙ sym (some_left (length messages))
+quiet_by_parts b false [] (y ∷ messages) h =
+    no_truth b (λ z. let no : y ∷ messages ≡ [] = (h.0 z).2 in cc) ∙ sym (some_left (length messages))
 quiet_by_parts b false (x ∷ actions) messages h =
     no_truth b (λ z. let no : x ∷ actions ≡ [] = (h.0 z).1 in cc) ∙ sym (ap (λ v. v && (length messages == 0)) (some_left (length actions)))
 
@@ -105,7 +108,8 @@ pub closing_written : (a : Accepted) (xs : List NodeNumbers) (x : NodeNumbers) (
     → r ≡ out ++ closing a
 closing_written a xs x under b out p q r lists sums u quiet ep eq er =
     three_pieces out (node_lines a.nodes (λ i. numbers_at i a))
-    (line (codes "total" ++ counts (all_numbers a.nodes (λ i. numbers_at i a)) ++ codes " under " ++ decimal (length (world_of a).messages)))
+    (line (codes "total" ++ counts (all_numbers a.nodes (λ i. numbers_at i a)) ++ codes " under "
+    ++ decimal (length (world_of a).messages)))
     (line (codes "quiet " ++ (if is_quiet (world_of a) then codes "yes" else codes "no"))) p q r
     (ep ∙ ap (λ l. out ++ l) (numbers_lines xs a lists))
     (eq ∙ ap (λ l. p ++ line (codes "total" ++ l ++ codes " under " ++ decimal under)) (numbers_sums xs x a lists sums)

@@ -1,5 +1,6 @@
 -- The lines of a trace, taken one by one.
-use Rattle.std.proofs.Common.{◌≡◌, ◌≢◌, ℕ, ◌+◌, ◌≤◌, ◌<◌, Bool, true, false, List, [], ◌∷◌, ◌++◌, length, Option, Some, None, Result, Ok, Err, refl, sym, ap, subst, ◌∙◌, append_assoc, append-nil, length-append, arith, inl, inr, codes, decimal, is_some}
+use Rattle.std.proofs.Common.{◌≡◌, ◌≢◌, ℕ, ◌+◌, ◌≤◌, ◌<◌, Bool, true, false, List, [], ◌∷◌, ◌++◌, length, Option, Some, None, Result, Ok}
+use Rattle.std.proofs.Common.{Err, refl, sym, ap, subst, ◌∙◌, append_assoc, append-nil, length-append, arith, inl, inr, is_some}
 use Rattle.std.specs.Prelude.{MatchOption}
 use Rattle.std.specs.List.{All}
 use Rattle.tp_base.specs.declared.Refusal.{Refusal}
@@ -19,10 +20,11 @@ use Rattle.tp_text.specs.declared.traced.TraceLine.TheVariants.{Plain, Judged}
 use Rattle.tp_text.specs.declared.verdict.Verdict.{Verdict}
 use Rattle.tp_text.specs.declared.verdict.Verdict.TheVariants.{Sound, Refused}
 use Rattle.tp_text.specs.AuditText.{account, flaw_line, steps_in, step_in, summary, taken, HasFlawAt, IsAuditText, IsJustified, IsSound}
-use Rattle.tp_text.specs.Auditing.{AreTaken, IsFound, IsTold, Knows}
+use Rattle.tp_text.specs.Auditing.{AreStopped, AreTaken, IsFound, IsTold}
+use Rattle.tp_text.specs.Reading.{syntax_text, LacksHead}
 use Rattle.tp_text.specs.Script.{nodes_line, IsNodeCount, BeginsWithNodes}
-use Rattle.tp_text.specs.Spelling.{line}
 use Rattle.tp_text.specs.Trace.{format_line, trace, trace_line, words, BeginsWithFormat, BeginsWithLine, BreaksOff, IsTrace, IsWritten}
+use Rattle.tp_text.specs.Trace.{LacksNodes}
 use Rattle.tp_text.proofs.Splits.{All-nil, All-cons}
 use Rattle.tp_text.proofs.Taking.{is_over, step_counts}
 use Rattle.tp_text.proofs.TraceLines.{judge_parts}
@@ -54,7 +56,14 @@ sound_behind n (l ∷ later) past h = sound_behind n later past (sound_past n l 
 pub found_more : (n : ℕ) (lines : List TraceLine) (l : TraceLine) (a : Auditor) (o : Option (ℕ × Flaw)) → true ≡ is_some o
     → IsFound n lines a o → IsFound n (l ∷ lines) a o
 found_more n lines l a None is h = cc
-found_more n lines l a (Some f) is (later, m, past, e, sound, flaw, number) = (l ∷ later, m, past, ap (λ x. l ∷ x) e, sound, flaw, number)
+found_more n lines l a (Some f) is h = record {
+  past = h.past;
+  up_to = (l ∷ h.up_to.0, h.up_to.1, ap (λ x. l ∷ x) h.up_to.2, h.up_to.3, h.up_to.4);
+  number = h.number;
+  newest = h.newest;
+  core = h.core;
+  account = h.account;
+}
 
 -- no flaw was found so far
 pub none_found : (n : ℕ) (lines : List TraceLine) (a : Auditor) (o : Option (ℕ × Flaw)) → false ≡ is_some o → IsFound n lines a o
@@ -76,12 +85,21 @@ refused_is None asks r h ample = absurd (ample h.0)
 refused_is (Some f) asks r h ample = ap (λ x. Some x) (sym h)
 
 -- a line that is refused
-pub refused_at : (n : ℕ) (lines : List TraceLine) (l : TraceLine) (a : Auditor) (k : ℕ) (r : Refusal) (after : Accepted)
-    → AreTaken n lines a → k ≡ length lines + 3
-    → Answers a.core (step_in l) (Err r) after → r ≢ NoMemory → HasFlawAt n (l ∷ lines) k (flaws.Refused r)
-refused_at n lines l a k r after h number said ample =
-    let is : refusal a.core (step_in l) ≡ Some r = refused_is (refusal a.core (step_in l)) (asks_memory a.core (step_in l)) r said.0 ample in
-    ([], l, lines, refl, h.sound, subst (λ (x : Accepted). refusal x (step_in l) ≡ Some r) h.core is, number)
+pub refused_at : (n : ℕ) (lines : List TraceLine) (l : TraceLine) (a new : Auditor) (k : ℕ) (r : Refusal)
+    → AreTaken n lines a → k ≡ length lines + 3 → Answers a.core (step_in l) (Err r) new.core → r ≢ NoMemory → new.account ≡ a.account
+    → AreStopped n (l ∷ lines) new k (flaws.Refused r)
+refused_at n lines l a new k r h number said ample same =
+    let is : refusal a.core (step_in l) ≡ Some r =
+    refused_is (refusal a.core (step_in l)) (asks_memory a.core (step_in l)) r said.0 ample in
+    let here : refusal (taken n lines) (step_in l) ≡ Some r = subst (λ (x : Accepted). refusal x (step_in l) ≡ Some r) h.core is in
+    record {
+      past = lines;
+      up_to = ([], l, refl, h.sound, here);
+      number = number;
+      newest = [];
+      core = ap (λ (x : Accepted). x.steps) (said.1 ∙ h.core);
+      account = same ∙ h.account;
+    }
 
 judged_is : (o p : Option ℕ) → judged o ≡ judged p → o ≡ p
 judged_is None None e = refl
@@ -98,10 +116,12 @@ told_right n past (Judged o) reply e told = judged_is o (judgement n (present pa
 pub taken_more : (v : Version) (n : ℕ) (lines : List TraceLine) (l : TraceLine) (a new : Auditor) (reply : Reply)
     → AreTaken n lines a → IsWritten v l
     → Answers a.core (step_in l) (Ok reply) new.core → IsTold l reply
-    → ((u : Version) (m : ℕ) (past : List Step) → a.account ≡ account m past → IsWritten u l → IsJustified m past l → new.account ≡ account m (step_in l ∷ past)) → AreTaken n (l ∷ lines) new
+    → ((u : Version) (m : ℕ) (past : List Step) → a.account ≡ account m past → IsWritten u l → IsJustified m past l
+    → new.account ≡ account m (step_in l ∷ past)) → AreTaken n (l ∷ lines) new
 taken_more v n lines l a new reply h written said told counted =
     let none : refusal (taken n lines) (step_in l) ≡ None = subst (λ (x : Accepted). refusal x (step_in l) ≡ None) h.core said.0 in
-    let is : reply ≡ reply_to n (steps_in lines) (step_in l) = subst (λ (x : Accepted). reply ≡ reply_to x.nodes x.steps (step_in l)) h.core said.1 in
+    let is : reply ≡ reply_to n (steps_in lines) (step_in l) =
+    subst (λ (x : Accepted). reply ≡ reply_to x.nodes x.steps (step_in l)) h.core said.1 in
     let right = told_right n (steps_in lines) l reply is told in
     record {
       sound = sound_more n lines l h.sound none right;
@@ -110,15 +130,22 @@ taken_more v n lines l a new reply h written said told counted =
     }
 
 -- a judgement with other words
-pub unjustified_at : (n : ℕ) (lines : List TraceLine) (l : TraceLine) (a : Auditor) (k : ℕ) (reply : Reply) (after : Accepted)
-    → AreTaken n lines a → k ≡ length lines + 3
-    → Answers a.core (step_in l) (Ok reply) after → ¬ IsTold l reply → HasFlawAt n (l ∷ lines) k flaws.Unjustified
-unjustified_at n lines (Plain s) a k reply after h number said other = absurd (other tt)
-unjustified_at n lines (Judged o) a k reply after h number said other =
+pub unjustified_at : (n : ℕ) (lines : List TraceLine) (l : TraceLine) (a new : Auditor) (k : ℕ) (reply : Reply)
+    → AreTaken n lines a → k ≡ length lines + 3 → Answers a.core (step_in l) (Ok reply) new.core → ¬ IsTold l reply
+    → new.account ≡ a.account → AreStopped n (l ∷ lines) new k flaws.Unjustified
+unjustified_at n lines (Plain s) a new k reply h number said other same = absurd (other tt)
+unjustified_at n lines (Judged o) a new k reply h number said other same =
     let none : refusal (taken n lines) steps.Judge ≡ None = subst (λ (x : Accepted). refusal x steps.Judge ≡ None) h.core said.0 in
     let is : reply ≡ judged (judgement n (present (steps_in lines))) =
     subst (λ (x : Accepted). reply ≡ reply_to x.nodes x.steps steps.Judge) h.core said.1 in
-    ([], Judged o, lines, refl, h.sound, (o, refl, none, λ e. other (is ∙ ap judged (sym e))), number)
+    record {
+      past = lines;
+      up_to = ([], Judged o, refl, h.sound, (o, refl, none, λ e. other (is ∙ ap judged (sym e))));
+      number = number;
+      newest = steps.Judge ∷ [];
+      core = ap (λ (x : Accepted). x.steps) said.2 ∙ ap (λ (x : Accepted). steps.Judge ∷ x.steps) h.core;
+      account = same ∙ h.account;
+    }
 
 -- ---- all lines
 
@@ -133,7 +160,8 @@ pub record Reads (v : Version) (text : List ℕ) (n : ℕ) (lines : List TraceLi
 pub reads_none : (v : Version) (text behind : List ℕ) (n : ℕ) (rest : List ℕ) → text ≡ format_line v ++ behind
     → IsNodeCount n × (behind ≡ nodes_line n ++ rest) → Reads v text n [] rest 3
 reads_none v text behind n rest e found =
-    let whole : text ≡ (format_line v ++ nodes_line n) ++ rest = e ∙ ap (λ l. format_line v ++ l) found.1 ∙ sym (append_assoc (format_line v) (nodes_line n) rest) in
+    let whole : text ≡ (format_line v ++ nodes_line n) ++ rest =
+    e ∙ ap (λ l. format_line v ++ l) found.1 ∙ sym (append_assoc (format_line v) (nodes_line n) rest) in
     record {
       count = found.0;
       written = All-nil (IsWritten v);
@@ -149,7 +177,8 @@ line_counts v (Judged o) behind = let e = judge_parts v o behind in omega (arith
 pub line_shorter : (v : Version) (l : TraceLine) (rest behind : List ℕ) → rest ≡ trace_line v l ++ behind → length behind < length rest
 line_shorter v l rest behind e = omega (arith, ap length e, line_counts v l behind)
 
-pub reads_one : (v : Version) (text : List ℕ) (n : ℕ) (lines : List TraceLine) (rest : List ℕ) (number : ℕ) (l : TraceLine) (behind : List ℕ)
+pub reads_one : (v : Version) (text : List ℕ) (n : ℕ) (lines : List TraceLine) (rest : List ℕ) (number : ℕ) (l : TraceLine)
+    (behind : List ℕ)
     → Reads v text n lines rest number → IsWritten v l × (rest ≡ trace_line v l ++ behind) → Reads v text n (l ∷ lines) behind (number + 1)
 reads_one v text n lines rest number l behind h found = record {
   count = h.count;
@@ -159,7 +188,7 @@ reads_one v text n lines rest number l behind h found = record {
   short = omega (arith, h.short, ap length found.1, line_counts v l behind);
 }
 
-reads_trace : (v : Version) (text : List ℕ) (n : ℕ) (lines : List TraceLine) (rest : List ℕ) (number : ℕ)
+pub reads_trace : (v : Version) (text : List ℕ) (n : ℕ) (lines : List TraceLine) (rest : List ℕ) (number : ℕ)
     → Reads v text n lines rest number → length rest ≡ 0 → IsTrace text v n lines
 reads_trace v text n lines rest number h none = record {
   nodes = h.count;
@@ -173,40 +202,44 @@ IsAnswerOf v a None verdict out = (verdict ≡ Sound) × (out ≡ summary v a.ac
 IsAnswerOf v a (Some found) verdict out = (verdict ≡ Refused) × (out ≡ flaw_line found.0 found.1)
 
 pub answer_as : (v : Version) (a : Auditor) (o : Option (ℕ × Flaw)) (verdict : Verdict) (out : List ℕ)
-    → MatchOption o ((verdict ≡ Sound) × (out ≡ summary v a.account)) (λ found. (verdict ≡ Refused) × (out ≡ flaw_line found.0 found.1)) → IsAnswerOf v a o verdict out
+    → MatchOption o ((verdict ≡ Sound) × (out ≡ summary v a.account)) (λ found. (verdict ≡ Refused) × (out ≡ flaw_line found.0 found.1))
+    → IsAnswerOf v a o verdict out
 answer_as v a None verdict out h = h
 answer_as v a (Some found) verdict out h = h
 
-answer_found : (v : Version) (text : List ℕ) (n : ℕ) (lines : List TraceLine) (a : Auditor) (o : Option (ℕ × Flaw)) (verdict : Verdict) (out : List ℕ)
+-- the line that is told is the first that is flawed
+has_flaw : (n : ℕ) (lines : List TraceLine) (a : Auditor) (k : ℕ) (flaw : Flaw) → AreStopped n lines a k flaw → HasFlawAt n lines k flaw
+has_flaw n lines a k flaw h = (h.up_to.0, h.up_to.1, h.past, h.up_to.2, h.up_to.3, h.up_to.4, h.number)
+
+pub answer_found : (v : Version) (text : List ℕ) (n : ℕ) (lines : List TraceLine) (a : Auditor) (o : Option (ℕ × Flaw))
+    (verdict : Verdict) (out : List ℕ)
     → IsTrace text v n lines → IsFound n lines a o → IsAnswerOf v a o verdict out → IsAuditText text verdict out
 answer_found v text n lines a None verdict out t h (is, e) =
     subst (λ w. IsAuditText text w out) (sym is) (v, n, lines, t, h.sound, e ∙ ap (summary v) h.account)
 answer_found v text n lines a (Some found) verdict out t h (is, e) =
-    subst (λ w. IsAuditText text w out) (sym is) (inr (v, n, lines, found.0, found.1, t, h, e))
+    subst (λ w. IsAuditText text w out) (sym is) (inr (v, n, lines, found.0, found.1, t, has_flaw n lines a found.0 found.1 h, e))
 
-pub reads_all : (v : Version) (text : List ℕ) (n : ℕ) (lines : List TraceLine) (rest : List ℕ) (number : ℕ) (a : Auditor) (verdict : Verdict) (out : List ℕ)
-    → Reads v text n lines rest number → length rest ≡ 0 → Knows n lines a → IsAnswerOf v a a.flaw verdict out
-    → IsAuditText text verdict out
-reads_all v text n lines rest number a verdict out h none knows is = answer_found v text n lines a a.flaw verdict out (reads_trace v text n lines rest number h none) knows is
-
-pub reads_fault : (v : Version) (text : List ℕ) (n : ℕ) (lines : List TraceLine) (rest : List ℕ) (number : ℕ) (out : List ℕ)
-    → Reads v text n lines rest number → 0 < length rest
-    → ¬ BeginsWithLine v rest → out ≡ line (codes "syntax line " ++ decimal number) → IsAuditText text Refused out
-reads_fault v text n lines rest number out h some none written =
+-- a line that is not of the grammar
+pub breaks_off : (v : Version) (text : List ℕ) (n : ℕ) (lines : List TraceLine) (rest : List ℕ) (number : ℕ)
+    → Reads v text n lines rest number → 0 < length rest → ¬ BeginsWithLine v rest → BreaksOff text v n lines rest
+breaks_off v text n lines rest number h some none =
     let before : IsTrace (trace v n lines) v n lines = record { nodes = h.count; written = h.written; text = refl } in
-    let breaks : BreaksOff text v n lines rest = record {
+    record {
       before = before;
       text = h.text_is;
       more = λ e. omega (arith, some, ap length e);
       no_line = none;
-    } in
-    inl (number, inr (inr (v, n, lines, rest, breaks, h.number_is)), written)
+    }
 
-pub fault_format : (text out : List ℕ) → ¬ BeginsWithFormat text → out ≡ line (codes "syntax line " ++ decimal 1)
-    → IsAuditText text Refused out
-fault_format text out none written = inl (1, inl (refl, none), written)
+pub broken_answered : (v : Version) (text : List ℕ) (n : ℕ) (lines : List TraceLine) (rest out : List ℕ) → BreaksOff text v n lines rest
+    → out ≡ syntax_text (length lines + 3) → IsAuditText text Refused out
+broken_answered v text n lines rest out breaks written = inl (length lines + 3, inr (inr (v, n, lines, rest, breaks, refl)), written)
+
+pub fault_format : (text out : List ℕ) → ¬ BeginsWithFormat text → out ≡ syntax_text 1 → IsAuditText text Refused out × LacksHead text
+fault_format text out none written = (inl (1, inl (refl, none), written), inl none)
 
 pub fault_nodes : (v : Version) (text behind out : List ℕ) → text ≡ format_line v ++ behind → ¬ BeginsWithNodes behind
-    → out ≡ line (codes "syntax line " ++ decimal 2)
-    → IsAuditText text Refused out
-fault_nodes v text behind out e none written = inl (2, inr (inl (refl, (v, (behind, e, none)))), written)
+    → out ≡ syntax_text 2 → IsAuditText text Refused out × LacksHead text
+fault_nodes v text behind out e none written =
+    let lacks : LacksNodes text = (v, (behind, e, none)) in
+    (inl (2, inr (inl (refl, lacks)), written), inr lacks)

@@ -1,5 +1,6 @@
 -- A line is spelled by one step, and a step by one line.
-use Rattle.std.proofs.Common.{◌≡◌, ℕ, Bool, true, cond, eqb, not, ◌&&◌, List, [], ◌∷◌, ◌++◌, get_or, decimal, codes, refl, sym, ap, ◌∙◌, arith, append_assoc}
+use Rattle.std.proofs.Common.{◌≡◌, ℕ, Bool, true, cond, eqb, not, ◌&&◌, List, [], ◌∷◌, ◌++◌, get_or, decimal, codes, refl, sym, ap, ◌∙◌}
+use Rattle.std.proofs.Common.{arith, append_assoc}
 use Rattle.std.proofs.lemmas.Bool.{and_parts}
 use Rattle.std.proofs.lemmas.Bool.Decides.{nat_tests}
 use Rattle.std.specs.List.{All}
@@ -79,7 +80,8 @@ line_parts word ks rest = append_assoc (word ++ spaced ks) (10 ∷ []) rest ∙ 
 pub one_word : (text word a w : List ℕ) (ks rest : List ℕ) → Splits IsWordByte text word a → is_word w ≡ true
     → text ≡ line (w ++ spaced ks) ++ rest → (word ≡ w) × (a ≡ spaced ks ++ 10 ∷ rest)
 one_word text word a w ks rest h q e =
-    split_unique IsWordByte word w a (spaced ks ++ 10 ∷ rest) h.1 (word_bytes w q) h.2 (ends_word ks rest) (sym h.0 ∙ e ∙ line_parts w ks rest)
+    split_unique IsWordByte word w a (spaced ks
+    ++ 10 ∷ rest) h.1 (word_bytes w q) h.2 (ends_word ks rest) (sym h.0 ∙ e ∙ line_parts w ks rest)
 
 -- and so are its numbers
 pub same_numbers : (js ks a b : List ℕ) → All IsNumber js → All IsNumber ks → spaced js ++ 10 ∷ a ≡ spaced ks ++ 10 ∷ b
@@ -89,9 +91,11 @@ same_numbers [] (k ∷ ks) a b p q e = cc
 same_numbers (j ∷ js) [] a b p q e = cc
 same_numbers (j ∷ js) (k ∷ ks) a b p q e =
     let whole : 32 ∷ (decimal j ++ (spaced js ++ 10 ∷ a)) ≡ 32 ∷ (decimal k ++ (spaced ks ++ 10 ∷ b)) =
-    sym (ap (λ l. 32 ∷ l) (append_assoc (decimal j) (spaced js) (10 ∷ a))) ∙ e ∙ ap (λ l. 32 ∷ l) (append_assoc (decimal k) (spaced ks) (10 ∷ b)) in
+    sym (ap (λ l. 32 ∷ l) (append_assoc (decimal j) (spaced js) (10 ∷ a))) ∙ e
+    ∙ ap (λ l. 32 ∷ l) (append_assoc (decimal k) (spaced ks) (10 ∷ b)) in
     let same : decimal j ++ (spaced js ++ 10 ∷ a) ≡ decimal k ++ (spaced ks ++ 10 ∷ b) = cc in
-    let first = one_number j k (spaced js ++ 10 ∷ a) (spaced ks ++ 10 ∷ b) (All-head IsNumber j js p) (All-head IsNumber k ks q) (ends_number js a) (ends_number ks b) same in
+    let first = one_number j k (spaced js ++ 10 ∷ a) (spaced ks
+    ++ 10 ∷ b) (All-head IsNumber j js p) (All-head IsNumber k ks q) (ends_number js a) (ends_number ks b) same in
     let head : j ≡ k = first.0 in
     let rest = same_numbers js ks a b (All-tail IsNumber j js p) (All-tail IsNumber k ks q) first.1 in
     let tail : js ≡ ks = rest.0 in
@@ -113,7 +117,8 @@ step_spelled v w ks =
     (cond (bytes_eq w (codes "open")) (steps.ActionOpen (record { 0 = a }) (record { 0 = b }))
     (cond (bytes_eq w (codes "close")) (steps.ActionClose (record { 0 = a }) (record { 0 = b }))
     (cond (bytes_eq w (codes "ready")) (steps.Ready (record { 0 = a }))
-    (cond (bytes_eq w (codes "send")) (steps.Send (record { 0 = a }) (record { 0 = b }) (record { 0 = d }) (record { 0 = generation_spelled v e }))
+    (cond (bytes_eq w (codes "send"))
+    (steps.Send (record { 0 = a }) (record { 0 = b }) (record { 0 = d }) (record { 0 = generation_spelled v e }))
     (cond (bytes_eq w (codes "recv")) (steps.Recv (record { 0 = a }) (record { 0 = b }) (record { 0 = generation_spelled v d }))
     (cond (bytes_eq w (codes "end")) (steps.MessageEnd (record { 0 = a }) (record { 0 = b }) (record { 0 = generation_spelled v d }))
     (cond (bytes_eq w (codes "start")) steps.Start

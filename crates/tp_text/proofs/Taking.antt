@@ -1,12 +1,14 @@
 -- The lines of a script that were taken, and what was answered to them.
-use Rattle.std.proofs.Common.{◌≡◌, ℕ, ◌+◌, ◌≤◌, ◌<◌, Bool, true, false, List, [], ◌∷◌, ◌++◌, length, codes, decimal, is_some, Result, refl, sym, ap, subst, ◌∙◌, append_assoc, append-nil, length-append, arith, lit≤, inl, inr, if◌then◌else◌}
+use Rattle.std.proofs.Common.{◌≡◌, ℕ, ◌+◌, ◌≤◌, ◌<◌, Bool, true, false, List, [], ◌∷◌, ◌++◌, length, codes, decimal, is_some, Result, refl}
+use Rattle.std.proofs.Common.{sym, ap, subst, ◌∙◌, append_assoc, append-nil, length-append, arith, lit≤, inl, inr, if◌then◌else◌}
 use Rattle.std.specs.List.{All, flat_map}
 use Rattle.tp_base.specs.declared.Refusal.{Refusal}
 use Rattle.tp_base.specs.declared.Step.{Step}
 use Rattle.tp_core.specs.declared.Reply.{Reply}
 use Rattle.tp_core.specs.Accepted.{Accepted, answer, next, answers, after_all, refusal, with_step}
 use Rattle.tp_text.specs.declared.verdict.Verdict.TheVariants.{Sound, Refused}
-use Rattle.tp_text.specs.Script.{nodes_at, nodes_line, step_line, script, version_lines, IsNodeCount, IsScript, BeginsWithNodes, BeginsWithStep, BeginsWithVersion, StopsAfter}
+use Rattle.tp_text.specs.Script.{nodes_at, nodes_line, step_line, script, version_lines, IsNodeCount, IsScript, BeginsWithNodes}
+use Rattle.tp_text.specs.Script.{BeginsWithStep, BeginsWithVersion, StopsAfter}
 use Rattle.tp_text.specs.SimText.{answer_line, closing, fresh, IsSimText}
 use Rattle.tp_text.specs.Spelling.{IsSpelled, line, spelling}
 use Rattle.tp_text.proofs.Splits.{All-nil, All-cons, All-head, All-tail}
@@ -21,18 +23,21 @@ All-more P (y ∷ xs) x h p = All-cons P y (xs ++ x ∷ []) (All-head P y xs h) 
 lines_more : (v : Version) (steps : List Step) (s : Step)
     → flat_map (step_line v) (steps ++ s ∷ []) ≡ flat_map (step_line v) steps ++ step_line v s
 lines_more v [] s = append-nil (step_line v s)
-lines_more v (x ∷ steps) s = ap (λ l. step_line v x ++ l) (lines_more v steps s) ∙ sym (append_assoc (step_line v x) (flat_map (step_line v) steps) (step_line v s))
+lines_more v (x ∷ steps) s =
+    ap (λ l. step_line v x ++ l) (lines_more v steps s) ∙ sym (append_assoc (step_line v x) (flat_map (step_line v) steps) (step_line v s))
 
 after_more : (a : Accepted) (steps : List Step) (s : Step) → after_all a (steps ++ s ∷ []) ≡ next (after_all a steps) s
 after_more a [] s = refl
 after_more a (x ∷ steps) s = after_more (next a x) steps s
 
 answers_more : (a : Accepted) (steps : List Step) (s : Step)
-    → flat_map answer_line (answers a (steps ++ s ∷ [])) ≡ flat_map answer_line (answers a steps) ++ answer_line (answer (after_all a steps) s)
+    → flat_map answer_line (answers a (steps ++ s ∷ [])) ≡ flat_map answer_line (answers a steps)
+    ++ answer_line (answer (after_all a steps) s)
 answers_more a [] s = append-nil (answer_line (answer a s))
 answers_more a (x ∷ steps) s =
     ap (λ l. answer_line (answer a x) ++ l) (answers_more (next a x) steps s)
-    ∙ sym (append_assoc (answer_line (answer a x)) (flat_map answer_line (answers (next a x) steps)) (answer_line (answer (after_all (next a x) steps) s)))
+    ∙ sym (append_assoc (answer_line (answer a x)) (flat_map answer_line (answers (next a x) steps))
+    (answer_line (answer (after_all (next a x) steps) s)))
 
 chosen : (b : Bool) (a : Accepted) (s : Step) → (if b then a else with_step a s).nodes ≡ a.nodes
 chosen true a s = refl
@@ -43,7 +48,8 @@ nodes_kept a [] = refl
 nodes_kept a (s ∷ steps) = nodes_kept (next a s) steps ∙ chosen (is_some (refusal a s)) a s
 
 -- These steps were taken from the front of the text, the core is as after them, and so many lines were read.
-pub record Takes (v : Version) (text : List ℕ) (n : ℕ) (taken : List Step) (rest : List ℕ) (core : Accepted) (out : List ℕ) (number : ℕ) : Type 0 where
+pub record Takes (v : Version) (text : List ℕ) (n : ℕ) (taken : List Step) (rest : List ℕ) (core : Accepted) (out : List ℕ)
+    (number : ℕ) : Type 0 where
   pub count : IsNodeCount n
   pub spelled : All (IsSpelled v) taken
   pub text_is : text ≡ script v n taken ++ rest
@@ -73,7 +79,14 @@ takes_none v text behind n rest core out number head found c o is =
       core_is = c;
       out_is = o;
       number_is = omega (arith, is);
-      short = omega (arith, is, head_short v, ap length whole, length-append (version_lines v) (nodes_line n ++ rest), length-append (nodes_line n) rest);
+      short = omega (
+        arith,
+        is,
+        head_short v,
+        ap length whole,
+        length-append (version_lines v) (nodes_line n ++ rest),
+        length-append (nodes_line n) rest,
+      );
     }
 
 pub step_counts : (v : Version) (s : Step) (behind : List ℕ) → length behind + 1 ≤ length (step_line v s ++ behind)
@@ -108,10 +121,12 @@ takes_one v text n taken rest core out number s behind r core' out' h found answ
   short = omega (arith, h.short, ap length found.1, step_counts v s behind);
 }
 
-pub takes_all : (v : Version) (text : List ℕ) (n : ℕ) (taken : List Step) (rest : List ℕ) (core : Accepted) (out : List ℕ) (number : ℕ) (out' : List ℕ)
+pub takes_all : (v : Version) (text : List ℕ) (n : ℕ) (taken : List Step) (rest : List ℕ) (core : Accepted) (out : List ℕ) (number : ℕ)
+    (out' : List ℕ)
     → Takes v text n taken rest core out number → length rest ≡ 0 → out' ≡ out ++ closing core → IsSimText text Sound out'
 takes_all v text n taken rest core out number out' h none written =
-    let whole : text ≡ script v n taken = h.text_is ∙ ap (λ l. script v n taken ++ l) (is_over rest none) ∙ append-nil (script v n taken) in (
+    let whole : text ≡ script v n taken =
+    h.text_is ∙ ap (λ l. script v n taken ++ l) (is_over rest none) ∙ append-nil (script v n taken) in (
       v,
       n,
       taken,
@@ -119,7 +134,8 @@ takes_all v text n taken rest core out number out' h none written =
       written ∙ ap (λ l. l ++ closing core) h.out_is ∙ ap (λ a. flat_map answer_line (answers (fresh n) taken) ++ closing a) h.core_is,
     )
 
-pub takes_fault : (v : Version) (text : List ℕ) (n : ℕ) (taken : List Step) (rest : List ℕ) (core : Accepted) (out : List ℕ) (number : ℕ) (out' : List ℕ)
+pub takes_fault : (v : Version) (text : List ℕ) (n : ℕ) (taken : List Step) (rest : List ℕ) (core : Accepted) (out : List ℕ) (number : ℕ)
+    (out' : List ℕ)
     → Takes v text n taken rest core out number → 0 < length rest → ¬ BeginsWithStep v rest
     → out' ≡ line (codes "syntax line " ++ decimal number) → IsSimText text Refused out'
 takes_fault v text n taken rest core out number out' h some none written =

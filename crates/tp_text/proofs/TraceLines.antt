@@ -1,5 +1,6 @@
 -- The lines of a trace are told apart.
-use Rattle.std.proofs.Common.{◌≡◌, ◌≢◌, ℕ, ◌≤◌, nat_eq, true, false, List, [], ◌∷◌, ◌++◌, Option, Some, None, length, drop, take, codes, refl, sym, ap, ◌∙◌, append_assoc, arith}
+use Rattle.std.proofs.Common.{◌≡◌, ◌≢◌, ℕ, ◌≤◌, nat_eq, true, false, List, [], ◌∷◌, ◌++◌, Option, Some, None, length, drop, take, codes}
+use Rattle.std.proofs.Common.{refl, sym, ap, ◌∙◌, append_assoc, arith}
 use Rattle.std.specs.Borrow.{Bor}
 use Rattle.std.specs.Prelude.{MatchOption, slice_index_or}
 use Rattle.std.specs.Cmp.Lexicographic.{same_text, pointwise}
@@ -29,7 +30,9 @@ not_plain text h rest e = let bad : true ≡ false = ap (λ t. pointwise nat_eq 
 
 -- what stands behind a prefix
 pub ended_is : (text a : List ℕ) → pointwise nat_eq (take 6 text) (codes " ended") ≡ true → a ≡ drop 6 text → text ≡ codes " ended" ++ a
-ended_is text a h e = sym (take-append-drop 6 text) ∙ ap (λ l. l ++ drop 6 text) (same_text (take 6 text) (codes " ended") (sym h)) ∙ ap (λ l. codes " ended" ++ l) (sym e)
+ended_is text a h e =
+    sym (take-append-drop 6 text) ∙ ap (λ l. l ++ drop 6 text) (same_text (take 6 text) (codes " ended") (sym h))
+    ∙ ap (λ l. codes " ended" ++ l) (sym e)
 
 pub no_words : (text a : List ℕ) → ((rest : List ℕ) → text ≢ codes " not" ++ 10 ∷ rest) → text ≡ codes " ended" ++ a
     → ((w : ℕ) (rest : List ℕ) → AreWords (Some w) → a ≢ spaced (w ∷ []) ++ 10 ∷ rest) → (o : Option ℕ) (rest : List ℕ)
@@ -149,7 +152,8 @@ no_judge_line v text word a h is none (Judged o, rest, p, e) = none o rest p (ju
 pub no_plain_line : (v : Version) (text word a : List ℕ) (k : Keyword) → Splits IsWordByte text word a → word ≡ keyword_text k
     → k ≢ keywords.Judge → NoStep v a k → ¬ BeginsWithLine v text
 no_plain_line v text word a k h is other none (Plain s, rest, p, e) = no_line_of v text word a k h is none (s, rest, p.0, e)
-no_plain_line v text word a k h is other none (Judged o, rest, p, e) = other (keyword_judge k (sym is ∙ (judge_word v text word a o rest h e).0))
+no_plain_line v text word a k h is other none (Judged o, rest, p, e) =
+    other (keyword_judge k (sym is ∙ (judge_word v text word a o rest h e).0))
 
 pub judge_line : (v : Version) (text word a : List ℕ) (o : Option ℕ) (after : List ℕ) → Splits IsWordByte text word a
     → word ≡ codes "judge" → AreWords o × (a ≡ words o ++ 10 ∷ after)

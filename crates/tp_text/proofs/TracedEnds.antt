@@ -1,5 +1,6 @@
 -- What a sound trace says of the end.
-use Rattle.std.proofs.Common.{◌≡◌, ◌≢◌, ℕ, ◌+◌, ◌-◌, ◌≤◌, Bool, true, false, cond, ◌||◌, ◌&&◌, nat_le, if◌then◌else◌, append_assoc, List, [], ◌∷◌, ◌++◌, Option, Some, None, inl, inr, refl, sym, ap, subst, ◌∙◌, arith, is_some, length}
+use Rattle.std.proofs.Common.{◌≡◌, ◌≢◌, ℕ, ◌+◌, ◌-◌, ◌≤◌, Bool, true, false, cond, ◌||◌, ◌&&◌, nat_le, if◌then◌else◌, append_assoc, List}
+use Rattle.std.proofs.Common.{[], ◌∷◌, ◌++◌, Option, Some, None, inl, inr, refl, sym, ap, subst, ◌∙◌, arith, is_some, length}
 use Rattle.std.specs.Prelude.{IsFalse}
 use Rattle.std.proofs.lemmas.Bool.Decides.{nat_tests}
 use Rattle.tp_base.specs.declared.Step.{Step}
@@ -40,7 +41,7 @@ enough true false v w e = cc
 enough false f v w e = cc
 
 -- the wave that is named was followed by another
-judged_wave : (n w : ℕ) (past : List Step) → judgement n past ≡ Some w → w + 1 ≤ waves past
+pub judged_wave : (n w : ℕ) (past : List Step) → judgement n past ≡ Some w → w + 1 ≤ waves past
 judged_wave n w past e =
     let both = enough (nat_le 2 (waves past)) (four_equal n past) (waves past - 1) w e in
     let two : 2 ≤ waves past = grind (arith, nat_tests, both.0) in
@@ -67,7 +68,8 @@ ended_over n lines w h e =
     let last = last_judge n w (steps_in lines) e in
     let past = last.1 in
     let same : until w ss ≡ until w past =
-    ap (until w) (last.2 ∙ sym (append_assoc last.0 (steps.Judge ∷ []) past)) ∙ until_kept w (last.0 ++ steps.Judge ∷ []) past (judged_wave n w past last.3) in
+    ap (until w) (last.2 ∙ sym (append_assoc last.0 (steps.Judge ∷ []) past))
+    ∙ until_kept w (last.0 ++ steps.Judge ∷ []) past (judged_wave n w past last.3) in
     subst (λ (p : ℕ). IsOverFrom n p ss) (ap (λ u. length (visit 0 u)) (sym same))
     (never_early n ss (present_run n (steps_in lines) h.run) w last.0 past last.2 last.3)
 
@@ -79,7 +81,8 @@ or_kept false b e = e
 
 ended_kept : (n : ℕ) (later past : List Step) → is_ended n past ≡ true → is_ended n (later ++ past) ≡ true
 ended_kept n [] past e = e
-ended_kept n (s ∷ later) past e = or_kept (is_judge s && is_some (judgement n (later ++ past))) (is_ended n (later ++ past)) (ended_kept n later past e)
+ended_kept n (s ∷ later) past e =
+    or_kept (is_judge s && is_some (judgement n (later ++ past))) (is_ended n (later ++ past)) (ended_kept n later past e)
 
 not_none : (o : Option ℕ) (b : Bool) → IsFalse b → ((true && is_some o) || b) ≡ true → o ≢ None
 not_none (Some w) b f e = λ none. cc
@@ -111,7 +114,8 @@ not_ended_claims n lines h none later w past e =
     justified_there n later (Some w) past (subst (AreJustified n) e h.justified) in
     let there : is_ended n (steps.Judge ∷ present (steps_in past)) ≡ true =
     some_ended (judgement n (present (steps_in past))) (is_ended n (present (steps_in past))) w (sym right) in
-    let all : steps_in lines ≡ steps_in later ++ steps.Judge ∷ steps_in past = ap steps_in e ∙ steps-append later (Judged (Some w) ∷ past) in
+    let all : steps_in lines ≡ steps_in later ++ steps.Judge ∷ steps_in past =
+    ap steps_in e ∙ steps-append later (Judged (Some w) ∷ past) in
     elim (cases_Bool (any is_reopen (steps_in later))) [
       | inl reopened ↦ reopened
       | inr on ↦

@@ -1,8 +1,10 @@
 -- A text is read in one way.
-use Rattle.std.proofs.Common.{◌≡◌, ℕ, ◌+◌, List, [], ◌∷◌, ◌++◌, length, drop, slice_index_or, codes, decimal, refl, sym, inl, inr, ap, subst, ◌∙◌, arith, append_assoc, append-nil, length-append}
+use Rattle.std.proofs.Common.{◌≡◌, ℕ, ◌+◌, List, [], ◌∷◌, ◌++◌, length, drop, slice_index_or, codes, decimal, refl, sym, inl, inr, ap}
+use Rattle.std.proofs.Common.{subst, ◌∙◌, arith, append_assoc, append-nil, length-append}
 use Rattle.std.specs.List.{All, flat_map}
 use Rattle.tp_base.specs.declared.Step.{Step}
-use Rattle.tp_text.specs.Script.{nodes_at, nodes_line, step_line, script, version_lines, IsNodeCount, IsScript, BeginsWithNodes, BeginsWithStep, BeginsWithVersion, LacksNodesBehind, StopsAfter, HasFaultAt, ScriptsAreDetermined}
+use Rattle.tp_text.specs.Script.{nodes_at, nodes_line, step_line, script, version_lines, IsNodeCount, IsScript, BeginsWithNodes}
+use Rattle.tp_text.specs.Script.{BeginsWithStep, BeginsWithVersion, LacksNodesBehind, StopsAfter, HasFaultAt, ScriptsAreDetermined}
 use Rattle.tp_text.specs.declared.verdict.Verdict.TheVariants.{Sound, Refused}
 use Rattle.tp_text.specs.SimText.{report, TextsAreDetermined}
 use Rattle.tp_text.specs.Spelling.{IsSpelled, line, spaced, word_of, numbers_of}
@@ -25,13 +27,27 @@ same_steps : (v : Version) (steps others : List Step) (a b : List ℕ) → All (
     → flat_map (step_line v) steps ++ a ≡ flat_map (step_line v) others ++ b → (steps ≡ others) × (a ≡ b)
 same_steps v [] [] a b p q s t e = (refl, e)
 same_steps v [] (y ∷ others) a b p q s t e =
-    absurd (s (y, flat_map (step_line v) others ++ b, All-head (IsSpelled v) y others q, e ∙ append_assoc (step_line v y) (flat_map (step_line v) others) b))
+    absurd (s (
+      y,
+      flat_map (step_line v) others
+          ++ b,
+      All-head (IsSpelled v) y others q,
+      e ∙ append_assoc (step_line v y) (flat_map (step_line v) others) b,
+    ))
 same_steps v (x ∷ steps) [] a b p q s t e =
-    absurd (t (x, flat_map (step_line v) steps ++ a, All-head (IsSpelled v) x steps p, sym e ∙ append_assoc (step_line v x) (flat_map (step_line v) steps) a))
+    absurd (t (
+      x,
+      flat_map (step_line v) steps
+          ++ a,
+      All-head (IsSpelled v) x steps p,
+      sym e ∙ append_assoc (step_line v x) (flat_map (step_line v) steps) a,
+    ))
 same_steps v (x ∷ steps) (y ∷ others) a b p q s t e =
     let whole : step_line v x ++ (flat_map (step_line v) steps ++ a) ≡ step_line v y ++ (flat_map (step_line v) others ++ b) =
-    sym (append_assoc (step_line v x) (flat_map (step_line v) steps) a) ∙ e ∙ append_assoc (step_line v y) (flat_map (step_line v) others) b in
-    let first = same_step v x y (flat_map (step_line v) steps ++ a) (flat_map (step_line v) others ++ b) (All-head (IsSpelled v) x steps p) (All-head (IsSpelled v) y others q) whole in
+    sym (append_assoc (step_line v x) (flat_map (step_line v) steps) a) ∙ e
+    ∙ append_assoc (step_line v y) (flat_map (step_line v) others) b in
+    let first = same_step v x y (flat_map (step_line v) steps ++ a) (flat_map (step_line v) others
+    ++ b) (All-head (IsSpelled v) x steps p) (All-head (IsSpelled v) y others q) whole in
     let rest = same_steps v steps others a b (All-tail (IsSpelled v) x steps p) (All-tail (IsSpelled v) y others q) s t first.1 in
     (ap (λ z. z ∷ steps) first.0 ∙ ap (λ l. y ∷ l) rest.0, rest.1)
 
@@ -99,7 +115,8 @@ same_stop : (bytes : List ℕ) (v w : Version) (n m : ℕ) (steps others : List 
     → StopsAfter bytes w m others b
     → length steps + nodes_at v + 1 ≡ length others + nodes_at w + 1
 same_stop bytes v w n m steps others a b h g =
-    let both = same_reading v w n m steps others a b h.before.nodes g.before.nodes h.before.spelled g.before.spelled h.no_step g.no_step (sym h.text ∙ g.text) in
+    let both = same_reading v w n m steps others a b h.before.nodes g.before.nodes h.before.spelled g.before.spelled h.no_step g.no_step
+    (sym h.text ∙ g.text) in
     ap (λ ss. length ss + nodes_at v + 1) both.2 ∙ ap (λ x. length others + nodes_at x + 1) both.0
 
 pub same_fault : (bytes : List ℕ) (k l : ℕ) → HasFaultAt bytes k → HasFaultAt bytes l → k ≡ l
@@ -108,10 +125,12 @@ same_fault bytes k l (inl p) (inr (inl q)) = absurd (p.2 (q.1.0, q.1.1))
 same_fault bytes k l (inl p) (inr (inr (w, m, others, b, g, q))) = absurd (script_begins w bytes m others b g.before.nodes g.text p.1 p.2)
 same_fault bytes k l (inr (inl p)) (inl q) = absurd (q.2 (p.1.0, p.1.1))
 same_fault bytes k l (inr (inl p)) (inr (inl q)) = p.0 ∙ sym q.0
-same_fault bytes k l (inr (inl p)) (inr (inr (w, m, others, b, g, q))) = absurd (script_goes_on w bytes m others b g.before.nodes g.text p.1)
+same_fault bytes k l (inr (inl p)) (inr (inr (w, m, others, b, g, q))) =
+    absurd (script_goes_on w bytes m others b g.before.nodes g.text p.1)
 same_fault bytes k l (inr (inr (v, n, steps, a, h, p))) (inl q) = absurd (script_begins v bytes n steps a h.before.nodes h.text q.1 q.2)
 same_fault bytes k l (inr (inr (v, n, steps, a, h, p))) (inr (inl q)) = absurd (script_goes_on v bytes n steps a h.before.nodes h.text q.1)
-same_fault bytes k l (inr (inr (v, n, steps, a, h, p))) (inr (inr (w, m, others, b, g, q))) = p ∙ same_stop bytes v w n m steps others a b h g ∙ sym q
+same_fault bytes k l (inr (inr (v, n, steps, a, h, p))) (inr (inr (w, m, others, b, g, q))) =
+    p ∙ same_stop bytes v w n m steps others a b h g ∙ sym q
 
 pub no_fault : (bytes : List ℕ) (v : Version) (n : ℕ) (steps : List Step) (l : ℕ) → IsScript bytes v n steps → ¬ HasFaultAt bytes l
 no_fault bytes v n steps l h fault =
@@ -120,7 +139,8 @@ no_fault bytes v n steps l h fault =
       | inl q ↦ script_begins v bytes n steps [] h.nodes whole q.1 q.2
       | inr (inl q) ↦ script_goes_on v bytes n steps [] h.nodes whole q.1
       | inr (inr (w, m, others, b, g, q)) ↦
-          g.more (sym (same_reading v w n m steps others [] b h.nodes g.before.nodes h.spelled g.before.spelled (no_step_in_nothing v) g.no_step
+          g.more (sym (same_reading v w n m steps others [] b h.nodes g.before.nodes h.spelled g.before.spelled (no_step_in_nothing v)
+          g.no_step
           (sym whole ∙ g.text)).3)
     ]
 

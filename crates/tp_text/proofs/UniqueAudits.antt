@@ -1,5 +1,6 @@
 -- One answer is given to a trace.
-use Rattle.std.proofs.Common.{◌≡◌, ℕ, ◌+◌, List, [], ◌∷◌, ◌++◌, Option, Some, None, length, codes, decimal, refl, sym, inl, inr, ap, subst, ◌∙◌, arith, append-nil}
+use Rattle.std.proofs.Common.{◌≡◌, ℕ, ◌+◌, List, [], ◌∷◌, ◌++◌, Option, Some, None, length, codes, decimal, refl, sym, inl, inr, ap, subst}
+use Rattle.std.proofs.Common.{◌∙◌, arith, append-nil}
 use Rattle.tp_core.specs.Accepted.{refusal}
 use Rattle.tp_core.proofs.Exact.{none_where_lawful}
 use Rattle.tp_text.specs.declared.auditor.Flaw.{Flaw}
@@ -7,7 +8,8 @@ use Rattle.tp_text.specs.declared.auditor.Flaw.TheVariants as flaws
 use Rattle.tp_text.specs.declared.traced.TraceLine.{TraceLine}
 use Rattle.tp_text.specs.declared.traced.TraceLine.TheVariants.{Plain, Judged}
 use Rattle.tp_text.specs.declared.verdict.Verdict.TheVariants.{Sound, Refused}
-use Rattle.tp_text.specs.AuditText.{account, flaw_line, step_in, steps_in, summary, taken, AuditsAreDetermined, HasFlawAt, IsComplaint, IsFlaw, IsSound}
+use Rattle.tp_text.specs.AuditText.{account, flaw_line, step_in, steps_in, summary, taken, AuditsAreDetermined, HasFlawAt, IsComplaint}
+use Rattle.tp_text.specs.AuditText.{IsFlaw, IsSound}
 use Rattle.tp_text.specs.Script.{IsNodeCount}
 use Rattle.tp_text.specs.Spelling.{line}
 use Rattle.tp_text.specs.Trace.{trace, BeginsWithFormat, BreaksOff, HasTraceFaultAt, IsTrace, LacksNodes}
@@ -32,14 +34,15 @@ no_flaw n (Judged o) past flaws.Unjustified h (p, is, none, other) = other (judg
 no_flaw n (Plain s) past flaws.Unjustified h (p, is, none, other) = cc
 
 same_flaw : (n : ℕ) (l : TraceLine) (past : List TraceLine) (f g : Flaw) → IsFlaw n past l f → IsFlaw n past l g → f ≡ g
-same_flaw n l past (flaws.Refused r) (flaws.Refused q) h g = let both : Some r ≡ Some q = sym h ∙ g in let one : r ≡ q = cc in ap (λ x. flaws.Refused x) one
+same_flaw n l past (flaws.Refused r) (flaws.Refused q) h g = let both : Some r ≡ Some q = sym h ∙ g in let one : r ≡ q =
+    cc in ap (λ x. flaws.Refused x) one
 same_flaw n (Judged o) past (flaws.Refused r) flaws.Unjustified h (p, is, none, other) = let bad : Some r ≡ None = sym h ∙ none in cc
 same_flaw n (Plain s) past (flaws.Refused r) flaws.Unjustified h (p, is, none, other) = cc
 same_flaw n (Judged o) past flaws.Unjustified (flaws.Refused r) (p, is, none, other) g = let bad : Some r ≡ None = sym g ∙ none in cc
 same_flaw n (Plain s) past flaws.Unjustified (flaws.Refused r) (p, is, none, other) g = cc
 same_flaw n l past flaws.Unjustified flaws.Unjustified h g = refl
 
-same_place : (n : ℕ) (later later' : List TraceLine) (l l' : TraceLine) (past past' : List TraceLine) (f f' : Flaw)
+pub same_place : (n : ℕ) (later later' : List TraceLine) (l l' : TraceLine) (past past' : List TraceLine) (f f' : Flaw)
     → later ++ l ∷ past ≡ later' ++ l' ∷ past'
     → IsSound n past → IsSound n past' → IsFlaw n past l f → IsFlaw n past' l' f' → (l ≡ l') × (past ≡ past')
 same_place n [] [] l l' past past' f f' e h h' g g' = (cc, cc)
@@ -58,25 +61,27 @@ same_flaws n lines k j f g (later, l, past, e, sound, flaw, at) (later', l', pas
     let moved : IsFlaw n past l g = subst (λ x. IsFlaw n x l g) (sym same.1) (subst (λ x. IsFlaw n past' x g) (sym same.0) flaw') in
     ap (λ x. flaw_line x f) (at ∙ ap (λ ls. length ls + 3) same.1 ∙ sym at') ∙ ap (λ x. flaw_line j x) (same_flaw n l past f g flaw moved)
 
-sound_or_flawed : (n : ℕ) (lines : List TraceLine) (k : ℕ) (f : Flaw) → IsSound n lines → ¬ HasFlawAt n lines k f
-sound_or_flawed n lines k f h (later, l, past, e, sound, flaw, at) = no_flaw n l past f (sound_behind n later (l ∷ past) (subst (IsSound n) e h)) flaw
+pub sound_or_flawed : (n : ℕ) (lines : List TraceLine) (k : ℕ) (f : Flaw) → IsSound n lines → ¬ HasFlawAt n lines k f
+sound_or_flawed n lines k f h (later, l, past, e, sound, flaw, at) =
+    no_flaw n l past f (sound_behind n later (l ∷ past) (subst (IsSound n) e h)) flaw
 
 -- ---- faults of grammar
 
-has_nodes : (bytes : List ℕ) (v : Version) (n : ℕ) (lines : List TraceLine) (rest : List ℕ) → IsNodeCount n
+pub has_nodes : (bytes : List ℕ) (v : Version) (n : ℕ) (lines : List TraceLine) (rest : List ℕ) → IsNodeCount n
     → bytes ≡ trace v n lines ++ rest → ¬ LacksNodes bytes
 has_nodes bytes v n lines rest count e (w, (after, is, none)) =
     let head = same_format w v after (behind v n lines rest) (sym is ∙ e ∙ spread v n lines rest) in
     none (n, flat_map (trace_line v) (oldest_first lines) ++ rest, count, head.1)
 
-has_format : (bytes : List ℕ) (v : Version) (n : ℕ) (lines : List TraceLine) (rest : List ℕ) → bytes ≡ trace v n lines ++ rest
+pub has_format : (bytes : List ℕ) (v : Version) (n : ℕ) (lines : List TraceLine) (rest : List ℕ) → bytes ≡ trace v n lines ++ rest
     → BeginsWithFormat bytes
 has_format bytes v n lines rest e = (v, behind v n lines rest, e ∙ spread v n lines rest)
 
 same_break : (bytes : List ℕ) (v w : Version) (n m : ℕ) (lines others : List TraceLine) (a b : List ℕ)
     → BreaksOff bytes v n lines a → BreaksOff bytes w m others b → lines ≡ others
 same_break bytes v w n m lines others a b h g =
-    (same_trace v w n m lines others a b h.before.nodes g.before.nodes h.before.written g.before.written h.no_line g.no_line (sym h.text ∙ g.text)).2
+    (same_trace v w n m lines others a b h.before.nodes g.before.nodes h.before.written g.before.written h.no_line g.no_line (sym h.text
+    ∙ g.text)).2
 
 same_fault : (bytes : List ℕ) (k l : ℕ) → HasTraceFaultAt bytes k → HasTraceFaultAt bytes l → k ≡ l
 same_fault bytes k l (inl p) (inl q) = p.0 ∙ sym q.0
@@ -97,19 +102,22 @@ no_fault bytes v n lines l h fault =
       | inl q ↦ q.1 (has_format bytes v n lines [] whole)
       | inr (inl q) ↦ has_nodes bytes v n lines [] h.nodes whole q.1
       | inr (inr (w, m, others, b, g, q)) ↦
-          g.more (sym (same_trace v w n m lines others [] b h.nodes g.before.nodes h.written g.before.written (no_line_in_nothing v) g.no_line
+          g.more (sym (same_trace v w n m lines others [] b h.nodes g.before.nodes h.written g.before.written (no_line_in_nothing v)
+          g.no_line
           (sym whole ∙ g.text)).3)
     ]
 
 -- ---- answers
 
 same_complaint : (bytes text other : List ℕ) → IsComplaint bytes text → IsComplaint bytes other → text ≡ other
-same_complaint bytes text other (inl (k, h, e)) (inl (l, g, f)) = e ∙ ap (λ i. line (codes "syntax line " ++ decimal i)) (same_fault bytes k l h g) ∙ sym f
+same_complaint bytes text other (inl (k, h, e)) (inl (l, g, f)) =
+    e ∙ ap (λ i. line (codes "syntax line " ++ decimal i)) (same_fault bytes k l h g) ∙ sym f
 same_complaint bytes text other (inl (k, h, e)) (inr (v, n, lines, j, f, t, g, d)) = absurd (no_fault bytes v n lines k t h)
 same_complaint bytes text other (inr (v, n, lines, j, f, t, g, d)) (inl (k, h, e)) = absurd (no_fault bytes v n lines k t h)
 same_complaint bytes text other (inr (v, n, lines, k, f, t, h, d)) (inr (w, m, others, j, g, u, there, e)) =
     let all = traces_determined bytes v w n m lines others t u in
-    let moved : HasFlawAt n lines j g = subst (λ x. HasFlawAt n x j g) (sym all.2) (subst (λ x. HasFlawAt x others j g) (sym all.1) there) in
+    let moved : HasFlawAt n lines j g =
+    subst (λ x. HasFlawAt n x j g) (sym all.2) (subst (λ x. HasFlawAt x others j g) (sym all.1) there) in
     d ∙ same_flaws n lines k j f g h moved ∙ sym e
 
 no_complaint : (bytes text : List ℕ) (v : Version) (n : ℕ) (lines : List TraceLine) → IsTrace bytes v n lines → IsSound n lines

@@ -1,5 +1,6 @@
 -- A trace is read in one way.
-use Rattle.std.proofs.Common.{◌≡◌, ℕ, List, [], ◌∷◌, ◌++◌, Option, Some, None, length, drop, codes, refl, sym, ap, subst, ◌∙◌, arith, append_assoc, append-nil, length-append}
+use Rattle.std.proofs.Common.{◌≡◌, ℕ, List, [], ◌∷◌, ◌++◌, Option, Some, None, length, drop, codes, refl, sym, ap, subst, ◌∙◌, arith}
+use Rattle.std.proofs.Common.{append_assoc, append-nil, length-append}
 use Rattle.std.specs.Prelude.{slice_index_or}
 use Rattle.std.specs.List.{All, flat_map}
 use Rattle.tp_text.specs.declared.traced.TraceLine.{TraceLine}
@@ -34,7 +35,8 @@ no_both v (Plain s) o a b h e p =
     (line_parts (word_of s) (numbers_of v s) a, word_bytes (word_of s) (step_word s), ends_word (numbers_of v s) a) e in
     absurd (h.1 (is_judgement v s h.0.2 word.0))
 no_both v (Judged q) o a b h e p =
-    let whole : codes "judge" ++ (words q ++ 10 ∷ a) ≡ codes "judge" ++ (words o ++ 10 ∷ b) = sym (judge_parts v q a) ∙ e ∙ judge_parts v o b in
+    let whole : codes "judge" ++ (words q ++ 10 ∷ a) ≡ codes "judge" ++ (words o ++ 10 ∷ b) =
+    sym (judge_parts v q a) ∙ e ∙ judge_parts v o b in
     let both = same_words q o a b h p (ap (λ l. drop 5 l) whole) in
     (ap (λ x. Judged x) both.0, both.1)
 
@@ -69,12 +71,15 @@ oldest_same (x ∷ xs) (y ∷ ys) e =
 
 oldest_written : (v : Version) (lines : List TraceLine) → All (IsWritten v) lines → All (IsWritten v) (oldest_first lines)
 oldest_written v [] h = h
-oldest_written v (l ∷ lines) h = All-more (IsWritten v) (oldest_first lines) l (oldest_written v lines (All-tail (IsWritten v) l lines h)) (All-head (IsWritten v) l lines h)
+oldest_written v (l ∷ lines) h =
+    All-more (IsWritten v) (oldest_first lines) l (oldest_written v lines (All-tail (IsWritten v) l lines h))
+    (All-head (IsWritten v) l lines h)
 
 line_last : (v : Version) (xs : List TraceLine) (l : TraceLine)
     → flat_map (trace_line v) (xs ++ l ∷ []) ≡ flat_map (trace_line v) xs ++ trace_line v l
 line_last v [] l = append-nil (trace_line v l)
-line_last v (x ∷ xs) l = ap (λ z. trace_line v x ++ z) (line_last v xs l) ∙ sym (append_assoc (trace_line v x) (flat_map (trace_line v) xs) (trace_line v l))
+line_last v (x ∷ xs) l =
+    ap (λ z. trace_line v x ++ z) (line_last v xs l) ∙ sym (append_assoc (trace_line v x) (flat_map (trace_line v) xs) (trace_line v l))
 
 pub trace_is : (v : Version) (n : ℕ) (lines : List TraceLine)
     → trace v n lines ≡ format_line v ++ (nodes_line n ++ flat_map (trace_line v) (oldest_first lines))
@@ -90,13 +95,26 @@ same_lines : (v : Version) (xs ys : List TraceLine) (a b : List ℕ) → All (Is
     → flat_map (trace_line v) xs ++ a ≡ flat_map (trace_line v) ys ++ b → (xs ≡ ys) × (a ≡ b)
 same_lines v [] [] a b p q s t e = (refl, e)
 same_lines v [] (y ∷ ys) a b p q s t e =
-    absurd (s (y, flat_map (trace_line v) ys ++ b, All-head (IsWritten v) y ys q, e ∙ append_assoc (trace_line v y) (flat_map (trace_line v) ys) b))
+    absurd (s (
+      y,
+      flat_map (trace_line v) ys
+          ++ b,
+      All-head (IsWritten v) y ys q,
+      e ∙ append_assoc (trace_line v y) (flat_map (trace_line v) ys) b,
+    ))
 same_lines v (x ∷ xs) [] a b p q s t e =
-    absurd (t (x, flat_map (trace_line v) xs ++ a, All-head (IsWritten v) x xs p, sym e ∙ append_assoc (trace_line v x) (flat_map (trace_line v) xs) a))
+    absurd (t (
+      x,
+      flat_map (trace_line v) xs
+          ++ a,
+      All-head (IsWritten v) x xs p,
+      sym e ∙ append_assoc (trace_line v x) (flat_map (trace_line v) xs) a,
+    ))
 same_lines v (x ∷ xs) (y ∷ ys) a b p q s t e =
     let whole : trace_line v x ++ (flat_map (trace_line v) xs ++ a) ≡ trace_line v y ++ (flat_map (trace_line v) ys ++ b) =
     sym (append_assoc (trace_line v x) (flat_map (trace_line v) xs) a) ∙ e ∙ append_assoc (trace_line v y) (flat_map (trace_line v) ys) b in
-    let first = same_line v x y (flat_map (trace_line v) xs ++ a) (flat_map (trace_line v) ys ++ b) (All-head (IsWritten v) x xs p) (All-head (IsWritten v) y ys q) whole in
+    let first = same_line v x y (flat_map (trace_line v) xs ++ a) (flat_map (trace_line v) ys
+    ++ b) (All-head (IsWritten v) x xs p) (All-head (IsWritten v) y ys q) whole in
     let rest = same_lines v xs ys a b (All-tail (IsWritten v) x xs p) (All-tail (IsWritten v) y ys q) s t first.1 in
     (ap (λ z. z ∷ xs) first.0 ∙ ap (λ l. y ∷ l) rest.0, rest.1)
 
@@ -107,7 +125,8 @@ behind v n lines rest = nodes_line n ++ (flat_map (trace_line v) (oldest_first l
 pub spread : (v : Version) (n : ℕ) (lines : List TraceLine) (rest : List ℕ)
     → trace v n lines ++ rest ≡ format_line v ++ behind v n lines rest
 spread v n lines rest =
-    ap (λ z. z ++ rest) (trace_is v n lines) ∙ append_assoc (format_line v) (nodes_line n ++ flat_map (trace_line v) (oldest_first lines)) rest
+    ap (λ z. z ++ rest) (trace_is v n lines)
+    ∙ append_assoc (format_line v) (nodes_line n ++ flat_map (trace_line v) (oldest_first lines)) rest
     ∙ ap (λ z. format_line v ++ z) (append_assoc (nodes_line n) (flat_map (trace_line v) (oldest_first lines)) rest)
 
 -- a trace tells its version
@@ -121,8 +140,10 @@ same_behind : (v : Version) (n m : ℕ) (lines others : List TraceLine) (a b : L
     → All (IsWritten v) lines → ¬ BeginsWithLine v a → All (IsWritten v) others → ¬ BeginsWithLine v b
     → behind v n lines a ≡ behind v m others b → (n ≡ m) × (lines ≡ others) × (a ≡ b)
 same_behind v n m lines others a b p q ps s qs t e =
-    let first = same_count n m (flat_map (trace_line v) (oldest_first lines) ++ a) (flat_map (trace_line v) (oldest_first others) ++ b) p q e in
-    let rest = same_lines v (oldest_first lines) (oldest_first others) a b (oldest_written v lines ps) (oldest_written v others qs) s t first.1 in
+    let first = same_count n m (flat_map (trace_line v) (oldest_first lines) ++ a) (flat_map (trace_line v) (oldest_first others)
+    ++ b) p q e in
+    let rest = same_lines v (oldest_first lines) (oldest_first others) a b (oldest_written v lines ps) (oldest_written v others qs) s t
+    first.1 in
     (first.0, oldest_same lines others rest.0, rest.1)
 
 -- up to what is no line, a trace is read in one way
@@ -137,7 +158,13 @@ same_trace v w n m lines others a b p q ps qs s t e =
     (head.0, rest.0, rest.1, rest.2)
 
 some_line : (v : Version) (l : TraceLine) (rest : List ℕ) → ¬ ([] ≡ trace_line v l ++ rest)
-some_line v (Plain s) rest e = omega (arith, ap length (e ∙ line_parts (word_of s) (numbers_of v s) rest), length-append (word_of s) (spaced (numbers_of v s) ++ 10 ∷ rest), length-append (spaced (numbers_of v s)) (10 ∷ rest))
+some_line v (Plain s) rest e =
+    omega (
+      arith,
+      ap length (e ∙ line_parts (word_of s) (numbers_of v s) rest),
+      length-append (word_of s) (spaced (numbers_of v s) ++ 10 ∷ rest),
+      length-append (spaced (numbers_of v s)) (10 ∷ rest),
+    )
 some_line v (Judged o) rest e = let whole = e ∙ judge_parts v o rest in omega (arith, ap length whole)
 
 pub no_line_in_nothing : (v : Version) → ¬ BeginsWithLine v []

@@ -1,12 +1,19 @@
 -- What is known of lines that were taken one by one.
-use Rattle.std.specs.Prelude.{ℕ, ◌≡◌, List, Option, Some, None}
+use Rattle.std.specs.Prelude.{ℕ, ◌+◌, ◌≡◌, ◌++◌, List, Option, Some, None, length}
+use Rattle.tp_base.specs.declared.Step.{Step}
 use Rattle.tp_core.specs.declared.Reply.{Reply}
 use Rattle.tp_core.specs.Accepted.{judged}
 use Rattle.tp_text.specs.declared.auditor.Auditor.{Auditor}
 use Rattle.tp_text.specs.declared.auditor.Flaw.{Flaw}
+use Rattle.tp_text.specs.declared.recount.Recounted.{Recounted}
+use Rattle.tp_text.specs.declared.recount.Recounted.TheVariants as recounts
 use Rattle.tp_text.specs.declared.traced.TraceLine.{TraceLine}
 use Rattle.tp_text.specs.declared.traced.TraceLine.TheVariants.{Plain, Judged}
-use Rattle.tp_text.specs.AuditText.{steps_in, taken, account, IsSound, HasFlawAt}
+use Rattle.tp_text.specs.declared.verdict.Verdict.TheVariants.{Refused}
+use Rattle.tp_text.specs.declared.version.Version.{Version}
+use Rattle.tp_text.specs.AuditText.{steps_in, taken, account, IsAuditText, IsSound}
+use Rattle.tp_text.specs.Reading.{syntax_text, AreUpToFlaw, LacksHead}
+use Rattle.tp_text.specs.Trace.{BreaksOff, IsTrace}
 
 -- The lines are sound, and these steps were taken and counted.
 pub record AreTaken (n : ℕ) (lines : List TraceLine) (a : Auditor) : Type 0 where
@@ -14,13 +21,32 @@ pub record AreTaken (n : ℕ) (lines : List TraceLine) (a : Auditor) : Type 0 wh
   pub core : a.core ≡ taken n lines
   pub account : a.account ≡ account n (steps_in lines)
 
+-- Line k is the first that is flawed. The steps before it were counted and taken, and a judgement with other words was
+-- taken too.
+pub record AreStopped (n : ℕ) (lines : List TraceLine) (a : Auditor) (k : ℕ) (flaw : Flaw) : Type 0 where
+  pub past : List TraceLine
+  pub up_to : AreUpToFlaw n lines past flaw
+  pub number : k ≡ length past + 3
+  pub newest : List Step
+  pub core : a.core.steps ≡ newest ++ steps_in past
+  pub account : a.account ≡ account n (steps_in past)
+
 -- The first flaw was found, or there is none.
 abbrev pub IsFound : ℕ → List TraceLine → Auditor → Option (ℕ × Flaw) → Type 0
 IsFound n lines a None = AreTaken n lines a
-IsFound n lines a (Some found) = HasFlawAt n lines found.0 found.1
+IsFound n lines a (Some found) = AreStopped n lines a found.0 found.1
 
 abbrev pub Knows : ℕ → List TraceLine → Auditor → Type 0
 Knows n lines a = IsFound n lines a a.flaw
+
+-- The lines of these bytes were taken one by one: all, or those before the first that is not of the grammar, which the
+-- text tells.
+abbrev pub IsRecounted : List ℕ → Recounted → Type 0
+IsRecounted bytes (recounts.NoTrace text) = IsAuditText bytes Refused text.items × LacksHead bytes
+IsRecounted bytes (recounts.Broken n auditor text) = (v : Version) × (lines : List TraceLine) × (rest : List ℕ)
+    × BreaksOff bytes v n lines rest × Knows n lines auditor × (text.items ≡ syntax_text (length lines + 3))
+IsRecounted bytes (recounts.Whole v n auditor) =
+    (lines : List TraceLine) × IsTrace bytes v n lines × Knows n lines auditor
 
 -- The line tells this answer to its step.
 abbrev pub IsTold : TraceLine → Reply → Type 0

@@ -5,7 +5,8 @@ use Rattle.tp_base.specs.declared.Step.{Step}
 use Rattle.tp_text.specs.declared.version.Version.{Version}
 use Rattle.tp_text.specs.Spelling.{word_of, numbers_of, IsNumber, IsSpelled}
 use Rattle.tp_text.specs.declared.keyword.Keyword.{Keyword}
-use Rattle.tp_text.specs.declared.keyword.Keyword.TheVariants.{Insert, Supply, Begin, Done, Open, Close, Ready, Send, Recv, End, Start, Down, Give, Up, Judge, Reopen}
+use Rattle.tp_text.specs.declared.keyword.Keyword.TheVariants.{Insert, Supply, Begin, Done, Open, Close, Ready, Send, Recv, End, Start}
+use Rattle.tp_text.specs.declared.keyword.Keyword.TheVariants.{Down, Give, Up, Judge, Reopen}
 
 abbrev pub keyword_text : Keyword → List ℕ
 keyword_text Insert = codes "insert"

@@ -12,3 +12,4 @@ pub mod TracedEnd
 pub mod TraceOf
 pub mod Following
 pub mod Auditing
+pub mod Reading

@@ -49,7 +49,8 @@ all_numbers n numbers = record {
 abbrev pub closing : Accepted → List ℕ
 closing a =
     node_lines a.nodes (λ i. numbers_at i a)
-    ++ line (codes "total" ++ counts (all_numbers a.nodes (λ i. numbers_at i a)) ++ codes " under " ++ decimal (length (world_of a).messages))
+    ++ line (codes "total" ++ counts (all_numbers a.nodes (λ i. numbers_at i a)) ++ codes " under "
+    ++ decimal (length (world_of a).messages))
     ++ line (codes "quiet " ++ (if is_quiet (world_of a) then codes "yes" else codes "no"))
 
 -- a core on n nodes that has accepted nothing

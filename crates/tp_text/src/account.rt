@@ -44,6 +44,13 @@ impl Account {
         }
     }
 
+    /// How many lines there were.
+    pub(crate) fn lines(self) -> u32
+        ensures { result ≡ self.steps }
+    {
+        self.steps
+    }
+
     /// One line more.
     pub(crate) fn with(self, line: TraceLine) -> Account
         requires { (n : ℕ) × (past : List Step) × (self ≡ account n past) × (length past < MAX_STEPS) }

@@ -1,4 +1,5 @@
-ghost use Rattle.std.specs.Prelude.{◌≡◌, ◌+◌, ◌≤◌, ◌++◌, ◌∷◌, [], ℕ, List, length, ◌↔◌, IfErr, IfOk, IsTrue, OnOk, MatchOption};
+ghost use Rattle.std.specs.Prelude.{◌≡◌, ◌+◌, ◌≤◌, ◌++◌, ◌∷◌, [], ℕ, List, length, reverse, take, is_some, ◌↔◌, IfErr, IfOk, IsTrue, OnOk};
+ghost use Rattle.std.specs.Prelude.{MatchOption};
 ghost use Rattle.tp_base.specs.declared.limits.TheConstants.{MAX_NODES};
 ghost use Rattle.tp_text.specs.AuditText.{flaw_line, summary};
 ghost use Rattle.tp_text.specs.Auditing.{IsTold, Knows};
@@ -12,7 +13,7 @@ use crate::traced::TraceLine;
 use crate::verdict::Verdict;
 use crate::version::Version;
 use std::alloc::{AllocError, Global};
-use tp_base::Refusal;
+use tp_base::{Refusal, Step};
 use tp_core::{Core, Reply};
 
 /// What is wrong with a line.
@@ -66,6 +67,26 @@ impl Auditor {
             Ok(_) => self.flaw = Some((number, Flaw::Unjustified)),
         }
         Ok(())
+    }
+
+    /// Whether a line was flawed.
+    pub(crate) fn is_flawed(&self) -> bool
+        ensures { result ≡ is_some self.now.flaw }
+    {
+        self.flaw.is_some()
+    }
+
+    /// The steps of the lines before the first that is flawed, the oldest first.
+    pub(crate) fn steps(&self, alloc: Global) -> Result<Vec<Step>, AllocError>
+        requires { self.now.account.steps ≤ length self.now.core.steps }
+        ensures { IfOk result (λ steps. steps.items ≡ take self.now.account.steps (reverse self.now.core.steps)) }
+    {
+        // the core has accepted a judgement with other words too
+        let sound = self.account.lines() as usize;
+        let taken = self.core.steps();
+        let mut steps = Vec::new(alloc);
+        steps.extend_from_slice(&taken[..sound])?;
+        Ok(steps)
     }
 
     /// The verdict and the answer: what the lines add up to, or the first that is flawed.

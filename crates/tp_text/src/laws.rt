@@ -1,4 +1,5 @@
 ghost use Rattle.tp_text.specs.AuditText.{AuditsAreDetermined};
+ghost use Rattle.tp_text.specs.Reading.{ReadingsAreDetermined};
 ghost use Rattle.tp_text.specs.Script.{ScriptsAreDetermined};
 ghost use Rattle.tp_text.specs.SimText.{TextsAreDetermined};
 ghost use Rattle.tp_text.specs.Trace.{TracesAreDetermined};
@@ -26,6 +27,12 @@ pub fn traces_are_determined()
 #[tactic(auto, using(crate::proofs::UniqueAudits::audits_determined))]
 pub fn audits_are_determined()
     ensures { AuditsAreDetermined }
+{}
+
+/// One thing is read of some bytes.
+#[tactic(auto, using(crate::proofs::Readings::readings_determined))]
+pub fn readings_are_determined()
+    ensures { ReadingsAreDetermined }
 {}
 
 /// Printing and reading meet: the trace of some steps is read as these steps and as what is judged of them.

@@ -10,6 +10,7 @@ mod laws;
 mod number;
 mod parse;
 mod printing;
+mod reading;
 mod recount;
 mod simulation;
 mod step_lines;
@@ -23,9 +24,10 @@ mod words;
 pub use fault::TextFault;
 pub use input::{MAX_READS, MAX_TEXT};
 pub use laws::{
-    audits_are_determined, runs_of_one_generation, scripts_are_determined, texts_are_determined,
-    traces_are_determined, traces_are_read_back,
+    audits_are_determined, readings_are_determined, runs_of_one_generation, scripts_are_determined,
+    texts_are_determined, traces_are_determined, traces_are_read_back,
 };
+pub use reading::{Reading, Trace, read_trace};
 pub use recount::audit;
 pub use simulation::sim;
 pub use tp_table::print_table;

@@ -3,7 +3,8 @@ ghost use Rattle.tp_base.specs.declared.Step.{Step};
 ghost use Rattle.tp_text.specs.declared.keyword.Keyword.{Keyword};
 ghost use Rattle.tp_text.specs.Keywords.{keyword_text, Names, NamesNone};
 ghost use Rattle.tp_text.specs.Spelling.{spaced, word_of, numbers_of, IsSpelled};
-ghost use Rattle.tp_text.specs.Script.{nodes_line, step_line, version_lines, IsNodeCount, BeginsWithNodes, BeginsWithStep, BeginsWithVersion};
+ghost use Rattle.tp_text.specs.Script.{nodes_line, step_line, version_lines, IsNodeCount, BeginsWithNodes, BeginsWithStep};
+ghost use Rattle.tp_text.specs.Script.{BeginsWithVersion};
 ghost use Rattle.tp_text.specs.Trace.{format_line, trace_line, words, AreWords, BeginsWithFormat, BeginsWithLine, IsWritten};
 ghost use Rattle.tp_text.specs.Words.{numbers_in};
 

@@ -1,6 +1,7 @@
 ghost use Rattle.std.specs.Prelude.{◌≡◌, ◌≢◌, ◌+◌, ◌≤◌, ℕ, List, length, IfOk, IfErr, IsErrOf};
 ghost use Rattle.std.specs.Io.KnownBytes.{Consumes, Appends};
 ghost use Rattle.tp_text.specs.AuditText.{IsAuditText};
+ghost use Rattle.tp_text.specs.Auditing.{IsRecounted};
 ghost use Rattle.tp_text.specs.Input.{ReadsAll};
 ghost use Rattle.tp_text.specs.TracedEnd.{EndedIsOver, NotEndedClaimsNoEnd, ReopenedIsOver};
 ghost use Rattle.tp_text.specs.declared.verdict.Verdict.{Verdict};
@@ -13,32 +14,57 @@ use crate::parse::{behind_format, first_line, next_line};
 use crate::printing::syntax_line;
 use crate::simulation::write_answer;
 use crate::verdict::Verdict;
+use crate::version::Version;
 use std::alloc::Global;
 use std::io::{Read, Write};
 
-/// What the lines of a trace add up to, or the first of them that is at fault.
-fn audited(alloc: Global, text: &[u8]) -> Result<(Verdict, Vec<u8>), TextFault>
-    ensures ok { IfOk result (λ answer. IsAuditText text.now answer.0 answer.1.items) }
+/// The lines of a trace, taken one by one.
+#[derive(Drop)]
+pub(crate) enum Recounted {
+    /// The first lines are not those of a trace, as this line tells.
+    NoTrace(Vec<u8>),
+    /// Those before the first that is not of the grammar were taken, on so many nodes, and this line tells that one.
+    Broken(u32, Auditor, Vec<u8>),
+    /// All were taken, on so many nodes.
+    Whole(Version, u32, Auditor),
+}
+
+/// Takes the lines of a trace, up to the first that is not of the grammar.
+pub(crate) fn lines_taken(alloc: Global, text: &[u8]) -> Result<Recounted, TextFault>
+    ensures ok { IfOk result (IsRecounted text.now) }
     ensures err { IfErr result (λ fault. fault ≡ TextFault.Memory) }
 {
     let Some((version, behind)) = behind_format(text) else {
-        return Ok((Verdict::Refused, syntax_line(alloc, 1)?));
+        return Ok(Recounted::NoTrace(syntax_line(alloc, 1)?));
     };
     let Some((nodes, lines)) = first_line(behind) else {
-        return Ok((Verdict::Refused, syntax_line(alloc, 2)?));
+        return Ok(Recounted::NoTrace(syntax_line(alloc, 2)?));
     };
     let mut auditor = Auditor::new(alloc, nodes);
     let mut rest = lines;
     let mut number = 3;
     while !rest.is_empty() {
         let Some((line, behind)) = next_line(version, rest) else {
-            return Ok((Verdict::Refused, syntax_line(alloc, number)?));
+            let complaint = syntax_line(alloc, number)?;
+            return Ok(Recounted::Broken(nodes, auditor, complaint));
         };
         auditor.take(line, number)?;
         rest = behind;
         number += 1;
     }
-    Ok(auditor.answer(version, alloc)?)
+    Ok(Recounted::Whole(version, nodes, auditor))
+}
+
+/// What the lines of a trace add up to, or the first of them that is at fault.
+fn audited(alloc: Global, text: &[u8]) -> Result<(Verdict, Vec<u8>), TextFault>
+    ensures ok { IfOk result (λ answer. IsAuditText text.now answer.0 answer.1.items) }
+    ensures err { IfErr result (λ fault. fault ≡ TextFault.Memory) }
+{
+    match lines_taken(alloc, text)? {
+        Recounted::NoTrace(complaint) => Ok((Verdict::Refused, complaint)),
+        Recounted::Broken(_, _, complaint) => Ok((Verdict::Refused, complaint)),
+        Recounted::Whole(version, _, auditor) => Ok(auditor.answer(version, alloc)?),
+    }
 }
 
 /// Judges a trace: reads all of the reader, takes the steps of the trace in turn with a new core, and counts messages afresh,

@@ -1,6 +1,7 @@
 use Rattle.std.proofs.Common.{◌≡◌, true, false, refl, arith}
 use Rattle.tp_text.proofs.number.leading_number.Goals as goal
-use Rattle.tp_text.proofs.number.leading_number.Goals.{then-len-eq0-via-then-len-eq0, then-len-eq0-via-else-len-eq0+then-len-gt6, then-len-eq0-via-else-len-eq0+else-len-gt6+then-is_padded}
+use Rattle.tp_text.proofs.number.leading_number.Goals.{then-len-eq0-via-then-len-eq0, then-len-eq0-via-else-len-eq0+then-len-gt6}
+use Rattle.tp_text.proofs.number.leading_number.Goals.{then-len-eq0-via-else-len-eq0+else-len-gt6+then-is_padded}
 use Rattle.tp_text.proofs.Numbers.{HasDigits, none_without, none_where_long, none_where_padded, spells_value}
 
 pub returns-then-len-eq0 : goal.returns-then-len-eq0
@@ -13,9 +14,11 @@ returns-then-len-eq0 c =
       value_is = c.leading_digits-len.ensures.value;
     } in
     elim c.then-len-eq0.branch [
-      | then-len-eq0-via-then-len-eq0 w ↦ none_without c.args.text.now c.leading_digits-len.result.0 c.leading_digits-len.result.1 (omega arith) h
+      | then-len-eq0-via-then-len-eq0 w ↦ none_without c.args.text.now c.leading_digits-len.result.0 c.leading_digits-len.result.1
+          (omega arith) h
       | then-len-eq0-via-else-len-eq0+then-len-gt6 w ↦ none_where_long c.args.text.now _ _ h (omega arith)
-      | then-len-eq0-via-else-len-eq0+else-len-gt6+then-is_padded w ↦ none_where_padded c.args.text.now _ _ h (omega arith) (w.if-is_padded.ensures.0 refl)
+      | then-len-eq0-via-else-len-eq0+else-len-gt6+then-is_padded w ↦ none_where_padded c.args.text.now _ _ h (omega arith)
+          (w.if-is_padded.ensures.0 refl)
     ]
 
 pub returns : goal.returns

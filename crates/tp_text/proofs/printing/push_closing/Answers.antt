@@ -11,4 +11,5 @@ returns c =
       sent = c.all_counts.result.sent;
       received = c.all_counts.result.received;
     }) = record { pending = c.all_counts.ensures.pending; sent = c.all_counts.ensures.sent; received = c.all_counts.ensures.received } in
-    closing_written c.args.core.now _ _ _ _ _ _ _ _ lists sums (c.from.ensures ∙ c.numbers-numbers.ensures.under) c.quiet.ensures c.in_ok-push_nodes.ensures c.in_ok-push_total.ensures c.in_ok-push_quiet.ensures
+    closing_written c.args.core.now _ _ _ _ _ _ _ _ lists sums (c.from.ensures
+    ∙ c.numbers-numbers.ensures.under) c.quiet.ensures c.in_ok-push_nodes.ensures c.in_ok-push_total.ensures c.in_ok-push_quiet.ensures

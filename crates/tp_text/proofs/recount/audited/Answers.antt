@@ -1,36 +1,18 @@
-use Rattle.std.proofs.Common.{[], ◌∷◌, arith}
-use Rattle.tp_text.proofs.Recounting.{answer_as, fault_format, fault_nodes, line_shorter, reads_none, reads_one, reads_all, reads_fault}
-use Rattle.tp_text.proofs.Left.{some_left, none_left}
+use Rattle.std.proofs.Common.{subst}
+use Rattle.tp_text.specs.declared.recount.Recounted.TheVariants as recounts
+use Rattle.tp_text.specs.Auditing.{IsRecounted}
+use Rattle.tp_text.proofs.Recounting.{answer_as, answer_found, broken_answered}
 use Rattle.tp_text.proofs.recount.audited.Goals as goal
 
-pub returns-in_default-clause-ok : goal.returns-in_default-clause-ok
-returns-in_default-clause-ok c = fault_format _ _ c.in_default.ensures c.in_ok-syntax_line.ensures
-
-pub returns-in_default-first_line-clause-ok : goal.returns-in_default-first_line-clause-ok
-returns-in_default-first_line-clause-ok c = fault_nodes c.in-Some.version _ _ _ c.in-Some.ensures c.in_default-first_line.ensures c.in_ok-syntax_line-2.ensures
-
-pub loop-rest-init : goal.loop-rest-init
-loop-rest-init c = ([], reads_none c.in-Some.version _ c.in-Some.behind.now _ _ c.in-Some.ensures c.in-Some-first_line.ensures, c.new-auditor.ensures)
-
-pub loop-rest-preserved : goal.loop-rest-preserved
-loop-rest-preserved c =
-    let reads = c.loop-rest.invariant.1 in (
-      c.in-Some-next_line.line ∷ c.loop-rest.invariant.0,
-      reads_one c.in-Some.version _ _ c.loop-rest.invariant.0 _ _ c.in-Some-next_line.line _ reads c.in-Some-next_line.ensures,
-      c.in_ok-take.ensures.ok c.in-Some.version _ c.loop-rest.invariant.0 c.loop-rest.invariant.2 c.in-Some-next_line.ensures.0 reads.number_is,
-    )
-
-pub loop-rest-smaller : goal.loop-rest-smaller
-loop-rest-smaller c = line_shorter c.in-Some.version c.in-Some-next_line.line _ _ c.in-Some-next_line.ensures.1
-
-pub overflow_add-number : goal.overflow_add-number
-overflow_add-number c = omega (arith, c.loop-rest.invariant.1.short)
-
-pub returns-in_default-next_line-clause-ok : goal.returns-in_default-next_line-clause-ok
-returns-in_default-next_line-clause-ok c =
-    reads_fault c.in-Some.version _ _ _ _ _ _ c.loop-rest.invariant.1 (some_left c.loop-rest.rest.now c.loop-rest-test.ensures) c.in_default-next_line.ensures c.in_ok-syntax_line-3.ensures
+pub returns-in-Broken-clause-ok : goal.returns-in-Broken-clause-ok
+returns-in-Broken-clause-ok c =
+    let known : IsRecounted c.args.text.now (recounts.Broken c.in-Broken.field-0 c.in-Broken.field-1 c.in-Broken.complaint) =
+    subst (IsRecounted c.args.text.now) c.in-Broken.is c.in_ok-complaint.ensures.ok in
+    broken_answered known.0 c.args.text.now c.in-Broken.field-0 known.1 known.2 c.in-Broken.complaint.items known.3 known.5
 
 pub returns-clause-ok : goal.returns-clause-ok
 returns-clause-ok c =
-    reads_all c.in-Some.version _ _ c.loop-rest.invariant.0 _ _ c.loop-rest.auditor _ _ c.loop-rest.invariant.1 (none_left c.loop-rest.rest.now c.loop-rest-test.ensures)
-    c.loop-rest.invariant.2 (answer_as c.in-Some.version c.loop-rest.auditor c.loop-rest.auditor.flaw _ _ c.in_ok-answer.ensures)
+    let known : IsRecounted c.args.text.now (recounts.Whole c.in-Whole.version c.in-Whole.field-1 c.in-Whole.auditor) =
+    subst (IsRecounted c.args.text.now) c.in-Whole.is c.in_ok-complaint.ensures.ok in
+    answer_found c.in-Whole.version c.args.text.now c.in-Whole.field-1 known.0 c.in-Whole.auditor c.in-Whole.auditor.flaw _ _
+    known.1 known.2 (answer_as c.in-Whole.version c.in-Whole.auditor c.in-Whole.auditor.flaw _ _ c.in_ok-answer-in-Whole.ensures)

@@ -10,19 +10,29 @@ loop-place-init c = spelled_none c.args.version c.args.history.now.events
 
 pub loop-place-preserved : goal.loop-place-preserved
 loop-place-preserved c =
-    spelled_next c.args.version c.args.history.now.events c.loop-place.place (c.in-Some.field-0-0, c.in-Some.step) (search rules) (sym c.at.ensures ∙ c.in-Some.is)
+    spelled_next c.args.version c.args.history.now.events c.loop-place.place (
+      c.in-Some.field-0-0,
+      c.in-Some.step,
+    ) (search rules) (sym c.at.ensures ∙ c.in-Some.is)
     (c.if-not-has_line.ensures.0 refl) c.loop-place.invariant
 
 pub returns-then-not-has_line : goal.returns-then-not-has_line
 returns-then-not-has_line c = (
   λ no. cc,
   λ all.
-      let is_yes = c.if-not-has_line.ensures.1 (spelled_there c.args.version c.args.history.now.events c.loop-place.place (c.in-Some.field-0-0, c.in-Some.step) (search rules) (sym c.at.ensures ∙ c.in-Some.is) all) in
+      let is_yes =
+      c.if-not-has_line.ensures.1
+      (spelled_there c.args.version c.args.history.now.events c.loop-place.place (
+        c.in-Some.field-0-0,
+        c.in-Some.step,
+      ) (search rules) (sym c.at.ensures ∙ c.in-Some.is) all) in
       search (rules, is_yes),
 )
 
 pub returns : goal.returns
 returns c = (
-  λ _. subst (λ x. All (IsSpelled c.args.version) (steps_of x)) (oldest_all c.args.history.now.events c.loop-place.place (search rules)) c.loop-place.invariant,
+  λ _. subst (λ x.
+      All (IsSpelled c.args.version) (steps_of x)) (oldest_all c.args.history.now.events c.loop-place.place (search rules))
+      c.loop-place.invariant,
   λ _. refl,
 )

@@ -8,5 +8,6 @@ traced-requires-clause-few c = omega (arith, c.in-Some.ensures.1.0, length-steps
 
 pub returns-clause-ok : goal.returns-clause-ok
 returns-clause-ok c =
-    is_trace_of c.in-Some.version c.args.nodes c.args.history.now.events _ c.requires.nodes c.requires.run c.in-Some.ensures.0 c.in-Some.ensures.1
+    is_trace_of c.in-Some.version c.args.nodes c.args.history.now.events _ c.requires.nodes c.requires.run c.in-Some.ensures.0
+    c.in-Some.ensures.1
     c.in_ok-traced.ensures

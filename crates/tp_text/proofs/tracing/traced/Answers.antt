@@ -16,7 +16,10 @@ line-requires c = (
   c.args.nodes,
   steps_of (oldest c.loop-index.index c.args.history.now.events),
   c.loop-index.invariant.followed,
-  may_follow_next c.args.nodes c.args.history.now.events c.loop-index.index (c.in-Some.field-0-0, c.in-Some.step) (search rules) (sym c.at.ensures ∙ c.in-Some.is)
+  may_follow_next c.args.nodes c.args.history.now.events c.loop-index.index (
+    c.in-Some.field-0-0,
+    c.in-Some.step,
+  ) (search rules) (sym c.at.ensures ∙ c.in-Some.is)
       c.requires.run c.requires.few,
 )
 
@@ -30,10 +33,12 @@ loop-index-preserved c =
       followed = followed_next c.args.nodes h k (c.in-Some.field-0-0, c.in-Some.step) c.line.new.self (search rules) at
           (c.line.ensures.followed c.args.nodes (steps_of (oldest k h)) c.loop-index.invariant.followed may);
       written = traced_next c.args.version c.args.nodes h k (c.in-Some.field-0-0, c.in-Some.step) c.line.result _ _ (search rules) at
-          (c.line.ensures.told c.args.nodes (steps_of (oldest k h)) c.loop-index.invariant.followed may) c.loop-index.invariant.written c.in_ok-push_line.ensures;
+          (c.line.ensures.told c.args.nodes (steps_of (oldest k h)) c.loop-index.invariant.followed may) c.loop-index.invariant.written
+          c.in_ok-push_line.ensures;
     }
 
 pub returns : goal.returns
 returns c =
     c.loop-index.invariant.written
-    ∙ ap (λ x. trace c.args.version c.args.nodes (lines_of c.args.nodes (steps_of x))) (oldest_all c.args.history.now.events c.loop-index.index (search rules))
+    ∙ ap (λ x. trace c.args.version c.args.nodes (lines_of c.args.nodes (steps_of x)))
+    (oldest_all c.args.history.now.events c.loop-index.index (search rules))

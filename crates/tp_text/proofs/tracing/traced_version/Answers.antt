@@ -3,19 +3,22 @@ use Rattle.tp_wave.specs.Machine.{steps_of}
 use Rattle.tp_wave.proofs.Positions.{length-steps_of}
 use Rattle.tp_text.proofs.Following.{no_version, traced_first, traced_second}
 use Rattle.tp_text.proofs.tracing.traced_version.Goals as goal
-use Rattle.tp_text.proofs.tracing.traced_version.Goals.{else-is_reopened-via-then-is_reopened+else-has_lines-2, else-is_reopened-via-else-is_reopened}
+use Rattle.tp_text.proofs.tracing.traced_version.Goals.{else-is_reopened-via-then-is_reopened+else-has_lines-2}
+use Rattle.tp_text.proofs.tracing.traced_version.Goals.{else-is_reopened-via-else-is_reopened}
 
 pub returns-then-len : goal.returns-then-len
 returns-then-len c = λ can. omega (arith, can.0, c.len.ensures, c.if-len.true, length-steps_of c.args.history.now.events)
 
 pub returns-then-has_lines : goal.returns-then-has_lines
 returns-then-has_lines c =
-    traced_first (steps_of c.args.history.now.events) (omega (arith, c.len.ensures, c.if-len.false, length-steps_of c.args.history.now.events))
+    traced_first (steps_of c.args.history.now.events)
+    (omega (arith, c.len.ensures, c.if-len.false, length-steps_of c.args.history.now.events))
     (c.if-has_lines.ensures.0 refl)
 
 pub returns-then-has_lines-2 : goal.returns-then-has_lines-2
 returns-then-has_lines-2 c =
-    traced_second (steps_of c.args.history.now.events) (omega (arith, c.len.ensures, c.if-len.false, length-steps_of c.args.history.now.events))
+    traced_second (steps_of c.args.history.now.events)
+    (omega (arith, c.len.ensures, c.if-len.false, length-steps_of c.args.history.now.events))
     c.if-is_reopened.ensures (c.if-has_lines-2.ensures.0 refl)
 
 pub returns : goal.returns

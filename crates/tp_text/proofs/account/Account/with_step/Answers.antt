@@ -18,4 +18,5 @@ pub overflow_add-result-in-Recv : goal.overflow_add-result-in-Recv
 overflow_add-result-in-Recv c = omega (arith, ap (λ (a : Account). a.received) c.requires.2, count-le is_recv c.requires.1, c.requires.3)
 
 pub overflow_add-result-in-Reopen : goal.overflow_add-result-in-Reopen
-overflow_add-result-in-Reopen c = omega (arith, ap (λ (a : Account). a.generation) c.requires.2, count-le is_reopen c.requires.1, c.requires.3)
+overflow_add-result-in-Reopen c =
+    omega (arith, ap (λ (a : Account). a.generation) c.requires.2, count-le is_reopen c.requires.1, c.requires.3)

@@ -5,11 +5,17 @@ use Rattle.tp_text.proofs.tracer.Tracer.give.Goals as goal
 
 pub give-given-requires-clause-sent : goal.give-given-requires-clause-sent
 give-given-requires-clause-sent c =
-    omega (arith, few_sent c.requires.0 c.requires.1 c.args.self.now c.args.node.0 c.requires.2 (c.requires.3.control refl).1.0 c.requires.3.few)
+    omega (
+      arith,
+      few_sent c.requires.0 c.requires.1 c.args.self.now c.args.node.0 c.requires.2 (c.requires.3.control refl).1.0 c.requires.3.few,
+    )
 
 pub give-given-requires-clause-received : goal.give-given-requires-clause-received
 give-given-requires-clause-received c =
-    omega (arith, few_received c.requires.0 c.requires.1 c.args.self.now c.args.node.0 c.requires.2 (c.requires.3.control refl).1.0 c.requires.3.few)
+    omega (
+      arith,
+      few_received c.requires.0 c.requires.1 c.args.self.now c.args.node.0 c.requires.2 (c.requires.3.control refl).1.0 c.requires.3.few,
+    )
 
 pub returns : goal.returns
 returns c = λ n past h may.

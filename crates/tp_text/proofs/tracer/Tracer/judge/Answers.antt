@@ -8,7 +8,8 @@ returns-clause-followed c = λ n past h may. record {
   some = h.some;
   nodes = h.nodes;
   over = h.over;
-  wave = not_refused n past Judge c.judge.result _ refl may (c.judge.ensures.exact n past h.wave) (c.judge.ensures.follows n past h.wave may.two_tell);
+  wave = not_refused n past Judge c.judge.result _ refl may (c.judge.ensures.exact n past h.wave)
+      (c.judge.ensures.follows n past h.wave may.two_tell);
   sent = h.sent;
   received = h.received;
 }

@@ -34,6 +34,7 @@ pub returns-in_default : goal.returns-in_default
 returns-in_default c = record {
   told = λ n past _ _. other_line n past c.args.step c.in_default.not-Judge;
   followed = λ n past h _.
-      other_step n past c.args.step c.args.self.now h c.in_default.not-Send c.in_default.not-Recv c.in_default.not-Start c.in_default.not-Down
+      other_step n past c.args.step c.args.self.now h c.in_default.not-Send c.in_default.not-Recv c.in_default.not-Start
+      c.in_default.not-Down
       c.in_default.not-Give c.in_default.not-Up c.in_default.not-Judge c.in_default.not-Reopen;
 }

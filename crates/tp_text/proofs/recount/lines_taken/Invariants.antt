@@ -2,7 +2,7 @@ use Rattle.std.proofs.Common.{List, length}
 use Rattle.tp_text.specs.declared.traced.TraceLine.{TraceLine}
 use Rattle.tp_text.specs.Auditing.{Knows}
 use Rattle.tp_text.proofs.Recounting.{Reads}
-use Rattle.tp_text.proofs.recount.audited.Given as goal
+use Rattle.tp_text.proofs.recount.lines_taken.Given as goal
 
 abbrev pub invariant-loop-rest : goal.invariant-loop-rest
 invariant-loop-rest l = (lines : List TraceLine) × Reads l.version l.text l.nodes lines l.rest l.number × Knows l.nodes lines l.auditor

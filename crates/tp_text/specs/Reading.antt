@@ -1,0 +1,93 @@
+-- What is read of a trace.
+use Rattle.std.specs.Prelude.{ℕ, ◌+◌, ◌≡◌, ◌<◌, ◌++◌, ◌⊎◌, List, ◌∷◌, codes, decimal, length, reverse}
+use Rattle.tp_base.specs.declared.Step.{Step}
+use Rattle.tp_core.specs.Generations.{AreRuns}
+use Rattle.tp_text.specs.declared.auditor.Flaw.{Flaw}
+use Rattle.tp_text.specs.declared.reading.Reading.{Reading}
+use Rattle.tp_text.specs.declared.reading.Reading.TheVariants as readings
+use Rattle.tp_text.specs.declared.traced.TraceLine.{TraceLine}
+use Rattle.tp_text.specs.declared.verdict.Verdict.TheVariants.{Refused}
+use Rattle.tp_text.specs.declared.version.Version.{Version}
+use Rattle.tp_text.specs.AuditText.{flaw_line, steps_in, IsAuditText, IsFlaw, IsSound}
+use Rattle.tp_text.specs.Spelling.{line}
+use Rattle.tp_text.specs.Trace.{trace, BeginsWithFormat, BeginsWithLine, IsTrace, LacksNodes}
+
+-- ---- a sound trace
+
+-- These bytes are a sound trace on n nodes, and these are its steps, the oldest first.
+abbrev pub IsSoundTraceOf : List ℕ → ℕ → List Step → Type 0
+IsSoundTraceOf bytes n steps = (v : Version) × (lines : List TraceLine)
+    × IsTrace bytes v n lines × IsSound n lines × (steps_in lines ≡ reverse steps)
+
+-- ---- a trace with a line at fault
+
+-- The bytes are the trace of these lines, up to where they end or to the first line that is not of the grammar.
+pub record HasLines (bytes : List ℕ) (v : Version) (n : ℕ) (lines : List TraceLine) (rest : List ℕ) : Type 0 where
+  pub before : IsTrace (trace v n lines) v n lines
+  pub text : bytes ≡ trace v n lines ++ rest
+  pub no_line : ¬ BeginsWithLine v rest
+
+-- The lines of the past are sound, and the one behind them is flawed.
+abbrev pub AreUpToFlaw : ℕ → List TraceLine → List TraceLine → Flaw → Type 0
+AreUpToFlaw n lines past flaw = (later : List TraceLine) × (l : TraceLine)
+    × (lines ≡ later ++ l ∷ past) × IsSound n past × IsFlaw n past l flaw
+
+-- The lines of the past are sound: they are all lines, or those before the first that is flawed.
+abbrev pub AreSoundPart : ℕ → List TraceLine → List TraceLine → Type 0
+AreSoundPart n lines past = ((past ≡ lines) × IsSound n lines) ⊎ ((flaw : Flaw) × AreUpToFlaw n lines past flaw)
+
+-- The bytes begin as a trace on n nodes, and these are the steps of the lines before the first that is at fault, flawed
+-- or not of the grammar, the oldest first.
+abbrev pub AreStepsBeforeFault : List ℕ → ℕ → List Step → Type 0
+AreStepsBeforeFault bytes n steps = (v : Version) × (lines : List TraceLine) × (rest : List ℕ) × (past : List TraceLine)
+    × HasLines bytes v n lines rest × AreSoundPart n lines past × (steps_in past ≡ reverse steps)
+
+-- The first line is not one for the format, or the second not one for the number of nodes.
+abbrev pub LacksHead : List ℕ → Type 0
+LacksHead bytes = (¬ BeginsWithFormat bytes) ⊎ LacksNodes bytes
+
+-- ---- what is read
+
+-- This is what is read of these bytes: the nodes and the steps of a sound trace; or those before the first line at
+-- fault, and the text with which an audit refuses the trace; or that text alone, where the first two lines are not
+-- those of a trace.
+abbrev pub IsReading : List ℕ → Reading → Type 0
+IsReading bytes (readings.Sound trace) = IsSoundTraceOf bytes trace.nodes trace.steps.items
+IsReading bytes (readings.Flawed trace text) =
+    IsAuditText bytes Refused text.items × AreStepsBeforeFault bytes trace.nodes trace.steps.items
+IsReading bytes (readings.NoTrace text) = IsAuditText bytes Refused text.items × LacksHead bytes
+
+-- The steps of each generation are a run of the core.
+abbrev pub HasRuns : Reading → Type 0
+HasRuns (readings.Sound trace) = AreRuns trace.nodes (reverse trace.steps.items)
+HasRuns (readings.Flawed trace text) = AreRuns trace.nodes (reverse trace.steps.items)
+HasRuns (readings.NoTrace text) = Unit {0}
+
+-- the text for line k, where it is not of the grammar
+abbrev pub syntax_text : ℕ → List ℕ
+syntax_text k = line (codes "syntax line " ++ decimal k)
+
+-- The text tells the line behind the first two lines and those of the steps; or a later one, which is not of the
+-- grammar.
+abbrev pub TellsLineBehind : List Step → List ℕ → Type 0
+TellsLineBehind steps text = (text ≡ syntax_text (length steps + 3))
+    ⊎ (((flaw : Flaw) × (text ≡ flaw_line (length steps + 3) flaw))
+    ⊎ ((k : ℕ) × (length steps + 3 < k) × (text ≡ syntax_text k)))
+
+abbrev pub TellsNextLine : Reading → Type 0
+TellsNextLine (readings.Flawed trace text) = TellsLineBehind trace.steps.items text.items
+TellsNextLine _ = Unit {0}
+
+-- ---- the law
+
+-- the same case, nodes, steps and text
+abbrev pub AreSame : Reading → Reading → Type 0
+AreSame (readings.Sound a) (readings.Sound b) = (a.nodes ≡ b.nodes) × (a.steps.items ≡ b.steps.items)
+AreSame (readings.Flawed a text) (readings.Flawed b other) =
+    (a.nodes ≡ b.nodes) × (a.steps.items ≡ b.steps.items) × (text.items ≡ other.items)
+AreSame (readings.NoTrace text) (readings.NoTrace other) = text.items ≡ other.items
+AreSame _ _ = ⊥
+
+-- One thing is read of some bytes.
+abbrev pub ReadingsAreDetermined : Type 0
+ReadingsAreDetermined = (bytes : List ℕ) (a b : Reading) → IsReading bytes a → IsReading bytes b → AreSame a b
