@@ -23,7 +23,7 @@ abbrev pub Each : {A : Type 0} → (A → Type 0) → List A → Type 0
 Each P [] = Unit {0}
 Each P (x ∷ xs) = P x × Each P xs
 
-abbrev Pairs : {A : Type 0} → (A → A → Type 0) → List A → Type 0
+abbrev pub Pairs : {A : Type 0} → (A → A → Type 0) → List A → Type 0
 Pairs R [] = Unit {0}
 Pairs R (x ∷ xs) = Each (R x) xs × Pairs R xs
 
@@ -31,7 +31,7 @@ pub each_all : {A : Type 0} (P : A → Type 0) (xs : List A) → Each P xs → A
 each_all P [] h = All-nil P
 each_all P (x ∷ xs) h = All-cons P x xs h.0 (each_all P xs h.1)
 
-pairs_all : {A : Type 0} (R : A → A → Type 0) (xs : List A) → Pairs R xs → AllPairs R xs
+pub pairs_all : {A : Type 0} (R : A → A → Type 0) (xs : List A) → Pairs R xs → AllPairs R xs
 pairs_all R [] h = λ i j d below short. absurd (omega arith)
 pairs_all R (x ∷ xs) h = AllPairs-cons R x xs (each_all (R x) xs h.0) (pairs_all R xs h.1)
 
@@ -47,7 +47,7 @@ pub each_zip : {A : Type 0} (P Q S : A → Type 0) (xs : List A) → ((x : A) �
 each_zip P Q S [] f h k = tt
 each_zip P Q S (x ∷ xs) f h k = (f x h.0 k.0, each_zip P Q S xs f h.1 k.1)
 
-pairs_push : {A : Type 0} (R : A → A → Type 0) (xs : List A) (y : A) → Pairs R xs → Each (λ x. R x y) xs → Pairs R (xs ++ y ∷ [])
+pub pairs_push : {A : Type 0} (R : A → A → Type 0) (xs : List A) (y : A) → Pairs R xs → Each (λ x. R x y) xs → Pairs R (xs ++ y ∷ [])
 pairs_push R [] y h k = (tt, tt)
 pairs_push R (x ∷ xs) y h k = (each_push (R x) xs y h.0 k.0, pairs_push R xs y h.1 k.1)
 
@@ -85,12 +85,16 @@ each_found {A} P test (x ∷ xs) y found h =
     choose (test x) found
 
 -- the one that is found stands to each other one as each two do
-found_others : {A : Type 0} (R : A → A → Type 0) (test : A → Bool) (xs : List A) (y : A) → ((a b : A) → R a b → R b a) → find test xs ≡ Some y
+found_others : {A : Type 0} (R : A → A → Type 0) (test : A → Bool) (xs : List A) (y : A) → ((a b : A) → R a b → R b a)
+    → find test xs ≡ Some y
     → Pairs R xs → Each (R y) (without test xs)
 found_others R test [] y both found h = tt
 found_others {A} R test (x ∷ xs) y both found h =
     let choose : (b : Bool) → (if b then Some x else find test xs) ≡ Some y → Each (R y) (if b then xs else x ∷ without test xs) =
-    elim [ true ↦ λ e. let P : A → Type 0 = λ a. Each (R a) xs in subst P (some_same x y e) h.0 | false ↦ λ e. (both x y (each_found (R x) test xs y e h.0), found_others R test xs y both e h.1) ]
+    elim [
+      | true ↦ λ e. let P : A → Type 0 = λ a. Each (R a) xs in subst P (some_same x y e) h.0
+      | false ↦ λ e. (both x y (each_found (R x) test xs y e h.0), found_others R test xs y both e h.1)
+    ]
     in
     choose (test x) found
 
@@ -99,7 +103,8 @@ found_others {A} R test (x ∷ xs) y both found h =
 abbrev IsFirst : (ℕ → Bool) → ℕ → ℕ → ℕ → Type 0
 IsFirst test many k r = (test r ≡ true) ⊎ ((r ≡ k + many) × ((j : ℕ) → k ≤ j → j < k + many → test j ≡ false))
 
-first_here : (test : ℕ → Bool) (many k j : ℕ) → test k ≡ false → ((m : ℕ) → k + 1 ≤ m → m < k + 1 + many → test m ≡ false) → (b : Bool) → (k == j) ≡ b
+first_here : (test : ℕ → Bool) (many k j : ℕ) → test k ≡ false → ((m : ℕ) → k + 1 ≤ m → m < k + 1 + many → test m ≡ false) → (b : Bool)
+    → (k == j) ≡ b
     → k ≤ j → j < k + suc many → test j ≡ false
 first_here test many k j fails rest true e low high = ap test (sym (eqb-true k j e)) ∙ fails
 first_here test many k j fails rest false e low high = rest j (grind (arith, nat_tests, e, low)) (omega (arith, high))
@@ -128,14 +133,19 @@ some_counted : {A : Type 0} (test : A → Bool) (xs : List A) → list_any test 
 some_counted test [] h = grind arith
 some_counted test (x ∷ xs) h = grind (arith, some_counted test xs)
 
-counted_fit : {A : Type 0} (test : A → Bool) (xs : List A) → how_many test xs ≤ length xs
+pub counted_fit : {A : Type 0} (test : A → Bool) (xs : List A) → how_many test xs ≤ length xs
 counted_fit test [] = grind arith
 counted_fit test (x ∷ xs) = grind (arith, counted_fit test xs)
 
 taken_below : (i m : ℕ) (runs : List Running) → ((j : ℕ) → j < m → list_any (is_on i j) runs ≡ true) → m ≤ how_many (is_below i m) runs
 taken_below i zero runs h = omega arith
 taken_below i (suc m) runs h =
-    omega (arith, below_more i m runs, taken_below i m runs (λ j l. h j (omega (arith, l))), some_counted (is_on i m) runs (h m (omega arith)))
+    omega (
+      arith,
+      below_more i m runs,
+      taken_below i m runs (λ j l. h j (omega (arith, l))),
+      some_counted (is_on i m) runs (h m (omega arith)),
+    )
 
 not_taken : (b : Bool) → not b ≡ true → b ≡ false
 not_taken true e = absurd (true_false (sym e))
@@ -149,13 +159,16 @@ is_taken false e = absurd (true_false e)
 free_is_free : (i many : ℕ) (runs : List Running) → length runs ≤ many → list_any (is_on i (free_track i many runs)) runs ≡ false
 free_is_free i many runs few = choose (first_is (λ k. not (list_any (is_on i k) runs)) many 0)
   where
-    full : (j : ℕ) → j ≡ many → ((k : ℕ) → 0 ≤ k → k < 0 + many → not (list_any (is_on i k) runs) ≡ false) → (b : Bool) → list_any (is_on i j) runs ≡ b → b ≡ false
+    full : (j : ℕ) → j ≡ many → ((k : ℕ) → 0 ≤ k → k < 0 + many → not (list_any (is_on i k) runs) ≡ false) → (b : Bool)
+        → list_any (is_on i j) runs ≡ b → b ≡ false
     full j e all true on =
-        let one = some_counted (is_on i j) runs on in let below = taken_below i j runs (λ k l. is_taken (list_any (is_on i k) runs) (all k (omega arith) (omega (arith, l, e)))) in
+        let one = some_counted (is_on i j) runs on in let below =
+        taken_below i j runs (λ k l. is_taken (list_any (is_on i k) runs) (all k (omega arith) (omega (arith, l, e)))) in
         absurd (omega (arith, one, below, below_more i j runs, counted_fit (is_below i (suc j)) runs, few, e))
     full j e all false on = refl
 
-    choose : IsFirst (λ k. not (list_any (is_on i k) runs)) many 0 (free_track i many runs) → list_any (is_on i (free_track i many runs)) runs ≡ false
+    choose : IsFirst (λ k. not (list_any (is_on i k) runs)) many 0 (free_track i many runs)
+        → list_any (is_on i (free_track i many runs)) runs ≡ false
     choose (inl free) = not_taken (list_any (is_on i (free_track i many runs)) runs) free
     choose (inr none) = full (free_track i many runs) (omega (arith, none.0)) none.1 (list_any (is_on i (free_track i many runs)) runs) refl
 
@@ -176,10 +189,12 @@ record Apart (n : ℕ) (steps : List Step) : Type 0 where
 other_order : (r q : Running) → ¬ AreOnOneTrack r q → ¬ AreOnOneTrack q r
 other_order r q h both = h (sym both.0, sym both.1)
 
-longer : (s : Step) (past : List Step) (over : List Bar) → Each (λ (a : Bar). a.to < length past) over → Each (λ (a : Bar). a.to < length (s ∷ past)) over
+longer : (s : Step) (past : List Step) (over : List Bar) → Each (λ (a : Bar). a.to < length past) over
+    → Each (λ (a : Bar). a.to < length (s ∷ past)) over
 longer s past over h = each_map (λ (a : Bar). a.to < length past) (λ (a : Bar). a.to < length (s ∷ past)) over (λ a l. omega (arith, l)) h
 
-apart_kept : (n : ℕ) (past : List Step) (s : Step) → Apart n past → bars n (s ∷ past) ≡ bars n past → running n (s ∷ past) ≡ running n past → Apart n (s ∷ past)
+apart_kept : (n : ℕ) (past : List Step) (s : Step) → Apart n past → bars n (s ∷ past) ≡ bars n past
+    → running n (s ∷ past) ≡ running n past → Apart n (s ∷ past)
 apart_kept n past s h same_bars same_running = record {
   done = rw same_bars h.done;
   before = rw (same_bars, same_running) h.before;
@@ -195,12 +210,16 @@ apart_begun : (n : ℕ) (past : List Step) (t : TaskId) → Apart n past → Apa
 apart_begun n past t h = record {
   done = h.done;
   before =
-      each_zip (λ (a : Bar). Each (λ (r : Running). AreOnOneTrack a.run r → a.to < r.from) (running n past)) (λ (a : Bar). a.to < length past)
+      each_zip (λ (a : Bar). Each (λ (r : Running). AreOnOneTrack a.run r → a.to < r.from) (running n past))
+      (λ (a : Bar). a.to < length past)
       (λ (a : Bar). Each (λ (r : Running). AreOnOneTrack a.run r → a.to < r.from) (running n past ++ (now n past t) ∷ [])) (bars n past)
-      (λ a others l. each_push (λ (r : Running). AreOnOneTrack a.run r → a.to < r.from) (running n past) (now n past t) others (λ _. l)) h.before h.over;
+      (λ a others l.
+      each_push (λ (r : Running). AreOnOneTrack a.run r → a.to < r.from) (running n past) (now n past t) others (λ _. l)) h.before
+      h.over;
   open_apart =
       pairs_push (λ (r q : Running). ¬ AreOnOneTrack r q) (running n past) (now n past t) h.open_apart
-      (none_on (now n past t).node.0 (now n past t).track (running n past) (now n past t) refl refl (free_is_free (now n past t).node.0 (length past) (running n past) h.few));
+      (none_on (now n past t).node.0 (now n past t).track (running n past) (now n past t) refl refl
+      (free_is_free (now n past t).node.0 (length past) (running n past) h.few));
   over = longer (Begin t) past (bars n past) h.over;
   few = omega (arith, length-append (running n past) ((now n past t) ∷ []), h.few);
 }
@@ -224,24 +243,31 @@ apart_done n past t h = choose (find (is_run_of t.0) (running n past)) refl
       few = omega (arith, length-without (is_run_of t.0) (running n past), h.few);
     }
 
-    kept : Each (λ (a : Bar). Each (λ (r : Running). AreOnOneTrack a.run r → a.to < r.from) (without (is_run_of t.0) (running n past))) (bars n past)
+    kept : Each (λ (a : Bar). Each (λ (r : Running). AreOnOneTrack a.run r → a.to < r.from) (without (is_run_of t.0) (running n past)))
+        (bars n past)
     kept =
         each_map (λ (a : Bar). Each (λ (r : Running). AreOnOneTrack a.run r → a.to < r.from) (running n past))
-        (λ (a : Bar). Each (λ (r : Running). AreOnOneTrack a.run r → a.to < r.from) (without (is_run_of t.0) (running n past))) (bars n past)
+        (λ (a : Bar). Each (λ (r : Running). AreOnOneTrack a.run r → a.to < r.from) (without (is_run_of t.0) (running n past)))
+        (bars n past)
         (λ a others. each_without (λ (r : Running). AreOnOneTrack a.run r → a.to < r.from) (is_run_of t.0) (running n past) others) h.before
 
-    ended : (run : Running) → find (is_run_of t.0) (running n past) ≡ Some run → After n past t (bars n past ++ record { run = run; to = length past } ∷ [])
+    ended : (run : Running) → find (is_run_of t.0) (running n past) ≡ Some run
+        → After n past t (bars n past ++ record { run = run; to = length past } ∷ [])
     ended run found =
         let bar : Bar = record { run = run; to = length past } in (
           pairs_push (λ (a b : Bar). AreOnOneTrack a.run b.run → a.to < b.run.from) (bars n past) bar h.done
               (each_map (λ (a : Bar). Each (λ (r : Running). AreOnOneTrack a.run r → a.to < r.from) (running n past))
               (λ (a : Bar). AreOnOneTrack a.run run → a.to < run.from) (bars n past)
-              (λ a others. each_found (λ (r : Running). AreOnOneTrack a.run r → a.to < r.from) (is_run_of t.0) (running n past) run found others) h.before),
-          each_push (λ (a : Bar). Each (λ (r : Running). AreOnOneTrack a.run r → a.to < r.from) (without (is_run_of t.0) (running n past))) (bars n past) bar kept
+              (λ a others.
+              each_found (λ (r : Running). AreOnOneTrack a.run r → a.to < r.from) (is_run_of t.0) (running n past) run found others)
+              h.before),
+          each_push (λ (a : Bar). Each (λ (r : Running). AreOnOneTrack a.run r
+              → a.to < r.from) (without (is_run_of t.0) (running n past))) (bars n past) bar kept
               (each_map (λ (q : Running). ¬ AreOnOneTrack run q) (λ (q : Running). AreOnOneTrack run q → length past < q.from)
               (without (is_run_of t.0) (running n past)) (λ q apart both. absurd (apart both))
               (found_others (λ (r q : Running). ¬ AreOnOneTrack r q) (is_run_of t.0) (running n past) run other_order found h.open_apart)),
-          each_push (λ (a : Bar). a.to < length (Done t ∷ past)) (bars n past) bar (longer (Done t) past (bars n past) h.over) (omega arith),
+          each_push (λ (a : Bar). a.to < length (Done t ∷ past)) (bars n past) bar (longer (Done t) past (bars n past) h.over)
+              (omega arith),
         )
 
     choose : (found : Option Running) → find (is_run_of t.0) (running n past) ≡ found → Apart n (Done t ∷ past)
@@ -257,7 +283,12 @@ apart n (Begin t ∷ past) = apart_begun n past t (apart n past)
 apart n (Done t ∷ past) = apart_done n past t (apart n past)
 apart n (s ∷ past) = apart_kept n past s (apart n past) refl refl
 
-each_within : (over : List Bar) (runs : List Running) → Each (λ (a : Bar). Each (λ (r : Running). AreOnOneTrack a.run r → a.to < r.from) runs) over
+-- No more run than steps have come.
+pub running_few : (n : ℕ) (steps : List Step) → length (running n steps) ≤ length steps
+running_few n steps = (apart n steps).few
+
+each_within : (over : List Bar) (runs : List Running)
+    → Each (λ (a : Bar). Each (λ (r : Running). AreOnOneTrack a.run r → a.to < r.from) runs) over
     → All (λ (a : Bar). All (λ (r : Running). AreOnOneTrack a.run r → a.to < r.from) runs) over
 each_within over runs h =
     each_all (λ (a : Bar). All (λ (r : Running). AreOnOneTrack a.run r → a.to < r.from) runs) over

@@ -40,7 +40,8 @@ record Flights (n : ℕ) (steps : List Step) : Type 0 where
   once : (m : ℕ) → how_many (is_sending_of m) (under_way steps) ≤ 1
   there : (m : ℕ) (x : Sending) → find (is_sending_of m) (under_way steps) ≡ Some x → IsSendingOf steps m x
 
-numbered_once : (n : ℕ) (past : List Step) (m : ℕ) → Flights n past → how_many (has_number m) (world_after n past).messages ≡ how_many (is_sending_of m) (under_way past)
+numbered_once : (n : ℕ) (past : List Step) (m : ℕ) → Flights n past
+    → how_many (has_number m) (world_after n past).messages ≡ how_many (is_sending_of m) (under_way past)
 numbered_once n past m h =
     sym (counted-reverse (has_number m) (world_after n past).messages) ∙ ap (how_many (has_number m)) (sym h.same)
     ∙ counted-map letter_of (has_number m) (under_way past)
@@ -49,7 +50,8 @@ numbered_once n past m h =
 abbrev now : List Step → NodeId → NodeId → MessageId → Sending
 now past i j k = record { message = k; from = i; to = j; sent = length past }
 
-flights_sent : (n : ℕ) (past : List Step) (i j : NodeId) (k : MessageId) (g : Generation) → is_known_message k.0 (world_after n past) ≡ false → Flights n past
+flights_sent : (n : ℕ) (past : List Step) (i j : NodeId) (k : MessageId) (g : Generation)
+    → is_known_message k.0 (world_after n past) ≡ false → Flights n past
     → Flights n (Send i j k g ∷ past)
 flights_sent n past i j k g unknown h = record {
   same =
@@ -63,20 +65,29 @@ flights_sent n past i j k g unknown h = record {
     none : (m : ℕ) → (k.0 == m) ≡ true → how_many (is_sending_of m) (under_way past) ≡ 0
     none m e = h.fresh m (ap (λ x. is_known_message x (world_after n past)) (sym (eqb-true k.0 m e)) ∙ unknown)
 
-    fresh : (m : ℕ) (b : Bool) → (k.0 == m) ≡ b → (b || is_known_message m (world_after n past)) ≡ false → how_many (is_sending_of m) (under_way past ++ (now past i j k) ∷ []) ≡ 0
+    fresh : (m : ℕ) (b : Bool) → (k.0 == m) ≡ b → (b || is_known_message m (world_after n past)) ≡ false
+        → how_many (is_sending_of m) (under_way past ++ (now past i j k) ∷ []) ≡ 0
     fresh m true e known = absurd (true_false known)
     fresh m false e known = counted-push (is_sending_of m) (under_way past) (now past i j k) ∙ rw e (omega (arith, h.fresh m known))
 
     once : (m : ℕ) (b : Bool) → (k.0 == m) ≡ b → how_many (is_sending_of m) (under_way past ++ (now past i j k) ∷ []) ≤ 1
-    once m true e = let pushed : how_many (is_sending_of m) (under_way past ++ (now past i j k) ∷ []) ≡ how_many (is_sending_of m) (under_way past) + one true =
-        counted-push (is_sending_of m) (under_way past) (now past i j k) ∙ ap (λ b. how_many (is_sending_of m) (under_way past) + one b) e in omega (arith, pushed, none m e)
-    once m false e = let pushed : how_many (is_sending_of m) (under_way past ++ (now past i j k) ∷ []) ≡ how_many (is_sending_of m) (under_way past) + one false =
-        counted-push (is_sending_of m) (under_way past) (now past i j k) ∙ ap (λ b. how_many (is_sending_of m) (under_way past) + one b) e in omega (arith, pushed, h.once m)
+    once m true e =
+        let pushed : how_many (is_sending_of m) (under_way past ++ (now past i j k) ∷ [])
+        ≡ how_many (is_sending_of m) (under_way past) + one true =
+        counted-push (is_sending_of m) (under_way past) (now past i j k)
+        ∙ ap (λ b. how_many (is_sending_of m) (under_way past) + one b) e in omega (arith, pushed, none m e)
+    once m false e =
+        let pushed : how_many (is_sending_of m) (under_way past ++ (now past i j k) ∷ [])
+        ≡ how_many (is_sending_of m) (under_way past) + one false =
+        counted-push (is_sending_of m) (under_way past) (now past i j k)
+        ∙ ap (λ b. how_many (is_sending_of m) (under_way past) + one b) e in omega (arith, pushed, h.once m)
 
-    there : (m : ℕ) (x : Sending) (b : Bool) → (k.0 == m) ≡ b → find (is_sending_of m) (under_way past ++ (now past i j k) ∷ []) ≡ Some x → IsSendingOf (Send i j k g ∷ past) m x
+    there : (m : ℕ) (x : Sending) (b : Bool) → (k.0 == m) ≡ b → find (is_sending_of m) (under_way past ++ (now past i j k) ∷ []) ≡ Some x
+        → IsSendingOf (Send i j k g ∷ past) m x
     there m x true e found =
         let this : (now past i j k) ≡ x =
-        same_some (find (is_sending_of m) (under_way past ++ (now past i j k) ∷ [])) (now past i j k) x (find-push (is_sending_of m) (under_way past) (now past i j k) (none m e) e) found in
+        same_some (find (is_sending_of m) (under_way past ++ (now past i j k) ∷ [])) (now past i j k) x
+        (find-push (is_sending_of m) (under_way past) (now past i j k) (none m e) e) found in
         let P : Sending → Type 0 = IsSendingOf (Send i j k g ∷ past) m in
         subst P this (record { message = eqb-true k.0 m e; sent = sym (rw e refl) })
     there m x false e found =
@@ -93,14 +104,17 @@ to_receiver m j x h = grind (arith, nat_tests, h)
 other_message : (m k : ℕ) → (k == m) ≡ false → (x : Sending) → is_sending_of k x ≡ true → is_sending_of m x ≡ false
 other_message m k apart x is = grind (arith, nat_tests, apart, is)
 
-flights_received : (n : ℕ) (past : List Step) (j : NodeId) (k : MessageId) (g : Generation) → is_under_way k.0 j.0 (world_after n past) ≡ true → Flights n past
+flights_received : (n : ℕ) (past : List Step) (j : NodeId) (k : MessageId) (g : Generation)
+    → is_under_way k.0 j.0 (world_after n past) ≡ true → Flights n past
     → Flights n (Recv j k g ∷ past)
 flights_received n past j k g there_is h = record {
   same =
       map-without letter_of (has_number k.0) (under_way past) ∙ ap (without (has_number k.0)) h.same
       ∙ sym (reverse-without (has_number k.0) (world_after n past).messages few)
-      ∙ ap reverse (sym (without-same (is_message k.0 j.0) (has_number k.0) (world_after n past).messages (to_number k.0 j.0) few there_is));
-  fresh = λ m known. let old = h.fresh m known in omega (arith, old, counted-without_le (is_sending_of m) (is_sending_of k.0) (under_way past));
+      ∙ ap reverse
+      (sym (without-same (is_message k.0 j.0) (has_number k.0) (world_after n past).messages (to_number k.0 j.0) few there_is));
+  fresh = λ m known. let old =
+      h.fresh m known in omega (arith, old, counted-without_le (is_sending_of m) (is_sending_of k.0) (under_way past));
   once = λ m. omega (arith, h.once m, counted-without_le (is_sending_of m) (is_sending_of k.0) (under_way past));
   there = λ m x found. there m x (k.0 == m) refl found;
 }
@@ -122,12 +136,14 @@ flights_received n past j k g there_is h = record {
         ap (λ x. how_many (is_sending_of x) (without (is_sending_of k.0) (under_way past))) (sym (eqb-true k.0 m e))
         ∙ counted-without (is_sending_of k.0) (under_way past) (omega (arith, some, h.once k.0))
 
-    there : (m : ℕ) (x : Sending) (b : Bool) → (k.0 == m) ≡ b → find (is_sending_of m) (without (is_sending_of k.0) (under_way past)) ≡ Some x
+    there : (m : ℕ) (x : Sending) (b : Bool) → (k.0 == m) ≡ b
+        → find (is_sending_of m) (without (is_sending_of k.0) (under_way past)) ≡ Some x
         → IsSendingOf (Recv j k g ∷ past) m x
     there m x true e found =
         absurd (omega (arith, left m e, counted-found (is_sending_of m) (without (is_sending_of k.0) (under_way past)) x found))
     there m x false e found =
-        let old = h.there m x (sym (find-without_other (is_sending_of m) (is_sending_of k.0) (under_way past) (other_message m k.0 e)) ∙ found) in
+        let old = h.there m x (sym (find-without_other (is_sending_of m) (is_sending_of k.0) (under_way past) (other_message m k.0 e))
+        ∙ found) in
         record { message = old.message; sent = old.sent }
 
 -- ---- all steps
@@ -143,7 +159,8 @@ flights_reopened n past quiet h = record {
     none m = sym (numbered_once n past m h) ∙ ap (how_many (has_number m)) quiet.2
 
 flights_kept : (n : ℕ) (past : List Step) (s : Step) → Flights n past → under_way (s ∷ past) ≡ under_way past
-    → (world_after n (s ∷ past)).messages ≡ (world_after n past).messages → (world_after n (s ∷ past)).numbers ≡ (world_after n past).numbers
+    → (world_after n (s ∷ past)).messages ≡ (world_after n past).messages
+    → (world_after n (s ∷ past)).numbers ≡ (world_after n past).numbers
     → ((m : ℕ) → before_newest (is_send_numbered m) (s ∷ past) ≡ before_newest (is_send_numbered m) past) → Flights n (s ∷ past)
 flights_kept n past s h same_list same_messages same_numbers same_sends = record {
   same = ap (map letter_of) same_list ∙ h.same ∙ ap reverse (sym same_messages);
@@ -155,7 +172,8 @@ flights_kept n past s h same_list same_messages same_numbers same_sends = record
 }
 
 flights : (n : ℕ) (steps : List Step) → 1 ≤ n → AreRuns n steps → Flights n steps
-flights n [] some h = record { same = refl; fresh = λ m known. refl; once = λ m. omega arith; there = λ m x found. absurd (none_some x found) }
+flights n [] some h =
+    record { same = refl; fresh = λ m known. refl; once = λ m. omega arith; there = λ m x found. absurd (none_some x found) }
 flights n (Send i j k g ∷ past) some h = flights_sent n past i j k g (h.0.goes_on refl).0.3 (flights n past some h.1)
 flights n (Recv j k g ∷ past) some h = flights_received n past j k g (h.0.goes_on refl).0.1 (flights n past some h.1)
 flights n (Reopen ∷ past) some h = flights_reopened n past (quiet_before n past some h.1 h.0) (flights n past some h.1)
@@ -164,7 +182,8 @@ flights n (s ∷ past) some h = flights_kept n past s (flights n past some h.1) 
 abbrev hop : List Step → ℕ → ℕ → ℕ → ℕ → Hop
 hop past m from to sent = record { message = m; from = from; to = to; sent = sent; received = length past }
 
-hops_received : (n : ℕ) (past : List Step) (j : NodeId) (k : MessageId) (g : Generation) → is_under_way k.0 j.0 (world_after n past) ≡ true → Flights n past
+hops_received : (n : ℕ) (past : List Step) (j : NodeId) (k : MessageId) (g : Generation)
+    → is_under_way k.0 j.0 (world_after n past) ≡ true → Flights n past
     → map hop_of (arrows past) ≡ hops n past → map hop_of (arrows (Recv j k g ∷ past)) ≡ hops n (Recv j k g ∷ past)
 hops_received n past j k g there_is h before =
     let some = found-counted (is_sending_of k.0) (under_way past) enough in
@@ -201,7 +220,8 @@ hops_received n past j k g there_is h before =
 
 hops_all : (n : ℕ) (steps : List Step) → 1 ≤ n → AreRuns n steps → map hop_of (arrows steps) ≡ hops n steps
 hops_all n [] some h = refl
-hops_all n (Recv j k g ∷ past) some h = hops_received n past j k g (h.0.goes_on refl).0.1 (flights n past some h.1) (hops_all n past some h.1)
+hops_all n (Recv j k g ∷ past) some h =
+    hops_received n past j k g (h.0.goes_on refl).0.1 (flights n past some h.1) (hops_all n past some h.1)
 hops_all n (s ∷ past) some h = hops_all n past some h.1
 
 pub each_message : EachMessageOnce

@@ -52,7 +52,12 @@ none_runs t (x ∷ xs) h =
     let choose : (b : Bool) (l : Life) → (not (is_done l) || list_any (λ y. not (is_done y.life)) xs) ≡ false
     → is_running (option_map (λ y. y.life) (if b then Some (record x { life = l }) else find (λ y. y.number == t) xs)) ≡ false =
     elim [
-      | true ↦ elim [ life.Waiting k ↦ λ e. refl | life.Ready ↦ λ e. refl | life.Running ↦ λ e. absurd (true_false e) | life.Done ↦ λ e. refl ]
+      | true ↦ elim [
+        | life.Waiting k ↦ λ e. refl
+        | life.Ready ↦ λ e. refl
+        | life.Running ↦ λ e. absurd (true_false e)
+        | life.Done ↦ λ e. refl
+      ]
       | false ↦ elim [
         | life.Waiting k ↦ λ e. none_runs t xs (absurd (true_false e))
         | life.Ready ↦ λ e. none_runs t xs (absurd (true_false e))
@@ -78,14 +83,20 @@ runs_inserted : (n : ℕ) (past : List Step) (i : NodeId) (u : TaskId) (k : Inpu
 runs_inserted n past i u k new h = record { once = λ t. once t (u.0 == t) refl; there = λ t r found. there t r found (u.0 == t) refl }
   where
     none : (t : ℕ) → (u.0 == t) ≡ true → how_many (is_run_of t) (running n past) ≡ 0
-    none t e = let same : u.0 ≡ t = eqb-true u.0 t e in h.once t ∙ ap (λ x. one (is_running (life_of x (world_after n past)))) (sym same) ∙ ap (λ o. one (is_running o)) new
+    none t e = let same : u.0 ≡ t =
+        eqb-true u.0 t e in h.once t ∙ ap (λ x. one (is_running (life_of x (world_after n past)))) (sym same)
+        ∙ ap (λ o. one (is_running o)) new
 
     once : (t : ℕ) (b : Bool) → (u.0 == t) ≡ b → how_many (is_run_of t) (running n past)
-        ≡ one (is_running (option_map (λ x. x.life) (if b then Some (record { number = u.0; home = i.0; life = lacking k.count }) else find (λ x. x.number == t) (world_after n past).tasks)))
+        ≡ one (is_running
+        (option_map (λ x.
+        x.life) (if b then Some (record { number = u.0; home = i.0; life = lacking k.count }) else find (λ x.
+        x.number == t) (world_after n past).tasks)))
     once t true e = none t e ∙ ap one (sym (lacking_rests k.count))
     once t false e = h.once t
 
-    there : (t : ℕ) (r : Running) → find (is_run_of t) (running n past) ≡ Some r → (b : Bool) → (u.0 == t) ≡ b → IsRunOf n (Insert i u k ∷ past) t r
+    there : (t : ℕ) (r : Running) → find (is_run_of t) (running n past) ≡ Some r → (b : Bool) → (u.0 == t) ≡ b
+        → IsRunOf n (Insert i u k ∷ past) t r
     there t r found true e = absurd (omega (arith, none t e, counted-found (is_run_of t) (running n past) r found))
     there t r found false e = let old = h.there t r found in record { task = old.task; node = rw e old.node; from = old.from }
 
@@ -95,7 +106,8 @@ runs_relived : (n : ℕ) (past : List Step) (u : TaskId) (l : Life) → life_of 
 runs_relived n past u l is rests still h = record { once = once; there = there }
   where
     choose : (t : ℕ) (b : Bool) → (u.0 == t) ≡ b
-        → is_running (if b then option_map supplied (life_of t (world_after n past)) else life_of t (world_after n past)) ≡ is_running (life_of t (world_after n past))
+        → is_running (if b then option_map supplied (life_of t (world_after n past)) else life_of t (world_after n past))
+        ≡ is_running (life_of t (world_after n past))
     choose t true e =
         let same : u.0 ≡ t = eqb-true u.0 t e in
         let here : life_of t (world_after n past) ≡ Some l = ap (λ x. life_of x (world_after n past)) (sym same) ∙ is in
@@ -103,7 +115,8 @@ runs_relived n past u l is rests still h = record { once = once; there = there }
     choose t false e = refl
 
     once : (t : ℕ) → how_many (is_run_of t) (running n past) ≡ one (is_running (life_of t (world_after n (Supply u ∷ past))))
-    once t = h.once t ∙ ap one (sym (choose t (u.0 == t) refl)) ∙ ap (λ o. one (is_running o)) (sym (life_in-with_life t u.0 supplied (world_after n past).tasks))
+    once t = h.once t ∙ ap one (sym (choose t (u.0 == t) refl))
+        ∙ ap (λ o. one (is_running o)) (sym (life_in-with_life t u.0 supplied (world_after n past).tasks))
 
     there : (t : ℕ) (r : Running) → find (is_run_of t) (running n past) ≡ Some r → IsRunOf n (Supply u ∷ past) t r
     there t r found =
@@ -113,11 +126,14 @@ runs_relived n past u l is rests still h = record { once = once; there = there }
 abbrev now : ℕ → List Step → TaskId → Running
 now n past u = begun n past (running n past) u.0
 
-runs_begun : (n : ℕ) (past : List Step) (u : TaskId) → life_of u.0 (world_after n past) ≡ Some life.Ready → Runs n past → Runs n (Begin u ∷ past)
+runs_begun : (n : ℕ) (past : List Step) (u : TaskId) → life_of u.0 (world_after n past) ≡ Some life.Ready → Runs n past
+    → Runs n (Begin u ∷ past)
 runs_begun n past u is h = record { once = once; there = λ t r found. there t r (u.0 == t) refl found }
   where
     none : (t : ℕ) → (u.0 == t) ≡ true → how_many (is_run_of t) (running n past) ≡ 0
-    none t e = let same : u.0 ≡ t = eqb-true u.0 t e in h.once t ∙ ap (λ x. one (is_running (life_of x (world_after n past)))) (sym same) ∙ ap (λ o. one (is_running o)) is
+    none t e = let same : u.0 ≡ t =
+        eqb-true u.0 t e in h.once t ∙ ap (λ x. one (is_running (life_of x (world_after n past)))) (sym same)
+        ∙ ap (λ o. one (is_running o)) is
 
     choose : (t : ℕ) (b : Bool) → (u.0 == t) ≡ b → how_many (is_run_of t) (running n past) + one b
         ≡ one (is_running (if b then option_map (λ _. life.Running) (life_of t (world_after n past)) else life_of t (world_after n past)))
@@ -127,15 +143,19 @@ runs_begun n past u is h = record { once = once; there = λ t r found. there t r
         ap (λ m. m + 1) (none t e) ∙ sym (ap (λ o. one (is_running (option_map (λ _. life.Running) o))) here)
     choose t false e = omega (arith, h.once t)
 
-    once : (t : ℕ) → how_many (is_run_of t) (running n past ++ (now n past u) ∷ []) ≡ one (is_running (life_of t (world_after n (Begin u ∷ past))))
+    once : (t : ℕ)
+        → how_many (is_run_of t) (running n past ++ (now n past u) ∷ []) ≡ one (is_running (life_of t (world_after n (Begin u ∷ past))))
     once t =
         counted-push (is_run_of t) (running n past) (now n past u) ∙ choose t (u.0 == t) refl
         ∙ ap (λ o. one (is_running o)) (sym (life_in-with_life t u.0 (λ _. life.Running) (world_after n past).tasks))
 
-    there : (t : ℕ) (r : Running) (b : Bool) → (u.0 == t) ≡ b → find (is_run_of t) (running n past ++ (now n past u) ∷ []) ≡ Some r → IsRunOf n (Begin u ∷ past) t r
+    there : (t : ℕ) (r : Running) (b : Bool) → (u.0 == t) ≡ b → find (is_run_of t) (running n past ++ (now n past u) ∷ []) ≡ Some r
+        → IsRunOf n (Begin u ∷ past) t r
     there t r true e found =
         let same : u.0 ≡ t = eqb-true u.0 t e in
-        let this : (now n past u) ≡ r = same_some (find (is_run_of t) (running n past ++ (now n past u) ∷ [])) (now n past u) r (find-push (is_run_of t) (running n past) (now n past u) (none t e) e) found in
+        let this : (now n past u) ≡ r =
+        same_some (find (is_run_of t) (running n past ++ (now n past u) ∷ [])) (now n past u) r
+        (find-push (is_run_of t) (running n past) (now n past u) (none t e) e) found in
         let P : Running → Type 0 = IsRunOf n (Begin u ∷ past) t in
         subst P this (record {
           task = same;
@@ -144,12 +164,17 @@ runs_begun n past u is h = record { once = once; there = λ t r found. there t r
         })
     there t r false e found =
         let old = h.there t r (sym (find-push_other (is_run_of t) (running n past) (now n past u) e) ∙ found) in
-        record { task = old.task; node = old.node ∙ sym (home-with_life t u.0 (λ _. life.Running) (world_after n past).tasks); from = old.from ∙ sym (rw e refl) }
+        record {
+          task = old.task;
+          node = old.node ∙ sym (home-with_life t u.0 (λ _. life.Running) (world_after n past).tasks);
+          from = old.from ∙ sym (rw e refl);
+        }
 
 other_number : (t u : ℕ) → (u == t) ≡ false → (r : Running) → is_run_of u r ≡ true → is_run_of t r ≡ false
 other_number t u apart r is = grind (arith, nat_tests, apart, is)
 
-runs_done : (n : ℕ) (past : List Step) (u : TaskId) → life_of u.0 (world_after n past) ≡ Some life.Running → Runs n past → Runs n (Done u ∷ past)
+runs_done : (n : ℕ) (past : List Step) (u : TaskId) → life_of u.0 (world_after n past) ≡ Some life.Running → Runs n past
+    → Runs n (Done u ∷ past)
 runs_done n past u is h = record { once = λ t. once t (u.0 == t) refl; there = λ t r found. there t r (u.0 == t) refl found }
   where
     left : (t : ℕ) → (u.0 == t) ≡ true → how_many (is_run_of t) (without (is_run_of u.0) (running n past)) ≡ 0
@@ -172,12 +197,17 @@ runs_done n past u is h = record { once = λ t. once t (u.0 == t) refl; there = 
         counted-without_other (is_run_of t) (is_run_of u.0) (running n past) (other_number t u.0 e) ∙ h.once t
         ∙ sym (ap (λ o. one (is_running o)) same)
 
-    there : (t : ℕ) (r : Running) (b : Bool) → (u.0 == t) ≡ b → find (is_run_of t) (without (is_run_of u.0) (running n past)) ≡ Some r → IsRunOf n (Done u ∷ past) t r
+    there : (t : ℕ) (r : Running) (b : Bool) → (u.0 == t) ≡ b → find (is_run_of t) (without (is_run_of u.0) (running n past)) ≡ Some r
+        → IsRunOf n (Done u ∷ past) t r
     there t r true e found =
         absurd (omega (arith, left t e, counted-found (is_run_of t) (without (is_run_of u.0) (running n past)) r found))
     there t r false e found =
         let old = h.there t r (sym (find-without_other (is_run_of t) (is_run_of u.0) (running n past) (other_number t u.0 e)) ∙ found) in
-        record { task = old.task; node = old.node ∙ sym (home-with_life t u.0 (λ _. life.Done) (world_after n past).tasks); from = old.from }
+        record {
+          task = old.task;
+          node = old.node ∙ sym (home-with_life t u.0 (λ _. life.Done) (world_after n past).tasks);
+          from = old.from;
+        }
 
 -- Where a pool is reopened nothing runs.
 pub quiet_before : (n : ℕ) (past : List Step) → 1 ≤ n → AreRuns n past → MayCome n past Reopen → IsQuiet (world n (present past))

@@ -1,5 +1,6 @@
 -- Each wave that ended has one cut, and each judgement of the end one mark.
-use Rattle.std.proofs.Common.{◌≡◌, ℕ, ◌==◌, Bool, true, false, List, [], ◌∷◌, ◌++◌, length, map, Option, Some, None, refl, sym, ap, ◌∙◌, if◌then◌else◌}
+use Rattle.std.proofs.Common.{◌≡◌, ℕ, ◌==◌, Bool, true, false, List, [], ◌∷◌, ◌++◌, length, map, Option, Some, None, refl, sym, ap, ◌∙◌}
+use Rattle.std.proofs.Common.{if◌then◌else◌}
 use Rattle.std.proofs.lemmas.List.{append-nil, map-append}
 use Rattle.tp_base.specs.declared.Step.{Step}
 use Rattle.tp_base.specs.declared.Step.TheVariants.{Give, Judge}
@@ -29,7 +30,10 @@ cuts_are n (Give i ∷ past) =
     choose (i.0 == 0)
 cuts_are n (Judge ∷ past) =
     let choose : (o : Option ℕ) → map sums_of_cut (cuts n past) ≡ sums_answered n past ++ sums_in (judged o) =
-    elim [ Some w ↦ cuts_are n past ∙ sym (append-nil (sums_answered n past)) | None ↦ cuts_are n past ∙ sym (append-nil (sums_answered n past)) ]
+    elim [
+      | Some w ↦ cuts_are n past ∙ sym (append-nil (sums_answered n past))
+      | None ↦ cuts_are n past ∙ sym (append-nil (sums_answered n past))
+    ]
     in
     choose (judgement n (present past))
 cuts_are n (s ∷ past) = cuts_are n past ∙ sym (append-nil (sums_answered n past))
@@ -39,7 +43,10 @@ ends_are n [] = refl
 ends_are n (Give i ∷ past) =
     let choose : (b : Bool) → map mark_of (ends n past)
     ≡ ends_answered n past ++ mark_in (if b then WaveSums (sums_of n (Give i ∷ present past)) else Plain) (length past) =
-    elim [ true ↦ ends_are n past ∙ sym (append-nil (ends_answered n past)) | false ↦ ends_are n past ∙ sym (append-nil (ends_answered n past)) ]
+    elim [
+      | true ↦ ends_are n past ∙ sym (append-nil (ends_answered n past))
+      | false ↦ ends_are n past ∙ sym (append-nil (ends_answered n past))
+    ]
     in
     choose (i.0 == 0)
 ends_are n (Judge ∷ past) =

@@ -33,7 +33,7 @@ use Rattle.tp_scene.specs.declared.messages.Messages.{Messages}
 use Rattle.tp_scene.specs.declared.waves.Waves.{Waves}
 use Rattle.tp_scene.specs.declared.waves.Gives.{Gives}
 use Rattle.tp_scene.specs.Scene.{is_run_of, is_sending_of, free_track, running, bars, bar_of, rows, with_row, under_way, arrows}
-use Rattle.tp_scene.specs.Scene.{arrow_of, gave, cut, cuts, ends, end_of, seams}
+use Rattle.tp_scene.specs.Scene.{arrow_of, with_received, ribbons, gave, cut, cuts, ends, end_of, seams}
 use Rattle.tp_scene.specs.Following.{home, HasTracks, HasMessages, HasGiven, HasWaves}
 
 pub ok_then : {A E P Q : Type 0} (r : Result A E) → (P → Q) → OnOk r P → OnOk r Q
@@ -46,7 +46,8 @@ homes-with_life : (t q : ℕ) (f : Life → Life) (xs : List Task)
 homes-with_life t q f [] = refl
 homes-with_life t q f (x ∷ xs) = grind (arith, nat_tests, homes-with_life t q f xs)
 
-picked : (i : NodeId) (x : Task) (b : Bool) (o : Option Task) → i ≡ home x → (if b then Some i else option_map home o) ≡ option_map home (if b then Some x else o)
+picked : (i : NodeId) (x : Task) (b : Bool) (o : Option Task) → i ≡ home x
+    → (if b then Some i else option_map home o) ≡ option_map home (if b then Some x else o)
 picked i x true o e = ap Some e
 picked i x false o e = refl
 
@@ -58,21 +59,24 @@ put_is old new node v k is within = ap (λ xs. slice_index xs k) is ∙ grind (a
 pub put_size : (old new : List ℕ) (node v : ℕ) → new ≡ slice_set old node v → length old ≡ 8 → length new ≡ 8
 put_size old new node v is size = ap length is ∙ length-set old node v ∙ size
 
-pub tracks_inserted : (n : ℕ) (past : List Step) (s : Step) (i : NodeId) (t : TaskId) (k : Inputs) (old new : Tracks) → s ≡ Insert i t k → HasTracks n past old
+pub tracks_inserted : (n : ℕ) (past : List Step) (s : Step) (i : NodeId) (t : TaskId) (k : Inputs) (old new : Tracks) → s ≡ Insert i t k
+    → HasTracks n past old
     → Puts old.homes new.homes t.0 i → new.rows ≡ old.rows → new.running.items ≡ old.running.items → new.bars.items ≡ old.bars.items
     → HasTracks n (s ∷ past) new
 tracks_inserted n past s i t k old new is h puts same run bar =
     let P : Step → Type 0 = λ x. HasTracks n (x ∷ past) new in
     subst P (sym is) (record {
       homes = λ q. puts q ∙ rw (h.homes q)
-          (picked i (record { number = t.0; home = i.0; life = lacking k.count }) (t.0 == q) (find (λ x. x.number == q) (world_after n past).tasks) refl);
+          (picked i (record { number = t.0; home = i.0; life = lacking k.count }) (t.0 == q)
+          (find (λ x. x.number == q) (world_after n past).tasks) refl);
       size = ap length same ∙ h.size;
       rows = λ j l. ap (λ r. slice_index r j) same ∙ h.rows j l;
       running = run ∙ h.running;
       bars = bar ∙ h.bars;
     })
 
-pub tracks_reopened : (n : ℕ) (past : List Step) (s : Step) (old new : Tracks) → s ≡ Reopen → HasTracks n past old → ((q : ℕ) → lookup new.homes q ≡ None)
+pub tracks_reopened : (n : ℕ) (past : List Step) (s : Step) (old new : Tracks) → s ≡ Reopen → HasTracks n past old
+    → ((q : ℕ) → lookup new.homes q ≡ None)
     → new.rows ≡ old.rows → new.running.items ≡ old.running.items → new.bars.items ≡ old.bars.items → HasTracks n (s ∷ past) new
 tracks_reopened n past s old new is h none same run bar =
     let P : Step → Type 0 = λ x. HasTracks n (x ∷ past) new in
@@ -85,7 +89,8 @@ tracks_reopened n past s old new is h none same run bar =
     })
 
 pub tracks_other : (n : ℕ) (past : List Step) (s : Step) (t : Tracks) → HasTracks n past t
-    → ((i : NodeId) (u : TaskId) (k : Inputs) → s ≢ Insert i u k) → ((u : TaskId) → s ≢ Begin u) → ((u : TaskId) → s ≢ Done u) → (s ≢ Reopen)
+    → ((i : NodeId) (u : TaskId) (k : Inputs) → s ≢ Insert i u k) → ((u : TaskId) → s ≢ Begin u) → ((u : TaskId) → s ≢ Done u)
+    → (s ≢ Reopen)
     → HasTracks n (s ∷ past) t
 tracks_other n past (Insert i u k) t h insert begin done reopen = absurd (insert i u k refl)
 tracks_other n past (Begin u) t h insert begin done reopen = absurd (begin u refl)
@@ -98,7 +103,8 @@ tracks_other n past (Supply u) t h insert begin done reopen = record {
   running = h.running;
   bars = h.bars;
 }
-tracks_other n past s t h insert begin done reopen = record { homes = h.homes; size = h.size; rows = h.rows; running = h.running; bars = h.bars }
+tracks_other n past s t h insert begin done reopen =
+    record { homes = h.homes; size = h.size; rows = h.rows; running = h.running; bars = h.bars }
 
 home_found : (o : Option Task) → unwrap_or (option_map home o) (record { 0 = 0 }) ≡ record { 0 = unwrap_or (option_map (λ x. x.home) o) 0 }
 home_found None = refl
@@ -111,7 +117,8 @@ pub node_read : (node : NodeId) (got there : Option NodeId) → got ≡ there �
     → node ≡ unwrap_or there (record { 0 = 0 })
 node_read node got there is e = e ∙ ap (λ o. unwrap_or o (record { 0 = 0 })) is
 
-pub tracks_begun : (n : ℕ) (past : List Step) (t : TaskId) (node : NodeId) (track place : ℕ) (old new : Tracks) → HasTracks n past old → place ≡ length past
+pub tracks_begun : (n : ℕ) (past : List Step) (t : TaskId) (node : NodeId) (track place : ℕ) (old new : Tracks) → HasTracks n past old
+    → place ≡ length past
     → node ≡ unwrap_or (lookup old.homes t.0) (record { 0 = 0 }) → track ≡ free_track node.0 place old.running.items
     → ((q : ℕ) → lookup new.homes q ≡ lookup old.homes q)
     → new.rows ≡ slice_set old.rows node.0 (max (slice_index old.rows node.0) (track + 1))
@@ -123,7 +130,8 @@ tracks_begun n past t node track place old new h at node_is track_is same put ru
   size = put_size old.rows new.rows node.0 (max (slice_index old.rows node.0) (track + 1)) put h.size;
   rows = λ i l. put_is old.rows new.rows node.0 (max (slice_index old.rows node.0) (track + 1)) i put (omega (arith, l, h.size))
       ∙ choose i l (node.0 == i) refl ∙ ap (λ r. with_row i r (rows n i past)) is;
-  running = run ∙ ap (λ rs. rs ++ record { task = t; node = node; track = track; from = place } ∷ []) h.running ∙ ap (λ r. running n past ++ r ∷ []) is;
+  running = run ∙ ap (λ rs. rs ++ record { task = t; node = node; track = track; from = place } ∷ []) h.running
+      ∙ ap (λ r. running n past ++ r ∷ []) is;
   bars = bar ∙ h.bars;
 }
   where
@@ -136,10 +144,13 @@ tracks_begun n past t node track place old new h at node_is track_is same put ru
         ∙ ap (λ p. free_track (home_of t.0 (world_after n past)) p old.running.items) at
         ∙ ap (λ rs. free_track (home_of t.0 (world_after n past)) (length past) rs) h.running
 
-    is : made t node track place ≡ made t (record { 0 = home_of t.0 (world_after n past) }) (free_track (home_of t.0 (world_after n past)) (length past) (running n past)) (length past)
+    is : made t node track place
+        ≡ made t (record { 0 = home_of t.0 (world_after n past) })
+        (free_track (home_of t.0 (world_after n past)) (length past) (running n past)) (length past)
     is =
         ap (λ (m : NodeId). made t m track place) there ∙ ap (λ k. made t (record { 0 = home_of t.0 (world_after n past) }) k place) free
-        ∙ ap (λ p. made t (record { 0 = home_of t.0 (world_after n past) }) (free_track (home_of t.0 (world_after n past)) (length past) (running n past)) p) at
+        ∙ ap (λ p. made t (record { 0 = home_of t.0 (world_after n past) })
+        (free_track (home_of t.0 (world_after n past)) (length past) (running n past)) p) at
 
     choose : (i : ℕ) → i < 8 → (b : Bool) → (node.0 == i) ≡ b
         → (if b then max (slice_index old.rows node.0) (track + 1) else slice_index old.rows i)
@@ -147,7 +158,8 @@ tracks_begun n past t node track place old new h at node_is track_is same put ru
     choose i l true e = ap (λ r. max r (track + 1)) (ap (slice_index old.rows) (eqb-true node.0 i e) ∙ h.rows i l)
     choose i l false e = h.rows i l
 
-pub tracks_done : (n : ℕ) (past : List Step) (t : TaskId) (place : ℕ) (old new : Tracks) (found : Option Running) → HasTracks n past old → place ≡ length past
+pub tracks_done : (n : ℕ) (past : List Step) (t : TaskId) (place : ℕ) (old new : Tracks) (found : Option Running) → HasTracks n past old
+    → place ≡ length past
     → found ≡ find (is_run_of t.0) old.running.items
     → ((q : ℕ) → lookup new.homes q ≡ lookup old.homes q) → new.rows ≡ old.rows
     → new.running.items ≡ without (is_run_of t.0) old.running.items
@@ -159,39 +171,49 @@ tracks_done n past t place old new found h at is same row run bar = record {
   rows = λ i l. ap (λ r. slice_index r i) row ∙ h.rows i l;
   running = run ∙ ap (λ rs. without (is_run_of t.0) rs) h.running;
   bars =
-      bar ∙ ap (λ bs. bs ++ bar_of found place) h.bars ∙ ap (λ f. bars n past ++ bar_of f place) (is ∙ ap (λ rs. find (is_run_of t.0) rs) h.running)
+      bar ∙ ap (λ bs. bs ++ bar_of found place) h.bars
+      ∙ ap (λ f. bars n past ++ bar_of f place) (is ∙ ap (λ rs. find (is_run_of t.0) rs) h.running)
       ∙ ap (λ p. bars n past ++ bar_of (find (is_run_of t.0) (running n past)) p) at;
 }
 
 -- ---- messages
-pub messages_sent : (past : List Step) (x : Sending) (g : Generation) (old new : Messages) → HasMessages past old → x.sent ≡ length past
-    → new.under_way.items ≡ old.under_way.items ++ x ∷ [] → new.arrows.items ≡ old.arrows.items
-    → HasMessages (Send x.from x.to x.message g ∷ past) new
-messages_sent past x g old new h at more same =
+pub messages_sent : (all : ℕ) (past : List Step) (x : Sending) (g : Generation) (old new : Messages) → HasMessages all past old
+    → x.sent ≡ length past
+    → new.under_way.items ≡ old.under_way.items ++ x ∷ [] → new.arrows.items ≡ old.arrows.items → new.ribbons.items ≡ old.ribbons.items
+    → HasMessages all (Send x.from x.to x.message g ∷ past) new
+messages_sent all past x g old new h at more same counted =
     let made : ℕ → Sending = λ p. record { message = x.message; from = x.from; to = x.to; sent = p } in
     record {
       under_way = more ∙ ap (λ xs. xs ++ x ∷ []) h.under_way ∙ ap (λ p. under_way past ++ made p ∷ []) at;
       arrows = same ∙ h.arrows;
+      ribbons = counted ∙ h.ribbons;
     }
 
-pub messages_received : (past : List Step) (j : NodeId) (m : MessageId) (g : Generation) (place : ℕ) (old new : Messages) (found : Option Sending)
-    → HasMessages past old → place ≡ length past → found ≡ find (is_sending_of m.0) old.under_way.items
+pub messages_received : (all : ℕ) (past : List Step) (j : NodeId) (m : MessageId) (g : Generation) (place : ℕ) (old new : Messages)
+    (found : Option Sending)
+    → HasMessages all past old → place ≡ length past → found ≡ find (is_sending_of m.0) old.under_way.items
     → new.under_way.items ≡ without (is_sending_of m.0) old.under_way.items → new.arrows.items ≡ old.arrows.items ++ arrow_of found place
-    → HasMessages (Recv j m g ∷ past) new
-messages_received past j m g place old new found h at is less more = record {
+    → new.ribbons.items ≡ with_received all found place old.ribbons.items
+    → HasMessages all (Recv j m g ∷ past) new
+messages_received all past j m g place old new found h at is less more counted = record {
   under_way = less ∙ ap (λ xs. without (is_sending_of m.0) xs) h.under_way;
   arrows =
       more ∙ ap (λ xs. xs ++ arrow_of found place) h.arrows
       ∙ ap (λ f. arrows past ++ arrow_of f place) (is ∙ ap (λ xs. find (is_sending_of m.0) xs) h.under_way)
       ∙ ap (λ p. arrows past ++ arrow_of (find (is_sending_of m.0) (under_way past)) p) at;
+  ribbons =
+      counted ∙ ap (λ rs. with_received all found place rs) h.ribbons
+      ∙ ap (λ f. with_received all f place (ribbons all past)) (is ∙ ap (λ xs. find (is_sending_of m.0) xs) h.under_way)
+      ∙ ap (λ p. with_received all (find (is_sending_of m.0) (under_way past)) p (ribbons all past)) at;
 }
 
-pub messages_other : (past : List Step) (s : Step) (x : Messages) → HasMessages past x
-    → ((i j : NodeId) (m : MessageId) (g : Generation) → s ≢ Send i j m g) → ((j : NodeId) (m : MessageId) (g : Generation) → s ≢ Recv j m g)
-    → HasMessages (s ∷ past) x
-messages_other past (Send i j m g) x h send recv = absurd (send i j m g refl)
-messages_other past (Recv j m g) x h send recv = absurd (recv j m g refl)
-messages_other past s x h send recv = record { under_way = h.under_way; arrows = h.arrows }
+pub messages_other : (all : ℕ) (past : List Step) (s : Step) (x : Messages) → HasMessages all past x
+    → ((i j : NodeId) (m : MessageId) (g : Generation) → s ≢ Send i j m g)
+    → ((j : NodeId) (m : MessageId) (g : Generation) → s ≢ Recv j m g)
+    → HasMessages all (s ∷ past) x
+messages_other all past (Send i j m g) x h send recv = absurd (send i j m g refl)
+messages_other all past (Recv j m g) x h send recv = absurd (recv j m g refl)
+messages_other all past s x h send recv = record { under_way = h.under_way; arrows = h.arrows; ribbons = h.ribbons }
 
 -- ---- waves
 pub given_more : (past : List Step) (node : NodeId) (place : ℕ) (old new : Gives) → HasGiven past old → place ≡ length past
@@ -229,7 +251,8 @@ pub waves_cut : (n : ℕ) (past : List Step) (node : NodeId) (sums : Sums) (old 
     → new.seams.items ≡ old.seams.items → new.ends.items ≡ old.ends.items → new.ended ≡ old.ended → HasWaves n (Give node ∷ past) new
 waves_cut n past node sums old new h given reply more seam end over =
     let root = root_cuts n past node sums (node.0 == 0) reply in
-    let is : record { sums = sums; gives = new.gives.last } ≡ cut n (Give node ∷ past) = cut_is n (Give node ∷ past) sums new.gives given root.1 in
+    let is : record { sums = sums; gives = new.gives.last } ≡ cut n (Give node ∷ past) =
+    cut_is n (Give node ∷ past) sums new.gives given root.1 in
     record {
       gives = given;
       cuts = more ∙ ap (λ cs. cs ++ record { sums = sums; gives = new.gives.last } ∷ []) h.cuts ∙ ap (λ x. cuts n past ++ x ∷ []) is
@@ -257,7 +280,8 @@ waves_given n past node reply old new h given other is same seam end over = reco
 }
 
 -- a step at which no node gives leaves the places at which they gave
-given_kept : (past : List Step) (s : Step) (g : Gives) → HasGiven past g → ((i : ℕ) → visit i (s ∷ past) ≡ visit i past) → HasGiven (s ∷ past) g
+given_kept : (past : List Step) (s : Step) (g : Gives) → HasGiven past g → ((i : ℕ) → visit i (s ∷ past) ≡ visit i past)
+    → HasGiven (s ∷ past) g
 given_kept past s g h same = record {
   size = h.size;
   last = λ i l. h.last i l ∙ ap length (sym (same i));
@@ -278,13 +302,15 @@ pub waves_ended : (n : ℕ) (past : List Step) (w place : ℕ) (old new : Waves)
     → HasWaves n (Judge ∷ past) new
 waves_ended n past w place old new h at reply given same seam end over =
     let o : judgement n (present past) ≡ Some w = judged_over w (judgement n (present past)) reply in
-    let is : record { wave = w; since = old.gives.earlier; judged = place } ≡ record { wave = w; since = gave 0 (visit 0 past); judged = length past } =
+    let is : record { wave = w; since = old.gives.earlier; judged = place }
+    ≡ record { wave = w; since = gave 0 (visit 0 past); judged = length past } =
     let e = h.gives.earlier in cc in
     record {
       gives = rw given (given_kept past Judge old.gives h.gives (λ i. refl));
       cuts = same ∙ h.cuts;
       seams = seam ∙ h.seams;
-      ends = end ∙ ap (λ es. es ++ record { wave = w; since = old.gives.earlier; judged = place } ∷ []) h.ends ∙ ap (λ x. ends n past ++ x ∷ []) is
+      ends = end ∙ ap (λ es. es ++ record { wave = w; since = old.gives.earlier; judged = place } ∷ []) h.ends
+          ∙ ap (λ x. ends n past ++ x ∷ []) is
           ∙ ap (λ x. ends n past ++ end_of x past) (sym o);
       ended = over ∙ sym o;
     }
@@ -319,7 +345,8 @@ waves_reopened n past g place old new h at reply given same seam end over =
 pub opened_always : (n : ℕ) (past : List Step) (reply : Reply) → ((g : Generation) → reply ≢ Opened g) → reply ≡ reply_to n past Reopen → ⊥
 opened_always n past reply other e = other (record { 0 = generation past + 1 }) e
 
-pub waves_other : (n : ℕ) (past : List Step) (s : Step) (w : Waves) → HasWaves n past w → ((i : NodeId) → s ≢ Give i) → (s ≢ Judge) → (s ≢ Reopen)
+pub waves_other : (n : ℕ) (past : List Step) (s : Step) (w : Waves) → HasWaves n past w → ((i : NodeId) → s ≢ Give i) → (s ≢ Judge)
+    → (s ≢ Reopen)
     → HasWaves n (s ∷ past) w
 waves_other n past (Give i) w h give judge reopen = absurd (give i refl)
 waves_other n past Judge w h give judge reopen = absurd (judge refl)

@@ -26,7 +26,8 @@ pub counted-push : {A : Type 0} (test : A → Bool) (xs : List A) (y : A) → ho
 counted-push test [] y = grind arith
 counted-push test (x ∷ xs) y = grind (arith, counted-push test xs y)
 
-pub find-push : {A : Type 0} (test : A → Bool) (xs : List A) (y : A) → how_many test xs ≡ 0 → test y ≡ true → find test (xs ++ y ∷ []) ≡ Some y
+pub find-push : {A : Type 0} (test : A → Bool) (xs : List A) (y : A) → how_many test xs ≡ 0 → test y ≡ true
+    → find test (xs ++ y ∷ []) ≡ Some y
 find-push test [] y none passes = rw passes refl
 find-push {A} test (x ∷ xs) y none passes =
     let choose : (b : Bool) → one b + how_many test xs ≡ 0 → (if b then Some x else find test (xs ++ y ∷ [])) ≡ Some y =
@@ -50,7 +51,8 @@ counted-without {A} test (x ∷ xs) h =
     in
     choose (test x) refl h
 
-pub counted-without_other : {A : Type 0} (p q : A → Bool) (xs : List A) → ((x : A) → q x ≡ true → p x ≡ false) → how_many p (without q xs) ≡ how_many p xs
+pub counted-without_other : {A : Type 0} (p q : A → Bool) (xs : List A) → ((x : A) → q x ≡ true → p x ≡ false)
+    → how_many p (without q xs) ≡ how_many p xs
 counted-without_other p q [] apart = refl
 counted-without_other {A} p q (x ∷ xs) apart =
     let choose : (b : Bool) → q x ≡ b → how_many p (if b then xs else x ∷ without q xs) ≡ how_many p (x ∷ xs) =
@@ -58,7 +60,8 @@ counted-without_other {A} p q (x ∷ xs) apart =
     in
     choose (q x) refl
 
-pub find-without_other : {A : Type 0} (p q : A → Bool) (xs : List A) → ((x : A) → q x ≡ true → p x ≡ false) → find p (without q xs) ≡ find p xs
+pub find-without_other : {A : Type 0} (p q : A → Bool) (xs : List A) → ((x : A) → q x ≡ true → p x ≡ false)
+    → find p (without q xs) ≡ find p xs
 find-without_other p q [] apart = refl
 find-without_other {A} p q (x ∷ xs) apart =
     let rest : (b : Bool) → (if b then Some x else find p (without q xs)) ≡ (if b then Some x else find p xs) =
@@ -93,7 +96,16 @@ pub counted-le : {A : Type 0} (q r : A → Bool) (xs : List A) → ((x : A) → 
 counted-le q r [] implies = omega arith
 counted-le {A} q r (x ∷ xs) implies =
     let choose : (b d : Bool) → q x ≡ b → r x ≡ d → one b + how_many q xs ≤ one d + how_many r xs =
-    elim [ true ↦ elim [ true ↦ λ is also. omega (arith, counted-le q r xs implies) | false ↦ λ is also. absurd (true_false (sym (implies x is) ∙ also)) ] | false ↦ elim [ true ↦ λ is also. omega (arith, counted-le q r xs implies) | false ↦ λ is also. omega (arith, counted-le q r xs implies) ] ]
+    elim [
+      | true ↦ elim [
+        | true ↦ λ is also. omega (arith, counted-le q r xs implies)
+        | false ↦ λ is also. absurd (true_false (sym (implies x is) ∙ also))
+      ]
+      | false ↦ elim [
+        | true ↦ λ is also. omega (arith, counted-le q r xs implies)
+        | false ↦ λ is also. omega (arith, counted-le q r xs implies)
+      ]
+    ]
     in
     choose (q x) (r x) refl refl
 
@@ -117,7 +129,8 @@ without-none {A} test (x ∷ xs) none =
     in
     choose (test x) none
 
-pub without-push : {A : Type 0} (test : A → Bool) (xs : List A) (y : A) → how_many test xs ≡ 0 → test y ≡ true → without test (xs ++ y ∷ []) ≡ xs
+pub without-push : {A : Type 0} (test : A → Bool) (xs : List A) (y : A) → how_many test xs ≡ 0 → test y ≡ true
+    → without test (xs ++ y ∷ []) ≡ xs
 without-push test [] y none passes = rw passes refl
 without-push {A} test (x ∷ xs) y none passes =
     let choose : (b : Bool) → one b + how_many test xs ≡ 0 → (if b then xs ++ y ∷ [] else x ∷ without test (xs ++ y ∷ [])) ≡ x ∷ xs =
@@ -125,19 +138,23 @@ without-push {A} test (x ∷ xs) y none passes =
     in
     choose (test x) none
 
-pub without-push_other : {A : Type 0} (test : A → Bool) (xs : List A) (y : A) → test y ≡ false → without test (xs ++ y ∷ []) ≡ without test xs ++ y ∷ []
+pub without-push_other : {A : Type 0} (test : A → Bool) (xs : List A) (y : A) → test y ≡ false
+    → without test (xs ++ y ∷ []) ≡ without test xs ++ y ∷ []
 without-push_other test [] y fails = rw fails refl
 without-push_other {A} test (x ∷ xs) y fails =
-    let choose : (b : Bool) → (if b then xs ++ y ∷ [] else x ∷ without test (xs ++ y ∷ [])) ≡ (if b then xs else x ∷ without test xs) ++ y ∷ [] =
+    let choose : (b : Bool) → (if b then xs ++ y ∷ [] else x ∷ without test (xs ++ y ∷ [])) ≡ (if b then xs else x ∷ without test xs)
+    ++ y ∷ [] =
     elim [ true ↦ refl | false ↦ ap (λ l. x ∷ l) (without-push_other test xs y fails) ]
     in
     choose (test x)
 
 -- What passes at most once is taken out of a list and of its reverse alike, and found there.
-pub reverse-without : {A : Type 0} (test : A → Bool) (xs : List A) → how_many test xs ≤ 1 → reverse (without test xs) ≡ without test (reverse xs)
+pub reverse-without : {A : Type 0} (test : A → Bool) (xs : List A) → how_many test xs ≤ 1
+    → reverse (without test xs) ≡ without test (reverse xs)
 reverse-without test [] few = refl
 reverse-without {A} test (x ∷ xs) few =
-    let choose : (b : Bool) → test x ≡ b → one b + how_many test xs ≤ 1 → reverse (if b then xs else x ∷ without test xs) ≡ without test (reverse xs ++ x ∷ []) =
+    let choose : (b : Bool) → test x ≡ b → one b + how_many test xs ≤ 1
+    → reverse (if b then xs else x ∷ without test xs) ≡ without test (reverse xs ++ x ∷ []) =
     elim [
       | true ↦ λ is e. sym (without-push test (reverse xs) x (counted-reverse test xs ∙ omega (arith, e)) is)
       | false ↦ λ is e. reverse-cons x (without test xs) ∙ ap (λ l. l ++ x ∷ []) (reverse-without test xs (omega (arith, e)))
@@ -157,8 +174,12 @@ find-none {A} test (x ∷ xs) none =
 pub find-reverse : {A : Type 0} (test : A → Bool) (xs : List A) → how_many test xs ≤ 1 → find test (reverse xs) ≡ find test xs
 find-reverse test [] few = refl
 find-reverse {A} test (x ∷ xs) few =
-    let choose : (b : Bool) → test x ≡ b → one b + how_many test xs ≤ 1 → find test (reverse xs ++ x ∷ []) ≡ (if b then Some x else find test xs) =
-    elim [ true ↦ λ is e. find-push test (reverse xs) x (counted-reverse test xs ∙ omega (arith, e)) is | false ↦ λ is e. find-push_other test (reverse xs) x is ∙ find-reverse test xs (omega (arith, e)) ]
+    let choose : (b : Bool) → test x ≡ b → one b + how_many test xs ≤ 1
+    → find test (reverse xs ++ x ∷ []) ≡ (if b then Some x else find test xs) =
+    elim [
+      | true ↦ λ is e. find-push test (reverse xs) x (counted-reverse test xs ∙ omega (arith, e)) is
+      | false ↦ λ is e. find-push_other test (reverse xs) x is ∙ find-reverse test xs (omega (arith, e))
+    ]
     in
     ap (find test) (reverse-cons x xs) ∙ choose (test x) refl few
 
@@ -167,10 +188,12 @@ pub counted-map : {A B : Type 0} (f : A → B) (test : B → Bool) (xs : List A)
 counted-map f test [] = refl
 counted-map f test (x ∷ xs) = ap (λ k. one (test (f x)) + k) (counted-map f test xs)
 
-pub map-without : {A B : Type 0} (f : A → B) (test : B → Bool) (xs : List A) → map f (without (λ x. test (f x)) xs) ≡ without test (map f xs)
+pub map-without : {A B : Type 0} (f : A → B) (test : B → Bool) (xs : List A)
+    → map f (without (λ x. test (f x)) xs) ≡ without test (map f xs)
 map-without f test [] = refl
 map-without {A} {B} f test (x ∷ xs) =
-    let choose : (b : Bool) → map f (if b then xs else x ∷ without (λ y. test (f y)) xs) ≡ (if b then map f xs else f x ∷ without test (map f xs)) =
+    let choose : (b : Bool)
+    → map f (if b then xs else x ∷ without (λ y. test (f y)) xs) ≡ (if b then map f xs else f x ∷ without test (map f xs)) =
     elim [ true ↦ refl | false ↦ ap (λ l. f x ∷ l) (map-without f test xs) ]
     in
     choose (test (f x))
@@ -178,19 +201,28 @@ map-without {A} {B} f test (x ∷ xs) =
 pub find-map : {A B : Type 0} (f : A → B) (test : B → Bool) (xs : List A) → find test (map f xs) ≡ option_map f (find (λ x. test (f x)) xs)
 find-map f test [] = refl
 find-map {A} {B} f test (x ∷ xs) =
-    let choose : (b : Bool) → (if b then Some (f x) else find test (map f xs)) ≡ option_map f (if b then Some x else find (λ y. test (f y)) xs) =
+    let choose : (b : Bool)
+    → (if b then Some (f x) else find test (map f xs)) ≡ option_map f (if b then Some x else find (λ y. test (f y)) xs) =
     elim [ true ↦ refl | false ↦ find-map f test xs ]
     in
     choose (test (f x))
 
 -- Where at most one thing passes r, and one that passes q is there, which passes r too, the two tests tell the same one.
-pub without-same : {A : Type 0} (q r : A → Bool) (xs : List A) → ((x : A) → q x ≡ true → r x ≡ true) → how_many r xs ≤ 1 → list_any q xs ≡ true
+pub without-same : {A : Type 0} (q r : A → Bool) (xs : List A) → ((x : A) → q x ≡ true → r x ≡ true) → how_many r xs ≤ 1
+    → list_any q xs ≡ true
     → without q xs ≡ without r xs
 without-same q r [] implies few there = refl
 without-same {A} q r (x ∷ xs) implies few there =
     let choose : (b d : Bool) → q x ≡ b → r x ≡ d → one d + how_many r xs ≤ 1 → (b || list_any q xs) ≡ true
     → (if b then xs else x ∷ without q xs) ≡ (if d then xs else x ∷ without r xs) =
-    elim [ true ↦ elim [ true ↦ λ is also e some. refl | false ↦ λ is also e some. absurd (true_false (sym (implies x is) ∙ also)) ] | false ↦ elim [ true ↦ λ is also e some. let more : 1 ≤ how_many q xs = some_counted q xs some in let fewer = counted-le q r xs implies in absurd (omega (arith, more, fewer, e)) | false ↦ λ is also e some. ap (λ l. x ∷ l) (without-same q r xs implies (omega (arith, e)) some) ] ]
+    elim [
+      | true ↦ elim [ true ↦ λ is also e some. refl | false ↦ λ is also e some. absurd (true_false (sym (implies x is) ∙ also)) ]
+      | false ↦ elim [
+        | true ↦ λ is also e some. let more : 1 ≤ how_many q xs = some_counted q xs some in
+            let fewer = counted-le q r xs implies in absurd (omega (arith, more, fewer, e))
+        | false ↦ λ is also e some. ap (λ l. x ∷ l) (without-same q r xs implies (omega (arith, e)) some)
+      ]
+    ]
     in
     choose (q x) (r x) refl refl few there
 
@@ -200,7 +232,14 @@ find-same q r [] implies few there = refl
 find-same {A} q r (x ∷ xs) implies few there =
     let choose : (b d : Bool) → q x ≡ b → r x ≡ d → one d + how_many r xs ≤ 1 → (b || list_any q xs) ≡ true
     → (if d then Some x else find r xs) ≡ (if b then Some x else find q xs) =
-    elim [ true ↦ elim [ true ↦ λ is also e some. refl | false ↦ λ is also e some. absurd (true_false (sym (implies x is) ∙ also)) ] | false ↦ elim [ true ↦ λ is also e some. let more : 1 ≤ how_many q xs = some_counted q xs some in let fewer = counted-le q r xs implies in absurd (omega (arith, more, fewer, e)) | false ↦ λ is also e some. find-same q r xs implies (omega (arith, e)) some ] ]
+    elim [
+      | true ↦ elim [ true ↦ λ is also e some. refl | false ↦ λ is also e some. absurd (true_false (sym (implies x is) ∙ also)) ]
+      | false ↦ elim [
+        | true ↦ λ is also e some. let more : 1 ≤ how_many q xs = some_counted q xs some in
+            let fewer = counted-le q r xs implies in absurd (omega (arith, more, fewer, e))
+        | false ↦ λ is also e some. find-same q r xs implies (omega (arith, e)) some
+      ]
+    ]
     in
     choose (q x) (r x) refl refl few there
 

@@ -35,7 +35,8 @@ noted_none n s past l h = record {
   pauses = h.pauses ∙ sym (append-nil (pauses n past));
 }
 
-pub noted_more : (n : ℕ) (s : Step) (past : List Step) (k place pends : ℕ) (old new : Lanes) → HasNoted n s past k old → k < n → place ≡ length past
+pub noted_more : (n : ℕ) (s : Step) (past : List Step) (k place pends : ℕ) (old new : Lanes) → HasNoted n s past k old → k < n
+    → place ≡ length past
     → pends ≡ pending k (world_after n (s ∷ past)) → new.nodes ≡ old.nodes
     → new.resting ≡ slice_set old.resting k (since_when (pends == 0) (slice_index_or old.resting k None) place)
     → new.pauses.items ≡ old.pauses.items ++ ended_pause (pends == 0) k (slice_index_or old.resting k None) place
@@ -78,12 +79,14 @@ noted_more n s past k place pends old new h less at is same rest pause = record 
     more = rw add-one refl
 
     below : (i : ℕ) → i < k + 1 → (b : Bool) → (k == i) ≡ b
-        → (if b then since_when (pends == 0) (slice_index_or old.resting k None) place else slice_index_or old.resting i None) ≡ resting n i (s ∷ past)
+        → (if b then since_when (pends == 0) (slice_index_or old.resting k None) place else slice_index_or old.resting i None)
+        ≡ resting n i (s ∷ past)
     below i low true e = now ∙ ap (λ j. resting n j (s ∷ past)) (eqb-true k i e)
     below i low false e = h.below i (grind (arith, nat_tests, low, e))
 
     above : (i : ℕ) → k + 1 ≤ i → i < n → (b : Bool) → (k == i) ≡ b
-        → (if b then since_when (pends == 0) (slice_index_or old.resting k None) place else slice_index_or old.resting i None) ≡ resting n i past
+        → (if b then since_when (pends == 0) (slice_index_or old.resting k None) place else slice_index_or old.resting i None)
+        ≡ resting n i past
     above i high low true e = absurd (grind (arith, nat_tests, high, e))
     above i high low false e = h.above i (omega (arith, high)) low
 
@@ -97,10 +100,12 @@ noted_all n s past k l is h = record {
 }
 
 -- ---- the pauses at the end
-pub last_more : (n k place : ℕ) (past : List Step) (start old new : List Pause) (from : Option ℕ) → old ≡ start ++ pauses_now n k past → from ≡ resting n k past
+pub last_more : (n k place : ℕ) (past : List Step) (start old new : List Pause) (from : Option ℕ) → old ≡ start ++ pauses_now n k past
+    → from ≡ resting n k past
     → place ≡ length past → new ≡ old ++ pause_of k from place → new ≡ start ++ pauses_now n (k + 1) past
 last_more n k place past start old new from before is at e =
     let more : pauses_now n (k + 1) past ≡ pauses_now n k past ++ pause_of k (resting n k past) (length past) = rw add-one refl in
     e ∙ ap (λ l. l ++ pause_of k from place) before ∙ append_assoc start (pauses_now n k past) (pause_of k from place)
-    ∙ ap (λ o. start ++ (pauses_now n k past ++ pause_of k o place)) is ∙ ap (λ p. start ++ (pauses_now n k past ++ pause_of k (resting n k past) p)) at
+    ∙ ap (λ o. start ++ (pauses_now n k past ++ pause_of k o place)) is
+    ∙ ap (λ p. start ++ (pauses_now n k past ++ pause_of k (resting n k past) p)) at
     ∙ sym (ap (λ l. start ++ l) more)

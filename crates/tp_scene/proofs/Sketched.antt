@@ -1,5 +1,6 @@
 -- A sketch that has followed one step more, and a list of steps that was followed.
-use Rattle.std.proofs.Common.{◌≡◌, ℕ, ◌+◌, ◌<◌, ◌≤◌, ◌⊎◌, inl, inr, Bool, List, [], ◌∷◌, ◌++◌, length, take, drop, reverse, get_or, suc}
+use Rattle.std.proofs.Common.{◌≡◌, ℕ, ◌+◌, ◌<◌, ◌≤◌, ◌⊎◌, inl, inr, Bool, List, [], ◌∷◌, ◌++◌, length, min, take, drop, reverse, get_or}
+use Rattle.std.proofs.Common.{suc}
 use Rattle.std.proofs.Common.{Option, Some, None, refl, sym, ap, subst, ◌∙◌, arith}
 use Rattle.std.specs.List.{slice_index_or}
 use Rattle.std.proofs.Math.Seq.{drop-cons}
@@ -21,7 +22,8 @@ abbrev at_steps : ℕ → List Step → Accepted
 at_steps n past = record { nodes = n; steps = past }
 
 -- what a core that has accepted these steps replies to the next
-pub replied : (n : ℕ) (past : List Step) (s : Step) (reply : Reply) (a : Accepted) → a ≡ at_steps n past → reply ≡ reply_to a.nodes a.steps s
+pub replied : (n : ℕ) (past : List Step) (s : Step) (reply : Reply) (a : Accepted) → a ≡ at_steps n past
+    → reply ≡ reply_to a.nodes a.steps s
     → reply ≡ reply_to n past s
 replied n past s reply a is e = e ∙ ap (λ (x : Accepted). reply_to x.nodes x.steps s) is
 
@@ -34,14 +36,16 @@ numbered n steps a numbers is each i less =
     ap (λ (x : NodeNumbers). x.pending) (each i no_numbers (subst (λ (x : Accepted). i < x.nodes) (sym is) less))
     ∙ ap (λ (x : Accepted). (numbers_at i x).pending) is
 
-pub came : (n : ℕ) (past : List Step) (s : Step) (a : Accepted) → a ≡ at_steps n past → refusal a s ≡ None → MayCome n past s × (length past < MAX_STEPS)
+pub came : (n : ℕ) (past : List Step) (s : Step) (a : Accepted) → a ≡ at_steps n past → refusal a s ≡ None → MayCome n past s
+    × (length past < MAX_STEPS)
 came n past s a is none = lawful_where_none (at_steps n past) s (sym (ap (λ (x : Accepted). refusal x s) is) ∙ none)
 
 refused_for : (o : Option Refusal) (asks : Bool) (r : Refusal) → IsRefusedFor o asks r → (r ≡ NoMemory) ⊎ (o ≡ Some r)
 refused_for (Some first) asks r h = inr (ap Some (sym h))
 refused_for None asks r h = inl h.0
 
-pub refused : (n : ℕ) (past : List Step) (s : Step) (a : Accepted) (asks : Bool) (r : Refusal) → a ≡ at_steps n past → IsRefusedFor (refusal a s) asks r
+pub refused : (n : ℕ) (past : List Step) (s : Step) (a : Accepted) (asks : Bool) (r : Refusal) → a ≡ at_steps n past
+    → IsRefusedFor (refusal a s) asks r
     → IsRefusedAfter n past s r
 refused n past s a asks r is h =
     let P : Accepted → Type 0 = λ x. (r ≡ NoMemory) ⊎ (refusal x s ≡ Some r) in subst P is (refused_for (refusal a s) asks r h)
@@ -62,33 +66,46 @@ refused_at n xs k d r fits runs (inl none) = inl none
 refused_at n xs k d r fits runs (inr told) = inr (take k xs, get_or xs k d, drop (suc k) xs, split_at xs k d fits, runs, told)
 
 -- What is known of the first k steps of a list.
-pub record FollowsTo (n : ℕ) (xs : List Step) (k place : ℕ) (s : Sketch) : Type 0 where
+pub record FollowsTo (n : ℕ) (xs : List Step) (k place all : ℕ) (s : Sketch) : Type 0 where
   pub follows : Follows n (reverse (take k xs)) s
+  pub all_is : s.all ≡ all
   pub runs : AreRuns n (reverse (take k xs))
   pub place_is : place ≡ k
   pub few : place ≤ MAX_STEPS
 
-pub follows_none : (n : ℕ) (xs : List Step) (s : Sketch) → Follows n [] s → FollowsTo n xs 0 0 s
-follows_none n xs s h = record { follows = h; runs = tt; place_is = refl; few = omega arith }
+pub follows_none : (n all : ℕ) (xs : List Step) (s : Sketch) → Follows n [] s → s.all ≡ all → FollowsTo n xs 0 0 all s
+follows_none n all xs s h is = record { follows = h; all_is = is; runs = tt; place_is = refl; few = omega arith }
 
-pub at_place : (n : ℕ) (xs : List Step) (k place : ℕ) (s : Sketch) → k ≤ length xs → FollowsTo n xs k place s → place ≡ length (reverse (take k xs))
-at_place n xs k place s fits h = h.place_is ∙ sym (length_so_far xs k fits)
+pub at_place : (n : ℕ) (xs : List Step) (k place all : ℕ) (s : Sketch) → k ≤ length xs → FollowsTo n xs k place all s
+    → place ≡ length (reverse (take k xs))
+at_place n xs k place all s fits h = h.place_is ∙ sym (length_so_far xs k fits)
 
-pub follows_more : (n : ℕ) (xs : List Step) (k place : ℕ) (d : Step) (old new : Sketch) → k < length xs → FollowsTo n xs k place old
-    → Follows n (get_or xs k d ∷ reverse (take k xs)) new → MayCome n (reverse (take k xs)) (get_or xs k d) × (length (reverse (take k xs)) < MAX_STEPS)
-    → FollowsTo n xs (k + 1) (place + 1) new
-follows_more n xs k place d old new fits h follows may = record {
+pub follows_more : (n : ℕ) (xs : List Step) (k place all : ℕ) (d : Step) (old new : Sketch) → k < length xs → FollowsTo n xs k place all old
+    → Follows n (get_or xs k d ∷ reverse (take k xs)) new → new.all ≡ old.all
+    → MayCome n (reverse (take k xs)) (get_or xs k d) × (length (reverse (take k xs)) < MAX_STEPS)
+    → FollowsTo n xs (k + 1) (place + 1) all new
+follows_more n xs k place all d old new fits h follows same may = record {
   follows = rw (next_step xs k d fits) follows;
+  all_is = same ∙ h.all_is;
   runs = rw (next_step xs k d fits) (may.0, h.runs);
   place_is = ap (λ p. p + 1) h.place_is;
   few = omega (arith, may.1, length_so_far xs k (omega (arith, fits)), h.place_is);
 }
 
-pub follows_all : (n : ℕ) (xs : List Step) (k place : ℕ) (s : Sketch) → length xs ≤ k → k ≤ length xs → FollowsTo n xs k place s
-    → Follows n (reverse xs) s × AreRuns n (reverse xs) × (place ≡ length (reverse xs))
-follows_all n xs k place s low high h =
-    let whole : take k xs ≡ xs = take_all k xs low in (
-      subst (λ l. Follows n (reverse l) s) whole h.follows,
-      subst (λ l. AreRuns n (reverse l)) whole h.runs,
-      at_place n xs k place s high h ∙ ap (λ l. length (reverse l)) whole,
-    )
+-- All steps have been followed, and there are so many.
+pub record FollowsAll (n : ℕ) (xs : List Step) (place : ℕ) (s : Sketch) : Type 0 where
+  pub follows : Follows n (reverse xs) s
+  pub runs : AreRuns n (reverse xs)
+  pub place_is : place ≡ length (reverse xs)
+  pub all_is : s.all ≡ place
+
+pub follows_all : (n : ℕ) (xs : List Step) (k place all : ℕ) (s : Sketch) → length xs ≤ k → k ≤ length xs → all ≡ min (length xs) MAX_STEPS
+    → FollowsTo n xs k place all s → FollowsAll n xs place s
+follows_all n xs k place all s low high is h =
+    let whole : take k xs ≡ xs = take_all k xs low in
+    record {
+      follows = subst (λ l. Follows n (reverse l) s) whole h.follows;
+      runs = subst (λ l. AreRuns n (reverse l)) whole h.runs;
+      place_is = at_place n xs k place all s high h ∙ ap (λ l. length (reverse l)) whole;
+      all_is = omega (arith, h.all_is, is, h.place_is, h.few, low, high);
+    }

@@ -1,5 +1,6 @@
 -- Steps of loops, over plain lists and numbers.
-use Rattle.std.proofs.Common.{◌≤◌, set}
+use Rattle.std.proofs.Common.{◌≤◌, ◌*◌, set}
+use Rattle.std.specs.Prelude.{nat_le}
 use Rattle.std.proofs.Common.{◌≡◌, ℕ, zero, suc, ◌+◌, ◌-◌, ◌<◌, Bool, true, false, List, [], ◌∷◌, ◌++◌, length, get_or, take, drop}
 use Rattle.std.proofs.Common.{refl, sym, ap, ◌∙◌, add-one, append_assoc, arith, if◌then◌else◌}
 use Rattle.std.proofs.Math.Seq.{drop-cons, drop-length, take-length}
@@ -8,8 +9,8 @@ use Rattle.std.proofs.lemmas.Option.{slice_get-get_or}
 use Rattle.std.specs.Prelude.{Some, None, slice_get}
 use Rattle.std.specs.List.{find, flat_map, remove}
 use Rattle.tp_core.specs.Pool.{without}
-use Rattle.tp_wave.specs.Sums.{total}
 use Rattle.tp_scene.specs.Scene.{first_from}
+use Rattle.tp_scene.specs.Flow.{root}
 
 -- what a loop over numbers has written, one number further
 pub written_more : (f : ℕ → List ℕ) (k : ℕ) (x start old new : List ℕ) → old ≡ start ++ f k → new ≡ old ++ x → f (k + 1) ≡ f k ++ x
@@ -20,9 +21,6 @@ pub set_past : (xs : List ℕ) (i v : ℕ) → length xs ≤ i → set xs i v �
 set_past [] i v past = refl
 set_past (x ∷ xs) zero v past = absurd (omega (arith, past))
 set_past (x ∷ xs) (suc i) v past = ap (λ l. x ∷ l) (set_past xs i v (omega (arith, past)))
-
-pub total_more : (n : ℕ) (f : ℕ → ℕ) → total (n + 1) f ≡ total n f + f n
-total_more n f = rw add-one refl
 
 -- what a loop over a list has written, one thing further
 pub mapped_more : {A : Type 0} (f : A → List ℕ) (xs : List A) (k : ℕ) (x : A) (start old new : List ℕ) → k < length xs → x ≡ get_or xs k x
@@ -71,7 +69,8 @@ suc_is k = sym (add-one k)
 pub passes_more : {A : Type 0} (test : A → Bool) (xs : List A) (k : ℕ) (x : A) → k < length xs → x ≡ get_or xs k x → test x ≡ false
     → PassesOver test xs k → PassesOver test xs (k + 1)
 passes_more {A} test xs k x fits is fails over =
-    let cut : drop k xs ≡ x ∷ drop (k + 1) xs = drop-cons xs k x fits ∙ ap (λ y. y ∷ drop (suc k) xs) (sym is) ∙ ap (λ j. x ∷ drop j xs) (suc_is k) in
+    let cut : drop k xs ≡ x ∷ drop (k + 1) xs =
+    drop-cons xs k x fits ∙ ap (λ y. y ∷ drop (suc k) xs) (sym is) ∙ ap (λ j. x ∷ drop j xs) (suc_is k) in
     record {
       found = over.found ∙ ap (find test) cut ∙ find_cons test x (drop (k + 1) xs) fails;
       left = over.left ∙ ap (λ l. take k xs ++ without test l) cut ∙ ap (λ l. take k xs ++ l) (without_cons test x (drop (k + 1) xs) fails)
@@ -93,3 +92,17 @@ passes_all test xs over = (
   over.found ∙ ap (find test) (drop-length xs),
   over.left ∙ ap (λ l. take (length xs) xs ++ without test l) (drop-length xs) ∙ append-nil (take (length xs) xs) ∙ take-length xs,
 )
+
+-- the greatest number whose square fits
+pub root_here : (k number : ℕ) → 0 < k → nat_le (k * k) number ≡ true → root k number ≡ k
+root_here zero number some fits = absurd (omega (arith, some))
+root_here (suc k) number some fits = rw fits refl
+
+root_fails : (k number : ℕ) → nat_le (suc k * suc k) number ≡ false → root (suc k) number ≡ root k number
+root_fails k number fails = rw fails refl
+
+pub root_passed : (most k number : ℕ) → k < most → nat_le ((most - k) * (most - k)) number ≡ false
+    → root (most - k) number ≡ root (most - (k + 1)) number
+root_passed most k number less fails =
+    let e : most - k ≡ suc (most - (k + 1)) = omega (arith, less) in
+    ap (λ m. root m number) e ∙ root_fails (most - (k + 1)) number (ap (λ m. nat_le (m * m) number) (sym e) ∙ fails)

@@ -4,7 +4,8 @@ use Rattle.tp_scene.proofs.tracks.Tracks.done.Goals as goal
 
 pub returns-in_default : goal.returns-in_default
 returns-in_default c = λ n past h at.
-    tracks_done n past c.args.task c.args.place c.args.self.now _ _ h at c.in_default.ensures.found (λ q. refl) refl c.in_default.ensures.left
+    tracks_done n past c.args.task c.args.place c.args.self.now _ _ h at c.in_default.ensures.found (λ q.
+    refl) refl c.in_default.ensures.left
     (sym (append-nil c.args.self.now.bars.items))
 
 pub returns : goal.returns

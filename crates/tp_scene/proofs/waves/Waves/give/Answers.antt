@@ -4,7 +4,8 @@ use Rattle.tp_scene.proofs.waves.Waves.give.Goals as goal
 
 pub returns-in_default : goal.returns-in_default
 returns-in_default c = λ n past h at reply.
-    waves_given n past c.args.node c.args.reply c.args.self.now _ h (c.give-self.ensures past h.gives at) c.in_default.not-WaveSums reply refl refl refl refl
+    waves_given n past c.args.node c.args.reply c.args.self.now _ h (c.give-self.ensures past h.gives at) c.in_default.not-WaveSums reply
+    refl refl refl refl
 
 pub returns : goal.returns
 returns c = λ n past h at reply.

@@ -8,4 +8,5 @@ returns-in_default c = λ n past h at reply.
 
 pub returns : goal.returns
 returns c = λ n past h at reply.
-    waves_ended n past c.in-Over.wave c.args.place c.args.self.now _ h at (sym c.in-Over.is ∙ reply) refl refl refl c.in_ok-push.ensures.items refl
+    waves_ended n past c.in-Over.wave c.args.place c.args.self.now _ h at (sym c.in-Over.is
+    ∙ reply) refl refl refl c.in_ok-push.ensures.items refl

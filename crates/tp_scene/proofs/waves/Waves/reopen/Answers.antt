@@ -7,4 +7,5 @@ returns-in_default c = λ n past h at reply. absurd (opened_always n past c.args
 
 pub returns : goal.returns
 returns c = λ n past h at reply.
-    waves_reopened n past c.in-Opened.generation c.args.place c.args.self.now _ h at (sym c.in-Opened.is ∙ reply) refl refl c.in_ok-push.ensures.items refl refl
+    waves_reopened n past c.in-Opened.generation c.args.place c.args.self.now _ h at (sym c.in-Opened.is
+    ∙ reply) refl refl c.in_ok-push.ensures.items refl refl
