@@ -5,7 +5,7 @@ status 2.
 """
 import argparse
 
-from . import bench, build, capi, demo, docs, gate_times, lanes, library, limits, new_pool, soak, tries, wrong
+from . import bench, build, capi, demo, docs, drawn, gate_times, lanes, library, limits, new_pool, soak, tries, wrong
 from .limits import cuts, generations, hostile_numbers, memory, random_texts, refuse, refuse_tests, stacks, strange
 
 COMMANDS = {
@@ -18,6 +18,7 @@ COMMANDS = {
     "gate-times": gate_times,
     "lanes": lanes,
     "docs": docs,
+    "draw": drawn,
     "new-pool": new_pool,
     "soak": soak,
     "bench": bench,

@@ -1,17 +1,19 @@
 """Runs every test and every program unproved.
 
 They are runs of `rt try`; what a program writes is compared with its stored answer. It proves nothing: `make gate`
-does. Prints a line for the tests of a crate, one for a program, and one for the exit statuses of a program that has
-cases of them; where something failed, what was said too. The last line is `N passed, M failed`, each test and each
-program counted; the status is 1 where one failed.
+does. Prints a line for the tests of a crate, one for a program, one for the exit statuses of a program that has cases
+of them, and one for the pictures of docs/figures that `draw` draws; where something failed, what was said too. The last
+line is `N passed, M failed`, each test, program and case counted; the status is 1 where one failed.
 """
 import os
 import re
+import shutil
 import subprocess
 import tempfile
 from concurrent.futures import ThreadPoolExecutor
 
 from . import repository
+from .drawn import PICTURES, place_of
 from .repository import text_of
 
 # a folder for each program, of cases whose names begin with the status that has to come
@@ -72,6 +74,20 @@ def try_statuses(crate):
     return f"{crate}: {well} of {len(names)} exit statuses came as they should", well, len(names) - well, said
 
 
+def try_pictures(crate):
+    """Has the program draw each picture of the documents."""
+    with tempfile.TemporaryDirectory() as cases:
+        for name, (trace, asked, status) in PICTURES.items():
+            shutil.copy(trace, f"{cases}/{name}")
+            shutil.copy(place_of(name), f"{cases}/{name}.stdout")
+            with open(f"{cases}/{name}.args", "w", encoding="utf-8") as words:
+                words.write("\n".join(asked) + "\n")
+        said, _ = tried(crate, "--seconds", "900", "--cases", cases)
+    ended = dict(re.findall(r"^case=(\S+) (.*)$", said, re.M))
+    well = sum(f"status={it[2]}" in ended.get(name, "") and "output=expected" in ended[name] for name, it in PICTURES.items())
+    return f"{crate}: {well} of {len(PICTURES)} pictures are as in docs/figures", well, len(PICTURES) - well, said
+
+
 def work_of(crates):
     for crate in crates:
         if has_tests(crate):
@@ -80,6 +96,8 @@ def work_of(crates):
             yield try_program, crate
         if os.path.isdir(f"{STATUSES}/{crate}"):
             yield try_statuses, crate
+        if crate == "draw":
+            yield try_pictures, crate
 
 
 def arguments(parser):

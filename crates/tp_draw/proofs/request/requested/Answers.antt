@@ -1,0 +1,24 @@
+use Rattle.std.proofs.Common.{inr, map, refl}
+use Rattle.clap.proofs.TakesLemmas.{passed_up}
+use Rattle.clap.specs.Words.{app_of}
+use Rattle.clap.specs.declared.error.kind.ErrorKind.TheVariants.{MissingSubcommand}
+use Rattle.tp_draw.proofs.Asked.{neither_asked}
+use Rattle.tp_draw.specs.Command.{AsksForNothing, draw_app}
+use Rattle.tp_shell.proofs.Asked.{fails_as, none_asked}
+use Rattle.tp_draw.proofs.request.requested.Goals as goal
+
+pub returns-in_err-matches-clause-why : goal.returns-in_err-matches-clause-why
+returns-in_err-matches-clause-why c =
+    let error = c.in_err-matches.field-0.0 in
+    let asking = map (λ w. w.now) c.args.words.now in
+    passed_up c.from_residual-in_err-matches.result error _ c.from_residual-in_err-matches.ensures.1
+    (fails_as draw_app (app_of c.in_ok-command.command) MissingSubcommand (AsksForNothing asking) asking error refl
+    c.in_ok-command.ensures c.in_err-matches.ensures.kinds)
+
+pub returns-clause-why : goal.returns-clause-why
+returns-clause-why c =
+    inr (inr (
+      c.in_ok-error-in-None.ensures.kind,
+      neither_asked (app_of c.in_ok-command.command) _ c.in_ok-matches.matches c.in_ok-command.ensures c.in_ok-matches.ensures.ok.2
+          (none_asked _ _ _ c.in-None.is c.asked.ensures),
+    ))

@@ -1,0 +1,49 @@
+-- What is told of a fault on standard error, and the exit status that it gives.
+use Rattle.std.specs.Prelude.{ℕ, ◌++◌, List, codes}
+use Rattle.std.specs.String.{string_bytes}
+use Rattle.tp_draw.specs.declared.fault.Fault.{Fault}
+use Rattle.tp_draw.specs.declared.fault.Fault.TheVariants as faults
+use Rattle.tp_shell.specs.declared.status.Status.{Status}
+use Rattle.tp_shell.specs.declared.status.Status.TheVariants as statuses
+use Rattle.tp_shell.specs.declared.words.WordsFault.{WordsFault}
+use Rattle.tp_shell.specs.declared.words.WordsFault.TheVariants as words
+use Rattle.tp_text.specs.declared.fault.TextFault.{TextFault}
+use Rattle.tp_text.specs.declared.fault.TextFault.TheVariants as texts
+
+-- of a trace that was not read
+abbrev pub text_line : TextFault → List ℕ
+text_line texts.Read = codes "fault read\n"
+text_line texts.TooLong = codes "fault too long\n"
+text_line texts.Write = codes "fault write\n"
+text_line texts.Memory = codes "refused 17 NoMemory\n"
+
+-- of words that are at fault, the parser's own text
+abbrev pub words_line : WordsFault → List ℕ
+words_line (words.Words text) = string_bytes text ++ codes "\n"
+words_line words.Memory = text_line texts.Memory
+words_line words.Write = text_line texts.Write
+
+-- what is told of a fault
+abbrev pub line_of : Fault → List ℕ
+line_of (faults.Words fault) = words_line fault
+line_of (faults.Text fault) = text_line fault
+line_of (faults.Unsound text) = string_bytes text
+line_of faults.NoPool = codes "refused 26 BadSpec\n"
+line_of faults.TooLarge = codes "fault too large\n"
+line_of faults.Memory = text_line texts.Memory
+line_of faults.Write = text_line texts.Write
+
+-- 1 where the words, the reading or the writing are at fault, 2 where the trace is not sound, 3 where memory was refused
+abbrev pub status_of : Fault → Status
+status_of (faults.Words (words.Words text)) = statuses.Fault
+status_of (faults.Words words.Memory) = statuses.Failed
+status_of (faults.Words words.Write) = statuses.Fault
+status_of (faults.Text texts.Read) = statuses.Fault
+status_of (faults.Text texts.TooLong) = statuses.Fault
+status_of (faults.Text texts.Write) = statuses.Fault
+status_of (faults.Text texts.Memory) = statuses.Failed
+status_of (faults.Unsound text) = statuses.Refused
+status_of faults.NoPool = statuses.Fault
+status_of faults.TooLarge = statuses.Fault
+status_of faults.Memory = statuses.Failed
+status_of faults.Write = statuses.Fault

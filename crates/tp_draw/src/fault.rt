@@ -1,0 +1,85 @@
+ghost use Rattle.std.specs.Prelude.{◌≡◌, ◌≢◌, codes};
+ghost use Rattle.tp_draw.specs.Faults.{line_of, status_of, text_line, words_line};
+
+use std::io::ErrorKind;
+use tp_shell::{Diagnostics, Status, Told, WordsFault};
+use tp_text::TextFault;
+
+/// Why nothing was drawn, or not all of it.
+#[derive(Drop)]
+pub enum Fault {
+    /// The words make no request, and nothing was shown for them.
+    Words(WordsFault),
+    /// The trace was not read.
+    Text(TextFault),
+    /// It is no sound trace: this is answered to it.
+    Unsound(String),
+    /// The word names no graph.
+    NoPool,
+    /// The graph has more tasks than are drawn.
+    TooLarge,
+    /// There was no memory for the picture.
+    Memory,
+    /// The picture could not be written; how much of it was is not known.
+    Write,
+}
+
+impl Told for Fault {
+    ghost line_of = { line_of };
+
+    ghost status_of = { status_of };
+
+    fn tell<E: Diagnostics>(&self, err: &mut E) {
+        match self {
+            Fault::Words(fault) => tell_words(fault, err),
+            Fault::Text(fault) => err.tell(text_line(*fault)),
+            Fault::Unsound(text) => err.tell(text.as_str()),
+            Fault::NoPool => err.tell("refused 26 BadSpec\n"),
+            Fault::TooLarge => err.tell("fault too large\n"),
+            Fault::Memory => err.tell(text_line(TextFault::Memory)),
+            Fault::Write => err.tell(text_line(TextFault::Write)),
+        }
+    }
+
+    fn status(&self) -> Status {
+        match self {
+            Fault::Words(WordsFault::Words(_) | WordsFault::Write) => Status::Fault,
+            Fault::Text(TextFault::Read | TextFault::TooLong | TextFault::Write) => Status::Fault,
+            Fault::NoPool | Fault::TooLarge | Fault::Write => Status::Fault,
+            Fault::Unsound(_) => Status::Refused,
+            Fault::Words(WordsFault::Memory) | Fault::Text(TextFault::Memory) => Status::Failed,
+            Fault::Memory => Status::Failed,
+        }
+    }
+}
+
+fn tell_words<E: Diagnostics>(fault: &WordsFault, err: &mut E)
+    ensures { E.tells err.old (words_line fault.now) err.new }
+{
+    match fault {
+        WordsFault::Words(text) => err.tell(format_args!("{text}\n")),
+        WordsFault::Memory => err.tell(text_line(TextFault::Memory)),
+        WordsFault::Write => err.tell(text_line(TextFault::Write)),
+    }
+}
+
+/// What is told of a trace that was not read.
+fn text_line(fault: TextFault) -> &'static str
+    ensures { result.now ≡ text_line fault }
+{
+    match fault {
+        TextFault::Read => "fault read\n",
+        TextFault::TooLong => "fault too long\n",
+        TextFault::Write => "fault write\n",
+        TextFault::Memory => "refused 17 NoMemory\n",
+    }
+}
+
+/// What is complained of, and the exit status, where the words of the command line could not be had: memory was refused, or
+/// one of them is not UTF-8.
+pub fn without_words(fault: ErrorKind) -> (&'static str, u8)
+    ensures memory { fault ≡ ErrorKind.OutOfMemory → (result.0.now ≡ codes "refused 17 NoMemory\n") × (result.1 ≡ 3) }
+    ensures words { fault ≢ ErrorKind.OutOfMemory → (result.0.now ≡ codes "fault words\n") × (result.1 ≡ 1) }
+{
+    tp_shell::without_words(fault, "refused 17 NoMemory\n", "fault words\n")
+}
