@@ -8,6 +8,7 @@ use Rattle.pool_cli.specs.Faults.{status_of}
 use Rattle.pool_cli.specs.Programs.{About, CouldNotWrite, HasNothing}
 use Rattle.pool_cli.specs.declared.fault.Fault.{Fault}
 use Rattle.pool_cli.specs.declared.fault.Fault.TheVariants as faults
+use Rattle.pool_grid_rows.specs.declared.fault.GridFault.TheVariants as grids
 use Rattle.pool_rows.specs.declared.fault.RowFault.TheVariants as rows
 use Rattle.tp_shell.proofs.Asked.{shown_asked, words_fault}
 use Rattle.tp_shell.specs.Command.{AsksToBeShown, FailsAs, IsMetBy, IsToBeShown}
@@ -46,7 +47,8 @@ module _ {Request Data : Type 0} (a : About Request Data) (asking : List Text) (
     pub words_met : (fault : Fault) (met : WordsFault) → fault ≡ faults.Words met → IsMetBy kind met → (met ≢ words.Write → Same)
         → CouldNotWrite a asking Reads Unread fault ⊎ (Same × HasNothing a asking Reads Fails Unread fault)
     words_met fault met is why kept =
-        subst (λ f. CouldNotWrite a asking Reads Unread f ⊎ (Same × HasNothing a asking Reads Fails Unread f)) (sym is) (met_words met why kept)
+        subst (λ f. CouldNotWrite a asking Reads Unread f
+        ⊎ (Same × HasNothing a asking Reads Fails Unread f)) (sym is) (met_words met why kept)
 
 -- no fault gives status 0
 pub faulty : (fault : Fault) → code_of (status_of fault) ≢ 0
@@ -58,12 +60,23 @@ faulty (faults.Read reading.Memory) = λ e. cc
 faulty faults.NotText = λ e. cc
 faulty (faults.Lines (lines.Line k)) = λ e. cc
 faulty (faults.Lines lines.Memory) = λ e. cc
-faulty (faults.Rows (rows.Line k)) = λ e. cc
+faulty (faults.Rows rows.Empty) = λ e. cc
+faulty (faults.Rows (rows.NoRow k)) = λ e. cc
+faulty (faults.Rows (rows.Uneven count)) = λ e. cc
+faulty (faults.Rows (rows.NotEmpty k)) = λ e. cc
+faulty (faults.Rows (rows.Extra k)) = λ e. cc
+faulty (faults.Rows (rows.Missing due)) = λ e. cc
 faulty (faults.Rows rows.Memory) = λ e. cc
+faulty (faults.Grid grids.Empty) = λ e. cc
+faulty (faults.Grid (grids.NoRow k)) = λ e. cc
+faulty (faults.Grid (grids.Uneven count)) = λ e. cc
+faulty (faults.Grid grids.Memory) = λ e. cc
 faulty faults.Empty = λ e. cc
 faulty faults.TooMany = λ e. cc
+faulty faults.LargeBlocks = λ e. cc
 faulty (faults.Tiles fault) = λ e. cc
 faulty (faults.Rod fault) = λ e. cc
 faulty (faults.Product fault) = λ e. cc
+faulty (faults.Relaxed fault) = λ e. cc
 faulty faults.Memory = λ e. cc
 faulty faults.Write = λ e. cc

@@ -1,5 +1,6 @@
 -- Lengths of products, and sizes of tiles.
-use Rattle.std.proofs.Common.{◌≡◌, ◌∙◌, ◌≤◌, ◌<◌, ◌+◌, ◌-◌, ◌*◌, ◌/◌, ◌%◌, ◌^◌, ℕ, zero, suc, ℤ, List, length, ap, refl, arith, rules, tests}
+use Rattle.std.proofs.Common.{◌≡◌, ◌∙◌, ◌≤◌, ◌<◌, ◌+◌, ◌-◌, ◌*◌, ◌/◌, ◌%◌, ◌^◌, ℕ, zero, suc, ℤ, List, length, ap, refl, arith, rules}
+use Rattle.std.proofs.Common.{tests}
 use Rattle.std.proofs.lemmas.Nat.{div-add-mod', mul-le}
 use Rattle.pool_matrix.specs.Matrices.{list_of, product_of}
 use Rattle.pool_cli.specs.Tiles.{message_events, product_events, task_events}
@@ -9,7 +10,8 @@ length-list_of zero f = refl
 length-list_of (suc count) f = ap suc (length-list_of count (λ e. f (suc e)))
 
 -- a product has as many numbers as a matrix
-pub product_full : (order rows : ℕ) (left right made : List ℤ) → rows ≡ order → made ≡ product_of rows left right → length made ≡ order * order
+pub product_full : (order rows : ℕ) (left right made : List ℤ) → rows ≡ order → made ≡ product_of rows left right
+    → length made ≡ order * order
 product_full order rows left right made same is =
     ap length is ∙ length-list_of (rows * rows) _ ∙ ap (λ n. n * n) same
 

@@ -1,5 +1,5 @@
 -- The program `product`: two matrices, and the text of their product.
-use Rattle.std.specs.Prelude.{ℕ, ◌≡◌, ◌/◌, List}
+use Rattle.std.specs.Prelude.{ℕ, ◌≡◌, List}
 use Rattle.std.specs.Str.Lines.{lines}
 use Rattle.pool_cli.specs.Command.{AsksForProduct, LackSide, product_app}
 use Rattle.pool_cli.specs.Programs.{About}
@@ -8,16 +8,15 @@ use Rattle.pool_cli.specs.declared.fault.Fault.{Fault}
 use Rattle.pool_cli.specs.declared.fault.Fault.TheVariants as faults
 use Rattle.pool_cli.specs.declared.product_request.ProductRequest.{ProductRequest}
 use Rattle.pool_matrix.specs.Matrices.{product_of}
-use Rattle.pool_rows.specs.Matrices.{AreMatrices, IsFirstBad, rows_text}
-use Rattle.pool_rows.specs.declared.fault.RowFault.TheVariants.{Line, Memory}
+use Rattle.pool_rows.specs.Faults.{IsTextFault}
+use Rattle.pool_rows.specs.Matrices.{AreMatrices, rows_text}
 use Rattle.pool_rows.specs.declared.matrices.Matrices.{Matrices}
 use Rattle.pool_runs.specs.Faults.{IsProductFault}
 use Rattle.tp_work.specs.Outcomes.{IsWithinLimits}
 
--- a line is the first that is not as it has to be, or there is no memory for the numbers
+-- the text is no two matrices, and this is its own fault
 abbrev pub AreBadRows : List ℕ → Fault → Type 0
-AreBadRows bytes (faults.Rows (Line k)) = IsFirstBad bytes k
-AreBadRows bytes (faults.Rows Memory) = Unit {0}
+AreBadRows bytes (faults.Rows fault) = IsTextFault bytes fault
 AreBadRows bytes fault = ⊥
 
 -- the lines of the text are the two matrices

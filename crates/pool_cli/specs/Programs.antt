@@ -45,7 +45,8 @@ module _ {Request Data : Type 0} (a : About Request Data) where
   -- By this fault nothing is made of the text: it spells no data, or such as cannot be worked on, or nothing is made of them.
   abbrev pub IsUnmade : Request → List ℕ → Fault → Type 0
   IsUnmade request bytes fault = a.misspells bytes fault
-      ⊎ ((loaded : Data) × a.spells bytes loaded × (a.unsuited request loaded fault ⊎ (a.suits request loaded × a.fails request loaded fault)))
+      ⊎ ((loaded : Data) × a.spells bytes loaded
+      × (a.unsuited request loaded fault ⊎ (a.suits request loaded × a.fails request loaded fault)))
 
   -- All was read, and this is the text that is made of it.
   abbrev pub IsMadeOfAll : Request → (List ℕ → Type 0) → List ℕ → Type 0

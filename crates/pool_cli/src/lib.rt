@@ -1,4 +1,4 @@
-//! The programs `heat` and `product` as calls over their words, their input and their output.
+//! The programs `heat`, `product` and `relax` as calls over their words, their input and their output.
 #![tactic(auto)]
 
 mod fault;
@@ -6,6 +6,8 @@ mod heat;
 mod product;
 mod product_request;
 mod program;
+mod relax;
+mod relax_request;
 mod request;
 mod tiles;
 mod words;
@@ -13,5 +15,6 @@ mod words;
 pub use fault::Fault;
 pub use heat::heat_with;
 pub use product::product_with;
+pub use relax::relax_with;
 pub use tiles::TileFault;
 pub use words::without_words;

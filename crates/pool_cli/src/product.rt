@@ -37,7 +37,8 @@ pub fn product_with<R: Threads + Wait + Sync, I: Source, O: Write, E: Diagnostic
     ensures succeeded { result ≡ 0 → (err.new ≡ err.old)
         × (HasPrinted product_program (map (λ w. w.now) words.now) (λ bytes. I.gives reader.old bytes reader.new)
         (O.contents out.old) (O.contents out.new)
-        ⊎ (HasShownAsked product_program (map (λ w. w.now) words.now) (O.contents out.old) (O.contents out.new) × (reader.new ≡ reader.old))) }
+        ⊎ (HasShownAsked product_program (map (λ w. w.now) words.now) (O.contents out.old) (O.contents out.new)
+        × (reader.new ≡ reader.old))) }
     // Else one fault was met: the status is its own, and it is complained of by its own line and by nothing else. The writing
     // failed, of what was made in full; or nothing was written, for a fault of the words, by which nothing was read, of the
     // reading, of all that was read, or of the run.

@@ -22,7 +22,8 @@ pub(crate) struct ProductRequest {
 /// What the words ask for.
 pub(crate) fn product_requested(alloc: Global, words: &[&str]) -> Result<ProductRequest, Error>
     ensures asked { IfOk result (λ request. AsksForProduct (map (λ w. w.now) words.now) request × IsWithinLimits request.config) }
-    ensures why { IfErr result (λ error. FailsAs product_app MissingRequiredArgument (LackSide (matches_of product_app (map (λ w. w.now) words.now)))
+    ensures why { IfErr result (λ error.
+        FailsAs product_app MissingRequiredArgument (LackSide (matches_of product_app (map (λ w. w.now) words.now)))
         (map (λ w. w.now) words.now) (kind_of error)) }
 {
     let mut command = product_command(alloc)?;

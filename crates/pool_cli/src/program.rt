@@ -5,7 +5,8 @@ ghost use Rattle.clap.specs.Values.{kind_of};
 ghost use Rattle.clap.specs.Words.{matches_of};
 ghost use Rattle.clap.specs.declared.error.kind.ErrorKind.TheVariants.{MissingRequiredArgument};
 ghost use Rattle.pool_cli.specs.Faults.{complaint, status_of};
-ghost use Rattle.pool_cli.specs.Programs.{About, AsksForSome, CouldNotWrite, HasNothing, HasPrinted, HasShownAsked, IsMade, IsMadeOfAll, IsUnanswered, IsUnmade, IsUnwritten};
+ghost use Rattle.pool_cli.specs.Programs.{About, AsksForSome, CouldNotWrite, HasNothing, HasPrinted, HasShownAsked, IsMade, IsMadeOfAll};
+ghost use Rattle.pool_cli.specs.Programs.{IsUnanswered, IsUnmade, IsUnwritten};
 ghost use Rattle.tp_shell.specs.Command.{FailsAs, IsMetBy, IsToBeShown};
 ghost use Rattle.tp_shell.specs.Statuses.{code_of};
 ghost use Rattle.tp_shell.specs.Streams.{HasShown};
@@ -39,7 +40,8 @@ pub(crate) trait Program: Copy {
 
     /// Whether they can be worked on.
     fn check(self, loaded: &Self::Data) -> Result<(), Fault>
-        requires { (bytes : List ℕ) × about.spells bytes loaded.now }
+        requires allowed { about.allows self }
+        requires spelt { (bytes : List ℕ) × about.spells bytes loaded.now }
         ensures { MatchResult result (λ _. about.suits self loaded.now) (about.unsuited self loaded.now) };
 
     /// The text that is made of them.

@@ -23,7 +23,8 @@ pub(crate) struct Request {
 /// What the words ask for.
 pub(crate) fn requested(alloc: Global, words: &[&str]) -> Result<Request, Error>
     ensures asked { IfOk result (λ request. AsksForHeat (map (λ w. w.now) words.now) request × IsWithinLimits request.config) }
-    ensures why { IfErr result (λ error. FailsAs heat_app MissingRequiredArgument (LackSteps (matches_of heat_app (map (λ w. w.now) words.now)))
+    ensures why { IfErr result (λ error.
+        FailsAs heat_app MissingRequiredArgument (LackSteps (matches_of heat_app (map (λ w. w.now) words.now)))
         (map (λ w. w.now) words.now) (kind_of error)) }
 {
     let mut command = heat_command(alloc)?;
@@ -52,7 +53,7 @@ fn request_of(matches: &ArgMatches) -> Option<Request>
 }
 
 /// How many steps are asked for.
-fn steps_of(matches: &ArgMatches) -> Option<u64>
+pub(crate) fn steps_of(matches: &ArgMatches) -> Option<u64>
     ensures { MatchOption result (LacksNumber 64 (codes "STEPS") (rows_of (found_of matches.now)))
         (IsNumberOf (codes "STEPS") (rows_of (found_of matches.now))) }
 {

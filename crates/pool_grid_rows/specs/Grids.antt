@@ -14,7 +14,8 @@ pub record AreGrid (lines : List (List ℕ)) (width : ℕ) (numbers : List ℤ) 
 abbrev pub IsLineFault : List (List ℕ) → List ℕ → GridFault → Type 0
 IsLineFault before line Empty = ⊥
 IsLineFault before line (NoRow k) = (k ≡ length before + 1) × ((row : List ℤ) → ¬ (SpellsRow line row))
-IsLineFault before line (Uneven count) = (count.line ≡ length before + 1) × (1 ≤ length before) × ((numbers : List ℤ) × AreRows count.due before numbers)
+IsLineFault before line (Uneven count) =
+    (count.line ≡ length before + 1) × (1 ≤ length before) × ((numbers : List ℤ) × AreRows count.due before numbers)
     × ((row : List ℤ) × SpellsRow line row × (length row ≡ count.has)) × (count.has ≢ count.due)
 IsLineFault before line Memory = Unit {0}
 

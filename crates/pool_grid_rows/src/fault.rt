@@ -1,13 +1,5 @@
+use pool_rows::RowCount;
 use std::alloc::AllocError;
-
-/// How many numbers a line has, and how many are due: as many as the first line has.
-#[derive(Clone, Copy, Debug, PartialEq, Eq)]
-pub struct RowCount {
-    /// The line, counted from 1.
-    pub line: u64,
-    pub has: usize,
-    pub due: usize,
-}
 
 /// Why a text gives no grid.
 #[derive(Clone, Copy, Debug, PartialEq, Eq)]

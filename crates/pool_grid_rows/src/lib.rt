@@ -6,7 +6,8 @@ mod read;
 mod rows;
 mod write;
 
-pub use fault::{GridFault, RowCount};
+pub use fault::GridFault;
+pub use pool_rows::RowCount;
 pub use read::rows_of;
 pub use rows::Rows;
 pub use write::text_of_grid;

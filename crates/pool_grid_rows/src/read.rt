@@ -4,9 +4,9 @@ ghost use Rattle.pool_rows.specs.Matrices.{AreRows};
 ghost use Rattle.pool_grid_rows.specs.declared.fault.GridFault.TheVariants.{Empty};
 ghost use Rattle.pool_grid_rows.specs.Grids.{AreGrid, IsLineFault, IsTextFault};
 
-use crate::fault::{GridFault, RowCount};
+use crate::fault::GridFault;
 use crate::rows::Rows;
-use pool_rows::push_row;
+use pool_rows::{RowCount, push_row};
 use std::alloc::Global;
 
 /// The grid that a text gives: its rows as lines, the numbers of a row by single spaces. Refused with the first line that is no
@@ -39,9 +39,11 @@ impl Reading {
     fn take(&mut self, line: &str) -> Result<(), GridFault>
         requires { self.old.lines + 1 < 2 ^ 64 }
         ensures count { OnOk result (self.new.lines ≡ self.old.lines + 1) }
-        ensures taken { OnOk result ((seen : List (List ℕ)) → length seen ≡ self.old.lines → AreRows self.old.width seen self.old.numbers.items
+        ensures taken { OnOk result ((seen : List (List ℕ)) → length seen ≡ self.old.lines
+            → AreRows self.old.width seen self.old.numbers.items
             → AreRows self.new.width (seen ++ line.now ∷ []) self.new.numbers.items) }
-        ensures bad { IfErr result (λ fault. (seen : List (List ℕ)) → length seen ≡ self.old.lines → AreRows self.old.width seen self.old.numbers.items
+        ensures bad { IfErr result (λ fault. (seen : List (List ℕ)) → length seen ≡ self.old.lines
+            → AreRows self.old.width seen self.old.numbers.items
             → IsLineFault seen line.now fault) }
     {
         let before = self.lines;

@@ -1,5 +1,6 @@
 -- Lines that two matrices begin with, and lines that none begin with.
-use Rattle.std.proofs.Common.{◌≡◌, ◌+◌, ◌-◌, ◌<◌, ℕ, zero, suc, ℤ, pos, List, [], ◌∷◌, ◌++◌, length, refl, sym, ap, ◌∙◌, subst, append_assoc, arith, rules, inl, inr}
+use Rattle.std.proofs.Common.{◌≡◌, ◌+◌, ◌-◌, ◌<◌, ℕ, zero, suc, ℤ, pos, List, [], ◌∷◌, ◌++◌, length, refl, sym, ap, ◌∙◌, subst}
+use Rattle.std.proofs.Common.{append_assoc, arith, rules, inl, inr}
 use Rattle.std.proofs.lemmas.List.{length-append}
 use Rattle.pool_rows.specs.Matrices.{SpellsRow, AreRows, AreMatrices, IsBeginning}
 use Rattle.pool_rows.specs.Reading.{IsAbove, IsBelow, HasRead}
@@ -18,11 +19,13 @@ length-times : (n : ℕ) (line : List ℕ) → length (times n line) ≡ n
 length-times zero line = refl
 length-times (suc n) line = ap suc (length-times n line)
 
-rows_times : (n order : ℕ) (line : List ℕ) (row : List ℤ) → SpellsRow line row → length row ≡ order → AreRows order (times n line) (numbers_of n row)
+rows_times : (n order : ℕ) (line : List ℕ) (row : List ℤ) → SpellsRow line row → length row ≡ order
+    → AreRows order (times n line) (numbers_of n row)
 rows_times zero order line row s l = refl
 rows_times (suc n) order line row s l = (row, numbers_of n row, refl, l, s, rows_times n order line row s l)
 
-rows_both : (order : ℕ) (lines more : List (List ℕ)) (numbers others : List ℤ) → AreRows order lines numbers → AreRows order more others → AreRows order (lines ++ more) (numbers ++ others)
+rows_both : (order : ℕ) (lines more : List (List ℕ)) (numbers others : List ℤ) → AreRows order lines numbers → AreRows order more others
+    → AreRows order (lines ++ more) (numbers ++ others)
 rows_both order [] more numbers others a b = subst (λ n. AreRows order more (n ++ others)) (sym a) b
 rows_both order (x ∷ lines) more numbers others a b =
     (a.0, a.1 ++ others, ap (λ n. n ++ others) a.2 ∙ append_assoc a.0 a.1 others, a.3, a.4, rows_both order lines more a.1 others a.5 b)
@@ -99,11 +102,15 @@ abbrev pub NoRow : List ℕ → ℕ → Type 0
 NoRow line order = (row : List ℤ) → SpellsRow line row → length row ≡ order → ⊥
 
 module _ (seen : List (List ℕ)) (line : List ℕ) where
-  whole : (more : List (List ℕ)) (order : ℕ) (left right : List ℤ) → AreMatrices ((seen ++ line ∷ []) ++ more) order left right → AreMatrices (seen ++ line ∷ more) order left right
+  whole : (more : List (List ℕ)) (order : ℕ) (left right : List ℤ) → AreMatrices ((seen ++ line ∷ []) ++ more) order left right
+      → AreMatrices (seen ++ line ∷ more) order left right
   whole more order left right m = subst (λ l. AreMatrices l order left right) (append_assoc seen (line ∷ []) more) m
 
-  same : (order : ℕ) → HasFirst seen order → (more : List (List ℕ)) (other : ℕ) (left right : List ℤ) → AreMatrices ((seen ++ line ∷ []) ++ more) other left right → other ≡ order
-  same order f more other left right m = order_fixed ((seen ++ line ∷ []) ++ more) order other left right (first_more (seen ++ line ∷ []) more order (first_more seen (line ∷ []) order f)) m
+  same : (order : ℕ) → HasFirst seen order → (more : List (List ℕ)) (other : ℕ) (left right : List ℤ)
+      → AreMatrices ((seen ++ line ∷ []) ++ more) other left right → other ≡ order
+  same order f more other left right m =
+      order_fixed ((seen ++ line ∷ [])
+      ++ more) order other left right (first_more (seen ++ line ∷ []) more order (first_more seen (line ∷ []) order f)) m
 
   pub no_first : length seen ≡ 0 → ((row : List ℤ) → SpellsRow line row → ⊥) → IsBeginning (seen ++ line ∷ []) → ⊥
   no_first h never (more, order, left, right, m) =

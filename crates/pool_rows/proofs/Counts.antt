@@ -17,7 +17,12 @@ length-parts (x ∷ y ∷ parts) = omega (arith, length-parts (y ∷ parts))
 
 length-lines : (text : List ℕ) → length (lines text) ≤ length text + 1
 length-lines text =
-    omega (arith, length-parts (slice_split (λ b. b == 10) text), length-slice_split (λ b. b == 10) text, count_by-le-length (λ b. b == 10) text)
+    omega (
+      arith,
+      length-parts (slice_split (λ b. b == 10) text),
+      length-slice_split (λ b. b == 10) text,
+      count_by-le-length (λ b. b == 10) text,
+    )
 
 pub few_seen : (text : List ℕ) (seen left : List (List ℕ)) → lines text ≡ seen ++ left → length seen ≤ length text + 1
 few_seen text seen left e = omega (arith, length-lines text, ap length e, length-append seen left)

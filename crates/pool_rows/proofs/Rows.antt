@@ -3,13 +3,15 @@ use Rattle.std.proofs.Common.{◌≡◌, ℕ, suc, ℤ, List, [], ◌∷◌, ◌
 use Rattle.pool_cells.specs.Texts.{Spells}
 use Rattle.pool_rows.specs.Matrices.{AreSpelt, SpellsRow}
 
-pub spelt_more : (seen : List (List ℕ)) (row : List ℤ) (part : List ℕ) (z : ℤ) → AreSpelt seen row → Spells part z → FitsSigned w64 z → AreSpelt (seen ++ part ∷ []) (row ++ z ∷ [])
+pub spelt_more : (seen : List (List ℕ)) (row : List ℤ) (part : List ℕ) (z : ℤ) → AreSpelt seen row → Spells part z → FitsSigned w64 z
+    → AreSpelt (seen ++ part ∷ []) (row ++ z ∷ [])
 spelt_more [] [] part z a s f = (s, f, tt)
 spelt_more [] (y ∷ row) part z a s f = absurd a
 spelt_more (p ∷ seen) [] part z a s f = absurd a
 spelt_more (p ∷ seen) (y ∷ row) part z a s f = (a.0, a.1, spelt_more seen row part z a.2 s f)
 
-pub spelt_at : (seen left : List (List ℕ)) (row : List ℤ) (part : List ℕ) → AreSpelt (seen ++ part ∷ left) row → (z : ℤ) × Spells part z × FitsSigned w64 z
+pub spelt_at : (seen left : List (List ℕ)) (row : List ℤ) (part : List ℕ) → AreSpelt (seen ++ part ∷ left) row → (z : ℤ) × Spells part z
+    × FitsSigned w64 z
 spelt_at [] left [] part a = absurd a
 spelt_at [] left (z ∷ row) part a = (z, a.0, a.1)
 spelt_at (p ∷ seen) left [] part a = absurd a

@@ -1,2 +1,3 @@
 pub mod Matrices
+pub mod Faults
 pub mod Reading

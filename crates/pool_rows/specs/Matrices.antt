@@ -1,9 +1,8 @@
 -- Square matrices as text.
-use Rattle.std.specs.Prelude.{◌≡◌, ◌==◌, ◌+◌, ◌*◌, ◌≤◌, ◌⊎◌, ℕ, zero, suc, ℤ, List, [], ◌∷◌, ◌++◌, length, map, slice_range, FitsSigned}
+use Rattle.std.specs.Prelude.{◌≡◌, ◌==◌, ◌+◌, ◌*◌, ◌≤◌, ℕ, zero, suc, ℤ, List, [], ◌∷◌, ◌++◌, length, map, slice_range, FitsSigned}
 use Rattle.std.specs.Int.{w64}
 use Rattle.std.specs.Fmt.{signed_decimal}
 use Rattle.std.specs.List.{slice_split, join_with_byte}
-use Rattle.std.specs.Str.Lines.{lines}
 use Rattle.pool_cells.specs.Texts.{Spells}
 
 -- the parts spell the numbers of 64 bits, one each
@@ -38,13 +37,6 @@ pub record AreMatrices (lines : List (List ℕ)) (order : ℕ) (left right : Lis
 abbrev pub IsBeginning : List (List ℕ) → Type 0
 IsBeginning first = (more : List (List ℕ)) × (order : ℕ) × (left : List ℤ) × (right : List ℤ) × AreMatrices (first ++ more) order left right
 
--- Line k of a text, counted from 1, is the first that is not as it has to be: the lines before it are a beginning of two
--- matrices, and with it they are none; or it is not there, and those before it are not two matrices.
-abbrev pub IsFirstBad : List ℕ → ℕ → Type 0
-IsFirstBad text k = (before : List (List ℕ)) × (k ≡ length before + 1) × IsBeginning before
-    × (((line : List ℕ) × (more : List (List ℕ)) × (lines text ≡ before ++ line ∷ more) × ¬ (IsBeginning (before ++ line ∷ [])))
-    ⊎ ((lines text ≡ before) × ((order : ℕ) (left right : List ℤ) → ¬ (AreMatrices before order left right))))
-
 -- a row as a line: its numbers in decimal by single spaces, and a line feed
 abbrev pub row_text : List ℤ → List ℕ
 row_text row = join_with_byte 32 (map signed_decimal row) ++ 10 ∷ []
@@ -52,7 +44,8 @@ row_text row = join_with_byte 32 (map signed_decimal row) ++ 10 ∷ []
 -- the first rows, so many, of a matrix of so many columns, as lines
 abbrev pub first_rows_text : ℕ → ℕ → List ℤ → List ℕ
 first_rows_text zero order numbers = []
-first_rows_text (suc rows) order numbers = first_rows_text rows order numbers ++ row_text (slice_range numbers (rows * order) (rows * order + order))
+first_rows_text (suc rows) order numbers =
+    first_rows_text rows order numbers ++ row_text (slice_range numbers (rows * order) (rows * order + order))
 
 -- a square matrix as text: each row a line
 abbrev pub rows_text : ℕ → List ℤ → List ℕ

@@ -1,6 +1,9 @@
 -- What is known of two matrices while their lines come.
 use Rattle.std.specs.Prelude.{◌≡◌, ◌≤◌, ◌⊎◌, ℕ, ℤ, List, [], ◌∷◌, ◌++◌, length}
-use Rattle.pool_rows.specs.Matrices.{AreRows}
+use Rattle.pool_rows.specs.Faults.{IsLineFault}
+use Rattle.pool_rows.specs.Matrices.{AreRows, IsBeginning, SpellsRow}
+use Rattle.pool_rows.specs.declared.fault.RowFault.{RowFault}
+use Rattle.pool_rows.specs.declared.fault.RowFault.TheVariants.{Memory, NoRow}
 
 -- the lines are rows of the matrix on the left, so far
 pub record IsAbove (seen : List (List ℕ)) (order : ℕ) (left right : List ℤ) : Type 0 where
@@ -24,3 +27,11 @@ pub record IsBelow (seen : List (List ℕ)) (order : ℕ) (left right : List ℤ
 -- what the lines so far have given: nothing yet, or rows of the one or of both matrices
 abbrev pub HasRead : List (List ℕ) → ℕ → List ℤ → List ℤ → Type 0
 HasRead seen order left right = ((seen ≡ []) × (left ≡ []) × (right ≡ [])) ⊎ (IsAbove seen order left right ⊎ IsBelow seen order left right)
+
+-- a line that cannot follow was refused, and why; or memory was
+abbrev pub IsRefused : List (List ℕ) → List ℕ → RowFault → Type 0
+IsRefused seen line fault = (fault ≡ Memory) ⊎ ((¬ (IsBeginning (seen ++ line ∷ []))) × IsLineFault seen line fault)
+
+-- the first line is no row, or memory was refused
+abbrev pub IsFirstRefused : List ℕ → RowFault → Type 0
+IsFirstRefused line fault = (fault ≡ Memory) ⊎ ((fault ≡ NoRow 1) × ((row : List ℤ) → ¬ (SpellsRow line row)))

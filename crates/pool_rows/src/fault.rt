@@ -1,10 +1,37 @@
 use std::alloc::AllocError;
 
-/// Why a text gives no two matrices.
+/// How many numbers a line has, and how many are due: as many as the first line has.
+#[derive(Clone, Copy, Debug, PartialEq, Eq)]
+pub struct RowCount {
+    /// The line, counted from 1.
+    pub line: u64,
+    pub has: usize,
+    pub due: usize,
+}
+
+/// A line that is not there, where each of two matrices has so many rows.
+#[derive(Clone, Copy, Debug, PartialEq, Eq)]
+pub struct MissingLine {
+    /// The line, counted from 1.
+    pub line: u64,
+    pub rows: usize,
+}
+
+/// Why a text gives no two matrices: the first line at fault, counted from 1, and what is wrong with it.
 #[derive(Clone, Copy, Debug, PartialEq, Eq)]
 pub enum RowFault {
-    /// A line, counted from 1, is not as it has to be, or is wanted and not there.
-    Line(u64),
+    /// There is no line.
+    Empty,
+    /// A line, where a row is due, is not whole numbers of 64 bits by single spaces.
+    NoRow(u64),
+    /// A line, where a row is due, has another count of numbers than the first.
+    Uneven(RowCount),
+    /// The line between the matrices is not empty.
+    NotEmpty(u64),
+    /// A line stands behind both matrices.
+    Extra(u64),
+    /// A line is due behind the last.
+    Missing(MissingLine),
     /// A growth of memory was refused.
     Memory,
 }

@@ -7,7 +7,7 @@ mod read;
 mod row;
 mod write;
 
-pub use fault::RowFault;
+pub use fault::{MissingLine, RowCount, RowFault};
 pub use matrices::Matrices;
 pub use read::matrices_of;
 pub use row::push_row;

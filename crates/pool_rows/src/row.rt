@@ -1,6 +1,9 @@
-ghost use Rattle.std.specs.Prelude.{◌≡◌, ◌≢◌, ◌++◌, ℤ, List, length, IfOk, MatchBool, MatchOption};
+ghost use Rattle.std.specs.Prelude.{◌≡◌, ◌≢◌, ◌++◌, [], ℤ, List, length, IfErr, IfOk, MatchOption, OnOk};
+ghost use Rattle.pool_rows.specs.Faults.{IsNoRowOf};
 ghost use Rattle.pool_rows.specs.Matrices.{SpellsRow};
+ghost use Rattle.pool_rows.specs.declared.fault.RowFault.TheVariants.{NotEmpty};
 
+use crate::fault::{RowCount, RowFault};
 use std::alloc::AllocError;
 
 /// Keeps the numbers of a row behind those that are there, and answers how many they are; none where the line is no row.
@@ -20,18 +23,39 @@ pub fn push_row(numbers: &mut Vec<i64>, line: &str) -> Result<Option<usize>, All
     Ok(Some(count))
 }
 
-/// Keeps the numbers of a row of so many columns behind those that are there; whether the line is such a row is answered.
+/// Keeps the numbers of a row of so many columns behind those that are there. Refused where the line, which is the one at this
+/// place, is no row, or has another count of numbers; and where memory is refused.
 pub(crate) fn push_row_of(
     numbers: &mut Vec<i64>,
     line: &str,
+    place: u64,
     columns: usize,
-) -> Result<bool, AllocError>
-    ensures { IfOk result (λ taken. MatchBool taken
-        ((row : List ℤ) × SpellsRow line.now row × (length row ≡ columns) × (numbers.new.items ≡ numbers.old.items ++ row))
-        ((row : List ℤ) → SpellsRow line.now row → length row ≢ columns)) }
+) -> Result<(), RowFault>
+    ensures kept { OnOk result
+        ((row : List ℤ) × SpellsRow line.now row × (length row ≡ columns) × (numbers.new.items ≡ numbers.old.items ++ row)) }
+    ensures bad { IfErr result (IsNoRowOf line.now place columns) }
 {
-    match push_row(numbers, line)? {
-        Some(count) => Ok(count == columns),
-        None => Ok(false),
+    let Some(has) = push_row(numbers, line)? else {
+        return Err(RowFault::NoRow(place));
+    };
+    if has != columns {
+        return Err(RowFault::Uneven(RowCount {
+            line: place,
+            has,
+            due: columns,
+        }));
+    }
+    Ok(())
+}
+
+/// Takes a line where an empty one is due.
+pub(crate) fn empty_line(line: &str, place: u64) -> Result<(), RowFault>
+    ensures empty { OnOk result (line.now ≡ []) }
+    ensures bad { IfErr result (λ fault. (fault ≡ NotEmpty place) × (line.now ≢ [])) }
+{
+    if line.is_empty() {
+        Ok(())
+    } else {
+        Err(RowFault::NotEmpty(place))
     }
 }

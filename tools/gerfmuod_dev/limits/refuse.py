@@ -2,7 +2,7 @@
 
 Each program runs again and again, with its first growth refused, then the second, until there is none left; and then
 with all growths from there on refused. Each time it has to give its whole answer, or else `refused 17 NoMemory`, of
-`heat` and `product` `there is no memory`, on standard error, nothing on standard output, and status 3; of `pools` it
+`heat`, `product` and `relax` `there is no memory`, on standard error, nothing on standard output, and status 3; of `pools` it
 may be a line for each pool. Prints for each command how many growths it had, and how many runs were refused. The last
 line is `N passed, M failed`; the status is 1 where one failed, or where a command was never refused. It needs a C
 compiler.
@@ -95,7 +95,7 @@ def matrix(m):
     return [" ".join(str(i * 3 - j * m - 5) for j in range(8)) for i in range(8)]
 
 
-def commands_of_the_others(heat, product, folder):
+def commands_of_the_others(heat, product, relax, folder):
     rod = running.write(f"{folder}/rod", range(0, 401, 7))
     long_rod = running.write(f"{folder}/long_rod", range(1, 4001))
     matrices = running.write(f"{folder}/matrices", [*matrix(0), "", *matrix(1)])
@@ -107,15 +107,19 @@ def commands_of_the_others(heat, product, folder):
     yield Command("product 2, one node", [product, "2"], matrices, OF_THE_OTHERS)
     yield Command("product 4, two nodes by two workers", [product, "4", *two_by_two], matrices, OF_THE_OTHERS)
     yield Command("product --help", [product, "--help"], complaint=OF_THE_OTHERS)
+    grid = running.write(f"{folder}/grid", matrix(2))
+    yield Command("relax 5 3, one node", [relax, "5", "3"], grid, OF_THE_OTHERS)
+    yield Command("relax 3 1, two nodes by two workers", [relax, "3", "1", *two_by_two], grid, OF_THE_OTHERS)
+    yield Command("relax --help", [relax, "--help"], complaint=OF_THE_OTHERS)
 
 
 def arguments(parser):
-    for name in ("tp", "heat", "product"):
+    for name in ("tp", "heat", "product", "relax"):
         running.program_argument(parser, name)
 
 
 def run(words):
-    running.want(words.tp, words.heat, words.product)
+    running.want(words.tp, words.heat, words.product, words.relax)
     tally = running.Tally()
     with tempfile.TemporaryDirectory() as folder:
         library = running.library("refuse", folder)
@@ -124,6 +128,6 @@ def run(words):
         refusing = Refusing(folder, library)
         for command in commands_of_tp(words.tp, folder):
             try_command(tally, refusing, command)
-        for command in commands_of_the_others(words.heat, words.product, folder):
+        for command in commands_of_the_others(words.heat, words.product, words.relax, folder):
             try_command(tally, refusing, command)
     return tally.end()

@@ -12,7 +12,8 @@ returns-in_err-matches-clause-why c =
     let error = c.in_err-matches.field-0.0 in
     let words : List Text = map (λ w. w.now) c.args.words.now in
     passed_up c.from_residual-in_err-matches.result error _ c.from_residual-in_err-matches.ensures.1
-    (fails_as product_app (app_of c.in_ok-command.command) MissingRequiredArgument (LackSide (matches_of product_app words)) words error refl
+    (fails_as product_app (app_of c.in_ok-command.command) MissingRequiredArgument (LackSide (matches_of product_app words)) words error
+    refl
     c.in_ok-command.ensures c.in_err-matches.ensures.kinds)
 
 pub returns-in-Some-clause-asked : goal.returns-in-Some-clause-asked

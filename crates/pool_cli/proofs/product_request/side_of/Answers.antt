@@ -8,6 +8,7 @@ use Rattle.pool_cli.proofs.product_request.side_of.Goals as goal
 pub returns : goal.returns
 returns c =
     let found = found_of c.args.matches.now in
-    number_read 32 (λ t x. ParsesUnsigned 32 10 t x × ExplainsUnsignedError 10 t x × HasUnsignedDigitsIfOk t x) (codes "SIDE") (rows_of found)
+    number_read 32 (λ t x. ParsesUnsigned 32 10 t x × ExplainsUnsignedError 10 t x
+    × HasUnsignedDigitsIfOk t x) (codes "SIDE") (rows_of found)
     (one_text found (codes "SIDE")) c.get_one.result (λ t x gives. gives.0)
     (sym (one_text-rows found (codes "SIDE"))) c.get_one.ensures.none c.get_one.ensures.value

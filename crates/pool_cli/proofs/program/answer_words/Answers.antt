@@ -21,7 +21,10 @@ returns-in-Ok-clause-unread g c = inl (c.in-Ok.request, c.in-Ok.ensures.asked.0)
 pub returns-in-Err-clause-printed : goal.returns-in-Err-clause-printed
 returns-in-Err-clause-printed g c =
     on_ok_weaker c.show_asked.result
-    (λ did. inr ((shown g.P.Program.about (map (λ w. w.now) c.args.words.now) (kind_of c.in-Err.error) c.in-Err.ensures.why did.0, did.1), refl))
+    (λ did. inr (
+      (shown g.P.Program.about (map (λ w. w.now) c.args.words.now) (kind_of c.in-Err.error) c.in-Err.ensures.why did.0, did.1),
+      refl,
+    ))
     c.show_asked.ensures.shown
 
 pub returns-in-Err-clause-why : goal.returns-in-Err-clause-why

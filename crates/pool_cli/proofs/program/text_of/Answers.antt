@@ -9,8 +9,8 @@ pub returns-in-Err-load : goal.returns-in-Err-load
 returns-in-Err-load g c =
     inr (inl (subst (λ bytes. g.P.Program.about.misspells bytes c.in-Err-load.fault) c.in-Ok.ensures.cases.0 c.in-Err-load.ensures))
 
-pub check-requires : goal.check-requires
-check-requires g c = (c.in-Ok.input.now, c.in-Ok-load.ensures)
+pub check-requires-clause-spelt : goal.check-requires-clause-spelt
+check-requires-clause-spelt g c = (c.in-Ok.input.now, c.in-Ok-load.ensures)
 
 pub returns-in-Err-check : goal.returns-in-Err-check
 returns-in-Err-check g c =

@@ -1,4 +1,5 @@
-use Rattle.std.proofs.Common.{rules, ◌≡◌, ◌+◌, ◌^◌, ◌<◌, ◌∷◌, ◌++◌, [], length, Some, None, refl, sym, ap, ◌∙◌, subst, append_assoc, append-nil, arith, inl, inr}
+use Rattle.std.proofs.Common.{rules, ◌≡◌, ◌+◌, ◌^◌, ◌<◌, ◌∷◌, ◌++◌, [], length, Some, None, refl, sym, ap, ◌∙◌, subst, append_assoc}
+use Rattle.std.proofs.Common.{append-nil, arith, inl, inr}
 use Rattle.std.specs.Iterator.{AlwaysYields}
 use Rattle.std.specs.Str.Iter.{lines_steps}
 use Rattle.std.specs.Str.Lines.{lines}
@@ -78,7 +79,8 @@ returns-clause-read c =
     let step : lines_steps c.loop-line.line-iterator None c.next.new.self = search rules in
     let all = none_left lines_steps (λ x. x.now) c.loop-line.line-iterator c.next.new.self known.1 known.5 step in
     let whole : lines c.args.text.now ≡ known.0 = known.2 ∙ ap (λ l. known.0 ++ l) all ∙ append-nil known.0 in
-    IfOk-weaker c.finish.result _ _ (λ read is. subst (λ l. AreGrid l read.width read.numbers.items) (sym whole) (is known.0 known.3 known.4)) c.finish.ensures.read
+    IfOk-weaker c.finish.result _ _ (λ read is.
+    subst (λ l. AreGrid l read.width read.numbers.items) (sym whole) (is known.0 known.3 known.4)) c.finish.ensures.read
 
 pub returns-clause-bad : goal.returns-clause-bad
 returns-clause-bad c =

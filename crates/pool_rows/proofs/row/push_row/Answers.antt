@@ -1,4 +1,5 @@
-use Rattle.std.proofs.Common.{rules, ◌≡◌, ◌++◌, [], ◌∷◌, ◌+◌, refl, sym, ap, ◌∙◌, subst, FitsSigned, w64, lit<, append_assoc, append-nil, Some, None}
+use Rattle.std.proofs.Common.{rules, ◌≡◌, ◌++◌, [], ◌∷◌, ◌+◌, refl, sym, ap, ◌∙◌, subst, FitsSigned, w64, lit<, append_assoc, append-nil}
+use Rattle.std.proofs.Common.{Some, None}
 use Rattle.std.specs.Prelude.{◌==◌}
 use Rattle.std.specs.Iterator.{AlwaysYields}
 use Rattle.std.specs.List.{slice_split}
@@ -26,7 +27,8 @@ loop-part-init c =
         refl,
         sym (append-nil c.args.numbers.now.items),
         subst (λ s. AlwaysYields (split_steps FindsChar (λ a b. b ≡ a)) (λ x. x.now) s (slice_split (λ b. b == 32) c.args.line.now)) same
-            (YieldsList-from_str_split {s = c.split-part-items.result} 32 c.args.line.now (lit< tt) c.split-part-items.ensures.text c.split-part-items.ensures.has_more c.split-part-items.ensures.pattern).runs,
+            (YieldsList-from_str_split {s = c.split-part-items.result} 32 c.args.line.now (lit< tt) c.split-part-items.ensures.text
+            c.split-part-items.ensures.has_more c.split-part-items.ensures.pattern).runs,
       ),
     )
 
@@ -34,15 +36,18 @@ pub returns-in-Err : goal.returns-in-Err
 returns-in-Err c row spelt =
     let known = c.loop-part.invariant.2 in
     let step : split_steps FindsChar (λ a b. b ≡ a) c.loop-part.part-iterator (Some c.in-Some.part) c.next.new.self = search rules in
-    let more = one_more (split_steps FindsChar (λ a b. b ≡ a)) (λ x. x.now) c.loop-part.part-iterator c.in-Some.part c.next.new.self known.1 known.7 step in
-    let here = spelt_at known.0 more.rest row c.in-Some.part.now (subst (λ parts. AreSpelt parts row) (known.3 ∙ ap (λ l. known.0 ++ l) more.is) spelt) in
+    let more = one_more (split_steps FindsChar (λ a b. b ≡ a)) (λ x.
+    x.now) c.loop-part.part-iterator c.in-Some.part c.next.new.self known.1 known.7 step in
+    let here = spelt_at known.0 more.rest row c.in-Some.part.now
+    (subst (λ parts. AreSpelt parts row) (known.3 ∙ ap (λ l. known.0 ++ l) more.is) spelt) in
     c.in-Err.ensures.value.0 (here.1.0, subst (FitsSigned w64) (sym here.1.1) here.2)
 
 pub loop-part-preserved : goal.loop-part-preserved
 loop-part-preserved c =
     let known = c.loop-part.invariant.2 in
     let step : split_steps FindsChar (λ a b. b ≡ a) c.loop-part.part-iterator (Some c.in-Some.part) c.next.new.self = search rules in
-    let more = one_more (split_steps FindsChar (λ a b. b ≡ a)) (λ x. x.now) c.loop-part.part-iterator c.in-Some.part c.next.new.self known.1 known.7 step in
+    let more = one_more (split_steps FindsChar (λ a b. b ≡ a)) (λ x.
+    x.now) c.loop-part.part-iterator c.in-Some.part c.next.new.self known.1 known.7 step in
     let spelt : Spells c.in-Some.part.now c.in-Ok.number = search rules in
     let fits : FitsSigned w64 c.in-Ok.number = search rules in
     let pushed : c.push.new.self.items ≡ c.loop-part.numbers.items ++ c.in-Ok.number ∷ [] = search rules in (
@@ -64,6 +69,7 @@ pub returns : goal.returns
 returns c =
     let known = c.loop-part.invariant.2 in
     let step : split_steps FindsChar (λ a b. b ≡ a) c.loop-part.part-iterator None c.next.new.self = search rules in
-    let all = none_left (split_steps FindsChar (λ a b. b ≡ a)) (λ x. x.now) c.loop-part.part-iterator c.next.new.self known.1 known.7 step in
+    let all = none_left (split_steps FindsChar (λ a b. b ≡ a)) (λ x.
+    x.now) c.loop-part.part-iterator c.next.new.self known.1 known.7 step in
     let whole : slice_split (λ b. b == 32) c.args.line.now ≡ known.0 = known.3 ∙ ap (λ l. known.0 ++ l) all ∙ append-nil known.0 in
     (known.2, subst (λ parts. AreSpelt parts known.2) (sym whole) known.4, known.5, known.6)

@@ -8,4 +8,5 @@ returns-clause-taken c = λ seen long rows.
     let old = c.args.self.now.numbers.items in
     let new = c.push_row.new.numbers.items in
     let same : has ≡ c.args.self.now.width = search rules in
-    taken_next seen c.args.line.now c.args.self.now.width has old new same rows (kept c.in_ok-has.field-0 c.args.line.now has old new c.in-Some.is c.in_ok-has.ensures)
+    taken_next seen c.args.line.now c.args.self.now.width has old new same rows
+    (kept c.in_ok-has.field-0 c.args.line.now has old new c.in-Some.is c.in_ok-has.ensures)
