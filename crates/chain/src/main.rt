@@ -4,6 +4,7 @@
 ghost use Rattle.std.specs.Prelude.{IfErr, IfOk};
 ghost use Rattle.tp_graph.specs.Serial.{AreValues};
 ghost use Rattle.pool_chain.specs.Chains.{chain_graph};
+ghost use Rattle.pool_chain.specs.Sums.{AreSums};
 ghost use Rattle.tp_work.specs.Outcomes.{IsFault, IsWithinLimits};
 
 use pool_chain::Chain;
@@ -31,8 +32,8 @@ fn main(rt: HostRuntime) -> io::Result<()> {
     }
 }
 
-/// The value of each task of a chain of so many, in rising order, worked out by a pool of threads. Refused for what
-/// [`run_pool`] is refused for.
+/// The value of each task of a chain of so many, in rising order, worked out by a pool of threads: the sum of the numbers up to
+/// its own. Refused for what [`run_pool`] is refused for.
 fn run_chain<R: Threads + Wait + Sync>(
     rt: &R,
     alloc: Global,
@@ -41,6 +42,7 @@ fn run_chain<R: Threads + Wait + Sync>(
 ) -> Result<Vec<(TaskId, Value)>, Fault>
     requires { IsWithinLimits config }
     ensures values { IfOk result (λ results. AreValues (chain_graph length) length results.items) }
+    ensures sums { IfOk result (λ results. AreSums length results.items) }
     ensures fault { IfErr result (IsFault config.nodes (chain_graph length)) }
 {
     let outcome = run_pool(rt, alloc, Chain { length }, config, &OpenGate)?;

@@ -1,7 +1,14 @@
 use Rattle.pool_chain.specs.Chains.{chain_graph}
+use Rattle.pool_chain.proofs.ChainSums.{sums_are}
 use Rattle.chain.proofs.run_chain.Goals as goal
 
 pub returns-clause-values : goal.returns-clause-values
 returns-clause-values g c =
     let outcome = c.in_ok-outcome.ensures.outcome in
     c.in_order.ensures.values (chain_graph c.args.length) c.args.length outcome.each_once outcome.right
+
+pub returns-clause-sums : goal.returns-clause-sums
+returns-clause-sums g c =
+    let outcome = c.in_ok-outcome.ensures.outcome in
+    let values = c.in_order.ensures.values (chain_graph c.args.length) c.args.length outcome.each_once outcome.right in
+    sums_are c.args.length _ values
