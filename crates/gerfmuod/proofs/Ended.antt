@@ -1,15 +1,15 @@
 -- Where the end is told, the pool had ended.
-use Rattle.std.proofs.Common.{ℕ, ◌≡◌, ◌+◌, ◌-◌, ◌≤◌, ◌&&◌, ◌++◌, Bool, true, false, nat_le, if◌then◌else◌, List, [], ◌∷◌, Option, Some, None, Result, length, refl, sym, ap, subst, ◌∙◌, arith}
+use Rattle.std.proofs.Common.{ℕ, ◌≡◌, ◌+◌, ◌-◌, ◌≤◌, ◌++◌, List, [], ◌∷◌, Option, Some}
+use Rattle.std.proofs.Common.{None, Result, length, refl, sym, ap, subst, ◌∙◌, arith}
 use Rattle.std.specs.Prelude.{Ok, Err}
 use Rattle.std.proofs.lemmas.Bool.{lt-leb}
-use Rattle.std.proofs.lemmas.Bool.Decides.{nat_tests}
 use Rattle.tp_base.specs.declared.Refusal.{Refusal}
 use Rattle.tp_base.specs.declared.Refusal.TheVariants.{HistoryFull}
 use Rattle.tp_base.specs.declared.Step.{Step}
 use Rattle.tp_base.specs.declared.Step.TheVariants.{Give, Judge}
 use Rattle.tp_wave.specs.Cut.{visited_at}
 use Rattle.tp_wave.specs.Generations.{present}
-use Rattle.tp_wave.specs.Sums.{four_equal, judgement, until, visit, waves}
+use Rattle.tp_wave.specs.Sums.{judgement, until, visit, waves}
 use Rattle.tp_core.specs.declared.Reply.{Reply}
 use Rattle.tp_core.specs.declared.Reply.TheVariants.{Plain, WaveSums, Not, Over, Opened}
 use Rattle.tp_core.specs.Accepted.{Accepted, judged, reply_to, with_step}
@@ -17,29 +17,20 @@ use Rattle.tp_core.specs.Generations.{InEach}
 use Rattle.tp_core.specs.NeverEarly.{IsNeverEarly, IsOverFrom}
 use Rattle.tp_core.specs.Settled.{Settles}
 use Rattle.tp_core.proofs.Generations.{present-control}
+use Rattle.tp_text.proofs.TracedEnds.{judged_wave}
 use Rattle.gerfmuod.specs.Asked.{settled, unsettled}
 use Rattle.gerfmuod.specs.Pool.{IsOver, TellsNoEarlyEnd}
 use Rattle.gerfmuod.specs.Told.{told, reply_told, refusal_told, AnswersTo}
 
 -- ---- the wave that is named was followed by another, so its end is where it was before the judge
-enough : (b f : Bool) (v w : ℕ) → (if b && f then Some v else None) ≡ Some w → (b ≡ true) × (v ≡ w)
-enough true true v w e = (refl, cc)
-enough true false v w e = cc
-enough false f v w e = cc
-
-judged_wave : (n w : ℕ) (past : List Step) → judgement n past ≡ Some w → w + 1 ≤ waves past
-judged_wave n w past e =
-    let both = enough (nat_le 2 (waves past)) (four_equal n past) (waves past - 1) w e in
-    let two : 2 ≤ waves past = grind (arith, nat_tests, both.0) in
-    omega (arith, both.1)
-
 until_judge : (w : ℕ) (past : List Step) → w + 1 ≤ waves past → until w (Judge ∷ past) ≡ until w past
 until_judge w past l = rw (lt-leb (waves (Judge ∷ past)) w (omega arith))
 
 over_at_judge : (n w : ℕ) (past : List Step) → IsNeverEarly n (Judge ∷ past) → judgement n past ≡ Some w
     → IsOverFrom n (visited_at w 0 (Judge ∷ past)) (Judge ∷ past)
 over_at_judge n w past never e =
-    subst (λ (u : List Step). IsOverFrom n (length (visit 0 u)) (Judge ∷ past)) (sym (until_judge w past (judged_wave n w past e))) (never w [] past refl e)
+    subst (λ (u : List Step). IsOverFrom n (length (visit 0 u)) (Judge ∷ past)) (sym (until_judge w past (judged_wave n w past e)))
+    (never w [] past refl e)
 
 -- ---- an end that is told was judged
 reply_over : (reply : Reply) → (reply_told reply).told ≡ 3 → reply ≡ Over (reply_told reply).number
@@ -70,7 +61,8 @@ over_after old new s w e n never =
     subst (λ (a : Accepted). InEach (IsNeverEarly a.nodes) a.steps → IsOver a w) (sym now)
     (λ each. over_at_judge old.nodes w (present old.steps) (each [] (Judge ∷ old.steps) refl) j.1) never
 
-pub told_over : (old new : Accepted) (o : Option Step) (r : Result Reply Refusal) → AnswersTo old o r new → InEach (IsNeverEarly new.nodes) new.steps
+pub told_over : (old new : Accepted) (o : Option Step) (r : Result Reply Refusal) → AnswersTo old o r new
+    → InEach (IsNeverEarly new.nodes) new.steps
     → TellsNoEarlyEnd ((told r).told ≡ 3) (told r).number new
 told_over old new (Some s) (Ok reply) a never =
     record { ended = λ e. over_after old new s (told (Ok reply)).number (sym a.1 ∙ reply_over reply e) a.2 never; never_early = never }
@@ -88,11 +80,15 @@ pub settled_over : (old new : Accepted) (r : Result (ℕ × ℕ) Refusal) → Se
 settled_over old new (Ok answer) s never =
     let is = s.1 in
     let past : List Step = is.taken ++ present old.steps in
-    let now : present new.steps ≡ Judge ∷ past = ap (λ (xs : List Step). present xs) is.steps ∙ present-control (Judge ∷ is.taken) old.steps is.control in
-    let each : IsNeverEarly new.nodes (Judge ∷ past) = subst (λ (xs : List Step). IsNeverEarly new.nodes xs) now (never [] new.steps refl) in
+    let now : present new.steps ≡ Judge ∷ past =
+    ap (λ (xs : List Step). present xs) is.steps ∙ present-control (Judge ∷ is.taken) old.steps is.control in
+    let each : IsNeverEarly new.nodes (Judge ∷ past) =
+    subst (λ (xs : List Step). IsNeverEarly new.nodes xs) now (never [] new.steps refl) in
     let told : judgement new.nodes past ≡ Some answer.0 = rw is.nodes is.judged in
     record {
-      ended = λ e. subst (λ (xs : List Step). IsOverFrom new.nodes (visited_at answer.0 0 xs) xs) (sym now) (over_at_judge new.nodes answer.0 past each told);
+      ended = λ e.
+          subst (λ (xs : List Step). IsOverFrom new.nodes (visited_at answer.0 0 xs) xs) (sym now)
+          (over_at_judge new.nodes answer.0 past each told);
       never_early = never;
     }
 settled_over old new (Err r) s never = record { ended = λ e. absurd (unsettled_tells r e); never_early = never }

@@ -1,5 +1,6 @@
 -- The steps of a core, each beside its node, as they are recorded one by one.
-use Rattle.std.proofs.Common.{ℕ, ◌≡◌, ◌+◌, ◌<◌, ◌≤◌, ◌==◌, ◌++◌, List, [], ◌∷◌, Option, Some, true, false, cond, length, reverse, take, drop, get_or, refl, sym, ap, subst, ◌∙◌, inl, inr, arith, IsTrue}
+use Rattle.std.proofs.Common.{ℕ, ◌≡◌, ◌+◌, ◌<◌, ◌≤◌, ◌==◌, ◌++◌, List, [], ◌∷◌, Option, Some, true, false, cond, length, reverse, take}
+use Rattle.std.proofs.Common.{drop, get_or, refl, sym, ap, subst, ◌∙◌, inl, inr, arith, IsTrue}
 use Rattle.std.specs.List.{find}
 use Rattle.std.specs.Option.{option_map}
 use Rattle.std.proofs.lemmas.Bool.{cases_Bool}
@@ -29,7 +30,8 @@ abbrev pub oldest : ℕ → List Step → List Step
 oldest k steps = reverse (take k steps)
 
 pub oldest_next : (k : ℕ) (steps : List Step) → k < length steps → oldest (k + 1) steps ≡ get_or steps k no_step ∷ oldest k steps
-oldest_next k steps l = ap (λ (xs : List Step). reverse xs) (take_more steps k no_step l) ∙ reverse-append (take k steps) (get_or steps k no_step ∷ [])
+oldest_next k steps l =
+    ap (λ (xs : List Step). reverse xs) (take_more steps k no_step l) ∙ reverse-append (take k steps) (get_or steps k no_step ∷ [])
 
 runs_past : (n : ℕ) (later past : List Step) → AreRuns n (later ++ past) → AreRuns n past
 runs_past n [] past r = r
@@ -39,7 +41,8 @@ runs_past n (s ∷ later) past r = runs_past n later past r.1
 pub oldest_run : (n k : ℕ) (steps : List Step) → AreRuns n (reverse steps) → AreRuns n (oldest k steps)
 oldest_run n k steps r =
     runs_past n (reverse (drop k steps)) (oldest k steps)
-    (subst (λ (xs : List Step). AreRuns n xs) (ap (λ (xs : List Step). reverse xs) (sym (take-append-drop k steps)) ∙ reverse-append (take k steps) (drop k steps)) r)
+    (subst (λ (xs : List Step). AreRuns n xs) (ap (λ (xs : List Step). reverse xs) (sym (take-append-drop k steps))
+    ∙ reverse-append (take k steps) (drop k steps)) r)
 
 pub taken_runs : (n m : ℕ) (steps past : List Step) → n ≡ m → reverse steps ≡ past → AreRuns m past → AreRuns n (reverse steps)
 taken_runs n m steps past e f r = rw (e, f) r
@@ -67,7 +70,10 @@ fits n past s pos few r q =
     elim (cases_Bool (is_reopen s)) [
       | inl again ↦ let both = reopen_fits n i s again (may.reopens again).beside pos in record { node = both.0; names = both.1 }
       | inr on ↦ let next = (may.goes_on on).next in
-          record { node = next.known; names = small n (generations.present_events (history_after n past)) i s next.known few next.beside next.needed q }
+          record {
+            node = next.known;
+            names = small n (generations.present_events (history_after n past)) i s next.known few next.beside next.needed q;
+          }
     ]
 
 -- In each generation the recorded steps are a run of the machine.
@@ -77,7 +83,8 @@ recorded_runs n steps pos r = generations_law n (history_after n steps) (runs_ar
 steps_of_recorded : (n : ℕ) (steps : List Step) → 0 < n → AreRuns n steps → steps_of (history_after n steps) ≡ steps
 steps_of_recorded n steps pos r = (runs_are_counted n steps pos r).steps_are
 
-pub next_run : (n k : ℕ) (steps : List Step) → k < length steps → AreRuns n (reverse steps) → AreRuns n (get_or steps k no_step ∷ oldest k steps)
+pub next_run : (n k : ℕ) (steps : List Step) → k < length steps → AreRuns n (reverse steps)
+    → AreRuns n (get_or steps k no_step ∷ oldest k steps)
 next_run n k steps l r = subst (λ (xs : List Step). AreRuns n xs) (oldest_next k steps l) (oldest_run n (k + 1) steps r)
 
 pub recorded_next : (n k : ℕ) (steps : List Step) (node : NodeId) (old new : List Event) → k < length steps
@@ -85,7 +92,8 @@ pub recorded_next : (n k : ℕ) (steps : List Step) (node : NodeId) (old new : L
     → new ≡ (node, get_or steps k no_step) ∷ old → new ≡ history_after n (oldest (k + 1) steps)
 recorded_next n k steps node old new l beside before now =
     let s : Step = get_or steps k no_step in
-    now ∙ ap (λ (i : ℕ). (record { 0 = i }, s) ∷ old) beside ∙ ap (λ (h : List Event). (record { 0 = node_of (world n (present (oldest k steps))) s }, s) ∷ h) before
+    now ∙ ap (λ (i : ℕ). (record { 0 = i }, s) ∷ old) beside
+    ∙ ap (λ (h : List Event). (record { 0 = node_of (world n (present (oldest k steps))) s }, s) ∷ h) before
     ∙ sym (ap (λ (xs : List Step). history_after n xs) (oldest_next k steps l))
 
 pub steps_of_history : (n m : ℕ) (steps past : List Step) (h : History) → 0 < n → n ≡ m → reverse steps ≡ past → AreRuns m past
@@ -94,7 +102,8 @@ steps_of_history n m steps past h pos e f r g =
     ap (λ (x : History). steps_of x) g ∙ steps_of_recorded n (reverse steps) pos (taken_runs n m steps past e f r) ∙ f
 
 -- ---- homes
-pub homes_next : (n k : ℕ) (steps : List Step) (t : Table NodeId) → k < length steps → HasHomes t (tasks_after n (get_or steps k no_step ∷ oldest k steps))
+pub homes_next : (n k : ℕ) (steps : List Step) (t : Table NodeId) → k < length steps
+    → HasHomes t (tasks_after n (get_or steps k no_step ∷ oldest k steps))
     → HasHomes t (tasks_after n (oldest (k + 1) steps))
 homes_next n k steps t l h = subst (λ (xs : List Step). HasHomes t (tasks_after n xs)) (sym (oldest_next k steps l)) h
 
@@ -106,9 +115,11 @@ home-with_life : (t u : ℕ) (f : Life → Life) (tasks : List Task) → home_in
 home-with_life t u f [] = refl
 home-with_life t u f (x ∷ xs) =
     elim (x.number == u) as (λ b. home_in t (cond b (record x { life = f x.life } ∷ xs) (x ∷ with_life u f xs)) ≡ home_in t (x ∷ xs)) [
-      | true ↦ elim (x.number == t) as (λ b. option_map home (cond b (Some (record x { life = f x.life })) (find (λ y. y.number == t) xs)) ≡ option_map home (cond b (Some x) (find (λ y. y.number == t) xs)))
+      | true ↦ elim (x.number == t) as (λ b. option_map home (cond b (Some (record x { life = f x.life })) (find (λ y. y.number == t) xs))
+          ≡ option_map home (cond b (Some x) (find (λ y. y.number == t) xs)))
           [ true ↦ refl | false ↦ refl ]
-      | false ↦ elim (x.number == t) as (λ b. option_map home (cond b (Some x) (find (λ y. y.number == t) (with_life u f xs))) ≡ option_map home (cond b (Some x) (find (λ y. y.number == t) xs)))
+      | false ↦ elim (x.number == t) as (λ b. option_map home (cond b (Some x) (find (λ y. y.number == t) (with_life u f xs)))
+          ≡ option_map home (cond b (Some x) (find (λ y. y.number == t) xs)))
           [ true ↦ refl | false ↦ home-with_life t u f xs ]
     ]
 
@@ -119,7 +130,8 @@ is_of_task (Begin t) = Unit {0}
 is_of_task (Done t) = Unit {0}
 is_of_task _ = ⊥
 
-pub same_homes : (n : ℕ) (past : List Step) (s : Step) (t : Table NodeId) → is_of_task s → HasHomes t (tasks_after n past) → HasHomes t (tasks_after n (s ∷ past))
+pub same_homes : (n : ℕ) (past : List Step) (s : Step) (t : Table NodeId) → is_of_task s → HasHomes t (tasks_after n past)
+    → HasHomes t (tasks_after n (s ∷ past))
 same_homes n past (Supply u) t o h = record { found = λ k. h.found k ∙ sym (home-with_life k u.0 supplied (tasks_after n past)) }
 same_homes n past (Begin u) t o h = record { found = λ k. h.found k ∙ sym (home-with_life k u.0 (λ _. life.Running) (tasks_after n past)) }
 same_homes n past (Done u) t o h = record { found = λ k. h.found k ∙ sym (home-with_life k u.0 (λ _. life.Done) (tasks_after n past)) }

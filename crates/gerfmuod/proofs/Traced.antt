@@ -1,5 +1,6 @@
 -- What has a trace, and what is told of it.
-use Rattle.std.proofs.Common.{ℕ, ◌≡◌, ◌-◌, ◌<◌, Bool, true, false, List, [], ◌∷◌, length, reverse, get_or, if◌then◌else◌, Result, refl, sym, ap, subst, ◌∙◌, inl, inr, arith}
+use Rattle.std.proofs.Common.{ℕ, ◌≡◌, ◌-◌, ◌<◌, Bool, true, false, List, [], ◌∷◌, length, reverse, get_or, if◌then◌else◌, Result, refl, sym}
+use Rattle.std.proofs.Common.{ap, subst, ◌∙◌, inl, inr, arith}
 use Rattle.std.specs.List.{All}
 use Rattle.std.specs.Prelude.{◌⊎◌, Ok, Err, IfOk, IfErr}
 use Rattle.std.proofs.lemmas.List.{get_or-reverse, length-reverse}
@@ -19,7 +20,8 @@ All-reversed P xs h k d l =
     let j : ℕ = length xs - 1 - k in
     let there : j < length xs = omega (arith, l) in
     let back : length xs - 1 - j ≡ k = omega (arith, l) in
-    subst P (get_or-reverse xs j d there ∙ ap (λ (i : ℕ). get_or xs i d) back) (h j d (subst (λ (n : ℕ). j < n) (sym (length-reverse xs)) there))
+    subst P (get_or-reverse xs j d there
+    ∙ ap (λ (i : ℕ). get_or xs i d) back) (h j d (subst (λ (n : ℕ). j < n) (sym (length-reverse xs)) there))
 
 -- steps of a pool that was reopened, and of one that was not
 abbrev again : Bool → List Step
@@ -28,14 +30,18 @@ again false = []
 
 -- There are two versions.
 version_is : (past : List Step) → version_of past ≡ version_of (again (any is_reopen past))
-version_is past = elim (any is_reopen past) as (λ b. (if b then version_of (again true) else version_of (again false)) ≡ version_of (again b)) [ true ↦ refl | false ↦ refl ]
+version_is past =
+    elim (any is_reopen past) as (λ b. (if b then version_of (again true) else version_of (again false))
+    ≡ version_of (again b)) [ true ↦ refl | false ↦ refl ]
 
-generation_small : (b : Bool) (g : Generation) → All IsNumber (generation_number (version_of (again b)) g) → TellsGeneration (version_of (again b)) g → g.0 < 1048576
+generation_small : (b : Bool) (g : Generation) → All IsNumber (generation_number (version_of (again b)) g)
+    → TellsGeneration (version_of (again b)) g → g.0 < 1048576
 generation_small false g a t = omega (arith, t)
 generation_small true g a t = let n = All-head IsNumber g.0 [] a in omega (arith, n)
 
 -- the number of a message and that of its generation, last in a line
-message_small : (b : Bool) (m : ℕ) (g : Generation) → All IsNumber (m ∷ generation_number (version_of (again b)) g) → TellsGeneration (version_of (again b)) g
+message_small : (b : Bool) (m : ℕ) (g : Generation) → All IsNumber (m ∷ generation_number (version_of (again b)) g)
+    → TellsGeneration (version_of (again b)) g
     → (m < 1048576) × (g.0 < 1048576)
 message_small b m g a t =
     let n = All-head IsNumber m (generation_number (version_of (again b)) g) a in
@@ -46,14 +52,17 @@ spelled_small b (Send i j m g) h =
     let last : List ℕ = m.0 ∷ generation_number (version_of (again b)) g in
     message_small b m.0 g (All-tail IsNumber j.0 last (All-tail IsNumber i.0 (j.0 ∷ last) h.0)) h.2
 spelled_small b (Recv j m g) h = message_small b m.0 g (All-tail IsNumber j.0 (m.0 ∷ generation_number (version_of (again b)) g) h.0) h.2
-spelled_small b (MessageEnd j m g) h = message_small b m.0 g (All-tail IsNumber j.0 (m.0 ∷ generation_number (version_of (again b)) g) h.0) h.2
+spelled_small b (MessageEnd j m g) h =
+    message_small b m.0 g (All-tail IsNumber j.0 (m.0 ∷ generation_number (version_of (again b)) g) h.0) h.2
 spelled_small b (s) h = tt
 
 -- What has a trace fits into a history.
 pub not_traced : (steps past : List Step) → reverse steps ≡ past → ¬ All IsSmall steps → ¬ CanBeTraced past
 not_traced steps past e large can =
     let spelled : All (IsSpelled (version_of (again (any is_reopen past)))) past = rw (version_is past) at can.1 in
-    large (All-reversed IsSmall steps (subst (λ (xs : List Step). All IsSmall xs) (sym e) (λ k d l. spelled_small (any is_reopen past) (get_or past k d) (spelled k d l))))
+    large (All-reversed IsSmall steps
+    (subst (λ (xs : List Step). All IsSmall xs) (sym e) (λ k d l.
+    spelled_small (any is_reopen past) (get_or past k d) (spelled k d l))))
 
 pub both : {T E : Type 0} (r : Result T E) (P Q : T → Type 0) → IfOk r P → IfOk r Q → IfOk r (λ x. P x × Q x)
 both (Ok x) P Q p q = (p, q)

@@ -1,7 +1,8 @@
 -- What each refusal says, in words.
 use Rattle.std.specs.Prelude.{ℕ, List, codes}
 use Rattle.tp_base.specs.declared.Refusal.{Refusal}
-use Rattle.tp_base.specs.declared.Refusal.TheVariants.{NoNode, SameNode, TaskKnown, NoTask, WrongLife, Inactive, ActionKnown, NoAction, MessageKnown, NoMessage, NotIdle, NoToken}
+use Rattle.tp_base.specs.declared.Refusal.TheVariants.{NoNode, SameNode, TaskKnown, NoTask, WrongLife, Inactive, ActionKnown, NoAction}
+use Rattle.tp_base.specs.declared.Refusal.TheVariants.{MessageKnown, NoMessage, NotIdle, NoToken}
 use Rattle.tp_base.specs.declared.Refusal.TheVariants.{WaveOpen, WaveNotEnded, Ended, HistoryFull, NoMemory, Stranger, BadSpec}
 
 -- where a call of this library tells it

@@ -1,12 +1,14 @@
 -- How many boundaries between nodes there are, where each node has a range of blocks.
-use Rattle.std.proofs.Common.{◌≡◌, ◌≢◌, ◌<◌, ◌≤◌, ◌+◌, ◌-◌, ◌*◌, ◌/◌, ◌%◌, ℕ, zero, suc, min, if◌then◌else◌, refl, sym, ap, ◌∙◌, ◌⊎◌, ⊎_elim, inl, inr, add-one, arith}
+use Rattle.std.proofs.Common.{◌≡◌, ◌≢◌, ◌<◌, ◌≤◌, ◌+◌, ◌-◌, ◌*◌, ◌/◌, ◌%◌, ℕ, zero, suc, min, if◌then◌else◌, refl, sym, ap, ◌∙◌, ◌⊎◌}
+use Rattle.std.proofs.Common.{⊎_elim, inl, inr, add-one, arith}
 use Rattle.std.proofs.lemmas.Bool.{cases_lt, eq-eqb, ne_eqb}
 use Rattle.std.proofs.lemmas.Nat.{div-add-mod', div-mul-add}
 use Rattle.pool_block_runs.specs.Events.{MessagesAreCounted, crossings, home_of}
 
 module _ (blocks nodes : ℕ) (some : 1 ≤ blocks) where
   -- where there are no more nodes than blocks, a block's node is that of the block before it, or the next
-  next-home : (b : ℕ) → nodes ≤ blocks → (home_of blocks nodes (suc b) ≡ home_of blocks nodes b) ⊎ (home_of blocks nodes (suc b) ≡ suc (home_of blocks nodes b))
+  next-home : (b : ℕ) → nodes ≤ blocks → (home_of blocks nodes (suc b) ≡ home_of blocks nodes b)
+      ⊎ (home_of blocks nodes (suc b) ≡ suc (home_of blocks nodes b))
   next-home b few =
       let q : ℕ = b * nodes / blocks in
       let r : ℕ = b * nodes % blocks in
@@ -40,16 +42,19 @@ module _ (blocks nodes : ℕ) (some : 1 ≤ blocks) where
   few-crossings (suc b) few =
       ⊎_elim
       (λ (same : home_of blocks nodes (suc b) ≡ home_of blocks nodes b).
-      ap (λ t. if t then crossings blocks nodes b else crossings blocks nodes b + 1) (eq-eqb (home_of blocks nodes b) (home_of blocks nodes (suc b)) (sym same)) ∙ few-crossings b few ∙ sym same)
+      ap (λ t. if t then crossings blocks nodes b else crossings blocks nodes b + 1)
+      (eq-eqb (home_of blocks nodes b) (home_of blocks nodes (suc b)) (sym same)) ∙ few-crossings b few ∙ sym same)
       (λ (next : home_of blocks nodes (suc b) ≡ suc (home_of blocks nodes b)).
-      ap (λ t. if t then crossings blocks nodes b else crossings blocks nodes b + 1) (ne_eqb (home_of blocks nodes b) (home_of blocks nodes (suc b)) (λ e. omega (arith, e, next)))
+      ap (λ t. if t then crossings blocks nodes b else crossings blocks nodes b + 1)
+      (ne_eqb (home_of blocks nodes b) (home_of blocks nodes (suc b)) (λ e. omega (arith, e, next)))
       ∙ ap (λ n. n + 1) (few-crossings b few) ∙ add-one (home_of blocks nodes b) ∙ sym next)
       (next-home b few)
 
   many-crossings : (b : ℕ) → blocks ≤ nodes → crossings blocks nodes b ≡ b
   many-crossings zero many = refl
   many-crossings (suc b) many =
-      ap (λ t. if t then crossings blocks nodes b else crossings blocks nodes b + 1) (ne_eqb (home_of blocks nodes b) (home_of blocks nodes (suc b)) (other-home b many))
+      ap (λ t. if t then crossings blocks nodes b else crossings blocks nodes b + 1)
+      (ne_eqb (home_of blocks nodes b) (home_of blocks nodes (suc b)) (other-home b many))
       ∙ ap (λ n. n + 1) (many-crossings b many) ∙ add-one b
 
   -- the node of the last block is the last
@@ -69,7 +74,8 @@ pub messages_counted : MessagesAreCounted
 messages_counted blocks nodes some one =
     ⊎_elim
     (λ (t : nodes < blocks).
-    let is : crossings blocks nodes (blocks - 1) ≡ nodes - 1 = few-crossings blocks nodes some (blocks - 1) (omega (arith, t)) ∙ last-home blocks nodes some one (omega (arith, t)) in
+    let is : crossings blocks nodes (blocks - 1) ≡ nodes - 1 =
+    few-crossings blocks nodes some (blocks - 1) (omega (arith, t)) ∙ last-home blocks nodes some one (omega (arith, t)) in
     omega (arith, is, t))
     (λ (t : blocks ≤ nodes).
     let is : crossings blocks nodes (blocks - 1) ≡ blocks - 1 = many-crossings blocks nodes some (blocks - 1) t in

@@ -7,13 +7,15 @@ use Rattle.pool_blocks.proofs.Blocks.{after-on}
 use Rattle.pool_blocks.specs.Stencils.{Step, after}
 
 -- the next part of the steps, of which some are left
-pub part_more : (step : Step) (steps left part : ℕ) (made next cells : List ℤ) → part ≤ left → left ≤ steps → made ≡ after step (steps - left) cells → next ≡ after step part made → next ≡ after step (steps - (left - part)) cells
+pub part_more : (step : Step) (steps left part : ℕ) (made next cells : List ℤ) → part ≤ left → left ≤ steps
+    → made ≡ after step (steps - left) cells → next ≡ after step part made → next ≡ after step (steps - (left - part)) cells
 part_more step steps left part made next cells h k before is =
     let e : steps - left + part ≡ steps - (left - part) = omega arith in
     is ∙ ap (after step part) before ∙ after-on step (steps - left) part cells ∙ ap (λ m. after step m cells) e
 
 -- the steps that are planned fit
-pub planned_fit : (first row kept : ℕ) → 1 ≤ row → first + row ≤ 1048576 → first + max (min ((1000000 - first) / row) kept) 1 * row ≤ 1048576
+pub planned_fit : (first row kept : ℕ) → 1 ≤ row → first + row ≤ 1048576
+    → first + max (min ((1000000 - first) / row) kept) 1 * row ≤ 1048576
 planned_fit first row kept some one =
     let whole : (1000000 - first) / row * row + (1000000 - first) % row ≡ 1000000 - first = div-add-mod' (1000000 - first) row in
     let few : min ((1000000 - first) / row) kept ≤ (1000000 - first) / row = min-le_left ((1000000 - first) / row) kept in

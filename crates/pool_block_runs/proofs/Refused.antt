@@ -1,5 +1,6 @@
 -- Why a run over lent cells gives nothing.
-use Rattle.std.proofs.Common.{◌≡◌, ◌≢◌, ◌<◌, ◌≤◌, ◌+◌, ◌-◌, ◌*◌, ◌^◌, ℕ, suc, ℤ, Bool, true, Result, Ok, Err, List, [], ◌∷◌, length, cond, refl, sym, ap, subst, ◌∙◌, ⊎_elim, inl, inr, arith}
+use Rattle.std.proofs.Common.{◌≡◌, ◌≢◌, ◌<◌, ◌≤◌, ◌+◌, ◌-◌, ◌*◌, ◌^◌, ℕ, suc, ℤ, Bool, true, Result, Ok, Err, List, [], ◌∷◌, length, cond}
+use Rattle.std.proofs.Common.{refl, sym, ap, subst, ◌∙◌, ⊎_elim, inl, inr, arith}
 use Rattle.std.specs.Prelude.{◌==◌, MatchResult}
 use Rattle.std.specs.List.{All}
 use Rattle.std.proofs.lemmas.Bool.{false≢true, ne_eqb}
@@ -11,7 +12,8 @@ use Rattle.tp_base.specs.declared.Refusal.TheVariants.{Missing, NoMemory}
 use Rattle.tp_graph.specs.Graphs.{TaskGraph}
 use Rattle.tp_graph.specs.Serial.{Results}
 use Rattle.pool_blocks.proofs.Blocks.{after-length}
-use Rattle.pool_blocks.specs.Stencils.{AreNoSteps, AreSteps, BlockStep, IsCellsRefusal, KeepsLength, LacksBlock, Step, after, block_graph, blocks_of}
+use Rattle.pool_blocks.specs.Stencils.{AreNoSteps, AreSteps, BlockStep, IsCellsRefusal, KeepsLength, LacksBlock, Step, after, block_graph}
+use Rattle.pool_blocks.specs.Stencils.{blocks_of}
 use Rattle.pool_block_runs.specs.Events.{TakeSteps, step_events}
 use Rattle.pool_block_runs.specs.Faults.{IsLentFault, IsOfPart, IsPartFault}
 use Rattle.pool_block_runs.specs.declared.fault.LentFault.{LentFault}
@@ -19,7 +21,8 @@ use Rattle.pool_block_runs.specs.declared.fault.LentFault.TheVariants.{BadInput,
 use Rattle.tp_work.specs.Outcomes.{HasEachOnce, IsFault, IsOutcome, times}
 
 -- what follows from what is known of an answer
-pub match_weaker : {T E : Type 0} (r : Result T E) (P P2 : T → Type 0) (Q Q2 : E → Type 0) → ((x : T) → P x → P2 x) → ((e : E) → Q e → Q2 e) → MatchResult r P Q → MatchResult r P2 Q2
+pub match_weaker : {T E : Type 0} (r : Result T E) (P P2 : T → Type 0) (Q Q2 : E → Type 0) → ((x : T) → P x → P2 x)
+    → ((e : E) → Q e → Q2 e) → MatchResult r P Q → MatchResult r P2 Q2
 match_weaker (Ok x) P P2 Q Q2 f h m = f x m
 match_weaker (Err e) P P2 Q Q2 f h m = h e m
 
@@ -37,7 +40,8 @@ has_one tasks t results once h none =
     absurd (omega (arith, one, times-none t results none))
 
 -- after a whole run only memory is refused
-pub cells_refused : (next : BlockStep) (cells : List ℤ) (blocks size steps : ℕ) (results : Results) (refusal : Refusal) → HasEachOnce (block_graph next cells blocks size steps).tasks results →
+pub cells_refused : (next : BlockStep) (cells : List ℤ) (blocks size steps : ℕ) (results : Results) (refusal : Refusal)
+    → HasEachOnce (block_graph next cells blocks size steps).tasks results →
     IsCellsRefusal blocks steps results refusal → refusal ≡ NoMemory
 unfolding block_graph
 cells_refused next cells blocks size steps results refusal once why =
@@ -49,7 +53,8 @@ cells_refused next cells blocks size steps results refusal once why =
     why
 
 -- what takes so many steps in one run takes any part of them
-pub are_steps : (takes : ℕ → ℕ → Bool) (cells size n most part : ℕ) → takes cells size ≡ true → TakeSteps cells size n most → part ≤ most → AreSteps takes cells size part
+pub are_steps : (takes : ℕ → ℕ → Bool) (cells size n most part : ℕ) → takes cells size ≡ true → TakeSteps cells size n most → part ≤ most
+    → AreSteps takes cells size part
 are_steps takes cells size n most part taken all few =
     let blocks : ℕ = blocks_of cells size in
     let some : 1 ≤ blocks = omega arith in
@@ -71,20 +76,26 @@ are_not_none takes count size steps are (inr (inr (inr many))) = omega (arith, a
 
 -- the graph of a part, by the cells that the whole began with
 part-graph : (step : Step) (next : BlockStep) (cells made : List ℤ) (size done part : ℕ) → KeepsLength step → made ≡ after step done cells →
-    block_graph next made (blocks_of (length made) size) size part ≡ block_graph next (after step done cells) (blocks_of (length cells) size) size part
+    block_graph next made (blocks_of (length made) size) size part
+    ≡ block_graph next (after step done cells) (blocks_of (length cells) size) size part
 part-graph step next cells made size done part long is =
     let same : length made ≡ length cells = ap length is ∙ after-length step done cells long in
-    ap (λ count. block_graph next made (blocks_of count size) size part) same ∙ ap (λ xs. block_graph next xs (blocks_of (length cells) size) size part) is
+    ap (λ count. block_graph next made (blocks_of count size) size part) same
+    ∙ ap (λ xs. block_graph next xs (blocks_of (length cells) size) size part) is
 
 -- what holds of the pool of the next part holds of that of a part
-next_part : (step : Step) (next : BlockStep) (cells made : List ℤ) (size steps left part : ℕ) (Holds : TaskGraph → Type 0) → KeepsLength step → made ≡ after step (steps - left) cells → left ≤ steps → part ≤ left → 1 ≤ part →
+next_part : (step : Step) (next : BlockStep) (cells made : List ℤ) (size steps left part : ℕ) (Holds : TaskGraph → Type 0)
+    → KeepsLength step → made ≡ after step (steps - left) cells → left ≤ steps → part ≤ left → 1 ≤ part →
     Holds (block_graph next made (blocks_of (length made) size) size part) → IsOfPart step next cells size steps Holds
 next_part step next cells made size steps left part Holds long is h k some holds =
     (steps - left, part, some, omega (arith, h, k), subst Holds (part-graph step next cells made size (steps - left) part long is) holds)
 
 -- the fault of a part of the steps is one of the whole
-pub part_fault : (n workers : ℕ) (takes : ℕ → ℕ → Bool) (step : Step) (next : BlockStep) (cells made : List ℤ) (size steps left part : ℕ) (fault : LentFault) → KeepsLength step → made ≡ after step (steps - left) cells → left ≤ steps → part ≤ left → 1 ≤ part →
-    IsLentFault n workers ⊥ (block_graph next made (blocks_of (length made) size) size part) fault → IsPartFault n workers takes step next cells size steps fault
+pub part_fault : (n workers : ℕ) (takes : ℕ → ℕ
+    → Bool) (step : Step) (next : BlockStep) (cells made : List ℤ) (size steps left part : ℕ) (fault : LentFault) → KeepsLength step
+    → made ≡ after step (steps - left) cells → left ≤ steps → part ≤ left → 1 ≤ part →
+    IsLentFault n workers ⊥ (block_graph next made (blocks_of (length made) size) size part) fault
+    → IsPartFault n workers takes step next cells size steps fault
 part_fault n workers takes step next cells made size steps left part BadInput long is h k some why = absurd why
 part_fault n workers takes step next cells made size steps left part (Run fault) long is h k some why =
     next_part step next cells made size steps left part (λ g. IsFault n g fault) long is h k some why

@@ -19,7 +19,8 @@ home_of blocks nodes b = b * nodes / blocks
 -- how many of the blocks behind the first, so many, are at another node than the block before
 abbrev pub crossings : ℕ → ℕ → ℕ → ℕ
 crossings blocks nodes zero = 0
-crossings blocks nodes (suc b) = if home_of blocks nodes b == home_of blocks nodes (suc b) then crossings blocks nodes b else crossings blocks nodes b + 1
+crossings blocks nodes (suc b) =
+    if home_of blocks nodes b == home_of blocks nodes (suc b) then crossings blocks nodes b else crossings blocks nodes b + 1
 
 -- the messages of a step are two for each boundary between two nodes
 abbrev pub MessagesAreCounted : Type 0

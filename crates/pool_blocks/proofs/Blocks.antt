@@ -1,5 +1,6 @@
 -- The values of the tasks are the blocks of the cells after so many steps.
-use Rattle.std.proofs.Common.{◌≡◌, ◌<◌, ◌≤◌, ◌+◌, ◌-◌, ◌*◌, ◌%◌, ℕ, zero, suc, ℤ, Bool, List, [], ◌++◌, length, get_or, take, true, false, if◌then◌else◌, nat_lt, refl, ap, sym, ◌∙◌, ⊎_elim, Some, arith}
+use Rattle.std.proofs.Common.{◌≡◌, ◌<◌, ◌≤◌, ◌+◌, ◌-◌, ◌*◌, ◌%◌, ℕ, zero, suc, ℤ, Bool, List, [], ◌++◌, length, get_or, take, true, false}
+use Rattle.std.proofs.Common.{if◌then◌else◌, nat_lt, refl, ap, sym, ◌∙◌, ⊎_elim, Some, arith}
 use Rattle.std.proofs.Math.Seq.{take-add}
 use Rattle.std.proofs.lemmas.Nat.{mul-le, mul-add-lt, mod-mul-add}
 use Rattle.std.proofs.lemmas.List.{get_or_past, take_all}
@@ -53,8 +54,10 @@ before-part size b xs inputs h =
     (λ (t : (nat_lt 0 b ≡ false) × (b ≤ 0)). rw t.0 refl)
     (lt-tells 0 b)
 
-behind-part : (blocks size b : ℕ) (xs : List ℤ) (inputs : List (List ℤ)) → length inputs ≡ to_before b + 1 + to_behind blocks b → length xs ≤ blocks * size →
-    (b + 1 < blocks → get_or inputs (to_before b + 1) [] ≡ block_of size (b + 1) xs) → get_or inputs (to_before b + 1) [] ≡ block_behind size b xs
+behind-part : (blocks size b : ℕ) (xs : List ℤ) (inputs : List (List ℤ)) → length inputs ≡ to_before b + 1 + to_behind blocks b
+    → length xs ≤ blocks * size →
+    (b + 1 < blocks → get_or inputs (to_before b + 1) [] ≡ block_of size (b + 1) xs)
+    → get_or inputs (to_before b + 1) [] ≡ block_behind size b xs
 behind-part blocks size b xs inputs long whole h =
     ⊎_elim
     (λ (t : (nat_lt (b + 1) blocks ≡ true) × (b + 1 < blocks)). h t.1)
@@ -65,7 +68,8 @@ behind-part blocks size b xs inputs long whole h =
     (lt-tells (b + 1) blocks)
 
 module _ (takes : ℕ → ℕ → Bool) (step : Step) (next : BlockStep) (cells : List ℤ) (blocks size steps : ℕ)
-    (cut : IsCut blocks size steps (length cells)) (taken : takes (length cells) size ≡ true) (long : KeepsLength step) (by : IsByBlocks takes step next) where
+    (cut : IsCut blocks size steps (length cells)) (taken : takes (length cells) size
+    ≡ true) (long : KeepsLength step) (by : IsByBlocks takes step next) where
   known : (r b : ℕ) → r ≤ steps → b < blocks → r * blocks + b < (steps + 1) * blocks
   known r b h p = omega (arith, mul-add-lt r blocks b (steps + 1) (omega arith) p)
 
@@ -74,34 +78,43 @@ module _ (takes : ℕ → ℕ → Bool) (step : Step) (next : BlockStep) (cells 
       next (block_before size b (after step r cells)) (block_of size b (after step r cells)) (block_behind size b (after step r cells))
   block-next r b p =
       let same : length (after step r cells) ≡ length cells = after-length step r cells long in
-      let begins : b * size < length (after step r cells) = omega (arith, same, cut.none_empty, mul-le b size (blocks - 1) size (omega (arith, p)) (omega arith)) in
+      let begins : b * size < length (after step r cells) =
+      omega (arith, same, cut.none_empty, mul-le b size (blocks - 1) size (omega (arith, p)) (omega arith)) in
       by (after step r cells) size b cut.some_cells (ap (λ n. takes n size) same ∙ taken) begins
 
   -- the value of a block after so many steps, where it has one, is that block of the cells after those steps
-  pub block_after : (r b : ℕ) (value : List ℤ) → r ≤ steps → b < blocks → value_of (block_graph next cells blocks size steps) (r * blocks + b) ≡ Some value → value ≡ block_of size b (after step r cells)
+  pub block_after : (r b : ℕ) (value : List ℤ) → r ≤ steps → b < blocks
+      → value_of (block_graph next cells blocks size steps) (r * blocks + b) ≡ Some value → value ≡ block_of size b (after step r cells)
   unfolding block_graph
   block_after zero b value h p e =
       let t : ℕ = zero * blocks + b in
       let first : t ≡ b = omega arith in
       let yes : nat_lt t blocks ≡ true = grind (arith, nat_tests) in
-      let made = inputs_of (block_graph next cells blocks size steps) t value (block_lawful next cells blocks size steps cut.some_blocks) (known zero b h p) e in
-      some_same (sym made.2) ∙ ap (λ c. if c then block_of size t cells else next_of next (befores blocks t) made.0) yes ∙ ap (λ c. block_of size c cells) first
+      let made = inputs_of (block_graph next cells blocks size steps) t value (block_lawful next cells blocks size steps cut.some_blocks)
+      (known zero b h p) e in
+      some_same (sym made.2) ∙ ap (λ c. if c then block_of size t cells else next_of next (befores blocks t) made.0) yes
+      ∙ ap (λ c. block_of size c cells) first
   block_after (suc r) b value h p e =
       let t : ℕ = suc r * blocks + b in
       let xs : List ℤ = after step r cells in
       let at : t ≡ r * blocks + blocks + b = omega arith in
       let column : t % blocks ≡ b = mod-mul-add (suc r) blocks b p in
       let no : nat_lt t blocks ≡ false = grind (arith, nat_tests) in
-      let made = inputs_of (block_graph next cells blocks size steps) t value (block_lawful next cells blocks size steps cut.some_blocks) (known (suc r) b h p) e in
+      let made = inputs_of (block_graph next cells blocks size steps) t value (block_lawful next cells blocks size steps cut.some_blocks)
+      (known (suc r) b h p) e in
       let many : (block_graph next cells blocks size steps).arity t ≡ to_before b + 1 + to_behind blocks b = rw (no, column) refl in
-      let input : (s c : ℕ) → s < to_before b + 1 + to_behind blocks b → c < blocks → t + s ≡ r * blocks + c + blocks + to_before b → get_or made.0 s [] ≡ block_of size c xs =
+      let input : (s c : ℕ) → s < to_before b + 1 + to_behind blocks b → c < blocks → t + s ≡ r * blocks + c + blocks + to_before b
+      → get_or made.0 s [] ≡ block_of size c xs =
       λ s c i q f.
       let from : source blocks t s ≡ r * blocks + c = rw column (omega (arith, f)) in
-      block_after r c (get_or made.0 s []) (omega arith) q (ap (value_of (block_graph next cells blocks size steps)) (sym from) ∙ made.1.right s (omega (arith, many, i))) in
+      block_after r c (get_or made.0 s []) (omega arith) q (ap (value_of (block_graph next cells blocks size steps)) (sym from)
+      ∙ made.1.right s (omega (arith, many, i))) in
       let own : get_or made.0 (to_before b) [] ≡ block_of size b xs = input (to_before b) b (omega arith) p (omega (arith, at)) in
-      let lower : 0 < b → get_or made.0 0 [] ≡ block_of size (b - 1) xs = λ q. let one : to_before b ≡ 1 = one-before b q in input 0 (b - 1) (omega arith) (omega arith) (omega (arith, at, one)) in
+      let lower : 0 < b → get_or made.0 0 [] ≡ block_of size (b - 1) xs = λ q. let one : to_before b ≡ 1 =
+      one-before b q in input 0 (b - 1) (omega arith) (omega arith) (omega (arith, at, one)) in
       let upper : b + 1 < blocks → get_or made.0 (to_before b + 1) [] ≡ block_of size (b + 1) xs =
-      λ q. let one : to_behind blocks b ≡ 1 = one-behind blocks b q in input (to_before b + 1) (b + 1) (omega (arith, one)) q (omega (arith, at)) in
+      λ q. let one : to_behind blocks b ≡ 1 =
+      one-behind blocks b q in input (to_before b + 1) (b + 1) (omega (arith, one)) q (omega (arith, at)) in
       let whole : length xs ≤ blocks * size = omega (arith, after-length step r cells long, cut.whole) in
       some_same (sym made.2)
       ∙ ap (λ c. if c then block_of size t cells else next_of next (befores blocks t) made.0) no
@@ -113,14 +126,20 @@ module _ (takes : ℕ → ℕ → Bool) (step : Step) (next : BlockStep) (cells 
 
   -- one more block of the cells after the last step
   pub cells_more : (nr_blocks nr_steps b : ℕ) (value made : List ℤ) → nr_blocks ≡ blocks → nr_steps ≡ steps → b < nr_blocks →
-      value_of (block_graph next cells blocks size steps) (nr_steps * nr_blocks + b) ≡ Some value → made ≡ take (b * size) (after step steps cells) → made ++ value ≡ take ((b + 1) * size) (after step steps cells)
+      value_of (block_graph next cells blocks size steps) (nr_steps * nr_blocks + b) ≡ Some value
+      → made ≡ take (b * size) (after step steps cells) → made ++ value ≡ take ((b + 1) * size) (after step steps cells)
   cells_more nr_blocks nr_steps b value made n m h e before =
       let place : nr_steps * nr_blocks + b ≡ steps * blocks + b = ap (λ k. k * nr_blocks + b) m ∙ ap (λ k. steps * k + b) n in
       let next_place : b * size + size ≡ (b + 1) * size = omega arith in
-      let is : value ≡ block_of size b (after step steps cells) = block_after steps b value (omega arith) (omega (arith, n, h)) (sym (ap (value_of (block_graph next cells blocks size steps)) place) ∙ e) in
-      ap (λ l. l ++ value) before ∙ ap (λ l. take (b * size) (after step steps cells) ++ l) is ∙ sym (take-add (b * size) size (after step steps cells)) ∙ ap (λ k. take k (after step steps cells)) next_place
+      let is : value ≡ block_of size b (after step steps cells) =
+      block_after steps b value (omega arith) (omega (arith, n, h))
+      (sym (ap (value_of (block_graph next cells blocks size steps)) place) ∙ e) in
+      ap (λ l. l ++ value) before ∙ ap (λ l. take (b * size) (after step steps cells) ++ l) is
+      ∙ sym (take-add (b * size) size (after step steps cells)) ∙ ap (λ k. take k (after step steps cells)) next_place
 
-  pub cells_all : (nr_blocks b : ℕ) (made : List ℤ) → nr_blocks ≡ blocks → nr_blocks ≤ b → made ≡ take (b * size) (after step steps cells) → made ≡ after step steps cells
+  pub cells_all : (nr_blocks b : ℕ) (made : List ℤ) → nr_blocks ≡ blocks → nr_blocks ≤ b → made ≡ take (b * size) (after step steps cells)
+      → made ≡ after step steps cells
   cells_all nr_blocks b made n h e =
-      let past : length (after step steps cells) ≤ b * size = omega (arith, after-length step steps cells long, cut.whole, mul-le blocks size b size (omega (arith, n, h)) (omega arith)) in
+      let past : length (after step steps cells) ≤ b * size =
+      omega (arith, after-length step steps cells long, cut.whole, mul-le blocks size b size (omega (arith, n, h)) (omega arith)) in
       e ∙ take_all (b * size) (after step steps cells) past

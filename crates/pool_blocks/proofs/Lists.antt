@@ -1,5 +1,6 @@
 -- Lists by index, and lists in blocks.
-use Rattle.std.proofs.Common.{◌≡◌, ◌<◌, ◌≤◌, ◌+◌, ◌-◌, ◌*◌, ℕ, zero, suc, ℤ, pos, List, [], ◌∷◌, ◌++◌, length, get_or, take, drop, min, true, false, nat_lt, length-take, length-drop, refl, ap, sym, ◌∙◌, ◌⊎◌, ⊎_elim, inl, inr, arith}
+use Rattle.std.proofs.Common.{◌≡◌, ◌<◌, ◌≤◌, ◌+◌, ◌-◌, ◌*◌, ℕ, zero, suc, ℤ, pos, List, [], ◌∷◌, ◌++◌, length, get_or, take, drop, min}
+use Rattle.std.proofs.Common.{true, false, nat_lt, length-take, length-drop, refl, ap, sym, ◌∙◌, ◌⊎◌, ⊎_elim, inl, inr, arith}
 use Rattle.std.proofs.Math.Seq.{take-nil}
 use Rattle.std.proofs.lemmas.Bool.Decides.{leb_tells}
 use Rattle.std.proofs.lemmas.List.{drop_all, get_or-take, get_or-drop}
@@ -24,15 +25,19 @@ list-more (suc count) f =
 
 -- what a test of two numbers tells
 pub lt-tells : (a b : ℕ) → ((nat_lt a b ≡ true) × (a < b)) ⊎ ((nat_lt a b ≡ false) × (b ≤ a))
-lt-tells a b = ⊎_elim (λ (t : (nat_lt a b ≡ true) × (suc a ≤ b)). inl (t.0, t.1)) (λ (t : (nat_lt a b ≡ false) × (b < suc a)). inr (t.0, omega (arith, t.1))) (leb_tells (suc a) b)
+lt-tells a b =
+    ⊎_elim (λ (t : (nat_lt a b ≡ true) × (suc a ≤ b)). inl (t.0, t.1))
+    (λ (t : (nat_lt a b ≡ false) × (b < suc a)). inr (t.0, omega (arith, t.1))) (leb_tells (suc a) b)
 
 pub lt-same : (a b c d : ℕ) → (a < b → c < d) → (c < d → a < b) → nat_lt a b ≡ nat_lt c d
 lt-same a b c d to from =
     ⊎_elim
     (λ (t : (nat_lt a b ≡ true) × (a < b)).
-    ⊎_elim (λ (u : (nat_lt c d ≡ true) × (c < d)). t.0 ∙ sym u.0) (λ (u : (nat_lt c d ≡ false) × (d ≤ c)). absurd (omega (arith, to t.1, u.1))) (lt-tells c d))
+    ⊎_elim (λ (u : (nat_lt c d ≡ true) × (c < d)). t.0
+    ∙ sym u.0) (λ (u : (nat_lt c d ≡ false) × (d ≤ c)). absurd (omega (arith, to t.1, u.1))) (lt-tells c d))
     (λ (t : (nat_lt a b ≡ false) × (b ≤ a)).
-    ⊎_elim (λ (u : (nat_lt c d ≡ true) × (c < d)). absurd (omega (arith, from u.1, t.1))) (λ (u : (nat_lt c d ≡ false) × (d ≤ c)). t.0 ∙ sym u.0) (lt-tells c d))
+    ⊎_elim (λ (u : (nat_lt c d ≡ true) × (c < d)). absurd (omega (arith, from u.1, t.1))) (λ (u : (nat_lt c d ≡ false) × (d ≤ c)). t.0
+    ∙ sym u.0) (lt-tells c d))
     (lt-tells a b)
 
 -- how long a block is, its numbers, and that there is none where the list has ended
@@ -40,7 +45,8 @@ pub block-long : (size b : ℕ) (xs : List ℤ) → length (block_of size b xs) 
 block-long size b xs = length-take size (drop (b * size) xs) ∙ ap (min size) (length-drop (b * size) xs)
 
 pub block-at : (size b : ℕ) (xs : List ℤ) (k : ℕ) → k < length (block_of size b xs) → at (block_of size b xs) k ≡ at xs (b * size + k)
-block-at size b xs k h = get_or-take size (drop (b * size) xs) k (pos 0) (omega (arith, h, block-long size b xs)) ∙ get_or-drop (b * size) xs k (pos 0)
+block-at size b xs k h =
+    get_or-take size (drop (b * size) xs) k (pos 0) (omega (arith, h, block-long size b xs)) ∙ get_or-drop (b * size) xs k (pos 0)
 
 pub block-past : (size b : ℕ) (xs : List ℤ) → length xs ≤ b * size → block_of size b xs ≡ []
 block-past size b xs h = ap (take size) (drop_all (b * size) xs h) ∙ take-nil size

@@ -1,5 +1,6 @@
 -- Each task has a value: no cell leaves 64 bits.
-use Rattle.std.proofs.Common.{◌≡◌, ◌<◌, ◌≤◌, ◌+◌, ◌*◌, inl, inr, ℕ, zero, suc, ℤ, List, [], ◌∷◌, length, get_or, drop, true, false, if◌then◌else◌, nat_lt, Some, None, refl, ap, sym, ◌∙◌, arith}
+use Rattle.std.proofs.Common.{◌≡◌, ◌<◌, ◌≤◌, ◌+◌, ◌*◌, inl, inr, ℕ, zero, suc, ℤ, List, [], ◌∷◌, length, get_or, drop, true, false}
+use Rattle.std.proofs.Common.{if◌then◌else◌, nat_lt, Some, None, refl, ap, sym, ◌∙◌, arith}
 use Rattle.std.proofs.lemmas.Bool.Decides.{nat_tests}
 use Rattle.tp_base.specs.declared.Refusal.{Refusal}
 use Rattle.tp_base.specs.declared.Refusal.TheVariants.{NoMemory}
@@ -16,8 +17,10 @@ fitting-all : (xs : List ℤ) → all_fit xs ≡ true → fitting xs ≡ Some xs
 fitting-all xs h = rw h refl
 
 -- what a body makes of a block and its neighbours is what its task makes of the inputs
-pub outcome-is : (next : BlockStep) (cells : List ℤ) (blocks size steps t : ℕ) (inputs : List (List ℤ)) (before own behind made : List ℤ) → blocks ≤ t →
-    before ≡ (if nat_lt 0 (befores blocks t) then get_or inputs 0 [] else []) → own ≡ get_or inputs (befores blocks t) [] → behind ≡ get_or inputs (befores blocks t + 1) [] →
+pub outcome-is : (next : BlockStep) (cells : List ℤ) (blocks size steps t : ℕ) (inputs : List (List ℤ)) (before own behind made : List ℤ)
+    → blocks ≤ t →
+    before ≡ (if nat_lt 0 (befores blocks t) then get_or inputs 0 [] else []) → own ≡ get_or inputs (befores blocks t) []
+    → behind ≡ get_or inputs (befores blocks t + 1) [] →
     made ≡ next before own behind → all_fit made ≡ true → outcome (block_graph next cells blocks size steps) t inputs ≡ Some made
 unfolding block_graph
 outcome-is next cells blocks size steps t inputs before own behind made h b o e is fit =
@@ -25,7 +28,8 @@ outcome-is next cells blocks size steps t inputs before own behind made h b o e 
     let same : made ≡ next_of next (befores blocks t) inputs =
     is ∙ ap (λ z. next z own behind) b ∙ ap (λ z. next (if nat_lt 0 (befores blocks t) then get_or inputs 0 [] else []) z behind) o
     ∙ ap (next (if nat_lt 0 (befores blocks t) then get_or inputs 0 [] else []) (get_or inputs (befores blocks t) [])) e in
-    ap (λ c. fitting (if c then block_of size t cells else next_of next (befores blocks t) inputs)) no ∙ ap fitting (sym same) ∙ fitting-all made fit
+    ap (λ c. fitting (if c then block_of size t cells else next_of next (befores blocks t) inputs)) no ∙ ap fitting (sym same)
+    ∙ fitting-all made fit
 
 -- a task has a value, whose numbers fit
 abbrev HasValue : TaskGraph → ℕ → Type 0
@@ -33,23 +37,28 @@ HasValue g t = (value : List ℤ) × (value_of g t ≡ Some value) × (all_fit v
 
 -- the values of some tasks, as a list
 collect : (g : TaskGraph) (n : ℕ) (from : ℕ → ℕ) → ((s : ℕ) → s < n → HasValue g (from s)) →
-    (xs : List (List ℤ)) × (length xs ≡ n) × ((s : ℕ) → s < n → value_of g (from s) ≡ Some (get_or xs s [])) × ((s : ℕ) → all_fit (get_or xs s []) ≡ true)
+    (xs : List (List ℤ)) × (length xs ≡ n) × ((s : ℕ) → s < n → value_of g (from s) ≡ Some (get_or xs s []))
+    × ((s : ℕ) → all_fit (get_or xs s []) ≡ true)
 collect g zero from has = ([], refl, λ s h. absurd (omega arith), λ s. refl)
 collect g (suc n) from has =
     let first = has 0 (omega arith) in
     let rest = collect g n (λ s. from (suc s)) (λ s h. has (suc s) (omega arith)) in
-    let right : (s : ℕ) → s < suc n → value_of g (from s) ≡ Some (get_or (first.0 ∷ rest.0) s []) = elim [ zero ↦ λ h. first.1 | suc s ↦ λ h. rest.2 s (omega arith) ] in
+    let right : (s : ℕ) → s < suc n → value_of g (from s) ≡ Some (get_or (first.0 ∷ rest.0) s []) =
+    elim [ zero ↦ λ h. first.1 | suc s ↦ λ h. rest.2 s (omega arith) ] in
     let fit : (s : ℕ) → all_fit (get_or (first.0 ∷ rest.0) s []) ≡ true = elim [ zero ↦ first.2 | suc s ↦ rest.3 s ] in
     (first.0 ∷ rest.0, ap suc rest.1, right, fit)
 
-module _ (next : BlockStep) (cells : List ℤ) (blocks size steps : ℕ) (some : 1 ≤ blocks) (keeps : KeepsFit next) (fit : all_fit cells ≡ true) where
+module _ (next : BlockStep) (cells : List ℤ) (blocks size steps : ℕ) (some : 1 ≤ blocks) (keeps : KeepsFit next) (fit : all_fit cells
+    ≡ true) where
   made_fit : (t : ℕ) (inputs : List (List ℤ)) → ((s : ℕ) → all_fit (get_or inputs s []) ≡ true) →
       all_fit (if nat_lt t blocks then block_of size t cells else next_of next (befores blocks t) inputs) ≡ true
   made_fit t inputs each =
       one-list-fits (nat_lt t blocks) (block_of size t cells) (next_of next (befores blocks t) inputs)
       (take-fits size (drop (t * size) cells) (drop-fits (t * size) cells fit))
-      (keeps (if nat_lt 0 (befores blocks t) then get_or inputs 0 [] else []) (get_or inputs (befores blocks t) []) (get_or inputs (befores blocks t + 1) [])
-      (one-list-fits (nat_lt 0 (befores blocks t)) (get_or inputs 0 []) [] (each 0) refl) (each (befores blocks t)) (each (befores blocks t + 1)))
+      (keeps (if nat_lt 0 (befores blocks t) then get_or inputs 0 [] else []) (get_or inputs (befores blocks t) [])
+      (get_or inputs (befores blocks t + 1) [])
+      (one-list-fits (nat_lt 0 (befores blocks t)) (get_or inputs 0 []) [] (each 0) refl) (each (befores blocks t))
+      (each (befores blocks t + 1)))
 
   has_value : (n t : ℕ) → t < n → t < (steps + 1) * blocks → HasValue (block_graph next cells blocks size steps) t
   unfolding block_graph

@@ -15,17 +15,20 @@ home_below blocks t m some q =
 
 module _ (next : BlockStep) (cells : List ℤ) (blocks size steps : ℕ) (some : 0 < blocks) where
   -- the slot that a feed goes to is not below 0
-  pub turn_small : (p k : ℕ) → p < (steps + 1) * blocks → k < (block_graph next cells blocks size steps).feeds p → k ≤ befores blocks (target blocks p k) + befores blocks p
+  pub turn_small : (p k : ℕ) → p < (steps + 1) * blocks → k < (block_graph next cells blocks size steps).feeds p
+      → k ≤ befores blocks (target blocks p k) + befores blocks p
   unfolding block_graph
   turn_small p k h q =
       let here : p % blocks < blocks = omega arith in
       let few : k < befores blocks p + 1 + behinds blocks p = grind (arith, nat_tests) in
       let inside : p % blocks + k - befores blocks p < blocks = grind (arith, nat_tests) in
       let place : target blocks p k + p % blocks ≡ p + blocks + (p % blocks + k - befores blocks p) = grind (arith, nat_tests) in
-      let column : target blocks p k % blocks ≡ p % blocks + k - befores blocks p = column-down blocks p (target blocks p k) (p % blocks + k - befores blocks p) inside place in
+      let column : target blocks p k % blocks ≡ p % blocks + k - befores blocks p =
+      column-down blocks p (target blocks p k) (p % blocks + k - befores blocks p) inside place in
       grind (arith, nat_tests)
 
-  fills : (p k : ℕ) → p < (steps + 1) * blocks → k < (block_graph next cells blocks size steps).feeds p → FillsSlot (block_graph next cells blocks size steps) p k
+  fills : (p k : ℕ) → p < (steps + 1) * blocks → k < (block_graph next cells blocks size steps).feeds p
+      → FillsSlot (block_graph next cells blocks size steps) p k
   unfolding block_graph
   fills p k h q =
       let here : p % blocks < blocks = omega arith in
@@ -33,8 +36,10 @@ module _ (next : BlockStep) (cells : List ℤ) (blocks size steps : ℕ) (some :
       let few : k < befores blocks p + 1 + behinds blocks p = grind (arith, nat_tests) in
       let inside : p % blocks + k - befores blocks p < blocks = grind (arith, nat_tests) in
       let place : target blocks p k + p % blocks ≡ p + blocks + (p % blocks + k - befores blocks p) = grind (arith, nat_tests) in
-      let column : target blocks p k % blocks ≡ p % blocks + k - befores blocks p = column-down blocks p (target blocks p k) (p % blocks + k - befores blocks p) inside place in
-      let within : target blocks p k < (steps + 1) * blocks = row-within (steps + 1) blocks p (target blocks p k) (p % blocks + k - befores blocks p) inside below place in
+      let column : target blocks p k % blocks ≡ p % blocks + k - befores blocks p =
+      column-down blocks p (target blocks p k) (p % blocks + k - befores blocks p) inside place in
+      let within : target blocks p k < (steps + 1) * blocks =
+      row-within (steps + 1) blocks p (target blocks p k) (p % blocks + k - befores blocks p) inside below place in
       record {
         higher = grind (arith, nat_tests);
         known = within;
@@ -43,7 +48,8 @@ module _ (next : BlockStep) (cells : List ℤ) (blocks size steps : ℕ) (some :
         turn_is = grind (arith, nat_tests);
       }
 
-  filled : (t s : ℕ) → t < (steps + 1) * blocks → s < (block_graph next cells blocks size steps).arity t → IsFilled (block_graph next cells blocks size steps) t s
+  filled : (t s : ℕ) → t < (steps + 1) * blocks → s < (block_graph next cells blocks size steps).arity t
+      → IsFilled (block_graph next cells blocks size steps) t s
   unfolding block_graph
   filled t s h q =
       let here : t % blocks < blocks = omega arith in
@@ -51,8 +57,10 @@ module _ (next : BlockStep) (cells : List ℤ) (blocks size steps : ℕ) (some :
       let few : s < befores blocks t + 1 + behinds blocks t = grind (arith, nat_tests) in
       let inside : t % blocks + s - befores blocks t < blocks = grind (arith, nat_tests) in
       let place : source blocks t s + blocks + t % blocks ≡ t + (t % blocks + s - befores blocks t) = grind (arith, nat_tests) in
-      let column : source blocks t s % blocks ≡ t % blocks + s - befores blocks t = column-up blocks t (source blocks t s) (t % blocks + s - befores blocks t) inside above place in
-      let below : source blocks t s + blocks < (steps + 1) * blocks = row-same (steps + 1) blocks t (source blocks t s + blocks) (t % blocks + s - befores blocks t) inside h place in
+      let column : source blocks t s % blocks ≡ t % blocks + s - befores blocks t =
+      column-up blocks t (source blocks t s) (t % blocks + s - befores blocks t) inside above place in
+      let below : source blocks t s + blocks < (steps + 1) * blocks =
+      row-same (steps + 1) blocks t (source blocks t s + blocks) (t % blocks + s - befores blocks t) inside h place in
       record {
         lower = grind (arith, nat_tests);
         within = grind (arith, nat_tests);
@@ -60,7 +68,8 @@ module _ (next : BlockStep) (cells : List ℤ) (blocks size steps : ℕ) (some :
         slot_is = grind (arith, nat_tests);
       }
 
-pub block_lawful : (next : BlockStep) (cells : List ℤ) (blocks size steps : ℕ) → 1 ≤ blocks → IsLawful (block_graph next cells blocks size steps)
+pub block_lawful : (next : BlockStep) (cells : List ℤ) (blocks size steps : ℕ) → 1 ≤ blocks
+    → IsLawful (block_graph next cells blocks size steps)
 unfolding block_graph
 block_lawful next cells blocks size steps some = record {
   few_inputs = λ t p. grind (arith, nat_tests);

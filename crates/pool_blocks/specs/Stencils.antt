@@ -1,5 +1,6 @@
 -- Steps of a stencil over some cells in blocks: what a block becomes is made of itself and of its neighbours.
-use Rattle.std.specs.Prelude.{◌≡◌, ◌≢◌, ◌<◌, ◌≤◌, ◌+◌, ◌-◌, ◌*◌, ◌/◌, ◌%◌, ◌^◌, ◌⊎◌, All, ℕ, zero, suc, ℤ, Bool, true, false, List, [], length, slice_index_or, Some, if◌then◌else◌, nat_lt}
+use Rattle.std.specs.Prelude.{◌≡◌, ◌≢◌, ◌<◌, ◌≤◌, ◌+◌, ◌-◌, ◌*◌, ◌/◌, ◌%◌, ◌^◌, ◌⊎◌, All, ℕ, zero, suc, ℤ, Bool, true, false, List, []}
+use Rattle.std.specs.Prelude.{length, slice_index_or, Some, if◌then◌else◌, nat_lt}
 use Rattle.tp_base.specs.declared.Refusal.{Refusal}
 use Rattle.tp_base.specs.declared.Refusal.TheVariants.{Missing, NoMemory}
 use Rattle.tp_graph.specs.Blocks.{block_of}
@@ -31,7 +32,9 @@ IsByBlocks takes step next = (cells : List ℤ) (size b : ℕ) → 1 ≤ size �
 
 -- no number leaves 64 bits
 abbrev pub KeepsFit : BlockStep → Type 0
-KeepsFit next = (before own behind : List ℤ) → all_fit before ≡ true → all_fit own ≡ true → all_fit behind ≡ true → all_fit (next before own behind) ≡ true
+KeepsFit next =
+    (before own behind : List ℤ) → all_fit before ≡ true → all_fit own ≡ true → all_fit behind ≡ true
+    → all_fit (next before own behind) ≡ true
 
 -- how many blocks of so many cells there are, the last of which may be shorter
 abbrev pub blocks_of : ℕ → ℕ → ℕ
@@ -78,7 +81,8 @@ target blocks p k = p + blocks + k - befores blocks p
 -- what a block becomes, from the inputs of its task
 abbrev pub next_of : BlockStep → ℕ → List (List ℤ) → List ℤ
 next_of next befores inputs =
-    next (if nat_lt 0 befores then slice_index_or inputs 0 [] else []) (slice_index_or inputs befores []) (slice_index_or inputs (befores + 1) [])
+    next (if nat_lt 0 befores then slice_index_or inputs 0 [] else []) (slice_index_or inputs befores [])
+    (slice_index_or inputs (befores + 1) [])
 
 -- The graph of so many steps. Blocks that lie together run at one node: each node has a range of them.
 unfoldable pub block_graph : BlockStep → List ℤ → ℕ → ℕ → ℕ → TaskGraph

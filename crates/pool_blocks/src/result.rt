@@ -16,7 +16,8 @@ pub fn cells_of<S: Stencil>(
     work: &Steps<S>,
     results: &[(TaskId, Value)],
 ) -> Result<Vec<i64>, Refusal>
-    requires { AreRight (block_graph (S.next work.now.stencil) work.now.cells.now work.now.blocks work.now.size work.now.steps) results.now }
+    requires { AreRight (block_graph (S.next work.now.stencil) work.now.cells.now work.now.blocks work.now.size work.now.steps)
+        results.now }
     ensures made { IfOk result (λ cells. cells.items ≡ after (S.step work.now.stencil) work.now.steps work.now.cells.now) }
     ensures whole { IfOk result (λ cells. LacksBlock work.now.blocks work.now.steps results.now → ⊥) }
     ensures refused { IfErr result (IsCellsRefusal work.now.blocks work.now.steps results.now) }

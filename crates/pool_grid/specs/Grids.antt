@@ -1,5 +1,6 @@
 -- A grid of cells, row by row, and its steps.
-use Rattle.std.specs.Prelude.{◌≡◌, ◌≢◌, ◌<◌, ◌≤◌, ◌+◌, ◌-◌, ◌*◌, ◌%◌, ◌^◌, ◌⊎◌, ◌&&◌, ◌==◌, ◌++◌, ℕ, ℤ, pos, ◌+ℤ◌, ◌*ℤ◌, Bool, List, length, take, drop, if◌then◌else◌, nat_lt}
+use Rattle.std.specs.Prelude.{◌≡◌, ◌≢◌, ◌<◌, ◌≤◌, ◌+◌, ◌-◌, ◌*◌, ◌%◌, ◌^◌, ◌⊎◌, ◌&&◌, ◌==◌, ◌++◌, ℕ, ℤ, pos, ◌+ℤ◌, ◌*ℤ◌, Bool, List, length}
+use Rattle.std.specs.Prelude.{take, drop, if◌then◌else◌, nat_lt}
 use Rattle.std.specs.Int.{int_div_euclid}
 use Rattle.tp_graph.specs.Graphs.{TaskGraph}
 use Rattle.pool_blocks.specs.Lists.{at, list_of}
@@ -17,7 +18,8 @@ inner width count i = nat_lt width (i + 1) && (nat_lt (i + width) count && (nat_
 -- the cell at a place after a step: one on the edge stays
 abbrev pub cell_after : ℕ → List ℤ → ℕ → ℤ
 cell_after width cells i =
-    if inner width (length cells) i then mixed (at cells (i - width)) (at cells (i - 1)) (at cells i) (at cells (i + 1)) (at cells (i + width)) else at cells i
+    if inner width (length cells) i then mixed (at cells (i - width)) (at cells (i - 1)) (at cells i) (at cells (i + 1))
+    (at cells (i + width)) else at cells i
 
 -- a grid in rows of so many cells after a step
 abbrev pub relaxed : ℕ → Step
@@ -56,7 +58,8 @@ pub record IsGrid (count width rows steps : ℕ) : Type 0 where
 -- why so many cells, in rows of so many and blocks of so many rows, are no grid for so many steps
 abbrev pub IsNoGrid : ℕ → ℕ → ℕ → ℕ → Type 0
 IsNoGrid count width rows steps =
-    (count ≡ 0) ⊎ ((width ≡ 0) ⊎ ((rows ≡ 0) ⊎ ((2 ^ 32 ≤ rows * width) ⊎ ((count % width ≢ 0) ⊎ (2 ^ 20 ≤ (steps + 1) * blocks_of count (rows * width))))))
+    (count ≡ 0) ⊎ ((width ≡ 0)
+    ⊎ ((rows ≡ 0) ⊎ ((2 ^ 32 ≤ rows * width) ⊎ ((count % width ≢ 0) ⊎ (2 ^ 20 ≤ (steps + 1) * blocks_of count (rows * width))))))
 
 -- the graph of a grid in rows of so many cells, in so many blocks of so many cells, and so many steps
 abbrev pub grid_graph : ℕ → List ℤ → ℕ → ℕ → ℕ → TaskGraph

@@ -119,7 +119,8 @@ fn sweep(
 ) -> Result<Vec<i64>, AllocError>
     requires some { 1 ≤ width }
     requires within { first + count ≤ length cells.now }
-    ensures { IfOk result (λ made. (made.items ≡ list_of count (λ e. cell_after width cells.now (first + e))) × (all_fit made.items ≡ true)) }
+    ensures { IfOk result (λ made. (made.items ≡ list_of count (λ e. cell_after width cells.now (first + e)))
+        × (all_fit made.items ≡ true)) }
 {
     let mut made = Vec::with_capacity(alloc, count)?;
     for e in 0..count {

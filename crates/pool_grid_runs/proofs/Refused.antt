@@ -10,15 +10,18 @@ use Rattle.pool_grid_runs.specs.Faults.{GridTakesNoStep, IsGridPartFault}
 use Rattle.tp_work.specs.Outcomes.{IsFault, IsOutcome}
 
 -- the fault of a pool, whatever else may be at fault
-pub lent_fault : (n workers : ℕ) (P : Type 0) (g h : TaskGraph) (fault : LentFault) → g ≡ h → IsLentFault n workers ⊥ g fault → IsLentFault n workers P h fault
+pub lent_fault : (n workers : ℕ) (P : Type 0) (g h : TaskGraph) (fault : LentFault) → g ≡ h → IsLentFault n workers ⊥ g fault
+    → IsLentFault n workers P h fault
 lent_fault n workers P g h BadInput is why = absurd why
 lent_fault n workers P g h (Run fault) is why = subst (λ g. IsFault n g fault) is why
 lent_fault n workers P g h (Unmade outcome) is why = subst (λ g. IsOutcome n workers g outcome) is why
 
 -- the graph of a grid, by what was lent
 pub grid-is : (grid_width width blocks size rows steps grid_steps : ℕ) (grid_cells cells : List ℤ) →
-    (grid_cells ≡ cells) × (blocks ≡ blocks_of (length cells) (rows * width)) × (grid_width ≡ width) × (size ≡ rows * width) × (grid_steps ≡ steps) →
-    grid_graph grid_width grid_cells blocks size grid_steps ≡ grid_graph width cells (blocks_of (length cells) (rows * width)) (rows * width) steps
+    (grid_cells ≡ cells) × (blocks ≡ blocks_of (length cells) (rows * width)) × (grid_width ≡ width) × (size ≡ rows * width)
+    × (grid_steps ≡ steps) →
+    grid_graph grid_width grid_cells blocks size grid_steps
+    ≡ grid_graph width cells (blocks_of (length cells) (rows * width)) (rows * width) steps
 grid-is grid_width width blocks size rows steps grid_steps grid_cells cells made =
     ap (λ w. grid_graph w grid_cells blocks size grid_steps) made.2
     ∙ ap (λ xs. grid_graph width xs blocks size grid_steps) made.0
@@ -28,7 +31,8 @@ grid-is grid_width width blocks size rows steps grid_steps grid_cells cells made
 
 -- the fault of a run in parts, in the grid's words
 pub grid_part : (n workers : ℕ) (cells : List ℤ) (width rows steps : ℕ) (fault : LentFault) →
-    IsPartFault n workers (are_whole_rows width) (relaxed width) (block_relaxed width) cells (rows * width) steps fault → IsGridPartFault n workers cells width rows steps fault
+    IsPartFault n workers (are_whole_rows width) (relaxed width) (block_relaxed width) cells (rows * width) steps fault
+    → IsGridPartFault n workers cells width rows steps fault
 grid_part n workers cells width rows steps BadInput (inl cut) = inr (inr (inl (no_row width rows (length cells) cut)))
 grid_part n workers cells width rows steps BadInput (inr none) = inr (inr (inr none))
 grid_part n workers cells width rows steps (Run fault) why = why

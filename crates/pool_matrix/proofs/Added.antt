@@ -1,5 +1,7 @@
 -- Rows of sums, to which products are added place by place.
-use Rattle.std.proofs.Common.{◌≡◌, ◌≢◌, ◌<◌, ◌≤◌, ◌+◌, ◌*◌, ◌^◌, ◌&&◌, ◌⊎◌, ℕ, zero, suc, ℤ, pos, negsuc, ◌+ℤ◌, ◌*ℤ◌, List, [], ◌∷◌, length, get_or, set, Option, Some, None, Bool, true, false, if◌then◌else◌, inl, inr, refl, ap, sym, ◌∙◌, ⊎_elim, subst, arith, rules, get_or-set_same, get_or-set_other, length-set}
+use Rattle.std.proofs.Common.{◌≡◌, ◌≢◌, ◌<◌, ◌≤◌, ◌+◌, ◌*◌, ◌^◌, ◌&&◌, ◌⊎◌, ℕ, zero, suc, ℤ, pos, negsuc, ◌+ℤ◌, ◌*ℤ◌, List, [], ◌∷◌, length}
+use Rattle.std.proofs.Common.{get_or, set, Option, Some, None, Bool, true, false, if◌then◌else◌, inl, inr, refl, ap, sym, ◌∙◌, ⊎_elim}
+use Rattle.std.proofs.Common.{subst, arith, rules, get_or-set_same, get_or-set_other, length-set}
 use Rattle.std.specs.Prelude.{unsigned_abs}
 use Rattle.std.proofs.lemmas.Bool.{cases_eq, and_parts, and_from}
 use Rattle.std.proofs.lemmas.Int.{ints, unsigned_abs-mul}
@@ -12,14 +14,16 @@ use Rattle.pool_matrix.specs.Rows.{AreWithin, one_more, row_entry}
 use Rattle.pool_matrix.proofs.Running.{running_more, none_stays, gather_fails}
 
 -- a list that has f at each place is what is gathered
-pub gather_from : {A : Type 0} (n : ℕ) (f : ℕ → Option A) (xs : List A) (d : A) → length xs ≡ n → ((e : ℕ) → e < n → f e ≡ Some (get_or xs e d)) → gather n f ≡ Some xs
+pub gather_from : {A : Type 0} (n : ℕ) (f : ℕ → Option A) (xs : List A) (d : A) → length xs ≡ n
+    → ((e : ℕ) → e < n → f e ≡ Some (get_or xs e d)) → gather n f ≡ Some xs
 gather_from zero f [] d long each = refl
 gather_from zero f (x ∷ xs) d long each = absurd (omega arith)
 gather_from (suc n) f [] d long each = absurd (omega arith)
 gather_from {A} (suc n) f (x ∷ xs) d long each =
     let first : f 0 ≡ Some x = each 0 (omega arith) in
     ap (λ o. then_some o (λ x. then_some (gather n (λ s. f (suc s))) (λ rest. Some (x ∷ rest)))) first
-    ∙ ap (λ o. then_some o (λ rest. Some (x ∷ rest))) (gather_from n (λ s. f (suc s)) xs d (omega arith) (λ e h. each (suc e) (omega arith)))
+    ∙ ap (λ o. then_some o (λ rest. Some (x ∷ rest)))
+    (gather_from n (λ s. f (suc s)) xs d (omega arith) (λ e h. each (suc e) (omega arith)))
 
 then-fails : {A B : Type 0} (o : Option A) (k : A → Option B) → then_some o k ≡ None → (o ≡ None) ⊎ ((x : A) × (o ≡ Some x) × (k x ≡ None))
 then-fails None k e = inl refl
@@ -37,7 +41,8 @@ gather_lacks {A} (suc n) f h =
     (λ (some : (x : A) × (f 0 ≡ Some x) × (then_some (gather n (λ s. f (suc s))) (λ rest. Some (x ∷ rest)) ≡ None)).
     ⊎_elim
     (λ (none : gather n (λ s. f (suc s)) ≡ None). let later = gather_lacks n (λ s. f (suc s)) none in (suc later.0, omega arith, later.2))
-    (λ (rest : (xs : List A) × (gather n (λ s. f (suc s)) ≡ Some xs) × (Some (some.0 ∷ xs) ≡ None)). absurd (some-is-none (some.0 ∷ rest.0) rest.2))
+    (λ (rest : (xs : List A) × (gather n (λ s. f (suc s)) ≡ Some xs)
+    × (Some (some.0 ∷ xs) ≡ None)). absurd (some-is-none (some.0 ∷ rest.0) rest.2))
     (then-fails (gather n (λ s. f (suc s))) (λ rest. Some (some.0 ∷ rest)) some.2))
     (then-fails (f 0) (λ x. then_some (gather n (λ s. f (suc s))) (λ rest. Some (x ∷ rest))) h)
 
@@ -50,19 +55,22 @@ pub record IsPartly (count : ℕ) (f : ℕ → Option ℤ) (before now : List �
 pub none_partly : (f : ℕ → Option ℤ) (before : List ℤ) → IsPartly 0 f before before
 none_partly f before = record { long = refl; done = λ k h. absurd (omega arith); later = λ k h. refl }
 
-pub one_partly : (count : ℕ) (f : ℕ → Option ℤ) (before now : List ℤ) (next : ℤ) → IsPartly count f before now → count < length now → f count ≡ Some next →
+pub one_partly : (count : ℕ) (f : ℕ → Option ℤ) (before now : List ℤ) (next : ℤ) → IsPartly count f before now → count < length now
+    → f count ≡ Some next →
     IsPartly (count + 1) f before (set now count next)
 one_partly count f before now next kept inside is = record {
   long = length-set now count next ∙ kept.long;
   done = λ k h.
       ⊎_elim
-      (λ (same : k ≡ count). subst (λ n. f n ≡ Some (get_or (set now count next) n (pos 0))) (sym same) (is ∙ ap Some (sym (get_or-set_same now count next (pos 0) inside))))
+      (λ (same : k ≡ count). subst (λ n. f n ≡ Some (get_or (set now count next) n (pos 0))) (sym same) (is
+      ∙ ap Some (sym (get_or-set_same now count next (pos 0) inside))))
       (λ (other : k ≢ count). kept.done k (omega (arith, other)) ∙ ap Some (sym (get_or-set_other now count k next (pos 0) other)))
       (cases_eq k count);
   later = λ k h. let other : k ≢ count = omega arith in get_or-set_other now count k next (pos 0) other ∙ kept.later k (omega arith);
 }
 
-pub all_partly : (count : ℕ) (f : ℕ → Option ℤ) (before now : List ℤ) → IsPartly count f before now → length now ≡ count → gather count f ≡ Some now
+pub all_partly : (count : ℕ) (f : ℕ → Option ℤ) (before now : List ℤ) → IsPartly count f before now → length now ≡ count
+    → gather count f ≡ Some now
 all_partly count f before now kept long = gather_from count f now (pos 0) long kept.done
 
 -- how far a sum may be from 0
@@ -91,7 +99,8 @@ more_is sum number next e =
     (ap fits is.1 ∙ both.1, is.1)
 
 -- a row with one product more each is within what is added
-pub row_within : (reach next largest left : ℕ) (by : ℤ) (sums right now : List ℤ) → length sums ≡ length right → gather (length right) (one_more sums by right) ≡ Some now →
+pub row_within : (reach next largest left : ℕ) (by : ℤ) (sums right now : List ℤ) → length sums ≡ length right
+    → gather (length right) (one_more sums by right) ≡ Some now →
     AreWithin reach sums → AreWithin largest right →
     left ≡ unsigned_abs by → reach + left * largest ≤ next → AreWithin next now
 row_within reach next largest left by sums right now long made sums_in right_in is bound n h =
@@ -102,19 +111,25 @@ row_within reach next largest left by sums right now long made sums_in right_in 
     let sum = more_is s (by *ℤ r) (get_or now n (pos 0)) (all.1 n inside) in
     let first : unsigned_abs s ≤ reach = sums_in n (omega (arith, long, inside)) in
     let factor : unsigned_abs r ≤ largest = right_in n inside in
-    let product : unsigned_abs (by *ℤ r) ≤ left * largest = omega (arith, unsigned_abs-mul by r, is, mul-le (unsigned_abs by) (unsigned_abs r) left largest (omega (arith, is)) factor) in
+    let product : unsigned_abs (by *ℤ r) ≤ left * largest =
+    omega (arith, unsigned_abs-mul by r, is, mul-le (unsigned_abs by) (unsigned_abs r) left largest (omega (arith, is)) factor) in
     let whole : unsigned_abs (s +ℤ by *ℤ r) ≤ next = omega (arith, abs_sum s (by *ℤ r), first, product, bound) in
     subst (λ z. unsigned_abs z ≤ next) (sym sum.1) whole
 
 module _ (order : ℕ) (lefts rights : List ℤ) (x y start z side : ℕ) (left : ℤ) (before sums right : List ℤ)
-    (same : (n : ℕ) → n < side → running (get_or before n (pos 0)) start z (term order lefts rights x (y + n)) ≡ Some (get_or sums n (pos 0))) (long : length right ≡ side)
-    (left_is : left ≡ entry order lefts x (start + z)) (right_is : (n : ℕ) → n < side → get_or right n (pos 0) ≡ entry order rights (start + z) (y + n)) where
+    (same : (n : ℕ) → n < side
+    → running (get_or before n (pos 0)) start z (term order lefts rights x (y + n))
+    ≡ Some (get_or sums n (pos 0))) (long : length right ≡ side)
+    (left_is : left ≡ entry order lefts x (start + z)) (right_is : (n : ℕ) → n < side
+    → get_or right n (pos 0) ≡ entry order rights (start + z) (y + n)) where
   -- sum n of the row after one z more
-  next-is : (n : ℕ) (next : Option ℤ) → n < side → one_more sums left right n ≡ next → running (get_or before n (pos 0)) start (z + 1) (term order lefts rights x (y + n)) ≡ next
+  next-is : (n : ℕ) (next : Option ℤ) → n < side → one_more sums left right n ≡ next
+      → running (get_or before n (pos 0)) start (z + 1) (term order lefts rights x (y + n)) ≡ next
   next-is n next h e =
       let product : left *ℤ get_or right n (pos 0) ≡ term order lefts rights x (y + n) (start + z) =
       ap (λ b. left *ℤ b) (right_is n h) ∙ ap (λ a. a *ℤ entry order rights (start + z) (y + n)) left_is in
-      running_more (get_or before n (pos 0)) start z (term order lefts rights x (y + n)) (get_or sums n (pos 0)) (left *ℤ get_or right n (pos 0)) next (same n h) product e
+      running_more (get_or before n (pos 0)) start z (term order lefts rights x (y + n)) (get_or sums n (pos 0))
+      (left *ℤ get_or right n (pos 0)) next (same n h) product e
 
   -- one z more for each sum of a row
   pub row_step : (now : List ℤ) → gather (length right) (one_more sums left right) ≡ Some now → (n : ℕ) → n < side →
@@ -124,9 +139,11 @@ module _ (order : ℕ) (lefts rights : List ℤ) (x y start z side : ℕ) (left 
       next-is n (Some (get_or now n (pos 0))) h (all.1 n (omega (arith, long)))
 
   -- where a sum fails, so does the row
-  pub row_fails : z < side → gather (length right) (one_more sums left right) ≡ None → gather side (row_entry order lefts rights x y start side before) ≡ None
+  pub row_fails : z < side → gather (length right) (one_more sums left right) ≡ None
+      → gather side (row_entry order lefts rights x y start side before) ≡ None
   row_fails inside failed =
       let lack = gather_lacks (length right) (one_more sums left right) failed in
       let within : lack.0 < side = omega (arith, long, lack.1) in
       gather_fails side lack.0 (row_entry order lefts rights x y start side before) within
-      (none_stays (get_or before lack.0 (pos 0)) start (z + 1) side (term order lefts rights x (y + lack.0)) (next-is lack.0 None within lack.2) (omega arith))
+      (none_stays (get_or before lack.0 (pos 0)) start (z + 1) side (term order lefts rights x (y + lack.0))
+      (next-is lack.0 None within lack.2) (omega arith))

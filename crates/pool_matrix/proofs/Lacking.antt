@@ -26,8 +26,10 @@ known tiles row column p q =
     omega (arith, mul-add-lt (row * tiles + column) tiles (tiles - 1) (tiles * tiles) upper last)
 
 -- one number more is there
-pub one_more_there : (tiles side order b task : ℕ) (results : Results) (value : List ℤ) → order ≡ tiles * side → task ≡ last_task tiles side (b / order) (b % order) →
-    Contains results (record { 0 = task }, value) → ((place : ℕ) → place < b → HasOne results (last_task tiles side (place / (tiles * side)) (place % (tiles * side)))) →
+pub one_more_there : (tiles side order b task : ℕ) (results : Results) (value : List ℤ) → order ≡ tiles * side
+    → task ≡ last_task tiles side (b / order) (b % order) →
+    Contains results (record { 0 = task }, value)
+    → ((place : ℕ) → place < b → HasOne results (last_task tiles side (place / (tiles * side)) (place % (tiles * side)))) →
     (place : ℕ) → place < b + 1 → HasOne results (last_task tiles side (place / (tiles * side)) (place % (tiles * side)))
 one_more_there tiles side order b task results value o is found before place h none =
     ⊎_elim
@@ -40,7 +42,8 @@ one_more_there tiles side order b task results value o is found before place h n
     (cases_lt place b)
 
 -- a number whose task is not found is of a tile that has no result
-pub lacking : (tiles side order b task tasks : ℕ) (results : Results) (places shown : List ℕ) → 1 ≤ side → order ≡ tiles * side → 1 ≤ order → b < order * order →
+pub lacking : (tiles side order b task tasks : ℕ) (results : Results) (places shown : List ℕ) → 1 ≤ side → order ≡ tiles * side
+    → 1 ≤ order → b < order * order →
     task ≡ last_task tiles side (b / order) (b % order) → tasks ≡ tiles * tiles * tiles → shown ≡ places → ArePlaces tasks results places →
     ((tasks : ℕ) → ArePlaces tasks results shown → task < tasks → All (λ r. r.0.0 ≢ task) results) → LacksTile tiles results
 lacking tiles side order b task tasks results places shown some o rows h is count same kept missing =
@@ -59,7 +62,8 @@ lacking tiles side order b task tasks results places shown some o rows h is coun
 
 -- where each number is there, no tile lacks a result
 pub none_lacks : (tiles side order b : ℕ) (results : Results) → 1 ≤ side → order ≡ tiles * side → order * order ≤ b →
-    ((place : ℕ) → place < b → HasOne results (last_task tiles side (place / (tiles * side)) (place % (tiles * side)))) → LacksTile tiles results → ⊥
+    ((place : ℕ) → place < b → HasOne results (last_task tiles side (place / (tiles * side)) (place % (tiles * side))))
+    → LacksTile tiles results → ⊥
 none_lacks tiles side order b results some o all there lack =
     let n : ℕ = tiles * side in
     let x : lack.row * side + 0 < n = omega (arith, mul-add-lt lack.row side 0 tiles lack.row_within (omega (arith, some))) in
@@ -67,14 +71,19 @@ none_lacks tiles side order b results some o all there lack =
     let place : ℕ = (lack.row * side + 0) * n + (lack.column * side + 0) in
     let inside : place < n * n = mul-add-lt (lack.row * side + 0) n (lack.column * side + 0) n x y in
     let squares : order * order ≡ n * n = ap (λ k. k * k) o in
-    let row : place / n / side ≡ lack.row = ap (λ k. k / side) (div-mul-add (lack.row * side + 0) n (lack.column * side + 0) y) ∙ div-mul-add lack.row side 0 (omega (arith, some)) in
-    let column : place % n / side ≡ lack.column = ap (λ k. k / side) (mod-mul-add (lack.row * side + 0) n (lack.column * side + 0) y) ∙ div-mul-add lack.column side 0 (omega (arith, some)) in
+    let row : place / n / side ≡ lack.row =
+    ap (λ k. k / side) (div-mul-add (lack.row * side + 0) n (lack.column * side + 0) y)
+    ∙ div-mul-add lack.row side 0 (omega (arith, some)) in
+    let column : place % n / side ≡ lack.column =
+    ap (λ k. k / side) (mod-mul-add (lack.row * side + 0) n (lack.column * side + 0) y)
+    ∙ div-mul-add lack.column side 0 (omega (arith, some)) in
     let at : last_task tiles side (place / n) (place % n) ≡ (lack.row * tiles + lack.column) * tiles + (tiles - 1) =
     ap (λ k. (k * tiles + place % n / side) * tiles + (tiles - 1)) row ∙ ap (λ k. (lack.row * tiles + k) * tiles + (tiles - 1)) column in
     there place (omega (arith, inside, squares, all)) (λ k d within e. lack.none k d within (e ∙ at))
 
 -- the values of all tasks lack none
-pub all_there : (left right : List ℤ) (tiles side : ℕ) (results : Results) → AreValues (matrix_graph left right tiles side) (matrix_graph left right tiles side).tasks results → LacksTile tiles results → ⊥
+pub all_there : (left right : List ℤ) (tiles side : ℕ) (results : Results)
+    → AreValues (matrix_graph left right tiles side) (matrix_graph left right tiles side).tasks results → LacksTile tiles results → ⊥
 unfolding matrix_graph
 all_there left right tiles side results values lack =
     let t : ℕ = (lack.row * tiles + lack.column) * tiles + (tiles - 1) in
@@ -83,5 +92,6 @@ all_there left right tiles side results values lack =
     lack.none t d (omega (arith, values.long, inside)) (values.rise t d inside)
 
 -- where no tile lacks a result, only memory can be refused
-pub only_memory : (tiles : ℕ) (results : Results) (refusal : Refusal) → (LacksTile tiles results → ⊥) → IsMatrixRefusal tiles results refusal → refusal ≡ NoMemory
+pub only_memory : (tiles : ℕ) (results : Results) (refusal : Refusal) → (LacksTile tiles results → ⊥)
+    → IsMatrixRefusal tiles results refusal → refusal ≡ NoMemory
 only_memory tiles results refusal whole why = ⊎_elim (λ e. e) (λ t. absurd (whole t.1)) why

@@ -1,4 +1,5 @@
-use Rattle.std.proofs.Common.{◌≡◌, ◌≢◌, ◌<◌, ◌≤◌, ◌+◌, ◌*◌, ◌/◌, ◌%◌, ◌^◌, ℕ, zero, suc, ℤ, List, [], ◌∷◌, ◌++◌, Option, Some, None, true, refl, ap, sym, ◌∙◌, ⊎_elim, add-one, arith, rules}
+use Rattle.std.proofs.Common.{◌≡◌, ◌≢◌, ◌<◌, ◌≤◌, ◌+◌, ◌*◌, ◌/◌, ◌%◌, ◌^◌, ℕ, zero, suc, ℤ, List, [], ◌∷◌, ◌++◌, Option, Some, None, true}
+use Rattle.std.proofs.Common.{refl, ap, sym, ◌∙◌, ⊎_elim, add-one, arith, rules}
 use Rattle.std.proofs.lemmas.Bool.{cases_eq}
 use Rattle.std.proofs.lemmas.Nat.{mul-le, div_below}
 use Rattle.tp_graph.specs.Values.{then_some, gather, fits, all_fit}
@@ -7,23 +8,27 @@ use Rattle.tp_graph.proofs.Fits.{fit-push}
 use Rattle.tp_graph.proofs.Made.{some_same, then_some-is}
 
 -- one number more
-pub running_more : (first : ℤ) (start count : ℕ) (f : ℕ → ℤ) (sum number : ℤ) (next : Option ℤ) → running first start count f ≡ Some sum → number ≡ f (start + count) → more sum number ≡ next →
+pub running_more : (first : ℤ) (start count : ℕ) (f : ℕ → ℤ) (sum number : ℤ) (next : Option ℤ) → running first start count f ≡ Some sum
+    → number ≡ f (start + count) → more sum number ≡ next →
     running first start (count + 1) f ≡ next
 running_more first start count f sum number next e is m =
     let one : count + 1 ≡ suc count = add-one count in
     ap (λ n. running first start n f) one ∙ ap (λ o. then_some o (λ s. more s (f (start + count)))) e ∙ ap (more sum) (sym is) ∙ m
 
 -- a sum that has failed stays so
-pub none_stays : (first : ℤ) (start count later : ℕ) (f : ℕ → ℤ) → running first start count f ≡ None → count ≤ later → running first start later f ≡ None
+pub none_stays : (first : ℤ) (start count later : ℕ) (f : ℕ → ℤ) → running first start count f ≡ None → count ≤ later
+    → running first start later f ≡ None
 none_stays first start zero later f e h = absurd (search rules)
 none_stays first start (suc count) zero f e h = absurd (omega arith)
 none_stays first start (suc count) (suc later) f e h =
     ⊎_elim
     (λ (same : count ≡ later). ap (λ n. running first start (suc n) f) (sym same) ∙ e)
-    (λ (other : count ≢ later). ap (λ o. then_some o (λ s. more s (f (start + later)))) (none_stays first start (suc count) later f e (omega (arith, other))))
+    (λ (other : count ≢ later). ap (λ o.
+    then_some o (λ s. more s (f (start + later)))) (none_stays first start (suc count) later f e (omega (arith, other))))
     (cases_eq count later)
 
-pub gather_more : {A : Type 0} (n : ℕ) (f : ℕ → Option A) (xs : List A) (y : A) → gather n f ≡ Some xs → f n ≡ Some y → gather (suc n) f ≡ Some (xs ++ y ∷ [])
+pub gather_more : {A : Type 0} (n : ℕ) (f : ℕ → Option A) (xs : List A) (y : A) → gather n f ≡ Some xs → f n ≡ Some y
+    → gather (suc n) f ≡ Some (xs ++ y ∷ [])
 gather_more zero f xs y e h = ap (λ o. then_some o (λ first. Some (first ∷ []))) h ∙ ap (λ l. Some (l ++ y ∷ [])) (some_same e)
 gather_more {A} (suc n) f xs y e h =
     let first = then_some-is (f 0) (λ x. then_some (gather n (λ s. f (suc s))) (λ rest. Some (x ∷ rest))) xs e in
@@ -42,20 +47,27 @@ pub gather_fails : {A : Type 0} (n e : ℕ) (f : ℕ → Option A) → e < n →
 gather_fails zero e f h none = absurd (omega arith)
 gather_fails (suc n) zero f h none = ap (λ o. then_some o (λ x. then_some (gather n (λ s. f (suc s))) (λ rest. Some (x ∷ rest)))) none
 gather_fails {A} (suc n) (suc e) f h none =
-    ap (λ o. then_some (f 0) (λ x. then_some o (λ rest. Some (x ∷ rest)))) (gather_fails n e (λ s. f (suc s)) (omega arith) none) ∙ then-none (f 0)
+    ap (λ o. then_some (f 0) (λ x. then_some o (λ rest. Some (x ∷ rest)))) (gather_fails n e (λ s. f (suc s)) (omega arith) none)
+    ∙ then-none (f 0)
 
 -- one more number of a tile
-pub tile_more : (n : ℕ) (f : ℕ → Option ℤ) (made : List ℤ) (next : ℤ) → gather n f ≡ Some made → all_fit made ≡ true → f n ≡ Some next → fits next ≡ true →
+pub tile_more : (n : ℕ) (f : ℕ → Option ℤ) (made : List ℤ) (next : ℤ) → gather n f ≡ Some made → all_fit made ≡ true → f n ≡ Some next
+    → fits next ≡ true →
     (gather (n + 1) f ≡ Some (made ++ next ∷ [])) × (all_fit (made ++ next ∷ []) ≡ true)
 tile_more n f made next e fit h small = (ap (λ m. gather m f) (add-one n) ∙ gather_more n f made next e h, fit-push made next fit small)
 
 -- the tiles of a task lie within the matrices
 pub places_within : (t tiles side : ℕ) → 1 ≤ tiles → t < tiles * tiles * tiles →
-    (t / tiles / tiles * side + side ≤ tiles * side) × (t / tiles % tiles * side + side ≤ tiles * side) × (t % tiles * side + side ≤ tiles * side)
+    (t / tiles / tiles * side + side ≤ tiles * side) × (t / tiles % tiles * side + side ≤ tiles * side)
+    × (t % tiles * side + side ≤ tiles * side)
 places_within t tiles side some h =
-    let within : (c : ℕ) → c < tiles → c * side + side ≤ tiles * side = λ c p. omega (arith, mul-le (c + 1) side tiles side (omega arith) (omega arith)) in
-    let upper : t / tiles < tiles * tiles = div_below t tiles (tiles * tiles) some h in
-    (within (t / tiles / tiles) (div_below (t / tiles) tiles tiles some upper), within (t / tiles % tiles) (omega arith), within (t % tiles) (omega arith))
+    let within : (c : ℕ) → c < tiles → c * side + side ≤ tiles * side =
+    λ c p. omega (arith, mul-le (c + 1) side tiles side (omega arith) (omega arith)) in
+    let upper : t / tiles < tiles * tiles = div_below t tiles (tiles * tiles) some h in (
+      within (t / tiles / tiles) (div_below (t / tiles) tiles tiles some upper),
+      within (t / tiles % tiles) (omega arith),
+      within (t % tiles) (omega arith),
+    )
 
 -- 102 tiles along a side make too many tasks
 pub too_many : (tiles : ℕ) → 101 < tiles → 2 ^ 20 ≤ tiles * tiles * tiles

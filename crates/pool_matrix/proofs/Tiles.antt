@@ -1,4 +1,5 @@
-use Rattle.std.proofs.Common.{◌≡◌, ◌<◌, ◌≤◌, ◌+◌, ◌-◌, ◌*◌, ◌/◌, ◌%◌, ◌++◌, ℕ, zero, suc, ℤ, pos, ◌+ℤ◌, List, [], ◌∷◌, length, get_or, Some, None, Bool, true, false, if◌then◌else◌, nat_eq, refl, ap, sym, ◌∙◌, add-one, subst, arith}
+use Rattle.std.proofs.Common.{◌≡◌, ◌<◌, ◌≤◌, ◌+◌, ◌-◌, ◌*◌, ◌/◌, ◌%◌, ◌++◌, ℕ, zero, suc, ℤ, pos, ◌+ℤ◌, List, [], ◌∷◌, length, get_or, Some}
+use Rattle.std.proofs.Common.{None, Bool, true, false, if◌then◌else◌, nat_eq, refl, ap, sym, ◌∙◌, add-one, subst, arith}
 use Rattle.std.proofs.lemmas.Bool.Decides.{nat_tests}
 use Rattle.std.proofs.lemmas.Nat.{mul-add-lt, mod-mul-add, div-mul-add, div_below, div-add-mod'}
 use Rattle.tp_graph.specs.Values.{value_of, gather}
@@ -11,7 +12,8 @@ more-by true x y e = sym (some_same e)
 more-by false x y e = absurd (grind arith)
 
 -- a running sum that has not failed is the plain sum
-running-is : (first : ℤ) (start count : ℕ) (f : ℕ → ℤ) (s : ℤ) → running first start count f ≡ Some s → first ≡ sum_to start f → s ≡ sum_to (start + count) f
+running-is : (first : ℤ) (start count : ℕ) (f : ℕ → ℤ) (s : ℤ) → running first start count f ≡ Some s → first ≡ sum_to start f
+    → s ≡ sum_to (start + count) f
 running-is first start zero f s e b =
     let none : start + 0 ≡ start = omega arith in
     sym (some_same e) ∙ b ∙ ap (λ n. sum_to n f) (sym none)
@@ -46,11 +48,13 @@ module _ (left right : List ℤ) (tiles side : ℕ) (kept : IsProduct tiles side
   abbrev pub IsTile : ℕ → ℕ → ℕ → List ℤ → Type 0
   IsTile i j upto value = (e : ℕ) → e < side * side → get_or value e (pos 0) ≡ sum_to upto (part i j e)
 
-  added : (i j k : ℕ) (before value : List ℤ) → IsTile i j (k * side) before → gather (side * side) (tile_entry (tiles * side) side left right i j k before) ≡ Some value → IsTile i j ((k + 1) * side) value
+  added : (i j k : ℕ) (before value : List ℤ) → IsTile i j (k * side) before
+      → gather (side * side) (tile_entry (tiles * side) side left right i j k before) ≡ Some value → IsTile i j ((k + 1) * side) value
   added i j k before value was e n h =
       let all = gathered (side * side) (tile_entry (tiles * side) side left right i j k before) value (pos 0) e in
       let upto : k * side + side ≡ (k + 1) * side = omega arith in
-      running-is (get_or before n (pos 0)) (k * side) side (part i j n) (get_or value n (pos 0)) (all.1 n h) (was n h) ∙ ap (λ m. sum_to m (part i j n)) upto
+      running-is (get_or before n (pos 0)) (k * side) side (part i j n) (get_or value n (pos 0)) (all.1 n h) (was n h)
+      ∙ ap (λ m. sum_to m (part i j n)) upto
 
   known : (i j k : ℕ) → i < tiles → j < tiles → k < tiles → (i * tiles + j) * tiles + k < tiles * tiles * tiles
   known i j k p q r =
@@ -58,7 +62,8 @@ module _ (left right : List ℤ) (tiles side : ℕ) (kept : IsProduct tiles side
       omega (arith, mul-add-lt (i * tiles + j) tiles k (tiles * tiles) upper r)
 
   -- the value of task (i, j, k), where it has one, is tile (i, j) of the sums over the z of the first k + 1 tiles
-  pub tile_after : (i j k : ℕ) (value : List ℤ) → i < tiles → j < tiles → k < tiles → value_of (matrix_graph left right tiles side) ((i * tiles + j) * tiles + k) ≡ Some value → IsTile i j ((k + 1) * side) value
+  pub tile_after : (i j k : ℕ) (value : List ℤ) → i < tiles → j < tiles → k < tiles
+      → value_of (matrix_graph left right tiles side) ((i * tiles + j) * tiles + k) ≡ Some value → IsTile i j ((k + 1) * side) value
   unfolding matrix_graph
   tile_after i j zero value p q r e =
       let t : ℕ = (i * tiles + j) * tiles + 0 in
@@ -66,7 +71,8 @@ module _ (left right : List ℤ) (tiles side : ℕ) (kept : IsProduct tiles side
       let d : t / tiles ≡ i * tiles + j = div-mul-add (i * tiles + j) tiles 0 r in
       let a : t / tiles / tiles ≡ i = ap (λ m. m / tiles) d ∙ div-mul-add i tiles j q in
       let b : t / tiles % tiles ≡ j = ap (λ m. m % tiles) d ∙ mod-mul-add i tiles j q in
-      let made = inputs_of (matrix_graph left right tiles side) t value (matrix_lawful left right tiles side kept.some_tiles) (known i j 0 p q r) e in
+      let made = inputs_of (matrix_graph left right tiles side) t value (matrix_lawful left right tiles side kept.some_tiles)
+      (known i j 0 p q r) e in
       let none : (matrix_graph left right tiles side).arity t ≡ 0 = ap (λ m. if nat_eq m 0 then 0 else 1) c in
       let empty : get_or made.0 0 [] ≡ [] = none-there made.0 (made.1.long ∙ none) in
       let nothing : 0 * side ≡ 0 = omega arith in
@@ -77,15 +83,19 @@ module _ (left right : List ℤ) (tiles side : ℕ) (kept : IsProduct tiles side
       let d : t / tiles ≡ i * tiles + j = div-mul-add (i * tiles + j) tiles (suc k) r in
       let a : t / tiles / tiles ≡ i = ap (λ m. m / tiles) d ∙ div-mul-add i tiles j q in
       let b : t / tiles % tiles ≡ j = ap (λ m. m % tiles) d ∙ mod-mul-add i tiles j q in
-      let made = inputs_of (matrix_graph left right tiles side) t value (matrix_lawful left right tiles side kept.some_tiles) (known i j (suc k) p q r) e in
+      let made = inputs_of (matrix_graph left right tiles side) t value (matrix_lawful left right tiles side kept.some_tiles)
+      (known i j (suc k) p q r) e in
       let one : (matrix_graph left right tiles side).arity t ≡ 1 = ap (λ m. if nat_eq m 0 then 0 else 1) c ∙ grind (arith, nat_tests) in
       let before : t - 1 ≡ (i * tiles + j) * tiles + k = omega arith in
-      let was = tile_after i j k (get_or made.0 0 []) p q (omega arith) (ap (value_of (matrix_graph left right tiles side)) (sym before) ∙ made.1.right 0 (omega (arith, one))) in
+      let was = tile_after i j k (get_or made.0 0 []) p q (omega arith) (ap (value_of (matrix_graph left right tiles side)) (sym before)
+      ∙ made.1.right 0 (omega (arith, one))) in
       let next : k + 1 ≡ suc k = omega arith in
-      added i j (suc k) (get_or made.0 0 []) value (λ n h. was n h ∙ ap (λ m. sum_to (m * side) (part i j n)) next) (rw (a, b, c) at (made.2))
+      added i j (suc k) (get_or made.0 0 []) value (λ n h. was n h
+      ∙ ap (λ m. sum_to (m * side) (part i j n)) next) (rw (a, b, c) at (made.2))
 
   -- the last task that adds to a number has it at a place
-  number-is : (x y : ℕ) (value : List ℤ) → x < tiles * side → y < tiles * side → value_of (matrix_graph left right tiles side) ((x / side * tiles + y / side) * tiles + (tiles - 1)) ≡ Some value →
+  number-is : (x y : ℕ) (value : List ℤ) → x < tiles * side → y < tiles * side
+      → value_of (matrix_graph left right tiles side) ((x / side * tiles + y / side) * tiles + (tiles - 1)) ≡ Some value →
       get_or value ((x % side) * side + y % side) (pos 0) ≡ sum_to (tiles * side) (term (tiles * side) left right x y)
   number-is x y value p q e =
       let some : 0 < side = omega (arith, kept.some_side) in
@@ -94,8 +104,10 @@ module _ (left right : List ℤ) (tiles side : ℕ) (kept : IsProduct tiles side
       let ys : y % side < side = omega arith in
       let place : ℕ = (x % side) * side + y % side in
       let inside : place < side * side = mul-add-lt (x % side) side (y % side) side xs ys in
-      let ex : x / side * side + place / side ≡ x = ap (λ n. x / side * side + n) (div-mul-add (x % side) side (y % side) ys) ∙ div-add-mod' x side in
-      let ey : y / side * side + place % side ≡ y = ap (λ n. y / side * side + n) (mod-mul-add (x % side) side (y % side) ys) ∙ div-add-mod' y side in
+      let ex : x / side * side + place / side ≡ x =
+      ap (λ n. x / side * side + n) (div-mul-add (x % side) side (y % side) ys) ∙ div-add-mod' x side in
+      let ey : y / side * side + place % side ≡ y =
+      ap (λ n. y / side * side + n) (mod-mul-add (x % side) side (y % side) ys) ∙ div-add-mod' y side in
       let n : tiles - 1 + 1 ≡ tiles = omega (arith, kept.some_tiles) in
       tile_after (x / side) (y / side) (tiles - 1) value (div_below x side tiles some p) (div_below y side tiles some q) last e place inside
       ∙ ap (λ m. sum_to (m * side) (part (x / side) (y / side) place)) n
@@ -105,13 +117,21 @@ module _ (left right : List ℤ) (tiles side : ℕ) (kept : IsProduct tiles side
   -- one more number of the product
   pub number_more : (q : ℕ) (value made : List ℤ) (next : ℤ) (order : ℕ) → order ≡ tiles * side → q < order * order →
       value_of (matrix_graph left right tiles side) ((q / order / side * tiles + q % order / side) * tiles + (tiles - 1)) ≡ Some value →
-      next ≡ get_or value ((q / order % side) * side + q % order % side) (pos 0) → made ≡ list_of q (λ m. sum_to (tiles * side) (term (tiles * side) left right (m / (tiles * side)) (m % (tiles * side)))) →
-      made ++ next ∷ [] ≡ list_of (q + 1) (λ m. sum_to (tiles * side) (term (tiles * side) left right (m / (tiles * side)) (m % (tiles * side))))
+      next ≡ get_or value ((q / order % side) * side + q % order % side) (pos 0)
+      → made ≡ list_of q (λ m. sum_to (tiles * side) (term (tiles * side) left right (m / (tiles * side)) (m % (tiles * side)))) →
+      made ++ next ∷ []
+      ≡ list_of (q + 1) (λ m. sum_to (tiles * side) (term (tiles * side) left right (m / (tiles * side)) (m % (tiles * side))))
   number_more q value made next order is h e n before =
-      let P : ℕ → Type 0 = λ o. q < o * o → value_of (matrix_graph left right tiles side) ((q / o / side * tiles + q % o / side) * tiles + (tiles - 1)) ≡ Some value →
-      next ≡ get_or value ((q / o % side) * side + q % o % side) (pos 0) → next ≡ sum_to (tiles * side) (term (tiles * side) left right (q / (tiles * side)) (q % (tiles * side))) in
+      let P : ℕ → Type 0 =
+      λ o. q < o * o
+      → value_of (matrix_graph left right tiles side) ((q / o / side * tiles + q % o / side) * tiles + (tiles - 1)) ≡ Some value →
+      next ≡ get_or value ((q / o % side) * side + q % o % side) (pos 0)
+      → next ≡ sum_to (tiles * side) (term (tiles * side) left right (q / (tiles * side)) (q % (tiles * side))) in
       let at : P (tiles * side) =
-      λ inside v g. g ∙ number-is (q / (tiles * side)) (q % (tiles * side)) value (div_below q (tiles * side) (tiles * side) (omega (arith, kept.some_numbers)) inside) (omega (arith, kept.some_numbers)) v in
+      λ inside v g. g
+      ∙ number-is (q / (tiles * side)) (q % (tiles * side)) value
+      (div_below q (tiles * side) (tiles * side) (omega (arith, kept.some_numbers)) inside) (omega (arith, kept.some_numbers)) v in
       ap (λ l. l ++ next ∷ []) before
-      ∙ ap (λ z. list_of q (λ m. sum_to (tiles * side) (term (tiles * side) left right (m / (tiles * side)) (m % (tiles * side)))) ++ z ∷ []) (subst P (sym is) at h e n)
+      ∙ ap (λ z. list_of q (λ m. sum_to (tiles * side) (term (tiles * side) left right (m / (tiles * side)) (m % (tiles * side))))
+      ++ z ∷ []) (subst P (sym is) at h e n)
       ∙ sym (list-last q (λ m. sum_to (tiles * side) (term (tiles * side) left right (m / (tiles * side)) (m % (tiles * side)))))

@@ -5,7 +5,8 @@ use Rattle.pool_matrix.specs.Matrices.{matrix_graph}
 use Rattle.tp_graph.proofs.Rows.{mod_right, mod_left, right_within}
 
 module _ (left right : List ℤ) (tiles side : ℕ) (some : 0 < tiles) where
-  fills : (p k : ℕ) → p < tiles * tiles * tiles → k < (matrix_graph left right tiles side).feeds p → FillsSlot (matrix_graph left right tiles side) p k
+  fills : (p k : ℕ) → p < tiles * tiles * tiles → k < (matrix_graph left right tiles side).feeds p
+      → FillsSlot (matrix_graph left right tiles side) p k
   unfolding matrix_graph
   fills p k h q =
       let next : p % tiles + 1 < tiles → (p + 1) % tiles ≡ p % tiles + 1 = mod_right tiles p in
@@ -18,7 +19,8 @@ module _ (left right : List ℤ) (tiles side : ℕ) (some : 0 < tiles) where
         turn_is = grind (arith, nat_tests);
       }
 
-  filled : (t s : ℕ) → t < tiles * tiles * tiles → s < (matrix_graph left right tiles side).arity t → IsFilled (matrix_graph left right tiles side) t s
+  filled : (t s : ℕ) → t < tiles * tiles * tiles → s < (matrix_graph left right tiles side).arity t
+      → IsFilled (matrix_graph left right tiles side) t s
   unfolding matrix_graph
   filled t s h q =
       let before : 0 < t % tiles → (t - 1) % tiles ≡ t % tiles - 1 = mod_left tiles t some in

@@ -1,4 +1,5 @@
-ghost use Rattle.std.specs.Prelude.{◌≡◌, ◌<◌, ◌≤◌, ◌+◌, ◌*◌, ◌^◌, ◌*ℤ◌, ℕ, pos, length, unsigned_abs, slice_index_or, IfSome, MatchOption, MatchResult, Some, None};
+ghost use Rattle.std.specs.Prelude.{◌≡◌, ◌<◌, ◌≤◌, ◌+◌, ◌*◌, ◌^◌, ◌*ℤ◌, ℕ, pos, length, unsigned_abs, slice_index_or, IfSome, MatchOption};
+ghost use Rattle.std.specs.Prelude.{MatchResult, Some, None};
 ghost use Rattle.tp_base.specs.declared.Refusal.TheVariants.{BodyFailed};
 ghost use Rattle.tp_graph.specs.Values.{gather};
 ghost use Rattle.pool_matrix.specs.Matrices.{entry, more};
@@ -28,7 +29,8 @@ fn entry(numbers: &[i64], order: usize, x: usize, y: usize) -> i64
 pub(crate) fn right_part<'a>(matrices: Matrices<'a>, z: usize, y: usize, count: usize) -> &'a [i64]
     requires places { (z < matrices.order) × (y + count ≤ matrices.order) }
     ensures long { length result.now ≡ count }
-    ensures same { (n : ℕ) → n < count → slice_index_or result.now n (pos 0) ≡ entry matrices.entry.order matrices.entry.right.now z (y + n) }
+    ensures same { (n : ℕ) → n < count
+        → slice_index_or result.now n (pos 0) ≡ entry matrices.entry.order matrices.entry.right.now z (y + n) }
 {
     let from = z * matrices.order + y;
     &matrices.right[from..from + count]
@@ -81,7 +83,9 @@ fn add_row_checked(sums: &mut [i64], left: i64, right: &[i64]) -> Result<(), Ref
 /// A row of sums, each with one product more, where none can leave `i64`: a loop without tests, which is worked out in vectors.
 fn add_row_plain(sums: &mut [i64], left: i64, right: &[i64])
     requires same { length sums.now ≡ length right.now }
-    requires small { (n : ℕ) → n < length right.now → unsigned_abs (slice_index_or sums.now n (pos 0)) + unsigned_abs left * unsigned_abs (slice_index_or right.now n (pos 0)) < 2 ^ 63 }
+    requires small { (n : ℕ) → n < length right.now
+        → unsigned_abs (slice_index_or sums.now n (pos 0)) + unsigned_abs left * unsigned_abs (slice_index_or right.now n (pos 0)) < 2 ^
+        63 }
     ensures { gather (length right.now) (one_more sums.old left right.now) ≡ Some sums.new }
 {
     for n in 0..right.len() {
@@ -125,11 +129,16 @@ pub(crate) fn add_rows(
     largest: u64,
 ) -> Result<(), Refusal>
     requires places { (x < matrices.order) × (y + length sums.now ≤ matrices.order) × (start + length sums.now ≤ matrices.order) }
-    requires within { (z n : ℕ) → z < length sums.now → n < length sums.now → unsigned_abs (entry matrices.order matrices.right.now (start + z) (y + n)) ≤ largest }
+    requires within { (z n : ℕ) → z < length sums.now → n < length sums.now
+        → unsigned_abs (entry matrices.order matrices.right.now (start + z) (y + n)) ≤ largest }
     ensures { MatchResult result
-        (λ _done. gather (length sums.old) (row_entry matrices.entry.order matrices.entry.left.now matrices.entry.right.now x y start (length sums.old) sums.old) ≡ Some sums.new)
+        (λ _done. gather (length sums.old)
+        (row_entry matrices.entry.order matrices.entry.left.now matrices.entry.right.now x y start (length sums.old) sums.old)
+        ≡ Some sums.new)
         (λ refusal. (refusal ≡ BodyFailed)
-        × (gather (length sums.old) (row_entry matrices.entry.order matrices.entry.left.now matrices.entry.right.now x y start (length sums.old) sums.old) ≡ None)) }
+        × (gather (length sums.old)
+        (row_entry matrices.entry.order matrices.entry.left.now matrices.entry.right.now x y start (length sums.old) sums.old)
+        ≡ None)) }
 {
     let side = sums.len();
     let mut reach = largest_of(sums);

@@ -35,7 +35,8 @@ fn begin_tile(alloc: Global, count: usize, before: &[i64]) -> Result<Vec<i64>, R
 /// How far from 0 the farthest number is of a tile of the right, which begins at column y of a row.
 fn largest_of_tile(matrices: Matrices, side: usize, row: usize, y: usize) -> u64
     requires { (row + side ≤ matrices.order) × (y + side ≤ matrices.order) }
-    ensures { (z n : ℕ) → z < side → n < side → unsigned_abs (entry matrices.entry.order matrices.entry.right.now (row + z) (y + n)) ≤ result }
+    ensures { (z n : ℕ) → z < side → n < side
+        → unsigned_abs (entry matrices.entry.order matrices.entry.right.now (row + z) (y + n)) ≤ result }
 {
     let mut largest = 0;
     for z in 0..side {
@@ -58,11 +59,13 @@ pub(crate) fn make_tile(
     requires some { 1 ≤ side }
     requires places { (i * side + side ≤ matrices.order) × (j * side + side ≤ matrices.order) × (k * side + side ≤ matrices.order) }
     ensures { MatchResult result
-        (λ made. (gather (side * side) (tile_entry matrices.entry.order side matrices.entry.left.now matrices.entry.right.now i j k before.now) ≡ Some made.items)
+        (λ made. (gather (side * side)
+        (tile_entry matrices.entry.order side matrices.entry.left.now matrices.entry.right.now i j k before.now) ≡ Some made.items)
         × (all_fit made.items ≡ true))
         (λ refusal. (refusal ≡ NoMemory)
         ⊎ ((refusal ≡ BodyFailed)
-        × (gather (side * side) (tile_entry matrices.entry.order side matrices.entry.left.now matrices.entry.right.now i j k before.now) ≡ None))) }
+        × (gather (side * side) (tile_entry matrices.entry.order side matrices.entry.left.now matrices.entry.right.now i j k before.now)
+        ≡ None))) }
 {
     let mut made = begin_tile(alloc, side * side, before)?;
     let largest = largest_of_tile(matrices, side, k * side, j * side);

@@ -5,7 +5,8 @@ ghost use Rattle.clap.specs.Words.{Text, app_of, found_of, matches_of, one_text,
 ghost use Rattle.clap.specs.declared.error.kind.ErrorKind.TheVariants.{MissingRequiredArgument};
 ghost use Rattle.pool_pattern_cli.specs.Command.{AsksFor, IsListed, IsMadeBy, IsName, IsNumberOf, IsUnlisted, IsWithOptions};
 ghost use Rattle.pool_pattern_cli.specs.Command.{LackWords, LacksNumber, LacksRun};
-ghost use Rattle.pool_pattern_cli.specs.Command.{grid_app, iterations_rule, list_rule, number_rule, option_rule, pattern_rule, patterns_app};
+ghost use Rattle.pool_pattern_cli.specs.Command.{grid_app, iterations_rule, list_rule, number_rule, option_rule, pattern_rule};
+ghost use Rattle.pool_pattern_cli.specs.Command.{patterns_app};
 ghost use Rattle.pool_pattern_cli.specs.Names.{name_of};
 ghost use Rattle.pool_patterns.specs.declared.pattern.Pattern.{Pattern};
 ghost use Rattle.tp_shell.specs.Command.{FailsAs};

@@ -1,8 +1,10 @@
 -- The outputs of rows, worked out column by column.
-use Rattle.std.proofs.Common.{◌≡◌, ◌<◌, ◌≤◌, ◌+◌, ◌-◌, ◌*◌, ◌/◌, ◌%◌, ℕ, zero, suc, true, false, List, [], ◌∷◌, ◌++◌, length, get_or, set, min, ap, sym, ◌∙◌, subst, arith, ⊎_elim, append_assoc, length-append}
+use Rattle.std.proofs.Common.{◌≡◌, ◌<◌, ◌≤◌, ◌+◌, ◌-◌, ◌*◌, ◌/◌, ◌%◌, ℕ, zero, suc, true, false, List, [], ◌∷◌, ◌++◌, length, get_or, set}
+use Rattle.std.proofs.Common.{min, ap, sym, ◌∙◌, subst, arith, ⊎_elim, append_assoc, length-append}
 use Rattle.std.proofs.lemmas.Bool.{cases_lt, cases_eq}
 use Rattle.std.proofs.lemmas.Bool.Decides.{nat_tests}
-use Rattle.std.proofs.lemmas.List.{get_or-append-add, get_or-append_right, get_or-set_other, get_or-set_same, get_or_append_left, get_or_at, length-set}
+use Rattle.std.proofs.lemmas.List.{get_or-append-add, get_or-append_right, get_or-set_other, get_or-set_same, get_or_append_left, get_or_at}
+use Rattle.std.proofs.lemmas.List.{length-set}
 use Rattle.std.proofs.Math.Nat.{mod-le}
 use Rattle.std.proofs.lemmas.Nat.{div-add-mod', div-mul-add, mod-mul-add, mul-add-lt, mod_below}
 use Rattle.pool_patterns.specs.Grids.{Relation, ComesAgain}
@@ -31,7 +33,8 @@ seen_next r w t j n seen all h =
       few = h.few;
     }
 
-pub seen_same : (r : Relation) (w t j n : ℕ) (seen : List ℕ) → n < w → r t j n ≡ false → AreSeen r w t j n seen → AreSeen r w t j (n + 1) seen
+pub seen_same : (r : Relation) (w t j n : ℕ) (seen : List ℕ) → n < w → r t j n ≡ false → AreSeen r w t j n seen
+    → AreSeen r w t j (n + 1) seen
 seen_same r w t j n seen b fails h = record {
   long = h.long;
   done = λ i e c.
@@ -45,13 +48,15 @@ seen_same r w t j n seen b fails h = record {
   few = h.few;
 }
 
-pub seen_more : (r : Relation) (w t j n slot : ℕ) (seen next : List ℕ) → n < w → r t j n ≡ true → slot ≡ get_or seen n 0 → slot < 16 → next ≡ set seen n (slot + 1) →
+pub seen_more : (r : Relation) (w t j n slot : ℕ) (seen next : List ℕ) → n < w → r t j n ≡ true → slot ≡ get_or seen n 0 → slot < 16
+    → next ≡ set seen n (slot + 1) →
     AreSeen r w t j n seen → AreSeen r w t j (n + 1) next
 seen_more r w t j n slot seen next b fed read few is h =
     let known : n < length seen = omega (arith, h.long, b) in
     let least : n ≤ n = omega arith in
     let here : get_or next n 0 ≡ slot + 1 = ap (λ l. get_or l n 0) is ∙ get_or-set_same seen n (slot + 1) 0 known in
-    let others : (i : ℕ) → (i ≡ n → ⊥) → get_or next i 0 ≡ get_or seen i 0 = λ i e. ap (λ l. get_or l i 0) is ∙ get_or-set_other seen n i (slot + 1) 0 e in
+    let others : (i : ℕ) → (i ≡ n → ⊥) → get_or next i 0 ≡ get_or seen i 0 =
+    λ i e. ap (λ l. get_or l i 0) is ∙ get_or-set_other seen n i (slot + 1) 0 e in
     let before : slot ≡ rank (λ x. r t x n) j = read ∙ h.left n least b in
     let more : slot + 1 ≡ suc (rank (λ x. r t x n) j) = omega (arith, before) in
     let one : get_or next n 0 ≡ rank (λ x. r t x n) (suc j) = here ∙ more ∙ sym (rank_more_suc (λ x. r t x n) j fed) in
@@ -71,7 +76,8 @@ seen_more r w t j n slot seen next b fed read few is h =
     }
 
 -- a column that has 16 inputs and is fed once more has too many
-pub seen_wide : (r : Relation) (w t j n slot : ℕ) (seen : List ℕ) → j < w → n < w → r t j n ≡ true → slot ≡ get_or seen n 0 → 16 ≤ slot → AreSeen r w t j n seen →
+pub seen_wide : (r : Relation) (w t j n slot : ℕ) (seen : List ℕ) → j < w → n < w → r t j n ≡ true → slot ≡ get_or seen n 0 → 16 ≤ slot
+    → AreSeen r w t j n seen →
     (i : ℕ) × (i < w) × (16 < rank (λ c. r t c i) w)
 seen_wide r w t j n slot seen a b fed read many h =
     let least : n ≤ n = omega arith in
@@ -82,7 +88,8 @@ seen_wide r w t j n slot seen a b fed read many h =
     (n, b, omega (arith, before, many, grows))
 
 -- one column more of those that a column feeds, or one that it does not feed
-pub outputs_more : (r : Relation) (t j n slot : ℕ) (old now next : List Output) → r t j n ≡ true → slot ≡ rank (λ c. r t c n) j → now ≡ old ++ outputs_to r t j n →
+pub outputs_more : (r : Relation) (t j n slot : ℕ) (old now next : List Output) → r t j n ≡ true → slot ≡ rank (λ c. r t c n) j
+    → now ≡ old ++ outputs_to r t j n →
     next ≡ now ++ record { column = n; slot = slot } ∷ [] → next ≡ old ++ outputs_to r t j (n + 1)
 outputs_more r t j n slot old now next fed counted e is =
     let v : ℕ → Output = λ i. record { column = i; slot = rank (λ c. r t c i) j } in
@@ -91,13 +98,15 @@ outputs_more r t j n slot old now next fed counted e is =
     is ∙ ap (λ l. l ++ one ∷ []) e ∙ append_assoc old (outputs_to r t j n) (one ∷ []) ∙ ap (λ o. old ++ (outputs_to r t j n ++ o ∷ [])) same
     ∙ ap (λ l. old ++ l) (sym (picked_more (λ i. r t j i) v n fed))
 
-pub outputs_same : (r : Relation) (t j n : ℕ) (old now : List Output) → r t j n ≡ false → now ≡ old ++ outputs_to r t j n → now ≡ old ++ outputs_to r t j (n + 1)
+pub outputs_same : (r : Relation) (t j n : ℕ) (old now : List Output) → r t j n ≡ false → now ≡ old ++ outputs_to r t j n → now ≡ old
+    ++ outputs_to r t j (n + 1)
 outputs_same r t j n old now fails e =
     let v : ℕ → Output = λ i. record { column = i; slot = rank (λ c. r t c i) j } in
     e ∙ ap (λ l. old ++ l) (sym (picked_same (λ i. r t j i) v n fails))
 
 -- the outputs of a column stay where they are
-pub outputs_stay : (r : Relation) (w t j : ℕ) (all more : List Output) (start count : ℕ) → AreOutputs r w t j all start count → AreOutputs r w t j (all ++ more) start count
+pub outputs_stay : (r : Relation) (w t j : ℕ) (all more : List Output) (start count : ℕ) → AreOutputs r w t j all start count
+    → AreOutputs r w t j (all ++ more) start count
 outputs_stay r w t j all more start count h = record {
   whole = h.whole;
   inside = omega (arith, h.inside, length-append all more);
@@ -105,7 +114,8 @@ outputs_stay r w t j all more start count h = record {
 }
 
 -- the outputs that were put behind all others
-pub outputs_put : (r : Relation) (w t j : ℕ) (all : List Output) (count : ℕ) → count ≡ rank (λ i. r t j i) w → AreOutputs r w t j (all ++ outputs_to r t j w) (length all) count
+pub outputs_put : (r : Relation) (w t j : ℕ) (all : List Output) (count : ℕ) → count ≡ rank (λ i. r t j i) w
+    → AreOutputs r w t j (all ++ outputs_to r t j w) (length all) count
 outputs_put r w t j all count is =
     let v : ℕ → Output = λ i. record { column = i; slot = rank (λ c. r t c i) j } in
     record {
@@ -117,27 +127,35 @@ outputs_put r w t j all count is =
           record { column = ap (λ o. o.column) found; slot = ap (λ o. o.slot) found };
     }
 
-pub spans_more : (r : Relation) (w t j n : ℕ) (spans next : List Span) (all more : List Output) (span : Span) → j < w → n ≡ t * w + j → AreSpans r w n spans all →
-    more ≡ all ++ outputs_to r (t + 1) j w → span.start ≡ length all → span.count ≡ rank (λ i. r (t + 1) j i) w → next ≡ spans ++ span ∷ [] → AreSpans r w (n + 1) next more
+pub spans_more : (r : Relation) (w t j n : ℕ) (spans next : List Span) (all more : List Output) (span : Span) → j < w → n ≡ t * w + j
+    → AreSpans r w n spans all →
+    more ≡ all ++ outputs_to r (t + 1) j w → span.start ≡ length all → span.count ≡ rank (λ i. r (t + 1) j i) w → next ≡ spans
+    ++ span ∷ [] → AreSpans r w (n + 1) next more
 spans_more r w t j n spans next all more span b place h is start count put =
     let s : t + 1 ≡ suc t = omega arith in
     let row : n / w ≡ t = ap (λ x. x / w) place ∙ div-mul-add t w j b in
     let column : n % w ≡ j = ap (λ x. x % w) place ∙ mod-mul-add t w j b in
     let here : AreOutputs r w (t + 1) j more span.start span.count =
     subst (λ l. AreOutputs r w (t + 1) j l span.start span.count) (sym is)
-    (subst (λ x. AreOutputs r w (t + 1) j (all ++ outputs_to r (t + 1) j w) x span.count) (sym start) (outputs_put r w (t + 1) j all span.count count)) in
+    (subst (λ x.
+    AreOutputs r w (t + 1) j (all ++ outputs_to r (t + 1) j w) x span.count) (sym start)
+    (outputs_put r w (t + 1) j all span.count count)) in
     let there : AreOutputs r w (suc (n / w)) (n % w) more span.start span.count =
     subst (λ x. AreOutputs r w (suc x) (n % w) more span.start span.count) (sym row)
-    (subst (λ y. AreOutputs r w (suc t) y more span.start span.count) (sym column) (subst (λ x. AreOutputs r w x j more span.start span.count) s here)) in
+    (subst (λ y.
+    AreOutputs r w (suc t) y more span.start span.count) (sym column)
+    (subst (λ x. AreOutputs r w x j more span.start span.count) s here)) in
     record {
       long = ap length put ∙ omega (arith, h.long, length-append spans (span ∷ []));
       each = λ p d few.
           ⊎_elim
           (λ (lower : p < n).
-          let old : get_or next p d ≡ get_or spans p d = ap (λ l. get_or l p d) put ∙ get_or_append_left spans (span ∷ []) d p (omega (arith, h.long)) in
+          let old : get_or next p d ≡ get_or spans p d =
+          ap (λ l. get_or l p d) put ∙ get_or_append_left spans (span ∷ []) d p (omega (arith, h.long)) in
           subst (λ x. AreOutputs r w (suc (p / w)) (p % w) more x.start x.count) (sym old)
           (subst (λ l. AreOutputs r w (suc (p / w)) (p % w) l (get_or spans p d).start (get_or spans p d).count) (sym is)
-          (outputs_stay r w (suc (p / w)) (p % w) all (outputs_to r (t + 1) j w) (get_or spans p d).start (get_or spans p d).count (h.each p d lower))))
+          (outputs_stay r w (suc (p / w)) (p % w) all (outputs_to r (t + 1) j w) (get_or spans p d).start (get_or spans p d).count
+          (h.each p d lower))))
           (λ (not : n ≤ p).
           let same : n ≡ p = omega arith in
           let last : get_or next n d ≡ span = ap (λ l. get_or l n d) put ∙ get_or_at spans span [] d n h.long in
@@ -147,7 +165,8 @@ spans_more r w t j n spans next all more span b place h is start count put =
     }
 
 -- the inputs of a whole row, put behind those of the rows before
-pub arities_more : (r : Relation) (w t : ℕ) (arities seen next : List ℕ) → AreArities r w (t * w) arities → AreSeen r w (t + 1) w 0 seen → next ≡ arities ++ seen →
+pub arities_more : (r : Relation) (w t : ℕ) (arities seen next : List ℕ) → AreArities r w (t * w) arities → AreSeen r w (t + 1) w 0 seen
+    → next ≡ arities ++ seen →
     AreArities r w ((t + 1) * w) next
 arities_more r w t arities seen next h s is =
     let one : t + 1 ≡ suc t = omega arith in
@@ -156,7 +175,8 @@ arities_more r w t arities seen next h s is =
     let after : (p : ℕ) → t * w ≤ p → get_or next p 0 ≡ get_or seen (p - t * w) 0 =
     λ p not. ap (λ l. get_or l p 0) is ∙ get_or-append_right arities seen (t * w) p 0 h.long not in
     let column : (p : ℕ) → p < (t + 1) * w → t * w ≤ p → p - t * w < w = λ p few not. omega (arith, few, not) in
-    let counted : (p : ℕ) → (few : p < (t + 1) * w) → (not : t * w ≤ p) → rank (λ c. r (t + 1) c (p - t * w)) w ≡ rank (λ c. r (suc (p / w)) c (p % w)) w =
+    let counted : (p : ℕ) → (few : p < (t + 1) * w) → (not : t * w ≤ p)
+    → rank (λ c. r (t + 1) c (p - t * w)) w ≡ rank (λ c. r (suc (p / w)) c (p % w)) w =
     λ p few not.
     let place : p ≡ t * w + (p - t * w) = omega (arith, not) in
     let b : p - t * w < w = column p few not in
@@ -178,21 +198,26 @@ arities_more r w t arities seen next h s is =
     }
 
 -- the relation of a row is that of the row at the same place of its period
-again_at : (r : Relation) (w steps period m q j i : ℕ) → ComesAgain r w steps period → j < w → i < w → q * period + m + 1 < steps → r (q * period + m + 1) j i ≡ r (m + 1) j i
+again_at : (r : Relation) (w steps period m q j i : ℕ) → ComesAgain r w steps period → j < w → i < w → q * period + m + 1 < steps
+    → r (q * period + m + 1) j i ≡ r (m + 1) j i
 again_at r w steps period m zero j i h a b few = ap (λ x. r x j i) (omega arith)
 again_at r w steps period m (suc q) j i h a b few =
     let place : suc q * period + m + 1 ≡ q * period + m + 1 + period = omega arith in
-    ap (λ x. r x j i) place ∙ h (q * period + m + 1) j i (omega arith) (omega (arith, place, few)) a b ∙ again_at r w steps period m q j i h a b (omega (arith, place, few))
+    ap (λ x. r x j i) place ∙ h (q * period + m + 1) j i (omega arith) (omega (arith, place, few)) a b
+    ∙ again_at r w steps period m q j i h a b (omega (arith, place, few))
 
-pub same_kind : (r : Relation) (w steps period q j i : ℕ) → ComesAgain r w steps period → j < w → i < w → q + 1 < steps → r (suc (q % period)) j i ≡ r (suc q) j i
+pub same_kind : (r : Relation) (w steps period q j i : ℕ) → ComesAgain r w steps period → j < w → i < w → q + 1 < steps
+    → r (suc (q % period)) j i ≡ r (suc q) j i
 same_kind r w steps period q j i h a b few =
     let place : q / period * period + q % period ≡ q = div-add-mod' q period in
     let one : q % period + 1 ≡ suc (q % period) = omega arith in
     let two : q / period * period + q % period + 1 ≡ suc q = omega (arith, place) in
-    sym (ap (λ x. r x j i) (sym two) ∙ again_at r w steps period (q % period) (q / period) j i h a b (omega (arith, place, few)) ∙ ap (λ x. r x j i) one)
+    sym (ap (λ x. r x j i) (sym two) ∙ again_at r w steps period (q % period) (q / period) j i h a b (omega (arith, place, few))
+    ∙ ap (λ x. r x j i) one)
 
 -- outputs of a column are those of the same column of a row that has the same relation
-pub outputs_alike : (r : Relation) (w t u j : ℕ) (all : List Output) (start count : ℕ) → j < w → ((c i : ℕ) → c < w → i < w → r t c i ≡ r u c i) → AreOutputs r w t j all start count → AreOutputs r w u j all start count
+pub outputs_alike : (r : Relation) (w t u j : ℕ) (all : List Output) (start count : ℕ) → j < w
+    → ((c i : ℕ) → c < w → i < w → r t c i ≡ r u c i) → AreOutputs r w t j all start count → AreOutputs r w u j all start count
 outputs_alike r w t u j all start count b same h =
     let rows : (i : ℕ) → i < w → r t j i ≡ r u j i = λ i c. same j i b c in
     record {
@@ -203,7 +228,8 @@ outputs_alike r w t u j all start count b same h =
           let to : nth (λ i. r t j i) w k ≡ nth (λ i. r u j i) w k = nth_alike (λ i. r t j i) (λ i. r u j i) w k rows many in
           let inside = (nth_is (λ i. r t j i) w k many).below in
           let place : rank (λ c. r t c (nth (λ i. r t j i) w k)) j ≡ rank (λ c. r u c (nth (λ i. r t j i) w k)) j =
-          rank_alike (λ c. r t c (nth (λ i. r t j i) w k)) (λ c. r u c (nth (λ i. r t j i) w k)) j (λ c e. same c (nth (λ i. r t j i) w k) (omega (arith, e, b)) inside) in
+          rank_alike (λ c. r t c (nth (λ i. r t j i) w k)) (λ c. r u c (nth (λ i. r t j i) w k)) j (λ c e.
+          same c (nth (λ i. r t j i) w k) (omega (arith, e, b)) inside) in
           let found = h.each k d few in
           record { column = found.column ∙ to; slot = found.slot ∙ place ∙ ap (λ x. rank (λ c. r u c x) j) to };
     }

@@ -22,18 +22,22 @@ pub too_many : (r : Relation) (w steps : ℕ) → 2 ^ 20 ≤ steps * w → 10485
 too_many r w steps h = omega (arith, h, events_many r w (steps * w))
 
 pub too_many_columns : (r : Relation) (w steps : ℕ) → 1 ≤ steps → 2 ^ 20 ≤ w → 1048576 < grid_events r w steps
-too_many_columns r w steps some h = too_many r w steps (let least : 1 * w ≤ steps * w = mul-le 1 w steps w some (omega arith) in omega (arith, h, least))
+too_many_columns r w steps some h =
+    too_many r w steps (let least : 1 * w ≤ steps * w = mul-le 1 w steps w some (omega arith) in omega (arith, h, least))
 
 pub too_many_rows : (r : Relation) (w steps : ℕ) → 1 ≤ w → 2 ^ 20 ≤ steps → 1048576 < grid_events r w steps
-too_many_rows r w steps some h = too_many r w steps (let least : steps * 1 ≤ steps * w = mul-le steps 1 steps w (omega arith) some in omega (arith, h, least))
+too_many_rows r w steps some h =
+    too_many r w steps (let least : steps * 1 ≤ steps * w = mul-le steps 1 steps w (omega arith) some in omega (arith, h, least))
 
-pub events_more : (r : Relation) (w n before now count : ℕ) → before ≡ events_below r w n → count ≡ inputs r w (n / w) (n % w) → now ≡ before + task_events count → now ≡ events_below r w (n + 1)
+pub events_more : (r : Relation) (w n before now count : ℕ) → before ≡ events_below r w n → count ≡ inputs r w (n / w) (n % w)
+    → now ≡ before + task_events count → now ≡ events_below r w (n + 1)
 events_more r w n before now count e is sum =
     let s : n + 1 ≡ suc n = omega arith in
     sum ∙ ap (λ x. x + task_events count) e ∙ ap (λ x. events_below r w n + task_events x) is ∙ ap (events_below r w) (sym s)
 
 -- a row that has too many inputs is one of so many
-pub row_fault : (r : Relation) (w row rows : ℕ) (fault : TableFault) → row < rows → IsRowFault r w (row + 1) fault → IsRowsFault r w (rows + 1) fault
+pub row_fault : (r : Relation) (w row rows : ℕ) (fault : TableFault) → row < rows → IsRowFault r w (row + 1) fault
+    → IsRowsFault r w (rows + 1) fault
 row_fault r w row rows Empty h why = absurd why
 row_fault r w row rows TooManyInputs h why =
     let s : row + 1 ≡ suc row = omega arith in
@@ -47,8 +51,10 @@ row_fault r w row rows TooManyEvents h why = absurd why
 row_fault r w row rows NoMemory h why = why
 
 -- one of these rows is one of the grid
-pub rows_fault : (r : Relation) (w rows steps : ℕ) (fault : TableFault) → rows ≤ steps → IsRowsFault r w rows fault → IsTableFault r w steps fault
+pub rows_fault : (r : Relation) (w rows steps : ℕ) (fault : TableFault) → rows ≤ steps → IsRowsFault r w rows fault
+    → IsTableFault r w steps fault
 rows_fault r w rows steps Empty h why = absurd why
-rows_fault r w rows steps TooManyInputs h why = record { row = why.row; column = why.column; known = (omega (arith, why.known.0, h), why.known.1); many = why.many }
+rows_fault r w rows steps TooManyInputs h why =
+    record { row = why.row; column = why.column; known = (omega (arith, why.known.0, h), why.known.1); many = why.many }
 rows_fault r w rows steps TooManyEvents h why = absurd why
 rows_fault r w rows steps NoMemory h why = why

@@ -14,7 +14,8 @@ times-none : (t : ℕ) (results : Results) → All (λ r. r.0.0 ≢ t) results �
 times-none t [] h = refl
 times-none t (x ∷ xs) h =
     let rest : 0 + count_by (λ r. r.0.0 == t) xs ≡ 0 = omega (arith, times-none t xs (λ i d p. h (suc i) d (omega arith))) in
-    sum_by-cons (λ r. cond (r.0.0 == t) 1 0) x xs ∙ ap (λ b. cond b 1 0 + count_by (λ r. r.0.0 == t) xs) (ne_eqb x.0.0 t (h 0 x (omega arith))) ∙ rest
+    sum_by-cons (λ r. cond (r.0.0 == t) 1 0) x xs
+    ∙ ap (λ b. cond b 1 0 + count_by (λ r. r.0.0 == t) xs) (ne_eqb x.0.0 t (h 0 x (omega arith))) ∙ rest
 
 -- where each task has one result, none lacks one
 pub has_one : (tasks t : ℕ) (results : Results) → HasOneOfEach tasks results → t < tasks → All (λ r. r.0.0 ≢ t) results → ⊥
@@ -23,5 +24,7 @@ has_one tasks t results once h none =
     absurd (omega (arith, one, times-none t results none))
 
 -- one column more
-pub row_more : (v : ℕ → ℕ) (n next : ℕ) (row : List ℕ) → row ≡ map v (range_with_len 0 n) → next ≡ v n → row ++ next ∷ [] ≡ map v (range_with_len 0 (n + 1))
-row_more v n next row is here = ap (λ l. l ++ next ∷ []) is ∙ ap (λ x. map v (range_with_len 0 n) ++ x ∷ []) here ∙ sym (map-range_with_len_more v 0 n n (omega arith))
+pub row_more : (v : ℕ → ℕ) (n next : ℕ) (row : List ℕ) → row ≡ map v (range_with_len 0 n) → next ≡ v n → row
+    ++ next ∷ [] ≡ map v (range_with_len 0 (n + 1))
+row_more v n next row is here =
+    ap (λ l. l ++ next ∷ []) is ∙ ap (λ x. map v (range_with_len 0 n) ++ x ∷ []) here ∙ sym (map-range_with_len_more v 0 n n (omega arith))

@@ -1,11 +1,13 @@
 -- What is picked of the numbers below another.
-use Rattle.std.proofs.Common.{◌≡◌, ◌<◌, ◌+◌, ℕ, zero, suc, Bool, true, false, List, [], ◌∷◌, ◌++◌, length, get_or, if◌then◌else◌, eqb, refl, ap, sym, ◌∙◌, arith, length-append}
+use Rattle.std.proofs.Common.{◌≡◌, ◌<◌, ◌+◌, ℕ, zero, suc, Bool, true, false, List, [], ◌∷◌, ◌++◌, length, get_or, if◌then◌else◌, eqb, refl}
+use Rattle.std.proofs.Common.{ap, sym, ◌∙◌, arith, length-append}
 use Rattle.std.proofs.lemmas.Bool.{eqb-true, eqb-false}
 use Rattle.std.proofs.lemmas.List.{get_or_append_left, get_or_at}
 use Rattle.pool_patterns.specs.Kinds.{picked}
 use Rattle.pool_patterns.specs.Ranks.{rank, nth}
 
-long_step : {A : Type 0} (b : Bool) (xs : List A) (a : A) (m : ℕ) → length xs ≡ m → length (if b then xs ++ a ∷ [] else xs) ≡ (if b then suc m else m)
+long_step : {A : Type 0} (b : Bool) (xs : List A) (a : A) (m : ℕ) → length xs ≡ m
+    → length (if b then xs ++ a ∷ [] else xs) ≡ (if b then suc m else m)
 long_step true xs a m e = let l = length-append xs (a ∷ []) in omega arith
 long_step false xs a m e = e
 
@@ -13,7 +15,8 @@ pub picked_long : {A : Type 0} (f : ℕ → Bool) (v : ℕ → A) (n : ℕ) → 
 picked_long f v zero = refl
 picked_long f v (suc n) = long_step (f n) (picked f v n) (v n) (rank f n) (picked_long f v n)
 
-at_step : {A : Type 0} (f : ℕ → Bool) (v : ℕ → A) (d : A) (n s : ℕ) (b c : Bool) → eqb s (rank f n) ≡ c → s < (if b then suc (rank f n) else rank f n) →
+at_step : {A : Type 0} (f : ℕ → Bool) (v : ℕ → A) (d : A) (n s : ℕ) (b c : Bool) → eqb s (rank f n) ≡ c
+    → s < (if b then suc (rank f n) else rank f n) →
     (s < rank f n → get_or (picked f v n) s d ≡ v (nth f n s)) →
     get_or (if b then picked f v n ++ v n ∷ [] else picked f v n) s d ≡ v (if b then (if c then n else nth f n s) else nth f n s)
 at_step f v d n s true true e h r = get_or_at (picked f v n) (v n) [] d s (picked_long f v n ∙ sym (eqb-true s (rank f n) e))

@@ -9,11 +9,14 @@ use Rattle.pool_patterns.specs.Grids.{ComesAgain}
 use Rattle.pool_patterns.specs.Ranks.{rank}
 use Rattle.pool_patterns.specs.Relations.{doublings, fifth, period_of, relates}
 use Rattle.pool_patterns.specs.declared.pattern.Pattern.{Pattern}
-use Rattle.pool_patterns.specs.declared.pattern.Pattern.TheVariants.{Trivial, NoComm, Stencil, StencilPeriodic, Dom, Tree, Fft, AllToAll, Nearest, Spread, RandomNearest}
+use Rattle.pool_patterns.specs.declared.pattern.Pattern.TheVariants.{Trivial, NoComm, Stencil, StencilPeriodic, Dom, Tree, Fft, AllToAll}
+use Rattle.pool_patterns.specs.declared.pattern.Pattern.TheVariants.{Nearest, Spread, RandomNearest}
 use Rattle.pool_patterns.proofs.More.{suc_false, suc_true}
 
 power_le : (i j : ℕ) → i ≤ j → 2 ^ i ≤ 2 ^ j
-power_le i j h = ⊎_elim (λ (e : i ≡ j). subst (λ x. 2 ^ i ≤ 2 ^ x) e (omega arith)) (λ (d : i ≡ j → ⊥). let less : i < j = omega (arith, h, d) in let lt = pow_below i j less in omega (arith, lt)) (cases_eq i j)
+power_le i j h =
+    ⊎_elim (λ (e : i ≡ j). subst (λ x. 2 ^ i ≤ 2 ^ x) e (omega arith)) (λ (d : i ≡ j → ⊥). let less : i < j = omega (arith, h, d) in
+    let lt = pow_below i j less in omega (arith, lt)) (cases_eq i j)
 
 double : (k : ℕ) → 2 ^ (k + 1) ≡ 2 * 2 ^ k
 double k = let s : k + 1 ≡ suc k = omega arith in ap (λ x. 2 ^ x) s ∙ pow-suc 2 k ∙ omega arith
@@ -51,7 +54,8 @@ powers_below w k (suc n) low high =
 pub doublings_are : (w k m : ℕ) → w < 2 ^ 20 → 2 ^ k ≤ w → w < 2 * 2 ^ k → m ≡ max k 1 → (m ≡ doublings w) × (m ≤ 20)
 doublings_are w k m few low high is =
     let under : k < 20 =
-    ⊎_elim (λ (h : k < 20). h) (λ (h : 20 ≤ k). let le : 2 ^ 20 ≤ 2 ^ k = power_le 20 k h in absurd (omega (arith, le, low, few))) (cases_lt k 20) in
+    ⊎_elim (λ (h : k < 20). h) (λ (h : 20 ≤ k). let le : 2 ^ 20 ≤ 2 ^ k = power_le 20 k h in
+    absurd (omega (arith, le, low, few))) (cases_lt k 20) in
     let within : k ≤ w = omega (arith, below_power k, low) in
     let same : rank (λ i. nat_le (2 ^ (i + 1)) w) w ≡ k = powers_below w k w low high ∙ most w k within in
     (is ∙ ap (λ x. max x 1) (sym same), omega (arith, is, under))
@@ -67,10 +71,18 @@ by_period Fft w steps t j i some few a b =
     let later : t + doublings w - 1 ≡ (t - 1) + doublings w = omega arith in
     ap (λ m. (j == i) || (abs_diff j i == (2 ^ m))) (ap (λ x. x % doublings w) later ∙ add-mod_right (t - 1) (doublings w))
 by_period (Spread seed) w steps t j i some few a b =
-    ap (λ x. (j == i) || ((j == x) || ((j == fifth w (t + w) seed i 2) || ((j == fifth w (t + w) seed i 3) || (j == fifth w (t + w) seed i 4))))) (fifth_again w t seed i 1 some)
-    ∙ ap (λ x. (j == i) || ((j == fifth w t seed i 1) || ((j == x) || ((j == fifth w (t + w) seed i 3) || (j == fifth w (t + w) seed i 4))))) (fifth_again w t seed i 2 some)
-    ∙ ap (λ x. (j == i) || ((j == fifth w t seed i 1) || ((j == fifth w t seed i 2) || ((j == x) || (j == fifth w (t + w) seed i 4))))) (fifth_again w t seed i 3 some)
-    ∙ ap (λ x. (j == i) || ((j == fifth w t seed i 1) || ((j == fifth w t seed i 2) || ((j == fifth w t seed i 3) || (j == x))))) (fifth_again w t seed i 4 some)
+    ap (λ x. (j == i)
+    || ((j == x) || ((j == fifth w (t + w) seed i 2) || ((j == fifth w (t + w) seed i 3) || (j == fifth w (t + w) seed i 4)))))
+    (fifth_again w t seed i 1 some)
+    ∙ ap (λ x. (j == i)
+    || ((j == fifth w t seed i 1) || ((j == x) || ((j == fifth w (t + w) seed i 3) || (j == fifth w (t + w) seed i 4)))))
+    (fifth_again w t seed i 2 some)
+    ∙ ap (λ x. (j == i)
+    || ((j == fifth w t seed i 1) || ((j == fifth w t seed i 2) || ((j == x) || (j == fifth w (t + w) seed i 4)))))
+    (fifth_again w t seed i 3 some)
+    ∙ ap (λ x. (j == i)
+    || ((j == fifth w t seed i 1) || ((j == fifth w t seed i 2) || ((j == fifth w t seed i 3) || (j == x)))))
+    (fifth_again w t seed i 4 some)
 by_period (RandomNearest radius seed) w steps t j i some few a b = absurd (omega arith)
 by_period Trivial w steps t j i some few a b = refl
 by_period NoComm w steps t j i some few a b = refl

@@ -1,5 +1,6 @@
 -- A grid is a task graph, whatever its relation: the s-th of those that feed a column and the rank among them are inverse to each other.
-use Rattle.std.proofs.Common.{◌≡◌, ◌<◌, ◌≤◌, ◌+◌, ◌*◌, ◌/◌, ◌%◌, ℕ, zero, suc, Bool, true, false, ℤ, List, Option, if◌then◌else◌, nat_lt, refl, ap, sym, ◌∙◌, subst, arith}
+use Rattle.std.proofs.Common.{◌≡◌, ◌<◌, ◌≤◌, ◌+◌, ◌*◌, ◌/◌, ◌%◌, ℕ, zero, suc, Bool, true, false, ℤ, List, Option, if◌then◌else◌, nat_lt}
+use Rattle.std.proofs.Common.{refl, ap, sym, ◌∙◌, subst, arith}
 use Rattle.std.proofs.lemmas.Bool.{lt-ltb, ltb-true}
 use Rattle.std.proofs.lemmas.Nat.{div-add-mod', mod-mul-add, div-mul-add, mul-add-lt, div_below}
 use Rattle.tp_graph.specs.Graphs.{IsLawful, FillsSlot, IsFilled}
@@ -41,8 +42,15 @@ module _ (r : Relation) (w steps : ℕ) (rule : ℕ → List (List ℤ) → Opti
         higher = omega (arith, goes);
         known = omega (arith, goes, mul-add-lt (suc q) w i steps next inside);
         within = rw (goes, takes) (subst (λ n. rank (λ j. r (suc q) j i) c < n) (sym (at (inputs r w) (suc q) i inside)) own.within);
-        source_is = rw (goes, takes) (at (λ x y. source r w x y (rank (λ j. r (suc q) j i) c)) (suc q) i inside ∙ ap (λ j. q * w + j) own.nth_of);
-        turn_is = rw (goes, takes) (at (λ x y. turn r w x y (rank (λ j. r (suc q) j i) c)) (suc q) i inside ∙ ap (λ j. rank (λ x. r (suc q) j x) i) own.nth_of ∙ is.before);
+        source_is = rw (
+          goes,
+          takes,
+        ) (at (λ x y. source r w x y (rank (λ j. r (suc q) j i) c)) (suc q) i inside ∙ ap (λ j. q * w + j) own.nth_of);
+        turn_is = rw (
+          goes,
+          takes,
+        ) (at (λ x y. turn r w x y (rank (λ j. r (suc q) j i) c)) (suc q) i inside
+            ∙ ap (λ j. rank (λ x. r (suc q) j x) i) own.nth_of ∙ is.before);
       }
 
   filled_at : (q i s : ℕ) → i < w → q < steps → s < inputs r w q i → IsFilled (grid_graph r w steps rule) (q * w + i) s
@@ -53,14 +61,26 @@ module _ (r : Relation) (w steps : ℕ) (rule : ℕ → List (List ℤ) → Opti
       let is = nth_is (λ j. r (suc q) j i) w s few in
       let own = rank_is (λ x. r (suc q) j x) w i h is.has in
       let comes : source r w ((suc q * w + i) / w) ((suc q * w + i) % w) s ≡ q * w + j = at (λ x y. source r w x y s) (suc q) i h in
-      let is_turn : turn r w ((suc q * w + i) / w) ((suc q * w + i) % w) s ≡ rank (λ x. r (suc q) j x) i = at (λ x y. turn r w x y s) (suc q) i h in
+      let is_turn : turn r w ((suc q * w + i) / w) ((suc q * w + i) % w) s ≡ rank (λ x. r (suc q) j x) i =
+      at (λ x y. turn r w x y s) (suc q) i h in
       let inside : j < w = is.below in
-      let many : outputs r w steps q j ≡ rank (λ x. r (suc q) j x) w = if_true (nat_lt (suc q) steps) (rank (λ x. r (suc q) j x) w) (lt-ltb (suc q) steps low) in
+      let many : outputs r w steps q j ≡ rank (λ x. r (suc q) j x) w =
+      if_true (nat_lt (suc q) steps) (rank (λ x. r (suc q) j x) w) (lt-ltb (suc q) steps low) in
       record {
         lower = omega (arith, comes);
-        within = rw (comes, is_turn) (subst (λ n. rank (λ x. r (suc q) j x) i < n) (sym (at (outputs r w steps) q j inside ∙ many)) own.within);
-        target_is = rw (comes, is_turn) (at (λ x y. target r w x y (rank (λ x. r (suc q) j x) i)) q j inside ∙ ap (λ x. suc q * w + x) own.nth_of);
-        slot_is = rw (comes, is_turn) (at (λ x y. slot r w x y (rank (λ x. r (suc q) j x) i)) q j inside ∙ ap (λ x. rank (λ c. r (suc q) c x) j) own.nth_of ∙ is.before);
+        within = rw (
+          comes,
+          is_turn,
+        ) (subst (λ n. rank (λ x. r (suc q) j x) i < n) (sym (at (outputs r w steps) q j inside ∙ many)) own.within);
+        target_is = rw (
+          comes,
+          is_turn,
+        ) (at (λ x y. target r w x y (rank (λ x. r (suc q) j x) i)) q j inside ∙ ap (λ x. suc q * w + x) own.nth_of);
+        slot_is = rw (
+          comes,
+          is_turn,
+        ) (at (λ x y. slot r w x y (rank (λ x. r (suc q) j x) i)) q j inside ∙ ap (λ x. rank (λ c. r (suc q) c x) j) own.nth_of
+            ∙ is.before);
       }
 
   fills : (p k : ℕ) → p < steps * w → k < (grid_graph r w steps rule).feeds p → FillsSlot (grid_graph r w steps rule) p k
@@ -69,12 +89,15 @@ module _ (r : Relation) (w steps : ℕ) (rule : ℕ → List (List ℤ) → Opti
 
   filled : (t s : ℕ) → t < steps * w → s < (grid_graph r w steps rule).arity t → IsFilled (grid_graph r w steps rule) t s
   unfolding grid_graph
-  filled t s h few = subst (λ x. IsFilled (grid_graph r w steps rule) x s) (div-add-mod' t w) (filled_at (t / w) (t % w) s (omega arith) (div_below t w steps some h) few)
+  filled t s h few =
+      subst (λ x. IsFilled (grid_graph r w steps rule) x s) (div-add-mod' t w)
+      (filled_at (t / w) (t % w) s (omega arith) (div_below t w steps some h) few)
 
   home_within : (c m : ℕ) → c < w → 1 ≤ m → c * m / w < m
   home_within c m h p = div_below (c * m) w m some (omega (arith, mul-add-lt c m 0 w h (omega arith)))
 
-pub grid_lawful : (r : Relation) (w steps : ℕ) (rule : ℕ → List (List ℤ) → Option (List ℤ)) → 1 ≤ w → IsNarrow r w steps → IsLawful (grid_graph r w steps rule)
+pub grid_lawful : (r : Relation) (w steps : ℕ) (rule : ℕ → List (List ℤ) → Option (List ℤ)) → 1 ≤ w → IsNarrow r w steps
+    → IsLawful (grid_graph r w steps rule)
 unfolding grid_graph
 grid_lawful r w steps rule some narrow = record {
   few_inputs = λ t p. let positive : 0 < w = omega arith in narrow (t / w) (t % w) (div_below t w steps (omega arith) p) (omega arith);

@@ -1,5 +1,6 @@
 -- The outputs of rows, worked out column by column.
-use Rattle.std.specs.Prelude.{◌≡◌, ◌<◌, ◌≤◌, ◌-◌, ◌*◌, ◌/◌, ◌%◌, ℕ, zero, suc, Bool, List, [], ◌∷◌, ◌++◌, length, slice_index_or, if◌then◌else◌, min, ⊤}
+use Rattle.std.specs.Prelude.{◌≡◌, ◌<◌, ◌≤◌, ◌-◌, ◌*◌, ◌/◌, ◌%◌, ℕ, zero, suc, Bool, List, [], ◌∷◌, ◌++◌, length, slice_index_or}
+use Rattle.std.specs.Prelude.{if◌then◌else◌, min, ⊤}
 use Rattle.pool_patterns.specs.Grids.{Relation, ComesAgain}
 use Rattle.pool_patterns.specs.Faults.{IsWide}
 use Rattle.pool_patterns.specs.Ranks.{rank}
@@ -28,7 +29,8 @@ pub record AreSeen (r : Relation) (w t j n : ℕ) (seen : List ℕ) : Type 0 whe
 -- the outputs of the first columns of all rows, so many: those of column p % w of the row before row p / w + 1
 pub record AreSpans (r : Relation) (w n : ℕ) (spans : List Span) (all : List Output) : Type 0 where
   pub long : length spans ≡ n
-  pub each : (p : ℕ) (d : Span) → p < n → AreOutputs r w (suc (p / w)) (p % w) all (slice_index_or spans p d).start (slice_index_or spans p d).count
+  pub each : (p : ℕ) (d : Span) → p < n
+      → AreOutputs r w (suc (p / w)) (p % w) all (slice_index_or spans p d).start (slice_index_or spans p d).count
 
 -- how many inputs the columns of the first rows have, from row 1 on, and none more than 16
 pub record AreArities (r : Relation) (w n : ℕ) (arities : List ℕ) : Type 0 where

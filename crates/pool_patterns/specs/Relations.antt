@@ -4,7 +4,8 @@ use Rattle.std.specs.Int.{abs_diff}
 use Rattle.pool_patterns.specs.Kernels.{stirred}
 use Rattle.pool_patterns.specs.Ranks.{rank}
 use Rattle.pool_patterns.specs.declared.pattern.Pattern.{Pattern}
-use Rattle.pool_patterns.specs.declared.pattern.Pattern.TheVariants.{Trivial, NoComm, Stencil, StencilPeriodic, Dom, Tree, Fft, AllToAll, Nearest, Spread, RandomNearest}
+use Rattle.pool_patterns.specs.declared.pattern.Pattern.TheVariants.{Trivial, NoComm, Stencil, StencilPeriodic, Dom, Tree, Fft, AllToAll}
+use Rattle.pool_patterns.specs.declared.pattern.Pattern.TheVariants.{Nearest, Spread, RandomNearest}
 
 -- how many of 2, 4, 8 and so on are at most w, but 1 at least
 abbrev pub doublings : ℕ → ℕ

@@ -1,5 +1,7 @@
 -- A step of a rod is one of its blocks, and no cell leaves 64 bits.
-use Rattle.std.proofs.Common.{◌≡◌, ◌<◌, ◌≤◌, ◌+◌, ◌-◌, ◌*◌, ◌/◌, ◌^◌, ℕ, zero, suc, ℤ, pos, negsuc, neg_ℤ, ◌+ℤ◌, Bool, List, [], ◌∷◌, ◌++◌, length, take, drop, true, false, if◌then◌else◌, nat_lt, length-take, length-drop, refl, ap, sym, ◌∙◌, ⊎_elim, arith}
+use Rattle.std.proofs.Common.{◌≡◌, ◌<◌, ◌≤◌, ◌+◌, ◌-◌, ◌*◌, ◌/◌, ◌^◌, ℕ, zero, suc, ℤ, pos, negsuc, neg_ℤ, ◌+ℤ◌, Bool, List, [], ◌∷◌, ◌++◌}
+use Rattle.std.proofs.Common.{length, take, drop, true, false, if◌then◌else◌, nat_lt, length-take, length-drop, refl, ap, sym, ◌∙◌, ⊎_elim}
+use Rattle.std.proofs.Common.{arith}
 use Rattle.std.specs.Prelude.{unsigned_abs}
 use Rattle.std.proofs.Math.Seq.{take-add}
 use Rattle.std.proofs.lemmas.Bool.{and_parts, and_from}
@@ -30,7 +32,9 @@ first-of (suc n) (x ∷ xs) r = refl
 take-swept : (n : ℕ) (l : ℤ) (xs : List ℤ) (r : ℤ) → take n (sweep l xs r) ≡ sweep l (take n xs) (first_or r (drop n xs))
 take-swept zero l xs r = refl
 take-swept (suc n) l [] r = refl
-take-swept (suc n) l (x ∷ xs) r = ap (λ z. mixed l x z ∷ take n (sweep x xs r)) (first-of n xs r) ∙ ap (λ m. mixed l x (first_or (first_or r (drop n xs)) (take n xs)) ∷ m) (take-swept n x xs r)
+take-swept (suc n) l (x ∷ xs) r =
+    ap (λ z. mixed l x z ∷ take n (sweep x xs r)) (first-of n xs r)
+    ∙ ap (λ m. mixed l x (first_or (first_or r (drop n xs)) (take n xs)) ∷ m) (take-swept n x xs r)
 
 drop-swept : (n : ℕ) (l : ℤ) (xs : List ℤ) (r : ℤ) → drop n (sweep l xs r) ≡ sweep (last_or l (take n xs)) (drop n xs) r
 drop-swept zero l xs r = refl
@@ -52,7 +56,8 @@ first-any d (suc n) [] h = refl
 first-any d (suc n) (x ∷ xs) h = refl
 
 -- the number to the left of a block
-left-is : (size : ℕ) (xs : List ℤ) (b : ℕ) → 1 ≤ size → b * size < length xs → last_or (pos 0) (take (b * size) xs) ≡ last_or (pos 0) (block_before size b xs)
+left-is : (size : ℕ) (xs : List ℤ) (b : ℕ) → 1 ≤ size → b * size < length xs
+    → last_or (pos 0) (take (b * size) xs) ≡ last_or (pos 0) (block_before size b xs)
 left-is size xs zero some h =
     let none : zero * size ≡ 0 = omega arith in
     ap (λ k. last_or (pos 0) (take k xs)) none
@@ -69,7 +74,8 @@ left-is size xs (suc b) some h =
     ∙ ap (λ t. last_or (pos 0) (if t then block_of size (suc b - 1) xs else [])) (sym yes)
 
 -- the number to its right
-right-is : (size : ℕ) (xs : List ℤ) (b : ℕ) → 1 ≤ size → first_or (pos 0) (drop size (drop (b * size) xs)) ≡ first_or (pos 0) (block_behind size b xs)
+right-is : (size : ℕ) (xs : List ℤ) (b : ℕ) → 1 ≤ size
+    → first_or (pos 0) (drop size (drop (b * size) xs)) ≡ first_or (pos 0) (block_behind size b xs)
 right-is size xs b some =
     let at : b * size + size ≡ (b + 1) * size = omega arith in
     let behind : drop size (drop (b * size) xs) ≡ drop ((b + 1) * size) xs = drop-drop size (b * size) xs ∙ ap (λ k. drop k xs) at in
@@ -105,11 +111,14 @@ last-fits : (d : ℤ) (xs : List ℤ) → fits d ≡ true → all_fit xs ≡ tru
 last-fits d [] p q = p
 last-fits d (x ∷ xs) p q = let both = and_parts (fits x) (all_fit xs) q in last-fits x xs both.0 both.1
 
-swept-fit : (left : ℤ) (xs : List ℤ) (right : ℤ) → fits left ≡ true → all_fit xs ≡ true → fits right ≡ true → all_fit (sweep left xs right) ≡ true
+swept-fit : (left : ℤ) (xs : List ℤ) (right : ℤ) → fits left ≡ true → all_fit xs ≡ true → fits right ≡ true
+    → all_fit (sweep left xs right) ≡ true
 swept-fit left [] right p q r = refl
 swept-fit left (x ∷ xs) right p q r =
     let both = and_parts (fits x) (all_fit xs) q in
-    and_from (fits (mixed left x (first_or right xs))) (all_fit (sweep x xs right)) (mixed-fits left x (first_or right xs) p both.0 (first-fits right xs r both.1)) (swept-fit x xs right both.0 both.1 r)
+    and_from (fits (mixed left x (first_or right xs))) (all_fit (sweep x xs right))
+    (mixed-fits left x (first_or right xs) p both.0 (first-fits right xs r both.1)) (swept-fit x xs right both.0 both.1 r)
 
 pub heated-fit : KeepsFit block_heated
-heated-fit before own behind p q r = swept-fit (last_or (pos 0) before) own (first_or (pos 0) behind) (last-fits (pos 0) before refl p) q (first-fits (pos 0) behind refl r)
+heated-fit before own behind p q r =
+    swept-fit (last_or (pos 0) before) own (first_or (pos 0) behind) (last-fits (pos 0) before refl p) q (first-fits (pos 0) behind refl r)

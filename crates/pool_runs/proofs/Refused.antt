@@ -1,5 +1,6 @@
 -- Why a run over lent data gives nothing.
-use Rattle.std.proofs.Common.{◌≡◌, ◌<◌, ◌≤◌, ◌+◌, ◌-◌, ◌*◌, ◌/◌, ℕ, ℤ, true, false, List, length, sym, ap, subst, ◌∙◌, ⊎_elim, inl, inr, arith}
+use Rattle.std.proofs.Common.{◌≡◌, ◌<◌, ◌≤◌, ◌+◌, ◌-◌, ◌*◌, ◌/◌, ℕ, ℤ, true, false, List, length, sym, ap, subst, ◌∙◌, ⊎_elim, inl, inr}
+use Rattle.std.proofs.Common.{arith}
 use Rattle.std.proofs.lemmas.Bool.{false≢true}
 use Rattle.std.proofs.lemmas.Nat.{div-mul-add, mul-add-lt}
 use Rattle.tp_base.specs.declared.Refusal.{Refusal}
@@ -16,7 +17,8 @@ use Rattle.pool_matrix.specs.Matrices.{IsMatrixRefusal, LacksTile, matrix_graph}
 use Rattle.tp_work.specs.Outcomes.{HasEachOnce, IsFault, IsOutcome}
 
 -- the fault of a pool, whatever else may be at fault
-pub lent_fault : (n workers : ℕ) (P : Type 0) (g h : TaskGraph) (fault : LentFault) → g ≡ h → IsLentFault n workers ⊥ g fault → IsLentFault n workers P h fault
+pub lent_fault : (n workers : ℕ) (P : Type 0) (g h : TaskGraph) (fault : LentFault) → g ≡ h → IsLentFault n workers ⊥ g fault
+    → IsLentFault n workers P h fault
 lent_fault n workers P g h BadInput is why = absurd why
 lent_fault n workers P g h (Run fault) is why = subst (λ g. IsFault n g fault) is why
 lent_fault n workers P g h (Unmade outcome) is why = subst (λ g. IsOutcome n workers g outcome) is why
@@ -32,13 +34,16 @@ heat-is blocks size_now size steps_now steps cells_now cells made =
     ∙ ap (heat_graph cells (blocks_of (length cells) size) size) made.3
 
 -- the fault of a run in parts, in the rod's words
-pub heat_part : (n workers : ℕ) (cells : List ℤ) (size steps : ℕ) (fault : LentFault) → any.IsPartFault n workers (λ cells size. true) heated block_heated cells size steps fault → IsPartFault n workers cells size steps fault
+pub heat_part : (n workers : ℕ) (cells : List ℤ) (size steps : ℕ) (fault : LentFault)
+    → any.IsPartFault n workers (λ cells size. true) heated block_heated cells size steps fault
+    → IsPartFault n workers cells size steps fault
 heat_part n workers cells size steps BadInput (inl cut) = absurd (false≢true (sym cut))
 heat_part n workers cells size steps BadInput (inr none) = none
 heat_part n workers cells size steps (Run fault) why = why
 heat_part n workers cells size steps (Unmade outcome) why = why
 
-pub product_refused : (left right : List ℤ) (tiles side : ℕ) (results : Results) (refusal : Refusal) → HasEachOnce (matrix_graph left right tiles side).tasks results →
+pub product_refused : (left right : List ℤ) (tiles side : ℕ) (results : Results) (refusal : Refusal)
+    → HasEachOnce (matrix_graph left right tiles side).tasks results →
     IsMatrixRefusal tiles results refusal → refusal ≡ NoMemory
 unfolding matrix_graph
 product_refused left right tiles side results refusal once why =
@@ -46,7 +51,8 @@ product_refused left right tiles side results refusal once why =
     (λ e. e)
     (λ (lacks : (refusal ≡ Missing) × LacksTile tiles results).
     let lack = lacks.1 in
-    let upper : lack.row * tiles + lack.column < tiles * tiles = mul-add-lt lack.row tiles lack.column tiles lack.row_within lack.column_within in
+    let upper : lack.row * tiles + lack.column < tiles * tiles =
+    mul-add-lt lack.row tiles lack.column tiles lack.row_within lack.column_within in
     let last : tiles - 1 < tiles = omega (arith, lack.row_within) in
     let within : (lack.row * tiles + lack.column) * tiles + (tiles - 1) < tiles * tiles * tiles =
     omega (arith, mul-add-lt (lack.row * tiles + lack.column) tiles (tiles - 1) (tiles * tiles) upper last) in

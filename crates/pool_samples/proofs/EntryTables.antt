@@ -1,5 +1,6 @@
 -- The tables of entries, held against the definition at each place by computing.
-use Rattle.std.proofs.Common.{◌≡◌, ◌<◌, ◌≤◌, ◌+◌, ◌*◌, ◌*ℤ◌, ◌/◌, ◌%◌, ℕ, zero, suc, ℤ, pos, ◌-ℤ◌, unsigned_abs, List, length, get_or, Bool, true, ◌&&◌, refl, ap, ◌∙◌, arith}
+use Rattle.std.proofs.Common.{◌≡◌, ◌<◌, ◌≤◌, ◌+◌, ◌*◌, ◌*ℤ◌, ◌/◌, ◌%◌, ℕ, zero, suc, ℤ, pos, ◌-ℤ◌, unsigned_abs, List, length, get_or, Bool}
+use Rattle.std.proofs.Common.{true, ◌&&◌, refl, ap, ◌∙◌, arith}
 use Rattle.std.specs.Ordering.{int_eq}
 use Rattle.std.proofs.lemmas.Bool.Decides.{Decides-int_eq, Decides-below_and}
 use Rattle.std.proofs.lemmas.Int.{ints}
@@ -15,7 +16,9 @@ agrees table f (suc n) = int_eq (get_or table n (pos 0)) (f n) && agrees table f
 
 agrees-at : (table : List ℤ) (f : ℕ → ℤ) (n : ℕ) → agrees table f n ≡ true → (p : ℕ) → p < n → get_or table p (pos 0) ≡ f p
 unfolding agrees
-agrees-at table f n h = (Decides-below_and (λ p. int_eq (get_or table p (pos 0)) (f p)) (λ p. get_or table p (pos 0) ≡ f p) (agrees table f) (λ p. Decides-int_eq (get_or table p (pos 0)) (f p)) refl (λ k. refl) n).0 h
+agrees-at table f n h =
+    (Decides-below_and (λ p. int_eq (get_or table p (pos 0)) (f p)) (λ p. get_or table p (pos 0)
+    ≡ f p) (agrees table f) (λ p. Decides-int_eq (get_or table p (pos 0)) (f p)) refl (λ k. refl) n).0 h
 
 -- the entry of a residue
 of_residue : ℕ → ℤ
@@ -51,12 +54,16 @@ pub right_at : (place n : ℕ) → place + n < 84 → get_or RIGHT (place + n) (
 unfolding of_residue
 right_at place n h = right-table (place + n) h
 
--- the sum of the products of two slices of the tables, the left one of row x from column start on, the right one of column y from row start on
-pub slices_sum : (seed x y start place count : ℕ) (left right : List ℤ) → length left ≡ count → 5 * place % 21 ≡ (5 * start + 2 * y + seed) % 21 →
-    ((n : ℕ) → n < count → get_or left n (pos 0) ≡ left_entry seed x (start + n)) → ((n : ℕ) → n < count → get_or right n (pos 0) ≡ pos (5 * (place + n) % 21) -ℤ pos 10) →
+-- the sum of the products of two slices of the tables, the left one of row x from column start on, the right one of
+-- column y from row start on
+pub slices_sum : (seed x y start place count : ℕ) (left right : List ℤ) → length left ≡ count
+    → 5 * place % 21 ≡ (5 * start + 2 * y + seed) % 21 →
+    ((n : ℕ) → n < count → get_or left n (pos 0) ≡ left_entry seed x (start + n))
+    → ((n : ℕ) → n < count → get_or right n (pos 0) ≡ pos (5 * (place + n) % 21) -ℤ pos 10) →
     sum_from 0 (length left) (λ n. get_or left n (pos 0) *ℤ get_or right n (pos 0)) ≡ sum_from start count (term seed x y)
 slices_sum seed x y start place count left right long at lefts rights =
     let same : (n : ℕ) → 5 * (place + n) % 21 ≡ (5 * (start + n) + 2 * y + seed) % 21 = λ n. omega arith in
     ap (λ k. sum_from 0 k (λ n. get_or left n (pos 0) *ℤ get_or right n (pos 0))) long
     ∙ sum_same start count (λ n. get_or left n (pos 0) *ℤ get_or right n (pos 0)) (term seed x y)
-    (λ n h. ap (λ a. a *ℤ get_or right n (pos 0)) (lefts n h) ∙ ap (λ b. left_entry seed x (start + n) *ℤ b) (rights n h ∙ ap (λ r. pos r -ℤ pos 10) (same n)))
+    (λ n h. ap (λ a. a *ℤ get_or right n (pos 0)) (lefts n h)
+    ∙ ap (λ b. left_entry seed x (start + n) *ℤ b) (rights n h ∙ ap (λ r. pos r -ℤ pos 10) (same n)))

@@ -20,11 +20,25 @@ leaves-few n s h = let t = h.leaf_count in (grind (arith, nat_tests), grind (ari
 pub reduce_cell : (r : Reduce) (i j : ℕ) → HasCell (pool.Reduce r) i j 0 0
 reduce_cell r i j =
     let few = leaves-few r.leaves r.seed r.in_rules in
-    record { known = omega arith; task_is = refl; numbers = pos (sum_of_leaves r.seed r.leaves) ∷ []; is_value = tree_root r.leaves r.seed r.in_rules few.0 few.1; within = omega arith; is_cell = refl }
+    record {
+      known = omega arith;
+      task_is = refl;
+      numbers = pos (sum_of_leaves r.seed r.leaves) ∷ [];
+      is_value = tree_root r.leaves r.seed r.in_rules few.0 few.1;
+      within = omega arith;
+      is_cell = refl;
+    }
 
 pub wavefront_cell : (w : Wavefront) (i j : ℕ) → i < w.rows → j < w.columns → HasCell (pool.Wavefront w) i j (i * w.columns + j) 0
 wavefront_cell w i j p q =
-    record { known = omega (arith, mul-add-lt i w.columns j w.rows p q); task_is = refl; numbers = pos (cell w.seed i j) ∷ []; is_value = wave_cell w.rows w.columns w.seed w.in_rules i j p q; within = omega arith; is_cell = refl }
+    record {
+      known = omega (arith, mul-add-lt i w.columns j w.rows p q);
+      task_is = refl;
+      numbers = pos (cell w.seed i j) ∷ [];
+      is_value = wave_cell w.rows w.columns w.seed w.in_rules i j p q;
+      within = omega arith;
+      is_cell = refl;
+    }
 
 list-at : {A : Type 0} (count : ℕ) (f : ℕ → A) (k : ℕ) (d : A) → k < count → get_or (list_of count f) k d ≡ f k
 list-at zero f k d h = absurd (omega arith)
@@ -40,8 +54,10 @@ product_cell p x y h q =
     let xs : x % p.side < p.side = omega arith in
     let ys : y % p.side < p.side = omega arith in
     let inside : place < p.side * p.side = mul-add-lt (x % p.side) p.side (y % p.side) p.side xs ys in
-    let ex : (x / p.side) * p.side + place / p.side ≡ x = ap (λ n. (x / p.side) * p.side + n) (div-mul-add (x % p.side) p.side (y % p.side) ys) ∙ div-add-mod' x p.side in
-    let ey : (y / p.side) * p.side + place % p.side ≡ y = ap (λ n. (y / p.side) * p.side + n) (mod-mul-add (x % p.side) p.side (y % p.side) ys) ∙ div-add-mod' y p.side in
+    let ex : (x / p.side) * p.side + place / p.side ≡ x =
+    ap (λ n. (x / p.side) * p.side + n) (div-mul-add (x % p.side) p.side (y % p.side) ys) ∙ div-add-mod' x p.side in
+    let ey : (y / p.side) * p.side + place % p.side ≡ y =
+    ap (λ n. (y / p.side) * p.side + n) (mod-mul-add (x % p.side) p.side (y % p.side) ys) ∙ div-add-mod' y p.side in
     let row : x / p.side < p.tiles = div_below x p.side p.tiles some h in
     let column : y / p.side < p.tiles = div_below y p.side p.tiles some q in
     record {
@@ -50,7 +66,9 @@ product_cell p x y h q =
       numbers = list_of (p.side * p.side) f;
       is_value = product_tile p.tiles p.side p.seed p.in_rules (x / p.side) (y / p.side) row column;
       within = omega (arith, list-length (p.side * p.side) f, inside);
-      is_cell = list-at (p.side * p.side) f place (pos 0) inside ∙ ap (λ a. entry (p.tiles * p.side) p.seed a ((y / p.side) * p.side + place % p.side)) ex ∙ ap (entry (p.tiles * p.side) p.seed x) ey;
+      is_cell = list-at (p.side * p.side) f place (pos 0) inside
+          ∙ ap (λ a. entry (p.tiles * p.side) p.seed a ((y / p.side) * p.side + place % p.side)) ex
+          ∙ ap (entry (p.tiles * p.side) p.seed x) ey;
     }
 
 -- the last task that adds to a tile

@@ -1,11 +1,13 @@
-use Rattle.std.proofs.Common.{◌≡◌, ◌<◌, ◌≤◌, ◌+◌, ◌-◌, ◌*◌, ◌/◌, ◌%◌, ◌^◌, ℕ, zero, suc, ℤ, pos, negsuc, ◌+ℤ◌, unsigned_abs, List, [], ◌∷◌, length, Option, Some, true, nat_eq, if◌then◌else◌, refl, sym, ap, ◌∙◌, subst, IsSome, rules, arith}
+use Rattle.std.proofs.Common.{◌≡◌, ◌<◌, ◌≤◌, ◌+◌, ◌-◌, ◌*◌, ◌/◌, ◌%◌, ◌^◌, ℕ, zero, suc, ℤ, pos, negsuc, ◌+ℤ◌, unsigned_abs, List, [], ◌∷◌}
+use Rattle.std.proofs.Common.{length, Option, Some, true, nat_eq, if◌then◌else◌, refl, sym, ap, ◌∙◌, subst, IsSome, rules, arith}
 use Rattle.std.specs.Int.Signed.{mag}
 use Rattle.std.proofs.lemmas.Bool.{and_from}
 use Rattle.std.proofs.lemmas.Bool.Decides.{nat_tests}
 use Rattle.std.proofs.lemmas.Int.{ints, unsigned_abs-mul}
 use Rattle.std.proofs.lemmas.Nat.{mod-mul-add, div-mul-add, mul-add-lt, mul-le, div_below, div-add-mod'}
 use Rattle.tp_graph.specs.Values.{value_of, fits, all_fit, fitting, then_some}
-use Rattle.pool_samples.specs.Products.{IsProduct, product_graph, left_entry, right_entry, term, sum_from, list_of, tile, add_lists, tile_and_input, entry}
+use Rattle.pool_samples.specs.Products.{IsProduct, product_graph, left_entry, right_entry, term, sum_from, list_of, tile, add_lists}
+use Rattle.pool_samples.specs.Products.{tile_and_input, entry}
 use Rattle.pool_samples.specs.ProductLaws.{product_lawful}
 use Rattle.pool_samples.proofs.Sums.{list-length, fits_from}
 use Rattle.tp_graph.proofs.Valued.{value-zero, value-one}
@@ -17,7 +19,9 @@ right-small : (seed z y : ℕ) → unsigned_abs (right_entry seed z y) ≤ 10
 right-small seed z y = let n : (5 * z + 2 * y + seed) % 21 < 21 = omega arith in omega (arith, ints)
 
 term-small : (seed x y z : ℕ) → unsigned_abs (term seed x y z) ≤ 100
-term-small seed x y z = rw (unsigned_abs-mul (left_entry seed x z) (right_entry seed z y)) (mul-le (unsigned_abs (left_entry seed x z)) (unsigned_abs (right_entry seed z y)) 10 10 (left-small seed x z) (right-small seed z y))
+term-small seed x y z =
+    rw (unsigned_abs-mul (left_entry seed x z) (right_entry seed z y))
+    (mul-le (unsigned_abs (left_entry seed x z)) (unsigned_abs (right_entry seed z y)) 10 10 (left-small seed x z) (right-small seed z y))
 
 abs-add : (a b : ℤ) (n : ℕ) → unsigned_abs a ≤ n → unsigned_abs b ≤ 100 → unsigned_abs (a +ℤ b) ≤ n + 100
 abs-add a b n p q = omega (arith, ints)
@@ -39,7 +43,8 @@ list-same (suc count) f h e = rw (e 0) (ap (λ l. h 0 ∷ l) (list-same count (�
 
 list-fits : (count : ℕ) (f : ℕ → ℤ) → ((e : ℕ) → fits (f e) ≡ true) → all_fit (list_of count f) ≡ true
 list-fits zero f h = refl
-list-fits (suc count) f h = and_from (fits (f 0)) (all_fit (list_of count (λ k. f (suc k)))) (h 0) (list-fits count (λ k. f (suc k)) (λ k. h (suc k)))
+list-fits (suc count) f h =
+    and_from (fits (f 0)) (all_fit (list_of count (λ k. f (suc k)))) (h 0) (list-fits count (λ k. f (suc k)) (λ k. h (suc k)))
 
 list-added : (count : ℕ) (f h : ℕ → ℤ) → add_lists (list_of count f) (list_of count h) ≡ list_of count (λ e. f e +ℤ h e)
 list-added zero f h = refl
@@ -70,7 +75,9 @@ module _ (tiles side seed : ℕ) (kept : IsProduct tiles side seed) where
   unfolding so_far
   so_far-fits i j count e h =
       let f : ℕ → ℤ = term seed (i * side + e / side) (j * side + e % side) in
-      fits_from (sum_from 0 count f) (small-mag (sum_from 0 count f) (100 * count) (sum-small 0 count f (term-small seed (i * side + e / side) (j * side + e % side))) (omega arith))
+      fits_from (sum_from 0 count f)
+      (small-mag (sum_from 0 count f) (100 * count)
+      (sum-small 0 count f (term-small seed (i * side + e / side) (j * side + e % side))) (omega arith))
 
   known : (i j k : ℕ) → i < tiles → j < tiles → k < tiles → (i * tiles + j) * tiles + k < tiles * tiles * tiles
   known i j k p q r = let row = mul-add-lt i tiles j tiles p q in omega (arith, mul-add-lt (i * tiles + j) tiles k (tiles * tiles) row r)
@@ -92,7 +99,8 @@ module _ (tiles side seed : ℕ) (kept : IsProduct tiles side seed) where
       let f : ℕ → ℤ = term seed (i * side + e / side) (j * side + e % side) in
       let start : suc k * side ≡ 0 + (k + 1) * side = omega arith in
       let many : (k + 1) * side + side ≡ (suc k + 1) * side = omega arith in
-      ap (λ s. sum_from 0 ((k + 1) * side) f +ℤ sum_from s side f) start ∙ sum-split 0 ((k + 1) * side) side f ∙ ap (λ n. sum_from 0 n f) many
+      ap (λ s. sum_from 0 ((k + 1) * side) f +ℤ sum_from s side f) start ∙ sum-split 0 ((k + 1) * side) side f
+      ∙ ap (λ n. sum_from 0 n f) many
 
   within : (k : ℕ) → k < tiles → (k + 1) * side ≤ 64
   within k h = let m = mul-le (k + 1) side tiles side (omega arith) (omega arith) in omega (arith, m, kept.small)
@@ -100,19 +108,25 @@ module _ (tiles side seed : ℕ) (kept : IsProduct tiles side seed) where
   fitting-all : (xs : List ℤ) → all_fit xs ≡ true → fitting xs ≡ Some xs
   fitting-all xs h = rw h refl
 
-  sums-fit : (i j k : ℕ) → k < tiles → fitting (list_of (side * side) (so_far i j ((k + 1) * side))) ≡ Some (list_of (side * side) (so_far i j ((k + 1) * side)))
-  sums-fit i j k h = fitting-all (list_of (side * side) (so_far i j ((k + 1) * side))) (list-fits (side * side) (so_far i j ((k + 1) * side)) (λ e. so_far-fits i j ((k + 1) * side) e (within k h)))
+  sums-fit : (i j k : ℕ) → k < tiles
+      → fitting (list_of (side * side) (so_far i j ((k + 1) * side))) ≡ Some (list_of (side * side) (so_far i j ((k + 1) * side)))
+  sums-fit i j k h =
+      fitting-all (list_of (side * side) (so_far i j ((k + 1) * side)))
+      (list-fits (side * side) (so_far i j ((k + 1) * side)) (λ e. so_far-fits i j ((k + 1) * side) e (within k h)))
 
   nat-same : (n : ℕ) → nat_eq n n ≡ true
   nat-same n = grind (arith, nat_tests)
 
   input_added : (i j k : ℕ) → k < tiles → (made : List ℤ) → made ≡ list_of (side * side) (part i j (suc k)) → suc k < tiles →
-      then_some (tile_and_input (side * side) made (list_of (side * side) (so_far i j ((k + 1) * side)) ∷ [])) fitting ≡ Some (list_of (side * side) (so_far i j ((suc k + 1) * side)))
+      then_some (tile_and_input (side * side) made (list_of (side * side) (so_far i j ((k + 1) * side)) ∷ [])) fitting
+      ≡ Some (list_of (side * side) (so_far i j ((suc k + 1) * side)))
   input_added i j k h made e r =
       let prev : List ℤ = list_of (side * side) (so_far i j ((k + 1) * side)) in
-      let long : nat_eq (length prev) (side * side) ≡ true = ap (λ n. nat_eq n (side * side)) (list-length (side * side) (so_far i j ((k + 1) * side))) ∙ nat-same (side * side) in
+      let long : nat_eq (length prev) (side * side) ≡ true =
+      ap (λ n. nat_eq n (side * side)) (list-length (side * side) (so_far i j ((k + 1) * side))) ∙ nat-same (side * side) in
       let sums : add_lists prev made ≡ list_of (side * side) (so_far i j ((suc k + 1) * side)) =
-      ap (add_lists prev) e ∙ list-added (side * side) (so_far i j ((k + 1) * side)) (part i j (suc k)) ∙ list-same (side * side) (λ x. so_far i j ((k + 1) * side) x +ℤ part i j (suc k) x)
+      ap (add_lists prev) e ∙ list-added (side * side) (so_far i j ((k + 1) * side)) (part i j (suc k))
+      ∙ list-same (side * side) (λ x. so_far i j ((k + 1) * side) x +ℤ part i j (suc k) x)
       (so_far i j ((suc k + 1) * side)) (next_part i j k) in
       rw long (ap fitting sums ∙ sums-fit i j (suc k) r)
 
@@ -131,8 +145,10 @@ module _ (tiles side seed : ℕ) (kept : IsProduct tiles side seed) where
       let b : t / tiles % tiles ≡ j = ap (λ m. m % tiles) d ∙ mod-mul-add i tiles j q in
       let none : (product_graph tiles side seed).arity t ≡ 0 = ap (λ m. if nat_eq m 0 then 0 else 1) c in
       let made : tile side seed (t / tiles / tiles) (t / tiles % tiles) (t % tiles) ≡ list_of (side * side) (so_far i j ((0 + 1) * side)) =
-      ap (λ m. tile side seed m (t / tiles % tiles) (t % tiles)) a ∙ ap (λ m. tile side seed i m (t % tiles)) b ∙ ap (tile side seed i j) c ∙ is_tile i j 0 ∙ list-same (side * side) (part i j 0) (so_far i j (1 * side)) (first_part i j) in
-      value-zero (product_graph tiles side seed) t (product_lawful tiles side seed kept) (known i j 0 p q r) none ∙ ap fitting made ∙ sums-fit i j 0 r
+      ap (λ m. tile side seed m (t / tiles % tiles) (t % tiles)) a ∙ ap (λ m. tile side seed i m (t % tiles)) b
+      ∙ ap (tile side seed i j) c ∙ is_tile i j 0 ∙ list-same (side * side) (part i j 0) (so_far i j (1 * side)) (first_part i j) in
+      value-zero (product_graph tiles side seed) t (product_lawful tiles side seed kept) (known i j 0 p q r) none ∙ ap fitting made
+      ∙ sums-fit i j 0 r
   step i j (suc k) p q r =
       let t : ℕ = (i * tiles + j) * tiles + suc k in
       let c : t % tiles ≡ suc k = mod-mul-add (i * tiles + j) tiles (suc k) r in
@@ -143,26 +159,33 @@ module _ (tiles side seed : ℕ) (kept : IsProduct tiles side seed) where
       let lower : k < tiles = omega arith in
       let before : t - 1 ≡ (i * tiles + j) * tiles + k = omega arith in
       let made : tile side seed (t / tiles / tiles) (t / tiles % tiles) (t % tiles) ≡ list_of (side * side) (part i j (suc k)) =
-      ap (λ m. tile side seed m (t / tiles % tiles) (t % tiles)) a ∙ ap (λ m. tile side seed i m (t % tiles)) b ∙ ap (tile side seed i j) c ∙ is_tile i j (suc k) in
-      value-one (product_graph tiles side seed) t (list_of (side * side) (so_far i j ((k + 1) * side))) (product_lawful tiles side seed kept) (known i j (suc k) p q r) one
+      ap (λ m. tile side seed m (t / tiles % tiles) (t % tiles)) a ∙ ap (λ m. tile side seed i m (t % tiles)) b
+      ∙ ap (tile side seed i j) c ∙ is_tile i j (suc k) in
+      value-one (product_graph tiles side seed) t (list_of (side * side) (so_far i j ((k + 1) * side)))
+      (product_lawful tiles side seed kept) (known i j (suc k) p q r) one
       (ap (value_of (product_graph tiles side seed)) before ∙ step i j k p q lower)
       ∙ input_added i j k lower (tile side seed (t / tiles / tiles) (t / tiles % tiles) (t % tiles)) made r
 
   -- the last task in a row of k has a tile of the product, each entry one sum over all z
   pub product_tile : (i j : ℕ) → i < tiles → j < tiles →
-      value_of (product_graph tiles side seed) ((i * tiles + j) * tiles + (tiles - 1)) ≡ Some (list_of (side * side) (λ e. entry (tiles * side) seed (i * side + e / side) (j * side + e % side)))
+      value_of (product_graph tiles side seed) ((i * tiles + j) * tiles + (tiles - 1))
+      ≡ Some (list_of (side * side) (λ e. entry (tiles * side) seed (i * side + e / side) (j * side + e % side)))
   unfolding so_far
   product_tile i j p q =
       let last : tiles - 1 < tiles = omega (arith, kept.some_tiles) in
-      let all : (tiles - 1 + 1) * side ≡ tiles * side = ap (λ n. n * side) (let n : tiles - 1 + 1 ≡ tiles = omega (arith, kept.some_tiles) in n) in
-      step i j (tiles - 1) p q last ∙ ap (λ n. Some (list_of (side * side) (λ e. sum_from 0 n (term seed (i * side + e / side) (j * side + e % side))))) all
+      let all : (tiles - 1 + 1) * side ≡ tiles * side =
+      ap (λ n. n * side) (let n : tiles - 1 + 1 ≡ tiles = omega (arith, kept.some_tiles) in n) in
+      step i j (tiles - 1) p q last
+      ∙ ap (λ n. Some (list_of (side * side) (λ e. sum_from 0 n (term seed (i * side + e / side) (j * side + e % side))))) all
 
   -- each task has a value
   pub product_valued : (t : ℕ) → t < tiles * tiles * tiles → IsSome (value_of (product_graph tiles side seed) t)
   product_valued t h =
       let some : 0 < tiles = omega (arith, kept.some_tiles) in
       let upper : t / tiles < tiles * tiles = div_below t tiles (tiles * tiles) some h in
-      let e = step (t / tiles / tiles) (t / tiles % tiles) (t % tiles) (div_below (t / tiles) tiles tiles some upper) (omega arith) (omega arith) in
-      let place : (t / tiles / tiles * tiles + t / tiles % tiles) * tiles + t % tiles ≡ t = ap (λ n. n * tiles + t % tiles) (div-add-mod' (t / tiles) tiles) ∙ div-add-mod' t tiles in
+      let e = step (t / tiles / tiles) (t / tiles % tiles) (t % tiles) (div_below (t / tiles) tiles tiles some upper) (omega arith)
+      (omega arith) in
+      let place : (t / tiles / tiles * tiles + t / tiles % tiles) * tiles + t % tiles ≡ t =
+      ap (λ n. n * tiles + t % tiles) (div-add-mod' (t / tiles) tiles) ∙ div-add-mod' t tiles in
       let P : Option (List ℤ) → Type 0 = λ o. IsSome o in
       subst P (sym (sym (ap (value_of (product_graph tiles side seed)) place) ∙ e)) (search rules)

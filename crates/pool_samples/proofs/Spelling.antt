@@ -1,4 +1,5 @@
-use Rattle.std.proofs.Common.{◌≡◌, ◌≢◌, ◌<◌, ◌≤◌, ◌+◌, ◌*◌, ◌/◌, ◌%◌, ◌^◌, IsTrue, ◌++◌, ℕ, zero, suc, List, [], ◌∷◌, length, get_or, decimal, Some, Result, Ok, Err, IfSome, true, refl, sym, ap, ◌∙◌, arith, length-append}
+use Rattle.std.proofs.Common.{◌≡◌, ◌≢◌, ◌<◌, ◌≤◌, ◌+◌, ◌*◌, ◌/◌, ◌%◌, ◌^◌, IsTrue, ◌++◌, ℕ, zero, suc, List, [], ◌∷◌, length, get_or}
+use Rattle.std.proofs.Common.{decimal, Some, Result, Ok, Err, IfSome, true, refl, sym, ap, ◌∙◌, arith, length-append}
 use Rattle.std.proofs.Math.Seq.{get_or-append_seam}
 use Rattle.std.specs.Result.{result_ok}
 use Rattle.std.specs.Str.{all_ascii_digits}
@@ -30,7 +31,8 @@ decimal_plain n h = record {
 }
 
 -- plain digits are the decimal of the number that they are read as
-pub read_plain : {E : Type 0} (bs : List ℕ) (r : Result ℕ E) → ParsesUnsigned 32 10 bs r → IsPlain bs → IfSome (result_ok r) (λ n. bs ≡ decimal n)
+pub read_plain : {E : Type 0} (bs : List ℕ) (r : Result ℕ E) → ParsesUnsigned 32 10 bs r → IsPlain bs
+    → IfSome (result_ok r) (λ n. bs ≡ decimal n)
 read_plain {E} bs (Ok n) h plain =
     let told = parse_plain own {E = E} 32 bs (Ok n) h plain.unsigned in
     let small : digits_value 10 bs < 2 ^ 64 = omega (arith, told.0.2) in
@@ -38,11 +40,13 @@ read_plain {E} bs (Ok n) h plain =
 read_plain {E} bs (Err e) h plain = tt
 
 -- a decimal number is read as itself
-pub read_decimal : {E : Type 0} (bs : List ℕ) (n : ℕ) (r : Result ℕ E) → ParsesUnsigned 32 10 bs r → n < 2 ^ 32 → bs ≡ decimal n → result_ok r ≡ Some n
+pub read_decimal : {E : Type 0} (bs : List ℕ) (n : ℕ) (r : Result ℕ E) → ParsesUnsigned 32 10 bs r → n < 2 ^ 32 → bs ≡ decimal n
+    → result_ok r ≡ Some n
 read_decimal bs n r h small e = let wide : n < 2 ^ 64 = omega arith in ap result_ok (parse-decimal 32 n bs r small wide e h)
 
 -- what stands before and after the first colon
-split_same : (xs ys a b : List ℕ) → ((i : ℕ) → i < length xs → get_or xs i 0 ≢ 58) → ((i : ℕ) → i < length ys → get_or ys i 0 ≢ 58) → xs ++ 58 ∷ a ≡ ys ++ 58 ∷ b → (xs ≡ ys) × (a ≡ b)
+split_same : (xs ys a b : List ℕ) → ((i : ℕ) → i < length xs → get_or xs i 0 ≢ 58) → ((i : ℕ) → i < length ys → get_or ys i 0 ≢ 58) → xs
+    ++ 58 ∷ a ≡ ys ++ 58 ∷ b → (xs ≡ ys) × (a ≡ b)
 split_same [] [] a b p q e = (refl, cc)
 split_same [] (y ∷ ys) a b p q e = let here : y ≡ 58 = cc in absurd (q 0 (omega arith) here)
 split_same (x ∷ xs) [] a b p q e = let here : x ≡ 58 = cc in absurd (p 0 (omega arith) here)
@@ -54,12 +58,15 @@ split_same (x ∷ xs) (y ∷ ys) a b p q e =
     (cc, rest.1)
 
 -- a number and a rest are what stands before and after the first colon
-pub split_number : (text first rest : List ℕ) (n : ℕ) (after : List ℕ) → text ≡ first ++ 58 ∷ rest → ((i : ℕ) → i < length first → get_or first i 0 ≢ 58) →
+pub split_number : (text first rest : List ℕ) (n : ℕ) (after : List ℕ) → text ≡ first ++ 58 ∷ rest
+    → ((i : ℕ) → i < length first → get_or first i 0 ≢ 58) →
     n < 2 ^ 32 → text ≡ joined (decimal n) after → (first ≡ decimal n) × (rest ≡ after)
-split_number text first rest n after split clean small e = let wide : n < 2 ^ 64 = omega arith in split_same first (decimal n) rest after clean (no_colon n wide) (sym split ∙ e)
+split_number text first rest n after split clean small e = let wide : n < 2 ^ 64 =
+    omega arith in split_same first (decimal n) rest after clean (no_colon n wide) (sym split ∙ e)
 
 -- a number and a rest have a colon between them
-pub has_colon : (text : List ℕ) (n : ℕ) (after : List ℕ) → ((i : ℕ) → i < length text → get_or text i 0 ≢ 58) → text ≡ joined (decimal n) after → ⊥
+pub has_colon : (text : List ℕ) (n : ℕ) (after : List ℕ) → ((i : ℕ) → i < length text → get_or text i 0 ≢ 58)
+    → text ≡ joined (decimal n) after → ⊥
 has_colon text n after none e =
     let long : length (decimal n ++ 58 ∷ after) ≡ length (decimal n) + suc (length after) = length-append (decimal n) (58 ∷ after) in
     let inside : length (decimal n) < length text = omega (arith, ap length e) in
@@ -88,7 +95,8 @@ order_is tiles side seed rule =
     }
 
 -- what is told of a triple is told of its parts
-pub each_of_three : (a b d x y z : ℕ) → (let left : ℕ × ℕ × ℕ = (a, b, d) in let right : ℕ × ℕ × ℕ = (x, y, z) in Some left ≡ Some right) → (a ≡ x) × (b ≡ y) × (d ≡ z)
+pub each_of_three : (a b d x y z : ℕ) → (let left : ℕ × ℕ × ℕ = (a, b, d) in let right : ℕ × ℕ × ℕ = (x, y, z) in Some left ≡ Some right)
+    → (a ≡ x) × (b ≡ y) × (d ≡ z)
 each_of_three a b d x y z e =
     let left : ℕ × ℕ × ℕ = (a, b, d) in
     let right : ℕ × ℕ × ℕ = (x, y, z) in

@@ -1,5 +1,6 @@
 use Rattle.std.proofs.Common.{◌≡◌, ◌<◌, ◌≤◌, ◌+◌, ◌*◌, ℕ, zero, suc, ◌^◌, ℤ, pos, negsuc, ◌+ℤ◌, List, [], ◌∷◌, ◌++◌, length}
-use Rattle.std.proofs.Common.{get_or, set, take, ◌/◌, ◌%◌, nat_eq, subst, Some, None, true, false, refl, sym, ap, ◌∙◌, append_assoc, append-nil, add-one, arith}
+use Rattle.std.proofs.Common.{get_or, set, take, ◌/◌, ◌%◌, nat_eq, subst, Some, None, true, false, refl, sym, ap, ◌∙◌, append_assoc}
+use Rattle.std.proofs.Common.{append-nil, add-one, arith}
 use Rattle.std.specs.Int.Signed.{mag}
 use Rattle.std.proofs.lemmas.Bool.Decides.{nat_tests}
 use Rattle.std.proofs.lemmas.Bool.{and_parts, and_from, and_right}
@@ -35,7 +36,8 @@ pub list_more : {A : Type 0} (xs : List A) (count : ℕ) (f : ℕ → A) → xs 
 list_more xs count f = rw add-one (ap (λ l. xs ++ l) (list_last count f) ∙ sym (append_assoc xs (list_of count f) (f count ∷ [])))
 
 -- one more number behind a list
-pub pushed : {A : Type 0} (xs before now : List A) (count : ℕ) (f : ℕ → A) (next : A) → before ≡ xs ++ list_of count f → now ≡ before ++ next ∷ [] → next ≡ f count → now ≡ xs ++ list_of (count + 1) f
+pub pushed : {A : Type 0} (xs before now : List A) (count : ℕ) (f : ℕ → A) (next : A) → before ≡ xs ++ list_of count f → now ≡ before
+    ++ next ∷ [] → next ≡ f count → now ≡ xs ++ list_of (count + 1) f
 pushed xs before now count f next same is here =
     is ∙ ap (λ l. l ++ next ∷ []) same ∙ ap (λ y. (xs ++ list_of count f) ++ y ∷ []) here ∙ sym (list_more xs count f)
 
@@ -61,7 +63,8 @@ row_joined side seed i j k r before now rows row =
     let here : (c : ℕ) → c < side → at r c ≡ at ((r * side + c) / side) ((r * side + c) % side) =
     λ c b. sym (ap (λ x. at x ((r * side + c) % side)) (div-mul-add r side c b) ∙ ap (at r) (mod-mul-add r side c b)) in
     let many : r * side + side ≡ (r + 1) * side = omega arith in
-    row ∙ ap (λ l. l ++ list_of side (at r)) rows ∙ list-joined (r * side) side (λ e. at (e / side) (e % side)) (at r) here ∙ ap (λ n. list_of n (λ e. at (e / side) (e % side))) many
+    row ∙ ap (λ l. l ++ list_of side (at r)) rows ∙ list-joined (r * side) side (λ e. at (e / side) (e % side)) (at r) here
+    ∙ ap (λ n. list_of n (λ e. at (e / side) (e % side))) many
 
 pub list-length : {A : Type 0} (count : ℕ) (f : ℕ → A) → length (list_of count f) ≡ count
 list-length zero f = refl
@@ -72,7 +75,8 @@ added-length [] b e = refl
 added-length (x ∷ xs) [] e = absurd (omega arith)
 added-length (x ∷ xs) (y ∷ ys) e = ap suc (added-length xs ys (omega arith))
 
-pub added-at : (a b : List ℤ) (k : ℕ) → k < length a → length a ≡ length b → get_or (add_lists a b) k (pos 0) ≡ get_or a k (pos 0) +ℤ get_or b k (pos 0)
+pub added-at : (a b : List ℤ) (k : ℕ) → k < length a → length a ≡ length b
+    → get_or (add_lists a b) k (pos 0) ≡ get_or a k (pos 0) +ℤ get_or b k (pos 0)
 added-at [] b k h e = absurd (omega arith)
 added-at (x ∷ xs) [] k h e = absurd (omega arith)
 added-at (x ∷ xs) (y ∷ ys) zero h e = refl
@@ -89,10 +93,12 @@ fit-at (x ∷ xs) (suc k) h e = and_right (fits x) (all_fit xs) (fit-at xs k (om
 
 pub fit_push : (xs : List ℤ) (y : ℤ) → all_fit xs ≡ true → fits y ≡ true → all_fit (xs ++ y ∷ []) ≡ true
 fit_push [] y p q = rw q refl
-fit_push (x ∷ xs) y p q = let both = and_parts (fits x) (all_fit xs) p in and_from (fits x) (all_fit (xs ++ y ∷ [])) both.0 (fit_push xs y both.1 q)
+fit_push (x ∷ xs) y p q = let both =
+    and_parts (fits x) (all_fit xs) p in and_from (fits x) (all_fit (xs ++ y ∷ [])) both.0 (fit_push xs y both.1 q)
 
 -- one more sum
-add-step : (a b sums : List ℤ) (k : ℕ) (sum : ℤ) → length a ≡ length b → k < length a → sums ≡ take k (add_lists a b) → all_fit sums ≡ true →
+add-step : (a b sums : List ℤ) (k : ℕ) (sum : ℤ) → length a ≡ length b → k < length a → sums ≡ take k (add_lists a b)
+    → all_fit sums ≡ true →
     place_sum a b k ≡ sum → fits (place_sum a b k) ≡ true →
     (sums ++ sum ∷ [] ≡ take (k + 1) (add_lists a b)) × (all_fit (sums ++ sum ∷ []) ≡ true)
 add-step a b sums k sum long h same fit is fits_too =
@@ -123,7 +129,8 @@ nat-same : (n : ℕ) → nat_eq n n ≡ true
 nat-same n = grind (arith, nat_tests)
 
 -- a sum that does not fit
-pub add_fails : (a b now : List ℤ) (k : ℕ) → length a ≡ length b → k < length a → get_or now k (pos 0) ≡ get_or b k (pos 0) → fits (place_sum a now k) ≡ false → added a b ≡ None
+pub add_fails : (a b now : List ℤ) (k : ℕ) → length a ≡ length b → k < length a → get_or now k (pos 0) ≡ get_or b k (pos 0)
+    → fits (place_sum a now k) ≡ false → added a b ≡ None
 add_fails a b now k long h rest e =
     let inside : k < length (add_lists a b) = omega (arith, added-length a b long) in
     let here : fits (place_sum a b k) ≡ false = ap fits (sym (same_place a b now k rest)) ∙ e in
@@ -131,7 +138,8 @@ add_fails a b now k long h rest e =
     rw (long, nat-same (length b)) (rw not refl)
 
 -- all sums
-pub add_ends : (a b sums : List ℤ) (k : ℕ) → length a ≡ length b → length sums ≡ length b → length a ≤ k → take k sums ≡ take k (add_lists a b) → all_fit (take k sums) ≡ true → added a b ≡ Some sums
+pub add_ends : (a b sums : List ℤ) (k : ℕ) → length a ≡ length b → length sums ≡ length b → length a ≤ k
+    → take k sums ≡ take k (add_lists a b) → all_fit (take k sums) ≡ true → added a b ≡ Some sums
 add_ends a b sums k long as_long h same fit =
     let short : length (add_lists a b) ≤ k = omega (arith, added-length a b long) in
     let within : length sums ≤ k = omega arith in
@@ -145,10 +153,13 @@ pub add_unlike : (a b : List ℤ) → (length a ≡ length b → ⊥) → added 
 add_unlike a b h = let no : nat_eq (length a) (length b) ≡ false = grind (arith, nat_tests) in rw no refl
 
 -- what the rule of a product makes of one input
-pub tile_added : (side seed i j k : ℕ) (input made : List ℤ) → made ≡ tile side seed i j k → then_some (tile_and_input (side * side) (tile side seed i j k) (input ∷ [])) fitting ≡ added input made
+pub tile_added : (side seed i j k : ℕ) (input made : List ℤ) → made ≡ tile side seed i j k
+    → then_some (tile_and_input (side * side) (tile side seed i j k) (input ∷ [])) fitting ≡ added input made
 tile_added side seed i j k input made e =
-    let long : length made ≡ side * side = ap length e ∙ list-length (side * side) (λ p. sum_from (k * side) side (term seed (i * side + p / side) (j * side + p % side))) in
-    ap (λ m. then_some (tile_and_input (side * side) m (input ∷ [])) fitting) (sym e) ∙ ap (λ n. then_some (tile_and_input n made (input ∷ [])) fitting) (sym long)
+    let long : length made ≡ side * side =
+    ap length e ∙ list-length (side * side) (λ p. sum_from (k * side) side (term seed (i * side + p / side) (j * side + p % side))) in
+    ap (λ m. then_some (tile_and_input (side * side) m (input ∷ [])) fitting) (sym e)
+    ∙ ap (λ n. then_some (tile_and_input n made (input ∷ [])) fitting) (sym long)
 
 pub one_item : {A : Type 0} (xs : List A) (x : A) → length xs ≡ 1 → x ≡ get_or xs 0 x → xs ≡ x ∷ []
 one_item [] x e h = absurd (omega arith)

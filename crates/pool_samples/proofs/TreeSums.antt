@@ -1,4 +1,5 @@
-use Rattle.std.proofs.Common.{◌≡◌, ◌≢◌, ◌<◌, ◌≤◌, ◌+◌, ◌-◌, ◌*◌, ◌^◌, ℕ, zero, suc, ℤ, pos, List, [], ◌∷◌, Option, Some, true, false, ltb, refl, sym, ap, ◌∙◌, subst, IsSome, arith, rules, ⊎_elim}
+use Rattle.std.proofs.Common.{◌≡◌, ◌≢◌, ◌<◌, ◌≤◌, ◌+◌, ◌-◌, ◌*◌, ◌^◌, ℕ, zero, suc, ℤ, pos, List, [], ◌∷◌, Option, Some, true, false, ltb}
+use Rattle.std.proofs.Common.{refl, sym, ap, ◌∙◌, subst, IsSome, arith, rules, ⊎_elim}
 use Rattle.std.proofs.lemmas.Bool.{cases_eq}
 use Rattle.std.proofs.lemmas.Bool.Decides.{nat_tests}
 use Rattle.tp_graph.specs.Values.{value_of}
@@ -22,7 +23,8 @@ span-last start (suc count) f =
     let h : f (start + suc count) ≡ f (suc start + count) = ap f e in
     omega (arith, span-last (suc start) count f, h)
 
-span-same : (start count : ℕ) (f h : ℕ → ℕ) → ((t : ℕ) → start ≤ t → t < start + count → f t ≡ h t) → span start count f ≡ span start count h
+span-same : (start count : ℕ) (f h : ℕ → ℕ) → ((t : ℕ) → start ≤ t → t < start + count → f t ≡ h t)
+    → span start count f ≡ span start count h
 span-same start zero f h e = refl
 span-same start (suc count) f h e =
     omega (arith, e start (omega arith) (omega arith), span-same (suc start) count f h (λ t p q. e t (omega arith) (omega arith)))
@@ -45,9 +47,11 @@ module _ (leaves seed : ℕ) (rules_kept : IsReduce leaves seed) (some : 1 ≤ l
       let yes : ltb t leaves ≡ true = grind (arith, nat_tests) in
       let known : t < 2 * leaves - 1 = omega arith in
       let small : leaf_value seed t < 2 ^ 63 = omega arith in
-      value-zero (reduce_graph leaves seed) t (reduce_lawful leaves seed rules_kept) known (rw yes refl) ∙ rw yes (fitting-one (leaf_value seed t) small)
+      value-zero (reduce_graph leaves seed) t (reduce_lawful leaves seed rules_kept) known (rw yes refl)
+      ∙ rw yes (fitting-one (leaf_value seed t) small)
 
-  inner-is : (u a b : ℕ) → u + 1 < leaves → value_of (reduce_graph leaves seed) (2 * u) ≡ Some (pos a ∷ []) → value_of (reduce_graph leaves seed) (2 * u + 1) ≡ Some (pos b ∷ []) →
+  inner-is : (u a b : ℕ) → u + 1 < leaves → value_of (reduce_graph leaves seed) (2 * u) ≡ Some (pos a ∷ [])
+      → value_of (reduce_graph leaves seed) (2 * u + 1) ≡ Some (pos b ∷ []) →
       a + b < 2 ^ 63 → value_of (reduce_graph leaves seed) (leaves + u) ≡ Some (pos (a + b) ∷ [])
   unfolding reduce_graph
   inner-is u a b h p q small =
@@ -57,9 +61,11 @@ module _ (leaves seed : ℕ) (rules_kept : IsReduce leaves seed) (some : 1 ≤ l
       let e0 : 2 * u ≡ 2 * (leaves + u - leaves) + 0 = omega arith in
       let e1 : 2 * u + 1 ≡ 2 * (leaves + u - leaves) + 1 = omega arith in
       value-two (reduce_graph leaves seed) (leaves + u) (pos a ∷ []) (pos b
-      ∷ []) (reduce_lawful leaves seed rules_kept) known (rw no refl) (sym (ap (value_of (reduce_graph leaves seed)) e0) ∙ p) (sym (ap (value_of (reduce_graph leaves seed)) e1) ∙ q) ∙ rw no (fitting-one (a + b) small)
+      ∷ []) (reduce_lawful leaves seed rules_kept) known (rw no refl) (sym (ap (value_of (reduce_graph leaves seed)) e0)
+      ∙ p) (sym (ap (value_of (reduce_graph leaves seed)) e1) ∙ q) ∙ rw no (fitting-one (a + b) small)
 
-  kept : (t n : ℕ) → value_of (reduce_graph leaves seed) t ≡ Some (pos n ∷ []) → value_of (reduce_graph leaves seed) t ≡ Some (pos (num_of (value_of (reduce_graph leaves seed) t)) ∷ [])
+  kept : (t n : ℕ) → value_of (reduce_graph leaves seed) t ≡ Some (pos n ∷ [])
+      → value_of (reduce_graph leaves seed) t ≡ Some (pos (num_of (value_of (reduce_graph leaves seed) t)) ∷ [])
   kept t n e = e ∙ ap (λ m. Some (pos m ∷ [])) (sym (ap num_of e))
 
   -- after u sums, the tasks that were not added yet add up to the leaves
@@ -70,7 +76,8 @@ module _ (leaves seed : ℕ) (rules_kept : IsReduce leaves seed) (some : 1 ≤ l
       let e0 : 2 * 0 ≡ 0 = omega arith in
       let e1 : leaves - 0 ≡ leaves = omega arith in
       let same : span 0 leaves (λ t. num_of (value_of (reduce_graph leaves seed) t)) ≡ span 0 leaves (leaf_value seed) =
-      span-same 0 leaves (λ t. num_of (value_of (reduce_graph leaves seed) t)) (leaf_value seed) (λ t p q. ap num_of (leaf-is t (omega arith))) in (
+      span-same 0 leaves (λ t. num_of (value_of (reduce_graph leaves seed) t)) (leaf_value seed) (λ t p q.
+      ap num_of (leaf-is t (omega arith))) in (
         (λ t p. kept t (leaf_value seed t) (leaf-is t (omega arith))),
         ap (λ n. span 0 n (λ t. num_of (value_of (reduce_graph leaves seed) t))) e1 ∙ same ∙ leaves-span seed leaves,
       )
@@ -79,18 +86,22 @@ module _ (leaves seed : ℕ) (rules_kept : IsReduce leaves seed) (some : 1 ≤ l
       let f : ℕ → ℕ = λ t. num_of (value_of (reduce_graph leaves seed) t) in
       let c : ℕ = leaves - suc (suc u) in
       let many : leaves - u ≡ suc (suc c) = omega arith in
-      let opened : f (2 * u) + (f (suc (2 * u)) + span (suc (suc (2 * u))) c f) ≡ sum_of_leaves seed leaves = sym (ap (λ n. span (2 * u) n f) many) ∙ before.1 in
+      let opened : f (2 * u) + (f (suc (2 * u)) + span (suc (suc (2 * u))) c f) ≡ sum_of_leaves seed leaves =
+      sym (ap (λ n. span (2 * u) n f) many) ∙ before.1 in
       let next : suc (2 * u) ≡ 2 * u + 1 = omega arith in
       let p : value_of (reduce_graph leaves seed) (2 * u) ≡ Some (pos (f (2 * u)) ∷ []) = before.0 (2 * u) (omega arith) in
-      let q : value_of (reduce_graph leaves seed) (2 * u + 1) ≡ Some (pos (f (suc (2 * u))) ∷ []) = ap (value_of (reduce_graph leaves seed)) (sym next) ∙ before.0 (suc (2 * u)) (omega arith) in
+      let q : value_of (reduce_graph leaves seed) (2 * u + 1) ≡ Some (pos (f (suc (2 * u))) ∷ []) =
+      ap (value_of (reduce_graph leaves seed)) (sym next) ∙ before.0 (suc (2 * u)) (omega arith) in
       let small : f (2 * u) + f (suc (2 * u)) < 2 ^ 63 = omega (arith, opened, leaves-small seed leaves) in
-      let made : value_of (reduce_graph leaves seed) (leaves + u) ≡ Some (pos (f (2 * u) + f (suc (2 * u))) ∷ []) = inner-is u (f (2 * u)) (f (suc (2 * u))) (omega arith) p q small in
+      let made : value_of (reduce_graph leaves seed) (leaves + u) ≡ Some (pos (f (2 * u) + f (suc (2 * u))) ∷ []) =
+      inner-is u (f (2 * u)) (f (suc (2 * u))) (omega arith) p q small in
       let number : f (leaves + u) ≡ f (2 * u) + f (suc (2 * u)) = ap num_of made in
       let start : 2 * suc u ≡ suc (suc (2 * u)) = omega arith in
       let fewer : leaves - suc u ≡ suc c = omega arith in
       let place : suc (suc (2 * u)) + c ≡ leaves + u = omega arith in
       let at_end : f (suc (suc (2 * u)) + c) ≡ f (leaves + u) = ap f place in
-      let whole : span (suc (suc (2 * u))) (suc c) f ≡ sum_of_leaves seed leaves = omega (arith, span-last (suc (suc (2 * u))) c f, opened, number, at_end) in (
+      let whole : span (suc (suc (2 * u))) (suc c) f ≡ sum_of_leaves seed leaves =
+      omega (arith, span-last (suc (suc (2 * u))) c f, opened, number, at_end) in (
         (λ t lt. ⊎_elim
             (λ (e : t ≡ leaves + u). kept t (f (2 * u) + f (suc (2 * u))) (ap (value_of (reduce_graph leaves seed)) e ∙ made))
             (λ (ne : t ≢ leaves + u). before.0 t (omega arith))

@@ -1,4 +1,5 @@
-use Rattle.std.proofs.Common.{◌≡◌, ◌<◌, ◌≤◌, ◌+◌, ◌*◌, ◌/◌, ◌%◌, ◌^◌, ℕ, zero, suc, min, ℤ, pos, List, [], ◌∷◌, Option, Some, sym, ap, ◌∙◌, subst, IsSome, arith, rules}
+use Rattle.std.proofs.Common.{◌≡◌, ◌<◌, ◌≤◌, ◌+◌, ◌*◌, ◌/◌, ◌%◌, ◌^◌, ℕ, zero, suc, min, ℤ, pos, List, [], ◌∷◌, Option, Some, sym, ap, ◌∙◌}
+use Rattle.std.proofs.Common.{subst, IsSome, arith, rules}
 use Rattle.std.proofs.lemmas.Bool.Decides.{nat_tests}
 use Rattle.std.proofs.lemmas.Nat.{mod-mul-add, div-mul-add, mul-add-lt, div_below, div-add-mod'}
 use Rattle.std.specs.Int.{int_min}
@@ -23,7 +24,8 @@ module _ (rows columns seed : ℕ) (kept : IsWavefront rows columns seed) where
       let column : 0 % columns ≡ 0 = omega arith in
       let inside : 0 < rows * columns = omega (arith, known 0 0 (omega (arith, kept.some_rows)) some) in
       let small : cost seed 0 0 < 2 ^ 63 = omega arith in
-      value-zero (wavefront_graph rows columns seed) 0 (wavefront_lawful rows columns seed kept) inside (grind (arith, nat_tests)) ∙ rw (row, column) (fitting-one (cost seed 0 0) small)
+      value-zero (wavefront_graph rows columns seed) 0 (wavefront_lawful rows columns seed kept) inside (grind (arith, nat_tests))
+      ∙ rw (row, column) (fitting-one (cost seed 0 0) small)
 
   from_one : (t p i j a : ℕ) → t < rows * columns → t / columns ≡ i → t % columns ≡ j →
       (wavefront_graph rows columns seed).arity t ≡ 1 → (wavefront_graph rows columns seed).source t 0 ≡ p →
@@ -33,19 +35,23 @@ module _ (rows columns seed : ℕ) (kept : IsWavefront rows columns seed) where
   from_one t p i j a h row column one source is few =
       let c : cost seed i j < 10 = omega arith in
       let small : a + cost seed i j < 2 ^ 63 = omega arith in
-      value-one (wavefront_graph rows columns seed) t (pos a ∷ []) (wavefront_lawful rows columns seed kept) h one (ap (value_of (wavefront_graph rows columns seed)) source ∙ is)
+      value-one (wavefront_graph rows columns seed) t (pos a
+      ∷ []) (wavefront_lawful rows columns seed kept) h one (ap (value_of (wavefront_graph rows columns seed)) source ∙ is)
       ∙ rw (row, column) (fitting-one (a + cost seed i j) small)
 
   from_two : (t p q i j a b : ℕ) → t < rows * columns → t / columns ≡ i → t % columns ≡ j →
-      (wavefront_graph rows columns seed).arity t ≡ 2 → (wavefront_graph rows columns seed).source t 0 ≡ p → (wavefront_graph rows columns seed).source t 1 ≡ q →
-      value_of (wavefront_graph rows columns seed) p ≡ Some (pos a ∷ []) → value_of (wavefront_graph rows columns seed) q ≡ Some (pos b ∷ []) → a < 10000 →
+      (wavefront_graph rows columns seed).arity t ≡ 2 → (wavefront_graph rows columns seed).source t 0 ≡ p
+      → (wavefront_graph rows columns seed).source t 1 ≡ q →
+      value_of (wavefront_graph rows columns seed) p ≡ Some (pos a ∷ [])
+      → value_of (wavefront_graph rows columns seed) q ≡ Some (pos b ∷ []) → a < 10000 →
       value_of (wavefront_graph rows columns seed) t ≡ Some (pos (min a b + cost seed i j) ∷ [])
   unfolding wavefront_graph
   from_two t p q i j a b h row column two source source' is is' few =
       let c : cost seed i j < 10 = omega arith in
       let small : min a b + cost seed i j < 2 ^ 63 = omega arith in
       value-two (wavefront_graph rows columns seed) t (pos a ∷ []) (pos b
-      ∷ []) (wavefront_lawful rows columns seed kept) h two (ap (value_of (wavefront_graph rows columns seed)) source ∙ is) (ap (value_of (wavefront_graph rows columns seed)) source' ∙ is')
+      ∷ []) (wavefront_lawful rows columns seed kept) h two (ap (value_of (wavefront_graph rows columns seed)) source
+      ∙ is) (ap (value_of (wavefront_graph rows columns seed)) source' ∙ is')
       ∙ rw (row, column, least-is a b) (fitting-one (min a b + cost seed i j) small)
 
   first-small : (j : ℕ) → first_row seed j ≤ 10 * (j + 1)
@@ -69,10 +75,13 @@ module _ (rows columns seed : ℕ) (kept : IsWavefront rows columns seed) where
       let row : suc j / columns ≡ 0 = ap (λ t. t / columns) e ∙ div-mul-add 0 columns (suc j) h in
       let column : suc j % columns ≡ suc j = ap (λ t. t % columns) e ∙ mod-mul-add 0 columns (suc j) h in
       let few : first_row seed j < 10000 = omega (arith, first-small j, kept.few_columns) in
-      from_one (suc j) j 0 (suc j) (first_row seed j) inside row column (grind (arith, nat_tests)) (grind (arith, nat_tests)) (first j (omega arith)) few
+      from_one (suc j) j 0 (suc j) (first_row seed j) inside row column (grind (arith, nat_tests)) (grind (arith, nat_tests))
+      (first j (omega arith)) few
 
-  next : (i : ℕ) → suc i < rows → ((j : ℕ) → j < columns → value_of (wavefront_graph rows columns seed) (i * columns + j) ≡ Some (pos (cell seed i j) ∷ [])) →
-      (j : ℕ) → j < columns → value_of (wavefront_graph rows columns seed) (suc i * columns + j) ≡ Some (pos (next_row seed (suc i) (cell seed i) j) ∷ [])
+  next : (i : ℕ) → suc i < rows
+      → ((j : ℕ) → j < columns → value_of (wavefront_graph rows columns seed) (i * columns + j) ≡ Some (pos (cell seed i j) ∷ [])) →
+      (j : ℕ) → j < columns
+      → value_of (wavefront_graph rows columns seed) (suc i * columns + j) ≡ Some (pos (next_row seed (suc i) (cell seed i) j) ∷ [])
   unfolding wavefront_graph
   next i h above zero q =
       let inside = known (suc i) 0 h q in
@@ -80,7 +89,8 @@ module _ (rows columns seed : ℕ) (kept : IsWavefront rows columns seed) where
       let column = mod-mul-add (suc i) columns 0 q in
       let up : suc i * columns + 0 ≡ (i * columns + 0) + columns = omega arith in
       let few : cell seed i 0 < 10000 = omega (arith, cell-small i 0, kept.few_rows) in
-      from_one (suc i * columns + 0) (i * columns + 0) (suc i) 0 (cell seed i 0) inside row column (grind (arith, nat_tests)) (grind (arith, nat_tests)) (above 0 q) few
+      from_one (suc i * columns + 0) (i * columns + 0) (suc i) 0 (cell seed i 0) inside row column (grind (arith, nat_tests))
+      (grind (arith, nat_tests)) (above 0 q) few
   next i h above (suc j) q =
       let inside = known (suc i) (suc j) h q in
       let row = div-mul-add (suc i) columns (suc j) q in
@@ -88,11 +98,14 @@ module _ (rows columns seed : ℕ) (kept : IsWavefront rows columns seed) where
       let up : suc i * columns + suc j ≡ (i * columns + suc j) + columns = omega arith in
       let left : suc i * columns + suc j ≡ (suc i * columns + j) + 1 = omega arith in
       let few : cell seed i (suc j) < 10000 = omega (arith, cell-small i (suc j), kept.few_rows, kept.few_columns) in
-      from_two (suc i * columns + suc j) (i * columns + suc j) (suc i * columns + j) (suc i) (suc j) (cell seed i (suc j)) (next_row seed (suc i) (cell seed i) j) inside row column
-      (grind (arith, nat_tests)) (grind (arith, nat_tests)) (grind (arith, nat_tests)) (above (suc j) q) (next i h above j (omega arith)) few
+      from_two (suc i * columns + suc j) (i * columns + suc j) (suc i * columns + j) (suc i) (suc j) (cell seed i (suc j))
+      (next_row seed (suc i) (cell seed i) j) inside row column
+      (grind (arith, nat_tests)) (grind (arith, nat_tests)) (grind (arith, nat_tests)) (above (suc j) q) (next i h above j (omega arith))
+      few
 
   -- each task's value is the table's cell
-  pub wave_cell : (i j : ℕ) → i < rows → j < columns → value_of (wavefront_graph rows columns seed) (i * columns + j) ≡ Some (pos (cell seed i j) ∷ [])
+  pub wave_cell : (i j : ℕ) → i < rows → j < columns
+      → value_of (wavefront_graph rows columns seed) (i * columns + j) ≡ Some (pos (cell seed i j) ∷ [])
   wave_cell zero j p q = let e : 0 * columns + j ≡ j = omega arith in ap (value_of (wavefront_graph rows columns seed)) e ∙ first j q
   wave_cell (suc i) j p q = next i p (λ k r. wave_cell i k (omega arith) r) j q
 

@@ -26,10 +26,17 @@ any_lawful (pool.Reduce r) = reduce_lawful r.leaves r.seed r.in_rules
 
 -- pools with the same numbers are the same
 pub product_same : (a b : Product) → (a.tiles ≡ b.tiles) × (a.side ≡ b.side) × (a.seed ≡ b.seed) → a ≡ b
-product_same a b e = λ i. record { tiles = e.0 i; side = e.1 i; seed = e.2 i; in_rules = rule_of_three IsProduct IsProduct-prop e a.in_rules b.in_rules i }
+product_same a b e =
+    λ i. record { tiles = e.0 i; side = e.1 i; seed = e.2 i; in_rules = rule_of_three IsProduct IsProduct-prop e a.in_rules b.in_rules i }
 
 pub wavefront_same : (a b : Wavefront) → (a.rows ≡ b.rows) × (a.columns ≡ b.columns) × (a.seed ≡ b.seed) → a ≡ b
-wavefront_same a b e = λ i. record { rows = e.0 i; columns = e.1 i; seed = e.2 i; in_rules = rule_of_three IsWavefront IsWavefront-prop e a.in_rules b.in_rules i }
+wavefront_same a b e =
+    λ i. record {
+      rows = e.0 i;
+      columns = e.1 i;
+      seed = e.2 i;
+      in_rules = rule_of_three IsWavefront IsWavefront-prop e a.in_rules b.in_rules i;
+    }
 
 pub reduce_same : (a b : Reduce) → (a.leaves ≡ b.leaves) × (a.seed ≡ b.seed) → a ≡ b
 reduce_same a b e = λ i. record { leaves = e.0 i; seed = e.1 i; in_rules = rule_of_two IsReduce IsReduce-prop e a.in_rules b.in_rules i }

@@ -1,5 +1,6 @@
 -- How the numbers of a table are found among results: by the ranks of the tasks whose values it needs.
-use Rattle.std.specs.Prelude.{◌≡◌, ◌<◌, ◌≤◌, ◌+◌, ◌-◌, ◌*◌, ℕ, ℤ, pos, Bool, true, false, List, Option, Some, None, IsSomeAnd, length, slice_index_or}
+use Rattle.std.specs.Prelude.{◌≡◌, ◌<◌, ◌≤◌, ◌+◌, ◌-◌, ◌*◌, ℕ, ℤ, pos, Bool, true, false, List, Option, Some, None, IsSomeAnd, length}
+use Rattle.std.specs.Prelude.{slice_index_or}
 use Rattle.std.specs.Borrow.{Bor}
 use Rattle.tp_graph.specs.Serial.{Results}
 use Rattle.tp_graph.specs.Values.{value_of}
@@ -31,7 +32,8 @@ pub record HasCell (graph : AnyGraph) (i j rank place : ℕ) : Type 0 where
 -- what is found of the needed task of a rank: no result is of it; or its value, and that a result is of it
 abbrev pub IsFound : AnyGraph → Results → ℕ → Option (Bor (List ℤ)) → Type 0
 IsFound graph results rank None = HasNone results (needed_task graph rank)
-IsFound graph results rank (Some found) = (value_of (any_graph graph) (needed_task graph rank) ≡ Some found.now) × ¬ HasNone results (needed_task graph rank)
+IsFound graph results rank (Some found) =
+    (value_of (any_graph graph) (needed_task graph rank) ≡ Some found.now) × ¬ HasNone results (needed_task graph rank)
 
 -- what is found of each needed task
 abbrev pub IsIndex : AnyGraph → Results → List (Option (Bor (List ℤ))) → Type 0
@@ -49,4 +51,5 @@ IsMarked graph results known = (rank : ℕ) → rank < needed graph → IsKnown 
 -- the value of each needed task is there
 pub record HasValues (graph : AnyGraph) (values : List (Option (Bor (List ℤ)))) : Type 0 where
   pub long : needed graph ≤ length values
-  pub each : (rank : ℕ) → rank < needed graph → IsSomeAnd (slice_index_or values rank None) (λ found. value_of (any_graph graph) (needed_task graph rank) ≡ Some found.now)
+  pub each : (rank : ℕ) → rank < needed graph
+      → IsSomeAnd (slice_index_or values rank None) (λ found. value_of (any_graph graph) (needed_task graph rank) ≡ Some found.now)

@@ -5,7 +5,8 @@ use Rattle.pool_samples.specs.Products.{IsProduct, product_graph}
 use Rattle.pool_samples.specs.Columns.{mod_right, mod_left, right_within}
 
 module _ (tiles side seed : ℕ) (some : 0 < tiles) where
-  fills : (p k : ℕ) → p < tiles * tiles * tiles → k < (product_graph tiles side seed).feeds p → FillsSlot (product_graph tiles side seed) p k
+  fills : (p k : ℕ) → p < tiles * tiles * tiles → k < (product_graph tiles side seed).feeds p
+      → FillsSlot (product_graph tiles side seed) p k
   unfolding product_graph
   fills p k h q =
       let right : p % tiles + 1 < tiles → (p + 1) % tiles ≡ p % tiles + 1 = mod_right tiles p in
@@ -18,7 +19,8 @@ module _ (tiles side seed : ℕ) (some : 0 < tiles) where
         turn_is = grind (arith, nat_tests);
       }
 
-  filled : (t s : ℕ) → t < tiles * tiles * tiles → s < (product_graph tiles side seed).arity t → IsFilled (product_graph tiles side seed) t s
+  filled : (t s : ℕ) → t < tiles * tiles * tiles → s < (product_graph tiles side seed).arity t
+      → IsFilled (product_graph tiles side seed) t s
   unfolding product_graph
   filled t s h q =
       let left : 0 < t % tiles → (t - 1) % tiles ≡ t % tiles - 1 = mod_left tiles t some in

@@ -15,6 +15,7 @@ pub rule_of_two : (P : ℕ → ℕ → Type 0) → ((x y : ℕ) → IsProp (P x 
     PathP (λ i. P (e.0 i) (e.1 i)) p q
 rule_of_two P prop e p q = is_prop→PathP (λ i. P (e.0 i) (e.1 i)) (λ i. prop (e.0 i) (e.1 i)) p q
 
-pub rule_of_three : (P : ℕ → ℕ → ℕ → Type 0) → ((x y z : ℕ) → IsProp (P x y z)) → {a b c d e f : ℕ} (s : (a ≡ b) × (c ≡ d) × (e ≡ f)) (p : P a c e) (q : P b d f) →
+pub rule_of_three : (P : ℕ → ℕ → ℕ → Type 0) → ((x y z : ℕ) → IsProp (P x y z))
+    → {a b c d e f : ℕ} (s : (a ≡ b) × (c ≡ d) × (e ≡ f)) (p : P a c e) (q : P b d f) →
     PathP (λ i. P (s.0 i) (s.1 i) (s.2 i)) p q
 rule_of_three P prop s p q = is_prop→PathP (λ i. P (s.0 i) (s.1 i) (s.2 i)) (λ i. prop (s.0 i) (s.1 i) (s.2 i)) p q

@@ -5,7 +5,8 @@ use Rattle.pool_samples.specs.Waves.{IsWavefront, wavefront_graph}
 use Rattle.pool_samples.specs.Columns.{mod_right, mod_left, mod_down, mod_up, right_within}
 
 module _ (rows columns seed : ℕ) (some : 0 < columns) where
-  fills : (p k : ℕ) → p < rows * columns → k < (wavefront_graph rows columns seed).feeds p → FillsSlot (wavefront_graph rows columns seed) p k
+  fills : (p k : ℕ) → p < rows * columns → k < (wavefront_graph rows columns seed).feeds p
+      → FillsSlot (wavefront_graph rows columns seed) p k
   unfolding wavefront_graph
   fills p k h q =
       let right : p % columns + 1 < columns → (p + 1) % columns ≡ p % columns + 1 = mod_right columns p in
@@ -19,7 +20,8 @@ module _ (rows columns seed : ℕ) (some : 0 < columns) where
         turn_is = grind (arith, nat_tests);
       }
 
-  filled : (t s : ℕ) → t < rows * columns → s < (wavefront_graph rows columns seed).arity t → IsFilled (wavefront_graph rows columns seed) t s
+  filled : (t s : ℕ) → t < rows * columns → s < (wavefront_graph rows columns seed).arity t
+      → IsFilled (wavefront_graph rows columns seed) t s
   unfolding wavefront_graph
   filled t s h q =
       let left : 0 < t % columns → (t - 1) % columns ≡ t % columns - 1 = mod_left columns t some in

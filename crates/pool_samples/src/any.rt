@@ -23,9 +23,21 @@ impl Comparable for AnyGraph {
     ghost use Rattle.pool_samples.specs.Same.{both_same, three_same};
 
     ghost same = { elim [
-      | pool.Product p ↦ elim [ pool.Product q ↦ λ e. ap pool.Product (product_same p q (three_same _ _ _ _ _ _ e)) | pool.Wavefront q ↦ λ e. Prim.cc | pool.Reduce q ↦ λ e. Prim.cc ]
-      | pool.Wavefront p ↦ elim [ pool.Product q ↦ λ e. Prim.cc | pool.Wavefront q ↦ λ e. ap pool.Wavefront (wavefront_same p q (three_same _ _ _ _ _ _ e)) | pool.Reduce q ↦ λ e. Prim.cc ]
-      | pool.Reduce p ↦ elim [ pool.Product q ↦ λ e. Prim.cc | pool.Wavefront q ↦ λ e. Prim.cc | pool.Reduce q ↦ λ e. ap pool.Reduce (reduce_same p q (both_same _ _ _ _ e)) ]
+      | pool.Product p ↦ elim [
+        | pool.Product q ↦ λ e. ap pool.Product (product_same p q (three_same _ _ _ _ _ _ e))
+        | pool.Wavefront q ↦ λ e. Prim.cc
+        | pool.Reduce q ↦ λ e. Prim.cc
+      ]
+      | pool.Wavefront p ↦ elim [
+        | pool.Product q ↦ λ e. Prim.cc
+        | pool.Wavefront q ↦ λ e. ap pool.Wavefront (wavefront_same p q (three_same _ _ _ _ _ _ e))
+        | pool.Reduce q ↦ λ e. Prim.cc
+      ]
+      | pool.Reduce p ↦ elim [
+        | pool.Product q ↦ λ e. Prim.cc
+        | pool.Wavefront q ↦ λ e. Prim.cc
+        | pool.Reduce q ↦ λ e. ap pool.Reduce (reduce_same p q (both_same _ _ _ _ e))
+      ]
     ] };
 }
 

@@ -1,5 +1,7 @@
-ghost use Rattle.std.specs.Prelude.{◌≡◌, ◌<◌, ◌≤◌, ◌+◌, ◌-◌, ◌*◌, ◌/◌, ◌%◌, ℕ, pos, ◌+ℤ◌, ◌-ℤ◌, ◌∷◌, ◌++◌, [], ◌*ℤ◌, unsigned_abs, true, false, length, slice_index_or, vec_len, vec_capacity, IfOk, MatchResult, Some, None};
-ghost use Rattle.pool_samples.specs.Products.{IsProduct, IsProduct-prop, product_graph, term, sum_from, list_of, tile, tile_and_input, added, place_sum};
+ghost use Rattle.std.specs.Prelude.{◌≡◌, ◌<◌, ◌≤◌, ◌+◌, ◌-◌, ◌*◌, ◌/◌, ◌%◌, ℕ, pos, ◌+ℤ◌, ◌-ℤ◌, ◌∷◌, ◌++◌, [], ◌*ℤ◌, unsigned_abs, true};
+ghost use Rattle.std.specs.Prelude.{false, length, slice_index_or, vec_len, vec_capacity, IfOk, MatchResult, Some, None};
+ghost use Rattle.pool_samples.specs.Products.{IsProduct, IsProduct-prop, product_graph, term, sum_from, list_of, tile, tile_and_input};
+ghost use Rattle.pool_samples.specs.Products.{added, place_sum};
 ghost use Rattle.pool_samples.specs.ProductLaws.{product_lawful};
 ghost use Rattle.pool_samples.specs.Same.{three_same, rule_of_three};
 ghost use Rattle.tp_graph.specs.Values.{fits, all_fit, fitting, then_some};
@@ -58,7 +60,13 @@ fn sum_at(left: &[i32], right: &[i32]) -> i64
 }
 
 impl Comparable for Product {
-    ghost same = { λ a b h. let e = three_same a.tiles b.tiles a.side b.side a.seed b.seed h in λ i. record { tiles = e.0 i; side = e.1 i; seed = e.2 i; in_rules = rule_of_three IsProduct IsProduct-prop e a.in_rules b.in_rules i } };
+    ghost same = { λ a b h. let e = three_same a.tiles b.tiles a.side b.side a.seed b.seed h in
+        λ i. record {
+          tiles = e.0 i;
+          side = e.1 i;
+          seed = e.2 i;
+          in_rules = rule_of_three IsProduct IsProduct-prop e a.in_rules b.in_rules i;
+        } };
 }
 
 #[tactic(auto, unfolding(crate::specs::Products::product_graph))]
@@ -129,7 +137,8 @@ fn lone_product(seed: u32, i: u32, j: u32, k: u32) -> i64
 /// What a task makes of the number of a tile of one: that number, or its sum with the lone number of the input. Refused with
 /// `BodyFailed` exactly where the rule fails or the sum leaves `i64`. It takes no memory.
 fn lone_value(alloc: Global, product: i64, inputs: &[Value]) -> Result<Value, Refusal>
-    ensures { MatchResult result (λ value. then_some (tile_and_input 1 (product ∷ []) inputs.now) fitting ≡ Some value) (λ refusal. (refusal ≡ BodyFailed) × (then_some (tile_and_input 1 (product ∷ []) inputs.now) fitting ≡ None)) }
+    ensures { MatchResult result (λ value. then_some (tile_and_input 1 (product ∷ []) inputs.now) fitting
+        ≡ Some value) (λ refusal. (refusal ≡ BodyFailed) × (then_some (tile_and_input 1 (product ∷ []) inputs.now) fitting ≡ None)) }
 {
     match inputs {
         [] => Ok(Value::one(alloc, product)?),
@@ -183,7 +192,8 @@ fn push_row(made: &mut Vec<i64>, side: u32, seed: u32, x: u32, y: u32, start: u3
 /// since a loop without a way out is worked out in vectors.
 #[tactic(auto, using(crate::proofs::Sums::add_unlike))]
 fn add_to(sums: &mut [i64], input: &[i64]) -> Result<(), Refusal>
-    ensures { MatchResult result (λ _. added input.now sums.old ≡ Some sums.new) (λ refusal. (refusal ≡ BodyFailed) × (added input.now sums.old ≡ None)) }
+    ensures { MatchResult result (λ _. added input.now sums.old ≡ Some sums.new) (λ refusal. (refusal ≡ BodyFailed)
+        × (added input.now sums.old ≡ None)) }
 {
     if input.len() != sums.len() {
         return Err(Refusal::BodyFailed);

@@ -18,7 +18,8 @@ pub struct Reduce {
 }
 
 impl Comparable for Reduce {
-    ghost same = { λ a b h. let e = both_same a.leaves b.leaves a.seed b.seed h in λ i. record { leaves = e.0 i; seed = e.1 i; in_rules = rule_of_two IsReduce IsReduce-prop e a.in_rules b.in_rules i } };
+    ghost same = { λ a b h. let e = both_same a.leaves b.leaves a.seed b.seed h in
+        λ i. record { leaves = e.0 i; seed = e.1 i; in_rules = rule_of_two IsReduce IsReduce-prop e a.in_rules b.in_rules i } };
 }
 
 #[tactic(auto, unfolding(crate::specs::Trees::reduce_graph))]

@@ -1,4 +1,5 @@
-ghost use Rattle.std.specs.Prelude.{◌≡◌, ◌<◌, ◌≤◌, ◌↔◌, ◌⊎◌, ℕ, IfErr, IfOk, IsSome, IsTrue, MatchOption, slice_index_or, Err, None, false, length};
+ghost use Rattle.std.specs.Prelude.{◌≡◌, ◌<◌, ◌≤◌, ◌↔◌, ◌⊎◌, ℕ, IfErr, IfOk, IsSome, IsTrue, MatchOption, slice_index_or, Err, None, false};
+ghost use Rattle.std.specs.Prelude.{length};
 ghost use Rattle.tp_base.specs.declared.Refusal.TheVariants.{Missing, NoMemory};
 ghost use Rattle.pool_samples.specs.Needed.{needed, IsIndex, IsMarked};
 ghost use Rattle.tp_graph.specs.Serial.{AreRight};
@@ -117,7 +118,8 @@ fn find<'a>(graph: AnyGraph, results: &'a [(TaskId, Value)], values: &mut [Optio
 /// The lowest rank at which the value was not found.
 fn missing(graph: AnyGraph, values: &[Option<&Value>]) -> Option<u32>
     requires { needed graph ≤ length values.now }
-    ensures { MatchOption result ((rank : ℕ) → rank < needed graph → IsSome (slice_index_or values.now rank None)) (λ rank. (rank < needed graph) × (slice_index_or values.now rank None ≡ None)) }
+    ensures { MatchOption result ((rank : ℕ) → rank < needed graph
+        → IsSome (slice_index_or values.now rank None)) (λ rank. (rank < needed graph) × (slice_index_or values.now rank None ≡ None)) }
 {
     for rank in 0..graph.needed() {
         if values[rank as usize].is_none() {
@@ -157,7 +159,8 @@ fn mark(graph: AnyGraph, results: &[(TaskId, Value)], known: &mut [bool; MAX_NEE
 /// The lowest rank that is not marked.
 fn unknown(graph: AnyGraph, known: &[bool]) -> Option<u32>
     requires { needed graph ≤ length known.now }
-    ensures { MatchOption result ((rank : ℕ) → rank < needed graph → IsTrue (slice_index_or known.now rank false)) (λ rank. (rank < needed graph) × (slice_index_or known.now rank false ≡ false)) }
+    ensures { MatchOption result ((rank : ℕ) → rank < needed graph
+        → IsTrue (slice_index_or known.now rank false)) (λ rank. (rank < needed graph) × (slice_index_or known.now rank false ≡ false)) }
 {
     for rank in 0..graph.needed() {
         if !known[rank as usize] {

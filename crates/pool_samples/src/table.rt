@@ -73,8 +73,10 @@ impl AnyGraph {
 impl Product {
     #[tactic(auto, using(crate::proofs::PlainCells::last_of))]
     fn rank(&self, task: TaskId) -> Option<u32>
-        ensures each { (rank : ℕ) → rank < needed (AnyGraph.Product self.now) → needed_task (AnyGraph.Product self.now) rank ≡ task.0 → result ≡ Some rank }
-        ensures only { IfSome result (λ rank. (rank < needed (AnyGraph.Product self.now)) × (needed_task (AnyGraph.Product self.now) rank ≡ task.0)) }
+        ensures each { (rank : ℕ) → rank < needed (AnyGraph.Product self.now) → needed_task (AnyGraph.Product self.now) rank ≡ task.0
+            → result ≡ Some rank }
+        ensures only { IfSome result (λ rank. (rank < needed (AnyGraph.Product self.now))
+            × (needed_task (AnyGraph.Product self.now) rank ≡ task.0)) }
     {
         let rank = task.0 / self.tiles;
         if task.0 % self.tiles + 1 == self.tiles && rank < self.tiles * self.tiles {
@@ -97,8 +99,10 @@ impl Product {
 
 impl Wavefront {
     fn rank(&self, task: TaskId) -> Option<u32>
-        ensures each { (rank : ℕ) → rank < needed (AnyGraph.Wavefront self.now) → needed_task (AnyGraph.Wavefront self.now) rank ≡ task.0 → result ≡ Some rank }
-        ensures only { IfSome result (λ rank. (rank < needed (AnyGraph.Wavefront self.now)) × (needed_task (AnyGraph.Wavefront self.now) rank ≡ task.0)) }
+        ensures each { (rank : ℕ) → rank < needed (AnyGraph.Wavefront self.now) → needed_task (AnyGraph.Wavefront self.now) rank ≡ task.0
+            → result ≡ Some rank }
+        ensures only { IfSome result (λ rank. (rank < needed (AnyGraph.Wavefront self.now))
+            × (needed_task (AnyGraph.Wavefront self.now) rank ≡ task.0)) }
     {
         if task.0 < self.rows * self.columns {
             Some(task.0)
@@ -119,8 +123,10 @@ impl Wavefront {
 
 impl Reduce {
     fn rank(&self, task: TaskId) -> Option<u32>
-        ensures each { (rank : ℕ) → rank < needed (AnyGraph.Reduce self.now) → needed_task (AnyGraph.Reduce self.now) rank ≡ task.0 → result ≡ Some rank }
-        ensures only { IfSome result (λ rank. (rank < needed (AnyGraph.Reduce self.now)) × (needed_task (AnyGraph.Reduce self.now) rank ≡ task.0)) }
+        ensures each { (rank : ℕ) → rank < needed (AnyGraph.Reduce self.now) → needed_task (AnyGraph.Reduce self.now) rank ≡ task.0
+            → result ≡ Some rank }
+        ensures only { IfSome result (λ rank. (rank < needed (AnyGraph.Reduce self.now))
+            × (needed_task (AnyGraph.Reduce self.now) rank ≡ task.0)) }
     {
         if task.0 == 2 * self.leaves - 2 {
             Some(0)

@@ -32,7 +32,13 @@ impl Wavefront {
 }
 
 impl Comparable for Wavefront {
-    ghost same = { λ a b h. let e = three_same a.rows b.rows a.columns b.columns a.seed b.seed h in λ i. record { rows = e.0 i; columns = e.1 i; seed = e.2 i; in_rules = rule_of_three IsWavefront IsWavefront-prop e a.in_rules b.in_rules i } };
+    ghost same = { λ a b h. let e = three_same a.rows b.rows a.columns b.columns a.seed b.seed h in
+        λ i. record {
+          rows = e.0 i;
+          columns = e.1 i;
+          seed = e.2 i;
+          in_rules = rule_of_three IsWavefront IsWavefront-prop e a.in_rules b.in_rules i;
+        } };
 }
 
 #[tactic(auto, unfolding(crate::specs::Waves::wavefront_graph))]

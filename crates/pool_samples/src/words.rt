@@ -107,7 +107,8 @@ fn triple(text: &str) -> Option<(u32, u32, u32)>
 
 /// A number and the text after its colon.
 fn number_and_rest(text: &str) -> Option<(u32, &str)>
-    ensures spelt { (n : ℕ) (rest : List ℕ) → n < 2 ^ 32 → text.now ≡ joined (decimal n) rest → IsSomeAnd result (λ parts. (parts.0 ≡ n) × (parts.1.now ≡ rest)) }
+    ensures spelt { (n : ℕ) (rest : List ℕ) → n < 2 ^ 32 → text.now ≡ joined (decimal n) rest
+        → IsSomeAnd result (λ parts. (parts.0 ≡ n) × (parts.1.now ≡ rest)) }
     ensures only { IfSome result (λ parts. text.now ≡ joined (decimal parts.0) parts.1.now) }
 {
     let (first, rest) = text.split_once(':')?;

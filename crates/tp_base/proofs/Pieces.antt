@@ -1,5 +1,6 @@
 -- Where the elements of pieces stand in the whole.
-use Rattle.std.proofs.Common.{◌≡◌, ◌≤◌, ◌<◌, ◌+◌, ◌-◌, ◌*◌, ◌/◌, ◌%◌, ◌++◌, ◌∙◌, ℕ, List, [], ◌∷◌, None, Some, suc, zero, length, slice_get, Vec, Option, Bor, refl, sym, ap, arith}
+use Rattle.std.proofs.Common.{◌≡◌, ◌≤◌, ◌<◌, ◌+◌, ◌-◌, ◌*◌, ◌/◌, ◌%◌, ◌++◌, ◌∙◌, ℕ, List, [], ◌∷◌, None, Some, suc, zero, length, slice_get}
+use Rattle.std.proofs.Common.{Vec, Option, Bor, refl, sym, ap, arith}
 use Rattle.std.specs.List.{All}
 use Rattle.std.specs.Option.{option_copied, unwrap_or}
 use Rattle.std.specs.Slice.{IsItemAt}
@@ -32,7 +33,8 @@ module _ {X : Type 0} where
       omega (arith, length-append p.items (joined ps), p.ok.0, All-head IsFull p ps h, length_joined ps (All-tail IsFull p ps h))
 
   at_piece-from : (pieces : List (Vec X Global)) (last : List X) (i j : ℕ) (p : Vec X Global)
-      → All IsFull pieces → slice_get pieces i ≡ Some p → j < PIECE → slice_get (joined pieces ++ last) (i * PIECE + j) ≡ slice_get p.items j
+      → All IsFull pieces → slice_get pieces i ≡ Some p → j < PIECE
+      → slice_get (joined pieces ++ last) (i * PIECE + j) ≡ slice_get p.items j
   at_piece-from [] last i j p h is below = cc
   at_piece-from (q ∷ qs) last zero j p h is below =
       let long : length q.items ≡ PIECE = sym q.ok.0 ∙ All-head IsFull q qs h in
@@ -47,8 +49,12 @@ module _ {X : Type 0} where
       ∙ get_right q.items (joined qs ++ last) _ (i * PIECE + j) (omega (arith, long))
       ∙ at_piece-from qs last i j p (All-tail IsFull q qs h) is below
 
-  pub at_piece : (pieces : List (Vec X Global)) (last : List X) (k : ℕ) (p : Vec X Global) → All IsFull pieces → slice_get pieces (k / PIECE) ≡ Some p → slice_get (joined pieces ++ last) k ≡ slice_get p.items (k % PIECE)
-  at_piece pieces last k p h is = ap (slice_get (joined pieces ++ last)) (sym (div-add-mod' k PIECE)) ∙ at_piece-from pieces last (k / PIECE) (k % PIECE) p h is (omega arith)
+  pub at_piece : (pieces : List (Vec X Global)) (last : List X) (k : ℕ) (p : Vec X Global) → All IsFull pieces
+      → slice_get pieces (k / PIECE) ≡ Some p → slice_get (joined pieces ++ last) k ≡ slice_get p.items (k % PIECE)
+  at_piece pieces last k p h is =
+      ap (slice_get (joined pieces ++ last)) (sym (div-add-mod' k PIECE))
+      ∙ at_piece-from pieces last (k / PIECE) (k % PIECE) p h is (omega arith)
 
-  pub at_last : (pieces : List (Vec X Global)) (last : List X) (k : ℕ) → All IsFull pieces → length pieces ≤ k / PIECE → slice_get (joined pieces ++ last) k ≡ slice_get last (k - length pieces * PIECE)
+  pub at_last : (pieces : List (Vec X Global)) (last : List X) (k : ℕ) → All IsFull pieces → length pieces ≤ k / PIECE
+      → slice_get (joined pieces ++ last) k ≡ slice_get last (k - length pieces * PIECE)
   at_last pieces last k h past = get_right (joined pieces) last k _ (omega (arith, length_joined pieces h, div-add-mod' k PIECE))

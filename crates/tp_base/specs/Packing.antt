@@ -5,7 +5,8 @@ use Rattle.tp_base.specs.declared.packed.Kind.{Kind}
 use Rattle.tp_base.specs.declared.packed.Kind.TheVariants as kind
 use Rattle.tp_base.specs.declared.packed.Packed.TheInside.{Inside}
 use Rattle.tp_base.specs.declared.step.Step.{Step}
-use Rattle.tp_base.specs.declared.step.Step.TheVariants.{Insert, Supply, Begin, Done, ActionOpen, ActionClose, Ready, Send, Recv, MessageEnd, Start, Down, Give, Up, Judge, Reopen}
+use Rattle.tp_base.specs.declared.step.Step.TheVariants.{Insert, Supply, Begin, Done, ActionOpen, ActionClose, Ready, Send, Recv}
+use Rattle.tp_base.specs.declared.step.Step.TheVariants.{MessageEnd, Start, Down, Give, Up, Judge, Reopen}
 
 -- the message of a number that holds it below the low bits of its generation
 abbrev pub message_in : ℕ → ℕ
@@ -24,7 +25,8 @@ step_of kind.Done i k n = Done (record { 0 = n })
 step_of kind.ActionOpen i k n = ActionOpen (record { 0 = i }) (record { 0 = n })
 step_of kind.ActionClose i k n = ActionClose (record { 0 = i }) (record { 0 = n })
 step_of kind.Ready i k n = Ready (record { 0 = i })
-step_of kind.Send i k n = Send (record { 0 = i / 16 }) (record { 0 = i % 16 }) (record { 0 = message_in n }) (record { 0 = generation_in k n })
+step_of kind.Send i k n =
+    Send (record { 0 = i / 16 }) (record { 0 = i % 16 }) (record { 0 = message_in n }) (record { 0 = generation_in k n })
 step_of kind.Recv i k n = Recv (record { 0 = i }) (record { 0 = message_in n }) (record { 0 = generation_in k n })
 step_of kind.MessageEnd i k n = MessageEnd (record { 0 = i }) (record { 0 = message_in n }) (record { 0 = generation_in k n })
 step_of kind.Start i k n = Start

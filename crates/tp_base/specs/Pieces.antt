@@ -25,7 +25,8 @@ pub record AreSpare {X : Type 0} (full spare : Vec (Vec X Global) Global) : Type
   pub few : vec_len full + vec_len spare < MAX_PIECES
 
 -- The full pieces are full, and the last one has the places of a piece, or no memory yet.
-pub record ArePieces {X : Type 0} (full : Vec (Vec X Global) Global) (last : Vec X Global) (spare : Vec (Vec X Global) Global) : Type 0 where
-  pub each : All IsFull full.items
-  pub room : (vec_capacity last ≡ 0) ⊎ (vec_capacity last ≡ PIECE)
-  pub ready : AreSpare full spare
+pub record ArePieces {X : Type 0} (full : Vec (Vec X Global) Global) (last : Vec X Global) (spare : Vec (Vec X Global) Global) : Type 0
+  where
+    pub each : All IsFull full.items
+    pub room : (vec_capacity last ≡ 0) ⊎ (vec_capacity last ≡ PIECE)
+    pub ready : AreSpare full spare

@@ -1,5 +1,6 @@
 -- What a call answers whose checks are made by two calls in turn.
-use Rattle.std.proofs.Common.{ℕ, ◌≡◌, List, [], ◌∷◌, ◌++◌, Bool, true, false, Some, None, Option, Result, Ok, Err, ◌<◌, length, ◌+◌, refl, sym, ap, subst, ◌∙◌, arith}
+use Rattle.std.proofs.Common.{ℕ, ◌≡◌, List, [], ◌∷◌, ◌++◌, Bool, true, false, Some, None, Option, Result, Ok, Err, ◌<◌, length, ◌+◌, refl}
+use Rattle.std.proofs.Common.{sym, ap, subst, ◌∙◌, arith}
 use Rattle.std.proofs.lemmas.Bool.Decides.{nat_tests}
 use Rattle.std.specs.Prelude.{if◌then◌else◌, MatchOption, IfErr, nat_lt}
 use Rattle.std.specs.Result.{result_err}
@@ -32,31 +33,39 @@ first_refused (c ∷ cs) ds e is =
 first_passed : (cs ds : List Check) → first_refusal cs ≡ None → first_refusal (cs ++ ds) ≡ first_refusal ds
 first_passed [] ds is = refl
 first_passed (c ∷ cs) ds is =
-    elim c.0 as (λ b. (if b then Some c.1 else first_refusal cs) ≡ None → (if b then Some c.1 else first_refusal (cs ++ ds)) ≡ first_refusal ds) [
+    elim c.0 as (λ b. (if b then Some c.1 else first_refusal cs) ≡ None
+    → (if b then Some c.1 else first_refusal (cs ++ ds)) ≡ first_refusal ds) [
       | true ↦ λ h. absurd cc
       | false ↦ λ h. first_passed cs ds h
     ] is
 
-pub answers_refused : {A : Type 0} (cs ds : List Check) (more : ℕ) (b : BoardState) (result : Result A Refusal) (e : Refusal) → first_refusal cs ≡ Some e → result ≡ Err e → AnswersBy (cs ++ ds) more b result
+pub answers_refused : {A : Type 0} (cs ds : List Check) (more : ℕ) (b : BoardState) (result : Result A Refusal) (e : Refusal)
+    → first_refusal cs ≡ Some e → result ≡ Err e → AnswersBy (cs ++ ds) more b result
 answers_refused cs ds more b result e is answer = rw (first_refused cs ds e is) answer
 
-pub answers_passed : {A : Type 0} (cs ds : List Check) (more : ℕ) (b : BoardState) (result : Result A Refusal) → first_refusal cs ≡ None → AnswersBy ds more b result → AnswersBy (cs ++ ds) more b result
+pub answers_passed : {A : Type 0} (cs ds : List Check) (more : ℕ) (b : BoardState) (result : Result A Refusal) → first_refusal cs ≡ None
+    → AnswersBy ds more b result → AnswersBy (cs ++ ds) more b result
 answers_passed cs ds more b result is answer = rw (first_passed cs ds is) answer
 
 -- the wave stands where the present steps led it
-stands_now : (n nodes : ℕ) (h : List Event) (t : BookTotals) (w : Wave) → IsBoardOf n nodes h t w → Stands n (is_ended n (present (steps_of h))) (present (steps_of h)) w
+stands_now : (n nodes : ℕ) (h : List Event) (t : BookTotals) (w : Wave) → IsBoardOf n nodes h t w
+    → Stands n (is_ended n (present (steps_of h))) (present (steps_of h)) w
 stands_now n nodes h t w board = subst (λ steps. Stands n (is_ended n steps) steps w) (steps-present h) board.now.follows.stands
 
 -- where the wave refuses a step
-pub refused : {A : Type 0} (n nodes : ℕ) (log now : BoardState) (t : BookTotals) (w : Wave) (s : Step) (ds : List Check) (e : Refusal) (err : Option Refusal) (result : Result A Refusal)
-    → IsBoardOf n nodes log.history t w → log ≡ now → ((k : ℕ) (ended : Bool) (steps : List Step) → Stands k ended steps w → err ≡ first_refusal (wave_checks k ended steps s))
+pub refused : {A : Type 0} (n nodes : ℕ) (log now : BoardState) (t : BookTotals) (w : Wave) (s : Step) (ds : List Check) (e : Refusal)
+    (err : Option Refusal) (result : Result A Refusal)
+    → IsBoardOf n nodes log.history t w → log ≡ now
+    → ((k : ℕ) (ended : Bool) (steps : List Step) → Stands k ended steps w → err ≡ first_refusal (wave_checks k ended steps s))
     → err ≡ Some e → result ≡ Err e → AnswersBy (control_checks n (present (steps_of now.history)) s ++ ds) 1 now result
 refused n nodes log now t w s ds e err result board is exact some answer =
     let first = exact n _ _ (stands_now n nodes log.history t w board) in
     rw (← is) (answers_refused (control_checks n (present (steps_of log.history)) s) ds 1 log result e (sym first ∙ some) answer)
 
-same_answer-to : {A B : Type 0} (o : Option Refusal) (want : Type 0) (r : Result A Refusal) (q : Result B Refusal) → result_err r ≡ result_err q
-    → MatchOption o (IfErr r (λ e. (e ≡ NoMemory) × want)) (λ e. r ≡ Err e) → MatchOption o (IfErr q (λ e. (e ≡ NoMemory) × want)) (λ e. q ≡ Err e)
+same_answer-to : {A B : Type 0} (o : Option Refusal) (want : Type 0) (r : Result A Refusal) (q : Result B Refusal)
+    → result_err r ≡ result_err q
+    → MatchOption o (IfErr r (λ e. (e ≡ NoMemory) × want)) (λ e. r ≡ Err e)
+    → MatchOption o (IfErr q (λ e. (e ≡ NoMemory) × want)) (λ e. q ≡ Err e)
 same_answer-to None want (Ok x) (Ok y) same answer = tt
 same_answer-to None want (Ok x) (Err f) same answer = absurd cc
 same_answer-to None want (Err e) (Ok y) same answer = tt
@@ -66,24 +75,32 @@ same_answer-to (Some g) want (Err e) (Ok y) same answer = absurd cc
 same_answer-to (Some g) want (Err e) (Err f) same answer = let first : f ≡ g = cc in ap Err first
 
 -- What a call answers that returns another's error.
-same_answer : {A B : Type 0} (cs : List Check) (more : ℕ) (b : BoardState) (r : Result A Refusal) (q : Result B Refusal) → result_err r ≡ result_err q → AnswersBy cs more b r → AnswersBy cs more b q
+same_answer : {A B : Type 0} (cs : List Check) (more : ℕ) (b : BoardState) (r : Result A Refusal) (q : Result B Refusal)
+    → result_err r ≡ result_err q → AnswersBy cs more b r → AnswersBy cs more b q
 same_answer cs more b r q same answer = same_answer-to (first_refusal cs) (b.reserved < more) r q same answer
 
 -- where it does not, and the event is added or refused
-pub passed : {A B : Type 0} (n nodes : ℕ) (log now : BoardState) (t : BookTotals) (w : Wave) (s : Step) (ds : BoardState → List Check) (err : Option Refusal) (added : Result B Refusal) (result : Result A Refusal)
-    → IsBoardOf n nodes log.history t w → log ≡ now → ((k : ℕ) (ended : Bool) (steps : List Step) → Stands k ended steps w → err ≡ first_refusal (wave_checks k ended steps s))
-    → err ≡ None → AnswersBy (ds log) 1 log added → result_err added ≡ result_err result → AnswersBy (control_checks n (present (steps_of now.history)) s ++ ds now) 1 now result
+pub passed : {A B : Type 0} (n nodes : ℕ) (log now : BoardState) (t : BookTotals) (w : Wave) (s : Step) (ds : BoardState
+    → List Check) (err : Option Refusal) (added : Result B Refusal) (result : Result A Refusal)
+    → IsBoardOf n nodes log.history t w → log ≡ now
+    → ((k : ℕ) (ended : Bool) (steps : List Step) → Stands k ended steps w → err ≡ first_refusal (wave_checks k ended steps s))
+    → err ≡ None → AnswersBy (ds log) 1 log added → result_err added ≡ result_err result
+    → AnswersBy (control_checks n (present (steps_of now.history)) s ++ ds now) 1 now result
 passed n nodes log now t w s ds err added result board is exact none answer same =
     let first = exact n _ _ (stands_now n nodes log.history t w board) in
-    rw (← is) (answers_passed (control_checks n (present (steps_of log.history)) s) (ds log) 1 log result (sym first ∙ none) (same_answer (ds log) 1 log added result same answer))
+    rw (← is) (answers_passed (control_checks n (present (steps_of log.history)) s) (ds log) 1 log result (sym first
+    ∙ none) (same_answer (ds log) 1 log added result same answer))
 
 abbrev answered : {A : Type 0} → A → Result A Refusal
 answered x = Ok x
 
 -- the same, where the event is added
-pub passed_ok : {A B : Type 0} (n nodes : ℕ) (log now : BoardState) (t : BookTotals) (w : Wave) (s : Step) (ds : BoardState → List Check) (err : Option Refusal) (added : Result B Refusal) (x : A)
-    → IsBoardOf n nodes log.history t w → log ≡ now → ((k : ℕ) (ended : Bool) (steps : List Step) → Stands k ended steps w → err ≡ first_refusal (wave_checks k ended steps s))
-    → err ≡ None → AnswersBy (ds log) 1 log added → result_err added ≡ None → AnswersBy (control_checks n (present (steps_of now.history)) s ++ ds now) 1 now (answered x)
+pub passed_ok : {A B : Type 0} (n nodes : ℕ) (log now : BoardState) (t : BookTotals) (w : Wave) (s : Step) (ds : BoardState
+    → List Check) (err : Option Refusal) (added : Result B Refusal) (x : A)
+    → IsBoardOf n nodes log.history t w → log ≡ now
+    → ((k : ℕ) (ended : Bool) (steps : List Step) → Stands k ended steps w → err ≡ first_refusal (wave_checks k ended steps s))
+    → err ≡ None → AnswersBy (ds log) 1 log added → result_err added ≡ None
+    → AnswersBy (control_checks n (present (steps_of now.history)) s ++ ds now) 1 now (answered x)
 passed_ok {A} n nodes log now t w s ds err added x board is exact none answer same =
     passed n nodes log now t w s ds err added (answered x) board is exact none answer same
 
@@ -91,13 +108,15 @@ passed_ok {A} n nodes log now t w s ds err added x board is exact none answer sa
 abbrev pub visit_rest : ℕ → BoardState → List Check
 visit_rest i b = (nat_lt 0 (pending_at i (present_events b.history)), NotIdle) ∷ full_check 1 b ∷ []
 
-pub when_idle : {A : Type 0} (i : ℕ) (b : BoardState) (result : Result A Refusal) → pending_at i (present_events b.history) ≡ 0 → AnswersBy (full_check 1 b ∷ []) 1 b result → AnswersBy (visit_rest i b) 1 b result
+pub when_idle : {A : Type 0} (i : ℕ) (b : BoardState) (result : Result A Refusal) → pending_at i (present_events b.history) ≡ 0
+    → AnswersBy (full_check 1 b ∷ []) 1 b result → AnswersBy (visit_rest i b) 1 b result
 when_idle i b result idle answer = rw idle answer
 
 active_test : (n : ℕ) → 0 < n → nat_lt 0 n ≡ true
 active_test n some = grind (arith, nat_tests)
 
-pub when_active : {A : Type 0} (i : ℕ) (b : BoardState) (result : Result A Refusal) → 0 < pending_at i (present_events b.history) → result ≡ Err NotIdle → AnswersBy (visit_rest i b) 1 b result
+pub when_active : {A : Type 0} (i : ℕ) (b : BoardState) (result : Result A Refusal) → 0 < pending_at i (present_events b.history)
+    → result ≡ Err NotIdle → AnswersBy (visit_rest i b) 1 b result
 when_active i b result active answer = rw (active_test _ active) answer
 
 full_test : (limit count more : ℕ) → limit < count + more → nat_lt limit (count + more) ≡ true
@@ -105,5 +124,6 @@ full_test limit count more less = grind (arith, nat_tests)
 
 -- where no place is free for so many events
 pub full : {A : Type 0} (b : BoardState) (more count : ℕ) (result : Result A Refusal)
-    → count ≡ length b.history → b.limit < length b.history + more → result ≡ Err (HistoryFull count) → AnswersBy (full_check more b ∷ []) more b result
+    → count ≡ length b.history → b.limit < length b.history + more → result ≡ Err (HistoryFull count)
+    → AnswersBy (full_check more b ∷ []) more b result
 full b more count result is less answer = rw (full_test b.limit (length b.history) more less) (answer ∙ ap (λ n. Err (HistoryFull n)) is)

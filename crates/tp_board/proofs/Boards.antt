@@ -1,5 +1,6 @@
 -- A board of one generation, one event further.
-use Rattle.std.proofs.Common.{ℕ, ◌+◌, ◌-◌, ◌≡◌, ◌≢◌, ◌<◌, ◌≤◌, List, [], ◌∷◌, ◌++◌, length, Bool, IsTrue, refl, sym, ap, subst, ◌∙◌, arith, inl, inr}
+use Rattle.std.proofs.Common.{ℕ, ◌+◌, ◌-◌, ◌≡◌, ◌≢◌, ◌<◌, ◌≤◌, List, [], ◌∷◌, ◌++◌, length, Bool, IsTrue, refl, sym, ap, subst, ◌∙◌, arith}
+use Rattle.std.proofs.Common.{inl, inr}
 use Rattle.std.specs.Prelude.{IsFalse, slice_index, slice_set, if◌then◌else◌}
 use Rattle.std.proofs.lemmas.Bool.{eq-eqb, ne_eqb, cases_eq}
 use Rattle.std.specs.List.{All}
@@ -13,10 +14,12 @@ use Rattle.tp_base.specs.declared.Sums.{Sums}
 use Rattle.tp_wave.specs.Sums.{is_ended, waves}
 use Rattle.tp_wave.specs.Wave.{started}
 use Rattle.tp_wave.specs.Control.{is_control}
-use Rattle.tp_wave.specs.Machine.{node_of, step_of, steps_of, pending_at, pending_after, under_way, under_way_after, IsOf, IsRun, Needs, is_send_numbered, is_send_to}
+use Rattle.tp_wave.specs.Machine.{node_of, step_of, steps_of, pending_at, pending_after, under_way, under_way_after, IsOf, IsRun, Needs}
+use Rattle.tp_wave.specs.Machine.{is_send_numbered, is_send_to}
 use Rattle.tp_wave.proofs.Given.{pool_step}
 use Rattle.tp_wave.specs.declared.wave.Wave.{Wave}
-use Rattle.tp_ledgers.specs.Numbers.{AreWithin, NodeNumbers, ending, event, is_done, is_plain, is_recv, is_send, numbers_after, plus_if, receiving, sending}
+use Rattle.tp_ledgers.specs.Numbers.{AreWithin, NodeNumbers, ending, event, is_done, is_plain, is_recv, is_send, numbers_after, plus_if}
+use Rattle.tp_ledgers.specs.Numbers.{receiving, sending}
 use Rattle.tp_ledgers.specs.Books.{BookTotals, IsBooked, totals_after, with_under}
 use Rattle.tp_board.specs.Boards.{IsBoard}
 use Rattle.tp_board.proofs.Counting.{count-le, pending_at-le}
@@ -25,17 +28,22 @@ pool_ended : (n : ℕ) (s : Step) (past : List Step) → IsFalse (is_control s) 
 pool_ended n Judge past pool = absurd cc
 pool_ended n _ past pool = refl
 
-pending_next : (h : List Event) (pending : List ℕ) (i j : ℕ) (s : Step) → i < length pending → slice_index pending i ≡ pending_at i h → slice_index pending j ≡ pending_at j h
+pending_next : (h : List Event) (pending : List ℕ) (i j : ℕ) (s : Step) → i < length pending → slice_index pending i ≡ pending_at i h
+    → slice_index pending j ≡ pending_at j h
     → slice_index (slice_set pending i (pending_after s (slice_index pending i))) j ≡ pending_at j (event i s ∷ h)
 pending_next h pending i j s room here there =
-    let P : ℕ → Type 0 = λ k. slice_index (slice_set pending i (pending_after s (slice_index pending i))) k ≡ pending_at k (event i s ∷ h) in
+    let P : ℕ → Type 0 =
+    λ k. slice_index (slice_set pending i (pending_after s (slice_index pending i))) k ≡ pending_at k (event i s ∷ h) in
     elim (cases_eq i j) [
-      | inl e ↦ subst P e (rw (eq-eqb i i refl) (get_or-set_same pending i (pending_after s (slice_index pending i)) 0 room ∙ ap (pending_after s) here))
-      | inr apart ↦ rw (ne_eqb i j apart) (get_or-set_other pending i j (pending_after s (slice_index pending i)) 0 (λ e. apart (sym e)) ∙ there)
+      | inl e ↦ subst P e
+          (rw (eq-eqb i i refl) (get_or-set_same pending i (pending_after s (slice_index pending i)) 0 room ∙ ap (pending_after s) here))
+      | inr apart ↦ rw (ne_eqb i j apart) (get_or-set_other pending i j (pending_after s (slice_index pending i)) 0 (λ e. apart (sym e))
+          ∙ there)
     ]
 
 -- after a step of the pool
-pub pool_next : (n nodes : ℕ) (h : List Event) (t : BookTotals) (w : Wave) (i under : ℕ) (s : Step) → IsBoard n nodes h t w → length h < 1048576 → i < n → i < length t.pending → IsOf i s → IsFalse (is_control s)
+pub pool_next : (n nodes : ℕ) (h : List Event) (t : BookTotals) (w : Wave) (i under : ℕ) (s : Step) → IsBoard n nodes h t w
+    → length h < 1048576 → i < n → i < length t.pending → IsOf i s → IsFalse (is_control s)
     → Needs n h i s → under ≡ under_way_after s t.under → IsBoard n nodes (event i s ∷ h) (with_under under (totals_after i s t)) w
 pool_next n nodes h t w i under s board places below room own pool needs moved =
     record {
@@ -54,7 +62,8 @@ pool_next n nodes h t w i under s board places below room own pool needs moved =
     }
 
 -- a node's numbers are no more than the history's events
-pub within : (n nodes : ℕ) (h : List Event) (t : BookTotals) (w : Wave) (x : NodeNumbers) → IsBoard n nodes h t w → IsBooked x t → x.node < n → AreWithin (length h) x
+pub within : (n nodes : ℕ) (h : List Event) (t : BookTotals) (w : Wave) (x : NodeNumbers) → IsBoard n nodes h t w → IsBooked x t
+    → x.node < n → AreWithin (length h) x
 within n nodes h t w x board booked below =
     record {
       pending = omega (arith, booked.pending, board.pending x.node below, pending_at-le x.node h);
@@ -64,15 +73,52 @@ within n nodes h t w x board booked below =
     }
 
 one_step : (most : ℕ) (x : NodeNumbers) (s : Step) → AreWithin most x → AreWithin (most + 1) (numbers_after s x)
-one_step most x (Insert i t k) are = record { pending = omega (arith, are.pending); sent = omega (arith, are.sent); received = omega (arith, are.received); done = omega (arith, are.done) }
-one_step most x (ActionOpen i a) are = record { pending = omega (arith, are.pending); sent = omega (arith, are.sent); received = omega (arith, are.received); done = omega (arith, are.done) }
-one_step most x (Send i j m g) are = record { pending = omega (arith, are.pending); sent = omega (arith, are.sent); received = omega (arith, are.received); done = omega (arith, are.done) }
-one_step most x (Recv j m g) are = record { pending = omega (arith, are.pending); sent = omega (arith, are.sent); received = omega (arith, are.received); done = omega (arith, are.done) }
-one_step most x (Done t) are = record { pending = omega (arith, are.pending); sent = omega (arith, are.sent); received = omega (arith, are.received); done = omega (arith, are.done) }
-one_step most x _ are = record { pending = omega (arith, are.pending); sent = omega (arith, are.sent); received = omega (arith, are.received); done = omega (arith, are.done) }
+one_step most x (Insert i t k) are =
+    record {
+      pending = omega (arith, are.pending);
+      sent = omega (arith, are.sent);
+      received = omega (arith, are.received);
+      done = omega (arith, are.done);
+    }
+one_step most x (ActionOpen i a) are =
+    record {
+      pending = omega (arith, are.pending);
+      sent = omega (arith, are.sent);
+      received = omega (arith, are.received);
+      done = omega (arith, are.done);
+    }
+one_step most x (Send i j m g) are =
+    record {
+      pending = omega (arith, are.pending);
+      sent = omega (arith, are.sent);
+      received = omega (arith, are.received);
+      done = omega (arith, are.done);
+    }
+one_step most x (Recv j m g) are =
+    record {
+      pending = omega (arith, are.pending);
+      sent = omega (arith, are.sent);
+      received = omega (arith, are.received);
+      done = omega (arith, are.done);
+    }
+one_step most x (Done t) are =
+    record {
+      pending = omega (arith, are.pending);
+      sent = omega (arith, are.sent);
+      received = omega (arith, are.received);
+      done = omega (arith, are.done);
+    }
+one_step most x _ are =
+    record {
+      pending = omega (arith, are.pending);
+      sent = omega (arith, are.sent);
+      received = omega (arith, are.received);
+      done = omega (arith, are.done);
+    }
 
 -- nor after one more
-pub within_next : (n nodes : ℕ) (h : List Event) (t : BookTotals) (w : Wave) (x : NodeNumbers) (s : Step) → IsBoard n nodes h t w → IsBooked x t → x.node < n → length h < 1048576
+pub within_next : (n nodes : ℕ) (h : List Event) (t : BookTotals) (w : Wave) (x : NodeNumbers) (s : Step) → IsBoard n nodes h t w
+    → IsBooked x t → x.node < n → length h < 1048576
     → AreWithin 1048576 (numbers_after s x)
 within_next n nodes h t w x s board booked below short =
     let are = one_step (length h) x s (within n nodes h t w x board booked below) in
@@ -108,28 +154,37 @@ plain_under (Recv j m g) under plain = absurd cc
 plain_under _ under plain = refl
 
 -- after a step that names no message
-pub plain_next : (n nodes : ℕ) (h : List Event) (t : BookTotals) (w : Wave) (x : NodeNumbers) (s : Step) → IsBoard n nodes h t w → length h < 1048576 → IsBooked x t → x.node < n
+pub plain_next : (n nodes : ℕ) (h : List Event) (t : BookTotals) (w : Wave) (x : NodeNumbers) (s : Step) → IsBoard n nodes h t w
+    → length h < 1048576 → IsBooked x t → x.node < n
     → IsTrue (is_plain s) → IsOf x.node s → 0 < x.pending → IsBoard n nodes (event x.node s ∷ h) (totals_after x.node s t) w
 plain_next n nodes h t w x s board places booked below plain own active =
     let needs = plain_needs n h x.node s plain (omega (arith, booked.pending, board.pending x.node below)) in
     pool_next n nodes h t w x.node t.under s board places below booked.known own (plain_is_pool s plain) needs (plain_under s t.under plain)
 
 -- after the sending of message m, in generation k
-pub send_next : (n nodes b m k : ℕ) (h : List Event) (t : BookTotals) (w : Wave) (x : NodeNumbers) → IsBoard n nodes h t w → length h < 1048576 → IsBooked x t → x.node < n → b < n → x.node ≢ b → 0 < x.pending
-    → IsFalse (any (is_send_numbered m) (steps_of h)) → IsBoard n nodes (event x.node (sending k x.node b m) ∷ h) (with_under (t.under + 1) (totals_after x.node (sending k x.node b m) t)) w
+pub send_next : (n nodes b m k : ℕ) (h : List Event) (t : BookTotals) (w : Wave) (x : NodeNumbers) → IsBoard n nodes h t w
+    → length h < 1048576 → IsBooked x t → x.node < n → b < n → x.node ≢ b → 0 < x.pending
+    → IsFalse (any (is_send_numbered m) (steps_of h))
+    → IsBoard n nodes (event x.node (sending k x.node b m)
+    ∷ h) (with_under (t.under + 1) (totals_after x.node (sending k x.node b m) t)) w
 send_next n nodes b m k h t w x board places booked below there apart active fresh =
-    let needs : Needs n h x.node (sending k x.node b m) = (omega (arith, booked.pending, board.pending x.node below), there, (λ e. apart (sym e)), fresh) in
+    let needs : Needs n h x.node (sending k x.node b m) =
+    (omega (arith, booked.pending, board.pending x.node below), there, (λ e. apart (sym e)), fresh) in
     pool_next n nodes h t w x.node (t.under + 1) (sending k x.node b m) board places below booked.known refl refl needs refl
 
 -- after the receipt of a message
-pub recv_next : (n nodes m k : ℕ) (h : List Event) (t : BookTotals) (w : Wave) (x : NodeNumbers) → IsBoard n nodes h t w → length h < 1048576 → IsBooked x t → x.node < n → 0 < t.under
-    → IsTrue (any (is_send_to x.node m) (steps_of h)) → IsBoard n nodes (event x.node (receiving k x.node m) ∷ h) (with_under (t.under - 1) (totals_after x.node (receiving k x.node m) t)) w
+pub recv_next : (n nodes m k : ℕ) (h : List Event) (t : BookTotals) (w : Wave) (x : NodeNumbers) → IsBoard n nodes h t w
+    → length h < 1048576 → IsBooked x t → x.node < n → 0 < t.under
+    → IsTrue (any (is_send_to x.node m) (steps_of h))
+    → IsBoard n nodes (event x.node (receiving k x.node m)
+    ∷ h) (with_under (t.under - 1) (totals_after x.node (receiving k x.node m) t)) w
 recv_next n nodes m k h t w x board places booked below some sent_before =
     let needs : Needs n h x.node (receiving k x.node m) = (omega (arith, board.under), sent_before) in
     pool_next n nodes h t w x.node (t.under - 1) (receiving k x.node m) board places below booked.known refl refl needs refl
 
 -- after the end of a message's action
-pub end_next : (n nodes m k : ℕ) (h : List Event) (t : BookTotals) (w : Wave) (x : NodeNumbers) → IsBoard n nodes h t w → length h < 1048576 → IsBooked x t → x.node < n → 0 < x.pending
+pub end_next : (n nodes m k : ℕ) (h : List Event) (t : BookTotals) (w : Wave) (x : NodeNumbers) → IsBoard n nodes h t w
+    → length h < 1048576 → IsBooked x t → x.node < n → 0 < x.pending
     → IsBoard n nodes (event x.node (ending k x.node m) ∷ h) (totals_after x.node (ending k x.node m) t) w
 end_next n nodes m k h t w x board places booked below active =
     let needs : Needs n h x.node (ending k x.node m) = omega (arith, booked.pending, board.pending x.node below) in
@@ -141,7 +196,8 @@ started-le n nodes h t w board =
     let all : started w ≡ waves (steps_of h) = ap (λ (s : Sums). s.wave) board.follows.newest in
     omega (arith, count-le is_start h, board.short)
 
-balanced_step : (n : ℕ) (past : List Event) (i : ℕ) (s : Step) → Needs n past i s → count is_send (steps_of past) ≡ count is_recv (steps_of past) + under_way (steps_of past)
+balanced_step : (n : ℕ) (past : List Event) (i : ℕ) (s : Step) → Needs n past i s
+    → count is_send (steps_of past) ≡ count is_recv (steps_of past) + under_way (steps_of past)
     → count is_send (s ∷ steps_of past) ≡ count is_recv (s ∷ steps_of past) + under_way (s ∷ steps_of past)
 balanced_step n past i (Send a b m g) needs before = omega arith
 balanced_step n past i (Recv a m g) needs before = omega (arith, needs.0)
@@ -152,10 +208,12 @@ balanced : (n : ℕ) (h : List Event) → IsRun n h → count is_send (steps_of 
 balanced n [] run = refl
 balanced n (e ∷ past) run = balanced_step n past (node_of e) (step_of e) run.0.needed (balanced n past run.1)
 
-pub balance : (n nodes : ℕ) (h : List Event) (t : BookTotals) (w : Wave) → IsBoard n nodes h t w → count is_send (steps_of h) ≡ count is_recv (steps_of h) + t.under
+pub balance : (n nodes : ℕ) (h : List Event) (t : BookTotals) (w : Wave) → IsBoard n nodes h t w
+    → count is_send (steps_of h) ≡ count is_recv (steps_of h) + t.under
 balance n nodes h t w board = omega (arith, balanced n h board.run, board.under)
 
-pub agree_last : (h : List Event) (xs ys : List NodeNumbers) (x : NodeNumbers) → ys ≡ xs ++ x ∷ [] → x.pending ≡ pending_at x.node h → All (λ (s : NodeNumbers). s.pending ≡ pending_at s.node h) xs
+pub agree_last : (h : List Event) (xs ys : List NodeNumbers) (x : NodeNumbers) → ys ≡ xs ++ x ∷ [] → x.pending ≡ pending_at x.node h
+    → All (λ (s : NodeNumbers). s.pending ≡ pending_at s.node h) xs
     → All (λ (s : NodeNumbers). s.pending ≡ pending_at s.node h) ys
 agree_last h xs ys x is last rest =
     let P : NodeNumbers → Type 0 = λ s. s.pending ≡ pending_at s.node h in

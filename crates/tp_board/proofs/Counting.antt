@@ -1,5 +1,6 @@
 -- The counts of a history, one event further.
-use Rattle.std.proofs.Common.{ℕ, zero, suc, ◌+◌, ◌≡◌, ◌≢◌, ◌<◌, ◌≤◌, ◌==◌, List, [], ◌∷◌, length, set, Bool, true, false, Some, refl, sym, ap, subst, ◌∙◌, arith, inl, inr}
+use Rattle.std.proofs.Common.{ℕ, zero, suc, ◌+◌, ◌≡◌, ◌≢◌, ◌<◌, ◌≤◌, ◌==◌, List, [], ◌∷◌, length, set, Bool, true, false, Some, refl, sym}
+use Rattle.std.proofs.Common.{ap, subst, ◌∙◌, arith, inl, inr}
 use Rattle.std.specs.Prelude.{slice_get, slice_index_or, if◌then◌else◌}
 use Rattle.std.proofs.lemmas.Bool.{eq-eqb, ne_eqb, cases_eq}
 use Rattle.std.proofs.lemmas.Option.{slice_get_within, get_or_from_slice_get}
@@ -18,11 +19,13 @@ use Rattle.tp_board.specs.declared.counts.Counts.{Counts}
 pending_here : (i : ℕ) (s : Step) (h : List Event) → pending_at i (event i s ∷ h) ≡ pending_after s (pending_at i h)
 pending_here i s h = rw (eq-eqb i i refl) refl
 
-sent_here : (i : ℕ) (s : Step) (past : List Step) → IsOf i s → count (is_send_of i) (s ∷ past) ≡ plus_if (is_send s) (count (is_send_of i) past)
+sent_here : (i : ℕ) (s : Step) (past : List Step) → IsOf i s
+    → count (is_send_of i) (s ∷ past) ≡ plus_if (is_send s) (count (is_send_of i) past)
 sent_here i (Send a b m g) past own = rw (eq-eqb a.0 i own) refl
 sent_here i _ past own = refl
 
-received_here : (i : ℕ) (s : Step) (past : List Step) → IsOf i s → count (is_recv_at i) (s ∷ past) ≡ plus_if (is_recv s) (count (is_recv_at i) past)
+received_here : (i : ℕ) (s : Step) (past : List Step) → IsOf i s
+    → count (is_recv_at i) (s ∷ past) ≡ plus_if (is_recv s) (count (is_recv_at i) past)
 received_here i (Recv a m g) past own = rw (eq-eqb a.0 i own) refl
 received_here i _ past own = refl
 
@@ -46,7 +49,8 @@ here i s h own = joined _ _ (pending_here i s h) (sent_here i s (steps_of h) own
 
 -- the counts of another node
 there : (i j : ℕ) (s : Step) (h : List Event) → i ≢ j → IsOf i s → counts_at j (event i s ∷ h) ≡ counts_at j h
-there i j s h apart own = joined _ _ (pending_there i j s h apart) (sent_there i j s (steps_of h) apart own) (received_there i j s (steps_of h) apart own)
+there i j s h apart own =
+    joined _ _ (pending_there i j s h apart) (sent_there i j s (steps_of h) apart own) (received_there i j s (steps_of h) apart own)
 
 get_set_other : (xs : List NodeCounts) (i j : ℕ) (x : NodeCounts) → i ≢ j → slice_get (set xs i x) j ≡ slice_get xs j
 get_set_other [] i j x apart = refl
@@ -61,7 +65,8 @@ get_set_same (y ∷ ys) zero x room = refl
 get_set_same (y ∷ ys) (suc i) x room = get_set_same ys i x (omega arith)
 
 -- the counts of all nodes
-each : (h : List Event) (xs : List NodeCounts) (i : ℕ) (s : Step) → i < 8 → IsOf i s → ((j : ℕ) → j < 8 → slice_get xs j ≡ Some (counts_at j h))
+each : (h : List Event) (xs : List NodeCounts) (i : ℕ) (s : Step) → i < 8 → IsOf i s
+    → ((j : ℕ) → j < 8 → slice_get xs j ≡ Some (counts_at j h))
     → (j : ℕ) → j < 8 → slice_get (set xs i (counts_after s (counts_at i h))) j ≡ Some (counts_at j (event i s ∷ h))
 each h xs i s below own are j less =
     let room : i < length xs = slice_get_within xs i _ (are i below) in

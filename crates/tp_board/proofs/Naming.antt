@@ -3,7 +3,8 @@ use Rattle.std.proofs.Common.{ℕ, ◌<◌, refl, arith}
 use Rattle.std.specs.Prelude.{IsFalse, IsTrue}
 use Rattle.tp_base.specs.History.{NamesSmall}
 use Rattle.tp_base.specs.declared.step.Step.{Step}
-use Rattle.tp_base.specs.declared.step.Step.TheVariants.{Insert, ActionOpen, ActionClose, Ready, Send, Recv, MessageEnd, Down, Give, Up, Reopen}
+use Rattle.tp_base.specs.declared.step.Step.TheVariants.{Insert, ActionOpen, ActionClose, Ready, Send, Recv, MessageEnd, Down, Give, Up}
+use Rattle.tp_base.specs.declared.step.Step.TheVariants.{Reopen}
 use Rattle.tp_ledgers.specs.Numbers.{is_plain, is_send}
 use Rattle.tp_wave.specs.Steps.{is_reopen}
 use Rattle.tp_wave.specs.Machine.{IsOf}

@@ -1,6 +1,7 @@
 -- The routes of messages, by their numbers.
 use Rattle.std.proofs.Common.{ℕ, zero, suc, ◌+◌, ◌-◌, ◌≡◌, ◌≢◌, ◌<◌, ◌≤◌, ◌==◌, ◌&&◌, ◌||◌}
-use Rattle.std.proofs.Common.{List, [], ◌∷◌, ◌++◌, length, reverse, Bool, true, false, Some, None, length-append, inl, inr, refl, sym, ap, ◌∙◌, arith}
+use Rattle.std.proofs.Common.{List, [], ◌∷◌, ◌++◌, length, reverse, Bool, true, false, Some, None, length-append, inl, inr, refl, sym, ap}
+use Rattle.std.proofs.Common.{◌∙◌, arith}
 use Rattle.std.specs.Prelude.{slice_get, IsFalse}
 use Rattle.std.proofs.lemmas.Bool.{eq-eqb, ne_eqb, cases_eq, cases_lt}
 use Rattle.std.proofs.lemmas.Grind.{reverse_onto}
@@ -66,35 +67,45 @@ other_test true true z = refl
 other_test true false z = refl
 other_test false y z = refl
 
-gave_send : (i j m : ℕ) (a b : NodeId) (k : ℕ) (rs : List Route) (past : Bool) → k ≡ length rs → is_route i j (slice_get (reverse rs) m) ≡ past
+gave_send : (i j m : ℕ) (a b : NodeId) (k : ℕ) (rs : List Route) (past : Bool) → k ≡ length rs
+    → is_route i j (slice_get (reverse rs) m) ≡ past
     → is_route i j (slice_get (reverse rs ++ (a, b) ∷ []) m) ≡ (((a.0 == i) && ((b.0 == j) && (k == m))) || past)
 gave_send i j m a b k rs past number before =
     elim (cases_eq m k) [
       | inl same ↦
           let at : m ≡ length (reverse rs) = same ∙ number ∙ sym (length-reverse rs) in
           let none : past ≡ false = sym before ∙ ap (is_route i j) (get_past (reverse rs) m (omega arith)) in
-          ap (is_route i j) (ap (slice_get (reverse rs ++ (a, b) ∷ [])) at ∙ get_last (reverse rs) (a, b)) ∙ rw (eq-eqb k m (sym same), none) (last_test _ _)
-      | inr other ↦ ap (is_route i j) (get_other (reverse rs) (a, b) m (λ e. other (e ∙ length-reverse rs ∙ sym number))) ∙ before ∙ rw (ne_eqb k m (λ e. other (sym e))) (sym (other_test _ _ _))
+          ap (is_route i j) (ap (slice_get (reverse rs ++ (a, b) ∷ [])) at ∙ get_last (reverse rs) (a, b))
+          ∙ rw (eq-eqb k m (sym same), none) (last_test _ _)
+      | inr other ↦ ap (is_route i j) (get_other (reverse rs) (a, b) m (λ e. other (e ∙ length-reverse rs ∙ sym number))) ∙ before
+          ∙ rw (ne_eqb k m (λ e. other (sym e))) (sym (other_test _ _ _))
     ]
 
 -- the table answers for the history
-pub gave_by : (i j m : ℕ) (steps : List Step) → IsNumbered steps → is_route i j (slice_get (reverse (routes_of steps)) m) ≡ any (is_send_between i j m) steps
+pub gave_by : (i j m : ℕ) (steps : List Step) → IsNumbered steps
+    → is_route i j (slice_get (reverse (routes_of steps)) m) ≡ any (is_send_between i j m) steps
 gave_by i j m [] are = refl
 gave_by i j m (Send a b k g ∷ past) are =
-    ap (λ rs. is_route i j (slice_get rs m)) (reverse_onto (routes_of past) (a, b) []) ∙ gave_send i j m a b k.0 (routes_of past) _ (are.0 ∙ sym (length-routes_of past)) (gave_by i j m past are.1)
+    ap (λ rs. is_route i j (slice_get rs m)) (reverse_onto (routes_of past) (a, b) [])
+    ∙ gave_send i j m a b k.0 (routes_of past) _ (are.0 ∙ sym (length-routes_of past)) (gave_by i j m past are.1)
 gave_by i j m (_ ∷ past) are = gave_by i j m past are
 
 -- the table's length is the number of the next message
-pub log_sends : (history : Recorded) (limit reserved k : ℕ) (counts : Counts) (routes : RouteTable) → IsLog history limit reserved k counts routes
+pub log_sends : (history : Recorded) (limit reserved k : ℕ) (counts : Counts) (routes : RouteTable)
+    → IsLog history limit reserved k counts routes
     → (length routes.routes ≡ count is_send (present (steps_of history.events))) × (length routes.routes ≤ 1048576)
 log_sends history limit reserved k counts routes log =
-    let same : length routes.routes ≡ count is_send (present (steps_of history.events)) = ap length log.routed ∙ length-routes_of (present (steps_of history.events)) in
+    let same : length routes.routes ≡ count is_send (present (steps_of history.events)) =
+    ap length log.routed ∙ length-routes_of (present (steps_of history.events)) in
     (same, omega (arith, log.places, log.limited, count_present-le is_send history.events))
 
 -- the log after the next message was sent
-pub log_send : (old new : Recorded) (limit reserved k : ℕ) (counts now : Counts) (routes kept : RouteTable) (from to : NodeId) (m : ℕ) → IsLog old limit reserved k counts routes → 0 < reserved
-    → m ≡ length routes.routes → new.events ≡ (from, Send from to (record { 0 = m }) (record { 0 = k })) ∷ old.events → new.room + 1 ≡ old.room
-    → kept.routes ≡ (from, to) ∷ routes.routes → kept.room + 1 ≡ routes.room → AreCountsOf ((from, Send from to (record { 0 = m }) (record { 0 = k })) ∷ present_events old.events) now
+pub log_send : (old new : Recorded) (limit reserved k : ℕ) (counts now : Counts) (routes kept : RouteTable) (from to : NodeId) (m : ℕ)
+    → IsLog old limit reserved k counts routes → 0 < reserved
+    → m ≡ length routes.routes → new.events ≡ (from, Send from to (record { 0 = m }) (record { 0 = k })) ∷ old.events
+    → new.room + 1 ≡ old.room
+    → kept.routes ≡ (from, to) ∷ routes.routes → kept.room + 1 ≡ routes.room
+    → AreCountsOf ((from, Send from to (record { 0 = m }) (record { 0 = k })) ∷ present_events old.events) now
     → IsLog new limit (reserved - 1) k now kept
 log_send old new limit reserved k counts now routes kept from to m log some number events room sent more are =
     record {
@@ -121,8 +132,10 @@ present-more : (s : Step) (past : List Step) → IsFalse (is_reopen s) → prese
 present-more s past on = rw on refl
 
 -- the log after an event that sends nothing and reopens nothing
-pub log_add : (old new : Recorded) (limit reserved k : ℕ) (counts now : Counts) (routes : RouteTable) (node : NodeId) (s : Step) → IsLog old limit reserved k counts routes → length old.events < limit
-    → IsFalse (is_send s) × IsFalse (is_reopen s) → new.events ≡ (node, s) ∷ old.events → reserved ≤ new.room + 1 → AreCountsOf ((node, s) ∷ present_events old.events) now
+pub log_add : (old new : Recorded) (limit reserved k : ℕ) (counts now : Counts) (routes : RouteTable) (node : NodeId) (s : Step)
+    → IsLog old limit reserved k counts routes → length old.events < limit
+    → IsFalse (is_send s) × IsFalse (is_reopen s) → new.events ≡ (node, s) ∷ old.events → reserved ≤ new.room + 1
+    → AreCountsOf ((node, s) ∷ present_events old.events) now
     → IsLog new limit (reserved - 1) k now routes
 log_add old new limit reserved k counts now routes node s log place other events room are =
     let past = steps_of old.events in
@@ -139,8 +152,10 @@ log_add old new limit reserved k counts now routes node s log place other events
     }
 
 -- the log after the reopening
-pub log_reopened : (old new : Recorded) (limit reserved k : ℕ) (counts now : Counts) (routes kept : RouteTable) → IsLog old limit reserved k counts routes → 0 < reserved
-    → new.events ≡ (record { 0 = 0 }, Reopen) ∷ old.events → new.room + 1 ≡ old.room → kept.routes ≡ [] → routes.room ≤ kept.room → AreCountsOf [] now
+pub log_reopened : (old new : Recorded) (limit reserved k : ℕ) (counts now : Counts) (routes kept : RouteTable)
+    → IsLog old limit reserved k counts routes → 0 < reserved
+    → new.events ≡ (record { 0 = 0 }, Reopen) ∷ old.events → new.room + 1 ≡ old.room → kept.routes ≡ [] → routes.room ≤ kept.room
+    → AreCountsOf [] now
     → IsLog new limit (reserved - 1) (k + 1) now kept
 log_reopened old new limit reserved k counts now routes kept log some events room none more are =
     record {
@@ -174,4 +189,5 @@ between_to i j m _ is = absurd cc
 pub any_to : (i j m : ℕ) (past : List Step) → any (is_send_between i j m) past ≡ true → any (is_send_to j m) past ≡ true
 any_to i j m [] is = absurd cc
 any_to i j m (s ∷ past) is =
-    or_both (is_send_between i j m s) (any (is_send_between i j m) past) (is_send_to j m s) (any (is_send_to j m) past) (between_to i j m s) (any_to i j m past) is
+    or_both (is_send_between i j m s) (any (is_send_between i j m) past) (is_send_to j m s) (any (is_send_to j m) past)
+    (between_to i j m s) (any_to i j m past) is

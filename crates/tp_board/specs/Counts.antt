@@ -19,7 +19,8 @@ counts_at i h =
 
 -- the same after one more step of the node
 abbrev pub counts_after : Step → NodeCounts → NodeCounts
-counts_after s c = record { pending = pending_after s c.pending; sent = plus_if (is_send s) c.sent; received = plus_if (is_recv s) c.received }
+counts_after s c =
+    record { pending = pending_after s c.pending; sent = plus_if (is_send s) c.sent; received = plus_if (is_recv s) c.received }
 
 -- One more of each fits.
 pub record AreFew (c : NodeCounts) : Type 0 where

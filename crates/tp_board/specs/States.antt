@@ -49,4 +49,5 @@ step_checks n b s = control_checks n (present (steps_of b.history)) s ++ full_ch
 -- the checks of a visit to node i: an active node gives nothing
 abbrev pub visit_checks : ℕ → BoardState → NodeId → List Check
 visit_checks n b i =
-    control_checks n (present (steps_of b.history)) (Give i) ++ (nat_lt 0 (pending_at i.0 (present_events b.history)), NotIdle) ∷ full_check 1 b ∷ []
+    control_checks n (present (steps_of b.history)) (Give i)
+    ++ (nat_lt 0 (pending_at i.0 (present_events b.history)), NotIdle) ∷ full_check 1 b ∷ []

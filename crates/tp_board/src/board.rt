@@ -1,7 +1,9 @@
-ghost use Rattle.std.specs.Prelude.{◌≡◌, ◌==◌, ◌≤◌, ◌<◌, ◌+◌, ◌-◌, ◌∷◌, ℕ, [], length, max, slice_index, IsTrue, IfOk, IsOk, OnErr, OnOk, None};
+ghost use Rattle.std.specs.Prelude.{◌≡◌, ◌==◌, ◌≤◌, ◌<◌, ◌+◌, ◌-◌, ◌∷◌, ℕ, [], length, max, slice_index, IsTrue, IfOk, IsOk, OnErr, OnOk};
+ghost use Rattle.std.specs.Prelude.{None};
 ghost use Rattle.tp_ledgers.specs.Books.{first_totals};
 ghost use Rattle.tp_ledgers.specs.Names.{under_parts};
-ghost use Rattle.tp_ledgers.specs.Numbers.{AreWithin, ending, event, is_done, is_plain, is_recv, is_send, numbers_after, receiving, sending};
+ghost use Rattle.tp_ledgers.specs.Numbers.{AreWithin, ending, event, is_done, is_plain, is_recv, is_send, numbers_after, receiving};
+ghost use Rattle.tp_ledgers.specs.Numbers.{sending};
 ghost use Rattle.tp_board.specs.Routes.{is_send_between};
 ghost use Rattle.tp_board.specs.States.{AnswersBy, full_check, with_event, with_fault, with_reserved};
 ghost use Rattle.tp_wave.specs.Generations.{AreRuns, generation, present, present_events};
@@ -271,7 +273,9 @@ impl<K: Ledgers> Board<K> {
         requires of_link { link.old.from ≡ shares.old.node }
         ensures number { IfOk result (λ m. m.0 ≡ count is_send (present (steps_of self.old.history))) }
         ensures small { IfOk result (λ m. m.0 < 1048576) }
-        ensures ok { IfOk result (λ m. self.new ≡ with_event (event shares.old.node (sending (generation (steps_of self.old.history)) shares.old.node link.old.to m.0)) self.old) }
+        ensures ok { IfOk result (λ m. self.new
+            ≡ with_event (event shares.old.node (sending (generation (steps_of self.old.history)) shares.old.node link.old.to m.0))
+            self.old) }
         ensures shares { OnOk result (shares.new ≡ record shares.old { sent = shares.old.sent + 1 }) }
         ensures within { OnOk result (AreWithin 1048576 shares.new) }
         ensures link { OnOk result (link.new ≡ record link.old { under = link.old.under + 1 }) }
@@ -302,8 +306,10 @@ impl<K: Ledgers> Board<K> {
         requires sent { IsTrue (any (is_send_to shares.old.node message.0) (present (steps_of self.old.history))) }
         requires under_way { 0 < link.old.under }
         requires of_link { link.old.to ≡ shares.old.node }
-        ensures ok { OnOk result (self.new ≡ with_event (event shares.old.node (receiving (generation (steps_of self.old.history)) shares.old.node message.0)) self.old) }
-        ensures shares { OnOk result (shares.new ≡ record shares.old { pending = shares.old.pending + 1; received = shares.old.received + 1 }) }
+        ensures ok { OnOk result (self.new
+            ≡ with_event (event shares.old.node (receiving (generation (steps_of self.old.history)) shares.old.node message.0)) self.old) }
+        ensures shares { OnOk result (shares.new
+            ≡ record shares.old { pending = shares.old.pending + 1; received = shares.old.received + 1 }) }
         ensures within { OnOk result (AreWithin 1048576 shares.new) }
         ensures link { OnOk result (link.new ≡ record link.old { under = link.old.under - 1 }) }
         ensures refusal { AnswersBy (full_check 1 self.old ∷ []) 1 self.old result }
@@ -324,7 +330,8 @@ impl<K: Ledgers> Board<K> {
     pub fn append_end(&mut self, message: MessageId, shares: &mut Shares<K>) -> Result<(), Refusal>
         requires few { message.0 < 1048576 }
         requires active { 0 < shares.old.pending }
-        ensures ok { OnOk result (self.new ≡ with_event (event shares.old.node (ending (generation (steps_of self.old.history)) shares.old.node message.0)) self.old) }
+        ensures ok { OnOk result (self.new
+            ≡ with_event (event shares.old.node (ending (generation (steps_of self.old.history)) shares.old.node message.0)) self.old) }
         ensures shares { OnOk result (shares.new ≡ record shares.old { pending = shares.old.pending - 1 }) }
         ensures within { OnOk result (AreWithin 1048576 shares.new) }
         ensures refusal { AnswersBy (full_check 1 self.old ∷ []) 1 self.old result }

@@ -85,10 +85,14 @@ pub fn close_books<K: Ledgers>(books: Books<K>) -> Totals
     requires links { vec_len books.links ≡ K.names.nodes * (K.names.nodes - 1) }
     ensures pending { result.pending ≡ sum_by (λ s. s.pending) books.shares.items }
     ensures each_pending { All (λ s. s.pending ≡ pending_at s.node (present_events books.board.history)) books.shares.items }
-    ensures sent { (result.sent ≡ sum_by (λ s. s.sent) books.shares.items) × (result.sent ≡ count is_send (present (steps_of books.board.history))) }
-    ensures received { (result.received ≡ sum_by (λ s. s.received) books.shares.items) × (result.received ≡ count is_recv (present (steps_of books.board.history))) }
-    ensures under { (result.under ≡ sum_by (λ l. l.under) books.links.items) × (result.under ≡ under_way (present (steps_of books.board.history))) }
-    ensures done { (result.done ≡ sum_by (λ s. s.done) books.shares.items) × (result.done ≡ count is_done (present (steps_of books.board.history))) }
+    ensures sent { (result.sent ≡ sum_by (λ s. s.sent) books.shares.items)
+        × (result.sent ≡ count is_send (present (steps_of books.board.history))) }
+    ensures received { (result.received ≡ sum_by (λ s. s.received) books.shares.items)
+        × (result.received ≡ count is_recv (present (steps_of books.board.history))) }
+    ensures under { (result.under ≡ sum_by (λ l. l.under) books.links.items)
+        × (result.under ≡ under_way (present (steps_of books.board.history))) }
+    ensures done { (result.done ≡ sum_by (λ s. s.done) books.shares.items)
+        × (result.done ≡ count is_done (present (steps_of books.board.history))) }
     ensures balance { result.sent ≡ result.received + result.under }
     ensures ended { result.ended ≡ is_ended K.names.nodes (present (steps_of books.board.history)) }
     ensures quiet { IsTrue result.ended → IsQuiet K.names.nodes (present_events books.board.history) }

@@ -77,7 +77,8 @@ impl<K: Ledgers> Board<K> {
     /// `NoMemory`.
     pub fn give(&mut self, shares: &Shares<K>) -> Result<Option<Sums>, Refusal>
         ensures ok { OnOk result (self.new ≡ with_event (event shares.now.node (steps.Give (node_at shares.now.node))) self.old) }
-        ensures sums { IfOk result (λ sums. sums ≡ (if shares.now.node == 0 then Some (sums_of K.names.nodes (present (steps_of self.new.history))) else None)) }
+        ensures sums { IfOk result (λ sums. sums
+            ≡ (if shares.now.node == 0 then Some (sums_of K.names.nodes (present (steps_of self.new.history))) else None)) }
         ensures refusal { AnswersBy (visit_checks K.names.nodes self.old (node_at shares.now.node)) 1 self.old result }
         ensures refused { OnErr result (self.new ≡ self.old) }
     {

@@ -106,7 +106,8 @@ impl Log {
         requires to { to.0 < 8 }
         requires few { generation (steps_of self.old.history) < 1048576 }
         ensures number { IfOk result (λ m. m.0 ≡ count is_send (present (steps_of self.old.history))) }
-        ensures ok { IfOk result (λ m. self.new ≡ with_event (event from.0 (sending (generation (steps_of self.old.history)) from.0 to.0 m.0)) self.old) }
+        ensures ok { IfOk result (λ m. self.new
+            ≡ with_event (event from.0 (sending (generation (steps_of self.old.history)) from.0 to.0 m.0)) self.old) }
         ensures small { IfOk result (λ m. m.0 < 1048576) }
         ensures fresh { IfOk result (λ m. IsFalse (any (is_send_numbered m.0) (present (steps_of self.old.history)))) }
         ensures places { OnOk result (length self.old.history < 1048576) }

@@ -1,5 +1,6 @@
 -- What a caller knows of a parse of the command line.
-use Rattle.std.proofs.Common.{◌≡◌, ◌≢◌, ◌∙◌, refl, ap, sym, subst, arith, ℕ, List, Option, Some, None, MatchOption, option_map, codes, slice_index, unwrap_or}
+use Rattle.std.proofs.Common.{◌≡◌, ◌≢◌, ◌∙◌, refl, ap, sym, subst, arith, ℕ, List, Option, Some, None, MatchOption, option_map, codes}
+use Rattle.std.proofs.Common.{slice_index, unwrap_or}
 use Rattle.std.specs.Prelude.{Box}
 use Rattle.std.specs.Box.{box_value}
 use Rattle.clap.specs.Words.{App, HasMatchesOf, Row, Text, all_of, first_of, is_simple, subcommand_of, subcommand_rows, subcommand_rows_of}
@@ -48,16 +49,19 @@ unnamed name rows unread run_lacks pools_lacks = (
 pub run_unnamed : (name : Text) (rows : List Row) → name ≡ codes "run" → first_of (codes "SPEC") rows ≡ None → IsNeither (Some (name, rows))
 run_unnamed name rows is lacks =
     subst (λ n. IsNeither (Some (n, rows))) (sym is)
-    (unnamed (codes "run") rows run_reads_nothing (λ _. lacks) (λ e. absurd (apart (codes "run") (codes "pools") 114 112 refl refl (omega arith) e)))
+    (unnamed (codes "run") rows run_reads_nothing (λ _. lacks) (λ e.
+    absurd (apart (codes "run") (codes "pools") 114 112 refl refl (omega arith) e)))
 
 pools_reads_nothing : (kind : TextKind) → codes "pools" ≢ reading_word kind
 pools_reads_nothing Script = apart (codes "pools") (codes "sim") 112 115 refl refl (omega arith)
 pools_reads_nothing Trace = apart (codes "pools") (codes "audit") 112 97 refl refl (omega arith)
 
-pub pools_unnamed : (name : Text) (rows : List Row) → name ≡ codes "pools" → all_of (codes "SPEC") rows ≡ None → IsNeither (Some (name, rows))
+pub pools_unnamed : (name : Text) (rows : List Row) → name ≡ codes "pools" → all_of (codes "SPEC") rows ≡ None
+    → IsNeither (Some (name, rows))
 pools_unnamed name rows is lacks =
     subst (λ n. IsNeither (Some (n, rows))) (sym is)
-    (unnamed (codes "pools") rows pools_reads_nothing (λ e. absurd (apart (codes "pools") (codes "run") 112 114 refl refl (omega arith) e)) (λ _. lacks))
+    (unnamed (codes "pools") rows pools_reads_nothing (λ e.
+    absurd (apart (codes "pools") (codes "run") 112 114 refl refl (omega arith) e)) (λ _. lacks))
 
 pub unknown_name : (name : Text) (rows : List Row) → name ≢ codes "sim" → name ≢ codes "audit" → name ≢ codes "run" → name ≢ codes "pools"
     → IsNeither (Some (name, rows))
@@ -78,7 +82,8 @@ neither_asked app words m is has neither =
     subst IsNeither ((has (ap is_simple is)).1 ∙ ap (λ (a : App). subcommand_of a words) is) neither
 
 -- what follows for nothing, and for something
-pub asked_as : {X : Type 0} (o : Option X) (P P' : Type 0) (Q Q' : X → Type 0) → (P → P') → ((x : X) → Q x → Q' x) → MatchOption o P Q → MatchOption o P' Q'
+pub asked_as : {X : Type 0} (o : Option X) (P P' : Type 0) (Q Q' : X → Type 0) → (P → P') → ((x : X) → Q x → Q' x) → MatchOption o P Q
+    → MatchOption o P' Q'
 asked_as None P P' Q Q' nothing something p = nothing p
 asked_as (Some x) P P' Q Q' nothing something p = something x p
 

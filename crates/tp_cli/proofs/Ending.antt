@@ -1,5 +1,6 @@
 -- How a run ends.
-use Rattle.std.proofs.Common.{◌≡◌, ◌≢◌, ◌∙◌, ◌⊎◌, ℕ, Bool, true, false, List, Option, Result, Ok, Err, IfErr, IfOk, ap, arith, codes, inl, inr, map, refl, subst, sym}
+use Rattle.std.proofs.Common.{◌≡◌, ◌≢◌, ◌∙◌, ◌⊎◌, ℕ, Bool, true, false, List, Option, Result, Ok, Err, IfErr, IfOk, ap, arith, codes, inl}
+use Rattle.std.proofs.Common.{inr, map, refl, subst, sym}
 use Rattle.std.specs.Io.KnownBytes.{Appends}
 use Rattle.tp_base.specs.declared.refusal.Refusal.{Refusal}
 use Rattle.clap.specs.Words.{Text, subcommand_of}
@@ -51,7 +52,8 @@ names_none word found none named g same = none g (named g same)
 
 -- why a text was not answered, by its result
 pub unanswered : (kind : TextKind) (old new : Option (List ℕ)) (r : Result Verdict TextFault)
-    → (r ≡ Err texts.TooLong → IsUnansweredText kind old new texts.TooLong) → (r ≡ Err texts.Write → IsUnansweredText kind old new texts.Write)
+    → (r ≡ Err texts.TooLong → IsUnansweredText kind old new texts.TooLong)
+    → (r ≡ Err texts.Write → IsUnansweredText kind old new texts.Write)
     → IfErr r (IsUnansweredText kind old new)
 unanswered kind old new (Ok verdict) long unwritten = tt
 unanswered kind old new (Err texts.Read) long unwritten = tt
@@ -80,7 +82,8 @@ module _ (asking : List Text) (read_old read_new : Option (List ℕ)) where
       → IsTextFor plan.form spec plan.config.nodes plan.config.workers plan.generations text → Appends written_old written_new text
       → HasAnswered asking read_old read_new written_old written_new status
   answered_run written_old written_new spec plan status text asked is made wrote =
-      subst (HasAnswered asking read_old read_new written_old written_new) (sym is) (inl (text, inr (inl (run_text spec plan text asked made)), wrote))
+      subst (HasAnswered asking read_old read_new written_old written_new) (sym is)
+      (inl (text, inr (inl (run_text spec plan text asked made)), wrote))
 
   -- several pools, whose words were lent
   module _ {S : Type 0} (word : S → Text) (specs lent : List S) (nodes workers : ℕ) (is : lent ≡ specs)
@@ -129,10 +132,12 @@ module _ (asking : List Text) (read_old read_new : Option (List ℕ)) where
     met_words Same words.Memory why kept = inr (kept (λ e. cc), tt)
     met_words Same words.Write why kept = inl (shown_asked tp_app MissingSubcommand (AsksForNothing asking) asking kind hidden fails why)
 
-    pub words_met : (Same : Type 0) (fault : Fault) (met : WordsFault) → fault ≡ faults.Words met → IsMetBy kind met → (met ≢ words.Write → Same)
+    pub words_met : (Same : Type 0) (fault : Fault) (met : WordsFault) → fault ≡ faults.Words met → IsMetBy kind met
+        → (met ≢ words.Write → Same)
         → CouldNotWrite asking read_old read_new fault ⊎ (Same × HasNothing asking read_old read_new fault)
     words_met Same fault met is why kept =
-        subst (λ f. CouldNotWrite asking read_old read_new f ⊎ (Same × HasNothing asking read_old read_new f)) (sym is) (met_words Same met why kept)
+        subst (λ f. CouldNotWrite asking read_old read_new f
+        ⊎ (Same × HasNothing asking read_old read_new f)) (sym is) (met_words Same met why kept)
 
   -- ---- faults
 

@@ -19,5 +19,6 @@ three_lines tasks messages =
     (append_assoc (tasks ++ feed) second last ∙ append_assoc tasks feed (second ++ last)
     ∙ ap (λ rest. tasks ++ (codes "\nmessages " ++ rest)) (append_assoc messages feed last))
 
-pub printed_table : (form : Form) (g : AnyGraph) (n : ℕ) (o : Outcome) (text : List ℕ) → form ≡ Table → text ≡ run_text g o.messages → IsPrintOf form g n o text
+pub printed_table : (form : Form) (g : AnyGraph) (n : ℕ) (o : Outcome) (text : List ℕ) → form ≡ Table → text ≡ run_text g o.messages
+    → IsPrintOf form g n o text
 printed_table form g n o text is printed = subst (λ f. IsPrintOf f g n o text) (sym is) printed

@@ -1,11 +1,12 @@
 -- The rounds of a series, and their text.
-use Rattle.std.proofs.Common.{◌≡◌, ◌∙◌, ◌+◌, ◌<◌, ◌≤◌, ◌++◌, ℕ, suc, List, ◌∷◌, Some, sym, ap, ap₂, subst, arith, length, drop, append-nil, append_assoc, drop_of_length-le, codes, decimal}
+use Rattle.std.proofs.Common.{◌≡◌, ◌∙◌, ◌+◌, ◌<◌, ◌≤◌, ◌++◌, ℕ, suc, List, ◌∷◌, Some, sym, ap, ap₂, subst, arith, length, drop, append-nil}
+use Rattle.std.proofs.Common.{append_assoc, drop_of_length-le, codes, decimal}
 use Rattle.std.proofs.lemmas.Option.{slice_get-get_or}
 use Rattle.std.proofs.lemmas.Slice.Zip.{AllZip-right}
 use Rattle.std.proofs.Math.Seq.{drop-cons}
 use Rattle.std.specs.List.{All, AllZip}
 use Rattle.std.specs.Prelude.{get_or, reverse, slice_get, Option, None, IsSomeAnd, MatchOption}
-use Rattle.tp_cli.proofs.Counted.{length-once}
+use Rattle.tp_work.proofs.Counted.{length-once}
 use Rattle.tp_base.specs.declared.refusal.Refusal.{Refusal}
 use Rattle.tp_cli.specs.Runs.{IsPrintOfSeries, IsRoundOf, IsUnprintedSeries, IsUntoldRound, round_text, rounds_text, run_text}
 use Rattle.tp_cli.specs.declared.run.Form.{Form}
@@ -22,19 +23,23 @@ use Rattle.tp_work.specs.Series.{IsRound, IsSeries}
 use Rattle.tp_work.specs.declared.series.Round.{Round}
 use Rattle.tp_work.specs.declared.series.Series.{Series}
 
-round_of : (n workers : ℕ) (g : AnyGraph) (h : Option History) (r : Round) → IsSomeAnd h (λ events. IsRound n workers (any_graph g) events r) → IsRoundOf g r
+round_of : (n workers : ℕ) (g : AnyGraph) (h : Option History) (r : Round)
+    → IsSomeAnd h (λ events. IsRound n workers (any_graph g) events r) → IsRoundOf g r
 round_of n workers g None r is = absurd is
 round_of n workers g (Some events) r is = record { each_once = is.each_once; right = is.right; tasks = is.tasks.0 }
 
-rounds_of : (n workers : ℕ) (g : AnyGraph) (hs : List History) (rounds : List Round) → AllZip (IsRound n workers (any_graph g)) hs rounds → All (IsRoundOf g) rounds
+rounds_of : (n workers : ℕ) (g : AnyGraph) (hs : List History) (rounds : List Round) → AllZip (IsRound n workers (any_graph g)) hs rounds
+    → All (IsRoundOf g) rounds
 rounds_of n workers g hs rounds all = λ k d lt.
     let here : slice_get rounds k ≡ Some (get_or rounds k d) = slice_get-get_or rounds k d lt in
     let beside = AllZip-right (IsRound n workers (any_graph g)) hs rounds all k in
     round_of n workers g (slice_get hs k) (get_or rounds k d)
-    (subst (λ o. MatchOption o (Unit {0}) (λ r. IsSomeAnd (slice_get hs k) (λ events. IsRound n workers (any_graph g) events r))) here beside)
+    (subst (λ o.
+    MatchOption o (Unit {0}) (λ r. IsSomeAnd (slice_get hs k) (λ events. IsRound n workers (any_graph g) events r))) here beside)
 
 -- each round of a series is one of the graph
-pub each_of : (n workers : ℕ) (g : AnyGraph) (count : ℕ) (s : Series) → IsSeries n workers (any_graph g) count s → All (IsRoundOf g) s.rounds.items
+pub each_of : (n workers : ℕ) (g : AnyGraph) (count : ℕ) (s : Series) → IsSeries n workers (any_graph g) count s
+    → All (IsRoundOf g) s.rounds.items
 each_of n workers g count s is = rounds_of n workers g (reverse (generations s.history.events)) s.rounds.items is.each
 
 -- the events of each of its generations are a run
@@ -76,9 +81,11 @@ rounds_done g k rounds text whole past before =
 
 -- ---- what is printed of a series, whose rounds were lent
 
-pub printed_rounds : (form : Form) (g : AnyGraph) (n : ℕ) (s : Series) (lent : List Round) (text : List ℕ) → form ≡ Table → lent ≡ s.rounds.items
+pub printed_rounds : (form : Form) (g : AnyGraph) (n : ℕ) (s : Series) (lent : List Round) (text : List ℕ) → form ≡ Table
+    → lent ≡ s.rounds.items
     → text ≡ rounds_text g 1 lent → IsPrintOfSeries form g n s text
-printed_rounds form g n s lent text is same printed = subst (λ f. IsPrintOfSeries f g n s text) (sym is) (printed ∙ ap (rounds_text g 1) same)
+printed_rounds form g n s lent text is same printed =
+    subst (λ f. IsPrintOfSeries f g n s text) (sym is) (printed ∙ ap (rounds_text g 1) same)
 
 pub untold_rounds : (form : Form) (g : AnyGraph) (s : Series) (lent : List Round) (r : Refusal) → form ≡ Table → lent ≡ s.rounds.items
     → IsUntoldRound g lent r → IsUnprintedSeries form g s r

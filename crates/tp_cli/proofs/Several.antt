@@ -1,6 +1,8 @@
 -- Pools that are registered one after the other, each under its word, and what their runs answer.
-use Rattle.std.proofs.Common.{◌≡◌, ◌≢◌, ◌==◌, ◌∙◌, ◌+◌, ◌<◌, ◌≤◌, ◌⊎◌, ◌++◌, ◌||◌, ℕ, zero, suc, Bool, true, false, true≢false, cond, List, [], ◌∷◌, Some, refl, sym, ap, ap₂, subst, arith}
-use Rattle.std.proofs.Common.{Result, Ok, Err, IfErr, IfOk, MatchOption, inl, inr, length, map, drop, take, append-nil, append_assoc, drop_of_length-le}
+use Rattle.std.proofs.Common.{◌≡◌, ◌≢◌, ◌==◌, ◌∙◌, ◌+◌, ◌<◌, ◌≤◌, ◌⊎◌, ◌++◌, ◌||◌, ℕ, zero, suc, Bool, true, false, true≢false, cond, List}
+use Rattle.std.proofs.Common.{[], ◌∷◌, Some, refl, sym, ap, ap₂, subst, arith}
+use Rattle.std.proofs.Common.{Result, Ok, Err, IfErr, IfOk, MatchOption, inl, inr, length, map, drop, take, append-nil, append_assoc}
+use Rattle.std.proofs.Common.{drop_of_length-le}
 use Rattle.std.proofs.lemmas.Bool.{cases_lt}
 use Rattle.std.proofs.lemmas.List.{length-map, length-take-le, map-append, take-map}
 use Rattle.std.proofs.lemmas.List.Sums.{sum_by-cons}
@@ -23,7 +25,8 @@ use Rattle.pool_samples.specs.declared.any.AnyGraph.{AnyGraph}
 use Rattle.tp_several.specs.Answers.{AreRun, AreRunAnswers}
 use Rattle.tp_work.specs.declared.config.Fault as ended
 use Rattle.tp_work.specs.declared.config.Outcome.{Outcome}
-use Rattle.tp_cli.specs.Pools.{AreInVain, AreNamed, AreTakenTo, IsPoolsFault, IsWordsFault, MayNamePools, Word, is_among, lines_from, pool_line, pools_of, word_fault}
+use Rattle.tp_cli.specs.Pools.{AreInVain, AreNamed, AreTakenTo, IsPoolsFault, IsWordsFault, MayNamePools, Word, is_among, lines_from}
+use Rattle.tp_cli.specs.Pools.{pool_line, pools_of, word_fault}
 use Rattle.tp_cli.specs.Runs.{NamesNoGraph}
 use Rattle.tp_cli.specs.declared.fault.Fault.{Fault}
 use Rattle.tp_cli.specs.declared.fault.Fault.TheVariants as faults
@@ -54,7 +57,8 @@ none_registered words pools is = record {
 
 among-registered : (k : ℕ) (words : List Word) (pools : Pools) (h : AreRegisteredTo k words pools) (word : Word)
     → is_named pools word ≡ is_among (take k words) word
-among-registered k words pools h word = ap (λ ps. is_named ps word) h.pools ∙ named-among h.graphs word ∙ sym (ap (λ ws. is_among ws word) h.named)
+among-registered k words pools h word =
+    ap (λ ps. is_named ps word) h.pools ∙ named-among h.graphs word ∙ sym (ap (λ ws. is_among ws word) h.named)
 
 -- a word that was registered is taken
 one_more : (k : ℕ) (words : List Word) (pools new : Pools) (word : Word) (graph : AnyGraph) → AreRegisteredTo k words pools
@@ -68,7 +72,8 @@ one_more k words pools new word graph h lt at is fresh added = record {
         let w_is : w ≡ word = sym (get_or_from_slice_get words i w w here) ∙ ap (λ j. get_or words j w) same ∙ gets w in
         elim refused [
           | inl unnamed ↦ unnamed.1 graph (w_is ∙ is)
-          | inr known ↦ true≢false (sym known.1 ∙ ap₂ (λ j v. is_among (take j words) v) same w_is ∙ sym (among-registered k words pools h word) ∙ fresh)
+          | inr known ↦ true≢false (sym known.1 ∙ ap₂ (λ j v. is_among (take j words) v) same w_is
+              ∙ sym (among-registered k words pools h word) ∙ fresh)
         ]
   ];
   graphs = h.graphs ++ graph ∷ [];
@@ -95,7 +100,8 @@ all_named k words pools h all few = (
 
 how_many : (k : ℕ) (words : List Word) (pools : Pools) (h : AreRegisteredTo k words pools) → k ≤ length words → length pools ≡ k
 how_many k words pools h le =
-    ap length h.pools ∙ length-map h.graphs entered ∙ sym (length-map h.graphs word_of) ∙ sym (ap length h.named) ∙ length-take-le k words le
+    ap length h.pools ∙ length-map h.graphs entered ∙ sym (length-map h.graphs word_of) ∙ sym (ap length h.named)
+    ∙ length-take-le k words le
 
 why_refused : (pools : Pools) (word : Word) (r : Refusal) → IsUnregistered pools word word r → r ≢ NoMemory → length pools < MAX_POOLS
     → ((r ≡ BadSpec) × NamesNoGraph word) ⊎ ((r ≡ PoolKnown) × (is_named pools word ≡ true))
@@ -110,9 +116,11 @@ unnamed-by : {X : Type 0} (named : Bool) (checks : List Check) (x : X) (answer :
 unnamed-by false checks x answer ok refusal = refl
 unnamed-by true checks x answer ok refusal = absurd (true≢false (ap is_ok (sym ok ∙ refusal)))
 
-pub one_registered : (k : ℕ) (words : List Word) (pools new : Pools) (word : Word) (answer : Result PoolId Refusal) → ((r : Refusal) → answer ≢ Err r)
+pub one_registered : (k : ℕ) (words : List Word) (pools new : Pools) (word : Word) (answer : Result PoolId Refusal)
+    → ((r : Refusal) → answer ≢ Err r)
     → AreRegisteredTo k words pools → k < length words → word ≡ get_or words k word
-    → IfOk answer (λ pool. (graph : AnyGraph) × (word ≡ word_of graph) × (pool.0 ≡ length pools) × (new ≡ pools ++ registered word graph ∷ []))
+    → IfOk answer (λ pool. (graph : AnyGraph) × (word ≡ word_of graph) × (pool.0 ≡ length pools)
+    × (new ≡ pools ++ registered word graph ∷ []))
     → ((graph : AnyGraph) → word ≡ word_of graph
     → MatchOption (first_refusal (register_checks pools word)) (IfErr answer (λ e. e ≡ NoMemory)) (λ e. answer ≡ Err e))
     → AreRegisteredTo (k + 1) words new
@@ -124,8 +132,10 @@ one_registered k words pools new word (Ok pool) taken h lt at made refusal =
 one_registered k words pools new word (Err r) taken h lt at made refusal = absurd (taken r refl)
 
 -- a word that was not registered is the first that is refused
-pub first_refused : (k : ℕ) (words : List Word) (pools : Pools) (word : Word) (told r : Refusal) → AreRegisteredTo k words pools → k < length words
-    → word ≡ get_or words k word → length words ≤ MAX_POOLS → IsUnregistered pools word word told → (told ≡ r) × (r ≢ NoMemory) → AreInVain words r
+pub first_refused : (k : ℕ) (words : List Word) (pools : Pools) (word : Word) (told r : Refusal) → AreRegisteredTo k words pools
+    → k < length words
+    → word ≡ get_or words k word → length words ≤ MAX_POOLS → IsUnregistered pools word word told → (told ≡ r) × (r ≢ NoMemory)
+    → AreInVain words r
 first_refused k words pools word told r h lt at few unregistered is =
     let why : IsUnregistered pools word word r = subst (λ q. IsUnregistered pools word word q) is.0 unregistered in
     let other = is.1 in
@@ -161,13 +171,18 @@ may_name zero words pools word h lt at few named = (
 may_name (suc k) words pools word h lt at few named = (few, λ i w r below here refused. h.taken i w r (omega (arith, below)) here refused)
 
 -- the fault of a word that was not registered
-pub refused_word : (k : ℕ) (words : List Word) (pools : Pools) (word : Word) (r : Refusal) → AreRegisteredTo k words pools → k < length words
+pub refused_word : (k : ℕ) (words : List Word) (pools : Pools) (word : Word) (r : Refusal) → AreRegisteredTo k words pools
+    → k < length words
     → word ≡ get_or words k word → length words ≤ MAX_POOLS → IsUnregistered pools word word r → (NamesNoGraph word → r ≡ BadSpec)
     → IsWordsFault words (word_fault r)
-refused_word k words pools word NoMemory h lt at few why no_spec = may_name k words pools word h lt at few (λ none. let e = no_spec none in cc)
-refused_word k words pools word BadSpec h lt at few why no_spec = first_refused k words pools word BadSpec BadSpec h lt at few why (refl, λ e. cc)
-refused_word k words pools word PoolKnown h lt at few why no_spec = first_refused k words pools word PoolKnown PoolKnown h lt at few why (refl, λ e. cc)
-refused_word k words pools word StoreFull h lt at few why no_spec = first_refused k words pools word StoreFull StoreFull h lt at few why (refl, λ e. cc)
+refused_word k words pools word NoMemory h lt at few why no_spec =
+    may_name k words pools word h lt at few (λ none. let e = no_spec none in cc)
+refused_word k words pools word BadSpec h lt at few why no_spec =
+    first_refused k words pools word BadSpec BadSpec h lt at few why (refl, λ e. cc)
+refused_word k words pools word PoolKnown h lt at few why no_spec =
+    first_refused k words pools word PoolKnown PoolKnown h lt at few why (refl, λ e. cc)
+refused_word k words pools word StoreFull h lt at few why no_spec =
+    first_refused k words pools word StoreFull StoreFull h lt at few why (refl, λ e. cc)
 refused_word k words pools word _ h lt at few why no_spec = absurd why
 
 -- of words that name pools the first is taken
@@ -195,7 +210,8 @@ rank_waiting : (graphs : List AnyGraph) (i : ℕ) → i ≤ length graphs → ra
 rank_waiting graphs i le = ap (count_by is_waiting) (take-map entered i graphs) ∙ all_wait (take i graphs) ∙ length-take-le i graphs le
 
 -- each pool has the answer of its own place
-pub answers_in_order : (n workers : ℕ) (graphs : List AnyGraph) (answers : List (Result Outcome ended.Fault)) (old new : Pools) → old ≡ pools_of graphs
+pub answers_in_order : (n workers : ℕ) (graphs : List AnyGraph) (answers : List (Result Outcome ended.Fault)) (old new : Pools)
+    → old ≡ pools_of graphs
     → AreRun n workers answers old new → AreRunAnswers n workers graphs answers
 answers_in_order n workers graphs answers old new is run =
     let ran : AreRun n workers answers (pools_of graphs) new = subst (λ ps. AreRun n workers answers ps new) is run in
@@ -204,14 +220,16 @@ answers_in_order n workers graphs answers old new is run =
       many = many;
       each = λ i g answer lt.
           let at = slice_get-map entered graphs i ∙ ap (option_map entered) (slice_get-get_or graphs i g lt) in
-          let got = ap (slice_get answers) (rank_waiting graphs i (omega (arith, lt))) ∙ slice_get-get_or answers i answer (omega (arith, many, lt)) in
+          let got = ap (slice_get answers) (rank_waiting graphs i (omega (arith, lt)))
+          ∙ slice_get-get_or answers i answer (omega (arith, many, lt)) in
           ran.own i (entered (get_or graphs i g)) (get_or answers i answer) at refl got;
     }
 
 -- ---- lines
 
 -- a line more
-pub line_more : (i : ℕ) (words : List Word) (answers : List (Result Outcome ended.Fault)) (word : Word) (answer : Result Outcome ended.Fault)
+pub line_more : (i : ℕ) (words : List Word) (answers : List (Result Outcome ended.Fault)) (word : Word)
+    (answer : Result Outcome ended.Fault)
     (text more line whole : List ℕ) → i < length words → i < length answers → word ≡ get_or words i word → answer ≡ get_or answers i answer
     → line ≡ pool_line i word answer → more ≡ text ++ line
     → text ++ lines_from i (drop i words) (drop i answers) ≡ whole
@@ -219,8 +237,10 @@ pub line_more : (i : ℕ) (words : List Word) (answers : List (Result Outcome en
 unfolding lines_from
 line_more i words answers word answer text more line whole lt lt' word_at answer_at is added before =
     let rest : List ℕ = lines_from (suc i) (drop (suc i) words) (drop (suc i) answers) in
-    let word_first : drop i words ≡ word ∷ drop (suc i) words = drop-cons words i word lt ∙ ap (λ w. w ∷ drop (suc i) words) (sym word_at) in
-    let answer_first : drop i answers ≡ answer ∷ drop (suc i) answers = drop-cons answers i answer lt' ∙ ap (λ a. a ∷ drop (suc i) answers) (sym answer_at) in
+    let word_first : drop i words ≡ word ∷ drop (suc i) words =
+    drop-cons words i word lt ∙ ap (λ w. w ∷ drop (suc i) words) (sym word_at) in
+    let answer_first : drop i answers ≡ answer ∷ drop (suc i) answers =
+    drop-cons answers i answer lt' ∙ ap (λ a. a ∷ drop (suc i) answers) (sym answer_at) in
     let next : suc i ≡ i + 1 = omega arith in
     subst (λ j. more ++ lines_from j (drop j words) (drop j answers) ≡ whole) next
     (ap (λ t. t ++ rest) (added ∙ ap (λ l. text ++ l) is) ∙ append_assoc text (pool_line i word answer) rest

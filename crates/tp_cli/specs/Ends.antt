@@ -4,7 +4,8 @@ use Rattle.std.specs.Prelude.{ℕ, ◌⊎◌, Bool, true, false, List, Option}
 use Rattle.std.specs.Io.KnownBytes.{Appends}
 use Rattle.clap.specs.Words.{Text}
 use Rattle.tp_base.specs.declared.refusal.Refusal.{Refusal}
-use Rattle.tp_cli.specs.Command.{AsksForForm, AsksForGenerations, AsksForNothing, AsksForPools, AsksForPoolsAt, AsksForRun, AsksForRunAt, AsksForText, tp_app}
+use Rattle.tp_cli.specs.Command.{AsksForForm, AsksForGenerations, AsksForNothing, AsksForPools, AsksForPoolsAt, AsksForRun, AsksForRunAt}
+use Rattle.tp_cli.specs.Command.{AsksForText, tp_app}
 use Rattle.tp_cli.specs.Pools.{AreInVain, IsPoolsText, MayNamePools}
 use Rattle.tp_cli.specs.Runs.{IsRefusedRun, IsTextFor, NamesNoGraph}
 use Rattle.tp_cli.specs.Texts.{IsAnswerTo, IsUnansweredText}

@@ -1,5 +1,6 @@
 -- The words of several pools: which of them are refused, and the text of their runs.
-use Rattle.std.specs.Prelude.{ℕ, suc, ◌≡◌, ◌≤◌, ◌<◌, ◌⊎◌, ◌++◌, Bool, true, false, List, [], ◌∷◌, Some, Result, Ok, Err, codes, decimal, length, map, slice_get, take}
+use Rattle.std.specs.Prelude.{ℕ, suc, ◌≡◌, ◌≤◌, ◌<◌, ◌⊎◌, ◌++◌, Bool, true, false, List, [], ◌∷◌, Some, Result, Ok, Err, codes, decimal}
+use Rattle.std.specs.Prelude.{length, map, slice_get, take}
 use Rattle.std.specs.List.{list_all, list_any}
 use Rattle.std.specs.Result.{is_ok}
 use Rattle.std.specs.Str.{bytes_eq}

@@ -31,7 +31,8 @@ pub(crate) enum Request<'a> {
 pub(crate) fn requested<'a>(alloc: Global, words: &'a [&'a str]) -> Result<Request<'a>, Error>
     ensures asked { IfOk result (IsAskedBy (map (λ w. w.now) words.entry.now)) }
     ensures why { IfErr result (λ error.
-        FailsAs tp_app MissingSubcommand (AsksForNothing (map (λ w. w.now) words.entry.now)) (map (λ w. w.now) words.entry.now) (kind_of error)) }
+        FailsAs tp_app MissingSubcommand (AsksForNothing (map (λ w. w.now) words.entry.now)) (map (λ w. w.now) words.entry.now)
+        (kind_of error)) }
 {
     let mut command = tp_command(alloc)?;
     let matches = command.try_get_matches_from_mut(words)?;
@@ -43,7 +44,8 @@ pub(crate) fn requested<'a>(alloc: Global, words: &'a [&'a str]) -> Result<Reque
 
 /// The request that the matches make.
 fn asked<'a>(alloc: Global, matches: &ArgMatches<'a>) -> Result<Option<Request<'a>>, AllocError>
-    ensures { IfOk result (λ request. MatchOption request (IsNeither (subcommand_rows_of matches.now)) (IsMadeBy (subcommand_rows_of matches.now))) }
+    ensures { IfOk result (λ request.
+        MatchOption request (IsNeither (subcommand_rows_of matches.now)) (IsMadeBy (subcommand_rows_of matches.now))) }
 {
     match matches.subcommand() {
         Some((name, arguments)) => asked_of(alloc, name, arguments),

@@ -1,7 +1,8 @@
 ghost use Rattle.std.specs.Prelude.{◌≡◌, ◌≢◌, ◌↔◌, ℕ, List, Err, IfErr, IfOk, MatchResult};
 ghost use Rattle.std.specs.Io.KnownBytes.{Appends};
 ghost use Rattle.std.specs.String.{string_bytes};
-ghost use Rattle.tp_cli.specs.Runs.{IsPlan, IsPrintOf, IsRunFault, IsTextFor, IsTextOf, IsTextOfOne, IsUnprinted, IsUntold, IsWithoutOne, IsWithoutText, NamesNoGraph, run_text, totals_text};
+ghost use Rattle.tp_cli.specs.Runs.{IsPlan, IsPrintOf, IsRunFault, IsTextFor, IsTextOf, IsTextOfOne, IsUnprinted, IsUntold, IsWithoutOne};
+ghost use Rattle.tp_cli.specs.Runs.{IsWithoutText, NamesNoGraph, run_text, totals_text};
 ghost use Rattle.tp_graph.specs.Serial.{AreRight};
 ghost use Rattle.pool_samples.specs.Any.{any_graph};
 ghost use Rattle.tp_shell.specs.declared.status.Status.TheVariants.{Done};

@@ -1,5 +1,6 @@
 -- What the answers to steps tell.
-use Rattle.std.proofs.Common.{ℕ, Result, take, get_or, ◌+◌, ◌≡◌, ◌<◌, List, [], ◌∷◌, ◌++◌, true, false, Option, Some, None, length, refl, ap, subst, ◌∙◌, arith}
+use Rattle.std.proofs.Common.{ℕ, Result, take, get_or, ◌+◌, ◌≡◌, ◌<◌, List, [], ◌∷◌, ◌++◌, true, false, Option, Some, None, length, refl}
+use Rattle.std.proofs.Common.{ap, subst, ◌∙◌, arith}
 use Rattle.std.proofs.lemmas.List.{take_more}
 use Rattle.std.specs.Prelude.{IsOk, Ok, Err, ◌≢◌, ◌↔◌}
 use Rattle.std.specs.List.{list_any}
@@ -8,11 +9,13 @@ use Rattle.tp_base.specs.declared.Step.TheVariants.{Insert}
 use Rattle.tp_base.specs.declared.Refusal.{Refusal}
 use Rattle.tp_base.specs.declared.Refusal.TheVariants.{NoMemory}
 use Rattle.tp_core.specs.declared.reply.Reply.{Reply}
-use Rattle.tp_core.specs.Accepted.{Accepted, refusal, answer, answers, next, after_all, is_no_memory, Answers, AnswersAll, IsAcceptable, IsRefusedFor, asks_memory}
+use Rattle.tp_core.specs.Accepted.{Accepted, refusal, answer, answers, next, after_all, is_no_memory, Answers, AnswersAll, IsAcceptable}
+use Rattle.tp_core.specs.Accepted.{IsRefusedFor, asks_memory}
 use Rattle.tp_core.proofs.Exact.{lawful_where_none, none_where_lawful}
 
 -- ---- answers to several steps
-pub AnswersAll-more : (old : Accepted) (steps : List Step) (rs : List (Result Reply Refusal)) (mid new : Accepted) (s : Step) (r : Result Reply Refusal)
+pub AnswersAll-more : (old : Accepted) (steps : List Step) (rs : List (Result Reply Refusal)) (mid new : Accepted) (s : Step)
+    (r : Result Reply Refusal)
     → AnswersAll old steps rs mid → Answers mid s r new → AnswersAll old (steps ++ s ∷ []) (rs ++ r ∷ []) new
 AnswersAll-more old [] [] mid new s r before now = (new, subst (λ a. Answers a s r new) before now, refl)
 AnswersAll-more old (x ∷ xs) (y ∷ ys) mid new s r before now =
@@ -34,7 +37,8 @@ AnswersAll-next old mid new steps i rs r h before now =
 acceptable_where_lawful : (a : Accepted) (s : Step) → IsAcceptable a s → refusal a s ≡ None
 acceptable_where_lawful a s h = none_where_lawful a s h.0 h.1
 
-pub exact_answer : (old new : Accepted) (s : Step) (r : Result Reply Refusal) → Answers old s r new → r ≢ Err NoMemory → IsOk r ↔ IsAcceptable old s
+pub exact_answer : (old new : Accepted) (s : Step) (r : Result Reply Refusal) → Answers old s r new → r ≢ Err NoMemory → IsOk r
+    ↔ IsAcceptable old s
 exact_answer old new s (Ok reply) h ample = (λ _. lawful_where_none old s h.0, λ _. refl)
 exact_answer old new s (Err e) h ample =
     (λ ok. grind (arith, ok), λ may. absurd (ample (ap (λ x. Err x) (rw (acceptable_where_lawful old s may) at h.0).0)))
@@ -45,7 +49,8 @@ pub ample_answer : (old new : Accepted) (s : Step) (r : Result Reply Refusal) �
 ample_answer old new s (Ok reply) h ample = (rw (h.0, h.1) refl, rw (h.0, h.2) refl)
 ample_answer old new s (Err e) h ample = refused (refusal old s) refl h.0
   where
-    refused : (o : Option Refusal) → refusal old s ≡ o → IsRefusedFor o (asks_memory old s) e → (◌≡◌ {A = Result Reply Refusal} (Err e) (answer old s)) × (new ≡ next old s)
+    refused : (o : Option Refusal) → refusal old s ≡ o → IsRefusedFor o (asks_memory old s) e
+        → (◌≡◌ {A = Result Reply Refusal} (Err e) (answer old s)) × (new ≡ next old s)
     refused None is for = absurd (ample (ap (λ x. Err x) for.0))
     refused (Some f) is for = (rw (is, for) refl, rw (is, h.1) refl)
 

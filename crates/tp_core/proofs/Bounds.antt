@@ -14,7 +14,8 @@ use Rattle.tp_core.specs.declared.life.Life.{Life}
 use Rattle.tp_core.specs.declared.life.Life.TheVariants as life
 use Rattle.tp_core.specs.declared.numbers.NodeNumbers.{NodeNumbers}
 use Rattle.tp_wave.specs.Generations.{present}
-use Rattle.tp_core.specs.World.{World, Task, Action, Kind, OfMessage, is_under_way, is_action, is_message, is_open, is_done, is_at, is_unfinished_at, how_many, openings, pending}
+use Rattle.tp_core.specs.World.{World, Task, Action, Kind, OfMessage, is_under_way, is_action, is_message, is_open, is_done, is_at}
+use Rattle.tp_core.specs.World.{is_unfinished_at, how_many, openings, pending}
 use Rattle.tp_core.specs.Pool.{with_life, without, after}
 use Rattle.tp_core.specs.Run.{world}
 use Rattle.tp_core.specs.Accepted.{world_of}
@@ -89,7 +90,8 @@ small {c} agree i low =
       under = rw agree.under (let bound = messages_bound c.nodes steps in omega arith);
     }
 
-lowered : {c : Inside} → IsKept c → (i : ℕ) → i < MAX_NODES → 0 < pending i (world_of (accepted c)) → (1 ≤ (slice_index_or c.numbers i zeros).pending) × (1 ≤ c.left)
+lowered : {c : Inside} → IsKept c → (i : ℕ) → i < MAX_NODES → 0 < pending i (world_of (accepted c))
+    → (1 ≤ (slice_index_or c.numbers i zeros).pending) × (1 ≤ c.left)
 lowered {c} agree i low active =
     let here : 1 ≤ (slice_index_or c.numbers i zeros).pending = rw (agree.numbers.each i zeros low) active in
     let bound = (small agree i low).pending in (here, omega arith)
@@ -113,7 +115,8 @@ pub record MayClose (c : Inside) (i : ℕ) (kind : Kind) : Type 0 where
   pub pending : 1 ≤ (slice_index_or c.numbers i zeros).pending
   pub left : 1 ≤ c.left
 
-pub may_close : {c : Inside} → IsKept c → (i : ℕ) → i < c.nodes → (kind : Kind) → is_kept_open c.opening c.named c.messages i kind ≡ true → MayClose c i kind
+pub may_close : {c : Inside} → IsKept c → (i : ℕ) → i < c.nodes → (kind : Kind) → is_kept_open c.opening c.named c.messages i kind ≡ true
+    → MayClose c i kind
 may_close {c} agree i below kind open' =
     let few = agree.few_nodes in
     let there = agree.actions.are_open i kind ∙ open' in
@@ -126,7 +129,8 @@ may_close {c} agree i below kind open' =
       left = both.1;
     }
 
-pub may_end_message : {c : Inside} → IsKept c → (i : NodeId) (m : ℕ) → i.0 < c.nodes → lookup c.messages m ≡ Some (record { to = i; stage = stage.Received })
+pub may_end_message : {c : Inside} → IsKept c → (i : NodeId) (m : ℕ) → i.0 < c.nodes
+    → lookup c.messages m ≡ Some (record { to = i; stage = stage.Received })
     → MayClose c i.0 (OfMessage m)
 may_end_message {c} agree i m below was = may_close agree i.0 below (OfMessage m) (grind (arith, nat_tests, was))
 
@@ -136,7 +140,8 @@ pub record MayReceive (c : Inside) (i m : ℕ) : Type 0 where
   pub there : is_under_way m i (world_of (accepted c)) ≡ true
   pub under : 1 ≤ c.under
 
-pub may_receive : {c : Inside} → IsKept c → (i : NodeId) (m : ℕ) → i.0 < c.nodes → lookup c.messages m ≡ Some (record { to = i; stage = stage.UnderWay })
+pub may_receive : {c : Inside} → IsKept c → (i : NodeId) (m : ℕ) → i.0 < c.nodes
+    → lookup c.messages m ≡ Some (record { to = i; stage = stage.UnderWay })
     → MayReceive c i.0 m
 may_receive {c} agree i m below was =
     let few = agree.few_nodes in

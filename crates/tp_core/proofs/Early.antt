@@ -1,5 +1,6 @@
 -- The detector is never early: from the end of the wave that it names on, nothing was left.
-use Rattle.std.proofs.Common.{ℕ, suc, ◌+◌, ◌≡◌, ◌<◌, ◌≤◌, List, [], ◌∷◌, ◌++◌, Bool, true, false, Option, Some, None, length, refl, ap, sym, ◌∙◌, inl, inr, arith, append_assoc}
+use Rattle.std.proofs.Common.{ℕ, suc, ◌+◌, ◌≡◌, ◌<◌, ◌≤◌, List, [], ◌∷◌, ◌++◌, Bool, true, false, Option, Some, None, length, refl, ap, sym}
+use Rattle.std.proofs.Common.{◌∙◌, inl, inr, arith, append_assoc}
 use Rattle.std.proofs.lemmas.Bool.{cases_lt}
 use Rattle.std.specs.Prelude.{not}
 use Rattle.std.specs.List.{list_any}
@@ -33,7 +34,10 @@ before-history n p [] = refl
 before-history n p (s ∷ past) =
     elim (cases_lt (length past) p) [
       | inl k ↦ rw (before-all p (s ∷ past) k, before-all p (history n (s ∷ past)) (omega (arith, length-history n past)))
-      | inr k ↦ rw (before-past p s past k, before-past p (record { 0 = node_of (world n past) s }, s) (history n past) (omega (arith, length-history n past)))
+      | inr k ↦ rw (
+        before-past p s past k,
+        before-past p (record { 0 = node_of (world n past) s }, s) (history n past) (omega (arith, length-history n past)),
+      )
           (before-history n p past)
     ]
 
@@ -71,7 +75,8 @@ some_root n (Give i ∷ past) r h = let inside = r.0.0.1.0 in omega arith
 some_root n (s ∷ past) r h = some_root n past r.1 (grind (arith, h))
 
 -- ---- nothing was left from the end of that wave on
-quiet_from : (n w : ℕ) (later past : List Step) → IsLawfulRun n (later ++ Judge ∷ past) → judgement n past ≡ Some w → (q : ℕ) → visited_at w 0 past ≤ q
+quiet_from : (n w : ℕ) (later past : List Step) → IsLawfulRun n (later ++ Judge ∷ past) → judgement n past ≡ Some w → (q : ℕ)
+    → visited_at w 0 past ≤ q
     → IsQuiet (world n (before q (later ++ Judge ∷ past)))
 quiet_from n w later past r judged q h =
     let judge = IsLawfulRun-past n later (Judge ∷ past) r in
@@ -79,7 +84,8 @@ quiet_from n w later past r judged q h =
     let pos = some_root n past judge.1 ended in
     let front = events_after n later (Judge ∷ past) ++ (record { 0 = 0 }, Judge) ∷ [] in
     let whole : history n (later ++ Judge ∷ past) ≡ front ++ history n past =
-    history-append n later (Judge ∷ past) ∙ sym (append_assoc (events_after n later (Judge ∷ past)) ((record { 0 = 0 }, Judge) ∷ []) (history n past)) in
+    history-append n later (Judge ∷ past)
+    ∙ sym (append_assoc (events_after n later (Judge ∷ past)) ((record { 0 = 0 }, Judge) ∷ []) (history n past)) in
     let run : machine.IsRun n (front ++ history n past) = rw whole at (is_run n (later ++ Judge ∷ past) pos r) in
     let same = steps_of-history n past in
     let there = ended_law n w front (history n past) run (rw same ended) (rw same judged) q (rw same h) in
@@ -95,7 +101,8 @@ all_done : (t : ℕ) (l : Life) (xs : List Task) → list_any (λ x. not (is_don
 all_done t l [] none h = cc
 all_done t l (x ∷ xs) none h = grind (arith, all_done t l xs)
 
-run_once : (n t : ℕ) (steps : List Step) → IsLawfulRun n steps → IsQuiet (world n steps) → any (is_insert_of t) steps ≡ true → HasRunOnce t steps
+run_once : (n t : ℕ) (steps : List Step) → IsLawfulRun n steps → IsQuiet (world n steps) → any (is_insert_of t) steps ≡ true
+    → HasRunOnce t steps
 run_once n t steps r quiet there = choose (life_of t (world n steps)) refl
   where
     choose : (o : Option Life) → life_of t (world n steps) ≡ o → HasRunOnce t steps
@@ -110,7 +117,8 @@ run_once n t steps r quiet there = choose (life_of t (world n steps)) refl
 
 -- ---- nothing is inserted where nothing is left
 no_insert : (n t : ℕ) (past : List Step) (s : Step) → IsLawfulRun n (s ∷ past) → IsQuiet (world n past) → is_insert_of t s ≡ false
-no_insert n t past (Insert i u k) r quiet = let none = nothing_pending_when_quiet i.0 (world n past) quiet in let active = r.0.2 in absurd (omega arith)
+no_insert n t past (Insert i u k) r quiet = let none = nothing_pending_when_quiet i.0 (world n past) quiet in let active =
+    r.0.2 in absurd (omega arith)
 no_insert n t past (s) r quiet = refl
 
 inserted_before : (n t p : ℕ) (steps : List Step) → IsLawfulRun n steps → ((q : ℕ) → p ≤ q → IsQuiet (world n (before q steps)))
@@ -121,7 +129,11 @@ inserted_before n t p (s ∷ past) r quiet there =
       | inl k ↦ rw (before-all p (s ∷ past) k) there
       | inr k ↦
           let earlier : (q : ℕ) → p ≤ q → IsQuiet (world n (before q past)) = λ q h. elim (cases_lt (length past) q) [
-            | inl later ↦ rw (before-all q past (omega arith), ← before-all (length past) past (omega arith), ← before-past (length past) s past (omega arith))
+            | inl later ↦ rw (
+              before-all q past (omega arith),
+              ← before-all (length past) past (omega arith),
+              ← before-past (length past) s past (omega arith),
+            )
                 (quiet (length past) k)
             | inr at ↦ rw (← before-past q s past at) (quiet q h)
           ] in

@@ -35,8 +35,11 @@ use Rattle.tp_core.proofs.Due.{world_stays, moved_stays}
 
 -- ---- the test of quiet
 quiet_shown : (w : World) → IsTrue (is_quiet w) → IsQuiet w
-quiet_shown w q =
-    (grind (arith, nat_tests, q), none_from_length w.actions (grind (arith, nat_tests, q)), none_from_length w.messages (grind (arith, nat_tests, q)))
+quiet_shown w q = (
+  grind (arith, nat_tests, q),
+  none_from_length w.actions (grind (arith, nat_tests, q)),
+  none_from_length w.messages (grind (arith, nat_tests, q)),
+)
 
 quiet_told : (w : World) → IsQuiet w → IsTrue (is_quiet w)
 quiet_told w q = rw (q.0, q.1, q.2) refl
@@ -60,16 +63,20 @@ pub by_quiet : (a : Accepted) → IsFalse (is_ended a.nodes (present a.steps)) �
 by_quiet a e q = rw (e, q) refl
 
 pub by_room : (a : Accepted) (r : Refusal) → IsFalse (is_ended a.nodes (present a.steps)) → IsTrue (is_quiet (world_of a))
-    → IsRefusedFor (first_refusal (rooms_check (length a.steps) (9 * a.nodes))) (ends_before (length a.steps) (9 * a.nodes)) r → IsRefusal a r
+    → IsRefusedFor (first_refusal (rooms_check (length a.steps) (9 * a.nodes))) (ends_before (length a.steps) (9 * a.nodes)) r
+    → IsRefusal a r
 by_room a r e q told = rw (e, q) told
 
-pub no_rooms : (c : Inside) {old : Accepted} (mid : List Step) (r : Refusal) → accepted c ≡ old → IsFalse (is_ended c.nodes (present (accepted c).steps)) → IsTrue (is_quiet (world_of (accepted c)))
-    → IsRefusedFor (first_refusal (rooms_check (length c.steps.items) (9 * c.nodes))) (ends_before (length c.steps.items) (9 * c.nodes)) r → mid ≡ c.steps.items
+pub no_rooms : (c : Inside) {old : Accepted} (mid : List Step) (r : Refusal) → accepted c ≡ old
+    → IsFalse (is_ended c.nodes (present (accepted c).steps)) → IsTrue (is_quiet (world_of (accepted c)))
+    → IsRefusedFor (first_refusal (rooms_check (length c.steps.items) (9 * c.nodes))) (ends_before (length c.steps.items) (9 * c.nodes)) r
+    → mid ≡ c.steps.items
     → IsRefusal old r × (record { nodes = c.nodes; steps = reverse mid } ≡ old)
 no_rooms c {old} mid r is e q told stay =
     (subst (λ (a : Accepted). IsRefusal a r) is (by_room (accepted c) r e q (rw (length-reverse c.steps.items) told)), rw stay is)
 
-pub by_none : (a : Accepted) → IsFalse (is_ended a.nodes (present a.steps)) → IsTrue (is_quiet (world_of a)) → length a.steps + 9 * a.nodes ≤ MAX_STEPS
+pub by_none : (a : Accepted) → IsFalse (is_ended a.nodes (present a.steps)) → IsTrue (is_quiet (world_of a))
+    → length a.steps + 9 * a.nodes ≤ MAX_STEPS
     → first_refusal (settle_checks a) ≡ None
 by_none a e q room = rw (e, q) (grind (arith, nat_tests, room))
 
@@ -87,7 +94,8 @@ may_settle {c} agree e q = record {
   follows = agree.wave;
 }
 
-pub ready_there : (c : Inside) (mid : List Step) → IsKept c → IsFalse (is_ended c.nodes (present (accepted c).steps)) → IsTrue (is_quiet (world_of (accepted c)))
+pub ready_there : (c : Inside) (mid : List Step) → IsKept c → IsFalse (is_ended c.nodes (present (accepted c).steps))
+    → IsTrue (is_quiet (world_of (accepted c)))
     → mid ≡ c.steps.items → MaySettle (nodes_of c.wave) c.numbers (reverse mid) c.wave
 ready_there c mid agree e q stay =
     subst (λ (n : ℕ). MaySettle n c.numbers (reverse mid) c.wave) (sym agree.wave.stands.nodes)
@@ -128,7 +136,8 @@ control_comes n past (Up j) c h = record { reopens = λ f. cc; goes_on = λ f. (
 control_comes n past Judge c h = record { reopens = λ f. cc; goes_on = λ f. (h, tt) }
 control_comes n past (s) c h = cc
 
-runs_on : (n : ℕ) (later old : List Step) → IsTrue (list_all is_control later) → IsLawfulRun n (later ++ present old) → AreRuns n old → AreRuns n (later ++ old)
+runs_on : (n : ℕ) (later old : List Step) → IsTrue (list_all is_control later) → IsLawfulRun n (later ++ present old) → AreRuns n old
+    → AreRuns n (later ++ old)
 runs_on n [] old c r all = all
 runs_on n (s ∷ later) old c r all =
     let parts : IsTrue (is_control s) × IsTrue (list_all is_control later) = and_parts (is_control s) (list_all is_control later) c in (
@@ -142,8 +151,10 @@ generation_stays (s ∷ later) old c =
     let parts : IsTrue (is_control s) × IsTrue (list_all is_control later) = and_parts (is_control s) (list_all is_control later) c in
     rw (no_reopening s parts.0) (generation_stays later old parts.1)
 
-pub agree_settled : {c : Inside} {w count : ℕ} (steps : Vec Step Global) (wave : Wave) → IsKept c → AreTaken c.nodes (accepted c).steps (reverse steps.items) wave w count
-    → length (accepted c).steps + 9 * c.nodes ≤ MAX_STEPS → HasPieces (length (accepted c).steps + 9 * c.nodes) (vec_capacity steps) → IsKept (record c { steps = steps; wave = wave })
+pub agree_settled : {c : Inside} {w count : ℕ} (steps : Vec Step Global) (wave : Wave) → IsKept c
+    → AreTaken c.nodes (accepted c).steps (reverse steps.items) wave w count
+    → length (accepted c).steps + 9 * c.nodes ≤ MAX_STEPS → HasPieces (length (accepted c).steps + 9 * c.nodes) (vec_capacity steps)
+    → IsKept (record c { steps = steps; wave = wave })
 agree_settled {c} steps wave agree t room pieces =
     let later : List Step = Judge ∷ t.taken in
     let all : List Step = (accepted c).steps in
@@ -163,7 +174,8 @@ agree_settled {c} steps wave agree t room pieces =
       within = omega (arith, size, few, room);
       pieces = fewer_pieces (length steps.items) (length all + 9 * c.nodes) (vec_capacity steps)
           (omega (arith, few, size, length-reverse steps.items, ap length t.steps)) pieces;
-      numbers = subst (λ (xs : List Step). HasNumbers c.numbers (record { nodes = c.nodes; steps = xs })) (sym now) (same_numbers c.nodes c.numbers later old t.control t.run agree.numbers);
+      numbers = subst (λ (xs : List Step). HasNumbers c.numbers (record { nodes = c.nodes; steps = xs })) (sym now)
+          (same_numbers c.nodes c.numbers later old t.control t.run agree.numbers);
       left = subst (λ (w : World). c.left ≡ all_left w) (sym still) agree.left;
       under = subst (λ (w : World). c.under ≡ length w.messages) (sym still) agree.under;
       tasks = subst (λ (w : World). HasTasks c.tasks w.tasks) (sym still) agree.tasks;
@@ -183,6 +195,7 @@ settled {c} {w} {count} {new} agree q t = record {
   judged = t.judged;
   counted = let a = t.counted in omega arith;
   few = t.few;
-  started = subst (λ (xs : List Step). waves xs ≤ waves (present (accepted c).steps) + 2) (sym (ap present t.steps ∙ present-control (Judge ∷ t.taken) (accepted c).steps t.control))
+  started = subst (λ (xs : List Step). waves xs ≤ waves (present (accepted c).steps) + 2)
+      (sym (ap present t.steps ∙ present-control (Judge ∷ t.taken) (accepted c).steps t.control))
       (judged_soon c.nodes (Judge ∷ t.taken) (present (accepted c).steps) agree.some_node t.run (quiet_shown (world_of (accepted c)) q)).1;
 }

@@ -1,5 +1,6 @@
 -- What holds of a run of one generation holds in each.
-use Rattle.std.proofs.Common.{ℕ, suc, ◌≡◌, ◌<◌, ◌≤◌, List, [], ◌∷◌, ◌++◌, true, false, cond, length, refl, ap, ◌∙◌, inl, inr, arith, IsTrue, IsFalse}
+use Rattle.std.proofs.Common.{ℕ, suc, ◌≡◌, ◌<◌, ◌≤◌, List, [], ◌∷◌, ◌++◌, true, false, cond, length, refl, ap, ◌∙◌, inl, inr, arith, IsTrue}
+use Rattle.std.proofs.Common.{IsFalse}
 use Rattle.std.proofs.lemmas.Bool.{cases_Bool, and_parts}
 use Rattle.std.specs.List.{list_all}
 use Rattle.tp_base.specs.declared.Step.{Step}
@@ -27,7 +28,10 @@ no_reopening (s) c = refl
 pub length-present : (steps : List Step) → length (present steps) ≤ length steps
 length-present [] = omega arith
 length-present (s ∷ past) =
-    elim (is_reopen s) as (λ b. length (cond b [] (s ∷ present past)) ≤ suc (length past)) [ true ↦ omega arith | false ↦ omega (arith, length-present past) ]
+    elim (is_reopen s) as (λ b. length (cond b [] (s ∷ present past)) ≤ suc (length past)) [
+      | true ↦ omega arith
+      | false ↦ omega (arith, length-present past)
+    ]
 
 -- Control steps go on with the generation.
 pub present-control : (later past : List Step) → IsTrue (list_all is_control later) → present (later ++ past) ≡ later ++ present past
@@ -62,7 +66,8 @@ steps_of-after n (s ∷ past) = ap (λ xs. s ∷ xs) (steps_of-after n past)
 pub present-after : (n : ℕ) (steps : List Step) → present_events (history_after n steps) ≡ history n (present steps)
 present-after n [] = refl
 present-after n (s ∷ past) =
-    elim (is_reopen s) as (λ b. cond b [] ((record { 0 = node_of (world n (present past)) s }, s) ∷ present_events (history_after n past)) ≡ history n (cond b [] (s ∷ present past)))
+    elim (is_reopen s) as (λ b. cond b [] ((record { 0 = node_of (world n (present past)) s }, s) ∷ present_events (history_after n past))
+    ≡ history n (cond b [] (s ∷ present past)))
     [ true ↦ refl | false ↦ ap (λ xs. (record { 0 = node_of (world n (present past)) s }, s) ∷ xs) (present-after n past) ]
 
 reopened_beside : (w : World) (s : Step) → IsTrue (is_reopen s) → node_of w s ≡ 0

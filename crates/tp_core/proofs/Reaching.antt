@@ -13,9 +13,11 @@ pub record Reaches (n : ℕ) (a : Accepted) : Type 0 where
   pub nodes : a.nodes ≡ n
   pub run : AreRuns n a.steps
 
-one_more : (n : ℕ) (a : Accepted) (s : Step) (o : Option Refusal) → refusal a s ≡ o → Reaches n a → Reaches n (if is_some o then a else with_step a s)
+one_more : (n : ℕ) (a : Accepted) (s : Step) (o : Option Refusal) → refusal a s ≡ o → Reaches n a
+    → Reaches n (if is_some o then a else with_step a s)
 one_more n a s (Some r) e h = h
-one_more n a s None e h = record { nodes = h.nodes; run = (subst (λ (m : ℕ). MayCome m a.steps s) h.nodes (lawful_where_none a s e).0, h.run) }
+one_more n a s None e h =
+    record { nodes = h.nodes; run = (subst (λ (m : ℕ). MayCome m a.steps s) h.nodes (lawful_where_none a s e).0, h.run) }
 
 all_reach : (n : ℕ) (a : Accepted) (later : List Step) → Reaches n a → Reaches n (after_all a later)
 all_reach n a [] h = h

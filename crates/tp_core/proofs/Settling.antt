@@ -18,7 +18,8 @@ use Rattle.tp_core.proofs.Quiet.{quiet_seen}
 use Rattle.tp_core.proofs.Early.{events_after, history-append, length-after, IsLawfulRun-past}
 
 -- a control step of the machine is lawful for the core
-lawful_control : (n : ℕ) (past : List Step) (node : NodeId) (s : Step) → IsLawfulRun n past → IsTrue (is_control s) → machine.IsNext n (history n past) (node, s) → IsLawful n past s
+lawful_control : (n : ℕ) (past : List Step) (node : NodeId) (s : Step) → IsLawfulRun n past → IsTrue (is_control s)
+    → machine.IsNext n (history n past) (node, s) → IsLawful n past s
 lawful_control n past node Start r c next = rw (steps_of-history n past) at (next.control refl)
 lawful_control n past node (Down j) r c next = rw (steps_of-history n past) at (next.control refl)
 lawful_control n past node (Give j) r c next =
@@ -42,6 +43,7 @@ judged_soon n later steps pos r q =
       omega (arith, soon.0, length-after n later steps),
       rw (now, then') at (soon.1),
       λ open'.
-          let found : (e : Event) × ComesNext n (history n (later ++ steps)) e = goes_on_law n (history n (later ++ steps)) pos run still (rw (steps_of-history n (later ++ steps)) open') in
+          let found : (e : Event) × ComesNext n (history n (later ++ steps)) e =
+          goes_on_law n (history n (later ++ steps)) pos run still (rw (steps_of-history n (later ++ steps)) open') in
           (found.0.1, found.1.control, lawful_control n (later ++ steps) found.0.0 found.0.1 r found.1.control found.1.next),
     )

@@ -1,5 +1,6 @@
 -- What a new core keeps, and where what is kept is quiet.
-use Rattle.std.proofs.Common.{ℕ, zero, suc, ◌+◌, ◌≡◌, ◌<◌, ◌≤◌, List, [], ◌∷◌, ◌++◌, Bool, true, false, None, length, refl, ap, sym, ◌∙◌, arith, zero-le, set, length-set, subst}
+use Rattle.std.proofs.Common.{ℕ, zero, suc, ◌+◌, ◌≡◌, ◌<◌, ◌≤◌, List, [], ◌∷◌, ◌++◌, Bool, true, false, None, length, refl, ap, sym, ◌∙◌}
+use Rattle.std.proofs.Common.{arith, zero-le, set, length-set, subst}
 use Rattle.std.proofs.lemmas.Bool.Decides.{nat_tests}
 use Rattle.std.specs.Prelude.{◌==◌, ◌&&◌, vec_capacity, nat_lt, if◌then◌else◌}
 use Rattle.std.specs.List.{list_any, slice_index_or}
@@ -26,13 +27,16 @@ use Rattle.tp_core.proofs.Bounds.{length-openings}
 use Rattle.tp_core.proofs.Written.{written}
 
 -- ---- a new core
-any_opening : (i n : ℕ) (kind : Kind) → list_any (is_action i kind) (openings n) ≡ (nat_lt i n && list_any (is_action i kind) (record { node = i; kind = Opening } ∷ []))
+any_opening : (i n : ℕ) (kind : Kind)
+    → list_any (is_action i kind) (openings n) ≡ (nat_lt i n && list_any (is_action i kind) (record { node = i; kind = Opening } ∷ []))
 any_opening i zero kind = grind (arith, nat_tests)
 any_opening i (suc n) kind = grind (arith, nat_tests, any_opening i n kind)
 
 pub opened_more : {i : ℕ} {numbers : List NodeNumbers} {opening : NodeSet} → AreOpened i numbers opening → i < MAX_NODES → (new : NodeSet)
     → ((k : ℕ) → has new k ≡ (if i == k then true else has opening k))
-    → AreOpened (i + 1) (set numbers i (record { pending = 1; sent = (slice_index_or numbers i zeros).sent; received = (slice_index_or numbers i zeros).received })) new
+    → AreOpened (i + 1)
+    (set numbers i
+    (record { pending = 1; sent = (slice_index_or numbers i zeros).sent; received = (slice_index_or numbers i zeros).received })) new
 opened_more {i} {numbers} {opening} before low new more = record {
   size = length-set _ _ _ ∙ before.size;
   each = λ k d h.
@@ -49,7 +53,9 @@ first_actions : (n : ℕ) (opening : NodeSet) (named : Table NodeSet) (messages 
     → ((k : ℕ) → lookup named k ≡ None) → ((k : ℕ) → lookup messages k ≡ None) → HasActions opening named messages (openings n)
 first_actions n opening named messages opened no_name no_message = record { are_open = λ i kind. any_opening i n kind ∙ now i kind }
   where
-    now : (i : ℕ) (kind : Kind) → (nat_lt i n && list_any (is_action i kind) (record { node = i; kind = Opening } ∷ [])) ≡ is_kept_open opening named messages i kind
+    now : (i : ℕ) (kind : Kind)
+        → (nat_lt i n && list_any (is_action i kind) (record { node = i; kind = Opening } ∷ []))
+        ≡ is_kept_open opening named messages i kind
     now i Opening = let open' = opened i in grind (arith, nat_tests, open')
     now i (Named a) = let none = no_name a in grind (arith, none)
     now i (OfMessage m) = let none = no_message m in grind (arith, none)
@@ -57,7 +63,8 @@ first_actions n opening named messages opened no_name no_message = record { are_
 first_numbers : (i n : ℕ) → opened_below n i ≡ numbers_in i (record { nodes = n; steps = [] })
 first_numbers i n = ap (λ p. record { pending = p; sent = 0; received = 0 }) (grind (arith, open_at-openings i n))
 
-pub first_kept : {c : Inside} → 0 < c.nodes → c.nodes ≤ MAX_NODES → c.steps.items ≡ [] → c.generation ≡ 1 → AreOpened c.nodes c.numbers c.opening → c.left ≡ c.nodes → c.under ≡ 0
+pub first_kept : {c : Inside} → 0 < c.nodes → c.nodes ≤ MAX_NODES → c.steps.items ≡ [] → c.generation ≡ 1
+    → AreOpened c.nodes c.numbers c.opening → c.left ≡ c.nodes → c.under ≡ 0
     → ((k : ℕ) → lookup c.named k ≡ None) → ((k : ℕ) → lookup c.tasks k ≡ None) → ((k : ℕ) → lookup c.messages k ≡ None)
     → Follows c.nodes [] c.wave → IsKept c
 first_kept {c} some few empty first opened left under no_name no_task no_message follows =
@@ -80,8 +87,10 @@ first_kept {c} some few empty first opened left under no_name no_task no_message
     })
 
 -- where a pool whose end was judged was reopened: all is as at first, but the list goes on
-pub reopened_kept : {c d : Inside} {mid : List Step} {room : ℕ} → IsKept c → MayCome c.nodes (accepted c).steps Reopen → length c.steps.items < MAX_STEPS
-    → HasPieces (length c.steps.items + 1) room → d.nodes ≡ c.nodes → d.generation ≡ c.generation + 1 → mid ≡ c.steps.items → d.steps.items ≡ mid ++ Reopen ∷ [] → vec_capacity d.steps ≡ room
+pub reopened_kept : {c d : Inside} {mid : List Step} {room : ℕ} → IsKept c → MayCome c.nodes (accepted c).steps Reopen
+    → length c.steps.items < MAX_STEPS
+    → HasPieces (length c.steps.items + 1) room → d.nodes ≡ c.nodes → d.generation ≡ c.generation + 1 → mid ≡ c.steps.items
+    → d.steps.items ≡ mid ++ Reopen ∷ [] → vec_capacity d.steps ≡ room
     → AreOpened c.nodes d.numbers d.opening → d.left ≡ c.nodes → d.under ≡ 0
     → ((k : ℕ) → lookup d.named k ≡ None) → ((k : ℕ) → lookup d.tasks k ≡ None) → ((k : ℕ) → lookup d.messages k ≡ None)
     → Follows c.nodes [] d.wave → IsKept d

@@ -19,7 +19,8 @@ use Rattle.tp_core.proofs.Sets.{same_kind_equal}
 use Rattle.tp_core.specs.Kept.{held, HasTasks, HasActions, HasMessages, has_in, is_posted, is_under_way_stage, is_kept_open}
 
 -- ---- tasks
-pub task_added : {table : Table Held} {tasks : List Task} → HasTasks table tasks → (new : Table Held) (x : Task) → Puts table new x.number (held x)
+pub task_added : {table : Table Held} {tasks : List Task} → HasTasks table tasks → (new : Table Held) (x : Task)
+    → Puts table new x.number (held x)
     → HasTasks new (x ∷ tasks)
 task_added {table} {tasks} kept new x puts =
     record { found = λ t. puts t ∙ rw (kept.found t) (choose (x.number == t) (find (λ y. y.number == t) tasks)) }
@@ -68,10 +69,12 @@ without-none : {A : Type 0} (p q r : A → Bool) (xs : List A) → ((x : A) → 
     → how_many r xs ≤ 1 → list_any q xs ≡ true → list_any p (without q xs) ≡ false
 without-none p q r [] i j one some = refl
 without-none p q r (x ∷ xs) i j one some =
-    let none = none_passes p r xs i in let there = some_passes q r xs j in let rest = without-none p q r xs i j in let here = i x in let out = j x in
+    let none = none_passes p r xs i in let there = some_passes q r xs j in let rest = without-none p q r xs i j in let here =
+    i x in let out = j x in
     grind (arith, none, there, rest, here, out)
 
-without-other : {A : Type 0} (p q : A → Bool) (xs : List A) → ((x : A) → q x ≡ true → p x ≡ false) → list_any p (without q xs) ≡ list_any p xs
+without-other : {A : Type 0} (p q : A → Bool) (xs : List A) → ((x : A) → q x ≡ true → p x ≡ false)
+    → list_any p (without q xs) ≡ list_any p xs
 without-other p q [] i = refl
 without-other p q (x ∷ xs) i = let here = i x in grind (arith, without-other p q xs i, here)
 
@@ -88,14 +91,16 @@ pub open-closed : (i j : ℕ) (kind k : Kind) (xs : List Action) → how_many (i
     → list_any (is_action i kind) (closed j k xs) ≡ (if (j == i) && same_kind k kind then false else list_any (is_action i kind) xs)
 open-closed i j kind k xs one there = choose ((j == i) && same_kind k kind) refl
   where
-    choose : (b : Bool) → ((j == i) && same_kind k kind) ≡ b → list_any (is_action i kind) (closed j k xs) ≡ (if b then false else list_any (is_action i kind) xs)
+    choose : (b : Bool) → ((j == i) && same_kind k kind) ≡ b
+        → list_any (is_action i kind) (closed j k xs) ≡ (if b then false else list_any (is_action i kind) xs)
     choose true is =
         let same = same_one i j kind k is in
         rw (← same.0, ← same.1) (without-none (is_action j k) (is_action j k) (is_action j k) xs (λ x h. h) (λ x h. h) one there)
     choose false is = without-other (is_action i kind) (is_action j k) xs (λ x h. is_action-one i j kind k x h ∙ is)
 
 -- A named action opens at node j: under its name stand one more node.
-pub named_opened : {opening : NodeSet} {named : Table NodeSet} {messages : Table Posted} {actions : List Action} → HasActions opening named messages actions
+pub named_opened : {opening : NodeSet} {named : Table NodeSet} {messages : Table Posted} {actions : List Action}
+    → HasActions opening named messages actions
     → (new : Table NodeSet) (j a : ℕ) (nodes : NodeSet) → Puts named new a nodes
     → ((i : ℕ) → has nodes i ≡ (if j == i then true else has_in i (lookup named a)))
     → HasActions opening new messages (opened j (Named a) actions)
@@ -106,8 +111,10 @@ named_opened {opening} {named} {messages} {actions} kept new j a nodes puts more
     now i (Named b) = let old = kept.are_open i (Named b) in let at = puts b in let one = more i in grind (arith, nat_tests, old, at, one)
     now i (OfMessage m) = let old = kept.are_open i (OfMessage m) in grind (arith, old)
 
-pub named_closed : {opening : NodeSet} {named : Table NodeSet} {messages : Table Posted} {actions : List Action} → HasActions opening named messages actions
-    → (new : Table NodeSet) (j a : ℕ) (nodes : NodeSet) → how_many (is_action j (Named a)) actions ≤ 1 → list_any (is_action j (Named a)) actions ≡ true
+pub named_closed : {opening : NodeSet} {named : Table NodeSet} {messages : Table Posted} {actions : List Action}
+    → HasActions opening named messages actions
+    → (new : Table NodeSet) (j a : ℕ) (nodes : NodeSet) → how_many (is_action j (Named a)) actions ≤ 1
+    → list_any (is_action j (Named a)) actions ≡ true
     → Puts named new a nodes → ((i : ℕ) → has nodes i ≡ (if j == i then false else has_in i (lookup named a)))
     → HasActions opening new messages (closed j (Named a) actions)
 named_closed {opening} {named} {messages} {actions} kept new j a nodes single there puts less = record { are_open = now }
@@ -117,9 +124,11 @@ named_closed {opening} {named} {messages} {actions} kept new j a nodes single th
     now i (Named b) =
         let old = kept.are_open i (Named b) in let at = puts b in let one = less i in
         open-closed i j (Named b) (Named a) actions single there ∙ grind (arith, nat_tests, old, at, one)
-    now i (OfMessage m) = let old = kept.are_open i (OfMessage m) in open-closed i j (OfMessage m) (Named a) actions single there ∙ grind (arith, old)
+    now i (OfMessage m) = let old =
+        kept.are_open i (OfMessage m) in open-closed i j (OfMessage m) (Named a) actions single there ∙ grind (arith, old)
 
-pub opening_closed : {opening : NodeSet} {named : Table NodeSet} {messages : Table Posted} {actions : List Action} → HasActions opening named messages actions
+pub opening_closed : {opening : NodeSet} {named : Table NodeSet} {messages : Table Posted} {actions : List Action}
+    → HasActions opening named messages actions
     → (new : NodeSet) (j : ℕ) → how_many (is_action j Opening) actions ≤ 1 → list_any (is_action j Opening) actions ≡ true
     → ((i : ℕ) → has new i ≡ (if j == i then false else has opening i))
     → HasActions new named messages (closed j Opening actions)
@@ -127,13 +136,17 @@ opening_closed {opening} {named} {messages} {actions} kept new j single there le
   where
     now : (i : ℕ) (kind : Kind) → list_any (is_action i kind) (closed j Opening actions) ≡ is_kept_open new named messages i kind
     now i Opening =
-        let old = kept.are_open i Opening in let one = less i in open-closed i j Opening Opening actions single there ∙ grind (arith, nat_tests, old, one)
+        let old = kept.are_open i Opening in let one =
+        less i in open-closed i j Opening Opening actions single there ∙ grind (arith, nat_tests, old, one)
     now i (Named b) = let old = kept.are_open i (Named b) in open-closed i j (Named b) Opening actions single there ∙ grind (arith, old)
-    now i (OfMessage m) = let old = kept.are_open i (OfMessage m) in open-closed i j (OfMessage m) Opening actions single there ∙ grind (arith, old)
+    now i (OfMessage m) = let old =
+        kept.are_open i (OfMessage m) in open-closed i j (OfMessage m) Opening actions single there ∙ grind (arith, old)
 
 -- ---- messages
-pub posted : {opening : NodeSet} {named : Table NodeSet} {messages : Table Posted} {actions : List Action} → HasActions opening named messages actions
-    → (new : Table Posted) (m : ℕ) (to : NodeId) → lookup messages m ≡ None → Puts messages new m (record { to = to; stage = stage.UnderWay })
+pub posted : {opening : NodeSet} {named : Table NodeSet} {messages : Table Posted} {actions : List Action}
+    → HasActions opening named messages actions
+    → (new : Table Posted) (m : ℕ) (to : NodeId) → lookup messages m ≡ None
+    → Puts messages new m (record { to = to; stage = stage.UnderWay })
     → HasActions opening named new actions
 posted {opening} {named} {messages} {actions} kept new m to none puts = record { are_open = now }
   where
@@ -142,7 +155,8 @@ posted {opening} {named} {messages} {actions} kept new m to none puts = record {
     now i (Named b) = kept.are_open i (Named b)
     now i (OfMessage k) = let old = kept.are_open i (OfMessage k) in let at = puts k in grind (arith, nat_tests, old, at, none)
 
-pub received : {opening : NodeSet} {named : Table NodeSet} {messages : Table Posted} {actions : List Action} → HasActions opening named messages actions
+pub received : {opening : NodeSet} {named : Table NodeSet} {messages : Table Posted} {actions : List Action}
+    → HasActions opening named messages actions
     → (new : Table Posted) (m : ℕ) (to : NodeId) → lookup messages m ≡ Some (record { to = to; stage = stage.UnderWay })
     → Puts messages new m (record { to = to; stage = stage.Received })
     → HasActions opening named new (opened to.0 (OfMessage m) actions)
@@ -153,7 +167,8 @@ received {opening} {named} {messages} {actions} kept new m to was puts = record 
     now i (Named b) = let old = kept.are_open i (Named b) in grind (arith, old)
     now i (OfMessage k) = let old = kept.are_open i (OfMessage k) in let at = puts k in grind (arith, nat_tests, old, at, was)
 
-pub message_closed : {opening : NodeSet} {named : Table NodeSet} {messages : Table Posted} {actions : List Action} → HasActions opening named messages actions
+pub message_closed : {opening : NodeSet} {named : Table NodeSet} {messages : Table Posted} {actions : List Action}
+    → HasActions opening named messages actions
     → (new : Table Posted) (m : ℕ) (to : NodeId) → how_many (is_action to.0 (OfMessage m)) actions ≤ 1
     → lookup messages m ≡ Some (record { to = to; stage = stage.Received }) → Puts messages new m (record { to = to; stage = stage.Ended })
     → HasActions opening named new (closed to.0 (OfMessage m) actions)
@@ -164,7 +179,8 @@ message_closed {opening} {named} {messages} {actions} kept new m to single was p
 
     now : (i : ℕ) (kind : Kind) → list_any (is_action i kind) (closed to.0 (OfMessage m) actions) ≡ is_kept_open opening named new i kind
     now i Opening = let old = kept.are_open i Opening in open-closed i to.0 Opening (OfMessage m) actions single there ∙ grind (arith, old)
-    now i (Named b) = let old = kept.are_open i (Named b) in open-closed i to.0 (Named b) (OfMessage m) actions single there ∙ grind (arith, old)
+    now i (Named b) = let old =
+        kept.are_open i (Named b) in open-closed i to.0 (Named b) (OfMessage m) actions single there ∙ grind (arith, old)
     now i (OfMessage k) =
         let old = kept.are_open i (OfMessage k) in let at = puts k in
         open-closed i to.0 (OfMessage k) (OfMessage m) actions single there ∙ grind (arith, nat_tests, old, at, was)
@@ -192,7 +208,8 @@ message_received {table} {messages} {numbers} kept new m to single was puts = re
     there : list_any (is_message m to.0) messages ≡ true
     there = let old = kept.under_way m to.0 in grind (arith, nat_tests, old, was)
 
-    choose : (k j : ℕ) (b : Bool) → (m == k) ≡ b → list_any (is_message k j) (without (is_message m to.0) messages) ≡ is_posted is_under_way_stage j (lookup new k)
+    choose : (k j : ℕ) (b : Bool) → (m == k) ≡ b
+        → list_any (is_message k j) (without (is_message m to.0) messages) ≡ is_posted is_under_way_stage j (lookup new k)
     choose k j true is =
         let same : m ≡ k = eqb-true m k is in
         let none = without-none (is_message k j) (is_message m to.0) (λ x. x.number == m) messages

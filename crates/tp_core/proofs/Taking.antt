@@ -16,11 +16,14 @@ use Rattle.tp_core.specs.Kept.{accepted, IsKept}
 use Rattle.tp_core.proofs.Exact.{none_where_lawful, refused_first, refused_for_room}
 
 -- what is told where the steps are mid and then new, and the answer is reply
-pub taken : {c : Inside} {old : Accepted} {mid new : List Step} {reply : Reply} (s : Step) → IsKept c → accepted c ≡ old → MayCome c.nodes (accepted c).steps s
+pub taken : {c : Inside} {old : Accepted} {mid new : List Step} {reply : Reply} (s : Step) → IsKept c → accepted c ≡ old
+    → MayCome c.nodes (accepted c).steps s
     → length c.steps.items < MAX_STEPS → mid ≡ c.steps.items → new ≡ mid ++ s ∷ [] → reply ≡ reply_to c.nodes (accepted c).steps s
-    → (refusal old s ≡ None) × (reply ≡ reply_to old.nodes old.steps s) × (record { nodes = c.nodes; steps = reverse new } ≡ with_step old s)
+    → (refusal old s ≡ None) × (reply ≡ reply_to old.nodes old.steps s)
+    × (record { nodes = c.nodes; steps = reverse new } ≡ with_step old s)
 taken {c} {old} {mid} {new} {reply} s agree is lawful room stay pushed answer =
-    subst (λ (a : Accepted). (refusal a s ≡ None) × (reply ≡ reply_to a.nodes a.steps s) × (record { nodes = c.nodes; steps = reverse new } ≡ with_step a s)) is (
+    subst (λ (a : Accepted). (refusal a s ≡ None) × (reply ≡ reply_to a.nodes a.steps s)
+    × (record { nodes = c.nodes; steps = reverse new } ≡ with_step a s)) is (
       none_where_lawful (accepted c) s lawful (rw (length-reverse c.steps.items) room),
       answer,
       rw (pushed, stay, reverse-append c.steps.items (s ∷ [])) refl,
@@ -29,10 +32,12 @@ taken {c} {old} {mid} {new} {reply} s agree is lawful room stay pushed answer =
 -- a lawful step is refused for room alone
 pub for_room : {c : Inside} {old : Accepted} (s : Step) → IsKept c → accepted c ≡ old → MayCome c.nodes (accepted c).steps s
     → refusal old s ≡ first_refusal (room_check (length old.steps))
-for_room {c} {old} s agree is lawful = subst (λ (a : Accepted). refusal a s ≡ first_refusal (room_check (length a.steps))) is (refused_for_room (accepted c) s lawful)
+for_room {c} {old} s agree is lawful =
+    subst (λ (a : Accepted). refusal a s ≡ first_refusal (room_check (length a.steps))) is (refused_for_room (accepted c) s lawful)
 
 -- a step of the wave that the wave refuses
-pub by_wave : {c : Inside} {old : Accepted} (s : Step) → IsKept c → accepted c ≡ old → (r : Refusal) → Some r ≡ refusal_of c.nodes (accepted c).steps s → refusal old s ≡ Some r
+pub by_wave : {c : Inside} {old : Accepted} (s : Step) → IsKept c → accepted c ≡ old → (r : Refusal)
+    → Some r ≡ refusal_of c.nodes (accepted c).steps s → refusal old s ≡ Some r
 by_wave {c} {old} s agree is r refused = subst (λ (a : Accepted). refusal a s ≡ Some r) is (refused_first (accepted c) s r (sym refused))
 
 -- it is refused where no room was made for it
@@ -41,7 +46,8 @@ weaken (Some f) b d r h = h
 weaken None b true r h = (h.0, refl)
 weaken None b false r h = h
 
-pub no_room : {c : Inside} {old : Accepted} {mid : List Step} (s : Step) → IsKept c → accepted c ≡ old → MayCome c.nodes (accepted c).steps s → (r : Refusal)
+pub no_room : {c : Inside} {old : Accepted} {mid : List Step} (s : Step) → IsKept c → accepted c ≡ old
+    → MayCome c.nodes (accepted c).steps s → (r : Refusal)
     → IsRefusedFor (first_refusal (room_check (length c.steps.items))) (begins_piece (length c.steps.items)) r → mid ≡ c.steps.items
     → IsRefusedFor (refusal old s) (asks_memory old s) r × (record { nodes = c.nodes; steps = reverse mid } ≡ old)
 no_room {c} {old} s agree is lawful r told stay = (
@@ -53,13 +59,15 @@ no_room {c} {old} s agree is lawful r told stay = (
 )
 
 -- and where there is room for nothing
-pub for_nothing : {c : Inside} {old : Accepted} (s : Step) → IsKept c → accepted c ≡ old → MayCome c.nodes (accepted c).steps s → length c.steps.items < MAX_STEPS
+pub for_nothing : {c : Inside} {old : Accepted} (s : Step) → IsKept c → accepted c ≡ old → MayCome c.nodes (accepted c).steps s
+    → length c.steps.items < MAX_STEPS
     → refusal old s ≡ None
 for_nothing {c} {old} s agree is lawful room =
     subst (λ (a : Accepted). refusal a s ≡ None) is (none_where_lawful (accepted c) s lawful (rw (length-reverse c.steps.items) room))
 
 -- nor for what it keeps
-pub no_memory : {c : Inside} {old : Accepted} {mid : List Step} (s : Step) → IsKept c → accepted c ≡ old → MayCome c.nodes (accepted c).steps s → length c.steps.items < MAX_STEPS
+pub no_memory : {c : Inside} {old : Accepted} {mid : List Step} (s : Step) → IsKept c → accepted c ≡ old
+    → MayCome c.nodes (accepted c).steps s → length c.steps.items < MAX_STEPS
     → keeps_more s ≡ true → (r : Refusal) → r ≡ NoMemory → mid ≡ c.steps.items
     → IsRefusedFor (refusal old s) (asks_memory old s) r × (record { nodes = c.nodes; steps = reverse mid } ≡ old)
 no_memory {c} {old} s agree is lawful room keeps r memory stay = (rw (for_nothing s agree is lawful room, keeps) (memory, refl), rw stay is)

@@ -4,7 +4,8 @@ use Rattle.std.proofs.lemmas.Bool.Decides.{nat_tests}
 use Rattle.std.specs.Prelude.{◌==◌, if◌then◌else◌}
 use Rattle.std.specs.List.{slice_index_or}
 
-pub written : {A : Type 0} (xs : List A) (i k : ℕ) (v d : A) → i < length xs → slice_index_or (set xs i v) k d ≡ (if i == k then v else slice_index_or xs k d)
+pub written : {A : Type 0} (xs : List A) (i k : ℕ) (v d : A) → i < length xs
+    → slice_index_or (set xs i v) k d ≡ (if i == k then v else slice_index_or xs k d)
 written xs i k v d h = grind (arith, nat_tests, get_or-set_same, get_or-set_other)
 
 -- eight times the same

@@ -1,5 +1,6 @@
 -- What a core has accepted, and what it answers to the next step.
-use Rattle.std.specs.Prelude.{Bool, true, false, IsTrue, IsFalse, ℕ, ◌%◌, ◌||◌, ◌==◌, ◌≡◌, ◌<◌, ◌+◌, List, [], ◌∷◌, ◌++◌, nat_le, is_some, length, Option, Some, None, Result, Ok, Err, if◌then◌else◌}
+use Rattle.std.specs.Prelude.{Bool, true, false, IsTrue, IsFalse, ℕ, ◌%◌, ◌||◌, ◌==◌, ◌≡◌, ◌<◌, ◌+◌, List, [], ◌∷◌, ◌++◌, nat_le, is_some}
+use Rattle.std.specs.Prelude.{length, Option, Some, None, Result, Ok, Err, if◌then◌else◌}
 use Rattle.std.specs.List.{list_any}
 use Rattle.tp_base.specs.declared.limits.TheConstants.{MAX_STEPS}
 use Rattle.tp_base.specs.declared.Refusal.{Refusal}

@@ -17,4 +17,5 @@ fits-word (negsuc n) h = let small = h.sfits in grind (arith, nat_tests)
 -- one number more
 pub fit-push : (xs : List ℤ) (y : ℤ) → all_fit xs ≡ true → fits y ≡ true → all_fit (xs ++ y ∷ []) ≡ true
 fit-push [] y p q = rw q refl
-fit-push (x ∷ xs) y p q = let both = and_parts (fits x) (all_fit xs) p in and_from (fits x) (all_fit (xs ++ y ∷ [])) both.0 (fit-push xs y both.1 q)
+fit-push (x ∷ xs) y p q = let both =
+    and_parts (fits x) (all_fit xs) p in and_from (fits x) (all_fit (xs ++ y ∷ [])) both.0 (fit-push xs y both.1 q)

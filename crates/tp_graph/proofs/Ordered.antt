@@ -1,5 +1,6 @@
 -- Results whose tasks do not fall, each once.
-use Rattle.std.proofs.Common.{◌≡◌, ◌≢◌, ◌<◌, ◌≤◌, ◌+◌, ℕ, zero, suc, ℤ, List, [], ◌∷◌, length, get_or, true, false, cond, if◌then◌else◌, nat_lt, refl, sym, ap, ◌∙◌, ⊎_elim, subst, Some, arith}
+use Rattle.std.proofs.Common.{◌≡◌, ◌≢◌, ◌<◌, ◌≤◌, ◌+◌, ℕ, zero, suc, ℤ, List, [], ◌∷◌, length, get_or, true, false, cond, if◌then◌else◌}
+use Rattle.std.proofs.Common.{nat_lt, refl, sym, ap, ◌∙◌, ⊎_elim, subst, Some, arith}
 use Rattle.std.specs.Prelude.{◌==◌}
 use Rattle.std.specs.List.{count_by}
 use Rattle.std.specs.List.Sorted.{IsNonDecreasingBy, IsPermutation}
@@ -41,14 +42,23 @@ record AreFrom (a n : ℕ) (xs : Results) : Type 0 where
   inside : (t : ℕ) → a ≤ t → t < a + n → times t xs ≡ 1
   above : (t : ℕ) → a + n ≤ t → times t xs ≡ 0
 
-first-is : (x : TaskId × List ℤ) (xs : Results) (a n : ℕ) → IsNonDecreasingBy (λ (r : TaskId × List ℤ). r.0.0) (x ∷ xs) → AreFrom a n (x ∷ xs) → (x.0.0 ≡ a) × (0 < n)
+first-is : (x : TaskId × List ℤ) (xs : Results) (a n : ℕ) → IsNonDecreasingBy (λ (r : TaskId × List ℤ). r.0.0) (x ∷ xs)
+    → AreFrom a n (x ∷ xs) → (x.0.0 ≡ a) × (0 < n)
 first-is x xs a n up from =
     let own : times x.0.0 (x ∷ xs) ≡ 1 + times x.0.0 xs = times-same x xs x.0.0 refl in
-    let low : a ≤ x.0.0 = ⊎_elim (λ (p : x.0.0 < a). absurd (omega (arith, own, from.below x.0.0 p))) (λ (p : a ≤ x.0.0). p) (cases_lt x.0.0 a) in
-    let high : x.0.0 < a + n = ⊎_elim (λ (p : x.0.0 < a + n). p) (λ (p : a + n ≤ x.0.0). absurd (omega (arith, own, from.above x.0.0 p))) (cases_lt x.0.0 (a + n)) in
+    let low : a ≤ x.0.0 =
+    ⊎_elim (λ (p : x.0.0 < a). absurd (omega (arith, own, from.below x.0.0 p))) (λ (p : a ≤ x.0.0). p) (cases_lt x.0.0 a) in
+    let high : x.0.0 < a + n =
+    ⊎_elim (λ (p : x.0.0 < a + n). p) (λ (p : a + n ≤ x.0.0). absurd (omega (arith, own, from.above x.0.0 p)))
+    (cases_lt x.0.0 (a + n)) in
     let least : x.0.0 ≤ a =
     ⊎_elim
-    (λ (p : a < x.0.0). absurd (omega (arith, from.inside a (omega arith) (omega (arith, low, high)), none_below (x ∷ xs) a (λ i d q. omega (arith, p, up 0 i d (omega arith) q)))))
+    (λ (p : a < x.0.0). absurd
+    (omega (
+      arith,
+      from.inside a (omega arith) (omega (arith, low, high)),
+      none_below (x ∷ xs) a (λ i d q. omega (arith, p, up 0 i d (omega arith) q)),
+    )))
     (λ (p : x.0.0 ≤ a). p)
     (cases_lt a x.0.0) in
     (omega (arith, low, least), omega (arith, low, high))
@@ -67,22 +77,26 @@ rest-from x xs n from =
       above = λ t h. sym (times-other x xs t (λ p. absurd (omega (arith, p, h)))) ∙ from.above t (omega (arith, h));
     }
 
-in-turn : (xs : Results) (a n : ℕ) → IsNonDecreasingBy (λ (r : TaskId × List ℤ). r.0.0) xs → AreFrom a n xs → (length xs ≡ n) × ((i : ℕ) (d : TaskId × List ℤ) → i < n → (get_or xs i d).0.0 ≡ a + i)
+in-turn : (xs : Results) (a n : ℕ) → IsNonDecreasingBy (λ (r : TaskId × List ℤ). r.0.0) xs → AreFrom a n xs → (length xs ≡ n)
+    × ((i : ℕ) (d : TaskId × List ℤ) → i < n → (get_or xs i d).0.0 ≡ a + i)
 in-turn [] a zero up from = (refl, λ i d h. absurd (omega arith))
 in-turn [] a (suc n) up from = absurd (omega (arith, from.inside a (omega arith) (omega arith)))
 in-turn (x ∷ xs) a zero up from = absurd (omega (arith, (first-is x xs a zero up from).1))
 in-turn (x ∷ xs) a (suc n) up from =
     let first : x.0.0 ≡ a = (first-is x xs a (suc n) up from).0 in
-    let later = in-turn xs (suc x.0.0) n (λ i j d h p. up (suc i) (suc j) d (omega arith) (omega arith)) (rest-from x xs n (subst (λ k. AreFrom k (suc n) (x ∷ xs)) (sym first) from)) in
+    let later = in-turn xs (suc x.0.0) n (λ i j d h p.
+    up (suc i) (suc j) d (omega arith) (omega arith)) (rest-from x xs n (subst (λ k. AreFrom k (suc n) (x ∷ xs)) (sym first) from)) in
     let each : (i : ℕ) (d : TaskId × List ℤ) → i < suc n → (get_or (x ∷ xs) i d).0.0 ≡ a + i =
     elim [ zero ↦ λ d h. first ∙ omega arith | suc i ↦ λ d h. later.1 i d (omega arith) ∙ omega (arith, first) ] in
     (ap suc later.0, each)
 
 -- results in the order of their tasks, each once, are the values of the tasks
-pub are_values : (g : TaskGraph) (tasks : ℕ) (results sorted : Results) → IsPermutation results sorted → IsNonDecreasingBy (λ (r : TaskId × List ℤ). r.0.0) sorted →
+pub are_values : (g : TaskGraph) (tasks : ℕ) (results sorted : Results) → IsPermutation results sorted
+    → IsNonDecreasingBy (λ (r : TaskId × List ℤ). r.0.0) sorted →
     HasOneOfEach tasks results → AreRight g results → AreValues g tasks sorted
 are_values g tasks results sorted same up once right =
-    let count : (t : ℕ) → times t sorted ≡ (if nat_lt t tasks then 1 else 0) = λ t. sum_by-IsPermutation (λ r. cond (r.0.0 == t) 1 0) results sorted same ∙ once t in
+    let count : (t : ℕ) → times t sorted ≡ (if nat_lt t tasks then 1 else 0) =
+    λ t. sum_by-IsPermutation (λ r. cond (r.0.0 == t) 1 0) results sorted same ∙ once t in
     let all = in-turn sorted 0 tasks up (record {
       below = λ t h. absurd (omega arith);
       inside = λ t h p. grind (arith, nat_tests, count t);

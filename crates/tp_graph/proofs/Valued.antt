@@ -1,4 +1,5 @@
-use Rattle.std.proofs.Common.{◌≡◌, ◌≢◌, ◌<◌, ℕ, zero, suc, ◌^◌, ℤ, pos, List, [], ◌∷◌, length, get_or, Option, Some, refl, ap, ◌∙◌, true, false, eqb, arith, ⊎_elim}
+use Rattle.std.proofs.Common.{◌≡◌, ◌≢◌, ◌<◌, ℕ, zero, suc, ◌^◌, ℤ, pos, List, [], ◌∷◌, length, get_or, Option, Some, refl, ap, ◌∙◌, true}
+use Rattle.std.proofs.Common.{false, eqb, arith, ⊎_elim}
 use Rattle.std.proofs.lemmas.Bool.Decides.{nat_tests, eqb_tells}
 use Rattle.tp_graph.specs.Graphs.{TaskGraph, IsLawful}
 use Rattle.tp_graph.specs.Values.{value_of, values_below, fitting, gather, then_some, outcome, AreInputs}
@@ -22,7 +23,8 @@ below-is g (suc t) p h =
     (eqb_tells p t)
 
 -- a task's value is its rule's outcome at the values of its producers
-pub value-is : (g : TaskGraph) (t : ℕ) → IsLawful g → t < g.tasks → value_of g t ≡ then_some (gather (g.arity t) (λ s. value_of g (g.source t s))) (outcome g t)
+pub value-is : (g : TaskGraph) (t : ℕ) → IsLawful g → t < g.tasks
+    → value_of g t ≡ then_some (gather (g.arity t) (λ s. value_of g (g.source t s))) (outcome g t)
 unfolding value_of
 value-is g t lawful h =
     ap (λ m. then_some m (outcome g t))
@@ -30,7 +32,8 @@ value-is g t lawful h =
     (λ s p. below-is g t (g.source t s) (lawful.slots_filled t s h p).lower))
 
 -- what is gathered, place by place
-pub gather-is : {A : Type 0} (n : ℕ) (f : ℕ → Option A) (xs : List A) (d : A) → length xs ≡ n → ((s : ℕ) → s < n → f s ≡ Some (get_or xs s d)) → gather n f ≡ Some xs
+pub gather-is : {A : Type 0} (n : ℕ) (f : ℕ → Option A) (xs : List A) (d : A) → length xs ≡ n
+    → ((s : ℕ) → s < n → f s ≡ Some (get_or xs s d)) → gather n f ≡ Some xs
 gather-is zero f [] d e h = refl
 gather-is zero f (x ∷ xs) d e h = absurd (omega arith)
 gather-is (suc n) f [] d e h = absurd (omega arith)
@@ -42,23 +45,29 @@ gather-is (suc n) f (x ∷ xs) d e h =
     rw first (ap (λ m. then_some m (λ rest. Some (x ∷ rest))) rest)
 
 -- what a task makes of its inputs is its value
-pub value_made : (g : TaskGraph) (t : ℕ) (inputs : List (List ℤ)) → IsLawful g → t < g.tasks → AreInputs g t inputs → value_of g t ≡ outcome g t inputs
+pub value_made : (g : TaskGraph) (t : ℕ) (inputs : List (List ℤ)) → IsLawful g → t < g.tasks → AreInputs g t inputs
+    → value_of g t ≡ outcome g t inputs
 value_made g t inputs lawful h right =
-    value-is g t lawful h ∙ ap (λ m. then_some m (outcome g t)) (gather-is (g.arity t) (λ s. value_of g (g.source t s)) inputs [] right.long right.right)
+    value-is g t lawful h
+    ∙ ap (λ m. then_some m (outcome g t)) (gather-is (g.arity t) (λ s. value_of g (g.source t s)) inputs [] right.long right.right)
 
 -- tasks of no, one and two inputs
 pub value-zero : (g : TaskGraph) (t : ℕ) → IsLawful g → t < g.tasks → g.arity t ≡ 0 → value_of g t ≡ outcome g t []
 value-zero g t lawful h e = value-is g t lawful h ∙ ap (λ n. then_some (gather n (λ s. value_of g (g.source t s))) (outcome g t)) e
 
-pub value-one : (g : TaskGraph) (t : ℕ) (a : List ℤ) → IsLawful g → t < g.tasks → g.arity t ≡ 1 → value_of g (g.source t 0) ≡ Some a → value_of g t ≡ outcome g t (a ∷ [])
+pub value-one : (g : TaskGraph) (t : ℕ) (a : List ℤ) → IsLawful g → t < g.tasks → g.arity t ≡ 1 → value_of g (g.source t 0) ≡ Some a
+    → value_of g t ≡ outcome g t (a ∷ [])
 value-one g t a lawful h e p =
     value-is g t lawful h ∙ ap (λ n. then_some (gather n (λ s. value_of g (g.source t s))) (outcome g t)) e ∙
     ap (λ m. then_some (then_some m (λ first. Some (first ∷ []))) (outcome g t)) p
 
-pub value-two : (g : TaskGraph) (t : ℕ) (a b : List ℤ) → IsLawful g → t < g.tasks → g.arity t ≡ 2 → value_of g (g.source t 0) ≡ Some a → value_of g (g.source t 1) ≡ Some b → value_of g t ≡ outcome g t (a ∷ (b ∷ []))
+pub value-two : (g : TaskGraph) (t : ℕ) (a b : List ℤ) → IsLawful g → t < g.tasks → g.arity t ≡ 2 → value_of g (g.source t 0) ≡ Some a
+    → value_of g (g.source t 1) ≡ Some b → value_of g t ≡ outcome g t (a ∷ (b ∷ []))
 value-two g t a b lawful h e p q =
     value-is g t lawful h ∙ ap (λ n. then_some (gather n (λ s. value_of g (g.source t s))) (outcome g t)) e ∙
-    ap (λ m. then_some (then_some m (λ first. then_some (then_some (value_of g (g.source t 1)) (λ second. Some (second ∷ []))) (λ rest. Some (first ∷ rest)))) (outcome g t)) p ∙
+    ap (λ m. then_some
+    (then_some m (λ first.
+    then_some (then_some (value_of g (g.source t 1)) (λ second. Some (second ∷ []))) (λ rest. Some (first ∷ rest)))) (outcome g t)) p ∙
     ap (λ m. then_some (then_some (then_some m (λ second. Some (second ∷ []))) (λ rest. Some (a ∷ rest))) (outcome g t)) q
 
 -- one number that fits

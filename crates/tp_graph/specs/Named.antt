@@ -23,5 +23,7 @@ at_name {A} x y q =
     ap (λ (s : (v : A) × (x ≡ v)). (s.0, ap Some s.1)) (contract e) ∙ ap (λ r. (y, r)) (kept x q)
 
 -- a name names one value, by one proof
-pub one_named : {A : Type 0} {name : Option A} {x y : A} (p : name ≡ Some x) (q : name ≡ Some y) → ◌≡◌ {A = (v : A) × (name ≡ Some v)} (x, p) (y, q)
-one_named {A} {x = x} {y = y} p q = path_j' (λ name r. (s : name ≡ Some y) → ◌≡◌ {A = (v : A) × (name ≡ Some v)} (x, r) (y, s)) (λ s. at_name x y s) p q
+pub one_named : {A : Type 0} {name : Option A} {x y : A} (p : name ≡ Some x) (q : name ≡ Some y)
+    → ◌≡◌ {A = (v : A) × (name ≡ Some v)} (x, p) (y, q)
+one_named {A} {x = x} {y = y} p q =
+    path_j' (λ name r. (s : name ≡ Some y) → ◌≡◌ {A = (v : A) × (name ≡ Some v)} (x, r) (y, s)) (λ s. at_name x y s) p q

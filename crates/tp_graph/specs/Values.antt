@@ -1,4 +1,5 @@
-use Rattle.std.specs.Prelude.{◌≡◌, ◌<◌, ◌^◌, ◌&&◌, ◌⊎◌, ℕ, suc, zero, ℤ, pos, negsuc, Bool, true, List, [], ◌∷◌, Option, Some, None, if◌then◌else◌, ◌==◌, nat_lt, length, slice_index_or}
+use Rattle.std.specs.Prelude.{◌≡◌, ◌<◌, ◌^◌, ◌&&◌, ◌⊎◌, ℕ, suc, zero, ℤ, pos, negsuc, Bool, true, List, [], ◌∷◌, Option, Some, None}
+use Rattle.std.specs.Prelude.{if◌then◌else◌, ◌==◌, nat_lt, length, slice_index_or}
 use Rattle.tp_base.specs.declared.Refusal.{Refusal}
 use Rattle.tp_base.specs.declared.Refusal.TheVariants.{BodyFailed, NoMemory}
 use Rattle.tp_graph.specs.Graphs.{TaskGraph}

@@ -17,7 +17,8 @@ pub fn run_body<G: Graph>(
 ) -> Result<Value, Refusal>
     requires known { task.0 < (G.meaning graph.now).tasks }
     requires right { AreInputs (G.meaning graph.now) task.0 inputs.now }
-    ensures { MatchResult result (λ made. value_of (G.meaning graph.now) task.0 ≡ Some made) (IsRefusal (value_of (G.meaning graph.now) task.0)) }
+    ensures { MatchResult result (λ made. value_of (G.meaning graph.now) task.0
+        ≡ Some made) (IsRefusal (value_of (G.meaning graph.now) task.0)) }
 {
     graph.body(alloc, task, inputs)
 }

@@ -22,7 +22,8 @@ pub fn feed_of<G: Graph>(graph: &G, task: TaskId, turn: u32) -> Feed
     requires within { turn < (G.meaning graph.now).feeds task.0 }
     ensures same { result ≡ feed_at (G.meaning graph.now) task.0 turn }
     ensures right { IsFeed (G.meaning graph.now) result }
-    ensures input { (value : List ℤ) → value_of (G.meaning graph.now) task.0 ≡ Some value → IsInput (G.meaning graph.now) result.target.0 result.slot value }
+    ensures input { (value : List ℤ) → value_of (G.meaning graph.now) task.0 ≡ Some value
+        → IsInput (G.meaning graph.now) result.target.0 result.slot value }
 {
     let (target, slot) = graph.feed(task, turn);
     Feed {

@@ -37,7 +37,8 @@ pub fn value_at<'a>(
 ) -> Option<&'a Value>
     ensures found { IfSome result (λ value. Contains results.now (task, value.now)) }
     ensures right { IfSome result (λ value. (g : TaskGraph) → AreRight g results.now → value_of g task.0 ≡ Some value.now) }
-    ensures missing { IfNone result ((tasks : ℕ) → ArePlaces tasks results.now places.now → task.0 < tasks → All (λ r. r.0.0 ≢ task.0) results.now) }
+    ensures missing { IfNone result ((tasks : ℕ) → ArePlaces tasks results.now places.now → task.0 < tasks
+        → All (λ r. r.0.0 ≢ task.0) results.now) }
 {
     if task.0 as usize >= places.len() {
         return None;
@@ -53,7 +54,8 @@ pub fn value_at<'a>(
 /// Results in the order of their tasks, as [`serial`](crate::serial) gives them. It takes no memory, and O(n log n) for n of them.
 pub fn in_order(results: Vec<(TaskId, Value)>) -> Vec<(TaskId, Value)>
     ensures same { IsPermutation results.items result.items }
-    ensures values { (g : TaskGraph) (tasks : ℕ) → HasOneOfEach tasks results.items → AreRight g results.items → AreValues g tasks result.items }
+    ensures values { (g : TaskGraph) (tasks : ℕ) → HasOneOfEach tasks results.items → AreRight g results.items
+        → AreValues g tasks result.items }
 {
     let mut results = results;
     results.sort_unstable_by_key(|pair| pair.0.0);

@@ -49,7 +49,8 @@ pub trait Graph: Copy + Send + Sync {
     fn body(&self, alloc: Global, task: TaskId, inputs: &[Value]) -> Result<Value, Refusal>
         requires known { task.0 < (meaning self.now).tasks }
         requires right { AreInputs (meaning self.now) task.0 inputs.now }
-        ensures { MatchResult result (λ value. outcome (meaning self.now) task.0 inputs.now ≡ Some value) (IsRefusal (outcome (meaning self.now) task.0 inputs.now)) };
+        ensures { MatchResult result (λ value. outcome (meaning self.now) task.0 inputs.now
+            ≡ Some value) (IsRefusal (outcome (meaning self.now) task.0 inputs.now)) };
 
     /// The graph keeps the rules of task graphs.
     ghost lawful: { (graph : Self) → IsLawful (meaning graph) };

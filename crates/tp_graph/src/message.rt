@@ -26,7 +26,15 @@ impl<G: Graph> Model for Message<G> {
 
     ghost Value = { Carried G };
 
-    ghost view = { λ m. record { graph = m.graph; number = m.number; generation = m.generation; from = m.from; to = m.to; feed = m.feed; value = m.value } };
+    ghost view = { λ m. record {
+      graph = m.graph;
+      number = m.number;
+      generation = m.generation;
+      from = m.from;
+      to = m.to;
+      feed = m.feed;
+      value = m.value;
+    } };
 
     ghost invariant = { λ m. IsCarried (G.meaning m.graph) m.number.0 m.generation.0 m.feed m.value };
 }
@@ -48,7 +56,8 @@ impl<G: Graph> Message<G> {
         requires few_generations { generation.0 < 1048576 }
         requires right { value_of (G.meaning graph) feed.producer.0 ≡ Some value }
         requires fed { IsFeed (G.meaning graph) feed }
-        ensures { result ≡ record { graph = graph; number = number; generation = generation; from = from; to = to; feed = feed; value = value } }
+        ensures { result
+            ≡ record { graph = graph; number = number; generation = generation; from = from; to = to; feed = feed; value = value } }
     {
         Message {
             graph,
@@ -172,7 +181,8 @@ impl<G: Graph> Parcel<G> {
         requires few_generations { generation.0 < 1048576 }
         requires right { value_of (G.meaning graph) feed.producer.0 ≡ Some value }
         requires fed { IsFeed (G.meaning graph) feed }
-        ensures { result ≡ record { graph = graph; number = number; generation = generation; from = from; to = to; feed = feed; value = value } }
+        ensures { result
+            ≡ record { graph = graph; number = number; generation = generation; from = from; to = to; feed = feed; value = value } }
     {
         Parcel {
             message: Message::new(graph, number, generation, from, to, feed, value),

@@ -13,7 +13,8 @@ use tp_base::{Refusal, TaskId};
 /// The value of each task, in rising order. Refused with `BodyFailed` exactly where a task has no value, and with
 /// `NoMemory` where memory is refused first.
 pub fn serial<G: Graph>(alloc: Global, graph: G) -> Result<Vec<(TaskId, Value)>, Refusal>
-    ensures { MatchResult result (λ results. AreValues (G.meaning graph) (G.meaning graph).tasks results.items) (IsSerialRefusal (G.meaning graph)) }
+    ensures { MatchResult result (λ results.
+        AreValues (G.meaning graph) (G.meaning graph).tasks results.items) (IsSerialRefusal (G.meaning graph)) }
 {
     let table = producers(alloc, graph)?;
     let mut results = Vec::new(alloc);

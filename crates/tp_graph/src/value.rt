@@ -15,7 +15,8 @@ use std::slice;
 use std::sync::Arc;
 use tp_base::Refusal;
 
-/// What a task makes: some numbers, of which contracts see the list. All copies of a value share them, so a copy takes no memory, and takes as long for many numbers as for one.
+/// What a task makes: some numbers, of which contracts see the list. All copies of a value share them, so a copy takes
+/// no memory, and takes as long for many numbers as for one.
 #[derive(Drop)]
 pub struct Value {
     numbers: Numbers,
@@ -43,7 +44,8 @@ impl Value {
 
     /// One number, the sum of two, which takes no memory. Refused with `BodyFailed` where it leaves `i64`.
     pub fn sum(alloc: Global, a: i64, b: i64) -> Result<Self, Refusal>
-        ensures { MatchResult result (λ value. (value ≡ (a +ℤ b) ∷ []) × (fits (a +ℤ b) ≡ true)) (λ refusal. (refusal ≡ BodyFailed) × (fits (a +ℤ b) ≡ false)) }
+        ensures { MatchResult result (λ value. (value ≡ (a +ℤ b) ∷ []) × (fits (a +ℤ b) ≡ true)) (λ refusal. (refusal ≡ BodyFailed)
+            × (fits (a +ℤ b) ≡ false)) }
     {
         match a.checked_add(b) {
             Some(sum) => Ok(Value::one(alloc, sum)?),
@@ -86,7 +88,8 @@ impl Value {
 
     /// The number of a value that has just one. Refused with `BodyFailed` where it has another count.
     pub fn lone(&self) -> Result<i64, Refusal>
-        ensures { MatchResult result (λ number. lone_of self.now ≡ Some number) (λ refusal. (refusal ≡ BodyFailed) × (lone_of self.now ≡ None)) }
+        ensures { MatchResult result (λ number. lone_of self.now ≡ Some number) (λ refusal. (refusal ≡ BodyFailed)
+            × (lone_of self.now ≡ None)) }
     {
         match self.as_slice() {
             [number] => Ok(*number),

@@ -4,7 +4,8 @@ use Rattle.std.specs.List.{range_with_len, flat_map}
 use Rattle.tp_base.specs.History.{Event}
 use Rattle.tp_base.specs.declared.ids.NodeId.{NodeId}
 use Rattle.tp_base.specs.declared.step.Step.{Step}
-use Rattle.tp_base.specs.declared.step.Step.TheVariants.{Insert, Supply, Begin, Done, ActionOpen, ActionClose, Ready, Send, Recv, MessageEnd}
+use Rattle.tp_base.specs.declared.step.Step.TheVariants.{Insert, Supply, Begin, Done, ActionOpen, ActionClose, Ready, Send, Recv}
+use Rattle.tp_base.specs.declared.step.Step.TheVariants.{MessageEnd}
 use Rattle.tp_wave.specs.Machine.{pending_after}
 pub use Rattle.tp_wave.specs.Steps.{is_done, is_recv, is_send}
 

@@ -1,4 +1,5 @@
-ghost use Rattle.std.specs.Prelude.{◌≡◌, ◌==◌, ◌+◌, ◌<◌, ◌≤◌, ◌↔◌, ℕ, [], ◌∷◌, ◌++◌, length, option_to_list, option_copied, slice_get, drop, IsOk, IsSome, IfErr, IfOk, OnOk, OnErr};
+ghost use Rattle.std.specs.Prelude.{◌≡◌, ◌==◌, ◌+◌, ◌<◌, ◌≤◌, ◌↔◌, ℕ, [], ◌∷◌, ◌++◌, length, option_to_list, option_copied, slice_get};
+ghost use Rattle.std.specs.Prelude.{drop, IsOk, IsSome, IfErr, IfOk, OnOk, OnErr};
 ghost use Rattle.tp_base.specs.declared.Refusal.TheVariants.{NoMemory};
 ghost use Rattle.tp_link.specs.Link.{IsUnchanged};
 

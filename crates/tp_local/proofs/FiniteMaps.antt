@@ -1,5 +1,6 @@
 -- Lists of entries as finite maps.
-use Rattle.std.proofs.Common.{◌≡◌, ℕ, ◌+◌, ◌-◌, ◌<◌, arith, List, [], ◌∷◌, true, false, cond, Option, Some, None, is_some, refl, sym, ◌∙◌, ap}
+use Rattle.std.proofs.Common.{◌≡◌, ℕ, ◌+◌, ◌-◌, ◌<◌, arith, List, [], ◌∷◌, true, false, cond, Option, Some, None, is_some, refl, sym, ◌∙◌}
+use Rattle.std.proofs.Common.{ap}
 use Rattle.std.specs.FinMap as finite
 use mathlib.Core.Bool.{true≢false}
 use Rattle.std.specs.Ordering.{nat_cmp, eq_by_cmp}
@@ -41,7 +42,8 @@ feeds-remove old new k each =
 pub feeds_empty : finite.len (finite.empty {X = Feed} {R = nat_cmp}) ≡ 0
 feeds_empty = finite.len-empty nat_cmp Feed
 
-pub feeds_with : (m : finite.FinMap nat_cmp Feed) (n : ℕ) (f : Feed) → finite.contains_key m n ≡ false → finite.len (finite.insert m n f) ≡ finite.len m + 1
+pub feeds_with : (m : finite.FinMap nat_cmp Feed) (n : ℕ) (f : Feed) → finite.contains_key m n ≡ false
+    → finite.len (finite.insert m n f) ≡ finite.len m + 1
 feeds_with m n f h = finite.len-insert nat_cmp_total m n f ∙ ap (λ b. cond b (finite.len m) (finite.len m + 1)) h
 
 pub feeds_some : (m : finite.FinMap nat_cmp Feed) (n : ℕ) → finite.contains_key m n ≡ true → 0 < finite.len m
@@ -49,8 +51,10 @@ feeds_some m n h =
     above_zero (finite.len m) (λ e.
     true≢false (sym h ∙ ap (λ t. finite.contains_key t n) (finite.empty_of_len m e) ∙ ap is_some (finite.get-empty nat_cmp n)))
 
-pub feeds_without : (m : finite.FinMap nat_cmp Feed) (n : ℕ) → finite.contains_key m n ≡ true → finite.len (finite.remove m n) + 1 ≡ finite.len m
+pub feeds_without : (m : finite.FinMap nat_cmp Feed) (n : ℕ) → finite.contains_key m n ≡ true
+    → finite.len (finite.remove m n) + 1 ≡ finite.len m
 feeds_without m n h =
     let some : 0 < finite.len m = feeds_some m n h in
-    let e : finite.len (finite.remove m n) ≡ finite.len m - 1 = finite.len-remove nat_cmp_total m n ∙ ap (λ b. cond b (finite.len m - 1) (finite.len m)) h in
+    let e : finite.len (finite.remove m n) ≡ finite.len m - 1 =
+    finite.len-remove nat_cmp_total m n ∙ ap (λ b. cond b (finite.len m - 1) (finite.len m)) h in
     omega arith

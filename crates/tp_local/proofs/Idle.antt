@@ -1,5 +1,6 @@
 -- Where no task is unfinished.
-use Rattle.std.proofs.Common.{◌≡◌, ℕ, ◌+◌, ◌<◌, ◌==◌, Bool, true, false, cond, [], ◌∷◌, Option, Some, None, is_some, unwrap_or, count_by, refl, sym, ap, ◌∙◌, arith}
+use Rattle.std.proofs.Common.{◌≡◌, ℕ, ◌+◌, ◌<◌, ◌==◌, Bool, true, false, cond, [], ◌∷◌, Option, Some, None, is_some, unwrap_or, count_by}
+use Rattle.std.proofs.Common.{refl, sym, ap, ◌∙◌, arith}
 use Rattle.std.specs.Prelude.{if◌then◌else◌, not, IsTrue, IfSome, OnSome}
 use Rattle.std.specs.Option.{option_map}
 use Rattle.std.specs.FinMap as finite
@@ -50,7 +51,8 @@ live_counts {V} s t live = go (task_of s t) refl
     go (Some x) e = counted_live s t x e (sym (ap (λ (p : Option (Task V)). is_live (option_map (λ x. x.life) p)) e) ∙ live)
 
 -- a task that begins was ready, and so counted
-pub begun_counts : {V B : Type 0} (s : Content V) (actions : ℕ) (task : B → TaskId) (r : Option B) → IfSome r (λ b. life_of s (task b) ≡ Some Ready) → OnSome r (0 < unfinished s + actions)
+pub begun_counts : {V B : Type 0} (s : Content V) (actions : ℕ) (task : B → TaskId) (r : Option B)
+    → IfSome r (λ b. life_of s (task b) ≡ Some Ready) → OnSome r (0 < unfinished s + actions)
 begun_counts s actions task None h = tt
 begun_counts s actions task (Some b) h =
     let some : 0 < unfinished s = live_counts s (task b) (ap is_live h) in
@@ -62,10 +64,13 @@ each_once s sound none t known = go (task_of s t) refl known
     go : (o : Option (Task Numbers)) → task_of s t ≡ o → IsTrue (is_some o) → times_done s t ≡ 1
     go None e k = absurd (let no : false ≡ true = k in cc)
     go (Some x) e k =
-        sound.done t ∙ ap (λ o. if unwrap_or (option_map (λ (y : Task Numbers). is_done y.life) o) false then 1 else 0) e ∙ ap (λ b. if b then 1 else 0) (is_over s t x e none)
+        sound.done t ∙ ap (λ o. if unwrap_or (option_map (λ (y : Task Numbers). is_done y.life) o) false then 1 else 0) e
+        ∙ ap (λ b. if b then 1 else 0) (is_over s t x e none)
 
 announced : (ended opening idle : Bool) → ended ≡ false → opening ≡ false → idle ≡ true
-    → first_refusal ((not (is_idle (if ended then Terminated else (if opening then NotReady else (if idle then Idle else Busy)))), WrongLife) ∷ []) ≡ None
+    → first_refusal
+    ((not (is_idle (if ended then Terminated else (if opening then NotReady else (if idle then Idle else Busy)))), WrongLife) ∷ [])
+    ≡ None
 announced true opening idle a b c = cc
 announced false true idle a b c = cc
 announced false false true a b c = refl
@@ -73,7 +78,8 @@ announced false false false a b c = cc
 
 -- the end can be announced where nothing is pending
 pub idle_finishes : {V : Type 0} (l : LocalState V) → l.ended ≡ false → pending l ≡ 0 → first_refusal (finish_checks l) ≡ None
-idle_finishes l going none = announced l.ended l.actions.opening (pending l == 0) going (closed l.actions.opening refl) (ap (λ n. n == 0) none)
+idle_finishes l going none =
+    announced l.ended l.actions.opening (pending l == 0) going (closed l.actions.opening refl) (ap (λ n. n == 0) none)
   where
     closed : (b : Bool) → l.actions.opening ≡ b → b ≡ false
     closed false e = refl

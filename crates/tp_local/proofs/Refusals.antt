@@ -1,5 +1,6 @@
 -- What a node refuses beside its store.
-use Rattle.std.proofs.Common.{◌≡◌, ℕ, ◌<◌, Bool, true, false, Option, Some, None, is_some, unwrap_or, MatchOption, refl, ap, sym, ◌∙◌, arith, if◌then◌else◌, ◌==◌}
+use Rattle.std.proofs.Common.{◌≡◌, ℕ, ◌<◌, Bool, true, false, Option, Some, None, is_some, unwrap_or, MatchOption, refl, ap, sym, ◌∙◌}
+use Rattle.std.proofs.Common.{arith, if◌then◌else◌, ◌==◌}
 use Rattle.std.specs.Option.{option_map}
 use Rattle.std.specs.Result.{result_err}
 use Rattle.std.proofs.Common.{Result, Ok, Err}
@@ -33,7 +34,8 @@ chosen true x y h = cc
 chosen false x y h = refl
 
 -- l is the state of a node, s the content of its store, and t a task that is not known, where something is pending
-module _ {V : Type 0} (l : LocalState V) (s : Content V) (t : TaskId) (is : l.store ≡ s) (new : is_some (task_of l.store t) ≡ false) (m : ℕ) (counted : m ≡ pending l) (some : m ≡ 0 → ⊥) where
+module _ {V : Type 0} (l : LocalState V) (s : Content V) (t : TaskId) (is : l.store ≡ s) (new : is_some (task_of l.store t)
+    ≡ false) (m : ℕ) (counted : m ≡ pending l) (some : m ≡ 0 → ⊥) where
   new_there : is_some (task_of s t) ≡ false
   new_there = ap (λ c. is_some (task_of c t)) (sym is) ∙ new
 
@@ -53,7 +55,8 @@ module _ {V : Type 0} (l : LocalState V) (s : Content V) (t : TaskId) (is : l.st
   pub delivery_is : (arity slot : ℕ) → refusal_of_deliver s t arity slot ≡ refusal_of_delivery l t arity slot
   delivery_is arity slot =
       deliver_of_new arity slot
-      ∙ sym (alike (is_some (task_of l.store t)) (is_inactive l) (refusal_of_deliver l.store t arity slot) (refusal_of_new l.store) new (active (pending l) m counted some)
+      ∙ sym (alike (is_some (task_of l.store t)) (is_inactive l) (refusal_of_deliver l.store t arity slot) (refusal_of_new l.store) new
+      (active (pending l) m counted some)
       ∙ ap refusal_of_new is)
 
 -- a task that is known
@@ -75,14 +78,16 @@ pick false true a b ha hb hi = cc
 pick false false a b ha hb hi = hb refl
 
 -- an active node refuses no value that its store takes
-pub delivery_free : {V : Type 0} (l : LocalState V) (t : TaskId) (arity slot : ℕ) → refusal_of_deliver l.store t arity slot ≡ None → 0 < pending l → refusal_of_delivery l t arity slot ≡ None
+pub delivery_free : {V : Type 0} (l : LocalState V) (t : TaskId) (arity slot : ℕ) → refusal_of_deliver l.store t arity slot ≡ None
+    → 0 < pending l → refusal_of_delivery l t arity slot ≡ None
 delivery_free l t arity slot free some =
     pick (is_some (task_of l.store t)) (is_inactive l) (refusal_of_deliver l.store t arity slot) (refusal_of_new l.store) free
     (λ new. sym (unknown (task_of l.store t) (λ x. refusal_of_value x arity slot) (refusal_of_new l.store) new) ∙ free)
     (active (pending l) (pending l) refl (λ none. absurd (omega (arith, some, none))))
 
 -- where something is pending, what a delivery is refused is the store's answer
-pub delivery_active : {V : Type 0} (l : LocalState V) (s : Content V) (t : TaskId) → l.store ≡ s → (m : ℕ) → m ≡ pending l → (m ≡ 0 → ⊥) → (arity slot : ℕ)
+pub delivery_active : {V : Type 0} (l : LocalState V) (s : Content V) (t : TaskId) → l.store ≡ s → (m : ℕ) → m ≡ pending l → (m ≡ 0 → ⊥)
+    → (arity slot : ℕ)
     → refusal_of_deliver s t arity slot ≡ refusal_of_delivery l t arity slot
 delivery_active l s t is m counted some arity slot = go (is_some (task_of l.store t)) refl
   where

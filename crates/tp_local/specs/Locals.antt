@@ -1,6 +1,7 @@
 -- A node's own state: its tasks, its open actions, what it sent and received, and whether the end was announced to it. What is
 -- pending is counted over the tasks and the actions.
-use Rattle.std.specs.Prelude.{ℕ, ℤ, ◌+◌, ◌≡◌, ◌==◌, List, [], ◌∷◌, Bool, false, not, IsTrue, Option, Some, None, is_some, if◌then◌else◌, refl}
+use Rattle.std.specs.Prelude.{ℕ, ℤ, ◌+◌, ◌≡◌, ◌==◌, List, [], ◌∷◌, Bool, false, not, IsTrue, Option, Some, None, is_some, if◌then◌else◌}
+use Rattle.std.specs.Prelude.{refl}
 use Rattle.std.specs.FinSet as set
 use Rattle.std.specs.Coded.{Coded, code_by, coded×, coded_ℕ, coded_bool}
 use Rattle.tp_base.specs.declared.TaskId.{TaskId}
@@ -75,7 +76,8 @@ module _ {V : Type 0} where
 
   -- What a known task is refused is the store's answer.
   abbrev pub refusal_of_delivery : LocalState V → TaskId → ℕ → ℕ → Option Refusal
-  refusal_of_delivery l t arity slot = if is_some (task_of l.store t) then refusal_of_deliver l.store t arity slot else refusal_of_new_task l
+  refusal_of_delivery l t arity slot =
+      if is_some (task_of l.store t) then refusal_of_deliver l.store t arity slot else refusal_of_new_task l
 
   -- An inactive node sends nothing.
   abbrev pub send_checks : LocalState V → List Check
@@ -117,7 +119,8 @@ module _ {V : Type 0} where
 
   -- what a monitor, the content of a store and the open actions tell of a node
   abbrev pub state_of : Monitored → Content V → Actions → LocalState V
-  state_of m store actions = record { store = store; actions = actions; sent = m.numbers.sent; received = m.numbers.received; ended = m.announced }
+  state_of m store actions =
+      record { store = store; actions = actions; sent = m.numbers.sent; received = m.numbers.received; ended = m.announced }
 
 -- values are lists of numbers
 abbrev pub Numbers : Type 0

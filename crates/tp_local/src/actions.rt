@@ -1,6 +1,7 @@
 ghost use Rattle.std.specs.Prelude.{◌≡◌, ◌+◌, ◌<◌, ◌≤◌, if◌then◌else◌, false, IsTrue, OnOk, OnErr};
 ghost use Rattle.std.specs.FinSet as set;
-ghost use Rattle.tp_local.specs.Actions.{first_actions, open_count, opening_count, without_opening, with_named, without_named, with_message, without_message, has_message};
+ghost use Rattle.tp_local.specs.Actions.{first_actions, open_count, opening_count, without_opening, with_named, without_named};
+ghost use Rattle.tp_local.specs.Actions.{with_message, without_message, has_message};
 
 use crate::feeds::FeedMap;
 use crate::numbers::NumberSet;

@@ -1,4 +1,5 @@
-ghost use Rattle.std.specs.Prelude.{◌≡◌, ◌+◌, ◌≤◌, ◌<◌, true, None, Some, map, unwrap_or, is_some, OnOk, OnErr, IfOk, IfErr, IfSome, OnSome, IsTrue, MatchOption};
+ghost use Rattle.std.specs.Prelude.{◌≡◌, ◌+◌, ◌≤◌, ◌<◌, true, None, Some, map, unwrap_or, is_some, OnOk, OnErr, IfOk, IfErr, IfSome};
+ghost use Rattle.std.specs.Prelude.{OnSome, IsTrue, MatchOption};
 ghost use Rattle.std.specs.FinSet as set;
 ghost use Rattle.std.specs.Option.{option_map};
 ghost use Rattle.std.specs.Result.{result_err};
@@ -6,11 +7,14 @@ ghost use Rattle.tp_base.specs.Checks.{first_refusal};
 ghost use Rattle.tp_monitor.specs.Monitors.{IsWithinLimits};
 ghost use Rattle.tp_monitor.specs.declared.TaskpoolState.TheVariants.{Terminated};
 ghost use Rattle.tp_slots.specs.Content.{front};
-ghost use Rattle.tp_store.specs.Content.{with_inserted, with_delivered, with_begun, with_done, delivered_to, values_of, counts_of, task_of, life_of, unfinished, refusal_of_done, inserted_by};
+ghost use Rattle.tp_store.specs.Content.{with_inserted, with_delivered, with_begun, with_done, delivered_to, values_of, counts_of, task_of};
+ghost use Rattle.tp_store.specs.Content.{life_of, unfinished, refusal_of_done, inserted_by};
 ghost use Rattle.tp_store.specs.Sound.{IsSound};
 ghost use Rattle.tp_store.specs.declared.life.Life.TheVariants as lives;
-ghost use Rattle.tp_local.specs.Actions.{open_count, without_opening, with_named, without_named, with_message, without_message, has_message};
-ghost use Rattle.tp_local.specs.Locals.{first_state, pending, is_live, standing, refusal_of_insertion, refusal_of_delivery, send_checks, receive_checks, end_checks, open_checks, close_checks, ready_checks, finish_checks};
+ghost use Rattle.tp_local.specs.Actions.{open_count, without_opening, with_named, without_named, with_message, without_message};
+ghost use Rattle.tp_local.specs.Actions.{has_message};
+ghost use Rattle.tp_local.specs.Locals.{first_state, pending, is_live, standing, refusal_of_insertion, refusal_of_delivery, send_checks};
+ghost use Rattle.tp_local.specs.Locals.{receive_checks, end_checks, open_checks, close_checks, ready_checks, finish_checks};
 
 use crate::actions::OpenActions;
 use crate::held::Held;
@@ -115,7 +119,8 @@ impl Local {
         ensures delivered { OnOk result (self.new ≡ record self.old { store = with_delivered self.old.store task arity class slot value }) }
         ensures counted { IfOk result (λ d. pending self.new ≡ pending self.old + inserted_by d) }
         ensures refused { IfErr result (λ e. e.0 ≡ unwrap_or (refusal_of_delivery self.old task arity slot) Refusal.NoMemory) }
-        ensures no_growth { OnErr result (IsTrue (is_some (task_of self.old.store task)) → IsTrue (is_some (refusal_of_delivery self.old task arity slot))) }
+        ensures no_growth { OnErr result (IsTrue (is_some (task_of self.old.store task))
+            → IsTrue (is_some (refusal_of_delivery self.old task arity slot))) }
         ensures value_returned { IfErr result (λ e. e.1 ≡ value) }
         ensures kept { OnErr result (self.new ≡ self.old) }
     {
@@ -147,7 +152,8 @@ impl Local {
         ensures delivered { OnOk result (self.new ≡ record self.old { store = with_delivered self.old.store task arity class slot value }) }
         ensures counted { IfOk result (λ d. pending self.new ≡ pending self.old + inserted_by d) }
         ensures refused { IfErr result (λ e. e.0 ≡ unwrap_or (refusal_of_delivery self.old task arity slot) Refusal.NoMemory) }
-        ensures no_growth { OnErr result (IsTrue (is_some (task_of self.old.store task)) → IsTrue (is_some (refusal_of_delivery self.old task arity slot))) }
+        ensures no_growth { OnErr result (IsTrue (is_some (task_of self.old.store task))
+            → IsTrue (is_some (refusal_of_delivery self.old task arity slot))) }
         ensures value_returned { IfErr result (λ e. e.1 ≡ value) }
         ensures kept { OnErr result (self.new ≡ self.old) }
     {
@@ -164,7 +170,8 @@ impl Local {
         ensures next { option_map (λ b. b.task) result ≡ front self.old.store.ready }
         ensures life { IfSome result (λ b. life_of self.old.store b.task ≡ Some lives.Ready) }
         ensures inputs { IfSome result (λ b. map (λ v. Some v) b.inputs.items ≡ values_of self.old.store b.task) }
-        ensures begun { MatchOption result (self.new ≡ self.old) (λ b. self.new ≡ record self.old { store = with_begun self.old.store b.task }) }
+        ensures begun { MatchOption result (self.new ≡ self.old) (λ b. self.new
+            ≡ record self.old { store = with_begun self.old.store b.task }) }
         ensures counted { pending self.new ≡ pending self.old }
         ensures active { OnSome result (0 < pending self.old) }
         ensures sound { IsSound self.old.store }
@@ -211,7 +218,8 @@ impl Local {
     /// actions are open; `NoMemory` (17).
     pub fn receive(&mut self, message: MessageId, feed: Feed) -> Result<(), Refusal>
         ensures checked { OnOk result (first_refusal (receive_checks self.old message.0) ≡ None) }
-        ensures received { OnOk result (self.new ≡ record self.old { received = self.old.received + 1; actions = with_message self.old.actions message.0 feed }) }
+        ensures received { OnOk result (self.new
+            ≡ record self.old { received = self.old.received + 1; actions = with_message self.old.actions message.0 feed }) }
         ensures counted { OnOk result (pending self.new ≡ pending self.old + 1) }
         ensures refused { IfErr result (λ e. e ≡ unwrap_or (first_refusal (receive_checks self.old message.0)) Refusal.NoMemory) }
         ensures kept { OnErr result (self.new ≡ self.old) }

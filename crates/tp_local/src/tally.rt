@@ -2,7 +2,8 @@ ghost use Rattle.std.specs.Prelude.{◌≡◌, ◌+◌, ◌-◌, ◌<◌, ◌==�
 ghost use Rattle.std.specs.Result.{result_err};
 ghost use Rattle.tp_base.specs.declared.Refusal.TheVariants.{WrongLife, HistoryFull};
 ghost use Rattle.tp_base.specs.Checks.{first_refusal};
-ghost use Rattle.tp_monitor.specs.Monitors.{IsWithinLimits, first_numbers, ready_numbers, sent_numbers, received_numbers, message_ended_numbers, pending, standing, is_idle};
+ghost use Rattle.tp_monitor.specs.Monitors.{IsWithinLimits, first_numbers, ready_numbers, sent_numbers, received_numbers};
+ghost use Rattle.tp_monitor.specs.Monitors.{message_ended_numbers, pending, standing, is_idle};
 ghost use Rattle.tp_monitor.specs.declared.TaskpoolState.TheVariants.{Terminated};
 
 use std::marker::Model;
@@ -71,7 +72,8 @@ impl Tally {
     pub(crate) fn add_action(&mut self) -> Result<(), Refusal>
         requires { 0 < pending self.old.numbers }
         ensures refused { result_err result ≡ first_refusal ((self.old.numbers.actions == MAX_ACTIONS, HistoryFull MAX_ACTIONS) ∷ []) }
-        ensures added { OnOk result (self.new ≡ record self.old { numbers = record self.old.numbers { actions = self.old.numbers.actions + 1 } }) }
+        ensures added { OnOk result (self.new
+            ≡ record self.old { numbers = record self.old.numbers { actions = self.old.numbers.actions + 1 } }) }
         ensures kept { OnErr result (self.new ≡ self.old) }
     {
         self.monitor.taskpool_addto_runtime_actions(self.pool, 1)?;
@@ -116,7 +118,9 @@ impl Tally {
     /// Refused `HistoryFull` (16) where so many were received as may be, then where so many actions are open as may be.
     pub(crate) fn receive(&mut self) -> Result<(), Refusal>
         requires { self.old.announced ≡ false }
-        ensures refused { result_err result ≡ first_refusal ((self.old.numbers.received == MAX_STEPS, HistoryFull MAX_STEPS) ∷ (self.old.numbers.actions == MAX_ACTIONS, HistoryFull MAX_ACTIONS) ∷ []) }
+        ensures refused { result_err result
+            ≡ first_refusal ((self.old.numbers.received == MAX_STEPS, HistoryFull MAX_STEPS)
+            ∷ (self.old.numbers.actions == MAX_ACTIONS, HistoryFull MAX_ACTIONS) ∷ []) }
         ensures received { OnOk result (self.new ≡ record self.old { numbers = received_numbers self.old.numbers }) }
         ensures kept { OnErr result (self.new ≡ self.old) }
     {

@@ -1,6 +1,7 @@
 -- A monitor: what contracts see of it, the state that this gives, the checks of each call in their order, and what a call
 -- makes of the numbers.
-use Rattle.std.specs.Prelude.{ℕ, ℤ, pos, ◌+◌, ◌-◌, ◌+ℤ◌, ◌≡◌, ◌==◌, ◌&&◌, ◌≤◌, int_lt, unsigned_abs, List, [], ◌∷◌, ◌++◌, Bool, true, false, not, IsTrue, Option, Some, None, is_some, if◌then◌else◌}
+use Rattle.std.specs.Prelude.{ℕ, ℤ, pos, ◌+◌, ◌-◌, ◌+ℤ◌, ◌≡◌, ◌==◌, ◌&&◌, ◌≤◌, int_lt, unsigned_abs, List, [], ◌∷◌, ◌++◌, Bool, true, false}
+use Rattle.std.specs.Prelude.{not, IsTrue, Option, Some, None, is_some, if◌then◌else◌}
 use Rattle.tp_base.specs.declared.PoolId.{PoolId}
 use Rattle.tp_base.specs.declared.Refusal.TheVariants.{NoTask, WrongLife, Inactive, NoAction, HistoryFull, StoreFull, NoPool, PoolKnown}
 use Rattle.tp_base.specs.declared.limits.TheConstants.{MAX_LIVE_TASKS, MAX_STEPS}

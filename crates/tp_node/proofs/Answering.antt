@@ -1,5 +1,6 @@
 -- How the answers of calls in a row come together.
-use Rattle.std.proofs.Common.{◌≡◌, ℕ, suc, ◌-◌, List, [], ◌∷◌, length, Option, Some, None, MatchOption, cond, refl, sym, ap, subst, ◌∙◌, arith}
+use Rattle.std.proofs.Common.{◌≡◌, ℕ, suc, ◌-◌, List, [], ◌∷◌, length, Option, Some, None, MatchOption, cond, refl, sym, ap, subst, ◌∙◌}
+use Rattle.std.proofs.Common.{arith}
 use Rattle.std.specs.Prelude.{Result, Ok, Err, OnErr, OnOk, drop, slice_get}
 use Rattle.std.proofs.lemmas.List.Elements.{All-cons, All-drop}
 use Rattle.tp_base.specs.declared.refusal.Refusal.{Refusal}
@@ -36,7 +37,8 @@ module _ (A : Type 0) {B : Type 0} (checks : List Check) (e : Refusal) (back : B
   abbrev pub pair_of : Refusal → Refusal × B
   pair_of f = (f, back)
 
-  as_before : (o : Option Refusal) → MatchOption o (e ≡ NoMemory) (λ f. first_of e ≡ first_of f) → MatchOption o (pair_of e ≡ pair_of NoMemory) (λ f. second_of e ≡ second_of f)
+  as_before : (o : Option Refusal) → MatchOption o (e ≡ NoMemory) (λ f. first_of e ≡ first_of f)
+      → MatchOption o (pair_of e ≡ pair_of NoMemory) (λ f. second_of e ≡ second_of f)
   as_before None same = ap pair_of same
   as_before (Some f) same = let it : e ≡ f = cc in ap second_of it
 
@@ -49,33 +51,47 @@ none_first [] e = refl
 none_first (m ∷ messages) e = cc
 
 -- the first message is the one that was looked at
-pub sent_first : {G : Type 0} (messages : List (Carried G)) (first : Carried G) (to : ℕ) (h k : List Event) → Some first ≡ slice_get messages 0 → k ≡ h
-    → IsTrue (any (is_send_to to first.number.0) (present (steps_of h))) → (m : Carried G) → slice_get messages 0 ≡ Some m → IsTrue (any (is_send_to to m.number.0) (present (steps_of k)))
+pub sent_first : {G : Type 0} (messages : List (Carried G)) (first : Carried G) (to : ℕ) (h k : List Event)
+    → Some first ≡ slice_get messages 0 → k ≡ h
+    → IsTrue (any (is_send_to to first.number.0) (present (steps_of h))) → (m : Carried G) → slice_get messages 0 ≡ Some m
+    → IsTrue (any (is_send_to to m.number.0) (present (steps_of k)))
 sent_first messages first to h k is same sent m e =
     let it : first ≡ m = (let both : Some first ≡ Some m = is ∙ e in cc) in
-    subst (λ (z : List Event). IsTrue (any (is_send_to to m.number.0) (present (steps_of z)))) (sym same) (ap (λ z. any (is_send_to to z.number.0) (present (steps_of h))) (sym it) ∙ sent)
+    subst (λ (z : List Event). IsTrue (any (is_send_to to m.number.0) (present (steps_of z)))) (sym same)
+    (ap (λ z. any (is_send_to to z.number.0) (present (steps_of h))) (sym it) ∙ sent)
 
 -- The action of a message that was just received is open with its feed, and the feed's task lives here.
-pub brings : {G : Type 0} (meaning : G → TaskGraph) (pool from to : ℕ) (messages rest : List (Carried G)) (first taken p : Carried G) (l : LocalState Numbers) (n : NodeState G) (m : MessageId) (f : Feed)
-    → Some first ≡ slice_get messages 0 → messages ≡ taken ∷ rest → p ≡ taken → m ≡ first.number → f ≡ first.feed → n.state ≡ with_received m.0 f l
-    → IsOnWay (meaning taken.graph) pool from to taken → first.graph ≡ n.graph → n.nodes ≡ pool → to ≡ n.numbers.node → HasBrought (meaning n.graph) n p
+pub brings : {G : Type 0} (meaning : G
+    → TaskGraph) (pool from to : ℕ) (messages rest : List (Carried G)) (first taken p : Carried G) (l : LocalState Numbers)
+    (n : NodeState G) (m : MessageId) (f : Feed)
+    → Some first ≡ slice_get messages 0 → messages ≡ taken ∷ rest → p ≡ taken → m ≡ first.number → f ≡ first.feed
+    → n.state ≡ with_received m.0 f l
+    → IsOnWay (meaning taken.graph) pool from to taken → first.graph ≡ n.graph → n.nodes ≡ pool → to ≡ n.numbers.node
+    → HasBrought (meaning n.graph) n p
 brings {G} meaning pool from to messages rest first taken p l n m f is split same number feed state way graph nodes place =
     let both : Some first ≡ Some taken = is ∙ ap (λ (z : List (Carried G)). slice_get z 0) split in
     let one : first ≡ taken = cc in
     let held : finite.get (finite.insert l.actions.messages m.0 f) m.0 ≡ Some f =
-    finite.get-insert nat_cmp_total l.actions.messages m.0 f m.0 ∙ ap (λ b. cond b (Some f) (finite.get l.actions.messages m.0)) ((eq_by_cmp_equiv nat_cmp_total).refl m.0) in
-    let here : (meaning first.graph).home first.feed.target.0 pool ≡ to = ap (λ (z : Carried G). (meaning z.graph).home z.feed.target.0 pool) one ∙ way.home_is in
+    finite.get-insert nat_cmp_total l.actions.messages m.0 f m.0
+    ∙ ap (λ b. cond b (Some f) (finite.get l.actions.messages m.0)) ((eq_by_cmp_equiv nat_cmp_total).refl m.0) in
+    let here : (meaning first.graph).home first.feed.target.0 pool ≡ to =
+    ap (λ (z : Carried G). (meaning z.graph).home z.feed.target.0 pool) one ∙ way.home_is in
     subst (λ (z : Carried G). HasBrought (meaning n.graph) n z) (one ∙ sym same)
     (record {
-      brought = ap (λ (z : LocalState Numbers). finite.get z.actions.messages first.number.0) state ∙ ap (λ k. finite.get (finite.insert l.actions.messages m.0 f) k.0) (sym number) ∙ held ∙ ap (λ z. Some z) feed;
-      here = ap (λ z. (meaning z).home first.feed.target.0 n.nodes) (sym graph) ∙ ap (λ k. (meaning first.graph).home first.feed.target.0 k) nodes ∙ here ∙ place;
+      brought = ap (λ (z : LocalState Numbers). finite.get z.actions.messages first.number.0) state
+          ∙ ap (λ k. finite.get (finite.insert l.actions.messages m.0 f) k.0) (sym number) ∙ held ∙ ap (λ z. Some z) feed;
+      here = ap (λ z. (meaning z).home first.feed.target.0 n.nodes) (sym graph)
+          ∙ ap (λ k. (meaning first.graph).home first.feed.target.0 k) nodes ∙ here ∙ place;
     })
 
 -- what a wire keeps where its first message was taken
-pub wire_without : {G : Type 0} (meaning : G → TaskGraph) (pool : ℕ) (link rest : Line (Carried G)) (share left : LinkNumbers) (m : Carried G)
-    → IsWire meaning pool link share → link.messages ≡ m ∷ rest.messages → (rest.from ≡ link.from) × (rest.to ≡ link.to) → left ≡ record share { under = share.under - 1 } → IsWire meaning pool rest left
+pub wire_without : {G : Type 0} (meaning : G
+    → TaskGraph) (pool : ℕ) (link rest : Line (Carried G)) (share left : LinkNumbers) (m : Carried G)
+    → IsWire meaning pool link share → link.messages ≡ m ∷ rest.messages → (rest.from ≡ link.from) × (rest.to ≡ link.to)
+    → left ≡ record share { under = share.under - 1 } → IsWire meaning pool rest left
 wire_without {G} meaning pool link rest share left m kept split ends is =
-    let each : All (λ (z : Carried G). IsOnWay (meaning z.graph) pool share.from share.to z) (m ∷ rest.messages) = subst (All (λ (z : Carried G). IsOnWay (meaning z.graph) pool share.from share.to z)) split kept.each in
+    let each : All (λ (z : Carried G). IsOnWay (meaning z.graph) pool share.from share.to z) (m ∷ rest.messages) =
+    subst (All (λ (z : Carried G). IsOnWay (meaning z.graph) pool share.from share.to z)) split kept.each in
     let long : length link.messages ≡ suc (length rest.messages) = ap (λ (z : List (Carried G)). length z) split in
     let less : share.under - 1 ≡ length rest.messages = omega (arith, long, kept.under) in
     subst (λ (z : LinkNumbers). IsWire meaning pool rest z) (sym is)
@@ -87,12 +103,20 @@ module _ {G : Type 0} (meaning : G → TaskGraph) (pool : ℕ) (link new : Line 
   abbrev IsOver : Carried G → Type 0
   IsOver z = IsOnWay (meaning z.graph) pool share.from share.to z
 
-  each_over : (r : Result (Carried G) (Carried G)) → All IsOver link.messages → IsOver m → OnOk r (new.messages ≡ m ∷ drop 1 link.messages) → OnErr r (new.messages ≡ link.messages)
+  each_over : (r : Result (Carried G) (Carried G)) → All IsOver link.messages → IsOver m
+      → OnOk r (new.messages ≡ m ∷ drop 1 link.messages) → OnErr r (new.messages ≡ link.messages)
       → All IsOver new.messages
-  each_over (Ok oldest) each way is _ = subst (All IsOver) (sym is) (All-cons IsOver m (drop 1 link.messages) way (All-drop IsOver 1 link.messages each))
+  each_over (Ok oldest) each way is _ =
+      subst (All IsOver) (sym is) (All-cons IsOver m (drop 1 link.messages) way (All-drop IsOver 1 link.messages each))
   each_over (Err back) each way _ is = subst (All IsOver) (sym is) each
 
   pub wire_with_front : (r : Result (Carried G) (Carried G)) → IsWire meaning pool link share → (new.from ≡ link.from) × (new.to ≡ link.to)
-      → OnOk r (new.messages ≡ m ∷ drop 1 link.messages) → OnErr r (new.messages ≡ link.messages) → length new.messages ≡ length link.messages → IsOver m → IsWire meaning pool new share
+      → OnOk r (new.messages ≡ m ∷ drop 1 link.messages) → OnErr r (new.messages ≡ link.messages)
+      → length new.messages ≡ length link.messages → IsOver m → IsWire meaning pool new share
   wire_with_front r kept ends replaced same number way =
-      record { from = ends.0 ∙ kept.from; to = ends.1 ∙ kept.to; under = kept.under ∙ sym number; each = each_over r kept.each way replaced same }
+      record {
+        from = ends.0 ∙ kept.from;
+        to = ends.1 ∙ kept.to;
+        under = kept.under ∙ sym number;
+        each = each_over r kept.each way replaced same;
+      }

@@ -1,5 +1,6 @@
 -- What tasks that begin in a row come to.
-use Rattle.std.proofs.Common.{◌≡◌, ℕ, zero, suc, ◌+◌, ◌<◌, ◌≤◌, true, false, List, [], ◌∷◌, ◌++◌, map, take, drop, Option, Some, None, is_some, unwrap_or}
+use Rattle.std.proofs.Common.{◌≡◌, ℕ, zero, suc, ◌+◌, ◌<◌, ◌≤◌, true, false, List, [], ◌∷◌, ◌++◌, map, take, drop, Option, Some, None}
+use Rattle.std.proofs.Common.{is_some, unwrap_or}
 use Rattle.std.proofs.Common.{refl, sym, ap, subst, ◌∙◌, inl, inr, arith, count_by, add-one}
 use Rattle.std.specs.Prelude.{IfSome, MatchOption, Result, Ok, Err, IfErr, max, nat_lt, reverse}
 use Rattle.std.specs.Option.{option_map}
@@ -36,7 +37,8 @@ joined_front ([] ∷ rest) x e = joined_front rest x e
 joined_front ((y ∷ later) ∷ rest) x e = let same : y ≡ x = cc in ap (λ z. z ∷ (later ++ joined rest)) same
 
 -- one more is taken
-taken : {X : Type 0} (i : ℕ) (xs ys : List X) (x : X) → drop i xs ≡ x ∷ ys → (take (suc i) xs ≡ take i xs ++ x ∷ []) × (ys ≡ drop (suc i) xs)
+taken : {X : Type 0} (i : ℕ) (xs ys : List X) (x : X) → drop i xs ≡ x ∷ ys → (take (suc i) xs ≡ take i xs ++ x ∷ [])
+    × (ys ≡ drop (suc i) xs)
 taken zero [] ys x e = absurd cc
 taken zero (y ∷ xs) ys x e =
     let same : y ≡ x = cc in
@@ -52,14 +54,16 @@ module _ {V : Type 0} (s : Content V) (u : TaskId) where
   with_task_begun o = unwrap_or (option_map (λ x. finite.insert s.tasks u.0 (begun x)) o) s.tasks
 
   -- what is ready afterwards was ready, with the same inputs
-  still_ready : (t : TaskId) → life_of (with_begun s u) t ≡ Some Ready → (life_of s t ≡ Some Ready) × (values_of (with_begun s u) t ≡ values_of s t)
+  still_ready : (t : TaskId) → life_of (with_begun s u) t ≡ Some Ready → (life_of s t ≡ Some Ready)
+      × (values_of (with_begun s u) t ≡ values_of s t)
   still_ready t ready = go (task_of s u) refl ready
     where
       go : (o : Option (Task V)) → task_of s u ≡ o → option_map (λ x. x.life) (finite.get (with_task_begun o) t.0) ≡ Some Ready
           → (life_of s t ≡ Some Ready) × (unwrap_or (option_map (λ x. x.values) (finite.get (with_task_begun o) t.0)) [] ≡ values_of s t)
       go None e is = (is, refl)
       go (Some x) e is = elim (cases_eq t.0 u.0) [
-        | inl same ↦ absurd (let no : Some Running ≡ Some Ready = sym (ap (option_map (λ y. y.life)) (here s u (begun x) t same)) ∙ is in cc)
+        | inl same ↦ absurd (let no : Some Running ≡ Some Ready = sym (ap (option_map (λ y. y.life)) (here s u (begun x) t same)) ∙ is in
+            cc)
         | inr apart ↦
             let at = there s u (begun x) t apart in
             (sym (ap (option_map (λ y. y.life)) at) ∙ is, ap (λ o. unwrap_or (option_map (λ y. y.values) o) []) at)
@@ -69,7 +73,8 @@ module _ {V : Type 0} (s : Content V) (u : TaskId) where
   fewer_ready : life_of s u ≡ Some Ready → count_lives is_ready (with_begun s u) + 1 ≡ count_lives is_ready s
   fewer_ready ready = go (task_of s u) refl
     where
-      go : (o : Option (Task V)) → task_of s u ≡ o → count_by (λ e. is_ready e.1.life) (finite.entries (with_task_begun o)) + 1 ≡ count_lives is_ready s
+      go : (o : Option (Task V)) → task_of s u ≡ o
+          → count_by (λ e. is_ready e.1.life) (finite.entries (with_task_begun o)) + 1 ≡ count_lives is_ready s
       go None e = absurd (let no : None ≡ Some Ready = ap (option_map (λ x. x.life)) (sym e) ∙ ready in cc)
       go (Some x) e = let move = moves s u (begun x) s.ready s.results (Some Ready) ready is_ready in omega (arith, move)
 
@@ -103,7 +108,8 @@ module _ {G : Type 0} where
       let first = still_ready n.state.store u t rest.0 in
       (first.0, rest.1 ∙ first.1)
 
-  one_more : (n : NodeState G) (ts : List TaskId) (places : List (Option (Begun G))) (t : TaskId) (work : Begun G) → AreWorksOf n ts places → IsWorkOf n t work
+  one_more : (n : NodeState G) (ts : List TaskId) (places : List (Option (Begun G))) (t : TaskId) (work : Begun G)
+      → AreWorksOf n ts places → IsWorkOf n t work
       → AreWorksOf n (ts ++ t ∷ []) (places ++ Some work ∷ [])
   one_more n [] [] t work all is = (is, tt)
   one_more n [] (o ∷ places) t work all is = absurd all
@@ -127,7 +133,8 @@ then_appends es e a b c first next = record {
 
 module _ {G : Type 0} where
   -- i tasks began one after another: what a loop over them keeps
-  pub record HasBegun (old : NodeState G) (before : BoardState) (i : ℕ) (new : NodeState G) (later : BoardState) (places : List (Option (Begun G))) : Type 0 where
+  pub record HasBegun (old : NodeState G) (before : BoardState) (i : ℕ) (new : NodeState G) (later : BoardState)
+      (places : List (Option (Begun G))) : Type 0 where
     pub some : BeginsSome old new before later i places
     pub rest : joined new.state.store.ready ≡ drop i (joined old.state.store.ready)
     pub left : ready_count new + i ≡ ready_count old
@@ -135,37 +142,51 @@ module _ {G : Type 0} where
 
   pub none_begun : (n : NodeState G) (b : BoardState) → HasBegun n b 0 n b []
   none_begun n b = record {
-    some = record { number = refl; works = tt; events = record { history = refl; limit = refl; reserved = omega arith; fault = refl }; begun = refl };
+    some = record {
+      number = refl;
+      works = tt;
+      events = record { history = refl; limit = refl; reserved = omega arith; fault = refl };
+      begun = refl;
+    };
     rest = refl;
     left = omega arith;
     reserved = omega arith;
   }
 
-  module _ (old : NodeState G) (before : BoardState) (i : ℕ) (now : NodeState G) (mid : BoardState) (places : List (Option (Begun G))) (has : HasBegun old before i now mid places)
+  module _ (old : NodeState G) (before : BoardState) (i : ℕ) (now : NodeState G) (mid : BoardState) (places : List (Option (Begun G)))
+      (has : HasBegun old before i now mid places)
       (new : NodeState G) (later : BoardState) where
-    begins_next : (work : Begun G) → Begins now new mid later work → life_of now.state.store work.task ≡ Some Ready → HasBegun old before (suc i) new later (places ++ Some work ∷ [])
+    begins_next : (work : Begun G) → Begins now new mid later work → life_of now.state.store work.task ≡ Some Ready
+        → HasBegun old before (suc i) new later (places ++ Some work ∷ [])
     begins_next work begins ready =
         let t = work.task in
         let ts = next_ready i old in
-        let split = taken i (joined old.state.store.ready) (joined (without_front now.state.store.ready)) t (sym has.rest ∙ joined_front now.state.store.ready t begins.first) in
+        let split = taken i (joined old.state.store.ready) (joined (without_front now.state.store.ready)) t (sym has.rest
+        ∙ joined_front now.state.store.ready t begins.first) in
         let is_now : now ≡ begun_with_each ts old = has.some.begun in
-        let ready_then : life_of (begun_with_each ts old).state.store t ≡ Some Ready = subst (λ (n : NodeState G). life_of n.state.store t ≡ Some Ready) is_now ready in
+        let ready_then : life_of (begun_with_each ts old).state.store t ≡ Some Ready =
+        subst (λ (n : NodeState G). life_of n.state.store t ≡ Some Ready) is_now ready in
         let it : IsWorkOf old t work = record {
           task = refl;
           graph = begins.graph ∙ ap (λ (n : NodeState G). n.graph) is_now ∙ same_graph ts old;
           inputs = begins.inputs ∙ ap (λ (n : NodeState G). values_of n.state.store t) is_now ∙ (as_before ts old t ready_then).1;
         } in
         let node : now.numbers.node ≡ old.numbers.node = ap (λ (n : NodeState G). n.numbers.node) is_now ∙ same_node ts old in
-        let event_is : Appends (event_of old (steps.Begin t) ∷ []) mid later = subst (λ k. Appends (event k (steps.Begin t) ∷ []) mid later) node begins.event in
-        let events : begins_of (next_ready (suc i) old) old ≡ event_of old (steps.Begin t) ∷ begins_of ts old = ap (λ us. begins_of us old) split.0 ∙ events_more ts t old in
+        let event_is : Appends (event_of old (steps.Begin t) ∷ []) mid later =
+        subst (λ k. Appends (event k (steps.Begin t) ∷ []) mid later) node begins.event in
+        let events : begins_of (next_ready (suc i) old) old ≡ event_of old (steps.Begin t) ∷ begins_of ts old =
+        ap (λ us. begins_of us old) split.0 ∙ events_more ts t old in
         let began : ready_count new ≡ count_lives is_ready (with_begun now.state.store t) = ap ready_count begins.begun in
         let fewer = fewer_ready now.state.store t ready in
         let e = begins.event.reserved in
         record {
           some = record {
             number = length-append places (Some work ∷ []) ∙ omega (arith, has.some.number);
-            works = subst (λ us. AreWorksOf old us (places ++ Some work ∷ [])) (sym split.0) (one_more old ts places t work has.some.works it);
-            events = subst (λ es. Appends es before later) (sym events) (then_appends (begins_of ts old) (event_of old (steps.Begin t)) before mid later has.some.events event_is);
+            works = subst (λ us.
+                AreWorksOf old us (places ++ Some work ∷ [])) (sym split.0) (one_more old ts places t work has.some.works it);
+            events = subst (λ es.
+                Appends es before later) (sym events)
+                (then_appends (begins_of ts old) (event_of old (steps.Begin t)) before mid later has.some.events event_is);
             begun = begins.begun ∙ ap (begun_with t) is_now ∙ sym (each_more ts t old) ∙ ap (λ us. begun_with_each us old) (sym split.0);
           };
           rest = ap (λ (n : NodeState G). joined n.state.store.ready) begins.begun ∙ split.1;
@@ -174,14 +195,17 @@ module _ {G : Type 0} where
         }
 
     -- the next one begins, since one is ready
-    pub begins_one : (o : Option (Begun G)) → MatchOption o ((front now.state.store.ready ≡ None) × (new ≡ now) × (later ≡ mid)) (Begins now new mid later)
+    pub begins_one : (o : Option (Begun G))
+        → MatchOption o ((front now.state.store.ready ≡ None) × (new ≡ now) × (later ≡ mid)) (Begins now new mid later)
         → IfSome o (λ work. life_of now.state.store work.task ≡ Some Ready)
         → IsSound now.state.store → i < ready_count old → HasBegun old before (i + 1) new later (places ++ o ∷ [])
     begins_one None begins life sound more = absurd (some_next now.state.store sound (let left = has.left in omega (arith, left)) begins.0)
-    begins_one (Some work) begins life sound more = subst (λ k. HasBegun old before k new later (places ++ Some work ∷ [])) (sym (add-one i)) (begins_next work begins life)
+    begins_one (Some work) begins life sound more =
+        subst (λ k. HasBegun old before k new later (places ++ Some work ∷ [])) (sym (add-one i)) (begins_next work begins life)
 
 -- ---- room for all
-pub from_reserved : (es : List Event) (more : ℕ) (a b c : BoardState) → b ≡ with_reserved (max a.reserved more) a → Appends es b c → Appends es a c
+pub from_reserved : (es : List Event) (more : ℕ) (a b c : BoardState) → b ≡ with_reserved (max a.reserved more) a → Appends es b c
+    → Appends es a c
 from_reserved es more a b c is appends = record {
   history = appends.history ∙ ap (λ h. es ++ h) (ap (λ (z : BoardState). z.history) is);
   limit = appends.limit ∙ ap (λ (z : BoardState). z.limit) is;
@@ -190,7 +214,8 @@ from_reserved es more a b c is appends = record {
 }
 
 -- the same of the one that begins where room was made for it
-pub begins_reserved : {G : Type 0} (o : Option (Begun G)) (old new : NodeState G) (before mid later : BoardState) (more : ℕ) → mid ≡ with_reserved (max before.reserved more) before
+pub begins_reserved : {G : Type 0} (o : Option (Begun G)) (old new : NodeState G) (before mid later : BoardState) (more : ℕ)
+    → mid ≡ with_reserved (max before.reserved more) before
     → MatchOption o ((front old.state.store.ready ≡ None) × (new ≡ old) × (later ≡ mid)) (Begins old new mid later)
     → MatchOption o ((front old.state.store.ready ≡ None) × Rests old new before later) (Begins old new before later)
 begins_reserved None old new before mid later more is begins =
@@ -210,7 +235,8 @@ begins_reserved (Some work) old new before mid later more is begins = record {
 }
 
 -- a call that goes on where room was made answers as that did
-pub answers_as : {A B : Type 0} (checks : List Check) (more : ℕ) (b : BoardState) (r : Result A Refusal) (q : Result B Refusal) → result_err r ≡ result_err q
+pub answers_as : {A B : Type 0} (checks : List Check) (more : ℕ) (b : BoardState) (r : Result A Refusal) (q : Result B Refusal)
+    → result_err r ≡ result_err q
     → AnswersBy checks more b r → Answers checks q
 answers_as checks more b r q same answers = go (first_refusal checks) r q same answers
   where
@@ -226,7 +252,8 @@ answers_as checks more b r q same answers = go (first_refusal checks) r q same a
     go (Some g) (Err e) (Err f) same answers = let first : f ≡ g = cc in ap Err first
 
 -- the same of room that was made for so many
-pub room_answers : {A B : Type 0} (more k : ℕ) (b : BoardState) (x : A) (y : B) → more ≡ k → AnswersBy {A = A} (full_check more b ∷ []) more b (Ok x) → Answers {A = B} (full_check k b ∷ []) (Ok y)
+pub room_answers : {A B : Type 0} (more k : ℕ) (b : BoardState) (x : A) (y : B) → more ≡ k
+    → AnswersBy {A = A} (full_check more b ∷ []) more b (Ok x) → Answers {A = B} (full_check k b ∷ []) (Ok y)
 room_answers {A} {B} more k b x y same answers =
     let r : Result A Refusal = Ok x in
     let q : Result B Refusal = Ok y in

@@ -26,7 +26,8 @@ All-of_map P f xs all = λ k d within. subst P (get_or-map f xs k d (f d) within
 
 module _ {G : Type 0} where
   -- the first shares of nodes are those of the nodes as the reopening leaves them
-  pub numbers_anew : (nodes : List (NodeState G)) → map begun_anew (map (λ (n : NodeState G). n.numbers) nodes) ≡ map (λ (n : NodeState G). n.numbers) (map anew nodes)
+  pub numbers_anew : (nodes : List (NodeState G))
+      → map begun_anew (map (λ (n : NodeState G). n.numbers) nodes) ≡ map (λ (n : NodeState G). n.numbers) (map anew nodes)
   numbers_anew [] = refl
   numbers_anew (n ∷ nodes) = ap (λ (ms : List NodeNumbers). begun_anew n.numbers ∷ ms) (numbers_anew nodes)
 
@@ -37,7 +38,8 @@ module _ {G : Type 0} where
   pub results-more : (nodes : List (NodeState G)) (n : NodeState G) (results new more : Results)
       → results ≡ flat_map results_of nodes → more ≡ results_of n → new ≡ results ++ more → new ≡ flat_map results_of (nodes ++ n ∷ [])
   results-more nodes n results new more before is joined =
-      joined ∙ ap (λ (rs : Results). results ++ rs) is ∙ ap (λ (rs : Results). rs ++ results_of n) before ∙ flat_map_more results_of [] nodes n
+      joined ∙ ap (λ (rs : Results). results ++ rs) is ∙ ap (λ (rs : Results). rs ++ results_of n) before
+      ∙ flat_map_more results_of [] nodes n
 
   -- The results of one more node are right, where it is of the graph.
   pub right-more : (meaning : G → TaskGraph) (graph : G) (nodes : List (NodeState G)) (n : NodeState G) (results more : Results)
@@ -45,7 +47,10 @@ module _ {G : Type 0} where
       → All (λ s. s.graph ≡ graph) (nodes ++ n ∷ []) → AreRight (meaning graph) (results ++ more)
   right-more meaning graph nodes n results more before right all =
       let first : All (λ s. s.graph ≡ graph) nodes =
-      λ k d within. ap (λ (s : NodeState G). s.graph) (sym (get_or_append_left nodes (n ∷ []) d k within)) ∙ all k d (omega (arith, length-append nodes (n ∷ []))) in
+      λ k d within. ap (λ (s : NodeState G). s.graph) (sym (get_or_append_left nodes (n ∷ []) d k within))
+      ∙ all k d (omega (arith, length-append nodes (n ∷ []))) in
       let last : n.graph ≡ graph =
-      ap (λ (s : NodeState G). s.graph) (sym (get_or-append_seam nodes n [] n)) ∙ all (length nodes) n (omega (arith, length-append nodes (n ∷ []))) in
-      All-append (λ r. value_of (meaning graph) r.0.0 ≡ Some r.1) results more (before first) (subst (λ (own : G). AreRight (meaning own) more) last right)
+      ap (λ (s : NodeState G). s.graph) (sym (get_or-append_seam nodes n [] n))
+      ∙ all (length nodes) n (omega (arith, length-append nodes (n ∷ []))) in
+      All-append (λ r. value_of (meaning graph) r.0.0
+      ≡ Some r.1) results more (before first) (subst (λ (own : G). AreRight (meaning own) more) last right)

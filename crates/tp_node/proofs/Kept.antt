@@ -1,5 +1,6 @@
 -- What a node keeps over the changes of its store.
-use Rattle.std.proofs.Common.{◌≡◌, ℕ, ◌+◌, ◌-◌, ◌<◌, Bool, true, false, [], ◌∷◌, length, Option, Some, None, unwrap_or, refl, sym, ap, subst, ◌∙◌, inl, inr, arith}
+use Rattle.std.proofs.Common.{◌≡◌, ℕ, ◌+◌, ◌-◌, ◌<◌, Bool, true, false, [], ◌∷◌, length, Option, Some, None, unwrap_or, refl, sym, ap}
+use Rattle.std.proofs.Common.{subst, ◌∙◌, inl, inr, arith}
 use Rattle.std.specs.Prelude.{if◌then◌else◌}
 use Rattle.std.specs.Option.{option_map}
 use Rattle.std.specs.Ordering.{nat_cmp}
@@ -16,7 +17,8 @@ use Rattle.tp_local.specs.Locals.{LocalState, pending}
 use Rattle.tp_node.specs.Nodes.{NodeState, IsNode, IsCountedBy, AreRightValues, inserting, task_at, with_store}
 use Rattle.tp_local.specs.Locals.{Numbers}
 use Rattle.tp_node.proofs.Right.{here, there, right-inserted, right-delivered, right-begun, right-done}
-use Rattle.tp_store.specs.Content.{Task, Content, nothing_stored, task_of, begun, done, fresh, with_value, with_task, with_inserted, with_delivered, with_begun, with_done, inserted_by}
+use Rattle.tp_store.specs.Content.{Task, Content, nothing_stored, task_of, begun, done, fresh, with_value, with_task, with_inserted}
+use Rattle.tp_store.specs.Content.{with_delivered, with_begun, with_done, inserted_by}
 use Rattle.tp_store.specs.declared.life.Delivered.TheVariants.{Inserted, Filled}
 
 -- a task that is unknown afterwards was unknown before
@@ -33,7 +35,8 @@ module _ (s : Content Numbers) (t : TaskId) where
   pub known-put : (x : Task Numbers) → KeepsKnown s (with_task s t x)
   known-put x u e = inserted_known x u e
 
-  known-changed : (change : Task Numbers → Task Numbers) (o : Option (Task Numbers)) (u : TaskId) → finite.get (unwrap_or (option_map (λ x. finite.insert s.tasks t.0 (change x)) o) s.tasks) u.0 ≡ None → task_of s u ≡ None
+  known-changed : (change : Task Numbers → Task Numbers) (o : Option (Task Numbers)) (u : TaskId)
+      → finite.get (unwrap_or (option_map (λ x. finite.insert s.tasks t.0 (change x)) o) s.tasks) u.0 ≡ None → task_of s u ≡ None
   known-changed change None u e = e
   known-changed change (Some x) u e = inserted_known (change x) u e
 
@@ -47,18 +50,22 @@ module _ (pool : ℕ) (g : TaskGraph) {G : Type 0} (graph : G) (nodes next : ℕ
   abbrev pub node : LocalState Numbers → NodeNumbers → NodeState G
   node l m = record { graph = graph; nodes = nodes; state = l; numbers = m }
 
-  pub keeps : (k : LocalState Numbers) (n : NodeNumbers) → IsNode pool g (node l m) next → IsCountedBy n k → AreRightValues g k.store → n.node ≡ m.node → KeepsKnown l.store k.store → IsNode pool g (node k n) next
+  pub keeps : (k : LocalState Numbers) (n : NodeNumbers) → IsNode pool g (node l m) next → IsCountedBy n k → AreRightValues g k.store
+      → n.node ≡ m.node → KeepsKnown l.store k.store → IsNode pool g (node k n) next
   keeps k n kept counted right place known = record {
     nodes = kept.nodes;
     some = kept.some;
     few = kept.few;
     counted = counted;
     right = right;
-    seeded = λ u low seed. kept.seeded u low (record { known = seed.known; free = seed.free; here = seed.here ∙ place; absent = known (task_at u) seed.absent });
+    seeded = λ u low seed.
+        kept.seeded u low
+        (record { known = seed.known; free = seed.free; here = seed.here ∙ place; absent = known (task_at u) seed.absent });
   }
 
   module _ (t : TaskId) (k : LocalState Numbers) (n : NodeNumbers) (kept : IsNode pool g (node l m) next) where
-    pub begun_keeps : k ≡ with_store (with_begun l.store t) l → n ≡ numbers_after (steps.Begin t) m → pending k ≡ pending l → IsNode pool g (node k n) next
+    pub begun_keeps : k ≡ with_store (with_begun l.store t) l → n ≡ numbers_after (steps.Begin t) m → pending k ≡ pending l
+        → IsNode pool g (node k n) next
     begun_keeps ek en ep = keeps k n kept
         (record {
           pending = ap (λ z. z.pending) en ∙ kept.counted.pending ∙ sym ep;
@@ -70,30 +77,36 @@ module _ (pool : ℕ) (g : TaskGraph) {G : Type 0} (graph : G) (nodes next : ℕ
         (ap (λ z. z.node) en)
         (subst (λ (z : LocalState Numbers). KeepsKnown l.store z.store) (sym ek) (known-begun l.store t))
 
-    pub done_keeps : (value : Numbers) → value_of g t.0 ≡ Some value → k ≡ with_store (with_done l.store t value) l → n ≡ numbers_after (steps.Done t) m → pending k + 1 ≡ pending l → IsNode pool g (node k n) next
+    pub done_keeps : (value : Numbers) → value_of g t.0 ≡ Some value → k ≡ with_store (with_done l.store t value) l
+        → n ≡ numbers_after (steps.Done t) m → pending k + 1 ≡ pending l → IsNode pool g (node k n) next
     done_keeps value right ek en ep = keeps k n kept
         (record {
-          pending = let e : n.pending ≡ m.pending - 1 = ap (λ z. z.pending) en in let f : m.pending ≡ pending l = kept.counted.pending in omega (arith, e, f, ep);
+          pending = let e : n.pending ≡ m.pending - 1 = ap (λ z. z.pending) en in let f : m.pending ≡ pending l =
+              kept.counted.pending in omega (arith, e, f, ep);
           sent = ap (λ z. z.sent) en ∙ kept.counted.sent ∙ sym (ap (λ z. z.sent) ek);
           received = ap (λ z. z.received) en ∙ kept.counted.received ∙ sym (ap (λ z. z.received) ek);
-          done = ap (λ z. z.done) en ∙ ap (λ z. z + 1) kept.counted.done ∙ sym (length-append l.store.results ((t, value) ∷ [])) ∙ sym (ap (λ z. length z.store.results) ek);
+          done = ap (λ z. z.done) en ∙ ap (λ z. z + 1) kept.counted.done ∙ sym (length-append l.store.results ((t, value) ∷ []))
+              ∙ sym (ap (λ z. length z.store.results) ek);
         })
         (subst (λ (z : LocalState Numbers). AreRightValues g z.store) (sym ek) (right-done g l.store t value kept.right right))
         (ap (λ z. z.node) en)
         (subst (λ (z : LocalState Numbers). KeepsKnown l.store z.store) (sym ek) (known-done l.store t value))
 
-    pub seed_keeps : (step : Step) (class : ℕ) → t.0 < g.tasks → g.arity t.0 ≡ 0 → k ≡ with_store (with_inserted l.store t class) l → step ≡ inserting m.node t 0 → n ≡ numbers_after step m
+    pub seed_keeps : (step : Step) (class : ℕ) → t.0 < g.tasks → g.arity t.0 ≡ 0 → k ≡ with_store (with_inserted l.store t class) l
+        → step ≡ inserting m.node t 0 → n ≡ numbers_after step m
         → pending k ≡ pending l + 1 → IsNode pool g (node k n) next
     seed_keeps step class known free ek es en ep =
         let em : n ≡ numbers_after (inserting m.node t 0) m = en ∙ ap (λ z. numbers_after z m) es in
         keeps k n kept
         (record {
-          pending = let e : n.pending ≡ m.pending + 1 = ap (λ z. z.pending) em in let f : m.pending ≡ pending l = kept.counted.pending in omega (arith, e, f, ep);
+          pending = let e : n.pending ≡ m.pending + 1 = ap (λ z. z.pending) em in let f : m.pending ≡ pending l =
+              kept.counted.pending in omega (arith, e, f, ep);
           sent = ap (λ z. z.sent) em ∙ kept.counted.sent ∙ sym (ap (λ z. z.sent) ek);
           received = ap (λ z. z.received) em ∙ kept.counted.received ∙ sym (ap (λ z. z.received) ek);
           done = ap (λ z. z.done) em ∙ kept.counted.done ∙ sym (ap (λ z. length z.store.results) ek);
         })
-        (subst (λ (z : LocalState Numbers). AreRightValues g z.store) (sym ek) (right-inserted g l.store t class kept.right known (sym free)))
+        (subst (λ (z : LocalState Numbers). AreRightValues g z.store) (sym ek)
+        (right-inserted g l.store t class kept.right known (sym free)))
         (ap (λ z. z.node) em)
         (subst (λ (z : LocalState Numbers). KeepsKnown l.store z.store) (sym ek) (known-put l.store t (fresh 0 class)))
 
@@ -116,20 +129,25 @@ module _ (pool : ℕ) (g : TaskGraph) {G : Type 0} (graph : G) (nodes next : ℕ
     put_done true i = refl
     put_done false i = refl
 
-    pub put_keeps : (step : Step) (known : Bool) (inputs class slot : ℕ) (value : Numbers) → IsInput g t.0 slot value → k ≡ with_store (with_delivered l.store t (g.arity t.0) class slot value) l
-        → step ≡ put_step known inputs → n ≡ numbers_after step m → pending k ≡ pending l + (if known then 0 else 1) → IsNode pool g (node k n) next
+    pub put_keeps : (step : Step) (known : Bool) (inputs class slot : ℕ) (value : Numbers) → IsInput g t.0 slot value
+        → k ≡ with_store (with_delivered l.store t (g.arity t.0) class slot value) l
+        → step ≡ put_step known inputs → n ≡ numbers_after step m → pending k ≡ pending l + (if known then 0 else 1)
+        → IsNode pool g (node k n) next
     put_keeps step known inputs class slot value input ek es en ep =
         let em : n ≡ numbers_after (put_step known inputs) m = en ∙ ap (λ z. numbers_after z m) es in
         keeps k n kept
         (record {
-          pending = ap (λ z. z.pending) em ∙ put_pending known inputs ∙ ap (λ z. z + (if known then 0 else 1)) kept.counted.pending ∙ sym ep;
+          pending = ap (λ z. z.pending) em ∙ put_pending known inputs ∙ ap (λ z. z + (if known then 0 else 1)) kept.counted.pending
+              ∙ sym ep;
           sent = ap (λ z. z.sent) em ∙ put_sent known inputs ∙ kept.counted.sent ∙ sym (ap (λ z. z.sent) ek);
           received = ap (λ z. z.received) em ∙ put_received known inputs ∙ kept.counted.received ∙ sym (ap (λ z. z.received) ek);
           done = ap (λ z. z.done) em ∙ put_done known inputs ∙ kept.counted.done ∙ sym (ap (λ z. length z.store.results) ek);
         })
-        (subst (λ (z : LocalState Numbers). AreRightValues g z.store) (sym ek) (right-delivered g l.store t class slot value kept.right input))
+        (subst (λ (z : LocalState Numbers). AreRightValues g z.store) (sym ek)
+        (right-delivered g l.store t class slot value kept.right input))
         (ap (λ z. z.node) em)
-        (subst (λ (z : LocalState Numbers). KeepsKnown l.store z.store) (sym ek) (known-put l.store t (with_value (unwrap_or (task_of l.store t) (fresh (g.arity t.0) class)) slot value)))
+        (subst (λ (z : LocalState Numbers). KeepsKnown l.store z.store) (sym ek)
+        (known-put l.store t (with_value (unwrap_or (task_of l.store t) (fresh (g.arity t.0) class)) slot value)))
 
 -- a delivery inserts a task that is unknown
 pub inserts_if : (known : Bool) (inputs : ℕ) → inserted_by (if known then Filled else Inserted inputs) ≡ (if known then 0 else 1)

@@ -25,7 +25,8 @@ module _ {V : Type 0} (s : Content V) (t : TaskId) where
 
   -- a value is refused by the tests, or the store is full, or it is put
   pub data Says (arity slot : ℕ) : Type 0 where
-    refused : (e : Refusal) → refusal_of_deliver s t arity slot ≡ Some e → put_test arity slot ≡ Some e → (e ≡ StoreFull → ⊥) → Says arity slot
+    refused : (e : Refusal) → refusal_of_deliver s t arity slot ≡ Some e → put_test arity slot ≡ Some e → (e ≡ StoreFull → ⊥)
+        → Says arity slot
     full : refusal_of_deliver s t arity slot ≡ Some StoreFull → put_test arity slot ≡ None → lacks_place s t ≡ true → Says arity slot
     free : refusal_of_deliver s t arity slot ≡ None → put_test arity slot ≡ None → lacks_place s t ≡ false → Says arity slot
 
@@ -35,7 +36,8 @@ module _ {V : Type 0} (s : Content V) (t : TaskId) where
       lacks_new : {b : Bool} → task_of s t ≡ None → (unfinished s == 65536) ≡ b → lacks_place s t ≡ b
       lacks_new none full_is = rw none full_is
 
-      test_of : (o : Option (Task V)) → task_of s t ≡ o → (a b : Bool) → nothing_of arity o ≡ a → taken_of slot o ≡ b → put_test arity slot ≡ (if a then Some TaskKnown else (if b then Some SlotTaken else None))
+      test_of : (o : Option (Task V)) → task_of s t ≡ o → (a b : Bool) → nothing_of arity o ≡ a → taken_of slot o ≡ b
+          → put_test arity slot ≡ (if a then Some TaskKnown else (if b then Some SlotTaken else None))
       test_of o e a b ea eb =
           let first : takes_nothing s t arity ≡ a = ap (nothing_of arity) e ∙ ea in
           let second : is_taken s t slot ≡ b = ap (taken_of slot) e ∙ eb in
@@ -45,14 +47,19 @@ module _ {V : Type 0} (s : Content V) (t : TaskId) where
       go None e = new (unfinished s == 65536) refl
         where
           new : (b : Bool) → (unfinished s == 65536) ≡ b → Says arity slot
-          new true full_is = full (ap (deliver_of arity slot) e ∙ ap (λ b. if b then Some StoreFull else None) full_is) (test_of None e false false refl refl) (lacks_new e full_is)
-          new false full_is = free (ap (deliver_of arity slot) e ∙ ap (λ b. if b then Some StoreFull else None) full_is) (test_of None e false false refl refl) (lacks_new e full_is)
+          new true full_is =
+              full (ap (deliver_of arity slot) e
+              ∙ ap (λ b. if b then Some StoreFull else None) full_is) (test_of None e false false refl refl) (lacks_new e full_is)
+          new false full_is =
+              free (ap (deliver_of arity slot) e
+              ∙ ap (λ b. if b then Some StoreFull else None) full_is) (test_of None e false false refl refl) (lacks_new e full_is)
       go (Some x) e = old (has_begun x.life || not (x.arity == arity)) (is_some (get_or x.values slot None)) refl refl
         where
           lacks : lacks_place s t ≡ false
           lacks = rw e refl
 
-          answer : (a b : Bool) → (has_begun x.life || not (x.arity == arity)) ≡ a → is_some (get_or x.values slot None) ≡ b → refusal_of_deliver s t arity slot ≡ (if a then Some TaskKnown else (if b then Some SlotTaken else None))
+          answer : (a b : Bool) → (has_begun x.life || not (x.arity == arity)) ≡ a → is_some (get_or x.values slot None) ≡ b
+              → refusal_of_deliver s t arity slot ≡ (if a then Some TaskKnown else (if b then Some SlotTaken else None))
           answer a b ea eb = ap (deliver_of arity slot) e ∙ rw (ea, eb) refl
 
           old : (a b : Bool) → (has_begun x.life || not (x.arity == arity)) ≡ a → is_some (get_or x.values slot None) ≡ b → Says arity slot
@@ -61,21 +68,24 @@ module _ {V : Type 0} (s : Content V) (t : TaskId) where
           old false false ea eb = free (answer false false ea eb) (test_of (Some x) e false false ea eb) lacks
 
 -- what the answer of the store's check comes to
-pub says_refused : {V : Type 0} (s : Content V) (t : TaskId) (arity slot : ℕ) (e : Refusal) → refusal_of_deliver s t arity slot ≡ Some e → (e ≡ StoreFull → ⊥) → put_test s t arity slot ≡ Some e
+pub says_refused : {V : Type 0} (s : Content V) (t : TaskId) (arity slot : ℕ) (e : Refusal) → refusal_of_deliver s t arity slot ≡ Some e
+    → (e ≡ StoreFull → ⊥) → put_test s t arity slot ≡ Some e
 says_refused s t arity slot e is other = elim (says s t arity slot) [
   | refused f is_f test apart ↦ let same : f ≡ e = (let both : Some f ≡ Some e = sym is_f ∙ is in cc) in test ∙ ap Some same
   | full is_full test lacks ↦ absurd (other (let both : Some StoreFull ≡ Some e = sym is_full ∙ is in cc))
   | free is_free test lacks ↦ absurd (let both : None ≡ Some e = sym is_free ∙ is in cc)
 ]
 
-pub says_full : {V : Type 0} (s : Content V) (t : TaskId) (arity slot : ℕ) → refusal_of_deliver s t arity slot ≡ Some StoreFull → (put_test s t arity slot ≡ None) × (lacks_place s t ≡ true)
+pub says_full : {V : Type 0} (s : Content V) (t : TaskId) (arity slot : ℕ) → refusal_of_deliver s t arity slot ≡ Some StoreFull
+    → (put_test s t arity slot ≡ None) × (lacks_place s t ≡ true)
 says_full s t arity slot is = elim (says s t arity slot) [
   | refused f is_f test apart ↦ absurd (apart (let both : Some f ≡ Some StoreFull = sym is_f ∙ is in cc))
   | full is_full test lacks ↦ (test, lacks)
   | free is_free test lacks ↦ absurd (let both : None ≡ Some StoreFull = sym is_free ∙ is in cc)
 ]
 
-pub says_free : {V : Type 0} (s : Content V) (t : TaskId) (arity slot : ℕ) → refusal_of_deliver s t arity slot ≡ None → (put_test s t arity slot ≡ None) × (lacks_place s t ≡ false)
+pub says_free : {V : Type 0} (s : Content V) (t : TaskId) (arity slot : ℕ) → refusal_of_deliver s t arity slot ≡ None
+    → (put_test s t arity slot ≡ None) × (lacks_place s t ≡ false)
 says_free s t arity slot is = elim (says s t arity slot) [
   | refused f is_f test apart ↦ absurd (let both : Some f ≡ None = sym is_f ∙ is in cc)
   | full is_full test lacks ↦ absurd (let both : Some StoreFull ≡ None = sym is_full ∙ is in cc)

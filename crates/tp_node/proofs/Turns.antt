@@ -15,10 +15,24 @@ use Rattle.tp_turns.specs.declared.turn.Turn.TheVariants.{Idle}
 
 -- ---- the turn of a node
 nothing : (old new : BoardState) → new ≡ old → Appends [] old new
-nothing old new same = record { history = ap (λ b. b.history) same; limit = ap (λ b. b.limit) same; reserved = let e = ap (λ b. b.reserved) same in omega (arith, e); fault = ap (λ b. b.fault) same }
+nothing old new same =
+    record {
+      history = ap (λ b. b.history) same;
+      limit = ap (λ b. b.limit) same;
+      reserved = let e = ap (λ b. b.reserved) same in
+          omega (arith, e);
+      fault = ap (λ b. b.fault) same;
+    }
 
 one_event : (e : Event) (old new : BoardState) → new ≡ with_event e old → Appends (e ∷ []) old new
-one_event e old new is = record { history = ap (λ b. b.history) is; limit = ap (λ b. b.limit) is; reserved = let e = ap (λ b. b.reserved) is in omega (arith, e); fault = ap (λ b. b.fault) is }
+one_event e old new is =
+    record {
+      history = ap (λ b. b.history) is;
+      limit = ap (λ b. b.limit) is;
+      reserved = let e = ap (λ b. b.reserved) is in
+          omega (arith, e);
+      fault = ap (λ b. b.fault) is;
+    }
 
 when_none : {A : Type 0} (o : Option A) (P : Type 0) → (o ≡ None → P) → IfNone o P
 when_none None P f = f refl
@@ -52,15 +66,19 @@ module _ {G K : Type 0} (node : NodeState G) {old new : BoardState} {r : Result 
   is_first = sym (ap (λ fault. if fault then None else first_step) sound)
 
   pub idle : IfNone (turn_of node old) ((r ≡ Ok Idle) × Appends [] old new)
-  idle = when_none (turn_of node old) ((r ≡ Ok Idle) × Appends [] old new) (λ is. let none = turn.none (is_first ∙ is) in (none.0, nothing old new none.1))
+  idle = when_none (turn_of node old) ((r ≡ Ok Idle) × Appends [] old new) (λ is. let none = turn.none (is_first ∙ is) in
+      (none.0, nothing old new none.1))
 
   pub appended : IfSome (turn_of node old) (λ s. OnOk r (Appends (control_event s ∷ []) old new))
   appended =
       when_some (turn_of node old) (λ s. OnOk r (Appends (control_event s ∷ []) old new))
-      (λ s is. on_ok r (new ≡ with_event (control_event s) old) (Appends (control_event s ∷ []) old new) (turn.some s (is_first ∙ is)).event (one_event (control_event s) old new))
+      (λ s is. on_ok r (new
+      ≡ with_event (control_event s) old) (Appends (control_event s ∷ []) old new) (turn.some s (is_first ∙ is)).event
+      (one_event (control_event s) old new))
 
   pub answered : IfSome (turn_of node old) (λ s. IfOk r (IsMade (ends node.nodes old.history s)))
-  answered = when_some (turn_of node old) (λ s. IfOk r (IsMade (ends node.nodes old.history s))) (λ s is. (turn.some s (is_first ∙ is)).answer)
+  answered = when_some (turn_of node old) (λ s. IfOk r (IsMade (ends node.nodes old.history s))) (λ s is.
+      (turn.some s (is_first ∙ is)).answer)
 
   pub refused : IfSome (turn_of node old) (λ s. Answers (full_check 1 old ∷ []) r)
   refused = when_some (turn_of node old) (λ s. Answers (full_check 1 old ∷ []) r) (λ s is. (turn.some s (is_first ∙ is)).refusal)
@@ -73,7 +91,8 @@ module _ {G K : Type 0} (node : NodeState G) {old new : BoardState} {r : Result 
   kept = on_err r (new ≡ old) (Appends [] old new) (unchanged_by (turn_of node old) refl) (nothing old new)
 
 -- What is known of the turn speaks of the node and of the board as they were.
-pub turn_told : {G K : Type 0} {n i : ℕ} {start new : BoardState} {r : Result (Turn K) Refusal} (node : NodeState G) (old : BoardState) → n ≡ node.nodes → i ≡ node.numbers.node → start ≡ old → MakesFirst n i (turn_steps i) start new r
+pub turn_told : {G K : Type 0} {n i : ℕ} {start new : BoardState} {r : Result (Turn K) Refusal} (node : NodeState G) (old : BoardState)
+    → n ≡ node.nodes → i ≡ node.numbers.node → start ≡ old → MakesFirst n i (turn_steps i) start new r
     → MakesFirst node.nodes node.numbers.node (turn_steps node.numbers.node) old new r
 turn_told {G} {K} {n} {i} {start} {new} {r} node old nodes number board turn =
     subst (λ b. MakesFirst node.nodes node.numbers.node (turn_steps node.numbers.node) b new r) board

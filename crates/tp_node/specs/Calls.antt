@@ -17,7 +17,8 @@ use Rattle.tp_store.specs.Content.{values_of}
 -- A call that makes these checks answers the first of them that holds, and both that were moved in come back beside it.
 -- Otherwise it succeeds, or finds no memory.
 abbrev pub AnswersWithBoth : {A B C : Type 0} → List Check → B → C → Result A (Refusal × B × C) → Type 0
-AnswersWithBoth checks b c result = MatchOption (first_refusal checks) (IfErr result (λ e. e ≡ (NoMemory, b, c))) (λ e. result ≡ Err (e, b, c))
+AnswersWithBoth checks b c result =
+    MatchOption (first_refusal checks) (IfErr result (λ e. e ≡ (NoMemory, b, c))) (λ e. result ≡ Err (e, b, c))
 
 -- a node before and after a call, and the board
 module _ {G : Type 0} (old new : NodeState G) (before later : BoardState) where
@@ -50,4 +51,6 @@ module _ {G : Type 0} (old new : NodeState G) (before later : BoardState) where
     pub first : wire.messages ≡ message ∷ rest.messages
     pub ends : (rest.from ≡ wire.from) × (rest.to ≡ wire.to)
     pub event : Appends (event_of old (receiving (generation_of before) old.numbers.node message.number.0) ∷ []) before later
-    pub received : new ≡ after (receiving (generation_of before) old.numbers.node message.number.0) (with_received message.number.0 message.feed old.state) old
+    pub received : new
+        ≡ after (receiving (generation_of before) old.numbers.node message.number.0)
+        (with_received message.number.0 message.feed old.state) old

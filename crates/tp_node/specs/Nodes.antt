@@ -1,5 +1,6 @@
 -- What contracts see of a node, and how its calls change it.
-use Rattle.std.specs.Prelude.{ℕ, ◌+◌, ◌-◌, ◌≡◌, ◌<◌, ◌≤◌, List, true, Option, None, Some, length, is_some, MatchOption, if◌then◌else◌, slice_index_or, All, refl}
+use Rattle.std.specs.Prelude.{ℕ, ◌+◌, ◌-◌, ◌≡◌, ◌<◌, ◌≤◌, List, true, Option, None, Some, length, is_some, MatchOption, if◌then◌else◌}
+use Rattle.std.specs.Prelude.{slice_index_or, All, refl}
 use Rattle.std.specs.Coded.{Coded, code_by, coded×, coded_ℕ, coded_ℤ, coded_list}
 use Rattle.tp_base.specs.History.{Event}
 use Rattle.tp_base.specs.declared.ids.TaskId.{TaskId}
@@ -94,7 +95,8 @@ module _ {V : Type 0} where
 
   -- a message that brought a feed was received, and its action opens
   abbrev pub with_received : ℕ → Feed → LocalState V → LocalState V
-  with_received m feed l = record { store = l.store; actions = with_message l.actions m feed; sent = l.sent; received = l.received + 1; ended = l.ended }
+  with_received m feed l =
+      record { store = l.store; actions = with_message l.actions m feed; sent = l.sent; received = l.received + 1; ended = l.ended }
 
   abbrev pub with_end : LocalState V → LocalState V
   with_end l = record { store = l.store; actions = l.actions; sent = l.sent; received = l.received; ended = true }

@@ -3,7 +3,8 @@ use Rattle.std.specs.Prelude.{ℕ, ◌==◌, ◌&&◌, ◌||◌, List, [], ◌�
 use Rattle.std.specs.FinSet as set
 use Rattle.tp_base.specs.declared.ids.TaskId.{TaskId}
 use Rattle.tp_base.specs.declared.limits.TheConstants.{MAX_LIVE_TASKS}
-use Rattle.tp_base.specs.declared.refusal.Refusal.TheVariants.{TaskKnown, WrongLife, Inactive, ActionKnown, NoAction, SlotTaken, Stranger, StoreFull}
+use Rattle.tp_base.specs.declared.refusal.Refusal.TheVariants.{TaskKnown, WrongLife, Inactive, ActionKnown, NoAction, SlotTaken, Stranger}
+use Rattle.tp_base.specs.declared.refusal.Refusal.TheVariants.{StoreFull}
 use Rattle.tp_board.specs.States.{BoardState, full_check}
 use Rattle.tp_board.specs.Routes.{is_send_between}
 use Rattle.tp_graph.specs.Carried.{Carried}

@@ -27,7 +27,15 @@ with_message m w = record { from = w.from; to = w.to; messages = w.messages ++ m
 -- message m of a generation on the wire, which carries a value to where a feed ends
 abbrev pub message_on : {G : Type 0} → WireState G → G → ℕ → ℕ → Feed → List ℤ → Carried G
 message_on w graph k m feed value =
-    record { graph = graph; number = record { 0 = m }; generation = record { 0 = k }; from = node_at w.from; to = node_at w.to; feed = feed; value = value }
+    record {
+      graph = graph;
+      number = record { 0 = m };
+      generation = record { 0 = k };
+      from = node_at w.from;
+      to = node_at w.to;
+      feed = feed;
+      value = value;
+    }
 
 -- the number of the board's present generation
 abbrev pub generation_of : BoardState → ℕ

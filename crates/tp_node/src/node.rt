@@ -48,7 +48,9 @@ impl<G: Graph, K: Ledgers> Model for Node<G, K> {
 
     ghost view = { λ n. record { graph = n.graph; nodes = n.nodes; state = n.local; numbers = n.shares } };
 
-    ghost invariant = { λ n. IsNode K.names.nodes (G.meaning n.graph) (record { graph = n.graph; nodes = n.nodes; state = n.local; numbers = n.shares }) n.next };
+    ghost invariant = { λ n.
+        IsNode K.names.nodes (G.meaning n.graph) (record { graph = n.graph; nodes = n.nodes; state = n.local; numbers = n.shares })
+        n.next };
 }
 
 impl<G: Graph, K: Ledgers> Node<G, K> {

@@ -1,4 +1,5 @@
-ghost use Rattle.std.specs.Prelude.{◌≡◌, ◌≤◌, ◌<◌, ◌+◌, ◌^◌, [], ◌∷◌, ◌++◌, IfErr, IfOk, IsTrue, MatchOption, OnErr, OnOk, length, map, sum_by, vec_capacity, vec_len};
+ghost use Rattle.std.specs.Prelude.{◌≡◌, ◌≤◌, ◌<◌, ◌+◌, ◌^◌, [], ◌∷◌, ◌++◌, IfErr, IfOk, IsTrue, MatchOption, OnErr, OnOk, length, map};
+ghost use Rattle.std.specs.Prelude.{sum_by, vec_capacity, vec_len};
 ghost use Rattle.std.specs.List.{All, flat_map};
 ghost use Rattle.std.specs.Result.{result_err};
 ghost use Rattle.tp_base.specs.Checks.{first_refusal};
@@ -84,7 +85,8 @@ fn room_for<G: Graph, K: Ledgers>(
     ensures shares { IfOk result (λ r. (r.shares.items ≡ []) × (K.names.nodes ≤ vec_capacity r.shares)) }
     ensures bare { IfOk result (λ r. (r.bare.items ≡ []) × (K.names.nodes ≤ vec_capacity r.bare)) }
     ensures anew { IfOk result (λ r. (r.nodes.items ≡ []) × (K.names.nodes ≤ vec_capacity r.nodes)) }
-    ensures results { IfOk result (λ r. (r.results.items ≡ []) × (sum_by (λ n. length n.state.store.results) nodes.now.items ≤ vec_capacity r.results)) }
+    ensures results { IfOk result (λ r. (r.results.items ≡ [])
+        × (sum_by (λ n. length n.state.store.results) nodes.now.items ≤ vec_capacity r.results)) }
     ensures reserved { OnOk result (0 < board.new.reserved) }
     ensures same { Appends [] board.old board.new }
     ensures refusal { Answers (full_check 1 board.old ∷ []) result }
@@ -117,7 +119,8 @@ fn lists_for<G: Graph, K: Ledgers>(
     ensures shares { IfOk result (λ r. (r.shares.items ≡ []) × (count ≤ vec_capacity r.shares)) }
     ensures bare { IfOk result (λ r. (r.bare.items ≡ []) × (count ≤ vec_capacity r.bare)) }
     ensures anew { IfOk result (λ r. (r.nodes.items ≡ []) × (count ≤ vec_capacity r.nodes)) }
-    ensures results { IfOk result (λ r. (r.results.items ≡ []) × (sum_by (λ n. length n.state.store.results) nodes.now.items ≤ vec_capacity r.results)) }
+    ensures results { IfOk result (λ r. (r.results.items ≡ [])
+        × (sum_by (λ n. length n.state.store.results) nodes.now.items ≤ vec_capacity r.results)) }
 {
     let Some(results) = count_results(nodes) else {
         return Err(AllocError);
@@ -133,7 +136,8 @@ fn lists_for<G: Graph, K: Ledgers>(
 
 /// How many results all nodes have, or `None` where they are 2^64 or more.
 pub fn count_results<G: Graph, K: Ledgers>(nodes: &[Node<G, K>]) -> Option<usize>
-    ensures { MatchOption result (2 ^ 64 ≤ sum_by (λ n. length n.state.store.results) nodes.now) (λ count. count ≡ sum_by (λ n. length n.state.store.results) nodes.now) }
+    ensures { MatchOption result (2 ^ 64 ≤ sum_by (λ n. length n.state.store.results) nodes.now) (λ count. count
+        ≡ sum_by (λ n. length n.state.store.results) nodes.now) }
 {
     let mut count = 0usize;
     for node in nodes {
@@ -154,7 +158,8 @@ fn begin_anew<G: Graph, K: Ledgers>(
     requires shares { (room.shares.items ≡ []) × (K.names.nodes ≤ vec_capacity room.shares) }
     requires bare { (room.bare.items ≡ []) × (K.names.nodes ≤ vec_capacity room.bare) }
     requires anew { (room.nodes.items ≡ []) × (K.names.nodes ≤ vec_capacity room.nodes) }
-    requires room_for_results { (room.results.items ≡ []) × (sum_by (λ n. length n.state.store.results) pool.nodes.items ≤ vec_capacity room.results) }
+    requires room_for_results { (room.results.items ≡ [])
+        × (sum_by (λ n. length n.state.store.results) pool.nodes.items ≤ vec_capacity room.results) }
     ensures nodes { result.pool.nodes.items ≡ map anew pool.nodes.items }
     ensures links { result.pool.links.items ≡ pool.links.items }
     ensures empty { All (λ w. w.messages ≡ []) pool.links.items }
@@ -194,7 +199,8 @@ fn reopen_nodes<G: Graph, K: Ledgers>(
     requires shares { (room.shares.items ≡ []) × (K.names.nodes ≤ vec_capacity room.shares) }
     requires bare { (room.bare.items ≡ []) × (K.names.nodes ≤ vec_capacity room.bare) }
     requires anew { (room.nodes.items ≡ []) × (K.names.nodes ≤ vec_capacity room.nodes) }
-    requires room_for_results { (room.results.items ≡ []) × (sum_by (λ n. length n.state.store.results) nodes.items ≤ vec_capacity room.results) }
+    requires room_for_results { (room.results.items ≡ [])
+        × (sum_by (λ n. length n.state.store.results) nodes.items ≤ vec_capacity room.results) }
     ensures nodes { result.0.items ≡ map anew nodes.items }
     ensures board { board.new ≡ with_event (event 0 steps.Reopen) board.old }
     ensures results { result.1.items ≡ flat_map (λ n. n.state.store.results) nodes.items }

@@ -1,4 +1,5 @@
-ghost use Rattle.std.specs.Prelude.{◌≡◌, ◌+◌, ◌<◌, ◌≤◌, ◌↔◌, [], ◌∷◌, ◌++◌, drop, length, option_copied, slice_get, IfErr, IfOk, IsOk, OnErr, OnOk, Some, IsTrue};
+ghost use Rattle.std.specs.Prelude.{◌≡◌, ◌+◌, ◌<◌, ◌≤◌, ◌↔◌, [], ◌∷◌, ◌++◌, drop, length, option_copied, slice_get, IfErr, IfOk, IsOk};
+ghost use Rattle.std.specs.Prelude.{OnErr, OnOk, Some, IsTrue};
 ghost use Rattle.tp_board.specs.Numbers.{event, is_send, numbers_after, receiving, sending};
 ghost use Rattle.tp_board.specs.States.{full_check};
 ghost use Rattle.tp_graph.specs.Carried.{Carried, IsFeed};
@@ -124,9 +125,12 @@ impl<G: Graph, K: Ledgers> Wire<G, K> {
         requires fed { IsFeed (G.meaning graph) feed }
         requires there { (G.meaning graph).home feed.target.0 K.names.nodes ≡ self.old.to }
         ensures number { IfOk result (λ m. m.0 ≡ count is_send (present (steps_of board.old.history))) }
-        ensures sent { IfOk result (λ m. Appends (event shares.old.node (sending (generation_of board.old) shares.old.node self.old.to m.0) ∷ []) board.old board.new) }
-        ensures shares { IfOk result (λ m. shares.new ≡ numbers_after (sending (generation_of board.old) shares.old.node self.old.to m.0) shares.old) }
-        ensures last { IfOk result (λ m. self.new ≡ with_message (message_on self.old graph (generation_of board.old) m.0 feed value) self.old) }
+        ensures sent { IfOk result (λ m.
+            Appends (event shares.old.node (sending (generation_of board.old) shares.old.node self.old.to m.0) ∷ []) board.old board.new) }
+        ensures shares { IfOk result (λ m. shares.new
+            ≡ numbers_after (sending (generation_of board.old) shares.old.node self.old.to m.0) shares.old) }
+        ensures last { IfOk result (λ m. self.new
+            ≡ with_message (message_on self.old graph (generation_of board.old) m.0 feed value) self.old) }
         ensures refusal { Answers (full_check 1 board.old ∷ []) result }
         ensures refused { OnErr result (Appends [] board.old board.new × (shares.new ≡ shares.old) × (self.new ≡ self.old)) }
     {
@@ -147,11 +151,13 @@ impl<G: Graph, K: Ledgers> Wire<G, K> {
         requires reserved { 0 < board.old.reserved }
         requires to_node { self.old.to ≡ shares.old.node }
         requires some { 0 < length self.old.messages }
-        requires sent { (m : Carried G) → slice_get self.old.messages 0 ≡ Some m → IsTrue (any (is_send_to self.old.to m.number.0) (present (steps_of board.old.history))) }
+        requires sent { (m : Carried G) → slice_get self.old.messages 0 ≡ Some m
+            → IsTrue (any (is_send_to self.old.to m.number.0) (present (steps_of board.old.history))) }
         ensures first { self.old.messages ≡ result ∷ self.new.messages }
         ensures on_way { IsOnWay (G.meaning result.graph) K.names.nodes self.old.from self.old.to result }
         ensures ends { (self.new.from ≡ self.old.from) × (self.new.to ≡ self.old.to) }
-        ensures received { Appends (event shares.old.node (receiving (generation_of board.old) shares.old.node result.number.0) ∷ []) board.old board.new }
+        ensures received { Appends (event shares.old.node (receiving (generation_of board.old) shares.old.node result.number.0)
+            ∷ []) board.old board.new }
         ensures shares { shares.new ≡ numbers_after (receiving (generation_of board.old) shares.old.node result.number.0) shares.old }
     {
         let Some(message) = self.link.get() else {

@@ -69,7 +69,8 @@ impl<G: Graph> Work<G> {
     #[inline(always)]
     pub fn run(&self, alloc: Global) -> Result<Finished<G>, Refusal>
         ensures done { IfOk result (λ finished. (finished.graph ≡ self.now.graph) × (finished.task ≡ self.now.task) × (finished.fed ≡ 0)) }
-        ensures value { MatchResult result (λ finished. value_of (G.meaning self.now.graph) self.now.task.0 ≡ Some finished.value) (IsRefusal (value_of (G.meaning self.now.graph) self.now.task.0)) }
+        ensures value { MatchResult result (λ finished. value_of (G.meaning self.now.graph) self.now.task.0
+            ≡ Some finished.value) (IsRefusal (value_of (G.meaning self.now.graph) self.now.task.0)) }
     {
         let value = run_body(alloc, &self.graph, self.task, self.inputs.as_slice())?;
         Ok(Finished::new(self.graph, self.task, value))

@@ -1,5 +1,6 @@
 -- Pools that are settled one after the other.
-use Rattle.std.proofs.Common.{refl, arith, ap, ap₂, sym, inl, inr, cond, true, false, ℕ, suc, ◌≡◌, ◌≢◌, ◌∙◌, ◌+◌, ◌<◌, ◌≤◌, ◌∷◌, Bool, List, Option, Some, Result, drop, length, slice_get, slice_set, unwrap_or}
+use Rattle.std.proofs.Common.{refl, arith, ap, ap₂, sym, inl, inr, cond, true, false, ℕ, suc, ◌≡◌, ◌≢◌, ◌∙◌, ◌+◌, ◌<◌, ◌≤◌, ◌∷◌, Bool, List}
+use Rattle.std.proofs.Common.{Option, Some, Result, drop, length, slice_get, slice_set, unwrap_or}
 use Rattle.std.proofs.lemmas.Bool.{cases_lt}
 use Rattle.std.proofs.lemmas.List.{length-drop, length-set, get_or-set_same, get_or-set_other}
 use Rattle.std.proofs.lemmas.List.Sums.{count_by_more_no, count_by_more_yes, sum_by-take-le}
@@ -12,11 +13,13 @@ use Rattle.tp_pools.specs.Pools.{Entered, Pools}
 use Rattle.tp_pools.specs.Runs.{AreSettled, after, is_waiting, rank}
 
 get-set_same : {X : Type 0} (xs : List X) (i : ℕ) (y : X) → i < length xs → slice_get (slice_set xs i y) i ≡ Some y
-get-set_same xs i y lt = slice_get-get_or (slice_set xs i y) i y (omega (arith, length-set xs i y, lt)) ∙ ap Some (get_or-set_same xs i y y lt)
+get-set_same xs i y lt =
+    slice_get-get_or (slice_set xs i y) i y (omega (arith, length-set xs i y, lt)) ∙ ap Some (get_or-set_same xs i y y lt)
 
 get-set_other : {X : Type 0} (xs : List X) (i j : ℕ) (y : X) → j ≢ i → slice_get (slice_set xs i y) j ≡ slice_get xs j
 get-set_other xs i j y other = elim (cases_lt j (length xs)) [
-  | inl lt ↦ slice_get-get_or (slice_set xs i y) j y (omega (arith, length-set xs i y, lt)) ∙ ap Some (get_or-set_other xs i j y y other) ∙ sym (slice_get-get_or xs j y lt)
+  | inl lt ↦ slice_get-get_or (slice_set xs i y) j y (omega (arith, length-set xs i y, lt)) ∙ ap Some (get_or-set_other xs i j y y other)
+      ∙ sym (slice_get-get_or xs j y lt)
   | inr ge ↦ slice_get_past (slice_set xs i y) j (omega (arith, length-set xs i y, ge)) ∙ sym (slice_get_past xs j ge)
 ]
 
@@ -67,7 +70,8 @@ module _ {X E : Type 0} where
   stays answers rest old new n e h lt is wont =
       let was = stood answers rest old new n e h lt is in
       let short : n < length old = omega (arith, lt, h.pools) in
-      let ranked : rank old (n + 1) ≡ rank old n = count_by_more_no is_waiting old n e short (ap is_waiting (get_or_from_slice_get old n e e was) ∙ wont) in
+      let ranked : rank old (n + 1) ≡ rank old n =
+      count_by_more_no is_waiting old n e short (ap is_waiting (get_or_from_slice_get old n e e was) ∙ wont) in
       more answers rest rest old new new n e h was (h.left ∙ ap (λ (k : ℕ). drop k answers) (sym ranked)) h.pools
       (h.from n (omega arith) ∙ was ∙ sym (ap (λ (b : Bool). cond b (option_map (after e) (slice_get answers (rank old n))) (Some e)) wont))
       (λ i other. refl)
@@ -75,7 +79,8 @@ module _ {X E : Type 0} where
   ranked_next : (answers rest : List (Result X E)) (old new : Pools) (n : ℕ) (e : Entered) → AreSettledBelow answers rest old new n
       → n < length new → e ≡ get_or new n e → is_waiting e ≡ true → rank old (n + 1) ≡ rank old n + 1
   ranked_next answers rest old new n e h lt is will =
-      count_by_more_yes is_waiting old n e (omega (arith, lt, h.pools)) (ap is_waiting (get_or_from_slice_get old n e e (stood answers rest old new n e h lt is)) ∙ will)
+      count_by_more_yes is_waiting old n e (omega (arith, lt, h.pools))
+      (ap is_waiting (get_or_from_slice_get old n e e (stood answers rest old new n e h lt is)) ∙ will)
 
   -- a pool that could be run stands by the next answer
   pub ends : (answers rest rest' : List (Result X E)) (old new : Pools) (n : ℕ) (e : Entered) (a : Result X E)
@@ -87,14 +92,23 @@ module _ {X E : Type 0} where
       more answers rest rest' old new (slice_set new n (after e a)) n e h (stood answers rest old new n e h lt is)
       (first.1 ∙ ap (λ (k : ℕ). drop k answers) after_it)
       (length-set new n (after e a) ∙ h.pools)
-      (get-set_same new n (after e a) lt ∙ sym (ap₂ (λ (b : Bool) (o : Option (Result X E)). cond b (option_map (after e) o) (Some e)) will first.0))
+      (get-set_same new n (after e a) lt
+      ∙ sym (ap₂ (λ (b : Bool) (o : Option (Result X E)). cond b (option_map (after e) o) (Some e)) will first.0))
       (λ i other. get-set_other new n i (after e a) other)
 
   -- there is an answer for each pool that could be run
   pub none_lacks : (answers rest : List (Result X E)) (old new : Pools) (n : ℕ) (e : Entered) → AreSettledBelow answers rest old new n
       → n < length new → e ≡ get_or new n e → is_waiting e ≡ true → length answers ≡ count_by is_waiting old → length rest ≡ 0 → ⊥
   none_lacks answers rest old new n e h lt is will each none =
-      omega (arith, ranked_next answers rest old new n e h lt is will, each, sum_by-take-le (λ p. cond (is_waiting p) 1 0) old (n + 1), length-drop (rank old n) answers, none, ap length h.left)
+      omega (
+        arith,
+        ranked_next answers rest old new n e h lt is will,
+        each,
+        sum_by-take-le (λ p. cond (is_waiting p) 1 0) old (n + 1),
+        length-drop (rank old n) answers,
+        none,
+        ap length h.left,
+      )
 
   pub all_settled : (answers rest : List (Result X E)) (old new : Pools) (n : ℕ) → AreSettledBelow answers rest old new n
       → length new ≤ n → length answers ≡ count_by is_waiting old → AreSettled answers old new

@@ -1,5 +1,6 @@
 -- A registry as the list of its pools, in the order of registration, and the checks of its calls.
-use Rattle.std.specs.Prelude.{ℕ, ◌≡◌, ◌≢◌, ⊤, ◌==◌, List, [], ◌∷◌, Bool, true, false, not, Option, is_none, unwrap_or, length, slice_get, slice_set}
+use Rattle.std.specs.Prelude.{ℕ, ◌≡◌, ◌≢◌, ⊤, ◌==◌, List, [], ◌∷◌, Bool, true, false, not, Option, is_none, unwrap_or, length, slice_get}
+use Rattle.std.specs.Prelude.{slice_set}
 use Rattle.std.specs.Option.{option_map}
 use Rattle.std.specs.List.{list_any}
 use Rattle.std.specs.Str.{bytes_eq}
@@ -31,7 +32,8 @@ standing_of pools i = option_map (λ p. p.standing) (slice_get pools i)
 
 -- the pools with another standing for one of them
 abbrev pub with_standing : Pools → ℕ → Standing → Pools
-with_standing pools i standing = unwrap_or (option_map (λ p. slice_set pools i (record p { standing = standing })) (slice_get pools i)) pools
+with_standing pools i standing =
+    unwrap_or (option_map (λ p. slice_set pools i (record p { standing = standing })) (slice_get pools i)) pools
 
 -- a pool of this name was registered
 abbrev pub is_named : Pools → List ℕ → Bool

@@ -51,9 +51,11 @@ impl Registry {
     /// Refused: `BadSpec` where the word names no pool; `PoolKnown` where a pool has the name; `StoreFull` where there are 8
     /// pools; `NoMemory`.
     pub fn register(&mut self, name: &str, spec: &str) -> Result<PoolId, Refusal>
-        ensures registered { IfOk result (λ pool. (graph : AnyGraph) × (spec.now ≡ word_of graph) × (pool.0 ≡ length self.old) × (self.new ≡ self.old ++ registered name.now graph ∷ [])) }
+        ensures registered { IfOk result (λ pool. (graph : AnyGraph) × (spec.now ≡ word_of graph) × (pool.0 ≡ length self.old)
+            × (self.new ≡ self.old ++ registered name.now graph ∷ [])) }
         ensures no_spec { ((graph : AnyGraph) → spec.now ≡ word_of graph → ⊥) → result ≡ Err BadSpec }
-        ensures refusal { (graph : AnyGraph) → spec.now ≡ word_of graph → MatchOption (first_refusal (register_checks self.old name.now)) (IfErr result (λ e. e ≡ NoMemory)) (λ e. result ≡ Err e) }
+        ensures refusal { (graph : AnyGraph) → spec.now ≡ word_of graph
+            → MatchOption (first_refusal (register_checks self.old name.now)) (IfErr result (λ e. e ≡ NoMemory)) (λ e. result ≡ Err e) }
         ensures why { IfErr result (IsUnregistered self.old name.now spec.now) }
         ensures refused { OnErr result (self.new ≡ self.old) }
     {

@@ -1,5 +1,6 @@
 -- Where the cells of a block lie, and how blocks leave.
-use Rattle.std.proofs.Common.{◌≡◌, ℕ, zero, suc, ◌+◌, ◌*◌, ◌<◌, ◌≤◌, List, [], ◌∷◌, ◌++◌, length, take, drop, map as each, get_or, set, Option, None, inl, inr, refl, sym, ap, subst, ◌∙◌, arith, append_assoc, append-nil}
+use Rattle.std.proofs.Common.{◌≡◌, ℕ, zero, suc, ◌+◌, ◌*◌, ◌<◌, ◌≤◌, List, [], ◌∷◌, ◌++◌, length, take, drop, map as each, get_or, set}
+use Rattle.std.proofs.Common.{Option, None, inl, inr, refl, sym, ap, subst, ◌∙◌, arith, append_assoc, append-nil}
 use Rattle.std.proofs.lemmas.Bool.{cases_eq}
 use Rattle.std.proofs.lemmas.List.{get_or-set_same, get_or-set_other}
 use Rattle.std.proofs.Math.Seq.{map-set_same}
@@ -32,7 +33,8 @@ further null_ptr n s = refl
 
 shifted : (s : ℕ) (p : Ptr) (n : ℕ) → p ∷ pointers_from s (p +ₚ s) n ≡ pointers_from s p (suc n)
 shifted s p zero = ap (λ q. q ∷ []) (sym (at_start p s))
-shifted s p (suc n) = ap (λ (l : List Ptr). l ++ ((p +ₚ s) +ₚ (n * s)) ∷ []) (shifted s p n) ∙ ap (λ q. pointers_from s p (suc n) ++ q ∷ []) (further p n s)
+shifted s p (suc n) =
+    ap (λ (l : List Ptr). l ++ ((p +ₚ s) +ₚ (n * s)) ∷ []) (shifted s p n) ∙ ap (λ q. pointers_from s p (suc n) ++ q ∷ []) (further p n s)
 
 row_is : (R : RattleType) (p : Ptr) (n : ℕ) → row_from R p n ≡ empty_at (pointers_from (type_size R) p n)
 row_is R p zero = refl
@@ -46,7 +48,8 @@ module _ {X : Type 0} where
       each_back [] = refl
       each_back (x ∷ xs) = ap (λ l. x ∷ l) (each_back xs)
 
-pub row_pointers : (R : RattleType) (p : Ptr) (n : ℕ) (row : List Ptr) → row_from R p n ≡ empty_at row → pointers_from (type_size R) p n ≡ row
+pub row_pointers : (R : RattleType) (p : Ptr) (n : ℕ) (row : List Ptr) → row_from R p n ≡ empty_at row
+    → pointers_from (type_size R) p n ≡ row
 row_pointers R p n row e = same_pointers _ _ (sym (row_is R p n) ∙ e)
 
 module _ {T : Type 0} where
@@ -76,18 +79,26 @@ module _ {T : Type 0} where
 
   pub rows_pushed : (blocks : List (Block T)) (block : Block T) → rows_of (blocks ++ block ∷ []) ≡ rows_of blocks ++ block.deed.row
   rows_pushed [] block = append-nil block.deed.row
-  rows_pushed (b ∷ blocks) block = ap (λ l. b.deed.row ++ l) (rows_pushed blocks block) ∙ sym (append_assoc b.deed.row (rows_of blocks) block.deed.row)
+  rows_pushed (b ∷ blocks) block =
+      ap (λ l. b.deed.row ++ l) (rows_pushed blocks block) ∙ sym (append_assoc b.deed.row (rows_of blocks) block.deed.row)
 
   -- the last block's cells are the last ones
-  pub last_block : (alloc : Global) (blocks rest : List (Block T)) (block : Block T) (cs : List (Ptr × Option (Slot T))) (n : ℕ) → All (IsBlock alloc) blocks → cs ≡ empty_at (rows_of blocks) → blocks ≡ rest ++ block ∷ [] → n ≡ length rest
-      → All (IsBlock alloc) rest × IsBlock alloc block × (take (n * 256) cs ≡ empty_at (rows_of rest)) × (drop (n * 256) cs ≡ empty_at block.deed.row)
+  pub last_block : (alloc : Global) (blocks rest : List (Block T)) (block : Block T) (cs : List (Ptr × Option (Slot T))) (n : ℕ)
+      → All (IsBlock alloc) blocks → cs ≡ empty_at (rows_of blocks) → blocks ≡ rest ++ block ∷ [] → n ≡ length rest
+      → All (IsBlock alloc) rest × IsBlock alloc block × (take (n * 256) cs ≡ empty_at (rows_of rest))
+      × (drop (n * 256) cs ≡ empty_at block.deed.row)
   last_block alloc blocks rest block cs n all cs_is split n_is =
       let whole : All (IsBlock alloc) (rest ++ block ∷ []) = subst (All (IsBlock alloc)) split all in
       let first : All (IsBlock alloc) rest = All-left (IsBlock alloc) rest (block ∷ []) whole in
       let last : IsBlock alloc block = All-last (IsBlock alloc) rest block whole in
-      let is : cs ≡ empty_at (rows_of rest ++ block.deed.row) = cs_is ∙ ap (λ bs. empty_at (rows_of bs)) split ∙ ap empty_at (rows_pushed rest block) in
-      let long : length (rows_of rest) ≡ n * 256 = rows_long alloc rest first ∙ ap (λ k. k * 256) (sym n_is) in
-      (first, last, ap (take (n * 256)) is ∙ take_here (n * 256) (rows_of rest) block.deed.row long, ap (drop (n * 256)) is ∙ drop_here (n * 256) (rows_of rest) block.deed.row long)
+      let is : cs ≡ empty_at (rows_of rest ++ block.deed.row) =
+      cs_is ∙ ap (λ bs. empty_at (rows_of bs)) split ∙ ap empty_at (rows_pushed rest block) in
+      let long : length (rows_of rest) ≡ n * 256 = rows_long alloc rest first ∙ ap (λ k. k * 256) (sym n_is) in (
+        first,
+        last,
+        ap (take (n * 256)) is ∙ take_here (n * 256) (rows_of rest) block.deed.row long,
+        ap (drop (n * 256)) is ∙ drop_here (n * 256) (rows_of rest) block.deed.row long,
+      )
     where
       All-left : {X : Type 0} (P : X → Type 0) (xs ys : List X) → All P (xs ++ ys) → All P xs
       All-left P [] ys h = λ k d lt. absurd (omega arith)
@@ -101,27 +112,33 @@ module _ {T : Type 0} where
       All-last P [] x h = h 0 x (omega arith)
       All-last P (y ∷ xs) x h = All-last P xs x (λ k d lt. h (suc k) d (omega arith))
 
-module _ {T : Type 0} (cs : List (Ptr × Option (Slot T))) (place : ℕ) (p : Ptr) (inside : place < length cs) (at : (cell_at cs place).0 ≡ p) where
+module _ {T : Type 0} (cs : List (Ptr × Option (Slot T))) (place : ℕ) (p : Ptr) (inside : place < length cs) (at : (cell_at cs place).0
+    ≡ p) where
   pub emptied_pointers : pointers_of (set cs place (p, None)) ≡ pointers_of cs
   emptied_pointers = map-set_same (λ (c : Ptr × Option (Slot T)). c.0) cs place (p, None) (null_ptr, None) (sym at)
 
-  pub emptied_gone : (q : ℕ) → ((k : ℕ) → k < place → (cell_at cs k).1 ≡ None) → q < place + 1 → (cell_at (set cs place (p, None)) q).1 ≡ None
+  pub emptied_gone : (q : ℕ) → ((k : ℕ) → k < place → (cell_at cs k).1 ≡ None) → q < place + 1
+      → (cell_at (set cs place (p, None)) q).1 ≡ None
   emptied_gone q before lt = elim (cases_eq q place) [
-    | inl same ↦ ap (λ k. (cell_at (set cs place (p, None)) k).1) same ∙ ap (λ (c : Ptr × Option (Slot T)). c.1) (get_or-set_same cs place (p, None) (null_ptr, None) inside)
-    | inr differs ↦ ap (λ (c : Ptr × Option (Slot T)). c.1) (get_or-set_other cs place q (p, None) (null_ptr, None) differs) ∙ before q (omega (arith, differs))
+    | inl same ↦ ap (λ k. (cell_at (set cs place (p, None)) k).1) same
+        ∙ ap (λ (c : Ptr × Option (Slot T)). c.1) (get_or-set_same cs place (p, None) (null_ptr, None) inside)
+    | inr differs ↦ ap (λ (c : Ptr × Option (Slot T)). c.1) (get_or-set_other cs place q (p, None) (null_ptr, None) differs)
+        ∙ before q (omega (arith, differs))
   ]
 
   pub emptied_kept : (q : ℕ) → place + 1 ≤ q → cell_at (set cs place (p, None)) q ≡ cell_at cs q
   emptied_kept q le = get_or-set_other cs place q (p, None) (null_ptr, None) (λ e. omega (arith, e))
 
-pub full_at : {T : Type 0} (table : List (At (Slot T))) (cs : List (Ptr × Option (Slot T))) (used place : ℕ) (d : At (Slot T)) → HoldsFirst table cs used → place < used → place < length table → IsFull cs place (get_or table place d).ptr
+pub full_at : {T : Type 0} (table : List (At (Slot T))) (cs : List (Ptr × Option (Slot T))) (used place : ℕ) (d : At (Slot T))
+    → HoldsFirst table cs used → place < used → place < length table → IsFull cs place (get_or table place d).ptr
 full_at table cs used place d h lt inside =
     let y = some_slot (cell_at cs place).1 (h.filled place lt) in
     let at = located table cs place d h.table_is inside in
     (y.0, λ i. (at i, y.1 i))
 
 -- the first cells are empty, and no later one was used
-pub all_gone : {T : Type 0} (table : List (At (Slot T))) (cs ds : List (Ptr × Option (Slot T))) (used : ℕ) → HoldsFirst table cs used → pointers_of ds ≡ pointers_of cs → ((p : ℕ) → p < used → (cell_at ds p).1 ≡ None) → ((p : ℕ) → used ≤ p → cell_at ds p ≡ cell_at cs p)
+pub all_gone : {T : Type 0} (table : List (At (Slot T))) (cs ds : List (Ptr × Option (Slot T))) (used : ℕ) → HoldsFirst table cs used
+    → pointers_of ds ≡ pointers_of cs → ((p : ℕ) → p < used → (cell_at ds p).1 ≡ None) → ((p : ℕ) → used ≤ p → cell_at ds p ≡ cell_at cs p)
     → ds ≡ empty_at (pointers_in table)
 all_gone table cs ds used h same gone kept =
     all_empty ds (λ p lt. elim (decide_lt p used) [

@@ -1,5 +1,6 @@
 -- How each call keeps the slots linked, counted and housed.
-use Rattle.std.proofs.Common.{◌≡◌, ◌≢◌, ℕ, zero, suc, ◌+◌, ◌<◌, ◌≤◌, ◌⊎◌, true, List, [], ◌∷◌, length, get_or, set, map as each, replicate, Option, Some, None, is_some, refl, sym, ap, subst, ◌∙◌, inl, inr, arith}
+use Rattle.std.proofs.Common.{◌≡◌, ◌≢◌, ℕ, zero, suc, ◌+◌, ◌<◌, ◌≤◌, ◌⊎◌, true, List, [], ◌∷◌, length, get_or, set, map as each, replicate}
+use Rattle.std.proofs.Common.{Option, Some, None, is_some, refl, sym, ap, subst, ◌∙◌, inl, inr, arith}
 use Rattle.std.proofs.lemmas.Bool.{cases_eq}
 use Rattle.std.proofs.lemmas.Bool.Decides.{nat_tests}
 use Rattle.std.proofs.lemmas.List.{length-replicate, length-set, length-map, map-set, get_or-set_same, get_or-set_other}
@@ -54,7 +55,8 @@ decide_lt (suc m) (suc n) = elim (decide_lt m n) [
 ]
 
 module _ {T : Type 0} where
-  path_inside : (cs : List (Ptr × Option (Slot T))) (ps : List ℕ) (o : Option (Link T)) → IsPath cs o ps → (q : ℕ) → 0 < stands q ps → q < length cs
+  path_inside : (cs : List (Ptr × Option (Slot T))) (ps : List ℕ) (o : Option (Link T)) → IsPath cs o ps → (q : ℕ) → 0 < stands q ps
+      → q < length cs
   path_inside cs [] o path q more = absurd (omega arith)
   path_inside cs (p ∷ ps) None path q more = absurd path
   path_inside cs (p ∷ ps) (Some l) path q more = elim (cases_eq p q) [
@@ -63,32 +65,39 @@ module _ {T : Type 0} where
   ]
 
   -- following the links finds the places
-  followed : (cs : List (Ptr × Option (Slot T))) (ps : List ℕ) (o : Option (Link T)) (n : ℕ) → length ps ≤ n → IsPath cs o ps → places_from cs o n ≡ ps
+  followed : (cs : List (Ptr × Option (Slot T))) (ps : List ℕ) (o : Option (Link T)) (n : ℕ) → length ps ≤ n → IsPath cs o ps
+      → places_from cs o n ≡ ps
   followed cs [] o zero le path = refl
   followed cs [] None (suc n) le path = refl
   followed cs [] (Some l) (suc n) le path = cc
   followed cs (p ∷ ps) o zero le path = absurd (omega arith)
   followed cs (p ∷ ps) None (suc n) le path = absurd path
   followed cs (p ∷ ps) (Some l) (suc n) le path =
-      let rest : places_from cs (next_at cs l.place) n ≡ ps = ap (λ x. places_from cs (next_at cs x) n) path.0 ∙ followed cs ps (next_at cs p) n (omega arith) path.2 in
+      let rest : places_from cs (next_at cs l.place) n ≡ ps =
+      ap (λ x. places_from cs (next_at cs x) n) path.0 ∙ followed cs ps (next_at cs p) n (omega arith) path.2 in
       λ i. path.0 i ∷ rest i
 
   pub places_are : (cs : List (Ptr × Option (Slot T))) (chain : Chain T) (ps : List ℕ) → IsChain cs chain ps → places_of cs chain ≡ ps
-  places_are cs chain ps h = followed cs ps chain.front (length cs) (distinct_below (length cs) ps h.once (path_inside cs ps chain.front h.path)) h.path
+  places_are cs chain ps h =
+      followed cs ps chain.front (length cs) (distinct_below (length cs) ps h.once (path_inside cs ps chain.front h.path)) h.path
 
-  pub all_places : (cs : List (Ptr × Option (Slot T))) (qs : List (Chain T)) (rs : List (List ℕ)) → AreChains cs qs rs → each (places_of cs) qs ≡ rs
+  pub all_places : (cs : List (Ptr × Option (Slot T))) (qs : List (Chain T)) (rs : List (List ℕ)) → AreChains cs qs rs
+      → each (places_of cs) qs ≡ rs
   all_places cs [] [] h = refl
   all_places cs [] (r ∷ rs) h = absurd h
   all_places cs (q ∷ qs) [] h = absurd h
   all_places cs (q ∷ qs) (r ∷ rs) h = let here = places_are cs q r h.0 in let rest = all_places cs qs rs h.1 in λ i. here i ∷ rest i
 
-  pub content_is : (cs : List (Ptr × Option (Slot T))) (qs : List (Chain T)) (rs : List (List ℕ)) → AreChains cs qs rs → raw_content cs qs ≡ content_of cs rs
+  pub content_is : (cs : List (Ptr × Option (Slot T))) (qs : List (Chain T)) (rs : List (List ℕ)) → AreChains cs qs rs
+      → raw_content cs qs ≡ content_of cs rs
   content_is cs qs rs h = ap (content_of cs) (all_places cs qs rs h)
 
   -- the item of a place, as the content has it
-  pub raw_item : (cs : List (Ptr × Option (Slot T))) (rs : List (List ℕ)) (place : ℕ) → item_at (content_of cs rs) place ≡ item_in (cell_at cs place).1
+  pub raw_item : (cs : List (Ptr × Option (Slot T))) (rs : List (List ℕ)) (place : ℕ)
+      → item_at (content_of cs rs) place ≡ item_in (cell_at cs place).1
   raw_item cs rs place =
-      get-items_of (record { slots = items_in cs; vacant_key = 0; capacity = 0 }) place ∙ get_or-map (λ (c : Ptr × Option (Slot T)). item_in c.1) cs place (null_ptr, None)
+      get-items_of (record { slots = items_in cs; vacant_key = 0; capacity = 0 }) place
+      ∙ get_or-map (λ (c : Ptr × Option (Slot T)). item_in c.1) cs place (null_ptr, None)
 
   slot_of : (o : Option (Slot T)) (x : T) → item_in o ≡ Some x → (y : Slot T) × (o ≡ Some y)
   slot_of None x e = cc
@@ -102,27 +111,33 @@ module _ {T : Type 0} where
   some_slot None e = cc
   some_slot (Some x) e = (x, refl)
 
-  pub taken_slot : (cs : List (Ptr × Option (Slot T))) (rs : List (List ℕ)) (place : ℕ) → IsTaken (content_of cs rs) place → (is_some (item_in (cell_at cs place).1) ≡ true) × (place < length cs) × ((y : Slot T) × ((cell_at cs place).1 ≡ Some y))
+  pub taken_slot : (cs : List (Ptr × Option (Slot T))) (rs : List (List ℕ)) (place : ℕ) → IsTaken (content_of cs rs) place
+      → (is_some (item_in (cell_at cs place).1) ≡ true) × (place < length cs) × ((y : Slot T) × ((cell_at cs place).1 ≡ Some y))
   taken_slot cs rs place taken =
       let has : is_some (item_in (cell_at cs place).1) ≡ true = ap is_some (sym (raw_item cs rs place)) ∙ taken in
       let x = some_item (item_in (cell_at cs place).1) has in
       let y = slot_of (cell_at cs place).1 x.0 x.1 in
       (has, full_inside cs place (cell_at cs place).0 (y.0, λ i. ((cell_at cs place).0, y.1 i)), y)
 
-  pub taken_raw : (cs : List (Ptr × Option (Slot T))) (ready : List (Chain T)) (place : ℕ) → IsTaken (raw_content cs ready) place → (is_some (item_in (cell_at cs place).1) ≡ true) × (place < length cs) × ((y : Slot T) × ((cell_at cs place).1 ≡ Some y))
+  pub taken_raw : (cs : List (Ptr × Option (Slot T))) (ready : List (Chain T)) (place : ℕ) → IsTaken (raw_content cs ready) place
+      → (is_some (item_in (cell_at cs place).1) ≡ true) × (place < length cs) × ((y : Slot T) × ((cell_at cs place).1 ≡ Some y))
   taken_raw cs ready = taken_slot cs (each (places_of cs) ready)
 
-  pub item_raw : (cs : List (Ptr × Option (Slot T))) (ready : List (Chain T)) (place : ℕ) → item_at (raw_content cs ready) place ≡ item_in (cell_at cs place).1
+  pub item_raw : (cs : List (Ptr × Option (Slot T))) (ready : List (Chain T)) (place : ℕ)
+      → item_at (raw_content cs ready) place ≡ item_in (cell_at cs place).1
   item_raw cs ready = raw_item cs (each (places_of cs) ready)
 
-  pub items_same : (cs ds : List (Ptr × Option (Slot T))) → length ds ≡ length cs → ((i : ℕ) → item_in (cell_at ds i).1 ≡ item_in (cell_at cs i).1) → items_in ds ≡ items_in cs
+  pub items_same : (cs ds : List (Ptr × Option (Slot T))) → length ds ≡ length cs
+      → ((i : ℕ) → item_in (cell_at ds i).1 ≡ item_in (cell_at cs i).1) → items_in ds ≡ items_in cs
   items_same [] [] long same = refl
   items_same [] (d ∷ ds) long same = absurd (omega (arith, long))
   items_same (c ∷ cs) [] long same = absurd (omega (arith, long))
   items_same (c ∷ cs) (d ∷ ds) long same =
-      let here : item_in d.1 ≡ item_in c.1 = same 0 in let rest = items_same cs ds (omega (arith, long)) (λ i. same (suc i)) in λ i. here i ∷ rest i
+      let here : item_in d.1 ≡ item_in c.1 = same 0 in let rest =
+      items_same cs ds (omega (arith, long)) (λ i. same (suc i)) in λ i. here i ∷ rest i
 
-  pub pointers_same : (cs ds : List (Ptr × Option (Slot T))) → length ds ≡ length cs → ((i : ℕ) → (cell_at ds i).0 ≡ (cell_at cs i).0) → pointers_of ds ≡ pointers_of cs
+  pub pointers_same : (cs ds : List (Ptr × Option (Slot T))) → length ds ≡ length cs → ((i : ℕ) → (cell_at ds i).0 ≡ (cell_at cs i).0)
+      → pointers_of ds ≡ pointers_of cs
   pointers_same [] [] long same = refl
   pointers_same [] (d ∷ ds) long same = absurd (omega (arith, long))
   pointers_same (c ∷ cs) [] long same = absurd (omega (arith, long))
@@ -130,30 +145,39 @@ module _ {T : Type 0} where
       let here : d.0 ≡ c.0 = same 0 in let rest = pointers_same cs ds (omega (arith, long)) (λ i. same (suc i)) in λ i. here i ∷ rest i
 
   -- where the table says that a cell lies
-  pub located : (table : List (At (Slot T))) (cs : List (Ptr × Option (Slot T))) (place : ℕ) (d : At (Slot T)) → pointers_in table ≡ pointers_of cs → place < length table → (cell_at cs place).0 ≡ (get_or table place d).ptr
+  pub located : (table : List (At (Slot T))) (cs : List (Ptr × Option (Slot T))) (place : ℕ) (d : At (Slot T))
+      → pointers_in table ≡ pointers_of cs → place < length table → (cell_at cs place).0 ≡ (get_or table place d).ptr
   located table cs place d e lt =
-      sym (get_or-map (λ (c : Ptr × Option (Slot T)). c.0) cs place (null_ptr, None)) ∙ sym (ap (λ (ps : List Ptr). get_or ps place null_ptr) e) ∙ from table place lt
+      sym (get_or-map (λ (c : Ptr × Option (Slot T)). c.0) cs place (null_ptr, None))
+      ∙ sym (ap (λ (ps : List Ptr). get_or ps place null_ptr) e) ∙ from table place lt
     where
-      from : (table : List (At (Slot T))) (place : ℕ) → place < length table → get_or (pointers_in table) place null_ptr ≡ (get_or table place d).ptr
+      from : (table : List (At (Slot T))) (place : ℕ) → place < length table
+          → get_or (pointers_in table) place null_ptr ≡ (get_or table place d).ptr
       from [] place lt = absurd (omega arith)
       from (a ∷ table) zero lt = refl
       from (a ∷ table) (suc place) lt = from table place (omega arith)
 
-  pub table_long : (table : List (At (Slot T))) (cs : List (Ptr × Option (Slot T))) → pointers_in table ≡ pointers_of cs → length table ≡ length cs
-  table_long table cs e = sym (length-map table (λ (a : At (Slot T)). a.ptr)) ∙ ap length e ∙ length-map cs (λ (c : Ptr × Option (Slot T)). c.0)
+  pub table_long : (table : List (At (Slot T))) (cs : List (Ptr × Option (Slot T))) → pointers_in table ≡ pointers_of cs
+      → length table ≡ length cs
+  table_long table cs e =
+      sym (length-map table (λ (a : At (Slot T)). a.ptr)) ∙ ap length e ∙ length-map cs (λ (c : Ptr × Option (Slot T)). c.0)
 
   -- the same, with the lists given
-  pub record RawBy (alloc : Global) (blocks : List (Block T)) (table : List (At (Slot T))) (cs : List (Ptr × Option (Slot T))) (used room : ℕ) (free : Chain T) (ready : List (Chain T)) (vacant : List ℕ) (lists : List (List ℕ)) : Type 0 where
+  pub record RawBy (alloc : Global) (blocks : List (Block T)) (table : List (At (Slot T))) (cs : List (Ptr × Option (Slot T)))
+      (used room : ℕ) (free : Chain T) (ready : List (Chain T)) (vacant : List ℕ) (lists : List (List ℕ)) : Type 0 where
     pub linked : IsLinked cs free ready vacant lists
     pub counted : IsCounted cs used room (length vacant)
     pub tabled : HoldsFirst table cs used
     pub housed : IsHoused alloc blocks (pointers_of cs)
 
-  pub opened : {alloc : Global} {blocks : List (Block T)} {table : List (At (Slot T))} {cs : List (Ptr × Option (Slot T))} {used room : ℕ} {free : Chain T} {ready : List (Chain T)}
-      → IsRaw alloc blocks table cs used room free ready → RawBy alloc blocks table cs used room free ready (places_of cs free) (each (places_of cs) ready)
+  pub opened : {alloc : Global} {blocks : List (Block T)} {table : List (At (Slot T))} {cs : List (Ptr × Option (Slot T))} {used room : ℕ}
+      {free : Chain T} {ready : List (Chain T)}
+      → IsRaw alloc blocks table cs used room free ready
+      → RawBy alloc blocks table cs used room free ready (places_of cs free) (each (places_of cs) ready)
   opened h = record { linked = h.linked; counted = h.counted; tabled = h.tabled; housed = h.housed }
 
-  pub settled : {alloc : Global} {blocks : List (Block T)} {table : List (At (Slot T))} {cs : List (Ptr × Option (Slot T))} {used room : ℕ} {free : Chain T} {ready : List (Chain T)} {vacant : List ℕ} {lists : List (List ℕ)}
+  pub settled : {alloc : Global} {blocks : List (Block T)} {table : List (At (Slot T))} {cs : List (Ptr × Option (Slot T))}
+      {used room : ℕ} {free : Chain T} {ready : List (Chain T)} {vacant : List ℕ} {lists : List (List ℕ)}
       → RawBy alloc blocks table cs used room free ready vacant lists → IsRaw alloc blocks table cs used room free ready
   settled {cs = cs} {free = free} {ready = ready} {vacant = vacant} {lists = lists} h =
       let f = places_are cs free vacant h.linked.free_list in
@@ -166,7 +190,8 @@ module _ {T : Type 0} where
       }
 
   -- a slot that leads on as before, with another item
-  module _ (cs : List (Ptr × Option (Slot T))) (place : ℕ) (p : Ptr) (s : Slot T) (inside : place < length cs) (at : (cell_at cs place).0 ≡ p) (leads : s.next ≡ next_at cs place) where
+  module _ (cs : List (Ptr × Option (Slot T))) (place : ℕ) (p : Ptr) (s : Slot T) (inside : place < length cs) (at : (cell_at cs place).0
+      ≡ p) (leads : s.next ≡ next_at cs place) where
     abbrev ds : List (Ptr × Option (Slot T))
     ds = set cs place (p, Some s)
 
@@ -184,7 +209,8 @@ module _ {T : Type 0} where
 
     ptrs : (j : ℕ) → (cell_at ds j).0 ≡ (cell_at cs j).0
     ptrs j = elim (cases_eq j place) [
-      | inl same ↦ ap (λ k. (cell_at ds k).0) same ∙ ap (λ (c : Ptr × Option (Slot T)). c.0) this_slot ∙ sym at ∙ sym (ap (λ k. (cell_at cs k).0) same)
+      | inl same ↦ ap (λ k. (cell_at ds k).0) same ∙ ap (λ (c : Ptr × Option (Slot T)). c.0) this_slot ∙ sym at
+          ∙ sym (ap (λ k. (cell_at cs k).0) same)
       | inr other ↦ ap (λ (c : Ptr × Option (Slot T)). c.0) (other_slot j other)
     ]
 
@@ -212,7 +238,8 @@ module _ {T : Type 0} where
     content_put w rs e =
         let old : Slab T = record { slots = items_in cs; vacant_key = 0; capacity = 0 } in
         let new : Slab T = record { slots = items_in ds; vacant_key = 0; capacity = 0 } in
-        let items = items_of-insert old new place w (Updates-set old new place (Some w) within (written ∙ ap (set (items_in cs) place) e)) in
+        let items = items_of-insert old new place w (Updates-set old new place (Some w) within (written ∙ ap (set (items_in cs) place) e))
+        in
         λ i. record { items = items i; ready = rs }
 
     pub content_cleared : (rs : List (List ℕ)) → s.item ≡ None → content_of ds rs ≡ without_item (content_of cs rs) place
@@ -243,12 +270,14 @@ module _ {T : Type 0} where
     }
 
     -- where the place is in no free list, that stays one of free slots
-    pub put_empty : (ps : List ℕ) → stands place ps ≡ 0 → ((q : ℕ) → 0 < stands q ps → item_in (cell_at cs q).1 ≡ None) → (q : ℕ) → 0 < stands q ps → item_in (cell_at ds q).1 ≡ None
+    pub put_empty : (ps : List ℕ) → stands place ps ≡ 0 → ((q : ℕ) → 0 < stands q ps → item_in (cell_at cs q).1 ≡ None) → (q : ℕ)
+        → 0 < stands q ps → item_in (cell_at ds q).1 ≡ None
     put_empty ps none empty q more =
         let differs : q ≢ place = λ e. let gone : stands q ps ≡ 0 = ap (λ k. stands k ps) e ∙ none in omega (arith, gone) in
         ap (λ (c : Ptr × Option (Slot T)). item_in c.1) (other_slot q differs) ∙ empty q more
 
-    pub put_linked : {free : Chain T} {ready : List (Chain T)} {vacant : List ℕ} {lists : List (List ℕ)} → stands place vacant ≡ 0 → IsSound (content_of ds lists) → IsLinked cs free ready vacant lists → IsLinked ds free ready vacant lists
+    pub put_linked : {free : Chain T} {ready : List (Chain T)} {vacant : List ℕ} {lists : List (List ℕ)} → stands place vacant ≡ 0
+        → IsSound (content_of ds lists) → IsLinked cs free ready vacant lists → IsLinked ds free ready vacant lists
     put_linked {free} {ready} {vacant} {lists} none sound h = record {
       free_list = chain_same cs ds free vacant put_links (λ k more. nexts k) h.free_list;
       ready_lists = chains_same cs ds put_links ready lists (λ k more. nexts k) h.ready_lists;

@@ -41,7 +41,8 @@ module _ {T : Type 0} where
 
   -- the free places and the ready ones are those of the lists that run through the slots; no place stands in two lists;
   -- a free one has no item, and a ready one has
-  pub record IsLinked (cells : List (Ptr × Option (Slot T))) (free : Chain T) (ready : List (Chain T)) (vacant : List ℕ) (lists : List (List ℕ)) : Type 0 where
+  pub record IsLinked (cells : List (Ptr × Option (Slot T))) (free : Chain T) (ready : List (Chain T)) (vacant : List ℕ)
+      (lists : List (List ℕ)) : Type 0 where
     pub free_list : IsChain cells free vacant
     pub ready_lists : AreChains cells ready lists
     pub apart : (place : ℕ) → count_by (λ x. x == place) vacant + times place lists ≤ 1
@@ -60,7 +61,8 @@ module _ {T : Type 0} where
     pub most : length blocks ≤ BLOCKS
     pub cells : rows_of blocks ≡ pointers
 
-  pub record IsRaw (alloc : Global) (blocks : List (Block T)) (table : List (At (Slot T))) (cells : List (Ptr × Option (Slot T))) (used room : ℕ) (free : Chain T) (ready : List (Chain T)) : Type 0 where
+  pub record IsRaw (alloc : Global) (blocks : List (Block T)) (table : List (At (Slot T))) (cells : List (Ptr × Option (Slot T)))
+      (used room : ℕ) (free : Chain T) (ready : List (Chain T)) : Type 0 where
     pub linked : IsLinked cells free ready (places_of cells free) (each (places_of cells) ready)
     pub counted : IsCounted cells used room (length (places_of cells free))
     pub tabled : HoldsFirst table cells used

@@ -36,7 +36,8 @@ fn list_cells<T>(table: &mut Vec<At<Slot<T>>>, at: At<Slot<T>>)
     requires room { vec_len table.old + BLOCK ≤ vec_capacity table.old }
     requires in_block { InBlock at.ptr }
     requires fits { FitsInBlock (the_row T.row) BLOCK }
-    ensures { (row : List Ptr) → row_from (the_row T.row) at.ptr BLOCK ≡ empty_at row → pointers_in table.new.items ≡ pointers_in table.old.items ++ row }
+    ensures { (row : List Ptr) → row_from (the_row T.row) at.ptr BLOCK ≡ empty_at row
+        → pointers_in table.new.items ≡ pointers_in table.old.items ++ row }
 {
     for index in 0..BLOCK {
         table.push_reserved(at.nth(index));
@@ -50,7 +51,9 @@ pub(crate) fn add_block<T>(
     table: &mut Vec<At<Slot<T>>>,
     cells: &mut Cells<Slot<T>>,
 ) -> Result<(), AllocError>
-    ensures ok { OnOk result ((block : Block T) × IsBlock alloc block × (blocks.new.items ≡ blocks.old.items ++ block ∷ []) × (cells.new.cells ≡ cells.old.cells ++ empty_at block.deed.row) × (pointers_in table.new.items ≡ pointers_in table.old.items ++ block.deed.row)) }
+    ensures ok { OnOk result ((block : Block T) × IsBlock alloc block × (blocks.new.items ≡ blocks.old.items ++ block ∷ [])
+        × (cells.new.cells ≡ cells.old.cells ++ empty_at block.deed.row)
+        × (pointers_in table.new.items ≡ pointers_in table.old.items ++ block.deed.row)) }
     ensures cells { OnErr result (cells.new.cells ≡ cells.old.cells) }
     ensures blocks { OnErr result (blocks.new.items ≡ blocks.old.items) }
     ensures table { OnErr result (table.new.items ≡ table.old.items) }

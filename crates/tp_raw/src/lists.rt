@@ -16,8 +16,10 @@ pub(crate) fn push_to<T>(
     requires in_range { class < length ready.old }
     requires link { IsLink cells.old.cells link }
     requires lists { (lists : List (List ℕ)) × AreChains cells.old.cells ready.old lists × (times link.place lists ≡ 0) }
-    ensures lists { (lists : List (List ℕ)) → AreChains cells.old.cells ready.old lists → times link.place lists ≡ 0 → ((p : ℕ) → times p lists ≤ 1) → AreChains cells.new.cells ready.new (with_last lists class link.place) }
-    ensures others { (lists : List (List ℕ)) → AreChains cells.old.cells ready.old lists → KeepsOthers cells.old.cells cells.new.cells (link.place ∷ slice_index_or lists class []) }
+    ensures lists { (lists : List (List ℕ)) → AreChains cells.old.cells ready.old lists → times link.place lists ≡ 0
+        → ((p : ℕ) → times p lists ≤ 1) → AreChains cells.new.cells ready.new (with_last lists class link.place) }
+    ensures others { (lists : List (List ℕ)) → AreChains cells.old.cells ready.old lists
+        → KeepsOthers cells.old.cells cells.new.cells (link.place ∷ slice_index_or lists class []) }
 {
     append(cells, &mut ready[class], link);
 }
@@ -25,8 +27,10 @@ pub(crate) fn push_to<T>(
 // Takes the front slot out of the first list that has one.
 pub(crate) fn pop_from<T>(cells: &Cells<Slot<T>>, ready: &mut [Chain<T>]) -> Option<Link<T>>
     requires { (lists : List (List ℕ)) × AreChains cells.now.cells ready.old lists }
-    ensures next { (lists : List (List ℕ)) → AreChains cells.now.cells ready.old lists → MatchOption result (front lists ≡ None) (λ link. front lists ≡ Some link.place) }
-    ensures lists { (lists : List (List ℕ)) → AreChains cells.now.cells ready.old lists → AreChains cells.now.cells ready.new (without_front lists) }
+    ensures next { (lists : List (List ℕ)) → AreChains cells.now.cells ready.old lists
+        → MatchOption result (front lists ≡ None) (λ link. front lists ≡ Some link.place) }
+    ensures lists { (lists : List (List ℕ)) → AreChains cells.now.cells ready.old lists
+        → AreChains cells.now.cells ready.new (without_front lists) }
 {
     for chain in ready.iter_mut() {
         match take_front(cells, chain) {

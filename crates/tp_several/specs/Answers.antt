@@ -19,7 +19,8 @@ pub record AreRunAnswers (n workers : ℕ) (graphs : List AnyGraph) (answers : L
   pub each : (i : ℕ) (g : AnyGraph) (answer : Result Outcome Fault) → i < length graphs
       → IsRunAnswer n workers (slice_index_or graphs i g) (slice_index_or answers i answer)
 
--- Each pool that could be run was run on n nodes, with so many workers at each, and the answer of its rank is that of its own graph. By these answers the
+-- Each pool that could be run was run on n nodes, with so many workers at each, and the answer of its rank is that of
+-- its own graph. By these answers the
 -- pools stand now: each that was run is over or failed, each other stands as it stood.
 pub record AreRun (n workers : ℕ) (answers : List (Result Outcome Fault)) (old new : Pools) : Type 0 where
   pub own : (i : ℕ) (p : Entered) (answer : Result Outcome Fault) → slice_get old i ≡ Some p → is_waiting p ≡ true

@@ -1,5 +1,6 @@
 -- How `SlabSlots` keeps its invariant.
-use Rattle.std.proofs.Common.{◌≡◌, ℕ, suc, ◌+◌, ◌-◌, ◌<◌, ◌≤◌, ◌==◌, true, false, cond, List, length, get_or, [], Result, Ok, Err, IfErr, Option, Some, None, is_some, IfSome, refl, sym, ap, subst, ◌∙◌, inl, inr, arith, deque_len}
+use Rattle.std.proofs.Common.{◌≡◌, ℕ, suc, ◌+◌, ◌-◌, ◌<◌, ◌≤◌, ◌==◌, true, false, cond, List, length, get_or, [], Result, Ok, Err, IfErr}
+use Rattle.std.proofs.Common.{Option, Some, None, is_some, IfSome, refl, sym, ap, subst, ◌∙◌, inl, inr, arith, deque_len}
 use Rattle.std.proofs.lemmas.Bool.{cases_eq}
 use Rattle.std.proofs.lemmas.Bool.Decides.{nat_tests}
 use Rattle.std.specs.VecDeque.{deque_capacity}
@@ -11,15 +12,19 @@ use Rattle.std.specs.Result.{IsErrAnd}
 use Rattle.tp_base.specs.declared.refusal.Refusal.{Refusal}
 use Rattle.tp_base.specs.declared.refusal.Refusal.TheVariants.{NoMemory, StoreFull}
 use Rattle.tp_slots.specs.SlabSlots.{Roomy, places_of, content_of, EachHolds, IsKept}
-use Rattle.tp_slots.specs.Content.{Content, IsTaken, IsIdle, held_count, refusal_of_take, with_item, without_item, front, without_front, with_last, IsSound}
+use Rattle.tp_slots.specs.Content.{Content, IsTaken, IsIdle, held_count, refusal_of_take, with_item, without_item, front, without_front}
+use Rattle.tp_slots.specs.Content.{with_last, IsSound}
 use Rattle.tp_slots.proofs.SlabItems.{items_of, get-items_of, len-items_of, items_of-insert, items_of-remove, items_of-with_value, items_at}
-use Rattle.tp_slots.proofs.Sound.{room_to_push, IsSound-with_item, IsSound-without_item, IsSound-with_ready, IsSound-without_next, IsIdle-front}
+use Rattle.tp_slots.proofs.Sound.{room_to_push, IsSound-with_item, IsSound-without_item, IsSound-with_ready, IsSound-without_next}
+use Rattle.tp_slots.proofs.Sound.{IsIdle-front}
 
 module _ {T : Type 0} where
   len_rewritten : (s : Slab T) (key : ℕ) (v : T) → ContainsKey s key → slab_len (with_value s key v) ≡ slab_len s
   len_rewritten s key v has =
       let there : map.contains_key (items_of s) key ≡ true = ap is_some (get-items_of s key) ∙ has in
-      sym (len-items_of (with_value s key v)) ∙ ap map.len (items_of-with_value s key v has) ∙ map.len-insert nat_cmp_total (items_of s) key v ∙ ap (λ b. cond b (map.len (items_of s)) (map.len (items_of s) + 1)) there ∙ len-items_of s
+      sym (len-items_of (with_value s key v)) ∙ ap map.len (items_of-with_value s key v has)
+      ∙ map.len-insert nat_cmp_total (items_of s) key v ∙ ap (λ b. cond b (map.len (items_of s)) (map.len (items_of s) + 1)) there
+      ∙ len-items_of s
 
 module _ {T : Type 0} where
   pub is_full : (c : Content T) → held_count c ≡ 65536 → StoreFull ≡ refusal_of_take c
@@ -44,32 +49,41 @@ told (Err e) w h is = h ∙ is
 
 module _ {T A : Type 0} where
   -- what is held is counted by the slab
-  pub held : (s : Slab T) (r : List (VecDeque ℕ A)) {room : ℕ} (seen : Roomy T) → record { content = content_of s r; room = room } ≡ seen → held_count seen.content ≡ slab_len s
+  pub held : (s : Slab T) (r : List (VecDeque ℕ A)) {room : ℕ} (seen : Roomy T) → record { content = content_of s r; room = room } ≡ seen
+      → held_count seen.content ≡ slab_len s
   held s r seen is = ap (λ (v : Roomy T). held_count v.content) (sym is) ∙ len-items_of s
 
   pub has_key : (s : Slab T) (r : List (VecDeque ℕ A)) (place : ℕ) → IsTaken (content_of s r) place → ContainsKey s place
   has_key s r place taken = ap is_some (sym (get-items_of s place)) ∙ taken
 
-  pub with_items : (old new : Slab T) (r : List (VecDeque ℕ A)) (key : ℕ) (v : T) → Updates old new key (Some v) → content_of new r ≡ with_item (content_of old r) key v
+  pub with_items : (old new : Slab T) (r : List (VecDeque ℕ A)) (key : ℕ) (v : T) → Updates old new key (Some v)
+      → content_of new r ≡ with_item (content_of old r) key v
   with_items old new r key v u = λ i. record { items = items_of-insert old new key v u i; ready = places_of r }
 
-  pub without_items : (old new : Slab T) (r : List (VecDeque ℕ A)) (key : ℕ) → Updates old new key None → content_of new r ≡ without_item (content_of old r) key
+  pub without_items : (old new : Slab T) (r : List (VecDeque ℕ A)) (key : ℕ) → Updates old new key None
+      → content_of new r ≡ without_item (content_of old r) key
   without_items old new r key u = λ i. record { items = items_of-remove old new key u i; ready = places_of r }
 
-  pub rewritten_items : (s : Slab T) (r : List (VecDeque ℕ A)) (key : ℕ) (v : T) → ContainsKey s key → content_of (with_value s key v) r ≡ with_item (content_of s r) key v
+  pub rewritten_items : (s : Slab T) (r : List (VecDeque ℕ A)) (key : ℕ) (v : T) → ContainsKey s key
+      → content_of (with_value s key v) r ≡ with_item (content_of s r) key v
   rewritten_items s r key v has = λ i. record { items = items_of-with_value s key v has i; ready = places_of r }
 
-  pub with_places : (s : Slab T) (r q : List (VecDeque ℕ A)) (places : List (List ℕ)) → places_of q ≡ places → content_of s q ≡ record (content_of s r) { ready = places }
+  pub with_places : (s : Slab T) (r q : List (VecDeque ℕ A)) (places : List (List ℕ)) → places_of q ≡ places
+      → content_of s q ≡ record (content_of s r) { ready = places }
   with_places s r q places same = λ i. record { items = items_of s; ready = same i }
 
   -- only the capacities differ
-  pub same_content : (s new : Slab T) (r q : List (VecDeque ℕ A)) → new ≡ record s { capacity = new.capacity } → places_of q ≡ places_of r → content_of new q ≡ content_of s r
+  pub same_content : (s new : Slab T) (r q : List (VecDeque ℕ A)) → new ≡ record s { capacity = new.capacity } → places_of q ≡ places_of r
+      → content_of new q ≡ content_of s r
   same_content s new r q rest same = λ i. record { items = items_of (rest i); ready = same i }
 
-  pub with_value_roomy : (s : Slab T) (r : List (VecDeque ℕ A)) (room key : ℕ) (v : T) → ContainsKey s key → ◌≡◌ {A = Roomy T} (record { content = content_of (with_value s key v) r; room = room }) (record { content = with_item (content_of s r) key v; room = room })
+  pub with_value_roomy : (s : Slab T) (r : List (VecDeque ℕ A)) (room key : ℕ) (v : T) → ContainsKey s key
+      → ◌≡◌ {A = Roomy T} (record { content = content_of (with_value s key v) r; room = room })
+      (record { content = with_item (content_of s r) key v; room = room })
   with_value_roomy s r room key v has = λ i. record { content = rewritten_items s r key v has i; room = room }
 
-  pub IsKept-rewritten : (s : Slab T) (r : List (VecDeque ℕ A)) (room key : ℕ) (v : T) → IsKept s r room → ContainsKey s key → IsKept (with_value s key v) r room
+  pub IsKept-rewritten : (s : Slab T) (r : List (VecDeque ℕ A)) (room key : ℕ) (v : T) → IsKept s r room → ContainsKey s key
+      → IsKept (with_value s key v) r room
   IsKept-rewritten s r room key v kept has =
       let long = len_rewritten s key v has in
       record {
@@ -79,7 +93,8 @@ module _ {T A : Type 0} where
         within = omega (arith, kept.within);
       }
 
-  pub IsKept-removed : (s new : Slab T) (r : List (VecDeque ℕ A)) (room key : ℕ) → IsKept s r room → Updates s new key None → slab_len new + 1 ≡ slab_len s → new.capacity ≡ s.capacity → IsIdle (content_of s r) key → IsKept new r (room + 1)
+  pub IsKept-removed : (s new : Slab T) (r : List (VecDeque ℕ A)) (room key : ℕ) → IsKept s r room → Updates s new key None
+      → slab_len new + 1 ≡ slab_len s → new.capacity ≡ s.capacity → IsIdle (content_of s r) key → IsKept new r (room + 1)
   IsKept-removed s new r room key kept u less same idle = record {
     sound = subst IsSound (sym (without_items s new r key u)) (IsSound-without_item (content_of s r) key kept.sound idle);
     spare = omega (arith, kept.spare);
@@ -87,7 +102,8 @@ module _ {T A : Type 0} where
     within = omega (arith, kept.within);
   }
 
-  pub IsKept-inserted : (s new : Slab T) (r : List (VecDeque ℕ A)) (room key : ℕ) (v : T) → IsKept s r room → 0 < room → Updates s new key (Some v) → slab_len new ≡ slab_len s + 1 → new.capacity ≡ s.capacity → IsKept new r (room - 1)
+  pub IsKept-inserted : (s new : Slab T) (r : List (VecDeque ℕ A)) (room key : ℕ) (v : T) → IsKept s r room → 0 < room
+      → Updates s new key (Some v) → slab_len new ≡ slab_len s + 1 → new.capacity ≡ s.capacity → IsKept new r (room - 1)
   IsKept-inserted s new r room key v kept some u more same = record {
     sound = subst IsSound (sym (with_items s new r key v u)) (IsSound-with_item (content_of s r) key v kept.sound);
     spare = omega (arith, kept.spare);
@@ -96,7 +112,9 @@ module _ {T A : Type 0} where
   }
 
   -- the same content, with other room
-  pub IsKept-reserved : (s new : Slab T) (r q : List (VecDeque ℕ A)) (room more : ℕ) → IsKept s r room → new ≡ record s { capacity = new.capacity } → places_of q ≡ places_of r → HasRoomFor new more → EachHolds (slab_len s + more) q → slab_len s + more ≤ 65536 → IsKept new q more
+  pub IsKept-reserved : (s new : Slab T) (r q : List (VecDeque ℕ A)) (room more : ℕ) → IsKept s r room
+      → new ≡ record s { capacity = new.capacity } → places_of q ≡ places_of r → HasRoomFor new more → EachHolds (slab_len s + more) q
+      → slab_len s + more ≤ 65536 → IsKept new q more
   IsKept-reserved s new r q room more kept rest same spare lists within =
       let long : slab_len new ≡ slab_len s = ap slab_len rest in
       record {
@@ -106,7 +124,8 @@ module _ {T A : Type 0} where
         within = omega arith;
       }
 
-  pub IsKept-pushed : (s : Slab T) (r q : List (VecDeque ℕ A)) (room class place : ℕ) → IsKept s r room → IsIdle (content_of s r) place → class < 4 → places_of q ≡ with_last (places_of r) class place → EachHolds (slab_len s + room) q → IsKept s q room
+  pub IsKept-pushed : (s : Slab T) (r q : List (VecDeque ℕ A)) (room class place : ℕ) → IsKept s r room → IsIdle (content_of s r) place
+      → class < 4 → places_of q ≡ with_last (places_of r) class place → EachHolds (slab_len s + room) q → IsKept s q room
   IsKept-pushed s r q room class place kept idle h same lists = record {
     sound = subst IsSound (sym (with_places s r q _ same)) (IsSound-with_ready (content_of s r) class place kept.sound idle h);
     spare = kept.spare;
@@ -114,7 +133,8 @@ module _ {T A : Type 0} where
     within = kept.within;
   }
 
-  pub IsKept-popped : (s : Slab T) (r q : List (VecDeque ℕ A)) (room : ℕ) → IsKept s r room → places_of q ≡ without_front (places_of r) → EachHolds (slab_len s + room) q → IsKept s q room
+  pub IsKept-popped : (s : Slab T) (r q : List (VecDeque ℕ A)) (room : ℕ) → IsKept s r room → places_of q ≡ without_front (places_of r)
+      → EachHolds (slab_len s + room) q → IsKept s q room
   IsKept-popped s r q room kept same lists = record {
     sound = subst IsSound (sym (with_places s r q _ same)) (IsSound-without_next (content_of s r) kept.sound);
     spare = kept.spare;
@@ -123,11 +143,18 @@ module _ {T A : Type 0} where
   }
 
   -- a queue has room for a place that is in none
-  pub has_room : (s : Slab T) (r : List (VecDeque ℕ A)) (room class place : ℕ) (d : VecDeque ℕ A) → IsKept s r room → IsIdle (content_of s r) place → class < length r → deque_len (get_or r class d) < deque_capacity (get_or r class d)
+  pub has_room : (s : Slab T) (r : List (VecDeque ℕ A)) (room class place : ℕ) (d : VecDeque ℕ A) → IsKept s r room
+      → IsIdle (content_of s r) place → class < length r → deque_len (get_or r class d) < deque_capacity (get_or r class d)
   has_room s r room class place d kept idle h =
-      let fits : suc (length (get_or r class d).items) ≤ slab_len s = subst (λ xs. suc (length xs) ≤ slab_len s) (items_at r class d h) (subst (λ n. suc (length (get_or (places_of r) class [])) ≤ n) (len-items_of s) (room_to_push (content_of s r) place class kept.sound idle)) in
+      let fits : suc (length (get_or r class d).items) ≤ slab_len s =
+      subst (λ xs.
+      suc (length xs) ≤ slab_len s) (items_at r class d h)
+      (subst (λ n.
+      suc (length (get_or (places_of r) class [])) ≤ n) (len-items_of s) (room_to_push (content_of s r) place class kept.sound idle)) in
       omega (arith, fits, kept.lists class d h, (get_or r class d).ok.0)
 
-  pub front_idle : (s : Slab T) (r q : List (VecDeque ℕ A)) (room : ℕ) (o : Option ℕ) → IsKept s r room → places_of q ≡ without_front (places_of r) → o ≡ front (places_of r) → IfSome o (IsIdle (content_of s q))
+  pub front_idle : (s : Slab T) (r q : List (VecDeque ℕ A)) (room : ℕ) (o : Option ℕ) → IsKept s r room
+      → places_of q ≡ without_front (places_of r) → o ≡ front (places_of r) → IfSome o (IsIdle (content_of s q))
   front_idle s r q room None kept same e = tt
-  front_idle s r q room (Some x) kept same e = subst (λ (c : Content T). IsIdle c x) (sym (with_places s r q _ same)) (IsIdle-front (content_of s r) x kept.sound (sym e))
+  front_idle s r q room (Some x) kept same e =
+      subst (λ (c : Content T). IsIdle c x) (sym (with_places s r q _ same)) (IsIdle-front (content_of s r) x kept.sound (sym e))

@@ -42,7 +42,8 @@ module _ {X : Type 0} where
   map-push f [] x = refl
   map-push f (y ∷ ys) x = ap (λ l. f y ∷ l) (map-push f ys x)
 
-  pub with_last-each : (f : ℕ → X) (rs : List (List ℕ)) (class k : ℕ) (p : X) → class < length rs → f k ≡ p → with_last (each f rs) class p ≡ each f (with_last rs class k)
+  pub with_last-each : (f : ℕ → X) (rs : List (List ℕ)) (class k : ℕ) (p : X) → class < length rs → f k ≡ p
+      → with_last (each f rs) class p ≡ each f (with_last rs class k)
   with_last-each f [] class k p lt e = absurd (omega arith)
   with_last-each f (r ∷ rs) zero k p lt e = ap (λ l. l ∷ each f rs) (ap (λ y. map f r ++ y ∷ []) (sym e) ∙ sym (map-push f r k))
   with_last-each f (r ∷ rs) (suc class) k p lt e = ap (λ l. map f r ∷ l) (with_last-each f rs class k p (omega arith) e)

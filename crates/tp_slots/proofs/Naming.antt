@@ -1,5 +1,7 @@
 -- How the commands keep what `Tells` says.
-use Rattle.std.proofs.Common.{◌≡◌, ◌≢◌, ℕ, zero, suc, ◌+◌, ◌<◌, ◌≤◌, ◌==◌, nat_lt, Bool, true, false, cond, List, [], ◌∷◌, ◌++◌, map, length, get_or, set, drop, Option, Some, None, is_some, IsSome, count_by, refl, sym, ap, subst, ◌∙◌, inl, inr, arith}
+use Rattle.std.proofs.Common.{◌≡◌, ◌≢◌, ℕ, zero, suc, ◌+◌, ◌<◌, ◌≤◌, ◌==◌, nat_lt, Bool, true, false, cond, List, [], ◌∷◌, ◌++◌, map}
+use Rattle.std.proofs.Common.{length, get_or, set, drop, Option, Some, None, is_some, IsSome, count_by, refl, sym, ap, subst, ◌∙◌, inl, inr}
+use Rattle.std.proofs.Common.{arith}
 use Rattle.std.proofs.lemmas.Bool.{cases_eq, cases_lt}
 use Rattle.std.proofs.lemmas.Bool.Decides.{nat_tests}
 use Rattle.std.proofs.lemmas.List.{length-set, length-append, get_or-set_same, get_or-set_other, get_or_past, append_assoc, at_drop_more}
@@ -7,7 +9,8 @@ use Rattle.std.proofs.lemmas.List.Sums.{sum_by-cons, sum_by-append, sum_by-set}
 use Rattle.std.specs.Ordering.{nat_cmp, eq_by_cmp}
 use Rattle.std.specs.Cmp.{nat_cmp_total, unsigned_tied}
 use Rattle.std.specs.FinMap as map
-use Rattle.tp_slots.specs.Content.{Content, times, front, without_front, with_last, item_at, IsIdle, held_count, with_item, without_item, with_ready, without_next, nothing_held}
+use Rattle.tp_slots.specs.Content.{Content, times, front, without_front, with_last, item_at, IsIdle, held_count, with_item, without_item}
+use Rattle.tp_slots.specs.Content.{with_ready, without_next, nothing_held}
 use Rattle.tp_slots.specs.Commands.{State, start, held, is_listed, is_full, reply_of, after, replies_of}
 use Rattle.tp_base.specs.declared.Refusal.TheVariants.{StoreFull, BadSpec}
 use Rattle.tp_slots.specs.declared.run.Command.{Command}
@@ -18,7 +21,8 @@ use Rattle.tp_slots.specs.Names.{name_at, place_of, Agrees, Tells}
 use Rattle.tp_slots.specs.declared.run.Standing.{Standing}
 use Rattle.tp_slots.specs.declared.run.Standing.TheVariants.{Gone, Held}
 use Rattle.tp_slots.proofs.Lists.{each, same_each, front-each, front_none-each, without_front-each, with_last-each}
-use Rattle.tp_slots.proofs.Sound.{stands, stands-cons, times-with_last, times-front, length-without_front, without_front-empty, get_inserted, get_removed}
+use Rattle.tp_slots.proofs.Sound.{stands, stands-cons, times-with_last, times-front, length-without_front, without_front-empty}
+use Rattle.tp_slots.proofs.Sound.{get_inserted, get_removed}
 
 module _ {X : Type 0} where
   pub get_or_push_other : (xs : List X) (x d : X) (j : ℕ) → j ≢ length xs → get_or (xs ++ x ∷ []) j d ≡ get_or xs j d
@@ -33,7 +37,8 @@ module _ {X : Type 0} where
   get_or_push_same (y ∷ ys) x d zero e = absurd (omega arith)
   get_or_push_same (y ∷ ys) x d (suc j) e = get_or_push_same ys x d j (omega arith)
 
-  pub count_push : (items : List (Option X)) (o : Option X) → count_by is_some (items ++ o ∷ []) ≡ count_by is_some items + cond (is_some o) 1 0
+  pub count_push : (items : List (Option X)) (o : Option X)
+      → count_by is_some (items ++ o ∷ []) ≡ count_by is_some items + cond (is_some o) 1 0
   count_push items o = omega (arith, sum_by-append (λ y. cond (is_some y) 1 0) items (o ∷ []), sum_by-cons (λ y. cond (is_some y) 1 0) o [])
 
 none_in_list : (f : ℕ → ℕ) (p : ℕ) (xs : List ℕ) → ((k : ℕ) → 0 < stands k xs → f k ≢ p) → stands p (map f xs) ≡ 0
@@ -53,7 +58,8 @@ pub elsewhere : (p q : ℕ) → q ≢ p → eq_by_cmp nat_cmp p q ≡ false
 elsewhere p q differs = unsigned_tied p q ∙ grind (arith, nat_tests)
 
 -- ---- what `Agrees` says
-pub agrees_held : (c : Content ℕ) (n : Standing) (p : ℕ) (f : Bool) (o : Option ℕ) (l : Bool) → n ≡ Held p f → Agrees c n o l → (item_at c p ≡ o) × IsSome o × (f ≡ l)
+pub agrees_held : (c : Content ℕ) (n : Standing) (p : ℕ) (f : Bool) (o : Option ℕ) (l : Bool) → n ≡ Held p f → Agrees c n o l
+    → (item_at c p ≡ o) × IsSome o × (f ≡ l)
 agrees_held c n p f o l e a = subst (λ m. Agrees c m o l) e a
 
 pub listed_held : (c : Content ℕ) (n : Standing) (o : Option ℕ) → Agrees c n o true → (p : ℕ) × (n ≡ Held p true)
@@ -63,14 +69,17 @@ listed_held c (Held p f) o a = (p, ap (λ b. Held p b) a.2)
 agrees_unlisted : (c : Content ℕ) (o : Option ℕ) (l : Bool) → Agrees c Gone o l → l ≡ false
 agrees_unlisted c o l a = a.1
 
-agrees_inserted : (c : Content ℕ) (p v : ℕ) (n : Standing) (o : Option ℕ) (l : Bool) → item_at c p ≡ None → Agrees c n o l → Agrees (with_item c p v) n o l
+agrees_inserted : (c : Content ℕ) (p v : ℕ) (n : Standing) (o : Option ℕ) (l : Bool) → item_at c p ≡ None → Agrees c n o l
+    → Agrees (with_item c p v) n o l
 agrees_inserted c p v Gone o l free a = a
 agrees_inserted c p v (Held q f) o l free a = elim (cases_eq q p) [
   | inl same ↦ let none : o ≡ None = sym a.0 ∙ ap (item_at c) same ∙ free in let some : is_some o ≡ true = a.1 in cc
-  | inr differs ↦ let e : (q == p) ≡ false = grind (arith, nat_tests) in (get_inserted c.items p v q ∙ ap (λ b. cond b (Some v) (item_at c q)) e ∙ a.0, a.1, a.2)
+  | inr differs ↦ let e : (q == p) ≡ false =
+      grind (arith, nat_tests) in (get_inserted c.items p v q ∙ ap (λ b. cond b (Some v) (item_at c q)) e ∙ a.0, a.1, a.2)
 ]
 
-agrees_removed : (c : Content ℕ) (p : ℕ) (n : Standing) (o : Option ℕ) (l : Bool) → ((q : ℕ) (f : Bool) → n ≡ Held q f → q ≢ p) → Agrees c n o l → Agrees (without_item c p) n o l
+agrees_removed : (c : Content ℕ) (p : ℕ) (n : Standing) (o : Option ℕ) (l : Bool) → ((q : ℕ) (f : Bool) → n ≡ Held q f → q ≢ p)
+    → Agrees c n o l → Agrees (without_item c p) n o l
 agrees_removed c p Gone o l apart a = a
 agrees_removed c p (Held q f) o l apart a =
     let differs : q ≢ p = apart q f refl in
@@ -100,7 +109,8 @@ module _ (c : Content ℕ) (names : List Standing) (numbers : ℕ → Option ℕ
   gone_past k h = get_or_past names k Gone h
 
   pub listed_at : (k : ℕ) → 0 < times k s.ready → (p : ℕ) × (name_at names k ≡ Held p true)
-  listed_at k h = listed_held c (name_at names k) (held s k) (subst (Agrees c (name_at names k) (held s k)) (listed k s.ready h) (t.agree k))
+  listed_at k h =
+      listed_held c (name_at names k) (held s k) (subst (Agrees c (name_at names k) (held s k)) (listed k s.ready h) (t.agree k))
 
   -- no two numbers have one place
   pub apart : (j k p : ℕ) (a b : Bool) → name_at names j ≡ Held p a → name_at names k ≡ Held p b → j ≡ k
@@ -120,7 +130,8 @@ module _ (c : Content ℕ) (names : List Standing) (numbers : ℕ → Option ℕ
             absurd (omega arith));
       }
 
-  pub taken : (p v : ℕ) (new : ℕ → Option ℕ) → item_at c p ≡ None → new p ≡ Some (length names) → ((q : ℕ) → q ≢ p → new q ≡ numbers q) → Tells (with_item c p v) (names ++ Held p false ∷ []) new (record s { items = s.items ++ Some v ∷ [] })
+  pub taken : (p v : ℕ) (new : ℕ → Option ℕ) → item_at c p ≡ None → new p ≡ Some (length names) → ((q : ℕ) → q ≢ p → new q ≡ numbers q)
+      → Tells (with_item c p v) (names ++ Held p false ∷ []) new (record s { items = s.items ++ Some v ∷ [] })
   taken p v new free here others = record {
     long = omega (arith, t.long, length-append names (Held p false ∷ []), length-append s.items (Some v ∷ []));
     agree = λ k. elim (cases_eq k (length names)) [
@@ -128,7 +139,9 @@ module _ (c : Content ℕ) (names : List Standing) (numbers : ℕ → Option ℕ
           let here : name_at (names ++ Held p false ∷ []) k ≡ Held p false = get_or_push_same names (Held p false) Gone k same in
           let item : get_or (s.items ++ Some v ∷ []) k None ≡ Some v = get_or_push_same s.items (Some v) None k (same ∙ t.long) in
           let new : (p == p) ≡ true = grind (arith, nat_tests) in
-          let not_listed : is_listed s k ≡ false = agrees_unlisted c (held s k) (is_listed s k) (subst (λ n. Agrees c n (held s k) (is_listed s k)) (gone_past k (omega arith)) (t.agree k)) in
+          let not_listed : is_listed s k ≡ false =
+          agrees_unlisted c (held s k) (is_listed s k)
+          (subst (λ n. Agrees c n (held s k) (is_listed s k)) (gone_past k (omega arith)) (t.agree k)) in
           rw (here, item) (get_inserted c.items p v p ∙ ap (λ b. cond b (Some v) (item_at c p)) new, refl, sym not_listed)
       | inr other ↦
           rw (get_or_push_other names (Held p false) Gone k other, get_or_push_other s.items (Some v) None k (λ e. other (e ∙ sym t.long)))
@@ -149,11 +162,13 @@ module _ (c : Content ℕ) (names : List Standing) (numbers : ℕ → Option ℕ
     ];
     lists = t.lists ∙ same_each at (λ k. place_of (name_at (names ++ Held p false ∷ []) k)) s.ready (λ k more.
         let is = listed_at k more in
-        let inside : k ≢ length names = λ e. let gone = gone_past k (omega arith) in let clash : Gone ≡ Held is.0 true = sym gone ∙ is.1 in cc in
+        let inside : k ≢ length names = λ e. let gone = gone_past k (omega arith) in let clash : Gone ≡ Held is.0 true =
+        sym gone ∙ is.1 in cc in
         ap place_of (sym (get_or_push_other names (Held p false) Gone k inside)));
     once = t.once;
     four = t.four;
-    count = map.len-insert nat_cmp_total c.items p v ∙ ap (λ (o : Option ℕ). cond (is_some o) (held_count c) (held_count c + 1)) free ∙ ap (λ n. n + 1) t.count ∙ sym (count_push s.items (Some v));
+    count = map.len-insert nat_cmp_total c.items p v ∙ ap (λ (o : Option ℕ). cond (is_some o) (held_count c) (held_count c + 1)) free
+        ∙ ap (λ n. n + 1) t.count ∙ sym (count_push s.items (Some v));
   }
 
   pub refused : Tells c (names ++ Gone ∷ []) numbers (record s { items = s.items ++ None ∷ [] })
@@ -190,7 +205,8 @@ module _ (c : Content ℕ) (names : List Standing) (numbers : ℕ → Option ℕ
     renamed : (g : Bool) (i q : ℕ) (a : Bool) → name_at (set names k (Held p g)) i ≡ Held q a → numbers q ≡ Some i
     renamed g i q a ei = elim (cases_eq i k) [
       | inl same ↦
-          let now : name_at (set names k (Held p g)) i ≡ Held p g = ap (name_at (set names k (Held p g))) same ∙ get_or-set_same names k (Held p g) Gone within in
+          let now : name_at (set names k (Held p g)) i ≡ Held p g =
+          ap (name_at (set names k (Held p g))) same ∙ get_or-set_same names k (Held p g) Gone within in
           let qp : p ≡ q = ap place_of (sym now ∙ ei) in
           ap numbers (sym qp) ∙ t.numbered k p f e ∙ ap (λ n. Some n) (sym same)
       | inr other ↦ t.numbered i q a (sym (get_or-set_other names k i (Held p g) Gone other) ∙ ei)
@@ -198,44 +214,59 @@ module _ (c : Content ℕ) (names : List Standing) (numbers : ℕ → Option ℕ
 
     renamed_lists : (g : Bool) (rs : List (List ℕ)) → each at rs ≡ each (λ j. place_of (name_at (set names k (Held p g)) j)) rs
     renamed_lists g rs = same_each at (λ j. place_of (name_at (set names k (Held p g)) j)) rs (λ j more. elim (cases_eq j k) [
-      | inl same ↦ ap at same ∙ ap place_of e ∙ sym (ap place_of (ap (name_at (set names k (Held p g))) same ∙ get_or-set_same names k (Held p g) Gone within))
+      | inl same ↦ ap at same ∙ ap place_of e
+          ∙ sym (ap place_of (ap (name_at (set names k (Held p g))) same ∙ get_or-set_same names k (Held p g) Gone within))
       | inr other ↦ ap place_of (sym (get_or-set_other names k j (Held p g) Gone other))
     ])
 
     -- the name keeps its place, and the lists change for this number alone
-    relisted : (g : Bool) (d : Content ℕ) (rs : List (List ℕ)) → c.items ≡ d.items → d.ready ≡ each at rs → g ≡ nat_lt 0 (times k rs) → ((j : ℕ) → j ≢ k → times j rs ≡ times j s.ready) → times k rs ≤ 1 → length rs ≡ 4
+    relisted : (g : Bool) (d : Content ℕ) (rs : List (List ℕ)) → c.items ≡ d.items → d.ready ≡ each at rs → g ≡ nat_lt 0 (times k rs)
+        → ((j : ℕ) → j ≢ k → times j rs ≡ times j s.ready) → times k rs ≤ 1 → length rs ≡ 4
         → Tells d (set names k (Held p g)) numbers (record s { ready = rs })
     relisted g d rs items lists is others once four = record {
       long = length-set names k (Held p g) ∙ t.long;
       agree = λ j. elim (cases_eq j k) [
         | inl same ↦
-            let now : name_at (set names k (Held p g)) j ≡ Held p g = ap (name_at (set names k (Held p g))) same ∙ get_or-set_same names k (Held p g) Gone within in
+            let now : name_at (set names k (Held p g)) j ≡ Held p g =
+            ap (name_at (set names k (Held p g))) same ∙ get_or-set_same names k (Held p g) Gone within in
             let a = agrees_held c (name_at names k) p f (held s k) (is_listed s k) e (t.agree k) in
-            rw now (ap (λ i. map.get i p) (sym items) ∙ a.0 ∙ ap (held s) (sym same), ap (λ m. is_some (held s m)) same ∙ a.1, is ∙ ap (λ m. nat_lt 0 (times m rs)) (sym same))
+            rw now (
+              ap (λ i. map.get i p) (sym items) ∙ a.0 ∙ ap (held s) (sym same),
+              ap (λ m. is_some (held s m)) same ∙ a.1,
+              is ∙ ap (λ m. nat_lt 0 (times m rs)) (sym same),
+            )
         | inr other ↦
             rw (get_or-set_other names k j (Held p g) Gone other)
-            (agrees_lists c d (name_at names j) (held s j) (is_listed s j) (nat_lt 0 (times j rs)) items (ap (nat_lt 0) (sym (others j other))) (t.agree j))
+            (agrees_lists c d (name_at names j) (held s j) (is_listed s j) (nat_lt 0 (times j rs)) items
+            (ap (nat_lt 0) (sym (others j other))) (t.agree j))
       ];
       numbered = renamed g;
       lists = lists ∙ renamed_lists g rs;
-      once = λ j. elim (cases_eq j k) [ inl same ↦ subst (λ m. times m rs ≤ 1) (sym same) once | inr other ↦ rw (others j other) (t.once j) ];
+      once = λ j. elim (cases_eq j k) [
+        | inl same ↦ subst (λ m. times m rs ≤ 1) (sym same) once
+        | inr other ↦ rw (others j other) (t.once j)
+      ];
       four = four;
       count = ap map.len (sym items) ∙ t.count;
     }
 
-  pub pushed : (k p class : ℕ) → name_at names k ≡ Held p false → class < 4 → Tells (with_ready c class p) (set names k (Held p true)) numbers (record s { ready = with_last s.ready class k })
+  pub pushed : (k p class : ℕ) → name_at names k ≡ Held p false → class < 4
+      → Tells (with_ready c class p) (set names k (Held p true)) numbers (record s { ready = with_last s.ready class k })
   pushed k p class e lt =
       let four = t.four in let inside : class < length s.ready = omega arith in
       let a = agrees_held c (name_at names k) p false (held s k) (is_listed s k) e (t.agree k) in
       let none : times k s.ready ≡ 0 = unlisted k s.ready (sym a.2) in
-      let count : (j : ℕ) → times j (with_last s.ready class k) ≡ times j s.ready + cond (k == j) 1 0 = λ j. times-with_last s.ready class j k inside in
+      let count : (j : ℕ) → times j (with_last s.ready class k) ≡ times j s.ready + cond (k == j) 1 0 =
+      λ j. times-with_last s.ready class j k inside in
       let one : times k (with_last s.ready class k) ≡ 1 = grind (arith, nat_tests, count k) in
       relisted k p false e true (with_ready c class p) (with_last s.ready class k) refl
       (ap (λ r. with_last r class p) t.lists ∙ with_last-each at s.ready class k p inside (ap place_of e))
       (sym (listed k (with_last s.ready class k) (omega arith)))
-      (λ j other. let apart : k ≢ j = λ same. other (sym same) in grind (arith, nat_tests, count j)) (omega arith) (length-set s.ready class _ ∙ t.four)
+      (λ j other. let apart : k ≢ j = λ same. other (sym same) in
+      grind (arith, nat_tests, count j)) (omega arith) (length-set s.ready class _ ∙ t.four)
 
-  pub popped : (k p : ℕ) (f : Bool) → front s.ready ≡ Some k → name_at names k ≡ Held p f → Tells (without_next c) (set names k (Held p false)) numbers (record s { ready = without_front s.ready })
+  pub popped : (k p : ℕ) (f : Bool) → front s.ready ≡ Some k → name_at names k ≡ Held p f
+      → Tells (without_next c) (set names k (Held p false)) numbers (record s { ready = without_front s.ready })
   popped k p f first e =
       let count : (j : ℕ) → times j s.ready ≡ cond (k == j) 1 0 + times j (without_front s.ready) = λ j. times-front s.ready k j first in
       let none : times k (without_front s.ready) ≡ 0 = grind (arith, nat_tests, count k, t.once k) in
@@ -243,7 +274,8 @@ module _ (c : Content ℕ) (names : List Standing) (numbers : ℕ → Option ℕ
       relisted k p f e false (without_next c) (without_front s.ready) refl
       (ap without_front t.lists ∙ without_front-each at s.ready)
       (sym out)
-      (λ j other. let apart : k ≢ j = λ same. other (sym same) in grind (arith, nat_tests, count j)) (omega arith) (length-without_front s.ready ∙ t.four)
+      (λ j other. let apart : k ≢ j = λ same. other (sym same) in
+      grind (arith, nat_tests, count j)) (omega arith) (length-without_front s.ready ∙ t.four)
 
   -- the front of the slots' lists is the place of the front of the state's
   pub front_place : (k : ℕ) → front s.ready ≡ Some k → front c.ready ≡ Some (at k)
@@ -256,9 +288,11 @@ module _ (c : Content ℕ) (names : List Standing) (numbers : ℕ → Option ℕ
   unchanged_without_front none =
       let same : without_front s.ready ≡ s.ready = without_front-empty s.ready none in
       let same_c : without_front c.ready ≡ c.ready = without_front-empty c.ready (front_empty none) in
-      subst (λ (rs : List (List ℕ) × List (List ℕ)). Tells (record c { ready = rs.0 }) names numbers (record s { ready = rs.1 })) (λ i. (sym same_c i, sym same i)) t
+      subst (λ (rs : List (List ℕ) × List (List ℕ)). Tells (record c { ready = rs.0 }) names numbers (record s { ready = rs.1 })) (λ i.
+      (sym same_c i, sym same i)) t
 
-  pub given_back : (k p : ℕ) → name_at names k ≡ Held p false → Tells (without_item c p) (set names k Gone) numbers (record s { items = set s.items k None })
+  pub given_back : (k p : ℕ) → name_at names k ≡ Held p false
+      → Tells (without_item c p) (set names k Gone) numbers (record s { items = set s.items k None })
   given_back k p e =
       let lt = within k p false e in
       let a = agrees_held c (name_at names k) p false (held s k) (is_listed s k) e (t.agree k) in
@@ -274,15 +308,18 @@ module _ (c : Content ℕ) (names : List Standing) (numbers : ℕ → Option ℕ
         agree = λ j. elim (cases_eq j k) [
           | inl same ↦
               let name : name_at (set names k Gone) j ≡ Gone = ap (name_at (set names k Gone)) same ∙ set_name in
-              let item : get_or (set s.items k None) j None ≡ None = ap (λ m. get_or (set s.items k None) m None) same ∙ get_or-set_same s.items k None None (omega (arith, t.long)) in
+              let item : get_or (set s.items k None) j None ≡ None =
+              ap (λ m. get_or (set s.items k None) m None) same ∙ get_or-set_same s.items k None None (omega (arith, t.long)) in
               rw (name, item) (refl, ap (is_listed s) same ∙ sym a.2)
           | inr other ↦
               rw (get_or-set_other names k j Gone Gone other, get_or-set_other s.items k j None None other)
-              (agrees_removed c p (name_at names j) (held s j) (is_listed s j) (λ q x ej qp. other (apart j k q x false ej (e ∙ ap (λ r. Held r false) (sym qp)))) (t.agree j))
+              (agrees_removed c p (name_at names j) (held s j) (is_listed s j) (λ q x ej qp.
+              other (apart j k q x false ej (e ∙ ap (λ r. Held r false) (sym qp)))) (t.agree j))
         ];
         numbered = λ i q x ei. t.numbered i q x (back i q x ei);
         lists = t.lists ∙ same_each at (λ j. place_of (name_at (set names k Gone) j)) s.ready (λ j more. elim (cases_eq j k) [
-          | inl same ↦ let none : times k s.ready ≡ 0 = unlisted k s.ready (sym a.2) in let some : 0 < times k s.ready = subst (λ m. 0 < times m s.ready) same more in absurd (omega arith)
+          | inl same ↦ let none : times k s.ready ≡ 0 = unlisted k s.ready (sym a.2) in let some : 0 < times k s.ready =
+              subst (λ m. 0 < times m s.ready) same more in absurd (omega arith)
           | inr other ↦ ap place_of (sym (get_or-set_other names k j Gone Gone other))
         ]);
         once = t.once;
@@ -312,34 +349,44 @@ module _ (c : Content ℕ) (names : List Standing) (numbers : ℕ → Option ℕ
   ]) refl
 
   pub next_number : (p : ℕ) → front c.ready ≡ Some p → (k : ℕ) × (front s.ready ≡ Some k) × (name_at names k ≡ Held p true)
-  next_number p e = (elim (front s.ready) as (λ o. front s.ready ≡ o → (k : ℕ) × (front s.ready ≡ Some k) × (name_at names k ≡ Held p true)) [
-    | None ↦ λ is. let clash : None ≡ Some p = sym (front_empty is) ∙ e in cc
-    | Some k ↦ λ is.
-        let more : 0 < times k s.ready = grind (arith, nat_tests, times-front s.ready k k is) in
-        let name = listed_at k more in
-        let both : Some (at k) ≡ Some p = sym (front_place k is) ∙ e in
-        let place : at k ≡ p = cc in
-        (k, is, name.1 ∙ ap (λ q. Held q true) (sym (ap place_of name.1) ∙ place))
-  ]) refl
+  next_number p e =
+      (elim (front s.ready) as (λ o. front s.ready ≡ o → (k : ℕ) × (front s.ready ≡ Some k) × (name_at names k ≡ Held p true)) [
+        | None ↦ λ is. let clash : None ≡ Some p = sym (front_empty is) ∙ e in cc
+        | Some k ↦ λ is.
+            let more : 0 < times k s.ready = grind (arith, nat_tests, times-front s.ready k k is) in
+            let name = listed_at k more in
+            let both : Some (at k) ≡ Some p = sym (front_place k is) ∙ e in
+            let place : at k ≡ p = cc in
+            (k, is, name.1 ∙ ap (λ q. Held q true) (sym (ap place_of name.1) ∙ place))
+      ]) refl
 
-pub GiveBack_reply : (s : State) (k v : ℕ) → held s k ≡ Some v → is_listed s k ≡ false → (Item v ≡ reply_of (GiveBack k) s) × (record s { items = set s.items k None } ≡ after (GiveBack k) s)
+pub GiveBack_reply : (s : State) (k v : ℕ) → held s k ≡ Some v → is_listed s k ≡ false → (Item v ≡ reply_of (GiveBack k) s)
+    × (record s { items = set s.items k None } ≡ after (GiveBack k) s)
 GiveBack_reply s k v h l = (rw (h, l) refl, rw (h, l) refl)
 
-pub PushReady_reply : (s : State) (k class v : ℕ) → held s k ≡ Some v → is_listed s k ≡ false → class < 4 → (Plain ≡ reply_of (PushReady k class) s) × (record s { ready = with_last s.ready class k } ≡ after (PushReady k class) s)
-PushReady_reply s k class v h l lt = let low : nat_lt class 4 ≡ true = grind (arith, nat_tests) in (rw (h, l, low) refl, rw (h, l, low) refl)
+pub PushReady_reply : (s : State) (k class v : ℕ) → held s k ≡ Some v → is_listed s k ≡ false → class < 4
+    → (Plain ≡ reply_of (PushReady k class) s) × (record s { ready = with_last s.ready class k } ≡ after (PushReady k class) s)
+PushReady_reply s k class v h l lt = let low : nat_lt class 4 ≡ true =
+    grind (arith, nat_tests) in (rw (h, l, low) refl, rw (h, l, low) refl)
 
-pub Take_reply : (s : State) (v : ℕ) → count_by is_some s.items < 65536 → (Taken (length s.items) ≡ reply_of (Take v) s) × (record s { items = s.items ++ Some v ∷ [] } ≡ after (Take v) s)
+pub Take_reply : (s : State) (v : ℕ) → count_by is_some s.items < 65536 → (Taken (length s.items) ≡ reply_of (Take v) s)
+    × (record s { items = s.items ++ Some v ∷ [] } ≡ after (Take v) s)
 Take_reply s v lt = let room : is_full s ≡ false = grind (arith, nat_tests) in (rw room refl, rw room refl)
 
-pub Take_refused : (s : State) (v : ℕ) → count_by is_some s.items ≡ 65536 → (Refused StoreFull ≡ reply_of (Take v) s) × (record s { items = s.items ++ None ∷ [] } ≡ after (Take v) s)
+pub Take_refused : (s : State) (v : ℕ) → count_by is_some s.items ≡ 65536 → (Refused StoreFull ≡ reply_of (Take v) s)
+    × (record s { items = s.items ++ None ∷ [] } ≡ after (Take v) s)
 Take_refused s v all = let full : is_full s ≡ true = grind (arith, nat_tests) in (rw full refl, rw full refl)
 
-pub PushReady_refused : (s : State) (k class v : ℕ) → held s k ≡ Some v → is_listed s k ≡ false → 4 ≤ class → (Refused BadSpec ≡ reply_of (PushReady k class) s) × (s ≡ after (PushReady k class) s)
-PushReady_refused s k class v h l le = let high : nat_lt class 4 ≡ false = grind (arith, nat_tests) in (rw (h, l, high) refl, rw (h, l, high) refl)
+pub PushReady_refused : (s : State) (k class v : ℕ) → held s k ≡ Some v → is_listed s k ≡ false → 4 ≤ class
+    → (Refused BadSpec ≡ reply_of (PushReady k class) s) × (s ≡ after (PushReady k class) s)
+PushReady_refused s k class v h l le = let high : nat_lt class 4 ≡ false =
+    grind (arith, nat_tests) in (rw (h, l, high) refl, rw (h, l, high) refl)
 
 -- the replies so far with those to what is left, after one more command
-pub replies_go_on : (commands : List Command) (i : ℕ) (d : Command) → i < length commands → (s : State) (replies next : List Reply) (reply : Reply) → reply ≡ reply_of (get_or commands i d) s → next ≡ replies ++ reply ∷ []
-    → replies ++ replies_of (drop i commands) s ≡ replies_of commands start → next ++ replies_of (drop (i + 1) commands) (after (get_or commands i d) s) ≡ replies_of commands start
+pub replies_go_on : (commands : List Command) (i : ℕ) (d : Command) → i < length commands
+    → (s : State) (replies next : List Reply) (reply : Reply) → reply ≡ reply_of (get_or commands i d) s → next ≡ replies ++ reply ∷ []
+    → replies ++ replies_of (drop i commands) s ≡ replies_of commands start → next
+    ++ replies_of (drop (i + 1) commands) (after (get_or commands i d) s) ≡ replies_of commands start
 replies_go_on commands i d h s replies next reply is more all =
     let rest = replies_of (drop (i + 1) commands) (after (get_or commands i d) s) in
     ap (λ l. l ++ rest) more

@@ -1,5 +1,6 @@
 -- How the changes of a content keep it sound.
-use Rattle.std.proofs.Common.{◌≡◌, ◌≢◌, ℕ, zero, suc, ◌+◌, ◌<◌, ◌≤◌, ◌==◌, true, false, cond, List, [], ◌∷◌, ◌++◌, length, get_or, set, Some, None, is_some, count_by, refl, sym, ap, subst, ◌∙◌, inl, inr, arith, zero-le}
+use Rattle.std.proofs.Common.{◌≡◌, ◌≢◌, ℕ, zero, suc, ◌+◌, ◌<◌, ◌≤◌, ◌==◌, true, false, cond, List, [], ◌∷◌, ◌++◌, length, get_or, set}
+use Rattle.std.proofs.Common.{Some, None, is_some, count_by, refl, sym, ap, subst, ◌∙◌, inl, inr, arith, zero-le}
 use Rattle.std.proofs.lemmas.Bool.{cases_eq}
 use Rattle.std.proofs.lemmas.Bool.Decides.{nat_tests}
 use Rattle.std.proofs.lemmas.List.{length-set}
@@ -7,7 +8,8 @@ use Rattle.std.proofs.lemmas.List.Sums.{sum_by-cons, sum_by-append}
 use Rattle.std.specs.Ordering.{nat_cmp}
 use Rattle.std.specs.Cmp.{nat_cmp_total, unsigned_tied}
 use Rattle.std.specs.FinMap as map
-use Rattle.tp_slots.specs.Content.{Content, times, item_at, front, without_front, with_last, nothing_held, IsTaken, IsIdle, held_count, with_item, without_item, with_ready, without_next, IsSound}
+use Rattle.tp_slots.specs.Content.{Content, times, item_at, front, without_front, with_last, nothing_held, IsTaken, IsIdle, held_count}
+use Rattle.tp_slots.specs.Content.{with_item, without_item, with_ready, without_next, IsSound}
 
 -- how often a place stands in one list
 abbrev pub stands : ℕ → List ℕ → ℕ
@@ -19,12 +21,14 @@ stands-cons p x xs = sum_by-cons (λ y. cond (y == p) 1 0) x xs
 pub stands-push : (p x : ℕ) (xs : List ℕ) → stands p (xs ++ x ∷ []) ≡ stands p xs + cond (x == p) 1 0
 stands-push p x xs = omega (arith, sum_by-append (λ y. cond (y == p) 1 0) xs (x ∷ []), stands-cons p x [])
 
-times-set : (rs : List (List ℕ)) (i p : ℕ) (ys : List ℕ) → i < length rs → times p (set rs i ys) + stands p (get_or rs i []) ≡ times p rs + stands p ys
+times-set : (rs : List (List ℕ)) (i p : ℕ) (ys : List ℕ) → i < length rs
+    → times p (set rs i ys) + stands p (get_or rs i []) ≡ times p rs + stands p ys
 times-set [] i p ys h = absurd (omega arith)
 times-set (r ∷ rs) zero p ys h = omega arith
 times-set (r ∷ rs) (suc i) p ys h = omega (arith, times-set rs i p ys (omega arith))
 
-pub times-with_last : (rs : List (List ℕ)) (class p x : ℕ) → class < length rs → times p (with_last rs class x) ≡ times p rs + cond (x == p) 1 0
+pub times-with_last : (rs : List (List ℕ)) (class p x : ℕ) → class < length rs
+    → times p (with_last rs class x) ≡ times p rs + cond (x == p) 1 0
 times-with_last rs class p x h = omega (arith, times-set rs class p (get_or rs class [] ++ x ∷ []) h, stands-push p x (get_or rs class []))
 
 pub stands-le-times : (rs : List (List ℕ)) (i p : ℕ) → stands p (get_or rs i []) ≤ times p rs
@@ -48,12 +52,15 @@ length-without_front ([] ∷ rest) = ap suc (length-without_front rest)
 length-without_front ((y ∷ ys) ∷ rest) = refl
 
 -- the first list that is not empty gives the front
-pub front_at : (rs : List (List ℕ)) (i p : ℕ) (later : List ℕ) → ((k : ℕ) → k < i → get_or rs k [] ≡ []) → get_or rs i [] ≡ p ∷ later → (front rs ≡ Some p) × (without_front rs ≡ set rs i later)
+pub front_at : (rs : List (List ℕ)) (i p : ℕ) (later : List ℕ) → ((k : ℕ) → k < i → get_or rs k [] ≡ []) → get_or rs i [] ≡ p ∷ later
+    → (front rs ≡ Some p) × (without_front rs ≡ set rs i later)
 front_at [] i p later none e = cc
-front_at ((x ∷ xs) ∷ rs) zero p later none e = let x_is : x ≡ p = cc in let xs_is : xs ≡ later = cc in (ap (λ y. Some y) x_is, ap (λ ys. ys ∷ rs) xs_is)
+front_at ((x ∷ xs) ∷ rs) zero p later none e = let x_is : x ≡ p = cc in let xs_is : xs ≡ later =
+    cc in (ap (λ y. Some y) x_is, ap (λ ys. ys ∷ rs) xs_is)
 front_at ([] ∷ rs) zero p later none e = cc
 front_at ((x ∷ xs) ∷ rs) (suc i) p later none e = let clash : x ∷ xs ≡ [] = none 0 (omega arith) in cc
-front_at ([] ∷ rs) (suc i) p later none e = let rest = front_at rs i p later (λ k h. none (suc k) (omega arith)) e in (rest.0, ap (λ l. [] ∷ l) rest.1)
+front_at ([] ∷ rs) (suc i) p later none e = let rest =
+    front_at rs i p later (λ k h. none (suc k) (omega arith)) e in (rest.0, ap (λ l. [] ∷ l) rest.1)
 
 pub front_none : (rs : List (List ℕ)) → ((k : ℕ) → k < length rs → get_or rs k [] ≡ []) → front rs ≡ None
 front_none [] none = refl
@@ -62,13 +69,15 @@ front_none ((x ∷ xs) ∷ rs) none = let clash : x ∷ xs ≡ [] = none 0 (omeg
 
 module _ {T : Type 0} where
   -- distinct keys of a map are no more than it has
-  pub distinct_keys : (m : map.FinMap nat_cmp T) (ps : List ℕ) → ((q : ℕ) → stands q ps ≤ cond (map.contains_key m q) 1 0) → length ps ≤ map.len m
+  pub distinct_keys : (m : map.FinMap nat_cmp T) (ps : List ℕ) → ((q : ℕ) → stands q ps ≤ cond (map.contains_key m q) 1 0)
+      → length ps ≤ map.len m
   distinct_keys m [] h = zero-le
   distinct_keys m (p ∷ ps) h =
       let here : 1 + stands p ps ≤ cond (map.contains_key m p) 1 0 = grind (arith, nat_tests, h p, stands-cons p p ps) in
       let has : map.contains_key m p ≡ true = grind (arith, nat_tests) in
       let rest : length ps ≤ map.len (map.remove m p) = distinct_keys (map.remove m p) ps (λ q.
-      let after : map.get (map.remove m p) q ≡ cond (q == p) None (map.get m q) = map.get-remove nat_cmp_total m p q ∙ ap (λ b. cond b None (map.get m q)) (unsigned_tied q p) in
+      let after : map.get (map.remove m p) q ≡ cond (q == p) None (map.get m q) =
+      map.get-remove nat_cmp_total m p q ∙ ap (λ b. cond b None (map.get m q)) (unsigned_tied q p) in
       elim (cases_eq q p) [
         | inl same ↦ let none = rw has at here in rw same (omega (arith, none))
         | inr differs ↦
@@ -76,7 +85,8 @@ module _ {T : Type 0} where
             rw kept (grind (arith, nat_tests, h q, stands-cons q p ps))
       ]) in
       let one_less = map.len-remove nat_cmp_total m p in
-      let some : map.len m ≢ 0 = λ none. let e : map.contains_key m p ≡ false = ap (λ n. map.contains_key n p) (map.empty_of_len m none) ∙ ap is_some (map.get-empty nat_cmp p) in cc in
+      let some : map.len m ≢ 0 = λ none. let e : map.contains_key m p ≡ false =
+      ap (λ n. map.contains_key n p) (map.empty_of_len m none) ∙ ap is_some (map.get-empty nat_cmp p) in cc in
       grind (arith, rest, one_less, has, some)
 
   -- sound as it is taken apart
@@ -95,18 +105,24 @@ module _ {T : Type 0} where
             let none : times q c.ready ≡ 0 = subst (λ p. times p c.ready ≡ 0) same idle.unlisted in
             rw taken (grind (arith, nat_tests, stands-cons q place (get_or c.ready class []), stands-le-times c.ready class q))
         | inr differs ↦
-            let apart : stands q (place ∷ get_or c.ready class []) ≡ stands q (get_or c.ready class []) = grind (arith, nat_tests, stands-cons q place (get_or c.ready class [])) in
+            let apart : stands q (place ∷ get_or c.ready class []) ≡ stands q (get_or c.ready class []) =
+            grind (arith, nat_tests, stands-cons q place (get_or c.ready class [])) in
             omega (arith, apart, stands-le-times c.ready class q, within c q s)
       ])
 
-  pub get_inserted : (m : map.FinMap nat_cmp T) (k : ℕ) (v : T) (q : ℕ) → map.get (map.insert m k v) q ≡ cond (q == k) (Some v) (map.get m q)
+  pub get_inserted : (m : map.FinMap nat_cmp T) (k : ℕ) (v : T) (q : ℕ)
+      → map.get (map.insert m k v) q ≡ cond (q == k) (Some v) (map.get m q)
   get_inserted m k v q = map.get-insert nat_cmp_total m k v q ∙ ap (λ b. cond b (Some v) (map.get m q)) (unsigned_tied q k)
 
   pub get_removed : (m : map.FinMap nat_cmp T) (k q : ℕ) → map.get (map.remove m k) q ≡ cond (q == k) None (map.get m q)
   get_removed m k q = map.get-remove nat_cmp_total m k q ∙ ap (λ b. cond b None (map.get m q)) (unsigned_tied q k)
 
   pub taken_with_item : (c : Content T) (place : ℕ) (item : T) → IsTaken (with_item c place item) place
-  taken_with_item c place item = let e : (place == place) ≡ true = grind (arith, nat_tests) in ap is_some (get_inserted c.items place item place ∙ ap (λ b. cond b (Some item) (map.get c.items place)) e)
+  taken_with_item c place item = let e : (place == place) ≡ true =
+      grind (
+        arith,
+        nat_tests,
+      ) in ap is_some (get_inserted c.items place item place ∙ ap (λ b. cond b (Some item) (map.get c.items place)) e)
 
   pub idle_with_item : (c : Content T) (place : ℕ) (item : T) → IsIdle c place → IsIdle (with_item c place item) place
   idle_with_item c place item idle = record { taken = taken_with_item c place item; unlisted = idle.unlisted }
@@ -117,7 +133,8 @@ module _ {T : Type 0} where
     taken = taken_with_item c place item;
     unlisted = elim (cases_eq (times place c.ready) 0) [
       | inl none ↦ none
-      | inr some ↦ let taken : is_some (item_at c place) ≡ true = s.taken place (omega arith) in let none : is_some (item_at c place) ≡ false = ap is_some free in cc
+      | inr some ↦ let taken : is_some (item_at c place) ≡ true =
+          s.taken place (omega arith) in let none : is_some (item_at c place) ≡ false = ap is_some free in cc
     ];
   }
 
@@ -147,11 +164,13 @@ module _ {T : Type 0} where
   pub IsSound-with_ready : (c : Content T) (class place : ℕ) → IsSound c → IsIdle c place → class < 4 → IsSound (with_ready c class place)
   IsSound-with_ready c class place s idle h =
       let four = s.four in let inside : class < length c.ready = omega arith in
-      let count : (q : ℕ) → times q (with_last c.ready class place) ≡ times q c.ready + cond (place == q) 1 0 = λ q. times-with_last c.ready class q place inside in
+      let count : (q : ℕ) → times q (with_last c.ready class place) ≡ times q c.ready + cond (place == q) 1 0 =
+      λ q. times-with_last c.ready class q place inside in
       record {
         four = length-set c.ready class _ ∙ s.four;
         once = λ q. elim (cases_eq place q) [
-          | inl same ↦ let none : times q c.ready ≡ 0 = subst (λ p. times p c.ready ≡ 0) same idle.unlisted in grind (arith, nat_tests, count q)
+          | inl same ↦ let none : times q c.ready ≡ 0 =
+              subst (λ p. times p c.ready ≡ 0) same idle.unlisted in grind (arith, nat_tests, count q)
           | inr differs ↦ grind (arith, nat_tests, count q, s.once q)
         ];
         taken = λ q more. elim (cases_eq place q) [
@@ -162,7 +181,12 @@ module _ {T : Type 0} where
 
   pub IsSound-without_next : (c : Content T) → IsSound c → IsSound (without_next c)
   IsSound-without_next c s = elim (front c.ready) as (λ o. front c.ready ≡ o → IsSound (without_next c)) [
-    | None ↦ λ e. let same = without_front-empty c.ready e in record { four = length-without_front c.ready ∙ s.four; once = λ q. rw same (s.once q); taken = λ q h. s.taken q (rw same at h) }
+    | None ↦ λ e. let same =
+        without_front-empty c.ready e in record {
+          four = length-without_front c.ready ∙ s.four;
+          once = λ q. rw same (s.once q);
+          taken = λ q h. s.taken q (rw same at h);
+        }
     | Some x ↦ λ e. record {
       four = length-without_front c.ready ∙ s.four;
       once = λ q. omega (arith, times-front c.ready x q e, s.once q);

@@ -1,5 +1,6 @@
 -- What a run of commands answers. Items go by the number of their take, counted from 0, so nothing here speaks of places.
-use Rattle.std.specs.Prelude.{ℕ, ◌==◌, nat_lt, List, [], ◌∷◌, ◌++◌, length, count_by, slice_index_or, slice_set, Option, None, Some, is_some, Bool, if◌then◌else◌}
+use Rattle.std.specs.Prelude.{ℕ, ◌==◌, nat_lt, List, [], ◌∷◌, ◌++◌, length, count_by, slice_index_or, slice_set, Option, None, Some}
+use Rattle.std.specs.Prelude.{is_some, Bool, if◌then◌else◌}
 use Rattle.tp_base.specs.declared.limits.TheConstants.{CLASSES, MAX_LIVE_TASKS}
 use Rattle.tp_base.specs.declared.refusal.Refusal.TheVariants.{NoTask, WrongLife, BadSpec, StoreFull}
 use Rattle.tp_slots.specs.declared.run.Command.{Command}
@@ -49,7 +50,8 @@ reply_of (GiveBack k) s = reply_if_held (held s k) (λ v. if is_listed s k then 
 abbrev pub after : Command → State → State
 after (Take v) s = record s { items = s.items ++ (if is_full s then None else Some v) ∷ [] }
 after (PushReady k class) s =
-    after_if_held (held s k) s (if is_listed s k then s else (if nat_lt class CLASSES then record s { ready = with_last s.ready class k } else s))
+    after_if_held (held s k) s
+    (if is_listed s k then s else (if nat_lt class CLASSES then record s { ready = with_last s.ready class k } else s))
 after PopReady s = record s { ready = without_front s.ready }
 after (Get k) s = s
 after (GiveBack k) s =

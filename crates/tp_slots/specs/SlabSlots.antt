@@ -16,7 +16,8 @@ pub record Roomy (T : Type 0) : Type 0 where
 
 abbrev pub roomy_code : {T : Type 0} → Coded T → Coded (Roomy T)
 roomy_code {T} code =
-    code_by (Content T × ℕ) (coded× (content_code code) coded_ℕ) (λ r. (r.content, r.room)) (λ p. record { content = p.0; room = p.1 }) (λ _. refl)
+    code_by (Content T
+    × ℕ) (coded× (content_code code) coded_ℕ) (λ r. (r.content, r.room)) (λ p. record { content = p.0; room = p.1 }) (λ _. refl)
 
 module _ {A : Type 0} where
   -- the places in each list

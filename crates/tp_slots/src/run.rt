@@ -79,7 +79,8 @@ impl Names {
 
     fn step<S: Slots<u64>>(&mut self, slots: &mut S, command: Command) -> Result<Reply, Refusal>
         requires { (s : State) × Told (S.content slots.old) self.old s }
-        ensures reply { (s : State) → Told (S.content slots.old) self.old s → IfOk result (λ r. (r ≡ reply_of command s) × Told (S.content slots.new) self.new (after command s)) }
+        ensures reply { (s : State) → Told (S.content slots.old) self.old s
+            → IfOk result (λ r. (r ≡ reply_of command s) × Told (S.content slots.new) self.new (after command s)) }
         ensures memory { IfErr result (λ e. e ≡ Refusal.NoMemory) }
     {
         match command {
@@ -93,7 +94,9 @@ impl Names {
 
     fn take<S: Slots<u64>>(&mut self, slots: &mut S, value: u64) -> Result<Reply, Refusal>
         requires { (s : State) × Told (S.content slots.old) self.old s }
-        ensures reply { (s : State) → Told (S.content slots.old) self.old s → IfOk result (λ r. (r ≡ reply_of (Command.Take value) s) × Told (S.content slots.new) self.new (after (Command.Take value) s)) }
+        ensures reply { (s : State) → Told (S.content slots.old) self.old s
+            → IfOk result (λ r. (r ≡ reply_of (Command.Take value) s)
+            × Told (S.content slots.new) self.new (after (Command.Take value) s)) }
         ensures memory { IfErr result (λ e. e ≡ Refusal.NoMemory) }
     {
         let number = self.standings.len();
@@ -114,7 +117,8 @@ impl Names {
 
     fn push_ready<S: Slots<u64>>(&mut self, slots: &mut S, k: usize, class: u8) -> Reply
         requires { (s : State) × Told (S.content slots.old) self.old s }
-        ensures { (s : State) → Told (S.content slots.old) self.old s → (result ≡ reply_of (Command.PushReady k class) s) × Told (S.content slots.new) self.new (after (Command.PushReady k class) s) }
+        ensures { (s : State) → Told (S.content slots.old) self.old s → (result ≡ reply_of (Command.PushReady k class) s)
+            × Told (S.content slots.new) self.new (after (Command.PushReady k class) s) }
     {
         match self.find(k) {
             Standing::Gone => Reply::Refused(Refusal::NoTask),
@@ -132,7 +136,8 @@ impl Names {
 
     fn pop_ready<S: Slots<u64>>(&mut self, slots: &mut S) -> Reply
         requires { (s : State) × Told (S.content slots.old) self.old s }
-        ensures { (s : State) → Told (S.content slots.old) self.old s → (result ≡ reply_of Command.PopReady s) × Told (S.content slots.new) self.new (after Command.PopReady s) }
+        ensures { (s : State) → Told (S.content slots.old) self.old s → (result ≡ reply_of Command.PopReady s)
+            × Told (S.content slots.new) self.new (after Command.PopReady s) }
     {
         let Some(place) = slots.pop_ready() else {
             return Reply::Next(None);
@@ -157,7 +162,8 @@ impl Names {
 
     fn give_back<S: Slots<u64>>(&mut self, slots: &mut S, k: usize) -> Reply
         requires { (s : State) × Told (S.content slots.old) self.old s }
-        ensures { (s : State) → Told (S.content slots.old) self.old s → (result ≡ reply_of (Command.GiveBack k) s) × Told (S.content slots.new) self.new (after (Command.GiveBack k) s) }
+        ensures { (s : State) → Told (S.content slots.old) self.old s → (result ≡ reply_of (Command.GiveBack k) s)
+            × Told (S.content slots.new) self.new (after (Command.GiveBack k) s) }
     {
         match self.find(k) {
             Standing::Gone => Reply::Refused(Refusal::NoTask),

@@ -1,7 +1,8 @@
 //! What every kind of slots keeps to.
 ghost use Rattle.std.specs.Prelude.{◌≡◌, ℕ, ◌+◌, ◌<◌, ◌≤◌, None, Some, IsOk, IfOk, IfErr, IfSome, OnOk};
 ghost use Rattle.std.specs.Borrow.{sem, Lends};
-ghost use Rattle.tp_slots.specs.Content.{Content, nothing_held, item_at, IsTaken, IsIdle, held_count, refusal_of_take, with_item, without_item, with_ready, without_next, front};
+ghost use Rattle.tp_slots.specs.Content.{Content, nothing_held, item_at, IsTaken, IsIdle, held_count, refusal_of_take, with_item};
+ghost use Rattle.tp_slots.specs.Content.{without_item, with_ready, without_next, front};
 
 use std::alloc::Global;
 use tp_base::{CLASSES, MAX_LIVE_TASKS, Refusal};

@@ -1,5 +1,6 @@
 -- How the changes of a store's content keep it sound, and how its counts move.
-use Rattle.std.proofs.Common.{◌≡◌, ◌≢◌, ℕ, zero, suc, ◌+◌, ◌<◌, ◌≤◌, ◌==◌, Bool, true, false, cond, List, [], ◌∷◌, ◌++◌, length, get_or, set, Option, Some, None, is_some, unwrap_or}
+use Rattle.std.proofs.Common.{◌≡◌, ◌≢◌, ℕ, zero, suc, ◌+◌, ◌<◌, ◌≤◌, ◌==◌, Bool, true, false, cond, List, [], ◌∷◌, ◌++◌, length, get_or}
+use Rattle.std.proofs.Common.{set, Option, Some, None, is_some, unwrap_or}
 use Rattle.std.proofs.Common.{count_by, refl, sym, ap, subst, ◌∙◌, inl, inr, arith}
 use Rattle.std.specs.Prelude.{nat_lt, ◌&&◌, not, if◌then◌else◌}
 use Rattle.std.specs.Option.{option_map}
@@ -17,8 +18,10 @@ use Rattle.std.proofs.lemmas.List.Sums.{sum_by-cons, sum_by-append}
 use Rattle.tp_base.specs.declared.ids.TaskId.{TaskId}
 use Rattle.tp_slots.specs.Content.{front, without_front, with_last}
 use Rattle.tp_slots.proofs.Sound.{get_inserted}
-use Rattle.tp_store.specs.Content.{Task, Content, task_of, life_of, stage, NoneGoesBack, supplied, life_lacking, fresh, begun, done, changed_tasks, with_task, with_inserted, with_delivered}
-use Rattle.tp_store.specs.Content.{with_begun, with_done, count_lives, unfinished, counts_of, is_unfinished, is_waiting, is_ready, is_running, is_done, has_begun}
+use Rattle.tp_store.specs.Content.{Task, Content, task_of, life_of, stage, NoneGoesBack, supplied, life_lacking, fresh, begun, done}
+use Rattle.tp_store.specs.Content.{changed_tasks, with_task, with_inserted, with_delivered}
+use Rattle.tp_store.specs.Content.{with_begun, with_done, count_lives, unfinished, counts_of, is_unfinished, is_waiting, is_ready}
+use Rattle.tp_store.specs.Content.{is_running, is_done, has_begun}
 use Rattle.tp_store.specs.Kept.{one, moved_counts, IsCounted}
 use Rattle.tp_store.specs.declared.life.Counts.{Counts}
 use Rattle.tp_store.proofs.Counting.{one_if, later_sorted, passing, passing-cons, passing-insert}
@@ -32,7 +35,8 @@ module _ {X : Type 0} where
   count-push p xs y = omega (arith, sum_by-append (λ x. cond (p x) 1 0) xs (y ∷ []), sum_by-cons (λ x. cond (p x) 1 0) y [])
 
   -- the front stands first in some list
-  pub front_place : (rs : List (List X)) (x : X) → front rs ≡ Some x → (k : ℕ) × (later : List X) × (k < length rs) × (get_or rs k [] ≡ x ∷ later) × (without_front rs ≡ set rs k later)
+  pub front_place : (rs : List (List X)) (x : X) → front rs ≡ Some x → (k : ℕ) × (later : List X) × (k < length rs)
+      × (get_or rs k [] ≡ x ∷ later) × (without_front rs ≡ set rs k later)
   front_place [] x e = cc
   front_place ([] ∷ rest) x e = let at = front_place rest x e in (suc at.0, at.1, omega (arith, at.2), at.3, ap (λ l. [] ∷ l) at.4)
   front_place ((y ∷ later) ∷ rest) x e = let same : y ≡ x = cc in (0, later, omega arith, ap (λ z. z ∷ later) same, refl)
@@ -44,11 +48,13 @@ pub is_other : (t u : TaskId) → u.0 ≢ t.0 → is_task u t ≡ false
 is_other t u apart = grind (arith, nat_tests)
 
 pub with_last-count : (rs : List (List TaskId)) (k j : ℕ) (t u : TaskId) → k < length rs
-    → count_by (is_task u) (get_or (with_last rs k t) j []) ≡ count_by (is_task u) (get_or rs j []) + cond (j == k) (cond (is_task u t) 1 0) 0
+    → count_by (is_task u) (get_or (with_last rs k t) j [])
+    ≡ count_by (is_task u) (get_or rs j []) + cond (j == k) (cond (is_task u t) 1 0) 0
 with_last-count rs k j t u h = elim (cases_eq j k) [
   | inl same ↦
       let e : (j == k) ≡ true = grind (arith, nat_tests) in
-      rw (e, same) (ap (count_by (is_task u)) (get_or-set_same rs k (get_or rs k [] ++ t ∷ []) [] h) ∙ count-push (is_task u) (get_or rs k []) t)
+      rw (e, same) (ap (count_by (is_task u)) (get_or-set_same rs k (get_or rs k [] ++ t ∷ []) [] h)
+      ∙ count-push (is_task u) (get_or rs k []) t)
   | inr apart ↦
       let e : (j == k) ≡ false = grind (arith, nat_tests) in
       rw e (ap (count_by (is_task u)) (get_or-set_other rs k j (get_or rs k [] ++ t ∷ []) [] apart) ∙ omega arith)
@@ -87,14 +93,17 @@ same_counts a b waiting ready running = λ i. record { waiting = waiting i; read
 
 module _ {V : Type 0} where
   -- ---- one task changed
-  pub task_of-put : (s : Content V) (t u : TaskId) (x : Task V) → finite.get (finite.insert s.tasks t.0 x) u.0 ≡ cond (u.0 == t.0) (Some x) (task_of s u)
+  pub task_of-put : (s : Content V) (t u : TaskId) (x : Task V)
+      → finite.get (finite.insert s.tasks t.0 x) u.0 ≡ cond (u.0 == t.0) (Some x) (task_of s u)
   task_of-put s t u x = get_inserted s.tasks t.0 x u.0
 
   pub task_here : (s : Content V) (t : TaskId) (x : Task V) → finite.get (finite.insert s.tasks t.0 x) t.0 ≡ Some x
-  task_here s t x = let e : (t.0 == t.0) ≡ true = grind (arith, nat_tests) in task_of-put s t t x ∙ ap (λ b. cond b (Some x) (task_of s t)) e
+  task_here s t x = let e : (t.0 == t.0) ≡ true =
+      grind (arith, nat_tests) in task_of-put s t t x ∙ ap (λ b. cond b (Some x) (task_of s t)) e
 
   task_there : (s : Content V) (t u : TaskId) (x : Task V) → u.0 ≢ t.0 → finite.get (finite.insert s.tasks t.0 x) u.0 ≡ task_of s u
-  task_there s t u x apart = let e : (u.0 == t.0) ≡ false = grind (arith, nat_tests) in task_of-put s t u x ∙ ap (λ b. cond b (Some x) (task_of s u)) e
+  task_there s t u x apart = let e : (u.0 == t.0) ≡ false =
+      grind (arith, nat_tests) in task_of-put s t u x ∙ ap (λ b. cond b (Some x) (task_of s u)) e
 
   abbrev pub ready_in : Option (Task V) → ℕ → ℕ
   ready_in o class = if unwrap_or (option_map (λ x. is_ready x.life && (x.class == class)) o) false then 1 else 0
@@ -102,7 +111,8 @@ module _ {V : Type 0} where
   abbrev pub done_in : Option (Task V) → ℕ
   done_in o = if unwrap_or (option_map (λ x. is_done x.life) o) false then 1 else 0
 
-  changed : (s : Content V) (t : TaskId) (x : Task V) (ready : List (List TaskId)) (results : List (TaskId × V)) → IsSound s → IsTask x → length ready ≡ 4
+  changed : (s : Content V) (t : TaskId) (x : Task V) (ready : List (List TaskId)) (results : List (TaskId × V)) → IsSound s → IsTask x
+      → length ready ≡ 4
       → ((class : ℕ) (u : TaskId) → u.0 ≢ t.0 → count_by (is_task u) (get_or ready class []) ≡ times_ready s class u)
       → ((class : ℕ) → count_by (is_task t) (get_or ready class []) ≡ ready_in (Some x) class)
       → ((u : TaskId) → u.0 ≢ t.0 → count_by (λ r. is_task u r.0) results ≡ times_done s u)
@@ -115,12 +125,14 @@ module _ {V : Type 0} where
       | inr apart ↦ rw (task_there s t u x apart) (sound.tasks u)
     ];
     ready = λ class u. elim (cases_eq u.0 t.0) [
-      | inl same ↦ subst (λ (w : TaskId). count_by (is_task w) (get_or ready class []) ≡ ready_in (finite.get (finite.insert s.tasks t.0 x) w.0) class) (sym (same_number t u same))
+      | inl same ↦ subst (λ (w : TaskId). count_by (is_task w) (get_or ready class [])
+          ≡ ready_in (finite.get (finite.insert s.tasks t.0 x) w.0) class) (sym (same_number t u same))
           (here class ∙ ap (λ o. ready_in o class) (sym (task_here s t x)))
       | inr apart ↦ others class u apart ∙ sound.ready class u ∙ ap (λ o. ready_in o class) (sym (task_there s t u x apart))
     ];
     done = λ u. elim (cases_eq u.0 t.0) [
-      | inl same ↦ subst (λ (w : TaskId). count_by (λ r. is_task w r.0) results ≡ done_in (finite.get (finite.insert s.tasks t.0 x) w.0)) (sym (same_number t u same))
+      | inl same ↦ subst (λ (w : TaskId). count_by (λ r. is_task w r.0) results
+          ≡ done_in (finite.get (finite.insert s.tasks t.0 x) w.0)) (sym (same_number t u same))
           (done_here ∙ ap done_in (sym (task_here s t x)))
       | inr apart ↦ done_others u apart ∙ sound.done u ∙ ap done_in (sym (task_there s t u x apart))
     ];
@@ -140,7 +152,8 @@ module _ {V : Type 0} where
   not_over (Some x) (waiting y e) = let no = (waits_not x.life e).1 in rw no refl
 
   -- a task that has not begun is inserted, or gets an input
-  pub IsSound-put : (s : Content V) (t : TaskId) (x : Task V) → IsSound s → IsTask x → has_begun x.life ≡ false → NotReady (task_of s t) → IsSound (with_task s t x)
+  pub IsSound-put : (s : Content V) (t : TaskId) (x : Task V) → IsSound s → IsTask x → has_begun x.life ≡ false → NotReady (task_of s t)
+      → IsSound (with_task s t x)
   IsSound-put s t x sound is begun was = go (is_ready x.life) refl
     where
       none : (class : ℕ) → times_ready s class t ≡ 0
@@ -149,39 +162,55 @@ module _ {V : Type 0} where
       over : times_done s t ≡ done_in (Some x)
       over = let no = not_begun x.life begun in rw no (sound.done t ∙ not_over (task_of s t) was)
 
-      go : (b : Bool) → is_ready x.life ≡ b → IsSound (record { tasks = finite.insert s.tasks t.0 x; ready = (if b then with_last s.ready x.class t else s.ready); results = s.results })
-      go false e = changed s t x s.ready s.results sound is sound.four (λ class u apart. refl) (λ class. rw e (none class)) (λ u apart. refl) over
+      go : (b : Bool) → is_ready x.life ≡ b
+          → IsSound (record {
+            tasks = finite.insert s.tasks t.0 x;
+            ready = (if b then with_last s.ready x.class t else s.ready);
+            results = s.results;
+          })
+      go false e =
+          changed s t x s.ready s.results sound is sound.four (λ class u apart. refl) (λ class. rw e (none class)) (λ u apart. refl) over
       go true e =
           let four = sound.four in
           let low : x.class < length s.ready = omega (arith, is.class) in
-          changed s t x (with_last s.ready x.class t) s.results sound is (length-set s.ready x.class (get_or s.ready x.class [] ++ t ∷ []) ∙ sound.four)
-          (λ class u apart. let count = with_last-count s.ready x.class class t u low in grind (arith, nat_tests, count, is_other t u apart))
-          (λ class. let count = rw (is_itself t) at (with_last-count s.ready x.class class t t low) in rw e (count ∙ elim (cases_eq class x.class) [
-            | inl same ↦ let a : (class == x.class) ≡ true = grind (arith, nat_tests) in let b : (x.class == class) ≡ true = grind (arith, nat_tests) in rw (a, b) (omega (arith, none class))
-            | inr differs ↦ let a : (class == x.class) ≡ false = grind (arith, nat_tests) in let b : (x.class == class) ≡ false = grind (arith, nat_tests) in rw (a, b) (omega (arith, none class))
+          changed s t x (with_last s.ready x.class t) s.results sound is (length-set s.ready x.class (get_or s.ready x.class [] ++ t ∷ [])
+          ∙ sound.four)
+          (λ class u apart. let count = with_last-count s.ready x.class class t u low in
+          grind (arith, nat_tests, count, is_other t u apart))
+          (λ class. let count = rw (is_itself t) at (with_last-count s.ready x.class class t t low) in
+          rw e (count ∙ elim (cases_eq class x.class) [
+            | inl same ↦ let a : (class == x.class) ≡ true = grind (arith, nat_tests) in let b : (x.class == class) ≡ true =
+                grind (arith, nat_tests) in rw (a, b) (omega (arith, none class))
+            | inr differs ↦ let a : (class == x.class) ≡ false = grind (arith, nat_tests) in let b : (x.class == class) ≡ false =
+                grind (arith, nat_tests) in rw (a, b) (omega (arith, none class))
           ]))
           (λ u apart. refl) over
 
   -- ---- a task begins, and is done
-  ready_when : (o : Option (Task V)) (class : ℕ) → 0 < ready_in o class → (x : Task V) × (o ≡ Some x) × (is_ready x.life ≡ true) × (class ≡ x.class)
+  ready_when : (o : Option (Task V)) (class : ℕ) → 0 < ready_in o class → (x : Task V) × (o ≡ Some x) × (is_ready x.life ≡ true)
+      × (class ≡ x.class)
   ready_when None class h = absurd (omega arith)
   ready_when (Some x) class h = go (is_ready x.life) (x.class == class) refl refl h
     where
-      go : (a b : Bool) → is_ready x.life ≡ a → (x.class == class) ≡ b → 0 < cond (a && b) 1 0 → (y : Task V) × (Some x ≡ Some y) × (is_ready y.life ≡ true) × (class ≡ y.class)
+      go : (a b : Bool) → is_ready x.life ≡ a → (x.class == class) ≡ b → 0 < cond (a && b) 1 0 → (y : Task V) × (Some x ≡ Some y)
+          × (is_ready y.life ≡ true) × (class ≡ y.class)
       go true true e same more = (x, refl, e, grind (arith, nat_tests))
       go true false e same more = absurd (omega arith)
       go false b e same more = absurd (omega arith)
 
   -- the next ready task is ready
-  pub front_ready : (s : Content V) (t : TaskId) → IsSound s → front s.ready ≡ Some t → (x : Task V) × (task_of s t ≡ Some x) × (is_ready x.life ≡ true)
+  pub front_ready : (s : Content V) (t : TaskId) → IsSound s → front s.ready ≡ Some t → (x : Task V) × (task_of s t ≡ Some x)
+      × (is_ready x.life ≡ true)
   front_ready s t sound first =
       let at = front_place s.ready t first in
-      let count : count_by (is_task t) (t ∷ at.1) ≡ cond (is_task t t) 1 0 + count_by (is_task t) at.1 = sum_by-cons (λ u. cond (is_task t u) 1 0) t at.1 in
+      let count : count_by (is_task t) (t ∷ at.1) ≡ cond (is_task t t) 1 0 + count_by (is_task t) at.1 =
+      sum_by-cons (λ u. cond (is_task t u) 1 0) t at.1 in
       let some : 0 < times_ready s at.0 t = rw at.3 (omega (arith, rw (is_itself t) at count)) in
       let x = ready_when (task_of s t) at.0 (subst (λ n. 0 < n) (sound.ready at.0 t) some) in
       (x.0, x.1, x.2)
 
-  pub IsSound-begun : (s : Content V) (t : TaskId) (x : Task V) → IsSound s → front s.ready ≡ Some t → task_of s t ≡ Some x → is_ready x.life ≡ true
+  pub IsSound-begun : (s : Content V) (t : TaskId) (x : Task V) → IsSound s → front s.ready ≡ Some t → task_of s t ≡ Some x
+      → is_ready x.life ≡ true
       → IsSound (record { tasks = finite.insert s.tasks t.0 (begun x); ready = without_front s.ready; results = s.results })
   IsSound-begun s t x sound first known ready =
       changed s t (begun x) (without_front s.ready) s.results sound
@@ -190,13 +219,16 @@ module _ {V : Type 0} where
       others gone (λ u apart. refl)
       (let no = (ready_not x.life ready) in sound.done t ∙ ap done_in known ∙ rw no refl)
     where
-      at : (k : ℕ) × (later : List TaskId) × (k < length s.ready) × (get_or s.ready k [] ≡ t ∷ later) × (without_front s.ready ≡ set s.ready k later)
+      at : (k : ℕ) × (later : List TaskId) × (k < length s.ready) × (get_or s.ready k [] ≡ t ∷ later)
+          × (without_front s.ready ≡ set s.ready k later)
       at = front_place s.ready t first
 
       task : IsTask x
       task = rw known at (sound.tasks t)
 
-      list : (class : ℕ) (u : TaskId) → count_by (is_task u) (get_or s.ready class []) ≡ count_by (is_task u) (get_or (without_front s.ready) class []) + cond (class == at.0)
+      list : (class : ℕ) (u : TaskId)
+          → count_by (is_task u) (get_or s.ready class [])
+          ≡ count_by (is_task u) (get_or (without_front s.ready) class []) + cond (class == at.0)
           (cond (is_task u t) 1 0) 0
       list class u = rw at.4 (elim (cases_eq class at.0) [
         | inl same ↦
@@ -245,7 +277,8 @@ module _ {V : Type 0} where
       sound.four (λ class u apart. refl)
       (λ class. let none : ready_in (Some x) class ≡ 0 = rw no.0 refl in sound.ready class t ∙ ap (λ o. ready_in o class) known ∙ none)
       (λ u apart. let more = count-push (λ r. is_task u r.0) s.results (t, value) in grind (arith, nat_tests, more, is_other t u apart))
-      (let none : done_in (Some x) ≡ 0 = rw no.1 refl in let was = sound.done t ∙ ap done_in known ∙ none in rw (is_itself t) at (count-push (λ r. is_task t r.0) s.results (t, value)) ∙ ap
+      (let none : done_in (Some x) ≡ 0 = rw no.1 refl in let was = sound.done t ∙ ap done_in known ∙ none in
+      rw (is_itself t) at (count-push (λ r. is_task t r.0) s.results (t, value)) ∙ ap
       (λ n. n + 1) was)
 
   -- ---- the counts
@@ -254,11 +287,13 @@ module _ {V : Type 0} where
   counts_if test = one_if (λ (x : Task V). test x.life)
 
   pub count-put : (test : Life → Bool) (s : Content V) (t : TaskId) (x : Task V) (ready : List (List TaskId)) (results : List (TaskId × V))
-      → count_lives test (record { tasks = finite.insert s.tasks t.0 x; ready = ready; results = results }) + counts_if test (task_of s t) ≡ count_lives test s + cond (test x.life) 1 0
+      → count_lives test (record { tasks = finite.insert s.tasks t.0 x; ready = ready; results = results }) + counts_if test (task_of s t)
+      ≡ count_lives test s + cond (test x.life) 1 0
   count-put test s t x ready results = passing-insert (λ (y : Task V). test y.life) s.tasks t.0 x
 
   -- a task that may be known goes on to this one
-  module _ (s : Content V) (t : TaskId) (x : Task V) (ready : List (List TaskId)) (results : List (TaskId × V)) (was : Option Life) (known : life_of s t ≡ was) where
+  module _ (s : Content V) (t : TaskId) (x : Task V) (ready : List (List TaskId)) (results : List (TaskId × V)) (was : Option Life)
+      (known : life_of s t ≡ was) where
     abbrev after : Content V
     after = record { tasks = finite.insert s.tasks t.0 x; ready = ready; results = results }
 
@@ -270,16 +305,20 @@ module _ {V : Type 0} where
         same (Some y) = refl
 
     pub counts-moved : (counts : Counts) → counts ≡ counts_of s → moved_counts counts was x.life ≡ counts_of after
-    counts-moved counts is = same_counts (moved_counts counts was x.life) (counts_of after) (omega (arith, moves is_waiting, ap (λ c. c.waiting) is))
+    counts-moved counts is =
+        same_counts (moved_counts counts was x.life) (counts_of after) (omega (arith, moves is_waiting, ap (λ c. c.waiting) is))
         (omega (arith, moves is_ready, ap (λ c. c.ready) is)) (omega (arith, moves is_running, ap (λ c. c.running) is))
 
   -- a task of a life is counted
-  pub some_counted : (test : Life → Bool) (s : Content V) (t : TaskId) (w : Task V) → task_of s t ≡ Some w → test w.life ≡ true → test Done ≡ false → 0 < count_lives test s
+  pub some_counted : (test : Life → Bool) (s : Content V) (t : TaskId) (w : Task V) → task_of s t ≡ Some w → test w.life ≡ true
+      → test Done ≡ false → 0 < count_lives test s
   some_counted test s t w known is not =
-      let move = rw (is, not) at (moves s t (done w) s.ready s.results (Some w.life) (ap (option_map (λ y. y.life)) known) test) in omega (arith, move)
+      let move = rw (is, not) at (moves s t (done w) s.ready s.results (Some w.life) (ap (option_map (λ y. y.life)) known) test) in
+      omega (arith, move)
 
   -- whatever it is
-  pub is_counted : (s : Content V) (t : TaskId) (w : Task V) (counts : Counts) → task_of s t ≡ Some w → counts ≡ counts_of s → counts.waiting + counts.ready + counts.running ≤ 65536
+  pub is_counted : (s : Content V) (t : TaskId) (w : Task V) (counts : Counts) → task_of s t ≡ Some w → counts ≡ counts_of s
+      → counts.waiting + counts.ready + counts.running ≤ 65536
       → IsCounted (Some w.life) counts
   is_counted s t w counts known is few =
       let move = moves s t (done w) s.ready s.results (Some w.life) (ap (option_map (λ y. y.life)) known) in
@@ -307,21 +346,29 @@ last_stage (Some _) = omega arith
 
 module _ {V : Type 0} (s : Content V) (t : TaskId) where
   -- one task goes on
-  put_goes_on : (x : Task V) → stage (life_of s t) ≤ stage (Some x.life) → (u : TaskId) → stage (life_of s u) ≤ stage (option_map (λ y. y.life) (finite.get (finite.insert s.tasks t.0 x) u.0))
+  put_goes_on : (x : Task V) → stage (life_of s t) ≤ stage (Some x.life) → (u : TaskId)
+      → stage (life_of s u) ≤ stage (option_map (λ y. y.life) (finite.get (finite.insert s.tasks t.0 x) u.0))
   put_goes_on x on u = elim (cases_eq u.0 t.0) [
     | inl same ↦
         let here = ap (finite.get (finite.insert s.tasks t.0 x)) same ∙ task_here s t x in
-        omega (arith, on, ap (λ q. stage (option_map (λ y. y.life) (finite.get s.tasks q))) same, ap (λ o. stage (option_map (λ y. y.life) o)) here)
+        omega (
+          arith,
+          on,
+          ap (λ q. stage (option_map (λ y. y.life) (finite.get s.tasks q))) same,
+          ap (λ o. stage (option_map (λ y. y.life) o)) here,
+        )
     | inr apart ↦ omega (arith, ap (λ o. stage (option_map (λ y. y.life) o)) (task_there s t u x apart))
   ]
 
   -- where it is known
-  changed_goes_on : (change : Task V → Task V) → ((x : Task V) → task_of s t ≡ Some x → stage (Some x.life) ≤ stage (Some (change x).life)) → (u : TaskId)
+  changed_goes_on : (change : Task V → Task V)
+      → ((x : Task V) → task_of s t ≡ Some x → stage (Some x.life) ≤ stage (Some (change x).life)) → (u : TaskId)
       → stage (life_of s u) ≤ stage (option_map (λ y. y.life) (finite.get (changed_tasks s t change) u.0))
   changed_goes_on change on u = at (task_of s t) refl
     where
       at : (o : Option (Task V)) → task_of s t ≡ o
-          → stage (life_of s u) ≤ stage (option_map (λ y. y.life) (finite.get (unwrap_or (option_map (λ x. finite.insert s.tasks t.0 (change x)) o) s.tasks) u.0))
+          → stage (life_of s u) ≤ stage
+          (option_map (λ y. y.life) (finite.get (unwrap_or (option_map (λ x. finite.insert s.tasks t.0 (change x)) o) s.tasks) u.0))
       at None e = omega arith
       at (Some x) e = put_goes_on (change x) (rw e (on x e)) u
 
@@ -331,12 +378,15 @@ module _ {V : Type 0} (s : Content V) (t : TaskId) where
   pub delivered_goes_on : (arity class slot : ℕ) (value : V) → NoneGoesBack s (with_delivered s t arity class slot value)
   delivered_goes_on arity class slot value = put_goes_on _ (supplied_from (task_of s t))
     where
-      supplied_from : (o : Option (Task V)) → stage (option_map (λ y. y.life) o) ≤ stage (Some (supplied (unwrap_or o (fresh arity class)).life))
+      supplied_from : (o : Option (Task V))
+          → stage (option_map (λ y. y.life) o) ≤ stage (Some (supplied (unwrap_or o (fresh arity class)).life))
       supplied_from None = omega arith
       supplied_from (Some x) = supplied_stage x.life
 
   pub begun_goes_on : life_of s t ≡ Some Ready → NoneGoesBack s (with_begun s t)
-  begun_goes_on ready = changed_goes_on begun (λ x e. let is : Some x.life ≡ Some Ready = sym (ap (option_map (λ y. y.life)) e) ∙ ready in omega (arith, ap stage is))
+  begun_goes_on ready =
+      changed_goes_on begun (λ x e. let is : Some x.life ≡ Some Ready = sym (ap (option_map (λ y. y.life)) e) ∙ ready in
+      omega (arith, ap stage is))
 
   pub done_goes_on : (value : V) → NoneGoesBack s (with_done s t value)
   done_goes_on value = changed_goes_on done (λ x e. last_stage (Some x.life))
@@ -354,19 +404,24 @@ module _ {X : Type 0} where
   not_found_below : (k : ℕ) (es : List (ℕ × X)) → T (below_all nat_cmp k es) → find nat_cmp k es ≡ None
   not_found_below k [] h = refl
   not_found_below k (e ∷ es) h =
-      (elim (nat_cmp k e.0) as (λ (r : Ordering). T (is_lt r && below_all nat_cmp k es) → cond (is_eq r) (Some e.1) (find nat_cmp k es) ≡ None) [
+      (elim (nat_cmp k e.0) as (λ (r : Ordering). T (is_lt r && below_all nat_cmp k es)
+      → cond (is_eq r) (Some e.1) (find nat_cmp k es) ≡ None) [
         | Less ↦ λ later. not_found_below k es later
         | Equal ↦ λ later. absurd later
         | Greater ↦ λ later. absurd later
       ]) h
 
   -- where the test fails at each key, it counts none
-  none_passing : (test : X → Bool) (es : List (ℕ × X)) → T (is_sorted nat_cmp es) → ((k : ℕ) (x : X) → find nat_cmp k es ≡ Some x → test x ≡ false) → passing test es ≡ 0
+  none_passing : (test : X → Bool) (es : List (ℕ × X)) → T (is_sorted nat_cmp es)
+      → ((k : ℕ) (x : X) → find nat_cmp k es ≡ Some x → test x ≡ false) → passing test es ≡ 0
   none_passing test [] h fails = refl
   none_passing test (e ∷ es) h fails =
       let here : test e.1 ≡ false = fails e.0 e.1 (tied e.0 refl) in
-      let rest : passing test es ≡ 0 = none_passing test es (later_sorted (below_all nat_cmp e.0 es) (is_sorted nat_cmp es) h) (λ k x at. elim (cases_eq k e.0) [
-        | inl same ↦ let gone : Some x ≡ None = sym at ∙ ap (λ q. find nat_cmp q es) same ∙ not_found_below e.0 es (first_below (below_all nat_cmp e.0 es) (is_sorted nat_cmp es) h) in cc
+      let rest : passing test es ≡ 0 =
+      none_passing test es (later_sorted (below_all nat_cmp e.0 es) (is_sorted nat_cmp es) h) (λ k x at. elim (cases_eq k e.0) [
+        | inl same ↦ let gone : Some x ≡ None =
+            sym at ∙ ap (λ q. find nat_cmp q es) same
+            ∙ not_found_below e.0 es (first_below (below_all nat_cmp e.0 es) (is_sorted nat_cmp es) h) in cc
         | inr apart ↦ fails k x (untied k apart ∙ at)
       ]) in
       passing-cons test e es ∙ ap (λ b. cond b 1 0 + passing test es) here ∙ omega (arith, rest)
@@ -400,7 +455,9 @@ available {V} c sound = go (front c.ready) refl
     ] refl
 
     go : (o : Option TaskId) → front c.ready ≡ o → is_some o ≡ nat_lt 0 (count_lives is_ready c)
-    go None e = let none : count_lives is_ready c ≡ 0 = none_passing (λ (x : Task V). is_ready x.life) (finite.entries c.tasks) (finite.entries_sorted c.tasks) (none_ready e) in rw none refl
+    go None e = let none : count_lives is_ready c ≡ 0 =
+        none_passing (λ (x : Task V). is_ready x.life) (finite.entries c.tasks) (finite.entries_sorted c.tasks) (none_ready e) in rw none
+        refl
     go (Some t) e =
         let x = front_ready c t sound e in
         let some : 0 < count_lives is_ready c = some_counted is_ready c t x.0 x.1 x.2 refl in

@@ -1,5 +1,6 @@
 -- How the number of a finite map's values that pass a test moves.
-use Rattle.std.proofs.Common.{◌≡◌, ℕ, suc, ◌+◌, Bool, true, false, cond, List, [], ◌∷◌, length, Option, Some, None, is_some, count_by, refl, sym, ap, ◌∙◌, arith}
+use Rattle.std.proofs.Common.{◌≡◌, ℕ, suc, ◌+◌, Bool, true, false, cond, List, [], ◌∷◌, length, Option, Some, None, is_some, count_by, refl}
+use Rattle.std.proofs.Common.{sym, ap, ◌∙◌, arith}
 use Rattle.std.specs.Prelude.{◌&&◌}
 use Rattle.std.proofs.Math.Dec.{T}
 use Rattle.std.proofs.lemmas.List.Sums.{sum_by-cons}
@@ -19,12 +20,15 @@ later_sorted false b h = absurd h
 
 module _ {X : Type 0} where
   -- a key below the first is not found
-  not_found : (k : ℕ) (v : X) (e : ℕ × X) (es : List (ℕ × X)) → T (is_sorted nat_cmp (e ∷ es)) → nat_cmp k e.0 ≡ Less → find nat_cmp k es ≡ None
+  not_found : (k : ℕ) (v : X) (e : ℕ × X) (es : List (ℕ × X)) → T (is_sorted nat_cmp (e ∷ es)) → nat_cmp k e.0 ≡ Less
+      → find nat_cmp k es ≡ None
   not_found k v e es h less =
-      let long : length (by_order (nat_cmp k e.0) ((k, v) ∷ e ∷ es) ((e.0, v) ∷ es) (e ∷ put nat_cmp k v es)) ≡ cond (is_some (find nat_cmp k (e ∷ es))) (suc (length es)) (suc (length es) + 1) =
+      let long : length (by_order (nat_cmp k e.0) ((k, v) ∷ e ∷ es) ((e.0, v) ∷ es) (e ∷ put nat_cmp k v es))
+      ≡ cond (is_some (find nat_cmp k (e ∷ es))) (suc (length es)) (suc (length es) + 1) =
       length-put nat_cmp nat_cmp_total k v (e ∷ es) h in
       let longer : suc (suc (length es)) ≡ cond (is_some (find nat_cmp k es)) (suc (length es)) (suc (length es) + 1) = rw less at long in
-      (elim (find nat_cmp k es) as (λ (o : Option X). suc (suc (length es)) ≡ cond (is_some o) (suc (length es)) (suc (length es) + 1) → o ≡ None) [
+      (elim (find nat_cmp k es) as (λ (o : Option X). suc (suc (length es)) ≡ cond (is_some o) (suc (length es)) (suc (length es) + 1)
+      → o ≡ None) [
         | None ↦ λ _. refl
         | Some x ↦ λ more. absurd (omega arith)
       ]) longer
@@ -41,10 +45,12 @@ module _ {X : Type 0} (test : X → Bool) where
   pub passing-cons : (e : ℕ × X) (es : List (ℕ × X)) → passing (e ∷ es) ≡ cond (test e.1) 1 0 + passing es
   passing-cons e es = sum_by-cons (λ f. cond (test f.1) 1 0) e es
 
-  passing-put : (k : ℕ) (v : X) (es : List (ℕ × X)) → T (is_sorted nat_cmp es) → passing (put nat_cmp k v es) + one_if (find nat_cmp k es) ≡ passing es + cond (test v) 1 0
+  passing-put : (k : ℕ) (v : X) (es : List (ℕ × X)) → T (is_sorted nat_cmp es)
+      → passing (put nat_cmp k v es) + one_if (find nat_cmp k es) ≡ passing es + cond (test v) 1 0
   passing-put k v [] h = omega (arith, passing-cons (k, v) [])
   passing-put k v (e ∷ es) h =
-      elim (nat_cmp k e.0) as (λ r. nat_cmp k e.0 ≡ r → passing (by_order r ((k, v) ∷ e ∷ es) ((e.0, v) ∷ es) (e ∷ put nat_cmp k v es)) + one_if (cond (is_eq r) (Some e.1)
+      elim (nat_cmp k e.0) as (λ r. nat_cmp k e.0 ≡ r
+      → passing (by_order r ((k, v) ∷ e ∷ es) ((e.0, v) ∷ es) (e ∷ put nat_cmp k v es)) + one_if (cond (is_eq r) (Some e.1)
       (find nat_cmp k es)) ≡ passing (e ∷ es) + cond (test v) 1 0) [
         | Less ↦ λ less.
             rw (not_found k v e es h less) (omega (arith, passing-cons (k, v) (e ∷ es)))
@@ -52,12 +58,15 @@ module _ {X : Type 0} (test : X → Bool) where
         | Greater ↦ λ more. omega (arith, passing-cons e (put nat_cmp k v es), passing-cons e es, passing-put k v es (later_sorted _ _ h))
       ] refl
 
-  pub passing-insert : (m : map.FinMap nat_cmp X) (k : ℕ) (v : X) → passing (map.entries (map.insert m k v)) + one_if (map.get m k) ≡ passing (map.entries m) + cond (test v) 1 0
-  passing-insert m k v = rw (map.entries-insert nat_cmp_total m k v, map.get-entries m k) (passing-put k v (map.entries m) (map.entries_sorted m))
+  pub passing-insert : (m : map.FinMap nat_cmp X) (k : ℕ) (v : X)
+      → passing (map.entries (map.insert m k v)) + one_if (map.get m k) ≡ passing (map.entries m) + cond (test v) 1 0
+  passing-insert m k v =
+      rw (map.entries-insert nat_cmp_total m k v, map.get-entries m k) (passing-put k v (map.entries m) (map.entries_sorted m))
 
 -- tasks that are not done wait, are ready or run
 pub unfinished_sum : {V : Type 0} (es : List (ℕ × Task V))
-    → count_by (λ e. is_unfinished e.1.life) es ≡ count_by (λ e. is_waiting e.1.life) es + count_by (λ e. is_ready e.1.life) es + count_by (λ e. is_running e.1.life) es
+    → count_by (λ e. is_unfinished e.1.life) es
+    ≡ count_by (λ e. is_waiting e.1.life) es + count_by (λ e. is_ready e.1.life) es + count_by (λ e. is_running e.1.life) es
 unfinished_sum [] = refl
 unfinished_sum {V} (e ∷ es) =
     omega (
@@ -70,12 +79,14 @@ unfinished_sum {V} (e ∷ es) =
       one_of e.1.life,
     )
   where
-    one_of : (life : Life) → cond (is_unfinished life) 1 0 ≡ cond (is_waiting life) 1 0 + cond (is_ready life) 1 0 + cond (is_running life) 1 0
+    one_of : (life : Life)
+        → cond (is_unfinished life) 1 0 ≡ cond (is_waiting life) 1 0 + cond (is_ready life) 1 0 + cond (is_running life) 1 0
     one_of (Waiting k) = refl
     one_of Ready = refl
     one_of Running = refl
     one_of Done = refl
 
 module _ {V : Type 0} where
-  pub unfinished_counted : (s : Content V) (counts : Counts) → counts ≡ counts_of s → unfinished s ≡ counts.waiting + counts.ready + counts.running
+  pub unfinished_counted : (s : Content V) (counts : Counts) → counts ≡ counts_of s
+      → unfinished s ≡ counts.waiting + counts.ready + counts.running
   unfinished_counted s counts e = unfinished_sum (map.entries s.tasks) ∙ ap (λ k. k.waiting + k.ready + k.running) (sym e)

@@ -1,5 +1,6 @@
 -- How a task's item keeps what it says.
-use Rattle.std.proofs.Common.{◌≡◌, ℕ, zero, suc, ◌+◌, ◌-◌, ◌<◌, ◌≤◌, Bool, true, false, cond, List, [], length, take, set, get_or, map, replicate, insert, Option, Some, None, is_some}
+use Rattle.std.proofs.Common.{◌≡◌, ℕ, zero, suc, ◌+◌, ◌-◌, ◌<◌, ◌≤◌, Bool, true, false, cond, List, [], length, take, set, get_or, map}
+use Rattle.std.proofs.Common.{replicate, insert, Option, Some, None, is_some}
 use Rattle.std.proofs.Common.{is_none, count_by, refl, sym, ap, ◌∙◌, arith, ◌∷◌, add-one}
 use Rattle.std.proofs.lemmas.List.{take-replicate, length-take-le, length-replicate, length-set, get_or-take}
 use Rattle.std.proofs.lemmas.List.Edits.{length-insert}
@@ -14,14 +15,16 @@ use Rattle.tp_store.specs.declared.life.Life.TheVariants.{Waiting, Ready, Runnin
 
 -- ---- Flags and values as the slots of a task
 -- ---- flags
-count_set-take_suc : (fs : List Bool) (i : ℕ) (d : Bool) → i < length fs → count_set (take (suc i) fs) ≡ count_set (take i fs) + cond (get_or fs i d) 1 0
+count_set-take_suc : (fs : List Bool) (i : ℕ) (d : Bool) → i < length fs
+    → count_set (take (suc i) fs) ≡ count_set (take i fs) + cond (get_or fs i d) 1 0
 count_set-take_suc [] i d h = absurd (omega arith)
 count_set-take_suc (false ∷ fs) zero d h = refl
 count_set-take_suc (true ∷ fs) zero d h = refl
 count_set-take_suc (false ∷ fs) (suc i) d h = count_set-take_suc fs i d (omega arith)
 count_set-take_suc (true ∷ fs) (suc i) d h = omega (arith, count_set-take_suc fs i d (omega arith))
 
-pub count_set-take_more : (fs : List Bool) (i : ℕ) (d : Bool) → i < length fs → count_set (take (i + 1) fs) ≡ count_set (take i fs) + cond (get_or fs i d) 1 0
+pub count_set-take_more : (fs : List Bool) (i : ℕ) (d : Bool) → i < length fs
+    → count_set (take (i + 1) fs) ≡ count_set (take i fs) + cond (get_or fs i d) 1 0
 count_set-take_more fs i d h = rw add-one (count_set-take_suc fs i d h)
 
 pub count_set-set : (fs : List Bool) (k : ℕ) → k < length fs → get_or fs k false ≡ false → count_set (set fs k true) ≡ count_set fs + 1
@@ -60,7 +63,8 @@ module _ {V : Type 0} where
   length-spread (true ∷ fs) (v ∷ vs) = ap suc (length-spread fs vs)
 
   -- a slot has a value where its flag is set
-  pub spread-get : (fs : List Bool) (vs : List V) (k : ℕ) → count_set fs ≡ length vs → is_some (get_or (spread fs vs) k None) ≡ get_or fs k false
+  pub spread-get : (fs : List Bool) (vs : List V) (k : ℕ) → count_set fs ≡ length vs
+      → is_some (get_or (spread fs vs) k None) ≡ get_or fs k false
   spread-get [] vs k e = refl
   spread-get (false ∷ fs) vs zero e = refl
   spread-get (false ∷ fs) vs (suc k) e = spread-get fs vs k e
@@ -80,12 +84,15 @@ module _ {V : Type 0} where
       rw (add-one (count_set (take k fs))) (ap (λ l. Some w ∷ l) (spread-set fs vs k v (omega arith) e (omega arith)))
 
   -- where no slot lacks its value, the slots are the values
-  pub spread-all : (fs : List Bool) (vs : List V) → count_set fs ≡ length vs → count_by is_none (spread fs vs) ≡ 0 → map (λ v. Some v) vs ≡ spread fs vs
+  pub spread-all : (fs : List Bool) (vs : List V) → count_set fs ≡ length vs → count_by is_none (spread fs vs) ≡ 0
+      → map (λ v. Some v) vs ≡ spread fs vs
   spread-all [] vs e none = rw (no_values vs e) refl
   spread-all (false ∷ fs) vs e none = absurd (omega (arith, sum_by-cons (λ (o : Option V). cond (is_none o) 1 0) None (spread fs vs)))
   spread-all (true ∷ fs) [] e none = absurd (omega arith)
   spread-all (true ∷ fs) (v ∷ vs) e none =
-      ap (λ l. Some v ∷ l) (spread-all fs vs (omega arith) (omega (arith, sum_by-cons (λ (o : Option V). cond (is_none o) 1 0) (Some v) (spread fs vs))))
+      ap (λ l. Some v
+      ∷ l) (spread-all fs vs (omega arith)
+      (omega (arith, sum_by-cons (λ (o : Option V). cond (is_none o) 1 0) (Some v) (spread fs vs))))
 
   pub spread_none : (n : ℕ) → spread {V = V} (replicate n false) [] ≡ replicate n None
   spread_none zero = refl
@@ -94,7 +101,8 @@ module _ {V : Type 0} where
 -- so many empty slots
 pub count_none-fresh : (V : Type 0) (n : ℕ) → count_by is_none (spread {V = V} (replicate n false) []) ≡ n
 count_none-fresh V zero = refl
-count_none-fresh V (suc n) = omega (arith, count_none-fresh V n, sum_by-cons (λ (o : Option V). cond (is_none o) 1 0) None (spread {V = V} (replicate n false) []))
+count_none-fresh V (suc n) =
+    omega (arith, count_none-fresh V n, sum_by-cons (λ (o : Option V). cond (is_none o) 1 0) None (spread {V = V} (replicate n false) []))
 
 -- ---- lives
 pub lacking_life : (k : ℕ) → lacking (life_lacking k) ≡ k
@@ -135,7 +143,12 @@ module _ {V : Type 0} where
   }
 
   pub fresh_item : (arity class : ℕ) (values : List V) → arity ≤ 16 → values ≡ []
-      → record { life = life_lacking arity; arity = arity; class = class; values = slots_of (life_lacking arity) arity (replicate 16 false) values } ≡ fresh arity class
+      → record {
+        life = life_lacking arity;
+        arity = arity;
+        class = class;
+        values = slots_of (life_lacking arity) arity (replicate 16 false) values;
+      } ≡ fresh arity class
   fresh_item arity class values h none = λ i. record {
     life = life_lacking arity;
     arity = arity;
@@ -154,14 +167,16 @@ module _ {V : Type 0} where
 
   -- ---- a task that waits gets one more input
   module _ (k arity class slot : ℕ) (filled : List Bool) (values new : SmallVec V) (value : V)
-      (is : IsFilled {V = V} (record { life = Waiting k; arity = arity; class = class; values = spread (take arity filled) values.items }) filled values)
+      (is : IsFilled {V = V} (record { life = Waiting k; arity = arity; class = class; values = spread (take arity filled) values.items })
+      filled values)
       (long : arity ≤ length filled) (low : slot < arity) (free : get_or (spread (take arity filled) values.items) slot None ≡ None)
       (items : new.items ≡ insert values.items (count_set (take slot filled)) value) (capacity : new.capacity ≡ values.capacity) where
     abbrev pub task : Task V
     task = record { life = Waiting k; arity = arity; class = class; values = spread (take arity filled) values.items }
 
     pub not_set : get_or filled slot false ≡ false
-    not_set = sym (get_or-take arity filled slot false low) ∙ sym (spread-get (take arity filled) values.items slot is.each) ∙ ap is_some free
+    not_set = sym (get_or-take arity filled slot false low) ∙ sym (spread-get (take arity filled) values.items slot is.each)
+        ∙ ap is_some free
 
     pub before : count_set (take slot filled) ≤ length values.items
     before = omega (arith, is.each, count_set-take (take arity filled) slot, ap count_set (take-take filled slot arity (omega arith)))
@@ -169,9 +184,11 @@ module _ {V : Type 0} where
     values_after : spread (take arity (set filled slot true)) new.items ≡ set (spread (take arity filled) values.items) slot (Some value)
     values_after =
         rw (take-set-lt arity filled slot true low, items, ← take-take filled slot arity (omega arith))
-        (spread-set (take arity filled) values.items slot value (omega (arith, length-take-le arity filled long)) (get_or-take arity filled slot false low ∙ not_set) is.each)
+        (spread-set (take arity filled) values.items slot value (omega (arith, length-take-le arity filled long))
+        (get_or-take arity filled slot false low ∙ not_set) is.each)
 
-    slots_after : slots_of (supplied (Waiting k)) arity (set filled slot true) new.items ≡ set (spread (take arity filled) values.items) slot (Some value)
+    slots_after : slots_of (supplied (Waiting k)) arity (set filled slot true) new.items
+        ≡ set (spread (take arity filled) values.items) slot (Some value)
     slots_after = rw (not_begun_life (k - 1)) values_after
 
     -- its item is the task with that value
@@ -194,17 +211,22 @@ module _ {V : Type 0} where
 
     pub IsFilled-filled : IsFilled (with_value task slot value) (set filled slot true) new
     IsFilled-filled =
-        let count : length new.items ≡ length values.items + 1 = ap length items ∙ length-insert values.items (count_set (take slot filled)) value before in
+        let count : length new.items ≡ length values.items + 1 =
+        ap length items ∙ length-insert values.items (count_set (take slot filled)) value before in
         let set_count : count_set (take arity (set filled slot true)) ≡ count_set (take arity filled) + 1 =
         ap count_set (take-set-lt arity filled slot true low)
-        ∙ count_set-set (take arity filled) slot (omega (arith, length-take-le arity filled long)) (get_or-take arity filled slot false low ∙ not_set) in
+        ∙ count_set-set (take arity filled) slot (omega (arith, length-take-le arity filled long))
+        (get_or-take arity filled slot false low ∙ not_set) in
         let waits : 0 < k = is.task.lacks in
         record {
           task = record {
             arity = is.task.arity;
             class = is.task.class;
             lacks = lacks_life (k - 1);
-            slots = rw (not_begun_life (k - 1)) (length-set (spread (take arity filled) values.items) slot (Some value) ∙ is.task.slots.0, lacks_one_less ∙ sym (lacking_life (k - 1)));
+            slots = rw (not_begun_life (k - 1)) (
+              length-set (spread (take arity filled) values.items) slot (Some value) ∙ is.task.slots.0,
+              lacks_one_less ∙ sym (lacking_life (k - 1)),
+            );
           };
           each = omega (arith, count, set_count, is.each);
           room = rw (lacking_life (k - 1)) (omega (arith, count, capacity, is.room));
@@ -212,7 +234,8 @@ module _ {V : Type 0} where
 
   -- ---- a ready task begins
   pub all_inputs : (arity class : ℕ) (filled : List Bool) (values : SmallVec V)
-      → IsFilled {V = V} (record { life = Ready; arity = arity; class = class; values = spread (take arity filled) values.items }) filled values
+      → IsFilled {V = V} (record { life = Ready; arity = arity; class = class; values = spread (take arity filled) values.items }) filled
+      values
       → map (λ v. Some v) values.items ≡ spread (take arity filled) values.items
   all_inputs arity class filled values is = spread-all (take arity filled) values.items is.each is.task.slots.1
 
@@ -226,26 +249,33 @@ module _ {V : Type 0} where
 
   -- whether a slot has its value
   pub has_slot : (life : Life) (arity class slot : ℕ) (filled : List Bool) (values : SmallVec V) → has_begun life ≡ false
-      → IsFilled {V = V} (record { life = life; arity = arity; class = class; values = slots_of life arity filled values.items }) filled values → slot < arity
+      → IsFilled {V = V} (record { life = life; arity = arity; class = class; values = slots_of life arity filled values.items }) filled
+      values → slot < arity
       → get_or filled slot false ≡ is_some (get_or (slots_of life arity filled values.items) slot None)
   has_slot life arity class slot filled values e is low =
       rw e (sym (get_or-take arity filled slot false low) ∙ sym (spread-get (take arity filled) values.items slot is.each))
 
   -- ---- the same where only a test says that the task waits
   abbrev pub item_task : Life → ℕ → ℕ → List Bool → List V → Task V
-  item_task life arity class filled values = record { life = life; arity = arity; class = class; values = slots_of life arity filled values }
+  item_task life arity class filled values =
+      record { life = life; arity = arity; class = class; values = slots_of life arity filled values }
 
-  pub can_insert : (life : Life) (arity class slot : ℕ) (filled : List Bool) (values : SmallVec V) → is_waiting life ≡ true → IsFilled (item_task life arity class filled values.items) filled values
+  pub can_insert : (life : Life) (arity class slot : ℕ) (filled : List Bool) (values : SmallVec V) → is_waiting life ≡ true
+      → IsFilled (item_task life arity class filled values.items) filled values
       → slot < arity → (count_set (take slot filled) ≤ small_vec_len values) × HasRoomFor values 1
   can_insert (Waiting k) arity class slot filled values e is low =
-      let waits : 0 < k = is.task.lacks in
-      (omega (arith, is.each, count_set-take (take arity filled) slot, ap count_set (take-take filled slot arity (omega arith))), omega (arith, is.room))
+      let waits : 0 < k = is.task.lacks in (
+        omega (arith, is.each, count_set-take (take arity filled) slot, ap count_set (take-take filled slot arity (omega arith))),
+        omega (arith, is.room),
+      )
   can_insert _ arity class slot filled values e is low = cc
 
   pub item_filled : (life : Life) (arity class slot : ℕ) (filled : List Bool) (values new : SmallVec V) (value : V) → is_waiting life ≡ true
-      → IsFilled (item_task life arity class filled values.items) filled values → arity ≤ length filled → slot < arity → get_or (slots_of life arity filled values.items) slot None ≡ None
+      → IsFilled (item_task life arity class filled values.items) filled values → arity ≤ length filled → slot < arity
+      → get_or (slots_of life arity filled values.items) slot None ≡ None
       → new.items ≡ insert values.items (count_set (take slot filled)) value → new.capacity ≡ values.capacity
-      → (item_task (supplied life) arity class (set filled slot true) new.items ≡ with_value (item_task life arity class filled values.items) slot value)
+      → (item_task (supplied life) arity class (set filled slot true) new.items
+      ≡ with_value (item_task life arity class filled values.items) slot value)
       × IsFilled (item_task (supplied life) arity class (set filled slot true) new.items) (set filled slot true) new
   item_filled (Waiting k) arity class slot filled values new value e is long low free items capacity =
       let same = filled_task k arity class slot filled values new value is long low free items capacity in

@@ -1,6 +1,8 @@
 -- How the slots and the index give the content, what they tell of one task, and how a change of one task moves it.
-use Rattle.std.proofs.Common.{◌≡◌, ◌≢◌, ℕ, zero, suc, ◌<◌, ◌==◌, ◌^◌, Bool, true, false, cond, List, length, map, Option, Some, None, IsSome, unwrap_or, IfSome, refl, sym, ap, subst, ◌∙◌}
-use Rattle.std.proofs.Common.{inl, inr, arith, ◌≤◌, [], ◌∷◌, get_or, count_by, ◌+◌, is_some, MatchOption, Result, Ok, Err, OnOk, IfErr, OnErr}
+use Rattle.std.proofs.Common.{◌≡◌, ◌≢◌, ℕ, zero, suc, ◌<◌, ◌==◌, ◌^◌, Bool, true, false, cond, List, length, map, Option, Some, None}
+use Rattle.std.proofs.Common.{IsSome, unwrap_or, IfSome, refl, sym, ap, subst, ◌∙◌}
+use Rattle.std.proofs.Common.{inl, inr, arith, ◌≤◌, [], ◌∷◌, get_or, count_by, ◌+◌, is_some, MatchOption, Result, Ok, Err, OnOk, IfErr}
+use Rattle.std.proofs.Common.{OnErr}
 use Rattle.std.specs.Prelude.{nat_lt, if◌then◌else◌}
 use Rattle.std.specs.Option.{option_map, IsSomeAnd, IsSome}
 use Rattle.std.specs.Ordering.{nat_cmp}
@@ -12,7 +14,8 @@ use Rattle.tp_base.specs.Table.{lookup}
 use Rattle.tp_slots.specs.Content as slots
 use Rattle.tp_slots.proofs.Sound.{get_inserted, get_removed, IsSound-with_ready}
 use Rattle.tp_slots.proofs.Lists.{same_each, with_last-each}
-use Rattle.tp_store.specs.Content.{Task, with_value, Content, task_of, unfinished, refusal_of_new, refusal_of_insert, refusal_of_deliver, refusal_of_value, counts_of, NoneGoesBack}
+use Rattle.tp_store.specs.Content.{Task, with_value, Content, task_of, unfinished, refusal_of_new, refusal_of_insert, refusal_of_deliver}
+use Rattle.tp_store.specs.Content.{refusal_of_value, counts_of, NoneGoesBack}
 use Rattle.tp_store.specs.Items.{Item}
 use Rattle.tp_store.specs.Entries.{Entries, entry_at}
 use Rattle.tp_store.specs.Kept.{task_under, with_found, tasks_below, tasks_of, number_of, number_at, Parts, content_of, IsKept, IsGrown}
@@ -39,11 +42,13 @@ room_under index t e is = go (nat_lt t (2 ^ 32)) (lookup index t) is
     go false o h = cc
 
 module _ {V : Type 0} where
-  get-with_found : (tasks : finite.FinMap nat_cmp (Task V)) (k q : ℕ) (o : Option (Task V)) → finite.get (with_found tasks k o) q ≡ cond (q == k) o (finite.get tasks q)
+  get-with_found : (tasks : finite.FinMap nat_cmp (Task V)) (k q : ℕ) (o : Option (Task V))
+      → finite.get (with_found tasks k o) q ≡ cond (q == k) o (finite.get tasks q)
   get-with_found tasks k q None = get_removed tasks k q
   get-with_found tasks k q (Some x) = get_inserted tasks k x q
 
-  get-tasks_below : (c : slots.Content (Item V)) (index : Entries) (n q : ℕ) → finite.get (tasks_below c index n) q ≡ (if nat_lt q n then task_under c (unwrap_or (lookup index q) None) else None)
+  get-tasks_below : (c : slots.Content (Item V)) (index : Entries) (n q : ℕ)
+      → finite.get (tasks_below c index n) q ≡ (if nat_lt q n then task_under c (unwrap_or (lookup index q) None) else None)
   unfolding tasks_below
   get-tasks_below c index zero q = let past : nat_lt q 0 ≡ false = grind (arith, nat_tests) in rw past (finite.get-empty nat_cmp q)
   get-tasks_below c index (suc n) q =
@@ -61,53 +66,69 @@ module _ {V : Type 0} where
       ])
 
   -- what is known of a task is what stands under its number
-  pub get-tasks_of : (c : slots.Content (Item V)) (index : Entries) (q : ℕ) → finite.get (tasks_of c index) q ≡ task_under c (entry_at index q)
+  pub get-tasks_of : (c : slots.Content (Item V)) (index : Entries) (q : ℕ)
+      → finite.get (tasks_of c index) q ≡ task_under c (entry_at index q)
   get-tasks_of c index q =
       get-tasks_below c index (2 ^ 32) q
-      ∙ elim (nat_lt q (2 ^ 32)) as (λ b. (if b then task_under c (unwrap_or (lookup index q) None) else None) ≡ task_under c (if b then unwrap_or
+      ∙ elim (nat_lt q (2 ^ 32)) as (λ b. (if b then task_under c (unwrap_or (lookup index q) None) else None)
+      ≡ task_under c (if b then unwrap_or
       (lookup index q) None else None)) [ true ↦ refl | false ↦ refl ]
 
   -- an entry says the same where the item at its place, if it has one, stays
-  under_same : (c d : slots.Content (Item V)) (p : ℕ) (e : Option Entry) → ((q : ℕ) → q ≢ p → slots.item_at d q ≡ slots.item_at c q) → (e ≡ Some (Live p) → ⊥) → task_under d e ≡ task_under c e
+  under_same : (c d : slots.Content (Item V)) (p : ℕ) (e : Option Entry) → ((q : ℕ) → q ≢ p → slots.item_at d q ≡ slots.item_at c q)
+      → (e ≡ Some (Live p) → ⊥) → task_under d e ≡ task_under c e
   under_same c d p None items apart = refl
   under_same c d p (Some (Live q)) items apart = ap (option_map (λ i. i.task)) (items q (λ same. apart (ap (λ x. Some (Live x)) same)))
   under_same c d p (Some (Done a b)) items apart = refl
 
   -- one task is changed, with the item at one place or the entry under its number
-  pub tasks-put : (c d : slots.Content (Item V)) (index new : Entries) (t p : ℕ) (x : Task V) → ((q : ℕ) → q ≢ p → slots.item_at d q ≡ slots.item_at c q)
-      → ((q : ℕ) → q ≢ t → entry_at new q ≡ entry_at index q) → ((q : ℕ) → q ≢ t → entry_at index q ≡ Some (Live p) → ⊥) → task_under d (entry_at new t) ≡ Some x
+  pub tasks-put : (c d : slots.Content (Item V)) (index new : Entries) (t p : ℕ) (x : Task V)
+      → ((q : ℕ) → q ≢ p → slots.item_at d q ≡ slots.item_at c q)
+      → ((q : ℕ) → q ≢ t → entry_at new q ≡ entry_at index q) → ((q : ℕ) → q ≢ t → entry_at index q ≡ Some (Live p) → ⊥)
+      → task_under d (entry_at new t) ≡ Some x
       → tasks_of d new ≡ finite.insert (tasks_of c index) t x
   tasks-put c d index new t p x items entries apart here = finite.same_map nat_cmp_total finite.nat_cmp-IsAntisymmetric _ _ (λ q.
       get-tasks_of d new q ∙ (elim (cases_eq q t) [
-        | inl same ↦ let e : (q == t) ≡ true = grind (arith, nat_tests) in ap (λ k. task_under d (entry_at new k)) same ∙ here ∙ sym (ap (λ b. cond b (Some x) (finite.get (tasks_of c index) q)) e)
+        | inl same ↦ let e : (q == t) ≡ true =
+            grind (arith, nat_tests) in ap (λ k. task_under d (entry_at new k)) same ∙ here
+            ∙ sym (ap (λ b. cond b (Some x) (finite.get (tasks_of c index) q)) e)
         | inr differs ↦
             let e : (q == t) ≡ false = grind (arith, nat_tests) in
-            ap (task_under d) (entries q differs) ∙ under_same c d p (entry_at index q) items (apart q differs) ∙ sym (get-tasks_of c index q)
+            ap (task_under d) (entries q differs) ∙ under_same c d p (entry_at index q) items (apart q differs)
+            ∙ sym (get-tasks_of c index q)
             ∙ sym (ap (λ b. cond b (Some x) (finite.get (tasks_of c index) q)) e)
       ]) ∙ sym (get_inserted (tasks_of c index) t x q))
 
   -- no task is changed
-  pub tasks-same : (c : slots.Content (Item V)) (index new : Entries) → ((q : ℕ) → task_under c (entry_at new q) ≡ task_under c (entry_at index q)) → tasks_of c new ≡ tasks_of c index
-  tasks-same c index new same = finite.same_map nat_cmp_total finite.nat_cmp-IsAntisymmetric _ _ (λ q. get-tasks_of c new q ∙ same q ∙ sym (get-tasks_of c index q))
+  pub tasks-same : (c : slots.Content (Item V)) (index new : Entries)
+      → ((q : ℕ) → task_under c (entry_at new q) ≡ task_under c (entry_at index q)) → tasks_of c new ≡ tasks_of c index
+  tasks-same c index new same =
+      finite.same_map nat_cmp_total finite.nat_cmp-IsAntisymmetric _ _ (λ q. get-tasks_of c new q ∙ same q ∙ sym (get-tasks_of c index q))
 
   -- the numbers at listed places, where only an unlisted place is changed
-  pub numbers_same : (c d : slots.Content (Item V)) (p : ℕ) (lists : List (List ℕ)) → ((q : ℕ) → q ≢ p → slots.item_at d q ≡ slots.item_at c q) → slots.times p lists ≡ 0
+  pub numbers_same : (c d : slots.Content (Item V)) (p : ℕ) (lists : List (List ℕ))
+      → ((q : ℕ) → q ≢ p → slots.item_at d q ≡ slots.item_at c q) → slots.times p lists ≡ 0
       → map (map (number_at d)) lists ≡ map (map (number_at c)) lists
   numbers_same c d p lists items none = same_each (number_at d) (number_at c) lists
-      (λ q more. ap number_of (items q (λ same. let some : 0 < slots.times p lists = subst (λ k. 0 < slots.times k lists) same more in absurd (omega arith))))
+      (λ q more. ap number_of
+      (items q (λ same. let some : 0 < slots.times p lists = subst (λ k. 0 < slots.times k lists) same more in absurd (omega arith))))
 
   -- ---- what is at a place after a change
   pub item_here : (c : slots.Content (Item V)) (p : ℕ) (i : Item V) → slots.item_at (slots.with_item c p i) p ≡ Some i
-  item_here c p i = let e : (p == p) ≡ true = grind (arith, nat_tests) in get_inserted c.items p i p ∙ ap (λ b. cond b (Some i) (finite.get c.items p)) e
+  item_here c p i = let e : (p == p) ≡ true =
+      grind (arith, nat_tests) in get_inserted c.items p i p ∙ ap (λ b. cond b (Some i) (finite.get c.items p)) e
 
   pub item_there : (c : slots.Content (Item V)) (p q : ℕ) (i : Item V) → q ≢ p → slots.item_at (slots.with_item c p i) q ≡ slots.item_at c q
-  item_there c p q i apart = let e : (q == p) ≡ false = grind (arith, nat_tests) in get_inserted c.items p i q ∙ ap (λ b. cond b (Some i) (finite.get c.items q)) e
+  item_there c p q i apart = let e : (q == p) ≡ false =
+      grind (arith, nat_tests) in get_inserted c.items p i q ∙ ap (λ b. cond b (Some i) (finite.get c.items q)) e
 
   pub gone_there : (c : slots.Content (Item V)) (p q : ℕ) → q ≢ p → slots.item_at (slots.without_item c p) q ≡ slots.item_at c q
-  gone_there c p q apart = let e : (q == p) ≡ false = grind (arith, nat_tests) in get_removed c.items p q ∙ ap (λ b. cond b None (finite.get c.items q)) e
+  gone_there c p q apart = let e : (q == p) ≡ false =
+      grind (arith, nat_tests) in get_removed c.items p q ∙ ap (λ b. cond b None (finite.get c.items q)) e
 
   pub gone_here : (c : slots.Content (Item V)) (p : ℕ) → slots.item_at (slots.without_item c p) p ≡ None
-  gone_here c p = let e : (p == p) ≡ true = grind (arith, nat_tests) in get_removed c.items p p ∙ ap (λ b. cond b None (finite.get c.items p)) e
+  gone_here c p = let e : (p == p) ≡ true =
+      grind (arith, nat_tests) in get_removed c.items p p ∙ ap (λ b. cond b None (finite.get c.items p)) e
 
   -- ---- a place is listed where its task is ready
   abbrev pub listed : Bool → slots.Content (Item V) → ℕ → ℕ → slots.Content (Item V)
@@ -117,7 +138,8 @@ module _ {V : Type 0} where
   listed_items true c p class = refl
   listed_items false c p class = refl
 
-  pub listed_sound : (b : Bool) (c : slots.Content (Item V)) (p class : ℕ) → slots.IsSound c → slots.IsIdle c p → class < 4 → slots.IsSound (listed b c p class)
+  pub listed_sound : (b : Bool) (c : slots.Content (Item V)) (p class : ℕ) → slots.IsSound c → slots.IsIdle c p → class < 4
+      → slots.IsSound (listed b c p class)
   listed_sound true c p class sound idle low = IsSound-with_ready c class p sound idle low
   listed_sound false c p class sound idle low = sound
 
@@ -140,10 +162,17 @@ module _ (f : ℕ → TaskId) (p : ℕ) where
         let e : is_task (f p) (f x) ≡ true = ap (λ k. is_task (f p) (f k)) same ∙ is_itself (f p) in
         let more = rw e at (sum_by-cons (λ u. cond (is_task (f p) u) 1 0) (f x) (map f xs)) in
         grind (arith, nat_tests, more, sum_by-cons (λ k. cond (k == p) 1 0) x xs, times_below xs)
-    | inr apart ↦ grind (arith, nat_tests, sum_by-cons (λ u. cond (is_task (f p) u) 1 0) (f x) (map f xs), sum_by-cons (λ k. cond (k == p) 1 0) x xs, times_below xs)
+    | inr apart ↦ grind (
+      arith,
+      nat_tests,
+      sum_by-cons (λ u. cond (is_task (f p) u) 1 0) (f x) (map f xs),
+      sum_by-cons (λ k. cond (k == p) 1 0) x xs,
+      times_below xs,
+    )
   ]
 
-  pub none_listed : (rs : List (List ℕ)) → ((class : ℕ) → count_by (is_task (f p)) (get_or (map (map f) rs) class []) ≡ 0) → slots.times p rs ≡ 0
+  pub none_listed : (rs : List (List ℕ)) → ((class : ℕ) → count_by (is_task (f p)) (get_or (map (map f) rs) class []) ≡ 0)
+      → slots.times p rs ≡ 0
   none_listed [] h = refl
   none_listed (r ∷ rs) h = omega (arith, h 0, times_below r, none_listed rs (λ class. h (suc class)))
 
@@ -152,7 +181,8 @@ module _ {V A : Type 0} {parts : Parts V A} (kept : IsKept parts) {s : Content V
   pub seen : (e : Option Entry) → entry_at parts.index t.0 ≡ e → task_of s t ≡ task_under parts.places e
   seen e is = ap (λ v. task_of v t) (sym view) ∙ get-tasks_of parts.places parts.index t.0 ∙ ap (task_under parts.places) is
 
-  pub seen_live : (place : ℕ) (i : Item V) → entry_at parts.index t.0 ≡ Some (Live place) → slots.item_at parts.places place ≡ Some i → task_of s t ≡ Some i.task
+  pub seen_live : (place : ℕ) (i : Item V) → entry_at parts.index t.0 ≡ Some (Live place) → slots.item_at parts.places place ≡ Some i
+      → task_of s t ≡ Some i.task
   seen_live place i e at = seen (Some (Live place)) e ∙ ap (option_map (λ j. j.task)) at
 
 module _ {V A : Type 0} {parts : Parts V A} (kept : IsKept parts) {s : Content V} (view : content_of parts ≡ s) where
@@ -167,7 +197,8 @@ module _ {V A : Type 0} {parts : Parts V A} (kept : IsKept parts) {s : Content V
 
   -- a number with an entry has a task
   pub known : (t : TaskId) (e : Entry) → entry_at parts.index t.0 ≡ Some e → (x : Task V) × (task_of s t ≡ Some x)
-  known t (Done arity class) is = (record { life = over; arity = arity; class = class; values = [] }, seen kept view t (Some (Done arity class)) is)
+  known t (Done arity class) is =
+      (record { life = over; arity = arity; class = class; values = [] }, seen kept view t (Some (Done arity class)) is)
   known t (Live place) is =
       let i = some_of (slots.item_at parts.places place) (kept.live t.0 place is) in
       (i.0.task, seen_live kept view t place i.0 is i.1)
@@ -178,12 +209,14 @@ module _ {V A : Type 0} {parts : Parts V A} (kept : IsKept parts) {s : Content V
 
   -- whether a new task is taken
   pub new_answer : (r : Result (Unit {0}) Refusal) → OnOk r (parts.counts.waiting + parts.counts.ready + parts.counts.running < 65536)
-      → IfErr r (λ e. (e ≡ StoreFull) × (parts.counts.waiting + parts.counts.ready + parts.counts.running ≡ 65536)) → MatchOption (refusal_of_new s) (r ≡ Ok tt) (λ e. r ≡ Err e)
+      → IfErr r (λ e. (e ≡ StoreFull) × (parts.counts.waiting + parts.counts.ready + parts.counts.running ≡ 65536))
+      → MatchOption (refusal_of_new s) (r ≡ Ok tt) (λ e. r ≡ Err e)
   new_answer (Ok x) ok err = let e : (unfinished s == 65536) ≡ false = grind (arith, nat_tests, live_count, ok) in rw e refl
   new_answer (Err x) ok err = let e : (unfinished s == 65536) ≡ true = grind (arith, nat_tests, live_count, err.1) in rw e (ap Err err.0)
 
 -- what a call is refused for, by what is known of the task
-pub insert_refusal : {V : Type 0} (s : Content V) (t : TaskId) (o : Option (Task V)) → task_of s t ≡ o → refusal_of_insert s t ≡ (if is_some o then Some TaskKnown else refusal_of_new s)
+pub insert_refusal : {V : Type 0} (s : Content V) (t : TaskId) (o : Option (Task V)) → task_of s t ≡ o
+    → refusal_of_insert s t ≡ (if is_some o then Some TaskKnown else refusal_of_new s)
 insert_refusal s t o e = rw e refl
 
 module _ {V : Type 0} (s : Content V) (t : TaskId) (arity slot : ℕ) where
@@ -194,14 +227,17 @@ module _ {V : Type 0} (s : Content V) (t : TaskId) (arity slot : ℕ) where
   known_refusal x e = rw e refl
 
 -- what a check answers
-pub answers : {o w : Option Refusal} (r : Result (Unit {0}) Refusal) → o ≡ w → MatchOption w (r ≡ Ok tt) (λ e. r ≡ Err e) → MatchOption o (r ≡ Ok tt) (λ e. r ≡ Err e)
+pub answers : {o w : Option Refusal} (r : Result (Unit {0}) Refusal) → o ≡ w → MatchOption w (r ≡ Ok tt) (λ e. r ≡ Err e)
+    → MatchOption o (r ≡ Ok tt) (λ e. r ≡ Err e)
 answers r e is = rw e is
 
-pub accepts : (o : Option Refusal) (r : Result (Unit {0}) Refusal) (x : Unit {0}) → MatchOption o (r ≡ Ok tt) (λ e. r ≡ Err e) → r ≡ Ok x → o ≡ None
+pub accepts : (o : Option Refusal) (r : Result (Unit {0}) Refusal) (x : Unit {0}) → MatchOption o (r ≡ Ok tt) (λ e. r ≡ Err e) → r ≡ Ok x
+    → o ≡ None
 accepts None r x h e = refl
 accepts (Some y) r x h e = let clash : Err y ≡ Ok x = sym h ∙ e in cc
 
-pub refuses : (o : Option Refusal) (r : Result (Unit {0}) Refusal) (y : Refusal) → MatchOption o (r ≡ Ok tt) (λ e. r ≡ Err e) → r ≡ Err y → o ≡ Some y
+pub refuses : (o : Option Refusal) (r : Result (Unit {0}) Refusal) (y : Refusal) → MatchOption o (r ≡ Ok tt) (λ e. r ≡ Err e) → r ≡ Err y
+    → o ≡ Some y
 refuses None r y h e = let clash : Ok tt ≡ Err y = sym h ∙ e in cc
 refuses (Some z) r y h e = let both : Err z ≡ Err y = sym h ∙ e in cc
 
@@ -217,7 +253,8 @@ insertable {V} s t e = go (task_of s t) (refusal_of_new s) e
 module _ {V A : Type 0} {parts : Parts V A} (kept : IsKept parts)
     {s : Content V} (view : content_of parts ≡ s) where
   -- ---- what is kept with other room
-  module _ {d : slots.Content (Item V)} {new : Entries} {after : Vec (TaskId × V) A} (grown : IsGrown parts.places d parts.index new parts.results after) where
+  module _ {d : slots.Content (Item V)} {new : Entries} {after : Vec (TaskId × V) A}
+      (grown : IsGrown parts.places d parts.index new parts.results after) where
     abbrev roomy : Parts V A
     roomy = record parts { places = d; index = new; results = after }
 
@@ -265,11 +302,13 @@ module _ {V A : Type 0} {parts : Parts V A} (kept : IsKept parts)
         at_entry (Some e) is = let x = known kept view t e is in ap is_some is ∙ sym (ap is_some x.1)
 
     pub low_not_full : slots.held_count parts.places < 65536 → refusal_of_new s ≡ None
-    low_not_full low = let e : (unfinished s == 65536) ≡ false = grind (arith, nat_tests, ap (λ v. unfinished v) view, kept.held, low) in rw e refl
+    low_not_full low = let e : (unfinished s == 65536) ≡ false =
+        grind (arith, nat_tests, ap (λ v. unfinished v) view, kept.held, low) in rw e refl
 
     pub refusals : slots.refusal_of_take parts.places ≡ unwrap_or (refusal_of_new s) NoMemory
     refusals =
-        (elim (slots.held_count parts.places == 65536) as (λ b. (if b then StoreFull else NoMemory) ≡ unwrap_or (if b then Some StoreFull else None) NoMemory) [ true ↦ refl | false ↦ refl ])
+        (elim (slots.held_count parts.places == 65536) as (λ b. (if b then StoreFull else NoMemory)
+        ≡ unwrap_or (if b then Some StoreFull else None) NoMemory) [ true ↦ refl | false ↦ refl ])
         ∙ ap (λ n. unwrap_or (if n == 65536 then Some StoreFull else None) NoMemory) (kept.held ∙ ap (λ v. unfinished v) view)
 
 -- ---- what a refusal says
@@ -290,6 +329,7 @@ not_some None none h = cc
 not_some (Some x) none h = cc
 
 -- no task goes back, whether the call did something or not
-pub goes_on : {V X E : Type 0} (r : Result X E) (s new c : Content V) → OnOk r (new ≡ c) → OnErr r (new ≡ s) → NoneGoesBack s c → NoneGoesBack s new
+pub goes_on : {V X E : Type 0} (r : Result X E) (s new c : Content V) → OnOk r (new ≡ c) → OnErr r (new ≡ s) → NoneGoesBack s c
+    → NoneGoesBack s new
 goes_on (Ok x) s new c is same on = subst (NoneGoesBack s) (sym is) on
 goes_on (Err e) s new c is same on = subst (NoneGoesBack s) (sym same) (λ t. omega arith)

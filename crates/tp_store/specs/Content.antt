@@ -1,5 +1,6 @@
 -- What a store keeps: its tasks, the ready ones in four lists, and the results.
-use Rattle.std.specs.Prelude.{ℕ, zero, suc, ◌-◌, ◌≤◌, ◌==◌, ◌||◌, Bool, true, false, not, List, [], ◌∷◌, ◌++◌, count_by, replicate, slice_index_or, slice_set, Option, None, Some, is_some}
+use Rattle.std.specs.Prelude.{ℕ, zero, suc, ◌-◌, ◌≤◌, ◌==◌, ◌||◌, Bool, true, false, not, List, [], ◌∷◌, ◌++◌, count_by, replicate}
+use Rattle.std.specs.Prelude.{slice_index_or, slice_set, Option, None, Some, is_some}
 use Rattle.std.specs.Prelude.{unwrap_or, if◌then◌else◌}
 use Rattle.std.specs.Option.{option_map}
 use Rattle.std.specs.Ordering.{nat_cmp}
@@ -134,7 +135,8 @@ module _ {V : Type 0} where
 
   -- a known task takes a value before it begins, and each slot takes one
   abbrev pub value_checks : Task V → ℕ → ℕ → List Check
-  value_checks x arity slot = (has_begun x.life || not (x.arity == arity), TaskKnown) ∷ (is_some (slice_index_or x.values slot None), SlotTaken) ∷ []
+  value_checks x arity slot =
+      (has_begun x.life || not (x.arity == arity), TaskKnown) ∷ (is_some (slice_index_or x.values slot None), SlotTaken) ∷ []
 
   -- a task is inserted once
   abbrev pub insert_checks : Content V → TaskId → List Check
@@ -158,7 +160,8 @@ module _ {V : Type 0} where
 
   -- the task is this from now on; where it is ready, it goes to the end of the list of its class
   abbrev pub with_task : Content V → TaskId → Task V → Content V
-  with_task c t x = record c { tasks = map.insert c.tasks t.0 x; ready = (if is_ready x.life then with_last c.ready x.class t else c.ready) }
+  with_task c t x =
+      record c { tasks = map.insert c.tasks t.0 x; ready = (if is_ready x.life then with_last c.ready x.class t else c.ready) }
 
   -- the tasks with that one changed
   abbrev pub changed_tasks : Content V → TaskId → (Task V → Task V) → map.FinMap nat_cmp (Task V)

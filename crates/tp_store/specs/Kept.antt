@@ -1,5 +1,6 @@
 -- How a store keeps its content.
-use Rattle.std.specs.Prelude.{◌≡◌, ℕ, zero, suc, ◌+◌, ◌-◌, ◌^◌, ◌≤◌, ◌==◌, Bool, [], map as each, Option, None, Some, unwrap_or, vec_len, vec_capacity, if◌then◌else◌}
+use Rattle.std.specs.Prelude.{◌≡◌, ℕ, zero, suc, ◌+◌, ◌-◌, ◌^◌, ◌≤◌, ◌==◌, Bool, [], map as each, Option, None, Some, unwrap_or, vec_len}
+use Rattle.std.specs.Prelude.{vec_capacity, if◌then◌else◌}
 use Rattle.std.specs.Option.{option_map, IsSomeAnd}
 use Rattle.std.specs.Ordering.{nat_cmp}
 use Rattle.std.specs.FinMap as map
@@ -78,7 +79,8 @@ module _ {V : Type 0} where
   number_at c place = number_of (slots.item_at c place)
 
   abbrev pub content_of : {A : Type 0} → Parts V A → Content V
-  content_of s = record { tasks = tasks_of s.places s.index; ready = each (each (number_at s.places)) s.places.ready; results = s.results.items }
+  content_of s =
+      record { tasks = tasks_of s.places s.index; ready = each (each (number_at s.places)) s.places.ready; results = s.results.items }
 
   -- the same with the place of a ready task at the end of its list
   abbrev pub with_listed : slots.Content (Item V) → ℕ → Task V → slots.Content (Item V)

@@ -1,5 +1,6 @@
 -- What is true of the content of every store.
-use Rattle.std.specs.Prelude.{◌≡◌, ℕ, ◌<◌, ◌≤◌, ◌==◌, ◌&&◌, Bool, false, [], length, count_by, slice_index_or, is_none, unwrap_or, MatchBool, MatchOption, if◌then◌else◌}
+use Rattle.std.specs.Prelude.{◌≡◌, ℕ, ◌<◌, ◌≤◌, ◌==◌, ◌&&◌, Bool, false, [], length, count_by, slice_index_or, is_none, unwrap_or}
+use Rattle.std.specs.Prelude.{MatchBool, MatchOption, if◌then◌else◌}
 use Rattle.std.specs.Option.{option_map}
 use Rattle.tp_base.specs.declared.limits.TheConstants.{CLASSES, MAX_INPUTS}
 use Rattle.tp_base.specs.declared.ids.TaskId.{TaskId}
@@ -45,5 +46,6 @@ module _ {V : Type 0} where
   pub record IsSound (c : Content V) : Type 0 where
     pub four : length c.ready ≡ 4
     pub tasks : (t : TaskId) → MatchOption (task_of c t) (Unit {0}) IsTask
-    pub ready : (class : ℕ) (t : TaskId) → times_ready c class t ≡ (if passes c t (λ x. is_ready x.life && (x.class == class)) then 1 else 0)
+    pub ready : (class : ℕ) (t : TaskId)
+        → times_ready c class t ≡ (if passes c t (λ x. is_ready x.life && (x.class == class)) then 1 else 0)
     pub done : (t : TaskId) → times_done c t ≡ (if passes c t (λ x. is_done x.life) then 1 else 0)

@@ -1,5 +1,6 @@
 //! A task that is not done, with the inputs that it has.
-ghost use Rattle.std.specs.Prelude.{◌≡◌, ◌<◌, ◌≤◌, [], length, map, insert, Some, None, is_some, slice_index_or, true, false, MatchOption, IsOk, IfOk, IfErr};
+ghost use Rattle.std.specs.Prelude.{◌≡◌, ◌<◌, ◌≤◌, [], length, map, insert, Some, None, is_some, slice_index_or, true, false, MatchOption};
+ghost use Rattle.std.specs.Prelude.{IsOk, IfOk, IfErr};
 ghost use Rattle.smallvec.specs.SmallVec.{small_vec_len, HasRoomFor};
 ghost use Rattle.tp_store.specs.Items.{count_set};
 ghost use Rattle.tp_store.specs.Content.{fresh, with_value, begun, is_waiting, has_begun, refusal_of_value};
@@ -29,9 +30,14 @@ impl<V> Model for TaskItem<V> {
 
     ghost Value = { Item V };
 
-    ghost view = { λ x. record { number = x.number; task = record { life = x.life; arity = x.arity; class = x.class; values = slots_of x.life x.arity x.filled x.values.items } } };
+    ghost view = { λ x. record {
+      number = x.number;
+      task = record { life = x.life; arity = x.arity; class = x.class; values = slots_of x.life x.arity x.filled x.values.items };
+    } };
 
-    ghost invariant = { λ x. IsFilled (record { life = x.life; arity = x.arity; class = x.class; values = slots_of x.life x.arity x.filled x.values.items }) x.filled x.values };
+    ghost invariant = { λ x. IsFilled
+        (record { life = x.life; arity = x.arity; class = x.class; values = slots_of x.life x.arity x.filled x.values.items }) x.filled
+        x.values };
 }
 
 impl<V> TaskItem<V> {

@@ -28,8 +28,10 @@ pub(crate) fn supply<S: Slots<TaskItem<V>>, V: MadeWith<Global> + Drop>(
     requires slot_in_range { IfSome (item_at (S.content slots.old) place) (λ i. slot < i.task.arity) }
     requires free { IfSome (item_at (S.content slots.old) place) (λ i. slice_index_or i.task.values slot None ≡ None) }
     requires counted { IfSome (item_at (S.content slots.old) place) (λ i. IsCounted (Some i.task.life) counts.old) }
-    ensures content { IfSome (item_at (S.content slots.old) place) (λ i. S.content slots.new ≡ with_supplied (S.content slots.old) place i slot value) }
-    ensures counts { IfSome (item_at (S.content slots.old) place) (λ i. counts.new ≡ moved_counts counts.old (Some i.task.life) (with_value i.task slot value).life) }
+    ensures content { IfSome (item_at (S.content slots.old) place) (λ i. S.content slots.new
+        ≡ with_supplied (S.content slots.old) place i slot value) }
+    ensures counts { IfSome (item_at (S.content slots.old) place) (λ i. counts.new
+        ≡ moved_counts counts.old (Some i.task.life) (with_value i.task slot value).life) }
 {
     let item = slots.get_mut(place);
     let was = item.life();
@@ -47,7 +49,8 @@ pub(crate) fn begin_at<S: Slots<TaskItem<V>>, V: MadeWith<Global> + Drop>(
     requires ready { IfSome (item_at (S.content slots.old) place) (λ i. i.task.life ≡ Life.Ready) }
     ensures number { IfSome (item_at (S.content slots.old) place) (λ i. result.0 ≡ i.number) }
     ensures inputs { IfSome (item_at (S.content slots.old) place) (λ i. map (λ v. Some v) result.1.items ≡ i.task.values) }
-    ensures content { IfSome (item_at (S.content slots.old) place) (λ i. S.content slots.new ≡ with_item (S.content slots.old) place (record i { task = begun i.task })) }
+    ensures content { IfSome (item_at (S.content slots.old) place) (λ i. S.content slots.new
+        ≡ with_item (S.content slots.old) place (record i { task = begun i.task })) }
 {
     let item = slots.get_mut(place);
     (item.number(), item.begin())
@@ -59,7 +62,8 @@ pub(crate) fn list_if_ready<S: Slots<TaskItem<V>>, V>(slots: &mut S, place: Plac
     requires fits { FitsInMemory (the_row V.row) }
     requires idle { IsIdle (S.content slots.old) place }
     ensures life { IfSome (item_at (S.content slots.old) place) (λ i. result ≡ i.task.life) }
-    ensures content { IfSome (item_at (S.content slots.old) place) (λ i. S.content slots.new ≡ with_listed (S.content slots.old) place i.task) }
+    ensures content { IfSome (item_at (S.content slots.old) place) (λ i. S.content slots.new
+        ≡ with_listed (S.content slots.old) place i.task) }
 {
     let item = slots.get(place);
     let life = item.life();

@@ -1,5 +1,6 @@
 //! A new task, and the room that is made for it.
-ghost use Rattle.std.specs.Prelude.{◌≡◌, ◌<◌, ◌≤◌, ◌+◌, None, Some, IsSome, IsTrue, IsOk, OnOk, OnErr, IfOk, IfErr, unwrap_or, vec_len, vec_capacity};
+ghost use Rattle.std.specs.Prelude.{◌≡◌, ◌<◌, ◌≤◌, ◌+◌, None, Some, IsSome, IsTrue, IsOk, OnOk, OnErr, IfOk, IfErr, unwrap_or, vec_len};
+ghost use Rattle.std.specs.Prelude.{vec_capacity};
 ghost use Rattle.std.specs.Mem.{FitsInMemory};
 ghost use Rattle.tp_base.specs.Table.{lookup, has_place};
 ghost use Rattle.tp_slots.specs.Content.{held_count, refusal_of_take};
@@ -38,7 +39,8 @@ pub(crate) fn insert_fresh<S: Slots<TaskItem<V>>, V: MadeWith<Global> + Drop>(
     ensures inserted { let old = parts_of (S.content slots.old) index.old results.old counts.old in
         let new = parts_of (S.content slots.new) index.new results.new counts.new in
         OnOk result (Leaves new (with_task (content_of old) task (fresh arity class)) (unfinished (content_of old) + 1)) }
-    ensures refusal { IfErr result (λ e. e ≡ unwrap_or (refusal_of_new (content_of (parts_of (S.content slots.old) index.old results.old counts.old))) Refusal.NoMemory) }
+    ensures refusal { IfErr result (λ e. e
+        ≡ unwrap_or (refusal_of_new (content_of (parts_of (S.content slots.old) index.old results.old counts.old))) Refusal.NoMemory) }
     ensures unchanged { let old = parts_of (S.content slots.old) index.old results.old counts.old in
         let new = parts_of (S.content slots.new) index.new results.new counts.new in
         OnErr result (Leaves new (content_of old) (unfinished (content_of old))) }
@@ -83,7 +85,8 @@ fn make_item<S: Slots<TaskItem<V>>, V: MadeWith<Global> + Drop>(
     ensures space { OnOk result (vec_len results.old + live + 1 ≤ vec_capacity results.new) }
     ensures entry { OnOk result (IsSome (lookup index.new task.0)) }
     ensures refusal { IfErr result (λ e. e ≡ refusal_of_take (S.content slots.old)) }
-    ensures had_room { 0 < S.room slots.old → vec_len results.old + live + 1 ≤ vec_capacity results.old → IsTrue (has_place index.old task.0) → arity ≤ 4 → IsOk result }
+    ensures had_room { 0 < S.room slots.old → vec_len results.old + live + 1 ≤ vec_capacity results.old
+        → IsTrue (has_place index.old task.0) → arity ≤ 4 → IsOk result }
 {
     slots.reserve()?;
     results.reserve(live as usize + 1)?;

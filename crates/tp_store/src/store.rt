@@ -1,5 +1,6 @@
 //! The store of a node's tasks.
-ghost use Rattle.std.specs.Prelude.{◌≡◌, ◌≢◌, ℕ, ◌+◌, ◌<◌, ◌≤◌, None, Some, is_some, IsOk, IfOk, IfErr, IfSome, OnOk, OnErr, MatchOption, unwrap_or, map, IsSome};
+ghost use Rattle.std.specs.Prelude.{◌≡◌, ◌≢◌, ℕ, ◌+◌, ◌<◌, ◌≤◌, None, Some, is_some, IsOk, IfOk, IfErr, IfSome, OnOk, OnErr, MatchOption};
+ghost use Rattle.std.specs.Prelude.{unwrap_or, map, IsSome};
 ghost use Rattle.std.specs.Option.{option_map};
 ghost use Rattle.tp_slots.specs.Content.{front};
 
@@ -56,7 +57,8 @@ impl<S: Slots<TaskItem<V>>, V> Model for TaskStore<S, V> {
 }
 
 impl<S: Slots<TaskItem<V>>, V> TaskStore<S, V> {
-    ghost use Rattle.tp_store.specs.Content.{nothing_stored, task_of, life_of, values_of, unfinished, counts_of, refusal_of_new, refusal_of_insert, refusal_of_deliver};
+    ghost use Rattle.tp_store.specs.Content.{nothing_stored, task_of, life_of, values_of, unfinished, counts_of, refusal_of_new};
+    ghost use Rattle.tp_store.specs.Content.{refusal_of_insert, refusal_of_deliver};
     ghost use Rattle.tp_store.specs.Sound.{IsSound};
 
     /// A store with no task. It takes no memory yet.
@@ -154,7 +156,8 @@ impl<S: Slots<TaskItem<V>>, V> TaskStore<S, V> {
 fn check_new(counts: &Counts) -> Result<(), Refusal>
     requires { counts.now.waiting + counts.now.ready + counts.now.running ≤ MAX_LIVE_TASKS }
     ensures ok { OnOk result (counts.now.waiting + counts.now.ready + counts.now.running < MAX_LIVE_TASKS) }
-    ensures err { IfErr result (λ e. (e ≡ Refusal.StoreFull) × (counts.now.waiting + counts.now.ready + counts.now.running ≡ MAX_LIVE_TASKS)) }
+    ensures err { IfErr result (λ e. (e ≡ Refusal.StoreFull)
+        × (counts.now.waiting + counts.now.ready + counts.now.running ≡ MAX_LIVE_TASKS)) }
 {
     if counts.live() == MAX_LIVE_TASKS {
         return Err(Refusal::StoreFull);
@@ -177,7 +180,8 @@ impl<S: Slots<TaskItem<V>> + Drop, V: Drop> TaskStore<S, V> {
 }
 
 impl<S: Slots<TaskItem<V>>, V: MadeWith<Global> + Drop> TaskStore<S, V> {
-    ghost use Rattle.tp_store.specs.Content.{task_of, life_of, values_of, unfinished, refusal_of_new, refusal_of_insert, refusal_of_deliver, refusal_of_done};
+    ghost use Rattle.tp_store.specs.Content.{task_of, life_of, values_of, unfinished, refusal_of_new, refusal_of_insert};
+    ghost use Rattle.tp_store.specs.Content.{refusal_of_deliver, refusal_of_done};
     ghost use Rattle.tp_store.specs.Content.{with_inserted, with_delivered, with_begun, with_done, delivered_to, inserted_by, NoneGoesBack};
 
     /// Inserts an input-free task, ready at once. Its class is 0 to 3.

@@ -40,7 +40,8 @@ fn print_row(
     i: u32,
 ) -> Result<(), AllocError>
     requires { i < (table_of table.now).rows }
-    ensures { OnOk result (text.new.items ≡ text.old.items ++ texts (table_of table.now).columns (λ j. cell_text (table_of table.now).columns j ((table_of table.now).at i j))) }
+    ensures { OnOk result (text.new.items ≡ text.old.items
+        ++ texts (table_of table.now).columns (λ j. cell_text (table_of table.now).columns j ((table_of table.now).at i j))) }
 {
     let columns = table.columns();
     for j in 0..columns {

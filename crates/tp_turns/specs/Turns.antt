@@ -1,5 +1,6 @@
 -- A node's control turn: which step of the waves it makes, and what it answers.
-use Rattle.std.specs.Prelude.{ℕ, ◌+◌, ◌*◌, ◌≡◌, ◌==◌, ◌&&◌, List, [], ◌∷◌, ◌++◌, Bool, true, false, IsTrue, IsFalse, Some, None, is_some, is_none, if◌then◌else◌, Result, Ok, Err, IfOk, IsOkAnd, OnErr, OnOk, nat_lt}
+use Rattle.std.specs.Prelude.{ℕ, ◌+◌, ◌*◌, ◌≡◌, ◌==◌, ◌&&◌, List, [], ◌∷◌, ◌++◌, Bool, true, false, IsTrue, IsFalse, Some, None, is_some}
+use Rattle.std.specs.Prelude.{is_none, if◌then◌else◌, Result, Ok, Err, IfOk, IsOkAnd, OnErr, OnOk, nat_lt}
 use Rattle.std.specs.List.{find}
 use Rattle.tp_base.specs.Checks.{Check, first_refusal}
 use Rattle.tp_base.specs.History.{Event}

@@ -12,7 +12,9 @@ use Rattle.tp_wave.specs.Sums.{is_ended}
 use Rattle.tp_wave.specs.Control.{is_control}
 use Rattle.tp_wave.specs.Machine.{History, step_of, steps_of, IsNext, IsRun}
 use Rattle.tp_wave.specs.Cut.{IsQuiet}
-use Rattle.tp_wave.specs.Generations.{present, present_events, generation, IsOfGeneration, MayReopen, GoesOn, MayCome, AreRuns, InEach, ended_generations, IsEndedRun, EndedGenerationsLaw, GenerationsLaw, IsNeverEarly, NeverEarlyInEachLaw, ReopeningLaw, OverLaw, PresentLaw, FewGenerationsLaw}
+use Rattle.tp_wave.specs.Generations.{present, present_events, generation, IsOfGeneration, MayReopen, GoesOn, MayCome, AreRuns, InEach}
+use Rattle.tp_wave.specs.Generations.{ended_generations, IsEndedRun, EndedGenerationsLaw, GenerationsLaw, IsNeverEarly, NeverEarlyInEachLaw}
+use Rattle.tp_wave.specs.Generations.{ReopeningLaw, OverLaw, PresentLaw, FewGenerationsLaw}
 use Rattle.tp_wave.proofs.Props.{IsNext-prop}
 use Rattle.tp_wave.proofs.Runs.{quiet_step}
 use Rattle.tp_wave.proofs.Judged.{judged_law, never_early_law}
@@ -33,7 +35,10 @@ steps-present (e ∷ past) =
 pub length-present : (h : History) → length (present_events h) ≤ length h
 length-present [] = omega arith
 length-present (e ∷ past) =
-    elim (is_reopen e.1) as (λ b. length (cond b [] (e ∷ present_events past)) ≤ suc (length past)) [ true ↦ omega arith | false ↦ omega (arith, length-present past) ]
+    elim (is_reopen e.1) as (λ b. length (cond b [] (e ∷ present_events past)) ≤ suc (length past)) [
+      | true ↦ omega arith
+      | false ↦ omega (arith, length-present past)
+    ]
 
 pub present_law : PresentLaw
 present_law h = (steps-present h, length-present h)

@@ -14,9 +14,11 @@ module _ (n : ℕ) (steps : List Step) (w : Wave) (s : Stands n false steps w) (
   inside i l = omega (arith, s.nodes)
 
   pub due_give : (i : NodeId) → i.0 < w.nodes → ((j : ℕ) → j < w.nodes → slice_index_or w.reached j false ≡ true)
-      → slice_index_or w.given i.0 false ≡ false → ((j : ℕ) → i.0 < j → j < w.nodes → slice_index_or w.taken j false ≡ true) → IsDue n steps (Give i)
+      → slice_index_or w.given i.0 false ≡ false → ((j : ℕ) → i.0 < j → j < w.nodes → slice_index_or w.taken j false ≡ true)
+      → IsDue n steps (Give i)
   due_give i l all fresh above =
-      let known : (j : ℕ) → j < n → i.0 < j → IsTrue (in_wave (is_up j) steps) = λ j b a. sym (s.taken j b) ∙ above j a (omega (arith, s.nodes)) in (
+      let known : (j : ℕ) → j < n → i.0 < j → IsTrue (in_wave (is_up j) steps) =
+      λ j b a. sym (s.taken j b) ∙ above j a (omega (arith, s.nodes)) in (
         inside i.0 l,
         sym (s.reached i.0 (inside i.0 l)) ∙ all i.0 l,
         sym (s.given i.0 (inside i.0 l)) ∙ fresh,

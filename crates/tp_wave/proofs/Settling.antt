@@ -1,6 +1,8 @@
 -- From a quiet moment fewer than 9n events come, and while the end was not judged one can come.
-use Rattle.std.proofs.Common.{◌≡◌, ◌≢◌, ℕ, zero, suc, ◌+◌, ◌-◌, ◌*◌, ◌<◌, ◌≤◌, Bool, true, false, cond, eqb, not, ◌||◌, List, [], ◌∷◌, ◌++◌, length, refl, sym, ap, ◌∙◌, ◌⊎◌, inl, inr, arith, IsTrue, IsFalse, is_some, length-append}
-use Rattle.std.proofs.lemmas.Bool.{cases_eq, cases_Bool, eq-eqb, ne_eqb, or_cases, or_parts, or_right, not-true, eqb-true, both_ways, le-leb, cases_lt}
+use Rattle.std.proofs.Common.{◌≡◌, ◌≢◌, ℕ, zero, suc, ◌+◌, ◌-◌, ◌*◌, ◌<◌, ◌≤◌, Bool, true, false, cond, eqb, not, ◌||◌, List, [], ◌∷◌, ◌++◌}
+use Rattle.std.proofs.Common.{length, refl, sym, ap, ◌∙◌, ◌⊎◌, inl, inr, arith, IsTrue, IsFalse, is_some, length-append}
+use Rattle.std.proofs.lemmas.Bool.{cases_eq, cases_Bool, eq-eqb, ne_eqb, or_cases, or_parts, or_right, not-true, eqb-true, both_ways}
+use Rattle.std.proofs.lemmas.Bool.{le-leb, cases_lt}
 use Rattle.tp_base.specs.History.{Event}
 use Rattle.tp_base.specs.declared.NodeId.{NodeId}
 use Rattle.tp_base.specs.declared.Step.{Step}
@@ -42,7 +44,8 @@ total_to (suc n) f h = omega (arith, total_to n f (λ i l. h i (omega arith)), h
 total_to_but_one : (n : ℕ) (f : ℕ → ℕ) → 0 < n → f 0 ≡ 0 → ((i : ℕ) → i < n → f i ≤ 1) → total n f + 1 ≤ n
 total_to_but_one zero f p z h = absurd (omega arith)
 total_to_but_one (suc zero) f p z h = omega (arith, z)
-total_to_but_one (suc (suc n)) f p z h = omega (arith, total_to_but_one (suc n) f (omega arith) z (λ i l. h i (omega arith)), h (suc n) (omega arith))
+total_to_but_one (suc (suc n)) f p z h =
+    omega (arith, total_to_but_one (suc n) f (omega arith) z (λ i l. h i (omega arith)), h (suc n) (omega arith))
 
 total_all : (n : ℕ) (f : ℕ → ℕ) → ((i : ℕ) → i < n → f i ≡ 1) → total n f ≡ n
 total_all zero f h = refl
@@ -52,7 +55,11 @@ total_all_but_one : (n : ℕ) (f : ℕ → ℕ) → 0 < n → f 0 ≡ 0 → ((i 
 total_all_but_one zero f p z h = absurd (omega arith)
 total_all_but_one (suc zero) f p z h = omega (arith, z)
 total_all_but_one (suc (suc n)) f p z h =
-    omega (arith, total_all_but_one (suc n) f (omega arith) z (λ i l d. h i (omega arith) d), h (suc n) (omega arith) (λ e. absurd (omega arith)))
+    omega (
+      arith,
+      total_all_but_one (suc n) f (omega arith) z (λ i l d. h i (omega arith) d),
+      h (suc n) (omega arith) (λ e. absurd (omega arith)),
+    )
 
 total_at_least : (n i : ℕ) (f : ℕ → ℕ) → i < n → f i ≤ total n f
 total_at_least zero i f l = absurd (omega arith)
@@ -176,7 +183,8 @@ none_given n i steps r e g = both_ways (is_reached i steps) (none_reached n step
 none_before : (n : ℕ) (steps : List Step) → AreLawfulWaves n steps → IsFalse (any is_start steps) → count is_control steps ≡ 0
 none_before n [] r e = refl
 none_before n (Start ∷ past) r e = cc
-none_before n (Down j ∷ past) r e = absurd (both_ways (is_reached (parent j.0) past) (none_reached n past r.1 e (parent j.0)) (r.0 refl).1.3)
+none_before n (Down j ∷ past) r e =
+    absurd (both_ways (is_reached (parent j.0) past) (none_reached n past r.1 e (parent j.0)) (r.0 refl).1.3)
 none_before n (Give j ∷ past) r e = absurd (both_ways (is_reached j.0 past) (none_reached n past r.1 e j.0) (r.0 refl).1.1)
 none_before n (Up j ∷ past) r e = absurd (none_given n j.0 past r.1 e (r.0 refl).1.2)
 none_before n (Judge ∷ past) r e = absurd (none_given n 0 past r.1 e (r.0 refl).1.0)
@@ -224,7 +232,8 @@ spent n (Judge ∷ past) p r e = rw (marks-judge n past (r.0 refl).1) (omega (ar
 spent n (s ∷ past) p r e = spent n past p r.1 e
 
 -- ---- a wave that was judged, and the end was not: its sums are not all equal to those before
-judged_unequal : (n : ℕ) (steps : List Step) → AreLawfulWaves n steps → IsFalse (is_ended n steps) → IsTrue (in_wave is_judge steps) → 2 ≤ waves steps
+judged_unequal : (n : ℕ) (steps : List Step) → AreLawfulWaves n steps → IsFalse (is_ended n steps) → IsTrue (in_wave is_judge steps)
+    → 2 ≤ waves steps
     → IsFalse (four_equal n steps)
 judged_unequal n [] r e j l = cc
 judged_unequal n (Start ∷ past) r e j l = cc
@@ -269,12 +278,14 @@ no_third n later h r q l open' judged =
     let ended : IsTrue (has_ended s) = judged_ended n s lawful judged in
     let both : s ≡ steps_of later ++ steps_of h = steps_of-append later h in
     let low : length (steps_of h) ≤ length (earlier (earlier s)) = rw both (two_later (steps_of later) (steps_of h) (rw both at l)) in
-    let there : before (length h) (later ++ h) ≡ h = before-append (length h) later h (omega arith) ∙ before-all (length h) h (omega arith) in
+    let there : before (length h) (later ++ h) ≡ h =
+    before-append (length h) later h (omega arith) ∙ before-all (length h) h (omega arith) in
     let equal : IsTrue (four_equal n s) =
     newest_settled n (length h) (later ++ h) r ended (omega (arith, l)) (rw there q) (omega (arith, low, length-steps_of h)) in
     both_ways (four_equal n s) (judged_unequal n s lawful open' judged (omega (arith, l))) equal
 
-start_needs : (n : ℕ) (past : List Step) (s : Step) → (IsTrue (is_control s) → IsControlStep n past s) → IsTrue (is_start s) → IsControlStep n past Start
+start_needs : (n : ℕ) (past : List Step) (s : Step) → (IsTrue (is_control s) → IsControlStep n past s) → IsTrue (is_start s)
+    → IsControlStep n past Start
 start_needs n past Start c e = c refl
 start_needs n past _ c e = cc
 
@@ -331,8 +342,10 @@ soon n later h p r q =
                 omega (arith, counted, now, full, lap, less, two, p)
             | inl some'' ↦
                 let then' : count is_control old ≡ laps (3 * n) (waves old - 1) + marks n old = spent n old p lawful_old some'' in
-                let lap_old : laps (3 * n) (waves old - 1) + 3 * n ≡ laps (3 * n) (waves old) = laps-more (3 * n) (waves old) (waves_some old some'') in
-                let less : laps (3 * n) (waves s) ≤ laps (3 * n) (suc (suc (waves old))) = laps-le (3 * n) (waves s) (suc (suc (waves old))) (omega (arith, few)) in
+                let lap_old : laps (3 * n) (waves old - 1) + 3 * n ≡ laps (3 * n) (waves old) =
+                laps-more (3 * n) (waves old) (waves_some old some'') in
+                let less : laps (3 * n) (waves s) ≤ laps (3 * n) (suc (suc (waves old))) =
+                laps-le (3 * n) (waves s) (suc (suc (waves old))) (omega (arith, few)) in
                 let two : laps (3 * n) (suc (suc (waves old))) ≡ laps (3 * n) (waves old) + 3 * n + 3 * n = refl in
                 omega (arith, counted, now, full, lap, then', lap_old, less, two, some_mark n old p some'', p)
           ]
@@ -394,7 +407,8 @@ finish n s all (suc d) l =
               ),
             )
         | inl gave ↦ elim (cases_eq k 0) [
-          | inl root ↦ inl (λ i b a. elim (cases_eq i k) [ inl at ↦ rw at (gave, λ d. absurd (d root)) | inr off ↦ above i b (omega arith) ])
+          | inl root ↦ inl (λ i b a.
+              elim (cases_eq i k) [ inl at ↦ rw at (gave, λ d. absurd (d root)) | inr off ↦ above i b (omega arith) ])
           | inr child ↦ elim (cases_Bool (in_wave (is_up k) s)) [
             | inl took ↦ inl (λ i b a. elim (cases_eq i k) [ inl at ↦ rw at (gave, λ d. took) | inr off ↦ above i b (omega arith) ])
             | inr left ↦ inr (record { 0 = k }, inr (inside, child, gave, left))
@@ -408,16 +422,26 @@ module _ (n : ℕ) (h : History) (p : 0 < n) (q : IsQuiet n h) (e : IsFalse (is_
   root = record { 0 = 0 }
 
   by_start : IsTrue (not (any is_start (steps_of h)) || in_wave is_judge (steps_of h)) → (e : Event) × ComesNext n h e
-  by_start due = ((record { 0 = 0 }, Start), record { control = refl; next = record { known = p; beside = refl; needed = tt; control = λ k. (e, due) } })
+  by_start due = (
+    (record { 0 = 0 }, Start),
+    record { control = refl; next = record { known = p; beside = refl; needed = tt; control = λ k. (e, due) } },
+  )
 
   by_judge : IsDue n (steps_of h) Judge → (e : Event) × ComesNext n h e
-  by_judge due = ((record { 0 = 0 }, Judge), record { control = refl; next = record { known = p; beside = refl; needed = tt; control = λ k. (e, due) } })
+  by_judge due = (
+    (record { 0 = 0 }, Judge),
+    record { control = refl; next = record { known = p; beside = refl; needed = tt; control = λ k. (e, due) } },
+  )
 
   by_down : (j : NodeId) → IsDue n (steps_of h) (Down j) → (e : Event) × ComesNext n h e
-  by_down j due = ((j, Down j), record { control = refl; next = record { known = due.0; beside = refl; needed = tt; control = λ k. (e, due) } })
+  by_down j due =
+      ((j, Down j), record { control = refl; next = record { known = due.0; beside = refl; needed = tt; control = λ k. (e, due) } })
 
   by_give : (j : NodeId) → IsDue n (steps_of h) (Give j) → (e : Event) × ComesNext n h e
-  by_give j due = ((j, Give j), record { control = refl; next = record { known = due.0; beside = refl; needed = q.idle j.0 due.0; control = λ k. (e, due) } })
+  by_give j due = (
+    (j, Give j),
+    record { control = refl; next = record { known = due.0; beside = refl; needed = q.idle j.0 due.0; control = λ k. (e, due) } },
+  )
 
   by_up : (j : NodeId) → IsDue n (steps_of h) (Up j) → (e : Event) × ComesNext n h e
   by_up j due = ((j, Up j), record { control = refl; next = record { known = due.0; beside = refl; needed = tt; control = λ k. (e, due) } })

@@ -78,7 +78,9 @@ GenerationsLaw = (n : ℕ) (h : History) → AreRuns n h → InEach (IsRun n) h
 
 -- Where a judge's answer was that the pool had ended with wave w, nothing was left when wave w ended, nor at any moment since.
 abbrev pub IsNeverEarly : ℕ → History → Type 0
-IsNeverEarly n h = (w : ℕ) (later past : History) (e : Event) → h ≡ later ++ e ∷ past → IsTrue (is_judge (step_of e)) → judgement n (steps_of past) ≡ Some w
+IsNeverEarly n h =
+    (w : ℕ) (later past : History) (e : Event) → h ≡ later ++ e ∷ past → IsTrue (is_judge (step_of e))
+    → judgement n (steps_of past) ≡ Some w
     → (p : ℕ) → visited_at w 0 (steps_of past) ≤ p → IsQuiet n (before p h)
 
 -- The detector is never early in any generation.
@@ -87,11 +89,13 @@ NeverEarlyInEachLaw = (n : ℕ) (h : History) → AreRuns n h → InEach (IsNeve
 
 -- Where the pool is reopened, nothing is left of the generation that ended.
 abbrev pub ReopeningLaw : Type 0
-ReopeningLaw = (n : ℕ) (past : History) (e : Event) → AreRuns n (e ∷ past) → IsTrue (is_reopen (step_of e)) → IsQuiet n (present_events past)
+ReopeningLaw =
+    (n : ℕ) (past : History) (e : Event) → AreRuns n (e ∷ past) → IsTrue (is_reopen (step_of e)) → IsQuiet n (present_events past)
 
 -- Once the end of a generation was judged, nothing comes but the reopening.
 abbrev pub OverLaw : Type 0
-OverLaw = (n : ℕ) (past : History) (e : Event) → AreRuns n (e ∷ past) → IsTrue (is_ended n (steps_of (present_events past))) → IsTrue (is_reopen (step_of e))
+OverLaw = (n : ℕ) (past : History) (e : Event) → AreRuns n (e ∷ past) → IsTrue (is_ended n (steps_of (present_events past)))
+    → IsTrue (is_reopen (step_of e))
 
 -- The steps of the present events are the present steps, and there are no more than of all.
 abbrev pub PresentLaw : Type 0

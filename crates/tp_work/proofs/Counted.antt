@@ -1,5 +1,6 @@
 -- Where each task has one of some things, and no other task has any, there are as many as tasks.
-use Rattle.std.proofs.Common.{◌≡◌, ◌∙◌, ◌+◌, ◌<◌, ◌≤◌, ◌==◌, ℕ, zero, suc, Bool, true, false, cond, Some, List, [], ◌∷◌, length, refl, sym, ap, arith}
+use Rattle.std.proofs.Common.{◌≡◌, ◌∙◌, ◌+◌, ◌<◌, ◌≤◌, ◌==◌, ℕ, zero, suc, Bool, true, false, cond, Some, List, [], ◌∷◌, length, refl, sym}
+use Rattle.std.proofs.Common.{ap, arith}
 use Rattle.std.proofs.lemmas.Bool.Decides.{nat_tests}
 use Rattle.std.proofs.lemmas.List.Sums.{sum_by-cons}
 use Rattle.std.specs.List.{count_by}
@@ -44,7 +45,14 @@ module _ {X : Type 0} (task : X → ℕ) where
   below-suc : (n : ℕ) (xs : List X) → below (suc n) xs ≡ below n xs + times_of n xs
   below-suc n [] = refl
   below-suc n (x ∷ xs) =
-      omega (arith, count-cons (λ y. nat_lt (task y) (suc n)) x xs, count-cons (λ y. nat_lt (task y) n) x xs, count-cons (λ y. task y == n) x xs, bit-nat_lt-suc (task x) n, below-suc n xs)
+      omega (
+        arith,
+        count-cons (λ y. nat_lt (task y) (suc n)) x xs,
+        count-cons (λ y. nat_lt (task y) n) x xs,
+        count-cons (λ y. task y == n) x xs,
+        bit-nat_lt-suc (task x) n,
+        below-suc n xs,
+      )
 
   below-zero : (xs : List X) → below 0 xs ≡ 0
   below-zero [] = refl
@@ -81,7 +89,8 @@ done_in (_ ∷ past) = done_in past
 
 length-done_in : (steps : List Step) → length (done_in steps) ≡ count is_done steps
 length-done_in [] = refl
-length-done_in (Done t ∷ past) = let more : suc (length (done_in past)) ≡ length (done_in past) + 1 = omega arith in more ∙ ap (λ k. k + 1) (length-done_in past)
+length-done_in (Done t ∷ past) = let more : suc (length (done_in past)) ≡ length (done_in past) + 1 =
+    omega arith in more ∙ ap (λ k. k + 1) (length-done_in past)
 length-done_in (_ ∷ past) = length-done_in past
 
 -- how often a task is done, of its moments
@@ -119,4 +128,5 @@ dones-life tasks t = elim (nat_lt t tasks) as (λ b. dones (cond b (2 ∷ 1 ∷ 
 -- There are as many tasks done as tasks.
 pub count-done : (tasks : ℕ) (steps : List Step) → LivesOnce tasks steps → count is_done steps ≡ tasks
 count-done tasks steps lives =
-    sym (length-done_in steps) ∙ length-each_once (λ u. u) tasks (done_in steps) (λ t. done_moments t steps ∙ ap dones (lives.each t) ∙ dones-life tasks t)
+    sym (length-done_in steps)
+    ∙ length-each_once (λ u. u) tasks (done_in steps) (λ t. done_moments t steps ∙ ap dones (lives.each t) ∙ dones-life tasks t)

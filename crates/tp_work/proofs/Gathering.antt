@@ -10,7 +10,8 @@ use Rattle.tp_node.proofs.Gathering.{results_of}
 
 module _ {G : Type 0} where
   -- as many tasks were done as there are results
-  pub done_by : (nodes : List (NodeState G)) → sum_by (λ (s : NodeNumbers). s.done) (map counted_of nodes) ≡ length (flat_map results_of nodes)
+  pub done_by : (nodes : List (NodeState G))
+      → sum_by (λ (s : NodeNumbers). s.done) (map counted_of nodes) ≡ length (flat_map results_of nodes)
   done_by [] = refl
   done_by (n ∷ nodes) =
       sum_by-cons (λ (s : NodeNumbers). s.done) (counted_of n) (map counted_of nodes)

@@ -1,5 +1,6 @@
 -- Marks for results.
-use Rattle.std.proofs.Common.{◌≡◌, ℕ, ◌+◌, ◌<◌, ◌≤◌, ◌↔◌, ◌==◌, List, Bool, true, false, length, filter, take, drop, get_or, IsTrue, sym, subst, ap, ◌∙◌, inl, inr, arith, length-append}
+use Rattle.std.proofs.Common.{◌≡◌, ℕ, ◌+◌, ◌<◌, ◌≤◌, ◌↔◌, ◌==◌, List, Bool, true, false, length, filter, take, drop, get_or, IsTrue, sym}
+use Rattle.std.proofs.Common.{subst, ap, ◌∙◌, inl, inr, arith, length-append}
 use Rattle.std.specs.List.{All, count_by}
 use Rattle.std.proofs.lemmas.Bool.{cases_lt, eq-eqb}
 use Rattle.std.proofs.lemmas.Bool.Decides.{nat_tests}
@@ -23,21 +24,24 @@ count_by-take p xs i =
 pub not_once : (results : Results) (marks : List Bool) (i t : ℕ) (d : TaskId × List ℤ) → i < length results → (get_or results i d).0.0 ≡ t
     → AreMarks (take i results) marks → ((t < length marks) × (is_marked marks t ≡ false) → ⊥) → HasEachOnce (length marks) results → ⊥
 not_once results marks i t d within here marked not_fresh once =
-    let next : times t (take (i + 1) results) ≡ times t (take i results) + 1 = count_by_more_yes (λ r. r.0.0 == t) results i d within (eq-eqb _ _ here) in
+    let next : times t (take (i + 1) results) ≡ times t (take i results) + 1 =
+    count_by_more_yes (λ r. r.0.0 == t) results i d within (eq-eqb _ _ here) in
     let whole : times t (take (i + 1) results) ≤ times t results = count_by-take (λ r. r.0.0 == t) results (i + 1) in
     let now = marked t in
     let wanted = once t in
     grind (arith, nat_tests)
 
 -- Where the marks of all results are set, each task has its one result; and only there.
-pub once_if_marked : (results : Results) (marks : List Bool) → AreMarks results marks → All (λ mark. mark ≡ true) marks → HasEachOnce (length marks) results
+pub once_if_marked : (results : Results) (marks : List Bool) → AreMarks results marks → All (λ mark. mark ≡ true) marks
+    → HasEachOnce (length marks) results
 once_if_marked results marks marked all t =
     elim (cases_lt t (length marks)) [
       | inl within ↦ grind (arith, nat_tests, marked t, all t false within)
       | inr past ↦ grind (arith, nat_tests, marked t, get_or_past marks t false past)
     ]
 
-pub marked_if_once : (results : Results) (marks : List Bool) → AreMarks results marks → HasEachOnce (length marks) results → All (λ mark. mark ≡ true) marks
+pub marked_if_once : (results : Results) (marks : List Bool) → AreMarks results marks → HasEachOnce (length marks) results
+    → All (λ mark. mark ≡ true) marks
 marked_if_once results marks marked once = λ t d within. get_or_default marks t d false within ∙ grind (arith, nat_tests, marked t, once t)
 
 -- What all marks together tell.

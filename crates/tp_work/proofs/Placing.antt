@@ -1,5 +1,6 @@
 -- Parts that stand at their places, and what they add up to.
-use Rattle.std.proofs.Common.{◌≡◌, ℕ, zero, suc, ◌+◌, ◌-◌, ◌*◌, ◌<◌, ◌≤◌, List, [], ◌∷◌, ◌++◌, length, map, get_or, take, refl, sym, ap, ◌∙◌, add-zero, zero-mul, suc-mul, arith, length-append, append-nil}
+use Rattle.std.proofs.Common.{◌≡◌, ℕ, zero, suc, ◌+◌, ◌-◌, ◌*◌, ◌<◌, ◌≤◌, List, [], ◌∷◌, ◌++◌, length, map, get_or, take, refl, sym, ap}
+use Rattle.std.proofs.Common.{◌∙◌, add-zero, zero-mul, suc-mul, arith, length-append, append-nil}
 use Rattle.std.specs.Prelude.{sum_by}
 use Rattle.std.specs.List.{All, flat_map, range_with_len}
 use Rattle.std.proofs.lemmas.Grind.{flat_map-append, take_at_read}
@@ -57,10 +58,17 @@ length-links : (n k : ℕ) → k ≤ n → length (flat_map (links_of n) (range_
 length-links n zero few = sym (zero-mul (n - 1))
 length-links n (suc k) few =
     let one : length (links_of n k) + 1 ≡ n = length-links_of n k (omega arith) in
-    let more : flat_map (links_of n) (range_with_len 0 (suc k)) ≡ flat_map (links_of n) (range_with_len 0 k) ++ flat_map (links_of n) (k ∷ []) =
+    let more : flat_map (links_of n) (range_with_len 0 (suc k)) ≡ flat_map (links_of n) (range_with_len 0 k)
+    ++ flat_map (links_of n) (k ∷ []) =
     ap (flat_map (links_of n)) (range_more k) ∙ flat_map-append (links_of n) (range_with_len 0 k) (k ∷ []) in
     let last : length (flat_map (links_of n) (k ∷ [])) ≡ length (links_of n k) = ap length (append-nil (links_of n k)) in
-    rw suc-mul (omega (arith, one, last, length-links n k (omega arith), ap length more ∙ length-append (flat_map (links_of n) (range_with_len 0 k)) (flat_map (links_of n) (k ∷ []))))
+    rw suc-mul (omega (
+      arith,
+      one,
+      last,
+      length-links n k (omega arith),
+      ap length more ∙ length-append (flat_map (links_of n) (range_with_len 0 k)) (flat_map (links_of n) (k ∷ [])),
+    ))
 
 pub length-first_links : (n : ℕ) → length (first_links n) ≡ n * (n - 1)
 length-first_links n = length-links n n (omega arith)

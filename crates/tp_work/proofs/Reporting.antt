@@ -1,5 +1,6 @@
 -- What a report tells of a pool whose nodes are at their places.
-use Rattle.std.proofs.Common.{◌≡◌, ◌*◌, ◌↔◌, ℕ, List, [], ◌∷◌, Bool, true, false, Option, None, Some, Result, Ok, Err, IfOk, MatchResult, IsFalse, IsTrue, MatchOption, length, refl, sym, ap, subst, ◌∙◌, inl, inr}
+use Rattle.std.proofs.Common.{◌≡◌, ◌*◌, ◌↔◌, ℕ, List, [], ◌∷◌, Bool, true, false, Option, None, Some, Result, Ok, Err, IfOk, MatchResult}
+use Rattle.std.proofs.Common.{IsFalse, IsTrue, MatchOption, length, refl, sym, ap, subst, ◌∙◌, inl, inr}
 use Rattle.std.proofs.lemmas.Bool.{cases_Bool}
 use Rattle.std.specs.Option.{option_or}
 use Rattle.std.specs.Prelude.{sum_by, if◌then◌else◌}
@@ -38,7 +39,8 @@ module _ {G : Type 0} where
       ∙ ap (sum_by now) (order ∙ ap (range_with_len 0) each)
       ∙ total-range now n
 
-  pub is_report : (n : ℕ) (meaning : G → TaskGraph) (graph : G) (nodes : List (NodeState G)) (links : List (WireState G)) (board : BoardState) (r : Report)
+  pub is_report : (n : ℕ) (meaning : G
+      → TaskGraph) (graph : G) (nodes : List (NodeState G)) (links : List (WireState G)) (board : BoardState) (r : Report)
       → IsGathered nodes links board r → IsOfItsRun n r → AreOfTheRun nodes r → IsWhole n graph nodes links
       → ((g : G) → AreOf g nodes → AreRight (meaning g) r.results.items) → IsReport n (meaning graph) r
   is_report n meaning graph nodes links board r gathered run agree whole right =
@@ -73,7 +75,8 @@ all_present (e ∷ past) none =
     ]
 
 -- What a pool lacks whose end was judged and told to each node, by whether it was made once.
-pub lack_by_made : {E : Type 0} (n tasks : ℕ) (r : Report) (made : Result Bool E) (answer : Option Refusal) → IsTrue r.ended → r.announced ≡ n
+pub lack_by_made : {E : Type 0} (n tasks : ℕ) (r : Report) (made : Result Bool E) (answer : Option Refusal) → IsTrue r.ended
+    → r.announced ≡ n
     → IfOk made (λ yes. IsTrue yes ↔ (HasEachOnce tasks r.results.items × LivesOnce tasks (steps_of r.history.events)))
     → MatchResult made (λ yes. answer ≡ (if yes then None else Some Missing)) (λ _. answer ≡ Some NoMemory)
     → MatchOption answer (IsComplete n tasks r) (IsLack n tasks r)
@@ -89,7 +92,15 @@ lack_by_made n tasks r (Err e) answer ended announced told is =
 
 -- What is told of a complete pool is its outcome.
 pub is_outcome : (n workers answered : ℕ) (g : TaskGraph) (r : Report) → IsReport n g r → IsComplete n g.tasks r → answered ≡ n * workers
-    → IsOutcome n workers g (record { results = r.results; tasks = r.done; messages = r.sent; announced = r.announced; workers = answered; history = r.history })
+    → IsOutcome n workers g
+    (record {
+      results = r.results;
+      tasks = r.done;
+      messages = r.sent;
+      announced = r.announced;
+      workers = answered;
+      history = r.history;
+    })
 is_outcome n workers answered g r report complete all_answered =
     let h = r.history.events in
     let all : present_events h ≡ h = all_present h complete.lives.one_generation in
@@ -111,11 +122,14 @@ pub is_fault : (n tasks : ℕ) (g : TaskGraph) (f : Fault) (r : Report) → task
     → MatchOption r.fault (IsLack n tasks r f.refusal) (λ e. IsAnswer (length r.history.events) e f.refusal) → IsFault n g f
 is_fault n tasks g f r same report is why =
     subst (λ (o : Option Report). MatchOption o (IsUngathered f.refusal)
-    (λ s. IsReport n g s × MatchOption s.fault (IsLack n g.tasks s f.refusal) (λ e. IsAnswer (length s.history.events) e f.refusal))) (sym is)
+    (λ s. IsReport n g s × MatchOption s.fault (IsLack n g.tasks s f.refusal) (λ e. IsAnswer (length s.history.events) e f.refusal)))
+    (sym is)
     (report, subst (λ (k : ℕ). MatchOption r.fault (IsLack n k r f.refusal) (λ e. IsAnswer (length r.history.events) e f.refusal)) same why)
 
 module _ {G : Type 0} where
   -- The report that it holds is of these nodes and this board.
-  pub of_report : (n : ℕ) (g : TaskGraph) (f : Fault) (r : Report) (nodes : List (NodeState G)) (board : BoardState) → IsReportOf n g nodes board r → f.report ≡ Some r
+  pub of_report : (n : ℕ) (g : TaskGraph) (f : Fault) (r : Report) (nodes : List (NodeState G)) (board : BoardState)
+      → IsReportOf n g nodes board r → f.report ≡ Some r
       → MatchOption f.report (f.refusal ≡ NoMemory) (IsReportOf n g nodes board)
-  of_report n g f r nodes board report is = subst (λ (o : Option Report). MatchOption o (f.refusal ≡ NoMemory) (IsReportOf n g nodes board)) (sym is) report
+  of_report n g f r nodes board report is =
+      subst (λ (o : Option Report). MatchOption o (f.refusal ≡ NoMemory) (IsReportOf n g nodes board)) (sym is) report

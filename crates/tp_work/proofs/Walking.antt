@@ -1,5 +1,6 @@
 -- Lives that are followed through all generations.
-use Rattle.std.proofs.Common.{◌≡◌, ℕ, ◌+◌, ◌-◌, ◌<◌, ◌≤◌, ◌↔◌, List, [], ◌∷◌, ◌++◌, append_assoc, length, map, reverse, Bool, true, false, cond, IsTrue, IsFalse}
+use Rattle.std.proofs.Common.{◌≡◌, ℕ, ◌+◌, ◌-◌, ◌<◌, ◌≤◌, ◌↔◌, List, [], ◌∷◌, ◌++◌, append_assoc, length, map, reverse, Bool, true, false}
+use Rattle.std.proofs.Common.{cond, IsTrue, IsFalse}
 use Rattle.std.proofs.Common.{refl, sym, ap, subst, ◌∙◌, inl, inr, arith, take, Some, slice_get}
 use Rattle.std.specs.List.{All}
 use Rattle.std.proofs.lemmas.Bool.{cases_Bool, cases_lt}
@@ -17,11 +18,13 @@ use Rattle.tp_wave.specs.Steps.{any, count, is_reopen, is_send}
 use Rattle.tp_wave.proofs.Generations.{length-present, present-goes_on, present-reopened}
 use Rattle.tp_wave.proofs.Given.{count-le}
 use Rattle.tp_wave.proofs.Positions.{length-steps_of}
-use Rattle.tp_work.specs.Lives.{AreStages, IsFollowed, LivesInEach, LivesOnce, first_moments, generations, life, moment_of, moments, sent_in, with_moment}
+use Rattle.tp_work.specs.Lives.{AreStages, IsFollowed, LivesInEach, LivesOnce, first_moments, generations, life, moment_of, moments}
+use Rattle.tp_work.specs.Lives.{sent_in, with_moment}
 use Rattle.tp_work.proofs.Living.{Told, lives_if_over, no_life_on, oldest, over_if_lives, stages-next, through, with_moment-append}
 
 -- ---- generations
-ended-reopened : (e : Event) (past : History) → IsTrue (is_reopen (step_of e)) → ended_generations (e ∷ past) ≡ present_events past ∷ ended_generations past
+ended-reopened : (e : Event) (past : History) → IsTrue (is_reopen (step_of e))
+    → ended_generations (e ∷ past) ≡ present_events past ∷ ended_generations past
 ended-reopened e past r = rw r
 
 ended-goes_on : (e : Event) (past : History) → IsFalse (is_reopen (step_of e)) → ended_generations (e ∷ past) ≡ ended_generations past
@@ -40,7 +43,9 @@ one_present (e ∷ past) =
 pub ended-grow : (later past : History) → length (ended_generations past) ≤ length (ended_generations (later ++ past))
 ended-grow [] past = omega arith
 ended-grow (e ∷ later) past =
-    elim (is_reopen e.1) as (λ b. length (ended_generations past) ≤ length (cond b (present_events (later ++ past) ∷ ended_generations (later ++ past)) (ended_generations (later ++ past)))) [
+    elim (is_reopen e.1) as (λ b.
+    length (ended_generations past) ≤ length
+    (cond b (present_events (later ++ past) ∷ ended_generations (later ++ past)) (ended_generations (later ++ past)))) [
       | true ↦ omega (arith, ended-grow later past)
       | false ↦ ended-grow later past
     ]
@@ -49,7 +54,12 @@ ended-grow (e ∷ later) past =
 pub ended-before : (h : History) (k : ℕ) (e : Event) → k < length h → slice_get (reverse h) k ≡ Some e → IsTrue (is_reopen (step_of e))
     → length (ended_generations (oldest k h)) + 1 ≤ length (ended_generations h)
 ended-before h k e within at reopens =
-    omega (arith, ap length (ended-reopened e (oldest k h) reopens), ended-grow (take (length h - (k + 1)) h) (e ∷ oldest k h), ap (λ (all : History). length (ended_generations all)) (through h k e within at))
+    omega (
+      arith,
+      ap length (ended-reopened e (oldest k h) reopens),
+      ended-grow (take (length h - (k + 1)) h) (e ∷ oldest k h),
+      ap (λ (all : History). length (ended_generations all)) (through h k e within at),
+    )
 
 pub goes_on_unless : (s : Step) → (s ≡ Reopen → ⊥) → IsFalse (is_reopen s)
 goes_on_unless Reopen other = absurd (other refl)
@@ -76,27 +86,36 @@ reverse-cons x xs = reverse-append (x ∷ []) xs
 pub sent-all : (h : History) (stages sent more : List ℕ) (messages : ℕ) → IsFollowed h stages sent messages → more ≡ sent ++ messages ∷ []
     → more ≡ reverse (map sent_in (generations h))
 sent-all h stages sent more messages followed put =
-    put ∙ ap (λ (xs : List ℕ). xs ++ messages ∷ []) followed.sent_before ∙ ap (λ m. reverse (map sent_in (ended_generations h)) ++ m ∷ []) followed.sent_now
+    put ∙ ap (λ (xs : List ℕ). xs ++ messages ∷ []) followed.sent_before
+    ∙ ap (λ m. reverse (map sent_in (ended_generations h)) ++ m ∷ []) followed.sent_now
     ∙ sym (reverse-cons (sent_in (present_events h)) (map sent_in (ended_generations h)))
 
-pub followed-reopened : (past : History) (e : Event) (stages new sent more : List ℕ) (messages : ℕ) → IsTrue (is_reopen (step_of e)) → IsFollowed past stages sent messages
-    → All (λ k. k ≡ 3) stages → length new ≡ length stages → All (λ k. k ≡ 0) new → more ≡ sent ++ messages ∷ [] → IsFollowed (e ∷ past) new more 0
+pub followed-reopened : (past : History) (e : Event) (stages new sent more : List ℕ) (messages : ℕ) → IsTrue (is_reopen (step_of e))
+    → IsFollowed past stages sent messages
+    → All (λ k. k ≡ 3) stages → length new ≡ length stages → All (λ k. k ≡ 0) new → more ≡ sent ++ messages ∷ []
+    → IsFollowed (e ∷ past) new more 0
 followed-reopened past e stages new sent more messages r followed over same fresh put =
-    let lived : LivesOnce (length stages) (steps_of (present_events past)) = lives_if_over (steps_of (present_events past)) stages followed.present (one_present past) over in
+    let lived : LivesOnce (length stages) (steps_of (present_events past)) =
+    lives_if_over (steps_of (present_events past)) stages followed.present (one_present past) over in
     record {
       present = rw (present-reopened e past r) (stages-first new fresh);
-      ended = rw (ended-reopened e past r) (subst (λ (n : ℕ). All (λ g. LivesOnce n (steps_of g)) (present_events past ∷ ended_generations past)) (sym same)
+      ended = rw (ended-reopened e past r)
+          (subst (λ (n : ℕ). All (λ g. LivesOnce n (steps_of g)) (present_events past ∷ ended_generations past)) (sym same)
           (All-cons (λ g. LivesOnce (length stages) (steps_of g)) (present_events past) (ended_generations past) lived followed.ended));
       sent_before = rw (ended-reopened e past r) (sent-all past stages sent more messages followed put);
       sent_now = rw (present-reopened e past r) refl;
     }
 
-pub followed-on : (past : History) (e : Event) (stages new sent : List ℕ) (messages now : ℕ) (answer : Bool) → IsFalse (is_reopen (step_of e)) → IsFollowed past stages sent messages
-    → IsTrue answer → Told (step_of e) answer stages new → length new ≡ length stages → now ≡ cond (is_send (step_of e)) (messages + 1) messages → IsFollowed (e ∷ past) new sent now
+pub followed-on : (past : History) (e : Event) (stages new sent : List ℕ) (messages now : ℕ) (answer : Bool)
+    → IsFalse (is_reopen (step_of e)) → IsFollowed past stages sent messages
+    → IsTrue answer → Told (step_of e) answer stages new → length new ≡ length stages
+    → now ≡ cond (is_send (step_of e)) (messages + 1) messages → IsFollowed (e ∷ past) new sent now
 followed-on past e stages new sent messages now answer on followed is_yes told same counted =
     record {
-      present = rw (present-goes_on e past on) (stages-next (step_of e) (steps_of (present_events past)) stages new answer is_yes told followed.present);
-      ended = rw (ended-goes_on e past on) (subst (λ (n : ℕ). All (λ g. LivesOnce n (steps_of g)) (ended_generations past)) (sym same) followed.ended);
+      present = rw (present-goes_on e past on)
+          (stages-next (step_of e) (steps_of (present_events past)) stages new answer is_yes told followed.present);
+      ended = rw (ended-goes_on e past on)
+          (subst (λ (n : ℕ). All (λ g. LivesOnce n (steps_of g)) (ended_generations past)) (sym same) followed.ended);
       sent_before = rw (ended-goes_on e past on) followed.sent_before;
       sent_now = rw (present-goes_on e past on) (counted ∙ ap (λ k. cond (is_send (step_of e)) (k + 1) k) followed.sent_now);
     }
@@ -121,9 +140,12 @@ alive_past n e past is =
       | inr on ↦ record {
         present =
             λ t.
-            let now : (newer : List ℕ) × (newer ++ moments t (steps_of (e ∷ present_events past)) ≡ life n t) = rw (present-goes_on e past on) at (is.present t) in (
+            let now : (newer : List ℕ) × (newer ++ moments t (steps_of (e ∷ present_events past)) ≡ life n t) =
+            rw (present-goes_on e past on) at (is.present t) in (
               now.0 ++ with_moment t (moment_of e.1) [],
-              append_assoc now.0 (with_moment t (moment_of e.1) []) (moments t (steps_of (present_events past))) ∙ ap (λ (ms : List ℕ). now.0 ++ ms) (sym (with_moment-append t (moment_of e.1) [] (moments t (steps_of (present_events past))))) ∙ now.1,
+              append_assoc now.0 (with_moment t (moment_of e.1) []) (moments t (steps_of (present_events past)))
+                  ∙ ap (λ (ms : List ℕ). now.0
+                  ++ ms) (sym (with_moment-append t (moment_of e.1) [] (moments t (steps_of (present_events past))))) ∙ now.1,
             );
         ended = rw (ended-goes_on e past on) at is.ended;
       }
@@ -133,27 +155,35 @@ alive_before : (n : ℕ) (later past : History) → IsAlive n (later ++ past) �
 alive_before n [] past is = is
 alive_before n (e ∷ later) past is = alive_before n later past (alive_past n e (later ++ past) is)
 
-pub no_life-reopened : (later past : History) (e : Event) (stages sent : List ℕ) (messages : ℕ) → IsTrue (is_reopen (step_of e)) → IsFollowed past stages sent messages
+pub no_life-reopened : (later past : History) (e : Event) (stages sent : List ℕ) (messages : ℕ) → IsTrue (is_reopen (step_of e))
+    → IsFollowed past stages sent messages
     → (All (λ k. k ≡ 3) stages → ⊥) → LivesInEach (length stages) (later ++ e ∷ past) → ⊥
 no_life-reopened later past e stages sent messages r followed not_over all =
     let is = alive_before (length stages) later (e ∷ past) (alive (length stages) (later ++ e ∷ past) all) in
-    let both : All (λ g. LivesOnce (length stages) (steps_of g)) (present_events past ∷ ended_generations past) = rw (ended-reopened e past r) at is.ended in
+    let both : All (λ g. LivesOnce (length stages) (steps_of g)) (present_events past ∷ ended_generations past) =
+    rw (ended-reopened e past r) at is.ended in
     not_over (over_if_lives (steps_of (present_events past)) stages followed.present
     (All-head (λ g. LivesOnce (length stages) (steps_of g)) (present_events past) (ended_generations past) both))
 
-pub no_life-on : (later past : History) (e : Event) (stages new sent : List ℕ) (messages : ℕ) (answer : Bool) → IsFalse (is_reopen (step_of e)) → IsFollowed past stages sent messages
+pub no_life-on : (later past : History) (e : Event) (stages new sent : List ℕ) (messages : ℕ) (answer : Bool)
+    → IsFalse (is_reopen (step_of e)) → IsFollowed past stages sent messages
     → IsFalse answer → Told (step_of e) answer stages new → LivesInEach (length stages) (later ++ e ∷ past) → ⊥
 no_life-on later past e stages new sent messages answer on followed is_no told all =
     let is = alive_before (length stages) later (e ∷ past) (alive (length stages) (later ++ e ∷ past) all) in
-    let now : (t : ℕ) → (newer : List ℕ) × (newer ++ moments t (steps_of (e ∷ present_events past)) ≡ life (length stages) t) = λ t. rw (present-goes_on e past on) at (is.present t) in
-    no_life_on (step_of e) (λ t. (now t).0) (steps_of (present_events past)) stages new answer is_no told on followed.present (λ t. (now t).1)
+    let now : (t : ℕ) → (newer : List ℕ) × (newer ++ moments t (steps_of (e ∷ present_events past)) ≡ life (length stages) t) =
+    λ t. rw (present-goes_on e past on) at (is.present t) in
+    no_life_on (step_of e) (λ t. (now t).0) (steps_of (present_events past)) stages new answer is_no told on followed.present (λ t.
+    (now t).1)
 
 -- What all stages together tell of all generations.
-pub stages-tell-all : (h : History) (stages sent : List ℕ) (messages n : ℕ) (answer : Bool) → IsFollowed h stages sent messages → length stages ≡ n
+pub stages-tell-all : (h : History) (stages sent : List ℕ) (messages n : ℕ) (answer : Bool) → IsFollowed h stages sent messages
+    → length stages ≡ n
     → (IsTrue answer ↔ All (λ k. k ≡ 3) stages) → (IsTrue answer ↔ LivesInEach n h)
 stages-tell-all h stages sent messages n answer followed long told =
     subst (λ (k : ℕ). IsTrue answer ↔ LivesInEach k h) long (
       (λ is_yes. All-cons (λ g. LivesOnce (length stages) (steps_of g)) (present_events h) (ended_generations h)
           (lives_if_over (steps_of (present_events h)) stages followed.present (one_present h) (told.0 is_yes)) followed.ended),
-      (λ all. told.1 (over_if_lives (steps_of (present_events h)) stages followed.present (All-head (λ g. LivesOnce (length stages) (steps_of g)) (present_events h) (ended_generations h) all))),
+      (λ all. told.1
+          (over_if_lives (steps_of (present_events h)) stages followed.present
+          (All-head (λ g. LivesOnce (length stages) (steps_of g)) (present_events h) (ended_generations h) all))),
     )

@@ -1,5 +1,6 @@
 -- What the events tell of a task's life.
-use Rattle.std.specs.Prelude.{ℕ, zero, suc, ◌==◌, ◌≡◌, List, [], ◌∷◌, length, map, reverse, Option, Some, None, IsFalse, if◌then◌else◌, nat_lt, slice_index_or}
+use Rattle.std.specs.Prelude.{ℕ, zero, suc, ◌==◌, ◌≡◌, List, [], ◌∷◌, length, map, reverse, Option, Some, None, IsFalse, if◌then◌else◌}
+use Rattle.std.specs.Prelude.{nat_lt, slice_index_or}
 use Rattle.std.specs.List.{All}
 use Rattle.tp_base.specs.declared.step.Step.{Step}
 use Rattle.tp_base.specs.declared.step.Step.TheVariants.{Insert, Begin, Done}

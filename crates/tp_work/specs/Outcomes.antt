@@ -1,5 +1,6 @@
 -- What a pool answers once all its threads have ended.
-use Rattle.std.specs.Prelude.{ℕ, List, Bool, false, length, slice_index_or, ◌≡◌, ◌+◌, ◌*◌, ◌≤◌, ◌==◌, ◌⊎◌, nat_lt, if◌then◌else◌, IsTrue, MatchOption, vec_len}
+use Rattle.std.specs.Prelude.{ℕ, List, Bool, false, length, slice_index_or, ◌≡◌, ◌+◌, ◌*◌, ◌≤◌, ◌==◌, ◌⊎◌, nat_lt, if◌then◌else◌, IsTrue}
+use Rattle.std.specs.Prelude.{MatchOption, vec_len}
 use Rattle.std.specs.List.{count_by}
 use Rattle.tp_base.specs.declared.limits.TheConstants.{MAX_IDLE_TURNS, MAX_NODES, MAX_STEPS, MAX_WORKERS}
 use Rattle.tp_base.specs.declared.refusal.Refusal.{Refusal}

@@ -22,17 +22,18 @@ told_of_end nodes = count_by (λ n. n.state.ended) nodes
 
 -- The report has the sums over the nodes and the links, each counted over its own state, how many nodes were told of the end,
 -- and the results of all nodes. Fault and events are the board's.
-pub record IsGathered {G : Type 0} (nodes : List (NodeState G)) (links : List (WireState G)) (board : BoardState) (r : Report) : Type 0 where
-  pub pending : r.pending ≡ sum_by (λ n. pending n.state) nodes
-  pub sent : r.sent ≡ sum_by (λ n. n.state.sent) nodes
-  pub received : r.received ≡ sum_by (λ n. n.state.received) nodes
-  pub under : r.under ≡ sum_by (λ w. length w.messages) links
-  pub balance : r.sent ≡ r.received + r.under
-  pub done : r.done ≡ vec_len r.results
-  pub announced : r.announced ≡ told_of_end nodes
-  pub results : r.results.items ≡ flat_map (λ n. n.state.store.results) nodes
-  pub fault : r.fault ≡ board.fault
-  pub history : r.history.events ≡ board.history
+pub record IsGathered {G : Type 0} (nodes : List (NodeState G)) (links : List (WireState G)) (board : BoardState) (r : Report) : Type 0
+  where
+    pub pending : r.pending ≡ sum_by (λ n. pending n.state) nodes
+    pub sent : r.sent ≡ sum_by (λ n. n.state.sent) nodes
+    pub received : r.received ≡ sum_by (λ n. n.state.received) nodes
+    pub under : r.under ≡ sum_by (λ w. length w.messages) links
+    pub balance : r.sent ≡ r.received + r.under
+    pub done : r.done ≡ vec_len r.results
+    pub announced : r.announced ≡ told_of_end nodes
+    pub results : r.results.items ≡ flat_map (λ n. n.state.store.results) nodes
+    pub fault : r.fault ≡ board.fault
+    pub history : r.history.events ≡ board.history
 
 -- The events are runs on n nodes, and the report has the numbers of the present generation. Where it ended nothing is left.
 pub record IsOfItsRun (n : ℕ) (r : Report) : Type 0 where

@@ -75,7 +75,8 @@ IsSeriesFault n g rounds f =
     MatchOption
     f.report
     (IsUngathered f.refusal)
-    (λ r. IsReport n g r × MatchOption r.fault (IsSeriesLack n g.tasks rounds r f.refusal) (λ e. IsAnswer (length r.history.events) e f.refusal))
+    (λ r. IsReport n g r
+    × MatchOption r.fault (IsSeriesLack n g.tasks rounds r f.refusal) (λ e. IsAnswer (length r.history.events) e f.refusal))
 
 -- A round that was kept before its messages were told: each task has one result, which is right, so many tasks were done, and
 -- so many workers at each of n nodes have answered.

@@ -74,7 +74,8 @@ fn room_for<G: Graph, K: Ledgers>(
 ) -> Result<ReportRoom<K>, AllocError>
     ensures shares { IfOk result (λ r. (r.shares.items ≡ []) × (vec_len nodes.now ≤ vec_capacity r.shares)) }
     ensures links { IfOk result (λ r. (r.links.items ≡ []) × (vec_len links.now ≤ vec_capacity r.links)) }
-    ensures results { IfOk result (λ r. (r.results.items ≡ []) × (sum_by (λ n. length n.state.store.results) nodes.now.items ≤ vec_capacity r.results)) }
+    ensures results { IfOk result (λ r. (r.results.items ≡ [])
+        × (sum_by (λ n. length n.state.store.results) nodes.now.items ≤ vec_capacity r.results)) }
 {
     let Some(count) = count_results(nodes) else {
         return Err(AllocError);
@@ -91,7 +92,8 @@ fn gather<G: Graph, K: Ledgers>(pool: Pool<G, K>, room: ReportRoom<K>) -> Report
     requires links { vec_len pool.links ≡ K.names.nodes * (K.names.nodes - 1) }
     requires room_for_shares { (room.shares.items ≡ []) × (vec_len pool.nodes ≤ vec_capacity room.shares) }
     requires room_for_links { (room.links.items ≡ []) × (vec_len pool.links ≤ vec_capacity room.links) }
-    requires room_for_results { (room.results.items ≡ []) × (sum_by (λ n. length n.state.store.results) pool.nodes.items ≤ vec_capacity room.results) }
+    requires room_for_results { (room.results.items ≡ [])
+        × (sum_by (λ n. length n.state.store.results) pool.nodes.items ≤ vec_capacity room.results) }
     ensures gathered { IsGathered pool.nodes.items pool.links.items pool.board result }
     ensures of_its_run { IsOfItsRun K.names.nodes result }
     ensures each_node { AreOfTheRun pool.nodes.items result }

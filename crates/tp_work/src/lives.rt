@@ -1,4 +1,5 @@
-ghost use Rattle.std.specs.Prelude.{◌≡◌, ◌<◌, ◌≤◌, ◌+◌, ◌↔◌, ◌++◌, ◌∷◌, [], length, map, reverse, slice_set, vec_capacity, vec_len, All, IfOk, IfSome, IsFalse, IsTrue, List, MatchOption, None};
+ghost use Rattle.std.specs.Prelude.{◌≡◌, ◌<◌, ◌≤◌, ◌+◌, ◌↔◌, ◌++◌, ◌∷◌, [], length, map, reverse, slice_set, vec_capacity, vec_len, All};
+ghost use Rattle.std.specs.Prelude.{IfOk, IfSome, IsFalse, IsTrue, List, MatchOption, None};
 ghost use Rattle.tp_base.specs.History.{Event};
 ghost use Rattle.tp_base.specs.declared.limits.TheConstants.{MAX_STEPS};
 ghost use Rattle.tp_wave.specs.Machine.{step_of, steps_of};
@@ -32,7 +33,8 @@ pub(crate) fn sent_in_each(
 ) -> Result<Option<Vec<u32>>, AllocError>
     requires few { length history.now.events ≤ MAX_STEPS }
     requires count { length (generations history.now.events) ≡ count }
-    ensures lives { IfOk result (λ sent. MatchOption sent (LivesInEach tasks history.now.events → ⊥) (λ _. LivesInEach tasks history.now.events)) }
+    ensures lives { IfOk result (λ sent.
+        MatchOption sent (LivesInEach tasks history.now.events → ⊥) (λ _. LivesInEach tasks history.now.events)) }
     ensures sent { IfOk result (λ sent. IfSome sent (λ each. each.items ≡ reverse (map sent_in (generations history.now.events)))) }
 {
     let mut stages = vec![in alloc; 0u8; tasks as usize]?;
@@ -47,7 +49,8 @@ pub(crate) fn sent_in_each(
 /// Whether that was so is answered.
 fn follow_each(stages: &mut [u8], history: &History) -> bool
     requires { All (λ stage. stage ≡ 0) stages.old }
-    ensures followed { IsTrue result → AreStages (steps_of history.now.events) stages.new × IsFalse (any is_reopen (steps_of history.now.events)) }
+    ensures followed { IsTrue result → AreStages (steps_of history.now.events) stages.new
+        × IsFalse (any is_reopen (steps_of history.now.events)) }
     ensures no { IsFalse result → LivesOnce (length stages.old) (steps_of history.now.events) → ⊥ }
 {
     for place in 0..history.len() {
@@ -88,8 +91,10 @@ fn follow_on(stages: &mut [u8], sent: &mut Vec<u32>, messages: &mut u32, step: S
     requires few { messages.old < MAX_STEPS }
     requires room { IsTrue (is_reopen step) → vec_len sent.old < vec_capacity sent.old }
     ensures room { vec_capacity sent.new ≡ vec_capacity sent.old }
-    ensures followed { IsTrue result → (past : List Event) (e : Event) → step_of e ≡ step → IsFollowed past stages.old sent.old.items messages.old → IsFollowed (e ∷ past) stages.new sent.new.items messages.new }
-    ensures no { IsFalse result → (later past : List Event) (e : Event) → step_of e ≡ step → IsFollowed past stages.old sent.old.items messages.old → LivesInEach (length stages.old) (later ++ e ∷ past) → ⊥ }
+    ensures followed { IsTrue result → (past : List Event) (e : Event) → step_of e ≡ step
+        → IsFollowed past stages.old sent.old.items messages.old → IsFollowed (e ∷ past) stages.new sent.new.items messages.new }
+    ensures no { IsFalse result → (later past : List Event) (e : Event) → step_of e ≡ step
+        → IsFollowed past stages.old sent.old.items messages.old → LivesInEach (length stages.old) (later ++ e ∷ past) → ⊥ }
 {
     match step {
         Step::Reopen => {
@@ -112,7 +117,9 @@ fn follow_on(stages: &mut [u8], sent: &mut Vec<u32>, messages: &mut u32, step: S
 /// Follows a step of one generation, where it is no moment of a task, or the next one of a task that has a stage.
 fn follow(stages: &mut [u8], step: Step) -> bool
     ensures none { lives.moment_of step ≡ None → (IsTrue result ↔ IsFalse (is_reopen step)) × (stages.new ≡ stages.old) }
-    ensures moment { MatchOption (lives.moment_of step) (Unit {0}) (λ m. (IsTrue result ↔ ((m.0 < length stages.old) × (stage stages.old m.0 ≡ m.1))) × (IsTrue result → stages.new ≡ slice_set stages.old m.0 (m.1 + 1))) }
+    ensures moment { MatchOption (lives.moment_of step) (Unit {0}) (λ m.
+        (IsTrue result ↔ ((m.0 < length stages.old) × (stage stages.old m.0 ≡ m.1)))
+        × (IsTrue result → stages.new ≡ slice_set stages.old m.0 (m.1 + 1))) }
 {
     match moment_of(step) {
         None => !matches!(step, Step::Reopen),

@@ -201,8 +201,10 @@ pub(crate) fn lock_pool<G: Graph, K: Ledgers>(
     alloc: Global,
     pool: Pool<G, K>,
 ) -> Result<(Locks<G, K>, Room<Node<G, K>, Wire<G, K>>), Refusal>
-    ensures nodes { IfOk result (λ r. (vec_len r.0.sites ≡ vec_len pool.nodes) × (r.1.nodes.items ≡ []) × (vec_len r.0.sites ≤ vec_capacity r.1.nodes)) }
-    ensures links { IfOk result (λ r. (vec_len r.0.lines ≡ vec_len pool.links) × (r.1.links.items ≡ []) × (vec_len r.0.lines ≤ vec_capacity r.1.links)) }
+    ensures nodes { IfOk result (λ r. (vec_len r.0.sites ≡ vec_len pool.nodes) × (r.1.nodes.items ≡ [])
+        × (vec_len r.0.sites ≤ vec_capacity r.1.nodes)) }
+    ensures links { IfOk result (λ r. (vec_len r.0.lines ≡ vec_len pool.links) × (r.1.links.items ≡ [])
+        × (vec_len r.0.lines ≤ vec_capacity r.1.links)) }
     ensures refusal { IfErr result (λ e. e ≡ NoMemory) }
 {
     let (locked, room) = two_rooms(alloc, pool.nodes.len(), pool.links.len())?;

@@ -1,4 +1,5 @@
-ghost use Rattle.std.specs.Prelude.{◌≡◌, ◌↔◌, ◌*◌, length, IfErr, IfNone, IfOk, IfSome, IsTrue, MatchOption, MatchResult, None, OnOk, Some, if◌then◌else◌};
+ghost use Rattle.std.specs.Prelude.{◌≡◌, ◌↔◌, ◌*◌, length, IfErr, IfNone, IfOk, IfSome, IsTrue, MatchOption, MatchResult, None, OnOk, Some};
+ghost use Rattle.std.specs.Prelude.{if◌then◌else◌};
 ghost use Rattle.tp_base.specs.declared.refusal.Refusal.TheVariants.{Missing, NoMemory};
 ghost use Rattle.tp_graph.specs.Graphs.{TaskGraph};
 ghost use Rattle.tp_work.specs.Outcomes.{HasEachOnce, IsAnswer, IsComplete, IsFault, IsLack, IsOutcome, IsWithinLimits};
@@ -105,7 +106,8 @@ fn outcome_of<G: Graph, K: Ledgers>(
     ensures no_fault { OnOk result (ran.pool.board.fault ≡ None) }
     ensures all_told { OnOk result (told_of_end ran.pool.nodes.items ≡ config.nodes) }
     ensures fault { IfErr result (IsFault config.nodes (G.meaning graph.now)) }
-    ensures of_pool { IfErr result (λ f. MatchOption f.report (f.refusal ≡ NoMemory) (IsReportOf config.nodes (G.meaning graph.now) ran.pool.nodes.items ran.pool.board)) }
+    ensures of_pool { IfErr result (λ f.
+        MatchOption f.report (f.refusal ≡ NoMemory) (IsReportOf config.nodes (G.meaning graph.now) ran.pool.nodes.items ran.pool.board)) }
 {
     let Ran {
         pool,
@@ -128,10 +130,13 @@ fn outcome_from(
     workers: u32,
 ) -> Result<Outcome, Fault>
     requires workers { report.fault ≡ None → workers ≡ config.nodes * config.workers }
-    ensures outcome { IfOk result (λ o. (g : TaskGraph) → tasks ≡ g.tasks → IsReport config.nodes g report → IsOutcome config.nodes config.workers g o) }
+    ensures outcome { IfOk result (λ o. (g : TaskGraph) → tasks ≡ g.tasks → IsReport config.nodes g report
+        → IsOutcome config.nodes config.workers g o) }
     ensures no_fault { OnOk result (report.fault ≡ None) }
     ensures all_told { OnOk result (report.announced ≡ config.nodes) }
-    ensures fault { IfErr result (λ f. (f.report ≡ Some report) × MatchOption report.fault (IsLack config.nodes tasks report f.refusal) (λ fault. IsAnswer (length report.history.events) fault f.refusal)) }
+    ensures fault { IfErr result (λ f. (f.report ≡ Some report)
+        × MatchOption report.fault (IsLack config.nodes tasks report f.refusal) (λ fault.
+        IsAnswer (length report.history.events) fault f.refusal)) }
 {
     match refusal_of(alloc, config.nodes, tasks, &report) {
         Some(refusal) => Err(Fault {
@@ -154,7 +159,8 @@ fn outcome_from(
 fn refusal_of(alloc: Global, nodes: u32, tasks: u32, report: &Report) -> Option<Refusal>
     ensures no_fault { IfNone result (report.now.fault ≡ None) }
     ensures complete { IfNone result (IsComplete nodes tasks report.now) }
-    ensures refusal { IfSome result (λ e. MatchOption report.now.fault (IsLack nodes tasks report.now e) (λ fault. IsAnswer (length report.now.history.events) fault e)) }
+    ensures refusal { IfSome result (λ e.
+        MatchOption report.now.fault (IsLack nodes tasks report.now e) (λ fault. IsAnswer (length report.now.history.events) fault e)) }
 {
     match report.fault {
         Some(fault) => Some(answer_to(fault, report.history.len())),
@@ -199,7 +205,8 @@ fn lack_by(made: Result<bool, AllocError>) -> Option<Refusal>
 
 /// Whether each of so many tasks has one result and lived once, and no other task.
 fn is_made_once(alloc: Global, tasks: u32, report: &Report) -> Result<bool, AllocError>
-    ensures { IfOk result (λ yes. IsTrue yes ↔ (HasEachOnce tasks report.now.results.items × LivesOnce tasks (steps_of report.now.history.events))) }
+    ensures { IfOk result (λ yes. IsTrue yes
+        ↔ (HasEachOnce tasks report.now.results.items × LivesOnce tasks (steps_of report.now.history.events))) }
 {
     Ok(each_once(alloc, tasks, &report.results)? && each_lives(alloc, tasks, &report.history)?)
 }

@@ -1,4 +1,5 @@
-ghost use Rattle.std.specs.Prelude.{◌≡◌, ◌≤◌, ◌<◌, ◌+◌, ◌*◌, ◌-◌, [], ℕ, length, map, reverse, slice_index, slice_index_or, vec_capacity, vec_len, IfErr, IfOk, IfSome, IsTrue, MatchOption, None, OnOk, Some};
+ghost use Rattle.std.specs.Prelude.{◌≡◌, ◌≤◌, ◌<◌, ◌+◌, ◌*◌, ◌-◌, [], ℕ, length, map, reverse, slice_index, slice_index_or, vec_capacity};
+ghost use Rattle.std.specs.Prelude.{vec_len, IfErr, IfOk, IfSome, IsTrue, MatchOption, None, OnOk, Some};
 ghost use Rattle.std.specs.List.{All};
 ghost use Rattle.tp_base.specs.declared.limits.TheConstants.{MAX_STEPS};
 ghost use Rattle.tp_graph.specs.Graphs.{TaskGraph};
@@ -147,7 +148,8 @@ fn run_earlier<G: Comparable, K: Ledgers + Send + Sync, A: Gate, R: Threads + Wa
     ensures nodes { IfOk result (λ p. vec_len p.nodes ≡ K.names.nodes) }
     ensures links { IfOk result (λ p. vec_len p.links ≡ K.names.nodes * (K.names.nodes - 1)) }
     ensures many { OnOk result (vec_len rounds.new + 1 ≡ count) }
-    ensures kept { OnOk result (All (IsKept runner.now.config.nodes runner.now.config.workers (G.meaning runner.now.graph)) rounds.new.items) }
+    ensures kept { OnOk result
+        (All (IsKept runner.now.config.nodes runner.now.config.workers (G.meaning runner.now.graph)) rounds.new.items) }
     ensures room { vec_capacity rounds.new ≡ vec_capacity rounds.old }
     ensures fault { IfErr result (IsSeriesFault runner.now.config.nodes (G.meaning runner.now.graph) count) }
 {
@@ -176,9 +178,11 @@ fn run_and_reopen<G: Comparable, K: Ledgers + Send + Sync, A: Gate, R: Threads +
     requires room { vec_len rounds.old < vec_capacity rounds.old }
     ensures nodes { IfOk result (λ p. vec_len p.nodes ≡ K.names.nodes) }
     ensures links { IfOk result (λ p. vec_len p.links ≡ K.names.nodes * (K.names.nodes - 1)) }
-    ensures kept { OnOk result (AddsKept runner.now.config.nodes runner.now.config.workers (G.meaning runner.now.graph) rounds.old.items rounds.new.items) }
+    ensures kept { OnOk result
+        (AddsKept runner.now.config.nodes runner.now.config.workers (G.meaning runner.now.graph) rounds.old.items rounds.new.items) }
     ensures room { vec_capacity rounds.new ≡ vec_capacity rounds.old }
-    ensures fault { IfErr result (λ f. (count : ℕ) → number < count → IsSeriesFault runner.now.config.nodes (G.meaning runner.now.graph) count f) }
+    ensures fault { IfErr result (λ f. (count : ℕ) → number < count
+        → IsSeriesFault runner.now.config.nodes (G.meaning runner.now.graph) count f) }
 {
     match runner.run_generation(pool, number) {
         Ok(ran) => next_generation(runner.alloc, runner.graph, ran, rounds),
@@ -199,11 +203,13 @@ fn next_generation<G: Graph, K: Ledgers>(
     requires room { vec_len rounds.old < vec_capacity rounds.old }
     ensures nodes { IfOk result (λ p. vec_len p.nodes ≡ K.names.nodes) }
     ensures links { IfOk result (λ p. vec_len p.links ≡ K.names.nodes * (K.names.nodes - 1)) }
-    ensures kept { OnOk result ((workers : ℕ) → ran.workers ≡ K.names.nodes * workers → AddsKept K.names.nodes workers (G.meaning graph) rounds.old.items rounds.new.items) }
+    ensures kept { OnOk result ((workers : ℕ) → ran.workers ≡ K.names.nodes * workers
+        → AddsKept K.names.nodes workers (G.meaning graph) rounds.old.items rounds.new.items) }
     ensures no_fault { OnOk result (ran.pool.board.fault ≡ None) }
     ensures all_told { OnOk result (told_of_end ran.pool.nodes.items ≡ K.names.nodes) }
     ensures room { vec_capacity rounds.new ≡ vec_capacity rounds.old }
-    ensures fault { IfErr result (λ f. (count : ℕ) → length (generations ran.pool.board.history) < count → IsSeriesFault K.names.nodes (G.meaning graph) count f) }
+    ensures fault { IfErr result (λ f. (count : ℕ) → length (generations ran.pool.board.history) < count
+        → IsSeriesFault K.names.nodes (G.meaning graph) count f) }
 {
     let Ran {
         pool,
@@ -245,9 +251,11 @@ fn reopen<G: Graph, K: Ledgers>(
     requires room { vec_len rounds.old < vec_capacity rounds.old }
     ensures nodes { IfOk result (λ p. vec_len p.nodes ≡ K.names.nodes) }
     ensures links { IfOk result (λ p. vec_len p.links ≡ K.names.nodes * (K.names.nodes - 1)) }
-    ensures kept { OnOk result ((workers : ℕ) → answered ≡ K.names.nodes * workers → AddsKept K.names.nodes workers (G.meaning graph) rounds.old.items rounds.new.items) }
+    ensures kept { OnOk result ((workers : ℕ) → answered ≡ K.names.nodes * workers
+        → AddsKept K.names.nodes workers (G.meaning graph) rounds.old.items rounds.new.items) }
     ensures room { vec_capacity rounds.new ≡ vec_capacity rounds.old }
-    ensures fault { IfErr result (λ f. (count : ℕ) → length (generations pool.board.history) < count → IsSeriesFault K.names.nodes (G.meaning graph) count f) }
+    ensures fault { IfErr result (λ f. (count : ℕ) → length (generations pool.board.history) < count
+        → IsSeriesFault K.names.nodes (G.meaning graph) count f) }
 {
     let mut pool = pool;
     let mut ended = ended;
@@ -275,7 +283,8 @@ fn keep<G: Graph, K: Ledgers>(
     requires room { vec_len rounds.old < vec_capacity rounds.old }
     ensures nodes { IfOk result (λ p. vec_len p.nodes ≡ K.names.nodes) }
     ensures links { IfOk result (λ p. vec_len p.links ≡ K.names.nodes * (K.names.nodes - 1)) }
-    ensures kept { OnOk result ((workers : ℕ) → answered ≡ K.names.nodes * workers → AddsKept K.names.nodes workers (G.meaning graph) rounds.old.items rounds.new.items) }
+    ensures kept { OnOk result ((workers : ℕ) → answered ≡ K.names.nodes * workers
+        → AddsKept K.names.nodes workers (G.meaning graph) rounds.old.items rounds.new.items) }
     ensures room { vec_capacity rounds.new ≡ vec_capacity rounds.old }
     ensures fault { IfErr result (λ f. (count : ℕ) → IsSeriesFault K.names.nodes (G.meaning graph) count f) }
 {
@@ -325,7 +334,9 @@ fn fault_of<G: Graph>(nodes: u32, graph: G, report: Report) -> Fault
 
 /// Why a pool of so many nodes is not reopened, where its report tells.
 fn reason_of(nodes: u32, report: &Report) -> Option<Refusal>
-    ensures { IfSome result (λ e. (tasks count : ℕ) → MatchOption report.now.fault (IsSeriesLack nodes tasks count report.now e) (λ fault. IsAnswer (length report.now.history.events) fault e)) }
+    ensures { IfSome result (λ e. (tasks count : ℕ)
+        → MatchOption report.now.fault (IsSeriesLack nodes tasks count report.now e) (λ fault.
+        IsAnswer (length report.now.history.events) fault e)) }
 {
     match report.fault {
         Some(fault) => Some(answer_to(fault, report.history.len())),
@@ -430,7 +441,8 @@ fn told_rounds(rounds: Vec<Round>, last: Round, sent: &[u32]) -> Vec<Round>
     requires room { vec_len rounds < vec_capacity rounds }
     requires sent { length sent.now ≡ vec_len rounds + 1 }
     ensures many { vec_len result ≡ vec_len rounds + 1 }
-    ensures kept { (n workers : ℕ) (g : TaskGraph) → All (IsKept n workers g) rounds.items → IsKept n workers g last → All (IsKept n workers g) result.items }
+    ensures kept { (n workers : ℕ) (g : TaskGraph) → All (IsKept n workers g) rounds.items → IsKept n workers g last
+        → All (IsKept n workers g) result.items }
     ensures sent { map (λ r. r.messages) result.items ≡ sent.now }
 {
     let mut rounds = rounds;
@@ -454,7 +466,9 @@ fn sent_of(
     ensures announced { OnOk result (report.now.announced ≡ nodes) }
     ensures once { OnOk result (HasEachOnce tasks report.now.results.items × LivesInEach tasks report.now.history.events) }
     ensures sent { IfOk result (λ sent. sent.items ≡ reverse (map sent_in (generations report.now.history.events))) }
-    ensures refusal { IfErr result (λ e. MatchOption report.now.fault (IsSeriesLack nodes tasks count report.now e) (λ fault. IsAnswer (length report.now.history.events) fault e)) }
+    ensures refusal { IfErr result (λ e.
+        MatchOption report.now.fault (IsSeriesLack nodes tasks count report.now e) (λ fault.
+        IsAnswer (length report.now.history.events) fault e)) }
 {
     if let Some(fault) = report.fault {
         return Err(answer_to(fault, report.history.len()));
@@ -478,7 +492,9 @@ fn sent_where_once(
 ) -> Result<Option<Vec<u32>>, AllocError>
     requires few { length report.now.history.events ≤ MAX_STEPS }
     requires number { length (generations report.now.history.events) ≡ count }
-    ensures once { IfOk result (λ sent. MatchOption sent (HasEachOnce tasks report.now.results.items × LivesInEach tasks report.now.history.events → ⊥) (λ _. HasEachOnce tasks report.now.results.items × LivesInEach tasks report.now.history.events)) }
+    ensures once { IfOk result (λ sent.
+        MatchOption sent (HasEachOnce tasks report.now.results.items × LivesInEach tasks report.now.history.events
+        → ⊥) (λ _. HasEachOnce tasks report.now.results.items × LivesInEach tasks report.now.history.events)) }
     ensures sent { IfOk result (λ sent. IfSome sent (λ each. each.items ≡ reverse (map sent_in (generations report.now.history.events)))) }
 {
     if !each_once(alloc, tasks, &report.results)? {
@@ -491,7 +507,8 @@ fn sent_where_once(
 fn tell(rounds: &mut [Round], sent: &[u32])
     requires { length rounds.old ≡ length sent.now }
     ensures length { length rounds.new ≡ length rounds.old }
-    ensures told { (k : ℕ) (r : Round) → k < length rounds.old → slice_index_or rounds.new k r ≡ with_messages (slice_index sent.now k) (slice_index_or rounds.old k r) }
+    ensures told { (k : ℕ) (r : Round) → k < length rounds.old
+        → slice_index_or rounds.new k r ≡ with_messages (slice_index sent.now k) (slice_index_or rounds.old k r) }
 {
     for place in 0..rounds.len() {
         rounds[place].messages = sent[place];

@@ -57,7 +57,8 @@ fn make_rooms(steps: &mut Vec<Step>, more: usize) -> Result<(), Refusal>
     ensures room { OnOk result (length steps.old.items + more ≤ MAX_STEPS) }
     ensures pieces { OnOk result (HasPieces (length steps.old.items + more) (vec_capacity steps.new)) }
     ensures kept { HasPieces (length steps.old.items) (vec_capacity steps.new) }
-    ensures err { IfErr result (IsRefusedFor (first_refusal (rooms_check (length steps.old.items) more)) (ends_before (length steps.old.items) more)) }
+    ensures err { IfErr result
+        (IsRefusedFor (first_refusal (rooms_check (length steps.old.items) more)) (ends_before (length steps.old.items) more)) }
 {
     let taken = steps.len();
     if taken + more > MAX_STEPS as usize {

@@ -28,7 +28,8 @@ impl<G: Graph, K: Ledgers> Node<G, K> {
     ) -> Result<SmallVec<Option<Work<G>>, 8>, Refusal>
         requires { (1 ≤ max) × (max ≤ 8) }
         ensures none { ready_count self.old ≡ 0 → IsOk result }
-        ensures begun { IfOk result (λ works. BeginsSome self.old self.new board.old board.new (min (ready_count self.old) max) works.items) }
+        ensures begun { IfOk result (λ works.
+            BeginsSome self.old self.new board.old board.new (min (ready_count self.old) max) works.items) }
         ensures refusal { Answers (full_check (min (ready_count self.old) max) board.old ∷ []) result }
         ensures refused { OnErr result (Appends [] board.old board.new × (self.new ≡ self.old)) }
     {
@@ -55,7 +56,8 @@ impl<G: Graph, K: Ledgers> Node<G, K> {
     #[inline(always)]
     pub(crate) fn begin_next(&mut self, board: &mut Board<K>) -> Option<Work<G>>
         requires { 0 < board.old.reserved }
-        ensures begun { MatchOption result ((front self.old.state.store.ready ≡ None) × (self.new ≡ self.old) × (board.new ≡ board.old)) (Begins self.old self.new board.old board.new) }
+        ensures begun { MatchOption result ((front self.old.state.store.ready ≡ None) × (self.new ≡ self.old)
+            × (board.new ≡ board.old)) (Begins self.old self.new board.old board.new) }
         ensures life { IfSome result (λ work. life_of self.old.state.store work.task ≡ Some lives.Ready) }
         ensures sound { IsSound self.old.state.store }
     {

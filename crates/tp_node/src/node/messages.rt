@@ -39,12 +39,19 @@ impl<G: Graph, K: Ledgers> Node<G, K> {
         requires from_here { wire.old.from ≡ self.old.numbers.node }
         requires there { next_home (G.meaning self.old.graph) finished.old self.old.nodes ≡ wire.old.to }
         ensures number { IfOk result (λ m. m.0 ≡ count is_send (present (steps_of board.old.history))) }
-        ensures event { IfOk result (λ m. Appends (event_of self.old (sending (generation_of board.old) self.old.numbers.node wire.old.to m.0) ∷ []) board.old board.new) }
-        ensures sent { IfOk result (λ m. self.new ≡ after (sending (generation_of board.old) self.old.numbers.node wire.old.to m.0) (with_sent self.old.state) self.old) }
-        ensures last { IfOk result (λ m. wire.new ≡ with_message (message_on wire.old self.old.graph (generation_of board.old) m.0 (next_feed_of (G.meaning self.old.graph) finished.old) finished.old.value) wire.old) }
+        ensures event { IfOk result (λ m.
+            Appends (event_of self.old (sending (generation_of board.old) self.old.numbers.node wire.old.to m.0)
+            ∷ []) board.old board.new) }
+        ensures sent { IfOk result (λ m. self.new
+            ≡ after (sending (generation_of board.old) self.old.numbers.node wire.old.to m.0) (with_sent self.old.state) self.old) }
+        ensures last { IfOk result (λ m. wire.new
+            ≡ with_message
+            (message_on wire.old self.old.graph (generation_of board.old) m.0 (next_feed_of (G.meaning self.old.graph) finished.old)
+            finished.old.value) wire.old) }
         ensures passed { OnOk result (finished.new ≡ passed_on finished.old) }
         ensures refusal { Answers (send_checks self.old board.old finished.old.task) result }
-        ensures refused { OnErr result (Appends [] board.old board.new × (self.new ≡ self.old) × (wire.new ≡ wire.old) × (finished.new ≡ finished.old)) }
+        ensures refused { OnErr result (Appends [] board.old board.new × (self.new ≡ self.old) × (wire.new ≡ wire.old)
+            × (finished.new ≡ finished.old)) }
     {
         self.check_runs(finished.task())?;
         board.reserve(1)?;
@@ -73,8 +80,11 @@ impl<G: Graph, K: Ledgers> Node<G, K> {
     ) -> Result<(), (Refusal, Parcel<G>)>
         requires graph { parcel.graph ≡ self.old.graph }
         requires brought { HasBrought (G.meaning self.old.graph) self.old parcel }
-        ensures events { OnOk result (Appends (event_of self.old (ending_of (generation_of board.old) parcel.number.0 self.old) ∷ event_of self.old (putting_at (G.meaning self.old.graph) parcel.feed self.old) ∷ []) board.old board.new) }
-        ensures delivered { OnOk result (self.new ≡ delivered_with (G.meaning self.old.graph) parcel.feed parcel.value (generation_of board.old) parcel.number.0 self.old) }
+        ensures events { OnOk result
+            (Appends (event_of self.old (ending_of (generation_of board.old) parcel.number.0 self.old)
+            ∷ event_of self.old (putting_at (G.meaning self.old.graph) parcel.feed self.old) ∷ []) board.old board.new) }
+        ensures delivered { OnOk result (self.new
+            ≡ delivered_with (G.meaning self.old.graph) parcel.feed parcel.value (generation_of board.old) parcel.number.0 self.old) }
         ensures refusal { AnswersWith (deliver_checks (G.meaning self.old.graph) self.old board.old parcel.feed) parcel result }
         ensures refused { OnErr result (Appends [] board.old board.new × (self.new ≡ self.old)) }
     {
@@ -113,9 +123,12 @@ impl<G: Comparable, K: Ledgers> Node<G, K> {
     ) -> Result<Option<Parcel<G>>, Refusal>
         requires to_here { wire.old.to ≡ self.old.numbers.node }
         ensures none { wire.old.messages ≡ [] → result ≡ Ok None }
-        ensures received { IfOk result (λ parcel. MatchOption parcel ((wire.old.messages ≡ []) × Rests self.old self.new board.old board.new × (wire.new ≡ wire.old)) (Receives self.old self.new board.old board.new wire.old wire.new)) }
+        ensures received { IfOk result (λ parcel.
+            MatchOption parcel ((wire.old.messages ≡ []) × Rests self.old self.new board.old board.new
+            × (wire.new ≡ wire.old)) (Receives self.old self.new board.old board.new wire.old wire.new)) }
         ensures brought { IfOk result (λ parcel. MatchOption parcel (Unit {0}) (HasBrought (G.meaning self.new.graph) self.new)) }
-        ensures refusal { MatchOption (slice_get wire.old.messages 0) (Unit {0}) (λ m. Answers (receive_checks self.old board.old wire.old (G.eq m.graph self.old.graph) m) result) }
+        ensures refusal { MatchOption (slice_get wire.old.messages 0) (Unit {0}) (λ m.
+            Answers (receive_checks self.old board.old wire.old (G.eq m.graph self.old.graph) m) result) }
         ensures refused { OnErr result (Appends [] board.old board.new × (self.new ≡ self.old) × (wire.new ≡ wire.old)) }
     {
         let Some(message) = wire.front() else {
@@ -138,7 +151,9 @@ impl<G: Comparable, K: Ledgers> Node<G, K> {
         board: &Board<K>,
         message: &Message<G>,
     ) -> Result<(), Refusal>
-        ensures refusal { MatchOption (first_refusal (message_checks self.now board.now wire.now (G.eq message.now.graph self.now.graph) message.now)) (result ≡ Ok tt) (λ e. result ≡ Err e) }
+        ensures refusal { MatchOption
+            (first_refusal (message_checks self.now board.now wire.now (G.eq message.now.graph self.now.graph) message.now))
+            (result ≡ Ok tt) (λ e. result ≡ Err e) }
         ensures graph { OnOk result (message.now.graph ≡ self.now.graph) }
         ensures generation { OnOk result (message.now.generation.0 ≡ generation_of board.now) }
         ensures sent { OnOk result (IsTrue (any (is_send_to wire.now.to message.now.number.0) (present (steps_of board.now.history)))) }
@@ -165,7 +180,9 @@ impl<G: Graph, K: Ledgers> Node<G, K> {
         requires active { 0 < self.now.numbers.pending }
         requires feed { IsFeed (G.meaning self.now.graph) feed }
         ensures reserved { OnOk result (2 ≤ board.new.reserved) }
-        ensures free { OnOk result (refusal_of_deliver self.now.state.store feed.target ((G.meaning self.now.graph).arity feed.target.0) feed.slot ≡ None) }
+        ensures free { OnOk result
+            (refusal_of_deliver self.now.state.store feed.target ((G.meaning self.now.graph).arity feed.target.0) feed.slot
+            ≡ None) }
         ensures refusal { Answers (deliver_checks (G.meaning self.now.graph) self.now board.old feed) result }
         ensures same { Appends [] board.old board.new }
     {
@@ -179,7 +196,9 @@ impl<G: Graph, K: Ledgers> Node<G, K> {
         requires few { message.0 < 1048576 }
         requires open { IsTrue (has_message self.old.state.actions message.0) }
         ensures event { Appends (event_of self.old (ending_of (generation_of board.old) message.0 self.old) ∷ []) board.old board.new }
-        ensures ended { self.new ≡ after (ending_of (generation_of board.old) message.0 self.old) (with_actions (without_message self.old.state.actions message.0) self.old.state) self.old }
+        ensures ended { self.new
+            ≡ after (ending_of (generation_of board.old) message.0 self.old)
+            (with_actions (without_message self.old.state.actions message.0) self.old.state) self.old }
     {
         let _is_open = self.local.has_message(message);
         let Ok(()) = board.append_end(message, &mut self.shares) else {

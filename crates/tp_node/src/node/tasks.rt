@@ -1,4 +1,5 @@
-ghost use Rattle.std.specs.Prelude.{◌≡◌, ◌≤◌, ◌<◌, ◌+◌, ◌-◌, ℕ, [], ◌∷◌, false, Some, None, if◌then◌else◌, is_some, IfErr, IfOk, IsTrue, MatchBool, MatchOption, OnErr, OnOk};
+ghost use Rattle.std.specs.Prelude.{◌≡◌, ◌≤◌, ◌<◌, ◌+◌, ◌-◌, ℕ, [], ◌∷◌, false, Some, None, if◌then◌else◌, is_some, IfErr, IfOk, IsTrue};
+ghost use Rattle.std.specs.Prelude.{MatchBool, MatchOption, OnErr, OnOk};
 ghost use Rattle.tp_base.specs.declared.refusal.Refusal.TheVariants.{NoMemory, StoreFull, WrongLife};
 ghost use Rattle.tp_board.specs.States.{full_check};
 ghost use Rattle.tp_graph.specs.Carried.{IsFeed};
@@ -6,7 +7,8 @@ ghost use Rattle.tp_graph.specs.Values.{IsInput};
 ghost use Rattle.tp_board.specs.Calls.{Answers, AnswersWith, Appends};
 ghost use Rattle.tp_node.specs.Calls.{Begins, Rests, SeedsIf};
 ghost use Rattle.tp_node.specs.Feeds.{HasFeed, next_feed_of, next_home, passed_on};
-ghost use Rattle.tp_node.specs.Nodes.{HasNoSeed, IsFirst, IsNextSeed, IsSeed, IsSeedOf, done_with, event_of, fed_with, inserting, putting_at, seeded, seeding, task_at};
+ghost use Rattle.tp_node.specs.Nodes.{HasNoSeed, IsFirst, IsNextSeed, IsSeed, IsSeedOf, done_with, event_of, fed_with, inserting};
+ghost use Rattle.tp_node.specs.Nodes.{putting_at, seeded, seeding, task_at};
 ghost use Rattle.tp_node.specs.Refused.{begin_checks, done_checks, feed_checks, lacks_place, runs, seed_checks, slot_checks};
 ghost use Rattle.tp_slots.specs.Content.{front};
 ghost use Rattle.tp_store.specs.Content.{refusal_of_deliver, task_of};
@@ -29,7 +31,8 @@ impl<G: Graph, K: Ledgers> Node<G, K> {
     pub fn seed(&mut self, board: &mut Board<K>) -> Result<bool, Refusal>
         ensures none { HasNoSeed (G.meaning self.old.graph) self.old → result ≡ Ok false }
         ensures seeded { IfOk result (SeedsIf self.old self.new board.old board.new (G.meaning self.old.graph)) }
-        ensures refusal { (t : ℕ) → IsNextSeed (G.meaning self.old.graph) self.old t → Answers (seed_checks self.old board.old (task_at t)) result }
+        ensures refusal { (t : ℕ) → IsNextSeed (G.meaning self.old.graph) self.old t
+            → Answers (seed_checks self.old board.old (task_at t)) result }
         ensures refused { OnErr result (Appends [] board.old board.new × (self.new ≡ self.old)) }
     {
         let Some(task) = self.next_seed() else {
@@ -45,7 +48,9 @@ impl<G: Graph, K: Ledgers> Node<G, K> {
     /// Refused, where a task is ready: `HistoryFull` where the history has reached its limit; `NoMemory`.
     pub fn begin(&mut self, board: &mut Board<K>) -> Result<Option<Work<G>>, Refusal>
         ensures none { front self.old.state.store.ready ≡ None → result ≡ Ok None }
-        ensures begun { IfOk result (λ work. MatchOption work ((front self.old.state.store.ready ≡ None) × Rests self.old self.new board.old board.new) (Begins self.old self.new board.old board.new)) }
+        ensures begun { IfOk result (λ work.
+            MatchOption work ((front self.old.state.store.ready ≡ None)
+            × Rests self.old self.new board.old board.new) (Begins self.old self.new board.old board.new)) }
         ensures refusal { MatchOption (front self.old.state.store.ready) (Unit {0}) (λ t. Answers (begin_checks board.old) result) }
         ensures refused { OnErr result (Appends [] board.old board.new × (self.new ≡ self.old)) }
     {
@@ -66,10 +71,15 @@ impl<G: Graph, K: Ledgers> Node<G, K> {
         requires graph { finished.old.graph ≡ self.old.graph }
         requires next { HasFeed (G.meaning self.old.graph) finished.old }
         requires here { next_home (G.meaning self.old.graph) finished.old self.old.nodes ≡ self.old.numbers.node }
-        ensures event { OnOk result (Appends (event_of self.old (putting_at (G.meaning self.old.graph) (next_feed_of (G.meaning self.old.graph) finished.old) self.old) ∷ []) board.old board.new) }
-        ensures put { OnOk result (self.new ≡ fed_with (G.meaning self.old.graph) (next_feed_of (G.meaning self.old.graph) finished.old) finished.old.value self.old) }
+        ensures event { OnOk result
+            (Appends (event_of self.old
+            (putting_at (G.meaning self.old.graph) (next_feed_of (G.meaning self.old.graph) finished.old) self.old)
+            ∷ []) board.old board.new) }
+        ensures put { OnOk result (self.new
+            ≡ fed_with (G.meaning self.old.graph) (next_feed_of (G.meaning self.old.graph) finished.old) finished.old.value self.old) }
         ensures passed { OnOk result (finished.new ≡ passed_on finished.old) }
-        ensures refusal { Answers (feed_checks (G.meaning self.old.graph) self.old board.old finished.old.task (next_feed_of (G.meaning self.old.graph) finished.old)) result }
+        ensures refusal { Answers (feed_checks (G.meaning self.old.graph) self.old board.old finished.old.task
+            (next_feed_of (G.meaning self.old.graph) finished.old)) result }
         ensures refused { OnErr result (Appends [] board.old board.new × (self.new ≡ self.old) × (finished.new ≡ finished.old)) }
     {
         self.check_runs(finished.task())?;
@@ -176,8 +186,10 @@ impl<G: Graph, K: Ledgers> Node<G, K> {
     pub(crate) fn check_put(&self, feed: Feed) -> Result<bool, Refusal>
         requires active { 0 < self.now.numbers.pending }
         requires feed { IsFeed (G.meaning self.now.graph) feed }
-        ensures refusal { MatchOption (first_refusal (slot_checks (G.meaning self.now.graph) self.now.state.store feed)) (result ≡ Ok (lacks_place self.now.state.store feed.target)) (λ e. result ≡ Err e) }
-        ensures free { IfOk result (λ is_full. is_full ≡ false → refusal_of_deliver self.now.state.store feed.target ((G.meaning self.now.graph).arity feed.target.0) feed.slot ≡ None) }
+        ensures refusal { MatchOption (first_refusal (slot_checks (G.meaning self.now.graph) self.now.state.store feed)) (result
+            ≡ Ok (lacks_place self.now.state.store feed.target)) (λ e. result ≡ Err e) }
+        ensures free { IfOk result (λ is_full. is_full ≡ false
+            → refusal_of_deliver self.now.state.store feed.target ((G.meaning self.now.graph).arity feed.target.0) feed.slot ≡ None) }
     {
         match self
             .local
@@ -202,8 +214,10 @@ impl<G: Graph, K: Ledgers> Node<G, K> {
         requires active { 0 < self.old.numbers.pending }
         requires feed { IsFeed (G.meaning self.old.graph) feed }
         requires input { IsInput (G.meaning self.old.graph) feed.target.0 feed.slot value }
-        requires free { refusal_of_deliver self.old.state.store feed.target ((G.meaning self.old.graph).arity feed.target.0) feed.slot ≡ None }
-        ensures event { OnOk result (Appends (event_of self.old (putting_at (G.meaning self.old.graph) feed self.old) ∷ []) board.old board.new) }
+        requires free { refusal_of_deliver self.old.state.store feed.target ((G.meaning self.old.graph).arity feed.target.0) feed.slot
+            ≡ None }
+        ensures event { OnOk result
+            (Appends (event_of self.old (putting_at (G.meaning self.old.graph) feed self.old) ∷ []) board.old board.new) }
         ensures put { OnOk result (self.new ≡ fed_with (G.meaning self.old.graph) feed value self.old) }
         ensures left { OnOk result (board.new.reserved + 1 ≡ board.old.reserved) }
         ensures refused { IfErr result (λ e. e ≡ (NoMemory, value)) }
@@ -224,7 +238,9 @@ impl<G: Graph, K: Ledgers> Node<G, K> {
     #[inline(always)]
     fn putting_step(&self, task: TaskId, arity: u8) -> Step
         requires { (0 < arity) × (arity ≤ 16) }
-        ensures { result ≡ (if is_some (task_of self.now.state.store task) then steps.Supply task else inserting self.now.numbers.node task (arity - 1)) }
+        ensures { result
+            ≡ (if is_some (task_of self.now.state.store task) then steps.Supply task else inserting self.now.numbers.node task
+            (arity - 1)) }
     {
         if self.local.is_known(task) {
             return Step::Supply(task);

@@ -98,7 +98,9 @@ fn send_next<G: Graph, K: Ledgers>(
 #[inline(always)]
 fn next_home<G: Graph>(finished: &Finished<G>, nodes: u32) -> Option<NodeId>
     requires { (1 ≤ nodes) × (nodes ≤ 8) }
-    ensures next { MatchOption result (finished.now.fed ≡ (G.meaning finished.now.graph).feeds finished.now.task.0) (λ home. GoesTo (G.meaning finished.now.graph) finished.now nodes home.0) }
+    ensures next { MatchOption result (finished.now.fed
+        ≡ (G.meaning finished.now.graph).feeds finished.now.task.0) (λ home.
+        GoesTo (G.meaning finished.now.graph) finished.now nodes home.0) }
 {
     if finished.all_fed() {
         return None;
@@ -119,7 +121,10 @@ fn feed_here<G: Graph, K: Ledgers>(
     requires here { feeds.next_home (G.meaning here.old.graph) finished.old here.old.nodes ≡ here.old.numbers.node }
     ensures node { OnOk result (IsSameNode here.old here.new) }
     ensures passed { OnOk result (IsFarther finished.old finished.new) }
-    ensures next { IfOk result (λ next. MatchOption next (finished.new.fed ≡ (G.meaning finished.new.graph).feeds finished.new.task.0) (λ home. GoesTo (G.meaning finished.new.graph) finished.new here.old.nodes home.0)) }
+    ensures next { IfOk result (λ next.
+        MatchOption next (finished.new.fed
+        ≡ (G.meaning finished.new.graph).feeds finished.new.task.0) (λ home.
+        GoesTo (G.meaning finished.new.graph) finished.new here.old.nodes home.0)) }
 {
     let (number, nodes) = (here.number(), here.nodes());
     here.feed(board, finished)?;

@@ -8,7 +8,8 @@ use mir.Syntax.{Ty}
 use mir.Val.{Val, vunit}
 use prog.Wp.{WpFn}
 use contract.Running.{tables}
-use types.Kit.{‵, raw, ◌⊛◌, some, later, prop, ◌$◌, ◌∵◌, !, qed, done, move, drop, use1, use2, split, join, feq_i, feq_l, pick, await, regoal, suffices, group}
+use types.Kit.{‵, raw, ◌⊛◌, some, later, prop, ◌$◌, ◌∵◌, !, qed, done, move, drop, use1, use2, split, join, feq_i, feq_l, pick, await}
+use types.Kit.{regoal, suffices, group}
 use types.Run.{enter, of_opd, unit_lit, load, look, stop, no_more, and_then, returns}
 use types.ByLocal.{alloc_all, pass_all, free_all, look_at, get, through, sets, lands_as}
 use denote.Builtin.{unit}
@@ -49,7 +50,8 @@ gerfmuod_close_spec 𝓤 𝓛 𝓜 𝓡 wired =
     qed 𝓛 (raw (on_entry 𝓛 f.signature κs qs a (y a.0).0.4) ∷ ‵ (lies_at R full_share a.0 n) ∷ []) ∵ drop ! $
     in_a_block ! a.0 (λ p. lies_at R full_share p n) (id⊢ 𝓤 _) (λ b o e.
     regoal ! (λ p. prop (WpFn 𝓤 𝓛.H 𝓣.C 𝓣.Λ code.function (rawptr_vals p) (W.post (y p)))) e refl $
-    use1 𝓛 (some (λ (v : Val). ‵ (fat full_share τ b o v) ⊛ ‵ (R.own_val n (v ∷ [])))) (part_out 𝓛 R refl full_share n b o) $ pick ! (λ v. split ! $ move ! (1 ∷ []) $
+    use1 𝓛 (some (λ (v : Val). ‵ (fat full_share τ b o v) ⊛ ‵ (R.own_val n (v ∷ [])))) (part_out 𝓛 R refl full_share n b o) $
+    pick ! (λ v. split ! $ move ! (1 ∷ []) $
     peeks ! R (Is R) (shows 𝓛 R) n (v ∷ []) (λ is. let typed = ((the_row_laws.lawful 𝓛).typed n (v ∷ []) is).0 in
     enter ! _ _ _ _ _ $ alloc_all ! (λ l. pass_all ! refl ((tt, tt), tt) $
     -- [what the core owns; its memory; the locals]

@@ -9,7 +9,8 @@ use mir.Val.{vint, vptr}
 use prog.Wp.{WpFn}
 use contract.Monad.{fact}
 use contract.Running.{tables}
-use types.Kit.{‵, raw, ◌⊛◌, some, later, prop, ◌$◌, ◌∵◌, !, qed, done, move, keep, drop, use1, use2, use3, split, join, fsplit, pick, await, regoal, suffices, group}
+use types.Kit.{‵, raw, ◌⊛◌, some, later, prop, ◌$◌, ◌∵◌, !, qed, done, move, keep, drop, use1, use2, use3, split, join, fsplit, pick, await}
+use types.Kit.{regoal, suffices, group}
 use types.Tokens.{lft_new, lft_end}
 use types.SemTy.{Body}
 use types.Run.{enter, of_opd, addr, stop, no_more, and_then, returns}
@@ -54,33 +55,50 @@ gerfmuod_insert_spec 𝓤 𝓛 𝓜 𝓡 wired =
     let num = Goes-dropped 𝓛 0 (plain (λ _. u32)) yes (λ κs x w. refl) in
     proved 𝓛 f.ended stayed c 𝓜 𝓡 (Goes-dropped 𝓛 0 (plain (λ _. RawPtr)) yes (λ κs x w. refl), (num, (num, (num, tt))))
     f.Key.name code.function (code.unfolded 𝓤 𝓛.H 𝓜 𝓡 wired)
-    (λ κs. (rawptr_vals, (uint_vals w32, (uint_vals w32, (uint_vals w32, tt))))) (λ κs. (rawptr_Tells, (uint_Tells w32, (uint_Tells w32, (uint_Tells w32, tt)))))
+    (λ κs. (rawptr_vals, (uint_vals w32, (uint_vals w32, (uint_vals w32, tt))))) (λ κs.
+    (rawptr_Tells, (uint_Tells w32, (uint_Tells w32, (uint_Tells w32, tt)))))
     (λ κs qs bounds a n are.
     let i = a.1.0 in let t = a.1.1.0 in let k = a.1.1.1.0 in
     let fi = are.1.0.1 in let ft = are.1.1.0.1 in let fk = are.1.1.1.0.1 in
     let words = vint w32 i ∷ vint w32 t ∷ vint w32 k ∷ [] in
     let Told = λ (u : Answer) (new : Accepted). IsTold n (insert_asked i t k) u new × TellsNoEarlyEnd (u.told ≡ 3) u.number new in
-    let y : Ptr → W.Ghost = λ p. ((κs, qs, bounds, (p, (i, (t, (k, tt)))), (rawptr_vals p, (vint w32 i ∷ [], (vint w32 t ∷ [], (vint w32 k ∷ [], tt))))), n) in
+    let y : Ptr → W.Ghost =
+    λ p. ((κs, qs, bounds, (p, (i, (t, (k, tt)))), (rawptr_vals p, (vint w32 i ∷ [], (vint w32 t ∷ [], (vint w32 k ∷ [], tt))))), n) in
     qed 𝓛 (raw (on_entry 𝓛 f.signature κs qs a (y a.0).0.4) ∷ ‵ (lies_at R full_share a.0 n) ∷ []) ∵ drop ! $
     in_a_block ! a.0 (λ p. lies_at R full_share p n) (id⊢ 𝓤 _) (λ b o e.
     regoal ! (λ p. prop (WpFn 𝓤 𝓛.H 𝓣.C 𝓣.Λ code.function (rawptr_vals p ++ words) (W.post (y p)))) e refl $
-    enter ! _ _ _ _ _ $ alloc_all ! (λ l. pass_all ! refl ((tt, tt), ((tt, record { fits = fi }), ((tt, record { fits = ft }), ((tt, record { fits = fk }), tt)))) $
+    enter ! _ _ _ _ _ $
+    alloc_all ! (λ l.
+    pass_all ! refl ((tt, tt), ((tt, record { fits = fi }), ((tt, record { fits = ft }), ((tt, record { fits = fk }), tt)))) $
     lft_new ! tt (λ α. let κ : Lft = α ∷ [] in move ! (1 ∷ []) $
-    use1 𝓛 (later (some (λ (γ : GName). ‵ ((MutRef (named 0) κ R).own_val (record { ref_ptr = (b, o); ghost_name = γ; now = n }) (vptr b o ∷ [])) ⊛ ‵ (flent κ (Body (mem R) b o γ)))))
+    use1 𝓛 (later
+    (some (λ (γ : GName). ‵ ((MutRef (named 0) κ R).own_val (record { ref_ptr = (b, o); ghost_name = γ; now = n }) (vptr b o ∷ []))
+    ⊛ ‵ (flent κ (Body (mem R) b o γ)))))
     (lends_ref 𝓛 R (named 0) κ n b o) $ await ! tt $ pick ! (λ γ. split ! $
     -- [the loan; the lender's part; the token; the locals]
     sets ! (of_opd ! (get ! refl)) refl (tt, tt) $
     sets ! (addr ! (through ! refl (stop !))) refl (tt, tt) $
     let G = triple_of 𝓛 g.signature (g.spec 𝓛 𝓜.mem 𝓡.returns) in
     let bor : MutBor Accepted = record { ref_ptr = (b, o); ghost_name = γ; now = n } in
-    let z : G.Ghost = (((κ, tt), (full_share, tt), tt, (bor, (i, (t, (k, tt)))), (vptr b o ∷ [], (vint w32 i ∷ [], (vint w32 t ∷ [], (vint w32 k ∷ [], tt))))), tt) in
-    nothing ! $ owned ! u32 (Is u32) (uint_Makes 𝓛 w32) k _ (refl, fk) $ join ! $ owned ! u32 (Is u32) (uint_Makes 𝓛 w32) t _ (refl, ft) $ join ! $ owned ! u32 (Is u32) (uint_Makes 𝓛 w32) i _ (refl, fi) $ join ! $
+    let z : G.Ghost = (
+      (
+        (κ, tt),
+        (full_share, tt),
+        tt,
+        (bor, (i, (t, (k, tt)))),
+        (vptr b o ∷ [], (vint w32 i ∷ [], (vint w32 t ∷ [], (vint w32 k ∷ [], tt)))),
+      ),
+      tt,
+    ) in
+    nothing ! $ owned ! u32 (Is u32) (uint_Makes 𝓛 w32) k _ (refl, fk) $ join ! $ owned ! u32 (Is u32) (uint_Makes 𝓛 w32) t _ (refl, ft) $
+    join ! $ owned ! u32 (Is u32) (uint_Makes 𝓛 w32) i _ (refl, fi) $ join ! $
     move ! (1 ∷ 0 ∷ []) $ join ! $
     nothing ! $ move ! (3 ∷ 0 ∷ []) $ join ! $ join ! $ nothing ! $ move ! (1 ∷ 0 ∷ []) $ use2 𝓛 (raw (G.pre z)) (id⊢ 𝓤 _) $
     calls_at ! (framed 𝓤 𝓛.H 𝓜 𝓣) G (met 𝓤 𝓛 𝓜 𝓡 (code.calls-gerfmuod::calls::insert 𝓡.env wired)) z
     (and_then ! (get ! refl) (and_then ! (get ! refl) (and_then ! (get ! refl) (and_then ! (get ! refl) (no_more !))))) (λ v.
     use1 𝓛 (later (some (λ (u : Answer). ((‵ (flft κ full_share) ⊛ ‵ ftrue) ⊛ ‵ (A.own_val u (v ∷ []))) ⊛
-    some (λ (ws : Accepted × (Unit {0} × (Unit {0} × (Unit {0} × Unit {0})))). ‵ (lasts g.ended z.0.0 z.0.3 ws) ⊛ raw (fact 𝓤 (Told u ws.0)))))) (id⊢ 𝓤 _) $
+    some (λ (ws : Accepted × (Unit {0} × (Unit {0} × (Unit {0} × Unit {0})))). ‵ (lasts g.ended z.0.0 z.0.3 ws)
+    ⊛ raw (fact 𝓤 (Told u ws.0)))))) (id⊢ 𝓤 _) $
     await ! tt $ pick ! (λ u. split ! $ split ! $ split ! $ lft_end ! tt $
     -- [κ is over; nothing; the answer; what the call says; the lender's part]
     move ! (3 ∷ []) $ pick ! (λ ws. split ! $ move ! (1 ∷ []) $ heard ! _ (λ told. fsplit ! $ fsplit ! $

@@ -9,7 +9,8 @@ use mir.Val.{vint}
 use prog.Wp.{WpFn}
 use contract.Monad.{fact}
 use contract.Running.{tables}
-use types.Kit.{‵, raw, ◌⊛◌, some, later, prop, ◌$◌, ◌∵◌, !, qed, done, move, keep, drop, use1, use2, split, join, fsplit, pick, await, regoal, rewrite, suffices, frame, group}
+use types.Kit.{‵, raw, ◌⊛◌, some, later, prop, ◌$◌, ◌∵◌, !, qed, done, move, keep, drop, use1, use2, split, join, fsplit, pick, await}
+use types.Kit.{regoal, rewrite, suffices, frame, group}
 use types.Run.{enter, of_opd, init, stop, no_more, and_then, assigns, returns}
 use types.ByLocal.{alloc_all, pass_all, free_all, look_at, get, through, sets, lands_as}
 use denote.Builtin.{u32}
@@ -50,13 +51,18 @@ abbrev τ : Ty
 pub gerfmuod_open_spec : {M : Type 1} → statement M
 gerfmuod_open_spec 𝓤 𝓛 𝓜 𝓡 wired =
     let c = f.clauses 𝓛 𝓜.mem 𝓡.returns in let W = walk_of 𝓛 f.ended stayed c in let 𝓣 = tables 𝓤 𝓛.H 𝓜 𝓡 𝓡.env in
-    proved 𝓛 f.ended stayed c 𝓜 𝓡 (Goes-dropped 𝓛 0 (plain (λ _. Z)) yes (λ κs x w. refl), (Goes-dropped 𝓛 0 (plain (λ _. RawPtr)) yes (λ κs x w. refl), (Goes-dropped 𝓛 0 (plain (λ _. u32)) yes (λ κs x w. refl), tt)))
+    proved 𝓛 f.ended stayed c 𝓜 𝓡 (
+      Goes-dropped 𝓛 0 (plain (λ _. Z)) yes (λ κs x w. refl),
+      (Goes-dropped 𝓛 0 (plain (λ _. RawPtr)) yes (λ κs x w. refl), (Goes-dropped 𝓛 0 (plain (λ _. u32)) yes (λ κs x w. refl), tt)),
+    )
     f.Key.name code.function (code.unfolded 𝓤 𝓛.H 𝓜 𝓡 wired)
-    (λ κs. ((λ d. heap.lowered d ∷ []), (rawptr_vals, (uint_vals w32, tt)))) (λ κs. (heap.lowers.val_is, (rawptr_Tells, (uint_Tells w32, tt)))) (λ κs qs bounds a n are.
+    (λ κs. ((λ d. heap.lowered d ∷ []), (rawptr_vals, (uint_vals w32, tt)))) (λ κs.
+    (heap.lowers.val_is, (rawptr_Tells, (uint_Tells w32, tt)))) (λ κs qs bounds a n are.
     let d = a.0 in let k = a.1.1.0 in let fk = are.1.1.0.1 in let dv = heap.lowered d in
     let sure = ((heap.the_row_laws.lawful 𝓛).typed d (dv ∷ []) are.0).0 in
     let y : Ptr → W.Ghost = λ p. ((κs, qs, bounds, (d, (p, (k, tt))), (dv ∷ [], (rawptr_vals p, (vint w32 k ∷ [], tt)))), n) in
-    qed 𝓛 ((‵ ftrue ⊛ ‵ (owns (Z ∷ RawPtr ∷ u32 ∷ []) a (y a.1.0).0.4)) ∷ ‵ (room_at R a.1.0) ∷ []) ∵ split ! $ drop ! $ fsplit ! $ move ! (1 ∷ []) $ drop ! $ move ! (1 ∷ []) $
+    qed 𝓛 ((‵ ftrue ⊛ ‵ (owns (Z ∷ RawPtr ∷ u32 ∷ []) a (y a.1.0).0.4)) ∷ ‵ (room_at R a.1.0) ∷ []) ∵ split ! $ drop ! $ fsplit ! $
+    move ! (1 ∷ []) $ drop ! $ move ! (1 ∷ []) $
     in_a_block ! a.1.0 (λ p. room_at R p) (id⊢ 𝓤 _) (λ b o e.
     regoal ! (λ p. prop (WpFn 𝓤 𝓛.H 𝓣.C 𝓣.Λ code.function (dv ∷ (rawptr_vals p ++ (vint w32 k ∷ []))) (W.post (y p)))) e refl $
     use1 𝓛 (‵ (froom τ b o)) (id⊢ 𝓤 _) $
@@ -92,4 +98,5 @@ gerfmuod_open_spec 𝓤 𝓛 𝓜 𝓡 wired =
     lands_as ! refl refl ((uint_Lawful 𝓛 w32).typed q _ truth).0 $
     returns ! (look_at ! 0 refl) $ free_all ! refl $ keep ! (0 ∷ 1 ∷ []) $
     suffices ! _ (ends_at 𝓛 f.ended stayed c (y (block_ptr b o)) u q (tt, (tt, (tt, tt))) (tt, (tt, (tt, tt)))) $
-    nothing ! $ nothing ! $ join ! $ nothing ! $ join ! $ nothing ! $ join ! $ nothing ! $ group ! 3 $ frame ! $ says ! can $ done !)))))))))))))
+    nothing ! $ nothing ! $ join ! $ nothing ! $ join ! $ nothing ! $ join ! $ nothing ! $ group ! 3 $ frame ! $ says ! can $
+    done !)))))))))))))

@@ -15,16 +15,21 @@ run_part-requires-clause-taken g c κs within =
     let count : c.len-2.result ≡ length cells = search rules in
     let takes = subst (λ count. TakeSteps count c.args.size c.args.config.nodes c.in-Some.most) count c.in-Some.ensures in
     let taken : s.takes c.args.stencil (length cells) c.args.size ≡ true = search rules in
-    let same : length cells ≡ length c.deref.result.now = sym (ap length (c.deref.ensures.value ∙ before.made) ∙ after-length (s.step c.args.stencil) (c.args.steps - c.loop-left.left) cells ((g.met.S.Stencil g.world.𝓛 g.world.𝓜 g.world.𝓡 ((λ s x. x), (λ x. x), (λ x. x), λ x. x)).long c.args.stencil)) in
+    let same : length cells ≡ length c.deref.result.now =
+    sym (ap length (c.deref.ensures.value ∙ before.made)
+    ∙ after-length (s.step c.args.stencil) (c.args.steps - c.loop-left.left) cells
+    ((g.met.S.Stencil g.world.𝓛 g.world.𝓜 g.world.𝓡 ((λ s x. x), (λ x. x), (λ x. x), λ x. x)).long c.args.stencil)) in
     subst (λ count. AreSteps (s.takes c.args.stencil) count c.args.size c.min-now.result) same
-    (are_steps (s.takes c.args.stencil) (length cells) c.args.size c.args.config.nodes c.in-Some.most c.min-now.result taken takes (search rules))
+    (are_steps (s.takes c.args.stencil) (length cells) c.args.size c.args.config.nodes c.in-Some.most c.min-now.result taken takes
+    (search rules))
 
 pub loop-left-preserved : goal.loop-left-preserved
 loop-left-preserved g c =
     let before = c.loop-left.invariant in
     record {
       few = omega (arith, before.few);
-      made = part_more (g.S.Stencil.step c.args.stencil) c.args.steps c.loop-left.left c.min-now.result c.loop-left.made.items c.in_ok-made.made.items c.args.cells.items (search rules) before.few before.made (search rules);
+      made = part_more (g.S.Stencil.step c.args.stencil) c.args.steps c.loop-left.left c.min-now.result c.loop-left.made.items
+          c.in_ok-made.made.items c.args.cells.items (search rules) before.few before.made (search rules);
     }
 
 pub returns-in_err-made : goal.returns-in_err-made
@@ -36,5 +41,7 @@ returns-in_err-made g c =
     let count : c.len-2.result ≡ length c.args.cells.items = search rules in
     let takes = subst (λ count. TakeSteps count c.args.size c.args.config.nodes c.in-Some.most) count c.in-Some.ensures in
     let some : 1 ≤ c.min-now.result = omega (arith, takes.all_planned) in
-    rw passed.1 (part_fault c.args.config.nodes c.args.config.workers (s.takes c.args.stencil) (s.step c.args.stencil) (s.next c.args.stencil) c.args.cells.items c.deref.result.now c.args.size c.args.steps c.loop-left.left c.min-now.result passed.0
-    ((g.met.S.Stencil g.world.𝓛 g.world.𝓜 g.world.𝓡 ((λ s x. x), (λ x. x), (λ x. x), λ x. x)).long c.args.stencil) (c.deref.ensures.value ∙ before.made) before.few (search rules) some why)
+    rw passed.1 (part_fault c.args.config.nodes c.args.config.workers (s.takes c.args.stencil) (s.step c.args.stencil)
+    (s.next c.args.stencil) c.args.cells.items c.deref.result.now c.args.size c.args.steps c.loop-left.left c.min-now.result passed.0
+    ((g.met.S.Stencil g.world.𝓛 g.world.𝓜 g.world.𝓡 ((λ s x. x), (λ x. x), (λ x. x), λ x. x)).long c.args.stencil) (c.deref.ensures.value
+    ∙ before.made) before.few (search rules) some why)

@@ -10,7 +10,8 @@ use Rattle.pool_blocks.proofs.result.cells_by_one.Goals as goal
 pub cells_of-requires : goal.cells_of-requires
 cells_of-requires g c =
     let w = c.args.work in
-    let right = subst (λ results. AreRight (block_graph (g.S.Stencil.next w.stencil) w.cells.now w.blocks w.size w.steps) results) (sym c.as_slice.ensures.value)
+    let right = subst (λ results.
+    AreRight (block_graph (g.S.Stencil.next w.stencil) w.cells.now w.blocks w.size w.steps) results) (sym c.as_slice.ensures.value)
     (subst (λ graph. AreRight graph c.in-Ok.results.items) c.copied.ensures c.in-Ok.ensures.right) in
     (c.type_bounds.send-S, (c.type_bounds.sync-S, right))
 
@@ -18,7 +19,8 @@ pub returns-in-Err-clause-refused : goal.returns-in-Err-clause-refused
 returns-in-Err-clause-refused g c =
     let w = c.args.work in
     let laws = g.met.S.Stencil g.world.𝓛 g.world.𝓜 g.world.𝓡 ((λ s x. x), (λ x. x), (λ x. x), λ x. x) in
-    never_failed (g.S.Stencil.next w.stencil) w.cells.now w.blocks w.size w.steps w.cut.some_blocks (laws.fit w.stencil) c.read_cells.ensures c.in-Err.refusal
+    never_failed (g.S.Stencil.next w.stencil) w.cells.now w.blocks w.size w.steps w.cut.some_blocks (laws.fit w.stencil)
+    c.read_cells.ensures c.in-Err.refusal
     (subst (λ graph. IsSerialRefusal graph c.in-Err.refusal) c.copied.ensures c.in-Err.ensures)
 
 pub returns-clause-refused : goal.returns-clause-refused
@@ -27,6 +29,7 @@ returns-clause-refused g c =
     let values = subst (λ (graph : TaskGraph). AreValues graph graph.tasks c.in-Ok.results.items) c.copied.ensures c.in-Ok.ensures in
     IfErr-weaker c.cells_of.result _ _
     (λ refusal why.
-    only_memory w.blocks w.steps c.in-Ok.results.items refusal (all_there (g.S.Stencil.next w.stencil) w.cells.now w.blocks w.size w.steps c.in-Ok.results.items values)
+    only_memory w.blocks w.steps c.in-Ok.results.items refusal
+    (all_there (g.S.Stencil.next w.stencil) w.cells.now w.blocks w.size w.steps c.in-Ok.results.items values)
     (rw c.as_slice.ensures.value at why))
     c.cells_of.ensures.refused

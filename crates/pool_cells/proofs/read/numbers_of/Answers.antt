@@ -14,7 +14,8 @@ loop-line-preserved c =
       record {},
       record {},
       subst (λ l. BeginsWith c.args.text.now l (lines_rest c.next.new.self)) (sym more)
-          (begins-more c.args.text.now c.loop-line.numbers.items (lines_rest c.loop-line.line-iterator) c.in-Some.line.now (lines_rest c.next.new.self) c.in-Ok.number before first spelt),
+          (begins-more c.args.text.now c.loop-line.numbers.items (lines_rest c.loop-line.line-iterator) c.in-Some.line.now
+          (lines_rest c.next.new.self) c.in-Ok.number before first spelt),
     )
 
 pub returns-in-Err-clause-bad : goal.returns-in-Err-clause-bad

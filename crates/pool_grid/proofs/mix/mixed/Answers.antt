@@ -17,4 +17,5 @@ eighth-requires c =
     let before = sum-is c.plus-before.result _ _ _ _ (record { sfits = c.plus-before.type_inv }) c.plus-before.ensures.same first middle in
     let last = sum-is c.plus-2.result _ _ _ _ (record { sfits = c.plus-2.type_inv }) c.plus-2.ensures.same right down in
     let sum = sum-is c.plus-sum.result _ _ _ _ (record { sfits = c.plus-sum.type_inv }) c.plus-sum.ensures.same before last in
-    subst (λ z. FitsSigned w64 (int_div_euclid z (pos 8))) (sym sum) (mixed-fits a.up a.left a.own a.right a.down c.ranges.up c.ranges.left c.ranges.own c.ranges.right c.ranges.down)
+    subst (λ z. FitsSigned w64 (int_div_euclid z (pos 8))) (sym sum)
+    (mixed-fits a.up a.left a.own a.right a.down c.ranges.up c.ranges.left c.ranges.own c.ranges.right c.ranges.down)

@@ -13,7 +13,11 @@ loop-e-preserved c =
     let cell = c.cell_after.result in
     let made = to_z-of_z w64 cell (record { sfits = c.cell_after.type_inv }) in
     record {
-      same = rw (c.push_reserved.ensures.items, made) (ap (λ l. l ++ cell ∷ []) before.same ∙ ap (λ z. list_of c.loop-e.e f ++ z ∷ []) c.cell_after.ensures.same ∙ sym (list-more c.loop-e.e f));
+      same = rw (
+        c.push_reserved.ensures.items,
+        made,
+      ) (ap (λ l. l ++ cell ∷ []) before.same ∙ ap (λ z. list_of c.loop-e.e f ++ z ∷ []) c.cell_after.ensures.same
+          ∙ sym (list-more c.loop-e.e f));
       fit = rw (c.push_reserved.ensures.items, made) (fit-push c.loop-e.made.items cell before.fit c.cell_after.ensures.fit);
       long = omega (arith, before.long, c.push_reserved.ensures.len);
       room = omega (arith, before.room, c.push_reserved.ensures.capacity);

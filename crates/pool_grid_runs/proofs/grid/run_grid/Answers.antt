@@ -10,6 +10,9 @@ returns g c =
     let grid = c.in-Some.grid in
     let made = c.in-Some.ensures.made in
     match_weaker c.run_steps.result _ _ _ _
-    (λ cells is. is ∙ ap (λ w. evolve w grid.steps grid.cells.now) made.2 ∙ ap (λ n. evolve a.width n grid.cells.now) made.4 ∙ ap (evolve a.width a.steps) made.0)
-    (λ fault why. lent_fault a.config.nodes a.config.workers _ _ _ fault (grid-is grid.stencil.width a.width grid.blocks grid.size a.rows a.steps grid.steps grid.cells.now a.cells.now made) why)
+    (λ cells is. is ∙ ap (λ w. evolve w grid.steps grid.cells.now) made.2 ∙ ap (λ n. evolve a.width n grid.cells.now) made.4
+    ∙ ap (evolve a.width a.steps) made.0)
+    (λ fault why.
+    lent_fault a.config.nodes a.config.workers _ _ _ fault
+    (grid-is grid.stencil.width a.width grid.blocks grid.size a.rows a.steps grid.steps grid.cells.now a.cells.now made) why)
     c.run_steps.ensures

@@ -17,6 +17,10 @@ returns g c =
     (λ cells is. is ∙ ap (λ w. evolve w a.steps a.cells.items) cut.0)
     (λ fault why.
     grid_part a.config.nodes a.config.workers a.cells.items a.width a.rows a.steps fault
-    (subst (λ k. IsPartFault a.config.nodes a.config.workers (are_whole_rows a.width) (relaxed a.width) (block_relaxed a.width) a.cells.items k a.steps fault) cut.1
-    (subst (λ w. IsPartFault a.config.nodes a.config.workers (are_whole_rows w) (relaxed w) (block_relaxed w) a.cells.items blocks.size a.steps fault) cut.0 why)))
+    (subst (λ k.
+    IsPartFault a.config.nodes a.config.workers (are_whole_rows a.width) (relaxed a.width) (block_relaxed a.width) a.cells.items k
+    a.steps fault) cut.1
+    (subst (λ w.
+    IsPartFault a.config.nodes a.config.workers (are_whole_rows w) (relaxed w) (block_relaxed w) a.cells.items blocks.size a.steps
+    fault) cut.0 why)))
     c.run_in_parts.ensures

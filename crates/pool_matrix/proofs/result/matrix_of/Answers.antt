@@ -18,19 +18,28 @@ loop-q-preserved c =
     let number = to_z-of_z w64 c.number_at.result (record { sfits = c.number_at.type_inv }) in
     let right = c.in-Some.ensures.right (matrix_graph p.left.now p.right.now p.tiles p.side) c.requires in
     let seen = ap (value_of (matrix_graph p.left.now p.right.now p.tiles p.side)) (sym c.task_at.ensures) ∙ right in
-    let next = c.number_at.ensures ∙ ap (λ l. get_or l c.place_at.result (pos 0)) c.as_slice-in-loop-q.ensures ∙ ap (λ k. get_or c.in-Some.value.now k (pos 0)) c.place_at.ensures in
-    let step = number_more p.left.now p.right.now p.tiles p.side p.in_rules c.loop-q.q c.in-Some.value.now c.loop-q.made.items c.number_at.result c.order-order.result c.order-order.ensures.same (omega arith) seen next c.loop-q.invariant.made in
+    let next = c.number_at.ensures ∙ ap (λ l. get_or l c.place_at.result (pos 0)) c.as_slice-in-loop-q.ensures
+    ∙ ap (λ k. get_or c.in-Some.value.now k (pos 0)) c.place_at.ensures in
+    let step = number_more p.left.now p.right.now p.tiles p.side p.in_rules c.loop-q.q c.in-Some.value.now c.loop-q.made.items
+    c.number_at.result c.order-order.result c.order-order.ensures.same (omega arith) seen next c.loop-q.invariant.made in
     record {
       made = rw (c.in_ok-push.ensures.items, number) step;
-      there = one_more_there p.tiles p.side c.order-order.result c.loop-q.q c.task_at.result c.args.results.now c.in-Some.value.now c.order-order.ensures.same c.task_at.ensures c.in-Some.ensures.found c.loop-q.invariant.there;
+      there = one_more_there p.tiles p.side c.order-order.result c.loop-q.q c.task_at.result c.args.results.now c.in-Some.value.now
+          c.order-order.ensures.same c.task_at.ensures c.in-Some.ensures.found c.loop-q.invariant.there;
     }
 
 pub returns-in_default-clause-refused : goal.returns-in_default-clause-refused
 returns-in_default-clause-refused c =
     let p = c.args.product.now in
-    inr (refl, lacking p.tiles p.side c.order-order.result c.loop-q.q c.task_at.result c.count.result c.args.results.now _ _ p.in_rules.some_side c.order-order.ensures.same c.order-order.ensures.some.0 (omega arith) c.task_at.ensures c.count.ensures c.as_slice.ensures.value c.in_ok-places.ensures c.in_default.ensures.missing)
+    inr (
+      refl,
+      lacking p.tiles p.side c.order-order.result c.loop-q.q c.task_at.result c.count.result c.args.results.now _ _
+          p.in_rules.some_side c.order-order.ensures.same c.order-order.ensures.some.0 (omega arith) c.task_at.ensures c.count.ensures
+          c.as_slice.ensures.value c.in_ok-places.ensures c.in_default.ensures.missing,
+    )
 
 pub returns-clause-whole : goal.returns-clause-whole
 returns-clause-whole c =
     let p = c.args.product.now in
-    none_lacks p.tiles p.side c.order-order.result c.loop-q.q c.args.results.now p.in_rules.some_side c.order-order.ensures.same (omega arith) c.loop-q.invariant.there
+    none_lacks p.tiles p.side c.order-order.result c.loop-q.q c.args.results.now p.in_rules.some_side c.order-order.ensures.same
+    (omega arith) c.loop-q.invariant.there

@@ -10,6 +10,7 @@ returns c =
     let bound = rw left at (c.in-Some.ensures.0) in
     let made = rw left at (c.add_row_plain.ensures) in (
       made,
-      row_within c.args.reach c.in-Some.next c.args.largest (unsigned_abs c.args.left) c.args.left c.args.sums.now c.args.right.now c.add_row_plain.new.sums
+      row_within c.args.reach c.in-Some.next c.args.largest (unsigned_abs c.args.left) c.args.left c.args.sums.now c.args.right.now
+          c.add_row_plain.new.sums
           c.requires.same made c.requires.sums_within c.requires.right_within refl bound,
     )

@@ -1,4 +1,5 @@
-use Rattle.std.proofs.Common.{◌≡◌, ◌*ℤ◌, ℕ, ℤ, pos, length, get_or, Option, Some, None, refl, ap, sym, ◌∙◌, subst, arith, rules, w64, FitsSigned}
+use Rattle.std.proofs.Common.{◌≡◌, ◌*ℤ◌, ℕ, ℤ, pos, length, get_or, Option, Some, None, refl, ap, sym, ◌∙◌, subst, arith, rules, w64}
+use Rattle.std.proofs.Common.{FitsSigned}
 use Rattle.std.proofs.lemmas.Int.{to_z-of_z}
 use Rattle.pool_matrix.specs.Matrices.{more}
 use Rattle.pool_matrix.specs.Rows.{one_more}
@@ -16,7 +17,8 @@ returns-in_default c =
     let sum = to_z-of_z w64 (get_or c.loop-n.sums n (pos 0)) sum_in in
     let right = to_z-of_z w64 (get_or c.args.right.now n (pos 0)) right_in in
     let was = c.loop-n.invariant.later n (omega arith) in
-    let failed : f n ≡ None = ap (λ s. more s (c.args.left *ℤ get_or c.args.right.now n (pos 0))) (sym was) ∙ (rw (sum, left, right) at (c.in_default.ensures)) in
+    let failed : f n ≡ None =
+    ap (λ s. more s (c.args.left *ℤ get_or c.args.right.now n (pos 0))) (sym was) ∙ (rw (sum, left, right) at (c.in_default.ensures)) in
     (refl, gather_fails (length c.args.right.now) n f (omega arith) failed)
 
 pub loop-n-preserved : goal.loop-n-preserved
@@ -31,7 +33,8 @@ loop-n-preserved c =
     let right = to_z-of_z w64 (get_or c.args.right.now n (pos 0)) right_in in
     let kept = to_z-of_z w64 c.in-Some.next next_in in
     let was = c.loop-n.invariant.later n (omega arith) in
-    let made : f n ≡ Some c.in-Some.next = ap (λ s. more s (c.args.left *ℤ get_or c.args.right.now n (pos 0))) (sym was) ∙ (rw (sum, left, right) at (c.in-Some.ensures)) in
+    let made : f n ≡ Some c.in-Some.next =
+    ap (λ s. more s (c.args.left *ℤ get_or c.args.right.now n (pos 0))) (sym was) ∙ (rw (sum, left, right) at (c.in-Some.ensures)) in
     rw (left, kept) (one_partly n f c.args.sums.now c.loop-n.sums c.in-Some.next (rw left at (c.loop-n.invariant)) (omega arith) made)
 
 pub returns : goal.returns
@@ -39,4 +42,5 @@ returns c =
     let f : ℕ → Option ℤ = one_more c.args.sums.now c.args.left c.args.right.now in
     let left = to_z-of_z w64 c.args.left c.ranges.left in
     let all : c.loop-n.n ≡ length c.args.right.now = omega arith in
-    all_partly (length c.args.right.now) f c.args.sums.now c.loop-n.sums (subst (λ k. IsPartly k f c.args.sums.now c.loop-n.sums) all (rw left at (c.loop-n.invariant))) (omega arith)
+    all_partly (length c.args.right.now) f c.args.sums.now c.loop-n.sums
+    (subst (λ k. IsPartly k f c.args.sums.now c.loop-n.sums) all (rw left at (c.loop-n.invariant))) (omega arith)

@@ -12,7 +12,8 @@ returns-in_err-reach c =
     let was = c.loop-z.invariant in
     let left = to_z-of_z w64 c.entry-left.result (record { sfits = c.entry-left.type_inv }) in
     let failed = rw left at (c.in_err-reach.ensures.1) in
-    let none = row_fails m.order m.left.now m.right.now c.args.x c.args.y c.args.start c.loop-z.z (length c.args.sums.now) c.entry-left.result c.args.sums.now c.loop-z.sums
+    let none = row_fails m.order m.left.now m.right.now c.args.x c.args.y c.args.start c.loop-z.z (length c.args.sums.now)
+    c.entry-left.result c.args.sums.now c.loop-z.sums
     c.right_part-right.result.now
     was.same c.right_part-right.ensures.long c.entry-left.ensures c.right_part-right.ensures.same (omega arith) failed in
     search rules
@@ -28,7 +29,8 @@ loop-z-preserved c =
     record {
       long = omega (arith, all.0, c.right_part-right.ensures.long);
       within = c.in_ok-reach.ensures.1;
-      same = row_step m.order m.left.now m.right.now c.args.x c.args.y c.args.start c.loop-z.z (length c.args.sums.now) c.entry-left.result c.args.sums.now c.loop-z.sums right
+      same = row_step m.order m.left.now m.right.now c.args.x c.args.y c.args.start c.loop-z.z (length c.args.sums.now)
+          c.entry-left.result c.args.sums.now c.loop-z.sums right
           was.same c.right_part-right.ensures.long c.entry-left.ensures c.right_part-right.ensures.same c.add_row.new.sums made;
     }
 
@@ -38,7 +40,9 @@ returns c =
     let was = c.loop-z.invariant in
     let side : ℕ = length c.args.sums.now in
     let all : c.loop-z.z ≡ side = omega arith in
-    gather_from side (row_entry m.order m.left.now m.right.now c.args.x c.args.y c.args.start side c.args.sums.now) c.loop-z.sums (pos 0) was.long
+    gather_from side (row_entry m.order m.left.now m.right.now c.args.x c.args.y c.args.start side c.args.sums.now) c.loop-z.sums (pos 0)
+    was.long
     (λ n h.
-    subst (λ z. running (get_or c.args.sums.now n (pos 0)) c.args.start z (term m.order m.left.now m.right.now c.args.x (c.args.y + n)) ≡ Some (get_or c.loop-z.sums n (pos 0))) all
+    subst (λ z. running (get_or c.args.sums.now n (pos 0)) c.args.start z (term m.order m.left.now m.right.now c.args.x (c.args.y + n))
+    ≡ Some (get_or c.loop-z.sums n (pos 0))) all
     (was.same n h))

@@ -7,5 +7,7 @@ abbrev pub invariant-loop-z : goal.invariant-loop-z
 invariant-loop-z l = record {
   long : length l.sums ≡ l.side;
   within : AreWithin l.reach l.sums;
-  same : (n : ℕ) → n < l.side → running (get_or l.initial.sums n (pos 0)) l.start l.z (term l.matrices.order l.matrices.left.now l.matrices.right.now l.x (l.y + n)) ≡ Some (get_or l.sums n (pos 0));
+  same : (n : ℕ) → n < l.side
+      → running (get_or l.initial.sums n (pos 0)) l.start l.z
+      (term l.matrices.order l.matrices.left.now l.matrices.right.now l.x (l.y + n)) ≡ Some (get_or l.sums n (pos 0));
 }

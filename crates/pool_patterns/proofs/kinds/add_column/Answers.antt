@@ -11,7 +11,8 @@ pub returns-then-slot-ge-MAX_INPUTS-clause-refused : goal.returns-then-slot-ge-M
 returns-then-slot-ge-MAX_INPUTS-clause-refused g c =
     let before = c.loop-to.invariant.seen in
     let read = get_or_read c.loop-to.seen.items c.loop-to.to c.index-slot.result.now (search rules) c.index-slot.ensures 0 in
-    seen_wide (g.P.Relation.relation c.args.pattern.now c.args.width) c.args.width c.args.step c.args.from c.loop-to.to c.index-slot.result.now c.loop-to.seen.items
+    seen_wide (g.P.Relation.relation c.args.pattern.now c.args.width) c.args.width c.args.step c.args.from c.loop-to.to
+    c.index-slot.result.now c.loop-to.seen.items
     (search rules) (search rules) (search rules) read (search rules) before
 
 pub loop-to-preserved : goal.loop-to-preserved
@@ -26,8 +27,10 @@ loop-to-preserved g c =
           let counted = read ∙ before.seen.left c.loop-to.to (omega arith) within in
           let next : c.if-relates.count ≡ c.loop-to.count + 1 = search rules in
           record {
-            seen = seen_more r c.args.width c.args.step c.args.from c.loop-to.to w.index-slot.result.now c.loop-to.seen.items c.if-relates.seen.items within fed read (search rules) (search rules) before.seen;
-            made = outputs_more r c.args.step c.args.from c.loop-to.to w.index-slot.result.now c.args.outputs.now.items c.loop-to.outputs.items c.if-relates.outputs.items fed counted before.made (search rules);
+            seen = seen_more r c.args.width c.args.step c.args.from c.loop-to.to w.index-slot.result.now c.loop-to.seen.items
+                c.if-relates.seen.items within fed read (search rules) (search rules) before.seen;
+            made = outputs_more r c.args.step c.args.from c.loop-to.to w.index-slot.result.now c.args.outputs.now.items
+                c.loop-to.outputs.items c.if-relates.outputs.items fed counted before.made (search rules);
             count = next ∙ ap (λ x. x + 1) before.count ∙ sym (rank_more (λ i. r c.args.step c.args.from i) c.loop-to.to fed);
             few = omega (arith, next, before.few);
           }
@@ -37,8 +40,10 @@ loop-to-preserved g c =
           let kept : c.if-relates.outputs.items ≡ c.loop-to.outputs.items = search rules in
           let same : c.if-relates.count ≡ c.loop-to.count = search rules in
           record {
-            seen = subst (AreSeen r c.args.width c.args.step c.args.from (c.loop-to.to + 1)) (search rules) (seen_same r c.args.width c.args.step c.args.from c.loop-to.to c.loop-to.seen.items within fails before.seen);
-            made = kept ∙ outputs_same r c.args.step c.args.from c.loop-to.to c.args.outputs.now.items c.loop-to.outputs.items fails before.made;
+            seen = subst (AreSeen r c.args.width c.args.step c.args.from (c.loop-to.to + 1)) (search rules)
+                (seen_same r c.args.width c.args.step c.args.from c.loop-to.to c.loop-to.seen.items within fails before.seen);
+            made = kept ∙ outputs_same r c.args.step c.args.from c.loop-to.to c.args.outputs.now.items c.loop-to.outputs.items fails
+                before.made;
             count = same ∙ before.count ∙ sym (rank_same (λ i. r c.args.step c.args.from i) c.loop-to.to fails);
             few = omega (arith, same, before.few);
           }

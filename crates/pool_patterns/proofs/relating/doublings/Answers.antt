@@ -10,5 +10,6 @@ returns-clause-same c =
 pub returns-clause-few : goal.returns-clause-few
 returns-clause-few c =
     let is : c.max.result ≡ max c.ilog2.result 1 = search rules in
-    let few = (doublings_are c.args.width c.ilog2.result c.max.result c.requires.1 c.ilog2.ensures.power_le c.ilog2.ensures.next_power_gt is).1 in
+    let few = (doublings_are c.args.width c.ilog2.result c.max.result c.requires.1 c.ilog2.ensures.power_le c.ilog2.ensures.next_power_gt
+    is).1 in
     (omega (arith, is), few)

@@ -10,7 +10,8 @@ loop-column-preserved g c =
     record {
       made =
           c.push_reserved.ensures.items
-          ∙ row_more (cell (g.P.Relation.relation t.pattern t.width) t.width c.args.grid.now.iterations (t.steps - 1)) c.loop-column.column c.cell_at.result c.loop-column.row.items before.made c.cell_at.ensures;
+          ∙ row_more (cell (g.P.Relation.relation t.pattern t.width) t.width c.args.grid.now.iterations (t.steps - 1))
+          c.loop-column.column c.cell_at.result c.loop-column.row.items before.made c.cell_at.ensures;
       long = omega (arith, before.long, c.push_reserved.ensures.len);
       room = omega (arith, before.room, c.push_reserved.ensures.capacity);
     }

@@ -11,5 +11,7 @@ returns g c =
     let made = c.in-Some.ensures.made in
     match_weaker c.run_steps.result _ _ _ _
     (λ rod is. is ∙ ap (λ n. evolve n heat.cells.now) made.3 ∙ ap (evolve a.steps) made.0)
-    (λ fault why. lent_fault a.config.nodes a.config.workers _ _ _ fault (heat-is heat.blocks heat.size a.size heat.steps a.steps heat.cells.now a.cells.now made) why)
+    (λ fault why.
+    lent_fault a.config.nodes a.config.workers _ _ _ fault
+    (heat-is heat.blocks heat.size a.size heat.steps a.steps heat.cells.now a.cells.now made) why)
     c.run_steps.ensures

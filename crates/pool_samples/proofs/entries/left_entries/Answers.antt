@@ -7,4 +7,5 @@ returns-clause-same c = λ n h. c.part.ensures.same n h ∙ left_at c.args.seed 
 
 pub returns-clause-small : goal.returns-clause-small
 returns-clause-small c = λ n h.
-    rw (c.part.ensures.same n h ∙ left_at c.args.seed c.args.x c.args.z n (omega arith)) (small_entry (7 * c.args.x + 3 * (c.args.z + n) + c.args.seed))
+    rw (c.part.ensures.same n h
+    ∙ left_at c.args.seed c.args.x c.args.z n (omega arith)) (small_entry (7 * c.args.x + 3 * (c.args.z + n) + c.args.seed))

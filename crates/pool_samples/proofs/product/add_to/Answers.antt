@@ -17,10 +17,12 @@ loop-e-preserved c =
       same = λ none.
           let was = before.same (omega arith) in
           let is = c.sum_of_places-sum.ensures.fit (omega arith) in
-          rw kept (add_written c.args.input.now c.args.sums.now c.loop-e.sums c.loop-e.e sum.0 (omega arith) (omega arith) (omega arith) was.0 was.1 rest is.0 is.1);
+          rw kept (add_written c.args.input.now c.args.sums.now c.loop-e.sums c.loop-e.e sum.0 (omega arith) (omega arith) (omega arith)
+          was.0 was.1 rest is.0 is.1);
       none = λ some.
           elim (cases_eq c.loop-e.lost 0) [
-            | inl zero ↦ add_fails c.args.input.now c.args.sums.now c.loop-e.sums c.loop-e.e (omega arith) (omega arith) rest (c.sum_of_places-sum.ensures.lost (omega arith))
+            | inl zero ↦ add_fails c.args.input.now c.args.sums.now c.loop-e.sums c.loop-e.e (omega arith) (omega arith) rest
+                (c.sum_of_places-sum.ensures.lost (omega arith))
             | inr other ↦ before.none (omega (arith, other))
           ];
       rest = λ k h. let other : k ≢ c.loop-e.e = omega arith in rw get_or-set_other (before.rest k (omega arith));

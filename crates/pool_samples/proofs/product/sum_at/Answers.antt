@@ -14,7 +14,8 @@ loop-n-preserved c =
     let right_in : FitsSigned w32 (get_or c.args.right.now n (pos 0)) = search rules in
     let left = to_z-of_z w32 (get_or c.args.left.now n (pos 0)) left_in in
     let right = to_z-of_z w32 (get_or c.args.right.now n (pos 0)) right_in in
-    let product : c.multiply.result ≡ get_or c.args.left.now n (pos 0) *ℤ get_or c.args.right.now n (pos 0) = rw (left, right) at (c.multiply.ensures.same) in
+    let product : c.multiply.result ≡ get_or c.args.left.now n (pos 0) *ℤ get_or c.args.right.now n (pos 0) =
+    rw (left, right) at (c.multiply.ensures.same) in
     let sum : c.plus-sum.result ≡ c.loop-n.sum +ℤ f n = cc (m, product, c.loop-n.sum-is, c.plus-sum.ensures.same) in
     record {
       same = rw p (next_sum n f c.loop-n.sum c.plus-sum.result (sym c.loop-n.sum-is ∙ before.same) sum);

@@ -10,10 +10,12 @@ returns-then-not-is_plain-clause-spelt c = λ n small same.
     search rules
 
 pub returns-clause-spelt : goal.returns-clause-spelt
-returns-clause-spelt c = λ n small same. c.ok.ensures.value ∙ read_decimal c.args.text.now n c.parse.result c.parse.ensures.value.0 small same
+returns-clause-spelt c =
+    λ n small same. c.ok.ensures.value ∙ read_decimal c.args.text.now n c.parse.result c.parse.ensures.value.0 small same
 
 pub returns-clause-only : goal.returns-clause-only
 returns-clause-only c =
     let plain : IsPlain c.as_bytes.result.now = search rules in
     let P : Option ℕ → Type 0 = λ o. IfSome o (λ n. c.args.text.now ≡ decimal n) in
-    subst P (sym c.ok.ensures.value) (read_plain c.args.text.now c.parse.result c.parse.ensures.value.0 (subst IsPlain c.as_bytes.ensures.value plain))
+    subst P (sym c.ok.ensures.value)
+    (read_plain c.args.text.now c.parse.result c.parse.ensures.value.0 (subst IsPlain c.as_bytes.ensures.value plain))

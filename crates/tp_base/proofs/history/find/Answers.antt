@@ -10,4 +10,6 @@ returns-in-Some c =
     ∙ sym (at_piece c.args.full.now c.args.last.now c.args.k c.in-Some.piece.now c.requires (sym there))
 
 pub returns-in-None : goal.returns-in-None
-returns-in-None c = item_at _ _ _ c.get-in-None.ensures.lookup ∙ sym (at_last c.args.full.now c.args.last.now c.args.k c.requires c.in-None.ensures.lookup.3)
+returns-in-None c =
+    item_at _ _ _ c.get-in-None.ensures.lookup
+    ∙ sym (at_last c.args.full.now c.args.last.now c.args.k c.requires c.in-None.ensures.lookup.3)

@@ -17,5 +17,8 @@ loop-next-preserved g c =
       done = grind (arith, common_steps);
       pending = grind (arith, common_steps);
       small = grind (arith, common_steps);
-      agree = λ rest. c.loop-next.invariant.agree (agree_last (present_events c.args.board.now.history) c.pop.new.self.items c.loop-next.others.items c.in-Some.next c.in-Some.ensures.items (c.pending-pending-in-Some.ensures.agrees ∙ same) rest);
+      agree = λ rest.
+          c.loop-next.invariant.agree
+          (agree_last (present_events c.args.board.now.history) c.pop.new.self.items c.loop-next.others.items c.in-Some.next
+          c.in-Some.ensures.items (c.pending-pending-in-Some.ensures.agrees ∙ same) rest);
     }

@@ -1,7 +1,8 @@
 use Rattle.std.proofs.Common.{inl, map}
 use Rattle.std.proofs.lemmas.Result.{IfErr-weaker, IfOk-weaker}
 use Rattle.clap.specs.Values.{kind_of}
-use Rattle.tp_cli.proofs.Ending.{answered_pools, answered_run, answered_shown, answered_text, both, pools_fault, run_fault, text_met, words_met}
+use Rattle.tp_cli.proofs.Ending.{answered_pools, answered_run, answered_shown, answered_text, both, pools_fault, run_fault, text_met}
+use Rattle.tp_cli.proofs.Ending.{words_met}
 use Rattle.tp_cli.proofs.cli.answer_words.Goals as goal
 
 pub returns-in-Ok-Answer-clause-answered : goal.returns-in-Ok-Answer-clause-answered
@@ -27,7 +28,9 @@ pub returns-in-Ok-Run-clause-answered : goal.returns-in-Ok-Run-clause-answered
 returns-in-Ok-Run-clause-answered g c =
     let asked = rw c.in-Ok-Run.field-0-is at c.in-Ok-Run.ensures.asked in
     IfOk-weaker c.run.result _ _
-    (λ status did. answered_run (map (λ w. w.now) c.args.words.now) _ _ _ _ c.in-Ok-Run.spec.now c.in-Ok-Run.plan status did.1.0 asked did.0 did.1.1 did.1.2)
+    (λ status did.
+    answered_run (map (λ w. w.now) c.args.words.now) _ _ _ _ c.in-Ok-Run.spec.now c.in-Ok-Run.plan status did.1.0 asked did.0 did.1.1
+    did.1.2)
     c.run.ensures.ran
 
 pub returns-in-Ok-Run-clause-why : goal.returns-in-Ok-Run-clause-why
@@ -56,11 +59,13 @@ returns-in-Ok-Pools-clause-why g c =
 pub returns-in-Err-clause-answered : goal.returns-in-Err-clause-answered
 returns-in-Err-clause-answered g c =
     IfOk-weaker c.show_asked.result _ _
-    (λ status did. answered_shown (map (λ w. w.now) c.args.words.now) _ _ (kind_of c.in-Err.error) c.in-Err.ensures.why _ _ status did.0 did.1 did.2)
+    (λ status did.
+    answered_shown (map (λ w. w.now) c.args.words.now) _ _ (kind_of c.in-Err.error) c.in-Err.ensures.why _ _ status did.0 did.1 did.2)
     c.show_asked.ensures.shown
 
 pub returns-in-Err-clause-why : goal.returns-in-Err-clause-why
 returns-in-Err-clause-why g c =
     IfErr-weaker c.show_asked.result _ _
-    (λ fault met. words_met (map (λ w. w.now) c.args.words.now) _ _ (kind_of c.in-Err.error) c.in-Err.ensures.why _ fault met.0 met.1 met.2 met.3)
+    (λ fault met.
+    words_met (map (λ w. w.now) c.args.words.now) _ _ (kind_of c.in-Err.error) c.in-Err.ensures.why _ fault met.0 met.1 met.2 met.3)
     c.show_asked.ensures.why

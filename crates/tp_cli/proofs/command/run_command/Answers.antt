@@ -11,7 +11,8 @@ returns-clause-app c =
     let one = c.in_ok-command.ensures.shape (search rules) ∙ ap₂ with_rule bare c.spec_argument.ensures.rule in
     let counted = c.in_ok-with_counts.ensures.app ∙ ap with_count_rules one in
     let several = c.in_ok-arg.ensures.shape (search rules) ∙ ap₂ with_rule counted c.generations_option.ensures.rule in
-    IfOk-weaker c.arg-3.result _ _ (λ command adds. adds.shape (search rules) ∙ ap₂ with_rule several c.trace_flag.ensures.rule) c.arg-3.ensures
+    IfOk-weaker c.arg-3.result _ _ (λ command adds. adds.shape (search rules)
+    ∙ ap₂ with_rule several c.trace_flag.ensures.rule) c.arg-3.ensures
 
 pub returns-clause-local : goal.returns-clause-local
 returns-clause-local c =

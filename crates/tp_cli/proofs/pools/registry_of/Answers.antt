@@ -13,7 +13,8 @@ returns-in-Err c =
     let lt : i < length words = omega (arith, inside, length-map c.args.words.now (λ w. w.now)) in
     let few : length words ≤ MAX_POOLS = omega (arith, c.if-words.false, length-map c.args.words.now (λ w. w.now)) in
     subst (IsWordsFault words) (sym c.word_fault.ensures)
-    (refused_word i words c.loop-word.registry _ c.in-Err.refusal c.loop-word.invariant lt (sym (get_or-map (λ w. w.now) c.args.words.now i _ _ inside)) few
+    (refused_word i words c.loop-word.registry _ c.in-Err.refusal c.loop-word.invariant lt
+    (sym (get_or-map (λ w. w.now) c.args.words.now i _ _ inside)) few
     c.in-Err.ensures.why (λ none. search rules))
 
 pub loop-word-preserved : goal.loop-word-preserved
@@ -30,7 +31,8 @@ returns c =
     let words = map (λ w. w.now) c.args.words.now in
     let long = length-map c.args.words.now (λ w. w.now) in
     let few : length words ≤ MAX_POOLS = omega (arith, c.if-words.false, long) in
-    all_named c.loop-word.word-index words c.loop-word.registry c.loop-word.invariant (omega (arith, c.loop-word-test.false, c.loop-word.auto.word-index-end, long)) few
+    all_named c.loop-word.word-index words c.loop-word.registry c.loop-word.invariant
+    (omega (arith, c.loop-word-test.false, c.loop-word.auto.word-index-end, long)) few
 
 pub returns-then-words : goal.returns-then-words
 returns-then-words c = inl (omega (arith, c.if-words.true, length-map c.args.words.now (λ w. w.now)), refl)

@@ -11,7 +11,8 @@ loop-number-preserved c =
     let lt : i < length words = omega (arith, inside, length-map c.args.words.now (λ w. w.now)) in
     let lt' : i < length c.args.answers.now = omega (arith, inside, c.requires) in
     line_more i words c.args.answers.now _ c.index-answers-number.result c.loop-number.text.items _ c.as_bytes.result.now _ lt lt'
-    (sym (get_or-map (λ w. w.now) c.args.words.now i _ _ inside)) c.index-answers-number.is (c.as_bytes.ensures.value ∙ c.in_ok-line.ensures)
+    (sym (get_or-map (λ w. w.now) c.args.words.now i _ _ inside)) c.index-answers-number.is (c.as_bytes.ensures.value
+    ∙ c.in_ok-line.ensures)
     c.in_ok-extend_from_slice.ensures.items c.loop-number.invariant
 
 pub returns : goal.returns

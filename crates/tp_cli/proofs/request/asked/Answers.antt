@@ -9,5 +9,6 @@ use Rattle.tp_cli.proofs.request.asked.Goals as goal
 pub returns-in-Some : goal.returns-in-Some
 returns-in-Some c =
     let found = found_of c.in-Some.arguments.now in
-    let is = found_as (out-ArgMatches c.args.matches.now).subcommand c.in-Some.name.now (rows_of found) (sym c.in-Some.ensures.name) (sym c.in-Some.ensures.rows) in
+    let is = found_as (out-ArgMatches c.args.matches.now).subcommand c.in-Some.name.now (rows_of found) (sym c.in-Some.ensures.name)
+    (sym c.in-Some.ensures.rows) in
     subst (λ f. IfOk c.asked_of.result (λ request. MatchOption request (IsNeither f) (IsMadeBy f))) (sym is) c.asked_of.ensures

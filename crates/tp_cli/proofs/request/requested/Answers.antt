@@ -19,5 +19,6 @@ pub returns-clause-why : goal.returns-clause-why
 returns-clause-why c =
     inr (inr (
       c.in_ok-error-in-None.ensures.kind,
-      neither_asked (app_of c.in_ok-command.command) _ c.in_ok-matches.matches c.in_ok-command.ensures c.in_ok-matches.ensures.ok.2 (none_asked _ _ _ c.in-None.is c.in_ok-request.ensures),
+      neither_asked (app_of c.in_ok-command.command) _ c.in_ok-matches.matches c.in_ok-command.ensures c.in_ok-matches.ensures.ok.2
+          (none_asked _ _ _ c.in-None.is c.in_ok-request.ensures),
     ))

@@ -6,11 +6,15 @@ use Rattle.tp_cli.proofs.run.run.Goals as goal
 
 pub returns-in-Err-clause-why : goal.returns-in-Err-clause-why
 returns-in-Err-clause-why g c =
-    names_none c.args.spec.now c.checked.result (λ graph is. let was : c.checked.result ≡ Err BadSpec = search rules in cc) c.checked.ensures.named
+    names_none c.args.spec.now c.checked.result (λ graph is. let was : c.checked.result ≡ Err BadSpec = search rules in
+    cc) c.checked.ensures.named
 
 pub returns-in-Err-clause-unnamed : goal.returns-in-Err-clause-unnamed
-returns-in-Err-clause-unnamed g c =
-    (λ is. names_none c.args.spec.now c.checked.result (λ graph ok. let was : c.checked.result ≡ Err BadSpec = search rules in cc) c.checked.ensures.named, λ none. refl)
+returns-in-Err-clause-unnamed g c = (
+  λ is. names_none c.args.spec.now c.checked.result (λ graph ok. let was : c.checked.result ≡ Err BadSpec = search rules in
+      cc) c.checked.ensures.named,
+  λ none. refl,
+)
 
 pub returns-in-Err-text_of_run-clause-why : goal.returns-in-Err-text_of_run-clause-why
 returns-in-Err-text_of_run-clause-why g c = (c.in-Ok.graph, c.in-Ok.ensures.only, c.in-Err-text_of_run.ensures)

@@ -8,7 +8,8 @@ use Rattle.tp_text.proofs.Present.{run_in_each}
 use Rattle.tp_cli.proofs.run.text_of_outcome.Goals as goal
 
 pub text_of_results-requires-clause-tasks : goal.text_of_results-requires-clause-tasks
-text_of_results-requires-clause-tasks c = tasks-outcome c.args.config.nodes c.args.config.workers (any_graph c.args.graph) c.args.outcome.now c.requires.made
+text_of_results-requires-clause-tasks c =
+    tasks-outcome c.args.config.nodes c.args.config.workers (any_graph c.args.graph) c.args.outcome.now c.requires.made
 
 pub returns-in-Table-clause-text : goal.returns-in-Table-clause-text
 returns-in-Table-clause-text c =
@@ -21,4 +22,6 @@ print_trace-requires-clause-run c = run_in_each c.args.config.nodes c.args.outco
 
 pub returns-in-Trace-clause-text : goal.returns-in-Trace-clause-text
 returns-in-Trace-clause-text c =
-    subst (λ form. IfOk c.print_trace.result (λ text. IsPrintOf form c.args.graph c.args.config.nodes c.args.outcome.now text.items)) (sym c.in-Trace.is) c.print_trace.ensures.ok
+    subst (λ form.
+    IfOk c.print_trace.result (λ text. IsPrintOf form c.args.graph c.args.config.nodes c.args.outcome.now text.items))
+    (sym c.in-Trace.is) c.print_trace.ensures.ok

@@ -13,12 +13,16 @@ text_of_rounds-requires c = record {
 }
 
 pub print_trace-requires-clause-run : goal.print_trace-requires-clause-run
-print_trace-requires-clause-run c = in_each c.args.plan.config.nodes c.args.plan.config.workers (any_graph c.args.graph) c.args.plan.generations c.args.series.now c.requires.made
+print_trace-requires-clause-run c =
+    in_each c.args.plan.config.nodes c.args.plan.config.workers (any_graph c.args.graph) c.args.plan.generations c.args.series.now
+    c.requires.made
 
 pub returns-in-Table-clause-text : goal.returns-in-Table-clause-text
 returns-in-Table-clause-text c =
     IfOk-weaker c.text_of_rounds.result _ _
-    (λ text printed. printed_rounds c.args.plan.form c.args.graph c.args.plan.config.nodes c.args.series.now _ text.items c.in-Table.is c.deref.ensures.value printed)
+    (λ text printed.
+    printed_rounds c.args.plan.form c.args.graph c.args.plan.config.nodes c.args.series.now _ text.items c.in-Table.is
+    c.deref.ensures.value printed)
     c.text_of_rounds.ensures.text
 
 pub returns-in-Table-clause-none : goal.returns-in-Table-clause-none
@@ -29,4 +33,6 @@ returns-in-Table-clause-none c =
 
 pub returns-in-Trace-clause-text : goal.returns-in-Trace-clause-text
 returns-in-Trace-clause-text c =
-    subst (λ form. IfOk c.print_trace.result (λ text. IsPrintOfSeries form c.args.graph c.args.plan.config.nodes c.args.series.now text.items)) (sym c.in-Trace.is) c.print_trace.ensures.ok
+    subst (λ form.
+    IfOk c.print_trace.result (λ text. IsPrintOfSeries form c.args.graph c.args.plan.config.nodes c.args.series.now text.items))
+    (sym c.in-Trace.is) c.print_trace.ensures.ok

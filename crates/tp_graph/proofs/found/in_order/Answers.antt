@@ -9,4 +9,5 @@ returns-clause-values c =
     let sorted = c.sort_unstable_by_key.ensures in
     λ g tasks once right.
     are_values g tasks c.args.results.items c.sort_unstable_by_key.new.self.items sorted.permutation
-    (IsNonDecreasingBy-from_sort_by_key (λ (r : TaskId × List ℤ). r.0.0) c.sort_unstable_by_key.new.self.items sorted.sorted (λ a r q k. search rules)) once right
+    (IsNonDecreasingBy-from_sort_by_key (λ (r : TaskId × List ℤ). r.0.0) c.sort_unstable_by_key.new.self.items sorted.sorted (λ a r q k.
+    search rules)) once right

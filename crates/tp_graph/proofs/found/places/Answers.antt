@@ -7,8 +7,10 @@ pub loop-k-preserved : goal.loop-k-preserved
 loop-k-preserved c =
     let before = c.loop-k.invariant in
     elim c.if-task-len.branch [
-      | then-task-len w ↦ noted c.args.tasks c.args.results.now c.loop-k.k c.loop-k.places.items c.index-results-k.result c.if-task-len.places.items (search rules) before (search rules) (search rules) (search rules)
-      | else-task-len w ↦ subst (ArePlacesTo c.args.tasks c.args.results.now (c.loop-k.k + 1)) (search rules) (passed c.args.tasks c.args.results.now c.loop-k.k c.loop-k.places.items c.index-results-k.result before (search rules))
+      | then-task-len w ↦ noted c.args.tasks c.args.results.now c.loop-k.k c.loop-k.places.items c.index-results-k.result
+          c.if-task-len.places.items (search rules) before (search rules) (search rules) (search rules)
+      | else-task-len w ↦ subst (ArePlacesTo c.args.tasks c.args.results.now (c.loop-k.k + 1)) (search rules)
+          (passed c.args.tasks c.args.results.now c.loop-k.k c.loop-k.places.items c.index-results-k.result before (search rules))
     ]
 
 pub returns : goal.returns

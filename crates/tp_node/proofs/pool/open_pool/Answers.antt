@@ -11,7 +11,8 @@ pub open_parts-requires-clause-empty : goal.open_parts-requires-clause-empty
 open_parts-requires-clause-empty g c κs within = c.in_ok-board.ensures.all_empty
 
 pub returns-clause-nodes : goal.returns-clause-nodes
-returns-clause-nodes g c = c.in_ok-nodes.ensures.nodes ∙ ap (map (λ (s : NodeNumbers). first_node c.args.graph c.args.nodes s.node)) c.in_ok-board.ensures.shares
+returns-clause-nodes g c =
+    c.in_ok-nodes.ensures.nodes ∙ ap (map (λ (s : NodeNumbers). first_node c.args.graph c.args.nodes s.node)) c.in_ok-board.ensures.shares
 
 pub returns-clause-links : goal.returns-clause-links
 returns-clause-links g c = c.in_ok-nodes.ensures.links ∙ ap (map (λ (l : LinkNumbers). empty_wire l)) c.in_ok-board.ensures.links

@@ -16,5 +16,6 @@ invariant-loop-node g l =
       right : (graph : _) → All (λ n. n.graph ≡ graph) l.yielded → AreRight (g.G.Graph.meaning graph) l.results.items;
       shares_room : vec_len l.shares + length (into_iter_items l.node-iterator) ≤ vec_capacity l.shares;
       bare_room : vec_len l.bare + length (into_iter_items l.node-iterator) ≤ vec_capacity l.bare;
-      results_room : vec_len l.results + sum_by (λ n. length n.state.store.results) (into_iter_items l.node-iterator) ≤ vec_capacity l.results;
+      results_room : vec_len l.results + sum_by (λ n.
+          length n.state.store.results) (into_iter_items l.node-iterator) ≤ vec_capacity l.results;
     }

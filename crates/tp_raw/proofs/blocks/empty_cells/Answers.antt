@@ -6,7 +6,8 @@ use Rattle.tp_raw.proofs.blocks.empty_cells.Goals as goal
 
 pub read-requires : goal.read-requires
 read-requires g c =
-    let full = full_at c.args.table.now c.args.cells.now.cells c.args.used c.loop-place.place _ c.requires.1 (omega arith) (omega (arith, c.requires.0)) in
+    let full = full_at c.args.table.now c.args.cells.now.cells c.args.used c.loop-place.place _ c.requires.1 (omega arith)
+    (omega (arith, c.requires.0)) in
     (full.0, c.loop-place.invariant.kept c.loop-place.place (omega arith) ∙ full.1)
 
 pub loop-place-preserved : goal.loop-place-preserved

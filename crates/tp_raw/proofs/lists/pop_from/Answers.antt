@@ -6,8 +6,10 @@ use Rattle.tp_raw.proofs.lists.pop_from.Goals as goal
 
 pub take_front-requires : goal.take_front-requires
 take_front-requires g c =
-    let rs = c.requires.0 in
-    (get_or rs c.loop-chain.chain-index [], chain_of _ _ rs c.loop-chain.chain-index _ (omega arith) (c.loop-chain.invariant rs c.requires.1).0)
+    let rs = c.requires.0 in (
+      get_or rs c.loop-chain.chain-index [],
+      chain_of _ _ rs c.loop-chain.chain-index _ (omega arith) (c.loop-chain.invariant rs c.requires.1).0,
+    )
 
 pub returns-in-Some-clause-next : goal.returns-in-Some-clause-next
 returns-in-Some-clause-next g c lists h =

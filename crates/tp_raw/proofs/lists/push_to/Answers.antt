@@ -5,8 +5,11 @@ use Rattle.tp_raw.proofs.lists.push_to.Goals as goal
 
 pub append-requires-clause-chain : goal.append-requires-clause-chain
 append-requires-clause-chain g c =
-    let rs = c.requires.lists.0 in
-    (get_or rs c.args.class [], chain_of _ _ rs c.args.class _ c.requires.in_range c.requires.lists.1, omega (arith, stands-le-times rs c.args.class c.args.link.place, c.requires.lists.2))
+    let rs = c.requires.lists.0 in (
+      get_or rs c.args.class [],
+      chain_of _ _ rs c.args.class _ c.requires.in_range c.requires.lists.1,
+      omega (arith, stands-le-times rs c.args.class c.args.link.place, c.requires.lists.2),
+    )
 
 pub returns-clause-lists : goal.returns-clause-lists
 returns-clause-lists g c lists h none once =

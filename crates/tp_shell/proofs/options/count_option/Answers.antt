@@ -13,5 +13,6 @@ returns-clause-rule c =
     let last : range_inclusive_end c.new-2.result ≡ pos c.args.most = search rules in
     let narrowed = rw c.value_parser.ensures at c.range.ensures in
     let made : c.range.result ≡ Signed (pos 1) (pos c.args.most) =
-    narrowed ∙ ap₂ (λ a b. signed_between (int_max (pos 0) a) (int_min (pos 4294967295) b)) first last ∙ ap (signed_between (pos 1)) (lesser c.args.most few) in
+    narrowed ∙ ap₂ (λ a b. signed_between (int_max (pos 0) a) (int_min (pos 4294967295) b)) first last
+    ∙ ap (signed_between (pos 1)) (lesser c.args.most few) in
     search rules

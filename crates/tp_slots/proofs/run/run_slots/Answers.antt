@@ -9,5 +9,9 @@ loop-command-init g c =
 
 pub loop-command-preserved : goal.loop-command-preserved
 loop-command-preserved g c =
-    let told = c.in_ok-reply.ensures.reply c.loop-command.invariant.0 c.loop-command.invariant.1 in
-    (_, told.1, replies_go_on c.args.commands.now c.loop-command.command-index _ c.loop-command-test.true c.loop-command.invariant.0 c.loop-command.replies.items c.push.new.self.items c.in_ok-reply.reply told.0 c.in_ok-push.ensures.items c.loop-command.invariant.2)
+    let told = c.in_ok-reply.ensures.reply c.loop-command.invariant.0 c.loop-command.invariant.1 in (
+      _,
+      told.1,
+      replies_go_on c.args.commands.now c.loop-command.command-index _ c.loop-command-test.true c.loop-command.invariant.0
+          c.loop-command.replies.items c.push.new.self.items c.in_ok-reply.reply told.0 c.in_ok-push.ensures.items c.loop-command.invariant.2,
+    )

@@ -6,4 +6,5 @@ use Rattle.tp_slots.proofs.run.run_slots.Given as goal
 -- some state tells of the slots, and the replies so far with those to what is left are those to all
 abbrev pub invariant-loop-command : goal.invariant-loop-command
 invariant-loop-command g l =
-    (s : State) × Told (g.S.Slots.content l.slots) l.names s × (l.replies.items ++ replies_of (drop l.command-index l.commands) s ≡ replies_of l.commands start)
+    (s : State) × Told (g.S.Slots.content l.slots) l.names s
+    × (l.replies.items ++ replies_of (drop l.command-index l.commands) s ≡ replies_of l.commands start)

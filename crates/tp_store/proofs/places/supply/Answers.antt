@@ -10,8 +10,11 @@ pub list_if_ready-requires-clause-idle : goal.list_if_ready-requires-clause-idle
 list_if_ready-requires-clause-idle g c = rw (c.get_mut-item.ensures.content c.fill.new.self) (idle_with_item _ _ _ c.requires.idle)
 
 -- the item that was filled is there
-filled : (g : given.Over) (c : goal.After-moved g) → item_at (g.S.Slots.content (g.S.Slots.rewritten c.args.slots.now c.args.place c.fill.new.self)) c.args.place ≡ Some c.fill.new.self
-filled g c = ap (λ d. item_at d c.args.place) (c.get_mut-item.ensures.content c.fill.new.self) ∙ item_here (g.S.Slots.content c.args.slots.now) c.args.place c.fill.new.self
+filled : (g : given.Over) (c : goal.After-moved g)
+    → item_at (g.S.Slots.content (g.S.Slots.rewritten c.args.slots.now c.args.place c.fill.new.self)) c.args.place ≡ Some c.fill.new.self
+filled g c =
+    ap (λ d. item_at d c.args.place) (c.get_mut-item.ensures.content c.fill.new.self)
+    ∙ item_here (g.S.Slots.content c.args.slots.now) c.args.place c.fill.new.self
 
 pub returns-clause-content : goal.returns-clause-content
 returns-clause-content g c =
@@ -24,4 +27,5 @@ pub returns-clause-counts : goal.returns-clause-counts
 returns-clause-counts g c =
     rw c.get_mut-item.ensures.value
     (c.moved.ensures ∙ ap (λ l. moved_counts c.args.counts.now (Some l) c.list_if_ready.result) c.life-was.ensures
-    ∙ ap (moved_counts c.args.counts.now (Some c.get_mut-item.result.now.task.life)) (at_item _ _ _ (filled g c) c.list_if_ready.ensures.life ∙ ap (λ j. j.task.life) c.fill.ensures))
+    ∙ ap (moved_counts c.args.counts.now (Some c.get_mut-item.result.now.task.life))
+    (at_item _ _ _ (filled g c) c.list_if_ready.ensures.life ∙ ap (λ j. j.task.life) c.fill.ensures))

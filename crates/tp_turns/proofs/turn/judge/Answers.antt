@@ -3,4 +3,6 @@ use Rattle.tp_turns.proofs.Turns.{judge_tried}
 use Rattle.tp_turns.proofs.turn.judge.Goals as goal
 
 pub returns : goal.returns
-returns g c = judge_tried c.judge.result is_over c.judge.ensures.over c.judge.ensures.ok c.judge.ensures.refusal c.judge.ensures.refused c.judged.ensures
+returns g c =
+    judge_tried c.judge.result is_over c.judge.ensures.over c.judge.ensures.ok c.judge.ensures.refusal c.judge.ensures.refused
+    c.judged.ensures

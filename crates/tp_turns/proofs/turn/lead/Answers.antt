@@ -15,7 +15,9 @@ pub returns-in_default : goal.returns-in_default
 returns-in_default g c = at_first c.in_ok-turn.ensures c.in_default.not-Idle
 
 pub start-requires-clause-pending : goal.start-requires-clause-pending
-start-requires-clause-pending g c = c.requires.pending ∙ ap (λ (b : BoardState). pending_at 0 (present_events b.history)) (sym (unchanged c.in_ok-turn.ensures c.in-Idle.is))
+start-requires-clause-pending g c =
+    c.requires.pending
+    ∙ ap (λ (b : BoardState). pending_at 0 (present_events b.history)) (sym (unchanged c.in_ok-turn.ensures c.in-Idle.is))
 
 pub returns-in_err-turn-2 : goal.returns-in_err-turn-2
 returns-in_err-turn-2 g c =

@@ -4,7 +4,8 @@ use Rattle.tp_turns.proofs.turn.up.Goals as goal
 
 pub returns-then-child-nodes : goal.returns-then-child-nodes
 returns-then-child-nodes g c =
-    let outside : g.K.Ledgers.names.nodes ≤ 2 * c.args.shares.now.node + c.args.which = omega (arith, c.nodes-nodes.ensures.number, c.node.ensures.number, c.if-child-nodes.true) in
+    let outside : g.K.Ledgers.names.nodes ≤ 2 * c.args.shares.now.node + c.args.which =
+    omega (arith, c.nodes-nodes.ensures.number, c.node.ensures.number, c.if-child-nodes.true) in
     up_outside _ _ _ _ outside
 
 pub returns : goal.returns

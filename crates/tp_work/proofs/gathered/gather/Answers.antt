@@ -13,13 +13,18 @@ pub returns-clause-gathered : goal.returns-clause-gathered
 returns-clause-gathered g c =
     let all : c.deref.result.now ≡ c.args.pool.nodes.items = search rules in
     record {
-      pending = c.close_books-totals.ensures.pending ∙ ap (sum_by (λ (s : NodeNumbers). s.pending)) c.take_nodes.ensures.shares ∙ sum_by-map (λ (s : NodeNumbers). s.pending) counted_of c.args.pool.nodes.items;
-      sent = c.close_books-totals.ensures.sent.0 ∙ ap (sum_by (λ (s : NodeNumbers). s.sent)) c.take_nodes.ensures.shares ∙ sum_by-map (λ (s : NodeNumbers). s.sent) counted_of c.args.pool.nodes.items;
-      received = c.close_books-totals.ensures.received.0 ∙ ap (sum_by (λ (s : NodeNumbers). s.received)) c.take_nodes.ensures.shares ∙ sum_by-map (λ (s : NodeNumbers). s.received) counted_of c.args.pool.nodes.items;
-      under = c.close_books-totals.ensures.under.0 ∙ ap (sum_by (λ (l : LinkNumbers). l.under)) c.take_wires.ensures ∙ sum_by-map (λ (l : LinkNumbers). l.under) link_of c.args.pool.links.items;
+      pending = c.close_books-totals.ensures.pending ∙ ap (sum_by (λ (s : NodeNumbers). s.pending)) c.take_nodes.ensures.shares
+          ∙ sum_by-map (λ (s : NodeNumbers). s.pending) counted_of c.args.pool.nodes.items;
+      sent = c.close_books-totals.ensures.sent.0 ∙ ap (sum_by (λ (s : NodeNumbers). s.sent)) c.take_nodes.ensures.shares
+          ∙ sum_by-map (λ (s : NodeNumbers). s.sent) counted_of c.args.pool.nodes.items;
+      received = c.close_books-totals.ensures.received.0 ∙ ap (sum_by (λ (s : NodeNumbers). s.received)) c.take_nodes.ensures.shares
+          ∙ sum_by-map (λ (s : NodeNumbers). s.received) counted_of c.args.pool.nodes.items;
+      under = c.close_books-totals.ensures.under.0 ∙ ap (sum_by (λ (l : LinkNumbers). l.under)) c.take_wires.ensures
+          ∙ sum_by-map (λ (l : LinkNumbers). l.under) link_of c.args.pool.links.items;
       balance = c.close_books-totals.ensures.balance;
       announced = c.count_told-announced.ensures ∙ ap (count_by (λ (n : NodeState g.row.G.Denot). n.state.ended)) all;
-      done = c.close_books-totals.ensures.done.0 ∙ ap (sum_by (λ (s : NodeNumbers). s.done)) c.take_nodes.ensures.shares ∙ done_by c.args.pool.nodes.items ∙ ap length (sym c.take_nodes.ensures.results) ∙ search rules;
+      done = c.close_books-totals.ensures.done.0 ∙ ap (sum_by (λ (s : NodeNumbers). s.done)) c.take_nodes.ensures.shares
+          ∙ done_by c.args.pool.nodes.items ∙ ap length (sym c.take_nodes.ensures.results) ∙ search rules;
       results = c.take_nodes.ensures.results;
       fault = c.close_books-totals.ensures.fault;
       history = c.close_books-totals.ensures.history;
@@ -27,7 +32,10 @@ returns-clause-gathered g c =
 
 pub returns-clause-each_node : goal.returns-clause-each_node
 returns-clause-each_node g c =
-    let each : All (λ s. s.pending ≡ pending_at s.node (present_events c.close_books-totals.result.history.events)) c.take_nodes.new.shares.items =
+    let each : All (λ s. s.pending
+    ≡ pending_at s.node (present_events c.close_books-totals.result.history.events)) c.take_nodes.new.shares.items =
     rw c.close_books-totals.ensures.history c.close_books-totals.ensures.each_pending in
-    All-of_map (λ s. s.pending ≡ pending_at s.node (present_events c.close_books-totals.result.history.events)) counted_of c.args.pool.nodes.items
-    (subst (λ (shares : List NodeNumbers). All (λ s. s.pending ≡ pending_at s.node (present_events c.close_books-totals.result.history.events)) shares) c.take_nodes.ensures.shares each)
+    All-of_map (λ s. s.pending
+    ≡ pending_at s.node (present_events c.close_books-totals.result.history.events)) counted_of c.args.pool.nodes.items
+    (subst (λ (shares : List NodeNumbers). All (λ s. s.pending
+    ≡ pending_at s.node (present_events c.close_books-totals.result.history.events)) shares) c.take_nodes.ensures.shares each)

@@ -12,5 +12,6 @@ invariant-loop-node g l =
       results : l.results.items ≡ flat_map (λ n. n.state.store.results) l.yielded;
       right : (graph : _) → All (λ n. n.graph ≡ graph) l.yielded → AreRight (g.G.Graph.meaning graph) l.results.items;
       shares_room : vec_len l.shares + length (into_iter_items l.node-iterator) ≤ vec_capacity l.shares;
-      results_room : vec_len l.results + sum_by (λ n. length n.state.store.results) (into_iter_items l.node-iterator) ≤ vec_capacity l.results;
+      results_room : vec_len l.results + sum_by (λ n.
+          length n.state.store.results) (into_iter_items l.node-iterator) ≤ vec_capacity l.results;
     }

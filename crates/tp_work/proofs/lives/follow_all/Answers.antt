@@ -12,14 +12,23 @@ pub follow_on-requires-clause-few : goal.follow_on-requires-clause-few
 follow_on-requires-clause-few c =
     let h = c.args.history.now.events in
     let within : c.loop-place.place < length h = search rules in
-    omega (arith, c.loop-place.invariant.followed.sent_now, sent-few (oldest c.loop-place.place h), length-drop (length h - c.loop-place.place) h, c.requires.few)
+    omega (
+      arith,
+      c.loop-place.invariant.followed.sent_now,
+      sent-few (oldest c.loop-place.place h),
+      length-drop (length h - c.loop-place.place) h,
+      c.requires.few,
+    )
 
 pub follow_on-requires-clause-room : goal.follow_on-requires-clause-room
 follow_on-requires-clause-room c =
     λ reopens.
     let h = c.args.history.now.events in
     let past = oldest c.loop-place.place h in
-    let ended = ended-before h c.loop-place.place (c.in-Some.field-0-0, c.in-Some.step) (search rules) (sym c.at.ensures ∙ c.in-Some.is) reopens in
+    let ended = ended-before h c.loop-place.place (
+      c.in-Some.field-0-0,
+      c.in-Some.step,
+    ) (search rules) (sym c.at.ensures ∙ c.in-Some.is) reopens in
     let long : vec_len c.loop-place.sent ≡ length c.loop-place.sent.items = search rules in
     omega (
       arith,
@@ -40,7 +49,8 @@ returns-then-not-follow_on-clause-lives c = (
       let event : Event = (c.in-Some.field-0-0, c.in-Some.step) in
       let split = through h c.loop-place.place event (search rules) (sym c.at.ensures ∙ c.in-Some.is) in
       let same = subst (λ (n : ℕ). LivesInEach n h) (sym c.loop-place.auto.stages) all in
-      absurd (c.follow_on.ensures.no c.if-not-follow_on.true (take (length h - (c.loop-place.place + 1)) h) (oldest c.loop-place.place h) event refl c.loop-place.invariant.followed
+      absurd (c.follow_on.ensures.no c.if-not-follow_on.true (take (length h - (c.loop-place.place + 1)) h) (oldest c.loop-place.place h)
+      event refl c.loop-place.invariant.followed
       (subst (LivesInEach (length c.loop-place.stages)) split same)),
 )
 
@@ -59,5 +69,8 @@ loop-place-preserved c =
 pub returns-clause-lives : goal.returns-clause-lives
 returns-clause-lives c =
     let h = c.args.history.now.events in
-    let followed = subst (λ (past : History). IsFollowed past c.loop-place.stages c.loop-place.sent.items c.loop-place.messages) (oldest-all h c.loop-place.place (search rules)) c.loop-place.invariant.followed in
-    stages-tell-all h c.loop-place.stages c.loop-place.sent.items c.loop-place.messages (length c.args.stages.now) c.all_over.result followed c.loop-place.auto.stages c.all_over.ensures
+    let followed =
+    subst (λ (past : History). IsFollowed past c.loop-place.stages c.loop-place.sent.items c.loop-place.messages)
+    (oldest-all h c.loop-place.place (search rules)) c.loop-place.invariant.followed in
+    stages-tell-all h c.loop-place.stages c.loop-place.sent.items c.loop-place.messages (length c.args.stages.now) c.all_over.result
+    followed c.loop-place.auto.stages c.all_over.ensures

@@ -8,14 +8,16 @@ use Rattle.tp_work.proofs.lives.follow_on.Goals as goal
 pub returns-then-not-all_over-clause-no : goal.returns-then-not-all_over-clause-no
 returns-then-not-all_over-clause-no c =
     λ _ later past e is followed all.
-    no_life-reopened later past e c.args.stages.now c.args.sent.now.items c.args.messages.now (subst (λ s. IsTrue (is_reopen s)) (sym (is ∙ c.in-Reopen.is)) refl) followed
+    no_life-reopened later past e c.args.stages.now c.args.sent.now.items c.args.messages.now
+    (subst (λ s. IsTrue (is_reopen s)) (sym (is ∙ c.in-Reopen.is)) refl) followed
     (λ over. let yes = c.all_over.ensures.1 over in cc) all
 
 pub returns-else-not-all_over-clause-followed : goal.returns-else-not-all_over-clause-followed
 returns-else-not-all_over-clause-followed c =
     λ _ past e is followed.
     followed-reopened past e c.args.stages.now c.clear.new.stages c.args.sent.now.items c.push_reserved.new.self.items c.args.messages.now
-    (subst (λ s. IsTrue (is_reopen s)) (sym (is ∙ c.in-Reopen.is)) refl) followed (c.all_over.ensures.0 c.if-not-all_over.false) c.clear.auto.stages c.clear.ensures c.push_reserved.ensures.items
+    (subst (λ s. IsTrue (is_reopen s)) (sym (is ∙ c.in-Reopen.is)) refl) followed (c.all_over.ensures.0 c.if-not-all_over.false)
+    c.clear.auto.stages c.clear.ensures c.push_reserved.ensures.items
 
 pub returns-in_default : goal.returns-in_default
 returns-in_default c =
@@ -26,11 +28,15 @@ returns-in_default c =
       room = refl;
       followed =
           λ is_yes past e is followed.
-          let counted : c.args.messages.now ≡ cond (is_send (step_of e)) (c.args.messages.now + 1) c.args.messages.now = rw (is, no_send) refl in
-          followed-on past e c.args.stages.now c.follow.new.stages c.args.sent.now.items c.args.messages.now c.args.messages.now c.follow.result
-          (subst (λ s. IsFalse (is_reopen s)) (sym is) on) followed is_yes (subst (λ s. Told s c.follow.result c.args.stages.now c.follow.new.stages) (sym is) told) c.follow.auto.stages counted;
+          let counted : c.args.messages.now ≡ cond (is_send (step_of e)) (c.args.messages.now + 1) c.args.messages.now =
+          rw (is, no_send) refl in
+          followed-on past e c.args.stages.now c.follow.new.stages c.args.sent.now.items c.args.messages.now c.args.messages.now
+          c.follow.result
+          (subst (λ s. IsFalse (is_reopen s)) (sym is) on) followed is_yes
+          (subst (λ s. Told s c.follow.result c.args.stages.now c.follow.new.stages) (sym is) told) c.follow.auto.stages counted;
       no =
           λ is_no later past e is followed all.
           no_life-on later past e c.args.stages.now c.follow.new.stages c.args.sent.now.items c.args.messages.now c.follow.result
-          (subst (λ s. IsFalse (is_reopen s)) (sym is) on) followed is_no (subst (λ s. Told s c.follow.result c.args.stages.now c.follow.new.stages) (sym is) told) all;
+          (subst (λ s. IsFalse (is_reopen s)) (sym is) on) followed is_no
+          (subst (λ s. Told s c.follow.result c.args.stages.now c.follow.new.stages) (sym is) told) all;
     }

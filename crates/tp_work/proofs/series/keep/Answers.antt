@@ -21,24 +21,35 @@ returns-in-Ok-true-clause-kept g c =
     let last : Round = record { results = c.args.results; tasks = c.tasks-tasks.result; messages = 0; workers = c.args.answered } in
     let once : HasEachOnce c.tasks-tasks.result c.deref.result.now = c.in-Ok-true.ensures.0 c.in-Ok-true.field-0-test in
     let own : IsKept n workers graph last = record {
-      each_once = subst (λ (rs : Results). HasEachOnce graph.tasks rs) c.deref.ensures.value (subst (λ (k : ℕ). HasEachOnce k c.deref.result.now) tasks once);
+      each_once = subst (λ (rs : Results). HasEachOnce graph.tasks rs) c.deref.ensures.value
+          (subst (λ (k : ℕ). HasEachOnce k c.deref.result.now) tasks once);
       right = c.requires.right;
       tasks = tasks;
       answered = answered;
     } in
     record {
       more = ap length c.push_reserved.ensures.items ∙ length-append c.args.rounds.now.items (last ∷ []);
-      kept = λ all. subst (All (IsKept n workers graph)) (sym c.push_reserved.ensures.items) (All-push (IsKept n workers graph) c.args.rounds.now.items last all own);
+      kept = λ all.
+          subst (All (IsKept n workers graph)) (sym c.push_reserved.ensures.items)
+          (All-push (IsKept n workers graph) c.args.rounds.now.items last all own);
     }
 
 pub returns-in-Ok-false-clause-fault : goal.returns-in-Ok-false-clause-fault
 returns-in-Ok-false-clause-fault g c =
     λ count.
-    is_fault g.K.Ledgers.names.nodes (g.G.Graph.meaning c.args.graph) count c.stopped_for.result Missing c.args.pool.nodes.items c.args.pool.board c.stopped_for.ensures c.requires.fault
-    (λ r report. inl (refl, λ complete. not_ended g.K.Ledgers.names.nodes (g.G.Graph.meaning c.args.graph) r c.args.pool.board.history report.report report.history c.requires.opened.0 complete.ended))
+    is_fault g.K.Ledgers.names.nodes (g.G.Graph.meaning c.args.graph) count c.stopped_for.result Missing c.args.pool.nodes.items
+    c.args.pool.board c.stopped_for.ensures c.requires.fault
+    (λ r report.
+    inl (
+      refl,
+      λ complete.
+          not_ended g.K.Ledgers.names.nodes (g.G.Graph.meaning c.args.graph) r c.args.pool.board.history report.report report.history
+          c.requires.opened.0 complete.ended,
+    ))
 
 pub returns-in-Err-clause-fault : goal.returns-in-Err-clause-fault
 returns-in-Err-clause-fault g c =
     λ count.
-    is_fault g.K.Ledgers.names.nodes (g.G.Graph.meaning c.args.graph) count c.stopped_for-in-Err.result NoMemory c.args.pool.nodes.items c.args.pool.board c.stopped_for-in-Err.ensures c.requires.fault
+    is_fault g.K.Ledgers.names.nodes (g.G.Graph.meaning c.args.graph) count c.stopped_for-in-Err.result NoMemory c.args.pool.nodes.items
+    c.args.pool.board c.stopped_for-in-Err.ensures c.requires.fault
     (λ r report. inr (inl (refl, inr (subst (λ (h : History). 1 < length (generations h)) (sym report.history) c.requires.opened.1))))

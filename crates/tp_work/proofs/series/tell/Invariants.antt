@@ -7,6 +7,7 @@ abbrev pub invariant-loop-place : goal.invariant-loop-place
 invariant-loop-place l =
     record {
       length : length l.rounds ≡ length l.initial.rounds;
-      told : (k : ℕ) (r : Round) → k < l.place → slice_index_or l.rounds k r ≡ with_messages (slice_index l.sent k) (slice_index_or l.initial.rounds k r);
+      told : (k : ℕ) (r : Round) → k < l.place
+          → slice_index_or l.rounds k r ≡ with_messages (slice_index l.sent k) (slice_index_or l.initial.rounds k r);
       left : (k : ℕ) (r : Round) → l.place ≤ k → slice_index_or l.rounds k r ≡ slice_index_or l.initial.rounds k r;
     }

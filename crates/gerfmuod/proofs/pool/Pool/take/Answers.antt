@@ -6,4 +6,5 @@ use Rattle.gerfmuod.proofs.Kept.{kept_never_early}
 use Rattle.gerfmuod.proofs.pool.Pool.take.Goals as goal
 
 pub returns-in-None-clause-never_early : goal.returns-in-None-clause-never_early
-returns-in-None-clause-never_early c = subst (λ (a : Accepted). InEach (IsNeverEarly a.nodes) a.steps) c.self.view_is (kept_never_early c.self.inside c.self.invariant)
+returns-in-None-clause-never_early c =
+    subst (λ (a : Accepted). InEach (IsNeverEarly a.nodes) a.steps) c.self.view_is (kept_never_early c.self.inside c.self.invariant)

@@ -6,7 +6,8 @@ use Rattle.pool_patterns.specs.Faults.{IsTableFault}
 use Rattle.pool_patterns.specs.Grids.{Relation}
 use Rattle.pool_patterns.specs.Kinds.{IsRowsFault}
 use Rattle.pool_patterns.proofs.table.Table.new.Goals as goal
-use Rattle.pool_patterns.proofs.table.Table.new.Goals.{then-width-via-then-width, then-width-via-else-width+then-steps, then-width-via-else-width+else-steps+then-from}
+use Rattle.pool_patterns.proofs.table.Table.new.Goals.{then-width-via-then-width, then-width-via-else-width+then-steps}
+use Rattle.pool_patterns.proofs.table.Table.new.Goals.{then-width-via-else-width+else-steps+then-from}
 
 pub returns-then-width-clause-refused : goal.returns-then-width-clause-refused
 returns-then-width-clause-refused g c =
@@ -35,7 +36,8 @@ returns-in_err-spots-clause-refused g c =
     let rows : c.min.result ≡ min c.period-period.result (steps - 1) = search rules in
     let k = c.in_ok-kinds.kinds in
     let kinds =
-    kinds_are r w steps c.period-period.result c.min.result k.spans.items k.outputs.items k.arities.items rows c.in_ok-kinds.ensures.spans c.in_ok-kinds.ensures.arities c.period-period.ensures.again in
+    kinds_are r w steps c.period-period.result c.min.result k.spans.items k.outputs.items k.arities.items rows c.in_ok-kinds.ensures.spans
+    c.in_ok-kinds.ensures.arities c.period-period.ensures.again in
     let passed = err_from_is_err_and c.from_residual-in_err-spots.result c.from_residual-in_err-spots.ensures.1 in
     let why = subst (IsTableFault r w steps) (sym passed.2) (c.in_err-spots.ensures.refused r kinds) in
     rw passed.1 why
@@ -48,7 +50,8 @@ invariant_of-result-clause-narrow g c =
     let rows : c.min.result ≡ min c.period-period.result (steps - 1) = search rules in
     let k = c.in_ok-kinds.kinds in
     none_wide r w steps c.period-period.result k.spans.items k.outputs.items k.arities.items c.period-period.ensures.some
-    (kinds_are r w steps c.period-period.result c.min.result k.spans.items k.outputs.items k.arities.items rows c.in_ok-kinds.ensures.spans c.in_ok-kinds.ensures.arities c.period-period.ensures.again)
+    (kinds_are r w steps c.period-period.result c.min.result k.spans.items k.outputs.items k.arities.items rows
+    c.in_ok-kinds.ensures.spans c.in_ok-kinds.ensures.arities c.period-period.ensures.again)
 
 pub invariant_of-result-clause-noted : goal.invariant_of-result-clause-noted
 invariant_of-result-clause-noted g c =
@@ -58,4 +61,5 @@ invariant_of-result-clause-noted g c =
     let rows : c.min.result ≡ min c.period-period.result (steps - 1) = search rules in
     let k = c.in_ok-kinds.kinds in
     c.in_ok-spots.ensures.made r
-    (kinds_are r w steps c.period-period.result c.min.result k.spans.items k.outputs.items k.arities.items rows c.in_ok-kinds.ensures.spans c.in_ok-kinds.ensures.arities c.period-period.ensures.again)
+    (kinds_are r w steps c.period-period.result c.min.result k.spans.items k.outputs.items k.arities.items rows
+    c.in_ok-kinds.ensures.spans c.in_ok-kinds.ensures.arities c.period-period.ensures.again)

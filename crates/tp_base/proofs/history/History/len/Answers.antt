@@ -10,5 +10,13 @@ returns c =
     let full = c.self.inside.full in
     let last = c.self.inside.last in
     let all : length (joined full.items ++ last.items) ≡ c.self.inside.before + c.len.result =
-    omega (arith, length-append (joined full.items) last.items, length_joined full.items c.self.invariant.0.each, c.self.invariant.1, c.len.ensures, full.ok.0, last.ok.0) in
+    omega (
+      arith,
+      length-append (joined full.items) last.items,
+      length_joined full.items c.self.invariant.0.each,
+      c.self.invariant.1,
+      c.len.ensures,
+      full.ok.0,
+      last.ok.0,
+    ) in
     sym (ap (λ (h : Recorded). length h.events) (sym c.self.view_is) ∙ length-reverse _ ∙ all)

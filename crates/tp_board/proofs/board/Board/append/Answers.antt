@@ -13,11 +13,13 @@ add-requires-clause-kind g c = plain_kind _ c.requires.lawful.0
 pub invariant_of-self-2 : goal.invariant_of-self-2
 invariant_of-self-2 g c =
     let history = ap (λ (b : BoardState). b.history) c.in_ok-add.ensures.ok in
-    plain_follows _ _ _ _ _ _ _ _ _ _ history c.node.ensures.number c.follow.ensures.books c.self.invariant c.in_ok-add.ensures.places c.follow.ensures.told c.follow.ensures.node c.requires.lawful
+    plain_follows _ _ _ _ _ _ _ _ _ _ history c.node.ensures.number c.follow.ensures.books c.self.invariant c.in_ok-add.ensures.places
+    c.follow.ensures.told c.follow.ensures.node c.requires.lawful
 
 pub returns-clause-within : goal.returns-clause-within
 returns-clause-within g c =
-    rw c.follow.ensures.shares (within_more _ _ _ _ _ _ _ c.self.invariant c.follow.ensures.told c.follow.ensures.node c.in_ok-add.ensures.places)
+    rw c.follow.ensures.shares
+    (within_more _ _ _ _ _ _ _ c.self.invariant c.follow.ensures.told c.follow.ensures.node c.in_ok-add.ensures.places)
 
 pub returns-clause-ok : goal.returns-clause-ok
 returns-clause-ok g c = search (rules, tests)

@@ -15,4 +15,6 @@ invariant_of-self-2 g c =
 
 pub returns-clause-within : goal.returns-clause-within
 returns-clause-within g c =
-    rw c.follow.ensures.shares (within_more _ _ _ _ _ _ (MessageEnd c.node-node.result c.args.message c.generation.result) c.self.invariant c.follow.ensures.told c.follow.ensures.node c.in_ok-add.ensures.places)
+    rw c.follow.ensures.shares
+    (within_more _ _ _ _ _ _ (MessageEnd c.node-node.result c.args.message c.generation.result) c.self.invariant c.follow.ensures.told
+    c.follow.ensures.node c.in_ok-add.ensures.places)

@@ -15,7 +15,9 @@ loop-next-preserved g c =
     let next = c.next-item.result in
     let here = get_or all i next in
     let same : set all i c.audit.new.shares ≡ all = ap (set all i) c.audit.ensures.same.1 ∙ set-get_or all i next in
-    let idle : P here = c.audit.ensures.pending ∙ ap (λ (b : BoardState). pending_at here.node (present_events b.history)) c.loop-next.invariant.board ∙ c.requires.idle here.node c.audit.ensures.node in
+    let idle : P here =
+    c.audit.ensures.pending ∙ ap (λ (b : BoardState). pending_at here.node (present_events b.history)) c.loop-next.invariant.board
+    ∙ c.requires.idle here.node c.audit.ensures.node in
     record {
       board = c.audit.ensures.same.0 ∙ c.loop-next.invariant.board;
       shares = same ∙ c.loop-next.invariant.shares;
@@ -24,4 +26,5 @@ loop-next-preserved g c =
 
 pub returns-clause-idle : goal.returns-clause-idle
 returns-clause-idle g c =
-    rw (← c.loop-next.invariant.shares) (rw (take_all c.loop-next.next-index c.loop-next.shares (omega arith)) at c.loop-next.invariant.idle)
+    rw (← c.loop-next.invariant.shares)
+    (rw (take_all c.loop-next.next-index c.loop-next.shares (omega arith)) at c.loop-next.invariant.idle)

@@ -9,4 +9,10 @@ returns-clause-under g c = rw (← c.self.view_is) (omega (arith, c.audit_link.e
 
 pub returns-clause-small : goal.returns-clause-small
 returns-clause-small g c =
-    omega (arith, c.audit_link.ensures.told, c.self.invariant.now.under, under_way-le (present_events c.self.inside.log.history), c.self.invariant.now.short)
+    omega (
+      arith,
+      c.audit_link.ensures.told,
+      c.self.invariant.now.under,
+      under_way-le (present_events c.self.inside.log.history),
+      c.self.invariant.now.short,
+    )

@@ -9,8 +9,10 @@ overflow_sub-result g c = omega (arith, c.totals-sent.ensures, (told _ _ _ _ _ c
 
 pub returns-clause-under : goal.returns-clause-under
 returns-clause-under g c =
-    let all = told _ _ _ _ _ c.self.invariant in
-    (omega (arith, c.totals-sent.ensures, all.balance), rw (← c.self.view_is) (omega (arith, c.totals-sent.ensures, all.balance, all.under)))
+    let all = told _ _ _ _ _ c.self.invariant in (
+      omega (arith, c.totals-sent.ensures, all.balance),
+      rw (← c.self.view_is) (omega (arith, c.totals-sent.ensures, all.balance, all.under)),
+    )
 
 pub returns-clause-balance : goal.returns-clause-balance
 returns-clause-balance g c = omega (arith, c.totals-sent.ensures, (told _ _ _ _ _ c.self.invariant).balance)
@@ -35,4 +37,7 @@ returns-clause-received g c =
     (c.totals-sent.ensures.received ∙ sym all.received ∙ sym c.close.ensures.received, rw (← c.self.view_is) c.totals-sent.ensures.received)
 
 pub returns-clause-ended : goal.returns-clause-ended
-returns-clause-ended g c = rw (← c.self.view_is) (ended_told g.K.Ledgers.names.nodes (present (steps_of c.self.inside.log.history)) _ c.is_ended-ended.ensures.out (told _ _ _ _ _ c.self.invariant).judged)
+returns-clause-ended g c =
+    rw (← c.self.view_is)
+    (ended_told g.K.Ledgers.names.nodes (present (steps_of c.self.inside.log.history)) _ c.is_ended-ended.ensures.out
+    (told _ _ _ _ _ c.self.invariant).judged)

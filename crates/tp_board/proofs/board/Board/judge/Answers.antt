@@ -16,13 +16,15 @@ use Rattle.tp_board.proofs.board.Board.judge.Goals as goal
 pub returns-in_err-ended_with-clause-refusal : goal.returns-in_err-ended_with-clause-refusal
 returns-in_err-ended_with-clause-refusal g c =
     let p = err_from_is_err_and c.from_residual.result c.from_residual.ensures.1 in
-    refused _ _ _ _ _ _ Judge (full_check 1 c.args.self.now ∷ []) _ _ _ c.self.invariant c.self.view_is c.judge.ensures.table (ap result_err c.in_err-ended_with.was) (p.1 ∙ ap Err p.2)
+    refused _ _ _ _ _ _ Judge (full_check 1 c.args.self.now
+    ∷ []) _ _ _ c.self.invariant c.self.view_is c.judge.ensures.table (ap result_err c.in_err-ended_with.was) (p.1 ∙ ap Err p.2)
 
 pub returns-in_err-add-clause-refusal : goal.returns-in_err-add-clause-refusal
 returns-in_err-add-clause-refusal g c =
     let p = err_from_is_err_and c.from_residual-in_err-add.result c.from_residual-in_err-add.ensures.1 in
     let full : BoardState → List Check = λ b. full_check 1 b ∷ [] in
-    passed _ _ _ _ _ _ Judge full _ _ _ c.self.invariant c.self.view_is c.judge.ensures.table (ap result_err c.in_ok-ended_with.was) c.add.ensures.refusal
+    passed _ _ _ _ _ _ Judge full _ _ _ c.self.invariant c.self.view_is c.judge.ensures.table (ap result_err c.in_ok-ended_with.was)
+    c.add.ensures.refusal
     (ap result_err c.in_err-add.was ∙ sym (ap result_err (p.1 ∙ ap Err p.2)))
 
 pub invariant_of-self-in-Some : goal.invariant_of-self-in-Some
@@ -33,7 +35,8 @@ invariant_of-self-in-Some g c =
     let tell = two_tell_law n _ c.self.invariant.now.run in
     let goes = c.in_ok-ended_with.ensures.follows n past c.self.invariant.now.follows tell in
     let word = sym (c.in_ok-ended_with.ensures.judged n past c.self.invariant.now.follows tell) ∙ c.in-Some.is in
-    wave_follows _ _ 0 1 _ _ _ _ _ _ Judge c.self.invariant history c.in_ok-add.ensures.places c.self.invariant.now.some refl refl tt goes c.hand_out.ensures (sym (judged_number n past _ _ goes word))
+    wave_follows _ _ 0 1 _ _ _ _ _ _ Judge c.self.invariant history c.in_ok-add.ensures.places c.self.invariant.now.some refl refl tt goes
+    c.hand_out.ensures (sym (judged_number n past _ _ goes word))
 
 pub invariant_of-self-in-None : goal.invariant_of-self-in-None
 invariant_of-self-in-None g c =
@@ -44,7 +47,8 @@ invariant_of-self-in-None g c =
     let goes = c.in_ok-ended_with.ensures.follows n past c.self.invariant.now.follows tell in
     let word = sym (c.in_ok-ended_with.ensures.judged n past c.self.invariant.now.follows tell) ∙ c.in-None.is in
     let none = c.self.invariant.now.judged ∙ ap (λ (b : Bool). if b then 1 else 0) (not_ended n past _ goes) in
-    wave_follows _ _ 0 _ _ _ _ _ _ _ Judge c.self.invariant history c.in_ok-add.ensures.places c.self.invariant.now.some refl refl tt goes refl (none ∙ sym (judged_number n past _ _ goes word))
+    wave_follows _ _ 0 _ _ _ _ _ _ _ Judge c.self.invariant history c.in_ok-add.ensures.places c.self.invariant.now.some refl refl tt goes
+    refl (none ∙ sym (judged_number n past _ _ goes word))
 
 pub returns-in-Some-clause-first : goal.returns-in-Some-clause-first
 returns-in-Some-clause-first g c =
@@ -64,14 +68,16 @@ pub returns-in-Some-clause-over : goal.returns-in-Some-clause-over
 returns-in-Some-clause-over g c =
     let n = g.K.Ledgers.names.nodes in
     let past = steps_of (present_events c.self.inside.log.history) in
-    let word = sym (c.in_ok-ended_with.ensures.judged n past c.self.invariant.now.follows (two_tell_law n _ c.self.invariant.now.run)) ∙ c.in-Some.is in
+    let word = sym (c.in_ok-ended_with.ensures.judged n past c.self.invariant.now.follows (two_tell_law n _ c.self.invariant.now.run))
+    ∙ c.in-Some.is in
     rw (← c.self.view_is) (judged_over n c.self.inside.log.history _ word)
 
 pub returns-in-None-clause-over : goal.returns-in-None-clause-over
 returns-in-None-clause-over g c =
     let n = g.K.Ledgers.names.nodes in
     let past = steps_of (present_events c.self.inside.log.history) in
-    let word = sym (c.in_ok-ended_with.ensures.judged n past c.self.invariant.now.follows (two_tell_law n _ c.self.invariant.now.run)) ∙ c.in-None.is in
+    let word = sym (c.in_ok-ended_with.ensures.judged n past c.self.invariant.now.follows (two_tell_law n _ c.self.invariant.now.run))
+    ∙ c.in-None.is in
     rw (← c.self.view_is) (judged_over n c.self.inside.log.history _ word)
 
 pub returns-in-Some-clause-ended : goal.returns-in-Some-clause-ended
@@ -107,9 +113,11 @@ returns-in-Some-clause-quiet g c =
 pub returns-in-Some-clause-refusal : goal.returns-in-Some-clause-refusal
 returns-in-Some-clause-refusal g c =
     let full : BoardState → List Check = λ b. full_check 1 b ∷ [] in
-    passed_ok _ _ _ _ _ _ Judge full _ _ _ c.self.invariant c.self.view_is c.judge.ensures.table (ap result_err c.in_ok-ended_with.was) c.add.ensures.refusal (ap result_err c.in_ok-add.was)
+    passed_ok _ _ _ _ _ _ Judge full _ _ _ c.self.invariant c.self.view_is c.judge.ensures.table (ap result_err c.in_ok-ended_with.was)
+    c.add.ensures.refusal (ap result_err c.in_ok-add.was)
 
 pub returns-in-None-clause-refusal : goal.returns-in-None-clause-refusal
 returns-in-None-clause-refusal g c =
     let full : BoardState → List Check = λ b. full_check 1 b ∷ [] in
-    passed_ok _ _ _ _ _ _ Judge full _ _ _ c.self.invariant c.self.view_is c.judge.ensures.table (ap result_err c.in_ok-ended_with.was) c.add.ensures.refusal (ap result_err c.in_ok-add.was)
+    passed_ok _ _ _ _ _ _ Judge full _ _ _ c.self.invariant c.self.view_is c.judge.ensures.table (ap result_err c.in_ok-ended_with.was)
+    c.add.ensures.refusal (ap result_err c.in_ok-add.was)

@@ -23,8 +23,11 @@ all_first (x ∷ xs) = All-cons (λ (s : NodeNumbers). s ≡ first_numbers s.nod
 
 pub reopen-anew-requires-clause-totals : goal.reopen-anew-requires-clause-totals
 reopen-anew-requires-clause-totals g c =
-    let all = told _ _ _ _ _ c.self.invariant in
-    (c.totals-totals.ensures.sent ∙ sym all.sent, c.totals-totals.ensures.received ∙ sym all.received, c.totals-totals.ensures.done ∙ sym all.done)
+    let all = told _ _ _ _ _ c.self.invariant in (
+      c.totals-totals.ensures.sent ∙ sym all.sent,
+      c.totals-totals.ensures.received ∙ sym all.received,
+      c.totals-totals.ensures.done ∙ sym all.done,
+    )
 
 pub invariant_of-self : goal.invariant_of-self
 invariant_of-self g c =
@@ -32,11 +35,14 @@ invariant_of-self g c =
     let same = ap (λ (b : BoardState). b.history) (c.self.view_is ∙ c.audit_each.ensures.same.0 ∙ c.audit_ended.ensures.same) in
     let ended : IsTrue (is_ended n (present (steps_of c.self.inside.log.history))) = rw same c.audit_ended.ensures.ended in
     let follows = subst (λ k. Follows k [] c.new-self-inside.result) c.self.invariant.now.nodes_are c.new-self-inside.ensures.follows in
-    reopened _ _ _ _ _ _ _ _ c.self.invariant (ap (λ (b : BoardState). b.history) c.reopen.ensures.ok) c.reopen.ensures.places ended c.reopen-anew.ensures.books c.reopen-anew.ensures.under follows
+    reopened _ _ _ _ _ _ _ _ c.self.invariant (ap (λ (b : BoardState). b.history) c.reopen.ensures.ok) c.reopen.ensures.places ended
+    c.reopen-anew.ensures.books c.reopen-anew.ensures.under follows
 
 pub returns-clause-shares : goal.returns-clause-shares
 returns-clause-shares g c =
-    c.reopen-anew.ensures.shares ∙ ap (map begun_anew) (written_back _ _ _ (omega (arith, c.args.shares.ok.0)) (c.audit_each.ensures.same.1 ∙ c.deref_mut.ensures.value))
+    c.reopen-anew.ensures.shares
+    ∙ ap (map begun_anew)
+    (written_back _ _ _ (omega (arith, c.args.shares.ok.0)) (c.audit_each.ensures.same.1 ∙ c.deref_mut.ensures.value))
 
 pub returns-clause-all_first : goal.returns-clause-all_first
 returns-clause-all_first g c = All-same (λ (s : NodeNumbers). s ≡ first_numbers s.node) _ _ c.reopen-anew.ensures.shares (all_first _)

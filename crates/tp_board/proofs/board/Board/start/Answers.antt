@@ -16,26 +16,30 @@ start-requires g c = started-le _ _ _ _ _ c.self.invariant.now
 pub returns-in_err-start-clause-refusal : goal.returns-in_err-start-clause-refusal
 returns-in_err-start-clause-refusal g c =
     let p = err_from_is_err_and c.from_residual.result c.from_residual.ensures.1 in
-    refused _ _ _ _ _ _ Start (full_check 1 c.args.self.now ∷ []) _ _ _ c.self.invariant c.self.view_is c.start.ensures.table (ap result_err c.in_err-start.was) (p.1 ∙ ap Err p.2)
+    refused _ _ _ _ _ _ Start (full_check 1 c.args.self.now
+    ∷ []) _ _ _ c.self.invariant c.self.view_is c.start.ensures.table (ap result_err c.in_err-start.was) (p.1 ∙ ap Err p.2)
 
 pub returns-in_err-add-clause-refusal : goal.returns-in_err-add-clause-refusal
 returns-in_err-add-clause-refusal g c =
     let p = err_from_is_err_and c.from_residual-in_err-add.result c.from_residual-in_err-add.ensures.1 in
     let full : BoardState → List Check = λ b. full_check 1 b ∷ [] in
-    passed _ _ _ _ _ _ Start full _ _ _ c.self.invariant c.self.view_is c.start.ensures.table (ap result_err c.in_ok-start.was) c.add.ensures.refusal
+    passed _ _ _ _ _ _ Start full _ _ _ c.self.invariant c.self.view_is c.start.ensures.table (ap result_err c.in_ok-start.was)
+    c.add.ensures.refusal
     (ap result_err (c.in_err-add.was ∙ sym (p.1 ∙ ap Err p.2)))
 
 pub returns-clause-refusal : goal.returns-clause-refusal
 returns-clause-refusal g c =
     let full : BoardState → List Check = λ b. full_check 1 b ∷ [] in
     let ok : Result (Unit {0}) Refusal = Ok tt in
-    passed _ _ _ _ _ _ Start full _ _ ok c.self.invariant c.self.view_is c.start.ensures.table (ap result_err c.in_ok-start.was) c.add.ensures.refusal (ap result_err c.in_ok-add.was)
+    passed _ _ _ _ _ _ Start full _ _ ok c.self.invariant c.self.view_is c.start.ensures.table (ap result_err c.in_ok-start.was)
+    c.add.ensures.refusal (ap result_err c.in_ok-add.was)
 
 pub invariant_of-self-2 : goal.invariant_of-self-2
 invariant_of-self-2 g c =
     let root = c.node-root.ensures.number ∙ c.requires.root in
     let history = rw root at (ap (λ (b : BoardState). b.history) c.in_ok-add.ensures.ok) in
-    wave_follows _ _ 0 _ _ _ _ _ _ _ Start c.self.invariant history c.in_ok-add.ensures.places c.self.invariant.now.some refl refl tt (c.in_ok-start.ensures.follows _ _ c.self.invariant.now.follows) refl c.self.invariant.now.judged
+    wave_follows _ _ 0 _ _ _ _ _ _ _ Start c.self.invariant history c.in_ok-add.ensures.places c.self.invariant.now.some refl refl tt
+    (c.in_ok-start.ensures.follows _ _ c.self.invariant.now.follows) refl c.self.invariant.now.judged
 
 pub returns-clause-ok : goal.returns-clause-ok
 returns-clause-ok g c = search (rules, tests)

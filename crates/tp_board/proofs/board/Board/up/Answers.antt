@@ -12,25 +12,29 @@ use Rattle.tp_board.proofs.board.Board.up.Goals as goal
 pub returns-in_err-up-clause-refusal : goal.returns-in_err-up-clause-refusal
 returns-in_err-up-clause-refusal g c =
     let p = err_from_is_err_and c.from_residual.result c.from_residual.ensures.1 in
-    refused _ _ _ _ _ _ (Up c.args.child) (full_check 1 c.args.self.now ∷ []) _ _ _ c.self.invariant c.self.view_is c.up.ensures.table (ap result_err c.in_err-up.was) (p.1 ∙ ap Err p.2)
+    refused _ _ _ _ _ _ (Up c.args.child) (full_check 1 c.args.self.now
+    ∷ []) _ _ _ c.self.invariant c.self.view_is c.up.ensures.table (ap result_err c.in_err-up.was) (p.1 ∙ ap Err p.2)
 
 pub returns-in_err-add-clause-refusal : goal.returns-in_err-add-clause-refusal
 returns-in_err-add-clause-refusal g c =
     let p = err_from_is_err_and c.from_residual-in_err-add.result c.from_residual-in_err-add.ensures.1 in
     let full : BoardState → List Check = λ b. full_check 1 b ∷ [] in
-    passed _ _ _ _ _ _ (Up c.args.child) full _ _ _ c.self.invariant c.self.view_is c.up.ensures.table (ap result_err c.in_ok-up.was) c.add.ensures.refusal
+    passed _ _ _ _ _ _ (Up c.args.child) full _ _ _ c.self.invariant c.self.view_is c.up.ensures.table (ap result_err c.in_ok-up.was)
+    c.add.ensures.refusal
     (ap result_err (c.in_err-add.was ∙ sym (p.1 ∙ ap Err p.2)))
 
 pub returns-clause-refusal : goal.returns-clause-refusal
 returns-clause-refusal g c =
     let full : BoardState → List Check = λ b. full_check 1 b ∷ [] in
     let ok : Result (Unit {0}) Refusal = Ok tt in
-    passed _ _ _ _ _ _ (Up c.args.child) full _ _ ok c.self.invariant c.self.view_is c.up.ensures.table (ap result_err c.in_ok-up.was) c.add.ensures.refusal (ap result_err c.in_ok-add.was)
+    passed _ _ _ _ _ _ (Up c.args.child) full _ _ ok c.self.invariant c.self.view_is c.up.ensures.table (ap result_err c.in_ok-up.was)
+    c.add.ensures.refusal (ap result_err c.in_ok-add.was)
 
 pub invariant_of-self-2 : goal.invariant_of-self-2
 invariant_of-self-2 g c =
     let history = ap (λ (b : BoardState). b.history) c.in_ok-add.ensures.ok in
-    wave_follows _ _ c.args.child.0 _ _ _ _ _ _ _ (Up c.args.child) c.self.invariant history c.in_ok-add.ensures.places c.requires.child.1 refl refl tt
+    wave_follows _ _ c.args.child.0 _ _ _ _ _ _ _ (Up c.args.child) c.self.invariant history c.in_ok-add.ensures.places c.requires.child.1
+    refl refl tt
     (c.in_ok-up.ensures.follows _ _ c.self.invariant.now.follows) refl c.self.invariant.now.judged
 
 pub returns-clause-ok : goal.returns-clause-ok

@@ -7,14 +7,18 @@ use Rattle.tp_board.proofs.log.Log.add.Goals as goal
 
 pub follow-requires-clause-few : goal.follow-requires-clause-few
 follow-requires-clause-few c =
-    let events = c.self.inside.history.events in
-    (present_events events, c.self.invariant.counted, omega (arith, length-present events, c.self.invariant.places, c.self.invariant.limited))
+    let events = c.self.inside.history.events in (
+      present_events events,
+      c.self.invariant.counted,
+      omega (arith, length-present events, c.self.invariant.places, c.self.invariant.limited),
+    )
 
 pub returns-then-count-self-clause-refusal : goal.returns-then-count-self-clause-refusal
 returns-then-count-self-clause-refusal c =
     let log = c.self.inside in
     let now : BoardState = record { history = log.history.events; limit = log.limit; reserved = log.reserved; fault = log.fault } in
-    rw (← c.self.view_is) (full now 1 c.len-count.result _ c.len-count.ensures (omega (arith, c.len-count.ensures, c.if-count-self.true)) refl)
+    rw (← c.self.view_is)
+    (full now 1 c.len-count.result _ c.len-count.ensures (omega (arith, c.len-count.ensures, c.if-count-self.true)) refl)
 
 pub returns-then-count-self-clause-reserved : goal.returns-then-count-self-clause-reserved
 returns-then-count-self-clause-reserved c =

@@ -14,27 +14,52 @@ overflow_cast-message c = record { fits = omega (arith, c.len.ensures, (log_send
 
 pub follow-requires-clause-few : goal.follow-requires-clause-few
 follow-requires-clause-few c =
-    let events = c.self.inside.history.events in
-    (present_events events, c.self.invariant.counted, omega (arith, length-present events, c.self.invariant.places, c.self.invariant.limited))
+    let events = c.self.inside.history.events in (
+      present_events events,
+      c.self.invariant.counted,
+      omega (arith, length-present events, c.self.invariant.places, c.self.invariant.limited),
+    )
 
 pub push_reserved-requires-clause-named : goal.push_reserved-requires-clause-named
 push_reserved-requires-clause-named c =
     let is = c.self.view_is ∙ c.in_ok-reserve.ensures.ok in
     let reserved = ap (λ (b : BoardState). b.reserved) is in
     let number = ap (λ (b : BoardState). generation (steps_of b.history)) is in
-    let below : c.len.result < 1048576 = omega (arith, c.len.ensures, (log_sends _ _ _ _ _ _ c.self.invariant).0, count_present-le is_send c.self.inside.history.events, c.self.invariant.places, c.self.invariant.limited, reserved) in
-    (omega (arith, c.requires.from), omega (arith, c.requires.to), below, omega (arith, c.self.invariant.generation_is, number, c.requires.few))
+    let below : c.len.result < 1048576 =
+    omega (
+      arith,
+      c.len.ensures,
+      (log_sends _ _ _ _ _ _ c.self.invariant).0,
+      count_present-le is_send c.self.inside.history.events,
+      c.self.invariant.places,
+      c.self.invariant.limited,
+      reserved,
+    ) in (
+      omega (arith, c.requires.from),
+      omega (arith, c.requires.to),
+      below,
+      omega (arith, c.self.invariant.generation_is, number, c.requires.few),
+    )
 
 pub returns-clause-small : goal.returns-clause-small
 returns-clause-small c =
     let reserved = ap (λ (b : BoardState). b.reserved) c.self.view_is ∙ ap (λ (b : BoardState). b.reserved) c.in_ok-reserve.ensures.ok in
-    omega (arith, c.len.ensures, (log_sends _ _ _ _ _ _ c.self.invariant).0, count_present-le is_send c.self.inside.history.events, c.self.invariant.places, c.self.invariant.limited, reserved)
+    omega (
+      arith,
+      c.len.ensures,
+      (log_sends _ _ _ _ _ _ c.self.invariant).0,
+      count_present-le is_send c.self.inside.history.events,
+      c.self.invariant.places,
+      c.self.invariant.limited,
+      reserved,
+    )
 
 pub invariant_of-self : goal.invariant_of-self
 invariant_of-self c =
     let reserved = ap (λ (b : BoardState). b.reserved) c.self.view_is ∙ ap (λ (b : BoardState). b.reserved) c.in_ok-reserve.ensures.ok in
     let counted = c.follow.ensures (present_events c.self.inside.history.events) c.self.invariant.counted refl in
-    log_send _ _ _ _ _ _ _ _ _ _ _ _ c.self.invariant (omega (arith, reserved)) c.len.ensures c.push_reserved.ensures.events c.push_reserved.ensures.room c.push_reserved-2.ensures.routes c.push_reserved-2.ensures.room counted
+    log_send _ _ _ _ _ _ _ _ _ _ _ _ c.self.invariant (omega (arith, reserved)) c.len.ensures c.push_reserved.ensures.events
+    c.push_reserved.ensures.room c.push_reserved-2.ensures.routes c.push_reserved-2.ensures.room counted
 
 pub returns-clause-number : goal.returns-clause-number
 returns-clause-number c =

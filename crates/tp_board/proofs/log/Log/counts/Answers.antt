@@ -5,4 +5,5 @@ use Rattle.tp_board.proofs.log.Log.counts.Goals as goal
 
 pub returns-clause-few : goal.returns-clause-few
 returns-clause-few c =
-    rw (c.of.ensures (present_events c.self.inside.history.events) c.self.invariant.counted) (few_now c.args.node.0 c.self.inside.history.events (omega (arith, c.self.invariant.places, c.self.invariant.limited)))
+    rw (c.of.ensures (present_events c.self.inside.history.events) c.self.invariant.counted)
+    (few_now c.args.node.0 c.self.inside.history.events (omega (arith, c.self.invariant.places, c.self.invariant.limited)))

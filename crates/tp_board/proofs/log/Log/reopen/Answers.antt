@@ -5,4 +5,12 @@ use Rattle.tp_board.proofs.log.Log.reopen.Goals as goal
 
 pub overflow_add-self : goal.overflow_add-self
 overflow_add-self c =
-    record { fits = omega (arith, c.self.invariant.generation_is, count-le is_reopen c.self.inside.history.events, c.self.invariant.places, c.self.invariant.limited) }
+    record {
+      fits = omega (
+        arith,
+        c.self.invariant.generation_is,
+        count-le is_reopen c.self.inside.history.events,
+        c.self.invariant.places,
+        c.self.invariant.limited,
+      );
+    }

@@ -14,9 +14,11 @@ use Rattle.tp_core.proofs.accepting.Core.close.Goals as goal
 use Rattle.tp_core.proofs.accepting.Core.close.Goals.{After-make_room}
 
 may : (c : After-make_room) → MayClose c.self.inside c.args.node.0 (Named c.args.action.0)
-may c = may_close c.self.invariant c.args.node.0 (omega arith) (Named c.args.action.0) (grind (arith, c.in-Some.ensures, c.has.ensures, c.if-not-has.false))
+may c = may_close c.self.invariant c.args.node.0 (omega arith) (Named c.args.action.0)
+    (grind (arith, c.in-Some.ensures, c.has.ensures, c.if-not-has.false))
 
-lawful : (c : After-make_room) → IsLawful c.self.inside.nodes (present (accepted c.self.inside).steps) (ActionClose c.args.node c.args.action)
+lawful : (c : After-make_room)
+    → IsLawful c.self.inside.nodes (present (accepted c.self.inside).steps) (ActionClose c.args.node c.args.action)
 lawful c = (omega arith, (may c).there)
 
 comes : (c : After-make_room) → MayCome c.self.inside.nodes (accepted c.self.inside).steps (ActionClose c.args.node c.args.action)
@@ -33,7 +35,8 @@ invariant_of-self-2 c =
     let agree = c.self.invariant in
     let s = ActionClose c.args.node c.args.action in
     let at = (goal.at.invariant_of-self-2 c).After-make_room in
-    agree_next s agree (comes at) refl (c.in_ok-make_room.ensures.ok).0 c.in_ok-make_room.ensures.pieces refl refl refl refl c.make_room.ensures.items c.push_reserved.ensures.items c.push_reserved.ensures.capacity
+    agree_next s agree (comes at) refl (c.in_ok-make_room.ensures.ok).0 c.in_ok-make_room.ensures.pieces refl refl refl refl
+    c.make_room.ensures.items c.push_reserved.ensures.items c.push_reserved.ensures.capacity
     (numbers_written s agree.numbers (lawful at) c.args.node.0 _ (may at).inside refl refl) refl refl agree.tasks
     (named_closed agree.actions _ c.args.node.0 c.args.action.0 _ (may at).once (may at).there c.set.ensures
     (λ i. c.without.ensures i ∙ rw (← c.in-Some.ensures) refl))
@@ -43,7 +46,8 @@ pub returns-in_err-make_room : goal.returns-in_err-make_room
 returns-in_err-make_room c =
     let p = err_from_is_err_and c.from_residual.result c.from_residual.ensures.1 in
     rw (p.1, p.2)
-    (no_room (ActionClose c.args.node c.args.action) c.self.invariant c.self.view_is (comes (goal.at.returns-in_err-make_room c).After-make_room) _ c.in_err-make_room.ensures.err
+    (no_room (ActionClose c.args.node c.args.action) c.self.invariant c.self.view_is
+    (comes (goal.at.returns-in_err-make_room c).After-make_room) _ c.in_err-make_room.ensures.err
     c.make_room.ensures.items)
 
 pub returns : goal.returns

@@ -21,7 +21,9 @@ told {a} {c} agree = two_told a.nodes (present a.steps) agree.some_node agree.is
 
 lawful : (c : After-make_room) → IsLawful c.self.inside.nodes (present (accepted c.self.inside).steps) Judge
 lawful c =
-    let a = accepted c.self.inside in (checks_exact a.nodes (present a.steps) Judge refl).0 (sym (c.in_ok-judged.ensures.exact a.nodes (present a.steps) c.self.invariant.wave))
+    let a = accepted c.self.inside in
+    (checks_exact a.nodes (present a.steps) Judge refl).0
+    (sym (c.in_ok-judged.ensures.exact a.nodes (present a.steps) c.self.invariant.wave))
 
 comes : (c : After-make_room) → MayCome c.self.inside.nodes (accepted c.self.inside).steps Judge
 comes c = record { reopens = λ f. cc; goes_on = λ f. (lawful c, tt) }
@@ -29,21 +31,24 @@ comes c = record { reopens = λ f. cc; goes_on = λ f. (lawful c, tt) }
 pub returns-in_err-judged : goal.returns-in_err-judged
 returns-in_err-judged c =
     let a = accepted c.self.inside in
-    let first = by_wave Judge c.self.invariant c.self.view_is c.in_err-judged.field-0.0 (c.in_err-judged.ensures.exact a.nodes (present a.steps) c.self.invariant.wave) in
+    let first = by_wave Judge c.self.invariant c.self.view_is c.in_err-judged.field-0.0
+    (c.in_err-judged.ensures.exact a.nodes (present a.steps) c.self.invariant.wave) in
     grind (arith, common_steps, first)
 
 pub returns-in_err-make_room : goal.returns-in_err-make_room
 returns-in_err-make_room c =
     let p = err_from_is_err_and c.from_residual-in_err-make_room.result c.from_residual-in_err-make_room.ensures.1 in
     rw (p.1, p.2)
-    (no_room Judge c.self.invariant c.self.view_is (comes (goal.at.returns-in_err-make_room c).After-make_room) _ c.in_err-make_room.ensures.err
+    (no_room Judge c.self.invariant c.self.view_is (comes (goal.at.returns-in_err-make_room c).After-make_room) _
+    c.in_err-make_room.ensures.err
     c.make_room.ensures.items)
 
 pub invariant_of-self-2 : goal.invariant_of-self-2
 invariant_of-self-2 c =
     let agree = c.self.invariant in
     let at = (goal.at.invariant_of-self-2 c).After-make_room in
-    agree_after Judge agree (comes at) refl (c.in_ok-make_room.ensures.ok).0 c.in_ok-make_room.ensures.pieces refl refl c.make_room.ensures.items c.push_reserved.ensures.items c.push_reserved.ensures.capacity
+    agree_after Judge agree (comes at) refl (c.in_ok-make_room.ensures.ok).0 c.in_ok-make_room.ensures.pieces refl refl
+    c.make_room.ensures.items c.push_reserved.ensures.items c.push_reserved.ensures.capacity
     (numbers_stay Judge agree.numbers (lawful at) (λ x. refl)) refl refl agree.tasks agree.actions agree.messages
     (c.in_ok-judged.ensures.follows c.self.inside.nodes (present (accepted c.self.inside).steps) agree.wave (told agree))
 
@@ -54,10 +59,12 @@ returns c =
     elim c.match-judged.branch [
       | in-Some w ↦
           rw w.result-is
-          (taken Judge c.self.invariant c.self.view_is (comes (goal.at.returns c).After-make_room) (c.in_ok-make_room.ensures.ok).0 c.make_room.ensures.items
+          (taken Judge c.self.invariant c.self.view_is (comes (goal.at.returns c).After-make_room) (c.in_ok-make_room.ensures.ok).0
+          c.make_room.ensures.items
           c.push_reserved.ensures.items (ap judged (sym w.in-Some.is ∙ word)))
       | in-None w ↦
           rw w.result-is
-          (taken Judge c.self.invariant c.self.view_is (comes (goal.at.returns c).After-make_room) (c.in_ok-make_room.ensures.ok).0 c.make_room.ensures.items
+          (taken Judge c.self.invariant c.self.view_is (comes (goal.at.returns c).After-make_room) (c.in_ok-make_room.ensures.ok).0
+          c.make_room.ensures.items
           c.push_reserved.ensures.items (ap judged (sym w.in-None.is ∙ word)))
     ]

@@ -18,7 +18,8 @@ use Rattle.tp_core.proofs.accepting.Core.open.Goals.{After-make_room}
 low : (c : After-make_room) → c.args.node.0 < MAX_NODES
 low c = let few = c.self.invariant.few_nodes in omega arith
 
-lawful : (c : After-make_room) → IsLawful c.self.inside.nodes (present (accepted c.self.inside).steps) (ActionOpen c.args.node c.args.action)
+lawful : (c : After-make_room)
+    → IsLawful c.self.inside.nodes (present (accepted c.self.inside).steps) (ActionOpen c.args.node c.args.action)
 lawful c =
     let there = c.self.invariant.numbers.each c.args.node.0 zeros (low c) in
     let closed = c.self.invariant.actions.are_open c.args.node.0 (Named c.args.action.0) in (
@@ -32,7 +33,12 @@ comes c = record { reopens = λ f. cc; goes_on = λ f. (lawful c, tt) }
 
 pub overflow_add-self : goal.overflow_add-self
 overflow_add-self c =
-    let bounds = small c.self.invariant c.args.node.0 (low (goal.at.overflow_add-self c).After-make_room) in omega (arith, bounds.pending, bounds.left)
+    let bounds =
+    small c.self.invariant c.args.node.0 (low (goal.at.overflow_add-self c).After-make_room) in omega (
+      arith,
+      bounds.pending,
+      bounds.left,
+    )
 
 pub overflow_add-self-2 : goal.overflow_add-self-2
 overflow_add-self-2 c = let bounds = small c.self.invariant 0 (omega arith) in omega (arith, bounds.left)
@@ -42,7 +48,8 @@ invariant_of-self-2 c =
     let agree = c.self.invariant in
     let s = ActionOpen c.args.node c.args.action in
     let at = (goal.at.invariant_of-self-2 c).After-make_room in
-    agree_next s agree (comes at) refl (c.in_ok-make_room.ensures.ok).0 c.in_ok-make_room.ensures.pieces refl refl refl refl c.make_room.ensures.items c.push_reserved.ensures.items c.push_reserved.ensures.capacity
+    agree_next s agree (comes at) refl (c.in_ok-make_room.ensures.ok).0 c.in_ok-make_room.ensures.pieces refl refl refl refl
+    c.make_room.ensures.items c.push_reserved.ensures.items c.push_reserved.ensures.capacity
     (numbers_written s agree.numbers (lawful at) c.args.node.0 _ (low at) refl refl) refl refl agree.tasks
     (named_opened agree.actions _ c.args.node.0 c.args.action.0 _ c.in_ok-insert.ensures.ok
     (λ i. c.with.ensures i ∙ grind (arith, c.get.ensures, c.new.ensures i, c.unwrap_or-nodes.ensures)))
@@ -52,14 +59,16 @@ pub returns-in_err-insert : goal.returns-in_err-insert
 returns-in_err-insert c =
     let p = err_from_is_err_and c.from_residual-in_err-insert.result c.from_residual-in_err-insert.ensures.1 in
     rw p.1
-    (no_memory (ActionOpen c.args.node c.args.action) c.self.invariant c.self.view_is (comes (goal.at.returns-in_err-insert c).After-make_room)
+    (no_memory (ActionOpen c.args.node c.args.action) c.self.invariant c.self.view_is
+    (comes (goal.at.returns-in_err-insert c).After-make_room)
     (c.in_ok-make_room.ensures.ok).0 refl _ p.2 c.make_room.ensures.items)
 
 pub returns-in_err-make_room : goal.returns-in_err-make_room
 returns-in_err-make_room c =
     let p = err_from_is_err_and c.from_residual.result c.from_residual.ensures.1 in
     rw (p.1, p.2)
-    (no_room (ActionOpen c.args.node c.args.action) c.self.invariant c.self.view_is (comes (goal.at.returns-in_err-make_room c).After-make_room) _ c.in_err-make_room.ensures.err
+    (no_room (ActionOpen c.args.node c.args.action) c.self.invariant c.self.view_is
+    (comes (goal.at.returns-in_err-make_room c).After-make_room) _ c.in_err-make_room.ensures.err
     c.make_room.ensures.items)
 
 pub returns : goal.returns

@@ -22,22 +22,33 @@ was c = grind (arith, common_steps, c.get.ensures, c.new-under_way.ensures, c.ne
 may : (c : After-make_room) → MayReceive c.self.inside c.args.node.0 c.args.message.0
 may c = may_receive c.self.invariant c.args.node c.args.message.0 (omega arith) (was c)
 
-lawful : (c : After-make_room) → IsLawful c.self.inside.nodes (present (accepted c.self.inside).steps) (Recv c.args.node c.args.message c.args.generation)
+lawful : (c : After-make_room)
+    → IsLawful c.self.inside.nodes (present (accepted c.self.inside).steps) (Recv c.args.node c.args.message c.args.generation)
 lawful c = (omega arith, (may c).there)
 
 of_present : (c : After-make_room) → c.args.generation.0 ≡ generation (accepted c.self.inside).steps
 of_present c = let kept = c.self.invariant.generation_is in omega arith
 
-comes : (c : After-make_room) → MayCome c.self.inside.nodes (accepted c.self.inside).steps (Recv c.args.node c.args.message c.args.generation)
+comes : (c : After-make_room)
+    → MayCome c.self.inside.nodes (accepted c.self.inside).steps (Recv c.args.node c.args.message c.args.generation)
 comes c = record { reopens = λ f. cc; goes_on = λ f. (lawful c, of_present c) }
 
 pub overflow_add-numbers : goal.overflow_add-numbers
 overflow_add-numbers c =
-    let bounds = small c.self.invariant c.args.node.0 (may (goal.at.overflow_add-numbers c).After-make_room).inside in omega (arith, bounds.pending, bounds.left)
+    let bounds =
+    small c.self.invariant c.args.node.0 (may (goal.at.overflow_add-numbers c).After-make_room).inside in omega (
+      arith,
+      bounds.pending,
+      bounds.left,
+    )
 
 pub overflow_add-numbers-2 : goal.overflow_add-numbers-2
 overflow_add-numbers-2 c =
-    let bounds = small c.self.invariant c.args.node.0 (may (goal.at.overflow_add-numbers-2 c).After-make_room).inside in omega (arith, bounds.received)
+    let bounds =
+    small c.self.invariant c.args.node.0 (may (goal.at.overflow_add-numbers-2 c).After-make_room).inside in omega (
+      arith,
+      bounds.received,
+    )
 
 pub overflow_add-self : goal.overflow_add-self
 overflow_add-self c = let bounds = small c.self.invariant 0 (omega arith) in omega (arith, bounds.left)
@@ -50,7 +61,8 @@ invariant_of-self-2 c =
     let agree = c.self.invariant in
     let s = Recv c.args.node c.args.message c.args.generation in
     let at = (goal.at.invariant_of-self-2 c).After-make_room in
-    agree_next s agree (comes at) refl (c.in_ok-make_room.ensures.ok).0 c.in_ok-make_room.ensures.pieces refl refl refl refl c.make_room.ensures.items c.push_reserved.ensures.items c.push_reserved.ensures.capacity
+    agree_next s agree (comes at) refl (c.in_ok-make_room.ensures.ok).0 c.in_ok-make_room.ensures.pieces refl refl refl refl
+    c.make_room.ensures.items c.push_reserved.ensures.items c.push_reserved.ensures.capacity
     (numbers_written s agree.numbers (lawful at) c.args.node.0 _ (may at).inside refl refl) refl refl agree.tasks
     (received agree.actions _ c.args.message.0 c.args.node (was at) (rw c.new-received.ensures at c.set.ensures))
     (message_received agree.messages _ c.args.message.0 c.args.node ((lists_are_sets _ _ agree.is_run).messages c.args.message.0) (was at)
@@ -60,7 +72,8 @@ pub returns-in_err-make_room : goal.returns-in_err-make_room
 returns-in_err-make_room c =
     let p = err_from_is_err_and c.from_residual.result c.from_residual.ensures.1 in
     rw (p.1, p.2)
-    (no_room (Recv c.args.node c.args.message c.args.generation) c.self.invariant c.self.view_is (comes (goal.at.returns-in_err-make_room c).After-make_room) _ c.in_err-make_room.ensures.err
+    (no_room (Recv c.args.node c.args.message c.args.generation) c.self.invariant c.self.view_is
+    (comes (goal.at.returns-in_err-make_room c).After-make_room) _ c.in_err-make_room.ensures.err
     c.make_room.ensures.items)
 
 pub returns : goal.returns

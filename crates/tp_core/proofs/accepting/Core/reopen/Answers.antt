@@ -27,7 +27,8 @@ pub returns-in_err-make_room : goal.returns-in_err-make_room
 returns-in_err-make_room c =
     let p = err_from_is_err_and c.from_residual.result c.from_residual.ensures.1 in
     rw (p.1, p.2)
-    (no_room Reopen c.self.invariant c.self.view_is (comes (goal.at.returns-in_err-make_room c).After-make_room) _ c.in_err-make_room.ensures.err
+    (no_room Reopen c.self.invariant c.self.view_is (comes (goal.at.returns-in_err-make_room c).After-make_room) _
+    c.in_err-make_room.ensures.err
     c.make_room.ensures.items)
 
 pub overflow_add-self : goal.overflow_add-self
@@ -37,8 +38,10 @@ overflow_add-self c =
 
 pub invariant_of-self-2 : goal.invariant_of-self-2
 invariant_of-self-2 c =
-    reopened_kept c.self.invariant (comes (goal.at.invariant_of-self-2 c).After-make_room) (c.in_ok-make_room.ensures.ok).0 c.in_ok-make_room.ensures.pieces refl refl
-    c.make_room.ensures.items c.push_reserved.ensures.items c.push_reserved.ensures.capacity c.opened.ensures refl refl c.clear.ensures c.clear-2.ensures c.clear-3.ensures c.new-self-inside.ensures.follows
+    reopened_kept c.self.invariant (comes (goal.at.invariant_of-self-2 c).After-make_room) (c.in_ok-make_room.ensures.ok).0
+    c.in_ok-make_room.ensures.pieces refl refl
+    c.make_room.ensures.items c.push_reserved.ensures.items c.push_reserved.ensures.capacity c.opened.ensures refl refl c.clear.ensures
+    c.clear-2.ensures c.clear-3.ensures c.new-self-inside.ensures.follows
 
 pub returns : goal.returns
 returns c =

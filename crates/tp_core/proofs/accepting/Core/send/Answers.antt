@@ -26,7 +26,8 @@ low c = let few = c.self.invariant.few_nodes in omega arith
 fresh : (c : After-make_room) → lookup c.self.inside.messages c.args.message.0 ≡ None
 fresh c = none_of _ _ _ c.get.ensures c.is_some.ensures c.if-is_some.false
 
-lawful : (c : After-make_room) → IsLawful c.self.inside.nodes (present (accepted c.self.inside).steps) (Send c.args.from c.args.to c.args.message c.args.generation)
+lawful : (c : After-make_room)
+    → IsLawful c.self.inside.nodes (present (accepted c.self.inside).steps) (Send c.args.from c.args.to c.args.message c.args.generation)
 lawful c =
     let there = c.self.invariant.numbers.each c.args.from.0 zeros (low c) in
     let known = c.self.invariant.messages.known c.args.message.0 in
@@ -35,11 +36,13 @@ lawful c =
 of_present : (c : After-make_room) → c.args.generation.0 ≡ generation (accepted c.self.inside).steps
 of_present c = let kept = c.self.invariant.generation_is in omega arith
 
-comes : (c : After-make_room) → MayCome c.self.inside.nodes (accepted c.self.inside).steps (Send c.args.from c.args.to c.args.message c.args.generation)
+comes : (c : After-make_room)
+    → MayCome c.self.inside.nodes (accepted c.self.inside).steps (Send c.args.from c.args.to c.args.message c.args.generation)
 comes c = record { reopens = λ f. cc; goes_on = λ f. (lawful c, of_present c) }
 
 pub overflow_add-self : goal.overflow_add-self
-overflow_add-self c = let bounds = small c.self.invariant c.args.from.0 (low (goal.at.overflow_add-self c).After-make_room) in omega (arith, bounds.sent)
+overflow_add-self c = let bounds =
+    small c.self.invariant c.args.from.0 (low (goal.at.overflow_add-self c).After-make_room) in omega (arith, bounds.sent)
 
 pub overflow_add-self-2 : goal.overflow_add-self-2
 overflow_add-self-2 c = let bounds = small c.self.invariant 0 (omega arith) in omega (arith, bounds.under)
@@ -49,26 +52,31 @@ invariant_of-self-2 c =
     let agree = c.self.invariant in
     let s = Send c.args.from c.args.to c.args.message c.args.generation in
     let at = (goal.at.invariant_of-self-2 c).After-make_room in
-    agree_next s agree (comes at) refl (c.in_ok-make_room.ensures.ok).0 c.in_ok-make_room.ensures.pieces refl refl refl refl c.make_room.ensures.items c.push_reserved.ensures.items c.push_reserved.ensures.capacity
+    agree_next s agree (comes at) refl (c.in_ok-make_room.ensures.ok).0 c.in_ok-make_room.ensures.pieces refl refl refl refl
+    c.make_room.ensures.items c.push_reserved.ensures.items c.push_reserved.ensures.capacity
     (numbers_written s agree.numbers (lawful at) c.args.from.0 _ (low at) refl refl) refl refl agree.tasks
     (posted agree.actions _ c.args.message.0 c.args.to (fresh at) (rw c.new-under_way.ensures at c.in_ok-insert.ensures.ok))
-    (message_sent agree.messages _ c.args.from.0 c.args.message.0 c.args.to (fresh at) (rw c.new-under_way.ensures at c.in_ok-insert.ensures.ok))
+    (message_sent agree.messages _ c.args.from.0 c.args.message.0 c.args.to (fresh at)
+    (rw c.new-under_way.ensures at c.in_ok-insert.ensures.ok))
 
 pub returns-in_err-make_room : goal.returns-in_err-make_room
 returns-in_err-make_room c =
     let p = err_from_is_err_and c.from_residual.result c.from_residual.ensures.1 in
     rw (p.1, p.2)
-    (no_room (Send c.args.from c.args.to c.args.message c.args.generation) c.self.invariant c.self.view_is (comes (goal.at.returns-in_err-make_room c).After-make_room) _ c.in_err-make_room.ensures.err
+    (no_room (Send c.args.from c.args.to c.args.message c.args.generation) c.self.invariant c.self.view_is
+    (comes (goal.at.returns-in_err-make_room c).After-make_room) _ c.in_err-make_room.ensures.err
     c.make_room.ensures.items)
 
 pub returns-in_err-insert : goal.returns-in_err-insert
 returns-in_err-insert c =
     let p = err_from_is_err_and c.from_residual-in_err-insert.result c.from_residual-in_err-insert.ensures.1 in
     rw p.1
-    (no_memory (Send c.args.from c.args.to c.args.message c.args.generation) c.self.invariant c.self.view_is (comes (goal.at.returns-in_err-insert c).After-make_room)
+    (no_memory (Send c.args.from c.args.to c.args.message c.args.generation) c.self.invariant c.self.view_is
+    (comes (goal.at.returns-in_err-insert c).After-make_room)
     (c.in_ok-make_room.ensures.ok).0 refl _ p.2 c.make_room.ensures.items)
 
 pub returns : goal.returns
 returns c =
-    taken (Send c.args.from c.args.to c.args.message c.args.generation) c.self.invariant c.self.view_is (comes (goal.at.returns c).After-make_room)
+    taken (Send c.args.from c.args.to c.args.message c.args.generation) c.self.invariant c.self.view_is
+    (comes (goal.at.returns c).After-make_room)
     (c.in_ok-make_room.ensures.ok).0 c.make_room.ensures.items c.push_reserved.ensures.items refl

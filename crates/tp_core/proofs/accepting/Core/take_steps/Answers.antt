@@ -22,16 +22,21 @@ not_ended c =
 quiet : (c : After-make_rooms) → IsTrue (is_quiet (world_of (accepted c.self.inside)))
 quiet c =
     let told : c.quiet.result ≡ true = grind (arith, nat_tests) in
-    subst (λ (x : Accepted). IsTrue (is_quiet (world_of x))) (sym c.self.view_is) (same_quiet c.quiet.result (world_of c.args.self.now) c.quiet.ensures ∙ told)
+    subst (λ (x : Accepted). IsTrue (is_quiet (world_of x))) (sym c.self.view_is)
+    (same_quiet c.quiet.result (world_of c.args.self.now) c.quiet.ensures ∙ told)
 
-taken : (c : After-take_to_end) → AreTaken c.self.inside.nodes (accepted c.self.inside).steps (reverse c.take_to_end.new.steps.items) c.take_to_end.new.wave c.take_to_end.result.0 c.take_to_end.result.1
+taken : (c : After-take_to_end)
+    → AreTaken c.self.inside.nodes (accepted c.self.inside).steps (reverse c.take_to_end.new.steps.items) c.take_to_end.new.wave
+    c.take_to_end.result.0 c.take_to_end.result.1
 taken c = rw (c.self.invariant.wave.stands.nodes, c.make_rooms.ensures.items) at c.take_to_end.ensures.taken
 
 pub returns-then-not-quiet : goal.returns-then-not-quiet
 returns-then-not-quiet c =
     let a = accepted c.self.inside in
     let open' : IsFalse (is_ended c.args.self.now.nodes (present c.args.self.now.steps)) =
-    subst (λ (x : Accepted). IsFalse (is_ended x.nodes (present x.steps))) c.self.view_is (sym (c.is_over.ensures a.nodes (is_ended a.nodes (present a.steps)) (present a.steps) c.self.invariant.wave.stands) ∙ c.if-is_over.false) in
+    subst (λ (x : Accepted). IsFalse (is_ended x.nodes (present x.steps))) c.self.view_is
+    (sym (c.is_over.ensures a.nodes (is_ended a.nodes (present a.steps)) (present a.steps) c.self.invariant.wave.stands)
+    ∙ c.if-is_over.false) in
     let told : c.quiet.result ≡ false = grind (arith, nat_tests) in
     (by_quiet c.args.self.now open' (same_quiet c.quiet.result (world_of c.args.self.now) c.quiet.ensures ∙ told), refl)
 
@@ -40,7 +45,8 @@ returns-in_err-make_rooms c =
     let at = (goal.at.returns-in_err-make_rooms c).After-make_rooms in
     let p = err_from_is_err_and c.from_residual.result c.from_residual.ensures.1 in
     rw (p.1, p.2)
-    (no_rooms c.self.inside c.make_rooms.new.steps.items _ c.self.view_is (not_ended at) (quiet at) c.in_err-make_rooms.ensures.err c.make_rooms.ensures.items)
+    (no_rooms c.self.inside c.make_rooms.new.steps.items _ c.self.view_is (not_ended at) (quiet at) c.in_err-make_rooms.ensures.err
+    c.make_rooms.ensures.items)
 
 pub take_to_end-requires-clause-settling : goal.take_to_end-requires-clause-settling
 take_to_end-requires-clause-settling c =
@@ -58,6 +64,10 @@ returns c =
     let at = (goal.at.returns c).After-make_rooms in
     let a = accepted c.self.inside in
     let end = taken (goal.at.returns c).After-take_to_end in
-    subst (λ (x : Accepted). (first_refusal (settle_checks x) ≡ None) × IsSettled x (record { nodes = c.self.inside.nodes; steps = reverse c.take_to_end.new.steps.items }) c.take_to_end.result.0 c.take_to_end.result.1)
-    c.self.view_is
-    (by_none a (not_ended at) (quiet at) (rw (length-reverse c.self.inside.steps.items) c.in_ok-make_rooms.ensures.room), settled c.self.invariant (quiet at) end)
+    subst (λ (x : Accepted). (first_refusal (settle_checks x) ≡ None)
+    × IsSettled x (record { nodes = c.self.inside.nodes; steps = reverse c.take_to_end.new.steps.items }) c.take_to_end.result.0
+    c.take_to_end.result.1)
+    c.self.view_is (
+      by_none a (not_ended at) (quiet at) (rw (length-reverse c.self.inside.steps.items) c.in_ok-make_rooms.ensures.room),
+      settled c.self.invariant (quiet at) end,
+    )

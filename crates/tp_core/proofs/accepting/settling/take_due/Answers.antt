@@ -24,16 +24,23 @@ due c = c.next_step-step.ensures.due (nodes_of c.args.wave.now) (present (revers
 pub start-requires : goal.start-requires
 start-requires c =
     let s = c.requires.settling in
-    omega (arith, (started_law (nodes_of c.args.wave.now) (present (reverse c.args.steps.now.items)) c.args.wave.now s.follows).1, length-present (reverse c.args.steps.now.items), s.within)
+    omega (
+      arith,
+      (started_law (nodes_of c.args.wave.now) (present (reverse c.args.steps.now.items)) c.args.wave.now s.follows).1,
+      length-present (reverse c.args.steps.now.items),
+      s.within,
+    )
 
 pub give-requires-clause-sent : goal.give-requires-clause-sent
 give-requires-clause-sent c =
-    let at : IsDue (nodes_of c.args.wave.now) (present (reverse c.args.steps.now.items)) (Give c.in-Give.node) = rw c.in-Give.is at (due (goal.at.give-requires-clause-sent c).After-next_step-step) in
+    let at : IsDue (nodes_of c.args.wave.now) (present (reverse c.args.steps.now.items)) (Give c.in-Give.node) =
+    rw c.in-Give.is at (due (goal.at.give-requires-clause-sent c).After-next_step-step) in
     few_sent c.in-Give.node.0 c.requires.settling at.0
 
 pub give-requires-clause-received : goal.give-requires-clause-received
 give-requires-clause-received c =
-    let at : IsDue (nodes_of c.args.wave.now) (present (reverse c.args.steps.now.items)) (Give c.in-Give.node) = rw c.in-Give.is at (due (goal.at.give-requires-clause-received c).After-next_step-step) in
+    let at : IsDue (nodes_of c.args.wave.now) (present (reverse c.args.steps.now.items)) (Give c.in-Give.node) =
+    rw c.in-Give.is at (due (goal.at.give-requires-clause-received c).After-next_step-step) in
     few_received c.in-Give.node.0 c.requires.settling at.0
 
 pub unwrap-requires-in-Give : goal.unwrap-requires-in-Give
@@ -41,7 +48,8 @@ unwrap-requires-in-Give c =
     let n = nodes_of c.args.wave.now in
     let steps = present (reverse c.args.steps.now.items) in
     let at : IsDue n steps (Give c.in-Give.node) = rw c.in-Give.is at (due (goal.at.unwrap-requires-in-Give c).After-next_step-step) in
-    ok_there c.give.result (c.give.ensures.exact n steps c.requires.settling.follows ∙ passes (Give c.in-Give.node) c.requires.settling refl at)
+    ok_there c.give.result (c.give.ensures.exact n steps c.requires.settling.follows
+    ∙ passes (Give c.in-Give.node) c.requires.settling refl at)
 
 pub returns-in-Judge-clause-taken : goal.returns-in-Judge-clause-taken
 returns-in-Judge-clause-taken c =
@@ -62,5 +70,6 @@ returns-in-Give-clause-taken c =
     let at : IsDue n steps (Give c.in-Give.node) = rw c.in-Give.is at (due (goal.at.returns-in-Give-clause-taken c).After-next_step-step) in
     let own = own_numbers c.in-Give.node.0 s at.0 in
     one_taken c.args.steps.now.items (Give c.in-Give.node) s refl at (rw c.in-Give.is at c.push_reserved.ensures.items)
-    (rw c.unwrap-in-Give.ensures at (c.give.ensures.follows n steps s.follows (ap (λ (x : NodeNumbers). x.sent) own) (ap (λ (x : NodeNumbers). x.received) own)))
+    (rw c.unwrap-in-Give.ensures at
+    (c.give.ensures.follows n steps s.follows (ap (λ (x : NodeNumbers). x.sent) own) (ap (λ (x : NodeNumbers). x.received) own)))
     s.not_ended

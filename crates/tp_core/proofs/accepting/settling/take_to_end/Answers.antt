@@ -24,6 +24,7 @@ loop-ended-preserved c =
     let g = c.loop-ended.invariant.goes_on in
     let none : c.take_due.result ≡ None = grind (arith, common_steps) in
     record {
-      goes_on = goes_further c.requires.settling (rw (length-reverse c.args.steps.now.items) c.requires.few) g (rw (g.settling.follows.stands.nodes, none) at c.take_due.ensures.taken);
+      goes_on = goes_further c.requires.settling (rw (length-reverse c.args.steps.now.items) c.requires.few) g
+          (rw (g.settling.follows.stands.nodes, none) at c.take_due.ensures.taken);
       room = c.take_due.ensures.capacity ∙ c.loop-ended.invariant.room;
     }

@@ -8,5 +8,6 @@ use Rattle.tp_store.specs.Content.{unfinished}
 
 pub returns-clause-active : goal.returns-clause-active
 returns-clause-active c live =
-    let some : 0 < unfinished c.self.inside.store.value = live_counts c.self.inside.store.value c.args.task (subst (λ o. IsTrue (is_live o)) c.life.ensures.life live) in
+    let some : 0 < unfinished c.self.inside.store.value =
+    live_counts c.self.inside.store.value c.args.task (subst (λ o. IsTrue (is_live o)) c.life.ensures.life live) in
     subst (λ (l : LocalState Numbers). 0 < pending l) c.self.view_is (omega (arith, some))

@@ -15,7 +15,8 @@ returns-in_err-check_change-clause-refused c =
     let fits = c.ranges.delta in
     let first = simp to_z-of_z at c.in_err-check_change.ensures in
     let p = err_from_is_err_and c.from_residual.result c.from_residual.ensures.1 in
-    let rest = (falls_below (m.numbers.actions - m.numbers.opening) c.args.delta, NoAction) ∷ (passes MAX_ACTIONS m.numbers.actions c.args.delta, HistoryFull MAX_ACTIONS) ∷ [] in
+    let rest = (falls_below (m.numbers.actions - m.numbers.opening) c.args.delta, NoAction)
+    ∷ (passes MAX_ACTIONS m.numbers.actions c.args.delta, HistoryFull MAX_ACTIONS) ∷ [] in
     rw (p.1, p.2) (first_refusal-append (change_checks m c.args.pool c.args.delta) rest _ first)
 
 pub invariant_of-self : goal.invariant_of-self

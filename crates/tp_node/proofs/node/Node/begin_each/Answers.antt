@@ -10,9 +10,11 @@ loop-preserved g c =
     let ready = c.requires.ready in
     let more : c.loop.counter < ready_count c.args.self.now = omega (arith, turn, ready) in
     record {
-      has = subst (λ (places : List (Option (Begun g.row.G.Denot))). HasBegun c.args.self.now c.args.board.now (c.loop.counter + 1) c.begin_next.new.self c.begin_next.new.board places)
+      has = subst (λ (places : List (Option (Begun g.row.G.Denot))). HasBegun c.args.self.now c.args.board.now (c.loop.counter + 1)
+          c.begin_next.new.self c.begin_next.new.board places)
           (sym c.push_reserved.ensures.items)
-          (begins_one c.args.self.now c.args.board.now c.loop.counter c.loop.self c.loop.board c.loop.works.items c.loop.invariant.has c.begin_next.new.self c.begin_next.new.board
+          (begins_one c.args.self.now c.args.board.now c.loop.counter c.loop.self c.loop.board c.loop.works.items c.loop.invariant.has
+          c.begin_next.new.self c.begin_next.new.board
           c.begin_next.result c.begin_next.ensures.begun c.begin_next.ensures.life c.begin_next.ensures.sound more);
       capacity = c.push_reserved.ensures.capacity ∙ c.loop.invariant.capacity;
     }

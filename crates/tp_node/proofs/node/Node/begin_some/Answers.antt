@@ -12,7 +12,8 @@ begin_each-requires-sync-G g c κs within = c.type_bounds.sync-G
 pub returns-clause-refusal : goal.returns-clause-refusal
 returns-clause-refusal g c =
     let same : c.min-count.result ≡ min (ready_count c.args.self.now) c.args.max = search rules in
-    room_answers c.min-count.result (min (ready_count c.args.self.now) c.args.max) c.args.board.now c.in_ok-reserve.field-0 c.begin_each.result same c.in_ok-reserve.ensures.refusal
+    room_answers c.min-count.result (min (ready_count c.args.self.now) c.args.max) c.args.board.now c.in_ok-reserve.field-0
+    c.begin_each.result same c.in_ok-reserve.ensures.refusal
 
 pub begin_each-requires-after_bounds : goal.begin_each-requires-after_bounds
 begin_each-requires-after_bounds g c κs within = search rules

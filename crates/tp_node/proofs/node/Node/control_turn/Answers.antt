@@ -8,7 +8,8 @@ pub returns : goal.returns
 returns g c =
     let now = c.args.self.now in
     let nodes = sym c.self.invariant.nodes ∙ ap (λ (n : NodeState g.row.G.Denot). n.nodes) c.self.view_is in
-    let number = ap (λ (n : NodeNumbers). n.node) c.audit.ensures.same.1 ∙ ap (λ (n : NodeState g.row.G.Denot). n.numbers.node) c.self.view_is in
+    let number =
+    ap (λ (n : NodeNumbers). n.node) c.audit.ensures.same.1 ∙ ap (λ (n : NodeState g.row.G.Denot). n.numbers.node) c.self.view_is in
     let turn = turn_told now c.args.board.now nodes number c.audit.ensures.same.0 c.make_first.ensures in
     let sound : is_some c.args.board.now.fault ≡ false = search rules in
     record {

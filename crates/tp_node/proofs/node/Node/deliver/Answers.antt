@@ -8,9 +8,13 @@ use Rattle.tp_node.proofs.node.Node.deliver.Goals as goal
 
 pub returns-in-Err-clause-refusal : goal.returns-in-Err-clause-refusal
 returns-in-Err-clause-refusal g c =
-    subst (λ (f : Feed). AnswersWith {A = Unit {0}} (deliver_checks (g.G.Graph.meaning c.args.self.now.graph) c.args.self.now c.args.board.now f) c.args.parcel (Err (c.in-Err.refusal, c.args.parcel)))
+    subst (λ (f : Feed). AnswersWith {A = Unit {0}}
+    (deliver_checks (g.G.Graph.meaning c.args.self.now.graph) c.args.self.now c.args.board.now f) c.args.parcel
+    (Err (c.in-Err.refusal, c.args.parcel)))
     c.feed-feed.ensures.same
-    (refused_with (Unit {0}) (deliver_checks (g.G.Graph.meaning c.args.self.now.graph) c.args.self.now c.args.board.now c.feed-feed.result) c.in-Err.refusal c.args.parcel c.in-Err.ensures.refusal)
+    (refused_with (Unit {0})
+    (deliver_checks (g.G.Graph.meaning c.args.self.now.graph) c.args.self.now c.args.board.now c.feed-feed.result) c.in-Err.refusal
+    c.args.parcel c.in-Err.ensures.refusal)
 
 pub returns-in-Ok-clause-events : goal.returns-in-Ok-clause-events
 returns-in-Ok-clause-events g c = search rules

@@ -16,6 +16,7 @@ invariant_of-result g c = record {
     received = ap (λ s. s.received) c.requires.first ∙ sym (ap (λ l. l.received) c.new.ensures.first);
     done = ap (λ s. s.done) c.requires.first ∙ sym (ap (λ l. length l.store.results) c.new.ensures.first);
   };
-  right = subst (λ (l : LocalState Numbers). AreRightValues (g.G.Graph.meaning c.args.graph) l.store) (sym c.new.ensures.first) (right_at_first _);
+  right = subst (λ (l : LocalState Numbers). AreRightValues (g.G.Graph.meaning c.args.graph) l.store) (sym c.new.ensures.first)
+      (right_at_first _);
   seeded = λ u low seed. absurd (omega arith);
 }

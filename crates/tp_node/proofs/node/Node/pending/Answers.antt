@@ -7,4 +7,6 @@ pub returns-clause-counted : goal.returns-clause-counted
 returns-clause-counted g c = c.pending.ensures.pending ∙ ap (λ (n : NodeState g.row.G.Denot). pending n.state) c.self.view_is
 
 pub returns-clause-share : goal.returns-clause-share
-returns-clause-share g c = c.pending.ensures.pending ∙ sym c.self.invariant.counted.pending ∙ ap (λ (n : NodeState g.row.G.Denot). n.numbers.pending) c.self.view_is
+returns-clause-share g c =
+    c.pending.ensures.pending ∙ sym c.self.invariant.counted.pending
+    ∙ ap (λ (n : NodeState g.row.G.Denot). n.numbers.pending) c.self.view_is

@@ -14,23 +14,32 @@ use Rattle.tp_store.specs.Content.{inserted_by, refusal_of_deliver, task_of}
 pub invariant_of-self-2 : goal.invariant_of-self-2
 invariant_of-self-2 g c =
     let input : IsInput (g.G.Graph.meaning c.self.inside.graph) c.args.feed.target.0 c.args.feed.slot c.args.value =
-    subst (λ (n : NodeState g.row.G.Denot). IsInput (g.G.Graph.meaning n.graph) c.args.feed.target.0 c.args.feed.slot c.args.value) (sym c.self.view_is) c.requires.input in
-    let step : c.putting_step-step.result ≡ (if is_some (task_of c.self.inside.local.store c.args.feed.target) then Supply c.args.feed.target else inserting c.self.inside.shares.node c.args.feed.target (c.arity-arity.result - 1)) =
+    subst (λ (n : NodeState g.row.G.Denot). IsInput (g.G.Graph.meaning n.graph) c.args.feed.target.0 c.args.feed.slot c.args.value)
+    (sym c.self.view_is) c.requires.input in
+    let step : c.putting_step-step.result
+    ≡ (if is_some (task_of c.self.inside.local.store c.args.feed.target) then Supply c.args.feed.target else inserting
+    c.self.inside.shares.node c.args.feed.target (c.arity-arity.result - 1)) =
     subst
-    (λ (n : NodeState g.row.G.Denot). c.putting_step-step.result ≡ (if is_some (task_of n.state.store c.args.feed.target) then Supply c.args.feed.target else inserting n.numbers.node c.args.feed.target (c.arity-arity.result - 1)))
+    (λ (n : NodeState g.row.G.Denot). c.putting_step-step.result
+    ≡ (if is_some (task_of n.state.store c.args.feed.target) then Supply c.args.feed.target else inserting n.numbers.node
+    c.args.feed.target (c.arity-arity.result - 1)))
     (sym c.self.view_is) c.putting_step-step.ensures in
-    put_keeps _ _ _ _ _ _ _ c.args.feed.target _ _ c.self.invariant c.putting_step-step.result _ (c.arity-arity.result - 1) c.class-class.result c.args.feed.slot c.args.value input
+    put_keeps _ _ _ _ _ _ _ c.args.feed.target _ _ c.self.invariant c.putting_step-step.result _ (c.arity-arity.result - 1)
+    c.class-class.result c.args.feed.slot c.args.value input
     (rw c.arity-arity.ensures at c.in_ok-deliver.ensures.delivered) step c.in-Ok.ensures.shares
     (c.in_ok-deliver.ensures.counted ∙ ap (λ d. pending c.self.inside.local + inserted_by d) c.in_ok-deliver.ensures.answer
-    ∙ ap (λ n. pending c.self.inside.local + n) (inserts_if (is_some (task_of c.self.inside.local.store c.args.feed.target)) (c.arity-arity.result - 1)))
+    ∙ ap (λ n. pending c.self.inside.local + n)
+    (inserts_if (is_some (task_of c.self.inside.local.store c.args.feed.target)) (c.arity-arity.result - 1)))
 
 pub returns-in_err-deliver-clause-refused : goal.returns-in_err-deliver-clause-refused
 returns-in_err-deliver-clause-refused g c =
     let p = err_from_is_err_and c.from_residual.result c.from_residual.ensures.1 in
     let free : refusal_of_deliver c.self.inside.local.store c.args.feed.target c.arity-arity.result c.args.feed.slot ≡ None =
     rw c.arity-arity.ensures
-    (subst (λ (n : NodeState g.row.G.Denot). refusal_of_deliver n.state.store c.args.feed.target ((g.G.Graph.meaning n.graph).arity c.args.feed.target.0) c.args.feed.slot ≡ None) (sym c.self.view_is) c.requires.free) in
-    let share : 0 < c.self.inside.shares.pending = subst (λ (n : NodeState g.row.G.Denot). 0 < n.numbers.pending) (sym c.self.view_is) c.requires.active in
+    (subst (λ (n : NodeState g.row.G.Denot). refusal_of_deliver n.state.store c.args.feed.target
+    ((g.G.Graph.meaning n.graph).arity c.args.feed.target.0) c.args.feed.slot ≡ None) (sym c.self.view_is) c.requires.free) in
+    let share : 0 < c.self.inside.shares.pending =
+    subst (λ (n : NodeState g.row.G.Denot). 0 < n.numbers.pending) (sym c.self.view_is) c.requires.active in
     let some : 0 < pending c.self.inside.local = rw c.self.invariant.counted.pending at share in
     let none = delivery_free c.self.inside.local c.args.feed.target c.arity-arity.result c.args.feed.slot free some in
     let first : c.in_err-deliver.field-0.0.0 ≡ NoMemory = c.in_err-deliver.ensures.refused ∙ ap (λ o. unwrap_or o NoMemory) none in

@@ -11,7 +11,8 @@ pub returns-clause-each_once : goal.returns-clause-each_once
 returns-clause-each_once g c =
     let node = c.self.inside.shares.node in
     let idle : pending_at node (present_events c.args.board.now.history) ≡ 0 = c.audit_ended.ensures.quiet.idle node c.audit.ensures.node in
-    let pending : c.self.inside.shares.pending ≡ 0 = c.audit.ensures.pending ∙ ap (λ b. pending_at node (present_events b.history)) c.audit_ended.ensures.same ∙ idle in
+    let pending : c.self.inside.shares.pending ≡ 0 =
+    c.audit.ensures.pending ∙ ap (λ b. pending_at node (present_events b.history)) c.audit_ended.ensures.same ∙ idle in
     let none : unfinished c.self.inside.local.store ≡ 0 = omega (arith, pending, c.self.invariant.counted.pending) in
     subst (λ (n : NodeState g.row.G.Denot). EachOnce n.state.store) c.self.view_is (each_once _ c.results-results.ensures.sound none)
 

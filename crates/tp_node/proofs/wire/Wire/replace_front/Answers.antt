@@ -8,5 +8,6 @@ invariant_of-self g c =
     let from = c.requires.of_pair.0 ∙ sym (ap (λ (w : WireState g.row.G.Denot). w.from) c.self.view_is) in
     let to = c.requires.of_pair.1 ∙ sym (ap (λ (w : WireState g.row.G.Denot). w.to) c.self.view_is) in
     let home = c.requires.home ∙ sym (ap (λ (w : WireState g.row.G.Denot). w.to) c.self.view_is) in
-    wire_with_front _ _ _ _ _ c.args.message c.replace_front.result c.self.invariant c.replace_front.ensures.ends c.replace_front.ensures.replaced c.replace_front.ensures.kept
+    wire_with_front _ _ _ _ _ c.args.message c.replace_front.result c.self.invariant c.replace_front.ensures.ends
+    c.replace_front.ensures.replaced c.replace_front.ensures.kept
     c.replace_front.ensures.number (record { from_is = from; to_is = to; home_is = home })

@@ -26,7 +26,10 @@ index_mut-requires g c =
 pub returns : goal.returns
 returns g c s t =
     let next = next_number _ _ _ s t c.in-Some.place (sym c.in-Some.ensures.next) in
-    let both : Some next.0 ≡ Some c.in-Some-get.number.now = sym (c.in-Some-get.ensures.value ∙ t.numbered next.0 c.in-Some.place true next.2) in
+    let both : Some next.0 ≡ Some c.in-Some-get.number.now =
+    sym (c.in-Some-get.ensures.value ∙ t.numbered next.0 c.in-Some.place true next.2) in
     let same : next.0 ≡ c.in-Some-get.number.now = cc in
-    let first = next.1 ∙ both in
-    (ap Next (sym first), rw c.in-Some.ensures.content (popped _ _ _ s t c.in-Some-get.number.now c.in-Some.place true first (rw same at next.2)))
+    let first = next.1 ∙ both in (
+      ap Next (sym first),
+      rw c.in-Some.ensures.content (popped _ _ _ s t c.in-Some-get.number.now c.in-Some.place true first (rw same at next.2)),
+    )

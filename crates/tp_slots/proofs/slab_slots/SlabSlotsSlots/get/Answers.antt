@@ -11,4 +11,5 @@ unwrap-requires g c =
 
 pub returns : goal.returns
 returns g c =
-    ap (λ s. item_at s.content c.args.place) (sym c.self.view_is) ∙ get-items_of c.self.inside.items c.args.place ∙ (sym c.get.ensures ∙ ap option_copied c.unwrap.ensures)
+    ap (λ s. item_at s.content c.args.place) (sym c.self.view_is) ∙ get-items_of c.self.inside.items c.args.place
+    ∙ (sym c.get.ensures ∙ ap option_copied c.unwrap.ensures)

@@ -15,7 +15,8 @@ pub returns-in_default : goal.returns-in_default
 returns-in_default g c =
     let s = c.self.inside in
     let same = c.in_default.ensures.content ∙ same_slots c.self.invariant c.self.view_is (sym c.in_default.ensures.next) in
-    let content = ap (λ d. content_of (record { places = d; index = s.index; results = s.results; counts = s.counts })) same ∙ c.self.view_is in
+    let content =
+    ap (λ d. content_of (record { places = d; index = s.index; results = s.results; counts = s.counts })) same ∙ c.self.view_is in
     record {
       next = none_next c.self.invariant c.self.view_is (sym c.in_default.ensures.next);
       life = tt;
@@ -36,7 +37,12 @@ moved-requires g c = some_ready c.self.invariant c.self.view_is c.in-Some.place 
 
 -- what the store is once it runs
 begun_now : (g : given.Over) (c : goal.After-moved g)
-    → Leaves (record { places = g.S.Slots.content c.begin_at-inputs.new.slots; index = c.self.inside.index; results = c.self.inside.results; counts = c.moved.new.self })
+    → Leaves (record {
+      places = g.S.Slots.content c.begin_at-inputs.new.slots;
+      index = c.self.inside.index;
+      results = c.self.inside.results;
+      counts = c.moved.new.self;
+    })
     (with_begun c.args.self.now c.begin_at-inputs.result.0) (unfinished c.args.self.now)
 begun_now g c =
     rw c.moved.ensures (begun_all c.self.invariant c.self.view_is c.in-Some.place c.in-Some.ensures.next
@@ -60,5 +66,6 @@ returns g c =
       inputs = told.2;
       content = all.content;
       unfinished = all.count;
-      lives = subst (λ v. NoneGoesBack c.args.self.now v) (sym all.content) (begun_goes_on c.args.self.now c.begin_at-inputs.result.0 told.1);
+      lives = subst (λ v.
+          NoneGoesBack c.args.self.now v) (sym all.content) (begun_goes_on c.args.self.now c.begin_at-inputs.result.0 told.1);
     }

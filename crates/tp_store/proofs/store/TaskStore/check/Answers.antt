@@ -16,12 +16,14 @@ returns-in-Some-Live g c =
 pub returns-in-Some-Done : goal.returns-in-Some-Done
 returns-in-Some-Done g c =
     let at = c.in-Some-Done in
-    let x = seen c.self.invariant c.self.view_is c.args.task (Some (Done at.field-0-0 at.field-0-1)) (sym c.entry_of.ensures ∙ at.is ∙ ap Some at.field-0-is) in
+    let x = seen c.self.invariant c.self.view_is c.args.task (Some (Done at.field-0-0 at.field-0-1)) (sym c.entry_of.ensures ∙ at.is
+    ∙ ap Some at.field-0-is) in
     answers _ (known_refusal c.args.self.now c.args.task c.args.arity c.args.slot _ x) refl
 
 pub returns-in-None : goal.returns-in-None
 returns-in-None g c =
-    answers _ (unknown_refusal c.args.self.now c.args.task c.args.arity c.args.slot (seen c.self.invariant c.self.view_is c.args.task None (sym c.entry_of.ensures ∙ c.in-None.is)))
+    answers _ (unknown_refusal c.args.self.now c.args.task c.args.arity c.args.slot
+    (seen c.self.invariant c.self.view_is c.args.task None (sym c.entry_of.ensures ∙ c.in-None.is)))
     (new_answer c.self.invariant c.self.view_is c.check_new.result c.check_new.ensures.ok c.check_new.ensures.err)
 
 pub get-requires : goal.get-requires

@@ -34,26 +34,37 @@ returns-in-Err g c = record {
 pub supply-requires : goal.supply-requires
 supply-requires g c =
     let made = c.in-Ok.ensures in
-    let checked = first_checked c.self.invariant c.self.view_is c.args.task c.args.arity c.args.class made.inserted c.requires.unknown c.args.slot c.requires.slot_in_range in
-    let can = can_supply made.inserted.kept refl c.args.task c.args.arity c.args.slot c.in-Ok.new_place made.entry checked c.requires.slot_in_range in
+    let checked =
+    first_checked c.self.invariant c.self.view_is c.args.task c.args.arity c.args.class made.inserted c.requires.unknown c.args.slot
+    c.requires.slot_in_range in
+    let can = can_supply made.inserted.kept refl c.args.task c.args.arity c.args.slot c.in-Ok.new_place made.entry checked
+    c.requires.slot_in_range in
     record { fits = search rules; idle = can.0; waiting = can.1; slot_in_range = can.2; free = can.3; counted = can.4 }
 
 pub invariant_of-self-2 : goal.invariant_of-self-2
 invariant_of-self-2 g c =
     let made = c.in-Ok.ensures in
-    let checked = first_checked c.self.invariant c.self.view_is c.args.task c.args.arity c.args.class made.inserted c.requires.unknown c.args.slot c.requires.slot_in_range in
-    (supplied_all made.inserted.kept refl c.args.task c.args.arity c.args.slot c.in-Ok.new_place made.entry checked c.requires.slot_in_range c.args.class c.args.value
+    let checked =
+    first_checked c.self.invariant c.self.view_is c.args.task c.args.arity c.args.class made.inserted c.requires.unknown c.args.slot
+    c.requires.slot_in_range in
+    (supplied_all made.inserted.kept refl c.args.task c.args.arity c.args.slot c.in-Ok.new_place made.entry checked
+    c.requires.slot_in_range c.args.class c.args.value
     (g.S.Slots.content c.supply.new.slots) c.supply.new.counts c.supply.ensures.content c.supply.ensures.counts).kept
 
 pub returns : goal.returns
 returns g c =
     let made = c.in-Ok.ensures in
-    let checked = first_checked c.self.invariant c.self.view_is c.args.task c.args.arity c.args.class made.inserted c.requires.unknown c.args.slot c.requires.slot_in_range in
-    let all = first_all c.self.invariant c.self.view_is c.args.task c.args.arity c.args.class made.inserted c.requires.unknown c.args.slot c.requires.slot_in_range c.args.value
-    (supplied_all made.inserted.kept refl c.args.task c.args.arity c.args.slot c.in-Ok.new_place made.entry checked c.requires.slot_in_range c.args.class c.args.value
+    let checked =
+    first_checked c.self.invariant c.self.view_is c.args.task c.args.arity c.args.class made.inserted c.requires.unknown c.args.slot
+    c.requires.slot_in_range in
+    let all = first_all c.self.invariant c.self.view_is c.args.task c.args.arity c.args.class made.inserted c.requires.unknown c.args.slot
+    c.requires.slot_in_range c.args.value
+    (supplied_all made.inserted.kept refl c.args.task c.args.arity c.args.slot c.in-Ok.new_place made.entry checked
+    c.requires.slot_in_range c.args.class c.args.value
     (g.S.Slots.content c.supply.new.slots) c.supply.new.counts c.supply.ensures.content c.supply.ensures.counts) in
     record {
-      checked = unknown_refusal c.args.self.now c.args.task c.args.arity c.args.slot c.requires.unknown ∙ sym (ap refusal_of_new c.self.view_is) ∙ made.not_full;
+      checked = unknown_refusal c.args.self.now c.args.task c.args.arity c.args.slot c.requires.unknown
+          ∙ sym (ap refusal_of_new c.self.view_is) ∙ made.not_full;
       answer = inserts c.args.self.now c.args.task c.args.arity c.requires.unknown;
       content = all.content;
       unfinished = all.count;

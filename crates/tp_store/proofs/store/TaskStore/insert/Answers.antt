@@ -46,7 +46,8 @@ returns-in_err-insert_fresh g c =
       unfinished = no_ok c.from_residual-in_err-insert_fresh.result c.in_err-insert_fresh.field-0.0 _ is;
       lives = subst (NoneGoesBack c.args.self.now) (sym same) (λ t. omega arith);
       refusal = told c.from_residual-in_err-insert_fresh.result c.in_err-insert_fresh.field-0.0 _ is
-          (c.in_err-insert_fresh.ensures.refusal ∙ ap (λ v. unwrap_or (refusal_of_new v) NoMemory) c.self.view_is ∙ ap (λ o. unwrap_or o NoMemory)
+          (c.in_err-insert_fresh.ensures.refusal ∙ ap (λ v. unwrap_or (refusal_of_new v) NoMemory) c.self.view_is
+          ∙ ap (λ o. unwrap_or o NoMemory)
           ((insertable c.args.self.now c.args.task checked).1 ∙ sym checked));
       unchanged = on_err c.from_residual-in_err-insert_fresh.result _ same;
     }
@@ -62,7 +63,8 @@ returns g c =
       checked = checked;
       content = all.content;
       unfinished = all.count;
-      lives = subst (NoneGoesBack c.args.self.now) (sym all.content) (inserted_goes_on c.args.self.now c.args.task c.args.class (insertable c.args.self.now c.args.task checked).0);
+      lives = subst (NoneGoesBack c.args.self.now) (sym all.content)
+          (inserted_goes_on c.args.self.now c.args.task c.args.class (insertable c.args.self.now c.args.task checked).0);
       refusal = tt;
       unchanged = tt;
     }

@@ -16,16 +16,21 @@ pub returns-clause-nodes : goal.returns-clause-nodes
 returns-clause-nodes g c =
     let n = c.args.self.now.config.nodes in
     let same : g.K.Ledgers.names.nodes ≡ n = sym (ap (λ (names : PoolNames). names.nodes) c.requires.names) ∙ c.requires.nodes in
-    IfOk-weaker c.open_pool.result (λ (p : Pool g.row.G.Denot g.row.K.Denot). p.nodes.items ≡ first_nodes c.args.self.now.graph n) (λ p. vec_len p.nodes ≡ g.K.Ledgers.names.nodes)
-    (λ p is. p.nodes.ok.0 ∙ ap length is ∙ length-map (first_shares n) (λ (s : NodeNumbers). first_node c.args.self.now.graph n s.node) ∙ length-first_shares n ∙ sym same) c.open_pool.ensures.nodes
+    IfOk-weaker c.open_pool.result (λ (p : Pool g.row.G.Denot g.row.K.Denot). p.nodes.items
+    ≡ first_nodes c.args.self.now.graph n) (λ p. vec_len p.nodes ≡ g.K.Ledgers.names.nodes)
+    (λ p is. p.nodes.ok.0 ∙ ap length is ∙ length-map (first_shares n) (λ (s : NodeNumbers). first_node c.args.self.now.graph n s.node)
+    ∙ length-first_shares n ∙ sym same) c.open_pool.ensures.nodes
 
 pub returns-clause-links : goal.returns-clause-links
 returns-clause-links g c =
     let n = c.args.self.now.config.nodes in
     let same : g.K.Ledgers.names.nodes ≡ n = sym (ap (λ (names : PoolNames). names.nodes) c.requires.names) ∙ c.requires.nodes in
-    IfOk-weaker c.open_pool.result (λ (p : Pool g.row.G.Denot g.row.K.Denot). p.links.items ≡ first_wires n) (λ p. vec_len p.links ≡ g.K.Ledgers.names.nodes * (g.K.Ledgers.names.nodes - 1))
-    (λ p is. p.links.ok.0 ∙ ap length is ∙ length-map (first_links n) empty_wire ∙ length-first_links n ∙ ap (λ (k : ℕ). k * (k - 1)) (sym same)) c.open_pool.ensures.links
+    IfOk-weaker c.open_pool.result (λ (p : Pool g.row.G.Denot g.row.K.Denot). p.links.items ≡ first_wires n) (λ p. vec_len p.links
+    ≡ g.K.Ledgers.names.nodes * (g.K.Ledgers.names.nodes - 1))
+    (λ p is. p.links.ok.0 ∙ ap length is ∙ length-map (first_links n) empty_wire ∙ length-first_links n
+    ∙ ap (λ (k : ℕ). k * (k - 1)) (sym same)) c.open_pool.ensures.links
 
 pub returns-clause-limit : goal.returns-clause-limit
 returns-clause-limit g c =
-    IfOk-weaker c.open_pool.result (λ (p : Pool g.row.G.Denot g.row.K.Denot). p.board ≡ _) (λ p. p.board.limit ≡ MAX_STEPS) (λ p is. ap (λ (b : BoardState). b.limit) is) c.open_pool.ensures.board
+    IfOk-weaker c.open_pool.result (λ (p : Pool g.row.G.Denot g.row.K.Denot). p.board ≡ _) (λ p. p.board.limit
+    ≡ MAX_STEPS) (λ p is. ap (λ (b : BoardState). b.limit) is) c.open_pool.ensures.board

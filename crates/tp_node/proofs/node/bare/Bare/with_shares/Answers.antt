@@ -8,7 +8,8 @@ use Rattle.tp_node.proofs.node.bare.Bare.with_shares.Goals as goal
 pub invariant_of-result : goal.invariant_of-result
 invariant_of-result g c =
     let nodes : c.self.inside.nodes ≡ c.args.self.nodes = ap (λ (n : NodeState g.row.G.Denot). n.nodes) c.self.view_is in
-    let first : c.args.shares ≡ first_numbers c.self.inside.number.0 = c.requires.first ∙ sym (ap (λ (n : NodeState g.row.G.Denot). n.numbers) c.self.view_is) in
+    let first : c.args.shares ≡ first_numbers c.self.inside.number.0 =
+    c.requires.first ∙ sym (ap (λ (n : NodeState g.row.G.Denot). n.numbers) c.self.view_is) in
     record {
       nodes = nodes ∙ c.requires.pool.nodes;
       some = omega (arith, nodes, c.requires.pool.some);
@@ -19,6 +20,7 @@ invariant_of-result g c =
         received = ap (λ (s : NodeNumbers). s.received) first ∙ sym (ap (λ (l : LocalState Numbers). l.received) c.self.invariant.0);
         done = ap (λ (s : NodeNumbers). s.done) first ∙ sym (ap (λ (l : LocalState Numbers). length l.store.results) c.self.invariant.0);
       };
-      right = subst (λ (l : LocalState Numbers). AreRightValues (g.G.Graph.meaning c.self.inside.graph) l.store) (sym c.self.invariant.0) (right_at_first _);
+      right = subst (λ (l : LocalState Numbers). AreRightValues (g.G.Graph.meaning c.self.inside.graph) l.store) (sym c.self.invariant.0)
+          (right_at_first _);
       seeded = λ u low seed. absurd (omega arith);
     }
