@@ -1,5 +1,5 @@
-# make          proves all that the programs stand on, and builds them: bin/tp, bin/heat, bin/product and bin/patterns
-#               (25 minutes on four cores the first time)
+# make          proves all that the programs stand on, and builds them: bin/tp, bin/draw, bin/heat, bin/product, bin/relax and
+#               bin/patterns (25 minutes on four cores the first time)
 # make demo     two runs of the program, unproved (a minute)
 # make test     every test and every program, unproved (some minutes)
 # make gate     the gate: every proof from nothing, the wrong bodies, each test, each program (see docs/GATE.md)
@@ -10,8 +10,9 @@
 # make lib      proves the detector for other languages, and builds it: lib/libgerfmuod.a, its header and its pkg-config file
 # make bench    what a step costs that a program in C tells the library, and all programs beside others that do the same, in a
 #               quick form of some minutes (FULL=1: all cases, kept as the numbers of docs/PERFORMANCE.md; see bench/README.md)
+# make docs     draws the pictures of docs/figures anew: of runs by bin/draw, of the crates and of a wave by tools/pictures.py
 # make install PREFIX=/usr/local     puts the proved programs and the library in place
-.PHONY: all lib demo test gate wrong times soak bench install clean
+.PHONY: all lib demo test gate wrong times soak bench docs install clean
 
 PREFIX ?= /usr/local
 
@@ -57,10 +58,16 @@ bench: bin/tp lib/libgerfmuod.a
 	@tools/dev capi --bench
 	@tools/dev bench $(if $(FULL),--full --write,--quick)
 
+docs: bin/tp
+	@tools/dev draw
+	@tools/pictures.py
+
 install: bin/tp lib/libgerfmuod.a
 	install -D -m 755 bin/tp $(DESTDIR)$(PREFIX)/bin/tp
+	install -D -m 755 bin/draw $(DESTDIR)$(PREFIX)/bin/draw
 	install -D -m 755 bin/heat $(DESTDIR)$(PREFIX)/bin/heat
 	install -D -m 755 bin/product $(DESTDIR)$(PREFIX)/bin/product
+	install -D -m 755 bin/relax $(DESTDIR)$(PREFIX)/bin/relax
 	install -D -m 755 bin/patterns $(DESTDIR)$(PREFIX)/bin/patterns
 	install -D -m 644 lib/libgerfmuod.a $(DESTDIR)$(PREFIX)/lib/libgerfmuod.a
 	install -D -m 644 capi/gerfmuod.h $(DESTDIR)$(PREFIX)/include/gerfmuod.h
