@@ -16,7 +16,7 @@ use types.Kit.{◌$◌, ◌∵◌, !, qed, by, move, keep, drop, split, split3, 
 use types.Run.{enter}
 use types.SemTy.{Body as Borrowed}
 use contract.Monad.{fact, fact_i}
-use contract.Lifetimes.{Lfts, Shares, AllOutlive}
+use contract.Lifetimes.{Lfts, Shares, Outlives, AllOutlive}
 use contract.Running.{Running, MachineTables, tables}
 use denote.Exit.{Kept, yes, Last, left}
 use denote.Memory.{mem}
@@ -103,12 +103,12 @@ module _ {M : Type 1} {𝓤 : Ura M} (𝓛 : Logic 𝓤) (T : Ended) (c : Clause
       by ! (leaves 𝓛 T gone c y v r ws (all_fit S.params T.kept κs a ws))))
 
 -- A call that is lent the cells by `&mut`, beside the parameters ss of which it gives nothing back.
-module _ (E : El) (ss : List (Slot 2)) (ks : Kepts ss) (res : Slot 2) where
+module _ (E : El) (outlives : List (Outlives 2)) (ss : List (Slot 2)) (ks : Kepts ss) (res : Slot 2) where
   abbrev pub Lent : Ended
   Lent = record {
     signature = record {
       lifetimes = 2;
-      outlives = [];
+      outlives = outlives;
       params = RefMutOf (0 ∷ []) tt (plain (λ _. Cr E)) (λ _. tt) ∷ ss;
       result = res;
     };

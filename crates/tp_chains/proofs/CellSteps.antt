@@ -7,7 +7,7 @@ use seplogic.Ra.Ura.{Ura}
 use base.Fraction.{full_share}
 use mir.Syntax.{Fn}
 use mir.Val.{Val, vstruct, of_list}
-use base.Logic.{SProp, ent, sep, emp, id⊢}
+use base.Logic.{SProp, ent, sep, emp, via, mono∗, id⊢, emp∗}
 use base.Stored.{Gv}
 use base.Fml.{Fml, Lft, Share, fsep, fat, flft, fobs, fauth, fbor, fobor}
 use prog.Wp.{Calls, Loops, WpFn}
@@ -103,8 +103,8 @@ module _ {M : Type 1} {𝓤 : Ura M} {𝓛 : Logic 𝓤} {K : Type 0} {Γ : List
 
     -- two facts that an `ensures` says
     pub told_both : K → (φ ψ : Type 0) → φ → ψ → Step K 𝓛 (raw (sep 𝓤 (fact 𝓤 φ) (fact 𝓤 ψ)) ∷ Γ) G Γ G
-    told_both t φ ψ x y = step (λ s.
-        told t ψ y $ told t φ x $ join t $ use1 𝓛 (raw (sep 𝓤 (fact 𝓤 φ) (fact 𝓤 ψ))) (id⊢ 𝓤 (sep 𝓤 (fact 𝓤 φ) (fact 𝓤 ψ))) $ s)
+    told_both t φ ψ x y = use0 𝓛 (raw (sep 𝓤 (fact 𝓤 φ) (fact 𝓤 ψ))) (via 𝓤 (sep 𝓤 (emp 𝓤) (emp 𝓤)) (emp∗ 𝓤 (emp 𝓤))
+        (mono∗ 𝓤 (fact_i 𝓤 φ (emp 𝓤) x) (fact_i 𝓤 ψ (emp 𝓤) y)))
 
     module _ (E : El) where
       -- the own value of an owner or a deed is had for nothing: it takes no bytes
@@ -114,7 +114,7 @@ module _ {M : Type 1} {𝓤 : Ura M} {𝓛 : Logic 𝓤} {K : Type 0} {Γ : List
       -- the owner of cells is made: its own value, and what it owns
       pub owner_made : K → (cells : List (Cell E)) → Step K 𝓛
           (‵ ((Cr E).own_val (record { mark = record {}; cells = cells }) (mark ∷ [])) ∷ Γ) G (‵ (cells_own (R E) cells) ∷ Γ) G
-      owner_made t cells = step (λ s. mark_put t $ fjoin t $ s)
+      owner_made t cells = step (λ s. use0 𝓛 (‵ ((Mark E).own_val (tt, tt) (mark ∷ []))) (mark_made E 𝓛) $ fjoin t $ s)
 
       module _ (r : MutBor (Cr E).Denot) {κ : Lft} {q : Share} where
         -- the borrow is opened: the cells, the owner's own value, where that lies, what is owed, and the name's two parts

@@ -96,10 +96,10 @@ allocate_spec 𝓤 𝓛 𝓜 𝓡 wired X W LX LW g d dd met md =
     exec ! 𝓣.C 𝓣.Λ N (after 3 fn.body) (at_ret N Post) $ sets ! (of_opd ! (get ! refl)) refl ok $
     -- the deed: where the block lies, how long it is, and the right to free it
     move ! (1 ∷ []) $ feq_i ! (List (Ptr × Option (R E).Denot)) row (empty_at (pointers_from E p len)) (row_is E p len) $
-    flt_i ! (len * s) (2 ^ 63) small $ fjoin ! $ move ! (1 ∷ []) $ fjoin ! $ mark_put ! E $ fjoin ! $
+    flt_i ! (len * s) (2 ^ 63) small $ fjoin ! $ move ! (1 ∷ []) $ fjoin ! $ mark_put E ! $ fjoin ! $
     -- the owner of the cells, and the address of the first
     move ! (1 ∷ []) $ as_written ! (ty_array (elτ E) len) b o $ use1 𝓛 (‵ (cells_own (R E) row)) (of_room E 𝓛 b len o) $
-    owner_made ! E row $ word_made ! p $
+    owner_made E ! row $ word_made ! p $
     use3 𝓛 (‵ (Three.own_val (base, cells, deed) (made ∷ []))) (three_of 𝓛 (Bs E) (Cr E) D base cells deed (word p) mark mark) $
     let answer = live 0 (vcons made vnil) in
     use1 𝓛 (‵ (Out.own_val (Ok (base, cells, deed)) (answer ∷ []))) (ok_of 𝓛 Three AE.the_row (base, cells, deed) made) $

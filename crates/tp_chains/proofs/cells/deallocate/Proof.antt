@@ -81,4 +81,4 @@ deallocate_spec 𝓤 𝓛 𝓜 𝓡 wired X W LX LW g d dd met md =
     returns ! (look_at ! 0 refl) $ free_all ! refl $
     -- [the token; the other tokens]
     keep ! (0 ∷ 1 ∷ []) $ join ! $ feq_i ! (List Val) (vunit ∷ []) (vunit ∷ []) refl $ move ! (1 ∷ 0 ∷ []) $ nothing ! $
-    keep ! (1 ∷ 2 ∷ 0 ∷ []) $ by ! (ends vunit tt (tt, (tt, (tt, (tt, (tt, tt)))))))))))))))
+    keep ! (1 ∷ 2 ∷ 0 ∷ []) $ by ! (ends vunit tt (tt, (tt, (tt, (tt, (tt, tt))))))))))))))))

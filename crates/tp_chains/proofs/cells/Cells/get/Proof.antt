@@ -44,4 +44,4 @@ get_spec 𝓤 𝓛 𝓜 𝓡 wired X LX =
     returns ! (look_at ! 0 refl) $ free_all ! refl $
     -- [a `&` to the value; the tokens]
     told ! (cell_at d.cells i ≡ (p, Some x)) full.1 $ move ! (2 ∷ 3 ∷ []) $ join ! $ keep ! (0 ∷ 2 ∷ 1 ∷ []) $
-    by ! (ends (vptr b o) (record { ref_ptr = (b, o); now = x }) (tt, (tt, (tt, tt)))))))
+    by ! (ends (vptr b o) (record { ref_ptr = (b, o); now = x }) (tt, (tt, (tt, tt))))))))

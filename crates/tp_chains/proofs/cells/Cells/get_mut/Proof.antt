@@ -37,7 +37,7 @@ get_mut_spec 𝓤 𝓛 𝓜 𝓡 wired X LX =
     (λ j. are.0.0 j ++ (address_is E a.1.0 vss.1.0 are.1.0 j ++ (are.1.1.0.0 j ++ []))) $
     alloc_all ! (λ l. pass_all ! refl ((tt, tt), (word-Good [] p, ((tt, record { fits = are.1.1.0.1 }), tt))) $
     let N = env fn.locals l in
-    cell_opened ! E r tt d i (p, Some x) within full.1 (λ vs.
+    cell_opened E r ! tt d i (p, Some x) within full.1 (λ vs.
     in_a_block ! p (λ h. lies_at (R E) full_share h x) (id⊢ 𝓤 (never 𝓤)) (λ b o e.
     take_at ! 2 $ rewrite ! 0 (λ (h : Ptr). ‵ (kept_in E (l 2) h)) e refl $ give_at ! 2 $ first ! $ blocks ! $
     sets_last ! (addr ! (from ! (fld ! refl (hop ! (look_in_at ! 2 (sub ! 0 refl (whole !))) (stop !))))) refl (tt, tt) $
@@ -53,4 +53,4 @@ get_mut_spec 𝓤 𝓛 𝓜 𝓡 wired X LX =
     use1 𝓛 (‵ lent ⊛ ‵ (flft κ q) ⊛ ‵ (follows (Cr E) (R E) γ δ new)) (id⊢ 𝓤 _) $ split3 ! $
     -- [a `&mut` to the value; the token; the cells follow it; the type's token]
     told ! (cell_at d.cells i ≡ (p, Some x)) full.1 $ move ! (3 ∷ 0 ∷ []) $ join ! $ move ! (2 ∷ 3 ∷ []) $ join ! $
-    keep ! (0 ∷ 2 ∷ 1 ∷ []) $ by ! (ends (vptr b o) out (tt, (tt, (tt, tt)))))))))
+    keep ! (0 ∷ 2 ∷ 1 ∷ []) $ by ! (ends (vptr b o) out (tt, (tt, (tt, tt))))))))))

@@ -20,5 +20,5 @@ new_spec 𝓤 𝓛 𝓜 𝓡 wired X LX =
     -- [the tokens; what no arguments own; the `requires`]
     keep ! (0 ∷ []) $ enters ! 𝓣.C 𝓣.Λ fn [] Post refl $ alloc_all ! (λ l. pass_all ! refl tt $
     sets ! (agg ! (no_more !)) refl (tt, tt) $ sets ! (agg ! (and_then ! (get ! refl) (no_more !))) refl (tt, (tt, tt)) $
-    nothing ! $ owner_made ! E [] $ returns ! (look_at ! 0 refl) $ free_all ! refl $
+    nothing ! $ owner_made E ! [] $ returns ! (look_at ! 0 refl) $ free_all ! refl $
     told ! (none.cells ≡ []) refl $ keep ! (2 ∷ 1 ∷ 0 ∷ []) $ by ! (ends mark none tt)))
