@@ -1,4 +1,5 @@
 -- How a call on raw cells meets its contract: what it is given, and what it has to leave. Assumes `Logic`.
+-- docs/PROOFS-OF-CELLS.md tells how such a proof goes, step by step.
 use mathlib.Core.Path.{◌≡◌, refl, subst}
 use Prim.Native.Nat.{ℕ}
 use mathlib.Core.List.{List, [], ◌∷◌, ◌++◌}
@@ -84,13 +85,13 @@ module _ {M : Type 1} {𝓤 : Ura M} (𝓛 : Logic 𝓤) (T : Ended) (c : Clause
 
   pub takes_all : Unsaid S.params T.kept → (k : Callee) (e : Fn) → Closed 𝓤 H 𝓣.C 𝓣.Λ k e
       → ((κs : Lfts S.lifetimes) (qs : Shares S.lifetimes) (bounds : AllOutlive S.lifetimes S.outlives κs)
-        (a : Args S κs) (vss : Vals S κs) (g : (c κs a).ghost)
+      (a : Args S κs) (vss : Vals S κs) (g : (c κs a).ghost)
       → Are (types_at S.params κs) (Ises (types_at S.params κs)) a vss → (Post : Val → SProp 𝓤)
       → ((v : Val) (r : Res S κs) (ws : Lasts T κs a) → ent 𝓤
-        (⋆ 𝓛 (raw (alive 𝓛 S κs qs) ∷ ‵ ((type_at S.result κs).own_val r (v ∷ [])) ∷ raw ((c κs a).ensures g r (at_exit T κs a ws)) ∷ []))
-        (Post v))
+      (⋆ 𝓛 (raw (alive 𝓛 S κs qs) ∷ ‵ ((type_at S.result κs).own_val r (v ∷ [])) ∷ raw ((c κs a).ensures g r (at_exit T κs a ws)) ∷ []))
+      (Post v))
       → Sq 𝓛 (raw (alive 𝓛 S κs qs) ∷ ‵ (owns (types_at S.params κs) a vss) ∷ raw ((c κs a).requires g) ∷ [])
-        (prop (WpFn 𝓤 H 𝓣.C 𝓣.Λ e (flat (types_at S.params κs) vss) Post)))
+      (prop (WpFn 𝓤 H 𝓣.C 𝓣.Λ e (flat (types_at S.params κs) vss) Post)))
       → Meets 𝓛 S (𝓣.C k) (closing 𝓛 T c)
   takes_all unsaid k e closed walk =
       proved_at 𝓛 T gone c 𝓜 𝓡 (all_gone 𝓛 S.params T.kept unsaid) k e closed (λ y are.
@@ -98,7 +99,7 @@ module _ {M : Type 1} {𝓤 : Ura M} (𝓛 : Logic 𝓤) (T : Ended) (c : Clause
       qed 𝓛 ((raw (alive 𝓛 S κs qs) ⊛ ‵ (owns (types_at S.params κs) a vss)) ∷ raw ((c κs a).requires y.1) ∷ []) ∵ split ! $
       walk κs qs y.0.2 a vss y.1 are ((walk_of 𝓛 T gone c).post y) (λ v r ws.
       qed 𝓛 (raw (alive 𝓛 S κs qs) ∷ ‵ ((type_at S.result κs).own_val r (v ∷ []))
-        ∷ raw ((c κs a).ensures y.1 r (at_exit T κs a ws)) ∷ []) ∵
+      ∷ raw ((c κs a).ensures y.1 r (at_exit T κs a ws)) ∷ []) ∵
       use0 𝓛 (‵ (has_of κs S.params T.kept gone a ws vss)) (nothing_left 𝓛 S.params T.kept κs a ws vss) $ move ! (1 ∷ 0 ∷ []) $
       by ! (leaves 𝓛 T gone c y v r ws (all_fit S.params T.kept κs a ws))))
 
@@ -133,22 +134,22 @@ module _ (E : El) (outlives : List (Outlives 2)) (ss : List (Slot 2)) (ks : Kept
         → ((κs : Lfts 2) (qs : Shares 2) (a : Args B κs) (vss : Vals B κs) (g : (c κs a).ghost) → vss.0 ≡ mut_vals a.0
         → Are (types_at ss κs) (Ises (types_at ss κs)) a.1 vss.1 → (Post : Val → SProp 𝓤)
         → ((v : Val) (r : Res B κs) (new : (Cr E).Denot) (ws : Fins κs ss ks a.1) → ent 𝓤
-          (⋆ 𝓛 (‵ (seen E a.0 new) ∷ ‵ (borrow E a.0 κs.0) ∷ ‵ (flft κs.0 qs.0) ∷ ‵ (flft κs.1.0 qs.1.0)
-            ∷ ‵ ((type_at res κs).own_val r (v ∷ [])) ∷ raw ((c κs a).ensures g r (at_exit Lent κs a (new, ws))) ∷ []))
-          (Post v))
+        (⋆ 𝓛 (‵ (seen E a.0 new) ∷ ‵ (borrow E a.0 κs.0) ∷ ‵ (flft κs.0 qs.0) ∷ ‵ (flft κs.1.0 qs.1.0)
+        ∷ ‵ ((type_at res κs).own_val r (v ∷ [])) ∷ raw ((c κs a).ensures g r (at_exit Lent κs a (new, ws))) ∷ []))
+        (Post v))
         → Sq 𝓛 (‵ (seen E a.0 a.0.now) ∷ ‵ (borrow E a.0 κs.0) ∷ ‵ (flft κs.0 qs.0) ∷ ‵ (flft κs.1.0 qs.1.0)
-            ∷ ‵ (owns (types_at ss κs) a.1 vss.1) ∷ raw ((c κs a).requires g) ∷ [])
-          (prop (WpFn 𝓤 H 𝓑.C 𝓑.Λ e (flat (types_at B.params κs) vss) Post)))
+        ∷ ‵ (owns (types_at ss κs) a.1 vss.1) ∷ raw ((c κs a).requires g) ∷ [])
+        (prop (WpFn 𝓤 H 𝓑.C 𝓑.Λ e (flat (types_at B.params κs) vss) Post)))
         → Meets 𝓛 B (𝓑.C k) (closing 𝓛 Lent c)
     gives_back unsaid k e closed walk =
         proved_at 𝓛 Lent held c 𝓜 𝓡 (Goes-ref 𝓛 2 0 tt (plain (λ _. Cr E)), all_gone 𝓛 ss ks unsaid) k e closed (λ y are.
         let κs = y.0.0 in let qs = y.0.1 in let a = y.0.3 in let vss = y.0.4 in
         qed 𝓛 (((‵ (flft κs.0 qs.0) ⊛ ‵ (flft κs.1.0 qs.1.0) ⊛ ‵ ftrue) ⊛ ‵ (owns (types_at B.params κs) a vss))
-          ∷ raw ((c κs a).requires y.1) ∷ []) ∵
+        ∷ raw ((c κs a).requires y.1) ∷ []) ∵
         split ! $ move ! (1 ∷ []) $ fsplit ! $ fsplit3 ! $ drop ! $ move ! (3 ∷ []) $ split3 ! $ keep ! (3 ∷ 4 ∷ 0 ∷ 1 ∷ 5 ∷ 6 ∷ []) $
         walk κs qs a vss y.1 are.0.0 are.1 ((walk_of 𝓛 Lent held c).post y) (λ v r new ws.
         qed 𝓛 (‵ (seen E a.0 new) ∷ ‵ (borrow E a.0 κs.0) ∷ ‵ (flft κs.0 qs.0) ∷ ‵ (flft κs.1.0 qs.1.0)
-          ∷ ‵ ((type_at res κs).own_val r (v ∷ [])) ∷ raw ((c κs a).ensures y.1 r (at_exit Lent κs a (new, ws))) ∷ []) ∵
+        ∷ ‵ ((type_at res κs).own_val r (v ∷ [])) ∷ raw ((c κs a).ensures y.1 r (at_exit Lent κs a (new, ws))) ∷ []) ∵
         feq_i ! (List Val) vss.0 (mut_vals a.0) are.0.0 $ fjoin3 ! $
         use0 𝓛 (‵ (has_of κs ss ks (let_go ss ks) a.1 ws vss.1)) (nothing_left 𝓛 ss ks κs a.1 ws vss.1) $ move ! (1 ∷ 0 ∷ []) $ fjoin ! $
         nothing ! $ move ! (2 ∷ 3 ∷ 0 ∷ []) $ group ! 3 $

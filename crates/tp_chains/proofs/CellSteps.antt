@@ -1,4 +1,5 @@
 -- Steps of the walks of calls on raw cells: between a borrow of all cells and the one cell at an address. Assumes `Logic`.
+-- docs/PROOFS-OF-CELLS.md tells how such a proof goes, step by step.
 use mathlib.Core.Path.{◌≡◌, refl, sym, subst}
 use Prim.Native.Nat.{ℕ, ◌<◌}
 use mathlib.Core.List.{List, [], ◌∷◌, ◌++◌}
@@ -13,7 +14,7 @@ use base.Fml.{Fml, Lft, Share, fsep, fat, flft, fobs, fauth, fbor, fobor}
 use prog.Wp.{Calls, Loops, WpFn}
 use types.Logic.{Logic, sem}
 use types.Kit.{Item, Goal, Seq, Step, step, Soaks, ‵, raw, ◌⊛◌, prop, allocs, params', runs, at_ret, ◌$◌}
-use types.Kit.{◌∵◌, !, qed, done, move, split, join, fsplit, fsplit3, fjoin, fpack, use0, use1, use2, rewrite, regoal}
+use types.Kit.{◌∵◌, !, qed, done, move, split, split3, fsplit, fsplit3, fjoin, fpack, use0, use1, use2, rewrite, regoal}
 use types.Run.{enter}
 use types.SemTy.{Body as Borrowed}
 use contract.Monad.{fact, fact_i}
@@ -73,7 +74,7 @@ module _ (E : El) where
   pub cell_returns : {M : Type 1} {𝓤 : Ura M} (𝓛 : Logic 𝓤) (r : MutBor (Cr E).Denot) (i : ℕ) (p : Ptr) (vs : List Val) (b o : ℕ)
       → p ≡ block_ptr b o → i < length r.now.cells → (w : el_x E)
       → ent 𝓤 (sep 𝓤 (sem 𝓛 ((mem (R E)).own_at w b o)) (sem 𝓛 (Around r i vs)))
-        (sem 𝓛 ((mem (Cr E)).own_at (with_cells r.now (set r.now.cells i (p, Some w))) r.ref_ptr.0 r.ref_ptr.1))
+      (sem 𝓛 ((mem (Cr E)).own_at (with_cells r.now (set r.now.cells i (p, Some w))) r.ref_ptr.0 r.ref_ptr.1))
   unfolding part_of
   cell_returns 𝓛 r i p vs b o e within w =
       let new = with_cells r.now (set r.now.cells i (p, Some w)) in
@@ -96,6 +97,12 @@ module _ {M : Type 1} {𝓤 : Ura M} {𝓛 : Logic 𝓤} {K : Type 0} {Γ : List
     -- of a `requires` that begins with the fact on the lifetime of the cells' type, the rest
     pub asked : K → (φ ψ : Type 0) → (ψ → Seq K 𝓛 Γ G) → Seq K 𝓛 (raw (sep 𝓤 (fact 𝓤 φ) (fact 𝓤 ψ)) ∷ Γ) G
     asked t φ ψ k = use1 𝓛 (raw (fact 𝓤 φ) ⊛ raw (fact 𝓤 ψ)) (id⊢ 𝓤 _) $ split t $ heard t φ (λ _. heard t ψ k)
+
+    -- the same where an allocator's type comes second: the fact on its lifetime, and the rest
+    pub asked_beside : K → (φ ψ χ : Type 0) → (ψ → χ → Seq K 𝓛 Γ G)
+        → Seq K 𝓛 (raw (sep 𝓤 (fact 𝓤 φ) (sep 𝓤 (fact 𝓤 ψ) (fact 𝓤 χ))) ∷ Γ) G
+    asked_beside t φ ψ χ k = use1 𝓛 (raw (fact 𝓤 φ) ⊛ raw (fact 𝓤 ψ) ⊛ raw (fact 𝓤 χ)) (id⊢ 𝓤 _) $
+        split3 t $ heard t φ (λ _. heard t ψ (λ within. heard t χ (k within)))
 
     -- a fact that an `ensures` says
     pub told : K → (φ : Type 0) → φ → Step K 𝓛 (raw (fact 𝓤 φ) ∷ Γ) G Γ G

@@ -47,4 +47,21 @@ pub use Rattle.std.proofs.VecSteps.Shapes.{after}
 pub use Rattle.std.proofs.RcSteps.{word, word-Good}
 pub use Rattle.std.proofs.RawLayout.{as_raw, as_written}
 pub use Rattle.std.proofs.mem.Param.{El, R, args, elτ, el_x, Good}
-pub use Rattle.std.specs.Prelude.{Option, Some, None}
+pub use Rattle.std.specs.Prelude.{Option, Some, None, IfOk, Ok, Err}
+pub use Rattle.tp_chains.specs.Cells.{cell_at, IsFull, IsEmpty, empty_at}
+pub use Rattle.tp_chains.specs.CellsOwnership.{cell_owns, cells_own, cell_lent, row_from}
+pub use Rattle.tp_chains.specs.CellsLends.{with_cells}
+-- the calls of an allocator
+pub use prog.Memory.{align, capped}
+pub use prog.Capped.{capped_fits}
+pub use denote.Laws.{Is}
+pub use denote.Steps.{owned}
+pub use denote.Struct.Struct.{Struct, Struct-Makes}
+pub use denote.Struct.Tuple.{Tuple}
+pub use denote.Triple.Call.{calls_at, calls_at_last}
+pub use denote.Triple.Table.{framed}
+pub use Rattle.std.specs.Vec.Ownership.{FitsInBlock}
+pub use Rattle.std.proofs.alloc.Calls.{Al, token, Answer-typed, Takes, at_takes, Answered, Takes-goes, Takes-gives, answers}
+pub use Rattle.std.proofs.alloc.Calls.{Gives, at_gives, Gives-goes, Gives-Gives}
+pub use Rattle.std.proofs.VecSteps.Shapes.{head, arm_body}
+pub use Rattle.std.proofs.ResultValues.{ok_of, err_of}

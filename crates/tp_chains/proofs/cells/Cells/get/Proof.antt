@@ -5,11 +5,10 @@ use Rattle.tp_chains.proofs.CellWords.{◌⊑◌, ‵, ◌⊛◌, at_ret, ◌$�
 use Rattle.tp_chains.proofs.CellWords.{fjoin, feq_i, skip, whole, sub, stop, hop, from, fld, addr, of_opd, first, blocks, exec, returns}
 use Rattle.tp_chains.proofs.CellWords.{alloc_all, pass_all, free_all, look_at, look_in_at, take_at, give_at, get, sets, sets_last, env}
 use Rattle.tp_chains.proofs.CellWords.{Ptr, null_ptr, in_a_block, lent_at, hide, unhide, after, word, word-Good, El, R, args, Some}
+use Rattle.tp_chains.proofs.CellWords.{cell_at, IsFull, cell_lent}
 use Rattle.tp_chains.proofs.CellsMemory.{Cell, full_within, cell_seen}
 use Rattle.tp_chains.proofs.CellSteps.{address_is, kept_in, enters, asked, told}
 use Rattle.tp_chains.proofs.CellCalls.{takes_all}
-use Rattle.tp_chains.specs.Cells.{cell_at, IsFull}
-use Rattle.tp_chains.specs.CellsOwnership.{cell_lent}
 use Rattle.tp_chains.specs.contracts.cells.Cells.get.{ended, clauses}
 use Rattle.tp_chains.specs.contracts.cells.Cells.get.Key.{name as #self}
 use Rattle.tp_chains.proofs.cells.Cells.get.Statement.{statement}

@@ -6,13 +6,11 @@ use Rattle.tp_chains.proofs.CellWords.{GName, Fml, ftrue, fsep, flft, sem, â—ŒâŠ
 use Rattle.tp_chains.proofs.CellWords.{use1, split, split3, join, group, rewrite, await, pick, fsplit, fsplit3, fjoin3, whole, sub, stop}
 use Rattle.tp_chains.proofs.CellWords.{hop, from, fld, addr, of_opd, first, blocks, exec, returns, alloc_all, pass_all, free_all, look_at}
 use Rattle.tp_chains.proofs.CellWords.{look_in_at, take_at, give_at, get, sets, sets_last, env, Ptr, in_a_block, lies_at, MutBor, MutRef}
-use Rattle.tp_chains.proofs.CellWords.{after, word, word-Good, El, R, args, el_x, Some}
+use Rattle.tp_chains.proofs.CellWords.{after, word, word-Good, El, R, args, el_x, Some, cell_at, IsFull, with_cells}
 use denote.Follow.{follows, Part, lends_Part}
 use Rattle.tp_chains.proofs.CellsMemory.{Cr, full_within}
 use Rattle.tp_chains.proofs.CellSteps.{address_is, kept_in, enters, asked, told, cell_opened, Around, cell_returns}
 use Rattle.tp_chains.proofs.CellCalls.{takes_all}
-use Rattle.tp_chains.specs.Cells.{cell_at, IsFull}
-use Rattle.tp_chains.specs.CellsLends.{with_cells}
 use Rattle.tp_chains.specs.contracts.cells.Cells.get_mut.{ended, clauses}
 use Rattle.tp_chains.specs.contracts.cells.Cells.get_mut.Key.{name as #self}
 use Rattle.tp_chains.proofs.cells.Cells.get_mut.Statement.{statement}

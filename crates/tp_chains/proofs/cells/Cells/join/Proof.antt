@@ -2,12 +2,10 @@
 -- both lists are owned, so their concatenation is, and the borrow is closed at it. Assumes `Logic`.
 use Rattle.tp_chains.proofs.CellWords.{◌≡◌, refl, List, [], ◌∷◌, ◌++◌, Fn, inst_fn, Val, vptr, vunit, tables, ‵, ◌$◌, !, by, move, keep}
 use Rattle.tp_chains.proofs.CellWords.{use2, fsplit, feq_i, unit_lit, of_opd, returns, alloc_all, pass_all, free_all, look_at, sets, unit}
-use Rattle.tp_chains.proofs.CellWords.{plain, El, R, args}
+use Rattle.tp_chains.proofs.CellWords.{plain, El, R, args, cells_own, with_cells}
 use Rattle.tp_chains.proofs.CellsMemory.{Cr, mark, cells_glue}
 use Rattle.tp_chains.proofs.CellSteps.{owner_is, enters, told, cells_opened, cells_closed}
 use Rattle.tp_chains.proofs.CellCalls.{gives_back}
-use Rattle.tp_chains.specs.CellsOwnership.{cells_own}
-use Rattle.tp_chains.specs.CellsLends.{with_cells}
 use Rattle.tp_chains.specs.contracts.cells.Cells.join.{ended, clauses}
 use Rattle.tp_chains.specs.contracts.cells.Cells.join.Key.{name as #self}
 use Rattle.tp_chains.proofs.cells.Cells.join.Statement.{statement}

@@ -5,13 +5,10 @@ use Rattle.tp_chains.proofs.CellWords.{id⊢, fat, froom, ◌⊑◌, ‵, ◌⊛
 use Rattle.tp_chains.proofs.CellWords.{pick, learn, whole, sub, stop, hop, from, fld, look, load, of_opd, first, blocks, exec, returns}
 use Rattle.tp_chains.proofs.CellWords.{alloc_all, pass_all, free_all, look_at, look_in_at, take_at, give_at, get, sets, sets_last, env}
 use Rattle.tp_chains.proofs.CellWords.{Ptr, in_a_block, lies_at, usize, plain, after, word, word-Good, as_raw, El, R, args, elτ, Good}
-use Rattle.tp_chains.proofs.CellWords.{Some, None}
+use Rattle.tp_chains.proofs.CellWords.{Some, None, cell_at, IsFull, cell_owns, with_cells}
 use Rattle.tp_chains.proofs.CellsMemory.{Bs, full_within, value_out}
 use Rattle.tp_chains.proofs.CellSteps.{address_is, kept_in, enters, asked, told_both, cell_opened, cell_closed}
 use Rattle.tp_chains.proofs.CellCalls.{gives_back}
-use Rattle.tp_chains.specs.Cells.{cell_at, IsFull}
-use Rattle.tp_chains.specs.CellsOwnership.{cell_owns}
-use Rattle.tp_chains.specs.CellsLends.{with_cells}
 use Rattle.tp_chains.specs.contracts.cells.Cells.read.{ended, clauses}
 use Rattle.tp_chains.specs.contracts.cells.Cells.read.Key.{name as #self}
 use Rattle.tp_chains.proofs.cells.Cells.read.Statement.{statement}

@@ -1,13 +1,11 @@
 -- `split_off` gives up the later cells. Before: the borrow of the cells. No memory is touched: the list is owned, so both
 -- its parts are; the borrow is closed at the first, and a new owner is made of the second. Assumes `Logic`.
-use Rattle.tp_chains.proofs.CellWords.{◌≡◌, refl, [], ◌∷◌, ◌++◌, take, drop, Fn, w64, inst_fn, vptr, vint, tables, ‵, ◌⊛◌, given, ◌$◌, !}
+use Rattle.tp_chains.proofs.CellWords.{◌≡◌, refl, [], ◌∷◌, ◌++◌, take, drop, Fn, w64, inst_fn, vptr, vint, tables, ‵, ◌⊛◌, given, ◌$◌, ! }
 use Rattle.tp_chains.proofs.CellWords.{by, move, keep, use1, split, agg, and_then, no_more, returns, alloc_all, pass_all, free_all}
-use Rattle.tp_chains.proofs.CellWords.{look_at, get, sets, usize, plain, El, R, args}
+use Rattle.tp_chains.proofs.CellWords.{look_at, get, sets, usize, plain, El, R, args, cells_own, with_cells}
 use Rattle.tp_chains.proofs.CellsMemory.{Cr, mark, cells_cut}
 use Rattle.tp_chains.proofs.CellSteps.{enters, told_both, owner_made, cells_opened, cells_closed}
 use Rattle.tp_chains.proofs.CellCalls.{gives_back}
-use Rattle.tp_chains.specs.CellsOwnership.{cells_own}
-use Rattle.tp_chains.specs.CellsLends.{with_cells}
 use Rattle.tp_chains.specs.contracts.cells.Cells.split_off.{ended, clauses}
 use Rattle.tp_chains.specs.contracts.cells.Cells.split_off.Key.{name as #self}
 use Rattle.tp_chains.proofs.cells.Cells.split_off.Statement.{statement}

@@ -6,12 +6,10 @@ use Rattle.tp_chains.proofs.CellWords.{full_share, never, id⊢, ◌⊑◌, ‵,
 use Rattle.tp_chains.proofs.CellWords.{whole, sub, stop, hop, from, fld, init, unit_lit, of_opd, assigns_last, first, blocks, exec}
 use Rattle.tp_chains.proofs.CellWords.{returns, alloc_all, pass_all, free_all, look_at, look_in_at, take_at, give_at, get, sets, env}
 use Rattle.tp_chains.proofs.CellWords.{lone, Ptr, block_ptr, in_a_block, lies_at, room_for, unit, usize, plain, after, word, word-Good}
-use Rattle.tp_chains.proofs.CellWords.{as_written, El, R, args, elτ, Some, None}
+use Rattle.tp_chains.proofs.CellWords.{as_written, El, R, args, elτ, Some, None, IsEmpty, with_cells}
 use Rattle.tp_chains.proofs.CellsMemory.{Bs, value_in}
 use Rattle.tp_chains.proofs.CellSteps.{address_is, value_is, kept_in, enters, asked, told, cell_opened, cell_closed}
 use Rattle.tp_chains.proofs.CellCalls.{gives_back}
-use Rattle.tp_chains.specs.Cells.{IsEmpty}
-use Rattle.tp_chains.specs.CellsLends.{with_cells}
 use Rattle.tp_chains.specs.contracts.cells.Cells.write.{ended, clauses}
 use Rattle.tp_chains.specs.contracts.cells.Cells.write.Key.{name as #self}
 use Rattle.tp_chains.proofs.cells.Cells.write.Statement.{statement}
