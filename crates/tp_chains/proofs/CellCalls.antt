@@ -1,36 +1,32 @@
 -- How a call on raw cells meets its contract: what it is given, and what it has to leave. Assumes `Logic`.
 -- docs/PROOFS-OF-CELLS.md tells how such a proof goes, step by step.
-use mathlib.Core.Path.{◌≡◌, refl, subst}
+use mathlib.Core.Path.{◌≡◌}
 use Prim.Native.Nat.{ℕ}
-use mathlib.Core.List.{List, [], ◌∷◌, ◌++◌}
+use mathlib.Core.List.{List, [], ◌∷◌}
 use lib.Dec.{T}
 use seplogic.Ra.Ura.{Ura}
-use mir.Syntax.{Fn, Callee, named}
-use mir.Val.{Val, vstruct, of_list}
-use base.Logic.{SProp, ent, sep, emp, via, id⊢, emp∗}
-use base.Fml.{Fml, ftrue, flft, fobs, fbor}
-use prog.Wp.{Calls, Loops, WpFn, Closed}
+use mir.Syntax.{Fn, Callee}
+use mir.Val.{Val}
+use base.Logic.{SProp, ent, emp, via, id⊢, emp∗}
+use base.Fml.{ftrue, flft}
+use prog.Wp.{WpFn, Closed}
 use prog.Model.{Model}
 use types.Logic.{Logic, sem}
-use types.Kit.{Item, Goal, Seq, Sq, Step, step, ⋆, ‵, raw, ◌⊛◌, prop, allocs, params', runs, at_ret}
-use types.Kit.{◌$◌, ◌∵◌, !, qed, by, move, keep, drop, split, split3, fsplit, fsplit3, fjoin, fjoin3, feq_i, group, use0, regoal}
-use types.Run.{enter}
-use types.SemTy.{Body as Borrowed}
-use contract.Monad.{fact, fact_i}
+use types.Kit.{Sq, ⋆, ‵, raw, ◌⊛◌, prop}
+use types.Kit.{◌$◌, ◌∵◌, !, qed, by, move, keep, drop, split, split3, fsplit, fsplit3, fjoin, fjoin3, feq_i, group, use0}
 use contract.Lifetimes.{Lfts, Shares, Outlives, AllOutlive}
 use contract.Running.{Running, MachineTables, tables}
-use denote.Exit.{Kept, yes, Last, left}
-use denote.Memory.{mem}
+use denote.Exit.{yes, Last, left}
 use denote.RattleType.{Denots, Valss, flat, owns}
-use denote.Laws.{Are, Ises, Is}
-use denote.Ref.{MutBor, MutRef, mut_vals}
+use denote.Laws.{Are, Ises}
+use denote.Ref.{mut_vals}
 use denote.Builtin.{RefMutOf}
 use denote.Signature.{Slot, Signature, plain, types_at, type_at}
 use denote.Param.Mute.{blank}
-use denote.Steps.{nothing, heard}
+use denote.Steps.{nothing}
 use denote.Triple.End.{Kepts, Fins}
 use denote.Triple.Clauses.{Ended, Clauses, Lasts, at_exit, closing}
-use denote.Triple.Entry.{Args, Vals, Res, alive, on_entry}
+use denote.Triple.Entry.{Args, Vals, Res, alive}
 use denote.Triple.Spec.{Meets}
 use denote.Triple.Walked.{Stays, stay_dropped, stay_ref, fits_of, has_of, walk_of, AllGo, Goes-ref}
 use Rattle.std.proofs.alloc.Calls.{Goes-blank}

@@ -1,27 +1,25 @@
 -- What the walks of the functions on raw cells share. Assumes `Logic`.
 --     cell_out, cell_in, cell_seen      one cell is taken out of the row, put back, or seen
-use mathlib.Core.Path.{◌≡◌, refl, ap, subst}
+use mathlib.Core.Path.{◌≡◌, refl, ap}
 use Prim.Native.Nat.{ℕ, zero, suc, ◌<◌}
 use native.Mathlib.Omega.{arith}
 use mathlib.Core.List.{List, [], ◌∷◌, ◌++◌}
 use lib.ListN.{length, set, take, drop}
 use seplogic.Ra.Ura.{Ura}
 use base.Fraction.{full_share}
-use mir.Val.{Val, vstruct, vcons, vnil, of_list}
-use base.Logic.{SProp, ent, sep, emp, ex, guard, via, fst∗, snd∗, id⊢}
+use mir.Val.{Val, vstruct, vcons, vnil}
+use base.Logic.{ent, sep, emp, ex, guard, via, fst∗, snd∗, id⊢}
 use base.Fml.{Fml, Lft, ftrue, fat, fsep}
 use types.Logic.{Logic, sem}
-use types.Kit.{prop, frame, use0, check, show, rewrite, Item, Goal, Seq, Step, step, ‵, raw, some, pick, ◌⊛◌, ◌$◌, ◌∵◌, !, qed, move, drop as skip, use1, use2, split, fsplit, fjoin, fpick, fpack, feq_i, feq_l, done}
+use types.Kit.{check, show, Item, Goal, Step, step, ‵, some, pick, ◌⊛◌, ◌$◌, ◌∵◌, !, qed, move, drop as skip, use1, use2, split, fsplit, fjoin, fpack, feq_i, done}
 use denote.RattleType.{RattleType, Valss}
 use denote.RawPtr.{Ptr, RawPtr, ptr_val}
 use denote.Shadow.{makes_shadow}
 use denote.Steps.{nothing, peeks}
-use mir.Syntax.{Ty}
-use denote.Laws.{Typed, Is, shows}
+use denote.Laws.{Is, shows}
 use denote.Param.{param, layout}
 use denote.Param.Laws.{Laws, param_laws}
 use denote.Memory.{part_at}
-use contract.Monad.{fact, fact_i}
 use denote.Struct.Declared as Declared
 use denote.Struct.Tuple.{Tuple, tuple_type}
 use borrow.Table.OneValue.{part_in, part_out}

@@ -13,7 +13,7 @@ use lib.Dec.{T}
 use mir.Raw.{raw as bare}
 use mir.Syntax.{ty_unit}
 use mir.Val.{has_ty, WT}
-use Rattle.tp_chains.proofs.CellsLeases.{uncapped, block_ty, block_size, block_align, args, P, sz, to_room, no_block}
+use Rattle.tp_chains.proofs.CellsLeases.{uncapped, block_ty, block_size, block_align, args, sz, to_room, no_block}
 use Rattle.tp_chains.proofs.CellsMemory.{Cell, mark}
 use Rattle.tp_chains.proofs.CellSteps.{address_is, owner_is, enters, asked_beside}
 use Rattle.tp_chains.proofs.CellCalls.{takes_all}

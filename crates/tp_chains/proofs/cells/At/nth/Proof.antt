@@ -6,7 +6,7 @@ use Rattle.tp_chains.proofs.CellWords.{sub, agg, stop, fld, bin, size_lit, of_op
 use Rattle.tp_chains.proofs.CellWords.{alloc_all, pass_all, free_all, look_at, take_at, give_at, get, get_in, sets, sets_last, env, Ptr}
 use Rattle.tp_chains.proofs.CellWords.{block_ptr, ◌+ₚ◌, InBlock, at_block, block_of, count_of, heard, after, word, word-Good, El, R, args}
 use Rattle.std.specs.Mem.{type_size}
-use Rattle.tp_chains.proofs.CellsMemory.{Bs, word_made}
+use Rattle.tp_chains.proofs.CellsMemory.{word_made}
 use Rattle.tp_chains.proofs.CellSteps.{address_is, kept_in, enters, told}
 use Rattle.tp_chains.proofs.CellCalls.{takes_all}
 use Rattle.tp_chains.specs.contracts.cells.At.nth.{ended, clauses}
