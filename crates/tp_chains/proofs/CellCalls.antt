@@ -48,16 +48,19 @@ module _ {n : ℕ} where
       ((κs : Lfts n) (x : (s.row κs).Denot) (f : Last ((s.row κs).exit ks.0) x) → T (blank (left ((s.row κs).exit ks.0) x f)))
       × Unsaid ss ks.1
 
+  -- of what they end as, nothing is owed
   all_fit : (ss : List (Slot n)) (ks : Kepts ss) (κs : Lfts n) (a : Denots (types_at ss κs)) (ws : Fins κs ss ks a)
       → fits_of κs ss ks (let_go ss ks) a ws
   all_fit [] ks κs a ws = tt
   all_fit (s ∷ ss) ks κs a ws = (tt, all_fit ss ks.1 κs a.1 ws.1)
 
   module _ {M : Type 1} {𝓤 : Ura M} (𝓛 : Logic 𝓤) where
+    -- so each is left as the contract says
     all_gone : (ss : List (Slot n)) (ks : Kepts ss) → Unsaid ss ks → AllGo 𝓛 n ss ks (let_go ss ks)
     all_gone [] ks u = tt
     all_gone (s ∷ ss) ks u = (Goes-blank 𝓛 n s ks.0 u.0, all_gone ss ks.1 u.1)
 
+    -- and what the call has left of them is had for nothing
     nothing_left : (ss : List (Slot n)) (ks : Kepts ss) (κs : Lfts n) (a : Denots (types_at ss κs)) (ws : Fins κs ss ks a)
         (vss : Valss (types_at ss κs)) → ent 𝓤 (emp 𝓤) (sem 𝓛 (has_of κs ss ks (let_go ss ks) a ws vss))
     nothing_left [] ks κs a ws vss = id⊢ 𝓤 (emp 𝓤)

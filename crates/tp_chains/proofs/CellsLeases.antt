@@ -76,7 +76,8 @@ module _ (E : El) {M : Type 1} {𝓤 : Ura M} (𝓛 : Logic 𝓤) (b : ℕ) wher
   -- and a row of empty cells is room for an array
   pub to_room : (n o : ℕ) → ent 𝓤 (sem 𝓛 (cells_own (R E) (row_from (R E) (block_ptr b o) n))) (H.room (ty_array (elτ E) n) b o)
   to_room zero o = 𝓛.laws.room_nil (elτ E) b o
-  to_room (suc n) o = qed 𝓛 (‵ (cell_owns (R E) (block_ptr b o) None) ∷ ‵ (cells_own (R E) (row_from (R E) (block_ptr b (o + sz E)) n)) ∷ []) ∵
+  to_room (suc n) o =
+      qed 𝓛 (‵ (cell_owns (R E) (block_ptr b o) None) ∷ ‵ (cells_own (R E) (row_from (R E) (block_ptr b (o + sz E)) n)) ∷ []) ∵
       use1 𝓛 (‵ (froom (elτ E) b o)) (𝓛.laws.raw-room (elτ E) b o) $ move ! (1 ∷ []) $
       use1 𝓛 (‵ (froom (ty_array (elτ E) n) b (o + sz E))) (to_room n (o + sz E)) $ move ! (1 ∷ []) $ by ! (𝓛.laws.room_cons (elτ E) n b o)
 
