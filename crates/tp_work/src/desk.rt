@@ -1,8 +1,8 @@
-ghost use Rattle.std.specs.Prelude.{◌≡◌, ◌≢◌, ◌⊎◌, ◌+◌, ◌-◌, ◌++◌, ◌*◌, ◌/◌, ◌<◌, ◌≤◌, [], None, Some, IfErr, IfNone, IsOk, MatchOption, OnErr, OnOk, length, max, min, vec_len};
+ghost use Rattle.std.specs.Prelude.{◌≡◌, ◌≢◌, ◌⊎◌, ◌+◌, ◌-◌, ◌++◌, ◌*◌, ◌/◌, ◌<◌, ◌≤◌, [], None, Some, All, IfErr, IfNone, IsOk, MatchOption, OnErr, OnOk, length, map, max, min, reverse, vec_len};
 ghost use Rattle.std.specs.Option.{option_to_list};
 ghost use Rattle.tp_base.specs.declared.refusal.Refusal.TheVariants.{NoMemory};
 ghost use Rattle.tp_board.specs.Calls.{Answers, Appends};
-ghost use Rattle.tp_node.specs.Begins.{next_task, ready_count};
+ghost use Rattle.tp_node.specs.Begins.{begins_of, begun_with_each, next_ready, next_task, ready_count};
 ghost use Rattle.tp_node.specs.Refused.{begin_checks};
 
 use std::alloc::Global;
@@ -118,6 +118,10 @@ impl<G: Graph, K: Ledgers> Desk<Node<G, K>, Work<G>> {
         requires empty { self.old.begun.items ≡ [] }
         ensures none { next_task self.old.node ≡ None → IsOk result × (begun.new ≡ None) }
         ensures first { OnOk result (MatchOption begun.new (next_task self.old.node ≡ None) (λ first. next_task self.old.node ≡ Some first.task)) }
+        ensures next { OnOk result (let tasks = map (λ w. w.task) (option_to_list begun.new ++ reverse self.new.begun.items) in tasks ≡ next_ready (length tasks) self.old.node) }
+        ensures node { OnOk result (self.new.node ≡ begun_with_each (map (λ w. w.task) (option_to_list begun.new ++ reverse self.new.begun.items)) self.old.node) }
+        ensures events { OnOk result (Appends (begins_of (map (λ w. w.task) (option_to_list begun.new ++ reverse self.new.begun.items)) self.old.node) board.old board.new) }
+        ensures graph { OnOk result (All (λ w. w.graph ≡ self.old.node.graph) (option_to_list begun.new ++ reverse self.new.begun.items)) }
         ensures refusal { MatchOption (next_task self.old.node) (Unit {0}) (λ t. Answers (begin_checks board.old) result) }
         ensures refused { OnErr result (Appends [] board.old board.new × (self.new ≡ self.old) × (begun.new ≡ begun.old)) }
         ensures full { board.old.limit ≡ 1048576 → length board.old.history < 1048576 → IfErr result (λ e. e ≡ NoMemory) }
@@ -131,7 +135,13 @@ impl<G: Graph, K: Ledgers> Desk<Node<G, K>, Work<G>> {
     }
 
     /// Begins as many more ready tasks, whose works then wait. A refusal ends it: whoever begins the next task is told.
-    fn begin_more(&mut self, board: &mut Board<K>, count: u32) {
+    fn begin_more(&mut self, board: &mut Board<K>, count: u32)
+        requires empty { self.old.begun.items ≡ [] }
+        ensures next { let tasks = map (λ w. w.task) (reverse self.new.begun.items) in tasks ≡ next_ready (length tasks) self.old.node }
+        ensures node { self.new.node ≡ begun_with_each (map (λ w. w.task) (reverse self.new.begun.items)) self.old.node }
+        ensures events { Appends (begins_of (map (λ w. w.task) (reverse self.new.begun.items)) self.old.node) board.old board.new }
+        ensures graph { All (λ w. w.graph ≡ self.old.node.graph) (reverse self.new.begun.items) }
+    {
         if self.begun.reserve(count as usize).is_err() {
             return;
         }
