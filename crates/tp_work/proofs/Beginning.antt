@@ -66,7 +66,7 @@ module _ {G : Type 0} where
     graph = All-nil _;
   }
 
-  one : (old new : NodeState G) (before later : BoardState) (w : Begun G) → Begins old new before later w → BeginAll old new before later (w ∷ [])
+  pub one : (old new : NodeState G) (before later : BoardState) (w : Begun G) → Begins old new before later w → BeginAll old new before later (w ∷ [])
   one old new before later w is = record {
     ready = next_first old w.task old.state.store.ready is.first ∙ ap (λ (n : NodeState G). w.task ∷ joined n.state.store.ready) (sym is.begun);
     begun = is.begun;
