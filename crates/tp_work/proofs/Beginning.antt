@@ -1,9 +1,9 @@
 -- Tasks of a node that begin in a row, told by their works.
-use Rattle.std.proofs.Common.{◌≡◌, ℕ, ◌+◌, List, [], ◌∷◌, ◌++◌, length, map, take, Option, Some, None, refl, sym, ap, subst, ◌∙◌, arith, append-nil}
+use Rattle.std.proofs.Common.{◌≡◌, ℕ, ◌+◌, List, [], ◌∷◌, ◌++◌, length, map, take, drop, Option, Some, None, refl, sym, ap, subst, ◌∙◌, arith, append-nil}
 use Rattle.std.specs.Prelude.{MatchOption, reverse}
 use Rattle.std.specs.List.{All}
 use Rattle.std.specs.Option.{option_to_list}
-use Rattle.std.proofs.lemmas.List.{append_assoc, map-append, reverse-append, reverse-reverse, length-append}
+use Rattle.std.proofs.lemmas.List.{append_assoc, map-append, reverse-append, reverse-reverse, length-append, length-reverse}
 use Rattle.std.proofs.lemmas.List.Elements.{All-append, All-cons, All-nil}
 use Rattle.std.proofs.Math.Seq.{take-append_seam}
 use Rattle.tp_base.specs.History.{Event}
@@ -128,3 +128,21 @@ module _ {G : Type 0} where
   pub events_reversed : (old new : NodeState G) (before later : BoardState) (works shown : List (Begun G)) → shown ≡ reverse works → BeginAll old new before later works
       → Appends (begins_of (tasks_of (reverse shown)) old) before later
   events_reversed old new before later works shown e is = subst (λ ws. Appends (begins_of (tasks_of ws) old) before later) (sym (ap reverse e ∙ reverse-reverse works)) is.events
+
+  -- the same of equal parts
+  pub moved : (old new new' : NodeState G) (b l l' : BoardState) (ws ws' : List (Begun G)) → new' ≡ new → l' ≡ l → ws' ≡ ws → BeginAll old new b l ws → BeginAll old new' b l' ws'
+  moved old new new' b l l' ws ws' e f h is =
+      subst (λ n. BeginAll old n b l' ws') (sym e) (subst (λ m. BeginAll old new b m ws') (sym f) (subst (λ vs. BeginAll old new b l vs) (sym h) is))
+
+  -- nothing more begins
+  pub stopped : (old mid new : NodeState G) (b m l : BoardState) (ws : List (Begun G)) → BeginAll old mid b m ws → Rests mid new m l → BeginAll old new b l ws
+  stopped old mid new b m l ws first is = subst (λ vs. BeginAll old new b l vs) (append-nil ws) (together old mid new b m l ws [] first (rests mid new m l is))
+
+  pub none_next : (n : NodeState G) (ws : List (Begun G)) → ws ≡ [] → tasks_of (reverse ws) ≡ next_ready (length (tasks_of (reverse ws))) n
+  none_next n ws e = subst (λ us. tasks_of (reverse us) ≡ next_ready (length (tasks_of (reverse us))) n) (sym e) refl
+
+-- a list that was turned round in its place
+pub turned : {X : Type 0} (n : ℕ) (xs ys : List X) → n ≡ length xs → ys ≡ reverse xs → take n (ys ++ drop (length ys) xs) ≡ reverse xs
+turned n xs ys e f =
+    let l : n ≡ length ys = e ∙ sym (ap length f ∙ length-reverse xs) in
+    ap (λ k. take k (ys ++ drop (length ys) xs)) l ∙ take-append_seam ys (drop (length ys) xs) ∙ f

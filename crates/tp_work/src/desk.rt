@@ -146,10 +146,11 @@ impl<G: Graph, K: Ledgers> Desk<Node<G, K>, Work<G>> {
             return;
         }
         for _ in 0..count {
-            let Ok(Some(work)) = self.node.begin(board) else {
-                break;
-            };
-            self.begun.push_reserved(work);
+            match self.node.begin(board) {
+                Ok(Some(work)) => self.begun.push_reserved(work),
+                Ok(None) => break,
+                Err(_) => break,
+            }
         }
         self.begun.as_mut_slice().reverse();
     }
