@@ -23,7 +23,7 @@ abbrev pub Each : {A : Type 0} → (A → Type 0) → List A → Type 0
 Each P [] = Unit {0}
 Each P (x ∷ xs) = P x × Each P xs
 
-abbrev Pairs : {A : Type 0} → (A → A → Type 0) → List A → Type 0
+abbrev pub Pairs : {A : Type 0} → (A → A → Type 0) → List A → Type 0
 Pairs R [] = Unit {0}
 Pairs R (x ∷ xs) = Each (R x) xs × Pairs R xs
 
@@ -31,7 +31,7 @@ pub each_all : {A : Type 0} (P : A → Type 0) (xs : List A) → Each P xs → A
 each_all P [] h = All-nil P
 each_all P (x ∷ xs) h = All-cons P x xs h.0 (each_all P xs h.1)
 
-pairs_all : {A : Type 0} (R : A → A → Type 0) (xs : List A) → Pairs R xs → AllPairs R xs
+pub pairs_all : {A : Type 0} (R : A → A → Type 0) (xs : List A) → Pairs R xs → AllPairs R xs
 pairs_all R [] h = λ i j d below short. absurd (omega arith)
 pairs_all R (x ∷ xs) h = AllPairs-cons R x xs (each_all (R x) xs h.0) (pairs_all R xs h.1)
 
@@ -47,7 +47,7 @@ pub each_zip : {A : Type 0} (P Q S : A → Type 0) (xs : List A) → ((x : A) �
 each_zip P Q S [] f h k = tt
 each_zip P Q S (x ∷ xs) f h k = (f x h.0 k.0, each_zip P Q S xs f h.1 k.1)
 
-pairs_push : {A : Type 0} (R : A → A → Type 0) (xs : List A) (y : A) → Pairs R xs → Each (λ x. R x y) xs → Pairs R (xs ++ y ∷ [])
+pub pairs_push : {A : Type 0} (R : A → A → Type 0) (xs : List A) (y : A) → Pairs R xs → Each (λ x. R x y) xs → Pairs R (xs ++ y ∷ [])
 pairs_push R [] y h k = (tt, tt)
 pairs_push R (x ∷ xs) y h k = (each_push (R x) xs y h.0 k.0, pairs_push R xs y h.1 k.1)
 
@@ -128,7 +128,7 @@ some_counted : {A : Type 0} (test : A → Bool) (xs : List A) → list_any test 
 some_counted test [] h = grind arith
 some_counted test (x ∷ xs) h = grind (arith, some_counted test xs)
 
-counted_fit : {A : Type 0} (test : A → Bool) (xs : List A) → how_many test xs ≤ length xs
+pub counted_fit : {A : Type 0} (test : A → Bool) (xs : List A) → how_many test xs ≤ length xs
 counted_fit test [] = grind arith
 counted_fit test (x ∷ xs) = grind (arith, counted_fit test xs)
 
@@ -256,6 +256,10 @@ apart n [] = record { done = tt; before = tt; open_apart = tt; over = tt; few = 
 apart n (Begin t ∷ past) = apart_begun n past t (apart n past)
 apart n (Done t ∷ past) = apart_done n past t (apart n past)
 apart n (s ∷ past) = apart_kept n past s (apart n past) refl refl
+
+-- No more run than steps have come.
+pub running_few : (n : ℕ) (steps : List Step) → length (running n steps) ≤ length steps
+running_few n steps = (apart n steps).few
 
 each_within : (over : List Bar) (runs : List Running) → Each (λ (a : Bar). Each (λ (r : Running). AreOnOneTrack a.run r → a.to < r.from) runs) over
     → All (λ (a : Bar). All (λ (r : Running). AreOnOneTrack a.run r → a.to < r.from) runs) over

@@ -2,6 +2,7 @@
 use Rattle.std.proofs.Common.{◌≡◌, ℕ, zero, suc, ◌+◌, ◌-◌, ◌*◌, ◌/◌, ◌<◌, ◌≤◌, ◌==◌, Bool, true, false, List, [], ◌∷◌, ◌++◌, length, map}
 use Rattle.std.proofs.Common.{max, min, Option, Some, None, refl, sym, ap, subst, eqb-true, add-one, arith, is_some}
 use Rattle.std.proofs.Common.{if◌then◌else◌}
+use Rattle.std.specs.Prelude.{nat_le}
 use Rattle.std.specs.List.{All, find, range_with_len}
 use Rattle.std.proofs.lemmas.Bool.Decides.{nat_tests}
 use Rattle.std.proofs.Math.Nat.{mul-le-mul_right, div-le_of_le-mul}
@@ -21,6 +22,8 @@ use Rattle.tp_scene.specs.declared.scene.Running.{Running}
 use Rattle.tp_scene.specs.declared.scene.Bar.{Bar}
 use Rattle.tp_scene.specs.declared.scene.Sending.{Sending}
 use Rattle.tp_scene.specs.declared.scene.Arrow.{Arrow}
+use Rattle.tp_scene.specs.declared.scene.Way.{Way}
+use Rattle.tp_scene.specs.declared.scene.Ribbon.{Ribbon}
 use Rattle.tp_scene.specs.declared.scene.Cut.{Cut}
 use Rattle.tp_scene.specs.declared.scene.Pause.{Pause}
 use Rattle.tp_scene.specs.declared.scene.Seam.{Seam}
@@ -28,13 +31,15 @@ use Rattle.tp_scene.specs.declared.scene.End.{End}
 use Rattle.tp_scene.specs.declared.scene.Scene.{Scene}
 use Rattle.tp_scene.specs.Scene.{IsSceneOf, is_run_of, begun, running, bars, bar_of, with_row, rows, is_sending_of, under_way, arrows}
 use Rattle.tp_scene.specs.Scene.{arrow_of, gave, cut, cuts, ends, end_of, seams, since_when, resting, pause_of, ended_pause, pause_before}
-use Rattle.tp_scene.specs.Scene.{pauses_before, pauses, pauses_now, last_pauses}
+use Rattle.tp_scene.specs.Scene.{pauses_before, pauses, pauses_now, last_pauses, band, way_of, with_received, ribbons}
 use Rattle.tp_scene.specs.Layout.{detail_of, span_of, between_of, gap_of, edge, middle, right, reach, rows_of, height_of, top_of, foot}
-use Rattle.tp_scene.specs.Layout.{track_of, bottom, width, page_height, pitch}
+use Rattle.tp_scene.specs.Layout.{track_of, bottom, width, page_height, pitch, room_of, is_summed}
+use Rattle.tp_scene.specs.Flow.{rise, level, middle_of_band}
 use Rattle.tp_scene.specs.Layout as layout
-use Rattle.tp_scene.specs.Inside.{IsRunThere, IsSendingThere, AreThere, AllIsInside}
+use Rattle.tp_scene.specs.Inside.{IsRunThere, IsSendingThere, IsRibbonThere, AreThere, AllIsInside}
 use Rattle.tp_scene.proofs.Lists.{some_same, none_some}
 use Rattle.tp_scene.proofs.Apart.{Each, each_all, each_push, each_map, each_without, each_found}
+use Rattle.tp_scene.proofs.Ribboned.{each_with}
 
 -- ---- the page
 shared : (k span events : ℕ) → 0 < events → k ≤ events → k * span / events ≤ span
@@ -77,12 +82,40 @@ lanes s i few less =
     let whole : total (i + 1) f ≤ total s.nodes f = total-le f (i + 1) s.nodes (omega (arith, less)) in
     (omega arith, rw (here, last) (omega (arith, more, whole)))
 
-tracks : (s : Scene) (i k : ℕ) → k < rows_of s i
+few_events : (events : ℕ) → events ≤ 2500 → is_summed (detail_of events) ≡ false
+few_events events few = grind (arith, nat_tests, few)
+
+many_events : (events : ℕ) → 2500 < events → is_summed (detail_of events) ≡ true
+many_events events many = grind (arith, nat_tests, many)
+
+roomy : (s : Scene) (i : ℕ) → s.events ≤ 2500 → height_of s i ≡ room_of s i
+unfolding height_of
+roomy s i few = rw (few_events s.events few) refl
+
+summed_height : (s : Scene) (i : ℕ) → 2500 < s.events → height_of s i ≡ 460
+unfolding height_of
+summed_height s i many = rw (many_events s.events many) refl
+
+tracks : (s : Scene) (i k : ℕ) → s.events ≤ 2500 → k < rows_of s i
     → (top_of s i ≤ track_of s i k) × (track_of s i k + layout.bar_of (detail_of s.events) ≤ foot s i)
-unfolding track_of foot height_of
-tracks s i k less =
+unfolding track_of foot
+tracks s i k few less =
     let whole : (k + 1) * pitch s ≤ rows_of s i * pitch s = mul-le-mul_right (pitch s) (omega (arith, less)) in
-    (omega arith, omega (arith, whole))
+    (omega arith, omega (arith, whole, roomy s i few))
+
+rise-le : (s : Scene) (i c : ℕ) → rise s i c ≤ 400
+unfolding rise
+rise-le s i c = omega arith
+
+hill_inside : (s : Scene) (i c : ℕ) → 2500 < s.events → (top_of s i + 60 ≤ level s i c) × (level s i c ≤ foot s i)
+unfolding level foot
+hill_inside s i c many = (omega (arith, rise-le s i c, summed_height s i many), omega arith)
+
+bands_inside : (s : Scene) (b : ℕ) → 2500 < s.events → b < 63 → (740 ≤ middle_of_band b) × (middle_of_band b + 440 ≤ width s)
+unfolding width right span_of
+bands_inside s b many less =
+    let whole : nat_le s.events 2500 ≡ false = grind (arith, nat_tests, many) in
+    (omega arith, rw whole (omega (arith, less)))
 
 -- ---- events
 before_newest-le : (test : Step → Bool) (steps : List Step) → length (before_newest test steps) ≤ length steps - 1
@@ -105,7 +138,7 @@ IsEndBefore e end = (end.since < e) × (end.judged < e)
 later : {A : Type 0} (P : ℕ → A → Type 0) (e : ℕ) (xs : List A) → ((x : A) → P e x → P (suc e) x) → Each (P e) xs → Each (P (suc e)) xs
 later P e xs grows h = each_map (P e) (P (suc e)) xs grows h
 
-runs_before : (n : ℕ) (steps : List Step) → Each (λ (r : Running). r.from < length steps) (running n steps)
+pub runs_before : (n : ℕ) (steps : List Step) → Each (λ (r : Running). r.from < length steps) (running n steps)
 runs_before n [] = tt
 runs_before n (Begin t ∷ past) =
     each_push (λ (r : Running). r.from < suc (length past)) (running n past) (begun n past (running n past) t.0)
@@ -284,6 +317,26 @@ arrows_at n (Recv j m g ∷ past) h =
     choose (find (is_sending_of m.0) (under_way past)) refl
 arrows_at n (s ∷ past) h = arrows_at n past h.1
 
+-- ---- ribbons
+abbrev IsWayIn : ℕ → Way → Type 0
+IsWayIn n way = (way.from.0 < n) × (way.to.0 < n) × (way.sent < 63) × (way.received < 63)
+
+band-less : (all e : ℕ) → band all e < 63
+band-less all e = omega arith
+
+ways_at : (n all : ℕ) (steps : List Step) → AreRuns n steps → Each (λ (r : Ribbon). IsWayIn n r.way) (ribbons all steps)
+ways_at n all [] h = tt
+ways_at n all (Recv j m g ∷ past) h =
+    let choose : (found : Option Sending) → find (is_sending_of m.0) (under_way past) ≡ found → Each (λ (r : Ribbon). IsWayIn n r.way) (with_received all found (length past) (ribbons all past)) =
+    elim [
+      | None ↦ λ e. ways_at n all past h.1
+      | Some x ↦ λ e. let at = each_found (IsSentAt n) (is_sending_of m.0) (under_way past) x e (sent_at n past h.1) in
+          each_with (IsWayIn n) (way_of all x (length past)) (ribbons all past) (ways_at n all past h.1) (at.0, at.1, band-less all x.sent, band-less all (length past))
+    ]
+    in
+    choose (find (is_sending_of m.0) (under_way past)) refl
+ways_at n all (s ∷ past) h = ways_at n all past h.1
+
 -- ---- pauses
 resting_before : (n i a : ℕ) (steps : List Step) → resting n i steps ≡ Some a → a < length steps
 resting_before n i a [] e = absurd (none_some a e)
@@ -371,6 +424,9 @@ there n steps s few runs h = record {
   under_way = drawn s.under_way.items (λ (x : Sending). IsSendingThere s x) (under_way steps)
       (each_both (λ (x : Sending). x.sent < length steps) (IsSentAt n) (λ (x : Sending). IsSendingThere s x) (under_way steps)
       (λ x before at. (omega (arith, before, h.events), omega (arith, at.0, h.nodes), omega (arith, at.1, h.nodes))) (sent_before steps) (sent_at n steps runs)) h.under_way;
+  ribbons = drawn s.ribbons.items (λ (r : Ribbon). IsRibbonThere s r) (ribbons (length steps) steps)
+      (each_map (λ (r : Ribbon). IsWayIn n r.way) (λ (r : Ribbon). IsRibbonThere s r) (ribbons (length steps) steps)
+      (λ r at. (omega (arith, at.0, h.nodes), omega (arith, at.1, h.nodes), at.2, at.3)) (ways_at n (length steps) steps runs)) h.ribbons;
   cuts = drawn s.cuts.items (λ (c : Cut). All (λ g. g < s.events) c.gives) (cuts n steps)
       (each_map (IsCutBefore (length steps)) (λ (c : Cut). All (λ g. g < s.events) c.gives) (cuts n steps)
       (λ c before. each_all (λ g. g < s.events) c.gives (each_map (λ g. g < length steps) (λ g. g < s.events) c.gives (λ g l. omega (arith, l, h.events)) before))
@@ -394,6 +450,8 @@ all_inside n steps s some few runs h = (
     reaches = reaches s;
     edges = edges s;
     lanes = λ i less. lanes s i (omega (arith, few, h.nodes)) less;
-    tracks = λ i k here less. tracks s i k less;
+    tracks = λ few i k here less. tracks s i k few less;
+    hills = λ many i c. hill_inside s i c many;
+    bands = λ many b less. bands_inside s b many less;
   },
 )

@@ -1,5 +1,5 @@
 -- A sketch that has followed one step more, and a list of steps that was followed.
-use Rattle.std.proofs.Common.{◌≡◌, ℕ, ◌+◌, ◌<◌, ◌≤◌, ◌⊎◌, inl, inr, Bool, List, [], ◌∷◌, ◌++◌, length, take, drop, reverse, get_or, suc}
+use Rattle.std.proofs.Common.{◌≡◌, ℕ, ◌+◌, ◌<◌, ◌≤◌, ◌⊎◌, inl, inr, Bool, List, [], ◌∷◌, ◌++◌, length, min, take, drop, reverse, get_or, suc}
 use Rattle.std.proofs.Common.{Option, Some, None, refl, sym, ap, subst, ◌∙◌, arith}
 use Rattle.std.specs.List.{slice_index_or}
 use Rattle.std.proofs.Math.Seq.{drop-cons}
@@ -62,33 +62,44 @@ refused_at n xs k d r fits runs (inl none) = inl none
 refused_at n xs k d r fits runs (inr told) = inr (take k xs, get_or xs k d, drop (suc k) xs, split_at xs k d fits, runs, told)
 
 -- What is known of the first k steps of a list.
-pub record FollowsTo (n : ℕ) (xs : List Step) (k place : ℕ) (s : Sketch) : Type 0 where
+pub record FollowsTo (n : ℕ) (xs : List Step) (k place all : ℕ) (s : Sketch) : Type 0 where
   pub follows : Follows n (reverse (take k xs)) s
+  pub all_is : s.all ≡ all
   pub runs : AreRuns n (reverse (take k xs))
   pub place_is : place ≡ k
   pub few : place ≤ MAX_STEPS
 
-pub follows_none : (n : ℕ) (xs : List Step) (s : Sketch) → Follows n [] s → FollowsTo n xs 0 0 s
-follows_none n xs s h = record { follows = h; runs = tt; place_is = refl; few = omega arith }
+pub follows_none : (n all : ℕ) (xs : List Step) (s : Sketch) → Follows n [] s → s.all ≡ all → FollowsTo n xs 0 0 all s
+follows_none n all xs s h is = record { follows = h; all_is = is; runs = tt; place_is = refl; few = omega arith }
 
-pub at_place : (n : ℕ) (xs : List Step) (k place : ℕ) (s : Sketch) → k ≤ length xs → FollowsTo n xs k place s → place ≡ length (reverse (take k xs))
-at_place n xs k place s fits h = h.place_is ∙ sym (length_so_far xs k fits)
+pub at_place : (n : ℕ) (xs : List Step) (k place all : ℕ) (s : Sketch) → k ≤ length xs → FollowsTo n xs k place all s → place ≡ length (reverse (take k xs))
+at_place n xs k place all s fits h = h.place_is ∙ sym (length_so_far xs k fits)
 
-pub follows_more : (n : ℕ) (xs : List Step) (k place : ℕ) (d : Step) (old new : Sketch) → k < length xs → FollowsTo n xs k place old
-    → Follows n (get_or xs k d ∷ reverse (take k xs)) new → MayCome n (reverse (take k xs)) (get_or xs k d) × (length (reverse (take k xs)) < MAX_STEPS)
-    → FollowsTo n xs (k + 1) (place + 1) new
-follows_more n xs k place d old new fits h follows may = record {
+pub follows_more : (n : ℕ) (xs : List Step) (k place all : ℕ) (d : Step) (old new : Sketch) → k < length xs → FollowsTo n xs k place all old
+    → Follows n (get_or xs k d ∷ reverse (take k xs)) new → new.all ≡ old.all
+    → MayCome n (reverse (take k xs)) (get_or xs k d) × (length (reverse (take k xs)) < MAX_STEPS) → FollowsTo n xs (k + 1) (place + 1) all new
+follows_more n xs k place all d old new fits h follows same may = record {
   follows = rw (next_step xs k d fits) follows;
+  all_is = same ∙ h.all_is;
   runs = rw (next_step xs k d fits) (may.0, h.runs);
   place_is = ap (λ p. p + 1) h.place_is;
   few = omega (arith, may.1, length_so_far xs k (omega (arith, fits)), h.place_is);
 }
 
-pub follows_all : (n : ℕ) (xs : List Step) (k place : ℕ) (s : Sketch) → length xs ≤ k → k ≤ length xs → FollowsTo n xs k place s
-    → Follows n (reverse xs) s × AreRuns n (reverse xs) × (place ≡ length (reverse xs))
-follows_all n xs k place s low high h =
-    let whole : take k xs ≡ xs = take_all k xs low in (
-      subst (λ l. Follows n (reverse l) s) whole h.follows,
-      subst (λ l. AreRuns n (reverse l)) whole h.runs,
-      at_place n xs k place s high h ∙ ap (λ l. length (reverse l)) whole,
-    )
+-- All steps have been followed, and there are so many.
+pub record FollowsAll (n : ℕ) (xs : List Step) (place : ℕ) (s : Sketch) : Type 0 where
+  pub follows : Follows n (reverse xs) s
+  pub runs : AreRuns n (reverse xs)
+  pub place_is : place ≡ length (reverse xs)
+  pub all_is : s.all ≡ place
+
+pub follows_all : (n : ℕ) (xs : List Step) (k place all : ℕ) (s : Sketch) → length xs ≤ k → k ≤ length xs → all ≡ min (length xs) MAX_STEPS
+    → FollowsTo n xs k place all s → FollowsAll n xs place s
+follows_all n xs k place all s low high is h =
+    let whole : take k xs ≡ xs = take_all k xs low in
+    record {
+      follows = subst (λ l. Follows n (reverse l) s) whole h.follows;
+      runs = subst (λ l. AreRuns n (reverse l)) whole h.runs;
+      place_is = at_place n xs k place all s high h ∙ ap (λ l. length (reverse l)) whole;
+      all_is = omega (arith, h.all_is, is, h.place_is, h.few, low, high);
+    }

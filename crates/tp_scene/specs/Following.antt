@@ -1,6 +1,6 @@
 -- What is known of steps that were followed one by one.
-use Rattle.std.specs.Prelude.{ℕ, ◌≡◌, ◌==◌, ◌<◌, ◌≤◌, List, None, length, slice_index}
-use Rattle.std.specs.List.{find, slice_index_or}
+use Rattle.std.specs.Prelude.{ℕ, ◌+◌, ◌*◌, ◌≡◌, ◌==◌, ◌<◌, ◌≤◌, List, None, false, length, slice_index}
+use Rattle.std.specs.List.{AllPairs, find, slice_index_or}
 use Rattle.std.specs.Option.{option_map}
 use Rattle.tp_base.specs.declared.limits.TheConstants.{MAX_NODES}
 use Rattle.tp_base.specs.declared.NodeId.{NodeId}
@@ -15,8 +15,10 @@ use Rattle.tp_scene.specs.declared.messages.Messages.{Messages}
 use Rattle.tp_scene.specs.declared.waves.Gives.{Gives}
 use Rattle.tp_scene.specs.declared.waves.Waves.{Waves}
 use Rattle.tp_scene.specs.declared.lanes.Lanes.{Lanes}
+use Rattle.tp_scene.specs.declared.columns.Loads.{Loads}
+use Rattle.tp_scene.specs.declared.scene.Ribbon.{Ribbon}
 use Rattle.tp_scene.specs.declared.sketch.Sketch.{Sketch}
-use Rattle.tp_scene.specs.Scene.{running, bars, rows, under_way, arrows, gave, cuts, seams, ends, resting, pauses}
+use Rattle.tp_scene.specs.Scene.{running, bars, rows, under_way, arrows, load, is_way, ribbons, gave, cuts, seams, ends, resting, pauses}
 use Rattle.tp_wave.specs.Sums.{visit}
 use Rattle.tp_text.specs.AuditText.{last_judgement}
 
@@ -30,9 +32,16 @@ pub record HasTracks (n : ℕ) (past : List Step) (t : Tracks) : Type 0 where
   pub running : t.running.items ≡ running n past
   pub bars : t.bars.items ≡ bars n past
 
-pub record HasMessages (past : List Step) (m : Messages) : Type 0 where
+pub record HasMessages (all : ℕ) (past : List Step) (m : Messages) : Type 0 where
   pub under_way : m.under_way.items ≡ under_way past
   pub arrows : m.arrows.items ≡ arrows past
+  pub ribbons : m.ribbons.items ≡ ribbons all past
+
+pub record HasLoads (n all : ℕ) (past : List Step) (l : Loads) : Type 0 where
+  pub nodes : l.nodes ≡ n
+  pub few : n ≤ MAX_NODES
+  pub size : length l.columns.items ≡ 12000
+  pub columns : (i c : ℕ) → i < n → c < 1500 → slice_index l.columns.items (i * 1500 + c) ≡ load n i all c past
 
 pub record HasGiven (past : List Step) (g : Gives) : Type 0 where
   pub size : length g.last ≡ 8
@@ -45,6 +54,10 @@ pub record HasWaves (n : ℕ) (past : List Step) (w : Waves) : Type 0 where
   pub seams : w.seams.items ≡ seams past
   pub ends : w.ends.items ≡ ends n past
   pub ended : w.ended ≡ last_judgement n past
+
+-- No two ribbons go one way.
+abbrev pub AreApart : List Ribbon → Type 0
+AreApart ribbons = AllPairs (λ (a b : Ribbon). is_way a.way b.way ≡ false) ribbons
 
 -- what is pending at each node
 abbrev pub ArePending : ℕ → List Step → List NodeNumbers → Type 0
@@ -61,6 +74,7 @@ pub record Follows (n : ℕ) (past : List Step) (s : Sketch) : Type 0 where
   pub nodes : s.nodes ≡ n
   pub core : s.core ≡ record { nodes = n; steps = past }
   pub tracks : HasTracks n past s.tracks
-  pub messages : HasMessages past s.messages
+  pub messages : HasMessages s.all past s.messages
   pub waves : HasWaves n past s.waves
   pub lanes : HasLanes n past s.lanes
+  pub loads : HasLoads n s.all past s.loads

@@ -1,10 +1,12 @@
 -- What holds of all that is drawn.
-use Rattle.std.specs.Prelude.{ℕ, ◌≡◌, ◌==◌, ◌<◌, ◌≤◌, ◌++◌, List, [], ◌∷◌, length, map, reverse, unwrap_or, if◌then◌else◌}
+use Rattle.std.specs.Prelude.{ℕ, ◌+◌, ◌-◌, ◌≡◌, ◌==◌, ◌<◌, ◌≤◌, ◌++◌, List, [], ◌∷◌, Bool, false, length, map, reverse, unwrap_or}
+use Rattle.std.specs.Prelude.{if◌then◌else◌}
 use Rattle.std.specs.List.{All, AllPairs, find}
 use Rattle.std.specs.Option.{option_map}
 use Rattle.tp_base.specs.declared.Step.{Step}
 use Rattle.tp_base.specs.declared.Step.TheVariants.{Done, Recv}
-use Rattle.tp_wave.specs.Steps.{before_newest}
+use Rattle.tp_wave.specs.Steps.{before_newest, count, is_recv}
+use Rattle.tp_wave.specs.Sums.{total}
 use Rattle.tp_wave.specs.Machine.{is_send_numbered}
 use Rattle.tp_core.specs.World.{World, Message, how_many, home_of, life_of}
 use Rattle.tp_core.specs.Checks.{is_running}
@@ -20,7 +22,9 @@ use Rattle.tp_scene.specs.declared.scene.Cut.{Cut}
 use Rattle.tp_scene.specs.declared.scene.End.{End}
 use Rattle.tp_scene.specs.declared.scene.Sending.{Sending}
 use Rattle.tp_scene.specs.declared.scene.Arrow.{Arrow}
-use Rattle.tp_scene.specs.Scene.{is_run_of, bars, running, arrows, under_way, cuts, ends}
+use Rattle.tp_scene.specs.declared.scene.Way.{Way}
+use Rattle.tp_scene.specs.declared.scene.Ribbon.{Ribbon}
+use Rattle.tp_scene.specs.Scene.{is_run_of, is_at, bars, running, arrows, under_way, load, way_of, is_way, ribbons, cuts, ends}
 
 -- ---- bars lie apart
 abbrev pub AreOnOneTrack : Running → Running → Type 0
@@ -147,3 +151,39 @@ pub record HasEachWave (n : ℕ) (steps : List Step) : Type 0 where
 
 abbrev pub EachWaveOnce : Type 0
 EachWaveOnce = (n : ℕ) (steps : List Step) → HasEachWave n steps
+
+-- ---- many events
+-- the numbers of all things of a list, added up
+abbrev pub added : {A : Type 0} → (A → ℕ) → List A → ℕ
+added f [] = 0
+added f (x ∷ xs) = f x + added f xs
+
+-- in how many events a task of node i ran, which was done
+abbrev pub ran : ℕ → Bar → ℕ
+ran i bar = if is_at i bar.run then bar.to - bar.run.from else 0
+
+-- in how many of so many events a task of node i has run, which is not done
+abbrev pub has_run : ℕ → ℕ → Running → ℕ
+has_run i events run = if is_at i run then events - run.from else 0
+
+-- The loads of a lane, over all columns, come to the events in which its tasks ran, whatever the steps are.
+abbrev pub LoadsAreRuns : Type 0
+LoadsAreRuns = (n i all columns : ℕ) (steps : List Step) → 1500 ≤ columns
+    → total columns (λ c. load n i all c steps) ≡ added (ran i) (bars n steps) + added (has_run i (length steps)) (running n steps)
+
+-- The message of an arrow went this way.
+abbrev pub goes : ℕ → Way → Arrow → Bool
+goes all way arrow = is_way way (way_of all arrow.sending arrow.received)
+
+-- how many messages the ribbons of this way count
+abbrev pub counted_on : Way → List Ribbon → ℕ
+counted_on way counted = added (λ r. if is_way way r.way then r.count else 0) counted
+
+-- No two ribbons go one way. The ribbons of each way count the messages that went it; all of them, in a run, the messages received.
+pub record HasRibbons (all : ℕ) (steps : List Step) : Type 0 where
+  pub apart : AllPairs (λ (a b : Ribbon). is_way a.way b.way ≡ false) (ribbons all steps)
+  pub each_way : (way : Way) → counted_on way (ribbons all steps) ≡ how_many (goes all way) (arrows steps)
+  pub received : (n : ℕ) → 1 ≤ n → AreRuns n steps → added (λ (r : Ribbon). r.count) (ribbons all steps) ≡ count is_recv steps
+
+abbrev pub RibbonsCarryAll : Type 0
+RibbonsCarryAll = (all : ℕ) (steps : List Step) → HasRibbons all steps

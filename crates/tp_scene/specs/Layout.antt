@@ -2,20 +2,27 @@
 use Rattle.std.specs.Prelude.{ℕ, ◌+◌, ◌-◌, ◌*◌, ◌/◌, Bool, true, false, nat_le, max, min, slice_index, if◌then◌else◌}
 use Rattle.tp_wave.specs.Sums.{total}
 use Rattle.tp_scene.specs.declared.layout.Detail.{Detail}
-use Rattle.tp_scene.specs.declared.layout.Detail.TheVariants.{Fine, Medium, Coarse}
+use Rattle.tp_scene.specs.declared.layout.Detail.TheVariants.{Fine, Medium, Coarse, Summed}
 use Rattle.tp_scene.specs.declared.scene.Scene.{Scene}
 
 -- how much is drawn of each of so many events
 abbrev pub detail_of : ℕ → Detail
-detail_of events = if nat_le events 150 then Fine else (if nat_le events 700 then Medium else Coarse)
+detail_of events =
+    if nat_le events 150 then Fine else (if nat_le events 700 then Medium else (if nat_le events 2500 then Coarse else Summed))
 
 abbrev pub is_fine : Detail → Bool
 is_fine Fine = true
 is_fine _ = false
 
 abbrev pub is_detailed : Detail → Bool
-is_detailed Coarse = false
-is_detailed _ = true
+is_detailed Fine = true
+is_detailed Medium = true
+is_detailed _ = false
+
+-- Sums are drawn, and no task or message alone.
+abbrev pub is_summed : Detail → Bool
+is_summed Summed = true
+is_summed _ = false
 
 abbrev pub least_step : Detail → ℕ
 least_step Fine = 170
@@ -28,16 +35,18 @@ step_of events = min (max (11000 / max events 1) (least_step (detail_of events))
 abbrev pub bar_of : Detail → ℕ
 bar_of Fine = 160
 bar_of Medium = 120
-bar_of Coarse = 70
+bar_of _ = 70
 
 abbrev pub gap_of : Detail → ℕ
-gap_of Coarse = 20
-gap_of _ = 30
+gap_of Fine = 30
+gap_of Medium = 30
+gap_of _ = 20
 
 abbrev pub between_of : Detail → ℕ
 between_of Fine = 460
 between_of Medium = 340
 between_of Coarse = 260
+between_of Summed = 460
 
 -- how wide the lanes are: above 2,500 events the width no longer grows
 unfoldable pub span_of : ℕ → ℕ
@@ -65,9 +74,13 @@ rows_of s i = slice_index s.rows i
 abbrev pub pitch : Scene → ℕ
 pitch s = bar_of (detail_of s.events) + gap_of (detail_of s.events)
 
+-- how high a lane is that has room for its tracks
+abbrev pub room_of : Scene → ℕ → ℕ
+room_of s i = max (rows_of s i * pitch s + gap_of (detail_of s.events) + 80) 300
+
 -- how high the lane of node i is
 unfoldable pub height_of : Scene → ℕ → ℕ
-height_of s i = max (rows_of s i * pitch s + gap_of (detail_of s.events) + 80) 300
+height_of s i = if is_summed (detail_of s.events) then 460 else room_of s i
 
 -- where it begins: below the lanes of the nodes before
 unfoldable pub top_of : Scene → ℕ → ℕ

@@ -4,6 +4,7 @@ pub mod Layout
 pub mod Pieces
 pub mod Marks
 pub mod Cuts
+pub mod Flow
 pub mod Page
 pub mod Laws
 pub mod Inside

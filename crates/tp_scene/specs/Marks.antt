@@ -1,5 +1,5 @@
 -- What is drawn of each thing of a scene.
-use Rattle.std.specs.Prelude.{ℕ, ◌+◌, ◌-◌, ◌*◌, ◌/◌, ◌&&◌, List, [], Bool, max, nat_lt, nat_le, codes, decimal, length, vec_len}
+use Rattle.std.specs.Prelude.{ℕ, ◌+◌, ◌-◌, ◌*◌, ◌/◌, ◌&&◌, ◌||◌, List, [], Bool, not, max, nat_lt, nat_le, codes, decimal, length, vec_len}
 use Rattle.std.specs.Prelude.{if◌then◌else◌}
 use Rattle.tp_scene.specs.declared.pieces.Point.{Point}
 use Rattle.tp_scene.specs.declared.pieces.Area.{Area}
@@ -10,8 +10,8 @@ use Rattle.tp_scene.specs.declared.scene.Arrow.{Arrow}
 use Rattle.tp_scene.specs.declared.scene.Pause.{Pause}
 use Rattle.tp_scene.specs.declared.scene.Seam.{Seam}
 use Rattle.tp_scene.specs.declared.scene.Scene.{Scene}
-use Rattle.tp_scene.specs.Layout.{detail_of, is_fine, is_detailed, bar_of, edge, middle, right, reach, height_of, top_of, foot, track_of}
-use Rattle.tp_scene.specs.Layout.{bottom}
+use Rattle.tp_scene.specs.Layout.{detail_of, is_fine, is_detailed, is_summed, bar_of, edge, middle, right, reach, height_of, top_of, foot}
+use Rattle.tp_scene.specs.Layout.{track_of, bottom}
 use Rattle.tp_scene.specs.Pieces.{◌⧺◌, event, tenths, point, box_text, sending_text}
 
 abbrev pub at : ℕ → ℕ → Point
@@ -57,19 +57,24 @@ running_text s run =
     run_text run (run_area s run (right s)) (codes " open") ⧺ codes ", not done</title></rect>\n" ⧺ number_text s run (run_area s run (right s))
 
 -- ---- lanes
+unfoldable pub pause_area : Scene → Pause → Area
+pause_area s pause =
+    area (middle s pause.from) (top_of s pause.node.0) (reach s pause.to - middle s pause.from) (height_of s pause.node.0)
+
+unfoldable pub white_text : Area → List ℕ
+white_text where_it_is = codes "<rect class=\"idle\"" ⧺ box_text where_it_is ⧺ codes "/>\n"
+
+-- Where sums are drawn a pause has to be a pixel wide.
+abbrev pub is_seen : Scene → Area → Bool
+is_seen s where_it_is = not (is_summed (detail_of s.events)) || nat_le 10 where_it_is.width
+
 unfoldable pub pause_text : Scene → Pause → List ℕ
-pause_text s pause =
-    codes "<rect class=\"idle\""
-    ⧺ box_text (area (middle s pause.from) (top_of s pause.node.0) (reach s pause.to - middle s pause.from) (height_of s pause.node.0))
-    ⧺ codes "/>\n"
+pause_text s pause = if is_seen s (pause_area s pause) then white_text (pause_area s pause) else []
 
 -- ---- messages
--- from which edge of the sender's lane to which of the receiver's a message goes
-unfoldable pub ends_of : Scene → Sending → ℕ × ℕ
-ends_of s sending =
-    if nat_lt sending.from.0 sending.to.0
-    then (foot s sending.from.0, top_of s sending.to.0)
-    else (top_of s sending.from.0, foot s sending.to.0)
+-- from which edge of a lane to which of another a message goes
+unfoldable pub ends_of : Scene → ℕ → ℕ → ℕ × ℕ
+ends_of s from to = if nat_lt from to then (foot s from, top_of s to) else (top_of s from, foot s to)
 
 -- how far the handle of a curve goes down, or up
 abbrev pub bend : ℕ → ℕ → ℕ
@@ -93,10 +98,10 @@ unfoldable pub dot_text : Scene → Point → List ℕ
 dot_text s p = if is_fine (detail_of s.events) then spot_text p else []
 
 abbrev pub arrow_start : Scene → Arrow → Point
-arrow_start s arrow = at (middle s arrow.sending.sent) (ends_of s arrow.sending).0
+arrow_start s arrow = at (middle s arrow.sending.sent) (ends_of s arrow.sending.from.0 arrow.sending.to.0).0
 
 abbrev pub arrow_end : Scene → Arrow → Point
-arrow_end s arrow = at (middle s arrow.received) (ends_of s arrow.sending).1
+arrow_end s arrow = at (middle s arrow.received) (ends_of s arrow.sending.from.0 arrow.sending.to.0).1
 
 -- a message from one place to another, by a curve that is vertical at both
 unfoldable pub path_text : Scene → Arrow → Point → Point → List ℕ

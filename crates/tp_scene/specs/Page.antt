@@ -2,19 +2,28 @@
 use Rattle.std.specs.Prelude.{ℕ, zero, suc, ◌+◌, ◌-◌, ◌/◌, ◌%◌, ◌==◌, List, [], nat_le, Option, Some, None, codes, decimal}
 use Rattle.std.specs.Prelude.{vec_len, if◌then◌else◌}
 use Rattle.std.specs.List.{flat_map}
-use Rattle.tp_scene.specs.declared.page.TheConstants.{STYLE, LEGEND}
+use Rattle.tp_scene.specs.declared.page.TheConstants.{STYLE, STYLE_OF_SUMS, LEGEND, LEGEND_OF_SUMS}
 use Rattle.tp_scene.specs.declared.pieces.Area.{Area}
 use Rattle.tp_scene.specs.declared.scene.Scene.{Scene}
-use Rattle.tp_scene.specs.Layout.{step_of, middle, right, top_of, height_of, bottom, width, page_height}
+use Rattle.tp_scene.specs.Layout.{detail_of, is_summed, step_of, middle, right, top_of, height_of, bottom, width, page_height}
 use Rattle.tp_scene.specs.Pieces.{◌⧺◌, event, tenths, point, box_text}
 use Rattle.tp_scene.specs.Marks.{at, area, bar_text, running_text, pause_text, arrow_text, lost_text, seam_text}
 use Rattle.tp_scene.specs.Cuts.{cut_text, end_text, labels}
+use Rattle.tp_scene.specs.Flow.{hills, ribbon_text}
 
 -- the size of the page, and how things look on it
 unfoldable pub head : Scene → List ℕ
 head s =
     codes "<svg xmlns=\"http://www.w3.org/2000/svg\" width=\"" ⧺ tenths (width s) ⧺ codes "\" height=\"" ⧺ tenths (page_height s)
     ⧺ codes "\" viewBox=\"0 0 " ⧺ tenths (width s) ⧺ codes " " ⧺ tenths (page_height s) ⧺ codes "\">\n" ⧺ STYLE.now
+
+-- how sums look, where they are drawn
+abbrev pub more_style : Scene → List ℕ
+more_style s = if is_summed (detail_of s.events) then STYLE_OF_SUMS.now else []
+
+-- what the lines and colours mean
+abbrev pub legend : Scene → List ℕ
+legend s = if is_summed (detail_of s.events) then LEGEND_OF_SUMS.now else LEGEND.now
 
 unfoldable pub plural : ℕ → List ℕ
 plural count = if count == 1 then [] else codes "s"
@@ -94,11 +103,20 @@ axis s = ticks s (unit s) s.events ⧺ axis_line s
 unfoldable pub lanes : Scene → List ℕ
 lanes s = grounds s s.nodes ⧺ flat_map (pause_text s) s.pauses.items ⧺ frames s s.nodes
 
-unfoldable pub messages : Scene → List ℕ
-messages s = flat_map (arrow_text s) s.arrows.items ⧺ flat_map (lost_text s) s.under_way.items
+-- one by one, or as ribbons
+abbrev pub received : Scene → List ℕ
+received s =
+    if is_summed (detail_of s.events) then flat_map (ribbon_text s) s.ribbons.items else flat_map (arrow_text s) s.arrows.items
 
-unfoldable pub tasks : Scene → List ℕ
-tasks s = flat_map (bar_text s) s.bars.items ⧺ flat_map (running_text s) s.running.items
+unfoldable pub messages : Scene → List ℕ
+messages s = received s ⧺ flat_map (lost_text s) s.under_way.items
+
+unfoldable pub all_bars : Scene → List ℕ
+all_bars s = flat_map (bar_text s) s.bars.items ⧺ flat_map (running_text s) s.running.items
+
+-- one by one, or as hills
+abbrev pub tasks : Scene → List ℕ
+tasks s = if is_summed (detail_of s.events) then hills s s.nodes else all_bars s
 
 unfoldable pub run : Scene → List ℕ
 run s = lanes s ⧺ messages s ⧺ tasks s
@@ -110,4 +128,5 @@ waves s =
 
 -- the picture of a scene
 unfoldable pub svg_of : Scene → List ℕ
-svg_of s = head s ⧺ headline s ⧺ verdict s.ended ⧺ LEGEND.now ⧺ run s ⧺ waves s ⧺ axis s ⧺ codes "</svg>\n"
+svg_of s =
+    head s ⧺ more_style s ⧺ headline s ⧺ verdict s.ended ⧺ legend s ⧺ run s ⧺ waves s ⧺ axis s ⧺ codes "</svg>\n"

@@ -1,13 +1,13 @@
 -- What is drawn of the steps of a run on n nodes. A list of steps has the newest first; what is drawn of it stands in the order of
 -- time. An event has as its number how many had come before it.
-use Rattle.std.specs.Prelude.{ℕ, zero, suc, ◌+◌, ◌==◌, ◌&&◌, ◌≡◌, ◌<◌, ◌++◌, ◌⊎◌, List, [], ◌∷◌, Bool, not, Option, Some, None, length}
-use Rattle.std.specs.Prelude.{map, max, reverse, slice_index, unwrap_or, if◌then◌else◌}
+use Rattle.std.specs.Prelude.{ℕ, zero, suc, ◌+◌, ◌*◌, ◌/◌, ◌==◌, ◌&&◌, ◌≡◌, ◌<◌, ◌++◌, ◌⊎◌, List, [], ◌∷◌, Bool, not, Option, Some, None}
+use Rattle.std.specs.Prelude.{length, map, max, min, reverse, slice_index, unwrap_or, if◌then◌else◌}
 use Rattle.std.specs.List.{find, list_any, range_with_len}
 use Rattle.tp_base.specs.declared.Step.{Step}
 use Rattle.tp_base.specs.declared.Step.TheVariants.{Begin, Done, Send, Recv, Give, Judge, Reopen}
 use Rattle.tp_wave.specs.Sums.{visit, sums_of, judgement}
 use Rattle.tp_wave.specs.Generations.{present, generation}
-use Rattle.tp_core.specs.World.{home_of}
+use Rattle.tp_core.specs.World.{home_of, how_many}
 use Rattle.tp_core.specs.Pool.{without}
 use Rattle.tp_core.specs.Checks.{is_idle}
 use Rattle.tp_core.specs.Generations.{world_after, AreRuns}
@@ -19,6 +19,8 @@ use Rattle.tp_scene.specs.declared.scene.Running.{Running}
 use Rattle.tp_scene.specs.declared.scene.Bar.{Bar}
 use Rattle.tp_scene.specs.declared.scene.Sending.{Sending}
 use Rattle.tp_scene.specs.declared.scene.Arrow.{Arrow}
+use Rattle.tp_scene.specs.declared.scene.Way.{Way}
+use Rattle.tp_scene.specs.declared.scene.Ribbon.{Ribbon}
 use Rattle.tp_scene.specs.declared.scene.Cut.{Cut}
 use Rattle.tp_scene.specs.declared.scene.Pause.{Pause}
 use Rattle.tp_scene.specs.declared.scene.End.{End}
@@ -171,6 +173,47 @@ pauses_now n (suc k) steps = pauses_now n k steps ++ pause_of k (resting n k ste
 abbrev pub last_pauses : ℕ → List Step → List Pause
 last_pauses n steps = pauses_now n n steps
 
+-- ---- columns and bands
+-- Events share out 1,500 columns: of all of them the one with this number lies in this column.
+abbrev pub column : ℕ → ℕ → ℕ
+column all e = min (e * 1500 / max all 1) 1499
+
+-- A band is 24 columns.
+abbrev pub band : ℕ → ℕ → ℕ
+band all e = column all e / 24
+
+-- it runs in the lane of node i
+abbrev pub is_at : ℕ → Running → Bool
+is_at i run = run.node.0 == i
+
+-- how many tasks run at node i, added up over the events of column c
+abbrev pub load : ℕ → ℕ → ℕ → ℕ → List Step → ℕ
+load n i all c [] = 0
+load n i all c (s ∷ past) =
+    if column all (length past) == c then load n i all c past + how_many (is_at i) (running n (s ∷ past)) else load n i all c past
+
+-- the way of a message that is received at an event
+abbrev pub way_of : ℕ → Sending → ℕ → Way
+way_of all x place = record { from = x.from; sent = band all x.sent; to = x.to; received = band all place }
+
+abbrev pub is_way : Way → Way → Bool
+is_way a b = (a.from.0 == b.from.0) && (a.sent == b.sent) && (a.to.0 == b.to.0) && (a.received == b.received)
+
+-- One message more goes this way: it widens the ribbon, or has a new one.
+abbrev pub with_way : Way → List Ribbon → List Ribbon
+with_way way [] = record { way = way; count = 1 } ∷ []
+with_way way (r ∷ rest) = if is_way way r.way then record { way = r.way; count = r.count + 1 } ∷ rest else r ∷ with_way way rest
+
+abbrev pub with_received : ℕ → Option Sending → ℕ → List Ribbon → List Ribbon
+with_received all None place counted = counted
+with_received all (Some x) place counted = with_way (way_of all x place) counted
+
+-- the messages that are received, counted by their ways
+abbrev pub ribbons : ℕ → List Step → List Ribbon
+ribbons all [] = []
+ribbons all (Recv j m g ∷ past) = with_received all (find (is_sending_of m.0) (under_way past)) (length past) (ribbons all past)
+ribbons all (s ∷ past) = ribbons all past
+
 -- ---- all
 pub record IsSceneOf (n : ℕ) (steps : List Step) (s : Scene) : Type 0 where
   pub nodes : s.nodes ≡ n
@@ -180,6 +223,8 @@ pub record IsSceneOf (n : ℕ) (steps : List Step) (s : Scene) : Type 0 where
   pub running : s.running.items ≡ running n steps
   pub arrows : s.arrows.items ≡ arrows steps
   pub under_way : s.under_way.items ≡ under_way steps
+  pub loads : (i c : ℕ) → i < n → c < 1500 → slice_index s.loads.items (i * 1500 + c) ≡ load n i (length steps) c steps
+  pub ribbons : s.ribbons.items ≡ ribbons (length steps) steps
   pub cuts : s.cuts.items ≡ cuts n steps
   pub pauses : s.pauses.items ≡ pauses n steps ++ last_pauses n steps
   pub seams : s.seams.items ≡ seams steps

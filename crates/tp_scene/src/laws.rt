@@ -1,5 +1,5 @@
 ghost use Rattle.tp_scene.specs.Inside.{AllIsInside};
-ghost use Rattle.tp_scene.specs.Laws.{BarsLieApart, EachMessageOnce, EachTaskOnce, EachWaveOnce};
+ghost use Rattle.tp_scene.specs.Laws.{BarsLieApart, EachMessageOnce, EachTaskOnce, EachWaveOnce, LoadsAreRuns, RibbonsCarryAll};
 
 /// On no track two bars overlap, whatever the steps are.
 pub fn bars_lie_apart()
@@ -27,4 +27,15 @@ pub fn all_is_inside()
 /// any.
 pub fn each_wave_once()
     ensures { EachWaveOnce }
+{}
+
+/// The loads of a lane, over all columns, come to the events in which its tasks ran.
+pub fn loads_are_runs()
+    ensures { LoadsAreRuns }
+{}
+
+/// No two ribbons go one way, those of each way count the messages that went it, and in a run all of them count the messages that
+/// were received.
+pub fn ribbons_carry_all()
+    ensures { RibbonsCarryAll }
 {}

@@ -1,5 +1,5 @@
 ghost use Rattle.std.specs.Prelude.{◌≡◌, ◌≤◌, ◌<◌, ◌*◌, ◌/◌, ◌^◌};
-ghost use Rattle.tp_scene.specs.Layout.{detail_of, is_detailed, is_fine, least_step, step_of, span_of, bar_of, gap_of, between_of, edge};
+ghost use Rattle.tp_scene.specs.Layout.{detail_of, is_detailed, is_fine, is_summed, room_of, least_step, step_of, span_of, bar_of, gap_of, between_of, edge};
 ghost use Rattle.tp_scene.specs.Layout.{middle, right, reach, rows_of, height_of, top_of, foot, track_of, bottom, width, page_height};
 
 use crate::places::place_of;
@@ -23,6 +23,9 @@ const LEAST_WIDTH: u64 = 6_400;
 /// A lane is at least so high.
 const LEAST_HEIGHT: u64 = 300;
 
+/// The height of a lane in which the load is drawn.
+const SUMMED_HEIGHT: u64 = 460;
+
 /// How much is drawn of each thing: the more events there are, the less.
 #[derive(Clone, Copy, Debug, PartialEq, Eq)]
 pub(crate) enum Detail {
@@ -30,7 +33,10 @@ pub(crate) enum Detail {
     Fine,
     /// At most 700.
     Medium,
+    /// At most 2,500.
     Coarse,
+    /// More.
+    Summed,
 }
 
 impl Detail {
@@ -41,8 +47,10 @@ impl Detail {
             Detail::Fine
         } else if events <= 700 {
             Detail::Medium
-        } else {
+        } else if events <= 2_500 {
             Detail::Coarse
+        } else {
+            Detail::Summed
         }
     }
 
@@ -72,8 +80,18 @@ impl Detail {
         ensures { result ≡ is_detailed self }
     {
         match self {
-            Detail::Coarse => false,
-            _ => true,
+            Detail::Fine | Detail::Medium => true,
+            _ => false,
+        }
+    }
+
+    /// Whether sums are drawn, and no task or message alone.
+    pub(crate) fn is_summed(self) -> bool
+        ensures { result ≡ is_summed self }
+    {
+        match self {
+            Detail::Summed => true,
+            _ => false,
         }
     }
 }
@@ -114,7 +132,7 @@ impl Scene {
         match self.detail() {
             Detail::Fine => 160,
             Detail::Medium => 120,
-            Detail::Coarse => 70,
+            _ => 70,
         }
     }
 
@@ -124,8 +142,8 @@ impl Scene {
         ensures bound { result ≤ 30 }
     {
         match self.detail() {
-            Detail::Coarse => 20,
-            _ => 30,
+            Detail::Fine | Detail::Medium => 30,
+            _ => 20,
         }
     }
 
@@ -138,12 +156,13 @@ impl Scene {
             Detail::Fine => 460,
             Detail::Medium => 340,
             Detail::Coarse => 260,
+            Detail::Summed => 460,
         }
     }
 
     /// How wide the lanes are: above 2,500 events the width no longer grows.
     #[tactic(auto, unfolding(crate::specs::Layout::span_of))]
-    fn span(&self) -> u64
+    pub(crate) fn span(&self) -> u64
         ensures value { result ≡ span_of self.now.events }
         ensures bound { result ≤ 650000 }
     {
@@ -196,11 +215,20 @@ impl Scene {
 
     /// How many tracks the lane of a node has, none beyond the eighth node.
     #[tactic(auto, unfolding(crate::specs::Layout::rows_of))]
-    fn rows_of(&self, node: u32) -> u64
+    pub(crate) fn rows_of(&self, node: u32) -> u64
         ensures value { result ≡ rows_of self.now node }
         ensures bound { result < 2 ^ 32 }
     {
         u64::from(place_of(&self.rows, node))
+    }
+
+    /// How high a lane is that has room for its tracks.
+    fn room(&self, node: u32) -> u64
+        ensures value { result ≡ room_of self.now node }
+        ensures bound { result < 2 ^ 41 }
+    {
+        let bars = self.rows_of(node) * (self.bar() + self.gap());
+        (bars + self.gap() + 80).max(LEAST_HEIGHT)
     }
 
     /// How high the lane of a node is.
@@ -209,8 +237,11 @@ impl Scene {
         ensures value { result ≡ height_of self.now node }
         ensures bound { result < 2 ^ 41 }
     {
-        let bars = self.rows_of(node) * (self.bar() + self.gap());
-        (bars + self.gap() + 80).max(LEAST_HEIGHT)
+        if self.detail().is_summed() {
+            SUMMED_HEIGHT
+        } else {
+            self.room(node)
+        }
     }
 
     /// Where the lane of a node begins; that of a node beyond the eighth where the ninth would.

@@ -1,7 +1,9 @@
 //! A picture of a run: what is drawn of the steps of a core, and how it is written.
 #![tactic(auto)]
 
+mod columns;
 mod cuts;
+mod flow;
 mod keyed;
 mod lanes;
 mod laws;
@@ -11,12 +13,16 @@ mod messages;
 mod page;
 mod pieces;
 mod places;
+mod ribbons;
 mod scene;
 mod sketch;
 mod tracks;
 mod waves;
 
-pub use laws::{all_is_inside, bars_lie_apart, each_message_once, each_task_once, each_wave_once};
+pub use laws::{
+    all_is_inside, bars_lie_apart, each_message_once, each_task_once, each_wave_once,
+    loads_are_runs, ribbons_carry_all,
+};
 pub use page::svg;
-pub use scene::{Arrow, Bar, Cut, End, Pause, Running, Scene, Seam, Sending};
+pub use scene::{Arrow, Bar, Cut, End, Pause, Ribbon, Running, Scene, Seam, Sending, Way};
 pub use sketch::scene_of;

@@ -2,13 +2,14 @@ ghost use Rattle.std.specs.Prelude.{◌≡◌, ◌++◌, ◌+◌, ◌*◌, ◌<�
 ghost use Rattle.tp_scene.specs.Layout.{middle, reach, foot, top_of};
 ghost use Rattle.tp_scene.specs.Marks.{run_area, run_text, until_text, number_text, has_number, bar_text, running_text, pause_text};
 ghost use Rattle.tp_scene.specs.Marks.{arrow_class, handle, path_text, arrow_text, dot_text, spot_text, inside_text, ends_of, lost_text};
-ghost use Rattle.tp_scene.specs.Marks.{seam_text};
+ghost use Rattle.tp_scene.specs.Marks.{seam_text, pause_area, white_text, is_seen};
 
 use crate::layout::TOP;
 use crate::pieces::{Area, Mark, Part, Point, push_parts};
 use crate::scene::{Arrow, Bar, Pause, Running, Scene, Seam, Sending};
 use itoa::Buffer;
 use std::alloc::AllocError;
+use tp_base::NodeId;
 
 /// Where a task runs, up to a place on the page; at least a pixel wide.
 #[tactic(auto, unfolding(crate::specs::Marks::run_area))]
@@ -134,47 +135,73 @@ impl Mark for Running {
     }
 }
 
+/// Where nothing was pending.
+#[tactic(auto, unfolding(crate::specs::Marks::pause_area))]
+fn pause_area(scene: &Scene, pause: &Pause) -> Area
+    ensures { result ≡ pause_area scene.now pause.now }
+{
+    let from = scene.middle(pause.from);
+    Area {
+        corner: Point {
+            x: from,
+            y: scene.top(pause.node.0),
+        },
+        width: scene.reach(pause.to).saturating_sub(from),
+        height: scene.height(pause.node.0),
+    }
+}
+
+/// White ground.
+#[tactic(auto, unfolding(crate::specs::Marks::white_text))]
+fn push_white(out: &mut Vec<u8>, area: Area) -> Result<(), AllocError>
+    ensures { OnOk result (out.new.items ≡ out.old.items ++ white_text area) }
+{
+    push_parts(
+        out,
+        &[
+            Part::Text(b"<rect class=\"idle\""),
+            Part::Rectangle(area),
+            Part::Text(b"/>\n"),
+        ],
+    )
+}
+
+/// Whether a pause is drawn: where sums are drawn it has to be a pixel wide.
+fn is_seen(scene: &Scene, area: Area) -> bool
+    ensures { result ≡ is_seen scene.now area }
+{
+    !scene.detail().is_summed() || 10 <= area.width
+}
+
 impl Mark for Pause {
     ghost text = { pause_text };
 
     #[tactic(auto, unfolding(crate::specs::Marks::pause_text))]
     fn push(&self, scene: &Scene, out: &mut Vec<u8>) -> Result<(), AllocError> {
-        let from = scene.middle(self.from);
-        let area = Area {
-            corner: Point {
-                x: from,
-                y: scene.top(self.node.0),
-            },
-            width: scene.reach(self.to).saturating_sub(from),
-            height: scene.height(self.node.0),
-        };
-        push_parts(
-            out,
-            &[
-                Part::Text(b"<rect class=\"idle\""),
-                Part::Rectangle(area),
-                Part::Text(b"/>\n"),
-            ],
-        )
+        let area = pause_area(scene, self);
+        if is_seen(scene, area) {
+            return push_white(out, area);
+        }
+        Ok(())
     }
 }
 
-/// From which edge of the sender's lane to which of the receiver's a message goes.
+/// From which edge of a lane to which of another a message goes.
 #[tactic(auto, unfolding(crate::specs::Marks::ends_of))]
-fn ends_of(scene: &Scene, sending: &Sending) -> (u64, u64)
-    ensures value { result ≡ ends_of scene.now sending.now }
+pub(crate) fn ends_of(scene: &Scene, from: NodeId, to: NodeId) -> (u64, u64)
+    ensures value { result ≡ ends_of scene.now from.0 to.0 }
     ensures bound { (result.0 < 2 ^ 47) × (result.1 < 2 ^ 47) }
 {
-    if sending.from.0 < sending.to.0 {
-        (scene.foot(sending.from.0), scene.top(sending.to.0))
+    if from.0 < to.0 {
+        (scene.foot(from.0), scene.top(to.0))
     } else {
-        (scene.top(sending.from.0), scene.foot(sending.to.0))
+        (scene.top(from.0), scene.foot(to.0))
     }
 }
 
 /// Where the handle of a curve lies that leaves a place for another: straight above or below it.
 #[tactic(auto, unfolding(crate::specs::Marks::handle))]
-fn handle(from: Point, to: Point) -> Point
+pub(crate) fn handle(from: Point, to: Point) -> Point
     requires { (from.y < 2 ^ 47) × (to.y < 2 ^ 47) }
     ensures { result ≡ handle from to }
 {
@@ -270,7 +297,7 @@ impl Mark for Arrow {
 
     #[tactic(auto, unfolding(crate::specs::Marks::arrow_text))]
     fn push(&self, scene: &Scene, out: &mut Vec<u8>) -> Result<(), AllocError> {
-        let (start, end) = ends_of(scene, &self.sending);
+        let (start, end) = ends_of(scene, self.sending.from, self.sending.to);
         let from = Point {
             x: scene.middle(self.sending.sent),
             y: start,

@@ -1,8 +1,10 @@
 ghost use Rattle.std.specs.Prelude.{◌≡◌, ◌++◌, ◌<◌, ◌^◌, OnOk, IfOk};
 ghost use Rattle.tp_scene.specs.Page.{head, headline, plural, verdict, lane, ground, grounds, frame, frames, unit_by, unit, tick};
 ghost use Rattle.tp_scene.specs.Page.{tick_where, ticks, axis_line, axis, lanes, messages, tasks, run, waves, svg_of};
+ghost use Rattle.tp_scene.specs.Page.{all_bars, legend, more_style, received};
 
 use crate::cuts::push_labels;
+use crate::flow::push_hills;
 use crate::layout::LEFT;
 use crate::pieces::{Area, Part, Point, push_all, push_parts};
 use crate::scene::Scene;
@@ -37,11 +39,48 @@ text.tells,.told,.seen{fill:#4fc47a}.over{fill:#4fc47a;fill-opacity:.12}.lost{st
 <rect class=\"page\" width=\"100%\" height=\"100%\"/>
 ";
 
+/// How sums look, in the light and in the dark.
+pub const STYLE_OF_SUMS: &[u8] = b"<style>
+.hill{fill-opacity:.85}.r{fill:none;stroke-opacity:.38}
+.r0{stroke:#2f6db5}.r1{stroke:#c4572a}.r2{stroke:#3f8f4f}.r3{stroke:#8a55a8}.r4{stroke:#b58a17}.r5{stroke:#1f8f94}.r6{stroke:#b0436f}.r7{stroke:#6b6f2a}
+@media (prefers-color-scheme:dark){
+.r0{stroke:#6fa3e0}.r1{stroke:#e08a62}.r2{stroke:#74bd83}.r3{stroke:#b98ad4}.r4{stroke:#d9b452}.r5{stroke:#58bcc0}.r6{stroke:#db7ea3}.r7{stroke:#aab05a}}
+</style>
+";
+
 /// What the lines and colours mean, below the headline.
 pub const LEGEND: &[u8] =
     b"<text x=\"74\" y=\"66\">bar: a task runs \xc2\xb7 tinted lane: something is pending, white: idle</text>
 <text x=\"74\" y=\"82\">arrow: a message \xc2\xb7 line: a wave, through the place where each node gave its sums</text>
 ";
+
+/// What the lines and colours mean, where sums are drawn.
+pub const LEGEND_OF_SUMS: &[u8] =
+    b"<text x=\"74\" y=\"66\">height: how many tasks run \xc2\xb7 tinted lane: something is pending, white: idle</text>
+<text x=\"74\" y=\"82\">ribbon: messages, wider the more \xc2\xb7 line: a wave, through the place where each node gave its sums</text>
+";
+
+/// How sums look, where they are drawn.
+fn more_style(scene: &Scene) -> &'static [u8]
+    ensures { result.now ≡ more_style scene.now }
+{
+    if scene.detail().is_summed() {
+        STYLE_OF_SUMS
+    } else {
+        b""
+    }
+}
+
+/// What the lines and colours mean.
+fn legend(scene: &Scene) -> &'static [u8]
+    ensures { result.now ≡ legend scene.now }
+{
+    if scene.detail().is_summed() {
+        LEGEND_OF_SUMS
+    } else {
+        LEGEND
+    }
+}
 
 /// The size of the page, and how things look on it.
 #[tactic(auto, unfolding(crate::specs::Page::head))]
@@ -330,22 +369,42 @@ fn push_lanes(out: &mut Vec<u8>, scene: &Scene) -> Result<(), AllocError>
     push_frames(out, scene)
 }
 
+/// The messages that were received, one by one or as ribbons.
+fn push_received(out: &mut Vec<u8>, scene: &Scene) -> Result<(), AllocError>
+    ensures { OnOk result (out.new.items ≡ out.old.items ++ received scene.now) }
+{
+    if scene.detail().is_summed() {
+        return push_all(out, scene, &scene.ribbons);
+    }
+    push_all(out, scene, &scene.arrows)
+}
+
 /// The messages that were received, and those that were not.
 #[tactic(auto, unfolding(crate::specs::Page::messages))]
 fn push_messages(out: &mut Vec<u8>, scene: &Scene) -> Result<(), AllocError>
     ensures { OnOk result (out.new.items ≡ out.old.items ++ messages scene.now) }
 {
-    push_all(out, scene, &scene.arrows)?;
+    push_received(out, scene)?;
     push_all(out, scene, &scene.under_way)
 }
 
 /// The tasks that were done, and those that were not.
-#[tactic(auto, unfolding(crate::specs::Page::tasks))]
-fn push_tasks(out: &mut Vec<u8>, scene: &Scene) -> Result<(), AllocError>
-    ensures { OnOk result (out.new.items ≡ out.old.items ++ tasks scene.now) }
+#[tactic(auto, unfolding(crate::specs::Page::all_bars))]
+fn push_bars(out: &mut Vec<u8>, scene: &Scene) -> Result<(), AllocError>
+    ensures { OnOk result (out.new.items ≡ out.old.items ++ all_bars scene.now) }
 {
     push_all(out, scene, &scene.bars)?;
     push_all(out, scene, &scene.running)
+}
+
+/// The tasks, one by one or as hills.
+fn push_tasks(out: &mut Vec<u8>, scene: &Scene) -> Result<(), AllocError>
+    ensures { OnOk result (out.new.items ≡ out.old.items ++ tasks scene.now) }
+{
+    if scene.detail().is_summed() {
+        return push_hills(out, scene);
+    }
+    push_bars(out, scene)
 }
 
 /// What lies below the waves: the lanes, and the messages below the tasks.
@@ -376,9 +435,10 @@ pub fn svg(alloc: Global, scene: &Scene) -> Result<Vec<u8>, AllocError>
 {
     let mut out = Vec::new(alloc);
     push_head(&mut out, scene)?;
+    out.extend_from_slice(more_style(scene))?;
     push_headline(&mut out, scene)?;
     push_verdict(&mut out, scene.ended)?;
-    out.extend_from_slice(LEGEND)?;
+    out.extend_from_slice(legend(scene))?;
     push_run(&mut out, scene)?;
     push_waves(&mut out, scene)?;
     push_axis(&mut out, scene)?;

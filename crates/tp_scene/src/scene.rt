@@ -62,6 +62,23 @@ pub struct Seam {
     pub at: u32,
 }
 
+/// The way of a message on a page of 63 bands, which share out the events: the node and the band in which it was sent, and those in
+/// which it was received.
+#[derive(Clone, Copy, Debug, PartialEq, Eq)]
+pub struct Way {
+    pub from: NodeId,
+    pub sent: u32,
+    pub to: NodeId,
+    pub received: u32,
+}
+
+/// So many messages went one way.
+#[derive(Clone, Copy, Debug, PartialEq, Eq)]
+pub struct Ribbon {
+    pub way: Way,
+    pub count: u32,
+}
+
 /// What is drawn of a run. Each list stands in the order of time.
 #[derive(Drop)]
 pub struct Scene {
@@ -77,6 +94,11 @@ pub struct Scene {
     pub arrows: Vec<Arrow>,
     /// The messages that were sent and not received.
     pub under_way: Vec<Sending>,
+    /// How many tasks of each node run, added up over the events of each of 1,500 columns: that of node i and column c stands at
+    /// 1,500 i + c.
+    pub loads: Vec<u64>,
+    /// The messages that were received, counted by their ways.
+    pub ribbons: Vec<Ribbon>,
     /// The waves that ended.
     pub cuts: Vec<Cut>,
     /// Where nothing was pending, node by node.

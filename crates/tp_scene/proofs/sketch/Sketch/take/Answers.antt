@@ -1,4 +1,5 @@
-use Rattle.std.proofs.Common.{◌∷◌}
+use Rattle.std.proofs.Common.{◌∷◌, ap, ◌∙◌}
+use Rattle.tp_scene.specs.Scene.{column}
 use Rattle.tp_scene.proofs.Sketched.{replied, stepped, numbered, came}
 use Rattle.tp_scene.proofs.sketch.Sketch.take.Goals as goal
 
@@ -13,6 +14,8 @@ returns-clause-follows c = λ n past h at.
       waves = c.in_ok-take-3.ensures n past h.waves at (replied n past c.args.step _ c.args.self.now.core h.core c.in_ok-reply.ensures.answers.1);
       lanes = c.in_ok-take-4.ensures n past c.args.step h.lanes at
           (numbered n (c.args.step ∷ past) c.step.new.self c.numbers.result.nodes core c.numbers.ensures.nodes);
+      loads = c.take-5.ensures n c.args.self.now.all past c.args.step h.loads (c.column.ensures.value ∙ ap (column c.args.self.now.all) at)
+          (c.deref.ensures.value ∙ (c.in_ok-take.ensures n past h.tracks at).running);
     }
 
 pub returns-clause-came : goal.returns-clause-came

@@ -1,0 +1,6 @@
+use Rattle.std.proofs.Common.{refl}
+use Rattle.tp_scene.proofs.Loaded.{loads_none}
+use Rattle.tp_scene.proofs.columns.Loads.new.Goals as goal
+
+pub returns : goal.returns
+returns c = λ all. loads_none c.args.nodes all _ refl c.requires c.in_ok-from_elem.ensures.items

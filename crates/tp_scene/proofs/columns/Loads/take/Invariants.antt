@@ -1,0 +1,13 @@
+use Rattle.std.proofs.Common.{◌≡◌, ℕ, List, ◌∷◌, length}
+use Rattle.tp_base.specs.declared.Step.{Step}
+use Rattle.tp_scene.specs.Scene.{column, running}
+use Rattle.tp_scene.specs.Following.{HasLoads}
+use Rattle.tp_scene.proofs.Loaded.{HasAdded}
+use Rattle.tp_scene.proofs.columns.Loads.take.Given as goal
+
+abbrev pub invariant-loop-node : goal.invariant-loop-node
+invariant-loop-node l = record {
+  nodes : l.self.nodes ≡ l.fn.self.nodes;
+  added : (n all : ℕ) (past : List Step) (step : Step) → HasLoads n all past l.fn.self → l.column ≡ column all (length past)
+      → l.running ≡ running n (step ∷ past) → HasAdded n all step past l.node l.self;
+}
