@@ -73,9 +73,12 @@ pub loads_none : (n all : ℕ) (l : Loads) → l.nodes ≡ n → n ≤ MAX_NODES
 loads_none n all l nodes few is = record {
   nodes = nodes;
   few = few;
-  size = ap length is ∙ length-replicate 12000 0;
-  columns = λ i c less within. ap (λ xs. slice_index xs (i * 1500 + c)) is ∙ get_or-replicate 12000 (i * 1500 + c) 0 0 (omega (arith, less, within, few));
+  size = ap length is ∙ length-replicate 12000 nothing;
+  columns = λ i c less within. ap (λ xs. slice_index xs (i * 1500 + c)) is ∙ get_or-replicate 12000 (i * 1500 + c) nothing 0 (omega (arith, less, within, few));
 }
+  where
+    nothing : ℕ
+    nothing = 0
 
 pub added_none : (n all : ℕ) (s : Step) (past : List Step) (l : Loads) → HasLoads n all past l → HasAdded n all s past 0 l
 added_none n all s past l h = record {

@@ -38,13 +38,13 @@ both_true false b e = absurd (true_false (sym e))
 
 are_same : (a b : Way) → is_way a b ≡ true → AreSame a b
 are_same a b e =
-    let one_on = both_true (a.from.0 == b.from.0) ((a.sent == b.sent) && (a.to.0 == b.to.0) && (a.received == b.received)) e in
-    let two_on = both_true (a.sent == b.sent) ((a.to.0 == b.to.0) && (a.received == b.received)) one_on.1 in
-    let three_on = both_true (a.to.0 == b.to.0) (a.received == b.received) two_on.1 in
+    let three_on = both_true ((a.from.0 == b.from.0) && (a.sent == b.sent) && (a.to.0 == b.to.0)) (a.received == b.received) e in
+    let two_on = both_true ((a.from.0 == b.from.0) && (a.sent == b.sent)) (a.to.0 == b.to.0) three_on.0 in
+    let one_on = both_true (a.from.0 == b.from.0) (a.sent == b.sent) two_on.0 in
     record {
       from = eqb-true a.from.0 b.from.0 one_on.0;
-      sent = eqb-true a.sent b.sent two_on.0;
-      to = eqb-true a.to.0 b.to.0 three_on.0;
+      sent = eqb-true a.sent b.sent one_on.1;
+      to = eqb-true a.to.0 b.to.0 two_on.1;
       received = eqb-true a.received b.received three_on.1;
     }
 
@@ -110,7 +110,8 @@ added_with way (r ∷ rs) =
     choose (is_way way r.way)
 
 counted_with : (w way : Way) (rs : List Ribbon) → counted_on w (with_way way rs) ≡ counted_on w rs + one (is_way w way)
-counted_with w way [] = refl
+counted_with w way [] =
+    let choose : (b : Bool) → (if b then 1 else 0) + 0 ≡ 0 + one b = elim [ true ↦ omega arith | false ↦ omega arith ] in choose (is_way w way)
 counted_with w way (r ∷ rs) =
     let choose : (b : Bool) → is_way way r.way ≡ b
     → counted_on w (if b then record { way = r.way; count = r.count + 1 } ∷ rs else r ∷ with_way way rs) ≡ counted_on w (r ∷ rs) + one (is_way w way) =
@@ -127,11 +128,11 @@ counted_with w way (r ∷ rs) =
 -- ---- all steps
 pairs : (all : ℕ) (steps : List Step) → Pairs Differ (ribbons all steps)
 pairs all [] = tt
-pairs all (Recv j m g ∷ past) = choose (find (is_sending_of m.0) (under_way past))
+pairs all (Recv j m g ∷ past) = choose (find (is_sending_of m.0) (under_way past)) (pairs all past)
   where
-    choose : (found : Option Sending) → Pairs Differ (with_received all found (length past) (ribbons all past))
-    choose None = pairs all past
-    choose (Some x) = pairs_with (way_of all x (length past)) (ribbons all past) (pairs all past)
+    choose : (found : Option Sending) → Pairs Differ (ribbons all past) → Pairs Differ (with_received all found (length past) (ribbons all past))
+    choose None h = h
+    choose (Some x) h = pairs_with (way_of all x (length past)) (ribbons all past) h
 pairs all (s ∷ past) = pairs all past
 
 pub ribbons_apart : (all : ℕ) (steps : List Step) → AreApart (ribbons all steps)
@@ -139,24 +140,26 @@ ribbons_apart all steps = pairs_all Differ (ribbons all steps) (pairs all steps)
 
 counts : (all : ℕ) (steps : List Step) → added (λ (r : Ribbon). r.count) (ribbons all steps) ≡ length (arrows steps)
 counts all [] = refl
-counts all (Recv j m g ∷ past) = choose (find (is_sending_of m.0) (under_way past))
+counts all (Recv j m g ∷ past) = choose (find (is_sending_of m.0) (under_way past)) (counts all past)
   where
-    choose : (found : Option Sending) → added (λ (r : Ribbon). r.count) (with_received all found (length past) (ribbons all past)) ≡ length (arrows past ++ arrow_of found (length past))
-    choose None = counts all past ∙ ap length (sym (append-nil (arrows past)))
-    choose (Some x) =
+    choose : (found : Option Sending) → added (λ (r : Ribbon). r.count) (ribbons all past) ≡ length (arrows past)
+        → added (λ (r : Ribbon). r.count) (with_received all found (length past) (ribbons all past)) ≡ length (arrows past ++ arrow_of found (length past))
+    choose None h = h ∙ ap length (sym (append-nil (arrows past)))
+    choose (Some x) h =
         added_with (way_of all x (length past)) (ribbons all past)
-        ∙ omega (arith, counts all past, length-append (arrows past) (record { sending = x; received = length past } ∷ []))
+        ∙ omega (arith, h, length-append (arrows past) (record { sending = x; received = length past } ∷ []))
 counts all (s ∷ past) = counts all past
 
 on_way : (all : ℕ) (way : Way) (steps : List Step) → counted_on way (ribbons all steps) ≡ how_many (goes all way) (arrows steps)
 on_way all way [] = refl
-on_way all way (Recv j m g ∷ past) = choose (find (is_sending_of m.0) (under_way past))
+on_way all way (Recv j m g ∷ past) = choose (find (is_sending_of m.0) (under_way past)) (on_way all way past)
   where
-    choose : (found : Option Sending) → counted_on way (with_received all found (length past) (ribbons all past)) ≡ how_many (goes all way) (arrows past ++ arrow_of found (length past))
-    choose None = on_way all way past ∙ ap (how_many (goes all way)) (sym (append-nil (arrows past)))
-    choose (Some x) =
+    choose : (found : Option Sending) → counted_on way (ribbons all past) ≡ how_many (goes all way) (arrows past)
+        → counted_on way (with_received all found (length past) (ribbons all past)) ≡ how_many (goes all way) (arrows past ++ arrow_of found (length past))
+    choose None h = h ∙ ap (how_many (goes all way)) (sym (append-nil (arrows past)))
+    choose (Some x) h =
         counted_with way (way_of all x (length past)) (ribbons all past)
-        ∙ ap (λ k. k + one (is_way way (way_of all x (length past)))) (on_way all way past)
+        ∙ ap (λ k. k + one (is_way way (way_of all x (length past)))) h
         ∙ sym (counted-push (goes all way) (arrows past) (record { sending = x; received = length past }))
 on_way all way (s ∷ past) = on_way all way past
 
@@ -180,22 +183,16 @@ ribbons_carry all steps = record {
 -- ---- no more than steps have come
 arrows_few : (steps : List Step) → length (arrows steps) ≤ length steps
 arrows_few [] = omega arith
-arrows_few (Recv j m g ∷ past) = choose (find (is_sending_of m.0) (under_way past))
+arrows_few (Recv j m g ∷ past) = choose (find (is_sending_of m.0) (under_way past)) (arrows_few past)
   where
-    choose : (found : Option Sending) → length (arrows past ++ arrow_of found (length past)) ≤ suc (length past)
-    choose None = omega (arith, arrows_few past, length-append (arrows past) [])
-    choose (Some x) = omega (arith, arrows_few past, length-append (arrows past) (record { sending = x; received = length past } ∷ []))
+    choose : (found : Option Sending) → length (arrows past) ≤ length past → length (arrows past ++ arrow_of found (length past)) ≤ suc (length past)
+    choose None h = omega (arith, h, length-append (arrows past) [])
+    choose (Some x) h = omega (arith, h, length-append (arrows past) (record { sending = x; received = length past } ∷ []))
 arrows_few (s ∷ past) = omega (arith, arrows_few past)
 
 each_counted : (e : ℕ) (rs : List Ribbon) → added (λ (r : Ribbon). r.count) rs ≤ e → Each (λ (r : Ribbon). r.count ≤ e) rs
 each_counted e [] h = tt
 each_counted e (r ∷ rs) h = (omega (arith, h), each_counted e rs (omega (arith, h)))
-
-pub ribbons_few : (all : ℕ) (past : List Step) → length past < 1048576 → All (λ (r : Ribbon). r.count < 1048576) (ribbons all past)
-ribbons_few all past few =
-    each_all (λ (r : Ribbon). r.count < 1048576) (ribbons all past)
-    (each_map (λ (r : Ribbon). r.count ≤ length past) (λ (r : Ribbon). r.count < 1048576) (ribbons all past) (λ r l. omega (arith, l, few))
-    (each_counted (length past) (ribbons all past) (omega (arith, counts all past, arrows_few past))))
 
 -- ---- where a ribbon stands
 abbrev pub LookedFrom : List Ribbon → Way → ℕ → Type 0
@@ -217,24 +214,49 @@ at_place P [] k x h found = absurd (none_some x found)
 at_place P (y ∷ xs) zero x h found = subst P (some_same y x found) h.0
 at_place P (y ∷ xs) (suc k) x h found = at_place P xs k x h.1 found
 
+pub ribbons_few : (all : ℕ) (past : List Step) → length past < 1048576 → (k : ℕ) (r : Ribbon) → slice_get (ribbons all past) k ≡ Some r → r.count < 1048576
+ribbons_few all past few k r found =
+    let each = each_counted (length past) (ribbons all past) (omega (arith, counts all past, arrows_few past)) in
+    omega (arith, few, at_place (λ (x : Ribbon). x.count ≤ length past) (ribbons all past) k r each found)
+
 -- The ribbon at place k goes this way, so that none before it does.
-pub widened_at : (way : Way) (rs : List Ribbon) (k : ℕ) (r : Ribbon) → Pairs Differ rs → slice_get rs k ≡ Some r → is_way way r.way ≡ true
+widened_pairs : (way : Way) (rs : List Ribbon) (k : ℕ) (r : Ribbon) → Pairs Differ rs → slice_get rs k ≡ Some r → is_way way r.way ≡ true
     → with_way way rs ≡ set rs k (record { way = r.way; count = r.count + 1 })
-widened_at way [] k r h found passes = absurd (none_some r found)
-widened_at way (x ∷ rs) zero r h found passes =
+widened_pairs way [] k r h found passes = absurd (none_some r found)
+widened_pairs way (x ∷ rs) zero r h found passes =
     let same : x ≡ r = some_same x r found in
     let here : is_way way x.way ≡ true = ap (λ (y : Ribbon). is_way way y.way) same ∙ passes in
     rw here (ap (λ (y : Ribbon). record { way = y.way; count = y.count + 1 } ∷ rs) same)
-widened_at way (x ∷ rs) (suc k) r h found passes =
+widened_pairs way (x ∷ rs) (suc k) r h found passes =
     let apart : is_way x.way r.way ≡ false = at_place (λ (y : Ribbon). is_way x.way y.way ≡ false) rs k r h.0 found in
     let choose : (b : Bool) → is_way way x.way ≡ b → (if b then record { way = x.way; count = x.count + 1 } ∷ rs else x ∷ with_way way rs)
     ≡ x ∷ set rs k (record { way = r.way; count = r.count + 1 }) =
     elim [
       | true ↦ λ is. absurd (true_false (sym passes ∙ way-left r.way way x.way is ∙ apart))
-      | false ↦ λ is. ap (λ l. x ∷ l) (widened_at way rs k r h.1 found passes)
+      | false ↦ λ is. ap (λ l. x ∷ l) (widened_pairs way rs k r h.1 found passes)
     ]
     in
     choose (is_way way x.way) refl
+
+each_from : {A : Type 0} (P : A → Type 0) (xs : List A) (d : A) → ((k : ℕ) → k < length xs → P (get_or xs k d)) → Each P xs
+each_from P [] d h = tt
+each_from P (x ∷ xs) d h = (h 0 (omega arith), each_from P xs d (λ k less. h (suc k) (omega (arith, less))))
+
+pairs_of : {A : Type 0} (R : A → A → Type 0) (xs : List A) → AllPairs R xs → Pairs R xs
+pairs_of R [] h = tt
+pairs_of R (x ∷ xs) h = (
+  each_from (R x) xs x (λ k less. h 0 (suc k) x (omega arith) (omega (arith, less))),
+  pairs_of R xs (λ i j d below short. h (suc i) (suc j) d (omega (arith, below)) (omega (arith, short))),
+)
+
+pub widened_at : (way : Way) (rs seen : List Ribbon) (k : ℕ) (r : Ribbon) → AreApart rs → seen ≡ rs
+    → (x : Ribbon) × (slice_get seen k ≡ Some x) × (is_way way x.way ≡ true) → r ≡ get_or rs k r
+    → set rs k (record { way = r.way; count = r.count + 1 }) ≡ with_way way rs
+widened_at way rs seen k r apart is there at =
+    let found : slice_get rs k ≡ Some there.0 = ap (λ l. slice_get l k) (sym is) ∙ there.1 in
+    let same : r ≡ there.0 = at ∙ get_or_from_slice_get rs k there.0 r found in
+    ap (λ (y : Ribbon). set rs k (record { way = y.way; count = y.count + 1 })) same
+    ∙ sym (widened_pairs way rs k there.0 (pairs_of Differ rs apart) found there.2)
 
 pub widened_new : (way : Way) (rs : List Ribbon) → ((k : ℕ) (r : Ribbon) → slice_get rs k ≡ Some r → is_way way r.way ≡ false)
     → with_way way rs ≡ rs ++ record { way = way; count = 1 } ∷ []

@@ -1,5 +1,6 @@
 -- Steps of loops, over plain lists and numbers.
-use Rattle.std.proofs.Common.{◌≤◌, set}
+use Rattle.std.proofs.Common.{◌≤◌, ◌*◌, set}
+use Rattle.std.specs.Prelude.{nat_le}
 use Rattle.std.proofs.Common.{◌≡◌, ℕ, zero, suc, ◌+◌, ◌-◌, ◌<◌, Bool, true, false, List, [], ◌∷◌, ◌++◌, length, get_or, take, drop}
 use Rattle.std.proofs.Common.{refl, sym, ap, ◌∙◌, add-one, append_assoc, arith, if◌then◌else◌}
 use Rattle.std.proofs.Math.Seq.{drop-cons, drop-length, take-length}
@@ -10,6 +11,7 @@ use Rattle.std.specs.List.{find, flat_map, remove}
 use Rattle.tp_core.specs.Pool.{without}
 use Rattle.tp_wave.specs.Sums.{total}
 use Rattle.tp_scene.specs.Scene.{first_from}
+use Rattle.tp_scene.specs.Flow.{root}
 
 -- what a loop over numbers has written, one number further
 pub written_more : (f : ℕ → List ℕ) (k : ℕ) (x start old new : List ℕ) → old ≡ start ++ f k → new ≡ old ++ x → f (k + 1) ≡ f k ++ x
@@ -93,3 +95,16 @@ passes_all test xs over = (
   over.found ∙ ap (find test) (drop-length xs),
   over.left ∙ ap (λ l. take (length xs) xs ++ without test l) (drop-length xs) ∙ append-nil (take (length xs) xs) ∙ take-length xs,
 )
+
+-- the greatest number whose square fits
+pub root_here : (k number : ℕ) → 0 < k → nat_le (k * k) number ≡ true → root k number ≡ k
+root_here zero number some fits = absurd (omega (arith, some))
+root_here (suc k) number some fits = rw fits refl
+
+root_fails : (k number : ℕ) → nat_le (suc k * suc k) number ≡ false → root (suc k) number ≡ root k number
+root_fails k number fails = rw fails refl
+
+pub root_passed : (most k number : ℕ) → k < most → nat_le ((most - k) * (most - k)) number ≡ false → root (most - k) number ≡ root (most - (k + 1)) number
+root_passed most k number less fails =
+    let e : most - k ≡ suc (most - (k + 1)) = omega (arith, less) in
+    ap (λ m. root m number) e ∙ root_fails (most - (k + 1)) number (ap (λ m. nat_le (m * m) number) (sym e) ∙ fails)

@@ -21,6 +21,9 @@ head s =
 abbrev pub more_style : Scene → List ℕ
 more_style s = if is_summed (detail_of s.events) then STYLE_OF_SUMS.now else []
 
+unfoldable pub opening : Scene → List ℕ
+opening s = head s ⧺ more_style s
+
 -- what the lines and colours mean
 abbrev pub legend : Scene → List ℕ
 legend s = if is_summed (detail_of s.events) then LEGEND_OF_SUMS.now else LEGEND.now
@@ -128,5 +131,4 @@ waves s =
 
 -- the picture of a scene
 unfoldable pub svg_of : Scene → List ℕ
-svg_of s =
-    head s ⧺ more_style s ⧺ headline s ⧺ verdict s.ended ⧺ legend s ⧺ run s ⧺ waves s ⧺ axis s ⧺ codes "</svg>\n"
+svg_of s = opening s ⧺ headline s ⧺ verdict s.ended ⧺ legend s ⧺ run s ⧺ waves s ⧺ axis s ⧺ codes "</svg>\n"

@@ -1,4 +1,4 @@
-ghost use Rattle.std.specs.Prelude.{◌≡◌, ◌∷◌, ◌+◌, ◌*◌, ◌<◌, ◌≤◌, ◌^◌, [], ℕ, List, IfOk, length, slice_index, slice_set};
+ghost use Rattle.std.specs.Prelude.{◌≡◌, ◌∷◌, ◌+◌, ◌*◌, ◌<◌, ◌≤◌, ◌^◌, [], ℕ, List, IfOk, if◌then◌else◌, length, slice_index, slice_set};
 ghost use Rattle.tp_base.specs.declared.Step.{Step};
 ghost use Rattle.tp_base.specs.declared.limits.TheConstants.{MAX_NODES, MAX_STEPS};
 ghost use Rattle.tp_core.specs.World.{how_many};
@@ -26,15 +26,21 @@ pub(crate) fn band(all: u32, event: u32) -> u32
     column(all, event) / 24
 }
 
+/// Whether a task runs at a node: 1 or 0.
+fn one_at(run: &Running, node: u32) -> u64
+    ensures value { result ≡ (if is_at node run.now then 1 else 0) }
+    ensures bound { result ≤ 1 }
+{
+    if run.node.0 == node { 1 } else { 0 }
+}
+
 /// How many tasks run at a node.
 fn count_at(running: &[Running], node: u32) -> u64
     ensures { result ≡ how_many (is_at node) running.now }
 {
     let mut count = 0;
-    for run in running {
-        if run.node.0 == node {
-            count += 1;
-        }
+    for k in 0..running.len() {
+        count += one_at(&running[k], node);
     }
     count
 }
@@ -50,7 +56,7 @@ fn add(numbers: &mut [u64], at: usize, more: u64)
 /// How many tasks run at each node, added up over the events of each column.
 #[derive(Drop)]
 pub(crate) struct Loads {
-    nodes: u32,
+    pub(crate) nodes: u32,
     pub(crate) columns: Vec<u64>,
 }
 
@@ -65,15 +71,15 @@ impl Loads {
     }
 
     /// Takes what runs after the next step, which lies in this column.
-    pub(crate) fn take(&mut self, running: &[Running], column: u32)
-        requires { (n all : ℕ) × (past : List Step) × (step : Step) × HasLoads n all past self.old × (column ≡ column all (length past))
-            × (running.now ≡ running n (step ∷ past)) × (length past < MAX_STEPS) }
-        ensures { (n all : ℕ) (past : List Step) (step : Step) → HasLoads n all past self.old → column ≡ column all (length past)
-            → running.now ≡ running n (step ∷ past) → HasLoads n all (step ∷ past) self.new }
+    pub(crate) fn take(&mut self, runs: &[Running], here: u32)
+        requires { (n all : ℕ) × (past : List Step) × (step : Step) × HasLoads n all past self.old × (here ≡ column all (length past))
+            × (runs.now ≡ running n (step ∷ past)) × (length past < MAX_STEPS) }
+        ensures { (n all : ℕ) (past : List Step) (step : Step) → HasLoads n all past self.old → here ≡ column all (length past)
+            → runs.now ≡ running n (step ∷ past) → HasLoads n all (step ∷ past) self.new }
     {
         for node in 0..self.nodes {
-            let at = node as usize * COLUMNS + column as usize;
-            add(&mut self.columns, at, count_at(running, node));
+            let at = node as usize * COLUMNS + here as usize;
+            add(&mut self.columns, at, count_at(runs, node));
         }
     }
 }

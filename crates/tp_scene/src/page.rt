@@ -1,7 +1,7 @@
 ghost use Rattle.std.specs.Prelude.{◌≡◌, ◌++◌, ◌<◌, ◌^◌, OnOk, IfOk};
 ghost use Rattle.tp_scene.specs.Page.{head, headline, plural, verdict, lane, ground, grounds, frame, frames, unit_by, unit, tick};
 ghost use Rattle.tp_scene.specs.Page.{tick_where, ticks, axis_line, axis, lanes, messages, tasks, run, waves, svg_of};
-ghost use Rattle.tp_scene.specs.Page.{all_bars, legend, more_style, received};
+ghost use Rattle.tp_scene.specs.Page.{all_bars, legend, more_style, opening, received};
 
 use crate::cuts::push_labels;
 use crate::flow::push_hills;
@@ -104,6 +104,15 @@ fn push_head(out: &mut Vec<u8>, scene: &Scene) -> Result<(), AllocError>
             Part::Text(STYLE),
         ],
     )
+}
+
+/// The size of the page, and all that is said of how things look.
+#[tactic(auto, unfolding(crate::specs::Page::opening))]
+fn push_opening(out: &mut Vec<u8>, scene: &Scene) -> Result<(), AllocError>
+    ensures { OnOk result (out.new.items ≡ out.old.items ++ opening scene.now) }
+{
+    push_head(out, scene)?;
+    out.extend_from_slice(more_style(scene))
 }
 
 /// How the name of what is counted ends.
@@ -434,8 +443,7 @@ pub fn svg(alloc: Global, scene: &Scene) -> Result<Vec<u8>, AllocError>
     ensures { IfOk result (λ text. text.items ≡ svg_of scene.now) }
 {
     let mut out = Vec::new(alloc);
-    push_head(&mut out, scene)?;
-    out.extend_from_slice(more_style(scene))?;
+    push_opening(&mut out, scene)?;
     push_headline(&mut out, scene)?;
     push_verdict(&mut out, scene.ended)?;
     out.extend_from_slice(legend(scene))?;

@@ -4,7 +4,7 @@ use Rattle.tp_scene.proofs.Sketched.{follows_none, follows_more, follows_all, at
 use Rattle.tp_scene.proofs.sketch.scene_of.Goals as goal
 
 pub loop-step-init : goal.loop-step-init
-loop-step-init c = follows_none c.args.nodes _ c.args.steps.now _ c.in_ok-new.ensures.0 c.in_ok-new.ensures.1
+loop-step-init c = follows_none c.args.nodes _ c.args.steps.now _ c.in_ok-sketch.ensures.0 c.in_ok-sketch.ensures.1
 
 pub take-requires : goal.take-requires
 take-requires c = (

@@ -1,7 +1,7 @@
-use Rattle.std.proofs.Common.{append-nil, sym, ap, subst, ◌∙◌}
+use Rattle.std.proofs.Common.{append-nil, refl, sym, ap, subst, ◌∙◌}
 use Rattle.tp_scene.proofs.Followed.{messages_received, ok_then}
 use Rattle.tp_scene.proofs.Ribboned.{ribbons_apart, ribbons_few}
-use Rattle.tp_scene.specs.Following.{AreApart}
+use Rattle.tp_scene.specs.Scene.{with_way}
 use Rattle.tp_scene.proofs.messages.Messages.receive.Goals as goal
 
 pub returns-in_default : goal.returns-in_default
@@ -19,4 +19,4 @@ pub returns : goal.returns
 returns c = λ past j g h at.
     ok_then c.widen.result
     (λ wider. messages_received c.args.all past j c.args.message g c.args.place c.args.self.now _ _ h at c.in-Some.ensures.found c.in-Some.ensures.left
-    c.in_ok-push.ensures.items wider) c.widen.ensures
+    c.in_ok-push.ensures.items (wider ∙ ap (λ w. with_way w c.args.self.now.ribbons.items) c.way_of.ensures)) c.widen.ensures
