@@ -1,14 +1,14 @@
 -- How many tasks run, by columns.
 use Rattle.std.proofs.Common.{◌≡◌, ℕ, zero, suc, ◌+◌, ◌-◌, ◌*◌, ◌<◌, ◌≤◌, ◌==◌, Bool, true, false, List, [], ◌∷◌, ◌++◌, length, get_or, take}
 use Rattle.std.proofs.Common.{replicate, Option, Some, None, refl, sym, ap, subst, ◌∙◌, eqb-true, add-one, append-nil, arith, if◌then◌else◌}
-use Rattle.std.specs.Prelude.{slice_index, slice_set}
+use Rattle.std.specs.Prelude.{slice_get, slice_index, slice_set}
 use Rattle.std.specs.List.{find}
 use Rattle.std.proofs.lemmas.Bool.Decides.{nat_tests}
-use Rattle.std.proofs.lemmas.List.{take_more, length-set, length-replicate, get_or-replicate}
+use Rattle.std.proofs.lemmas.Option.{get_or_from_slice_get}
+use Rattle.std.proofs.lemmas.List.{take_all, take_more, length-take-le, length-set, length-replicate, get_or-replicate}
 use Rattle.tp_base.specs.declared.ids.TaskId.{TaskId}
 use Rattle.tp_base.specs.declared.Step.{Step}
 use Rattle.tp_base.specs.declared.Step.TheVariants.{Begin, Done}
-use Rattle.tp_base.specs.declared.limits.TheConstants.{MAX_NODES}
 use Rattle.tp_wave.specs.Sums.{total}
 use Rattle.tp_wave.proofs.Totals.{total_one-changes, total-zero}
 use Rattle.tp_core.specs.World.{how_many}
@@ -19,7 +19,7 @@ use Rattle.tp_scene.specs.declared.scene.Bar.{Bar}
 use Rattle.tp_scene.specs.Scene.{is_run_of, is_at, begun, running, bars, bar_of, column, load}
 use Rattle.tp_scene.specs.Laws.{added, ran, has_run, LoadsAreRuns}
 use Rattle.tp_scene.specs.Following.{HasLoads}
-use Rattle.tp_scene.proofs.Lists.{one, some_same, none_some, counted-push}
+use Rattle.tp_scene.proofs.Lists.{one, some_same, none_some, true_false, counted-push}
 use Rattle.tp_scene.proofs.Apart.{Each, each_map, each_push, each_without, counted_fit, running_few}
 use Rattle.tp_scene.proofs.Followed.{put_is}
 use Rattle.tp_scene.proofs.Inside.{runs_before}
@@ -61,100 +61,128 @@ load-le n i all c (s ∷ past) few =
     in
     choose (column all (length past) == c)
 
--- Of the first k nodes what runs after the step has been added, of the others not.
-pub record HasAdded (n all : ℕ) (s : Step) (past : List Step) (k : ℕ) (l : Loads) : Type 0 where
-  pub nodes : l.nodes ≡ n
-  pub few : n ≤ MAX_NODES
-  pub size : length l.columns.items ≡ 12000
-  pub below : (i c : ℕ) → i < k → c < 1500 → slice_index l.columns.items (i * 1500 + c) ≡ load n i all c (s ∷ past)
-  pub above : (i c : ℕ) → k ≤ i → i < n → c < 1500 → slice_index l.columns.items (i * 1500 + c) ≡ load n i all c past
-
-pub loads_none : (n all : ℕ) (l : Loads) → l.nodes ≡ n → n ≤ MAX_NODES → l.columns.items ≡ replicate 12000 0 → HasLoads n all [] l
-loads_none n all l nodes few is = record {
-  nodes = nodes;
-  few = few;
+pub loads_none : (n all : ℕ) (l : Loads) → l.columns.items ≡ replicate 12000 0 → HasLoads n all [] l
+loads_none n all l is = record {
   size = ap length is ∙ length-replicate 12000 nothing;
-  columns = λ i c less within. ap (λ xs. slice_index xs (i * 1500 + c)) is ∙ get_or-replicate 12000 (i * 1500 + c) nothing 0 (omega (arith, less, within, few));
+  columns = λ i c less within. ap (λ xs. slice_index xs (i * 1500 + c)) is ∙ get_or-replicate 12000 (i * 1500 + c) nothing 0 (omega (arith, less, within));
 }
   where
     nothing : ℕ
     nothing = 0
 
-pub added_none : (n all : ℕ) (s : Step) (past : List Step) (l : Loads) → HasLoads n all past l → HasAdded n all s past 0 l
-added_none n all s past l h = record {
-  nodes = h.nodes;
-  few = h.few;
-  size = h.size;
-  below = λ i c less within. absurd (omega (arith, less));
-  above = λ i c _ less within. h.columns i c less within;
-}
+-- The first k of the tasks that run after a step have been added.
+pub record HasAdded (n all : ℕ) (past : List Step) (runs : List Running) (k : ℕ) (l : Loads) : Type 0 where
+  pub size : length l.columns.items ≡ 12000
+  pub columns : (i c : ℕ) → i < 8 → c < 1500 → slice_index l.columns.items (i * 1500 + c)
+      ≡ load n i all c past + (if column all (length past) == c then how_many (is_at i) (take k runs) else 0)
 
-pub added_more : (n all : ℕ) (s : Step) (past : List Step) (k col count : ℕ) (old new : Loads) → HasAdded n all s past k old → k < n → col < 1500
-    → col ≡ column all (length past) → count ≡ how_many (is_at k) (running n (s ∷ past)) → new.nodes ≡ old.nodes
-    → new.columns.items ≡ slice_set old.columns.items (k * 1500 + col) (slice_index old.columns.items (k * 1500 + col) + count)
-    → HasAdded n all s past (k + 1) new
-added_more n all s past k col count old new h less inside at is same put = record {
-  nodes = same ∙ h.nodes;
-  few = h.few;
-  size = ap length put ∙ length-set old.columns.items (k * 1500 + col) (slice_index old.columns.items (k * 1500 + col) + count) ∙ h.size;
-  below = λ i c low within. place i c (omega (arith, low, less)) within ∙ below i c low within (k * 1500 + col == i * 1500 + c) refl;
-  above = λ i c high low within. place i c low within ∙ above i c high low within (k * 1500 + col == i * 1500 + c) refl;
+pub added_none : (n all : ℕ) (past : List Step) (runs : List Running) (l : Loads) → HasLoads n all past l → HasAdded n all past runs 0 l
+added_none n all past runs l h = record {
+  size = h.size;
+  columns = λ i c less within. h.columns i c less within ∙ none i c (column all (length past) == c);
 }
   where
-    place : (i c : ℕ) → i < n → c < 1500 → slice_index new.columns.items (i * 1500 + c)
-        ≡ (if k * 1500 + col == i * 1500 + c then slice_index old.columns.items (k * 1500 + col) + count else slice_index old.columns.items (i * 1500 + c))
-    place i c low within =
-        put_is old.columns.items new.columns.items (k * 1500 + col) (slice_index old.columns.items (k * 1500 + col) + count) (i * 1500 + c) put
-        (omega (arith, low, within, h.few, h.size))
+    none : (i c : ℕ) (b : Bool) → load n i all c past ≡ load n i all c past + (if b then 0 else 0)
+    none i c true = omega arith
+    none i c false = omega arith
 
-    now : slice_index old.columns.items (k * 1500 + col) + count ≡ load n k all col (s ∷ past)
-    now =
-        ap (λ x. x + count) (h.above k col (omega arith) less inside) ∙ ap (λ x. load n k all col past + x) is
-        ∙ sym (load-here n k all col s past (same_numbers (column all (length past)) col (sym at)))
-
-    other : (i c : ℕ) → i < k + 1 → c < 1500 → (k * 1500 + col == i * 1500 + c) ≡ false → (b : Bool) → (i == k) ≡ b
-        → slice_index old.columns.items (i * 1500 + c) ≡ load n i all c (s ∷ past)
-    other i c low within apart true e =
-        let here : i ≡ k = eqb-true i k e in
-        let differ : (column all (length past) == c) ≡ false =
-        other_numbers (column all (length past)) c
-        (λ f. absurd (grind (arith, nat_tests, apart, here, f, at))) in
-        h.above i c (omega (arith, here)) (omega (arith, here, less)) within ∙ sym (load-other n i all c s past differ)
-    other i c low within apart false e = h.below i c (grind (arith, nat_tests, low, e)) within
-
-    below : (i c : ℕ) → i < k + 1 → c < 1500 → (b : Bool) → (k * 1500 + col == i * 1500 + c) ≡ b
-        → (if b then slice_index old.columns.items (k * 1500 + col) + count else slice_index old.columns.items (i * 1500 + c)) ≡ load n i all c (s ∷ past)
-    below i c low within true e =
-        let places : k * 1500 + col ≡ i * 1500 + c = eqb-true (k * 1500 + col) (i * 1500 + c) e in
-        let node : k ≡ i = omega (arith, places, within, inside) in
-        let column_is : col ≡ c = omega (arith, places, within, inside) in
-        now ∙ ap (λ j. load n j all col (s ∷ past)) node ∙ ap (λ j. load n i all j (s ∷ past)) column_is
-    below i c low within false e = other i c low within e (i == k) refl
-
-    above : (i c : ℕ) → k + 1 ≤ i → i < n → c < 1500 → (b : Bool) → (k * 1500 + col == i * 1500 + c) ≡ b
-        → (if b then slice_index old.columns.items (k * 1500 + col) + count else slice_index old.columns.items (i * 1500 + c)) ≡ load n i all c past
-    above i c high low within true e =
-        let places : k * 1500 + col ≡ i * 1500 + c = eqb-true (k * 1500 + col) (i * 1500 + c) e in
-        absurd (omega (arith, places, within, inside, high))
-    above i c high low within false e = h.above i c (omega (arith, high)) low within
-
-pub added_all : (n all : ℕ) (s : Step) (past : List Step) (k : ℕ) (l : Loads) → n ≤ k → HasAdded n all s past k l → HasLoads n all (s ∷ past) l
-added_all n all s past k l whole h = record {
-  nodes = h.nodes;
-  few = h.few;
-  size = h.size;
-  columns = λ i c less within. h.below i c (omega (arith, less, whole)) within;
+pub added_more : (n all : ℕ) (past : List Step) (runs : List Running) (k node here : ℕ) (old new : Loads) → HasAdded n all past runs k old
+    → here ≡ column all (length past) → k < length runs → (r : Running) × (slice_get runs k ≡ Some r) × (node ≡ r.node.0)
+    → new.columns.items ≡ slice_set old.columns.items (node * 1500 + here) (slice_index old.columns.items (node * 1500 + here) + 1)
+    → HasAdded n all past runs (k + 1) new
+added_more n all past runs k node here old new h at fits there put = record {
+  size = ap length put ∙ length-set old.columns.items (node * 1500 + here) (slice_index old.columns.items (node * 1500 + here) + 1) ∙ h.size;
+  columns = λ i c low within.
+      put_is old.columns.items new.columns.items (node * 1500 + here) (slice_index old.columns.items (node * 1500 + here) + 1) (i * 1500 + c) put
+      (omega (arith, low, within, h.size))
+      ∙ choose i c low within (node * 1500 + here == i * 1500 + c) refl (column all (length past) == c) refl (node == i) refl;
 }
+  where
+    more : (i : ℕ) → how_many (is_at i) (take (k + 1) runs) ≡ how_many (is_at i) (take k runs) + one (node == i)
+    more i =
+        counted_more (is_at i) runs k there.0 fits (sym (get_or_from_slice_get runs k there.0 there.0 there.1))
+        ∙ ap (λ x. how_many (is_at i) (take k runs) + one (x == i)) (sym there.2)
 
--- There is room for what is added.
-pub has_room : (n all : ℕ) (s : Step) (past : List Step) (k col count : ℕ) (l : Loads) → HasAdded n all s past k l → k < n → col < 1500
-    → length past < 1048576 → count ≡ how_many (is_at k) (running n (s ∷ past))
-    → (k * 1500 + col < length l.columns.items) × (slice_index l.columns.items (k * 1500 + col) + count < 18446744073709551616)
-has_room n all s past k col count l h less inside few is =
-    let old = h.above k col (omega arith) less inside in
-    let bound = load-le n k all col past (omega (arith, few)) in
-    let now = counted_few n k (s ∷ past) in
-    (omega (arith, less, inside, h.few, h.size), omega (arith, old, bound, now, few, is))
+    before : (i c : ℕ) → i < 8 → c < 1500 → (b : Bool) → (column all (length past) == c) ≡ b
+        → slice_index old.columns.items (i * 1500 + c) ≡ load n i all c past + (if b then how_many (is_at i) (take k runs) else 0)
+    before i c low within b e =
+        h.columns i c low within ∙ ap (λ x. load n i all c past + (if x then how_many (is_at i) (take k runs) else 0)) e
+
+    now : (i c : ℕ) → (b : Bool) → (column all (length past) == c) ≡ b
+        → load n i all c past + (if b then how_many (is_at i) (take (k + 1) runs) else 0)
+        ≡ load n i all c past + (if column all (length past) == c then how_many (is_at i) (take (k + 1) runs) else 0)
+    now i c b e = ap (λ x. load n i all c past + (if x then how_many (is_at i) (take (k + 1) runs) else 0)) (sym e)
+
+    one_of : (i : ℕ) (d : Bool) → (node == i) ≡ d → one (node == i) ≡ one d
+    one_of i d e = ap one e
+
+    -- its place is that of node i and column c
+    choose : (i c : ℕ) → i < 8 → c < 1500 → (t : Bool) → (node * 1500 + here == i * 1500 + c) ≡ t → (b : Bool) → (column all (length past) == c) ≡ b
+        → (d : Bool) → (node == i) ≡ d
+        → (if t then slice_index old.columns.items (node * 1500 + here) + 1 else slice_index old.columns.items (i * 1500 + c))
+        ≡ load n i all c past + (if column all (length past) == c then how_many (is_at i) (take (k + 1) runs) else 0)
+    choose i c low within true et true eb true ed =
+        let place : node * 1500 + here ≡ i * 1500 + c = eqb-true (node * 1500 + here) (i * 1500 + c) et in
+        let same : slice_index old.columns.items (node * 1500 + here) ≡ slice_index old.columns.items (i * 1500 + c) = ap (slice_index old.columns.items) place in
+        let was = before i c low within true eb in
+        let grows = more i in
+        let by_one = one_of i true ed in
+        omega (arith, same, was, grows, by_one) ∙ now i c true eb
+    choose i c low within true et true eb false ed =
+        let place : node * 1500 + here ≡ i * 1500 + c = eqb-true (node * 1500 + here) (i * 1500 + c) et in
+        let is : here ≡ c = at ∙ eqb-true (column all (length past)) c eb in
+        let same : node ≡ i = omega (arith, place, is) in
+        absurd (true_false (sym (same_numbers node i same) ∙ ed))
+    choose i c low within true et false eb d ed =
+        let place : node * 1500 + here ≡ i * 1500 + c = eqb-true (node * 1500 + here) (i * 1500 + c) et in
+        let small : here < 1500 = omega (arith, at) in
+        let is : here ≡ c = omega (arith, place, small, within) in
+        absurd (true_false (sym (same_numbers (column all (length past)) c (sym at ∙ is)) ∙ eb))
+    choose i c low within false et true eb true ed =
+        let node_is : node ≡ i = eqb-true node i ed in
+        let is : here ≡ c = at ∙ eqb-true (column all (length past)) c eb in
+        let place : node * 1500 + here ≡ i * 1500 + c = omega (arith, node_is, is) in
+        absurd (true_false (sym (same_numbers (node * 1500 + here) (i * 1500 + c) place) ∙ et))
+    choose i c low within false et true eb false ed =
+        let was = before i c low within true eb in
+        let grows = more i in
+        let by_none = one_of i false ed in
+        omega (arith, was, grows, by_none) ∙ now i c true eb
+    choose i c low within false et false eb d ed = before i c low within false eb ∙ now i c false eb
+
+pub added_all : (n all : ℕ) (s : Step) (past : List Step) (runs : List Running) (k : ℕ) (l : Loads) → length runs ≤ k → runs ≡ running n (s ∷ past)
+    → HasAdded n all past runs k l → HasLoads n all (s ∷ past) l
+added_all n all s past runs k l whole are h = record {
+  size = h.size;
+  columns = λ i c less within. h.columns i c less within ∙ choose i c (column all (length past) == c);
+}
+  where
+    all_counted : (i : ℕ) → how_many (is_at i) (take k runs) ≡ how_many (is_at i) (running n (s ∷ past))
+    all_counted i = ap (how_many (is_at i)) (take_all k runs whole ∙ are)
+
+    choose : (i c : ℕ) (b : Bool) → load n i all c past + (if b then how_many (is_at i) (take k runs) else 0)
+        ≡ (if b then load n i all c past + how_many (is_at i) (running n (s ∷ past)) else load n i all c past)
+    choose i c true = ap (λ x. load n i all c past + x) (all_counted i)
+    choose i c false = omega arith
+
+-- There is room for one more.
+pub has_room : (n all : ℕ) (s : Step) (past : List Step) (runs : List Running) (k node here : ℕ) (l : Loads) → HasAdded n all past runs k l
+    → here ≡ column all (length past) → k < length runs → runs ≡ running n (s ∷ past) → length past < 1048576
+    → node * 1500 + here < length l.columns.items → slice_index l.columns.items (node * 1500 + here) + 1 < 18446744073709551616
+has_room n all s past runs k node here l h at fits are few inside =
+    let low : node < 8 = omega (arith, inside, h.size) in
+    let small : here < 1500 = omega (arith, at) in
+    let value = h.columns node here low small in
+    let bound = load-le n node all here past (omega (arith, few)) in
+    let taken = counted_fit (is_at node) (take k runs) in
+    let short = length-take-le k runs (omega (arith, fits)) in
+    let same_length : length runs ≡ length (running n (s ∷ past)) = ap length are in
+    let running_all : length runs ≤ suc (length past) = omega (arith, same_length, running_few n (s ∷ past)) in
+    let choose : (b : Bool) → slice_index l.columns.items (node * 1500 + here) ≡ load n node all here past + (if b then how_many (is_at node) (take k runs) else 0)
+    → slice_index l.columns.items (node * 1500 + here) + 1 < 18446744073709551616 =
+    elim [ true ↦ λ is. omega (arith, is, bound, taken, short, running_all, fits, few) | false ↦ λ is. omega (arith, is, bound, few) ]
+    in
+    choose (column all (length past) == here) value
 
 -- ---- the law
 added-push : {A : Type 0} (f : A → ℕ) (xs : List A) (y : A) → added f (xs ++ y ∷ []) ≡ added f xs + f y

@@ -38,10 +38,8 @@ pub record HasMessages (all : ℕ) (past : List Step) (m : Messages) : Type 0 wh
   pub ribbons : m.ribbons.items ≡ ribbons all past
 
 pub record HasLoads (n all : ℕ) (past : List Step) (l : Loads) : Type 0 where
-  pub nodes : l.nodes ≡ n
-  pub few : n ≤ MAX_NODES
   pub size : length l.columns.items ≡ 12000
-  pub columns : (i c : ℕ) → i < n → c < 1500 → slice_index l.columns.items (i * 1500 + c) ≡ load n i all c past
+  pub columns : (i c : ℕ) → i < 8 → c < 1500 → slice_index l.columns.items (i * 1500 + c) ≡ load n i all c past
 
 pub record HasGiven (past : List Step) (g : Gives) : Type 0 where
   pub size : length g.last ≡ 8

@@ -223,7 +223,7 @@ pub record IsSceneOf (n : ℕ) (steps : List Step) (s : Scene) : Type 0 where
   pub running : s.running.items ≡ running n steps
   pub arrows : s.arrows.items ≡ arrows steps
   pub under_way : s.under_way.items ≡ under_way steps
-  pub loads : (i c : ℕ) → i < n → c < 1500 → slice_index s.loads.items (i * 1500 + c) ≡ load n i (length steps) c steps
+  pub loads : (i c : ℕ) → i < 8 → c < 1500 → slice_index s.loads.items (i * 1500 + c) ≡ load n i (length steps) c steps
   pub ribbons : s.ribbons.items ≡ ribbons (length steps) steps
   pub cuts : s.cuts.items ≡ cuts n steps
   pub pauses : s.pauses.items ≡ pauses n steps ++ last_pauses n steps

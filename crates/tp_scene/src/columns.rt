@@ -1,8 +1,8 @@
-ghost use Rattle.std.specs.Prelude.{◌≡◌, ◌∷◌, ◌+◌, ◌*◌, ◌<◌, ◌≤◌, ◌^◌, [], ℕ, List, IfOk, if◌then◌else◌, length, slice_index, slice_set};
+ghost use Rattle.std.specs.Prelude.{◌≡◌, ◌∷◌, ◌+◌, ◌*◌, ◌<◌, ◌≤◌, ◌^◌, [], ℕ, List, Some, IfOk, length, slice_get, slice_index, slice_set};
 ghost use Rattle.tp_base.specs.declared.Step.{Step};
-ghost use Rattle.tp_base.specs.declared.limits.TheConstants.{MAX_NODES, MAX_STEPS};
-ghost use Rattle.tp_core.specs.World.{how_many};
-ghost use Rattle.tp_scene.specs.Scene.{band, column, is_at, running};
+ghost use Rattle.tp_base.specs.declared.limits.TheConstants.{MAX_STEPS};
+ghost use Rattle.tp_scene.specs.declared.scene.Running.{Running};
+ghost use Rattle.tp_scene.specs.Scene.{band, column, running};
 ghost use Rattle.tp_scene.specs.Following.{HasLoads};
 
 use crate::scene::Running;
@@ -26,48 +26,39 @@ pub(crate) fn band(all: u32, event: u32) -> u32
     column(all, event) / 24
 }
 
-/// Whether a task runs at a node: 1 or 0.
-fn one_at(run: &Running, node: u32) -> u64
-    ensures value { result ≡ (if is_at node run.now then 1 else 0) }
-    ensures bound { result ≤ 1 }
+/// The node of the task at a place.
+fn node_at(runs: &[Running], k: usize) -> u32
+    requires { k < length runs.now }
+    ensures { (run : Running) × (slice_get runs.now k ≡ Some run) × (result ≡ run.node.0) }
 {
-    if run.node.0 == node { 1 } else { 0 }
+    runs[k].node.0
 }
 
-/// How many tasks run at a node.
-fn count_at(running: &[Running], node: u32) -> u64
-    ensures { result ≡ how_many (is_at node) running.now }
-{
-    let mut count = 0;
-    for k in 0..running.len() {
-        count += one_at(&running[k], node);
-    }
-    count
-}
-
-/// Adds to the number at a place.
+/// Adds to the number at a place, where there is one.
+#[tactic(auto, using(crate::proofs::Steps::set_past))]
 fn add(numbers: &mut [u64], at: usize, more: u64)
-    requires { (at < length numbers.old) × (slice_index numbers.old at + more < 2 ^ 64) }
+    requires { at < length numbers.old → slice_index numbers.old at + more < 2 ^ 64 }
     ensures { numbers.new ≡ slice_set numbers.old at (slice_index numbers.old at + more) }
 {
+    if at >= numbers.len() {
+        return;
+    }
     numbers[at] += more;
 }
 
-/// How many tasks run at each node, added up over the events of each column.
+/// How many tasks run at each of eight nodes, added up over the events of each column.
 #[derive(Drop)]
 pub(crate) struct Loads {
-    pub(crate) nodes: u32,
     pub(crate) columns: Vec<u64>,
 }
 
 impl Loads {
-    /// Nothing was taken yet over so many nodes, 1 to 8.
-    pub(crate) fn new(alloc: Global, nodes: u32) -> Result<Loads, AllocError>
-        requires { nodes ≤ MAX_NODES }
-        ensures { IfOk result (λ loads. (all : ℕ) → HasLoads nodes all [] loads) }
+    /// Nothing was taken yet.
+    pub(crate) fn new(alloc: Global) -> Result<Loads, AllocError>
+        ensures { IfOk result (λ loads. (n all : ℕ) → HasLoads n all [] loads) }
     {
         let columns = vec![in alloc; 0; 12_000]?;
-        Ok(Loads { nodes, columns })
+        Ok(Loads { columns })
     }
 
     /// Takes what runs after the next step, which lies in this column.
@@ -77,9 +68,10 @@ impl Loads {
         ensures { (n all : ℕ) (past : List Step) (step : Step) → HasLoads n all past self.old → here ≡ column all (length past)
             → runs.now ≡ running n (step ∷ past) → HasLoads n all (step ∷ past) self.new }
     {
-        for node in 0..self.nodes {
+        for k in 0..runs.len() {
+            let node = node_at(runs, k);
             let at = node as usize * COLUMNS + here as usize;
-            add(&mut self.columns, at, count_at(runs, node));
+            add(&mut self.columns, at, 1);
         }
     }
 }

@@ -94,8 +94,8 @@ pub struct Scene {
     pub arrows: Vec<Arrow>,
     /// The messages that were sent and not received.
     pub under_way: Vec<Sending>,
-    /// How many tasks of each node run, added up over the events of each of 1,500 columns: that of node i and column c stands at
-    /// 1,500 i + c.
+    /// How many tasks of each of eight nodes run, added up over the events of each of 1,500 columns: that of node i and column c
+    /// stands at 1,500 i + c.
     pub loads: Vec<u64>,
     /// The messages that were received, counted by their ways.
     pub ribbons: Vec<Ribbon>,

@@ -43,7 +43,7 @@ impl Sketch {
             messages: Messages::new(alloc),
             waves: Waves::new(alloc),
             lanes: Lanes::new(alloc, nodes),
-            loads: Loads::new(alloc, nodes)?,
+            loads: Loads::new(alloc)?,
         })
     }
 
@@ -101,7 +101,7 @@ impl Sketch {
             ends,
             ended,
         } = waves;
-        let Loads { nodes: _, columns } = loads;
+        let Loads { columns } = loads;
         let pauses = lanes.finish(events)?;
         Ok(Scene {
             nodes,

@@ -1,11 +1,11 @@
-use Rattle.std.proofs.Common.{refl, ap, ◌∙◌, arith}
-use Rattle.tp_core.specs.World.{how_many}
-use Rattle.tp_scene.specs.Scene.{is_at}
+use Rattle.std.proofs.Common.{◌<◌, ◌+◌, ◌*◌, ℕ, List, ap, subst, sym, ◌∙◌, arith}
+use Rattle.std.proofs.Common.{length}
+use Rattle.std.specs.Prelude.{slice_index, slice_set}
 use Rattle.tp_scene.proofs.Loaded.{added_none, added_more, added_all, has_room}
 use Rattle.tp_scene.proofs.columns.Loads.take.Goals as goal
 
-pub loop-node-init : goal.loop-node-init
-loop-node-init c = record { nodes = refl; added = λ n all past step h at are. added_none n all step past c.args.self.now h }
+pub loop-k-init : goal.loop-k-init
+loop-k-init c = λ n all past h at. added_none n all past c.args.runs.now c.args.self.now h
 
 pub add-requires : goal.add-requires
 add-requires c =
@@ -15,22 +15,19 @@ add-requires c =
     let step = c.requires.3 in
     let h = c.requires.4 in
     let at = c.requires.5 in
-    let are = c.requires.6 in
-    let added = c.loop-node.invariant.added n all past step h at are in
-    let room = has_room n all step past c.loop-node.node c.args.here c.count_at.result c.loop-node.self added (omega (arith, c.loop-node-test.true, h.nodes))
-    (omega (arith, at)) c.requires.7 (c.count_at.ensures ∙ ap (how_many (is_at c.loop-node.node)) are) in
-    rw c.deref.ensures.value room
+    let place : ℕ = c.node_at-node.result * 1500 + c.args.here in
+    let room = has_room n all step past c.args.runs.now c.loop-k.k c.node_at-node.result c.args.here c.loop-k.self (c.loop-k.invariant n all past h at) at
+    c.loop-k-test.true c.requires.6 c.requires.7 in
+    let P : List ℕ → Type 0 = λ xs. place < length xs → slice_index xs place + 1 < 18446744073709551616 in
+    subst P (sym c.deref_mut.ensures.value) room
 
-pub loop-node-preserved : goal.loop-node-preserved
-loop-node-preserved c = record {
-  nodes = c.loop-node.invariant.nodes;
-  added = λ n all past step h at are.
-      added_more n all step past c.loop-node.node c.args.here c.count_at.result c.loop-node.self _ (c.loop-node.invariant.added n all past step h at are)
-      (omega (arith, c.loop-node-test.true, h.nodes)) (omega (arith, at)) at (c.count_at.ensures ∙ ap (how_many (is_at c.loop-node.node)) are) refl
-      c.add.ensures;
-}
+pub loop-k-preserved : goal.loop-k-preserved
+loop-k-preserved c = λ n all past h at.
+    let place : ℕ = c.node_at-node.result * 1500 + c.args.here in
+    added_more n all past c.args.runs.now c.loop-k.k c.node_at-node.result c.args.here c.loop-k.self _ (c.loop-k.invariant n all past h at) at
+    c.loop-k-test.true c.node_at-node.ensures
+    (c.add.ensures ∙ ap (λ (xs : List ℕ). slice_set xs place (slice_index xs place + 1)) c.deref_mut.ensures.value)
 
 pub returns : goal.returns
 returns c = λ n all past step h at are.
-    added_all n all step past c.loop-node.node c.loop-node.self (omega (arith, h.nodes, c.loop-node-test.false))
-    (c.loop-node.invariant.added n all past step h at are)
+    added_all n all step past c.args.runs.now c.loop-k.k c.loop-k.self (omega (arith, c.loop-k-test.false)) are (c.loop-k.invariant n all past h at)

@@ -5,9 +5,6 @@ use Rattle.tp_scene.specs.Following.{HasLoads}
 use Rattle.tp_scene.proofs.Loaded.{HasAdded}
 use Rattle.tp_scene.proofs.columns.Loads.take.Given as goal
 
-abbrev pub invariant-loop-node : goal.invariant-loop-node
-invariant-loop-node l = record {
-  nodes : l.self.nodes ≡ l.fn.self.nodes;
-  added : (n all : ℕ) (past : List Step) (step : Step) → HasLoads n all past l.fn.self → l.here ≡ column all (length past)
-      → l.runs ≡ running n (step ∷ past) → HasAdded n all step past l.node l.self;
-}
+abbrev pub invariant-loop-k : goal.invariant-loop-k
+invariant-loop-k l = (n all : ℕ) (past : List Step) → HasLoads n all past l.fn.self → l.here ≡ column all (length past)
+    → HasAdded n all past l.runs l.k l.self

@@ -10,7 +10,7 @@ returns c = (
     messages = c.new-3.ensures c.args.all;
     waves = c.new-4.ensures c.args.nodes;
     lanes = c.new-5.ensures;
-    loads = c.in_ok-new.ensures c.args.all;
+    loads = c.in_ok-new.ensures c.args.nodes c.args.all;
   },
   refl,
 )
