@@ -1,6 +1,8 @@
-use Rattle.std.proofs.Common.{◌<◌, ◌+◌, ◌*◌, ℕ, List, ap, subst, sym, ◌∙◌, arith}
+use Rattle.std.proofs.Common.{◌≡◌, ◌<◌, ◌+◌, ◌*◌, ℕ, List, ap, subst, sym, ◌∙◌, arith}
 use Rattle.std.proofs.Common.{length}
 use Rattle.std.specs.Prelude.{slice_index, slice_set}
+use Rattle.std.specs.Vec.{with_items}
+use Rattle.std.proofs.lemmas.List.{length-set, with_items_is}
 use Rattle.tp_scene.proofs.Loaded.{added_none, added_more, added_all, has_room}
 use Rattle.tp_scene.proofs.columns.Loads.take.Goals as goal
 
@@ -24,9 +26,14 @@ add-requires c =
 pub loop-k-preserved : goal.loop-k-preserved
 loop-k-preserved c = λ n all past h at.
     let place : ℕ = c.node_at-node.result * 1500 + c.args.here in
-    added_more n all past c.args.runs.now c.loop-k.k c.node_at-node.result c.args.here c.loop-k.self _ (c.loop-k.invariant n all past h at) at
-    c.loop-k-test.true c.node_at-node.ensures
-    (c.add.ensures ∙ ap (λ (xs : List ℕ). slice_set xs place (slice_index xs place + 1)) c.deref_mut.ensures.value)
+    let more : ℕ = slice_index c.loop-k.self.columns.items place + 1 in
+    let put : c.add.new.numbers ≡ slice_set c.loop-k.self.columns.items place more =
+    c.add.ensures ∙ ap (λ (xs : List ℕ). slice_set xs place (slice_index xs place + 1)) c.deref_mut.ensures.value in
+    let long : length c.add.new.numbers ≡ length c.loop-k.self.columns.items = ap length put ∙ length-set c.loop-k.self.columns.items place more in
+    added_more n all past c.args.runs.now c.loop-k.k c.node_at-node.result c.args.here c.loop-k.self
+    (record { columns = with_items c.loop-k.self.columns c.add.new.numbers }) (c.loop-k.invariant n all past h at) at c.loop-k-test.true
+    c.node_at-node.ensures
+    (with_items_is c.loop-k.self.columns c.add.new.numbers (omega (arith, long, c.loop-k.self.columns.ok.0)) ∙ put)
 
 pub returns : goal.returns
 returns c = λ n all past step h at are.
