@@ -1,9 +1,10 @@
 ghost use Rattle.std.specs.Prelude.{◌≡◌, ◌++◌, ◌<◌, ◌^◌, OnOk, IfOk};
 ghost use Rattle.tp_scene.specs.Page.{head, headline, plural, verdict, lane, ground, grounds, frame, frames, unit_by, unit, tick};
 ghost use Rattle.tp_scene.specs.Page.{tick_where, ticks, axis_line, axis, lanes, messages, tasks, run, waves, svg_of};
-ghost use Rattle.tp_scene.specs.Page.{all_bars, legend, more_style, opening, received};
+ghost use Rattle.tp_scene.specs.Page.{all_bars, legend, more_style, opening, picture, received, svg_until_of};
 
 use crate::cuts::push_labels;
+use crate::fault::push_fault;
 use crate::flow::push_hills;
 use crate::layout::LEFT;
 use crate::pieces::{Area, Part, Point, push_all, push_parts};
@@ -437,19 +438,40 @@ fn push_waves(out: &mut Vec<u8>, scene: &Scene) -> Result<(), AllocError>
     push_all(out, scene, &scene.seams)
 }
 
+/// All that is drawn of a scene.
+#[tactic(auto, unfolding(crate::specs::Page::picture))]
+fn push_picture(out: &mut Vec<u8>, scene: &Scene) -> Result<(), AllocError>
+    ensures { OnOk result (out.new.items ≡ out.old.items ++ picture scene.now) }
+{
+    push_opening(out, scene)?;
+    push_headline(out, scene)?;
+    push_verdict(out, scene.ended)?;
+    out.extend_from_slice(legend(scene))?;
+    push_run(out, scene)?;
+    push_waves(out, scene)?;
+    push_axis(out, scene)
+}
+
 /// The picture of a scene, as an SVG of version 1.1 in UTF-8. It takes memory for the text alone; where that is refused, so is it.
 #[tactic(auto, unfolding(crate::specs::Page::svg_of))]
 pub fn svg(alloc: Global, scene: &Scene) -> Result<Vec<u8>, AllocError>
     ensures { IfOk result (λ text. text.items ≡ svg_of scene.now) }
 {
     let mut out = Vec::new(alloc);
-    push_opening(&mut out, scene)?;
-    push_headline(&mut out, scene)?;
-    push_verdict(&mut out, scene.ended)?;
-    out.extend_from_slice(legend(scene))?;
-    push_run(&mut out, scene)?;
-    push_waves(&mut out, scene)?;
-    push_axis(&mut out, scene)?;
+    push_picture(&mut out, scene)?;
+    out.extend_from_slice(b"</svg>\n")?;
+    Ok(out)
+}
+
+/// The picture of what stood before a fault, as [`svg`] draws it, with a red line at its end and a label there. Of the label what is
+/// no printed character of ASCII, and `<`, `>` and `&`, are shown as question marks.
+#[tactic(auto, unfolding(crate::specs::Page::svg_until_of))]
+pub fn svg_until(alloc: Global, scene: &Scene, label: &[u8]) -> Result<Vec<u8>, AllocError>
+    ensures { IfOk result (λ text. text.items ≡ svg_until_of scene.now label.now) }
+{
+    let mut out = Vec::new(alloc);
+    push_picture(&mut out, scene)?;
+    push_fault(&mut out, scene, label)?;
     out.extend_from_slice(b"</svg>\n")?;
     Ok(out)
 }
