@@ -451,7 +451,8 @@ fn push_picture(out: &mut Vec<u8>, scene: &Scene) -> Result<(), AllocError>
     out.extend_from_slice(legend(scene))?;
     push_run(out, scene)?;
     push_waves(out, scene)?;
-    push_axis(out, scene)
+    push_axis(out, scene)?;
+    Ok(())
 }
 
 /// The picture of a scene, as an SVG of version 1.1 in UTF-8. It takes memory for the text alone; where that is refused, so is it.
