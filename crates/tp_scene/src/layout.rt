@@ -1,5 +1,6 @@
 ghost use Rattle.std.specs.Prelude.{◌≡◌, ◌≤◌, ◌<◌, ◌*◌, ◌/◌, ◌^◌};
-ghost use Rattle.tp_scene.specs.Layout.{detail_of, is_detailed, is_fine, is_summed, room_of, least_step, step_of, span_of, bar_of, gap_of, between_of, edge};
+ghost use Rattle.tp_scene.specs.Layout.{is_summed, room_of};
+ghost use Rattle.tp_scene.specs.Layout.{detail_of, is_detailed, is_fine, least_step, step_of, span_of, bar_of, gap_of, between_of, edge};
 ghost use Rattle.tp_scene.specs.Layout.{middle, right, reach, rows_of, height_of, top_of, foot, track_of, bottom, width, page_height};
 
 use crate::places::place_of;
