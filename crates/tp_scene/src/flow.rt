@@ -1,5 +1,6 @@
 ghost use Rattle.std.specs.Prelude.{◌≡◌, ◌++◌, ◌+◌, ◌*◌, ◌<◌, ◌≤◌, ◌^◌, OnOk, slice_index};
-ghost use Rattle.tp_scene.specs.Flow.{rise, level, stair, stairs, hill_begin, hill_end, hill, hills, columns_of, middle_of_band, root, breadth};
+ghost use Rattle.tp_scene.specs.Flow.{rise, level, stair, stairs};
+ghost use Rattle.tp_scene.specs.Flow.{hill_begin, hill_end, hill, hills, columns_of, middle_of_band, root, breadth};
 ghost use Rattle.tp_scene.specs.Flow.{curve_text, ribbon_text};
 
 use crate::marks::{ends_of, handle};

@@ -42,9 +42,11 @@ text.tells,.told,.seen{fill:#4fc47a}.over{fill:#4fc47a;fill-opacity:.12}.lost{st
 /// How sums look, in the light and in the dark.
 pub const STYLE_OF_SUMS: &[u8] = b"<style>
 .hill{fill-opacity:.85}.r{fill:none;stroke-opacity:.38}
-.r0{stroke:#2f6db5}.r1{stroke:#c4572a}.r2{stroke:#3f8f4f}.r3{stroke:#8a55a8}.r4{stroke:#b58a17}.r5{stroke:#1f8f94}.r6{stroke:#b0436f}.r7{stroke:#6b6f2a}
+.r0{stroke:#2f6db5}.r1{stroke:#c4572a}.r2{stroke:#3f8f4f}.r3{stroke:#8a55a8}
+.r4{stroke:#b58a17}.r5{stroke:#1f8f94}.r6{stroke:#b0436f}.r7{stroke:#6b6f2a}
 @media (prefers-color-scheme:dark){
-.r0{stroke:#6fa3e0}.r1{stroke:#e08a62}.r2{stroke:#74bd83}.r3{stroke:#b98ad4}.r4{stroke:#d9b452}.r5{stroke:#58bcc0}.r6{stroke:#db7ea3}.r7{stroke:#aab05a}}
+.r0{stroke:#6fa3e0}.r1{stroke:#e08a62}.r2{stroke:#74bd83}.r3{stroke:#b98ad4}
+.r4{stroke:#d9b452}.r5{stroke:#58bcc0}.r6{stroke:#db7ea3}.r7{stroke:#aab05a}}
 </style>
 ";
 
