@@ -1,28 +1,23 @@
 -- Messages counted by their ways.
-use Rattle.std.proofs.Common.{◌≡◌, ℕ, zero, suc, ◌+◌, ◌-◌, ◌<◌, ◌≤◌, ◌==◌, ◌&&◌, Bool, true, false, List, [], ◌∷◌, ◌++◌, length, map, get_or}
+use Rattle.std.proofs.Common.{◌≡◌, ℕ, zero, suc, ◌+◌, ◌<◌, ◌≤◌, ◌==◌, ◌&&◌, Bool, true, false, List, [], ◌∷◌, ◌++◌, length, map, get_or}
 use Rattle.std.proofs.Common.{set, Option, Some, None, refl, sym, ap, subst, ◌∙◌, eqb-true, append-nil, arith, if◌then◌else◌}
 use Rattle.std.specs.Prelude.{slice_get}
-use Rattle.std.specs.List.{All, AllPairs, find}
+use Rattle.std.specs.List.{AllPairs, find}
 use Rattle.std.proofs.lemmas.Bool.Decides.{nat_tests}
 use Rattle.std.proofs.lemmas.List.{length-append}
 use Rattle.std.proofs.lemmas.Option.{get_or_from_slice_get}
-use Rattle.tp_base.specs.declared.ids.NodeId.{NodeId}
-use Rattle.tp_base.specs.declared.ids.MessageId.{MessageId}
-use Rattle.tp_base.specs.declared.ids.Generation.{Generation}
 use Rattle.tp_base.specs.declared.Step.{Step}
 use Rattle.tp_base.specs.declared.Step.TheVariants.{Recv}
 use Rattle.tp_wave.specs.Steps.{count, is_recv}
 use Rattle.tp_core.specs.World.{how_many}
-use Rattle.tp_core.specs.Generations.{AreRuns}
 use Rattle.tp_scene.specs.declared.scene.Sending.{Sending}
-use Rattle.tp_scene.specs.declared.scene.Arrow.{Arrow}
 use Rattle.tp_scene.specs.declared.scene.Way.{Way}
 use Rattle.tp_scene.specs.declared.scene.Ribbon.{Ribbon}
 use Rattle.tp_scene.specs.Scene.{is_sending_of, under_way, arrows, arrow_of, is_way, way_of, with_way, with_received, ribbons}
-use Rattle.tp_scene.specs.Laws.{hop_of, hops, added, goes, counted_on, HasRibbons, RibbonsCarryAll}
+use Rattle.tp_scene.specs.Laws.{hop_of, hops, added, goes, counted_on, RibbonsCarryAll}
 use Rattle.tp_scene.specs.Following.{AreApart}
 use Rattle.tp_scene.proofs.Lists.{one, some_same, none_some, true_false, counted-push}
-use Rattle.tp_scene.proofs.Apart.{Each, Pairs, each_all, each_map, pairs_all}
+use Rattle.tp_scene.proofs.Apart.{Each, Pairs, pairs_all}
 use Rattle.tp_scene.proofs.EachMessage.{each_message}
 
 -- ---- ways

@@ -1,4 +1,4 @@
-use Rattle.std.proofs.Common.{◌≡◌, List, sym, ap, subst, ◌∙◌}
+use Rattle.std.proofs.Common.{sym, ap, ◌∙◌}
 use Rattle.std.specs.Prelude.{slice_get}
 use Rattle.tp_scene.proofs.Ribboned.{widened_at, widened_new}
 use Rattle.tp_scene.proofs.ribbons.widen.Goals as goal

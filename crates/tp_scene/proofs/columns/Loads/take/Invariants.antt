@@ -1,6 +1,6 @@
-use Rattle.std.proofs.Common.{◌≡◌, ℕ, List, ◌∷◌, length}
+use Rattle.std.proofs.Common.{◌≡◌, ℕ, List, length}
 use Rattle.tp_base.specs.declared.Step.{Step}
-use Rattle.tp_scene.specs.Scene.{column, running}
+use Rattle.tp_scene.specs.Scene.{column}
 use Rattle.tp_scene.specs.Following.{HasLoads}
 use Rattle.tp_scene.proofs.Loaded.{HasAdded}
 use Rattle.tp_scene.proofs.columns.Loads.take.Given as goal

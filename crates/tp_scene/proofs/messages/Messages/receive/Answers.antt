@@ -1,4 +1,4 @@
-use Rattle.std.proofs.Common.{append-nil, refl, sym, ap, subst, ◌∙◌}
+use Rattle.std.proofs.Common.{append-nil, refl, sym, ap, ◌∙◌}
 use Rattle.tp_scene.proofs.Followed.{messages_received, ok_then}
 use Rattle.tp_scene.proofs.Ribboned.{ribbons_apart, ribbons_few}
 use Rattle.tp_scene.specs.Scene.{with_way}
