@@ -28,4 +28,5 @@ module _ {M : Type 1} {𝓤 : Ura M} (𝓛 : Logic 𝓤) (l : Lft) (R : RattleTy
 
   pub Lends-cells : (cs : List (Ptr × Option R.Denot)) → Lends 𝓛 (cells_own R cs) (cells_lent R cs) l
   Lends-cells [] = Lends-nothing 𝓛 ftrue l
-  Lends-cells (c ∷ cs) = Lends-both 𝓛 (cell_owns R c.0 c.1) (cells_own R cs) (cell_lent R c.0 c.1) (cells_lent R cs) l (Lends-cell c.0 c.1) (Lends-cells cs)
+  Lends-cells (c ∷ cs) = Lends-both 𝓛 (cell_owns R c.0 c.1) (cells_own R cs) (cell_lent R c.0 c.1) (cells_lent R cs) l
+      (Lends-cell c.0 c.1) (Lends-cells cs)

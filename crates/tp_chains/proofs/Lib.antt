@@ -4,3 +4,6 @@ pub mod CellsMemory
 pub mod CellsLeases
 pub mod ChainLemmas
 pub mod CellsCrossing
+pub mod CellWords
+pub mod CellSteps
+pub mod CellCalls

@@ -1,180 +1,77 @@
--- `deallocate` makes the block of its empty places, and hands it back with the allocator's token. Assumes `Logic`.
-use mathlib.Core.Path.{◌≡◌, refl, sym, ap, subst, ◌∙◌}
-use Prim.Native.Nat.{ℕ, ◌*◌, ◌<◌, ◌^◌}
-use native.Mathlib.Omega.{arith}
-use mathlib.Core.List.{List, [], ◌∷◌, ◌++◌}
-use seplogic.Ra.Ura.{Ura}
-use mir.Syntax.{Fn, named, w64}
-use mir.MapTy.{inst_fn}
-use mir.Val.{Val, vptr, vint, vunit}
-use base.Logic.{SProp, ent}
-use base.Fml.{Lft, Share, ftrue, froom, flft}
-use prog.Wp.{Env, Calls, Loops, WpFn, Tables}
-use types.Logic.{Logic}
-use contract.Monad.{fact}
-use contract.Running.{tables, tables_of}
-use sound.WpLaws.{WpFn-mono}
-use types.Kit.{Item, ⋆, ‵, raw, ◌⊛◌, given, later, await, learn, at_ret, ◌$◌, ◌∵◌, !, qed, by, move, keep, use1, split, join, group, rewrite, fsplit, fsplit3, fjoin, feq_i, feq_l, suffices, done}
-use types.Part.{whole, sub}
-use types.Run.{stop, fld, unit_lit, of_opd, and_then, no_more, first, blocks, exec, returns, enter}
-use types.ByLocal.{alloc_all, pass_all, free_all, look_at, get, get_in, sets, is, env}
-use denote.Exit.{yes, no}
-use denote.RattleType.{RattleType, owns}
-use denote.Memory.{hidden_shr}
-use denote.RawPtr.{Ptr, ptr_val, in_a_block}
-use denote.Ref.{Bor, ShrRef}
-use denote.Builtin.{RefOf}
-use denote.Signature.{plain}
-use denote.Steps.{nothing}
-use denote.Triple.Clauses.{Clauses, Ended, closing}
-use denote.Triple.Entry.{on_entry}
-use denote.Triple.Spec.{Meets, triple_of}
-use denote.Triple.Table.{entered}
-use denote.Triple.Walked.{needs, Stays, stay_dropped, walk_of, ends_at, Goes-dropped, walk_Meets}
-use Rattle.std.proofs.alloc.Calls.{Goes-blank}
-use Rattle.std.proofs.VecSteps.Shapes.{after}
-use Rattle.std.proofs.RcSteps.{word, word-Good}
-use types.Kit.{flt_l}
-use types.Run.{bin}
-use denote.Builtin.{usize}
-use Rattle.std.proofs.mem.Param.{El, R, elτ}
-use Rattle.std.proofs.RawLayout.{as_raw}
-use Rattle.tp_chains.specs.Cells.{empty_at}
-use mir.Raw.{raw as bare}
-use Rattle.tp_chains.specs.CellsOwnership.{cells_own, row_from}
-use Rattle.tp_chains.proofs.CellsMemory.{Cr, Bs, Cell, mark, mark_had, word_had}
-use base.Fml.{Incl-trans}
+-- `deallocate` gives a block back. Before: a `&` to the allocator, all cells of the block, each empty, and the deed, which
+-- has the right to free it. The cells are joined to room for one array; the raw call takes that room and the right, and
+-- gives the token back. Assumes `Logic`.
+use Rattle.tp_chains.proofs.CellWords.{◌≡◌, refl, sym, ap, subst, ◌∙◌, ℕ, ◌*◌, ◌<◌, ◌^◌, arith, List, [], ◌∷◌, ◌++◌, Fn, w64, ty_array}
+use Rattle.tp_chains.proofs.CellWords.{inst_fn, Val, vptr, vint, vunit, tables, id⊢, Fml, Incl-trans, ftrue, fsep, froom, flft, ◌⊑◌, ‵}
+use Rattle.tp_chains.proofs.CellWords.{raw, ◌⊛◌, later, given, at_ret, ◌$◌, !, by, move, keep, use1, split, join, group, rewrite, await}
+use Rattle.tp_chains.proofs.CellWords.{learn, fsplit, feq_i, feq_l, flt_l, whole, sub, stop, fld, bin, unit_lit, size_word, align_word}
+use Rattle.tp_chains.proofs.CellWords.{of_opd, and_then, no_more, first, blocks, exec, returns, alloc_all, pass_all, free_all, look_at}
+use Rattle.tp_chains.proofs.CellWords.{get, get_in, is, sets, lands_last, env, Ptr, ptr_val, in_a_block, nothing, after, word, word-Good}
+use Rattle.tp_chains.proofs.CellWords.{as_raw, El, R, elτ, empty_at, cells_own, row_from, align, capped, capped_fits, calls_at_last}
+use Rattle.tp_chains.proofs.CellWords.{framed, Al, token, Gives, at_gives, Gives-goes, Gives-Gives}
 use lib.Dec.{T}
-use mir.Syntax.{ty_unit, ty_array}
+use mir.Raw.{raw as bare}
+use mir.Syntax.{ty_unit}
 use mir.Val.{has_ty, WT}
-use prog.Memory.{Memory, align, capped}
-use prog.Capped.{capped_fits}
-use prog.Routine.{Routine}
-use contract.Monad.{Fun}
-use contract.BorrowLft.{◌⊑◌}
-use sound.WpLaws.{FmC, fm_of}
-use types.Run.{size_word, align_word}
-use types.ByLocal.{lands_last}
-use denote.Triple.Statement.{Triple}
-use denote.Triple.Call.{calls_at_last}
-use Rattle.std.proofs.alloc.Calls.{Al, second, token, gives_key, Gives, at_gives, Gives-goes, Gives-Gives}
-use Rattle.tp_chains.proofs.CellsLeases.{uncapped, block_ty, block_size, block_align, args, P}
-use Rattle.tp_chains.specs.CellsOwnership.{deed_owns}
-use Rattle.tp_chains.proofs.CellsLeases.{sz, to_room, no_block}
-use Rattle.tp_chains.specs.contracts.cells.Deed as D-type
-use Rattle.tp_chains.specs.contracts.cells.deallocate as F
+use Rattle.tp_chains.proofs.CellsLeases.{uncapped, block_ty, block_size, block_align, args, sz, to_room, no_block}
+use Rattle.tp_chains.proofs.CellsMemory.{Cell, mark}
+use Rattle.tp_chains.proofs.CellSteps.{address_is, owner_is, enters, asked_beside}
+use Rattle.tp_chains.proofs.CellCalls.{takes_all}
+use Rattle.tp_chains.specs.contracts.cells.deallocate.{ended, clauses}
 use Rattle.tp_chains.specs.contracts.cells.deallocate.Key.{name as #self}
-use Rattle.tp_chains.proofs.cells.deallocate.Statement as stated
+use Rattle.tp_chains.proofs.cells.deallocate.Statement.{statement}
 use Rattle.tp_chains.proofs.cells.deallocate.Code as code
 
-module _ (E : El) (Z : Al) where
-  abbrev function : Fn
-  function = inst_fn (args E Z) code.function
-
-  abbrev ended : Ended
-  ended = F.ended E.row Z.row Z.g Z.d Z.drops
-
-  abbrev clauses : {M : Type 1} {𝓤 : Ura M} (𝓛 : Logic 𝓤) → (Memory → SProp 𝓤) → (Routine → Fun 𝓤) → Clauses 𝓤 ended
-  clauses 𝓛 = F.clauses E.row Z.row Z.g Z.d Z.drops 𝓛
-
-  abbrev Dd : RattleType
-  Dd = D-type.the_row (R E) (P E Z) Z.g
-
-  abbrev stayed : Stays ended.signature.params ended.kept
-  stayed = (
-    stay_dropped (RefOf (0 ∷ []) tt (plain (λ _. P E Z)) (λ _. tt)) yes,
-    (
-      stay_dropped (plain (λ _. Bs E)) no,
-      (stay_dropped (plain (λ _. usize)) yes, (stay_dropped (plain (λ _. Cr E)) no, (stay_dropped (plain (λ _. Dd)) no, tt))),
-    ),
-  )
-
-  abbrev Asks : Z.row.Denot → (Bs E).Denot → ℕ → (Cr E).Denot → Dd.Denot → Type 0
-  Asks a base len cells deed = (0 < len) × (cells.cells ≡ empty_at deed.row) × (deed.at ≡ base.ptr) × (deed.len ≡ len) × (deed.alloc ≡ a)
-
-module _ (E : El) (Z : Al) {M : Type 1} {𝓤 : Ura M} (𝓛 : Logic 𝓤) (at_mem : Memory → SProp 𝓤) (run : Routine → Fun 𝓤) (C : Calls 𝓤 𝓛.H) (Λ : Loops 𝓤 𝓛.H) (fm : FmC 𝓤 𝓛.H 𝓛.laws C)
-    (callee : Triple 𝓤 (C (gives_key Z)) (Gives Z 𝓛 at_mem run)) (κ κ₁ κ₂ : Lft) (q q₁ q₂ : Share) (short : κ ⊑ κ₂) (within : κ₂ ⊑ Z.row.lives) (rb ro : ℕ) (a : Z.row.Denot)
-    (base : (Bs E).Denot) (len : ℕ) (cells : (Cr E).Denot) (deed : (Dd E Z).Denot) (us0 us1 us2 us3 us4 : List Val) where
-  open 𝓛 use {H, A}
-
-  abbrev self : Bor Z.row.Denot
-  self = record { ref_ptr = (rb, ro); now = a }
-
-  abbrev others : Item 𝓤
-  others = ‵ (flft κ₁ q₁) ⊛ ‵ (flft κ₂ q₂) ⊛ ‵ ftrue
-
-  abbrev bound : (walk_of 𝓛 (ended E Z) (stayed E Z) (clauses E Z 𝓛 at_mem run)).Ghost
-  bound = (((κ, (κ₁, (κ₂, tt))), (q, (q₁, (q₂, tt))), (short, tt), (self, (base, (len, (cells, (deed, tt))))), (us0, (us1, (us2, (us3, (us4, tt)))))), tt)
-
-  abbrev Post : Val → SProp 𝓤
-  Post = (walk_of 𝓛 (ended E Z) (stayed E Z) (clauses E Z 𝓛 at_mem run)).post bound
-
-  exits : ent 𝓤 (⋆ 𝓛 (‵ (flft κ q) ∷ others ∷ [])) (Post vunit)
-  exits =
-      qed 𝓛 (‵ (flft κ q) ∷ others ∷ []) ∵
-      suffices ! _ (ends_at 𝓛 (ended E Z) (stayed E Z) (clauses E Z 𝓛 at_mem run) bound vunit tt (tt, (tt, (tt, (tt, (tt, tt))))) (tt, (tt, (tt, (tt, (tt, tt)))))) $
-      join ! $ feq_i ! (List Val) (vunit ∷ []) (vunit ∷ []) refl $ nothing ! $ nothing ! $ fjoin ! $ nothing ! $ fjoin ! $ nothing ! $ fjoin ! $ nothing ! $ fjoin ! $ nothing ! $ fjoin ! $ join ! $
-      move ! (1 ∷ 0 ∷ []) $ join ! $ nothing ! $ move ! (1 ∷ 0 ∷ []) $ done !
-
-  abbrev Had : List (Item 𝓤)
-  Had = ‵ (cells_own (R E) cells.cells) ∷ ‵ (deed_owns (R E) (token Z deed.alloc) deed.at deed.len deed.row) ∷ ‵ (hidden_shr (P E Z) κ a rb ro) ∷ ‵ (flft κ q) ∷ others ∷ []
-
-  walk : Asks E Z a base len cells deed → len < 2 ^ 64 → ent 𝓤 (⋆ 𝓛 Had) (WpFn 𝓤 H C Λ (function E Z) (vptr rb ro ∷ word base.ptr ∷ vint w64 len ∷ mark ∷ mark ∷ []) Post)
-  walk asked fits =
-      qed 𝓛 Had ∵ enter ! C Λ (function E Z) (vptr rb ro ∷ word base.ptr ∷ vint w64 len ∷ mark ∷ mark ∷ []) _ $
-      alloc_all ! (λ l. pass_all ! refl ((tt, tt), (word-Good [] base.ptr, ((tt, record { fits = fits }), ((tt, (tt, tt)), ((tt, (tt, tt)), tt))))) $
-      let En : Env 𝓤 H = env (function E Z).locals l in
-      let s = sz E in let al : ℕ = capped (align (elτ E)) in
-      move ! (1 ∷ []) $ fsplit ! $ move ! (1 ∷ []) $ fsplit ! $ flt_l ! (λ fit. feq_l ! (λ lies. move ! (1 ∷ []) $
-      rewrite ! 0 (λ (c : List (Cell E)). ‵ (cells_own (R E) c)) (asked.1 ∙ sym lies ∙ (λ i. row_from (R E) (asked.2 i) (asked.3 i))) refl $
-      in_a_block ! base.ptr (λ p. cells_own (R E) (row_from (R E) p len)) (no_block E 𝓛 0 len asked.0) (λ b o e.
-      let small : len * s < 2 ^ 63 = subst (λ (k : ℕ). k * s < 2 ^ 63) asked.3 fit in let bytes : len * s < 2 ^ 64 = omega arith in
-      let y : (Gives Z 𝓛 at_mem run).Ghost = at_gives Z 𝓛 at_mem run κ q (rb, ro) a b o (len * s) al (block_ty E len) in
-      rewrite ! 1 (λ (d : Z.row.Denot × Ptr × ℕ). ‵ (token Z d.0 (bare (ty_array (elτ E) d.2)) d.1)) (λ i. (asked.4 i, (asked.2 ∙ e) i, asked.3 i)) refl $
-      use1 𝓛 (‵ (froom (ty_array (elτ E) len) b o)) (to_room E 𝓛 b len o) $ as_raw ! (ty_array (elτ E) len) b o $ first ! $ blocks ! $
-      sets ! (is ! (of_opd ! (get_in ! (fld ! refl (stop !)) (sub ! 0 refl (whole !)))) (ap ptr_val e)) refl (tt, tt) $
-      sets ! (is ! (bin ! (get ! refl) (size_word !) (record { fits = subst (λ (k : ℕ). k < 2 ^ 64) (sym (uncapped len s bytes)) bytes })) (ap (vint w64) (uncapped len s bytes))) refl (tt, record { fits = bytes }) $
-      group ! 4 $ use1 𝓛 (raw ((Gives Z 𝓛 at_mem run).pre y))
-      (Gives-goes Z 𝓛 at_mem run κ q (rb, ro) a (Incl-trans short within) b o (len * s) al (block_ty E len) (block_size E len bytes) (block_align E len) bytes (capped_fits (align (elτ E)))) $
-      calls_at_last ! fm (Gives Z 𝓛 at_mem run) callee y (and_then ! (get ! refl) (and_then ! (get ! refl) (and_then ! (get ! refl) (and_then ! (align_word !) (no_more !))))) (λ v.
-      use1 𝓛 (later (given (v ≡ vunit) (‵ (flft κ q)))) (Gives-Gives Z 𝓛 at_mem run κ q (rb, ro) a b o (len * s) al (block_ty E len) v) $ await ! tt $ learn ! (λ done_with.
-      lands_last ! refl (subst (λ (z : Val). T (has_ty ty_unit z) × WT z) (sym done_with) (tt, tt)) $ exec ! C Λ En (after 1 (function E Z).body) (at_ret En Post) $
-      sets ! (of_opd ! (unit_lit !)) refl (tt, tt) $ returns ! (look_at ! 0 refl) $ free_all ! refl $ keep ! (0 ∷ 1 ∷ []) $ by ! exits))))))
-
-  entry : Asks E Z a base len cells deed → ent 𝓤
-      (on_entry 𝓛 (ended E Z).signature (κ, (κ₁, (κ₂, tt))) (q, (q₁, (q₂, tt))) (self, (base, (len, (cells, (deed, tt))))) (us0, (us1, (us2, (us3, (us4, tt))))))
-      (WpFn 𝓤 H C Λ (function E Z) (us0 ++ (us1 ++ (us2 ++ (us3 ++ (us4 ++ []))))) Post)
-  entry asked =
-      qed 𝓛 ((‵ (flft κ q) ⊛ others) ∷ ‵ (owns (ShrRef (named 0) κ (P E Z) ∷ Bs E ∷ usize ∷ Cr E ∷ Dd E Z
-      ∷ []) (self, (base, (len, (cells, (deed, tt))))) (us0, (us1, (us2, (us3, (us4, tt)))))) ∷ []) ∵ split ! $ move ! (2 ∷ []) $ fsplit3 ! $ fsplit ! $ feq_l ! (λ e0.
-      move ! (1 ∷ []) $ word_had ! base.ptr us1 (λ e1. move ! (1 ∷ []) $ fsplit3 ! $ fsplit ! $ feq_l ! (λ e2. flt_l ! (λ fits.
-      fsplit ! $ mark_had ! E us3 (λ e3. move ! (1 ∷ []) $ fsplit ! $ fsplit ! $ mark_had ! E us4 (λ e4. keep ! (2 ∷ 0 ∷ 3 ∷ 4 ∷ 5 ∷ []) $
-      by ! (subst (λ (ws : List Val × List Val × List Val × List Val × List Val). ent 𝓤 (⋆ 𝓛 Had) (WpFn 𝓤 H C Λ (function E Z) (ws.0 ++ (ws.1 ++ (ws.2 ++ (ws.3 ++ (ws.4 ++ []))))) Post))
-      (λ j. (sym e0 j, sym e1 j, sym e2 j, sym e3 j, sym e4 j)) (walk asked fits))))))))
-
-meets : (E : El) (Z : Al) {M : Type 1} {𝓤 : Ura M} (𝓛 : Logic 𝓤) (at_mem : Memory → SProp 𝓤) (run : Routine → Fun 𝓤) (𝓣 : Tables 𝓤 𝓛.H) → Triple 𝓤 (𝓣.C (gives_key Z)) (Gives Z 𝓛 at_mem run)
-    → Meets 𝓛 (ended E Z).signature (WpFn 𝓤 𝓛.H 𝓣.C 𝓣.Λ (function E Z)) (closing 𝓛 (ended E Z) (clauses E Z 𝓛 at_mem run))
-meets E Z {𝓤 = 𝓤} 𝓛 at_mem run 𝓣 callee =
-    walk_Meets 𝓛 (ended E Z) (stayed E Z) (
-      Goes-dropped 𝓛 3 (RefOf (0
-          ∷ []) tt (plain (λ _. P E Z)) (λ _. tt)) yes (λ κs x f. refl),
-      (
-        Goes-dropped 𝓛 3 (plain (λ _. Bs E)) no (λ κs x f. refl),
-        (Goes-dropped 𝓛 3 (plain (λ _. usize)) yes (λ κs x f. refl), (Goes-blank 𝓛 3 (plain (λ _. Cr E)) no (λ κs x f. tt), (Goes-blank 𝓛 3 (plain (λ _. Dd E Z)) no (λ κs x f. tt), tt))),
-      ),
-    )
-    (clauses E Z 𝓛 at_mem run) (WpFn 𝓤 𝓛.H 𝓣.C 𝓣.Λ (function E Z)) (WpFn-mono 𝓤 𝓛.H 𝓛.laws 𝓣 (function E Z))
-    (λ z. let κs = z.0.0 in let qs = z.0.1 in let a = z.0.3 in let vss = z.0.4 in let On : SProp 𝓤 = on_entry 𝓛 (ended E Z).signature κs qs a vss in
-    let asks = Asks E Z a.0.now a.1.0 a.1.1.0 a.1.1.1.0 a.1.1.1.1.0 in
-    second 𝓤 (κs.1.0 ⊑ E.row.lives) (κs.1.1.0 ⊑ Z.row.lives) On (fact 𝓤 asks) (λ within. needs 𝓤 asks On
-    (entry E Z 𝓛 at_mem run 𝓣.C 𝓣.Λ (fm_of 𝓤 𝓛.H 𝓛.laws 𝓣) callee κs.0 κs.1.0 κs.1.1.0 qs.0 qs.1.0 qs.1.1.0 z.0.2.0 within
-    a.0.ref_ptr.0 a.0.ref_ptr.1 a.0.now a.1.0 a.1.1.0 a.1.1.1.0 a.1.1.1.1.0 vss.0 vss.1.0 vss.1.1.0 vss.1.1.1.0 vss.1.1.1.1.0)))
-
-pub deallocate_spec : {M : Type 1} → stated.statement M
-unfolding tables_of
+pub deallocate_spec : {M : Type 1} → statement M
 deallocate_spec 𝓤 𝓛 𝓜 𝓡 wired X W LX LW g d dd met md =
     let E : El = record { row = X; laws = LX } in
     let Z : Al = record { row = W; laws = LW; g = g; d = d; drops = dd } in
-    let 𝓣 : Tables 𝓤 𝓛.H = tables_of 𝓤 𝓛.H 𝓜 (tables 𝓤 𝓛.H 𝓜 𝓡 𝓡.env) in
-    entered 𝓤 𝓛.H (triple_of 𝓛 (ended E Z).signature (F.spec X W g d dd 𝓛 𝓜.mem 𝓡.returns)) 𝓣.C 𝓣.Λ (#self (args E Z)) (function E Z) (code.unfolded 𝓤 𝓛.H 𝓜 𝓡 wired (X, (W, tt)) d dd)
-    (meets E Z 𝓛 𝓜.mem 𝓡.returns 𝓣 (met.deallocate dd))
+    let fn : Fn = inst_fn (args E Z) code.function in
+    let 𝓣 = tables 𝓤 𝓛.H 𝓜 𝓡 𝓡.env in
+    let Gives-here = Gives Z 𝓛 𝓜.mem 𝓡.returns in
+    takes_all 𝓛 (ended X W g d dd) (clauses X W g d dd 𝓛 𝓜.mem 𝓡.returns) 𝓜 𝓡
+    (λ κs x f. tt, (λ κs x f. tt, (λ κs x f. tt, (λ κs x f. tt, (λ κs x f. tt, tt)))))
+    (#self (args E Z)) fn (code.unfolded 𝓤 𝓛.H 𝓜 𝓡 wired (X, (W, tt)) d dd) (λ κs qs bounds a vss ghost are Post ends.
+    let κ = κs.0 in let q = qs.0 in let rb = a.0.ref_ptr.0 in let ro = a.0.ref_ptr.1 in let heap = a.0.now in
+    let p : Ptr = a.1.0.ptr in let len : ℕ = a.1.1.0 in let cells = a.1.1.1.0.cells in let deed = a.1.1.1.1.0 in
+    let others : Fml = fsep (flft κs.1.0 qs.1.0) (fsep (flft κs.1.1.0 qs.1.1.0) ftrue) in
+    let Asked : Type 0 = (0 < len) × (cells ≡ empty_at deed.row) × (deed.at ≡ p) × (deed.len ≡ len) × (deed.alloc ≡ heap) in
+    -- [the tokens; what the arguments own; the `requires`]
+    move ! (2 ∷ []) $ asked_beside ! (κs.1.0 ⊑ X.lives) (κs.1.1.0 ⊑ W.lives) Asked (λ within asked.
+    use1 𝓛 (‵ (flft κ q) ⊛ ‵ others) (id⊢ 𝓤 _) $ split ! $ move ! (2 ∷ []) $ fsplit ! $ fsplit ! $ move ! (2 ∷ []) $
+    -- [what all but the `&` own; an equation; the `&`; the token; the other tokens]
+    fsplit ! $ move ! (1 ∷ []) $ fsplit ! $ move ! (1 ∷ []) $ fsplit ! $ fsplit ! $ move ! (2 ∷ []) $ fsplit ! $ fsplit ! $
+    -- [the deed's own value; what the deed owns; nothing; the owner's own value; the cells; two facts; an equation; the `&`; ..]
+    keep ! (4 ∷ 1 ∷ 8 ∷ 9 ∷ 10 ∷ []) $
+    enters ! 𝓣.C 𝓣.Λ fn (vptr rb ro ∷ word p ∷ vint w64 len ∷ mark ∷ mark ∷ []) Post
+    (λ j. are.0.0 j ++ (address_is E a.1.0 vss.1.0 are.1.0 j ++ (are.1.1.0.0 j ++ (owner_is E vss.1.1.1.0 are.1.1.1.0.0 j
+    ++ (owner_is E vss.1.1.1.1.0 are.1.1.1.1.0.0 j ++ []))))) $
+    alloc_all ! (λ l. pass_all ! refl
+    ((tt, tt), (word-Good [] p, ((tt, record { fits = are.1.1.0.1 }), ((tt, (tt, tt)), ((tt, (tt, tt)), tt))))) $
+    let N = env fn.locals l in let s = sz E in let al : ℕ = capped (align (elτ E)) in let τ = block_ty E len in
+    -- the cells are the row that the deed speaks of, from the address on
+    move ! (1 ∷ []) $ fsplit ! $ move ! (1 ∷ []) $ fsplit ! $ flt_l ! (λ fit. feq_l ! (λ lies. move ! (1 ∷ []) $
+    rewrite ! 0 (λ (c : List (Cell E)). ‵ (cells_own (R E) c)) (asked.1 ∙ sym lies ∙ (λ i. row_from (R E) (asked.2 i) (asked.3 i))) refl $
+    in_a_block ! p (λ h. cells_own (R E) (row_from (R E) h len)) (no_block E 𝓛 0 len asked.0) (λ b o e.
+    let small : len * s < 2 ^ 63 = subst (λ (k : ℕ). k * s < 2 ^ 63) asked.3 fit in let bytes : len * s < 2 ^ 64 = omega arith in
+    let y : Gives-here.Ghost = at_gives Z 𝓛 𝓜.mem 𝓡.returns κ q (rb, ro) heap b o (len * s) al τ in
+    rewrite ! 1 (λ (h : W.Denot × Ptr × ℕ). ‵ (token Z h.0 (bare (ty_array (elτ E) h.2)) h.1))
+    (λ i. (asked.4 i, (asked.2 ∙ e) i, asked.3 i)) refl $
+    -- [the room of the block; the right to free it; the `&`; the token; the other tokens]
+    use1 𝓛 (‵ (froom (ty_array (elτ E) len) b o)) (to_room E 𝓛 b len o) $ as_raw ! (ty_array (elτ E) len) b o $ first ! $ blocks ! $
+    sets ! (is ! (of_opd ! (get_in ! (fld ! refl (stop !)) (sub ! 0 refl (whole !)))) (ap ptr_val e)) refl (tt, tt) $
+    let wide : len * capped s < 2 ^ 64 = subst (λ (k : ℕ). k < 2 ^ 64) (sym (uncapped len s bytes)) bytes in
+    sets ! (is ! (bin ! (get ! refl) (size_word !) (record { fits = wide })) (ap (vint w64) (uncapped len s bytes)))
+    refl (tt, record { fits = bytes }) $
+    group ! 4 $ use1 𝓛 (raw (Gives-here.pre y)) (Gives-goes Z 𝓛 𝓜.mem 𝓡.returns κ q (rb, ro) heap (Incl-trans bounds.0 within) b o
+    (len * s) al τ (block_size E len bytes) (block_align E len) bytes (capped_fits (align (elτ E)))) $
+    calls_at_last ! (framed 𝓤 𝓛.H 𝓜 𝓣) Gives-here (met.deallocate dd) y
+    (and_then ! (get ! refl) (and_then ! (get ! refl) (and_then ! (get ! refl) (and_then ! (align_word !) (no_more !))))) (λ v.
+    use1 𝓛 (later (given (v ≡ vunit) (‵ (flft κ q)))) (Gives-Gives Z 𝓛 𝓜.mem 𝓡.returns κ q (rb, ro) heap b o (len * s) al τ v) $
+    await ! tt $ learn ! (λ unit_is.
+    lands_last ! refl (subst (λ (z : Val). T (has_ty ty_unit z) × WT z) (sym unit_is) (tt, tt)) $
+    exec ! 𝓣.C 𝓣.Λ N (after 1 fn.body) (at_ret N Post) $ sets ! (of_opd ! (unit_lit !)) refl (tt, tt) $
+    returns ! (look_at ! 0 refl) $ free_all ! refl $
+    -- [the token; the other tokens]
+    keep ! (0 ∷ 1 ∷ []) $ join ! $ feq_i ! (List Val) (vunit ∷ []) (vunit ∷ []) refl $ move ! (1 ∷ 0 ∷ []) $ nothing ! $
+    keep ! (1 ∷ 2 ∷ 0 ∷ []) $ by ! (ends vunit tt (tt, (tt, (tt, (tt, (tt, tt))))))))))))))

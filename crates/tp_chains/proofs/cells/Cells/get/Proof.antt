@@ -1,153 +1,46 @@
--- `get` shows one value that the places lend. Assumes `Logic`.
-use mathlib.Core.Path.{◌≡◌, refl, sym, subst}
-use Prim.Native.Nat.{ℕ, ◌<◌, ◌^◌}
-use mathlib.Core.List.{List, [], ◌∷◌, ◌++◌}
-use seplogic.Ra.Ura.{Ura}
-use base.Fraction.{full_share}
-use mir.Syntax.{Fn, named, w64}
-use mir.MapTy.{inst_fn}
-use mir.Val.{Val, vptr, vint}
-use base.Logic.{SProp, ent}
-use base.Fml.{Lft, Share, ftrue, fat, flft}
-use prog.Wp.{Env, Calls, Loops, WpFn, Tables}
-use types.Logic.{Logic}
-use contract.Monad.{fact}
-use contract.Running.{tables, tables_of}
-use sound.WpLaws.{WpFn-mono}
-use types.Kit.{Item, ⋆, ‵, ◌⊛◌, at_ret, ◌$◌, ◌∵◌, !, qed, by, move, keep, drop, use1, split, join, rewrite, fsplit, fjoin, feq_i, feq_l, suffices, frame, done}
-use types.Part.{whole, sub}
-use types.Run.{stop, hop, from, fld, of_opd, addr, first, blocks, exec, returns, enter}
-use types.ByLocal.{alloc_all, pass_all, free_all, look_at, look_in_at, get, sets, sets_last, env}
-use denote.Exit.{yes, no}
-use denote.RattleType.{owns}
-use denote.Memory.{hidden_shr}
-use denote.Param.{layout}
-use denote.RawPtr.{Ptr, null_ptr, in_a_block}
-use denote.Struct.Lending.{lent_at}
-use denote.Ref.{Bor, ShrRef}
-use denote.Builtin.{RefOf}
-use denote.Signature.{plain}
-use denote.Opens.{hide, unhide}
-use denote.Steps.{nothing}
-use denote.Triple.Carry.{spared}
-use denote.Triple.Clauses.{Clauses, Ended, closing}
-use denote.Triple.Entry.{on_entry}
-use denote.Triple.Spec.{Meets, triple_of}
-use denote.Triple.Table.{entered, run_framed}
-use denote.Triple.Walked.{says, needs, Stays, stay_dropped, walk_of, ends_at, Goes-dropped, walk_Meets}
-use Rattle.std.proofs.VecSteps.Shapes.{after}
-use Rattle.std.proofs.RcSteps.{word, word-Good}
-use types.Kit.{flt_l}
-use types.ByLocal.{take_at, give_at}
-use denote.Builtin.{usize}
-use Rattle.std.specs.Prelude.{Option, Some}
-use Rattle.std.proofs.mem.Param.{El, R, args, el_x}
-use Rattle.tp_chains.specs.Cells.{cell_at as cell_of, IsFull}
-use Rattle.tp_chains.specs.CellsOwnership.{cell_lent}
-use Rattle.tp_chains.proofs.CellsMemory.{Cr, Bs, word_had, full_within, cell_seen}
+-- `get` shows the value of a full cell. Before: a `&` to the cells, which lends each of them. The one at the index is seen,
+-- so its address is in a block, and a `&` to its value is what the cell lends; nothing is given back. Assumes `Logic`.
+use Rattle.tp_chains.proofs.CellWords.{◌≡◌, refl, List, [], ◌∷◌, ◌++◌, Fn, w64, inst_fn, Val, vptr, vint, tables, id⊢, ftrue, fsep, flft}
+use Rattle.tp_chains.proofs.CellWords.{◌⊑◌, ‵, ◌⊛◌, at_ret, ◌$◌, ◌∵◌, !, qed, by, done, move, keep, use1, split, join, rewrite, fsplit}
+use Rattle.tp_chains.proofs.CellWords.{fjoin, feq_i, skip, whole, sub, stop, hop, from, fld, addr, of_opd, first, blocks, exec, returns}
+use Rattle.tp_chains.proofs.CellWords.{alloc_all, pass_all, free_all, look_at, look_in_at, take_at, give_at, get, sets, sets_last, env}
+use Rattle.tp_chains.proofs.CellWords.{Ptr, null_ptr, in_a_block, lent_at, hide, unhide, after, word, word-Good, El, R, args, Some}
+use Rattle.tp_chains.proofs.CellWords.{cell_at, IsFull, cell_lent}
+use Rattle.tp_chains.proofs.CellsMemory.{Cell, full_within, cell_seen}
+use Rattle.tp_chains.proofs.CellSteps.{address_is, kept_in, enters, asked, told}
+use Rattle.tp_chains.proofs.CellCalls.{takes_all}
+use Rattle.tp_chains.specs.contracts.cells.Cells.get.{ended, clauses}
 use Rattle.tp_chains.specs.contracts.cells.Cells.get.Key.{name as #self}
-use Rattle.tp_chains.proofs.cells.Cells.get.Statement as stated
+use Rattle.tp_chains.proofs.cells.Cells.get.Statement.{statement}
 use Rattle.tp_chains.proofs.cells.Cells.get.Code as code
 
-module _ (E : El) where
-  abbrev function : Fn
-  function = inst_fn (args E) code.function
-
-  abbrev ended : Ended
-  ended = record {
-    signature = record {
-      lifetimes = 1;
-      outlives = [];
-      params = RefOf (0 ∷ []) tt (plain (λ _. Cr E)) (λ _. tt) ∷ plain (λ _. Bs E) ∷ plain (λ _. usize) ∷ [];
-      result = RefOf (0 ∷ []) tt (plain (λ _. R E)) (λ _. tt);
-    };
-    kept = (yes, (no, (no, tt)));
-  }
-
-  abbrev stayed : Stays ended.signature.params ended.kept
-  stayed = (stay_dropped (RefOf (0 ∷ []) tt (plain (λ _. Cr E)) (λ _. tt)) yes, (stay_dropped (plain (λ _. Bs E)) no, (stay_dropped (plain (λ _. usize)) no, tt)))
-
-  abbrev Asks : (Cr E).Denot → (Bs E).Denot → (usize).Denot → Type 0
-  Asks d base index = IsFull d.cells index base.ptr
-
-  abbrev Gives0 : (Cr E).Denot → (Bs E).Denot → (usize).Denot → Bor (el_x E) → Type 0
-  Gives0 d base index r = cell_of d.cells index ≡ (base.ptr, Some r.now)
-
-  abbrev spec : {M : Type 1} {𝓤 : Ura M} (𝓛 : Logic 𝓤) → Clauses 𝓤 ended
-  spec {𝓤 = 𝓤} 𝓛 κs a = record { ghost = Unit {0}; requires = λ _. fact 𝓤 (Asks a.0.now a.1.0 a.1.1.0); ensures = λ _ r w. fact 𝓤 (Gives0 a.0.now a.1.0 a.1.1.0 r) }
-
-module _ (E : El) {M : Type 1} {𝓤 : Ura M} (𝓛 : Logic 𝓤) (C : Calls 𝓤 𝓛.H) (Λ : Loops 𝓤 𝓛.H) (κ : Lft) (q : Share) (rb ro : ℕ)
-    (d : (Cr E).Denot) (base : (Bs E).Denot) (index : (usize).Denot) (us0 us1 us2 : List Val) where
-  open 𝓛 use {H, A}
-
-  abbrev self : Bor (Cr E).Denot
-  self = record { ref_ptr = (rb, ro); now = d }
-
-  abbrev bound : (walk_of 𝓛 (ended E) (stayed E) (spec E 𝓛)).Ghost
-  bound = (((κ, tt), (q, tt), tt, (self, (base, (index, tt))), (us0, (us1, (us2, tt)))), tt)
-
-  abbrev Post : Val → SProp 𝓤
-  Post = (walk_of 𝓛 (ended E) (stayed E) (spec E 𝓛)).post bound
-
-  exits : (r : (ShrRef (named 0) κ (R E)).Denot) (v : Val) → Gives0 E d base index r → ent 𝓤 (⋆ 𝓛 (‵ (flft κ q) ∷ ‵ ((ShrRef (named 0) κ (R E)).own_val r (v ∷ [])) ∷ [])) (Post v)
-  exits r v g0 =
-      qed 𝓛 (‵ (flft κ q) ∷ ‵ ((ShrRef (named 0) κ (R E)).own_val r (v ∷ [])) ∷ []) ∵
-      suffices ! _ (ends_at 𝓛 (ended E) (stayed E) (spec E 𝓛) bound v r (tt, (tt, (tt, tt))) (tt, (tt, (tt, tt)))) $ says ! g0 $
-      nothing ! $ move ! (1 ∷ 0 ∷ []) $ join ! $ frame ! $ nothing ! $ nothing ! $ fjoin ! $ nothing ! $ fjoin ! $ nothing ! $ fjoin ! $ done !
-
-  abbrev Had : List (Item 𝓤)
-  Had = ‵ (hidden_shr (Cr E) κ d rb ro) ∷ ‵ (flft κ q) ∷ []
-
-  walk : Asks E d base index → index < 2 ^ 64 → ent 𝓤 (⋆ 𝓛 Had) (WpFn 𝓤 H C Λ (function E) (vptr rb ro ∷ word base.ptr ∷ vint w64 index ∷ []) Post)
-  walk asked fits_index =
-      let x = asked.0 in let within = full_within d.cells index base.ptr x asked.1 in
-      qed 𝓛 Had ∵ enter ! C Λ (function E) (vptr rb ro ∷ word base.ptr ∷ vint w64 index ∷ []) _ $ alloc_all ! (λ l. pass_all ! refl ((tt, tt), (word-Good [] base.ptr, ((tt, record { fits = fits_index }), tt))) $
-      let En : Env 𝓤 H = env (function E).locals l in
-      unhide ! $ fsplit ! $ drop ! $
-      use1 𝓛 (‵ (cell_lent (R E) (cell_of d.cells index).0 (cell_of d.cells index).1 κ)) (cell_seen E 𝓛 κ d.cells index within) $
-      rewrite ! 0 (λ (c : Ptr × Option (el_x E)). ‵ (cell_lent (R E) c.0 c.1 κ)) asked.1 refl $
-      in_a_block ! base.ptr (λ p. lent_at (R E) p x κ) (qed 𝓛 (‵ (lent_at (R E) null_ptr x κ) ∷ []) ∵ fsplit ! $ keep ! (0 ∷ []) $ done !) (λ b o e.
-      take_at ! 2 $ rewrite ! 0 (λ (p : Ptr). ‵ (fat full_share (layout (Bs E)) (l 2) 0 (word p))) e refl $ give_at ! 2 $ first ! $ blocks ! $
-      sets_last ! (addr ! (from ! (fld ! refl (hop ! (look_in_at ! 2 (sub ! 0 refl (whole !))) (stop !))))) refl (tt, tt) $ exec ! C Λ En (after 1 (function E).body) (at_ret En Post) $ sets ! (of_opd ! (get ! refl)) refl (tt, tt) $
-      fsplit ! $ drop ! $ hide ! $ feq_i ! (List Val) (vptr b o ∷ []) (vptr b o ∷ []) refl $ fjoin ! $
-      returns ! (look_at ! 0 refl) $ free_all ! refl $ keep ! (1 ∷ 0 ∷ []) $ by ! (exits (record { ref_ptr = (b, o); now = x }) (vptr b o) asked.1)))
-
-  entry : Asks E d base index → ent 𝓤 (on_entry 𝓛 (ended E).signature (κ, tt) (q, tt) (self, (base, (index, tt))) (us0, (us1, (us2, tt)))) (WpFn 𝓤 H C Λ (function E) (us0 ++ (us1 ++ (us2 ++ []))) Post)
-  entry asked =
-      qed 𝓛 ((‵ (flft κ q) ⊛ ‵ ftrue) ∷ ‵ (owns (ShrRef (named 0) κ (Cr E) ∷ Bs E ∷ usize ∷ []) (self, (base, (index, tt))) (us0, (us1, (us2, tt)))) ∷ []) ∵
-      split ! $ move ! (2 ∷ []) $
-      fsplit ! $
-      fsplit ! $ feq_l ! (λ e0.
-      move ! (1 ∷ []) $
-      fsplit ! $
-      word_had ! base.ptr us1 (λ e1.
-      fsplit ! $
-      fsplit ! $ feq_l ! (λ e2. flt_l ! (λ fits_index.
-      keep ! (1 ∷ 2 ∷ []) $
-      by ! (subst (λ (ws : List Val × List Val × List Val). ent 𝓤 (⋆ 𝓛 Had) (WpFn 𝓤 H C Λ (function E) (ws.0 ++ (ws.1 ++ (ws.2 ++ []))) Post)) (λ j. (sym e0 j, sym e1 j, sym e2 j)) (walk asked fits_index))))))
-
-meets : (E : El) {M : Type 1} {𝓤 : Ura M} (𝓛 : Logic 𝓤) (𝓣 : Tables 𝓤 𝓛.H)
-    → Meets 𝓛 (ended E).signature (WpFn 𝓤 𝓛.H 𝓣.C 𝓣.Λ (function E)) (closing 𝓛 (ended E) (spec E 𝓛))
-meets E {𝓤 = 𝓤} 𝓛 𝓣 =
-    walk_Meets 𝓛 (ended E) (stayed E) (
-      Goes-dropped 𝓛 1 (RefOf (0
-          ∷ []) tt (plain (λ _. Cr E)) (λ _. tt)) yes (λ κs x f. refl),
-      (
-        Goes-dropped 𝓛 1 (plain (λ _. Bs E)) no (λ κs x f. refl),
-        (
-          Goes-dropped 𝓛 1 (plain (λ _. usize)) no (λ κs x f. refl),
-          tt,
-        ),
-      ),
-    ) (spec E 𝓛) (WpFn 𝓤 𝓛.H 𝓣.C 𝓣.Λ (function E)) (WpFn-mono 𝓤 𝓛.H 𝓛.laws 𝓣 (function E))
-    (λ z. needs 𝓤 (Asks E z.0.3.0.now z.0.3.1.0 z.0.3.1.1.0) _ (entry E 𝓛 𝓣.C 𝓣.Λ z.0.0.0 z.0.1.0 z.0.3.0.ref_ptr.0 z.0.3.0.ref_ptr.1 z.0.3.0.now z.0.3.1.0 z.0.3.1.1.0 z.0.4.0 z.0.4.1.0 z.0.4.1.1.0))
-
-pub get_spec : {M : Type 1} → stated.statement M
-unfolding tables_of
-get_spec 𝓤 𝓛 𝓜 𝓡 wired X LX y =
+pub get_spec : {M : Type 1} → statement M
+get_spec 𝓤 𝓛 𝓜 𝓡 wired X LX =
     let E : El = record { row = X; laws = LX } in
-    let 𝓣 : Tables 𝓤 𝓛.H = tables_of 𝓤 𝓛.H 𝓜 (tables 𝓤 𝓛.H 𝓜 𝓡 𝓡.env) in
-    let k = #self (args E) in
-    spared 𝓛 (ended E).signature (𝓡.run (𝓡.env k)) (run_framed 𝓤 𝓛.H 𝓜 𝓡 (𝓡.env k)) 1 (X.lives, tt) (closing 𝓛 (ended E) (spec E 𝓛))
-    (entered 𝓤 𝓛.H (triple_of 𝓛 (ended E).signature (closing 𝓛 (ended E) (spec E 𝓛))) 𝓣.C 𝓣.Λ k (function E) (code.unfolded 𝓤 𝓛.H 𝓜 𝓡 wired (X, tt)) (meets E 𝓛 𝓣))
-    ((y.0.0, y.0.1, tt, y.0.3, y.0.4), y.1)
+    let fn : Fn = inst_fn (args E) code.function in
+    let 𝓣 = tables 𝓤 𝓛.H 𝓜 𝓡 𝓡.env in
+    takes_all 𝓛 (ended X) (clauses X 𝓛 𝓜.mem 𝓡.returns) 𝓜 𝓡 (λ κs x f. tt, (λ κs x f. tt, (λ κs x f. tt, tt)))
+    (#self (args E)) fn (code.unfolded 𝓤 𝓛.H 𝓜 𝓡 wired (X, tt)) (λ κs qs bounds a vss g are Post ends.
+    let κ = κs.0 in let r = a.0 in let d = r.now in let p : Ptr = a.1.0.ptr in let i = a.1.1.0 in
+    -- [the tokens; what the arguments own; the `requires`]
+    move ! (2 ∷ []) $ asked ! (κs.1.0 ⊑ X.lives) (IsFull d.cells i p) (λ full.
+    let x = full.0 in let within = full_within d.cells i p x full.1 in
+    use1 𝓛 (‵ (flft κ qs.0) ⊛ ‵ (fsep (flft κs.1.0 qs.1.0) ftrue)) (id⊢ 𝓤 _) $ split ! $
+    move ! (2 ∷ []) $ fsplit ! $ fsplit ! $ keep ! (1 ∷ 3 ∷ 4 ∷ []) $
+    enters ! 𝓣.C 𝓣.Λ fn (vptr r.ref_ptr.0 r.ref_ptr.1 ∷ word p ∷ vint w64 i ∷ []) Post
+    (λ j. are.0.0 j ++ (address_is E a.1.0 vss.1.0 are.1.0 j ++ (are.1.1.0.0 j ++ []))) $
+    alloc_all ! (λ l. pass_all ! refl ((tt, tt), (word-Good [] p, ((tt, record { fits = are.1.1.0.1 }), tt))) $
+    let N = env fn.locals l in
+    -- [the `&` to the cells; its token; the type's token]
+    unhide ! $ fsplit ! $ skip ! $
+    use1 𝓛 (‵ (cell_lent (R E) (cell_at d.cells i).0 (cell_at d.cells i).1 κ)) (cell_seen E 𝓛 κ d.cells i within) $
+    rewrite ! 0 (λ (c : Cell E). ‵ (cell_lent (R E) c.0 c.1 κ)) full.1 refl $
+    in_a_block ! p (λ h. lent_at (R E) h x κ) (qed 𝓛 (‵ (lent_at (R E) null_ptr x κ) ∷ []) ∵ fsplit ! $ keep ! (0 ∷ []) $ done !) (λ b o e.
+    take_at ! 2 $ rewrite ! 0 (λ (h : Ptr). ‵ (kept_in E (l 2) h)) e refl $ give_at ! 2 $ first ! $ blocks ! $
+    sets_last ! (addr ! (from ! (fld ! refl (hop ! (look_in_at ! 2 (sub ! 0 refl (whole !))) (stop !))))) refl (tt, tt) $
+    exec ! 𝓣.C 𝓣.Λ N (after 1 fn.body) (at_ret N Post) $ sets ! (of_opd ! (get ! refl)) refl (tt, tt) $
+    fsplit ! $ skip ! $ hide ! $ feq_i ! (List Val) (vptr b o ∷ []) (vptr b o ∷ []) refl $ fjoin ! $
+    returns ! (look_at ! 0 refl) $ free_all ! refl $
+    -- [a `&` to the value; the tokens]
+    told ! (cell_at d.cells i ≡ (p, Some x)) full.1 $ move ! (2 ∷ 3 ∷ []) $ join ! $ keep ! (0 ∷ 2 ∷ 1 ∷ []) $
+    by ! (ends (vptr b o) (record { ref_ptr = (b, o); now = x }) (tt, (tt, (tt, tt))))))))

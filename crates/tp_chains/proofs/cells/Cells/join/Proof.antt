@@ -1,119 +1,32 @@
--- `write` fills an empty place. Assumes `Logic`.
-use mathlib.Core.Path.{◌≡◌, refl, sym, subst}
-use Prim.Native.Nat.{ℕ}
-use mathlib.Core.List.{List, [], ◌∷◌, ◌++◌}
-use seplogic.Ra.Ura.{Ura}
-use mir.Syntax.{Fn, named}
-use mir.MapTy.{inst_fn}
-use mir.Val.{Val, vptr, vunit}
-use Rattle.std.proofs.alloc.Calls.{Goes-blank}
-use base.Logic.{emp, SProp, ent, via, fst∗}
-use base.Fml.{Lft, GName, Share, ftrue, flft, fobs, fbor}
-use prog.Wp.{Env, Calls, Loops, WpFn, Tables}
-use types.Logic.{Logic}
-use contract.Monad.{fact}
-use contract.Running.{tables, tables_of}
-use sound.WpLaws.{WpFn-mono}
-use types.Kit.{Item, ⋆, ‵, ◌⊛◌, ◌$◌, ◌∵◌, !, qed, by, move, keep, use2, split, join, fsplit, fsplit3, fjoin, fjoin3, feq_i, feq_l, suffices, frame, done}
-use types.Run.{unit_lit, of_opd, returns, enter}
-use types.ByLocal.{alloc_all, pass_all, free_all, look_at, sets, env}
-use types.SemTy.{Body as Borrowed}
-use denote.Exit.{yes, no}
-use denote.RattleType.{owns}
-use denote.Memory.{mem}
-use denote.Ref.{MutBor, MutRef}
-use denote.Builtin.{RefMutOf, unit}
-use denote.Signature.{plain}
-use denote.Steps.{nothing, opens, closes}
-use denote.Triple.Carry.{spared}
-use denote.Triple.Clauses.{Clauses, Ended, closing}
-use denote.Triple.Entry.{on_entry}
-use denote.Triple.Spec.{Meets, triple_of}
-use denote.Triple.Table.{entered, run_framed}
-use denote.Triple.Walked.{says, Stays, stay_dropped, stay_ref, walk_of, ends_at, Goes-ref, walk_Meets}
-use Rattle.std.proofs.mem.Param.{El, R, args}
-use Rattle.tp_chains.specs.CellsOwnership.{cells_own}
-use Rattle.tp_chains.proofs.CellsMemory.{Cr, mark, mark_had, cells_glue}
+-- `join` takes over the cells of another owner. Before: the borrow of the cells, and the other ones. No memory is touched:
+-- both lists are owned, so their concatenation is, and the borrow is closed at it. Assumes `Logic`.
+use Rattle.tp_chains.proofs.CellWords.{◌≡◌, refl, List, [], ◌∷◌, ◌++◌, Fn, inst_fn, Val, vptr, vunit, tables, ‵, ◌$◌, !, by, move, keep}
+use Rattle.tp_chains.proofs.CellWords.{use2, fsplit, feq_i, unit_lit, of_opd, returns, alloc_all, pass_all, free_all, look_at, sets, unit}
+use Rattle.tp_chains.proofs.CellWords.{plain, El, R, args, cells_own, with_cells}
+use Rattle.tp_chains.proofs.CellsMemory.{Cr, mark, cells_glue}
+use Rattle.tp_chains.proofs.CellSteps.{owner_is, enters, told, cells_opened, cells_closed}
+use Rattle.tp_chains.proofs.CellCalls.{gives_back}
+use Rattle.tp_chains.specs.contracts.cells.Cells.join.{ended, clauses}
 use Rattle.tp_chains.specs.contracts.cells.Cells.join.Key.{name as #self}
-use Rattle.tp_chains.proofs.cells.Cells.join.Statement as stated
+use Rattle.tp_chains.proofs.cells.Cells.join.Statement.{statement}
 use Rattle.tp_chains.proofs.cells.Cells.join.Code as code
 
-module _ (E : El) where
-  abbrev function : Fn
-  function = inst_fn (args E) code.function
-
-  abbrev ended : Ended
-  ended = record { signature = record { lifetimes = 1; outlives = []; params = RefMutOf (0 ∷ []) tt (plain (λ _. Cr E)) (λ _. tt) ∷ plain (λ _. Cr E) ∷ []; result = plain (λ _. unit) }; kept = (yes, (no, tt)) }
-
-  abbrev stayed : Stays ended.signature.params ended.kept
-  stayed = (stay_ref (0 ∷ []) tt (plain (λ _. Cr E)), (stay_dropped (plain (λ _. Cr E)) no, tt))
-
-  abbrev Gives0 : (Cr E).Denot → (Cr E).Denot → (unit).Denot → (Cr E).Denot → Type 0
-  Gives0 d other r new = new.cells ≡ d.cells ++ other.cells
-
-  abbrev spec : {M : Type 1} {𝓤 : Ura M} (𝓛 : Logic 𝓤) → Clauses 𝓤 ended
-  spec {𝓤 = 𝓤} 𝓛 κs a = record { ghost = Unit {0}; requires = λ _. emp 𝓤; ensures = λ _ r w. fact 𝓤 (Gives0 a.0.now a.1.0 r w.0.now) }
-
-module _ (E : El) {M : Type 1} {𝓤 : Ura M} (𝓛 : Logic 𝓤) (C : Calls 𝓤 𝓛.H) (Λ : Loops 𝓤 𝓛.H) (κ : Lft) (q : Share) (rb ro : ℕ) (γ : GName) (d : (Cr E).Denot) (other : (Cr E).Denot) (us0 us1 : List Val) where
-  open 𝓛 use {H, A}
-
-  abbrev self : MutBor (Cr E).Denot
-  self = record { ref_ptr = (rb, ro); ghost_name = γ; now = d }
-
-  abbrev bound : (walk_of 𝓛 (ended E) (stayed E) (spec E 𝓛)).Ghost
-  bound = (((κ, tt), (q, tt), tt, (self, (other, tt)), (us0, (us1, tt))), tt)
-
-  abbrev Post : Val → SProp 𝓤
-  Post = (walk_of 𝓛 (ended E) (stayed E) (spec E 𝓛)).post bound
-
-  exits : us0 ≡ vptr rb ro ∷ [] → (r : (unit).Denot) (v : Val) (new : (Cr E).Denot) → Gives0 E d other r new
-      → ent 𝓤 (⋆ 𝓛 (‵ (fobs γ ((Cr E).coded.code new)) ∷ ‵ (fbor κ (Borrowed (mem (Cr E)) rb ro γ)) ∷ ‵ (flft κ q) ∷ ‵ ((unit).own_val r (v ∷ [])) ∷ [])) (Post v)
-  exits passed r v new g0 =
-      qed 𝓛 (‵ (fobs γ ((Cr E).coded.code new)) ∷ ‵ (fbor κ (Borrowed (mem (Cr E)) rb ro γ)) ∷ ‵ (flft κ q) ∷ ‵ ((unit).own_val r (v ∷ [])) ∷ []) ∵
-      suffices ! _ (ends_at 𝓛 (ended E) (stayed E) (spec E 𝓛) bound v r (new, (tt, tt)) (tt, (tt, tt))) $ says ! g0 $
-      nothing ! $ move ! (3 ∷ 0 ∷ []) $ join ! $ frame ! $ feq_i ! (List Val) us0 (vptr rb ro ∷ []) passed $ fjoin3 ! $ nothing ! $ nothing ! $ fjoin ! $ move ! (1 ∷ 0 ∷ []) $ fjoin ! $ done !
-
-  abbrev Had : List (Item 𝓤)
-  Had = ‵ (fobs γ ((Cr E).coded.code d)) ∷ ‵ (fbor κ (Borrowed (mem (Cr E)) rb ro γ)) ∷ ‵ (flft κ q) ∷ ‵ (cells_own (R E) other.cells) ∷ []
-
-  walk : us0 ≡ vptr rb ro ∷ [] → ent 𝓤 (⋆ 𝓛 Had) (WpFn 𝓤 H C Λ (function E) (vptr rb ro ∷ mark ∷ []) Post)
-  walk passed =
-      let new : (Cr E).Denot = record { mark = d.mark; cells = d.cells ++ other.cells } in
-      qed 𝓛 Had ∵ enter ! C Λ (function E) (vptr rb ro ∷ mark ∷ []) _ $ alloc_all ! (λ l. pass_all ! refl ((tt, tt), ((tt, (tt, tt)), tt)) $
-      let En : Env 𝓤 H = env (function E).locals l in
-      sets ! (of_opd ! (unit_lit !)) refl (tt, tt) $
-      opens ! tt (Cr E) {h = d} rb ro (λ vs. move ! (1 ∷ []) $ fsplit ! $ move ! (1 ∷ []) $
-      -- [the cells; the mark; its cell; the open borrow; obs; auth; the other cells]
-      move ! (0 ∷ 6 ∷ []) $ use2 𝓛 (‵ (cells_own (R E) new.cells)) (cells_glue E 𝓛 d.cells other.cells) $
-      move ! (1 ∷ 0 ∷ []) $ fjoin ! $ move ! (1 ∷ 0 ∷ []) $ closes ! tt (Cr E) new vs rb ro $
-      returns ! (look_at ! 0 refl) $ free_all ! refl $ keep ! (0 ∷ 1 ∷ 2 ∷ []) $ feq_i ! (List Val) (vunit ∷ []) (vunit ∷ []) refl $ move ! (1 ∷ 2 ∷ 3 ∷ 0 ∷ []) $
-      by ! (exits passed tt vunit new refl)))
-
-  entry : ent 𝓤 (on_entry 𝓛 (ended E).signature (κ, tt) (q, tt) (self, (other, tt)) (us0, (us1, tt))) (WpFn 𝓤 H C Λ (function E) (us0 ++ (us1 ++ [])) Post)
-  entry =
-      qed 𝓛 ((‵ (flft κ q) ⊛ ‵ ftrue) ∷ ‵ (owns (MutRef (named 0) κ (Cr E) ∷ Cr E ∷ []) (self, (other, tt)) (us0, (us1, tt))) ∷ []) ∵
-      split ! $ move ! (2 ∷ []) $
-      fsplit ! $
-      fsplit3 ! $ feq_l ! (λ e0.
-      move ! (2 ∷ []) $
-      fsplit ! $ fsplit ! $ mark_had ! E us1 (λ e1.
-      keep ! (2 ∷ 3 ∷ 4 ∷ 0 ∷ []) $
-      by ! (subst (λ (ws : List Val × List Val). ent 𝓤 (⋆ 𝓛 Had) (WpFn 𝓤 H C Λ (function E) (ws.0 ++ (ws.1 ++ [])) Post)) (λ j. (sym e0 j, sym e1 j)) (walk e0))))
-
-meets : (E : El) {M : Type 1} {𝓤 : Ura M} (𝓛 : Logic 𝓤) (𝓣 : Tables 𝓤 𝓛.H)
-    → Meets 𝓛 (ended E).signature (WpFn 𝓤 𝓛.H 𝓣.C 𝓣.Λ (function E)) (closing 𝓛 (ended E) (spec E 𝓛))
-meets E {𝓤 = 𝓤} 𝓛 𝓣 =
-    walk_Meets 𝓛 (ended E) (stayed E) (Goes-ref 𝓛 1 0 tt (plain (λ _. Cr E)), (Goes-blank 𝓛 1 (plain (λ _. Cr E)) no (λ κs x f. tt), tt))
-    (spec E 𝓛) (WpFn 𝓤 𝓛.H 𝓣.C 𝓣.Λ (function E)) (WpFn-mono 𝓤 𝓛.H 𝓛.laws 𝓣 (function E))
-    (λ z. let On : SProp 𝓤 = on_entry 𝓛 (ended E).signature z.0.0 z.0.1 z.0.3 z.0.4 in via 𝓤 On (fst∗ 𝓤 On (emp 𝓤))
-    (entry E 𝓛 𝓣.C 𝓣.Λ z.0.0.0 z.0.1.0 z.0.3.0.ref_ptr.0 z.0.3.0.ref_ptr.1 z.0.3.0.ghost_name z.0.3.0.now z.0.3.1.0 z.0.4.0 z.0.4.1.0))
-
-pub join_spec : {M : Type 1} → stated.statement M
-unfolding tables_of
-join_spec 𝓤 𝓛 𝓜 𝓡 wired X LX y =
+pub join_spec : {M : Type 1} → statement M
+join_spec 𝓤 𝓛 𝓜 𝓡 wired X LX =
     let E : El = record { row = X; laws = LX } in
-    let 𝓣 : Tables 𝓤 𝓛.H = tables_of 𝓤 𝓛.H 𝓜 (tables 𝓤 𝓛.H 𝓜 𝓡 𝓡.env) in
-    let k = #self (args E) in
-    spared 𝓛 (ended E).signature (𝓡.run (𝓡.env k)) (run_framed 𝓤 𝓛.H 𝓜 𝓡 (𝓡.env k)) 1 (X.lives, tt) (closing 𝓛 (ended E) (spec E 𝓛))
-    (entered 𝓤 𝓛.H (triple_of 𝓛 (ended E).signature (closing 𝓛 (ended E) (spec E 𝓛))) 𝓣.C 𝓣.Λ k (function E) (code.unfolded 𝓤 𝓛.H 𝓜 𝓡 wired (X, tt)) (meets E 𝓛 𝓣))
-    ((y.0.0, y.0.1, tt, y.0.3, y.0.4), y.1)
+    let fn : Fn = inst_fn (args E) code.function in
+    let 𝓣 = tables 𝓤 𝓛.H 𝓜 𝓡 𝓡.env in
+    let T = ended X in
+    gives_back E T.signature.outlives (plain (λ _. Cr E) ∷ []) T.kept.1 (plain (λ _. unit))
+    𝓛 (clauses X 𝓛 𝓜.mem 𝓡.returns) 𝓜 𝓡 (λ κs x f. tt, tt)
+    (#self (args E)) fn (code.unfolded 𝓤 𝓛.H 𝓜 𝓡 wired (X, tt)) (λ κs qs a vss g passed are Post ends.
+    let r = a.0 in let d = r.now in let other = a.1.0 in let cells = d.cells ++ other.cells in
+    -- [the borrow, in three entries; the type's token; what the other owner owns; the `requires`]
+    move ! (4 ∷ []) $ fsplit ! $ fsplit ! $ keep ! (3 ∷ 4 ∷ 5 ∷ 1 ∷ 6 ∷ []) $
+    enters ! 𝓣.C 𝓣.Λ fn (vptr r.ref_ptr.0 r.ref_ptr.1 ∷ mark ∷ []) Post (λ j. passed j ++ (owner_is E vss.1.0 are.0.0 j ++ [])) $
+    alloc_all ! (λ l. pass_all ! refl ((tt, tt), ((tt, (tt, tt)), tt)) $ sets ! (of_opd ! (unit_lit !)) refl (tt, tt) $
+    cells_opened E r ! tt d (λ vs.
+    -- [the cells; the open borrow, in five entries; the other cells; the type's token]
+    move ! (0 ∷ 6 ∷ []) $ use2 𝓛 (‵ (cells_own (R E) cells)) (cells_glue E 𝓛 d.cells other.cells) $ cells_closed E r ! tt d cells vs $
+    returns ! (look_at ! 0 refl) $ free_all ! refl $ told ! (cells ≡ cells) refl $ feq_i ! (List Val) (vunit ∷ []) (vunit ∷ []) refl $
+    keep ! (2 ∷ 3 ∷ 4 ∷ 5 ∷ 0 ∷ 1 ∷ []) $ by ! (ends vunit tt (with_cells d cells) (tt, tt)))))

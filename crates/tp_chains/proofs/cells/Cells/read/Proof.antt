@@ -1,163 +1,47 @@
--- `read` moves a value out, and its place is empty. Assumes `Logic`.
-use mathlib.Core.Path.{◌≡◌, refl, sym, subst}
-use Prim.Native.Nat.{ℕ, ◌<◌, ◌^◌}
-use mathlib.Core.List.{List, [], ◌∷◌, ◌++◌}
-use seplogic.Ra.Ura.{Ura}
-use base.Fraction.{full_share}
-use mir.Syntax.{Fn, named, w64}
-use mir.MapTy.{inst_fn}
-use mir.Val.{Val, vptr, vint}
-use base.Logic.{SProp, ent, sep, never, id⊢}
-use base.Fml.{Lft, GName, Share, ftrue, fat, froom, flft, fobs, fbor}
-use prog.Wp.{Env, Calls, Loops, WpFn, Tables}
-use types.Logic.{Logic}
-use contract.Monad.{fact}
-use contract.Running.{tables, tables_of}
-use sound.WpLaws.{WpFn-mono}
-use types.Kit.{Item, ⋆, ‵, ◌⊛◌, some, given, pick, learn, at_ret, ◌$◌, ◌∵◌, !, qed, by, move, keep, use1, use2, split, join, rewrite, fsplit, fsplit3, fjoin, fjoin3, feq_i, feq_l, suffices, frame, done}
-use types.Part.{whole, sub}
-use types.Run.{hop, from, look, stop, fld, load, of_opd, first, blocks, exec, returns, enter}
-use types.ByLocal.{look_in_at, alloc_all, pass_all, free_all, look_at, get, sets, sets_last, env}
-use types.SemTy.{Body as Borrowed}
-use denote.Exit.{yes, no}
-use denote.RattleType.{owns}
-use denote.Memory.{mem}
-use denote.Param.{layout}
-use denote.RawPtr.{Ptr, in_a_block, lies_at}
-use denote.Ref.{MutBor, MutRef}
-use denote.Builtin.{RefMutOf}
-use denote.Signature.{plain}
-use denote.Steps.{nothing, opens, closes}
-use denote.Triple.Carry.{spared}
-use denote.Triple.Clauses.{Clauses, Ended, closing}
-use denote.Triple.Entry.{on_entry}
-use denote.Triple.Spec.{Meets, triple_of}
-use denote.Triple.Table.{entered, run_framed}
-use denote.Triple.Walked.{needs, Stays, stay_dropped, stay_ref, walk_of, ends_at, Goes-dropped, Goes-ref, walk_Meets}
-use Rattle.std.proofs.VecSteps.Shapes.{after}
-use Rattle.std.proofs.RcSteps.{Good, word, word-Good}
-use lib.ListN.{set}
-use types.Kit.{flt_l}
-use types.ByLocal.{take_at, give_at}
-use denote.Builtin.{usize}
-use Rattle.std.specs.Prelude.{Option, Some, None}
-use Rattle.std.proofs.mem.Param.{El, R, args, elτ, el_x}
-use Rattle.std.proofs.RawLayout.{as_raw}
-use Rattle.tp_chains.specs.Cells.{cell_at as cell_of, IsFull}
-use Rattle.tp_chains.specs.CellsOwnership.{cell_owns, cells_own}
-use Rattle.tp_chains.proofs.CellsMemory.{Cr, Bs, One, word_had, full_within, Besides, cell_out, cell_in, value_out, says_both}
+-- `read` moves the value out of a full cell. Before: the borrow of the cells. The raw read gives the value, and leaves the
+-- cell's room; so the cell goes back into the list empty, and the borrow is closed. Assumes `Logic`.
+use Rattle.tp_chains.proofs.CellWords.{◌≡◌, refl, sym, [], ◌∷◌, ◌++◌, set, Fn, w64, inst_fn, Val, vptr, vint, tables, full_share, never}
+use Rattle.tp_chains.proofs.CellWords.{id⊢, fat, froom, ◌⊑◌, ‵, ◌⊛◌, some, given, at_ret, ◌$◌, !, by, move, keep, use1, split, rewrite}
+use Rattle.tp_chains.proofs.CellWords.{pick, learn, whole, sub, stop, hop, from, fld, look, load, of_opd, first, blocks, exec, returns}
+use Rattle.tp_chains.proofs.CellWords.{alloc_all, pass_all, free_all, look_at, look_in_at, take_at, give_at, get, sets, sets_last, env}
+use Rattle.tp_chains.proofs.CellWords.{Ptr, in_a_block, lies_at, usize, plain, after, word, word-Good, as_raw, El, R, args, elτ, Good}
+use Rattle.tp_chains.proofs.CellWords.{Some, None, cell_at, IsFull, cell_owns, with_cells}
+use Rattle.tp_chains.proofs.CellsMemory.{Bs, full_within, value_out}
+use Rattle.tp_chains.proofs.CellSteps.{address_is, kept_in, enters, asked, told_both, cell_opened, cell_closed}
+use Rattle.tp_chains.proofs.CellCalls.{gives_back}
+use Rattle.tp_chains.specs.contracts.cells.Cells.read.{ended, clauses}
 use Rattle.tp_chains.specs.contracts.cells.Cells.read.Key.{name as #self}
-use Rattle.tp_chains.proofs.cells.Cells.read.Statement as stated
+use Rattle.tp_chains.proofs.cells.Cells.read.Statement.{statement}
 use Rattle.tp_chains.proofs.cells.Cells.read.Code as code
 
-module _ (E : El) where
-  abbrev function : Fn
-  function = inst_fn (args E) code.function
-
-  abbrev ended : Ended
-  ended = record {
-    signature = record {
-      lifetimes = 1;
-      outlives = [];
-      params = RefMutOf (0 ∷ []) tt (plain (λ _. Cr E)) (λ _. tt) ∷ plain (λ _. Bs E) ∷ plain (λ _. usize) ∷ [];
-      result = plain (λ _. R E);
-    };
-    kept = (yes, (no, (no, tt)));
-  }
-
-  abbrev stayed : Stays ended.signature.params ended.kept
-  stayed = (stay_ref (0 ∷ []) tt (plain (λ _. Cr E)), (stay_dropped (plain (λ _. Bs E)) no, (stay_dropped (plain (λ _. usize)) no, tt)))
-
-  abbrev Asks : (Cr E).Denot → (Bs E).Denot → (usize).Denot → Type 0
-  Asks d base index = IsFull d.cells index base.ptr
-
-  abbrev Gives0 : (Cr E).Denot → (Bs E).Denot → (usize).Denot → (R E).Denot → (Cr E).Denot → Type 0
-  Gives0 d base index r new = cell_of d.cells index ≡ (base.ptr, Some r)
-
-  abbrev Gives1 : (Cr E).Denot → (Bs E).Denot → (usize).Denot → (R E).Denot → (Cr E).Denot → Type 0
-  Gives1 d base index r new = new.cells ≡ set d.cells index (base.ptr, None)
-
-  abbrev spec : {M : Type 1} {𝓤 : Ura M} (𝓛 : Logic 𝓤) → Clauses 𝓤 ended
-  spec {𝓤 = 𝓤} 𝓛 κs a = record {
-    ghost = Unit {0};
-    requires = λ _. fact 𝓤 (Asks a.0.now a.1.0 a.1.1.0);
-    ensures = λ _ r w. sep 𝓤 (fact 𝓤 (Gives0 a.0.now a.1.0 a.1.1.0 r w.0.now)) (fact 𝓤 (Gives1 a.0.now a.1.0 a.1.1.0 r w.0.now));
-  }
-
-module _ (E : El) {M : Type 1} {𝓤 : Ura M} (𝓛 : Logic 𝓤) (C : Calls 𝓤 𝓛.H) (Λ : Loops 𝓤 𝓛.H) (κ : Lft) (q : Share) (rb ro : ℕ) (γ : GName)
-    (d : (Cr E).Denot) (base : (Bs E).Denot) (index : (usize).Denot) (us0 us1 us2 : List Val) where
-  open 𝓛 use {H, A}
-
-  abbrev self : MutBor (Cr E).Denot
-  self = record { ref_ptr = (rb, ro); ghost_name = γ; now = d }
-
-  abbrev bound : (walk_of 𝓛 (ended E) (stayed E) (spec E 𝓛)).Ghost
-  bound = (((κ, tt), (q, tt), tt, (self, (base, (index, tt))), (us0, (us1, (us2, tt)))), tt)
-
-  abbrev Post : Val → SProp 𝓤
-  Post = (walk_of 𝓛 (ended E) (stayed E) (spec E 𝓛)).post bound
-
-  exits : us0 ≡ vptr rb ro ∷ [] → (r : (R E).Denot) (v : Val) (new : (Cr E).Denot) → Gives0 E d base index r new → Gives1 E d base index r new
-      → ent 𝓤 (⋆ 𝓛 (‵ (fobs γ ((Cr E).coded.code new)) ∷ ‵ (fbor κ (Borrowed (mem (Cr E)) rb ro γ)) ∷ ‵ (flft κ q) ∷ ‵ ((R E).own_val r (v ∷ [])) ∷ [])) (Post v)
-  exits passed r v new g0 g1 =
-      qed 𝓛 (‵ (fobs γ ((Cr E).coded.code new)) ∷ ‵ (fbor κ (Borrowed (mem (Cr E)) rb ro γ)) ∷ ‵ (flft κ q) ∷ ‵ ((R E).own_val r (v ∷ [])) ∷ []) ∵
-      suffices ! _ (ends_at 𝓛 (ended E) (stayed E) (spec E 𝓛) bound v r (new, (tt, (tt, tt))) (tt, (tt, (tt, tt)))) $ says_both ! g0 g1 $
-      nothing ! $ move ! (3 ∷ 0 ∷ []) $ join ! $ frame ! $ feq_i ! (List Val) us0 (vptr rb ro ∷ []) passed $ fjoin3 ! $ nothing ! $ nothing ! $ fjoin ! $ nothing ! $ fjoin ! $ move ! (1 ∷ 0 ∷ []) $ fjoin ! $ done !
-
-  abbrev Had : List (Item 𝓤)
-  Had = ‵ (fobs γ ((Cr E).coded.code d)) ∷ ‵ (fbor κ (Borrowed (mem (Cr E)) rb ro γ)) ∷ ‵ (flft κ q) ∷ []
-
-  walk : us0 ≡ vptr rb ro ∷ [] → Asks E d base index → index < 2 ^ 64 → ent 𝓤 (⋆ 𝓛 Had) (WpFn 𝓤 H C Λ (function E) (vptr rb ro ∷ word base.ptr ∷ vint w64 index ∷ []) Post)
-  walk passed asked fits_index =
-      let x = asked.0 in let within = full_within d.cells index base.ptr x asked.1 in
-      let new : (Cr E).Denot = record { mark = d.mark; cells = set d.cells index (base.ptr, None) } in
-      qed 𝓛 Had ∵ enter ! C Λ (function E) (vptr rb ro ∷ word base.ptr ∷ vint w64 index ∷ []) _ $ alloc_all ! (λ l. pass_all ! refl ((tt, tt), (word-Good [] base.ptr, ((tt, record { fits = fits_index }), tt))) $
-      let En : Env 𝓤 H = env (function E).locals l in
-      opens ! tt (Cr E) {h = d} rb ro (λ vs. move ! (1 ∷ []) $ fsplit ! $ move ! (1 ∷ []) $
-      use1 𝓛 (‵ (One E (cell_of d.cells index)) ⊛ ‵ (Besides E d.cells index)) (cell_out E 𝓛 d.cells index within) $ split ! $ rewrite ! 0 (λ (c : Ptr × Option (el_x E)). ‵ (One E c)) asked.1 refl $
-      in_a_block ! base.ptr (λ p. lies_at (R E) full_share p x) (id⊢ 𝓤 (never 𝓤)) (λ b o e.
-      take_at ! 2 $ rewrite ! 0 (λ (p : Ptr). ‵ (fat full_share (layout (Bs E)) (l 2) 0 (word p))) e refl $ give_at ! 2 $ first ! $ blocks ! $
-      use1 𝓛 (some (λ (v : Val). given (Good (elτ E) v) (‵ (fat full_share (elτ E) b o v) ⊛ ‵ (E.row.own_val x (v ∷ []))))) (value_out 0 E.row E.laws 𝓛 x b o) $
-      pick ! (λ v. learn ! (λ good. split ! $ sets_last ! (of_opd ! (load ! (from ! (fld ! refl (hop ! (look_in_at ! 2 (sub ! 0 refl (whole !))) (stop !)))) (look ! 0 refl))) refl good $
-      exec ! C Λ En (after 1 (function E).body) (at_ret En Post) $ sets ! (of_opd ! (get ! refl)) refl good $
-      use1 𝓛 (‵ (froom (elτ E) b o)) (𝓛.laws.at_room (elτ E) b o v) $ as_raw ! (elτ E) b o $
-      rewrite ! 0 (λ (p : Ptr). ‵ (cell_owns (R E) p None)) (sym e) refl $ move ! (0 ∷ 2 ∷ 3 ∷ 4 ∷ 5 ∷ 6 ∷ 7 ∷ []) $
-      use2 𝓛 (‵ (cells_own (R E) new.cells)) (cell_in E 𝓛 d.cells index within (base.ptr, None)) $
-      move ! (1 ∷ 0 ∷ []) $ fjoin ! $ move ! (1 ∷ 0 ∷ []) $ closes ! tt (Cr E) new vs rb ro $
-      returns ! (look_at ! 0 refl) $ free_all ! refl $ keep ! (0 ∷ 1 ∷ 2 ∷ 3 ∷ []) $ by ! (exits passed x v new asked.1 refl))))))
-
-  entry : Asks E d base index → ent 𝓤 (on_entry 𝓛 (ended E).signature (κ, tt) (q, tt) (self, (base, (index, tt))) (us0, (us1, (us2, tt)))) (WpFn 𝓤 H C Λ (function E) (us0 ++ (us1 ++ (us2 ++ []))) Post)
-  entry asked =
-      qed 𝓛 ((‵ (flft κ q) ⊛ ‵ ftrue) ∷ ‵ (owns (MutRef (named 0) κ (Cr E) ∷ Bs E ∷ usize ∷ []) (self, (base, (index, tt))) (us0, (us1, (us2, tt)))) ∷ []) ∵
-      split ! $ move ! (2 ∷ []) $
-      fsplit ! $
-      fsplit3 ! $ feq_l ! (λ e0.
-      move ! (2 ∷ []) $
-      fsplit ! $
-      word_had ! base.ptr us1 (λ e1.
-      fsplit ! $
-      fsplit ! $ feq_l ! (λ e2. flt_l ! (λ fits_index.
-      keep ! (1 ∷ 2 ∷ 3 ∷ []) $
-      by ! (subst (λ (ws : List Val × List Val × List Val). ent 𝓤 (⋆ 𝓛 Had) (WpFn 𝓤 H C Λ (function E) (ws.0 ++ (ws.1 ++ (ws.2 ++ []))) Post)) (λ j. (sym e0 j, sym e1 j, sym e2 j)) (walk e0 asked fits_index))))))
-
-meets : (E : El) {M : Type 1} {𝓤 : Ura M} (𝓛 : Logic 𝓤) (𝓣 : Tables 𝓤 𝓛.H)
-    → Meets 𝓛 (ended E).signature (WpFn 𝓤 𝓛.H 𝓣.C 𝓣.Λ (function E)) (closing 𝓛 (ended E) (spec E 𝓛))
-meets E {𝓤 = 𝓤} 𝓛 𝓣 =
-    walk_Meets 𝓛 (ended E) (stayed E) (
-      Goes-ref 𝓛 1 0 tt (plain (λ _. Cr E)),
-      (
-        Goes-dropped 𝓛 1 (plain (λ _. Bs E)) no (λ κs x f. refl),
-        (Goes-dropped 𝓛 1 (plain (λ _. usize)) no (λ κs x f. refl), tt),
-      ),
-    ) (spec E 𝓛) (WpFn 𝓤 𝓛.H 𝓣.C 𝓣.Λ (function E)) (WpFn-mono 𝓤 𝓛.H 𝓛.laws 𝓣 (function E))
-    (λ z. needs 𝓤 (Asks E z.0.3.0.now z.0.3.1.0 z.0.3.1.1.0) _ (entry E 𝓛 𝓣.C 𝓣.Λ z.0.0.0 z.0.1.0 z.0.3.0.ref_ptr.0 z.0.3.0.ref_ptr.1 z.0.3.0.ghost_name z.0.3.0.now z.0.3.1.0 z.0.3.1.1.0 z.0.4.0 z.0.4.1.0 z.0.4.1.1.0))
-
-pub read_spec : {M : Type 1} → stated.statement M
-unfolding tables_of
-read_spec 𝓤 𝓛 𝓜 𝓡 wired X LX y =
+pub read_spec : {M : Type 1} → statement M
+read_spec 𝓤 𝓛 𝓜 𝓡 wired X LX =
     let E : El = record { row = X; laws = LX } in
-    let 𝓣 : Tables 𝓤 𝓛.H = tables_of 𝓤 𝓛.H 𝓜 (tables 𝓤 𝓛.H 𝓜 𝓡 𝓡.env) in
-    let k = #self (args E) in
-    spared 𝓛 (ended E).signature (𝓡.run (𝓡.env k)) (run_framed 𝓤 𝓛.H 𝓜 𝓡 (𝓡.env k)) 1 (X.lives, tt) (closing 𝓛 (ended E) (spec E 𝓛))
-    (entered 𝓤 𝓛.H (triple_of 𝓛 (ended E).signature (closing 𝓛 (ended E) (spec E 𝓛))) 𝓣.C 𝓣.Λ k (function E) (code.unfolded 𝓤 𝓛.H 𝓜 𝓡 wired (X, tt)) (meets E 𝓛 𝓣))
-    ((y.0.0, y.0.1, tt, y.0.3, y.0.4), y.1)
+    let fn : Fn = inst_fn (args E) code.function in
+    let 𝓣 = tables 𝓤 𝓛.H 𝓜 𝓡 𝓡.env in
+    let T = ended X in
+    gives_back E T.signature.outlives (plain (λ _. Bs E) ∷ plain (λ _. usize) ∷ []) T.kept.1 (plain (λ _. R E))
+    𝓛 (clauses X 𝓛 𝓜.mem 𝓡.returns) 𝓜 𝓡 (λ κs x f. tt, (λ κs x f. tt, tt))
+    (#self (args E)) fn (code.unfolded 𝓤 𝓛.H 𝓜 𝓡 wired (X, tt)) (λ κs qs a vss g passed are Post ends.
+    let r = a.0 in let d = r.now in let p : Ptr = a.1.0.ptr in let i = a.1.1.0 in
+    -- [the borrow, in three entries; the type's token; what the other arguments own; the `requires`]
+    move ! (5 ∷ []) $ asked ! (κs.1.0 ⊑ X.lives) (IsFull d.cells i p) (λ full.
+    let x = full.0 in let within = full_within d.cells i p x full.1 in
+    keep ! (0 ∷ 1 ∷ 2 ∷ 3 ∷ []) $ enters ! 𝓣.C 𝓣.Λ fn (vptr r.ref_ptr.0 r.ref_ptr.1 ∷ word p ∷ vint w64 i ∷ []) Post
+    (λ j. passed j ++ (address_is E a.1.0 vss.1.0 are.0 j ++ (are.1.0.0 j ++ []))) $
+    alloc_all ! (λ l. pass_all ! refl ((tt, tt), (word-Good [] p, ((tt, record { fits = are.1.0.1 }), tt))) $
+    let N = env fn.locals l in
+    cell_opened E r ! tt d i (p, Some x) within full.1 (λ vs.
+    in_a_block ! p (λ h. lies_at (R E) full_share h x) (id⊢ 𝓤 (never 𝓤)) (λ b o e.
+    take_at ! 2 $ rewrite ! 0 (λ (h : Ptr). ‵ (kept_in E (l 2) h)) e refl $ give_at ! 2 $ first ! $ blocks ! $
+    use1 𝓛 (some (λ (v : Val). given (Good E v) (‵ (fat full_share (elτ E) b o v) ⊛ ‵ (E.row.own_val x (v ∷ [])))))
+    (value_out 0 E.row E.laws 𝓛 x b o) $ pick ! (λ v. learn ! (λ good. split ! $
+    -- [the memory; the value; the other cells; the open borrow, in five entries; the type's token]
+    sets_last ! (of_opd ! (load ! (from ! (fld ! refl (hop ! (look_in_at ! 2 (sub ! 0 refl (whole !))) (stop !)))) (look ! 0 refl)))
+    refl good $
+    exec ! 𝓣.C 𝓣.Λ N (after 1 fn.body) (at_ret N Post) $ sets ! (of_opd ! (get ! refl)) refl good $
+    use1 𝓛 (‵ (froom (elτ E) b o)) (𝓛.laws.at_room (elτ E) b o v) $ as_raw ! (elτ E) b o $
+    rewrite ! 0 (λ (h : Ptr). ‵ (cell_owns (R E) h None)) (sym e) refl $ move ! (0 ∷ 2 ∷ 3 ∷ 4 ∷ 5 ∷ 6 ∷ 7 ∷ []) $
+    cell_closed E r ! tt d i (p, None) within vs $ returns ! (look_at ! 0 refl) $ free_all ! refl $
+    let cells = set d.cells i (p, None) in told_both ! (cell_at d.cells i ≡ (p, Some x)) (cells ≡ cells) full.1 refl $
+    keep ! (1 ∷ 2 ∷ 3 ∷ 5 ∷ 4 ∷ 0 ∷ []) $ by ! (ends v x (with_cells d cells) (tt, (tt, tt))))))))))

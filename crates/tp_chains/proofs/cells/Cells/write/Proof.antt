@@ -1,171 +1,50 @@
--- `write` fills an empty place. Assumes `Logic`.
-use mathlib.Core.Path.{◌≡◌, refl, sym, subst}
-use Prim.Native.Nat.{ℕ, ◌<◌, ◌^◌}
-use mathlib.Core.List.{List, [], ◌∷◌, ◌++◌}
-use seplogic.Ra.Ura.{Ura}
-use base.Fraction.{full_share}
-use mir.Syntax.{Fn, named, w64}
-use mir.MapTy.{inst_fn}
-use mir.Val.{Val, vptr, vint, vunit}
-use base.Logic.{SProp, ent, never, id⊢}
-use base.Fml.{Lft, GName, Share, ftrue, fat, flft, fobs, fbor}
-use prog.Wp.{Env, Calls, Loops, WpFn, Tables}
-use types.Logic.{Logic}
-use contract.Monad.{fact}
-use contract.Running.{tables, tables_of}
-use sound.WpLaws.{WpFn-mono}
-use types.Kit.{Item, ⋆, ‵, ◌⊛◌, at_ret, ◌$◌, ◌∵◌, !, qed, by, move, keep, use1, use2, split, join, rewrite, fsplit, fsplit3, fjoin, fjoin3, feq_i, feq_l, suffices, frame, done}
-use types.Part.{whole, sub}
-use types.Run.{hop, from, init, stop, fld, unit_lit, of_opd, assigns_last, first, blocks, exec, returns, enter}
-use types.ByLocal.{look_in_at, alloc_all, pass_all, free_all, look_at, get, sets, env}
-use types.SemTy.{Body as Borrowed}
-use denote.Exit.{yes, no}
-use denote.RattleType.{owns}
-use denote.Memory.{mem}
-use denote.Param.{layout}
-use denote.RawPtr.{Ptr, block_ptr, in_a_block, lies_at, room_for}
-use denote.Ref.{MutBor, MutRef}
-use denote.Builtin.{RefMutOf, unit}
-use denote.Signature.{plain}
-use denote.Steps.{nothing, opens, closes}
-use denote.Triple.Carry.{spared}
-use denote.Triple.Clauses.{Clauses, Ended, closing}
-use denote.Triple.Entry.{on_entry}
-use denote.Triple.Spec.{Meets, triple_of}
-use denote.Triple.Table.{entered, run_framed}
-use denote.Triple.Walked.{says, needs, Stays, stay_dropped, stay_ref, walk_of, ends_at, Goes-dropped, Goes-ref, walk_Meets}
-use Rattle.std.proofs.VecSteps.Shapes.{after}
-use Rattle.std.proofs.RcSteps.{Good, word, word-Good}
-use mir.Raw.{raw as raw_ty}
-use denote.Memory.{lone}
-use lib.ListN.{set}
-use types.Kit.{flt_l}
-use types.ByLocal.{take_at, give_at}
-use denote.Builtin.{usize}
-use Rattle.std.specs.Prelude.{Option, Some}
-use Rattle.std.proofs.mem.Param.{El, R, args, elτ, el_x}
-use Rattle.std.proofs.RawLayout.{as_written}
-use Rattle.tp_chains.specs.Cells.{cell_at as cell_of, IsEmpty}
-use Rattle.tp_chains.specs.CellsOwnership.{cells_own}
-use Rattle.tp_chains.proofs.CellsMemory.{Cr, Bs, One, word_had, Besides, cell_out, cell_in, value_in, tells}
+-- `write` fills an empty cell. Before: the borrow of the cells, and the value. The raw write takes the cell's room and the
+-- value, and gives the cell full; so it goes back into the list, and the borrow is closed. Assumes `Logic`.
+use mir.Raw.{raw as bare}
+use Rattle.tp_chains.proofs.CellWords.{◌≡◌, refl, sym, List, [], ◌∷◌, ◌++◌, set, Fn, w64, inst_fn, Val, vptr, vint, vunit, tables}
+use Rattle.tp_chains.proofs.CellWords.{full_share, never, id⊢, ◌⊑◌, ‵, at_ret, ◌$◌, !, by, move, keep, use2, rewrite, fsplit, feq_i, skip}
+use Rattle.tp_chains.proofs.CellWords.{whole, sub, stop, hop, from, fld, init, unit_lit, of_opd, assigns_last, first, blocks, exec}
+use Rattle.tp_chains.proofs.CellWords.{returns, alloc_all, pass_all, free_all, look_at, look_in_at, take_at, give_at, get, sets, env}
+use Rattle.tp_chains.proofs.CellWords.{lone, Ptr, block_ptr, in_a_block, lies_at, room_for, unit, usize, plain, after, word, word-Good}
+use Rattle.tp_chains.proofs.CellWords.{as_written, El, R, args, elτ, Some, None, IsEmpty, with_cells}
+use Rattle.tp_chains.proofs.CellsMemory.{Bs, value_in}
+use Rattle.tp_chains.proofs.CellSteps.{address_is, value_is, kept_in, enters, asked, told, cell_opened, cell_closed}
+use Rattle.tp_chains.proofs.CellCalls.{gives_back}
+use Rattle.tp_chains.specs.contracts.cells.Cells.write.{ended, clauses}
 use Rattle.tp_chains.specs.contracts.cells.Cells.write.Key.{name as #self}
-use Rattle.tp_chains.proofs.cells.Cells.write.Statement as stated
+use Rattle.tp_chains.proofs.cells.Cells.write.Statement.{statement}
 use Rattle.tp_chains.proofs.cells.Cells.write.Code as code
 
-module _ (E : El) where
-  abbrev function : Fn
-  function = inst_fn (args E) code.function
-
-  abbrev ended : Ended
-  ended = record {
-    signature = record {
-      lifetimes = 1;
-      outlives = [];
-      params = RefMutOf (0 ∷ []) tt (plain (λ _. Cr E)) (λ _. tt) ∷ plain (λ _. Bs E) ∷ plain (λ _. usize) ∷ plain (λ _. R E) ∷ [];
-      result = plain (λ _. unit);
-    };
-    kept = (yes, (no, (no, (no, tt))));
-  }
-
-  abbrev stayed : Stays ended.signature.params ended.kept
-  stayed = (stay_ref (0 ∷ []) tt (plain (λ _. Cr E)), (stay_dropped (plain (λ _. Bs E)) no, (stay_dropped (plain (λ _. usize)) no, (stay_dropped (plain (λ _. R E)) no, tt))))
-
-  abbrev Asks : (Cr E).Denot → (Bs E).Denot → (usize).Denot → (R E).Denot → Type 0
-  Asks d base index item = IsEmpty d.cells index base.ptr
-
-  abbrev Gives0 : (Cr E).Denot → (Bs E).Denot → (usize).Denot → (R E).Denot → (unit).Denot → (Cr E).Denot → Type 0
-  Gives0 d base index item r new = new.cells ≡ set d.cells index (base.ptr, Some item)
-
-  abbrev spec : {M : Type 1} {𝓤 : Ura M} (𝓛 : Logic 𝓤) → Clauses 𝓤 ended
-  spec {𝓤 = 𝓤} 𝓛 κs a = record { ghost = Unit {0}; requires = λ _. fact 𝓤 (Asks a.0.now a.1.0 a.1.1.0 a.1.1.1.0); ensures = λ _ r w. fact 𝓤 (Gives0 a.0.now a.1.0 a.1.1.0 a.1.1.1.0 r w.0.now) }
-
-module _ (E : El) {M : Type 1} {𝓤 : Ura M} (𝓛 : Logic 𝓤) (C : Calls 𝓤 𝓛.H) (Λ : Loops 𝓤 𝓛.H) (κ : Lft) (q : Share) (rb ro : ℕ) (γ : GName) (d : (Cr E).Denot) (base : (Bs E).Denot)
-    (index : (usize).Denot) (item : (R E).Denot) (us0 us1 us2 us3 : List Val) where
-  open 𝓛 use {H, A}
-
-  abbrev self : MutBor (Cr E).Denot
-  self = record { ref_ptr = (rb, ro); ghost_name = γ; now = d }
-
-  abbrev bound : (walk_of 𝓛 (ended E) (stayed E) (spec E 𝓛)).Ghost
-  bound = (((κ, tt), (q, tt), tt, (self, (base, (index, (item, tt)))), (us0, (us1, (us2, (us3, tt))))), tt)
-
-  abbrev Post : Val → SProp 𝓤
-  Post = (walk_of 𝓛 (ended E) (stayed E) (spec E 𝓛)).post bound
-
-  exits : us0 ≡ vptr rb ro ∷ [] → (r : (unit).Denot) (v : Val) (new : (Cr E).Denot) → Gives0 E d base index item r new
-      → ent 𝓤 (⋆ 𝓛 (‵ (fobs γ ((Cr E).coded.code new)) ∷ ‵ (fbor κ (Borrowed (mem (Cr E)) rb ro γ)) ∷ ‵ (flft κ q) ∷ ‵ ((unit).own_val r (v ∷ [])) ∷ [])) (Post v)
-  exits passed r v new g0 =
-      qed 𝓛 (‵ (fobs γ ((Cr E).coded.code new)) ∷ ‵ (fbor κ (Borrowed (mem (Cr E)) rb ro γ)) ∷ ‵ (flft κ q) ∷ ‵ ((unit).own_val r (v ∷ [])) ∷ []) ∵
-      suffices ! _ (ends_at 𝓛 (ended E) (stayed E) (spec E 𝓛) bound v r (new, (tt, (tt, (tt, tt)))) (tt, (tt, (tt, (tt, tt))))) $ says ! g0 $
-      nothing ! $ move ! (3 ∷ 0 ∷ []) $ join ! $ frame ! $ feq_i ! (List Val) us0 (vptr rb ro ∷ []) passed $
-      fjoin3 ! $ nothing ! $ nothing ! $ fjoin ! $ nothing ! $ fjoin ! $ nothing ! $ fjoin ! $ move ! (1 ∷ 0 ∷ []) $ fjoin ! $ done !
-
-  abbrev Had : Val → List (Item 𝓤)
-  Had v_item = ‵ (fobs γ ((Cr E).coded.code d)) ∷ ‵ (fbor κ (Borrowed (mem (Cr E)) rb ro γ)) ∷ ‵ (flft κ q) ∷ ‵ ((R E).own_val item (v_item ∷ [])) ∷ []
-
-  walk : us0 ≡ vptr rb ro ∷ [] → Asks E d base index item → index < 2 ^ 64 → (v_item : Val) → Good (layout (R E)) v_item →
-      ent 𝓤 (⋆ 𝓛 (Had v_item)) (WpFn 𝓤 H C Λ (function E) (vptr rb ro ∷ word base.ptr ∷ vint w64 index ∷ v_item ∷ []) Post)
-  walk passed asked fits_index v_item good_item =
-      let within = asked.0 in
-      let new : (Cr E).Denot = record { mark = d.mark; cells = set d.cells index (base.ptr, Some item) } in
-      qed 𝓛 (Had v_item) ∵ enter ! C Λ (function E) (vptr rb ro ∷ word base.ptr ∷ vint w64 index ∷ v_item ∷ []) _ $
-      alloc_all ! (λ l. pass_all ! refl ((tt, tt), (word-Good [] base.ptr, ((tt, record { fits = fits_index }), (good_item, tt)))) $
-      let En : Env 𝓤 H = env (function E).locals l in
-      opens ! tt (Cr E) {h = d} rb ro (λ vs. move ! (1 ∷ []) $ fsplit ! $ move ! (1 ∷ []) $
-      use1 𝓛 (‵ (One E (cell_of d.cells index)) ⊛ ‵ (Besides E d.cells index)) (cell_out E 𝓛 d.cells index within) $ split ! $ rewrite ! 0 (λ (c : Ptr × Option (el_x E)). ‵ (One E c)) asked.1 refl $
-      in_a_block ! base.ptr (λ p. room_for (raw_ty (lone (R E).mir)) p) (id⊢ 𝓤 (never 𝓤)) (λ b o e. as_written ! (elτ E) b o $
-      take_at ! 2 $ rewrite ! 0 (λ (p : Ptr). ‵ (fat full_share (layout (Bs E)) (l 2) 0 (word p))) e refl $ give_at ! 2 $ first ! $ blocks ! $
-      -- [the room; the other cells; the mark; its cell; the open borrow; obs; auth; what the item owns]
-      sets ! (of_opd ! (get ! refl)) refl good_item $ assigns_last ! (of_opd ! (get ! refl)) (from ! (fld ! refl (hop ! (look_in_at ! 2 (sub ! 0 refl (whole !))) (stop !)))) (init ! 0 refl good_item) $
-      exec ! C Λ En (after 1 (function E).body) (at_ret En Post) $ sets ! (of_opd ! (unit_lit !)) refl (tt, tt) $
-      move ! (0 ∷ 7 ∷ []) $ use2 𝓛 (‵ (lies_at (R E) full_share (block_ptr b o) item)) (value_in 0 E.row E.laws 𝓛 item b o v_item) $
-      rewrite ! 0 (λ (p : Ptr). ‵ (lies_at (R E) full_share p item)) (sym e) refl $
-      use2 𝓛 (‵ (cells_own (R E) new.cells)) (cell_in E 𝓛 d.cells index within (base.ptr, Some item)) $
-      move ! (1 ∷ 0 ∷ []) $ fjoin ! $ move ! (1 ∷ 0 ∷ []) $ closes ! tt (Cr E) new vs rb ro $
-      returns ! (look_at ! 0 refl) $ free_all ! refl $ keep ! (0 ∷ 1 ∷ 2 ∷ []) $ feq_i ! (List Val) (vunit ∷ []) (vunit ∷ []) refl $ move ! (1 ∷ 2 ∷ 3 ∷ 0 ∷ []) $
-      by ! (exits passed tt vunit new refl))))
-
-  entry : Asks E d base index item → ent 𝓤 (on_entry 𝓛 (ended E).signature (κ, tt) (q, tt) (self, (base, (index, (item, tt)))) (us0, (us1, (us2, (us3, tt)))))
-      (WpFn 𝓤 H C Λ (function E) (us0 ++ (us1 ++ (us2 ++ (us3 ++ [])))) Post)
-  entry asked =
-      qed 𝓛 ((‵ (flft κ q) ⊛ ‵ ftrue) ∷ ‵ (owns (MutRef (named 0) κ (Cr E) ∷ Bs E ∷ usize ∷ R E ∷ []) (self, (base, (index, (item, tt)))) (us0, (us1, (us2, (us3, tt))))) ∷ []) ∵
-      split ! $ move ! (2 ∷ []) $
-      fsplit ! $
-      fsplit3 ! $ feq_l ! (λ e0.
-      move ! (2 ∷ []) $
-      fsplit ! $
-      word_had ! base.ptr us1 (λ e1.
-      fsplit ! $
-      fsplit ! $ feq_l ! (λ e2. flt_l ! (λ fits_index.
-      fsplit ! $
-      tells E.row E.laws ! item us3 (λ v_item e3 good_item.
-      keep ! (2 ∷ 3 ∷ 4 ∷ 0 ∷ []) $
-      by ! (subst (λ (ws : List Val × List Val × List Val × List Val). ent 𝓤 (⋆ 𝓛 (Had v_item)) (WpFn 𝓤 H C Λ (function E) (ws.0 ++ (ws.1 ++ (ws.2 ++ (ws.3 ++ [])))) Post)) (λ j. (
-        sym e0 j,
-        sym e1 j,
-        sym e2 j,
-        sym e3 j,
-      )) (walk e0 asked fits_index v_item good_item)))))))
-
-meets : (E : El) {M : Type 1} {𝓤 : Ura M} (𝓛 : Logic 𝓤) (𝓣 : Tables 𝓤 𝓛.H)
-    → Meets 𝓛 (ended E).signature (WpFn 𝓤 𝓛.H 𝓣.C 𝓣.Λ (function E)) (closing 𝓛 (ended E) (spec E 𝓛))
-meets E {𝓤 = 𝓤} 𝓛 𝓣 =
-    walk_Meets 𝓛 (ended E) (stayed E) (
-      Goes-ref 𝓛 1 0 tt (plain (λ _. Cr E)),
-      (
-        Goes-dropped 𝓛 1 (plain (λ _. Bs E)) no (λ κs x f. refl),
-        (Goes-dropped 𝓛 1 (plain (λ _. usize)) no (λ κs x f. refl), (Goes-dropped 𝓛 1 (plain (λ _. R E)) no (λ κs x f. refl), tt)),
-      ),
-    ) (spec E 𝓛) (WpFn 𝓤 𝓛.H 𝓣.C 𝓣.Λ (function E)) (WpFn-mono 𝓤 𝓛.H 𝓛.laws 𝓣 (function E))
-    (λ z. needs 𝓤 (Asks E z.0.3.0.now z.0.3.1.0 z.0.3.1.1.0 z.0.3.1.1.1.0) _
-    (entry E 𝓛 𝓣.C 𝓣.Λ z.0.0.0 z.0.1.0 z.0.3.0.ref_ptr.0 z.0.3.0.ref_ptr.1 z.0.3.0.ghost_name z.0.3.0.now z.0.3.1.0 z.0.3.1.1.0 z.0.3.1.1.1.0 z.0.4.0 z.0.4.1.0 z.0.4.1.1.0 z.0.4.1.1.1.0))
-
-pub write_spec : {M : Type 1} → stated.statement M
-unfolding tables_of
-write_spec 𝓤 𝓛 𝓜 𝓡 wired X LX y =
+pub write_spec : {M : Type 1} → statement M
+write_spec 𝓤 𝓛 𝓜 𝓡 wired X LX =
     let E : El = record { row = X; laws = LX } in
-    let 𝓣 : Tables 𝓤 𝓛.H = tables_of 𝓤 𝓛.H 𝓜 (tables 𝓤 𝓛.H 𝓜 𝓡 𝓡.env) in
-    let k = #self (args E) in
-    spared 𝓛 (ended E).signature (𝓡.run (𝓡.env k)) (run_framed 𝓤 𝓛.H 𝓜 𝓡 (𝓡.env k)) 1 (X.lives, tt) (closing 𝓛 (ended E) (spec E 𝓛))
-    (entered 𝓤 𝓛.H (triple_of 𝓛 (ended E).signature (closing 𝓛 (ended E) (spec E 𝓛))) 𝓣.C 𝓣.Λ k (function E) (code.unfolded 𝓤 𝓛.H 𝓜 𝓡 wired (X, tt)) (meets E 𝓛 𝓣))
-    ((y.0.0, y.0.1, tt, y.0.3, y.0.4), y.1)
+    let fn : Fn = inst_fn (args E) code.function in
+    let 𝓣 = tables 𝓤 𝓛.H 𝓜 𝓡 𝓡.env in
+    let T = ended X in
+    gives_back E T.signature.outlives (plain (λ _. Bs E) ∷ plain (λ _. usize) ∷ plain (λ _. R E) ∷ []) T.kept.1 (plain (λ _. unit))
+    𝓛 (clauses X 𝓛 𝓜.mem 𝓡.returns) 𝓜 𝓡 (λ κs x f. tt, (λ κs x f. tt, (λ κs x f. tt, tt)))
+    (#self (args E)) fn (code.unfolded 𝓤 𝓛.H 𝓜 𝓡 wired (X, tt)) (λ κs qs a vss g passed are Post ends.
+    let r = a.0 in let d = r.now in let p : Ptr = a.1.0.ptr in let i = a.1.1.0 in let x = a.1.1.1.0 in
+    let got = value_is E 𝓛 x vss.1.1.1.0 are.1.1.0 in let v : Val = got.0 in
+    -- [the borrow, in three entries; the type's token; what the other arguments own; the `requires`]
+    move ! (5 ∷ []) $ asked ! (κs.1.0 ⊑ X.lives) (IsEmpty d.cells i p) (λ empty.
+    move ! (4 ∷ []) $ fsplit ! $ skip ! $ fsplit ! $ skip ! $ fsplit ! $
+    rewrite ! 0 (λ (us : List Val). ‵ ((R E).own_val x us)) got.1 refl $ keep ! (2 ∷ 3 ∷ 4 ∷ 0 ∷ 5 ∷ []) $
+    enters ! 𝓣.C 𝓣.Λ fn (vptr r.ref_ptr.0 r.ref_ptr.1 ∷ word p ∷ vint w64 i ∷ v ∷ []) Post
+    (λ j. passed j ++ (address_is E a.1.0 vss.1.0 are.0 j ++ (are.1.0.0 j ++ (got.1 j ++ [])))) $
+    alloc_all ! (λ l. pass_all ! refl ((tt, tt), (word-Good [] p, ((tt, record { fits = are.1.0.1 }), (got.2, tt)))) $
+    let N = env fn.locals l in
+    cell_opened E r ! tt d i (p, None) empty.0 empty.1 (λ vs.
+    in_a_block ! p (λ h. room_for (bare (lone (R E).mir)) h) (id⊢ 𝓤 (never 𝓤)) (λ b o e. as_written ! (elτ E) b o $
+    take_at ! 2 $ rewrite ! 0 (λ (h : Ptr). ‵ (kept_in E (l 2) h)) e refl $ give_at ! 2 $
+    -- [the room; the other cells; the open borrow, in five entries; the value; the type's token]
+    first ! $ blocks ! $ sets ! (of_opd ! (get ! refl)) refl got.2 $
+    assigns_last ! (of_opd ! (get ! refl)) (from ! (fld ! refl (hop ! (look_in_at ! 2 (sub ! 0 refl (whole !))) (stop !))))
+    (init ! 0 refl got.2) $
+    exec ! 𝓣.C 𝓣.Λ N (after 1 fn.body) (at_ret N Post) $ sets ! (of_opd ! (unit_lit !)) refl (tt, tt) $
+    move ! (0 ∷ 7 ∷ []) $ use2 𝓛 (‵ (lies_at (R E) full_share (block_ptr b o) x)) (value_in 0 E.row E.laws 𝓛 x b o v) $
+    rewrite ! 0 (λ (h : Ptr). ‵ (lies_at (R E) full_share h x)) (sym e) refl $ cell_closed E r ! tt d i (p, Some x) empty.0 vs $
+    returns ! (look_at ! 0 refl) $ free_all ! refl $
+    let cells = set d.cells i (p, Some x) in told ! (cells ≡ cells) refl $
+    feq_i ! (List Val) (vunit ∷ []) (vunit ∷ []) refl $ keep ! (2 ∷ 3 ∷ 4 ∷ 5 ∷ 0 ∷ 1 ∷ []) $
+    by ! (ends vunit tt (with_cells d cells) (tt, (tt, (tt, tt)))))))))
