@@ -7,6 +7,7 @@ which the prover knows the text that it was made from. Of the crates that can be
 goes first, and takes as many processors as its lines are worth. Prints a line for each crate as it ends; where one is not
 proved, all that its check said, and the status is 1.
 """
+import itertools
 import os
 import re
 import shutil
@@ -36,7 +37,8 @@ def waiting_for(every):
 
 def prove(crate, room, jobs):
     """Proves a crate in a copy and builds it; gives whether that went well, and what was said."""
-    words = ["rt", "run", f"--jobs={jobs}", "--", "--help"] if crate.name in PROGRAMS else ["rt", "lib", f"--jobs={jobs}"]
+    verb = "run" if crate.name in PROGRAMS else "check" if crate.is_program else "lib"
+    words = ["rt", verb, f"--jobs={jobs}", *(["--", "--help"] if verb == "run" else [])]
     ran = subprocess.run(
         words,
         cwd=f"{room}/crates/{crate.name}",
@@ -54,13 +56,21 @@ def prove(crate, room, jobs):
     return not ran.returncode, ran.stdout
 
 
+def renew(kept, place):
+    """Puts what a check proved where another one begins: by links, since the prover replaces such a file and changes none."""
+    shutil.rmtree(place, ignore_errors=True)
+    shutil.copytree(kept, place, copy_function=lambda one, other: (os.link if one.endswith(".oantt") else shutil.copy2)(one, other))
+
+
 def give(name, room, others):
-    """Gives the library of a crate that was proved in one copy to the other copies; there is none of a program."""
-    proved = f"{room}/crates/{name}/out/rlib"
-    for other in others if os.path.exists(proved) else []:
-        made = f"{other}/crates/{name}/out/rlib"
-        shutil.rmtree(made, ignore_errors=True)
-        shutil.copytree(proved, made, copy_function=os.link)
+    """Gives what was proved of a crate in one copy to the other copies, and its library; there is none of a program."""
+    for part, other in itertools.product(("rlib", "incremental"), others):
+        proved, made = (f"{it}/crates/{name}/out/{part}" for it in (room, other))
+        if part == "incremental":
+            renew(proved, made)
+        elif os.path.exists(proved):
+            shutil.rmtree(made, ignore_errors=True)
+            shutil.copytree(proved, made, copy_function=os.link)
 
 
 def shares(free, ready):

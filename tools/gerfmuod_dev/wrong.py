@@ -6,9 +6,10 @@ are tried whose note is not today's.
 What refused each wrong body is noted in wrong/NAME/JUDGED. The note is today's as long as the crate's own files, its
 wrong bodies and the definitions (specs/) of the crates directly below it say the same: comments and the breaks of lines
 do not count. It names the toolchain too: one of another machine makes no note stale, since it is none of the
-repository's text, but --stale tells of it. Prints a line for each crate that is proved before, for each wrong body, and
-for each crate. The status is 1 where a wrong body is not refused by a clause, or, with --stale, where a note is not
-today's.
+repository's text, but --stale tells of it. Wrong bodies of different functions are tried in one check, and those that it
+does not refuse each in its own function one by one. Prints a line for each crate that is proved before, for each wrong
+body, and for each crate. The status is 1 where a wrong body is not refused by a clause, or, with --stale, where a note is
+not today's.
 """
 import datetime
 import functools
@@ -19,8 +20,8 @@ import shutil
 import subprocess
 from concurrent.futures import ThreadPoolExecutor
 
-from . import repository
-from .build import prove_all
+from . import repository, together
+from .build import prove_all, renew
 from .repository import files_in, text_of
 from .rooms import rooms
 
@@ -89,18 +90,17 @@ def reason(said):
     return f"{found[1]}, {found[2]}" if found else re.sub(r"^refused, as it must be:? ?", "", said)
 
 
-def place(crate, room):
-    """Puts all wrong bodies of a crate where the prover looks for them."""
-    folder = f"{room}/crates/{crate}/must-fail"
+def tell(crate, name, said):
+    print(f"{crate}/{name}: {said if NOTHING.search(said) else 'refused: ' + reason(said)}", flush=True)
+
+
+def try_alone(crate, names, lanes, _, room):
+    """Has the prover try wrong bodies of a crate, each in a check of its own, so many beside each other, in a copy where all below it
+    is proved; gives what it said of each."""
+    folder = f"{room}/crates/{crate.name}/must-fail"
     os.makedirs(folder)
-    for name, path in edits_of(crate).items():
-        shutil.copy2(path, f"{folder}/{name}")
-
-
-def judge(crate, room, lanes):
-    """Has the prover try the wrong bodies of a crate, so many beside each other, in a copy in which all below it is proved; gives
-    what it said of each."""
-    place(crate.name, room)
+    for name in names:
+        shutil.copy2(edits_of(crate.name)[name], folder)
     told = {}
     streams = {"stdin": subprocess.DEVNULL, "stdout": subprocess.PIPE, "text": True}
     with subprocess.Popen(["rt", "must-fail", crate.name], cwd=room, env={**os.environ, "RT_JOBS": str(lanes)}, **streams) as ran:
@@ -108,23 +108,60 @@ def judge(crate, room, lanes):
             found = re.match(r"rt: must-fail \w+/(\S+)\.edit: (.*)", line)
             if found:
                 told[found[1]] = found[2]
-                print(f"{crate.name}/{found[1]}: {found[2] if NOTHING.search(found[2]) else 'refused: ' + reason(found[2])}", flush=True)
+                tell(crate.name, found[1], found[2])
+    shutil.rmtree(folder)
     return told
 
 
-def judge_all(crates, copies):
-    """Judges crates beside each other, the longest first, one in each copy; gives whether each wrong body was refused by a clause."""
-    free, lanes = [*copies], max(1, len(copies) // len(crates))
+def try_together(crate, group, kept, room):
+    """Has the prover try wrong bodies of a crate in one check; gives what it said of each that it refused in its own function."""
+    told = together.try_group(crate.name, room, kept, group)
+    for name, said in told.items():
+        tell(crate.name, name, said)
+    return told
 
-    def judged(crate):
+
+def in_copies(copies, jobs):
+    """Does jobs beside each other, each of which takes a copy of the repository; gives what they give, in their order."""
+    free = [*copies]
+
+    def done(job):
         room = free.pop()
         try:
-            return note(crate, judge(crate, room, lanes))
+            return job(room)
         finally:
             free.append(room)
 
     with ThreadPoolExecutor(len(copies)) as lanes:
-        return all([*lanes.map(judged, sorted(crates, key=lambda it: -it.lines))])
+        return [*lanes.map(done, jobs)]
+
+
+def groups_in(crate):
+    """Gives what can be tried together of a crate's wrong bodies."""
+    edits = (together.read(name.removesuffix(".edit"), path, crate.name) for name, path in edits_of(crate.name).items())
+    return together.groups_of(filter(None, edits))
+
+
+def judge_all(crates, top, copies):
+    """Judges crates that are proved in these copies, the longest first; gives whether each wrong body was refused by a clause. Those of
+    different functions are tried in one check, and then what was not refused so in a check of its own."""
+    kept, told = {it.name: f"{top}/kept/{it.name}" for it in crates}, {it.name: {} for it in crates}
+    places = {(it.name, room): f"{room}/crates/{it.name}/out/incremental" for it in crates for room in copies}
+    for name, place in kept.items():
+        renew(places[name, copies[0]], place)
+
+    def tell_of(jobs):
+        given = in_copies(copies, [functools.partial(act, crate, *words, kept[crate.name]) for act, crate, *words in jobs])
+        for (_, crate, *_), said in zip(jobs, given):
+            told[crate.name].update(said)
+
+    tell_of([(try_together, it, group) for it in sorted(crates, key=lambda it: -it.lines) for group in groups_in(it)])
+    left = {it: [name for name in edits_of(it.name) if name.removesuffix(".edit") not in told[it.name]] for it in crates}
+    for (name, _), place in places.items():
+        renew(kept[name], place)
+    lanes = max(1, len(copies) // max(1, sum(map(bool, left.values()))))
+    tell_of([(try_alone, it, names, lanes) for it, names in left.items() if names])
+    return all([note(it, told[it.name]) for it in crates])
 
 
 def note(crate, told):
@@ -149,9 +186,8 @@ def arguments(parser):
 
 def try_wrong_bodies(crates):
     """Has the prover try the wrong bodies of these crates; gives whether each was refused by a clause."""
-    below = repository.crates([name for it in crates for name in it.below])
-    with rooms() as (_, copies):
-        return prove_all(below, copies) and judge_all(crates, copies)
+    with rooms() as (top, copies):
+        return prove_all(repository.crates([it.name for it in crates]), [*copies]) and judge_all(crates, top, copies)
 
 
 def run(words):
