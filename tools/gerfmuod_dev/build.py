@@ -4,8 +4,8 @@ bin/patterns.
 Crates are proved beside each other, in as many copies of the repository as there are processors: a command of the
 prover locks all crates below its own. The library that is proved in one copy is given to the others, with the stamp by
 which the prover knows the text that it was made from. Of the crates that can begin, the one that the most lines wait for
-goes first, and takes as many processors as its lines are worth. Prints a line for each crate as it ends; where one is not
-proved, all that its check said, and the status is 1.
+goes first, and takes what processors the others leave, as far as its lines are worth them. Prints a line for each crate
+as it ends; where one is not proved, all that its check said, and the status is 1.
 """
 import itertools
 import os
@@ -22,7 +22,7 @@ PROGRAMS = ["tp", "draw", "heat", "product", "relax", "patterns"]
 # the crates that are built for programs in other languages, into lib/
 LIBRARIES = ["gerfmuod"]
 # a further job of a check loads all libraries anew, which fewer lines do not repay
-LINES_OF_A_JOB = 1000
+LINES_OF_A_JOB = 500
 QUIET = re.compile(r"(== |logic|statements|library|crate|by-macro|only=|so far:|empty contracts|rt: chose)|.*: proved$")
 
 
@@ -57,29 +57,27 @@ def prove(crate, room, jobs):
 
 
 def renew(kept, place):
-    """Puts what a check proved where another one begins: by links, since the prover replaces such a file and changes none."""
+    """Puts what was proved where another check finds it: by links, where the prover replaces a file and never changes it."""
+    is_library = os.path.basename(place) == "rlib"
     shutil.rmtree(place, ignore_errors=True)
-    shutil.copytree(kept, place, copy_function=lambda one, other: (os.link if one.endswith(".oantt") else shutil.copy2)(one, other))
+    shutil.copytree(kept, place, copy_function=lambda one, to: (os.link if is_library or one.endswith(".oantt") else shutil.copy2)(one, to))
 
 
 def give(name, room, others):
     """Gives what was proved of a crate in one copy to the other copies, and its library; there is none of a program."""
     for part, other in itertools.product(("rlib", "incremental"), others):
         proved, made = (f"{it}/crates/{name}/out/{part}" for it in (room, other))
-        if part == "incremental":
+        if os.path.exists(proved):
             renew(proved, made)
-        elif os.path.exists(proved):
-            shutil.rmtree(made, ignore_errors=True)
-            shutil.copytree(proved, made, copy_function=os.link)
 
 
 def shares(free, ready):
-    """Gives how many of the free processors each crate gets that can begin, the first in line before the others."""
-    for crate in ready:
-        if free <= 0:
+    """Gives how many of the free processors each crate gets that can begin, the first in line what the others leave."""
+    for at, crate in enumerate(ready):
+        if not free:
             return
-        # (two for a large one where one is free: what runs beside it mostly ends sooner)
-        jobs = max(1, min(max(free, 2), crate.lines // LINES_OF_A_JOB))
+        left = len(ready) - at - 1
+        jobs = max(1, min(free - left, crate.lines // LINES_OF_A_JOB))
         free -= jobs
         yield crate, jobs
 

@@ -23,10 +23,12 @@ NAMES_ONLY = re.compile(r"(note: )?(\./)?proofs/.*(has no field|is not in scope|
 
 @dataclass(frozen=True)
 class Body:
-    """The body of a function: its file, its name, its first and last line, from 0, and what stands below its name."""
+    """The body of a function: its file, its name, where the function begins, the body's first and last line, from 0, and what stands
+    below its name."""
 
     file: str
     name: str
+    head: int
     first: int
     last: int
     said: str
@@ -52,7 +54,7 @@ def bodies_in(file, text):
         if last is None:
             continue
         first = next((it for it in range(at, last) if lines[it] == f"{head[1]}{{"), at if line.endswith("{") else last)
-        found.append(Body(file, head[2], first + 1, last - 1, "\n".join(lines[at + 1 : last])))
+        found.append(Body(file, head[2], at, first + 1, last - 1, "\n".join(lines[at + 1 : last])))
     return found
 
 
@@ -74,9 +76,9 @@ def read(name, path, crate):
 
 
 def are_apart(one, other):
-    """Whether two functions are not of one name in one file, and neither calls the other one or hands it on."""
+    """Whether two functions have two names, and neither calls the other one or hands it on."""
     calls = (re.search(rf"\b{name}\b *[(),]", said) for name, said in ((one.name, other.said), (other.name, one.said)))
-    return (one.file, one.name) != (other.file, other.name) and not any(calls)
+    return one.name != other.name and not any(calls)
 
 
 def groups_of(edits):
@@ -123,12 +125,9 @@ def lies_in(error, edit):
     """Whether an error of the prover is told of the function of an edit, in its code or in its proof."""
     file, line = PLACE.match(error).groups()
     if file == edit.body.file:
-        return edit.body.first <= int(line) - 1 <= edit.body.last
-    if not file.startswith("proofs/"):
-        return False
-    module = re.sub(r"/?lib$", "", edit.body.file.removeprefix("src/").removesuffix(".rt"))
-    path = file.removeprefix("proofs/").split("/")
-    return path[-2] == edit.body.name and "/".join(path).startswith(f"{module}/" if module else "")
+        return edit.body.head <= int(line) - 1 <= edit.body.last + 1
+    # (a proof lies in a folder of the function's name, below one for its type)
+    return file.startswith("proofs/") and file.split("/")[-2] == edit.body.name
 
 
 def try_group(crate, room, kept, group):

@@ -148,7 +148,8 @@ def judge_all(crates, top, copies):
     kept, told = {it.name: f"{top}/kept/{it.name}" for it in crates}, {it.name: {} for it in crates}
     places = {(it.name, room): f"{room}/crates/{it.name}/out/incremental" for it in crates for room in copies}
     for name, place in kept.items():
-        renew(places[name, copies[0]], place)
+        found = [places[name, it] for it in copies if os.path.exists(places[name, it])]
+        renew(max(found, key=os.path.getmtime), place)
 
     def tell_of(jobs):
         given = in_copies(copies, [functools.partial(act, crate, *words, kept[crate.name]) for act, crate, *words in jobs])
