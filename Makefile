@@ -1,5 +1,5 @@
 # make          proves all that the programs stand on, and builds them: bin/tp, bin/draw, bin/heat, bin/product, bin/relax and
-#               bin/patterns (25 minutes on four cores the first time)
+#               bin/patterns (half an hour on four cores the first time)
 # make demo     two runs of the program, unproved (a minute)
 # make test     every test and every program, unproved (some minutes)
 # make gate     the gate: every proof from nothing, the wrong bodies, each test, each program (see docs/GATE.md)

@@ -129,7 +129,7 @@ def run(words):
     lanes = repository.lanes(repository.MEMORY_OF_A_CHECK)
     print(
         f"Proves {len(every)} crates on {lanes} processors, and builds bin/tp, bin/draw, bin/heat, bin/product, bin/relax and "
-        "bin/patterns: on four 25 minutes the first time, and later what changed.",
+        "bin/patterns: on four half an hour the first time, and later what changed.",
         flush=True,
     )
     with rooms() as (_, copies):
