@@ -33,7 +33,7 @@ use Rattle.tp_scene.specs.declared.messages.Messages.{Messages}
 use Rattle.tp_scene.specs.declared.waves.Waves.{Waves}
 use Rattle.tp_scene.specs.declared.waves.Gives.{Gives}
 use Rattle.tp_scene.specs.Scene.{is_run_of, is_sending_of, free_track, running, bars, bar_of, rows, with_row, under_way, arrows}
-use Rattle.tp_scene.specs.Scene.{arrow_of, with_received, ribbons, gave, cut, cuts, ends, end_of, seams}
+use Rattle.tp_scene.specs.Scene.{arrow_of, gave, cut, cuts, ends, end_of, seams}
 use Rattle.tp_scene.specs.Following.{home, HasTracks, HasMessages, HasGiven, HasWaves}
 
 pub ok_then : {A E P Q : Type 0} (r : Result A E) → (P → Q) → OnOk r P → OnOk r Q
@@ -177,43 +177,34 @@ tracks_done n past t place old new found h at is same row run bar = record {
 }
 
 -- ---- messages
-pub messages_sent : (all : ℕ) (past : List Step) (x : Sending) (g : Generation) (old new : Messages) → HasMessages all past old
-    → x.sent ≡ length past
-    → new.under_way.items ≡ old.under_way.items ++ x ∷ [] → new.arrows.items ≡ old.arrows.items → new.ribbons.items ≡ old.ribbons.items
-    → HasMessages all (Send x.from x.to x.message g ∷ past) new
-messages_sent all past x g old new h at more same counted =
+pub messages_sent : (past : List Step) (x : Sending) (g : Generation) (old new : Messages) → HasMessages past old → x.sent ≡ length past
+    → new.under_way.items ≡ old.under_way.items ++ x ∷ [] → new.arrows.items ≡ old.arrows.items
+    → HasMessages (Send x.from x.to x.message g ∷ past) new
+messages_sent past x g old new h at more same =
     let made : ℕ → Sending = λ p. record { message = x.message; from = x.from; to = x.to; sent = p } in
     record {
       under_way = more ∙ ap (λ xs. xs ++ x ∷ []) h.under_way ∙ ap (λ p. under_way past ++ made p ∷ []) at;
       arrows = same ∙ h.arrows;
-      ribbons = counted ∙ h.ribbons;
     }
 
-pub messages_received : (all : ℕ) (past : List Step) (j : NodeId) (m : MessageId) (g : Generation) (place : ℕ) (old new : Messages)
-    (found : Option Sending)
-    → HasMessages all past old → place ≡ length past → found ≡ find (is_sending_of m.0) old.under_way.items
+pub messages_received : (past : List Step) (j : NodeId) (m : MessageId) (g : Generation) (place : ℕ) (old new : Messages)
+    (found : Option Sending) → HasMessages past old → place ≡ length past → found ≡ find (is_sending_of m.0) old.under_way.items
     → new.under_way.items ≡ without (is_sending_of m.0) old.under_way.items → new.arrows.items ≡ old.arrows.items ++ arrow_of found place
-    → new.ribbons.items ≡ with_received all found place old.ribbons.items
-    → HasMessages all (Recv j m g ∷ past) new
-messages_received all past j m g place old new found h at is less more counted = record {
+    → HasMessages (Recv j m g ∷ past) new
+messages_received past j m g place old new found h at is less more = record {
   under_way = less ∙ ap (λ xs. without (is_sending_of m.0) xs) h.under_way;
   arrows =
       more ∙ ap (λ xs. xs ++ arrow_of found place) h.arrows
       ∙ ap (λ f. arrows past ++ arrow_of f place) (is ∙ ap (λ xs. find (is_sending_of m.0) xs) h.under_way)
       ∙ ap (λ p. arrows past ++ arrow_of (find (is_sending_of m.0) (under_way past)) p) at;
-  ribbons =
-      counted ∙ ap (λ rs. with_received all found place rs) h.ribbons
-      ∙ ap (λ f. with_received all f place (ribbons all past)) (is ∙ ap (λ xs. find (is_sending_of m.0) xs) h.under_way)
-      ∙ ap (λ p. with_received all (find (is_sending_of m.0) (under_way past)) p (ribbons all past)) at;
 }
 
-pub messages_other : (all : ℕ) (past : List Step) (s : Step) (x : Messages) → HasMessages all past x
-    → ((i j : NodeId) (m : MessageId) (g : Generation) → s ≢ Send i j m g)
-    → ((j : NodeId) (m : MessageId) (g : Generation) → s ≢ Recv j m g)
-    → HasMessages all (s ∷ past) x
-messages_other all past (Send i j m g) x h send recv = absurd (send i j m g refl)
-messages_other all past (Recv j m g) x h send recv = absurd (recv j m g refl)
-messages_other all past s x h send recv = record { under_way = h.under_way; arrows = h.arrows; ribbons = h.ribbons }
+pub messages_other : (past : List Step) (s : Step) (x : Messages) → HasMessages past x
+    → ((i j : NodeId) (m : MessageId) (g : Generation) → s ≢ Send i j m g) → ((j : NodeId) (m : MessageId) (g : Generation) → s ≢ Recv j m g)
+    → HasMessages (s ∷ past) x
+messages_other past (Send i j m g) x h send recv = absurd (send i j m g refl)
+messages_other past (Recv j m g) x h send recv = absurd (recv j m g refl)
+messages_other past s x h send recv = record { under_way = h.under_way; arrows = h.arrows }
 
 -- ---- waves
 pub given_more : (past : List Step) (node : NodeId) (place : ℕ) (old new : Gives) → HasGiven past old → place ≡ length past

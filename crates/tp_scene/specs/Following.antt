@@ -18,7 +18,7 @@ use Rattle.tp_scene.specs.declared.lanes.Lanes.{Lanes}
 use Rattle.tp_scene.specs.declared.columns.Loads.{Loads}
 use Rattle.tp_scene.specs.declared.scene.Ribbon.{Ribbon}
 use Rattle.tp_scene.specs.declared.sketch.Sketch.{Sketch}
-use Rattle.tp_scene.specs.Scene.{running, bars, rows, under_way, arrows, load, is_way, ribbons, gave, cuts, seams, ends, resting, pauses}
+use Rattle.tp_scene.specs.Scene.{running, bars, rows, under_way, arrows, load, is_way, gave, cuts, seams, ends, resting, pauses}
 use Rattle.tp_wave.specs.Sums.{visit}
 use Rattle.tp_text.specs.AuditText.{last_judgement}
 
@@ -32,10 +32,9 @@ pub record HasTracks (n : ℕ) (past : List Step) (t : Tracks) : Type 0 where
   pub running : t.running.items ≡ running n past
   pub bars : t.bars.items ≡ bars n past
 
-pub record HasMessages (all : ℕ) (past : List Step) (m : Messages) : Type 0 where
+pub record HasMessages (past : List Step) (m : Messages) : Type 0 where
   pub under_way : m.under_way.items ≡ under_way past
   pub arrows : m.arrows.items ≡ arrows past
-  pub ribbons : m.ribbons.items ≡ ribbons all past
 
 pub record HasLoads (n all : ℕ) (past : List Step) (l : Loads) : Type 0 where
   pub size : length l.columns.items ≡ 12000
@@ -72,7 +71,7 @@ pub record Follows (n : ℕ) (past : List Step) (s : Sketch) : Type 0 where
   pub nodes : s.nodes ≡ n
   pub core : s.core ≡ record { nodes = n; steps = past }
   pub tracks : HasTracks n past s.tracks
-  pub messages : HasMessages s.all past s.messages
+  pub messages : HasMessages past s.messages
   pub waves : HasWaves n past s.waves
   pub lanes : HasLanes n past s.lanes
   pub loads : HasLoads n s.all past s.loads

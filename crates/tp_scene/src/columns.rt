@@ -19,11 +19,11 @@ pub(crate) fn column(all: u32, event: u32) -> u32
     (u64::from(event) * 1_500 / u64::from(all.max(1))).min(1_499) as u32
 }
 
-/// The band of 24 columns in which an event lies, of so many.
-pub(crate) fn band(all: u32, event: u32) -> u32
-    ensures { result ≡ band all event }
+/// The band of so many columns in which an event lies, of so many.
+pub(crate) fn band(wide: u32, all: u32, event: u32) -> u32
+    ensures { result ≡ band wide all event }
 {
-    column(all, event) / 24
+    column(all, event) / wide.max(1)
 }
 
 /// The node of the task at a place.

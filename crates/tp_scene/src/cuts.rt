@@ -1,5 +1,5 @@
 ghost use Rattle.std.specs.Prelude.{◌≡◌, ◌++◌, ◌<◌, ◌^◌, OnOk, slice_index};
-ghost use Rattle.std.specs.Prelude.{◌+◌, slice_get, vec_len};
+ghost use Rattle.std.specs.Prelude.{◌+◌, length, slice_get};
 ghost use Rattle.tp_scene.specs.Cuts.{tells, wave_class, cut_at, crossing, crossings, rings, ring_text, cut_text, over};
 ghost use Rattle.tp_scene.specs.Cuts.{line_text, line_begin, line_end, rings_text};
 ghost use Rattle.tp_scene.specs.Cuts.{end_text, label, label_at, label_text, labels, has_room, needed, side, stands_right};
@@ -304,34 +304,43 @@ fn push_label_beside(
     push_label(out, scene, cut, row)
 }
 
-/// The wave at a place of the list.
-fn nth(scene: &Scene, k: usize) -> Option<Cut>
-    ensures { result ≡ slice_get scene.now.cuts.items k }
+/// The wave at a place of a list.
+fn nth(cuts: &[Cut], k: usize) -> Option<Cut>
+    ensures { result ≡ slice_get cuts.now k }
 {
-    match scene.cuts.get(k) {
+    match cuts.get(k) {
         Some(cut) => Some(*cut),
         None => None,
     }
 }
 
-/// The label of the wave at a place of the list; the next of its row is at another.
-fn push_label_at(out: &mut Vec<u8>, scene: &Scene, k: usize, next: usize) -> Result<(), AllocError>
+/// The label of the wave at a place of a list; the next of its row is at another.
+fn push_label_at(
+    out: &mut Vec<u8>,
+    scene: &Scene,
+    cuts: &[Cut],
+    k: usize,
+    next: usize,
+) -> Result<(), AllocError>
     requires { next ≡ k + 2 }
-    ensures { OnOk result (out.new.items ≡ out.old.items
-        ++ label_at scene.now scene.now.cuts.items (slice_get scene.now.cuts.items k) k) }
+    ensures { OnOk result (out.new.items ≡ out.old.items ++ label_at scene.now cuts.now (slice_get cuts.now k) k) }
 {
-    match nth(scene, k) {
-        Some(cut) => push_label_beside(out, scene, &cut, nth(scene, next), (k % 2) as u64),
+    match nth(cuts, k) {
+        Some(cut) => push_label_beside(out, scene, &cut, nth(cuts, next), (k % 2) as u64),
         None => Ok(()),
     }
 }
 
-/// The labels of the waves, in two rows: one is left out where the next of its row has no room beside it.
-pub(crate) fn push_labels(out: &mut Vec<u8>, scene: &Scene) -> Result<(), AllocError>
-    ensures { OnOk result (out.new.items ≡ out.old.items ++ labels scene.now scene.now.cuts.items (vec_len scene.now.cuts)) }
+/// The labels of these waves, in two rows: one is left out where the next of its row has no room beside it.
+pub(crate) fn push_labels(
+    out: &mut Vec<u8>,
+    scene: &Scene,
+    cuts: &[Cut],
+) -> Result<(), AllocError>
+    ensures { OnOk result (out.new.items ≡ out.old.items ++ labels scene.now cuts.now (length cuts.now)) }
 {
-    for k in 0..scene.cuts.len() {
-        push_label_at(out, scene, k, k + 2)?;
+    for k in 0..cuts.len() {
+        push_label_at(out, scene, cuts, k, k + 2)?;
     }
     Ok(())
 }

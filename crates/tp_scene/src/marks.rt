@@ -166,11 +166,11 @@ fn push_white(out: &mut Vec<u8>, area: Area) -> Result<(), AllocError>
     )
 }
 
-/// Whether a pause is drawn: where sums are drawn it has to be a pixel wide.
+/// Whether a pause is drawn: where sums are drawn it has to be two pixels wide for each node that there is.
 fn is_seen(scene: &Scene, area: Area) -> bool
     ensures { result ≡ is_seen scene.now area }
 {
-    !scene.detail().is_summed() || 10 <= area.width
+    !scene.detail().is_summed() || 20 * u64::from(scene.nodes) <= area.width
 }
 
 impl Mark for Pause {
