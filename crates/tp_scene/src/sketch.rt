@@ -64,7 +64,7 @@ impl Sketch {
         self.waves.take(step, reply, place)?;
         self.lanes.take(&self.core.numbers().nodes, place)?;
         self.loads
-            .take(&self.tracks.running, column(self.all, place));
+            .take(&self.tracks.counts, column(self.all, place));
         Ok(())
     }
 
@@ -87,6 +87,7 @@ impl Sketch {
         let Tracks {
             homes: _,
             rows,
+            counts: _,
             running,
             bars,
         } = tracks;

@@ -16,7 +16,7 @@ returns-clause-follows c = λ n past h at.
       lanes = c.in_ok-take-4.ensures n past c.args.step h.lanes at
           (numbered n (c.args.step ∷ past) c.step.new.self c.numbers.result.nodes core c.numbers.ensures.nodes);
       loads = c.take-5.ensures n c.args.self.now.all past c.args.step h.loads (c.column.ensures.value ∙ ap (column c.args.self.now.all) at)
-          (c.deref.ensures.value ∙ (c.in_ok-take.ensures n past h.tracks at).running);
+          (c.in_ok-take.ensures n past h.tracks at).counts;
     }
 
 pub returns-clause-came : goal.returns-clause-came
