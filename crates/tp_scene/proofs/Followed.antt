@@ -1,6 +1,6 @@
 -- What is known of steps that were followed, one step further.
-use Rattle.std.proofs.Common.{◌≡◌, ◌≢◌, ℕ, ◌+◌, ◌-◌, ◌<◌, ◌==◌, min, Bool, true, false, List, [], ◌∷◌, ◌++◌, length, Option, Some, None, slice_index}
-use Rattle.std.proofs.Common.{slice_set, max, if◌then◌else◌, refl, sym, ap, subst, ◌∙◌, eqb-true, arith}
+use Rattle.std.proofs.Common.{◌≡◌, ◌≢◌, ℕ, ◌+◌, ◌-◌, ◌<◌, ◌==◌, min, Bool, true, false, List, [], ◌∷◌, ◌++◌, length, Option, Some, None}
+use Rattle.std.proofs.Common.{slice_index, slice_set, max, if◌then◌else◌, refl, sym, ap, subst, ◌∙◌, eqb-true, arith}
 use Rattle.std.specs.Prelude.{OnOk, Result, Ok, Err, unwrap_or, map}
 use Rattle.std.specs.List.{find, range_with_len}
 use Rattle.std.specs.Option.{option_map}
@@ -237,9 +237,11 @@ tracks_done n past t place old new found h at is same row count run bar = record
       ∙ ap (λ p. bars n past ++ bar_of (find (is_run_of t.0) (running n past)) p) at;
 }
   where
-    less : (length new.counts ≡ 8) × ((i : ℕ) → i < 8 → slice_index new.counts i ≡ how_many (is_at i) (without (is_run_of t.0) (running n past)))
+    less : (length new.counts ≡ 8)
+        × ((i : ℕ) → i < 8 → slice_index new.counts i ≡ how_many (is_at i) (without (is_run_of t.0) (running n past)))
     less =
-        counts_less (is_run_of t.0) (running n past) found old.counts new.counts (is ∙ ap (find (is_run_of t.0)) h.running) h.many h.counts count
+        counts_less (is_run_of t.0) (running n past) found old.counts new.counts (is ∙ ap (λ rs. find (is_run_of t.0) rs) h.running) h.many
+        h.counts count
 
 -- ---- messages
 pub messages_sent : (past : List Step) (x : Sending) (g : Generation) (old new : Messages) → HasMessages past old → x.sent ≡ length past

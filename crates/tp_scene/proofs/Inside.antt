@@ -33,8 +33,8 @@ use Rattle.tp_scene.specs.declared.scene.Scene.{Scene}
 use Rattle.tp_scene.specs.Scene.{IsSceneOf, is_run_of, begun, running, bars, bar_of, with_row, rows, is_sending_of, under_way, arrows}
 use Rattle.tp_scene.specs.Scene.{arrow_of, gave, cut, cuts, ends, end_of, seams, since_when, resting, pause_of, ended_pause, pause_before}
 use Rattle.tp_scene.specs.Scene.{pauses_before, pauses, pauses_now, last_pauses, column, band, way_of, ribbons}
-use Rattle.tp_scene.specs.Layout.{detail_of, step_of, span_of, between_of, gap_of, edge, middle, right, reach, rows_of, height_of, top_of, foot}
-use Rattle.tp_scene.specs.Layout.{track_of, bottom, width, page_height, pitch, room_of, is_summed}
+use Rattle.tp_scene.specs.Layout.{detail_of, step_of, span_of, between_of, gap_of, edge, middle, right, reach, rows_of, height_of, top_of}
+use Rattle.tp_scene.specs.Layout.{foot, track_of, bottom, width, page_height, pitch, room_of, is_summed}
 use Rattle.tp_scene.specs.Flow.{rise, level, in_band}
 use Rattle.tp_scene.specs.Layout as layout
 use Rattle.tp_scene.specs.Inside.{IsRunThere, IsSendingThere, IsRibbonThere, AreThere, AllIsInside}
@@ -364,7 +364,8 @@ IsWayIn n wide way = (way.from.0 < n) × (way.to.0 < n) × (way.sent * wide < 15
 band-less : (wide all e : ℕ) → band wide all e * wide < 1500
 band-less wide all e =
     let part = column all e / max wide 1 in
-    omega (arith, div-add-mod' (column all e) (max wide 1), mul-le part wide part (max wide 1) (omega arith) (omega arith), column-less all e)
+    let bound = mul-le part wide part (max wide 1) (omega arith) (omega arith) in
+    omega (arith, div-add-mod' (column all e) (max wide 1), bound, column-less all e)
   where
     column-less : (all e : ℕ) → column all e < 1500
     column-less all e = omega arith

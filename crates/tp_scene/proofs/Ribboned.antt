@@ -156,12 +156,14 @@ counts wide all (arrow ∷ rest) = omega (arith, added_with (way_of wide all arr
 on_way : (wide all : ℕ) (way : Way) (over : List Arrow)
     → counted_on way (ribbons wide all over) ≡ how_many (goes wide all way) over
 on_way wide all way [] = refl
-on_way wide all way (arrow ∷ rest) = choose (is_way way (way_of wide all arrow)) (counted_with way (way_of wide all arrow) (ribbons wide all rest))
+on_way wide all way (arrow ∷ rest) =
+    choose (is_way way (way_of wide all arrow)) (counted_with way (way_of wide all arrow) (ribbons wide all rest))
   where
-    choose : (b : Bool) → counted_on way (with_way (way_of wide all arrow) (ribbons wide all rest)) ≡ counted_on way (ribbons wide all rest) + one b
-        → counted_on way (with_way (way_of wide all arrow) (ribbons wide all rest)) ≡ (if b then 1 else 0) + how_many (goes wide all way) rest
-    choose true e = omega (arith, e, on_way wide all way rest)
-    choose false e = omega (arith, e, on_way wide all way rest)
+    now : ℕ
+    now = counted_on way (with_way (way_of wide all arrow) (ribbons wide all rest))
+
+    choose : (b : Bool) → now ≡ counted_on way (ribbons wide all rest) + one b → now ≡ one b + how_many (goes wide all way) rest
+    choose b e = omega (arith, e, on_way wide all way rest)
 
 length-mapped : {A B : Type 0} (f : A → B) (xs : List A) → length (map f xs) ≡ length xs
 length-mapped f [] = refl
@@ -263,8 +265,8 @@ longer : (way : Way) (rs : List Ribbon) → (length rs ≤ length (with_way way 
 longer way [] = (omega arith, omega arith)
 longer way (r ∷ rs) =
     let rest = longer way rs in
-    let choose : (b : Bool) → (length (r ∷ rs) ≤ length (if b then record { way = r.way; count = r.count + 1 } ∷ rs else r ∷ with_way way rs))
-    × (length (if b then record { way = r.way; count = r.count + 1 } ∷ rs else r ∷ with_way way rs) ≤ length (r ∷ rs) + 1) =
+    let with : Bool → List Ribbon = λ b. if b then record { way = r.way; count = r.count + 1 } ∷ rs else r ∷ with_way way rs in
+    let choose : (b : Bool) → (length (r ∷ rs) ≤ length (with b)) × (length (with b) ≤ length (r ∷ rs) + 1) =
     elim [ true ↦ (omega arith, omega arith) | false ↦ (omega (arith, rest.0), omega (arith, rest.1)) ]
     in
     choose (is_way way r.way)

@@ -1,7 +1,8 @@
 ghost use Rattle.std.specs.Prelude.{◌≡◌, ◌++◌, ◌<◌, ◌^◌, OnOk, IfOk, take};
 ghost use Rattle.tp_scene.specs.Page.{head, headline, plural, verdict, lane, ground, grounds, frame, frames, unit_by, unit, tick};
 ghost use Rattle.tp_scene.specs.Page.{tick_where, ticks, axis_line, axis, lanes, messages, tasks, run, waves, svg_of};
-ghost use Rattle.tp_scene.specs.Page.{all_bars, counts, legend, missing, more_style, opening, picture, received, recent, sizes, svg_until_of};
+ghost use Rattle.tp_scene.specs.Page.{all_bars, counts, legend, missing, more_style, opening, picture, received, recent, sizes};
+ghost use Rattle.tp_scene.specs.Page.{svg_until_of};
 
 use crate::cuts::push_labels;
 use crate::fault::push_fault;
@@ -62,7 +63,7 @@ pub const LEGEND: &[u8] =
 /// What the lines and colours mean, where sums are drawn.
 pub const LEGEND_OF_SUMS: &[u8] =
     b"<text x=\"74\" y=\"66\">height: how many tasks run \xc2\xb7 tinted lane: something is pending, white: idle</text>
-<text x=\"74\" y=\"82\">ribbon: messages, wider the more \xc2\xb7 line: one of the last 50 waves, through the place where each node gave its sums</text>
+<text x=\"74\" y=\"82\">ribbon: messages, wider the more \xc2\xb7 line: one of the last 50 waves, where each node gave its sums</text>
 ";
 
 /// How sums look, where they are drawn.
