@@ -124,7 +124,8 @@ module _ (n all : ℕ) (s : Step) (past : List Step) (k here : ℕ) (old : Loads
     where
       here_now : load n k all here past + more ≡ load n k all here (s ∷ past)
       here_now =
-          ap (λ m. load n k all here past + m) is ∙ sym (load-here n k all here s past (same_numbers (column all (length past)) here (sym at)))
+          ap (λ m. load n k all here past + m) is
+          ∙ sym (load-here n k all here s past (same_numbers (column all (length past)) here (sym at)))
 
       choose : (i c : ℕ) → i < 8 → c < 1500 → (t : Bool) → (k * 1500 + here == i * 1500 + c) ≡ t → (d : Bool) → (i == k) ≡ d
           → (if t then slice_index old.columns.items (k * 1500 + here) + more else slice_index old.columns.items (i * 1500 + c))

@@ -265,8 +265,8 @@ longer : (way : Way) (rs : List Ribbon) → (length rs ≤ length (with_way way 
 longer way [] = (omega arith, omega arith)
 longer way (r ∷ rs) =
     let rest = longer way rs in
-    let with : Bool → List Ribbon = λ b. if b then record { way = r.way; count = r.count + 1 } ∷ rs else r ∷ with_way way rs in
-    let choose : (b : Bool) → (length (r ∷ rs) ≤ length (with b)) × (length (with b) ≤ length (r ∷ rs) + 1) =
+    let grown : Bool → List Ribbon = λ b. if b then record { way = r.way; count = r.count + 1 } ∷ rs else r ∷ with_way way rs in
+    let choose : (b : Bool) → (length (r ∷ rs) ≤ length (grown b)) × (length (grown b) ≤ length (r ∷ rs) + 1) =
     elim [ true ↦ (omega arith, omega arith) | false ↦ (omega (arith, rest.0), omega (arith, rest.1)) ]
     in
     choose (is_way way r.way)
