@@ -24,6 +24,7 @@ use Rattle.tp_scene.specs.Scene.{first_from, is_sending_of, under_way, arrows, a
 use Rattle.tp_scene.specs.Scene.{doubled, is_fitting, band_for}
 use Rattle.tp_scene.specs.Laws.{hop_of, hops, added, goes, counted_on, HasRibbons, RibbonsCarryAll}
 use Rattle.tp_scene.specs.Following.{AreApart}
+use Rattle.tp_scene.proofs.Steps.{first_here, first_passed}
 use Rattle.tp_scene.proofs.Lists.{one, some_same, none_some, true_false, counted-push}
 use Rattle.tp_scene.proofs.Apart.{Each, Pairs, each_all, each_map, pairs_all}
 use Rattle.tp_scene.proofs.EachMessage.{each_message}
@@ -198,6 +199,36 @@ few_ribbons wide all over is = choose (passed_or (is_fitting all over) 6 0)
         let few : length (ribbons (band_for all over) all over) ≤ 600 = grind (arith, nat_tests, passes) in
         inl (subst (λ w. length (ribbons w all over) ≤ 600) (sym is) few)
     choose (inr last) = inr (is ∙ ap doubled last)
+
+-- ---- how wide bands are, looked for one width after another
+abbrev SoFar : ℕ → List Arrow → ℕ → Type 0
+SoFar all over times = first_from (is_fitting all over) 6 0 ≡ first_from (is_fitting all over) (6 - times) times
+
+few_fit : (x : ℕ) → x ≤ 600 → nat_le x 600 ≡ true
+few_fit x few = grind (arith, nat_tests, few)
+
+many_do_not : (x : ℕ) → 600 < x → nat_le x 600 ≡ false
+many_do_not x many = grind (arith, nat_tests, many)
+
+pub fits_here : (all times wide : ℕ) (over : List Arrow) → times < 6 → wide ≡ doubled times → SoFar all over times
+    → length (ribbons wide all over) ≤ 600 → wide ≡ band_for all over
+fits_here all times wide over less is so_far few =
+    let passes : is_fitting all over times ≡ true =
+    few_fit (length (ribbons (doubled times) all over)) (subst (λ w. length (ribbons w all over) ≤ 600) is few) in
+    is ∙ sym (ap doubled (so_far ∙ first_here (is_fitting all over) (6 - times) times (omega (arith, less)) passes))
+
+pub fits_not : (all times wide : ℕ) (over : List Arrow) → times < 6 → wide ≡ doubled times → SoFar all over times
+    → 600 < length (ribbons wide all over) → SoFar all over (times + 1)
+fits_not all times wide over less is so_far many =
+    let fails : is_fitting all over times ≡ false =
+    many_do_not (length (ribbons (doubled times) all over)) (subst (λ w. 600 < length (ribbons w all over)) is many) in
+    so_far ∙ first_passed (is_fitting all over) 6 times less fails
+
+pub fits_last : (all times wide : ℕ) (over : List Arrow) → 6 ≤ times → times ≤ 6 → wide ≡ doubled 6 → SoFar all over times
+    → wide ≡ band_for all over
+fits_last all times wide over low high is so_far =
+    let end : times ≡ 6 = omega (arith, low, high) in
+    is ∙ sym (ap doubled (so_far ∙ ap (λ t. first_from (is_fitting all over) (6 - t) t) end))
 
 pub ribbons_carry : RibbonsCarryAll
 ribbons_carry wide all steps = record {

@@ -134,9 +134,11 @@ fn counted(
     let mut ribbons = Vec::new(alloc);
     let many = arrows.len();
     for back in 0..many {
-        let way = way_of(wide, all, &arrows[many - 1 - back]);
+        let k = many - 1 - back;
+        let way = way_of(wide, all, &arrows[k]);
         count(&mut ribbons, places, way)?;
-        if ribbons.len() > most {
+        let ways = ribbons.len();
+        if most < ways {
             return Ok(None);
         }
     }
