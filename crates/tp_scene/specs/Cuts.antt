@@ -66,8 +66,7 @@ over s end = area (middle s end.since) 1360 (middle s end.judged - middle s end.
 unfoldable pub end_text : Scene → End → List ℕ
 end_text s end =
     codes "<rect class=\"over\"" ⧺ box_text (over s end) ⧺ codes "/>\n<path class=\"end\" d=\"M" ⧺ point (at (middle s end.judged) 1360)
-    ⧺ codes "V" ⧺ tenths (bottom s + 220) ⧺ codes "\"/><text class=\"told\" x=\"" ⧺ tenths (middle s end.judged) ⧺ codes "\" y=\""
-    ⧺ tenths (bottom s + 340) ⧺ codes "\">ended " ⧺ decimal end.wave ⧺ codes "</text>\n"
+    ⧺ codes "V" ⧺ tenths (bottom s + 220) ⧺ codes "\"/>\n"
 
 -- ---- labels
 -- A label is at most 170 pixels wide. It stands to the left of its wave's line at node 0, or to the right where there is no room.

@@ -123,6 +123,4 @@ lost_text s sending =
 -- ---- generations
 unfoldable pub seam_text : Scene → Seam → List ℕ
 seam_text s seam =
-    codes "<path class=\"seam\" d=\"M" ⧺ point (at (edge s seam.at) 940) ⧺ codes "V" ⧺ tenths (bottom s + 220)
-    ⧺ codes "\"/><text class=\"seam\" x=\"" ⧺ tenths (edge s seam.at + 40) ⧺ codes "\" y=\"98\">generation "
-    ⧺ decimal seam.generation.0 ⧺ codes "</text>\n"
+    codes "<path class=\"seam\" d=\"M" ⧺ point (at (edge s seam.at) 940) ⧺ codes "V" ⧺ tenths (bottom s + 220) ⧺ codes "\"/>\n"

@@ -11,6 +11,7 @@ use Rattle.tp_scene.specs.Marks.{at, area, bar_text, running_text, pause_text, a
 use Rattle.tp_scene.specs.Cuts.{cut_text, end_text, labels}
 use Rattle.tp_scene.specs.Flow.{hills, ribbon_text}
 use Rattle.tp_scene.specs.Fault.{fault_text}
+use Rattle.tp_scene.specs.Labels.{end_labels, seam_labels}
 
 -- the size of the page, and how things look on it
 unfoldable pub head : Scene → List ℕ
@@ -146,9 +147,14 @@ waves s =
     flat_map (end_text s) (recent s s.ends.items) ⧺ flat_map (cut_text s) (recent s s.cuts.items)
     ⧺ labels s (recent s s.cuts.items) (length (recent s s.cuts.items)) ⧺ flat_map (seam_text s) (recent s s.seams.items)
 
+unfoldable pub stop_labels : Scene → List ℕ
+stop_labels s =
+    end_labels s (recent s s.ends.items) (length (recent s s.ends.items))
+    ⧺ seam_labels s (recent s s.seams.items) (length (recent s s.seams.items))
+
 -- all that is drawn of a scene
 unfoldable pub picture : Scene → List ℕ
-picture s = opening s ⧺ headline s ⧺ verdict s.ended ⧺ legend s ⧺ run s ⧺ waves s ⧺ axis s
+picture s = opening s ⧺ headline s ⧺ verdict s.ended ⧺ legend s ⧺ run s ⧺ waves s ⧺ stop_labels s ⧺ axis s
 
 -- the picture of a scene
 unfoldable pub svg_of : Scene → List ℕ

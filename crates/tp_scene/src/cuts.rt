@@ -208,13 +208,7 @@ impl Mark for End {
                 Part::Place(Point { x, y: TOP - 140 }),
                 Part::Text(b"V"),
                 Part::Length(bottom + 220),
-                Part::Text(b"\"/><text class=\"told\" x=\""),
-                Part::Length(x),
-                Part::Text(b"\" y=\""),
-                Part::Length(bottom + 340),
-                Part::Text(b"\">ended "),
-                Part::Number(self.wave as u64),
-                Part::Text(b"</text>\n"),
+                Part::Text(b"\"/>\n"),
             ],
         )
     }

@@ -347,11 +347,7 @@ impl Mark for Seam {
                 Part::Place(Point { x, y: TOP - 560 }),
                 Part::Text(b"V"),
                 Part::Length(bottom + 220),
-                Part::Text(b"\"/><text class=\"seam\" x=\""),
-                Part::Length(x + 40),
-                Part::Text(b"\" y=\"98\">generation "),
-                Part::Number(self.generation.0 as u64),
-                Part::Text(b"</text>\n"),
+                Part::Text(b"\"/>\n"),
             ],
         )
     }

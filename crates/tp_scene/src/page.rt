@@ -2,11 +2,12 @@ ghost use Rattle.std.specs.Prelude.{◌≡◌, ◌++◌, ◌<◌, ◌^◌, OnOk,
 ghost use Rattle.tp_scene.specs.Page.{head, headline, plural, verdict, lane, ground, grounds, frame, frames, unit_by, unit, tick};
 ghost use Rattle.tp_scene.specs.Page.{tick_where, ticks, axis_line, axis, lanes, messages, tasks, run, waves, svg_of};
 ghost use Rattle.tp_scene.specs.Page.{all_bars, counts, legend, missing, more_style, opening, picture, received, recent, sizes};
-ghost use Rattle.tp_scene.specs.Page.{svg_until_of};
+ghost use Rattle.tp_scene.specs.Page.{stop_labels, svg_until_of};
 
 use crate::cuts::push_labels;
 use crate::fault::push_fault;
 use crate::flow::push_hills;
+use crate::labels::{push_end_labels, push_seam_labels};
 use crate::layout::LEFT;
 use crate::pieces::{Area, Part, Point, push_all, push_parts};
 use crate::scene::Scene;
@@ -56,13 +57,13 @@ pub const STYLE_OF_SUMS: &[u8] = b"<style>
 
 /// What the lines and colours mean, below the headline.
 pub const LEGEND: &[u8] =
-    b"<text x=\"74\" y=\"66\">bar: a task runs \xc2\xb7 tinted lane: something is pending, white: idle</text>
+    b"<text x=\"74\" y=\"66\">bar: a task runs \xc2\xb7 lane: tinted where something is pending at the node</text>
 <text x=\"74\" y=\"82\">arrow: a message \xc2\xb7 line: a wave, through the place where each node gave its sums</text>
 ";
 
 /// What the lines and colours mean, where sums are drawn.
 pub const LEGEND_OF_SUMS: &[u8] =
-    b"<text x=\"74\" y=\"66\">height: how many tasks run \xc2\xb7 tinted lane: something is pending, white: idle</text>
+    b"<text x=\"74\" y=\"66\">height: how many tasks run \xc2\xb7 lane: tinted where something is pending at the node</text>
 <text x=\"74\" y=\"82\">ribbon: messages, wider the more \xc2\xb7 line: one of the last 50 waves, where each node gave its sums</text>
 ";
 
@@ -506,6 +507,15 @@ fn push_waves(out: &mut Vec<u8>, scene: &Scene) -> Result<(), AllocError>
     push_all(out, scene, recent(scene, &scene.seams))
 }
 
+/// The labels of the ends and of the generations.
+#[tactic(auto, unfolding(crate::specs::Page::stop_labels))]
+fn push_stop_labels(out: &mut Vec<u8>, scene: &Scene) -> Result<(), AllocError>
+    ensures { OnOk result (out.new.items ≡ out.old.items ++ stop_labels scene.now) }
+{
+    push_end_labels(out, scene, recent(scene, &scene.ends))?;
+    push_seam_labels(out, scene, recent(scene, &scene.seams))
+}
+
 /// All that is drawn of a scene.
 #[tactic(auto, unfolding(crate::specs::Page::picture))]
 fn push_picture(out: &mut Vec<u8>, scene: &Scene) -> Result<(), AllocError>
@@ -517,6 +527,7 @@ fn push_picture(out: &mut Vec<u8>, scene: &Scene) -> Result<(), AllocError>
     out.extend_from_slice(legend(scene))?;
     push_run(out, scene)?;
     push_waves(out, scene)?;
+    push_stop_labels(out, scene)?;
     push_axis(out, scene)
 }
 
