@@ -1,6 +1,6 @@
-ghost use Rattle.std.specs.Prelude.{◌≡◌, ◌++◌, ◌<◌, ◌^◌, OnOk, slice_index};
+ghost use Rattle.std.specs.Prelude.{◌≡◌, ◌++◌, ◌<◌, ◌≤◌, ◌^◌, OnOk, slice_index};
 ghost use Rattle.std.specs.Prelude.{◌+◌, length, slice_get};
-ghost use Rattle.tp_scene.specs.Cuts.{tells, wave_class, cut_at, crossing, crossings, rings, ring_text, cut_text, over};
+ghost use Rattle.tp_scene.specs.Cuts.{tells, wave_class, cut_at, crossing, crossings, rings, ring_text, cut_text, over, label_room};
 ghost use Rattle.tp_scene.specs.Cuts.{line_text, line_begin, line_end, rings_text};
 ghost use Rattle.tp_scene.specs.Cuts.{end_text, label, label_at, label_text, labels, has_room, needed, side, stands_right};
 
@@ -9,9 +9,6 @@ use crate::pieces::{Area, Mark, Part, Point, push_parts};
 use crate::places::place_of;
 use crate::scene::{Cut, End, Scene};
 use std::alloc::AllocError;
-
-/// A label is at most so wide.
-const LABEL: u64 = 1_700;
 
 /// Whether a wave is one of the two that tell an end.
 #[tactic(auto, unfolding(crate::specs::Cuts::tells))]
@@ -214,12 +211,24 @@ impl Mark for End {
     }
 }
 
+/// How wide a label is at most.
+fn label_room(scene: &Scene) -> u64
+    ensures value { result ≡ label_room scene.now }
+    ensures bound { result ≤ 2300 }
+{
+    if scene.detail().is_summed() {
+        2_300
+    } else {
+        1_800
+    }
+}
+
 /// Whether a wave's label stands to the right of its line: where there is no room on the left.
 #[tactic(auto, unfolding(crate::specs::Cuts::stands_right))]
 fn stands_right(scene: &Scene, cut: &Cut) -> bool
     ensures { result ≡ stands_right scene.now cut.now }
 {
-    cut_at(scene, cut, 0) < LABEL
+    cut_at(scene, cut, 0) < label_room(scene)
 }
 
 /// On which side of its line a wave's label stands.
@@ -235,10 +244,11 @@ fn side(scene: &Scene, cut: &Cut) -> &'static [u8]
 }
 
 /// How far the next wave of a row has to be from one whose label stands so.
-fn needed(is_right: bool) -> u64
-    ensures { result ≡ needed is_right }
+fn needed(scene: &Scene, is_right: bool) -> u64
+    ensures { result ≡ needed scene.now is_right }
 {
-    if is_right { 2 * LABEL } else { LABEL }
+    let room = label_room(scene);
+    if is_right { 2 * room } else { room }
 }
 
 /// Whether there is room for a wave's label beside that of the next wave in its row.
@@ -249,7 +259,7 @@ fn has_room(scene: &Scene, cut: &Cut, next: Option<Cut>) -> bool
     match next {
         Some(next) => {
             let apart = cut_at(scene, &next, 0).saturating_sub(cut_at(scene, cut, 0));
-            needed(stands_right(scene, cut)) <= apart
+            needed(scene, stands_right(scene, cut)) <= apart
         }
         None => true,
     }
