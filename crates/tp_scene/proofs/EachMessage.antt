@@ -224,5 +224,8 @@ hops_all n (Recv j k g ∷ past) some h =
     hops_received n past j k g (h.0.goes_on refl).0.1 (flights n past some h.1) (hops_all n past some h.1)
 hops_all n (s ∷ past) some h = hops_all n past some h.1
 
+pub once_under_way : (n : ℕ) (steps : List Step) → 1 ≤ n → AreRuns n steps → (m : ℕ) → how_many (is_sending_of m) (under_way steps) ≤ 1
+once_under_way n steps some h m = (flights n steps some h).once m
+
 pub each_message : EachMessageOnce
 each_message n steps some h = record { received = hops_all n steps some h; open_once = (flights n steps some h).same }

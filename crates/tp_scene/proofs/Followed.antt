@@ -243,36 +243,6 @@ tracks_done n past t place old new found h at is same row count run bar = record
         counts_less (is_run_of t.0) (running n past) found old.counts new.counts (is ∙ ap (λ rs. find (is_run_of t.0) rs) h.running) h.many
         h.counts count
 
--- ---- messages
-pub messages_sent : (past : List Step) (x : Sending) (g : Generation) (old new : Messages) → HasMessages past old → x.sent ≡ length past
-    → new.under_way.items ≡ old.under_way.items ++ x ∷ [] → new.arrows.items ≡ old.arrows.items
-    → HasMessages (Send x.from x.to x.message g ∷ past) new
-messages_sent past x g old new h at more same =
-    let made : ℕ → Sending = λ p. record { message = x.message; from = x.from; to = x.to; sent = p } in
-    record {
-      under_way = more ∙ ap (λ xs. xs ++ x ∷ []) h.under_way ∙ ap (λ p. under_way past ++ made p ∷ []) at;
-      arrows = same ∙ h.arrows;
-    }
-
-pub messages_received : (past : List Step) (j : NodeId) (m : MessageId) (g : Generation) (place : ℕ) (old new : Messages)
-    (found : Option Sending) → HasMessages past old → place ≡ length past → found ≡ find (is_sending_of m.0) old.under_way.items
-    → new.under_way.items ≡ without (is_sending_of m.0) old.under_way.items → new.arrows.items ≡ old.arrows.items ++ arrow_of found place
-    → HasMessages (Recv j m g ∷ past) new
-messages_received past j m g place old new found h at is less more = record {
-  under_way = less ∙ ap (λ xs. without (is_sending_of m.0) xs) h.under_way;
-  arrows =
-      more ∙ ap (λ xs. xs ++ arrow_of found place) h.arrows
-      ∙ ap (λ f. arrows past ++ arrow_of f place) (is ∙ ap (λ xs. find (is_sending_of m.0) xs) h.under_way)
-      ∙ ap (λ p. arrows past ++ arrow_of (find (is_sending_of m.0) (under_way past)) p) at;
-}
-
-pub messages_other : (past : List Step) (s : Step) (x : Messages) → HasMessages past x
-    → ((i j : NodeId) (m : MessageId) (g : Generation) → s ≢ Send i j m g) → ((j : NodeId) (m : MessageId) (g : Generation) → s ≢ Recv j m g)
-    → HasMessages (s ∷ past) x
-messages_other past (Send i j m g) x h send recv = absurd (send i j m g refl)
-messages_other past (Recv j m g) x h send recv = absurd (recv j m g refl)
-messages_other past s x h send recv = record { under_way = h.under_way; arrows = h.arrows }
-
 -- ---- waves
 pub given_more : (past : List Step) (node : NodeId) (place : ℕ) (old new : Gives) → HasGiven past old → place ≡ length past
     → new.last ≡ slice_set old.last node.0 place

@@ -1,5 +1,6 @@
 -- What is known of steps that were followed one by one.
-use Rattle.std.specs.Prelude.{ℕ, ◌+◌, ◌*◌, ◌≡◌, ◌==◌, ◌<◌, ◌≤◌, List, None, false, length, slice_index}
+use Rattle.std.specs.Prelude.{ℕ, ◌+◌, ◌*◌, ◌≡◌, ◌==◌, ◌<◌, ◌≤◌, Bool, true, false, List, [], ◌∷◌, Some, None, length, slice_get}
+use Rattle.std.specs.Prelude.{slice_index, if◌then◌else◌}
 use Rattle.std.specs.List.{AllPairs, find, slice_index_or}
 use Rattle.std.specs.Option.{option_map}
 use Rattle.tp_base.specs.declared.limits.TheConstants.{MAX_NODES}
@@ -8,7 +9,7 @@ use Rattle.tp_base.specs.declared.Step.{Step}
 use Rattle.tp_base.specs.Table.{lookup}
 use Rattle.tp_core.specs.declared.NodeNumbers.{NodeNumbers}
 use Rattle.tp_core.specs.World.{Task, how_many, pending}
-use Rattle.tp_core.specs.Generations.{world_after}
+use Rattle.tp_core.specs.Generations.{AreRuns, world_after}
 use Rattle.tp_core.specs.Accepted.{no_numbers}
 use Rattle.tp_scene.specs.declared.tracks.Tracks.{Tracks}
 use Rattle.tp_scene.specs.declared.messages.Messages.{Messages}
@@ -17,6 +18,7 @@ use Rattle.tp_scene.specs.declared.waves.Waves.{Waves}
 use Rattle.tp_scene.specs.declared.lanes.Lanes.{Lanes}
 use Rattle.tp_scene.specs.declared.columns.Loads.{Loads}
 use Rattle.tp_scene.specs.declared.scene.Ribbon.{Ribbon}
+use Rattle.tp_scene.specs.declared.scene.Sending.{Sending}
 use Rattle.tp_scene.specs.declared.sketch.Sketch.{Sketch}
 use Rattle.tp_scene.specs.Scene.{running, bars, rows, under_way, arrows, is_at, load, is_way, gave, cuts, seams, ends, resting, pauses}
 use Rattle.tp_wave.specs.Sums.{visit}
@@ -38,8 +40,18 @@ pub record HasTracks (n : ℕ) (past : List Step) (t : Tracks) : Type 0 where
   pub running : t.running.items ≡ running n past
   pub bars : t.bars.items ≡ bars n past
 
+-- those of a list that have a flag
+abbrev pub kept : List Bool → List Sending → List Sending
+kept [] xs = []
+kept (flag ∷ flags) [] = []
+kept (flag ∷ flags) (x ∷ xs) = if flag then x ∷ kept flags xs else kept flags xs
+
+-- The messages under way are those that have a flag, and each of these is found by its number.
 pub record HasMessages (past : List Step) (m : Messages) : Type 0 where
-  pub under_way : m.under_way.items ≡ under_way past
+  pub size : length m.is_open.items ≡ length m.sent.items
+  pub under_way : kept m.is_open.items m.sent.items ≡ under_way past
+  pub places : (k : ℕ) (x : Sending) → slice_get m.is_open.items k ≡ Some true → slice_get m.sent.items k ≡ Some x
+      → lookup m.places x.message.0 ≡ Some k
   pub arrows : m.arrows.items ≡ arrows past
 
 pub record HasLoads (n all : ℕ) (past : List Step) (l : Loads) : Type 0 where
@@ -75,6 +87,8 @@ pub record HasLanes (n : ℕ) (past : List Step) (l : Lanes) : Type 0 where
 
 pub record Follows (n : ℕ) (past : List Step) (s : Sketch) : Type 0 where
   pub nodes : s.nodes ≡ n
+  pub some : 1 ≤ n
+  pub runs : AreRuns n past
   pub core : s.core ≡ record { nodes = n; steps = past }
   pub tracks : HasTracks n past s.tracks
   pub messages : HasMessages past s.messages

@@ -7,7 +7,7 @@ ghost use Rattle.tp_scene.specs.Scene.{IsSceneOf, IsRefused, IsRefusedAfter};
 
 use crate::columns::{Loads, column};
 use crate::lanes::Lanes;
-use crate::messages::Messages;
+use crate::messages::{Left, Messages};
 use crate::ribbons::{Counted, ribbons_of};
 use crate::scene::Scene;
 use crate::tracks::Tracks;
@@ -91,7 +91,7 @@ impl Sketch {
             running,
             bars,
         } = tracks;
-        let Messages { under_way, arrows } = messages;
+        let Left { under_way, arrows } = messages.finish(alloc)?;
         let Waves {
             gives: _,
             cuts,

@@ -1,6 +1,8 @@
 use Rattle.std.proofs.Common.{refl}
-use Rattle.tp_scene.proofs.Followed.{messages_sent}
+use Rattle.tp_scene.proofs.UnderWay.{messages_sent}
 use Rattle.tp_scene.proofs.messages.Messages.send.Goals as goal
 
 pub returns : goal.returns
-returns c = λ past g h at. messages_sent past c.args.sending g c.args.self.now _ h at c.in_ok-push.ensures.items refl
+returns c = λ n past g some runs h at.
+    messages_sent n past c.args.sending g c.args.self.now _ some runs h at c.in_ok-push-2.ensures.items c.in_ok-push.ensures.items
+    c.in_ok-insert.ensures.ok refl

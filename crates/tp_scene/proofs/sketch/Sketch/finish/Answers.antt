@@ -10,11 +10,11 @@ returns c = λ n past h at all. record {
   rows = h.tracks.rows;
   bars = h.tracks.bars;
   running = h.tracks.running;
-  arrows = h.messages.arrows;
-  under_way = h.messages.under_way;
+  arrows = (c.in_ok-finish.ensures past h.messages).1;
+  under_way = (c.in_ok-finish.ensures past h.messages).0;
   loads = λ i c less within. h.loads.columns i c less within ∙ ap (λ e. load n i e c past) (all ∙ at);
-  band = (counted_of _ _ _ _ past (c.deref.ensures.value ∙ h.messages.arrows) at c.in_ok-ribbons_of.ensures).0;
-  ribbons = (counted_of _ _ _ _ past (c.deref.ensures.value ∙ h.messages.arrows) at c.in_ok-ribbons_of.ensures).1;
+  band = (counted_of _ _ _ _ past (c.deref.ensures.value ∙ (c.in_ok-finish.ensures past h.messages).1) at c.in_ok-ribbons_of.ensures).0;
+  ribbons = (counted_of _ _ _ _ past (c.deref.ensures.value ∙ (c.in_ok-finish.ensures past h.messages).1) at c.in_ok-ribbons_of.ensures).1;
   cuts = h.waves.cuts;
   pauses = c.in_ok-pauses.ensures n past h.lanes at;
   seams = h.waves.seams;
@@ -27,5 +27,5 @@ finish-requires c = (c.requires.0, c.requires.1, c.requires.2.lanes)
 
 pub ribbons_of-requires : goal.ribbons_of-requires
 ribbons_of-requires c =
-    let arrows = c.deref.ensures.value ∙ c.requires.2.messages.arrows in
+    let arrows = c.deref.ensures.value ∙ (c.in_ok-finish.ensures c.requires.1 c.requires.2.messages).1 in
     omega (arith, ap length arrows, arrows_few c.requires.1, c.requires.3)

@@ -5,6 +5,8 @@ pub returns : goal.returns
 returns c = (
   record {
     nodes = refl;
+    some = c.requires.0;
+    runs = tt;
     core = c.new.ensures;
     tracks = c.new-2.ensures c.args.nodes;
     messages = c.new-3.ensures;
