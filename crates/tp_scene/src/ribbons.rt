@@ -162,7 +162,7 @@ fn doubled(times: u32) -> u32
 
 /// Messages counted by their ways, and how wide the bands of these are.
 #[derive(Drop)]
-pub(crate) struct Counted {
+pub(crate) struct Bands {
     pub(crate) wide: u32,
     pub(crate) ribbons: Vec<Ribbon>,
 }
@@ -172,7 +172,7 @@ pub(crate) fn ribbons_of(
     alloc: Global,
     all: u32,
     arrows: &[Arrow],
-) -> Result<Counted, AllocError>
+) -> Result<Bands, AllocError>
     requires { length arrows.now ≤ MAX_STEPS }
     ensures { IfOk result (λ counted. (counted.wide ≡ band_for all arrows.now)
         × (counted.ribbons.items ≡ ribbons counted.wide all arrows.now)) }
@@ -181,12 +181,12 @@ pub(crate) fn ribbons_of(
     for times in 0..6 {
         let wide = doubled(times);
         if let Some(ribbons) = counted(alloc, &mut places, wide, all, arrows, MOST)? {
-            return Ok(Counted { wide, ribbons });
+            return Ok(Bands { wide, ribbons });
         }
     }
     let wide = doubled(6);
     match counted(alloc, &mut places, wide, all, arrows, arrows.len())? {
-        Some(ribbons) => Ok(Counted { wide, ribbons }),
+        Some(ribbons) => Ok(Bands { wide, ribbons }),
         None => unreachable!(),
     }
 }

@@ -8,7 +8,7 @@ ghost use Rattle.tp_scene.specs.Scene.{IsSceneOf, IsRefused, IsRefusedAfter};
 use crate::columns::{Loads, column};
 use crate::lanes::Lanes;
 use crate::messages::{Left, Messages};
-use crate::ribbons::{Counted, ribbons_of};
+use crate::ribbons::{Bands, ribbons_of};
 use crate::scene::Scene;
 use crate::tracks::Tracks;
 use crate::waves::Waves;
@@ -100,7 +100,7 @@ impl Sketch {
             ended,
         } = waves;
         let Loads { columns } = loads;
-        let Counted { wide, ribbons } = ribbons_of(alloc, events, &arrows)?;
+        let Bands { wide, ribbons } = ribbons_of(alloc, events, &arrows)?;
         let pauses = lanes.finish(events)?;
         Ok(Scene {
             nodes,
