@@ -162,6 +162,15 @@ messages_sent n past x g old new some runs h at more opened puts same = record {
         ap (λ (z : Sending). lookup new.places z.message.0) is ∙ puts x.message.0
         ∙ ap (λ b. if b then Some (length old.sent.items) else lookup old.places x.message.0) (same_number x.message.0) ∙ ap Some (sym end)
 
+-- Those that are still open are found as before.
+pub places_kept : (old new : Messages) → ((k : ℕ) (x : Sending) → slice_get old.is_open.items k ≡ Some true
+    → slice_get old.sent.items k ≡ Some x → lookup old.places x.message.0 ≡ Some k)
+    → ((k : ℕ) → slice_get new.is_open.items k ≡ Some true → slice_get old.is_open.items k ≡ Some true) → new.sent ≡ old.sent
+    → new.places ≡ old.places → (k : ℕ) (x : Sending) → slice_get new.is_open.items k ≡ Some true → slice_get new.sent.items k ≡ Some x
+    → lookup new.places x.message.0 ≡ Some k
+places_kept old new places open sent same k x on there =
+    ap (λ t. lookup t x.message.0) same ∙ places k x (open k on) (sym (ap (λ v. slice_get v.items k) sent) ∙ there)
+
 pub messages_received : (n : ℕ) (past : List Step) (j : NodeId) (m : MessageId) (g : Generation) (place : ℕ) (old new : Messages)
     (found : Option Sending) → HasMessages past old → place ≡ length past
     → found ≡ find (is_sending_of m.0) (kept old.is_open.items old.sent.items)

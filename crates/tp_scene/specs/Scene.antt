@@ -234,11 +234,11 @@ pub record IsSceneOf (n : ℕ) (steps : List Step) (s : Scene) : Type 0 where
   pub rows : (i : ℕ) → i < 8 → slice_index s.rows i ≡ rows n i steps
   pub bars : s.bars.items ≡ bars n steps
   pub running : s.running.items ≡ running n steps
+  pub band : s.band ≡ band_for (length steps) (arrows steps)
+  pub ribbons : s.ribbons.items ≡ ribbons s.band (length steps) (arrows steps)
   pub arrows : s.arrows.items ≡ arrows steps
   pub under_way : s.under_way.items ≡ under_way steps
   pub loads : (i c : ℕ) → i < 8 → c < 1500 → slice_index s.loads.items (i * 1500 + c) ≡ load n i (length steps) c steps
-  pub band : s.band ≡ band_for (length steps) (arrows steps)
-  pub ribbons : s.ribbons.items ≡ ribbons s.band (length steps) (arrows steps)
   pub cuts : s.cuts.items ≡ cuts n steps
   pub pauses : s.pauses.items ≡ pauses n steps ++ last_pauses n steps
   pub seams : s.seams.items ≡ seams steps
