@@ -7,6 +7,7 @@ import argparse
 
 from . import bench, build, capi, demo, docs, drawn, gate_times, lanes, library, limits, new_pool, soak, tries, wrong
 from .limits import cuts, generations, hostile_numbers, memory, random_texts, refuse, refuse_tests, stacks, strange
+from .limits import terminal
 
 COMMANDS = {
     "build": build,
@@ -31,6 +32,7 @@ LIMITS = {
     "hostile-numbers": hostile_numbers,
     "generations": generations,
     "strange": strange,
+    "terminal": terminal,
     "cuts": cuts,
     "random": random_texts,
 }

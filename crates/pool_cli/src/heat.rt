@@ -98,7 +98,7 @@ impl Program for Request {
     }
 
     fn invitation() -> &'static str {
-        "Reading the rod from standard input up to Ctrl-D, a whole number a line: heat STEPS BLOCK < FILE\n"
+        "Reading the rod from standard input up to Ctrl-D, one whole number a line: heat STEPS BLOCK < FILE\n"
     }
 
     fn load(alloc: Global, input: &str) -> Result<Cells, Fault> {

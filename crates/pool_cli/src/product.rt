@@ -94,7 +94,7 @@ impl Program for ProductRequest {
     }
 
     fn invitation() -> &'static str {
-        "Reading two matrices from standard input up to Ctrl-D, their rows as lines, an empty line between them: product SIDE < FILE\n"
+        "Reading two matrices from standard input up to Ctrl-D, an empty line between them: product SIDE < FILE\n"
     }
 
     fn load(alloc: Global, input: &str) -> Result<Matrices, Fault> {

@@ -81,7 +81,8 @@ as many rows as columns, and the second with as many as the first: the rows as
 lines, the numbers of a row by single spaces, and an empty line between the two.
 Their product is printed the same way. It is worked out in tiles of SIDE rows and
 columns, which have to fill the matrices. What is printed does not depend on
-SIDE, N and W.
+SIDE, N and W. At a terminal standard error tells what is to be typed, and of a
+run of more than half a second how far it is.
 
 An example:
   printf '1 2\\n3 4\\n\\n5 6\\n7 8\\n' | product 1

@@ -91,7 +91,7 @@ impl Program for RelaxRequest {
     }
 
     fn invitation() -> &'static str {
-        "Reading the grid from standard input up to Ctrl-D, its rows as lines: relax STEPS ROWS_A_BLOCK < FILE\n"
+        "Reading the grid from standard input up to Ctrl-D, one row a line: relax STEPS ROWS_A_BLOCK < FILE\n"
     }
 
     fn load(alloc: Global, input: &str) -> Result<Rows, Fault> {

@@ -106,7 +106,9 @@ static RELAX_HELP: &str =
 the numbers of a row by single spaces, as many in each row. The grid after the
 steps is printed the same way. In a step each cell becomes an eighth of the sum of
 its four neighbours and four times itself, rounded down; a cell on the edge stays.
-What is printed does not depend on ROWS_A_BLOCK, N and W.
+What is printed does not depend on ROWS_A_BLOCK, N and W. At a terminal standard
+error tells what is to be typed, and of a run of more than half a second how far
+it is.
 
 An example:
   printf '0 16 32 0\\n8 0 0 24\\n0 0 64 0\\n' | relax 2 1

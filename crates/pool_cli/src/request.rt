@@ -99,7 +99,8 @@ static HEAT_HELP: &str =
 after the steps is printed, one number a line. In a step each cell becomes a
 third of its left neighbour, a third of itself and a third of its right
 neighbour, each cut towards 0; beyond both ends there is 0. What is printed does
-not depend on BLOCK, N and W.
+not depend on BLOCK, N and W. At a terminal standard error tells what is to be
+typed, and of a run of more than half a second how far it is.
 
 An example:
   printf '9000\\n300\\n-60\\n' | heat 1 2

@@ -10,10 +10,10 @@ mod line;
 mod progress;
 mod runs;
 mod screen;
-mod watched;
+mod watching;
 
 pub use counted::Counted;
 pub use progress::{Plan, Progress};
 pub use runs::{run_in_parts_counted, run_pool_counted};
 pub use screen::Screen;
-pub use watched::watched;
+pub use watching::watched;
