@@ -127,8 +127,8 @@ fn answer_words<
 ) -> Result<(), Fault>
     ensures printed { OnOk result (HasAnswered P.about (map (λ w. w.now) words.now)
         (λ bytes. I.gives reader.old bytes reader.new) (reader.new ≡ reader.old) (O.contents out.old) (O.contents out.new)) }
-    ensures why { IfErr result (HasFailed P.about (map (λ w. w.now) words.now) (λ bytes. I.gives reader.old bytes reader.new)
-        (λ read. I.fails reader.old read reader.new) (reader.new ≡ reader.old) (out.new ≡ out.old)) }
+    ensures why { IfErr result (λ fault. HasFailed P.about (map (λ w. w.now) words.now) (λ bytes. I.gives reader.old bytes reader.new)
+        (λ read. I.fails reader.old read reader.new) (reader.new ≡ reader.old) (out.new ≡ out.old) fault) }
     ensures unread { AsksForSome P.about (map (λ w. w.now) words.now) ⊎ (reader.new ≡ reader.old) }
 {
     match P::requested(alloc, words) {

@@ -26,7 +26,7 @@ fn steps_done(plan: Plan, done: u64) -> u64
     steps.saturating_sub(steps % plan.part)
 }
 
-/// A number with a comma between each three of its digits.
+/// A number with a comma before each three digits, as 1,048,576.
 fn grouped(alloc: Global, number: u64) -> Result<String, AllocError> {
     let digits = format!(in alloc; "{number}")?;
     let first = digits.len() % 3;

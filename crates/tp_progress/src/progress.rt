@@ -80,8 +80,8 @@ impl Progress {
         self.ended.load(Ordering::SeqCst) != 0
     }
 
-    /// What the run has to do, as far as it has been said.
-    pub(crate) fn plan(&self) -> Plan {
+    /// What the run has to do: nothing where it has not been said.
+    pub fn plan(&self) -> Plan {
         Plan {
             tasks: self.tasks.load(Ordering::SeqCst),
             steps: self.steps.load(Ordering::SeqCst),
@@ -90,7 +90,7 @@ impl Progress {
     }
 
     /// How many tasks are done.
-    pub(crate) fn done(&self) -> u64 {
+    pub fn done(&self) -> u64 {
         self.done.load(Ordering::SeqCst)
     }
 }

@@ -54,7 +54,9 @@ fn tell<R: Wait, W: Write + Drop>(
         if progress.has_ended() {
             break;
         }
-        is_told |= tell_once(alloc, &mut screen, progress);
+        if tell_once(alloc, &mut screen, progress) {
+            is_told = true;
+        }
     }
     if is_told {
         screen.write("\r\x1b[K");
