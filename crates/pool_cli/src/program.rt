@@ -111,13 +111,7 @@ fn complain_of<E: Diagnostics>(fault: Fault, err: &mut E) -> u8
 }
 
 /// Writes what the words ask for, or shows help or the version where they ask for that.
-fn answer_words<
-    P: Program,
-    R: Threads + Wait + Sync,
-    I: Source,
-    O: Write,
-    W: Write + Send + Drop,
->(
+fn answer_words<P: Program, R: Threads + Wait + Sync, I: Source, O: Write, W: Write + Send + Drop>(
     rt: &R,
     alloc: Global,
     words: &[&str],
@@ -150,13 +144,7 @@ fn show_asked<O: Write>(alloc: Global, error: &Error, out: &mut O) -> Result<(),
 }
 
 /// Reads all, and writes what the program makes of it. Nothing is written before all of it is known.
-fn answer<
-    P: Program,
-    R: Threads + Wait + Sync,
-    I: Source,
-    O: Write,
-    W: Write + Send + Drop,
->(
+fn answer<P: Program, R: Threads + Wait + Sync, I: Source, O: Write, W: Write + Send + Drop>(
     rt: &R,
     alloc: Global,
     request: P,
@@ -185,10 +173,7 @@ fn answer<
 }
 
 /// The screen that is to be told how far the run is, once it was told what is read. None where a request is to be quiet.
-fn invited<P: Program, W: Write + Drop>(
-    request: P,
-    screen: Option<Screen<W>>,
-) -> Option<Screen<W>>
+fn invited<P: Program, W: Write + Drop>(request: P, screen: Option<Screen<W>>) -> Option<Screen<W>>
     ensures { P.about.quiet request ≡ true → result ≡ None }
 {
     let mut screen = screen?;

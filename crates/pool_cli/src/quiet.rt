@@ -6,10 +6,7 @@ use clap::{Arg, ArgAction, ArgMatches, Command};
 use std::alloc::{AllocError, Global};
 
 /// The command with the flag by which a program tells a terminal nothing but its answer and its faults.
-pub(crate) fn with_quiet<'a>(
-    alloc: Global,
-    command: Command<'a>,
-) -> Result<Command<'a>, AllocError>
+pub(crate) fn with_quiet<'a>(alloc: Global, command: Command<'a>) -> Result<Command<'a>, AllocError>
     ensures { IfOk result (λ quiet. app_of quiet ≡ with_quiet_rule (app_of command.entry)) }
 {
     command.arg(quiet_flag(alloc))

@@ -170,7 +170,16 @@ fn relaxed_text<R: Threads + Wait + Sync>(
         quiet: _,
     } = request;
     let Rows { width, numbers } = grid;
-    let made = match grid_counted(rt, alloc, numbers, width as u32, rows, steps, config, progress) {
+    let made = match grid_counted(
+        rt,
+        alloc,
+        numbers,
+        width as u32,
+        rows,
+        steps,
+        config,
+        progress,
+    ) {
         Ok(made) => made,
         Err(fault) => return Err(Fault::Relaxed(fault)),
     };
@@ -206,5 +215,14 @@ fn grid_counted<R: Threads + Wait + Sync>(
         return Err(LentFault::BadInput);
     };
     let points = blocks.points;
-    run_in_parts_counted(rt, alloc, points, cells, blocks.size, steps, config, progress)
+    run_in_parts_counted(
+        rt,
+        alloc,
+        points,
+        cells,
+        blocks.size,
+        steps,
+        config,
+        progress,
+    )
 }

@@ -72,8 +72,7 @@ impl Progress {
 
     /// Sleeps until the run has ended, or for half a second.
     pub(crate) fn rest<R: Wait>(&self, rt: &R) {
-        self.ended
-            .park_timeout(rt, 0, Duration::from_millis(REST));
+        self.ended.park_timeout(rt, 0, Duration::from_millis(REST));
     }
 
     pub(crate) fn has_ended(&self) -> bool {

@@ -61,13 +61,7 @@ fn begin_tasks(progress: Option<&Progress>, tasks: u32) {
 
 /// Says that there are so many steps to do of so many cells, in blocks of so many, in parts of as many as one run takes at so many
 /// nodes.
-fn begin_steps(
-    progress: Option<&Progress>,
-    cells: usize,
-    size: u32,
-    steps: u64,
-    nodes: u32,
-) {
+fn begin_steps(progress: Option<&Progress>, cells: usize, size: u32, steps: u64, nodes: u32) {
     let Some(progress) = progress else {
         return;
     };
