@@ -6,27 +6,18 @@ use std::alloc::{AllocError, Global};
 use tp_base::{NodeId, Refusal, TaskId};
 use tp_graph::{Graph, Value};
 
-/// A graph, or a stencil, whose tasks are counted where there is a [`Progress`] for them. It is the same graph, and the same
-/// stencil: it has the same meaning.
+/// A graph, or a stencil, whose tasks are counted. It is the same graph, and the same stencil: it has the same meaning.
 pub struct Counted<'a, T: Copy> {
     inner: T,
-    progress: Option<&'a Progress>,
+    progress: &'a Progress,
 }
 
 impl<'a, T: Copy> Counted<'a, T> {
-    /// The same, with its tasks counted. Where there is nobody to count for, a task takes no step more than to see that.
-    pub fn new(inner: T, progress: Option<&'a Progress>) -> Self
+    /// The same, with its tasks counted.
+    pub fn new(inner: T, progress: &'a Progress) -> Self
         ensures { result.inner ≡ inner }
     {
         Counted { inner, progress }
-    }
-
-    /// Counts a task.
-    #[inline]
-    fn count(&self) {
-        if let Some(progress) = self.progress {
-            progress.count();
-        }
     }
 }
 
@@ -84,7 +75,7 @@ impl<'a, G: Graph> Graph for Counted<'a, G> {
     #[inline]
     fn body(&self, alloc: Global, task: TaskId, inputs: &[Value]) -> Result<Value, Refusal> {
         let made = self.inner.body(alloc, task, inputs);
-        self.count();
+        self.progress.count();
         made
     }
 }
@@ -117,7 +108,7 @@ impl<'a, S: Stencil> Stencil for Counted<'a, S> {
         behind: &[i64],
     ) -> Result<Vec<i64>, AllocError> {
         let made = self.inner.next(alloc, before, own, behind);
-        self.count();
+        self.progress.count();
         made
     }
 }

@@ -1,7 +1,7 @@
 use Rattle.std.proofs.Common.{◌≡◌, MatchResult, subst}
 use Rattle.pool_blocks.specs.Stencils.{after}
 use Rattle.pool_block_runs.specs.Faults.{IsPartFault}
-use Rattle.tp_progress.proofs.runs.run_in_parts_counted.Goals as goal
+use Rattle.tp_progress.proofs.runs.run_in_parts_told.Goals as goal
 
 pub returns : goal.returns
 returns g c =

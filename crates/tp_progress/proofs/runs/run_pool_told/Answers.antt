@@ -1,6 +1,6 @@
 use Rattle.std.proofs.Common.{IfErr, IfOk, subst}
 use Rattle.tp_work.specs.Outcomes.{IsFault, IsOutcome}
-use Rattle.tp_progress.proofs.runs.run_pool_counted.Goals as goal
+use Rattle.tp_progress.proofs.runs.run_pool_told.Goals as goal
 
 pub returns-clause-outcome : goal.returns-clause-outcome
 returns-clause-outcome g c =
