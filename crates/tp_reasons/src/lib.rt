@@ -3,8 +3,11 @@
 
 mod cuts;
 mod digits;
+mod line;
+mod shown;
 mod word;
 mod words;
 
+pub use line::{Grammar, LineReason, StepCount, TextReason, line_told, text_reason};
 pub use word::{Field, Kind, Tiling, WordReason, word_reason};
 pub use words::{WordsReason, words_reason};

@@ -1,0 +1,69 @@
+-- The fields of a word, and the graph that they name.
+use Rattle.std.proofs.Common.{◌≡◌, ◌≢◌, ◌<◌, ◌≤◌, ◌+◌, ◌*◌, ◌/◌, ◌%◌, ℕ, zero, suc, List, [], ◌∷◌, ◌++◌, length, codes, decimal, ap, sym, refl, ◌∙◌, arith, omega}
+use Rattle.std.proofs.lemmas.List.Splits.{join_with_byte-slice_split}
+use Rattle.std.proofs.lemmas.Nat.{div-add-mod', mul-le}
+use Rattle.std.specs.List.{join_with_byte}
+use Rattle.pool_samples.specs.Products.{IsProduct}
+use Rattle.pool_samples.specs.Words.{joined, three_numbers, two_numbers, word_of}
+use Rattle.pool_samples.specs.declared.any.AnyGraph.TheVariants as pool
+use Rattle.tp_reasons.specs.Words.{IsInRange, NamesGraph, fields}
+use Rattle.tp_reasons.specs.declared.word.Field.TheVariants.{Order, Side, Rows, Columns, Leaves, Seed}
+
+-- a word is its fields with colons between them
+whole : (word : List ℕ) (texts : List (List ℕ)) → fields word ≡ texts → word ≡ join_with_byte 58 texts
+whole word texts e = sym (join_with_byte-slice_split 58 word) ∙ ap (join_with_byte 58) e
+
+pub three_is : (word kind : List ℕ) (a b d : ℕ) → fields word ≡ kind ∷ decimal a ∷ decimal b ∷ decimal d ∷ []
+    → word ≡ joined kind (three_numbers a b d)
+three_is word kind a b d e = whole word _ e
+
+pub two_is : (word kind : List ℕ) (a b : ℕ) → fields word ≡ kind ∷ decimal a ∷ decimal b ∷ [] → word ≡ joined kind (two_numbers a b)
+two_is word kind a b e = whole word _ e
+
+-- the order is as many tiles
+divides : (order side : ℕ) → order % side ≡ 0 → (order / side) * side ≡ order
+divides order side e = omega (arith, div-add-mod' order side, e)
+
+some_of : (tiles side order : ℕ) → tiles * side ≡ order → 1 ≤ order → 1 ≤ tiles
+some_of zero side order e some = absurd (omega (arith, e, some))
+some_of (suc tiles) side order e some = omega arith
+
+few_of : (tiles side order : ℕ) → tiles * side ≡ order → 1 ≤ side → order ≤ 64 → tiles ≤ 64
+few_of tiles side order e some few = omega (arith, mul-le tiles 1 tiles side (omega arith) some, e, few)
+
+product_is : (order side seed : ℕ) → IsInRange Order order → IsInRange Side side → IsInRange Seed seed → order % side ≡ 0
+    → IsProduct (order / side) side seed
+product_is order side seed o s d e =
+    let is = divides order side e in
+    record {
+      some_tiles = some_of (order / side) side order is o.0;
+      some_side = s.0;
+      few_tiles = few_of (order / side) side order is s.0 o.1;
+      small = omega (arith, is, o.1);
+      seed_small = d;
+    }
+
+pub product_named : (word : List ℕ) (order side seed : ℕ) → word ≡ joined (codes "product") (three_numbers order side seed)
+    → IsInRange Order order → IsInRange Side side → IsInRange Seed seed → order % side ≡ 0 → NamesGraph word
+product_named word order side seed e o s d whole_tiles =
+    let is = divides order side whole_tiles in (
+      pool.Product (record { tiles = order / side; side = side; seed = seed; in_rules = product_is order side seed o s d whole_tiles }),
+      e ∙ ap (λ n. joined (codes "product") (three_numbers n side seed)) (sym is),
+    )
+
+pub wavefront_named : (word : List ℕ) (rows columns seed : ℕ) → word ≡ joined (codes "wavefront") (three_numbers rows columns seed)
+    → IsInRange Rows rows → IsInRange Columns columns → IsInRange Seed seed → NamesGraph word
+wavefront_named word rows columns seed e r k d = (
+  pool.Wavefront (record {
+    rows = rows;
+    columns = columns;
+    seed = seed;
+    in_rules = record { some_rows = r.0; few_rows = r.1; some_columns = k.0; few_columns = k.1; seed_small = d };
+  }),
+  e,
+)
+
+pub reduce_named : (word : List ℕ) (leaves seed : ℕ) → word ≡ joined (codes "reduce") (two_numbers leaves seed)
+    → IsInRange Leaves leaves → IsInRange Seed seed → NamesGraph word
+reduce_named word leaves seed e l d =
+    (pool.Reduce (record { leaves = leaves; seed = seed; in_rules = record { leaf_count = l; seed_small = d } }), e)
