@@ -6,7 +6,7 @@ status 2.
 import argparse
 
 from . import bench, build, capi, demo, docs, drawn, gate_times, lanes, library, limits, new_pool, soak, tries, wrong
-from .limits import cuts, generations, hostile_numbers, memory, random_texts, refuse, refuse_tests, stacks, strange
+from .limits import cuts, generations, hostile_numbers, memory, random_texts, refuse, refuse_tests, stacks, strange, terminal
 
 COMMANDS = {
     "build": build,
@@ -31,6 +31,7 @@ LIMITS = {
     "hostile-numbers": hostile_numbers,
     "generations": generations,
     "strange": strange,
+    "terminal": terminal,
     "cuts": cuts,
     "random": random_texts,
 }
