@@ -6,8 +6,15 @@ use Rattle.std.specs.List.{join_with_byte}
 use Rattle.pool_samples.specs.Products.{IsProduct}
 use Rattle.pool_samples.specs.Words.{joined, three_numbers, two_numbers, word_of}
 use Rattle.pool_samples.specs.declared.any.AnyGraph.TheVariants as pool
-use Rattle.tp_reasons.specs.Words.{IsInRange, NamesGraph, fields}
+use Rattle.tp_reasons.specs.Words.{HasWrongField, IsFieldReason, IsInRange, IsRight, IsWordReason, NamesGraph, fields, fields_of, kind_text}
+use Rattle.tp_reasons.specs.declared.word.Field.{Field}
 use Rattle.tp_reasons.specs.declared.word.Field.TheVariants.{Order, Side, Rows, Columns, Leaves, Seed}
+use Rattle.tp_reasons.specs.declared.word.Kind.{Kind}
+use Rattle.tp_reasons.specs.declared.word.WordReason.{WordReason}
+use Rattle.tp_reasons.specs.declared.word.WordReason.TheVariants.{UnknownKind, Form, NoNumber, OutOfRange, Undivided}
+
+head_is : {A : Type 0} (a b : A) (xs ys : List A) → a ∷ xs ≡ b ∷ ys → a ≡ b
+head_is a b xs ys e = cc
 
 -- a word is its fields with colons between them
 whole : (word : List ℕ) (texts : List (List ℕ)) → fields word ≡ texts → word ≡ join_with_byte 58 texts
@@ -67,3 +74,76 @@ pub reduce_named : (word : List ℕ) (leaves seed : ℕ) → word ≡ joined (co
     → IsInRange Leaves leaves → IsInRange Seed seed → NamesGraph word
 reduce_named word leaves seed e l d =
     (pool.Reduce (record { leaves = leaves; seed = seed; in_rules = record { leaf_count = l; seed_small = d } }), e)
+
+-- ---- what is wrong with the fields
+
+-- no kind begins the word
+pub no_kind : (word first : List ℕ) (rest : List (List ℕ)) → fields word ≡ first ∷ rest → ((kind : Kind) → first ≢ kind_text kind)
+    → IsWordReason word UnknownKind
+no_kind word first rest is none kind texts e =
+    let heads : first ∷ rest ≡ kind_text kind ∷ texts = sym is ∙ e in
+    none kind (head_is first (kind_text kind) rest texts heads)
+
+-- why a field of a word is not right is why the word names no pool
+wrong : (word : List ℕ) (reason : WordReason) (h : HasWrongField word reason) → IsWordReason word reason
+wrong word UnknownKind h = absurd h.why
+wrong word (Form kind) h = absurd h.why
+wrong word (NoNumber field) h = h
+wrong word (OutOfRange field n) h = h
+wrong word (Undivided tiling) h = absurd h.why
+
+module _ (word : List ℕ) (kind : Kind) (reason : WordReason) where
+  -- the first field
+  pub first_wrong : (field : Field) (after : List Field) (text : List ℕ) (texts : List (List ℕ)) → fields_of kind ≡ field ∷ after
+      → fields word ≡ kind_text kind ∷ text ∷ texts → length texts ≡ length after → IsFieldReason field text reason
+      → IsWordReason word reason
+  first_wrong field after text texts are is many why = wrong word reason (record {
+    kind = kind;
+    before = [];
+    field = field;
+    after = after;
+    are = are;
+    texts_before = [];
+    text = text;
+    texts_after = texts;
+    is = is;
+    right = tt;
+    as_many = many;
+    why = why;
+  })
+
+  pub second_wrong : (first field : Field) (after : List Field) (one text : List ℕ) (texts : List (List ℕ))
+      → fields_of kind ≡ first ∷ field ∷ after → fields word ≡ kind_text kind ∷ one ∷ text ∷ texts → IsRight first one
+      → length texts ≡ length after → IsFieldReason field text reason → IsWordReason word reason
+  second_wrong first field after one text texts are is right many why = wrong word reason (record {
+    kind = kind;
+    before = first ∷ [];
+    field = field;
+    after = after;
+    are = are;
+    texts_before = one ∷ [];
+    text = text;
+    texts_after = texts;
+    is = is;
+    right = (right, tt);
+    as_many = many;
+    why = why;
+  })
+
+  pub third_wrong : (first second field : Field) (one two text : List ℕ) → fields_of kind ≡ first ∷ second ∷ field ∷ []
+      → fields word ≡ kind_text kind ∷ one ∷ two ∷ text ∷ [] → IsRight first one → IsRight second two
+      → IsFieldReason field text reason → IsWordReason word reason
+  third_wrong first second field one two text are is right also why = wrong word reason (record {
+    kind = kind;
+    before = first ∷ second ∷ [];
+    field = field;
+    after = [];
+    are = are;
+    texts_before = one ∷ two ∷ [];
+    text = text;
+    texts_after = [];
+    is = is;
+    right = (right, also, tt);
+    as_many = refl;
+    why = why;
+  })

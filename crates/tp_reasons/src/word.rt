@@ -134,7 +134,10 @@ fn wavefront_reason(word: &str, rest: Option<&[u8]>) -> Option<WordReason>
     if let Err(reason) = number_in(Field::Columns, columns) {
         return Some(reason);
     }
-    number_in(Field::Seed, seed).err()
+    match number_in(Field::Seed, seed) {
+        Ok(_) => None,
+        Err(reason) => Some(reason),
+    }
 }
 
 /// Why a word of a tree of sums, behind whose kind this stands, names none.
@@ -148,7 +151,10 @@ fn reduce_reason(word: &str, rest: Option<&[u8]>) -> Option<WordReason>
     if let Err(reason) = number_in(Field::Leaves, leaves) {
         return Some(reason);
     }
-    number_in(Field::Seed, seed).err()
+    match number_in(Field::Seed, seed) {
+        Ok(_) => None,
+        Err(reason) => Some(reason),
+    }
 }
 
 /// The fields, where they are three.
@@ -269,7 +275,7 @@ impl fmt::Display for WordReason {
     ghost output = { λ reason. Some (word_text reason) };
 
     fn fmt<W: fmt::Write>(&self, f: &mut fmt::Formatter<W>) -> fmt::Result {
-        match self {
+        match *self {
             WordReason::UnknownKind => {
                 write!(f, "its kind is none of product, wavefront and reduce")
             }
@@ -287,7 +293,7 @@ impl fmt::Display for WordReason {
                 write!(f, "{name} {number} is {range}")
             }
             WordReason::Undivided(tiling) => {
-                let Tiling { order, side } = *tiling;
+                let Tiling { order, side } = tiling;
                 write!(f, "SIDE {side} does not divide ORDER {order}")
             }
         }

@@ -48,7 +48,7 @@ impl fmt::Display for WordsReason {
     ghost output = { λ reason. Some (words_text reason) };
 
     fn fmt<W: fmt::Write>(&self, f: &mut fmt::Formatter<W>) -> fmt::Result {
-        match self {
+        match *self {
             WordsReason::TooMany => write!(f, "more than 8 pools"),
             WordsReason::NoPool(place, reason) => write!(f, "SPEC {place}: {reason}"),
             WordsReason::Twice(place) => write!(f, "SPEC {place} stands before"),
