@@ -20,12 +20,13 @@ head_is a b xs ys e = cc
 whole : (word : List ℕ) (texts : List (List ℕ)) → fields word ≡ texts → word ≡ join_with_byte 58 texts
 whole word texts e = sym (join_with_byte-slice_split 58 word) ∙ ap (join_with_byte 58) e
 
-pub three_is : (word kind : List ℕ) (a b d : ℕ) → fields word ≡ kind ∷ decimal a ∷ decimal b ∷ decimal d ∷ []
-    → word ≡ joined kind (three_numbers a b d)
-three_is word kind a b d e = whole word _ e
+pub three_is : (word kind x y z : List ℕ) (a b d : ℕ) → fields word ≡ kind ∷ x ∷ y ∷ z ∷ [] → x ≡ decimal a → y ≡ decimal b
+    → z ≡ decimal d → word ≡ joined kind (three_numbers a b d)
+three_is word kind x y z a b d e p q r = whole word (kind ∷ decimal a ∷ decimal b ∷ decimal d ∷ []) (e ∙ λ i. kind ∷ p i ∷ q i ∷ r i ∷ [])
 
-pub two_is : (word kind : List ℕ) (a b : ℕ) → fields word ≡ kind ∷ decimal a ∷ decimal b ∷ [] → word ≡ joined kind (two_numbers a b)
-two_is word kind a b e = whole word _ e
+pub two_is : (word kind x y : List ℕ) (a b : ℕ) → fields word ≡ kind ∷ x ∷ y ∷ [] → x ≡ decimal a → y ≡ decimal b
+    → word ≡ joined kind (two_numbers a b)
+two_is word kind x y a b e p q = whole word (kind ∷ decimal a ∷ decimal b ∷ []) (e ∙ λ i. kind ∷ p i ∷ q i ∷ [])
 
 -- the order is as many tiles
 divides : (order side : ℕ) → order % side ≡ 0 → (order / side) * side ≡ order
@@ -143,7 +144,7 @@ module _ (word : List ℕ) (kind : Kind) (reason : WordReason) where
     text = text;
     texts_after = [];
     is = is;
-    right = (right, also, tt);
+    right = (right, (also, tt));
     as_many = refl;
     why = why;
   })

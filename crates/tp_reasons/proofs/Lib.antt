@@ -1,4 +1,4 @@
-pub mod Cuts
-pub mod Digits
+pub mod Parts
+pub mod Numerals
 pub mod Fields
 pub mod Several

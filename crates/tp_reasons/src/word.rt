@@ -159,8 +159,8 @@ fn reduce_reason(word: &str, rest: Option<&[u8]>) -> Option<WordReason>
 
 /// The fields, where they are three.
 fn three<'a>(rest: Option<&'a [u8]>) -> Option<(&'a [u8], &'a [u8], &'a [u8])>
-    ensures { MatchOption result (length (parts_behind 58 rest) ≢ 3)
-        (λ texts. parts_behind 58 rest ≡ texts.0.now ∷ texts.1.now ∷ texts.2.now ∷ []) }
+    ensures { MatchOption result (length (parts_behind 58 rest.entry) ≢ 3)
+        (λ texts. parts_behind 58 rest.entry ≡ texts.0.now ∷ texts.1.now ∷ texts.2.now ∷ []) }
 {
     let (first, rest) = cut(rest?, b':');
     let (second, third) = two(rest)?;
@@ -169,8 +169,8 @@ fn three<'a>(rest: Option<&'a [u8]>) -> Option<(&'a [u8], &'a [u8], &'a [u8])>
 
 /// The fields, where they are two.
 fn two<'a>(rest: Option<&'a [u8]>) -> Option<(&'a [u8], &'a [u8])>
-    ensures { MatchOption result (length (parts_behind 58 rest) ≢ 2)
-        (λ texts. parts_behind 58 rest ≡ texts.0.now ∷ texts.1.now ∷ []) }
+    ensures { MatchOption result (length (parts_behind 58 rest.entry) ≢ 2)
+        (λ texts. parts_behind 58 rest.entry ≡ texts.0.now ∷ texts.1.now ∷ []) }
 {
     let (first, rest) = cut(rest?, b':');
     let second = one(rest)?;
@@ -179,11 +179,12 @@ fn two<'a>(rest: Option<&'a [u8]>) -> Option<(&'a [u8], &'a [u8])>
 
 /// The field, where it is one.
 fn one<'a>(rest: Option<&'a [u8]>) -> Option<&'a [u8]>
-    ensures { MatchOption result (length (parts_behind 58 rest) ≢ 1) (λ text. parts_behind 58 rest ≡ text.now ∷ []) }
+    ensures { MatchOption result (length (parts_behind 58 rest.entry) ≢ 1) (λ text. parts_behind 58 rest.entry ≡ text.now ∷ []) }
 {
-    match cut(rest?, b':') {
-        (first, None) => Some(first),
-        _ => None,
+    let (first, rest) = cut(rest?, b':');
+    match rest {
+        None => Some(first),
+        Some(_) => None,
     }
 }
 

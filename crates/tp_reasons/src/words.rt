@@ -1,5 +1,7 @@
 ghost use Rattle.std.specs.Prelude.{◌≡◌, map, MatchOption};
-ghost use Rattle.tp_reasons.specs.Words.{ArePools, IsWordsReason, is_among};
+ghost use Rattle.std.specs.List.{list_any};
+ghost use Rattle.std.specs.Str.{bytes_eq};
+ghost use Rattle.tp_reasons.specs.Words.{ArePools, IsWordsReason};
 
 use crate::word::{WordReason, word_reason};
 use std::fmt;
@@ -36,7 +38,7 @@ pub fn words_reason(words: &[&str]) -> Option<WordsReason>
 
 /// Whether one of these words is this.
 fn is_among(words: &[&str], word: &str) -> bool
-    ensures { result ≡ is_among (map (λ w. w.now) words.now) word.now }
+    ensures { result ≡ list_any (λ w. bytes_eq w.now word.now) words.now }
 {
     words.iter().any(|other| *other == word)
 }

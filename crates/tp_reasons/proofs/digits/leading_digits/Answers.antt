@@ -3,7 +3,7 @@ use borrow.Author.Count.{below_more}
 use Rattle.tp_text.specs.Words.{IsDigit}
 use Rattle.tp_reasons.proofs.digits.leading_digits.Goals as goal
 use Rattle.tp_text.proofs.Numbers.{value_more}
-use Rattle.tp_reasons.proofs.Digits.{value_small}
+use Rattle.tp_reasons.proofs.Numerals.{value_small}
 
 pub overflow_mul-value : goal.overflow_mul-value
 overflow_mul-value c =

@@ -1,6 +1,6 @@
 -- Texts of digits.
-use Rattle.std.proofs.Common.{◌≡◌, ◌≢◌, ℕ, zero, suc, ◌<◌, ◌≤◌, ◌+◌, ◌-◌, ◌*◌, List, length, get_or, take, decimal, sym, ap, ◌∙◌, subst, arith}
-use Rattle.std.proofs.lemmas.Fmt.{decimal_nonempty, first_decimal, decimal_digit, digits_decimal, decimal-digits_value, length-decimal-le}
+use Rattle.std.proofs.Common.{◌≡◌, ◌≢◌, ℕ, zero, suc, ◌<◌, ◌≤◌, ◌+◌, ◌-◌, ◌*◌, ◌^◌, List, length, get_or, take, decimal, sym, ap, ◌∙◌, subst, arith}
+use Rattle.std.proofs.lemmas.Fmt.{decimal_nonempty, first_decimal, decimal_digit, digits_decimal, decimal-digits_value, decimal_injective, length-decimal-le}
 use Rattle.std.proofs.lemmas.List.{get_or-take, length-take-le, take_all}
 use Rattle.std.proofs.lemmas.Str.Parse.{IsNumeralModel, numerals_by_value, tells_by_index, digits_value_short}
 use Rattle.std.specs.Prelude.{slice_index}
@@ -63,3 +63,9 @@ none_where_padded text several zero_first zero small e =
     let one : length (decimal 0) ≡ 1 = ap length (decimal_digit 0 (omega arith)) in omega (arith, several, ap length e, one)
 none_where_padded text several zero_first (suc n) small e =
     omega (arith, zero_first, ap (λ l. get_or l 0 0) e, first_decimal (suc n) (omega arith) (omega arith))
+
+-- a number of seven digits or more is none of fewer
+pub too_large : (text : List ℕ) (large : ℕ) → large < 1000000000 → text ≡ decimal large → 1000000 ≤ large → (n : ℕ) → n < 1000000
+    → text ≢ decimal n
+too_large text large most is above n small e =
+    let same : large ≡ n = decimal_injective large n (omega arith) (omega arith) (sym is ∙ e) in omega (arith, same)
