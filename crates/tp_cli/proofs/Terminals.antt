@@ -1,5 +1,5 @@
 -- How a run ends at a terminal.
-use Rattle.std.proofs.Common.{◌≡◌, ◌≢◌, ◌∙◌, ◌⊎◌, ◌<◌, ◌≤◌, ℕ, Bool, List, Option, Result, Ok, Err, IfErr, IfOk, ap, arith, codes, inl, inr, length}
+use Rattle.std.proofs.Common.{◌≡◌, ◌≢◌, ◌∙◌, ◌⊎◌, ◌<◌, ◌≤◌, ℕ, Bool, List, true≢false, Option, Result, Ok, Err, IfErr, IfOk, ap, arith, codes, inl, inr, length}
 use Rattle.std.proofs.Common.{map, refl, subst, sym}
 use Rattle.std.proofs.lemmas.Option.{slice_get_within}
 use Rattle.std.proofs.lemmas.Result.{IfErr-weaker, IfOk-weaker}
@@ -91,7 +91,7 @@ module _ {D : Type 0} (tells : D → List ℕ → D → Type 0) (asking : List T
       let is = pools.1 i word inside one.1.2 in
       elim one.1.4 [
         | inl unnamed ↦ named word unnamed.1 is.0
-        | inr twice ↦ absurd cc
+        | inr twice ↦ true≢false (sym twice.1 ∙ is.1)
       ]
 
   -- the fault of several words
