@@ -125,7 +125,11 @@ fn status_of_verdict(verdict: Verdict) -> Status
 }
 
 /// Shows help or the version where the words asked for it.
-pub(crate) fn show_asked<O: Write>(alloc: Global, error: &Error, out: &mut O) -> Result<Status, Fault>
+pub(crate) fn show_asked<O: Write>(
+    alloc: Global,
+    error: &Error,
+    out: &mut O,
+) -> Result<Status, Fault>
     ensures shown { IfOk result (λ status. (status ≡ Done) × IsToBeShown (kind_of error.now)
         × HasShown (O.contents out.old) (O.contents out.new)) }
     ensures why { IfErr result (λ fault. (met : WordsFault) × (fault ≡ Fault.Words met)
