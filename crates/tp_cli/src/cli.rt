@@ -96,7 +96,7 @@ fn answer_words<R: Threads + Wait + Sync, I: Read, O: Write>(
 }
 
 /// Answers a text of a kind.
-pub(crate) fn answer_text<I: Read, O: Write>(
+fn answer_text<I: Read, O: Write>(
     alloc: Global,
     kind: TextKind,
     reader: &mut I,
@@ -115,7 +115,7 @@ pub(crate) fn answer_text<I: Read, O: Write>(
 }
 
 /// The status of a text that was answered.
-fn status_of_verdict(verdict: Verdict) -> Status
+pub(crate) fn status_of_verdict(verdict: Verdict) -> Status
     ensures { result ≡ status_of_verdict verdict }
 {
     match verdict {

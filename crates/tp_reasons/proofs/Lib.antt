@@ -2,3 +2,4 @@ pub mod Parts
 pub mod Numerals
 pub mod Fields
 pub mod Several
+pub mod Places
