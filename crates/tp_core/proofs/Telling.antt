@@ -6,8 +6,7 @@ use Rattle.tp_wave.specs.Control.{IsEndedWave}
 use Rattle.tp_wave.specs.Generations.{present}
 use Rattle.tp_wave.specs.Sums.{until, sent_sum, received_sum, four_equal}
 use Rattle.tp_wave.proofs.Each.{two_sums_law}
-use Rattle.tp_core.specs.Generations.{AreRuns, InEach}
-use Rattle.tp_core.specs.Laws.{IsToldByTwo, TwoNumbersTell}
+use Rattle.tp_core.specs.Laws.{TwoNumbersTell}
 use Rattle.tp_core.specs.Run.{history, IsLawfulRun}
 use Rattle.tp_core.proofs.Counting.{is_run, steps_of-history, two_told}
 use Rattle.tp_core.proofs.Generations.{generations_are_runs}
