@@ -1,10 +1,12 @@
 -- Tasks of a node that begin in a row, told by their works.
-use Rattle.std.proofs.Common.{◌≡◌, ◌≤◌, List, [], ◌∷◌, ◌++◌, Option, Some, None, length, refl, sym, ap, subst, ◌∙◌, arith, append-nil}
+use Rattle.std.proofs.Common.{◌≡◌, ◌≤◌, ℕ, List, [], ◌∷◌, ◌++◌, Option, Some, None, length, take, drop, refl, sym, ap, subst, ◌∙◌, arith}
+use Rattle.std.proofs.Common.{append-nil}
 use Rattle.std.specs.Prelude.{MatchOption, reverse}
 use Rattle.std.specs.List.{All}
 use Rattle.std.specs.Option.{option_to_list}
-use Rattle.std.proofs.lemmas.List.{reverse-append}
+use Rattle.std.proofs.lemmas.List.{length-reverse, reverse-append}
 use Rattle.std.proofs.lemmas.List.Elements.{All-cons, All-nil, All-tail}
+use Rattle.std.proofs.Math.Seq.{take-append_seam}
 use Rattle.tp_base.specs.History.{Event}
 use Rattle.tp_board.specs.Calls.{Appends}
 use Rattle.tp_board.specs.States.{BoardState}
@@ -107,3 +109,9 @@ pub popped : {X : Type 0} (o : Option X) (all rest : List X) → all ≡ rest ++
     → reverse all ≡ option_to_list o ++ reverse rest
 popped None all rest e = ap reverse (e ∙ append-nil rest)
 popped (Some x) all rest e = ap reverse e ∙ reverse-append rest (x ∷ [])
+
+-- a list that was turned round in its place
+pub turned : {X : Type 0} (n : ℕ) (xs ys : List X) → n ≡ length xs → ys ≡ reverse xs → take n (ys ++ drop (length ys) xs) ≡ reverse xs
+turned n xs ys e f =
+    let long : n ≡ length ys = e ∙ sym (ap length f ∙ length-reverse xs) in
+    ap (λ k. take k (ys ++ drop (length ys) xs)) long ∙ take-append_seam ys (drop (length ys) xs) ∙ f
