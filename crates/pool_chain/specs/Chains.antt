@@ -1,4 +1,4 @@
-use Rattle.std.specs.Prelude.{◌<◌, ◌+◌, ◌-◌, ◌%◌, ℕ, ℤ, pos, ◌+ℤ◌, List, [], ◌∷◌, Option, Some, None, if◌then◌else◌, nat_eq, nat_lt}
+use Rattle.std.specs.Prelude.{◌<◌, ◌+◌, ◌-◌, ◌%◌, ℕ, ℤ, pos, ◌+ℤ◌, List, [], ◌∷◌, Option, Some, None, if◌then◌else◌, nat_eq, nat_lt, true}
 use Rattle.std.proofs.Common.{arith}
 use Rattle.std.proofs.lemmas.Bool.Decides.{nat_tests}
 use Rattle.tp_graph.specs.Graphs.{TaskGraph, IsLawful, FillsSlot, IsFilled}
@@ -23,6 +23,7 @@ chain_graph length = record {
   turn = λ t s. 0;
   home = λ t m. t % m;
   rule = number_and_input;
+  keeps = λ t. true;
 }
 
 fills : (length p k : ℕ) → p < length → k < (chain_graph length).feeds p → FillsSlot (chain_graph length) p k

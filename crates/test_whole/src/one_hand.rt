@@ -250,7 +250,10 @@ pub(crate) fn record<G: Comparable, K: Ledgers>(
     if !is_same(&finished.graph(), &node.graph()) || !finished.all_fed() {
         return Err((Refusal::Stranger, finished));
     }
-    node.done(board, finished)
+    match node.done(board, finished) {
+        Ok(_) => Ok(()),
+        Err(refused) => Err(refused),
+    }
 }
 
 /// Begins a task and runs it.

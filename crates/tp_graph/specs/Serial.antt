@@ -13,6 +13,11 @@ Results = List (TaskId × List ℤ)
 abbrev pub AreRight : TaskGraph → Results → Type 0
 AreRight g results = All (λ r. value_of g r.0.0 ≡ Some r.1) results
 
+-- results of the first tasks, so many, in rising order
+pub record AreInOrder (count : ℕ) (results : Results) : Type 0 where
+  pub long : length results ≡ count
+  pub rise : (t : ℕ) (d : TaskId × List ℤ) → t < count → (slice_index_or results t d).0.0 ≡ t
+
 -- the values of the first tasks, so many, in rising order
 pub record AreValues (g : TaskGraph) (count : ℕ) (results : Results) : Type 0 where
   pub long : length results ≡ count

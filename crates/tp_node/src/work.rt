@@ -1,10 +1,12 @@
 ghost use Rattle.std.specs.Prelude.{◌≡◌, ◌<◌, ◌≤◌, ◌↔◌, IsTrue, Some, IfOk, IfErr, MatchResult};
 ghost use Rattle.tp_graph.specs.Carried.{IsFeed};
+ghost use Rattle.tp_graph.specs.Left.{left_of, result_of, spent_of};
 ghost use Rattle.tp_graph.specs.Values.{value_of, AreInputs, IsInput, IsRefusal};
 ghost use Rattle.tp_node.specs.Feeds.{HasFeed, next_feed_of, passed_on};
 
 use smallvec::SmallVec;
 use std::alloc::Global;
+use std::default::MadeWith;
 use std::marker::Model;
 use tp_base::{Refusal, TaskId};
 use tp_graph::{Feed, Graph, Value, feed_of, run_body};
@@ -157,6 +159,22 @@ impl<G: Graph> Finished<G> {
         ensures right { value_of (G.meaning self.graph) self.task.0 ≡ Some result }
     {
         self.value
+    }
+
+    /// What the pool hands out of its value at its end, and what it does not: one of them is the value, and the other has no
+    /// numbers.
+    #[tactic(auto, using(tp_graph::proofs::Left::result_left))]
+    pub(crate) fn into_result(self, alloc: Global) -> (Value, Value)
+        ensures left { result.0 ≡ left_of (G.meaning self.graph) self.task.0 self.value }
+        ensures spent { result.1 ≡ spent_of (G.meaning self.graph) self.task.0 self.value }
+        ensures right { result_of (G.meaning self.graph) self.task.0 ≡ Some result.0 }
+    {
+        let none = Value::made_with(alloc);
+        if self.graph.keeps(self.task) {
+            (self.value, none)
+        } else {
+            (none, self.value)
+        }
     }
 
     /// How many of its feeds were passed on.

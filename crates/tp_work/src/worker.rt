@@ -12,7 +12,7 @@ use std::sync::Wait;
 use std::sync::atomic::Ordering;
 use tp_base::{MAX_NODES, NodeId, Refusal};
 use tp_board::{Board, Ended, Ledgers};
-use tp_graph::{Comparable, Graph, is_same};
+use tp_graph::{Comparable, Graph, Value, is_same};
 use tp_monitor::TaskpoolState;
 use tp_node::{Finished, Node, Turn as ControlTurn, Work};
 
@@ -48,6 +48,8 @@ struct Hands<G: Graph> {
     begun: Option<Work<G>>,
     /// A task that has run, whose feeds are not passed on.
     finished: Option<Finished<G>>,
+    /// What the graph does not keep of the value of a task that is done. It is dropped under no lock.
+    spent: Option<Value>,
 }
 
 /// What a turn did.
@@ -105,6 +107,7 @@ impl<'a, G: Comparable, K: Ledgers, A: Gate, R: Wait> Worker<'a, G, K, A, R> {
         let mut hands = Hands {
             begun: None,
             finished: None,
+            spent: None,
         };
         self.work_at(site, &mut hands)
     }
@@ -114,7 +117,9 @@ impl<'a, G: Comparable, K: Ledgers, A: Gate, R: Wait> Worker<'a, G, K, A, R> {
         let mut idle = 0u32;
         let mut seen = None;
         for _ in self.rt.forever() {
-            match self.turn(site, hands, idle, &mut seen)? {
+            let turn = self.turn(site, hands, idle, &mut seen);
+            hands.spent = None;
+            match turn? {
                 Turn::Idle => {
                     idle = idle.saturating_add(1);
                     if idle >= self.idle_turns {
@@ -195,7 +200,7 @@ impl<'a, G: Comparable, K: Ledgers, A: Gate, R: Wait> Worker<'a, G, K, A, R> {
     ) -> Result<Turn<K>, Refusal> {
         check_node(&desk.node, self.place, &self.graph)?;
         if let Some(finished) = hands.finished.take() {
-            self.pass_on(&mut desk.node, finished)?;
+            hands.spent = Some(self.pass_on(&mut desk.node, finished)?);
         }
         if self.locks.is_stopped.load(Ordering::SeqCst) {
             return Ok(Turn::Stop);

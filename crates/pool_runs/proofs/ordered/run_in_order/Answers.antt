@@ -1,7 +1,8 @@
+use Rattle.tp_graph.proofs.Left.{results_right}
 use Rattle.pool_runs.proofs.ordered.run_in_order.Goals as goal
 
 pub returns-clause-values : goal.returns-clause-values
 returns-clause-values g c =
     let outcome = c.in_ok-outcome.ensures.outcome in
     let graph = g.G.Graph.meaning c.args.graph in
-    c.in_order.ensures.values graph graph.tasks outcome.each_once outcome.right
+    λ all. c.in_order.ensures.values graph graph.tasks outcome.each_once (results_right graph c.in_ok-outcome.outcome.results.items all outcome.right)
