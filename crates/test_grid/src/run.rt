@@ -2,12 +2,14 @@ ghost use Rattle.std.specs.Prelude.{◌≤◌};
 
 use crate::by_one::{AFTER_TWO, CELLS};
 use pool_block_runs::steps_at_once;
+use pool_grid::grid_in_blocks;
 use pool_grid_runs::{run_grid, run_grid_in_parts};
 use std::alloc::{AllocError, Global};
 use std::sync::Wait;
 use std::test::Fail;
 use std::thread::Threads;
-use tp_work::Config;
+use tp_graph::in_order;
+use tp_work::{Config, OpenGate, run_pool};
 
 /// Whether so many nodes make the grid of two steps, in one run and in parts.
 fn is_made<R: Threads + Wait + Sync>(
@@ -42,6 +44,40 @@ fn threads_make_the_plain_grid(rt: HostRuntime) -> Result<(), Fail> {
                 "{nodes} {rows}"
             );
         }
+    }
+    Ok(())
+}
+
+/// How many numbers the results of a grid of two steps have, in blocks of a row, in the order of its tasks; none where it did
+/// not end.
+fn numbers_left<R: Threads + Wait + Sync>(
+    rt: &R,
+    alloc: Global,
+    nodes: u32,
+) -> Result<Vec<usize>, AllocError>
+    requires { (1 ≤ nodes) × (nodes ≤ 8) }
+{
+    let mut left = Vec::new(alloc);
+    let Some(grid) = grid_in_blocks(&CELLS, 4, 1, 2) else {
+        return Ok(left);
+    };
+    let Ok(outcome) = run_pool(rt, alloc, grid, Config::new(nodes, 2), &OpenGate) else {
+        return Ok(left);
+    };
+    for (_, value) in &in_order(outcome.results) {
+        left.push(value.as_slice().len())?;
+    }
+    Ok(left)
+}
+
+#[test]
+fn the_last_step_alone_is_kept(rt: HostRuntime) -> Result<(), Fail> {
+    for nodes in 1..9 {
+        assert_eq!(rt;
+            numbers_left(&rt, rt.alloc(), nodes)?.as_slice(),
+            [0, 0, 0, 0, 0, 0, 4, 4, 4].as_slice(),
+            "{nodes}"
+        );
     }
     Ok(())
 }
