@@ -1,12 +1,12 @@
-// Loaded before a program (LD_PRELOAD), it counts the bytes that the program's memory has at a time, and at its end writes the
-// most that there were into the file that LIVE_TOLD names.
+// Loaded before a program (LD_PRELOAD), it counts the bytes that the program's memory has at a time, and keeps the most that
+// there were in the file that LIVE_TOLD names, as a number of 64 bits.
 #define _GNU_SOURCE
 #include <fcntl.h>
 #include <malloc.h>
 #include <stdatomic.h>
 #include <stddef.h>
-#include <stdio.h>
 #include <stdlib.h>
+#include <sys/mman.h>
 #include <unistd.h>
 
 extern void *__libc_malloc(size_t);
@@ -15,12 +15,13 @@ extern void *__libc_realloc(void *, size_t);
 extern void *__libc_memalign(size_t, size_t);
 extern void __libc_free(void *);
 
-static atomic_long live, most;
+static atomic_long live, unseen;
+static atomic_long *most = &unseen;
 
 static void add(long bytes) {
     long now = atomic_fetch_add(&live, bytes) + bytes;
-    long before = atomic_load(&most);
-    while (before < now && !atomic_compare_exchange_weak(&most, &before, now)) {
+    long before = atomic_load(most);
+    while (before < now && !atomic_compare_exchange_weak(most, &before, now)) {
     }
 }
 
@@ -68,14 +69,15 @@ void free(void *at) {
     __libc_free(at);
 }
 
-__attribute__((destructor)) static void end(void) {
+__attribute__((constructor)) static void begin(void) {
     const char *told = getenv("LIVE_TOLD");
-    if (!told)
+    int file = told ? open(told, O_CREAT | O_TRUNC | O_RDWR | O_CLOEXEC, 0600) : -1;
+    if (file < 0)
         return;
-    char text[32];
-    int length = snprintf(text, sizeof text, "%ld\n", atomic_load(&most));
-    int file = open(told, O_CREAT | O_TRUNC | O_WRONLY | O_CLOEXEC, 0600);
-    if (file < 0 || write(file, text, (size_t)length) != length)
-        _exit(1);
+    if (ftruncate(file, sizeof *most) == 0) {
+        void *at = mmap(NULL, sizeof *most, PROT_READ | PROT_WRITE, MAP_SHARED, file, 0);
+        if (at != MAP_FAILED)
+            most = at;
+    }
     close(file);
 }

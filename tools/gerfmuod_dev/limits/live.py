@@ -6,6 +6,7 @@ lives until its last reader has run. Prints a line for each run. The last line i
 where one failed. Needs a C compiler.
 """
 import os
+import sys
 import tempfile
 
 from .. import running
@@ -28,8 +29,8 @@ def most_of(words, stdin, loaded, told):
     ran = running.run(words, stdin, env={**os.environ, "LD_PRELOAD": loaded, "LIVE_TOLD": told})
     if ran.status:
         return None
-    with open(told, encoding="utf-8") as it:
-        return int(it.read())
+    with open(told, "rb") as it:
+        return int.from_bytes(it.read(), sys.byteorder)
 
 
 def write_grid(path):
