@@ -27,8 +27,7 @@ use tp_store::Counts;
 ///
 /// Its type keeps that its pending number counts its unfinished tasks and its open actions, that what it has sent, received
 /// and done are the numbers of its shares, and that each value in it is the one that the graph defines, or what is left of
-/// it. Contracts see its
-/// graph, how many nodes the pool has, its own state, and the numbers of its shares.
+/// it. Contracts see its graph, how many nodes the pool has, its own state, and the numbers of its shares.
 #[derive(Drop)]
 pub struct Node<G: Graph, K: Ledgers> {
     graph: G,
