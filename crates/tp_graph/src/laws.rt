@@ -17,7 +17,7 @@ pub fn value_is_what_the_rule_makes<G: Graph>(graph: &G)
 /// What a run leaves of a graph that keeps all are the values of its tasks.
 pub fn all_results_are_values<G: Graph>(graph: &G)
     ensures { KeepsAll (G.meaning graph.now) → (results : Results)
-        → AreResults (G.meaning graph.now) results ↔ AreRight (G.meaning graph.now) results }
+        → (AreResults (G.meaning graph.now) results ↔ AreRight (G.meaning graph.now) results) }
 {
     let _ = graph;
 }

@@ -8,11 +8,11 @@ pub returns-clause-values : goal.returns-clause-values
 returns-clause-values g c =
     let outcome = c.in_ok-outcome.ensures.outcome in
     c.in_order.ensures.values (chain_graph c.args.length) c.args.length outcome.each_once
-    (results_right (chain_graph c.args.length) _ (λ t. refl) outcome.right)
+    (results_right (chain_graph c.args.length) c.in_ok-outcome.outcome.results.items (λ t. refl) outcome.right)
 
 pub returns-clause-sums : goal.returns-clause-sums
 returns-clause-sums g c =
     let outcome = c.in_ok-outcome.ensures.outcome in
     let values = c.in_order.ensures.values (chain_graph c.args.length) c.args.length outcome.each_once
-    (results_right (chain_graph c.args.length) _ (λ t. refl) outcome.right) in
+    (results_right (chain_graph c.args.length) c.in_ok-outcome.outcome.results.items (λ t. refl) outcome.right) in
     sums_are c.args.length _ values

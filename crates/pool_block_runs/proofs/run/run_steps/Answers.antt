@@ -12,7 +12,8 @@ cells_of-requires g c =
     let w = c.args.work in
     let right = subst (λ results.
     AreKept (block_graph (g.S.Stencil.next w.stencil) w.cells.now w.blocks w.size w.steps) results) (sym c.deref.ensures.value)
-    (results_kept _ _ (subst (λ graph. AreResults graph c.in-Ok.outcome.results.items) c.copied.ensures c.in-Ok.ensures.outcome.right)) in
+    (results_kept (block_graph (g.S.Stencil.next w.stencil) w.cells.now w.blocks w.size w.steps) c.in-Ok.outcome.results.items
+    (subst (λ graph. AreResults graph c.in-Ok.outcome.results.items) c.copied.ensures c.in-Ok.ensures.outcome.right)) in
     (c.type_bounds.send-S, (c.type_bounds.sync-S, right))
 
 pub unreachable-requires : goal.unreachable-requires

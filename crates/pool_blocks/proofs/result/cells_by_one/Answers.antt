@@ -14,7 +14,8 @@ cells_of-requires g c =
     let w = c.args.work in
     let right = subst (λ results.
     AreKept (block_graph (g.S.Stencil.next w.stencil) w.cells.now w.blocks w.size w.steps) results) (sym c.as_slice.ensures.value)
-    (right_kept _ _ (subst (λ graph. AreRight graph c.in-Ok.results.items) c.copied.ensures c.in-Ok.ensures.right)) in
+    (right_kept (block_graph (g.S.Stencil.next w.stencil) w.cells.now w.blocks w.size w.steps) c.in-Ok.results.items
+    (subst (λ graph. AreRight graph c.in-Ok.results.items) c.copied.ensures c.in-Ok.ensures.right)) in
     (c.type_bounds.send-S, (c.type_bounds.sync-S, right))
 
 pub returns-in-Err-clause-refused : goal.returns-in-Err-clause-refused

@@ -5,4 +5,6 @@ pub returns-clause-values : goal.returns-clause-values
 returns-clause-values g c =
     let outcome = c.in_ok-outcome.ensures.outcome in
     let graph = g.G.Graph.meaning c.args.graph in
-    λ all. c.in_order.ensures.values graph graph.tasks outcome.each_once (results_right graph c.in_ok-outcome.outcome.results.items all outcome.right)
+    λ all.
+    c.in_order.ensures.values graph graph.tasks outcome.each_once
+    (results_right graph c.in_ok-outcome.outcome.results.items all outcome.right)

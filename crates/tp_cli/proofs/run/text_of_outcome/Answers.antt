@@ -11,7 +11,8 @@ use Rattle.tp_cli.proofs.run.text_of_outcome.Goals as goal
 
 pub text_of_results-requires-clause-right : goal.text_of_results-requires-clause-right
 text_of_results-requires-clause-right c =
-    rw c.deref.ensures.value (results_right (any_graph c.args.graph) _ (any_keeps c.args.graph) c.requires.made.right)
+    rw c.deref.ensures.value
+    (results_right (any_graph c.args.graph) c.args.outcome.now.results.items (any_keeps c.args.graph) c.requires.made.right)
 
 pub text_of_results-requires-clause-tasks : goal.text_of_results-requires-clause-tasks
 text_of_results-requires-clause-tasks c =
