@@ -250,10 +250,7 @@ pub(crate) fn record<G: Comparable, K: Ledgers>(
     if !is_same(&finished.graph(), &node.graph()) || !finished.all_fed() {
         return Err((Refusal::Stranger, finished));
     }
-    match node.done(board, finished) {
-        Ok(_) => Ok(()),
-        Err(refused) => Err(refused),
-    }
+    node.done(board, finished)
 }
 
 /// Begins a task and runs it.

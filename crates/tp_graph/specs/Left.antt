@@ -8,10 +8,6 @@ use Rattle.tp_graph.specs.Values.{then_some, value_of}
 abbrev pub left_of : TaskGraph → ℕ → List ℤ → List ℤ
 left_of g t value = if g.keeps t then value else []
 
--- what is not left of it
-abbrev pub spent_of : TaskGraph → ℕ → List ℤ → List ℤ
-spent_of g t value = if g.keeps t then [] else value
-
 -- the result of task t: what is left of its value; none where it has no value
 abbrev pub result_of : TaskGraph → ℕ → Option (List ℤ)
 result_of g t = then_some (value_of g t) (λ value. Some (left_of g t value))

@@ -1,6 +1,6 @@
 ghost use Rattle.std.specs.Prelude.{◌≡◌, ◌<◌, ◌≤◌, ◌↔◌, IsTrue, Some, IfOk, IfErr, MatchResult};
 ghost use Rattle.tp_graph.specs.Carried.{IsFeed};
-ghost use Rattle.tp_graph.specs.Left.{left_of, result_of, spent_of};
+ghost use Rattle.tp_graph.specs.Left.{left_of, result_of};
 ghost use Rattle.tp_graph.specs.Values.{value_of, AreInputs, IsInput, IsRefusal};
 ghost use Rattle.tp_node.specs.Feeds.{HasFeed, next_feed_of, passed_on};
 
@@ -161,19 +161,17 @@ impl<G: Graph> Finished<G> {
         self.value
     }
 
-    /// What the pool hands out of its value at its end, and what it does not: one of them is the value, and the other has no
-    /// numbers.
+    /// What the pool hands out of its value at its end: the value where the graph keeps it, and else no numbers. What is not
+    /// handed out is dropped.
     #[tactic(auto, using(tp_graph::proofs::Left::result_left))]
-    pub(crate) fn into_result(self, alloc: Global) -> (Value, Value)
-        ensures left { result.0 ≡ left_of (G.meaning self.graph) self.task.0 self.value }
-        ensures spent { result.1 ≡ spent_of (G.meaning self.graph) self.task.0 self.value }
-        ensures right { result_of (G.meaning self.graph) self.task.0 ≡ Some result.0 }
+    pub(crate) fn into_left(self, alloc: Global) -> Value
+        ensures left { result ≡ left_of (G.meaning self.graph) self.task.0 self.value }
+        ensures right { result_of (G.meaning self.graph) self.task.0 ≡ Some result }
     {
-        let none = Value::made_with(alloc);
         if self.graph.keeps(self.task) {
-            (self.value, none)
+            self.value
         } else {
-            (none, self.value)
+            Value::made_with(alloc)
         }
     }
 

@@ -6,7 +6,7 @@ mod receiving;
 use crate::desk::{NodeDesk, Share};
 use crate::gate::Gate;
 use crate::locks::{Locks, Site, lock_soon};
-use std::alloc::Global;
+use std::alloc::{AllocError, Global};
 use std::hint::spin_loop;
 use std::sync::Wait;
 use std::sync::atomic::Ordering;
@@ -48,8 +48,6 @@ struct Hands<G: Graph> {
     begun: Option<Work<G>>,
     /// A task that has run, whose feeds are not passed on.
     finished: Option<Finished<G>>,
-    /// What the graph does not keep of the value of a task that is done. It is dropped under no lock.
-    spent: Option<Value>,
 }
 
 /// What a turn did.
@@ -107,7 +105,6 @@ impl<'a, G: Comparable, K: Ledgers, A: Gate, R: Wait> Worker<'a, G, K, A, R> {
         let mut hands = Hands {
             begun: None,
             finished: None,
-            spent: None,
         };
         self.work_at(site, &mut hands)
     }
@@ -117,9 +114,7 @@ impl<'a, G: Comparable, K: Ledgers, A: Gate, R: Wait> Worker<'a, G, K, A, R> {
         let mut idle = 0u32;
         let mut seen = None;
         for _ in self.rt.forever() {
-            let turn = self.turn(site, hands, idle, &mut seen);
-            hands.spent = None;
-            match turn? {
+            match self.turn(site, hands, idle, &mut seen)? {
                 Turn::Idle => {
                     idle = idle.saturating_add(1);
                     if idle >= self.idle_turns {
@@ -184,11 +179,14 @@ impl<'a, G: Comparable, K: Ledgers, A: Gate, R: Wait> Worker<'a, G, K, A, R> {
         idle: u32,
         seen: &mut Option<Seen>,
     ) -> Result<Turn<K>, Refusal> {
+        // It is dropped after the lock, which comes later: its numbers may be many.
+        let mut spent = None;
         let mut desk = lock_soon(self.rt, &site.desk);
-        self.turn_at(&mut desk, site, hands, idle, seen)
+        self.turn_at(&mut desk, site, hands, idle, seen, &mut spent)
     }
 
-    /// Passes on what the worker's last task has made, and takes a turn of the node.
+    /// Passes on what the worker's last task has made, and takes a turn of the node. A copy of what the graph does not keep is
+    /// left in `spent`, so that the one that the node drops is not the last.
     #[inline(always)]
     fn turn_at(
         &self,
@@ -197,10 +195,12 @@ impl<'a, G: Comparable, K: Ledgers, A: Gate, R: Wait> Worker<'a, G, K, A, R> {
         hands: &mut Hands<G>,
         idle: u32,
         seen: &mut Option<Seen>,
+        spent: &mut Option<Value>,
     ) -> Result<Turn<K>, Refusal> {
         check_node(&desk.node, self.place, &self.graph)?;
         if let Some(finished) = hands.finished.take() {
-            hands.spent = Some(self.pass_on(&mut desk.node, finished)?);
+            *spent = unkept(&finished)?;
+            self.pass_on(&mut desk.node, finished)?;
         }
         if self.locks.is_stopped.load(Ordering::SeqCst) {
             return Ok(Turn::Stop);
@@ -343,6 +343,15 @@ fn spin() {
     for _ in 0..SPINS_BEFORE_A_LOOK {
         spin_loop();
     }
+}
+
+/// A copy of a finished task's value, where the graph does not keep it.
+#[inline(always)]
+fn unkept<G: Graph>(finished: &Finished<G>) -> Result<Option<Value>, AllocError> {
+    if finished.graph().keeps(finished.task()) {
+        return Ok(None);
+    }
+    Ok(Some(finished.value().clone()?))
 }
 
 /// Inserts input-free tasks, and closes the opening action after the last.

@@ -10,13 +10,13 @@ use std::sync::Wait;
 use std::sync::atomic::Ordering;
 use tp_base::{NodeId, Refusal};
 use tp_board::{Board, Ledgers};
-use tp_graph::{Comparable, Graph, Value, is_same};
+use tp_graph::{Comparable, Graph, is_same};
 use tp_node::{Finished, Node, Wire};
 
 impl<'a, G: Comparable, K: Ledgers, A: Gate, R: Wait> Worker<'a, G, K, A, R> {
     /// Passes the feeds of a finished task on, and records it as done. One hold of the board's lock serves all feeds in a
-    /// row that stay at the node. What the graph does not keep of the task's value is answered.
-    pub fn pass_on(&self, here: &mut Node<G, K>, finished: Finished<G>) -> Result<Value, Refusal>
+    /// row that stay at the node.
+    pub fn pass_on(&self, here: &mut Node<G, K>, finished: Finished<G>) -> Result<(), Refusal>
         requires { here.old.graph ≡ self.now.graph }
     {
         if !is_same(&finished.graph(), &self.graph) {
@@ -137,17 +137,17 @@ fn feed_here<G: Graph, K: Ledgers>(
     Ok(None)
 }
 
-/// Records a task as done, all of whose feeds were passed on. What the graph does not keep of its value is answered.
+/// Records a task as done, all of whose feeds were passed on.
 fn record_done<G: Graph, K: Ledgers>(
     here: &mut Node<G, K>,
     board: &mut Board<K>,
     finished: Finished<G>,
-) -> Result<Value, Refusal>
+) -> Result<(), Refusal>
     requires graph { finished.graph ≡ here.old.graph }
     requires all_fed { finished.fed ≡ (G.meaning here.old.graph).feeds finished.task.0 }
 {
     match here.done(board, finished) {
-        Ok(spent) => Ok(spent),
+        Ok(()) => Ok(()),
         Err((refusal, _)) => Err(refusal),
     }
 }
