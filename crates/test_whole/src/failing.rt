@@ -44,8 +44,8 @@ impl Graph for Broken {
         self.tree.home(task, nodes)
     }
 
-    fn keeps(&self, _task: TaskId) -> bool {
-        true
+    fn keeps(&self, task: TaskId) -> bool {
+        self.tree.keeps(task)
     }
 
     fn body(&self, alloc: Global, task: TaskId, _inputs: &[Value]) -> Result<Value, Refusal> {
