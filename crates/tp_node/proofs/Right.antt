@@ -12,7 +12,7 @@ use Rattle.std.proofs.lemmas.List.Elements.{All-push}
 use Rattle.tp_base.specs.declared.ids.TaskId.{TaskId}
 use Rattle.tp_graph.specs.Graphs.{TaskGraph}
 use Rattle.tp_graph.specs.Left.{result_of}
-use Rattle.tp_graph.specs.Values.{value_of, IsInput, AreInputs}
+use Rattle.tp_graph.specs.Values.{IsInput, AreInputs}
 use Rattle.tp_node.specs.Nodes.{IsRightTask, AreRightValues}
 use Rattle.tp_local.specs.Locals.{Numbers}
 use Rattle.tp_slots.proofs.Sound.{get_inserted}
