@@ -1,5 +1,5 @@
-// Loaded before a program (LD_PRELOAD), it counts the bytes that the program's memory has at a time, and keeps the most that
-// there were in the file that LIVE_TOLD names, as a number of 64 bits.
+// Loaded before a program (LD_PRELOAD), it counts the bytes that the program's memory has at a time, and keeps the most
+// that there were in the file that LIVE_TOLD names, as a number of 64 bits.
 #define _GNU_SOURCE
 #include <fcntl.h>
 #include <malloc.h>
