@@ -1,12 +1,16 @@
 -- What is drawn of a trace that was read.
 use Rattle.std.proofs.Common.{◌≡◌, ◌⊎◌, ℕ, List, Option, Some, None, Result, Ok, Err, IsErrOf, MatchOption, MatchResult, Bool, true, false}
-use Rattle.std.proofs.Common.{reverse, refl, sym, subst, inl, inr, string_bytes, ◌∙◌}
+use Rattle.std.proofs.Common.{reverse, refl, sym, ap, subst, inl, inr, string_bytes, ◌∙◌}
 use Rattle.std.specs.Io.KnownBytes.{Appends}
 use Rattle.tp_base.specs.declared.Step.{Step}
+use Rattle.tp_scene.specs.Layout.{page_height, width}
+use Rattle.tp_scene.specs.declared.scene.Scene.{Scene}
 use Rattle.tp_text.specs.AuditText.{IsComplaint}
 use Rattle.tp_text.specs.declared.fault.TextFault.{TextFault}
 use Rattle.tp_text.specs.declared.fault.TextFault.TheVariants as texts
-use Rattle.tp_draw.specs.Ends.{HasFailedRun, HasNoPicture, IsAllOf, IsDrawnOf, IsPictureOf, IsPictureOfAll, IsToldOf, IsUnread, IsUnsoundAs}
+use Rattle.tp_draw.specs.Ends.{HasFailedRun, HasNoPicture, IsAllOf, IsDrawnOf, IsMarkedPictureOf, IsPictureOf, IsPictureOfAll}
+use Rattle.tp_draw.specs.Ends.{IsToldOf, IsUnread, IsUnsoundAs}
+use Rattle.tp_draw.specs.Scaled.{shown}
 use Rattle.tp_text.specs.Reading.{AreStepsBeforeFault, IsSoundTraceOf, LacksHead}
 use Rattle.tp_draw.specs.declared.fault.Fault.{Fault}
 use Rattle.tp_draw.specs.declared.fault.Fault.TheVariants as faults
@@ -14,10 +18,15 @@ use Rattle.tp_draw.specs.declared.request.View.{View}
 use Rattle.tp_draw.specs.declared.run.Drawn.{Drawn}
 
 -- what follows for a value, and for a fault
-matched_as : {A E : Type 0} (r : Result A E) (P P' : A → Type 0) (Q Q' : E → Type 0) → ((x : A) → P x → P' x)
+pub matched_as : {A E : Type 0} (r : Result A E) (P P' : A → Type 0) (Q Q' : E → Type 0) → ((x : A) → P x → P' x)
     → ((e : E) → Q e → Q' e) → MatchResult r P Q → MatchResult r P' Q'
 matched_as (Ok x) P P' Q Q' value fault p = value x p
 matched_as (Err e) P P' Q Q' value fault q = fault e q
+
+-- The text of a scene's picture in its size is that of the text that is printed of it.
+pub in_its_size : (pixels : Option ℕ) (scene : Scene) (text printed sized : List ℕ) → text ≡ printed
+    → sized ≡ shown pixels (width scene) (page_height scene) text → sized ≡ shown pixels (width scene) (page_height scene) printed
+in_its_size pixels scene text printed sized same is = is ∙ ap (shown pixels (width scene) (page_height scene)) same
 
 -- what holds where there is nothing
 none_as : {S : Type 0} (o : Option S) (P : Type 0) (Q : S → Type 0) → o ≡ None → P → MatchOption o P Q
@@ -74,11 +83,11 @@ module _ (view : View) (read_old read_new : Option (List ℕ)) where
     -- one with a line at fault
     module _ (complaint : List ℕ) (complains : IsComplaint bytes complaint) where
       flawed_drawn : (n : ℕ) (steps : List Step) (drawn : Drawn) → AreStepsBeforeFault bytes n steps
-          → (view.until_fault ≡ true) × IsPictureOf view.pixels n (reverse steps) drawn.text.items
-          × MatchOption drawn.told ⊥ (λ line. string_bytes line ≡ complaint) → IsDrawnOf view read_old read_new drawn
-      flawed_drawn n steps drawn before (wanted, picture, told) =
+          → (view.until_fault ≡ true) × MatchOption drawn.told ⊥ (λ line. (string_bytes line ≡ complaint)
+          × IsMarkedPictureOf view.pixels n (reverse steps) (string_bytes line) drawn.text.items) → IsDrawnOf view read_old read_new drawn
+      flawed_drawn n steps drawn before (wanted, told) =
           some_as drawn.told _ _ _
-          (λ line same. (wanted, (bytes, all, subst (IsComplaint bytes) (sym same) complains, (n, steps, before, picture)))) told
+          (λ line is. (wanted, (bytes, all, subst (IsComplaint bytes) (sym is.0) complains, (n, steps, before, is.1)))) told
 
       refused : (fault : Fault) → IsUnsoundAs complaint fault → (view.until_fault ≡ true → LacksHead bytes)
           → HasNoPicture view.until_fault read_old read_new fault
@@ -99,8 +108,8 @@ module _ (view : View) (read_old read_new : Option (List ℕ)) where
           refused fault is (λ wanted. let both : true ≡ false = sym wanted ∙ unwanted in cc)
 
       pub of_flawed : (n : ℕ) (steps : List Step) (r : Result Drawn Fault) → AreStepsBeforeFault bytes n steps
-          → MatchResult r (λ drawn. (view.until_fault ≡ true) × IsPictureOf view.pixels n (reverse steps) drawn.text.items
-          × MatchOption drawn.told ⊥ (λ line. string_bytes line ≡ complaint))
+          → MatchResult r (λ drawn. (view.until_fault ≡ true) × MatchOption drawn.told ⊥ (λ line. (string_bytes line ≡ complaint)
+          × IsMarkedPictureOf view.pixels n (reverse steps) (string_bytes line) drawn.text.items))
           (λ fault. ((view.until_fault ≡ true) × (fault ≡ faults.Memory)) ⊎ ((view.until_fault ≡ false) × IsUnsoundAs complaint fault))
           → MatchResult r (IsDrawnOf view read_old read_new) (HasNoPicture view.until_fault read_old read_new)
       of_flawed n steps r before h =

@@ -11,7 +11,7 @@ use Rattle.tp_text.specs.declared.fault.TextFault.{TextFault}
 use Rattle.tp_text.specs.declared.fault.TextFault.TheVariants as texts
 use Rattle.tp_text.specs.declared.input.TheConstants.{MAX_TEXT}
 use Rattle.tp_scene.specs.Layout.{page_height, width}
-use Rattle.tp_scene.specs.Page.{svg_of}
+use Rattle.tp_scene.specs.Page.{svg_of, svg_until_of}
 use Rattle.tp_scene.specs.Scene.{IsSceneOf}
 use Rattle.tp_scene.specs.declared.scene.Scene.{Scene}
 use Rattle.pool_samples.specs.Any.{any_graph}
@@ -43,6 +43,11 @@ use Rattle.tp_shell.specs.declared.words.WordsFault.TheVariants as word_faults
 abbrev pub IsPictureOf : Option ℕ → ℕ → List Step → List ℕ → Type 0
 IsPictureOf pixels n steps text = (s : Scene) × IsSceneOf n steps s × (text ≡ shown pixels (width s) (page_height s) (svg_of s))
 
+-- The same with the mark of a fault behind the last of them, at which this is told.
+abbrev pub IsMarkedPictureOf : Option ℕ → ℕ → List Step → List ℕ → List ℕ → Type 0
+IsMarkedPictureOf pixels n steps told text = (s : Scene) × IsSceneOf n steps s
+    × (text ≡ shown pixels (width s) (page_height s) (svg_until_of s told))
+
 -- The bytes are a sound trace, and this is the picture of its steps.
 abbrev pub IsPictureOfTrace : Option ℕ → List ℕ → List ℕ → Type 0
 IsPictureOfTrace pixels bytes text = (n : ℕ) × (steps : List Step)
@@ -60,10 +65,11 @@ IsPictureOfAll pixels read_old read_new text = (bytes : List ℕ) × IsAllOf rea
 abbrev pub IsRunPicture : List Text → Option (List ℕ) → Option (List ℕ) → List ℕ → Type 0
 IsRunPicture words read_old read_new text = (view : View) × AsksForRunAt words view × IsPictureOfAll view.pixels read_old read_new text
 
--- All was read; a line of it is at fault, for which this is told; and this is the picture of what stands before the first such line.
+-- All was read; a line of it is at fault, for which this is told; and this is the picture of what stands before the first such line,
+-- with its mark, at which the same is told.
 abbrev pub IsPictureUntilFault : Option ℕ → Option (List ℕ) → Option (List ℕ) → List ℕ → List ℕ → Type 0
 IsPictureUntilFault pixels read_old read_new told text = (bytes : List ℕ) × IsAllOf read_old read_new bytes × IsComplaint bytes told
-    × ((n : ℕ) × (steps : List Step) × AreStepsBeforeFault bytes n steps × IsPictureOf pixels n (reverse steps) text)
+    × ((n : ℕ) × (steps : List Step) × AreStepsBeforeFault bytes n steps × IsMarkedPictureOf pixels n (reverse steps) told text)
 
 -- The words ask for the picture of a run up to a fault, this is told of it, and this is the picture.
 abbrev pub IsPictureWithFault : List Text → Option (List ℕ) → Option (List ℕ) → List ℕ → List ℕ → Type 0

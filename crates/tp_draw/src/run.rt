@@ -3,8 +3,11 @@ ghost use Rattle.std.specs.Io.KnownBytes.{Appends};
 ghost use Rattle.std.specs.String.{string_bytes};
 ghost use Rattle.tp_base.specs.declared.limits.TheConstants.{MAX_NODES};
 ghost use Rattle.tp_text.specs.AuditText.{IsComplaint};
-ghost use Rattle.tp_draw.specs.Ends.{HasFailedRun, HasNoPicture, IsDrawnOf, IsPictureOf, IsPictureOfAll, IsToldOf, IsUnsoundAs};
-ghost use Rattle.tp_draw.specs.Scaled.{IsWithin};
+ghost use Rattle.tp_draw.specs.Ends.{HasFailedRun, HasNoPicture, IsDrawnOf, IsMarkedPictureOf, IsPictureOf, IsPictureOfAll, IsToldOf};
+ghost use Rattle.tp_draw.specs.Ends.{IsUnsoundAs};
+ghost use Rattle.tp_draw.specs.Scaled.{IsWithin, shown};
+ghost use Rattle.tp_scene.specs.Layout.{page_height, width};
+ghost use Rattle.tp_scene.specs.Scene.{IsSceneOf};
 
 use crate::fault::Fault;
 use crate::picture::{Picture, write_picture};
@@ -12,7 +15,7 @@ use crate::request::View;
 use crate::scaled::shown;
 use std::alloc::Global;
 use std::io::{Read, Write};
-use tp_scene::{scene_of, svg};
+use tp_scene::{Scene, scene_of, svg, svg_until};
 use tp_text::{Reading, Trace, read_trace};
 
 /// What is drawn of a trace.
@@ -95,19 +98,19 @@ fn sound(alloc: Global, trace: &Trace, pixels: Option<u32>) -> Result<Drawn, Fau
     }
 }
 
-/// What is drawn of a trace with a line at fault: what stands before it, where that is wanted.
+/// What is drawn of a trace with a line at fault: what stands before it and the mark of the fault, where that is wanted.
 fn flawed(alloc: Global, trace: &Trace, complaint: Vec<u8>, view: View) -> Result<Drawn, Fault>
     requires pixels { IsWithin view.pixels }
     requires nodes { (1 ≤ trace.now.nodes) × (trace.now.nodes ≤ MAX_NODES) }
     requires complaint { (bytes : List ℕ) × IsComplaint bytes complaint.items }
     ensures { MatchResult result (λ drawn. (view.until_fault ≡ true)
-        × IsPictureOf view.pixels trace.now.nodes (reverse trace.now.steps.items) drawn.text.items
-        × MatchOption drawn.told ⊥ (λ line. string_bytes line ≡ complaint.items))
+        × MatchOption drawn.told ⊥ (λ line. (string_bytes line ≡ complaint.items)
+        × IsMarkedPictureOf view.pixels trace.now.nodes (reverse trace.now.steps.items) (string_bytes line) drawn.text.items))
         (λ fault. ((view.until_fault ≡ true) × (fault ≡ Fault.Memory)) ⊎ ((view.until_fault ≡ false) × IsUnsoundAs complaint.items fault)) }
 {
     let line = told(complaint);
     if view.until_fault {
-        match text_of_trace(alloc, trace, view.pixels) {
+        match text_until_fault(alloc, trace, line.as_bytes(), view.pixels) {
             Ok(text) => Ok(Drawn {
                 text,
                 told: Some(line),
@@ -137,14 +140,54 @@ fn text_of_trace(alloc: Global, trace: &Trace, pixels: Option<u32>) -> Result<Ve
     ensures { MatchResult result (λ text. IsPictureOf pixels trace.now.nodes (reverse trace.now.steps.items) text.items) (λ fault. fault
         ≡ Fault.Memory) }
 {
-    let scene = match scene_of(alloc, trace.nodes, &trace.steps) {
-        Ok(scene) => scene,
-        Err(_) => return Err(Fault::Memory),
-    };
-    let text = match svg(alloc, &scene) {
-        Ok(text) => text,
-        Err(_) => return Err(Fault::Memory),
-    };
+    let scene = scene_of_trace(alloc, trace)?;
+    match svg(alloc, &scene) {
+        Ok(text) => in_size(alloc, &scene, text, pixels),
+        Err(_) => Err(Fault::Memory),
+    }
+}
+
+/// The picture of a run up to a fault, with its mark, at which this is told.
+fn text_until_fault(
+    alloc: Global,
+    trace: &Trace,
+    told: &[u8],
+    pixels: Option<u32>,
+) -> Result<Vec<u8>, Fault>
+    requires pixels { IsWithin pixels }
+    requires nodes { (1 ≤ trace.now.nodes) × (trace.now.nodes ≤ MAX_NODES) }
+    ensures { MatchResult result (λ text. IsMarkedPictureOf pixels trace.now.nodes (reverse trace.now.steps.items) told.now text.items)
+        (λ fault. fault ≡ Fault.Memory) }
+{
+    let before = scene_of_trace(alloc, trace)?;
+    match svg_until(alloc, &before, told) {
+        Ok(text) => in_size(alloc, &before, text, pixels),
+        Err(_) => Err(Fault::Memory),
+    }
+}
+
+/// What is drawn of the steps of a trace.
+fn scene_of_trace(alloc: Global, trace: &Trace) -> Result<Scene, Fault>
+    requires { (1 ≤ trace.now.nodes) × (trace.now.nodes ≤ MAX_NODES) }
+    ensures { MatchResult result (IsSceneOf trace.now.nodes (reverse trace.now.steps.items)) (λ fault. fault ≡ Fault.Memory) }
+{
+    match scene_of(alloc, trace.nodes, &trace.steps) {
+        Ok(scene) => Ok(scene),
+        Err(_) => Err(Fault::Memory),
+    }
+}
+
+/// The text of a scene's picture, so many pixels wide, or in its own size.
+fn in_size(
+    alloc: Global,
+    scene: &Scene,
+    text: Vec<u8>,
+    pixels: Option<u32>,
+) -> Result<Vec<u8>, Fault>
+    requires { IsWithin pixels }
+    ensures { MatchResult result
+        (λ sized. sized.items ≡ shown pixels (width scene.now) (page_height scene.now) text.items) (λ fault. fault ≡ Fault.Memory) }
+{
     let picture = Picture {
         width: scene.width(),
         height: scene.page_height(),

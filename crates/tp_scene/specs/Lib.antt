@@ -5,6 +5,7 @@ pub mod Pieces
 pub mod Marks
 pub mod Cuts
 pub mod Flow
+pub mod Fault
 pub mod Page
 pub mod Laws
 pub mod Inside

@@ -10,6 +10,7 @@ use Rattle.tp_scene.specs.Pieces.{◌⧺◌, event, tenths, point, box_text}
 use Rattle.tp_scene.specs.Marks.{at, area, bar_text, running_text, pause_text, arrow_text, lost_text, seam_text}
 use Rattle.tp_scene.specs.Cuts.{cut_text, end_text, labels}
 use Rattle.tp_scene.specs.Flow.{hills, ribbon_text}
+use Rattle.tp_scene.specs.Fault.{fault_text}
 
 -- the size of the page, and how things look on it
 unfoldable pub head : Scene → List ℕ
@@ -129,6 +130,14 @@ waves s =
     flat_map (end_text s) s.ends.items ⧺ flat_map (cut_text s) s.cuts.items ⧺ labels s s.cuts.items (vec_len s.cuts)
     ⧺ flat_map (seam_text s) s.seams.items
 
+-- all that is drawn of a scene
+unfoldable pub picture : Scene → List ℕ
+picture s = opening s ⧺ headline s ⧺ verdict s.ended ⧺ legend s ⧺ run s ⧺ waves s ⧺ axis s
+
 -- the picture of a scene
 unfoldable pub svg_of : Scene → List ℕ
-svg_of s = opening s ⧺ headline s ⧺ verdict s.ended ⧺ legend s ⧺ run s ⧺ waves s ⧺ axis s ⧺ codes "</svg>\n"
+svg_of s = picture s ⧺ codes "</svg>\n"
+
+-- the picture of what stood before a fault, with its mark
+unfoldable pub svg_until_of : Scene → List ℕ → List ℕ
+svg_until_of s label = picture s ⧺ fault_text s label ⧺ codes "</svg>\n"

@@ -3,6 +3,7 @@
 
 mod columns;
 mod cuts;
+mod fault;
 mod flow;
 mod keyed;
 mod lanes;
@@ -23,6 +24,6 @@ pub use laws::{
     all_is_inside, bars_lie_apart, each_message_once, each_task_once, each_wave_once,
     loads_are_runs, ribbons_carry_all,
 };
-pub use page::svg;
+pub use page::{svg, svg_until};
 pub use scene::{Arrow, Bar, Cut, End, Pause, Ribbon, Running, Scene, Seam, Sending, Way};
 pub use sketch::scene_of;

@@ -1,9 +1,10 @@
 ghost use Rattle.std.specs.Prelude.{◌≡◌, ◌++◌, ◌<◌, ◌^◌, OnOk, IfOk};
 ghost use Rattle.tp_scene.specs.Page.{head, headline, plural, verdict, lane, ground, grounds, frame, frames, unit_by, unit, tick};
 ghost use Rattle.tp_scene.specs.Page.{tick_where, ticks, axis_line, axis, lanes, messages, tasks, run, waves, svg_of};
-ghost use Rattle.tp_scene.specs.Page.{all_bars, legend, more_style, opening, received};
+ghost use Rattle.tp_scene.specs.Page.{all_bars, legend, more_style, opening, picture, received, svg_until_of};
 
 use crate::cuts::push_labels;
+use crate::fault::push_fault;
 use crate::flow::push_hills;
 use crate::layout::LEFT;
 use crate::pieces::{Area, Part, Point, push_all, push_parts};
@@ -26,6 +27,7 @@ polyline.wave,circle.wave{fill:none;stroke:#d08a00;stroke-width:1.1;stroke-opaci
 polyline.tells,circle.tells{stroke:#1b7f3b;stroke-width:1.8;stroke-opacity:1}circle.ring{fill:#fff;stroke-width:1.4}
 text.wave{fill:#a66e00}text.tells,.told,.seen{fill:#1b7f3b;font-weight:600}.left,.told{text-anchor:end}
 .over{fill:#1b7f3b;fill-opacity:.07}.end{stroke:#1b7f3b;stroke-width:2.4}
+path.fault{stroke:#b00020;stroke-width:2.4}text.fault{fill:#b00020;font-weight:600;text-anchor:end}
 path.seam{stroke:#22262b;stroke-width:1.2;stroke-dasharray:6 3}text.seam{fill:#22262b}
 @media (prefers-color-scheme:dark){text{fill:#9aa3ad}.page{fill:#15181c}.idle{fill:#15181c}
 .p0{fill:#1c2a3a}.p1{fill:#35231b}.p2{fill:#1d3022}.p3{fill:#2b2233}.p4{fill:#322b16}.p5{fill:#1a2f30}.p6{fill:#341f29}.p7{fill:#2a2b1b}
@@ -33,7 +35,8 @@ path.seam{stroke:#22262b;stroke-width:1.2;stroke-dasharray:6 3}text.seam{fill:#2
 rect[rx=\"3\"]{stroke:#15181c}.number{fill:#15181c}.head,text.seam{fill:#e6e9ed}
 .frame{stroke:#39404a}.arrow{stroke:#aab3bd}.dot{fill:#aab3bd}.axis{stroke:#9aa3ad}
 polyline.wave,circle.wave{stroke:#e0a83a}polyline.tells,circle.tells,.end{stroke:#4fc47a}circle.ring{fill:#15181c}text.wave{fill:#e0a83a}
-text.tells,.told,.seen{fill:#4fc47a}.over{fill:#4fc47a;fill-opacity:.12}.lost{stroke:#ff6b81}path.seam{stroke:#e6e9ed}}
+text.tells,.told,.seen{fill:#4fc47a}.over{fill:#4fc47a;fill-opacity:.12}
+.lost,path.fault{stroke:#ff6b81}text.fault{fill:#ff6b81}path.seam{stroke:#e6e9ed}}
 </style>
 <defs><marker id=\"a\" viewBox=\"0 0 8 8\" refX=\"7\" refY=\"4\" markerWidth=\"6\" markerHeight=\"6\" orient=\"auto\"><path class=\"dot\" d=\"M0,0.8L8,4L0,7.2z\"/></marker></defs>
 <rect class=\"page\" width=\"100%\" height=\"100%\"/>
@@ -439,19 +442,40 @@ fn push_waves(out: &mut Vec<u8>, scene: &Scene) -> Result<(), AllocError>
     push_all(out, scene, &scene.seams)
 }
 
+/// All that is drawn of a scene.
+#[tactic(auto, unfolding(crate::specs::Page::picture))]
+fn push_picture(out: &mut Vec<u8>, scene: &Scene) -> Result<(), AllocError>
+    ensures { OnOk result (out.new.items ≡ out.old.items ++ picture scene.now) }
+{
+    push_opening(out, scene)?;
+    push_headline(out, scene)?;
+    push_verdict(out, scene.ended)?;
+    out.extend_from_slice(legend(scene))?;
+    push_run(out, scene)?;
+    push_waves(out, scene)?;
+    push_axis(out, scene)
+}
+
 /// The picture of a scene, as an SVG of version 1.1 in UTF-8. It takes memory for the text alone; where that is refused, so is it.
 #[tactic(auto, unfolding(crate::specs::Page::svg_of))]
 pub fn svg(alloc: Global, scene: &Scene) -> Result<Vec<u8>, AllocError>
     ensures { IfOk result (λ text. text.items ≡ svg_of scene.now) }
 {
     let mut out = Vec::new(alloc);
-    push_opening(&mut out, scene)?;
-    push_headline(&mut out, scene)?;
-    push_verdict(&mut out, scene.ended)?;
-    out.extend_from_slice(legend(scene))?;
-    push_run(&mut out, scene)?;
-    push_waves(&mut out, scene)?;
-    push_axis(&mut out, scene)?;
+    push_picture(&mut out, scene)?;
+    out.extend_from_slice(b"</svg>\n")?;
+    Ok(out)
+}
+
+/// The picture of what stood before a fault, as [`svg`] draws it, with a red line where the lanes end, and a label. Of the label line
+/// feeds are left out, and what else is no printed character of ASCII, and `<`, `>` and `&`, are shown as question marks.
+#[tactic(auto, unfolding(crate::specs::Page::svg_until_of))]
+pub fn svg_until(alloc: Global, scene: &Scene, label: &[u8]) -> Result<Vec<u8>, AllocError>
+    ensures { IfOk result (λ text. text.items ≡ svg_until_of scene.now label.now) }
+{
+    let mut out = Vec::new(alloc);
+    push_picture(&mut out, scene)?;
+    push_fault(&mut out, scene, label)?;
     out.extend_from_slice(b"</svg>\n")?;
     Ok(out)
 }
