@@ -6,7 +6,7 @@ status 2.
 import argparse
 
 from . import bench, build, capi, demo, docs, drawn, gate_times, lanes, library, limits, new_pool, soak, tries, wrong
-from .limits import cuts, generations, hostile_numbers, memory, random_texts, refuse, refuse_tests, stacks, strange
+from .limits import cuts, generations, hostile_numbers, memory, pictures, random_texts, refuse, refuse_tests, stacks, strange
 
 COMMANDS = {
     "build": build,
@@ -30,6 +30,7 @@ LIMITS = {
     "stacks": stacks,
     "hostile-numbers": hostile_numbers,
     "generations": generations,
+    "pictures": pictures,
     "strange": strange,
     "cuts": cuts,
     "random": random_texts,

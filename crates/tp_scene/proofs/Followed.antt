@@ -1,6 +1,6 @@
 -- What is known of steps that were followed, one step further.
-use Rattle.std.proofs.Common.{◌≡◌, ◌≢◌, ℕ, ◌+◌, ◌<◌, ◌==◌, Bool, true, false, List, [], ◌∷◌, ◌++◌, length, Option, Some, None, slice_index}
-use Rattle.std.proofs.Common.{slice_set, max, if◌then◌else◌, refl, sym, ap, subst, ◌∙◌, eqb-true, arith}
+use Rattle.std.proofs.Common.{◌≡◌, ◌≢◌, ℕ, ◌+◌, ◌-◌, ◌<◌, ◌==◌, min, Bool, true, false, List, [], ◌∷◌, ◌++◌, length, Option, Some, None}
+use Rattle.std.proofs.Common.{slice_index, slice_set, max, if◌then◌else◌, refl, sym, ap, subst, ◌∙◌, eqb-true, arith}
 use Rattle.std.specs.Prelude.{OnOk, Result, Ok, Err, unwrap_or, map}
 use Rattle.std.specs.List.{find, range_with_len}
 use Rattle.std.specs.Option.{option_map}
@@ -22,7 +22,7 @@ use Rattle.tp_core.specs.declared.life.Life.{Life}
 use Rattle.tp_core.specs.declared.life.Life.TheVariants as life
 use Rattle.tp_core.specs.declared.reply.Reply.{Reply}
 use Rattle.tp_core.specs.declared.reply.Reply.TheVariants.{Plain, WaveSums, Over, Opened}
-use Rattle.tp_core.specs.World.{Task, home_of}
+use Rattle.tp_core.specs.World.{Task, home_of, how_many}
 use Rattle.tp_core.specs.Pool.{with_life, without, supplied, lacking}
 use Rattle.tp_core.specs.Generations.{world_after}
 use Rattle.tp_core.specs.Accepted.{judged, reply_to}
@@ -32,9 +32,11 @@ use Rattle.tp_scene.specs.declared.tracks.Tracks.{Tracks}
 use Rattle.tp_scene.specs.declared.messages.Messages.{Messages}
 use Rattle.tp_scene.specs.declared.waves.Waves.{Waves}
 use Rattle.tp_scene.specs.declared.waves.Gives.{Gives}
-use Rattle.tp_scene.specs.Scene.{is_run_of, is_sending_of, free_track, running, bars, bar_of, rows, with_row, under_way, arrows}
-use Rattle.tp_scene.specs.Scene.{arrow_of, with_received, ribbons, gave, cut, cuts, ends, end_of, seams}
+use Rattle.tp_scene.specs.Scene.{is_run_of, is_sending_of, is_at, begun, free_track, running, bars, bar_of, rows, with_row, under_way}
+use Rattle.tp_scene.specs.Scene.{arrows, arrow_of, gave, cut, cuts, ends, end_of, seams}
 use Rattle.tp_scene.specs.Following.{home, HasTracks, HasMessages, HasGiven, HasWaves}
+use Rattle.tp_scene.proofs.Lists.{one, counted-push, counted-without_found, without-missing}
+use Rattle.tp_scene.proofs.Apart.{counted_fit, running_few}
 
 pub ok_then : {A E P Q : Type 0} (r : Result A E) → (P → Q) → OnOk r P → OnOk r Q
 ok_then (Ok x) f h = f h
@@ -61,9 +63,9 @@ put_size old new node v is size = ap length is ∙ length-set old node v ∙ siz
 
 pub tracks_inserted : (n : ℕ) (past : List Step) (s : Step) (i : NodeId) (t : TaskId) (k : Inputs) (old new : Tracks) → s ≡ Insert i t k
     → HasTracks n past old
-    → Puts old.homes new.homes t.0 i → new.rows ≡ old.rows → new.running.items ≡ old.running.items → new.bars.items ≡ old.bars.items
-    → HasTracks n (s ∷ past) new
-tracks_inserted n past s i t k old new is h puts same run bar =
+    → Puts old.homes new.homes t.0 i → new.rows ≡ old.rows → new.counts ≡ old.counts → new.running.items ≡ old.running.items
+    → new.bars.items ≡ old.bars.items → HasTracks n (s ∷ past) new
+tracks_inserted n past s i t k old new is h puts same count run bar =
     let P : Step → Type 0 = λ x. HasTracks n (x ∷ past) new in
     subst P (sym is) (record {
       homes = λ q. puts q ∙ rw (h.homes q)
@@ -71,19 +73,24 @@ tracks_inserted n past s i t k old new is h puts same run bar =
           (find (λ x. x.number == q) (world_after n past).tasks) refl);
       size = ap length same ∙ h.size;
       rows = λ j l. ap (λ r. slice_index r j) same ∙ h.rows j l;
+      many = ap length count ∙ h.many;
+      counts = λ j l. ap (λ r. slice_index r j) count ∙ h.counts j l;
       running = run ∙ h.running;
       bars = bar ∙ h.bars;
     })
 
 pub tracks_reopened : (n : ℕ) (past : List Step) (s : Step) (old new : Tracks) → s ≡ Reopen → HasTracks n past old
     → ((q : ℕ) → lookup new.homes q ≡ None)
-    → new.rows ≡ old.rows → new.running.items ≡ old.running.items → new.bars.items ≡ old.bars.items → HasTracks n (s ∷ past) new
-tracks_reopened n past s old new is h none same run bar =
+    → new.rows ≡ old.rows → new.counts ≡ old.counts → new.running.items ≡ old.running.items → new.bars.items ≡ old.bars.items
+    → HasTracks n (s ∷ past) new
+tracks_reopened n past s old new is h none same count run bar =
     let P : Step → Type 0 = λ x. HasTracks n (x ∷ past) new in
     subst P (sym is) (record {
       homes = none;
       size = ap length same ∙ h.size;
       rows = λ j l. ap (λ r. slice_index r j) same ∙ h.rows j l;
+      many = ap length count ∙ h.many;
+      counts = λ j l. ap (λ r. slice_index r j) count ∙ h.counts j l;
       running = run ∙ h.running;
       bars = bar ∙ h.bars;
     })
@@ -100,11 +107,20 @@ tracks_other n past (Supply u) t h insert begin done reopen = record {
   homes = λ q. h.homes q ∙ sym (homes-with_life u.0 q supplied (world_after n past).tasks);
   size = h.size;
   rows = h.rows;
+  many = h.many;
+  counts = h.counts;
   running = h.running;
   bars = h.bars;
 }
-tracks_other n past s t h insert begin done reopen =
-    record { homes = h.homes; size = h.size; rows = h.rows; running = h.running; bars = h.bars }
+tracks_other n past s t h insert begin done reopen = record {
+  homes = h.homes;
+  size = h.size;
+  rows = h.rows;
+  many = h.many;
+  counts = h.counts;
+  running = h.running;
+  bars = h.bars;
+}
 
 home_found : (o : Option Task) → unwrap_or (option_map home o) (record { 0 = 0 }) ≡ record { 0 = unwrap_or (option_map (λ x. x.home) o) 0 }
 home_found None = refl
@@ -122,19 +138,35 @@ pub tracks_begun : (n : ℕ) (past : List Step) (t : TaskId) (node : NodeId) (tr
     → node ≡ unwrap_or (lookup old.homes t.0) (record { 0 = 0 }) → track ≡ free_track node.0 place old.running.items
     → ((q : ℕ) → lookup new.homes q ≡ lookup old.homes q)
     → new.rows ≡ slice_set old.rows node.0 (max (slice_index old.rows node.0) (track + 1))
+    → new.counts ≡ slice_set old.counts node.0 (min (slice_index old.counts node.0) place + 1)
     → new.running.items ≡ old.running.items ++ record { task = t; node = node; track = track; from = place } ∷ []
     → new.bars.items ≡ old.bars.items
     → HasTracks n (Begin t ∷ past) new
-tracks_begun n past t node track place old new h at node_is track_is same put run bar = record {
+tracks_begun n past t node track place old new h at node_is track_is same put more run bar = record {
   homes = λ q. same q ∙ h.homes q ∙ sym (homes-with_life t.0 q (λ _. life.Running) (world_after n past).tasks);
   size = put_size old.rows new.rows node.0 (max (slice_index old.rows node.0) (track + 1)) put h.size;
   rows = λ i l. put_is old.rows new.rows node.0 (max (slice_index old.rows node.0) (track + 1)) i put (omega (arith, l, h.size))
       ∙ choose i l (node.0 == i) refl ∙ ap (λ r. with_row i r (rows n i past)) is;
+  many = put_size old.counts new.counts node.0 (min (slice_index old.counts node.0) place + 1) more h.many;
+  counts = λ i l. put_is old.counts new.counts node.0 (min (slice_index old.counts node.0) place + 1) i more (omega (arith, l, h.many))
+      ∙ one_more i l (node.0 == i) refl ∙ ap (λ (m : NodeId). how_many (is_at i) (running n past) + one (m.0 == i)) there
+      ∙ sym (counted-push (is_at i) (running n past) (begun n past (running n past) t.0));
   running = run ∙ ap (λ rs. rs ++ record { task = t; node = node; track = track; from = place } ∷ []) h.running
       ∙ ap (λ r. running n past ++ r ∷ []) is;
   bars = bar ∙ h.bars;
 }
   where
+    one_more : (i : ℕ) → i < 8 → (b : Bool) → (node.0 == i) ≡ b
+        → (if b then min (slice_index old.counts node.0) place + 1 else slice_index old.counts i)
+        ≡ how_many (is_at i) (running n past) + one (node.0 == i)
+    one_more i l true e =
+        let was : slice_index old.counts node.0 ≡ how_many (is_at i) (running n past) =
+        ap (slice_index old.counts) (eqb-true node.0 i e) ∙ h.counts i l in
+        let passes : one (node.0 == i) ≡ 1 = ap one e in
+        omega (arith, was, passes, at, counted_fit (is_at i) (running n past), running_few n past)
+    one_more i l false e =
+        let fails : one (node.0 == i) ≡ 0 = ap one e in omega (arith, h.counts i l, fails)
+
     there : node ≡ record { 0 = home_of t.0 (world_after n past) }
     there = node_is ∙ rw (h.homes t.0) (home_found (find (λ x. x.number == t.0) (world_after n past).tasks))
 
@@ -158,62 +190,88 @@ tracks_begun n past t node track place old new h at node_is track_is same put ru
     choose i l true e = ap (λ r. max r (track + 1)) (ap (slice_index old.rows) (eqb-true node.0 i e) ∙ h.rows i l)
     choose i l false e = h.rows i l
 
+-- what the counts are without a task
+abbrev pub one_less : Option Running → List ℕ → List ℕ
+one_less None counts = counts
+one_less (Some run) counts = slice_set counts run.node.0 (slice_index counts run.node.0 - 1)
+
+counts_less : (test : Running → Bool) (runs : List Running) (found : Option Running) (old new : List ℕ) → found ≡ find test runs
+    → length old ≡ 8 → ((i : ℕ) → i < 8 → slice_index old i ≡ how_many (is_at i) runs) → new ≡ one_less found old
+    → (length new ≡ 8) × ((i : ℕ) → i < 8 → slice_index new i ≡ how_many (is_at i) (without test runs))
+counts_less test runs None old new is size h put = (
+  ap length put ∙ size,
+  λ i l. ap (λ xs. slice_index xs i) put ∙ h i l ∙ ap (how_many (is_at i)) (sym (without-missing test runs (sym is))),
+)
+counts_less test runs (Some run) old new is size h put = (
+  put_size old new run.node.0 (slice_index old run.node.0 - 1) put size,
+  λ i l. put_is old new run.node.0 (slice_index old run.node.0 - 1) i put (omega (arith, l, size)) ∙ choose i l (run.node.0 == i) refl,
+)
+  where
+    choose : (i : ℕ) → i < 8 → (b : Bool) → (run.node.0 == i) ≡ b
+        → (if b then slice_index old run.node.0 - 1 else slice_index old i) ≡ how_many (is_at i) (without test runs)
+    choose i l true e =
+        let was : slice_index old run.node.0 ≡ how_many (is_at i) runs = ap (slice_index old) (eqb-true run.node.0 i e) ∙ h i l in
+        let passes : one (run.node.0 == i) ≡ 1 = ap one e in
+        omega (arith, was, passes, counted-without_found (is_at i) test runs run (sym is))
+    choose i l false e =
+        let fails : one (run.node.0 == i) ≡ 0 = ap one e in
+        omega (arith, h i l, fails, counted-without_found (is_at i) test runs run (sym is))
+
 pub tracks_done : (n : ℕ) (past : List Step) (t : TaskId) (place : ℕ) (old new : Tracks) (found : Option Running) → HasTracks n past old
     → place ≡ length past
     → found ≡ find (is_run_of t.0) old.running.items
-    → ((q : ℕ) → lookup new.homes q ≡ lookup old.homes q) → new.rows ≡ old.rows
+    → ((q : ℕ) → lookup new.homes q ≡ lookup old.homes q) → new.rows ≡ old.rows → new.counts ≡ one_less found old.counts
     → new.running.items ≡ without (is_run_of t.0) old.running.items
     → new.bars.items ≡ old.bars.items ++ bar_of found place
     → HasTracks n (Done t ∷ past) new
-tracks_done n past t place old new found h at is same row run bar = record {
+tracks_done n past t place old new found h at is same row count run bar = record {
   homes = λ q. same q ∙ h.homes q ∙ sym (homes-with_life t.0 q (λ _. life.Done) (world_after n past).tasks);
   size = ap length row ∙ h.size;
   rows = λ i l. ap (λ r. slice_index r i) row ∙ h.rows i l;
+  many = less.0;
+  counts = less.1;
   running = run ∙ ap (λ rs. without (is_run_of t.0) rs) h.running;
   bars =
       bar ∙ ap (λ bs. bs ++ bar_of found place) h.bars
       ∙ ap (λ f. bars n past ++ bar_of f place) (is ∙ ap (λ rs. find (is_run_of t.0) rs) h.running)
       ∙ ap (λ p. bars n past ++ bar_of (find (is_run_of t.0) (running n past)) p) at;
 }
+  where
+    less : (length new.counts ≡ 8)
+        × ((i : ℕ) → i < 8 → slice_index new.counts i ≡ how_many (is_at i) (without (is_run_of t.0) (running n past)))
+    less =
+        counts_less (is_run_of t.0) (running n past) found old.counts new.counts (is ∙ ap (λ rs. find (is_run_of t.0) rs) h.running) h.many
+        h.counts count
 
 -- ---- messages
-pub messages_sent : (all : ℕ) (past : List Step) (x : Sending) (g : Generation) (old new : Messages) → HasMessages all past old
-    → x.sent ≡ length past
-    → new.under_way.items ≡ old.under_way.items ++ x ∷ [] → new.arrows.items ≡ old.arrows.items → new.ribbons.items ≡ old.ribbons.items
-    → HasMessages all (Send x.from x.to x.message g ∷ past) new
-messages_sent all past x g old new h at more same counted =
+pub messages_sent : (past : List Step) (x : Sending) (g : Generation) (old new : Messages) → HasMessages past old → x.sent ≡ length past
+    → new.under_way.items ≡ old.under_way.items ++ x ∷ [] → new.arrows.items ≡ old.arrows.items
+    → HasMessages (Send x.from x.to x.message g ∷ past) new
+messages_sent past x g old new h at more same =
     let made : ℕ → Sending = λ p. record { message = x.message; from = x.from; to = x.to; sent = p } in
     record {
       under_way = more ∙ ap (λ xs. xs ++ x ∷ []) h.under_way ∙ ap (λ p. under_way past ++ made p ∷ []) at;
       arrows = same ∙ h.arrows;
-      ribbons = counted ∙ h.ribbons;
     }
 
-pub messages_received : (all : ℕ) (past : List Step) (j : NodeId) (m : MessageId) (g : Generation) (place : ℕ) (old new : Messages)
-    (found : Option Sending)
-    → HasMessages all past old → place ≡ length past → found ≡ find (is_sending_of m.0) old.under_way.items
+pub messages_received : (past : List Step) (j : NodeId) (m : MessageId) (g : Generation) (place : ℕ) (old new : Messages)
+    (found : Option Sending) → HasMessages past old → place ≡ length past → found ≡ find (is_sending_of m.0) old.under_way.items
     → new.under_way.items ≡ without (is_sending_of m.0) old.under_way.items → new.arrows.items ≡ old.arrows.items ++ arrow_of found place
-    → new.ribbons.items ≡ with_received all found place old.ribbons.items
-    → HasMessages all (Recv j m g ∷ past) new
-messages_received all past j m g place old new found h at is less more counted = record {
+    → HasMessages (Recv j m g ∷ past) new
+messages_received past j m g place old new found h at is less more = record {
   under_way = less ∙ ap (λ xs. without (is_sending_of m.0) xs) h.under_way;
   arrows =
       more ∙ ap (λ xs. xs ++ arrow_of found place) h.arrows
       ∙ ap (λ f. arrows past ++ arrow_of f place) (is ∙ ap (λ xs. find (is_sending_of m.0) xs) h.under_way)
       ∙ ap (λ p. arrows past ++ arrow_of (find (is_sending_of m.0) (under_way past)) p) at;
-  ribbons =
-      counted ∙ ap (λ rs. with_received all found place rs) h.ribbons
-      ∙ ap (λ f. with_received all f place (ribbons all past)) (is ∙ ap (λ xs. find (is_sending_of m.0) xs) h.under_way)
-      ∙ ap (λ p. with_received all (find (is_sending_of m.0) (under_way past)) p (ribbons all past)) at;
 }
 
-pub messages_other : (all : ℕ) (past : List Step) (s : Step) (x : Messages) → HasMessages all past x
+pub messages_other : (past : List Step) (s : Step) (x : Messages) → HasMessages past x
     → ((i j : NodeId) (m : MessageId) (g : Generation) → s ≢ Send i j m g)
-    → ((j : NodeId) (m : MessageId) (g : Generation) → s ≢ Recv j m g)
-    → HasMessages all (s ∷ past) x
-messages_other all past (Send i j m g) x h send recv = absurd (send i j m g refl)
-messages_other all past (Recv j m g) x h send recv = absurd (recv j m g refl)
-messages_other all past s x h send recv = record { under_way = h.under_way; arrows = h.arrows; ribbons = h.ribbons }
+    → ((j : NodeId) (m : MessageId) (g : Generation) → s ≢ Recv j m g) → HasMessages (s ∷ past) x
+messages_other past (Send i j m g) x h send recv = absurd (send i j m g refl)
+messages_other past (Recv j m g) x h send recv = absurd (recv j m g refl)
+messages_other past s x h send recv = record { under_way = h.under_way; arrows = h.arrows }
 
 -- ---- waves
 pub given_more : (past : List Step) (node : NodeId) (place : ℕ) (old new : Gives) → HasGiven past old → place ≡ length past

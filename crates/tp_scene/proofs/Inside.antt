@@ -7,6 +7,7 @@ use Rattle.std.specs.List.{All, find, range_with_len}
 use Rattle.std.proofs.lemmas.Bool.Decides.{nat_tests}
 use Rattle.std.proofs.Math.Nat.{mul-le-mul_right, div-le_of_le-mul}
 use Rattle.std.proofs.lemmas.List.{append-nil}
+use Rattle.std.proofs.lemmas.Nat.{div-add-mod', mul-le}
 use Rattle.tp_base.specs.declared.Step.{Step}
 use Rattle.tp_base.specs.declared.Step.TheVariants.{Begin, Done, Send, Recv, Give, Judge, Reopen}
 use Rattle.tp_wave.specs.Steps.{before_newest, is_give}
@@ -31,10 +32,10 @@ use Rattle.tp_scene.specs.declared.scene.End.{End}
 use Rattle.tp_scene.specs.declared.scene.Scene.{Scene}
 use Rattle.tp_scene.specs.Scene.{IsSceneOf, is_run_of, begun, running, bars, bar_of, with_row, rows, is_sending_of, under_way, arrows}
 use Rattle.tp_scene.specs.Scene.{arrow_of, gave, cut, cuts, ends, end_of, seams, since_when, resting, pause_of, ended_pause, pause_before}
-use Rattle.tp_scene.specs.Scene.{pauses_before, pauses, pauses_now, last_pauses, band, way_of, with_received, ribbons}
-use Rattle.tp_scene.specs.Layout.{detail_of, span_of, between_of, gap_of, edge, middle, right, reach, rows_of, height_of, top_of, foot}
-use Rattle.tp_scene.specs.Layout.{track_of, bottom, width, page_height, pitch, room_of, is_summed}
-use Rattle.tp_scene.specs.Flow.{rise, level, middle_of_band}
+use Rattle.tp_scene.specs.Scene.{pauses_before, pauses, pauses_now, last_pauses, column, band, way_of, ribbons}
+use Rattle.tp_scene.specs.Layout.{detail_of, step_of, span_of, between_of, gap_of, edge, middle, right, reach, rows_of, height_of, top_of}
+use Rattle.tp_scene.specs.Layout.{foot, track_of, bottom, width, page_height, pitch, room_of, is_summed}
+use Rattle.tp_scene.specs.Flow.{rise, level, in_band}
 use Rattle.tp_scene.specs.Layout as layout
 use Rattle.tp_scene.specs.Inside.{IsRunThere, IsSendingThere, IsRibbonThere, AreThere, AllIsInside}
 use Rattle.tp_scene.proofs.Lists.{some_same, none_some}
@@ -114,11 +115,16 @@ hill_inside : (s : Scene) (i c : ℕ) → 2500 < s.events → (top_of s i + 60 �
 unfolding level foot
 hill_inside s i c many = (omega (arith, rise-le s i c, summed_height s i many), omega arith)
 
-bands_inside : (s : Scene) (b : ℕ) → 2500 < s.events → b < 63 → (740 ≤ middle_of_band b) × (middle_of_band b + 440 ≤ width s)
+bands_inside : (s : Scene) (b tenth : ℕ) → 2500 < s.events
+    → (740 ≤ in_band s.band b tenth) × (in_band s.band b tenth + 440 ≤ width s)
 unfolding width right span_of
-bands_inside s b many less =
+bands_inside s b tenth many =
     let whole : nat_le s.events 2500 ≡ false = grind (arith, nat_tests, many) in
-    (omega arith, rw whole (omega (arith, less)))
+    inside (s.band * (10 * b + tenth)) (if nat_le s.events 2500 then s.events * step_of s.events else 15000)
+    (ap (λ t. if t then s.events * step_of s.events else 15000) whole)
+  where
+    inside : (x span : ℕ) → span ≡ 15000 → (740 ≤ min (740 + x) 15740) × (min (740 + x) 15740 + 440 ≤ max (740 + span + 440) 6400)
+    inside x span is = (omega arith, omega (arith, is))
 
 -- ---- events
 before_newest-le : (test : Step → Bool) (steps : List Step) → length (before_newest test steps) ≤ length steps - 1
@@ -352,30 +358,28 @@ arrows_at n (Recv j m g ∷ past) h =
 arrows_at n (s ∷ past) h = arrows_at n past h.1
 
 -- ---- ribbons
-abbrev IsWayIn : ℕ → Way → Type 0
-IsWayIn n way = (way.from.0 < n) × (way.to.0 < n) × (way.sent < 63) × (way.received < 63)
+abbrev IsWayIn : ℕ → ℕ → Way → Type 0
+IsWayIn n wide way = (way.from.0 < n) × (way.to.0 < n) × (way.sent * wide < 1500) × (way.received * wide < 1500)
 
-band-less : (all e : ℕ) → band all e < 63
-band-less all e = omega arith
+band-less : (wide all e : ℕ) → band wide all e * wide < 1500
+band-less wide all e =
+    let part = column all e / max wide 1 in
+    let bound = mul-le part wide part (max wide 1) (omega arith) (omega arith) in
+    omega (arith, div-add-mod' (column all e) (max wide 1), bound, column-less all e)
+  where
+    column-less : (all e : ℕ) → column all e < 1500
+    column-less all e = omega arith
 
-ways_at : (n all : ℕ) (steps : List Step) → AreRuns n steps → Each (λ (r : Ribbon). IsWayIn n r.way) (ribbons all steps)
-ways_at n all [] h = tt
-ways_at n all (Recv j m g ∷ past) h =
-    let choose : (found : Option Sending) → find (is_sending_of m.0) (under_way past) ≡ found
-    → Each (λ (r : Ribbon). IsWayIn n r.way) (with_received all found (length past) (ribbons all past)) =
-    elim [
-      | None ↦ λ e. ways_at n all past h.1
-      | Some x ↦ λ e. let at = each_found (IsSentAt n) (is_sending_of m.0) (under_way past) x e (sent_at n past h.1) in
-          each_with (IsWayIn n) (way_of all x (length past)) (ribbons all past) (ways_at n all past h.1) (
-            at.0,
-            at.1,
-            band-less all x.sent,
-            band-less all (length past),
-          )
-    ]
-    in
-    choose (find (is_sending_of m.0) (under_way past)) refl
-ways_at n all (s ∷ past) h = ways_at n all past h.1
+ways_of : (n wide all : ℕ) (over : List Arrow) → Each (λ (a : Arrow). IsSentAt n a.sending) over
+    → Each (λ (r : Ribbon). IsWayIn n wide r.way) (ribbons wide all over)
+ways_of n wide all [] h = tt
+ways_of n wide all (a ∷ rest) h =
+    each_with (IsWayIn n wide) (way_of wide all a) (ribbons wide all rest) (ways_of n wide all rest h.1)
+    (h.0.0, h.0.1, band-less wide all a.sending.sent, band-less wide all a.received)
+
+ways_at : (n wide all : ℕ) (steps : List Step) → AreRuns n steps
+    → Each (λ (r : Ribbon). IsWayIn n wide r.way) (ribbons wide all (arrows steps))
+ways_at n wide all steps runs = ways_of n wide all (arrows steps) (arrows_at n steps runs)
 
 -- ---- pauses
 resting_before : (n i a : ℕ) (steps : List Step) → resting n i steps ≡ Some a → a < length steps
@@ -484,9 +488,10 @@ there n steps s few runs h = record {
       (λ x before at.
       (omega (arith, before, h.events), omega (arith, at.0, h.nodes), omega (arith, at.1, h.nodes))) (sent_before steps)
       (sent_at n steps runs)) h.under_way;
-  ribbons = drawn s.ribbons.items (λ (r : Ribbon). IsRibbonThere s r) (ribbons (length steps) steps)
-      (each_map (λ (r : Ribbon). IsWayIn n r.way) (λ (r : Ribbon). IsRibbonThere s r) (ribbons (length steps) steps)
-      (λ r at. (omega (arith, at.0, h.nodes), omega (arith, at.1, h.nodes), at.2, at.3)) (ways_at n (length steps) steps runs)) h.ribbons;
+  ribbons = drawn s.ribbons.items (λ (r : Ribbon). IsRibbonThere s r) (ribbons s.band (length steps) (arrows steps))
+      (each_map (λ (r : Ribbon). IsWayIn n s.band r.way) (λ (r : Ribbon). IsRibbonThere s r) (ribbons s.band (length steps) (arrows steps))
+      (λ r at. (omega (arith, at.0, h.nodes), omega (arith, at.1, h.nodes), at.2, at.3)) (ways_at n s.band (length steps) steps runs))
+      h.ribbons;
   cuts = drawn s.cuts.items (λ (c : Cut). All (λ g. g < s.events) c.gives) (cuts n steps)
       (each_map (IsCutBefore (length steps)) (λ (c : Cut). All (λ g. g < s.events) c.gives) (cuts n steps)
       (λ c before.
@@ -518,6 +523,6 @@ all_inside n steps s some few runs h = (
     lanes = λ i less. lanes s i (omega (arith, few, h.nodes)) less;
     tracks = λ few i k here less. tracks s i k few less;
     hills = λ many i c. hill_inside s i c many;
-    bands = λ many b less. bands_inside s b many less;
+    bands = λ many b tenth. bands_inside s b tenth many;
   },
 )

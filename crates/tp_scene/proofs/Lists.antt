@@ -250,3 +250,25 @@ found-passes {A} test (x ∷ xs) y e =
     elim [ true ↦ λ is found. ap test (sym (some_same x y found)) ∙ is | false ↦ λ is found. found-passes test xs y found ]
     in
     choose (test x) refl e
+
+-- ---- one thing taken out
+pub without-missing : {A : Type 0} (test : A → Bool) (xs : List A) → find test xs ≡ None → without test xs ≡ xs
+without-missing test [] e = refl
+without-missing {A} test (x ∷ xs) e =
+    let choose : (b : Bool) → (if b then Some x else find test xs) ≡ None → (if b then xs else x ∷ without test xs) ≡ x ∷ xs =
+    elim [ true ↦ λ found. absurd (none_some x (sym found)) | false ↦ λ missing. ap (λ l. x ∷ l) (without-missing test xs missing) ]
+    in
+    choose (test x) e
+
+pub counted-without_found : {A : Type 0} (p test : A → Bool) (xs : List A) (y : A) → find test xs ≡ Some y
+    → how_many p (without test xs) + one (p y) ≡ how_many p xs
+counted-without_found p test [] y e = absurd (none_some y e)
+counted-without_found {A} p test (x ∷ xs) y e =
+    let choose : (b : Bool) → (if b then Some x else find test xs) ≡ Some y
+    → how_many p (if b then xs else x ∷ without test xs) + one (p y) ≡ one (p x) + how_many p xs =
+    elim [
+      | true ↦ λ found. let is : one (p x) ≡ one (p y) = ap (λ z. one (p z)) (some_same x y found) in omega (arith, is)
+      | false ↦ λ found. omega (arith, counted-without_found p test xs y found)
+    ]
+    in
+    choose (test x) e

@@ -2,7 +2,7 @@
 use Rattle.std.proofs.Common.{◌≡◌, ℕ, zero, suc, ◌+◌, ◌-◌, ◌*◌, ◌<◌, ◌≤◌, ◌==◌, Bool, true, false, List, [], ◌∷◌, ◌++◌, length, get_or}
 use Rattle.std.proofs.Common.{take}
 use Rattle.std.proofs.Common.{replicate, Option, Some, None, refl, sym, ap, subst, ◌∙◌, eqb-true, add-one, append-nil, arith, if◌then◌else◌}
-use Rattle.std.specs.Prelude.{slice_get, slice_index, slice_set}
+use Rattle.std.specs.Prelude.{nat_lt, slice_index, slice_set}
 use Rattle.std.specs.List.{find}
 use Rattle.std.proofs.lemmas.Bool.Decides.{nat_tests}
 use Rattle.std.proofs.lemmas.Option.{get_or_from_slice_get}
@@ -20,18 +20,12 @@ use Rattle.tp_scene.specs.declared.scene.Bar.{Bar}
 use Rattle.tp_scene.specs.Scene.{is_run_of, is_at, begun, running, bars, bar_of, column, load}
 use Rattle.tp_scene.specs.Laws.{added, ran, has_run, LoadsAreRuns}
 use Rattle.tp_scene.specs.Following.{HasLoads}
-use Rattle.tp_scene.proofs.Lists.{one, some_same, none_some, true_false, counted-push}
+use Rattle.tp_scene.proofs.Lists.{one, some_same, none_some, true_false, without-missing}
 use Rattle.tp_scene.proofs.Apart.{Each, each_map, each_push, each_without, counted_fit, running_few}
 use Rattle.tp_scene.proofs.Followed.{put_is}
 use Rattle.tp_scene.proofs.Inside.{runs_before}
 
 -- ---- counting
-pub counted_more : {A : Type 0} (test : A → Bool) (xs : List A) (k : ℕ) (x : A) → k < length xs → x ≡ get_or xs k x
-    → how_many test (take (k + 1) xs) ≡ how_many test (take k xs) + one (test x)
-counted_more test xs k x fits is =
-    ap (how_many test) (take_more xs k x fits) ∙ counted-push test (take k xs) (get_or xs k x)
-    ∙ ap (λ y. how_many test (take k xs) + one (test y)) (sym is)
-
 counted_few : (n i : ℕ) (steps : List Step) → how_many (is_at i) (running n steps) ≤ length steps
 counted_few n i steps = omega (arith, counted_fit (is_at i) (running n steps), running_few n steps)
 
@@ -75,126 +69,101 @@ loads_none n all l is = record {
     nothing : ℕ
     nothing = 0
 
--- The first k of the tasks that run after a step have been added.
-pub record HasAdded (n all : ℕ) (past : List Step) (runs : List Running) (k : ℕ) (l : Loads) : Type 0 where
+-- ---- the first k nodes
+not_below : (k : ℕ) → nat_lt k k ≡ false
+not_below k = grind (arith, nat_tests)
+
+below_one_more : (i k : ℕ) → i ≤ k → nat_lt i (k + 1) ≡ true
+below_one_more i k less = grind (arith, nat_tests, less)
+
+same_below : (i k : ℕ) → (i == k) ≡ false → nat_lt i k ≡ nat_lt i (k + 1)
+same_below i k apart = choose (nat_lt i k) refl (nat_lt i (k + 1)) refl
+  where
+    choose : (a : Bool) → nat_lt i k ≡ a → (b : Bool) → nat_lt i (k + 1) ≡ b → nat_lt i k ≡ nat_lt i (k + 1)
+    choose true ea true eb = ea ∙ sym eb
+    choose false ea false eb = ea ∙ sym eb
+    choose true ea false eb = absurd (grind (arith, nat_tests, ea, eb))
+    choose false ea true eb = absurd (grind (arith, nat_tests, ea, eb, apart))
+
+-- A step has been added at the first k nodes.
+pub record HasAdded (n all : ℕ) (s : Step) (past : List Step) (k : ℕ) (l : Loads) : Type 0 where
   pub size : length l.columns.items ≡ 12000
   pub columns : (i c : ℕ) → i < 8 → c < 1500 → slice_index l.columns.items (i * 1500 + c)
-      ≡ load n i all c past + (if column all (length past) == c then how_many (is_at i) (take k runs) else 0)
+      ≡ (if nat_lt i k then load n i all c (s ∷ past) else load n i all c past)
 
-pub added_none : (n all : ℕ) (past : List Step) (runs : List Running) (l : Loads) → HasLoads n all past l → HasAdded n all past runs 0 l
-added_none n all past runs l h = record {
+pub added_none : (n all : ℕ) (s : Step) (past : List Step) (l : Loads) → HasLoads n all past l → HasAdded n all s past 0 l
+added_none n all s past l h = record {
   size = h.size;
-  columns = λ i c less within. h.columns i c less within ∙ none i c (column all (length past) == c);
+  columns = λ i c less within. h.columns i c less within
+      ∙ sym (ap (λ b. if b then load n i all c (s ∷ past) else load n i all c past) (none i));
 }
   where
-    none : (i c : ℕ) (b : Bool) → load n i all c past ≡ load n i all c past + (if b then 0 else 0)
-    none i c true = omega arith
-    none i c false = omega arith
+    none : (i : ℕ) → nat_lt i 0 ≡ false
+    none i = grind (arith, nat_tests)
 
-pub added_more : (n all : ℕ) (past : List Step) (runs : List Running) (k node here : ℕ) (old new : Loads) → HasAdded n all past runs k old
-    → here ≡ column all (length past) → k < length runs → (r : Running) × (slice_get runs k ≡ Some r) × (node ≡ r.node.0)
-    → new.columns.items ≡ slice_set old.columns.items (node * 1500 + here) (slice_index old.columns.items (node * 1500 + here) + 1)
-    → HasAdded n all past runs (k + 1) new
-added_more n all past runs k node here old new h at fits there put = record {
-  size = ap length put ∙ length-set old.columns.items (node * 1500 + here) (slice_index old.columns.items (node * 1500 + here) + 1)
-      ∙ h.size;
-  columns = λ i c low within.
-      put_is old.columns.items new.columns.items (node * 1500 + here) (slice_index old.columns.items (node * 1500 + here) + 1)
-      (i * 1500 + c) put
-      (omega (arith, low, within, h.size))
-      ∙ choose i c low within (node * 1500 + here == i * 1500 + c) refl (column all (length past) == c) refl (node == i) refl;
-}
-  where
-    more : (i : ℕ) → how_many (is_at i) (take (k + 1) runs) ≡ how_many (is_at i) (take k runs) + one (node == i)
-    more i =
-        counted_more (is_at i) runs k there.0 fits (sym (get_or_from_slice_get runs k there.0 there.0 there.1))
-        ∙ ap (λ x. how_many (is_at i) (take k runs) + one (x == i)) (sym there.2)
+module _ (n all : ℕ) (s : Step) (past : List Step) (k here : ℕ) (old : Loads) (h : HasAdded n all s past k old)
+    (at : here ≡ column all (length past)) (low : k < 8) where
+  small : here < 1500
+  small = omega (arith, at)
 
-    before : (i c : ℕ) → i < 8 → c < 1500 → (b : Bool) → (column all (length past) == c) ≡ b
-        → slice_index old.columns.items (i * 1500 + c) ≡ load n i all c past + (if b then how_many (is_at i) (take k runs) else 0)
-    before i c low within b e =
-        h.columns i c low within ∙ ap (λ x. load n i all c past + (if x then how_many (is_at i) (take k runs) else 0)) e
+  was : slice_index old.columns.items (k * 1500 + here) ≡ load n k all here past
+  was = h.columns k here low small ∙ ap (λ b. if b then load n k all here (s ∷ past) else load n k all here past) (not_below k)
 
-    now : (i c : ℕ) → (b : Bool) → (column all (length past) == c) ≡ b
-        → load n i all c past + (if b then how_many (is_at i) (take (k + 1) runs) else 0)
-        ≡ load n i all c past + (if column all (length past) == c then how_many (is_at i) (take (k + 1) runs) else 0)
-    now i c b e = ap (λ x. load n i all c past + (if x then how_many (is_at i) (take (k + 1) runs) else 0)) (sym e)
+  pub added_more : (more : ℕ) (new : Loads) → more ≡ how_many (is_at k) (running n (s ∷ past))
+      → new.columns.items ≡ slice_set old.columns.items (k * 1500 + here) (slice_index old.columns.items (k * 1500 + here) + more)
+      → HasAdded n all s past (k + 1) new
+  added_more more new is put = record {
+    size = ap length put ∙ length-set old.columns.items (k * 1500 + here) (slice_index old.columns.items (k * 1500 + here) + more)
+        ∙ h.size;
+    columns = λ i c less within.
+        put_is old.columns.items new.columns.items (k * 1500 + here) (slice_index old.columns.items (k * 1500 + here) + more)
+        (i * 1500 + c) put
+        (omega (arith, less, within, h.size))
+        ∙ choose i c less within (k * 1500 + here == i * 1500 + c) refl (i == k) refl;
+  }
+    where
+      here_now : load n k all here past + more ≡ load n k all here (s ∷ past)
+      here_now =
+          ap (λ m. load n k all here past + m) is
+          ∙ sym (load-here n k all here s past (same_numbers (column all (length past)) here (sym at)))
 
-    one_of : (i : ℕ) (d : Bool) → (node == i) ≡ d → one (node == i) ≡ one d
-    one_of i d e = ap one e
+      choose : (i c : ℕ) → i < 8 → c < 1500 → (t : Bool) → (k * 1500 + here == i * 1500 + c) ≡ t → (d : Bool) → (i == k) ≡ d
+          → (if t then slice_index old.columns.items (k * 1500 + here) + more else slice_index old.columns.items (i * 1500 + c))
+          ≡ (if nat_lt i (k + 1) then load n i all c (s ∷ past) else load n i all c past)
+      choose i c less within true et d ed =
+          let place : k * 1500 + here ≡ i * 1500 + c = eqb-true (k * 1500 + here) (i * 1500 + c) et in
+          let node : k ≡ i = omega (arith, place, small, within) in
+          let is_here : here ≡ c = omega (arith, place, node) in
+          ap (λ x. x + more) was ∙ here_now ∙ ap (λ j. load n j all here (s ∷ past)) node ∙ ap (λ e. load n i all e (s ∷ past)) is_here
+          ∙ sym (ap (λ b. if b then load n i all c (s ∷ past) else load n i all c past) (below_one_more i k (omega (arith, node))))
+      choose i c less within false et true ed =
+          let node : i ≡ k = eqb-true i k ed in
+          let apart : (k * 1500 + here ≡ i * 1500 + c) → ⊥ = λ e. true_false (sym (same_numbers (k * 1500 + here) (i * 1500 + c) e) ∙ et) in
+          let other : (column all (length past) == c) ≡ false =
+          other_numbers (column all (length past)) c (λ e. apart (omega (arith, node, at, e))) in
+          h.columns i c less within
+          ∙ ap (λ b. if b then load n i all c (s ∷ past) else load n i all c past) (ap (λ j. nat_lt j k) node ∙ not_below k)
+          ∙ sym (load-other n i all c s past other)
+          ∙ sym (ap (λ b. if b then load n i all c (s ∷ past) else load n i all c past) (below_one_more i k (omega (arith, node))))
+      choose i c less within false et false ed =
+          h.columns i c less within ∙ ap (λ b. if b then load n i all c (s ∷ past) else load n i all c past) (same_below i k ed)
 
-    -- its place is that of node i and column c
-    choose : (i c : ℕ) → i < 8 → c < 1500 → (t : Bool) → (node * 1500 + here == i * 1500 + c) ≡ t → (b : Bool)
-        → (column all (length past) == c) ≡ b
-        → (d : Bool) → (node == i) ≡ d
-        → (if t then slice_index old.columns.items (node * 1500 + here) + 1 else slice_index old.columns.items (i * 1500 + c))
-        ≡ load n i all c past + (if column all (length past) == c then how_many (is_at i) (take (k + 1) runs) else 0)
-    choose i c low within true et true eb true ed =
-        let place : node * 1500 + here ≡ i * 1500 + c = eqb-true (node * 1500 + here) (i * 1500 + c) et in
-        let same : slice_index old.columns.items (node * 1500 + here) ≡ slice_index old.columns.items (i * 1500 + c) =
-        ap (slice_index old.columns.items) place in
-        let was = before i c low within true eb in
-        let grows = more i in
-        let by_one = one_of i true ed in
-        omega (arith, same, was, grows, by_one) ∙ now i c true eb
-    choose i c low within true et true eb false ed =
-        let place : node * 1500 + here ≡ i * 1500 + c = eqb-true (node * 1500 + here) (i * 1500 + c) et in
-        let is : here ≡ c = at ∙ eqb-true (column all (length past)) c eb in
-        let same : node ≡ i = omega (arith, place, is) in
-        absurd (true_false (sym (same_numbers node i same) ∙ ed))
-    choose i c low within true et false eb d ed =
-        let place : node * 1500 + here ≡ i * 1500 + c = eqb-true (node * 1500 + here) (i * 1500 + c) et in
-        let small : here < 1500 = omega (arith, at) in
-        let is : here ≡ c = omega (arith, place, small, within) in
-        absurd (true_false (sym (same_numbers (column all (length past)) c (sym at ∙ is)) ∙ eb))
-    choose i c low within false et true eb true ed =
-        let node_is : node ≡ i = eqb-true node i ed in
-        let is : here ≡ c = at ∙ eqb-true (column all (length past)) c eb in
-        let place : node * 1500 + here ≡ i * 1500 + c = omega (arith, node_is, is) in
-        absurd (true_false (sym (same_numbers (node * 1500 + here) (i * 1500 + c) place) ∙ et))
-    choose i c low within false et true eb false ed =
-        let was = before i c low within true eb in
-        let grows = more i in
-        let by_none = one_of i false ed in
-        omega (arith, was, grows, by_none) ∙ now i c true eb
-    choose i c low within false et false eb d ed = before i c low within false eb ∙ now i c false eb
+  -- There is room for these.
+  pub has_room : (more : ℕ) → more ≡ how_many (is_at k) (running n (s ∷ past)) → length past < 1048576
+      → slice_index old.columns.items (k * 1500 + here) + more < 18446744073709551616
+  has_room more is few =
+      omega (arith, was, is, load-le n k all here past (omega (arith, few)), counted_few n k (s ∷ past), few)
 
-pub added_all : (n all : ℕ) (s : Step) (past : List Step) (runs : List Running) (k : ℕ) (l : Loads) → length runs ≤ k
-    → runs ≡ running n (s ∷ past)
-    → HasAdded n all past runs k l → HasLoads n all (s ∷ past) l
-added_all n all s past runs k l whole are h = record {
+pub added_all : (n all : ℕ) (s : Step) (past : List Step) (k : ℕ) (l : Loads) → 8 ≤ k → HasAdded n all s past k l
+    → HasLoads n all (s ∷ past) l
+added_all n all s past k l whole h = record {
   size = h.size;
-  columns = λ i c less within. h.columns i c less within ∙ choose i c (column all (length past) == c);
+  columns = λ i c less within. h.columns i c less within
+      ∙ ap (λ b. if b then load n i all c (s ∷ past) else load n i all c past) (below i (omega (arith, less, whole)));
 }
   where
-    all_counted : (i : ℕ) → how_many (is_at i) (take k runs) ≡ how_many (is_at i) (running n (s ∷ past))
-    all_counted i = ap (how_many (is_at i)) (take_all k runs whole ∙ are)
-
-    choose : (i c : ℕ) (b : Bool) → load n i all c past + (if b then how_many (is_at i) (take k runs) else 0)
-        ≡ (if b then load n i all c past + how_many (is_at i) (running n (s ∷ past)) else load n i all c past)
-    choose i c true = ap (λ x. load n i all c past + x) (all_counted i)
-    choose i c false = omega arith
-
--- There is room for one more.
-pub has_room : (n all : ℕ) (s : Step) (past : List Step) (runs : List Running) (k node here : ℕ) (l : Loads) → HasAdded n all past runs k l
-    → here ≡ column all (length past) → k < length runs → runs ≡ running n (s ∷ past) → length past < 1048576
-    → node * 1500 + here < length l.columns.items → slice_index l.columns.items (node * 1500 + here) + 1 < 18446744073709551616
-has_room n all s past runs k node here l h at fits are few inside =
-    let low : node < 8 = omega (arith, inside, h.size) in
-    let small : here < 1500 = omega (arith, at) in
-    let value = h.columns node here low small in
-    let bound = load-le n node all here past (omega (arith, few)) in
-    let taken = counted_fit (is_at node) (take k runs) in
-    let short = length-take-le k runs (omega (arith, fits)) in
-    let same_length : length runs ≡ length (running n (s ∷ past)) = ap length are in
-    let running_all : length runs ≤ suc (length past) = omega (arith, same_length, running_few n (s ∷ past)) in
-    let choose : (b : Bool)
-    → slice_index l.columns.items (node * 1500 + here)
-    ≡ load n node all here past + (if b then how_many (is_at node) (take k runs) else 0)
-    → slice_index l.columns.items (node * 1500 + here) + 1 < 18446744073709551616 =
-    elim [ true ↦ λ is. omega (arith, is, bound, taken, short, running_all, fits, few) | false ↦ λ is. omega (arith, is, bound, few) ]
-    in
-    choose (column all (length past) == here) value
+    below : (i : ℕ) → i < k → nat_lt i k ≡ true
+    below i less = grind (arith, nat_tests, less)
 
 -- ---- the law
 added-push : {A : Type 0} (f : A → ℕ) (xs : List A) (y : A) → added f (xs ++ y ∷ []) ≡ added f xs + f y
@@ -211,14 +180,6 @@ added-without {A} f test (x ∷ xs) y e =
       | true ↦ λ found. let is : f x ≡ f y = ap f (some_same x y found) in omega (arith, is)
       | false ↦ λ found. omega (arith, added-without f test xs y found)
     ]
-    in
-    choose (test x) e
-
-without-missing : {A : Type 0} (test : A → Bool) (xs : List A) → find test xs ≡ None → without test xs ≡ xs
-without-missing test [] e = refl
-without-missing {A} test (x ∷ xs) e =
-    let choose : (b : Bool) → (if b then Some x else find test xs) ≡ None → (if b then xs else x ∷ without test xs) ≡ x ∷ xs =
-    elim [ true ↦ λ found. absurd (none_some x (sym found)) | false ↦ λ missing. ap (λ l. x ∷ l) (without-missing test xs missing) ]
     in
     choose (test x) e
 

@@ -1,11 +1,12 @@
 -- Messages counted by their ways.
 use Rattle.std.proofs.Common.{◌≡◌, ℕ, zero, suc, ◌+◌, ◌-◌, ◌<◌, ◌≤◌, ◌==◌, ◌&&◌, Bool, true, false, List, [], ◌∷◌, ◌++◌, length, map}
-use Rattle.std.proofs.Common.{get_or}
+use Rattle.std.proofs.Common.{get_or, nat_le, drop, ◌≢◌, MatchOption, inl, inr, ◌⊎◌}
+use Rattle.std.proofs.Math.Seq.{drop-cons, drop-length}
 use Rattle.std.proofs.Common.{set, Option, Some, None, refl, sym, ap, subst, ◌∙◌, eqb-true, append-nil, arith, if◌then◌else◌}
 use Rattle.std.specs.Prelude.{slice_get}
 use Rattle.std.specs.List.{All, AllPairs, find}
 use Rattle.std.proofs.lemmas.Bool.Decides.{nat_tests}
-use Rattle.std.proofs.lemmas.List.{length-append}
+use Rattle.std.proofs.lemmas.List.{length-append, length-drop}
 use Rattle.std.proofs.lemmas.Option.{get_or_from_slice_get}
 use Rattle.tp_base.specs.declared.ids.NodeId.{NodeId}
 use Rattle.tp_base.specs.declared.ids.MessageId.{MessageId}
@@ -19,9 +20,11 @@ use Rattle.tp_scene.specs.declared.scene.Sending.{Sending}
 use Rattle.tp_scene.specs.declared.scene.Arrow.{Arrow}
 use Rattle.tp_scene.specs.declared.scene.Way.{Way}
 use Rattle.tp_scene.specs.declared.scene.Ribbon.{Ribbon}
-use Rattle.tp_scene.specs.Scene.{is_sending_of, under_way, arrows, arrow_of, is_way, way_of, with_way, with_received, ribbons}
+use Rattle.tp_scene.specs.Scene.{first_from, is_sending_of, under_way, arrows, arrow_of, is_way, way_of, with_way, ribbons}
+use Rattle.tp_scene.specs.Scene.{doubled, is_fitting, band_for}
 use Rattle.tp_scene.specs.Laws.{hop_of, hops, added, goes, counted_on, HasRibbons, RibbonsCarryAll}
 use Rattle.tp_scene.specs.Following.{AreApart}
+use Rattle.tp_scene.proofs.Steps.{first_here, first_passed}
 use Rattle.tp_scene.proofs.Lists.{one, some_same, none_some, true_false, counted-push}
 use Rattle.tp_scene.proofs.Apart.{Each, Pairs, each_all, each_map, pairs_all}
 use Rattle.tp_scene.proofs.EachMessage.{each_message}
@@ -139,46 +142,23 @@ counted_with w way (r ∷ rs) =
     widened true false e = absurd (true_false e)
     widened false true e = absurd (true_false (sym e))
 
--- ---- all steps
-pairs : (all : ℕ) (steps : List Step) → Pairs Differ (ribbons all steps)
-pairs all [] = tt
-pairs all (Recv j m g ∷ past) = choose (find (is_sending_of m.0) (under_way past)) (pairs all past)
-  where
-    choose : (found : Option Sending) → Pairs Differ (ribbons all past)
-        → Pairs Differ (with_received all found (length past) (ribbons all past))
-    choose None h = h
-    choose (Some x) h = pairs_with (way_of all x (length past)) (ribbons all past) h
-pairs all (s ∷ past) = pairs all past
+-- ---- all messages
+pairs : (wide all : ℕ) (over : List Arrow) → Pairs Differ (ribbons wide all over)
+pairs wide all [] = tt
+pairs wide all (arrow ∷ rest) = pairs_with (way_of wide all arrow) (ribbons wide all rest) (pairs wide all rest)
 
-pub ribbons_apart : (all : ℕ) (steps : List Step) → AreApart (ribbons all steps)
-ribbons_apart all steps = pairs_all Differ (ribbons all steps) (pairs all steps)
+pub ribbons_apart : (wide all : ℕ) (over : List Arrow) → AreApart (ribbons wide all over)
+ribbons_apart wide all over = pairs_all Differ (ribbons wide all over) (pairs wide all over)
 
-counts : (all : ℕ) (steps : List Step) → added (λ (r : Ribbon). r.count) (ribbons all steps) ≡ length (arrows steps)
-counts all [] = refl
-counts all (Recv j m g ∷ past) = choose (find (is_sending_of m.0) (under_way past)) (counts all past)
-  where
-    choose : (found : Option Sending) → added (λ (r : Ribbon). r.count) (ribbons all past) ≡ length (arrows past)
-        → added (λ (r : Ribbon). r.count) (with_received all found (length past) (ribbons all past))
-        ≡ length (arrows past ++ arrow_of found (length past))
-    choose None h = h ∙ ap length (sym (append-nil (arrows past)))
-    choose (Some x) h =
-        added_with (way_of all x (length past)) (ribbons all past)
-        ∙ omega (arith, h, length-append (arrows past) (record { sending = x; received = length past } ∷ []))
-counts all (s ∷ past) = counts all past
+pub counts : (wide all : ℕ) (over : List Arrow) → added (λ (r : Ribbon). r.count) (ribbons wide all over) ≡ length over
+counts wide all [] = refl
+counts wide all (arrow ∷ rest) = omega (arith, added_with (way_of wide all arrow) (ribbons wide all rest), counts wide all rest)
 
-on_way : (all : ℕ) (way : Way) (steps : List Step) → counted_on way (ribbons all steps) ≡ how_many (goes all way) (arrows steps)
-on_way all way [] = refl
-on_way all way (Recv j m g ∷ past) = choose (find (is_sending_of m.0) (under_way past)) (on_way all way past)
-  where
-    choose : (found : Option Sending) → counted_on way (ribbons all past) ≡ how_many (goes all way) (arrows past)
-        → counted_on way (with_received all found (length past) (ribbons all past))
-        ≡ how_many (goes all way) (arrows past ++ arrow_of found (length past))
-    choose None h = h ∙ ap (how_many (goes all way)) (sym (append-nil (arrows past)))
-    choose (Some x) h =
-        counted_with way (way_of all x (length past)) (ribbons all past)
-        ∙ ap (λ k. k + one (is_way way (way_of all x (length past)))) h
-        ∙ sym (counted-push (goes all way) (arrows past) (record { sending = x; received = length past }))
-on_way all way (s ∷ past) = on_way all way past
+on_way : (wide all : ℕ) (way : Way) (over : List Arrow)
+    → counted_on way (ribbons wide all over) ≡ how_many (goes wide all way) over
+on_way wide all way [] = refl
+on_way wide all way (arrow ∷ rest) =
+    omega (arith, counted_with way (way_of wide all arrow) (ribbons wide all rest), on_way wide all way rest)
 
 length-mapped : {A B : Type 0} (f : A → B) (xs : List A) → length (map f xs) ≡ length xs
 length-mapped f [] = refl
@@ -189,17 +169,92 @@ hops_counted n [] = refl
 hops_counted n (Recv j m g ∷ past) = length-append (hops n past) (_ ∷ []) ∙ ap (λ k. k + 1) (hops_counted n past)
 hops_counted n (s ∷ past) = hops_counted n past
 
+-- ---- few ribbons
+passed_or : (test : ℕ → Bool) (more k : ℕ) → (test (first_from test more k) ≡ true) ⊎ (first_from test more k ≡ k + more)
+passed_or test zero k = inr (omega arith)
+passed_or test (suc more) k = choose (passed_or test more (k + 1)) (test k) refl
+  where
+    later : (test (first_from test more (k + 1)) ≡ true) ⊎ (first_from test more (k + 1) ≡ k + 1 + more)
+        → (test (first_from test more (k + 1)) ≡ true) ⊎ (first_from test more (k + 1) ≡ k + suc more)
+    later (inl passes) = inl passes
+    later (inr is) = inr (omega (arith, is))
+
+    choose : (test (first_from test more (k + 1)) ≡ true) ⊎ (first_from test more (k + 1) ≡ k + 1 + more) → (b : Bool) → test k ≡ b
+        → (test (if b then k else first_from test more (k + 1)) ≡ true) ⊎ ((if b then k else first_from test more (k + 1)) ≡ k + suc more)
+    choose rest true e = inl e
+    choose rest false e = later rest
+
+few_ribbons : (wide all : ℕ) (over : List Arrow) → wide ≡ band_for all over → (length (ribbons wide all over) ≤ 600) ⊎ (wide ≡ 1536)
+few_ribbons wide all over is = choose (passed_or (is_fitting all over) 6 0)
+  where
+    choose : (is_fitting all over (first_from (is_fitting all over) 6 0) ≡ true) ⊎ (first_from (is_fitting all over) 6 0 ≡ 6)
+        → (length (ribbons wide all over) ≤ 600) ⊎ (wide ≡ 1536)
+    choose (inl passes) =
+        let few : length (ribbons (band_for all over) all over) ≤ 600 = grind (arith, nat_tests, passes) in
+        inl (subst (λ w. length (ribbons w all over) ≤ 600) (sym is) few)
+    choose (inr last) = inr (is ∙ ap doubled last)
+
+-- ---- how wide bands are, looked for one width after another
+abbrev SoFar : ℕ → List Arrow → ℕ → Type 0
+SoFar all over times = first_from (is_fitting all over) 6 0 ≡ first_from (is_fitting all over) (6 - times) times
+
+few_fit : (x : ℕ) → x ≤ 600 → nat_le x 600 ≡ true
+few_fit x few = grind (arith, nat_tests, few)
+
+many_do_not : (x : ℕ) → 600 < x → nat_le x 600 ≡ false
+many_do_not x many = grind (arith, nat_tests, many)
+
+pub matched_none : {S : Type 0} (o : Option S) (P : Type 0) (Q : S → Type 0) → MatchOption o P Q → ((s : S) → o ≢ Some s) → P
+matched_none None P Q h other = h
+matched_none (Some s) P Q h other = absurd (other s refl)
+
+pub matched_some : {S : Type 0} (o : Option S) (P : Type 0) (Q : S → Type 0) (s : S) → MatchOption o P Q → o ≡ Some s → Q s
+matched_some o P Q s h is = subst (λ x. MatchOption x P Q) is h
+
+pub matched_missing : {S : Type 0} (o : Option S) (P : Type 0) (Q : S → Type 0) → MatchOption o P Q → o ≡ None → P
+matched_missing o P Q h is = subst (λ x. MatchOption x P Q) is h
+
+pub fits_here : (all times wide : ℕ) (over : List Arrow) → times < 6 → wide ≡ doubled times → SoFar all over times
+    → length (ribbons wide all over) ≤ 600 → wide ≡ band_for all over
+fits_here all times wide over less is so_far few =
+    let passes : is_fitting all over times ≡ true =
+    few_fit (length (ribbons (doubled times) all over)) (subst (λ w. length (ribbons w all over) ≤ 600) is few) in
+    is ∙ sym (ap doubled (so_far ∙ first_here (is_fitting all over) (6 - times) times (omega (arith, less)) passes))
+
+pub fits_not : (all times wide : ℕ) (over : List Arrow) → times < 6 → wide ≡ doubled times → SoFar all over times
+    → 600 < length (ribbons wide all over) → SoFar all over (times + 1)
+fits_not all times wide over less is so_far many =
+    let fails : is_fitting all over times ≡ false =
+    many_do_not (length (ribbons (doubled times) all over)) (subst (λ w. 600 < length (ribbons w all over)) is many) in
+    so_far ∙ first_passed (is_fitting all over) 6 times less fails
+
+pub fits_last : (all times wide : ℕ) (over : List Arrow) → 6 ≤ times → times ≤ 6 → wide ≡ doubled 6 → SoFar all over times
+    → wide ≡ band_for all over
+fits_last all times wide over low high is so_far =
+    let end : times ≡ 6 = omega (arith, low, high) in
+    is ∙ sym (ap doubled (so_far ∙ ap (λ t. first_from (is_fitting all over) (6 - t) t) end))
+
 pub ribbons_carry : RibbonsCarryAll
-ribbons_carry all steps = record {
-  apart = ribbons_apart all steps;
-  each_way = λ way. on_way all way steps;
+ribbons_carry wide all steps = record {
+  apart = ribbons_apart wide all (arrows steps);
+  each_way = λ way. on_way wide all way (arrows steps);
   received = λ n some runs.
-      counts all steps ∙ sym (length-mapped hop_of (arrows steps)) ∙ ap length (each_message n steps some runs).received
+      counts wide all (arrows steps) ∙ sym (length-mapped hop_of (arrows steps)) ∙ ap length (each_message n steps some runs).received
       ∙ hops_counted n steps;
+  few = few_ribbons wide all (arrows steps);
 }
 
+-- what stands in a scene of ribbons that were counted
+pub counted_of : (wide : ℕ) (seen : List Arrow) (counted : List Ribbon) (all : ℕ) (steps : List Step) → seen ≡ arrows steps
+    → all ≡ length steps → (wide ≡ band_for all seen) × (counted ≡ ribbons wide all seen)
+    → (wide ≡ band_for (length steps) (arrows steps)) × (counted ≡ ribbons wide (length steps) (arrows steps))
+counted_of wide seen counted all steps are at (is, ribbons_are) = (
+  is ∙ ap (λ e. band_for e seen) at ∙ ap (band_for (length steps)) are,
+  ribbons_are ∙ ap (λ e. ribbons wide e seen) at ∙ ap (ribbons wide (length steps)) are,
+)
+
 -- ---- no more than steps have come
-arrows_few : (steps : List Step) → length (arrows steps) ≤ length steps
+pub arrows_few : (steps : List Step) → length (arrows steps) ≤ length steps
 arrows_few [] = omega arith
 arrows_few (Recv j m g ∷ past) = choose (find (is_sending_of m.0) (under_way past)) (arrows_few past)
   where
@@ -234,11 +289,89 @@ at_place P [] k x h found = absurd (none_some x found)
 at_place P (y ∷ xs) zero x h found = subst P (some_same y x found) h.0
 at_place P (y ∷ xs) (suc k) x h found = at_place P xs k x h.1 found
 
-pub ribbons_few : (all : ℕ) (past : List Step) → length past < 1048576 → (k : ℕ) (r : Ribbon) → slice_get (ribbons all past) k ≡ Some r
-    → r.count < 1048576
-ribbons_few all past few k r found =
-    let each = each_counted (length past) (ribbons all past) (omega (arith, counts all past, arrows_few past)) in
-    omega (arith, few, at_place (λ (x : Ribbon). x.count ≤ length past) (ribbons all past) k r each found)
+pub ribbons_few : (wide all : ℕ) (over : List Arrow) → length over < 1048576 → (k : ℕ) (r : Ribbon)
+    → slice_get (ribbons wide all over) k ≡ Some r → r.count < 1048576
+ribbons_few wide all over few k r found =
+    let each = each_counted (length over) (ribbons wide all over) (omega (arith, counts wide all over)) in
+    omega (arith, few, at_place (λ (x : Ribbon). x.count ≤ length over) (ribbons wide all over) k r each found)
+
+-- ---- as many as ways
+longer : (way : Way) (rs : List Ribbon) → (length rs ≤ length (with_way way rs)) × (length (with_way way rs) ≤ length rs + 1)
+longer way [] = (omega arith, omega arith)
+longer way (r ∷ rs) =
+    let rest = longer way rs in
+    let grown : Bool → List Ribbon = λ b. if b then record { way = r.way; count = r.count + 1 } ∷ rs else r ∷ with_way way rs in
+    let choose : (b : Bool) → (length (r ∷ rs) ≤ length (grown b)) × (length (grown b) ≤ length (r ∷ rs) + 1) =
+    elim [ true ↦ (omega arith, omega arith) | false ↦ (omega (arith, rest.0), omega (arith, rest.1)) ]
+    in
+    choose (is_way way r.way)
+
+pub ribbons_short : (wide all : ℕ) (over : List Arrow) → length (ribbons wide all over) ≤ length over
+ribbons_short wide all [] = omega arith
+ribbons_short wide all (arrow ∷ rest) =
+    omega (arith, ribbons_short wide all rest, (longer (way_of wide all arrow) (ribbons wide all rest)).1)
+
+ribbons_grow : (wide all k : ℕ) (over : List Arrow) → length (ribbons wide all (drop k over)) ≤ length (ribbons wide all over)
+ribbons_grow wide all zero over = omega arith
+ribbons_grow wide all (suc k) [] = omega arith
+ribbons_grow wide all (suc k) (arrow ∷ rest) =
+    omega (arith, ribbons_grow wide all k rest, (longer (way_of wide all arrow) (ribbons wide all rest)).0)
+
+-- The last so many messages have been counted.
+pub record HasCounted (wide all most : ℕ) (over : List Arrow) (back : ℕ) (counted : List Ribbon) : Type 0 where
+  pub are : counted ≡ ribbons wide all (drop (length over - back) over)
+  pub few : length counted ≤ most
+
+pub counted_none : (wide all most : ℕ) (over : List Arrow) (counted : List Ribbon) → counted ≡ [] → HasCounted wide all most over 0 counted
+counted_none wide all most over counted none = record {
+  are = none ∙ sym (ap (ribbons wide all) (ap (λ k. drop k over) all_of ∙ drop-length over));
+  few = omega (arith, ap length none);
+}
+  where
+    all_of : length over - 0 ≡ length over
+    all_of = omega arith
+
+next_arrow : (over : List Arrow) (back k : ℕ) (x : Arrow) → k + back + 1 ≡ length over → x ≡ get_or over k x
+    → drop (length over - (back + 1)) over ≡ x ∷ drop (length over - back) over
+next_arrow over back k x at is =
+    let here : length over - (back + 1) ≡ k = omega (arith, at) in
+    let next : suc k ≡ length over - back = omega (arith, at) in
+    ap (λ j. drop j over) here ∙ drop-cons over k x (omega (arith, at))
+    ∙ ap (λ y. y ∷ drop (suc k) over) (sym is) ∙ ap (λ j. x ∷ drop j over) next
+
+-- one message more
+pub counted_next : (wide all most : ℕ) (over : List Arrow) (back k : ℕ) (way : Way) (old new : List Ribbon)
+    → k + back + 1 ≡ length over → (x : Arrow) × (slice_get over k ≡ Some x) × (way ≡ way_of wide all x)
+    → HasCounted wide all most over back old
+    → new ≡ with_way way old → new ≡ ribbons wide all (drop (length over - (back + 1)) over)
+counted_next wide all most over back k way old new at there h more =
+    let is : there.0 ≡ get_or over k there.0 = sym (get_or_from_slice_get over k there.0 there.0 there.1) in
+    more ∙ ap (with_way way) h.are ∙ ap (λ w. with_way w (ribbons wide all (drop (length over - back) over))) there.2
+    ∙ ap (ribbons wide all) (sym (next_arrow over back k there.0 at is))
+
+pub counted_many : (wide all most j : ℕ) (over : List Arrow) (counted : List Ribbon) → counted ≡ ribbons wide all (drop j over)
+    → most < length counted → most < length (ribbons wide all over)
+counted_many wide all most j over counted are many = omega (arith, ap length are, many, ribbons_grow wide all j over)
+
+pub counted_all : (wide all most : ℕ) (over : List Arrow) (back : ℕ) (counted : List Ribbon) → length over ≤ back
+    → HasCounted wide all most over back counted → (counted ≡ ribbons wide all over) × (length (ribbons wide all over) ≤ most)
+counted_all wide all most over back counted past h =
+    let whole : length over - back ≡ 0 = omega (arith, past) in
+    let are : counted ≡ ribbons wide all over = h.are ∙ ap (λ j. ribbons wide all (drop j over)) whole in
+    (are, omega (arith, ap length are, h.few))
+
+-- the ribbons so far can be widened
+pub can_widen : (wide all most : ℕ) (over : List Arrow) (back : ℕ) (counted : List Ribbon) → HasCounted wide all most over back counted
+    → back < length over → length over ≤ 1048576
+    → AreApart counted × ((k : ℕ) (r : Ribbon) → slice_get counted k ≡ Some r → r.count < 1048576)
+can_widen wide all most over back counted h fits few =
+    let short : length (drop (length over - back) over) < 1048576 =
+    omega (arith, length-drop (length over - back) over, fits, few) in
+    let P : List Ribbon → Type 0 = λ rs. AreApart rs × ((k : ℕ) (r : Ribbon) → slice_get rs k ≡ Some r → r.count < 1048576) in
+    subst P (sym h.are) (
+      ribbons_apart wide all (drop (length over - back) over),
+      ribbons_few wide all (drop (length over - back) over) short,
+    )
 
 -- The ribbon at place k goes this way, so that none before it does.
 widened_pairs : (way : Way) (rs : List Ribbon) (k : ℕ) (r : Ribbon) → Pairs Differ rs → slice_get rs k ≡ Some r → is_way way r.way ≡ true

@@ -98,6 +98,7 @@ pub record FollowsAll (n : ℕ) (xs : List Step) (place : ℕ) (s : Sketch) : Ty
   pub runs : AreRuns n (reverse xs)
   pub place_is : place ≡ length (reverse xs)
   pub all_is : s.all ≡ place
+  pub few : length (reverse xs) ≤ MAX_STEPS
 
 pub follows_all : (n : ℕ) (xs : List Step) (k place all : ℕ) (s : Sketch) → length xs ≤ k → k ≤ length xs → all ≡ min (length xs) MAX_STEPS
     → FollowsTo n xs k place all s → FollowsAll n xs place s
@@ -108,4 +109,5 @@ follows_all n xs k place all s low high is h =
       runs = subst (λ l. AreRuns n (reverse l)) whole h.runs;
       place_is = at_place n xs k place all s high h ∙ ap (λ l. length (reverse l)) whole;
       all_is = omega (arith, h.all_is, is, h.place_is, h.few, low, high);
+      few = omega (arith, at_place n xs k place all s high h ∙ ap (λ l. length (reverse l)) whole, h.few);
     }

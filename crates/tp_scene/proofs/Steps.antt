@@ -35,6 +35,10 @@ pub first_more : (test : ℕ → Bool) (more k : ℕ) → 0 < more
 first_more test zero k some = absurd (omega (arith, some))
 first_more test (suc more) k some = let e : suc more - 1 ≡ more = omega arith in rw e refl
 
+pub first_here : (test : ℕ → Bool) (more k : ℕ) → 0 < more → test k ≡ true → first_from test more k ≡ k
+first_here test zero k some passes = absurd (omega (arith, some))
+first_here test (suc more) k some passes = rw passes refl
+
 pub first_passed : (test : ℕ → Bool) (many k : ℕ) → k < many → test k ≡ false
     → first_from test (many - k) k ≡ first_from test (many - (k + 1)) (k + 1)
 first_passed test many k less fails =

@@ -22,8 +22,9 @@ two start mid end a b e f = f ∙ ap (λ l. l ++ b) e ∙ append_assoc start a b
 pub three : (start one mid end a b d : List ℕ) → one ≡ start ++ a → mid ≡ one ++ b → end ≡ mid ++ d → end ≡ start ++ (a ++ (b ++ d))
 three start one mid end a b d e f g = two start one end a (b ++ d) e (two one mid end b d f g)
 
-pub seven : (start o1 o2 o3 o4 o5 o6 end a b d e f g h : List ℕ) → o1 ≡ start ++ a → o2 ≡ o1 ++ b → o3 ≡ o2 ++ d → o4 ≡ o3 ++ e
-    → o5 ≡ o4 ++ f → o6 ≡ o5 ++ g → end ≡ o6 ++ h → end ≡ start ++ (a ++ (b ++ (d ++ (e ++ (f ++ (g ++ h))))))
-seven start o1 o2 o3 o4 o5 o6 end a b d e f g h p1 p2 p3 p4 p5 p6 p7 =
-    three start o1 o2 end a b (d ++ (e ++ (f ++ (g ++ h)))) p1 p2
-    (three o2 o3 o4 end d e (f ++ (g ++ h)) p3 p4 (three o4 o5 o6 end f g h p5 p6 p7))
+pub eight : (start o1 o2 o3 o4 o5 o6 o7 end a b d e f g h i : List ℕ) → o1 ≡ start ++ a → o2 ≡ o1 ++ b → o3 ≡ o2 ++ d → o4 ≡ o3 ++ e
+    → o5 ≡ o4 ++ f → o6 ≡ o5 ++ g → o7 ≡ o6 ++ h → end ≡ o7 ++ i
+    → end ≡ start ++ (a ++ (b ++ (d ++ (e ++ (f ++ (g ++ (h ++ i)))))))
+eight start o1 o2 o3 o4 o5 o6 o7 end a b d e f g h i p1 p2 p3 p4 p5 p6 p7 p8 =
+    three start o1 o2 end a b (d ++ (e ++ (f ++ (g ++ (h ++ i))))) p1 p2
+    (three o2 o3 o4 end d e (f ++ (g ++ (h ++ i))) p3 p4 (three o4 o5 o6 end f g (h ++ i) p5 p6 (two o6 o7 end h i p7 p8)))

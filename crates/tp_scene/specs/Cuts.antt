@@ -6,7 +6,7 @@ use Rattle.tp_scene.specs.declared.pieces.Area.{Area}
 use Rattle.tp_scene.specs.declared.scene.Cut.{Cut}
 use Rattle.tp_scene.specs.declared.scene.End.{End}
 use Rattle.tp_scene.specs.declared.scene.Scene.{Scene}
-use Rattle.tp_scene.specs.Layout.{detail_of, is_detailed, middle, height_of, top_of, foot, bottom}
+use Rattle.tp_scene.specs.Layout.{detail_of, is_detailed, is_summed, middle, height_of, top_of, foot, bottom}
 use Rattle.tp_scene.specs.Pieces.{◌⧺◌, tenths, point, box_text, sums_text}
 use Rattle.tp_scene.specs.Marks.{at, area}
 
@@ -66,24 +66,27 @@ over s end = area (middle s end.since) 1360 (middle s end.judged - middle s end.
 unfoldable pub end_text : Scene → End → List ℕ
 end_text s end =
     codes "<rect class=\"over\"" ⧺ box_text (over s end) ⧺ codes "/>\n<path class=\"end\" d=\"M" ⧺ point (at (middle s end.judged) 1360)
-    ⧺ codes "V" ⧺ tenths (bottom s + 220) ⧺ codes "\"/><text class=\"told\" x=\"" ⧺ tenths (middle s end.judged) ⧺ codes "\" y=\""
-    ⧺ tenths (bottom s + 340) ⧺ codes "\">ended " ⧺ decimal end.wave ⧺ codes "</text>\n"
+    ⧺ codes "V" ⧺ tenths (bottom s + 220) ⧺ codes "\"/>\n"
 
 -- ---- labels
--- A label is at most 170 pixels wide. It stands to the left of its wave's line at node 0, or to the right where there is no room.
+-- how wide a label is at most, with numbers of so many digits
+abbrev pub label_room : Scene → ℕ
+label_room s = if is_summed (detail_of s.events) then 2300 else 1800
+
+-- It stands to the left of its wave's line at node 0, or to the right where there is no room.
 unfoldable pub stands_right : Scene → Cut → Bool
-stands_right s cut = nat_lt (cut_at s cut 0) 1700
+stands_right s cut = nat_lt (cut_at s cut 0) (label_room s)
 
 unfoldable pub side : Scene → Cut → List ℕ
 side s cut = if stands_right s cut then codes " right" else codes " left"
 
-abbrev pub needed : Bool → ℕ
-needed b = if b then 3400 else 1700
+abbrev pub needed : Scene → Bool → ℕ
+needed s b = if b then 2 * label_room s else label_room s
 
 -- There is room for it beside the label of the next wave of its row.
 unfoldable pub has_room : Scene → Cut → Option Cut → Bool
 has_room s cut None = true
-has_room s cut (Some next) = nat_le (needed (stands_right s cut)) (cut_at s next 0 - cut_at s cut 0)
+has_room s cut (Some next) = nat_le (needed s (stands_right s cut)) (cut_at s next 0 - cut_at s cut 0)
 
 unfoldable pub label_text : Scene → Cut → ℕ → List ℕ
 label_text s cut row =

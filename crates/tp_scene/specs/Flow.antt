@@ -16,8 +16,9 @@ rise s i c = min (slice_index s.loads.items (i * 1500 + c) * 600000 / (max (rows
 unfoldable pub level : Scene → ℕ → ℕ → ℕ
 level s i c = foot s i - rise s i c
 
+-- in whole pixels, so that of what runs at least one is seen
 unfoldable pub stair : Scene → ℕ → ℕ → List ℕ
-stair s i c = codes "V" ⧺ tenths (level s i c) ⧺ codes "h1"
+stair s i c = codes "V" ⧺ decimal (level s i c / 10) ⧺ codes "h1"
 
 -- The lane has a column for each pixel.
 abbrev pub columns_of : Scene → ℕ
@@ -45,8 +46,9 @@ hills s zero = []
 hills s (suc k) = hills s k ⧺ hill s k
 
 -- ---- messages
-abbrev pub middle_of_band : ℕ → ℕ
-middle_of_band b = 860 + 240 * b
+-- so many tenths of its width behind the left edge of a band, at most at the right edge of the lanes
+abbrev pub in_band : ℕ → ℕ → ℕ → ℕ
+in_band wide b tenth = min (740 + wide * (10 * b + tenth)) 15740
 
 -- the greatest number, of at most k, whose square is at most this
 abbrev pub root : ℕ → ℕ → ℕ
@@ -57,11 +59,12 @@ root (suc k) number = if nat_le (suc k * suc k) number then suc k else root k nu
 abbrev pub breadth : ℕ → ℕ
 breadth count = 5 + root (min (6 * count) 85) (36 * count)
 
+-- It leaves a band before its middle, and arrives behind the middle of one.
 abbrev pub ribbon_start : Scene → Ribbon → Point
-ribbon_start s r = at (middle_of_band r.way.sent) (ends_of s r.way.from.0 r.way.to.0).0
+ribbon_start s r = at (in_band s.band r.way.sent 3) (ends_of s r.way.from.0 r.way.to.0).0
 
 abbrev pub ribbon_end : Scene → Ribbon → Point
-ribbon_end s r = at (middle_of_band r.way.received) (ends_of s r.way.from.0 r.way.to.0).1
+ribbon_end s r = at (in_band s.band r.way.received 7) (ends_of s r.way.from.0 r.way.to.0).1
 
 -- a curve that is vertical at both ends, in the sender's colour
 unfoldable pub curve_text : Ribbon → Point → Point → List ℕ

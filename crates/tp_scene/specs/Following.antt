@@ -7,7 +7,7 @@ use Rattle.tp_base.specs.declared.NodeId.{NodeId}
 use Rattle.tp_base.specs.declared.Step.{Step}
 use Rattle.tp_base.specs.Table.{lookup}
 use Rattle.tp_core.specs.declared.NodeNumbers.{NodeNumbers}
-use Rattle.tp_core.specs.World.{Task, pending}
+use Rattle.tp_core.specs.World.{Task, how_many, pending}
 use Rattle.tp_core.specs.Generations.{world_after}
 use Rattle.tp_core.specs.Accepted.{no_numbers}
 use Rattle.tp_scene.specs.declared.tracks.Tracks.{Tracks}
@@ -18,24 +18,29 @@ use Rattle.tp_scene.specs.declared.lanes.Lanes.{Lanes}
 use Rattle.tp_scene.specs.declared.columns.Loads.{Loads}
 use Rattle.tp_scene.specs.declared.scene.Ribbon.{Ribbon}
 use Rattle.tp_scene.specs.declared.sketch.Sketch.{Sketch}
-use Rattle.tp_scene.specs.Scene.{running, bars, rows, under_way, arrows, load, is_way, ribbons, gave, cuts, seams, ends, resting, pauses}
+use Rattle.tp_scene.specs.Scene.{running, bars, rows, under_way, arrows, is_at, load, is_way, gave, cuts, seams, ends, resting, pauses}
 use Rattle.tp_wave.specs.Sums.{visit}
 use Rattle.tp_text.specs.AuditText.{last_judgement}
 
 abbrev pub home : Task → NodeId
 home x = record { 0 = x.home }
 
+-- how many tasks run at each of eight nodes
+abbrev pub HasCounts : ℕ → List Step → List ℕ → Type 0
+HasCounts n past counts = (i : ℕ) → i < 8 → slice_index counts i ≡ how_many (is_at i) (running n past)
+
 pub record HasTracks (n : ℕ) (past : List Step) (t : Tracks) : Type 0 where
   pub homes : (k : ℕ) → lookup t.homes k ≡ option_map home (find (λ x. x.number == k) (world_after n past).tasks)
   pub size : length t.rows ≡ 8
   pub rows : (i : ℕ) → i < 8 → slice_index t.rows i ≡ rows n i past
+  pub many : length t.counts ≡ 8
+  pub counts : HasCounts n past t.counts
   pub running : t.running.items ≡ running n past
   pub bars : t.bars.items ≡ bars n past
 
-pub record HasMessages (all : ℕ) (past : List Step) (m : Messages) : Type 0 where
+pub record HasMessages (past : List Step) (m : Messages) : Type 0 where
   pub under_way : m.under_way.items ≡ under_way past
   pub arrows : m.arrows.items ≡ arrows past
-  pub ribbons : m.ribbons.items ≡ ribbons all past
 
 pub record HasLoads (n all : ℕ) (past : List Step) (l : Loads) : Type 0 where
   pub size : length l.columns.items ≡ 12000
@@ -72,7 +77,7 @@ pub record Follows (n : ℕ) (past : List Step) (s : Sketch) : Type 0 where
   pub nodes : s.nodes ≡ n
   pub core : s.core ≡ record { nodes = n; steps = past }
   pub tracks : HasTracks n past s.tracks
-  pub messages : HasMessages s.all past s.messages
+  pub messages : HasMessages past s.messages
   pub waves : HasWaves n past s.waves
   pub lanes : HasLanes n past s.lanes
   pub loads : HasLoads n s.all past s.loads

@@ -1,5 +1,5 @@
 -- All that is drawn lies on the page.
-use Rattle.std.specs.Prelude.{ℕ, ◌+◌, ◌<◌, ◌≤◌, List}
+use Rattle.std.specs.Prelude.{ℕ, ◌+◌, ◌*◌, ◌<◌, ◌≤◌, List}
 use Rattle.std.specs.List.{All}
 use Rattle.tp_base.specs.declared.limits.TheConstants.{MAX_NODES}
 use Rattle.tp_base.specs.declared.Step.{Step}
@@ -16,7 +16,7 @@ use Rattle.tp_scene.specs.declared.scene.End.{End}
 use Rattle.tp_scene.specs.declared.scene.Scene.{Scene}
 use Rattle.tp_scene.specs.Scene.{IsSceneOf}
 use Rattle.tp_scene.specs.Layout.{detail_of, bar_of, edge, middle, reach, rows_of, top_of, foot, track_of, width, page_height}
-use Rattle.tp_scene.specs.Flow.{level, middle_of_band}
+use Rattle.tp_scene.specs.Flow.{level, in_band}
 
 -- It begins at an event of the trace, in the lane of a node that is there, on a track of that lane.
 abbrev pub IsRunThere : Scene → Running → Type 0
@@ -25,9 +25,9 @@ IsRunThere s run = (run.from < s.events) × (run.node.0 < s.nodes) × (run.track
 abbrev pub IsSendingThere : Scene → Sending → Type 0
 IsSendingThere s x = (x.sent < s.events) × (x.from.0 < s.nodes) × (x.to.0 < s.nodes)
 
--- It goes between nodes that are there, and its bands are of the 63.
+-- It goes between nodes that are there, and its bands begin within the 1,500 columns.
 abbrev pub IsRibbonThere : Scene → Ribbon → Type 0
-IsRibbonThere s r = (r.way.from.0 < s.nodes) × (r.way.to.0 < s.nodes) × (r.way.sent < 63) × (r.way.received < 63)
+IsRibbonThere s r = (r.way.from.0 < s.nodes) × (r.way.to.0 < s.nodes) × (r.way.sent * s.band < 1500) × (r.way.received * s.band < 1500)
 
 -- Each thing is at events of the trace, and at nodes and tracks that are there.
 pub record AreThere (s : Scene) : Type 0 where
@@ -52,7 +52,7 @@ pub record IsOnPage (s : Scene) : Type 0 where
   pub tracks : s.events ≤ 2500 → (i k : ℕ) → i < s.nodes → k < rows_of s i
       → (top_of s i ≤ track_of s i k) × (track_of s i k + bar_of (detail_of s.events) ≤ foot s i)
   pub hills : 2500 < s.events → (i c : ℕ) → (top_of s i + 60 ≤ level s i c) × (level s i c ≤ foot s i)
-  pub bands : 2500 < s.events → (b : ℕ) → b < 63 → (740 ≤ middle_of_band b) × (middle_of_band b + 440 ≤ width s)
+  pub bands : 2500 < s.events → (b tenth : ℕ) → (740 ≤ in_band s.band b tenth) × (in_band s.band b tenth + 440 ≤ width s)
 
 abbrev pub AllIsInside : Type 0
 AllIsInside = (n : ℕ) (steps : List Step) (s : Scene) → 1 ≤ n → n ≤ MAX_NODES → AreRuns n steps → IsSceneOf n steps s

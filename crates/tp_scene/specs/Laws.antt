@@ -1,6 +1,6 @@
 -- What holds of all that is drawn.
-use Rattle.std.specs.Prelude.{ℕ, ◌+◌, ◌-◌, ◌≡◌, ◌==◌, ◌<◌, ◌≤◌, ◌++◌, List, [], ◌∷◌, Bool, false, length, map, reverse, unwrap_or}
-use Rattle.std.specs.Prelude.{if◌then◌else◌}
+use Rattle.std.specs.Prelude.{ℕ, ◌+◌, ◌-◌, ◌≡◌, ◌==◌, ◌<◌, ◌≤◌, ◌++◌, ◌⊎◌, List, [], ◌∷◌, Bool, false, length, map, reverse}
+use Rattle.std.specs.Prelude.{unwrap_or, if◌then◌else◌}
 use Rattle.std.specs.List.{All, AllPairs, find}
 use Rattle.std.specs.Option.{option_map}
 use Rattle.tp_base.specs.declared.Step.{Step}
@@ -24,7 +24,7 @@ use Rattle.tp_scene.specs.declared.scene.Sending.{Sending}
 use Rattle.tp_scene.specs.declared.scene.Arrow.{Arrow}
 use Rattle.tp_scene.specs.declared.scene.Way.{Way}
 use Rattle.tp_scene.specs.declared.scene.Ribbon.{Ribbon}
-use Rattle.tp_scene.specs.Scene.{is_run_of, is_at, bars, running, arrows, under_way, load, way_of, is_way, ribbons, cuts, ends}
+use Rattle.tp_scene.specs.Scene.{is_run_of, is_at, bars, running, arrows, under_way, load, way_of, is_way, ribbons, band_for, cuts, ends}
 
 -- ---- bars lie apart
 abbrev pub AreOnOneTrack : Running → Running → Type 0
@@ -172,18 +172,21 @@ LoadsAreRuns = (n i all columns : ℕ) (steps : List Step) → 1500 ≤ columns
     → total columns (λ c. load n i all c steps) ≡ added (ran i) (bars n steps) + added (has_run i (length steps)) (running n steps)
 
 -- The message of an arrow went this way.
-abbrev pub goes : ℕ → Way → Arrow → Bool
-goes all way arrow = is_way way (way_of all arrow.sending arrow.received)
+abbrev pub goes : ℕ → ℕ → Way → Arrow → Bool
+goes wide all way arrow = is_way way (way_of wide all arrow)
 
 -- how many messages the ribbons of this way count
 abbrev pub counted_on : Way → List Ribbon → ℕ
 counted_on way counted = added (λ r. if is_way way r.way then r.count else 0) counted
 
--- No two ribbons go one way. The ribbons of each way count the messages that went it; all of them, in a run, the messages received.
-pub record HasRibbons (all : ℕ) (steps : List Step) : Type 0 where
-  pub apart : AllPairs (λ (a b : Ribbon). is_way a.way b.way ≡ false) (ribbons all steps)
-  pub each_way : (way : Way) → counted_on way (ribbons all steps) ≡ how_many (goes all way) (arrows steps)
-  pub received : (n : ℕ) → 1 ≤ n → AreRuns n steps → added (λ (r : Ribbon). r.count) (ribbons all steps) ≡ count is_recv steps
+-- However wide the bands are, no two ribbons go one way. The ribbons of each way count the messages that went it; all of them, in a
+-- run, the messages received. As wide as the bands are made there are at most 600, or the widest band is the whole page.
+pub record HasRibbons (wide all : ℕ) (steps : List Step) : Type 0 where
+  pub apart : AllPairs (λ (a b : Ribbon). is_way a.way b.way ≡ false) (ribbons wide all (arrows steps))
+  pub each_way : (way : Way) → counted_on way (ribbons wide all (arrows steps)) ≡ how_many (goes wide all way) (arrows steps)
+  pub received : (n : ℕ) → 1 ≤ n → AreRuns n steps
+      → added (λ (r : Ribbon). r.count) (ribbons wide all (arrows steps)) ≡ count is_recv steps
+  pub few : wide ≡ band_for all (arrows steps) → (length (ribbons wide all (arrows steps)) ≤ 600) ⊎ (wide ≡ 1536)
 
 abbrev pub RibbonsCarryAll : Type 0
-RibbonsCarryAll = (all : ℕ) (steps : List Step) → HasRibbons all steps
+RibbonsCarryAll = (wide all : ℕ) (steps : List Step) → HasRibbons wide all steps

@@ -4,6 +4,7 @@ pub mod Layout
 pub mod Pieces
 pub mod Marks
 pub mod Cuts
+pub mod Labels
 pub mod Flow
 pub mod Fault
 pub mod Page

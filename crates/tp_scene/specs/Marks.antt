@@ -66,9 +66,9 @@ pause_area s pause =
 unfoldable pub white_text : Area → List ℕ
 white_text where_it_is = codes "<rect class=\"idle\"" ⧺ box_text where_it_is ⧺ codes "/>\n"
 
--- Where sums are drawn a pause has to be a pixel wide.
+-- Where sums are drawn a pause has to be two pixels wide for each node that there is.
 abbrev pub is_seen : Scene → Area → Bool
-is_seen s where_it_is = not (is_summed (detail_of s.events)) || nat_le 10 where_it_is.width
+is_seen s where_it_is = not (is_summed (detail_of s.events)) || nat_le (20 * s.nodes) where_it_is.width
 
 unfoldable pub pause_text : Scene → Pause → List ℕ
 pause_text s pause = if is_seen s (pause_area s pause) then white_text (pause_area s pause) else []
@@ -123,6 +123,4 @@ lost_text s sending =
 -- ---- generations
 unfoldable pub seam_text : Scene → Seam → List ℕ
 seam_text s seam =
-    codes "<path class=\"seam\" d=\"M" ⧺ point (at (edge s seam.at) 940) ⧺ codes "V" ⧺ tenths (bottom s + 220)
-    ⧺ codes "\"/><text class=\"seam\" x=\"" ⧺ tenths (edge s seam.at + 40) ⧺ codes "\" y=\"98\">generation "
-    ⧺ decimal seam.generation.0 ⧺ codes "</text>\n"
+    codes "<path class=\"seam\" d=\"M" ⧺ point (at (edge s seam.at) 940) ⧺ codes "V" ⧺ tenths (bottom s + 220) ⧺ codes "\"/>\n"

@@ -1,6 +1,6 @@
 -- The picture of a scene, as text.
 use Rattle.std.specs.Prelude.{ℕ, zero, suc, ◌+◌, ◌-◌, ◌/◌, ◌%◌, ◌==◌, List, [], nat_le, Option, Some, None, codes, decimal}
-use Rattle.std.specs.Prelude.{vec_len, if◌then◌else◌}
+use Rattle.std.specs.Prelude.{length, take, drop, vec_len, if◌then◌else◌}
 use Rattle.std.specs.List.{flat_map}
 use Rattle.tp_scene.specs.declared.page.TheConstants.{STYLE, STYLE_OF_SUMS, LEGEND, LEGEND_OF_SUMS}
 use Rattle.tp_scene.specs.declared.pieces.Area.{Area}
@@ -11,6 +11,7 @@ use Rattle.tp_scene.specs.Marks.{at, area, bar_text, running_text, pause_text, a
 use Rattle.tp_scene.specs.Cuts.{cut_text, end_text, labels}
 use Rattle.tp_scene.specs.Flow.{hills, ribbon_text}
 use Rattle.tp_scene.specs.Fault.{fault_text}
+use Rattle.tp_scene.specs.Labels.{end_labels, seam_labels}
 
 -- the size of the page, and how things look on it
 unfoldable pub head : Scene → List ℕ
@@ -32,13 +33,24 @@ legend s = if is_summed (detail_of s.events) then LEGEND_OF_SUMS.now else LEGEND
 unfoldable pub plural : ℕ → List ℕ
 plural count = if count == 1 then [] else codes "s"
 
--- the four counts
-unfoldable pub headline : Scene → List ℕ
-headline s =
+unfoldable pub counts : Scene → List ℕ
+counts s =
     codes "<text class=\"head\" x=\"74\" y=\"28\">" ⧺ decimal (vec_len s.bars) ⧺ codes " task" ⧺ plural (vec_len s.bars) ⧺ codes ", "
-    ⧺ decimal (vec_len s.arrows) ⧺ codes " message" ⧺ plural (vec_len s.arrows) ⧺ codes ", "
-    ⧺ decimal s.nodes ⧺ codes " node" ⧺ plural s.nodes ⧺ codes ", "
+    ⧺ decimal (vec_len s.arrows) ⧺ codes " message" ⧺ plural (vec_len s.arrows)
+
+-- how many messages were not received, where there are some
+unfoldable pub missing : Scene → List ℕ
+missing s =
+    if vec_len s.under_way == 0 then [] else codes " and " ⧺ decimal (vec_len s.under_way) ⧺ codes " not received"
+
+unfoldable pub sizes : Scene → List ℕ
+sizes s =
+    codes ", " ⧺ decimal s.nodes ⧺ codes " node" ⧺ plural s.nodes ⧺ codes ", "
     ⧺ decimal s.events ⧺ codes " event" ⧺ plural s.events ⧺ codes "</text>\n"
+
+-- what the run came to
+unfoldable pub headline : Scene → List ℕ
+headline s = counts s ⧺ missing s ⧺ sizes s
 
 unfoldable pub verdict : Option ℕ → List ℕ
 verdict None = codes "<text x=\"74\" y=\"47\">no end is judged</text>\n"
@@ -112,8 +124,9 @@ abbrev pub received : Scene → List ℕ
 received s =
     if is_summed (detail_of s.events) then flat_map (ribbon_text s) s.ribbons.items else flat_map (arrow_text s) s.arrows.items
 
+-- of those that were not, the first 100
 unfoldable pub messages : Scene → List ℕ
-messages s = received s ⧺ flat_map (lost_text s) s.under_way.items
+messages s = received s ⧺ flat_map (lost_text s) (take 100 s.under_way.items)
 
 unfoldable pub all_bars : Scene → List ℕ
 all_bars s = flat_map (bar_text s) s.bars.items ⧺ flat_map (running_text s) s.running.items
@@ -125,14 +138,23 @@ tasks s = if is_summed (detail_of s.events) then hills s s.nodes else all_bars s
 unfoldable pub run : Scene → List ℕ
 run s = lanes s ⧺ messages s ⧺ tasks s
 
+-- Where sums are drawn, the last 50 of a list are.
+abbrev pub recent : {A : Type 0} → Scene → List A → List A
+recent s xs = if is_summed (detail_of s.events) then drop (length xs - 50) xs else xs
+
 unfoldable pub waves : Scene → List ℕ
 waves s =
-    flat_map (end_text s) s.ends.items ⧺ flat_map (cut_text s) s.cuts.items ⧺ labels s s.cuts.items (vec_len s.cuts)
-    ⧺ flat_map (seam_text s) s.seams.items
+    flat_map (end_text s) (recent s s.ends.items) ⧺ flat_map (cut_text s) (recent s s.cuts.items)
+    ⧺ labels s (recent s s.cuts.items) (length (recent s s.cuts.items)) ⧺ flat_map (seam_text s) (recent s s.seams.items)
+
+unfoldable pub stop_labels : Scene → List ℕ
+stop_labels s =
+    end_labels s (recent s s.ends.items) (length (recent s s.ends.items))
+    ⧺ seam_labels s (recent s s.seams.items) (length (recent s s.seams.items))
 
 -- all that is drawn of a scene
 unfoldable pub picture : Scene → List ℕ
-picture s = opening s ⧺ headline s ⧺ verdict s.ended ⧺ legend s ⧺ run s ⧺ waves s ⧺ axis s
+picture s = opening s ⧺ headline s ⧺ verdict s.ended ⧺ legend s ⧺ run s ⧺ waves s ⧺ stop_labels s ⧺ axis s
 
 -- the picture of a scene
 unfoldable pub svg_of : Scene → List ℕ

@@ -1,7 +1,7 @@
 -- What is drawn of the steps of a run on n nodes. A list of steps has the newest first; what is drawn of it stands in the order of
 -- time. An event has as its number how many had come before it.
 use Rattle.std.specs.Prelude.{ℕ, zero, suc, ◌+◌, ◌*◌, ◌/◌, ◌==◌, ◌&&◌, ◌≡◌, ◌<◌, ◌++◌, ◌⊎◌, List, [], ◌∷◌, Bool, not, Option, Some, None}
-use Rattle.std.specs.Prelude.{length, map, max, min, reverse, slice_index, unwrap_or, if◌then◌else◌}
+use Rattle.std.specs.Prelude.{length, map, max, min, nat_le, reverse, slice_index, unwrap_or, if◌then◌else◌}
 use Rattle.std.specs.List.{find, list_any, range_with_len}
 use Rattle.tp_base.specs.declared.Step.{Step}
 use Rattle.tp_base.specs.declared.Step.TheVariants.{Begin, Done, Send, Recv, Give, Judge, Reopen}
@@ -178,9 +178,9 @@ last_pauses n steps = pauses_now n n steps
 abbrev pub column : ℕ → ℕ → ℕ
 column all e = min (e * 1500 / max all 1) 1499
 
--- A band is 24 columns.
-abbrev pub band : ℕ → ℕ → ℕ
-band all e = column all e / 24
+-- A band is so many columns.
+abbrev pub band : ℕ → ℕ → ℕ → ℕ
+band wide all e = column all e / max wide 1
 
 -- it runs in the lane of node i
 abbrev pub is_at : ℕ → Running → Bool
@@ -192,9 +192,14 @@ load n i all c [] = 0
 load n i all c (s ∷ past) =
     if column all (length past) == c then load n i all c past + how_many (is_at i) (running n (s ∷ past)) else load n i all c past
 
--- the way of a message that is received at an event
-abbrev pub way_of : ℕ → Sending → ℕ → Way
-way_of all x place = record { from = x.from; sent = band all x.sent; to = x.to; received = band all place }
+-- the way of a message that was received
+abbrev pub way_of : ℕ → ℕ → Arrow → Way
+way_of wide all arrow = record {
+  from = arrow.sending.from;
+  sent = band wide all arrow.sending.sent;
+  to = arrow.sending.to;
+  received = band wide all arrow.received;
+}
 
 abbrev pub is_way : Way → Way → Bool
 is_way a b = (a.from.0 == b.from.0) && (a.sent == b.sent) && (a.to.0 == b.to.0) && (a.received == b.received)
@@ -204,15 +209,23 @@ abbrev pub with_way : Way → List Ribbon → List Ribbon
 with_way way [] = record { way = way; count = 1 } ∷ []
 with_way way (r ∷ rest) = if is_way way r.way then record { way = r.way; count = r.count + 1 } ∷ rest else r ∷ with_way way rest
 
-abbrev pub with_received : ℕ → Option Sending → ℕ → List Ribbon → List Ribbon
-with_received all None place counted = counted
-with_received all (Some x) place counted = with_way (way_of all x place) counted
+-- the messages that were received, counted by their ways in bands so wide
+abbrev pub ribbons : ℕ → ℕ → List Arrow → List Ribbon
+ribbons wide all [] = []
+ribbons wide all (arrow ∷ rest) = with_way (way_of wide all arrow) (ribbons wide all rest)
 
--- the messages that are received, counted by their ways
-abbrev pub ribbons : ℕ → List Step → List Ribbon
-ribbons all [] = []
-ribbons all (Recv j m g ∷ past) = with_received all (find (is_sending_of m.0) (under_way past)) (length past) (ribbons all past)
-ribbons all (s ∷ past) = ribbons all past
+-- The narrowest bands have 24 columns. Doubled k times, or six times, they are so wide; six times is more than all columns.
+abbrev pub doubled : ℕ → ℕ
+doubled k = if k == 0 then 24 else (if k == 1 then 48 else (if k == 2 then 96 else (if k == 3 then 192 else (if k == 4 then 384
+    else (if k == 5 then 768 else 1536)))))
+
+-- In bands that wide there are at most 600 ribbons.
+abbrev pub is_fitting : ℕ → List Arrow → ℕ → Bool
+is_fitting all over k = nat_le (length (ribbons (doubled k) all over)) 600
+
+-- how wide the bands are: doubled as often as it takes
+abbrev pub band_for : ℕ → List Arrow → ℕ
+band_for all over = doubled (first_from (is_fitting all over) 6 0)
 
 -- ---- all
 pub record IsSceneOf (n : ℕ) (steps : List Step) (s : Scene) : Type 0 where
@@ -221,10 +234,11 @@ pub record IsSceneOf (n : ℕ) (steps : List Step) (s : Scene) : Type 0 where
   pub rows : (i : ℕ) → i < 8 → slice_index s.rows i ≡ rows n i steps
   pub bars : s.bars.items ≡ bars n steps
   pub running : s.running.items ≡ running n steps
+  pub band : s.band ≡ band_for (length steps) (arrows steps)
+  pub ribbons : s.ribbons.items ≡ ribbons s.band (length steps) (arrows steps)
   pub arrows : s.arrows.items ≡ arrows steps
   pub under_way : s.under_way.items ≡ under_way steps
   pub loads : (i c : ℕ) → i < 8 → c < 1500 → slice_index s.loads.items (i * 1500 + c) ≡ load n i (length steps) c steps
-  pub ribbons : s.ribbons.items ≡ ribbons (length steps) steps
   pub cuts : s.cuts.items ≡ cuts n steps
   pub pauses : s.pauses.items ≡ pauses n steps ++ last_pauses n steps
   pub seams : s.seams.items ≡ seams steps

@@ -1,11 +1,10 @@
-ghost use Rattle.std.specs.Prelude.{◌≡◌, ◌∷◌, ◌+◌, ◌*◌, ◌<◌, ◌≤◌, ◌^◌, [], ℕ, List, Some, IfOk, length, slice_get, slice_index, slice_set};
+ghost use Rattle.std.specs.Prelude.{◌≡◌, ◌∷◌, ◌+◌, ◌*◌, ◌<◌, ◌≤◌, ◌^◌, [], ℕ, List, IfOk, length, slice_index, slice_set};
 ghost use Rattle.tp_base.specs.declared.Step.{Step};
 ghost use Rattle.tp_base.specs.declared.limits.TheConstants.{MAX_STEPS};
-ghost use Rattle.tp_scene.specs.declared.scene.Running.{Running};
-ghost use Rattle.tp_scene.specs.Scene.{band, column, running};
-ghost use Rattle.tp_scene.specs.Following.{HasLoads};
+ghost use Rattle.tp_scene.specs.Scene.{band, column};
+ghost use Rattle.tp_scene.specs.Following.{HasCounts, HasLoads};
 
-use crate::scene::Running;
+use crate::places::place_of;
 use std::alloc::{AllocError, Global};
 
 /// The events share out so many columns.
@@ -19,19 +18,11 @@ pub(crate) fn column(all: u32, event: u32) -> u32
     (u64::from(event) * 1_500 / u64::from(all.max(1))).min(1_499) as u32
 }
 
-/// The band of 24 columns in which an event lies, of so many.
-pub(crate) fn band(all: u32, event: u32) -> u32
-    ensures { result ≡ band all event }
+/// The band of so many columns in which an event lies, of so many.
+pub(crate) fn band(wide: u32, all: u32, event: u32) -> u32
+    ensures { result ≡ band wide all event }
 {
-    column(all, event) / 24
-}
-
-/// The node of the task at a place.
-fn node_at(runs: &[Running], k: usize) -> u32
-    requires { k < length runs.now }
-    ensures { (run : Running) × (slice_get runs.now k ≡ Some run) × (result ≡ run.node.0) }
-{
-    runs[k].node.0
+    column(all, event) / wide.max(1)
 }
 
 /// Adds to the number at a place, where there is one.
@@ -61,17 +52,17 @@ impl Loads {
         Ok(Loads { columns })
     }
 
-    /// Takes what runs after the next step, which lies in this column.
-    pub(crate) fn take(&mut self, runs: &[Running], here: u32)
+    /// Takes how many tasks run at each node after the next step, which lies in this column.
+    pub(crate) fn take(&mut self, counts: &[u32; 8], here: u32)
         requires { (n all : ℕ) × (past : List Step) × (step : Step) × HasLoads n all past self.old × (here ≡ column all (length past))
-            × (runs.now ≡ running n (step ∷ past)) × (length past < MAX_STEPS) }
+            × HasCounts n (step ∷ past) counts.now × (length past < MAX_STEPS) }
         ensures { (n all : ℕ) (past : List Step) (step : Step) → HasLoads n all past self.old → here ≡ column all (length past)
-            → runs.now ≡ running n (step ∷ past) → HasLoads n all (step ∷ past) self.new }
+            → HasCounts n (step ∷ past) counts.now → HasLoads n all (step ∷ past) self.new }
     {
-        for k in 0..runs.len() {
-            let node = node_at(runs, k);
+        for node in 0..8 {
+            let count = place_of(counts, node);
             let at = node as usize * COLUMNS + here as usize;
-            add(&mut self.columns, at, 1);
+            add(&mut self.columns, at, u64::from(count));
         }
     }
 }

@@ -1,6 +1,6 @@
-ghost use Rattle.std.specs.Prelude.{◌≡◌, ◌++◌, ◌<◌, ◌^◌, OnOk, slice_index};
-ghost use Rattle.std.specs.Prelude.{◌+◌, slice_get, vec_len};
-ghost use Rattle.tp_scene.specs.Cuts.{tells, wave_class, cut_at, crossing, crossings, rings, ring_text, cut_text, over};
+ghost use Rattle.std.specs.Prelude.{◌≡◌, ◌++◌, ◌<◌, ◌≤◌, ◌^◌, OnOk, slice_index};
+ghost use Rattle.std.specs.Prelude.{◌+◌, length, slice_get};
+ghost use Rattle.tp_scene.specs.Cuts.{tells, wave_class, cut_at, crossing, crossings, rings, ring_text, cut_text, over, label_room};
 ghost use Rattle.tp_scene.specs.Cuts.{line_text, line_begin, line_end, rings_text};
 ghost use Rattle.tp_scene.specs.Cuts.{end_text, label, label_at, label_text, labels, has_room, needed, side, stands_right};
 
@@ -9,9 +9,6 @@ use crate::pieces::{Area, Mark, Part, Point, push_parts};
 use crate::places::place_of;
 use crate::scene::{Cut, End, Scene};
 use std::alloc::AllocError;
-
-/// A label is at most so wide.
-const LABEL: u64 = 1_700;
 
 /// Whether a wave is one of the two that tell an end.
 #[tactic(auto, unfolding(crate::specs::Cuts::tells))]
@@ -208,15 +205,21 @@ impl Mark for End {
                 Part::Place(Point { x, y: TOP - 140 }),
                 Part::Text(b"V"),
                 Part::Length(bottom + 220),
-                Part::Text(b"\"/><text class=\"told\" x=\""),
-                Part::Length(x),
-                Part::Text(b"\" y=\""),
-                Part::Length(bottom + 340),
-                Part::Text(b"\">ended "),
-                Part::Number(self.wave as u64),
-                Part::Text(b"</text>\n"),
+                Part::Text(b"\"/>\n"),
             ],
         )
+    }
+}
+
+/// How wide a label is at most.
+fn label_room(scene: &Scene) -> u64
+    ensures value { result ≡ label_room scene.now }
+    ensures bound { result ≤ 2300 }
+{
+    if scene.detail().is_summed() {
+        2_300
+    } else {
+        1_800
     }
 }
 
@@ -225,7 +228,7 @@ impl Mark for End {
 fn stands_right(scene: &Scene, cut: &Cut) -> bool
     ensures { result ≡ stands_right scene.now cut.now }
 {
-    cut_at(scene, cut, 0) < LABEL
+    cut_at(scene, cut, 0) < label_room(scene)
 }
 
 /// On which side of its line a wave's label stands.
@@ -241,10 +244,11 @@ fn side(scene: &Scene, cut: &Cut) -> &'static [u8]
 }
 
 /// How far the next wave of a row has to be from one whose label stands so.
-fn needed(is_right: bool) -> u64
-    ensures { result ≡ needed is_right }
+fn needed(scene: &Scene, is_right: bool) -> u64
+    ensures { result ≡ needed scene.now is_right }
 {
-    if is_right { 2 * LABEL } else { LABEL }
+    let room = label_room(scene);
+    if is_right { 2 * room } else { room }
 }
 
 /// Whether there is room for a wave's label beside that of the next wave in its row.
@@ -255,7 +259,7 @@ fn has_room(scene: &Scene, cut: &Cut, next: Option<Cut>) -> bool
     match next {
         Some(next) => {
             let apart = cut_at(scene, &next, 0).saturating_sub(cut_at(scene, cut, 0));
-            needed(stands_right(scene, cut)) <= apart
+            needed(scene, stands_right(scene, cut)) <= apart
         }
         None => true,
     }
@@ -304,34 +308,39 @@ fn push_label_beside(
     push_label(out, scene, cut, row)
 }
 
-/// The wave at a place of the list.
-fn nth(scene: &Scene, k: usize) -> Option<Cut>
-    ensures { result ≡ slice_get scene.now.cuts.items k }
+/// The wave at a place of a list.
+fn nth(cuts: &[Cut], k: usize) -> Option<Cut>
+    ensures { result ≡ slice_get cuts.now k }
 {
-    match scene.cuts.get(k) {
+    match cuts.get(k) {
         Some(cut) => Some(*cut),
         None => None,
     }
 }
 
-/// The label of the wave at a place of the list; the next of its row is at another.
-fn push_label_at(out: &mut Vec<u8>, scene: &Scene, k: usize, next: usize) -> Result<(), AllocError>
+/// The label of the wave at a place of a list; the next of its row is at another.
+fn push_label_at(
+    out: &mut Vec<u8>,
+    scene: &Scene,
+    cuts: &[Cut],
+    k: usize,
+    next: usize,
+) -> Result<(), AllocError>
     requires { next ≡ k + 2 }
-    ensures { OnOk result (out.new.items ≡ out.old.items
-        ++ label_at scene.now scene.now.cuts.items (slice_get scene.now.cuts.items k) k) }
+    ensures { OnOk result (out.new.items ≡ out.old.items ++ label_at scene.now cuts.now (slice_get cuts.now k) k) }
 {
-    match nth(scene, k) {
-        Some(cut) => push_label_beside(out, scene, &cut, nth(scene, next), (k % 2) as u64),
+    match nth(cuts, k) {
+        Some(cut) => push_label_beside(out, scene, &cut, nth(cuts, next), (k % 2) as u64),
         None => Ok(()),
     }
 }
 
-/// The labels of the waves, in two rows: one is left out where the next of its row has no room beside it.
-pub(crate) fn push_labels(out: &mut Vec<u8>, scene: &Scene) -> Result<(), AllocError>
-    ensures { OnOk result (out.new.items ≡ out.old.items ++ labels scene.now scene.now.cuts.items (vec_len scene.now.cuts)) }
+/// The labels of these waves, in two rows: one is left out where the next of its row has no room beside it.
+pub(crate) fn push_labels(out: &mut Vec<u8>, scene: &Scene, cuts: &[Cut]) -> Result<(), AllocError>
+    ensures { OnOk result (out.new.items ≡ out.old.items ++ labels scene.now cuts.now (length cuts.now)) }
 {
-    for k in 0..scene.cuts.len() {
-        push_label_at(out, scene, k, k + 2)?;
+    for k in 0..cuts.len() {
+        push_label_at(out, scene, cuts, k, k + 2)?;
     }
     Ok(())
 }

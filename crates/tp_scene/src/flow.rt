@@ -1,6 +1,6 @@
 ghost use Rattle.std.specs.Prelude.{◌≡◌, ◌++◌, ◌+◌, ◌*◌, ◌<◌, ◌≤◌, ◌^◌, OnOk, slice_index};
 ghost use Rattle.tp_scene.specs.Flow.{rise, level, stair, stairs};
-ghost use Rattle.tp_scene.specs.Flow.{hill_begin, hill_end, hill, hills, columns_of, middle_of_band, root, breadth};
+ghost use Rattle.tp_scene.specs.Flow.{hill_begin, hill_end, hill, hills, columns_of, in_band, root, breadth};
 ghost use Rattle.tp_scene.specs.Flow.{curve_text, ribbon_text};
 
 use crate::marks::{ends_of, handle};
@@ -49,7 +49,11 @@ fn push_stair(out: &mut Vec<u8>, scene: &Scene, node: u32, column: u64) -> Resul
     let level = level(scene, node, column);
     push_parts(
         out,
-        &[Part::Text(b"V"), Part::Length(level), Part::Text(b"h1")],
+        &[
+            Part::Text(b"V"),
+            Part::Number(level / 10),
+            Part::Text(b"h1"),
+        ],
     )
 }
 
@@ -121,11 +125,13 @@ pub(crate) fn push_hills(out: &mut Vec<u8>, scene: &Scene) -> Result<(), AllocEr
     Ok(())
 }
 
-/// Where the middle of a band lies.
-fn middle_of_band(band: u32) -> u64
-    ensures { result ≡ middle_of_band band }
+/// Where a place in a band lies, so many tenths of its width behind its left edge.
+fn in_band(wide: u32, band: u32, tenth: u64) -> u64
+    requires { tenth ≤ 10 }
+    ensures { result ≡ in_band wide band tenth }
 {
-    860 + 240 * u64::from(band)
+    let before = u128::from(wide) * (10 * u128::from(band) + u128::from(tenth));
+    (740 + before).min(15_740) as u64
 }
 
 /// The greatest number, of at most so many, whose square is at most this.
@@ -189,11 +195,11 @@ impl Mark for Ribbon {
     fn push(&self, scene: &Scene, out: &mut Vec<u8>) -> Result<(), AllocError> {
         let (start, end) = ends_of(scene, self.way.from, self.way.to);
         let from = Point {
-            x: middle_of_band(self.way.sent),
+            x: in_band(scene.band, self.way.sent, 3),
             y: start,
         };
         let to = Point {
-            x: middle_of_band(self.way.received),
+            x: in_band(scene.band, self.way.received, 7),
             y: end,
         };
         push_curve(out, self, from, to)

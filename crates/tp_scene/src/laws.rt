@@ -35,7 +35,7 @@ pub fn loads_are_runs()
 {}
 
 /// No two ribbons go one way, those of each way count the messages that went it, and in a run all of them count the messages that
-/// were received.
+/// were received. There are at most 600, or the bands are as wide as the page.
 pub fn ribbons_carry_all()
     ensures { RibbonsCarryAll }
 {}

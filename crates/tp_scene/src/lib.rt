@@ -6,6 +6,7 @@ mod cuts;
 mod fault;
 mod flow;
 mod keyed;
+mod labels;
 mod lanes;
 mod laws;
 mod layout;

@@ -166,11 +166,11 @@ fn push_white(out: &mut Vec<u8>, area: Area) -> Result<(), AllocError>
     )
 }
 
-/// Whether a pause is drawn: where sums are drawn it has to be a pixel wide.
+/// Whether a pause is drawn: where sums are drawn it has to be two pixels wide for each node that there is.
 fn is_seen(scene: &Scene, area: Area) -> bool
     ensures { result ≡ is_seen scene.now area }
 {
-    !scene.detail().is_summed() || 10 <= area.width
+    !scene.detail().is_summed() || 20 * u64::from(scene.nodes) <= area.width
 }
 
 impl Mark for Pause {
@@ -347,11 +347,7 @@ impl Mark for Seam {
                 Part::Place(Point { x, y: TOP - 560 }),
                 Part::Text(b"V"),
                 Part::Length(bottom + 220),
-                Part::Text(b"\"/><text class=\"seam\" x=\""),
-                Part::Length(x + 40),
-                Part::Text(b"\" y=\"98\">generation "),
-                Part::Number(self.generation.0 as u64),
-                Part::Text(b"</text>\n"),
+                Part::Text(b"\"/>\n"),
             ],
         )
     }

@@ -1,15 +1,11 @@
-ghost use Rattle.std.specs.Prelude.{◌≡◌, ◌∷◌, ◌<◌, [], ℕ, List, length, OnOk};
+ghost use Rattle.std.specs.Prelude.{◌≡◌, ◌∷◌, [], List, length, OnOk};
 ghost use Rattle.tp_base.specs.declared.Step.{Step};
-ghost use Rattle.tp_base.specs.declared.limits.TheConstants.{MAX_STEPS};
 ghost use Rattle.tp_base.specs.declared.ids.Generation.{Generation};
 ghost use Rattle.tp_base.specs.declared.ids.NodeId.{NodeId};
 ghost use Rattle.tp_scene.specs.Following.{HasMessages};
-ghost use Rattle.tp_scene.specs.Scene.{way_of};
 
-use crate::columns::band;
 use crate::keyed::{Keyed, take_out};
-use crate::ribbons::widen;
-use crate::scene::{Arrow, Ribbon, Sending, Way};
+use crate::scene::{Arrow, Sending};
 use std::alloc::{AllocError, Global};
 use tp_base::{MessageId, Step};
 
@@ -21,43 +17,28 @@ impl Keyed for Sending {
     }
 }
 
-/// The way of a message that is received at an event, of so many.
-fn way_of(all: u32, sending: &Sending, place: u32) -> Way
-    ensures { result ≡ way_of all sending.now place }
-{
-    Way {
-        from: sending.from,
-        sent: band(all, sending.sent),
-        to: sending.to,
-        received: band(all, place),
-    }
-}
-
-/// The messages of the steps so far: those that are under way, and those that were received, one by one and counted by their ways.
+/// The messages of the steps so far: those that are under way, and those that were received.
 #[derive(Drop)]
 pub(crate) struct Messages {
     pub(crate) under_way: Vec<Sending>,
     pub(crate) arrows: Vec<Arrow>,
-    pub(crate) ribbons: Vec<Ribbon>,
 }
 
 impl Messages {
     /// Nothing was taken yet.
     pub(crate) fn new(alloc: Global) -> Messages
-        ensures { (all : ℕ) → HasMessages all [] result }
+        ensures { HasMessages [] result }
     {
         Messages {
             under_way: Vec::new(alloc),
             arrows: Vec::new(alloc),
-            ribbons: Vec::new(alloc),
         }
     }
 
-    /// Takes the next of all steps, before which so many had come.
-    pub(crate) fn take(&mut self, step: Step, place: u32, all: u32) -> Result<(), AllocError>
-        requires { (past : List Step) × HasMessages all past self.old × (length past < MAX_STEPS) }
-        ensures { (past : List Step) → HasMessages all past self.old → place ≡ length past
-            → OnOk result (HasMessages all (step ∷ past) self.new) }
+    /// Takes the next step, before which so many had come.
+    pub(crate) fn take(&mut self, step: Step, place: u32) -> Result<(), AllocError>
+        ensures { (past : List Step) → HasMessages past self.old → place ≡ length past
+            → OnOk result (HasMessages (step ∷ past) self.new) }
     {
         match step {
             Step::Send(from, to, message, _) => self.send(Sending {
@@ -66,25 +47,24 @@ impl Messages {
                 to,
                 sent: place,
             }),
-            Step::Recv(_, message, _) => self.receive(message, place, all),
+            Step::Recv(_, message, _) => self.receive(message, place),
             _ => Ok(()),
         }
     }
 
     /// A message is under way.
     fn send(&mut self, sending: Sending) -> Result<(), AllocError>
-        ensures { (all : ℕ) (past : List Step) (g : Generation) → HasMessages all past self.old → sending.sent ≡ length past
-            → OnOk result (HasMessages all (Step.Send sending.from sending.to sending.message g ∷ past) self.new) }
+        ensures { (past : List Step) (g : Generation) → HasMessages past self.old → sending.sent ≡ length past
+            → OnOk result (HasMessages (Step.Send sending.from sending.to sending.message g ∷ past) self.new) }
     {
         self.under_way.push(sending)?;
         Ok(())
     }
 
-    /// A message is received: its arrow ends, and it goes into a ribbon.
-    fn receive(&mut self, message: MessageId, place: u32, all: u32) -> Result<(), AllocError>
-        requires { (past : List Step) × HasMessages all past self.old × (length past < MAX_STEPS) }
-        ensures { (past : List Step) (j : NodeId) (g : Generation) → HasMessages all past self.old → place ≡ length past
-            → OnOk result (HasMessages all (Step.Recv j message g ∷ past) self.new) }
+    /// A message is received: its arrow ends.
+    fn receive(&mut self, message: MessageId, place: u32) -> Result<(), AllocError>
+        ensures { (past : List Step) (j : NodeId) (g : Generation) → HasMessages past self.old → place ≡ length past
+            → OnOk result (HasMessages (Step.Recv j message g ∷ past) self.new) }
     {
         let Some(sending) = take_out(&mut self.under_way, message.0) else {
             return Ok(());
@@ -93,6 +73,6 @@ impl Messages {
             sending,
             received: place,
         })?;
-        widen(&mut self.ribbons, way_of(all, &sending, place))
+        Ok(())
     }
 }

@@ -1,14 +1,16 @@
-ghost use Rattle.std.specs.Prelude.{◌≡◌, ◌++◌, ◌<◌, ◌^◌, OnOk, IfOk};
+ghost use Rattle.std.specs.Prelude.{◌≡◌, ◌++◌, ◌<◌, ◌^◌, OnOk, IfOk, take};
 ghost use Rattle.tp_scene.specs.Page.{head, headline, plural, verdict, lane, ground, grounds, frame, frames, unit_by, unit, tick};
 ghost use Rattle.tp_scene.specs.Page.{tick_where, ticks, axis_line, axis, lanes, messages, tasks, run, waves, svg_of};
-ghost use Rattle.tp_scene.specs.Page.{all_bars, legend, more_style, opening, picture, received, svg_until_of};
+ghost use Rattle.tp_scene.specs.Page.{all_bars, counts, legend, missing, more_style, opening, picture, received, recent, sizes};
+ghost use Rattle.tp_scene.specs.Page.{stop_labels, svg_until_of};
 
 use crate::cuts::push_labels;
 use crate::fault::push_fault;
 use crate::flow::push_hills;
+use crate::labels::{push_end_labels, push_seam_labels};
 use crate::layout::LEFT;
 use crate::pieces::{Area, Part, Point, push_all, push_parts};
-use crate::scene::Scene;
+use crate::scene::{Scene, Sending};
 use std::alloc::{AllocError, Global};
 
 /// How things look, in the light and in the dark.
@@ -55,14 +57,14 @@ pub const STYLE_OF_SUMS: &[u8] = b"<style>
 
 /// What the lines and colours mean, below the headline.
 pub const LEGEND: &[u8] =
-    b"<text x=\"74\" y=\"66\">bar: a task runs \xc2\xb7 tinted lane: something is pending, white: idle</text>
+    b"<text x=\"74\" y=\"66\">bar: a task runs \xc2\xb7 lane: tinted where something is pending at the node</text>
 <text x=\"74\" y=\"82\">arrow: a message \xc2\xb7 line: a wave, through the place where each node gave its sums</text>
 ";
 
 /// What the lines and colours mean, where sums are drawn.
 pub const LEGEND_OF_SUMS: &[u8] =
-    b"<text x=\"74\" y=\"66\">height: how many tasks run \xc2\xb7 tinted lane: something is pending, white: idle</text>
-<text x=\"74\" y=\"82\">ribbon: messages, wider the more \xc2\xb7 line: a wave, through the place where each node gave its sums</text>
+    b"<text x=\"74\" y=\"66\">height: how many tasks run \xc2\xb7 lane: tinted where something is pending at the node</text>
+<text x=\"74\" y=\"82\">ribbon: messages, wider the more \xc2\xb7 line: one of the last 50 waves, where each node gave its sums</text>
 ";
 
 /// How sums look, where they are drawn.
@@ -128,10 +130,10 @@ fn plural(count: u64) -> &'static [u8]
     if count == 1 { b"" } else { b"s" }
 }
 
-/// What the run came to: the four counts.
-#[tactic(auto, unfolding(crate::specs::Page::headline))]
-fn push_headline(out: &mut Vec<u8>, scene: &Scene) -> Result<(), AllocError>
-    ensures { OnOk result (out.new.items ≡ out.old.items ++ headline scene.now) }
+/// How many tasks were done, and how many messages received.
+#[tactic(auto, unfolding(crate::specs::Page::counts))]
+fn push_counts(out: &mut Vec<u8>, scene: &Scene) -> Result<(), AllocError>
+    ensures { OnOk result (out.new.items ≡ out.old.items ++ counts scene.now) }
 {
     let tasks = scene.bars.len() as u64;
     let messages = scene.arrows.len() as u64;
@@ -146,6 +148,37 @@ fn push_headline(out: &mut Vec<u8>, scene: &Scene) -> Result<(), AllocError>
             Part::Number(messages),
             Part::Text(b" message"),
             Part::Text(plural(messages)),
+        ],
+    )
+}
+
+/// How many messages were not received, where there are some.
+#[tactic(auto, unfolding(crate::specs::Page::missing))]
+fn push_missing(out: &mut Vec<u8>, scene: &Scene) -> Result<(), AllocError>
+    ensures { OnOk result (out.new.items ≡ out.old.items ++ missing scene.now) }
+{
+    let messages = scene.under_way.len() as u64;
+    if messages == 0 {
+        return Ok(());
+    }
+    push_parts(
+        out,
+        &[
+            Part::Text(b" and "),
+            Part::Number(messages),
+            Part::Text(b" not received"),
+        ],
+    )
+}
+
+/// How many nodes there are, and how many events.
+#[tactic(auto, unfolding(crate::specs::Page::sizes))]
+fn push_sizes(out: &mut Vec<u8>, scene: &Scene) -> Result<(), AllocError>
+    ensures { OnOk result (out.new.items ≡ out.old.items ++ sizes scene.now) }
+{
+    push_parts(
+        out,
+        &[
             Part::Text(b", "),
             Part::Number(scene.nodes as u64),
             Part::Text(b" node"),
@@ -157,6 +190,16 @@ fn push_headline(out: &mut Vec<u8>, scene: &Scene) -> Result<(), AllocError>
             Part::Text(b"</text>\n"),
         ],
     )
+}
+
+/// What the run came to.
+#[tactic(auto, unfolding(crate::specs::Page::headline))]
+fn push_headline(out: &mut Vec<u8>, scene: &Scene) -> Result<(), AllocError>
+    ensures { OnOk result (out.new.items ≡ out.old.items ++ headline scene.now) }
+{
+    push_counts(out, scene)?;
+    push_missing(out, scene)?;
+    push_sizes(out, scene)
 }
 
 /// Whether it was judged that the pool had ended.
@@ -393,13 +436,23 @@ fn push_received(out: &mut Vec<u8>, scene: &Scene) -> Result<(), AllocError>
     push_all(out, scene, &scene.arrows)
 }
 
-/// The messages that were received, and those that were not.
+/// The first 100 messages of a list.
+fn oldest(sent: &[Sending]) -> &[Sending]
+    ensures { result.now ≡ take 100 sent.now }
+{
+    if sent.len() <= 100 {
+        return sent;
+    }
+    &sent[..100]
+}
+
+/// The messages that were received, and the first of those that were not.
 #[tactic(auto, unfolding(crate::specs::Page::messages))]
 fn push_messages(out: &mut Vec<u8>, scene: &Scene) -> Result<(), AllocError>
     ensures { OnOk result (out.new.items ≡ out.old.items ++ messages scene.now) }
 {
     push_received(out, scene)?;
-    push_all(out, scene, &scene.under_way)
+    push_all(out, scene, oldest(&scene.under_way))
 }
 
 /// The tasks that were done, and those that were not.
@@ -431,15 +484,35 @@ fn push_run(out: &mut Vec<u8>, scene: &Scene) -> Result<(), AllocError>
     push_tasks(out, scene)
 }
 
+/// Of a list the last 50 things, where sums are drawn.
+fn recent<'a, M>(scene: &Scene, marks: &'a [M]) -> &'a [M]
+    ensures { result.now ≡ recent scene.now marks.now }
+{
+    if scene.detail().is_summed() {
+        return &marks[marks.len().saturating_sub(50)..];
+    }
+    marks
+}
+
 /// The waves, the ends and the generations.
 #[tactic(auto, unfolding(crate::specs::Page::waves))]
 fn push_waves(out: &mut Vec<u8>, scene: &Scene) -> Result<(), AllocError>
     ensures { OnOk result (out.new.items ≡ out.old.items ++ waves scene.now) }
 {
-    push_all(out, scene, &scene.ends)?;
-    push_all(out, scene, &scene.cuts)?;
-    push_labels(out, scene)?;
-    push_all(out, scene, &scene.seams)
+    let cuts = recent(scene, &scene.cuts);
+    push_all(out, scene, recent(scene, &scene.ends))?;
+    push_all(out, scene, cuts)?;
+    push_labels(out, scene, cuts)?;
+    push_all(out, scene, recent(scene, &scene.seams))
+}
+
+/// The labels of the ends and of the generations.
+#[tactic(auto, unfolding(crate::specs::Page::stop_labels))]
+fn push_stop_labels(out: &mut Vec<u8>, scene: &Scene) -> Result<(), AllocError>
+    ensures { OnOk result (out.new.items ≡ out.old.items ++ stop_labels scene.now) }
+{
+    push_end_labels(out, scene, recent(scene, &scene.ends))?;
+    push_seam_labels(out, scene, recent(scene, &scene.seams))
 }
 
 /// All that is drawn of a scene.
@@ -453,6 +526,7 @@ fn push_picture(out: &mut Vec<u8>, scene: &Scene) -> Result<(), AllocError>
     out.extend_from_slice(legend(scene))?;
     push_run(out, scene)?;
     push_waves(out, scene)?;
+    push_stop_labels(out, scene)?;
     push_axis(out, scene)
 }
 

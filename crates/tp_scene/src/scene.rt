@@ -62,8 +62,8 @@ pub struct Seam {
     pub at: u32,
 }
 
-/// The way of a message on a page of 63 bands, which share out the events: the node and the band in which it was sent, and those in
-/// which it was received.
+/// The way of a message on a page of bands, which share out the events: the node and the band in which it was sent, and those in which
+/// it was received.
 #[derive(Clone, Copy, Debug, PartialEq, Eq)]
 pub struct Way {
     pub from: NodeId,
@@ -97,6 +97,8 @@ pub struct Scene {
     /// How many tasks of each of eight nodes run, added up over the events of each of 1,500 columns: that of node i and column c
     /// stands at 1,500 i + c.
     pub loads: Vec<u64>,
+    /// How many of the 1,500 columns a band has: 24, 48 and so on up to 1,536, as few as come to at most 600 ribbons.
+    pub band: u32,
     /// The messages that were received, counted by their ways.
     pub ribbons: Vec<Ribbon>,
     /// The waves that ended.

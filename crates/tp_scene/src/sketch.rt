@@ -8,6 +8,7 @@ ghost use Rattle.tp_scene.specs.Scene.{IsSceneOf, IsRefused, IsRefusedAfter};
 use crate::columns::{Loads, column};
 use crate::lanes::Lanes;
 use crate::messages::Messages;
+use crate::ribbons::{Bands, ribbons_of};
 use crate::scene::Scene;
 use crate::tracks::Tracks;
 use crate::waves::Waves;
@@ -59,17 +60,17 @@ impl Sketch {
     {
         let reply = self.core.step(step)?;
         self.tracks.take(step, place)?;
-        self.messages.take(step, place, self.all)?;
+        self.messages.take(step, place)?;
         self.waves.take(step, reply, place)?;
         self.lanes.take(&self.core.numbers().nodes, place)?;
         self.loads
-            .take(&self.tracks.running, column(self.all, place));
+            .take(&self.tracks.counts, column(self.all, place));
         Ok(())
     }
 
     /// What is drawn of all steps.
-    fn finish(self, events: u32) -> Result<Scene, AllocError>
-        requires { (n : ℕ) × (past : List Step) × Follows n past self }
+    fn finish(self, alloc: Global, events: u32) -> Result<Scene, AllocError>
+        requires { (n : ℕ) × (past : List Step) × Follows n past self × (length past ≤ MAX_STEPS) }
         ensures { (n : ℕ) (past : List Step) → Follows n past self → events ≡ length past → self.all ≡ events
             → IfOk result (IsSceneOf n past) }
     {
@@ -86,14 +87,11 @@ impl Sketch {
         let Tracks {
             homes: _,
             rows,
+            counts: _,
             running,
             bars,
         } = tracks;
-        let Messages {
-            under_way,
-            arrows,
-            ribbons,
-        } = messages;
+        let Messages { under_way, arrows } = messages;
         let Waves {
             gives: _,
             cuts,
@@ -102,6 +100,7 @@ impl Sketch {
             ended,
         } = waves;
         let Loads { columns } = loads;
+        let Bands { wide, ribbons } = ribbons_of(alloc, events, &arrows)?;
         let pauses = lanes.finish(events)?;
         Ok(Scene {
             nodes,
@@ -112,6 +111,7 @@ impl Sketch {
             arrows,
             under_way,
             loads: columns,
+            band: wide,
             ribbons,
             cuts,
             pauses,
@@ -142,5 +142,5 @@ pub fn scene_of(alloc: Global, nodes: u32, steps: &[Step]) -> Result<Scene, Refu
             Err(refusal) => return Err(refusal),
         }
     }
-    Ok(sketch.finish(place)?)
+    Ok(sketch.finish(alloc, place)?)
 }

@@ -25,6 +25,8 @@ pub(crate) struct Tracks {
     // the home of each task of the present generation
     pub(crate) homes: Table<NodeId>,
     pub(crate) rows: [u32; 8],
+    // how many tasks run at each node
+    pub(crate) counts: [u32; 8],
     pub(crate) running: Vec<Running>,
     pub(crate) bars: Vec<Bar>,
 }
@@ -37,6 +39,7 @@ impl Tracks {
         Tracks {
             homes: Table::new(alloc),
             rows: [0; 8],
+            counts: [0; 8],
             running: Vec::new(alloc),
             bars: Vec::new(alloc),
         }
@@ -70,6 +73,8 @@ impl Tracks {
         let track = free_track(&self.running, node, place);
         let rows = place_of(&self.rows, node.0).max(track + 1);
         put(&mut self.rows, node.0, rows);
+        let count = place_of(&self.counts, node.0).min(place) + 1;
+        put(&mut self.counts, node.0, count);
         self.running.push(Running {
             task,
             node,
@@ -87,6 +92,8 @@ impl Tracks {
         let Some(run) = take_out(&mut self.running, task.0) else {
             return Ok(());
         };
+        let count = place_of(&self.counts, run.node.0).saturating_sub(1);
+        put(&mut self.counts, run.node.0, count);
         self.bars.push(Bar { run, to: place })?;
         Ok(())
     }

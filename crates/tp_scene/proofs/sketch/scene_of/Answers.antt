@@ -37,7 +37,7 @@ pub finish-requires : goal.finish-requires
 finish-requires c =
     let all = follows_all c.args.nodes c.args.steps.now c.loop-step.step-index c.loop-step.place _ c.loop-step.sketch (omega arith)
     (omega arith) c.min-all.ensures c.loop-step.invariant in
-    (c.args.nodes, reverse c.args.steps.now, all.follows)
+    (c.args.nodes, reverse c.args.steps.now, all.follows, all.few)
 
 pub returns-clause-ok : goal.returns-clause-ok
 returns-clause-ok c =

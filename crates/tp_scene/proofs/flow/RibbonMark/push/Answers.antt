@@ -3,4 +3,4 @@ use Rattle.tp_scene.proofs.flow.RibbonMark.push.Goals as goal
 
 pub returns : goal.returns
 unfolding ribbon_text
-returns c = rw (c.ends_of-start.ensures.value, c.middle_of_band.ensures, c.middle_of_band-2.ensures) at c.push_curve.ensures
+returns c = rw (c.ends_of-start.ensures.value, c.in_band.ensures, c.in_band-2.ensures) at c.push_curve.ensures

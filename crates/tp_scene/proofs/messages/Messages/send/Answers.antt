@@ -3,4 +3,4 @@ use Rattle.tp_scene.proofs.Followed.{messages_sent}
 use Rattle.tp_scene.proofs.messages.Messages.send.Goals as goal
 
 pub returns : goal.returns
-returns c = λ all past g h at. messages_sent all past c.args.sending g c.args.self.now _ h at c.in_ok-push.ensures.items refl refl
+returns c = λ past g h at. messages_sent past c.args.sending g c.args.self.now _ h at c.in_ok-push.ensures.items refl

@@ -16,8 +16,24 @@ returns-clause-follows c = λ n past h at.
       lanes = c.in_ok-take-4.ensures n past c.args.step h.lanes at
           (numbered n (c.args.step ∷ past) c.step.new.self c.numbers.result.nodes core c.numbers.ensures.nodes);
       loads = c.take-5.ensures n c.args.self.now.all past c.args.step h.loads (c.column.ensures.value ∙ ap (column c.args.self.now.all) at)
-          (c.deref.ensures.value ∙ (c.in_ok-take.ensures n past h.tracks at).running);
+          (c.in_ok-take.ensures n past h.tracks at).counts;
     }
 
 pub returns-clause-came : goal.returns-clause-came
 returns-clause-came c = λ n past h. came n past c.args.step c.args.self.now.core h.core c.in_ok-reply.ensures.answers.0
+
+pub take-requires-5 : goal.take-requires-5
+take-requires-5 c =
+    let n = c.requires.0 in
+    let past = c.requires.1 in
+    let h = c.requires.2 in
+    let at = c.requires.3 in (
+      n,
+      c.args.self.now.all,
+      past,
+      c.args.step,
+      h.loads,
+      c.column.ensures.value ∙ ap (column c.args.self.now.all) at,
+      (c.in_ok-take.ensures n past h.tracks at).counts,
+      (came n past c.args.step c.args.self.now.core h.core c.in_ok-reply.ensures.answers.0).1,
+    )
