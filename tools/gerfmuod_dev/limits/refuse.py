@@ -2,8 +2,8 @@
 
 Each program runs again and again, with its first growth refused, then the second, until there is none left; and then
 with all growths from there on refused. Each time it has to give its whole answer, or else `refused 17 NoMemory`, of
-`heat`, `product` and `relax` `there is no memory`, on standard error, nothing on standard output, and status 3; of `pools` it
-may be a line for each pool. Prints for each command how many growths it had, and how many runs were refused. The last
+`heat`, `product`, `relax` and `patterns` `there is no memory`, on standard error, nothing on standard output, and status 3; of
+`pools` it may be a line for each pool. Prints for each command how many growths it had, and how many runs were refused. The last
 line is `N passed, M failed`; the status is 1 where one failed, or where a command was never refused. It needs a C
 compiler.
 """
@@ -13,6 +13,9 @@ from typing import NamedTuple
 
 from .. import running
 from .want_of_memory import OF_THE_OTHERS, OF_TP, is_refused, is_whole
+
+
+PROGRAMS = ("tp", "heat", "product", "relax", "draw", "patterns")
 
 
 class Command(NamedTuple):
@@ -113,13 +116,28 @@ def commands_of_the_others(heat, product, relax, folder):
     yield Command("relax --help", [relax, "--help"], complaint=OF_THE_OTHERS)
 
 
+def commands_of_draw(draw, folder):
+    trace = running.write(f"{folder}/drawn", ["trace 1", "nodes 8", *list(steps())[:80]])
+    yield Command("draw run", [draw, "run"], trace)
+    yield Command("draw graph wavefront:6:5:0", [draw, "graph", "wavefront:6:5:0", "--nodes", "3"])
+    yield Command("draw graph product:4:2:0 --dot", [draw, "graph", "product:4:2:0", "--dot"])
+    yield Command("draw --help", [draw, "--help"])
+
+
+def commands_of_patterns(patterns):
+    two_by_two = ["--nodes", "2", "--workers", "2"]
+    yield Command("patterns stencil 4 3 1, one node", [patterns, "stencil", "4", "3", "1"], complaint=OF_THE_OTHERS)
+    yield Command("patterns fft 8 4 1, two nodes by two workers", [patterns, "fft", "8", "4", "1", *two_by_two], complaint=OF_THE_OTHERS)
+    yield Command("patterns --help", [patterns, "--help"], complaint=OF_THE_OTHERS)
+
+
 def arguments(parser):
-    for name in ("tp", "heat", "product", "relax"):
+    for name in PROGRAMS:
         running.program_argument(parser, name)
 
 
 def run(words):
-    running.want(words.tp, words.heat, words.product, words.relax)
+    running.want(*(getattr(words, it) for it in PROGRAMS))
     tally = running.Tally()
     with tempfile.TemporaryDirectory() as folder:
         library = running.library("refuse", folder)
@@ -129,5 +147,7 @@ def run(words):
         for command in commands_of_tp(words.tp, folder):
             try_command(tally, refusing, command)
         for command in commands_of_the_others(words.heat, words.product, words.relax, folder):
+            try_command(tally, refusing, command)
+        for command in (*commands_of_draw(words.draw, folder), *commands_of_patterns(words.patterns)):
             try_command(tally, refusing, command)
     return tally.end()
