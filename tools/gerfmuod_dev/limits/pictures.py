@@ -3,8 +3,8 @@
 The traces have a million lines, or as many as are asked for, and are made here: all kinds of steps over eight nodes, each
 node sending to each; waves without work; messages that are never received; pools reopened again and again; messages
 that are on their way for long; nodes that rest in turn. Draws each with `bin/draw run`, reads the picture with a parser of XML,
-and prints its bytes, and the instructions of `draw run` as a multiple of those of `tp audit`, by `valgrind
---tool=cachegrind`. The status is 1 where a picture is no XML or has more than 250,000 bytes, or where the trace of all
+and prints its bytes and seconds, and of the first trace the instructions of `draw run` as a multiple of those of `tp audit`,
+by `valgrind --tool=cachegrind`. The status is 1 where a picture is no XML or has more than 250,000 bytes, or where the trace of all
 kinds of steps takes more than twice the instructions.
 """
 import heapq
@@ -12,6 +12,7 @@ import io
 import random
 import subprocess
 import tempfile
+import time
 import xml.etree.ElementTree
 
 from .. import running
@@ -121,11 +122,13 @@ def arguments(parser):
 
 
 def drawn(draw, lines):
-    """The bytes of a picture, which a parser has read."""
+    """The bytes of a picture, which a parser has read, and the seconds that it took."""
     text = "".join(f"{it}\n" for it in lines)
+    began = time.time()
     ran = subprocess.run([draw, "run"], input=text, capture_output=True, text=True, check=True)
+    took = time.time() - began
     xml.etree.ElementTree.fromstring(ran.stdout)
-    return len(ran.stdout.encode())
+    return len(ran.stdout.encode()), took
 
 
 def run(words):
@@ -134,13 +137,14 @@ def run(words):
     with tempfile.TemporaryDirectory() as folder:
         for name, made in KINDS.items():
             lines = made(words.lines)
-            size = drawn(words.draw, lines)
-            told, times = f"{name}, {len(lines):,} lines: {size:,} bytes", 0
-            if not words.bytes_alone:
+            size, took = drawn(words.draw, lines)
+            told, times = f"{name}, {len(lines):,} lines: {size:,} bytes, {took:.1f} s", 0
+            # (counting takes fifty times as long)
+            if made is all_steps and not words.bytes_alone:
                 text = [f"{it}\n" for it in lines]
                 of_draw, of_audit = (instructions(*it, text, folder) for it in ((words.draw, "run"), (words.tp, "audit")))
                 times = of_draw / of_audit
                 told += f"; {of_draw / len(lines):,.0f} instructions a line, {times:.2f} times `tp audit`"
             print(told, flush=True)
-            is_well = is_well and size <= MOST_BYTES and (made is not all_steps or times <= 2)
+            is_well = is_well and size <= MOST_BYTES and times <= 2
     return 0 if is_well else 1
