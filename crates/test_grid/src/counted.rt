@@ -42,7 +42,14 @@ fn each_block_after_a_step_is_counted_once(rt: HostRuntime) -> Result<(), Fail> 
         Some(&progress),
     );
     assert!(rt; made.is_ok());
-    assert_eq!(rt; progress.plan(), Plan { tasks: 3, steps: 7, part: 52_631 });
+    assert_eq!(rt;
+        progress.plan(),
+        Plan {
+            tasks: 3,
+            steps: 7,
+            part: 52_631
+        }
+    );
     assert_eq!(rt; progress.done(), 21);
     Ok(())
 }
@@ -64,7 +71,14 @@ fn each_task_is_counted_once_while_a_terminal_is_told(rt: HostRuntime) -> Result
         run_pool_counted(rt, alloc, heat, Config::new(2, 2), Some(counts)).is_ok()
     });
     assert!(rt; is_made);
-    assert_eq!(rt; progress.plan(), Plan { tasks: 24, steps: 1, part: 1 });
+    assert_eq!(rt;
+        progress.plan(),
+        Plan {
+            tasks: 24,
+            steps: 1,
+            part: 1
+        }
+    );
     assert_eq!(rt; progress.done(), 24);
     Ok(())
 }

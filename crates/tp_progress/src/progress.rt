@@ -81,9 +81,11 @@ impl Progress {
 
     /// What the run has to do: nothing where it has not been said.
     pub fn plan(&self) -> Plan {
+        // What is said last is read first, so that no half of it is taken for the whole.
+        let steps = self.steps.load(Ordering::SeqCst);
         Plan {
             tasks: self.tasks.load(Ordering::SeqCst),
-            steps: self.steps.load(Ordering::SeqCst),
+            steps,
             part: self.part.load(Ordering::SeqCst),
         }
     }
