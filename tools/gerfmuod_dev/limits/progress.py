@@ -159,7 +159,7 @@ def run(words):
         try_endless(tally, Case(words.relax, ["1000000000000", "4"], grid))
         lines = try_ending(tally, Case(words.heat, ["20000", "50", *several], rod))
         lines += try_ending(tally, Case(words.relax, ["10000", "4", *several], grid))
-        lines += try_ending(tally, Case(words.product, ["7", *several], matrices))
+        lines += try_ending(tally, Case(words.product, ["10", *several], matrices))
         print(f"{lines} lines were told by runs that ended", flush=True)
         try_typed(tally, Case(words.heat, ["1", "2"], small_rod), "the rod", "one whole number a line: heat STEPS BLOCK")
         try_typed(tally, Case(words.relax, ["2", "1"], small_grid), "the grid", "one row a line: relax STEPS ROWS_A_BLOCK")
