@@ -6,7 +6,8 @@ status 2.
 import argparse
 
 from . import bench, build, capi, demo, docs, drawn, gate_times, lanes, library, limits, new_pool, soak, tries, wrong
-from .limits import cuts, generations, hostile_numbers, memory, pictures, random_texts, refuse, refuse_tests, stacks, strange
+from .limits import cuts, generations, hostile_numbers, memory, pictures, random_texts, refuse, refuse_tests, stacks
+from .limits import strange, terminal
 
 COMMANDS = {
     "build": build,
@@ -32,6 +33,7 @@ LIMITS = {
     "generations": generations,
     "pictures": pictures,
     "strange": strange,
+    "terminal": terminal,
     "cuts": cuts,
     "random": random_texts,
 }

@@ -1,13 +1,14 @@
 -- The command line of `relax` as plain data, and what its words ask for.
 use Rattle.std.specs.Prelude.{ℕ, ◌≤◌, ◌<◌, ◌^◌, ◌⊎◌, List, codes}
 use Rattle.clap.specs.Words.{App, Row, Text, matches_of, new_app, with_rule}
-use Rattle.pool_cli.specs.Command.{IsNumberOf, LacksNumber, size_rule, steps_rule}
+use Rattle.pool_cli.specs.Command.{IsNumberOf, IsQuietIn, LacksNumber, size_rule, steps_rule, with_quiet_rule}
 use Rattle.pool_cli.specs.declared.relax_request.RelaxRequest.{RelaxRequest}
 use Rattle.tp_shell.specs.Command.{AreCountsIn, with_count_rules, with_version}
 
 -- the command line
 abbrev pub relax_app : App
-relax_app = with_count_rules (with_rule (with_rule (with_version (new_app (codes "relax"))) steps_rule) (size_rule (codes "ROWS_A_BLOCK")))
+relax_app = with_quiet_rule (with_count_rules
+    (with_rule (with_rule (with_version (new_app (codes "relax"))) steps_rule) (size_rule (codes "ROWS_A_BLOCK"))))
 
 -- ---- what was found for the arguments
 
@@ -29,7 +30,9 @@ LackGridSteps rows = LacksNumber 64 (codes "STEPS") rows ⊎ LacksSize 32 (codes
 abbrev pub AreGridStepsIn : List Row → ℕ → ℕ → Type 0
 AreGridStepsIn rows steps block = IsNumberOf (codes "STEPS") rows steps × IsBlockIn rows block
 
--- a grid after so many steps, worked out in blocks of so many rows, at so many nodes with so many workers
+-- a grid after so many steps, worked out in blocks of so many rows, at so many nodes with so many workers; and whether a terminal
+-- is to be told nothing
 abbrev pub AsksForGrid : List Text → RelaxRequest → Type 0
 AsksForGrid words request = AreGridStepsIn (matches_of relax_app words) request.steps request.rows
     × AreCountsIn (matches_of relax_app words) request.config.nodes request.config.workers
+    × IsQuietIn (matches_of relax_app words) request.quiet

@@ -57,6 +57,7 @@ relax_program = record {
   lacks = LackGridSteps;
   asks = AsksForGrid;
   allows = λ request. IsWithinLimits request.config × (1 ≤ request.rows);
+  quiet = λ request. request.quiet;
   spells = IsSpeltGrid;
   misspells = IsBadGrid;
   suits = IsTaken;

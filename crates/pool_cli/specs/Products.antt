@@ -45,6 +45,7 @@ product_program = record {
   lacks = LackSide;
   asks = AsksForProduct;
   allows = λ request. IsWithinLimits request.config;
+  quiet = λ request. request.quiet;
   spells = AreSpelt;
   misspells = AreBadRows;
   suits = AreFilled;

@@ -1,6 +1,6 @@
 -- What a program over lent data is, and how it ends: of the words, of what was read, and of what was written. The reader and the
 -- writer are seen by the bytes that they had before and have now.
-use Rattle.std.specs.Prelude.{ℕ, ◌≡◌, ◌⊎◌, List, Option, IsUtf8}
+use Rattle.std.specs.Prelude.{ℕ, ◌≡◌, ◌⊎◌, Bool, List, Option, IsUtf8}
 use Rattle.std.specs.Io.KnownBytes.{Appends}
 use Rattle.clap.specs.Words.{App, Row, Text, matches_of}
 use Rattle.pool_cli.specs.declared.fault.Fault.{Fault}
@@ -22,6 +22,8 @@ pub record About (Request Data : Type 0) : Type 1 where
   pub asks : List Text → Request → Type 0
   -- it may be asked for
   pub allows : Request → Type 0
+  -- it wants a terminal to be told nothing but the answer and faults
+  pub quiet : Request → Bool
   -- the text spells these data
   pub spells : List ℕ → Data → Type 0
   -- or, by this fault, none
@@ -82,6 +84,17 @@ module _ {Request Data : Type 0} (a : About Request Data) where
   abbrev pub CouldNotWrite : List Text → (List ℕ → Type 0) → Type 0 → Fault → Type 0
   CouldNotWrite words Reads Unread fault = ((fault ≡ faults.Words wording.Write) × AsksToBeShown a.app words × Unread)
       ⊎ ((request : Request) × a.asks words request × IsUnwritten request Reads fault)
+
+  -- What the words ask for was written and nothing else: what is made of all that was read; or help or the version, and nothing
+  -- was read.
+  abbrev pub HasAnswered : List Text → (List ℕ → Type 0) → Type 0 → Option (List ℕ) → Option (List ℕ) → Type 0
+  HasAnswered words Reads Unread written_old written_new = HasPrinted words Reads written_old written_new
+      ⊎ (HasShownAsked words written_old written_new × Unread)
+
+  -- By this fault not all was written of what was made; or nothing was made, and nothing was written.
+  abbrev pub HasFailed : List Text → (List ℕ → Type 0) → (ReadFault → Type 0) → Type 0 → Type 0 → Fault → Type 0
+  HasFailed words Reads Fails Unread Unwritten fault =
+      CouldNotWrite words Reads Unread fault ⊎ (Unwritten × HasNothing words Reads Fails Unread fault)
 
   -- The words make a request.
   abbrev pub AsksForSome : List Text → Type 0

@@ -48,6 +48,7 @@ heat_program = record {
   lacks = LackSteps;
   asks = AsksForHeat;
   allows = λ request. IsWithinLimits request.config;
+  quiet = λ request. request.quiet;
   spells = λ bytes cells. AreLines bytes cells.numbers.items;
   misspells = AreBadLines;
   suits = AreSuited;

@@ -2,8 +2,9 @@ ghost use Rattle.std.specs.Prelude.{◌≡◌, ◌≤◌, ◌⊎◌, MatchResult
 ghost use Rattle.pool_cells.specs.Texts.{AreLines, lines_of};
 ghost use Rattle.pool_rod.specs.Heats.{evolve};
 ghost use Rattle.pool_cli.specs.Faults.{complaint, status_of};
-ghost use Rattle.pool_cli.specs.Programs.{AsksForSome, CouldNotWrite, HasNothing, HasPrinted, HasShownAsked};
+ghost use Rattle.pool_cli.specs.Programs.{AsksForSome, HasAnswered, HasFailed};
 ghost use Rattle.pool_cli.specs.Rods.{AreBadLines, AreSuited, AreUnsuited, IsWithoutRod, heat_program};
+ghost use Rattle.pool_runs.specs.Faults.{IsPartFault};
 ghost use Rattle.tp_shell.specs.Statuses.{code_of};
 ghost use Rattle.tp_work.specs.Outcomes.{IsWithinLimits};
 
@@ -11,13 +12,16 @@ use crate::fault::Fault;
 use crate::program::{Program, program_with};
 use crate::request::{Request, requested};
 use clap::Error;
+use pool_block_runs::{LentFault, steps_at_once};
 use pool_cells::{numbers_of, text_of};
-use pool_runs::{run_heat_in_parts, steps_at_once};
+use pool_rod::ThreePoints;
 use std::alloc::Global;
-use std::io::Write;
+use std::io::{Sink, Write};
 use std::sync::Wait;
 use std::thread::Threads;
+use tp_progress::{Progress, Screen, run_in_parts_counted};
 use tp_shell::{Diagnostics, Source};
+use tp_work::Config;
 
 /// Runs the program `heat` on the words of its command line, its own name first, and answers the exit status: 0 where the rod
 /// is printed, or help or the version was asked for; 1 where the words, the reading or the writing are at fault; 2 where the
@@ -33,22 +37,45 @@ pub fn heat_with<R: Threads + Wait + Sync, I: Source, O: Write, E: Diagnostics>(
     ensures range { result ≤ 3 }
     // 0: the rod that the words ask for was printed and nothing else; or help or the version was shown, and nothing was
     // read. Nothing is complained of.
-    ensures succeeded { result ≡ 0 → (err.new ≡ err.old)
-        × (HasPrinted heat_program (map (λ w. w.now) words.now) (λ bytes. I.gives reader.old bytes reader.new)
-        (O.contents out.old) (O.contents out.new)
-        ⊎ (HasShownAsked heat_program (map (λ w. w.now) words.now) (O.contents out.old) (O.contents out.new) × (reader.new ≡ reader.old))) }
+    ensures succeeded { result ≡ 0 → (err.new ≡ err.old) × HasAnswered heat_program (map (λ w. w.now) words.now)
+        (λ bytes. I.gives reader.old bytes reader.new) (reader.new ≡ reader.old) (O.contents out.old) (O.contents out.new) }
     // Else one fault was met: the status is its own, and it is complained of by its own line and by nothing else. The writing
     // failed, of what was made in full; or nothing was written, for a fault of the words, by which nothing was read, of the
     // reading, of all that was read, or of the run.
     ensures complained { 1 ≤ result → (fault : Fault) × (result ≡ code_of (status_of fault)) × E.tells err.old (complaint fault) err.new
-        × (CouldNotWrite heat_program (map (λ w. w.now) words.now) (λ bytes. I.gives reader.old bytes reader.new)
-        (reader.new ≡ reader.old) fault
-        ⊎ ((out.new ≡ out.old) × HasNothing heat_program (map (λ w. w.now) words.now)
-        (λ bytes. I.gives reader.old bytes reader.new) (λ read. I.fails reader.old read reader.new) (reader.new ≡ reader.old) fault)) }
+        × HasFailed heat_program (map (λ w. w.now) words.now) (λ bytes. I.gives reader.old bytes reader.new)
+        (λ read. I.fails reader.old read reader.new) (reader.new ≡ reader.old) (out.new ≡ out.old) fault }
     // Only for a rod is the input read.
     ensures unread { AsksForSome heat_program (map (λ w. w.now) words.now) ⊎ (reader.new ≡ reader.old) }
 {
-    program_with::<Request, R, I, O, E>(rt, alloc, words, reader, out, err)
+    program_with::<Request, R, I, O, E, Sink>(rt, alloc, words, reader, out, err, None)
+}
+
+/// The same as [`heat_with`]. A screen is told what is read, and how far the run is: of that nothing is claimed.
+pub fn heat_watched<
+    R: Threads + Wait + Sync,
+    I: Source,
+    O: Write,
+    E: Diagnostics,
+    W: Write + Send + Drop,
+>(
+    rt: &R,
+    alloc: Global,
+    words: &[&str],
+    reader: &mut I,
+    out: &mut O,
+    err: &mut E,
+    screen: Option<Screen<W>>,
+) -> u8
+    ensures range { result ≤ 3 }
+    ensures succeeded { result ≡ 0 → (err.new ≡ err.old) × HasAnswered heat_program (map (λ w. w.now) words.now)
+        (λ bytes. I.gives reader.old bytes reader.new) (reader.new ≡ reader.old) (O.contents out.old) (O.contents out.new) }
+    ensures complained { 1 ≤ result → (fault : Fault) × (result ≡ code_of (status_of fault)) × E.tells err.old (complaint fault) err.new
+        × HasFailed heat_program (map (λ w. w.now) words.now) (λ bytes. I.gives reader.old bytes reader.new)
+        (λ read. I.fails reader.old read reader.new) (reader.new ≡ reader.old) (out.new ≡ out.old) fault }
+    ensures unread { AsksForSome heat_program (map (λ w. w.now) words.now) ⊎ (reader.new ≡ reader.old) }
+{
+    program_with::<Request, R, I, O, E, W>(rt, alloc, words, reader, out, err, screen)
 }
 
 /// The cells of a rod, as the lines of a text spell them.
@@ -66,6 +93,14 @@ impl Program for Request {
         requested(alloc, words)
     }
 
+    fn is_quiet(self) -> bool {
+        self.quiet
+    }
+
+    fn invitation() -> &'static str {
+        "Reading the rod from standard input up to Ctrl-D, one whole number a line: heat STEPS BLOCK < FILE\n"
+    }
+
     fn load(alloc: Global, input: &str) -> Result<Cells, Fault> {
         cells_of(alloc, input)
     }
@@ -79,8 +114,9 @@ impl Program for Request {
         rt: &R,
         alloc: Global,
         cells: Cells,
+        progress: Option<&Progress>,
     ) -> Result<Vec<u8>, Fault> {
-        text_after(rt, alloc, self, cells)
+        text_after(rt, alloc, self, cells, progress)
     }
 }
 
@@ -114,6 +150,7 @@ fn text_after<R: Threads + Wait + Sync>(
     alloc: Global,
     request: Request,
     cells: Cells,
+    progress: Option<&Progress>,
 ) -> Result<Vec<u8>, Fault>
     requires { IsWithinLimits request.config }
     ensures { MatchResult result
@@ -123,10 +160,29 @@ fn text_after<R: Threads + Wait + Sync>(
         steps,
         block,
         config,
+        quiet: _,
     } = request;
-    let rod = match run_heat_in_parts(rt, alloc, cells.numbers, block, steps, config) {
+    let rod = match heat_counted(rt, alloc, cells.numbers, block, steps, config, progress) {
         Ok(rod) => rod,
         Err(fault) => return Err(Fault::Rod(fault)),
     };
     text_of(alloc, &rod).map_err(|_| Fault::Memory)
+}
+
+/// [`run_heat_in_parts`](pool_runs::run_heat_in_parts), with its tasks counted.
+fn heat_counted<R: Threads + Wait + Sync>(
+    rt: &R,
+    alloc: Global,
+    cells: Vec<i64>,
+    size: u32,
+    steps: u64,
+    config: Config,
+    progress: Option<&Progress>,
+) -> Result<Vec<i64>, LentFault>
+    requires { IsWithinLimits config }
+    ensures { MatchResult result
+        (λ rod. rod.items ≡ evolve steps cells.items)
+        (IsPartFault config.nodes config.workers cells.items size steps) }
+{
+    run_in_parts_counted(rt, alloc, ThreePoints, cells, size, steps, config, progress)
 }

@@ -2,10 +2,11 @@ ghost use Rattle.std.specs.Prelude.{◌≡◌, IfErr, IfOk, MatchOption, ⊤, ma
 ghost use Rattle.clap.specs.Values.{kind_of};
 ghost use Rattle.clap.specs.Words.{app_of, found_of, matches_of, rows_of};
 ghost use Rattle.clap.specs.declared.error.kind.ErrorKind.TheVariants.{MissingRequiredArgument};
-ghost use Rattle.pool_cli.specs.Command.{AsksForProduct, IsSideIn, LackSide, product_app};
+ghost use Rattle.pool_cli.specs.Command.{AsksForProduct, IsQuietIn, IsSideIn, LackSide, product_app};
 ghost use Rattle.tp_shell.specs.Command.{AreCountsIn, FailsAs};
 ghost use Rattle.tp_work.specs.Outcomes.{IsWithinLimits};
 
+use crate::quiet::{is_quiet, with_quiet};
 use clap::error::ErrorKind;
 use clap::{Arg, ArgMatches, Command, Error, value_parser};
 use std::alloc::{AllocError, Global};
@@ -17,6 +18,8 @@ use tp_work::Config;
 pub(crate) struct ProductRequest {
     pub(crate) side: u32,
     pub(crate) config: Config,
+    /// Whether a terminal is told nothing but the answer and faults.
+    pub(crate) quiet: bool,
 }
 
 /// What the words ask for.
@@ -40,10 +43,12 @@ fn request_of(matches: &ArgMatches) -> Option<ProductRequest>
         (λ request. IsSideIn (rows_of (found_of matches.now)) request.side) }
     ensures counts { MatchOption result ⊤ (λ request. IsWithinLimits request.config
         × AreCountsIn (rows_of (found_of matches.now)) request.config.nodes request.config.workers) }
+    ensures quiet { MatchOption result ⊤ (λ request. IsQuietIn (rows_of (found_of matches.now)) request.quiet) }
 {
     Some(ProductRequest {
         side: side_of(matches)?,
         config: config_of(matches),
+        quiet: is_quiet(matches),
     })
 }
 
@@ -66,7 +71,8 @@ fn product_command<'a>(alloc: Global) -> Result<Command<'a>, AllocError>
         .about("The product of two matrices, worked out in tiles by a pool of threads")
         .after_help(PRODUCT_HELP)
         .arg(side)?;
-    with_counts(alloc, command)
+    let counted = with_counts(alloc, command)?;
+    with_quiet(alloc, counted)
 }
 
 static PRODUCT_HELP: &str =
@@ -75,7 +81,8 @@ as many rows as columns, and the second with as many as the first: the rows as
 lines, the numbers of a row by single spaces, and an empty line between the two.
 Their product is printed the same way. It is worked out in tiles of SIDE rows and
 columns, which have to fill the matrices. What is printed does not depend on
-SIDE, N and W.
+SIDE, N and W. At a terminal standard error tells what is to be typed, and of a
+run of more than half a second how far it is.
 
 An example:
   printf '1 2\\n3 4\\n\\n5 6\\n7 8\\n' | product 1

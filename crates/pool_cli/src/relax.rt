@@ -2,7 +2,8 @@ ghost use Rattle.std.specs.Prelude.{◌≡◌, ◌≤◌, ◌<◌, ◌*◌, ◌%
 ghost use Rattle.pool_grid.specs.Grids.{evolve};
 ghost use Rattle.pool_cli.specs.Faults.{complaint, status_of};
 ghost use Rattle.pool_cli.specs.Grids.{IsBadGrid, IsSpeltGrid, IsTaken, IsUntaken, IsWithoutGrid, grid_text, relax_program};
-ghost use Rattle.pool_cli.specs.Programs.{AsksForSome, CouldNotWrite, HasNothing, HasPrinted, HasShownAsked};
+ghost use Rattle.pool_cli.specs.Programs.{AsksForSome, HasAnswered, HasFailed};
+ghost use Rattle.pool_grid_runs.specs.Faults.{IsGridPartFault};
 ghost use Rattle.tp_shell.specs.Statuses.{code_of};
 ghost use Rattle.tp_work.specs.Outcomes.{IsWithinLimits};
 
@@ -10,14 +11,16 @@ use crate::fault::Fault;
 use crate::program::{Program, program_with};
 use crate::relax_request::{RelaxRequest, relax_requested};
 use clap::Error;
-use pool_block_runs::steps_at_once;
+use pool_block_runs::{LentFault, steps_at_once};
+use pool_grid::row_blocks;
 use pool_grid_rows::{Rows, rows_of, text_of_grid};
-use pool_grid_runs::run_grid_in_parts;
 use std::alloc::{AllocError, Global};
-use std::io::Write;
+use std::io::{Sink, Write};
 use std::sync::Wait;
 use std::thread::Threads;
+use tp_progress::{Progress, Screen, run_in_parts_counted};
 use tp_shell::{Diagnostics, Source};
+use tp_work::Config;
 
 /// Runs the program `relax` on the words of its command line, its own name first, and answers the exit status: 0 where the grid
 /// is printed, or help or the version was asked for; 1 where the words, the reading or the writing are at fault; 2 where the
@@ -33,23 +36,45 @@ pub fn relax_with<R: Threads + Wait + Sync, I: Source, O: Write, E: Diagnostics>
     ensures range { result ≤ 3 }
     // 0: the grid that the words ask for was printed and nothing else; or help or the version was shown, and nothing was
     // read. Nothing is complained of.
-    ensures succeeded { result ≡ 0 → (err.new ≡ err.old)
-        × (HasPrinted relax_program (map (λ w. w.now) words.now) (λ bytes. I.gives reader.old bytes reader.new)
-        (O.contents out.old) (O.contents out.new)
-        ⊎ (HasShownAsked relax_program (map (λ w. w.now) words.now) (O.contents out.old) (O.contents out.new)
-        × (reader.new ≡ reader.old))) }
+    ensures succeeded { result ≡ 0 → (err.new ≡ err.old) × HasAnswered relax_program (map (λ w. w.now) words.now)
+        (λ bytes. I.gives reader.old bytes reader.new) (reader.new ≡ reader.old) (O.contents out.old) (O.contents out.new) }
     // Else one fault was met: the status is its own, and it is complained of by its own line and by nothing else. The writing
     // failed, of what was made in full; or nothing was written, for a fault of the words, by which nothing was read, of the
     // reading, of all that was read, or of the run.
     ensures complained { 1 ≤ result → (fault : Fault) × (result ≡ code_of (status_of fault)) × E.tells err.old (complaint fault) err.new
-        × (CouldNotWrite relax_program (map (λ w. w.now) words.now) (λ bytes. I.gives reader.old bytes reader.new)
-        (reader.new ≡ reader.old) fault
-        ⊎ ((out.new ≡ out.old) × HasNothing relax_program (map (λ w. w.now) words.now)
-        (λ bytes. I.gives reader.old bytes reader.new) (λ read. I.fails reader.old read reader.new) (reader.new ≡ reader.old) fault)) }
+        × HasFailed relax_program (map (λ w. w.now) words.now) (λ bytes. I.gives reader.old bytes reader.new)
+        (λ read. I.fails reader.old read reader.new) (reader.new ≡ reader.old) (out.new ≡ out.old) fault }
     // Only for a grid is the input read.
     ensures unread { AsksForSome relax_program (map (λ w. w.now) words.now) ⊎ (reader.new ≡ reader.old) }
 {
-    program_with::<RelaxRequest, R, I, O, E>(rt, alloc, words, reader, out, err)
+    program_with::<RelaxRequest, R, I, O, E, Sink>(rt, alloc, words, reader, out, err, None)
+}
+
+/// The same as [`relax_with`]. A screen is told what is read, and how far the run is: of that nothing is claimed.
+pub fn relax_watched<
+    R: Threads + Wait + Sync,
+    I: Source,
+    O: Write,
+    E: Diagnostics,
+    W: Write + Send + Drop,
+>(
+    rt: &R,
+    alloc: Global,
+    words: &[&str],
+    reader: &mut I,
+    out: &mut O,
+    err: &mut E,
+    screen: Option<Screen<W>>,
+) -> u8
+    ensures range { result ≤ 3 }
+    ensures succeeded { result ≡ 0 → (err.new ≡ err.old) × HasAnswered relax_program (map (λ w. w.now) words.now)
+        (λ bytes. I.gives reader.old bytes reader.new) (reader.new ≡ reader.old) (O.contents out.old) (O.contents out.new) }
+    ensures complained { 1 ≤ result → (fault : Fault) × (result ≡ code_of (status_of fault)) × E.tells err.old (complaint fault) err.new
+        × HasFailed relax_program (map (λ w. w.now) words.now) (λ bytes. I.gives reader.old bytes reader.new)
+        (λ read. I.fails reader.old read reader.new) (reader.new ≡ reader.old) (out.new ≡ out.old) fault }
+    ensures unread { AsksForSome relax_program (map (λ w. w.now) words.now) ⊎ (reader.new ≡ reader.old) }
+{
+    program_with::<RelaxRequest, R, I, O, E, W>(rt, alloc, words, reader, out, err, screen)
 }
 
 impl Program for RelaxRequest {
@@ -59,6 +84,14 @@ impl Program for RelaxRequest {
 
     fn requested(alloc: Global, words: &[&str]) -> Result<Self, Error> {
         relax_requested(alloc, words)
+    }
+
+    fn is_quiet(self) -> bool {
+        self.quiet
+    }
+
+    fn invitation() -> &'static str {
+        "Reading the grid from standard input up to Ctrl-D, one row a line: relax STEPS ROWS_A_BLOCK < FILE\n"
     }
 
     fn load(alloc: Global, input: &str) -> Result<Rows, Fault> {
@@ -74,8 +107,9 @@ impl Program for RelaxRequest {
         rt: &R,
         alloc: Global,
         grid: Rows,
+        progress: Option<&Progress>,
     ) -> Result<Vec<u8>, Fault> {
-        relaxed_text(rt, alloc, self, grid)
+        relaxed_text(rt, alloc, self, grid, progress)
     }
 }
 
@@ -122,6 +156,7 @@ fn relaxed_text<R: Threads + Wait + Sync>(
     alloc: Global,
     request: RelaxRequest,
     grid: Rows,
+    progress: Option<&Progress>,
 ) -> Result<Vec<u8>, Fault>
     requires allowed { IsWithinLimits request.config × (1 ≤ request.rows) }
     requires taken { IsTaken request grid }
@@ -132,9 +167,19 @@ fn relaxed_text<R: Threads + Wait + Sync>(
         steps,
         rows,
         config,
+        quiet: _,
     } = request;
     let Rows { width, numbers } = grid;
-    let made = match run_grid_in_parts(rt, alloc, numbers, width as u32, rows, steps, config) {
+    let made = match grid_counted(
+        rt,
+        alloc,
+        numbers,
+        width as u32,
+        rows,
+        steps,
+        config,
+        progress,
+    ) {
         Ok(made) => made,
         Err(fault) => return Err(Fault::Relaxed(fault)),
     };
@@ -148,4 +193,36 @@ fn text_of_cells(alloc: Global, width: usize, cells: &[i64]) -> Result<Vec<u8>, 
     ensures { IfOk result (λ text. text.items ≡ grid_text width cells.now) }
 {
     text_of_grid(alloc, cells.len() / width, width, cells)
+}
+
+/// [`run_grid_in_parts`](pool_grid_runs::run_grid_in_parts), with its tasks counted.
+fn grid_counted<R: Threads + Wait + Sync>(
+    rt: &R,
+    alloc: Global,
+    cells: Vec<i64>,
+    width: u32,
+    rows: u32,
+    steps: u64,
+    config: Config,
+    progress: Option<&Progress>,
+) -> Result<Vec<i64>, LentFault>
+    requires { IsWithinLimits config }
+    ensures { MatchResult result
+        (λ grid. grid.items ≡ evolve width steps cells.items)
+        (IsGridPartFault config.nodes config.workers cells.items width rows steps) }
+{
+    let Some(blocks) = row_blocks(width, rows) else {
+        return Err(LentFault::BadInput);
+    };
+    let points = blocks.points;
+    run_in_parts_counted(
+        rt,
+        alloc,
+        points,
+        cells,
+        blocks.size,
+        steps,
+        config,
+        progress,
+    )
 }

@@ -2,11 +2,12 @@ ghost use Rattle.std.specs.Prelude.{◌≡◌, ◌≤◌, IfErr, IfOk, MatchOpti
 ghost use Rattle.clap.specs.Values.{kind_of};
 ghost use Rattle.clap.specs.Words.{app_of, found_of, matches_of, rows_of};
 ghost use Rattle.clap.specs.declared.error.kind.ErrorKind.TheVariants.{MissingRequiredArgument};
-ghost use Rattle.pool_cli.specs.Command.{IsNumberOf, LacksNumber};
+ghost use Rattle.pool_cli.specs.Command.{IsNumberOf, IsQuietIn, LacksNumber};
 ghost use Rattle.pool_cli.specs.GridCommand.{AreGridStepsIn, AsksForGrid, IsBlockIn, LackGridSteps, LacksSize, relax_app};
 ghost use Rattle.tp_shell.specs.Command.{AreCountsIn, FailsAs};
 ghost use Rattle.tp_work.specs.Outcomes.{IsWithinLimits};
 
+use crate::quiet::{is_quiet, with_quiet};
 use crate::request::steps_of;
 use clap::error::ErrorKind;
 use clap::{Arg, ArgMatches, Command, Error, value_parser};
@@ -20,6 +21,8 @@ pub(crate) struct RelaxRequest {
     pub(crate) steps: u64,
     pub(crate) rows: u32,
     pub(crate) config: Config,
+    /// Whether a terminal is told nothing but the answer and faults.
+    pub(crate) quiet: bool,
 }
 
 /// What the words ask for.
@@ -47,11 +50,13 @@ fn request_of(matches: &ArgMatches) -> Option<RelaxRequest>
         (λ request. AreGridStepsIn (rows_of (found_of matches.now)) request.steps request.rows) }
     ensures counts { MatchOption result ⊤ (λ request. IsWithinLimits request.config
         × AreCountsIn (rows_of (found_of matches.now)) request.config.nodes request.config.workers) }
+    ensures quiet { MatchOption result ⊤ (λ request. IsQuietIn (rows_of (found_of matches.now)) request.quiet) }
 {
     Some(RelaxRequest {
         steps: steps_of(matches)?,
         rows: block_of(matches)?,
         config: config_of(matches),
+        quiet: is_quiet(matches),
     })
 }
 
@@ -92,7 +97,8 @@ fn relax_command<'a>(alloc: Global) -> Result<Command<'a>, AllocError>
         .after_help(RELAX_HELP)
         .arg(steps)?
         .arg(rows)?;
-    with_counts(alloc, command)
+    let counted = with_counts(alloc, command)?;
+    with_quiet(alloc, counted)
 }
 
 static RELAX_HELP: &str =
@@ -100,7 +106,9 @@ static RELAX_HELP: &str =
 the numbers of a row by single spaces, as many in each row. The grid after the
 steps is printed the same way. In a step each cell becomes an eighth of the sum of
 its four neighbours and four times itself, rounded down; a cell on the edge stays.
-What is printed does not depend on ROWS_A_BLOCK, N and W.
+What is printed does not depend on ROWS_A_BLOCK, N and W. At a terminal standard
+error tells what is to be typed, and of a run of more than half a second how far
+it is.
 
 An example:
   printf '0 16 32 0\\n8 0 0 24\\n0 0 64 0\\n' | relax 2 1

@@ -2,10 +2,11 @@ ghost use Rattle.std.specs.Prelude.{◌≡◌, IfErr, IfOk, MatchOption, ⊤, co
 ghost use Rattle.clap.specs.Values.{kind_of};
 ghost use Rattle.clap.specs.Words.{app_of, found_of, matches_of, rows_of};
 ghost use Rattle.clap.specs.declared.error.kind.ErrorKind.TheVariants.{MissingRequiredArgument};
-ghost use Rattle.pool_cli.specs.Command.{AreStepsIn, AsksForHeat, IsNumberOf, LackSteps, LacksNumber, heat_app};
+ghost use Rattle.pool_cli.specs.Command.{AreStepsIn, AsksForHeat, IsNumberOf, IsQuietIn, LackSteps, LacksNumber, heat_app};
 ghost use Rattle.tp_shell.specs.Command.{AreCountsIn, FailsAs};
 ghost use Rattle.tp_work.specs.Outcomes.{IsWithinLimits};
 
+use crate::quiet::{is_quiet, with_quiet};
 use clap::error::ErrorKind;
 use clap::{Arg, ArgMatches, Command, Error, value_parser};
 use std::alloc::{AllocError, Global};
@@ -18,6 +19,8 @@ pub(crate) struct Request {
     pub(crate) steps: u64,
     pub(crate) block: u32,
     pub(crate) config: Config,
+    /// Whether a terminal is told nothing but the answer and faults.
+    pub(crate) quiet: bool,
 }
 
 /// What the words ask for.
@@ -44,11 +47,13 @@ fn request_of(matches: &ArgMatches) -> Option<Request>
         (λ request. AreStepsIn (rows_of (found_of matches.now)) request.steps request.block) }
     ensures counts { MatchOption result ⊤ (λ request. IsWithinLimits request.config
         × AreCountsIn (rows_of (found_of matches.now)) request.config.nodes request.config.workers) }
+    ensures quiet { MatchOption result ⊤ (λ request. IsQuietIn (rows_of (found_of matches.now)) request.quiet) }
 {
     Some(Request {
         steps: steps_of(matches)?,
         block: block_of(matches)?,
         config: config_of(matches),
+        quiet: is_quiet(matches),
     })
 }
 
@@ -85,7 +90,8 @@ fn heat_command<'a>(alloc: Global) -> Result<Command<'a>, AllocError>
         .after_help(HEAT_HELP)
         .arg(steps)?
         .arg(block)?;
-    with_counts(alloc, command)
+    let counted = with_counts(alloc, command)?;
+    with_quiet(alloc, counted)
 }
 
 static HEAT_HELP: &str =
@@ -93,7 +99,8 @@ static HEAT_HELP: &str =
 after the steps is printed, one number a line. In a step each cell becomes a
 third of its left neighbour, a third of itself and a third of its right
 neighbour, each cut towards 0; beyond both ends there is 0. What is printed does
-not depend on BLOCK, N and W.
+not depend on BLOCK, N and W. At a terminal standard error tells what is to be
+typed, and of a run of more than half a second how far it is.
 
 An example:
   printf '9000\\n300\\n-60\\n' | heat 1 2

@@ -1,12 +1,14 @@
 //! The program `product`.
 #![tactic(auto)]
 
-use pool_cli::{product_with, without_words};
+use pool_cli::{product_watched, without_words};
 use std::io::ErrorKind;
 use std::process::ExitCode;
+use tp_progress::Screen;
 use tp_shell::{arguments, words_of};
 
-/// The exit status is that of `product_with`. Where there is no memory for the words, or one of them is not UTF-8, a line says so.
+/// The exit status is that of `product_watched`, for which standard error is the screen where it is a terminal. Where there is no
+/// memory for the words, or one of them is not UTF-8, a line says so.
 fn main(rt: HostRuntime) -> ExitCode {
     let arguments = match arguments(&rt) {
         Ok(arguments) => arguments,
@@ -16,13 +18,14 @@ fn main(rt: HostRuntime) -> ExitCode {
         Ok(words) => words,
         Err(_) => return complain(&rt, ErrorKind::OutOfMemory),
     };
-    let status = product_with(
+    let status = product_watched(
         &rt,
         rt.alloc(),
         &words,
         &mut rt.stdin(),
         &mut rt.stdout(),
         &mut rt.stderr(),
+        Screen::of(&rt.stdin(), rt.stderr()),
     );
     ExitCode::from(status)
 }

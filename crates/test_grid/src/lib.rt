@@ -5,6 +5,8 @@
 #[cfg(test)]
 mod by_one;
 #[cfg(test)]
+mod counted;
+#[cfg(test)]
 mod run;
 #[cfg(test)]
 mod text;

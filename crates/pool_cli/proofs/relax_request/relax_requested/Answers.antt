@@ -2,6 +2,7 @@ use Rattle.std.proofs.Common.{inr, map, refl, subst, List}
 use Rattle.clap.proofs.TakesLemmas.{passed_up}
 use Rattle.clap.specs.Words.{Text, app_of, matches_of}
 use Rattle.clap.specs.declared.error.kind.ErrorKind.TheVariants.{MissingRequiredArgument}
+use Rattle.pool_cli.specs.Command.{IsQuietIn}
 use Rattle.pool_cli.specs.GridCommand.{AreGridStepsIn, LackGridSteps, relax_app}
 use Rattle.tp_shell.proofs.Asked.{fails_as, none_asked, rows_asked}
 use Rattle.tp_shell.specs.Command.{AreCountsIn}
@@ -24,6 +25,7 @@ returns-in-Some-clause-asked c =
       (
         subst (λ rs. AreGridStepsIn rs request.steps request.rows) rows c.in-Some.ensures.steps,
         subst (λ rs. AreCountsIn rs request.config.nodes request.config.workers) rows c.in-Some.ensures.counts.1,
+        subst (λ rs. IsQuietIn rs request.quiet) rows c.in-Some.ensures.quiet,
       ),
       c.in-Some.ensures.counts.0,
       c.in-Some.ensures.steps.1.1,

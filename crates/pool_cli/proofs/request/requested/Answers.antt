@@ -2,7 +2,7 @@ use Rattle.std.proofs.Common.{inr, map, refl, subst, List}
 use Rattle.clap.proofs.TakesLemmas.{passed_up}
 use Rattle.clap.specs.Words.{Text, app_of, matches_of}
 use Rattle.clap.specs.declared.error.kind.ErrorKind.TheVariants.{MissingRequiredArgument}
-use Rattle.pool_cli.specs.Command.{AreStepsIn, LackSteps, heat_app}
+use Rattle.pool_cli.specs.Command.{AreStepsIn, IsQuietIn, LackSteps, heat_app}
 use Rattle.tp_shell.proofs.Asked.{fails_as, none_asked, rows_asked}
 use Rattle.tp_shell.specs.Command.{AreCountsIn}
 use Rattle.pool_cli.proofs.request.requested.Goals as goal
@@ -23,6 +23,7 @@ returns-in-Some-clause-asked c =
       (
         subst (λ rs. AreStepsIn rs request.steps request.block) rows c.in-Some.ensures.steps,
         subst (λ rs. AreCountsIn rs request.config.nodes request.config.workers) rows c.in-Some.ensures.counts.1,
+        subst (λ rs. IsQuietIn rs request.quiet) rows c.in-Some.ensures.quiet,
       ),
       c.in-Some.ensures.counts.0,
     )

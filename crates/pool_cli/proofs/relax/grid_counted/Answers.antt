@@ -1,0 +1,26 @@
+use Rattle.std.proofs.Common.{◌∙◌, ap, length, subst}
+use Rattle.pool_block_runs.proofs.Refused.{match_weaker}
+use Rattle.pool_block_runs.specs.Faults.{IsPartFault}
+use Rattle.pool_grid.specs.Grids.{are_whole_rows, block_relaxed, evolve, relaxed}
+use Rattle.pool_grid_runs.proofs.Refused.{grid_part, takes_none}
+use Rattle.pool_cli.proofs.relax.grid_counted.Goals as goal
+
+pub returns-in_default : goal.returns-in_default
+returns-in_default g c = takes_none c.args.config.nodes (length c.args.cells.items) c.args.width c.args.rows c.in_default.ensures.refused
+
+pub returns : goal.returns
+returns g c =
+    let a = c.args in
+    let blocks = c.in-Some.blocks in
+    let cut = c.in-Some.ensures.made in
+    match_weaker c.run_in_parts_counted.result _ _ _ _
+    (λ cells is. is ∙ ap (λ w. evolve w a.steps a.cells.items) cut.0)
+    (λ fault why.
+    grid_part a.config.nodes a.config.workers a.cells.items a.width a.rows a.steps fault
+    (subst (λ k.
+    IsPartFault a.config.nodes a.config.workers (are_whole_rows a.width) (relaxed a.width) (block_relaxed a.width) a.cells.items k
+    a.steps fault) cut.1
+    (subst (λ w.
+    IsPartFault a.config.nodes a.config.workers (are_whole_rows w) (relaxed w) (block_relaxed w) a.cells.items blocks.size a.steps
+    fault) cut.0 why)))
+    c.run_in_parts_counted.ensures
