@@ -6,8 +6,8 @@
 # make wrong    tries all wrong bodies of the crates that changed (ALL=1: of every crate; CRATE=tp_wave: of one)
 # make times    the gate, and its processor seconds by crate
 # make soak     each sample pool 200 times at 8 nodes with 8 workers each, compares what they make and audits their traces;
-#               then the program with strange streams and texts, every stored text cut after each byte, and texts by chance; the
-#               programs over lent data at a terminal
+#               then the program with strange streams and texts, at a terminal, every stored text cut after each byte, and
+#               texts by chance; the programs over lent data at a terminal
 # make lib      proves the detector for other languages, and builds it: lib/libgerfmuod.a, its header and its pkg-config file
 # make bench    what a step costs that a program in C tells the library, and all programs beside others that do the same, in a
 #               quick form of some minutes (FULL=1: all cases, kept as the numbers of docs/PERFORMANCE.md; see bench/README.md)
@@ -52,9 +52,10 @@ times:
 soak: bin/tp
 	tools/dev soak bin/tp --runs 200
 	tools/dev limits strange bin/tp
+	tools/dev limits reasons bin/tp
 	tools/dev limits cuts bin/tp
 	tools/dev limits random bin/tp
-	tools/dev limits terminal
+	tools/dev limits progress
 
 bench: bin/tp lib/libgerfmuod.a
 	@tools/dev capi --bench

@@ -6,8 +6,8 @@ status 2.
 import argparse
 
 from . import bench, build, capi, demo, docs, drawn, gate_times, lanes, library, limits, new_pool, soak, tries, wrong
-from .limits import cuts, generations, hostile_numbers, memory, pictures, random_texts, refuse, refuse_tests, stacks
-from .limits import strange, terminal
+from .limits import cuts, generations, hostile_numbers, memory, pictures, progress, random_texts, reasons, refuse, refuse_tests
+from .limits import stacks, strange
 
 COMMANDS = {
     "build": build,
@@ -33,7 +33,8 @@ LIMITS = {
     "generations": generations,
     "pictures": pictures,
     "strange": strange,
-    "terminal": terminal,
+    "progress": progress,
+    "reasons": reasons,
     "cuts": cuts,
     "random": random_texts,
 }

@@ -32,6 +32,8 @@ mod program;
 #[cfg(test)]
 mod readers;
 #[cfg(test)]
+mod reasons;
+#[cfg(test)]
 mod refused_runs;
 #[cfg(test)]
 mod reopened;
@@ -41,5 +43,7 @@ mod several;
 mod sleeping;
 #[cfg(test)]
 mod strangers;
+#[cfg(test)]
+mod terminal;
 #[cfg(test)]
 mod text;

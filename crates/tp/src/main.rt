@@ -3,10 +3,11 @@
 
 use std::io::{ErrorKind, IsTerminal};
 use std::process::ExitCode;
-use tp_cli::{main_with, without_words};
+use tp_cli::{main_at_terminal, main_with, without_words};
 use tp_shell::{arguments, words_of};
 
-/// The exit status is that of `main_with`. Where there is no memory for the words, or one of them is not UTF-8, a line says so.
+/// The exit status is that of `main_with`, or of `main_at_terminal` where standard error is a terminal. Where there is no memory for
+/// the words, or one of them is not UTF-8, a line says so.
 fn main(rt: HostRuntime) -> ExitCode {
     let arguments = match arguments(&rt) {
         Ok(arguments) => arguments,
@@ -16,14 +17,24 @@ fn main(rt: HostRuntime) -> ExitCode {
         Ok(words) => words,
         Err(_) => return complain(&rt, ErrorKind::OutOfMemory),
     };
-    if is_script_awaited(&words) && rt.stdin().is_terminal() {
-        let _ = eprintln!(rt;
-            "Reading a script from standard input up to Ctrl-D; its lines: tp sim --help"
+    let alloc = rt.alloc();
+    if !rt.stderr().is_terminal() {
+        let status = main_with(
+            &rt,
+            alloc,
+            &words,
+            &mut rt.stdin(),
+            &mut rt.stdout(),
+            &mut rt.stderr(),
         );
+        return ExitCode::from(status);
     }
-    let status = main_with(
+    if rt.stdin().is_terminal() {
+        tell_what_is_read(&rt, &words);
+    }
+    let status = main_at_terminal(
         &rt,
-        rt.alloc(),
+        alloc,
         &words,
         &mut rt.stdin(),
         &mut rt.stdout(),
@@ -39,7 +50,9 @@ fn complain<R: Eprint>(rt: &R, fault: ErrorKind) -> ExitCode {
     ExitCode::from(status)
 }
 
-/// Whether the words ask for the answers to a script, and for nothing else such as help.
-fn is_script_awaited(words: &[&str]) -> bool {
-    matches!(words, [_, "sim"])
+/// Says that a script or a trace is read from standard input, where the words ask for one and for nothing else such as help.
+fn tell_what_is_read<R: Eprint>(rt: &R, words: &[&str]) {
+    if let [_, name @ ("sim" | "audit")] = words {
+        let _ = eprintln!(rt; "reads standard input: tp {name} < FILE");
+    }
 }

@@ -4,3 +4,4 @@ pub mod Ending
 pub mod Printed
 pub mod Rounds
 pub mod Several
+pub mod Terminals

@@ -63,7 +63,7 @@ pub fn main_with<R: Threads + Wait + Sync, I: Read, O: Write, E: Diagnostics>(
 }
 
 /// The status with which the program ended, or that of its fault, which is told.
-fn told<E: Diagnostics>(ended: Result<Status, Fault>, err: &mut E) -> Status
+pub(crate) fn told<E: Diagnostics>(ended: Result<Status, Fault>, err: &mut E) -> Status
     ensures done { IfOk ended (λ status. (result ≡ status) × (err.new ≡ err.old)) }
     ensures faulty { IfErr ended (λ fault. (result ≡ status_of fault) × E.tells err.old (line_of fault) err.new) }
 {
@@ -96,7 +96,7 @@ fn answer_words<R: Threads + Wait + Sync, I: Read, O: Write>(
 }
 
 /// Answers a text of a kind.
-fn answer_text<I: Read, O: Write>(
+pub(crate) fn answer_text<I: Read, O: Write>(
     alloc: Global,
     kind: TextKind,
     reader: &mut I,
@@ -125,7 +125,11 @@ fn status_of_verdict(verdict: Verdict) -> Status
 }
 
 /// Shows help or the version where the words asked for it.
-fn show_asked<O: Write>(alloc: Global, error: &Error, out: &mut O) -> Result<Status, Fault>
+pub(crate) fn show_asked<O: Write>(
+    alloc: Global,
+    error: &Error,
+    out: &mut O,
+) -> Result<Status, Fault>
     ensures shown { IfOk result (λ status. (status ≡ Done) × IsToBeShown (kind_of error.now)
         × HasShown (O.contents out.old) (O.contents out.new)) }
     ensures why { IfErr result (λ fault. (met : WordsFault) × (fault ≡ Fault.Words met)

@@ -8,7 +8,9 @@ mod pools;
 mod request;
 mod run;
 mod series;
+mod terminal;
 mod text;
 
 pub use cli::main_with;
 pub use fault::without_words;
+pub use terminal::main_at_terminal;

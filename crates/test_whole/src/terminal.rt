@@ -1,0 +1,67 @@
+use std::alloc::Global;
+use std::sync::Wait;
+use std::thread::Threads;
+use tp_cli::{main_at_terminal, main_with};
+
+/// How the program ends.
+struct Ending<'a> {
+    status: u8,
+    output: &'a str,
+    /// What is told without a terminal.
+    line: &'a str,
+    /// What is told behind it at a terminal.
+    reason: &'a str,
+}
+
+/// Whether it ends so on these words, without a terminal and at one.
+fn ends_so<R: Threads + Wait + Sync>(
+    rt: &R,
+    alloc: Global,
+    words: &[&str],
+    input: &[u8],
+    ending: &Ending,
+) -> bool {
+    let mut out = Vec::new(alloc);
+    let mut err = Vec::new(alloc);
+    let mut reader = input;
+    let status = main_with(rt, alloc, words, &mut reader, &mut out, &mut err);
+    let is_same = out.as_slice() == ending.output.as_bytes();
+    if status != ending.status || !is_same || err.as_slice() != ending.line.as_bytes() {
+        return false;
+    }
+    let mut shown = Vec::new(alloc);
+    let mut told = Vec::new(alloc);
+    let mut reader = input;
+    let status = main_at_terminal(rt, alloc, words, &mut reader, &mut shown, &mut told);
+    let (line, reason) = told.as_slice().split_at(ending.line.len().min(told.len()));
+    status == ending.status
+        && shown.as_slice() == out.as_slice()
+        && line == ending.line.as_bytes()
+        && reason == ending.reason.as_bytes()
+}
+
+#[test]
+fn words_at_a_terminal(rt: HostRuntime) {
+    let alloc = rt.alloc();
+    let run = Ending {
+        status: 0,
+        output: "66\ntasks 7\nmessages 0\nended\n",
+        line: "",
+        reason: "",
+    };
+    assert!(rt; ends_so(&rt, alloc, &["tp", "run", "reduce:4:0"], b"", &run));
+    let undivided = Ending {
+        status: 1,
+        output: "",
+        line: "refused 26 BadSpec\n",
+        reason: "product:4:3:0: SIDE 3 does not divide ORDER 4\n",
+    };
+    assert!(rt; ends_so(&rt, alloc, &["tp", "run", "product:4:3:0"], b"", &undivided));
+    let twice = Ending {
+        status: 1,
+        output: "",
+        line: "refused 25 PoolKnown\n",
+        reason: "SPEC 2 stands before\n",
+    };
+    assert!(rt; ends_so(&rt, alloc, &["tp", "pools", "reduce:4:0", "reduce:4:0"], b"", &twice));
+}
