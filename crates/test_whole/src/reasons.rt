@@ -17,7 +17,11 @@ fn reasons_of_words(rt: HostRuntime) {
         ("product:4:2:0", None, ""),
         ("wavefront:8:8:0", None, ""),
         ("reduce:1024:9999", None, ""),
-        ("product:4:3:0", Some(undivided), "SIDE 3 does not divide ORDER 4"),
+        (
+            "product:4:3:0",
+            Some(undivided),
+            "SIDE 3 does not divide ORDER 4",
+        ),
         (
             "prodct:4:2:0",
             Some(WordReason::UnknownKind),

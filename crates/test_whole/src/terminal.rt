@@ -63,5 +63,13 @@ fn words_at_a_terminal(rt: HostRuntime) {
         line: "refused 25 PoolKnown\n",
         reason: "SPEC 2 stands before\n",
     };
-    assert!(rt; ends_so(&rt, alloc, &["tp", "pools", "reduce:4:0", "reduce:4:0"], b"", &twice));
+    assert!(rt;
+        ends_so(
+            &rt,
+            alloc,
+            &["tp", "pools", "reduce:4:0", "reduce:4:0"],
+            b"",
+            &twice
+        )
+    );
 }

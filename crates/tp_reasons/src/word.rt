@@ -286,7 +286,10 @@ impl fmt::Display for WordReason {
             }
             WordReason::NoNumber(field) => {
                 let name = field.name();
-                write!(f, "{name} is no number of at most six digits without leading zeros")
+                write!(
+                    f,
+                    "{name} is no number of at most six digits without leading zeros"
+                )
             }
             WordReason::OutOfRange(field, number) => {
                 let name = field.name();

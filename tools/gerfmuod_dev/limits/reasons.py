@@ -52,11 +52,13 @@ SEVERAL = [
     ([f"reduce:4:{seed}" for seed in range(9)], b"refused 23 StoreFull\n", b"more than 8 pools\n"),
     (["x"] * 9, b"refused 23 StoreFull\n", b"more than 8 pools\n"),
 ]
+# what is answered to a script without steps
+STARTED = b"node 0 pending 1 sent 0 received 0\ntotal pending 1 sent 0 received 0 under 0\nquiet no\n"
 # what ends in other ways tells the same at a terminal: the words, the input, and the answer
 OTHERS = [
     (["run", "reduce:4:0"], b"", Answer(0, b"66\ntasks 7\nmessages 0\nended\n", b"")),
     (["run", "product:64:1:0", "--nodes", "2"], b"", Answer(3, b"", b"refused 16 HistoryFull\n")),
-    (["sim"], b"nodes 1\n", Answer(0, b"node 0 pending 1 sent 0 received 0\ntotal pending 1 sent 0 received 0 under 0\nquiet no\n", b"")),
+    (["sim"], b"nodes 1\n", Answer(0, STARTED, b"")),
     (["audit"], b"trace 1\nnodes 1\ndone 1\n", Answer(2, b"line 3 refused 4 NoTask\n", b"")),
 ]
 
@@ -86,7 +88,7 @@ def at_terminal(program, words, stdin):
 
 
 def typed(program, words, text):
-    """Runs the program with a terminal as standard input, into which the text and its end are typed, and as standard error."""
+    """Runs the program with a terminal as standard input and standard error; the text and its end are typed there."""
     master, slave = pty.openpty()
     modes = termios.tcgetattr(slave)
     modes[3] &= ~termios.ECHO
@@ -131,7 +133,7 @@ def run(words):
     for asked, stdin, wanted in OTHERS:
         judge(tally, f"{asked}", words.tp, asked, stdin, wanted, b"")
     came = typed(words.tp, ["sim"], b"nodes 1\n")
-    wanted = Answer(0, OTHERS[2][2].out, b"reads standard input: tp sim < FILE\n")
+    wanted = Answer(0, STARTED, b"reads standard input: tp sim < FILE\n")
     tally.judge(came == wanted, f"a script that is typed: {came.told()}")
     came = typed(words.tp, ["audit"], b"trace 1\nnodes 1\n")
     wanted = Answer(
