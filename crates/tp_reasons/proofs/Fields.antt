@@ -1,10 +1,10 @@
 -- The fields of a word, and the graph that they name.
-use Rattle.std.proofs.Common.{◌≡◌, ◌≢◌, ◌<◌, ◌≤◌, ◌+◌, ◌*◌, ◌/◌, ◌%◌, ℕ, zero, suc, List, [], ◌∷◌, ◌++◌, length, codes, decimal, ap, sym, refl, ◌∙◌, arith}
+use Rattle.std.proofs.Common.{◌≡◌, ◌≢◌, ◌≤◌, ◌*◌, ◌/◌, ◌%◌, ℕ, zero, suc, List, [], ◌∷◌, length, codes, decimal, ap, sym, refl, ◌∙◌, arith}
 use Rattle.std.proofs.lemmas.List.Splits.{join_with_byte-slice_split}
 use Rattle.std.proofs.lemmas.Nat.{div-add-mod', mul-le}
 use Rattle.std.specs.List.{join_with_byte}
 use Rattle.pool_samples.specs.Products.{IsProduct}
-use Rattle.pool_samples.specs.Words.{joined, three_numbers, two_numbers, word_of}
+use Rattle.pool_samples.specs.Words.{joined, three_numbers, two_numbers}
 use Rattle.pool_samples.specs.declared.any.AnyGraph.TheVariants as pool
 use Rattle.tp_reasons.specs.Words.{HasWrongField, IsFieldReason, IsInRange, IsRight, IsWordReason, NamesGraph, fields, fields_of, kind_text}
 use Rattle.tp_reasons.specs.declared.word.Field.{Field}

@@ -1,4 +1,3 @@
-use Rattle.std.proofs.Common.{arith}
 use Rattle.tp_reasons.proofs.Parts.{none_below, parts_cut, parts_whole, some_first}
 use Rattle.tp_reasons.proofs.cuts.cut.Goals as goal
 
