@@ -45,26 +45,6 @@ module _ {D : Type 0} (tells : D → List ℕ → D → Type 0) (asking : List T
   pub words_unexplained : (fault : Fault) (met : WordsFault) (new : D) → fault ≡ faults.Words met → IsExplained tells asking fault new new
   words_unexplained fault met new is = subst (λ f. IsExplained tells asking f new new) (sym is) refl
 
-  -- behind the line of another fault than that of the words nothing is told
-  pub run_unexplained : (word : Text) (fault : Fault) (new : D) → fault ≢ faults.NoPool → IsRunExplained tells word fault new new
-  run_unexplained word faults.NoPool new other = absurd (other refl)
-  run_unexplained word (faults.InVain refusal) new other = refl
-  run_unexplained word (faults.Words met) new other = refl
-  run_unexplained word (faults.Text met) new other = refl
-  run_unexplained word (faults.Run met) new other = refl
-  run_unexplained word faults.Memory new other = refl
-  run_unexplained word faults.Write new other = refl
-
-  pub pools_unexplained : (specs : List Text) (fault : Fault) (new : D) → ((refusal : Refusal) → fault ≢ faults.InVain refusal)
-      → ArePoolsExplained tells specs fault new new
-  pools_unexplained specs (faults.InVain refusal) new other = absurd (other refusal refl)
-  pools_unexplained specs faults.NoPool new other = refl
-  pools_unexplained specs (faults.Words met) new other = refl
-  pools_unexplained specs (faults.Text met) new other = refl
-  pools_unexplained specs (faults.Run met) new other = refl
-  pools_unexplained specs faults.Memory new other = refl
-  pools_unexplained specs faults.Write new other = refl
-
   named : (word : Text) → NamesNoGraph word → NamesGraph word → ⊥
   named word none some = none some.0 some.1
 
