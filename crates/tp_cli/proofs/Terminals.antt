@@ -1,5 +1,5 @@
 -- How a run ends at a terminal.
-use Rattle.std.proofs.Common.{◌≡◌, ◌≢◌, ◌∙◌, ◌⊎◌, ◌<◌, ◌≤◌, ℕ, Bool, List, true≢false, Option, Result, Ok, Err, IfErr, IfOk, ap, arith, codes, inl, inr, length}
+use Rattle.std.proofs.Common.{◌≡◌, ◌≢◌, ◌∙◌, ◌⊎◌, ◌<◌, ℕ, Bool, List, true≢false, Option, Result, Ok, Err, IfErr, IfOk, ap, arith, codes, inl, inr, length}
 use Rattle.std.proofs.Common.{map, refl, subst, sym}
 use Rattle.std.proofs.lemmas.Option.{slice_get_within}
 use Rattle.std.proofs.lemmas.Result.{IfErr-weaker, IfOk-weaker}
@@ -7,7 +7,6 @@ use Rattle.std.specs.Io.KnownBytes.{Appends}
 use Rattle.clap.specs.Words.{Text, subcommand_of}
 use Rattle.clap.specs.declared.error.kind.ErrorKind.{ErrorKind}
 use Rattle.clap.specs.declared.error.kind.ErrorKind.TheVariants.{MissingSubcommand}
-use Rattle.tp_base.specs.declared.limits.TheConstants.{MAX_POOLS}
 use Rattle.tp_base.specs.declared.refusal.Refusal.{Refusal}
 use Rattle.tp_cli.proofs.Ending.{answered_pools, answered_run, answered_shown, answered_text, faulty, if_done, if_failed, if_fault}
 use Rattle.tp_cli.proofs.Ending.{if_refused, pools_fault, run_fault, text_met, words_met, written_status}

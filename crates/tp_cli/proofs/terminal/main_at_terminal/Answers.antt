@@ -1,4 +1,4 @@
-use Rattle.std.proofs.Common.{◌≡◌, map}
+use Rattle.std.proofs.Common.{map}
 use Rattle.tp_cli.proofs.Terminals.{ending_complained, ending_done, ending_failed, ending_refused}
 use Rattle.tp_cli.proofs.terminal.main_at_terminal.Goals as goal
 
