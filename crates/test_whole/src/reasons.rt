@@ -1,9 +1,8 @@
 use std::alloc::Global;
-use std::fmt::Display;
 use tp_reasons::{Field, Kind, Tiling, WordReason, WordsReason, word_reason, words_reason};
 
 /// Whether it reads so.
-fn reads<D: Display + Drop>(alloc: Global, reason: D, told: &str) -> bool {
+fn reads(alloc: Global, reason: WordReason, told: &str) -> bool {
     match format!(in alloc; "{reason}") {
         Ok(text) => text.as_str() == told,
         Err(_) => false,
