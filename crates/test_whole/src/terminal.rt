@@ -4,6 +4,7 @@ use std::thread::Threads;
 use tp_cli::{main_at_terminal, main_with};
 
 /// How the program ends.
+#[derive(Drop)]
 struct Ending<'a> {
     status: u8,
     output: &'a str,
