@@ -2,7 +2,7 @@ ghost use Rattle.std.specs.Prelude.{◌≡◌, ◌≤◌, ◌<◌, ◌+◌, ◌-
 ghost use Rattle.std.specs.List.{All};
 ghost use Rattle.tp_base.specs.declared.refusal.Refusal.TheVariants as refusals;
 ghost use Rattle.tp_ledgers.specs.Numbers.{first_links, first_numbers, first_shares, is_done, is_recv, is_send};
-ghost use Rattle.tp_wave.specs.Cut.{IsQuiet};
+ghost use Rattle.tp_wave.specs.Cut.{IsQuietHistory};
 ghost use Rattle.tp_wave.specs.Generations.{AreRuns, present, present_events};
 ghost use Rattle.tp_wave.specs.Machine.{pending_at, steps_of, under_way};
 ghost use Rattle.tp_wave.specs.Steps.{count};
@@ -95,7 +95,7 @@ pub fn close_books<K: Ledgers>(books: Books<K>) -> Totals
         × (result.done ≡ count is_done (present (steps_of books.board.history))) }
     ensures balance { result.sent ≡ result.received + result.under }
     ensures ended { result.ended ≡ is_ended K.names.nodes (present (steps_of books.board.history)) }
-    ensures quiet { IsTrue result.ended → IsQuiet K.names.nodes (present_events books.board.history) }
+    ensures quiet { IsTrue result.ended → IsQuietHistory K.names.nodes (present_events books.board.history) }
     ensures fault { result.fault ≡ books.board.fault }
     ensures history { result.history.events ≡ books.board.history }
     ensures run { AreRuns K.names.nodes books.board.history }
