@@ -172,6 +172,7 @@ impl<K: Ledgers> Board<K> {
         ensures places { (length self.old.history + self.old.reserved ≤ self.old.limit) × (self.old.limit ≤ 1048576) }
         ensures run { AreRuns K.names.nodes self.old.history }
     {
+        // The places are known by a call of the log alone. Its answer is not used, so it costs no instruction.
         let _count = self.log.len();
         self.accounts.audit(shares);
     }
@@ -200,6 +201,7 @@ impl<K: Ledgers> Board<K> {
     pub(crate) fn no_links(&mut self) -> Share<Under<K>>
         ensures same { self.new ≡ self.old }
         ensures none { (result.parts ≡ 0) × (result.amount ≡ 0) }
+        ensures few { (1 ≤ K.names.nodes) × (K.names.nodes ≤ 8) }
     {
         self.accounts.no_links()
     }
@@ -219,6 +221,7 @@ impl<K: Ledgers> Board<K> {
         ensures fault { result.fault ≡ self.fault }
         ensures history { result.history.events ≡ self.history }
         ensures run { AreRuns K.names.nodes self.history }
+        ensures few { length self.history ≤ 1048576 }
     {
         let (sent, received, done) = self.log.totals();
         let ended = self.accounts.is_ended();

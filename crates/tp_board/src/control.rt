@@ -62,7 +62,6 @@ impl<K: Ledgers> Board<K> {
         ensures refusal { AnswersBy (step_checks K.names.nodes self.old (steps.Up child)) 1 self.old result }
         ensures refused { OnErr result (self.new ≡ self.old) }
     {
-        let _parent = shares.node();
         let mut wave = self.wave;
         wave.up(child)?;
         self.log.add(child, Step::Up(child))?;

@@ -17,7 +17,7 @@ ghost use Rattle.tp_local.specs.Locals.{first_state, pending_here, is_live, stan
 ghost use Rattle.tp_local.specs.Locals.{receive_checks, end_checks, open_checks, close_checks, ready_checks, finish_checks};
 
 use crate::actions::OpenActions;
-use crate::held::Held;
+use crate::holder::Holder;
 use crate::tally::Tally;
 use std::alloc::Global;
 use std::marker::Model;
@@ -37,7 +37,7 @@ use tp_store::{Begun, Counts, Delivered, Life, TaskItem, TaskStore};
 /// call names, in their order.
 #[derive(Drop)]
 pub struct Local {
-    store: Held<TaskStore<RawSlots<TaskItem<Value>>, Value>>,
+    store: Holder<TaskStore<RawSlots<TaskItem<Value>>, Value>>,
     actions: OpenActions,
     tally: Tally,
 }
@@ -65,7 +65,7 @@ impl Local {
         ensures counted { pending_here result ≡ 1 }
     {
         Local {
-            store: Held {
+            store: Holder {
                 value: TaskStore::new(alloc),
             },
             actions: OpenActions::new(alloc),
@@ -176,7 +176,6 @@ impl Local {
         ensures active { OnSome result (0 < pending_here self.old) }
         ensures sound { IsSound self.old.store }
     {
-        let _results = self.store.value.results();
         self.store.value.begin()
     }
 

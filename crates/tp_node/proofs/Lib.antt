@@ -1,6 +1,7 @@
 pub mod Right
 pub mod Putting
 pub mod Kept
+pub mod Brought
 pub mod Answering
 pub mod Turns
 pub mod Begins

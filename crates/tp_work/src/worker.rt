@@ -51,7 +51,7 @@ struct Hands<G: Graph> {
 }
 
 /// What a turn did.
-enum Turn<K: Ledgers> {
+enum WorkerTurn<K: Ledgers> {
     /// There was nothing to do.
     Idle,
     /// Something was done.
@@ -115,21 +115,21 @@ impl<'a, G: Comparable, K: Ledgers, A: Gate, R: Wait> Worker<'a, G, K, A, R> {
         let mut seen = None;
         for _ in self.rt.forever() {
             match self.turn(site, hands, idle, &mut seen)? {
-                Turn::Idle => {
+                WorkerTurn::Idle => {
                     idle = idle.saturating_add(1);
                     if idle >= self.idle_turns {
                         return Err(Refusal::Stalled(idle));
                     }
                     self.rest(site, seen, idle);
                 }
-                Turn::Moved => idle = 0,
-                Turn::Begun => {
+                WorkerTurn::Moved => idle = 0,
+                WorkerTurn::Begun => {
                     site.call_for_waiting();
                     self.perform(hands, idle)?;
                     idle = 0;
                 }
-                Turn::Over(ended) => return self.announce(ended),
-                Turn::Stop => return Ok(()),
+                WorkerTurn::Over(ended) => return self.announce(ended),
+                WorkerTurn::Stop => return Ok(()),
             }
         }
         unreachable!()
@@ -178,7 +178,7 @@ impl<'a, G: Comparable, K: Ledgers, A: Gate, R: Wait> Worker<'a, G, K, A, R> {
         hands: &mut Hands<G>,
         idle: u32,
         seen: &mut Option<Seen>,
-    ) -> Result<Turn<K>, Refusal> {
+    ) -> Result<WorkerTurn<K>, Refusal> {
         let mut desk = lock_soon(self.rt, &site.desk);
         self.turn_at(&mut desk, site, hands, idle, seen)
     }
@@ -192,26 +192,26 @@ impl<'a, G: Comparable, K: Ledgers, A: Gate, R: Wait> Worker<'a, G, K, A, R> {
         hands: &mut Hands<G>,
         idle: u32,
         seen: &mut Option<Seen>,
-    ) -> Result<Turn<K>, Refusal> {
+    ) -> Result<WorkerTurn<K>, Refusal> {
         check_node(&desk.node, self.place, &self.graph)?;
         if let Some(finished) = hands.finished.take() {
             self.pass_on(&mut desk.node, finished)?;
         }
         if self.locks.is_stopped.load(Ordering::SeqCst) {
-            return Ok(Turn::Stop);
+            return Ok(WorkerTurn::Stop);
         }
         if !self.gate.inside(self.place) {
             return Err(Refusal::Stalled(idle));
         }
         match desk.node.state() {
-            TaskpoolState::Terminated => Ok(Turn::Stop),
+            TaskpoolState::Terminated => Ok(WorkerTurn::Stop),
             TaskpoolState::NotReady => self.open(&mut desk.node, site),
             _ => self.go_on(desk, site, hands, seen),
         }
     }
 
     /// Inserts input-free tasks, and closes the opening action after the last.
-    fn open(&self, here: &mut Node<G, K>, site: &Site<Desk<G, K>>) -> Result<Turn<K>, Refusal>
+    fn open(&self, here: &mut Node<G, K>, site: &Site<Desk<G, K>>) -> Result<WorkerTurn<K>, Refusal>
         ensures { here.new.graph ≡ here.old.graph }
     {
         let mut board = lock_soon(self.rt, &self.locks.board);
@@ -219,7 +219,7 @@ impl<'a, G: Comparable, K: Ledgers, A: Gate, R: Wait> Worker<'a, G, K, A, R> {
         drop(board);
         site.tell_waiting(here.counts().ready as u64);
         opened?;
-        Ok(Turn::Moved)
+        Ok(WorkerTurn::Moved)
     }
 
     /// A turn of a node whose opening action is closed.
@@ -230,17 +230,17 @@ impl<'a, G: Comparable, K: Ledgers, A: Gate, R: Wait> Worker<'a, G, K, A, R> {
         site: &Site<Desk<G, K>>,
         hands: &mut Hands<G>,
         seen: &mut Option<Seen>,
-    ) -> Result<Turn<K>, Refusal> {
+    ) -> Result<WorkerTurn<K>, Refusal> {
         if site.mail.load(Ordering::SeqCst) > 0 && self.receive(&mut desk.node, site)? {
             site.tell_waiting(desk.waiting());
-            return Ok(Turn::Moved);
+            return Ok(WorkerTurn::Moved);
         }
         let waiting = desk.waiting();
         site.tell_waiting(waiting.saturating_sub(1));
         if waiting > 0 {
             self.next_work(desk, &mut hands.begun)?;
             if hands.begun.is_some() {
-                return Ok(Turn::Begun);
+                return Ok(WorkerTurn::Begun);
             }
         }
         self.control(&mut desk.node, seen)
@@ -263,7 +263,7 @@ impl<'a, G: Comparable, K: Ledgers, A: Gate, R: Wait> Worker<'a, G, K, A, R> {
     }
 
     /// Makes a control step, where the node can make one.
-    fn control(&self, here: &mut Node<G, K>, seen: &mut Option<Seen>) -> Result<Turn<K>, Refusal>
+    fn control(&self, here: &mut Node<G, K>, seen: &mut Option<Seen>) -> Result<WorkerTurn<K>, Refusal>
         ensures { here.new ≡ here.old }
     {
         let now = Some(Seen {
@@ -271,19 +271,19 @@ impl<'a, G: Comparable, K: Ledgers, A: Gate, R: Wait> Worker<'a, G, K, A, R> {
             pending: here.pending(),
         });
         if *seen == now {
-            return Ok(Turn::Idle);
+            return Ok(WorkerTurn::Idle);
         }
         match self.control_turn(here)? {
             ControlTurn::Idle => {
                 *seen = now;
-                Ok(Turn::Idle)
+                Ok(WorkerTurn::Idle)
             }
             ControlTurn::Moved => {
                 self.locks.control_steps.fetch_add(1, Ordering::SeqCst);
                 self.locks.ring_beside(self.place);
-                Ok(Turn::Moved)
+                Ok(WorkerTurn::Moved)
             }
-            ControlTurn::Over(ended) => Ok(Turn::Over(ended)),
+            ControlTurn::Over(ended) => Ok(WorkerTurn::Over(ended)),
         }
     }
 

@@ -96,6 +96,8 @@ impl<G: Graph, K: Ledgers> Node<G, K> {
     {
         board.audit_ended(ended);
         board.audit(&mut self.shares);
+        // That each task has one result is known by a call of the store alone, and the announcement calls none. The answer is
+        // not used, so it costs no instruction.
         let _results = self.local.results();
         self.local.announce();
     }

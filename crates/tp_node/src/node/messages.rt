@@ -89,7 +89,7 @@ impl<G: Graph, K: Ledgers> Node<G, K> {
         ensures refused { OnErr result (Appends [] board.old board.new × (self.new ≡ self.old)) }
     {
         let feed = parcel.feed();
-        let _is_open = self.local.has_message(parcel.number());
+        let _ = &self.local; // the open action is pending
         if let Err(refusal) = self.room_to_deliver(board, feed) {
             return Err((refusal, parcel));
         }
@@ -200,7 +200,6 @@ impl<G: Graph, K: Ledgers> Node<G, K> {
             ≡ after (ending_of (generation_of board.old) message.0 self.old)
             (with_actions (without_message self.old.state.actions message.0) self.old.state) self.old }
     {
-        let _is_open = self.local.has_message(message);
         let Ok(()) = board.append_end(message, &mut self.shares) else {
             unreachable!()
         };
