@@ -123,7 +123,7 @@ impl<'a> Graph for Product<'a> {
     }
 
     fn body(&self, alloc: Global, task: TaskId, inputs: &[Value]) -> Result<Value, Refusal> {
-        let matrices = Matrices {
+        let matrices = LentMatrices {
             left: self.left,
             right: self.right,
             order: self.tiles as usize * self.side as usize,

@@ -1,9 +1,9 @@
 use Rattle.std.proofs.Common.{◌+◌, ◌≤◌, arith}
 use Rattle.pool_rows.proofs.Places.{not_whole}
 use Rattle.pool_rows.proofs.Taken.{read_columns, read_none}
-use Rattle.pool_rows.proofs.read.Reading.finish.Goals.{else-lines-order-via-then-lines-order+else-lines-order-2}
-use Rattle.pool_rows.proofs.read.Reading.finish.Goals.{else-lines-order-via-else-lines-order}
-use Rattle.pool_rows.proofs.read.Reading.finish.Goals as goal
+use Rattle.pool_rows.proofs.read.MatrixReading.finish.Goals.{else-lines-order-via-then-lines-order+else-lines-order-2}
+use Rattle.pool_rows.proofs.read.MatrixReading.finish.Goals.{else-lines-order-via-else-lines-order}
+use Rattle.pool_rows.proofs.read.MatrixReading.finish.Goals as goal
 
 pub returns-then-lines-eq0-clause-missing : goal.returns-then-lines-eq0-clause-missing
 returns-then-lines-eq0-clause-missing c seen long read = read_none seen (omega (arith, long, c.if-lines-eq0.true))

@@ -1,6 +1,6 @@
 use Rattle.std.proofs.Common.{◌≡◌, rules}
 use Rattle.pool_grid_rows.proofs.Taken.{kept, taken_next}
-use Rattle.pool_grid_rows.proofs.read.Reading.take.Goals as goal
+use Rattle.pool_grid_rows.proofs.read.GridReading.take.Goals as goal
 
 pub returns-clause-taken : goal.returns-clause-taken
 returns-clause-taken c = λ seen long rows.

@@ -2,7 +2,7 @@ use Rattle.std.proofs.Common.{◌+◌, ◌<◌, ◌≤◌, length, arith}
 use Rattle.std.proofs.lemmas.Result.{IfErr-weaker, on_ok_weaker}
 use Rattle.pool_rows.proofs.Taken.{first_taken, first_refused, above_taken, above_refused, between_taken, between_refused, below_taken}
 use Rattle.pool_rows.proofs.Taken.{below_refused, too_many}
-use Rattle.pool_rows.proofs.read.Reading.take.Goals as goal
+use Rattle.pool_rows.proofs.read.MatrixReading.take.Goals as goal
 
 pub returns-then-before-eq0-clause-taken : goal.returns-then-before-eq0-clause-taken
 returns-then-before-eq0-clause-taken c =
