@@ -174,7 +174,7 @@ pub agree_after : {c d : Inside} {mid : List Step} {room : ℕ} (s : Step) → I
     → HasTasks d.tasks (after s (world c.nodes (present (accepted c).steps))).tasks
     → HasActions d.opening d.named d.messages (after s (world c.nodes (present (accepted c).steps))).actions
     → HasMessages d.messages (after s (world c.nodes (present (accepted c).steps))).messages
-        (after s (world c.nodes (present (accepted c).steps))).numbers
+    (after s (world c.nodes (present (accepted c).steps))).numbers
     → HasPlaces (s ∷ present (accepted c).steps) d.tasks d.named d.messages
     → Follows c.nodes (s ∷ present (accepted c).steps) d.wave
     → IsKept d
@@ -214,13 +214,13 @@ pub agree_next : {c d : Inside} {mid : List Step} {room : ℕ} (s : Step) → Is
     → HasTasks d.tasks (after s (world c.nodes (present (accepted c).steps))).tasks
     → HasActions d.opening d.named d.messages (after s (world c.nodes (present (accepted c).steps))).actions
     → HasMessages d.messages (after s (world c.nodes (present (accepted c).steps))).messages
-        (after s (world c.nodes (present (accepted c).steps))).numbers
+    (after s (world c.nodes (present (accepted c).steps))).numbers
     → HasPlaces (s ∷ present (accepted c).steps) d.tasks d.named d.messages
     → IsKept d
 agree_next {c} {d} s agree comes on room pieces frugal pool nodes same_generation wave stay pushed capacity numbers left under tasks
     actions messages places =
     agree_after s agree comes on room pieces frugal nodes same_generation stay pushed capacity numbers left under tasks actions messages
-        places
+    places
     (rw wave (pool_step c.nodes (present (accepted c).steps) s c.wave pool agree.wave))
 
 -- where a step was refused, after more room was made

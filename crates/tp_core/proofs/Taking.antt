@@ -55,7 +55,7 @@ no_room {c} {old} s agree is lawful r told stay = (
   subst (λ (a : Accepted). IsRefusedFor (refusal a s) (asks_memory a s) r) is (
       rw (refused_for_room (accepted c) s lawful, length-reverse c.steps.items)
       (weaken (first_refusal (room_check (length c.steps.items))) (begins_piece (length c.steps.items))
-          (keeps_more (present (accepted c).steps) s) r told)
+      (keeps_more (present (accepted c).steps) s) r told)
       ),
   rw stay is,
 )

@@ -22,7 +22,7 @@ telling n w steps some run first ended =
     let same = steps_of-history n steps in
     subst (λ (xs : List Step). AreTelling n w xs) same
     (two_sums_law n w (history n steps) (is_run n steps some run) first
-        (subst (λ (xs : List Step). IsEndedWave (w + 1) xs) (sym same) ended))
+    (subst (λ (xs : List Step). IsEndedWave (w + 1) xs) (sym same) ended))
 
 pub two_numbers_tell : TwoNumbersTell
 two_numbers_tell n steps some runs later past is =

@@ -130,9 +130,9 @@ module _ (pool : ℕ) (g : TaskGraph) {G : Type 0} (graph : G) (nodes next : ℕ
           done = ap (λ z. z.done) em ∙ kept.counted.done ∙ sym (ap (λ z. length z.store.results) ek);
         })
         (subst (λ (z : LocalState Numbers). AreRightValues g z.store) (sym ek)
-            (right-inserted g l.store t class kept.right known (sym free)))
+        (right-inserted g l.store t class kept.right known (sym free)))
         (subst (λ (z : LocalState Numbers). AreHere g nodes m.node z.store) (sym ek)
-            (here-put g nodes m.node l.store t kept.here (fresh 0 class) lives))
+        (here-put g nodes m.node l.store t kept.here (fresh 0 class) lives))
         (ap (λ z. z.node) em)
         (subst (λ (z : LocalState Numbers). KeepsKnown l.store z.store) (sym ek) (known-put l.store t (fresh 0 class)))
 
@@ -170,10 +170,10 @@ module _ (pool : ℕ) (g : TaskGraph) {G : Type 0} (graph : G) (nodes next : ℕ
           done = ap (λ z. z.done) em ∙ put_done known inputs ∙ kept.counted.done ∙ sym (ap (λ z. length z.store.results) ek);
         })
         (subst (λ (z : LocalState Numbers). AreRightValues g z.store) (sym ek)
-            (right-delivered g l.store t class slot value kept.right input))
+        (right-delivered g l.store t class slot value kept.right input))
         (subst (λ (z : LocalState Numbers). AreHere g nodes m.node z.store) (sym ek)
         (here-put g nodes m.node l.store t kept.here (with_value (unwrap_or (task_of l.store t) (fresh (g.arity t.0) class)) slot value)
-            lives))
+        lives))
         (ap (λ z. z.node) em)
         (subst (λ (z : LocalState Numbers). KeepsKnown l.store z.store) (sym ek)
         (known-put l.store t (with_value (unwrap_or (task_of l.store t) (fresh (g.arity t.0) class)) slot value)))

@@ -168,7 +168,8 @@ fn begin_works<G: Graph, K: Ledgers>(
     board: &mut Board<K>,
     count: u32,
     works: &mut Vec<Work<G>>,
-) requires empty { works.old.items ≡ [] }
+)
+    requires empty { works.old.items ≡ [] }
     requires room { count ≤ vec_capacity works.old }
     ensures few { vec_len works.new ≤ count }
     ensures begun { BeginsEach works.new.items node.old node.new board.old board.new }

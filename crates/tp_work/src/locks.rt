@@ -113,11 +113,7 @@ impl<N: Drop, W: Drop> Room<N, W> {
 
 impl<G: Graph, K: Ledgers> Locks<G, K> {
     /// Puts the parts of a pool under locks, into the room that was made for them.
-    pub fn new(
-        alloc: Global,
-        pool: Pool<G, K>,
-        room: Room<Site<Desk<G, K>>, Line<G, K>>,
-    ) -> Self
+    pub fn new(alloc: Global, pool: Pool<G, K>, room: Room<Site<Desk<G, K>>, Line<G, K>>) -> Self
         requires nodes { (room.nodes.items ≡ []) × (vec_len pool.nodes ≤ vec_capacity room.nodes) }
         requires links { (room.links.items ≡ []) × (vec_len pool.links ≤ vec_capacity room.links) }
         ensures nodes { vec_len result.sites ≡ vec_len pool.nodes }
@@ -232,7 +228,8 @@ fn lock_nodes<G: Graph, K: Ledgers>(
     alloc: Global,
     nodes: Vec<Node<G, K>>,
     sites: &mut Vec<Site<Desk<G, K>>>,
-) requires { (sites.old.items ≡ []) × (vec_len nodes ≤ vec_capacity sites.old) }
+)
+    requires { (sites.old.items ≡ []) × (vec_len nodes ≤ vec_capacity sites.old) }
     ensures { vec_len sites.new ≡ vec_len nodes }
 {
     for node in nodes {

@@ -249,11 +249,7 @@ impl<'a, G: Comparable, K: Ledgers, A: Gate, R: Wait> Worker<'a, G, K, A, R> {
     /// Puts the next work of the desk into the worker's hands. Where none waits there, the worker's share of the ready tasks
     /// begins.
     #[inline(always)]
-    fn next_work(
-        &self,
-        desk: &mut Desk<G, K>,
-        begun: &mut Option<Work<G>>,
-    ) -> Result<(), Refusal> {
+    fn next_work(&self, desk: &mut Desk<G, K>, begun: &mut Option<Work<G>>) -> Result<(), Refusal> {
         if let Some(work) = desk.take() {
             *begun = Some(work);
             return Ok(());
@@ -263,7 +259,11 @@ impl<'a, G: Comparable, K: Ledgers, A: Gate, R: Wait> Worker<'a, G, K, A, R> {
     }
 
     /// Makes a control step, where the node can make one.
-    fn control(&self, here: &mut Node<G, K>, seen: &mut Option<Seen>) -> Result<WorkerTurn<K>, Refusal>
+    fn control(
+        &self,
+        here: &mut Node<G, K>,
+        seen: &mut Option<Seen>,
+    ) -> Result<WorkerTurn<K>, Refusal>
         ensures { here.new ≡ here.old }
     {
         let now = Some(Seen {

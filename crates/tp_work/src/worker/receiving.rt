@@ -13,11 +13,7 @@ use tp_node::{Node, Wire};
 
 impl<'a, G: Comparable, K: Ledgers, A: Gate, R: Wait> Worker<'a, G, K, A, R> {
     /// Receives a message and delivers its value, where there is one.
-    pub fn receive(
-        &self,
-        here: &mut Node<G, K>,
-        site: &Site<Desk<G, K>>,
-    ) -> Result<bool, Refusal>
+    pub fn receive(&self, here: &mut Node<G, K>, site: &Site<Desk<G, K>>) -> Result<bool, Refusal>
         ensures { here.new.graph ≡ here.old.graph }
     {
         let (number, nodes) = (here.number(), here.nodes());

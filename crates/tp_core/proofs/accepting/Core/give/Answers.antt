@@ -87,7 +87,7 @@ invariant_of-self-2 c =
     let at = (goal.at.invariant_of-self-2 c).After-make_room in
     let there = counted (goal.at.invariant_of-self-2 c).After-give in
     agree_after (Give c.args.node) agree (comes at) refl (c.in_ok-make_room.ensures.ok).0 c.in_ok-make_room.ensures.pieces
-        c.make_room.ensures.frugal refl refl c.make_room.ensures.items c.push_reserved.ensures.items c.push_reserved.ensures.capacity
+    c.make_room.ensures.frugal refl refl c.make_room.ensures.items c.push_reserved.ensures.items c.push_reserved.ensures.capacity
     (numbers_stay (Give c.args.node) agree.numbers (lawful at) (λ x. refl)) refl refl agree.tasks agree.actions agree.messages
     (control_places (Give c.args.node ∷ []) _ refl agree.places)
     (c.in_ok-sums.ensures.follows c.self.inside.nodes (present (accepted c.self.inside).steps) agree.wave

@@ -52,7 +52,7 @@ invariant_of-self-2 c =
     let s = ActionOpen c.args.node c.args.action in
     let at = (goal.at.invariant_of-self-2 c).After-make_room in
     agree_next s agree (comes at) refl (c.in_ok-make_room.ensures.ok).0 c.in_ok-make_room.ensures.pieces c.make_room.ensures.frugal refl
-        refl refl refl c.make_room.ensures.items c.push_reserved.ensures.items c.push_reserved.ensures.capacity
+    refl refl refl c.make_room.ensures.items c.push_reserved.ensures.items c.push_reserved.ensures.capacity
     (numbers_written s agree.numbers (lawful at) c.args.node.0 _ (low at) refl refl) refl refl agree.tasks
     (named_opened agree.actions _ c.args.node.0 c.args.action.0 _ c.in_ok-insert.ensures.ok
     (λ i. c.with.ensures i ∙ grind (arith, c.get.ensures, c.new.ensures i, c.unwrap_or-nodes.ensures)))
@@ -64,10 +64,10 @@ returns-in_err-insert c =
     let p = err_from_is_err_and c.from_residual-in_err-insert.result c.from_residual-in_err-insert.ensures.1 in
     rw p.1
     (no_memory (ActionOpen c.args.node c.args.action) c.self.invariant c.self.view_is
-        (comes (goal.at.returns-in_err-insert c).After-make_room)
+    (comes (goal.at.returns-in_err-insert c).After-make_room)
     (c.in_ok-make_room.ensures.ok).0
     (asks (any (is_action_beside c.args.action.0) (present (accepted c.self.inside).steps)) _
-        (c.self.invariant.places.named c.args.action.0) c.in_err-insert.ensures.grows) _ p.2 c.make_room.ensures.items)
+    (c.self.invariant.places.named c.args.action.0) c.in_err-insert.ensures.grows) _ p.2 c.make_room.ensures.items)
 
 pub returns-in_err-make_room : goal.returns-in_err-make_room
 returns-in_err-make_room c =

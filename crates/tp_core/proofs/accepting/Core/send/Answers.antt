@@ -56,11 +56,11 @@ invariant_of-self-2 c =
     let s = Send c.args.from c.args.to c.args.message c.args.generation in
     let at = (goal.at.invariant_of-self-2 c).After-make_room in
     agree_next s agree (comes at) refl (c.in_ok-make_room.ensures.ok).0 c.in_ok-make_room.ensures.pieces c.make_room.ensures.frugal refl
-        refl refl refl c.make_room.ensures.items c.push_reserved.ensures.items c.push_reserved.ensures.capacity
+    refl refl refl c.make_room.ensures.items c.push_reserved.ensures.items c.push_reserved.ensures.capacity
     (numbers_written s agree.numbers (lawful at) c.args.from.0 _ (low at) refl refl) refl refl agree.tasks
     (posted agree.actions _ c.args.message.0 c.args.to (fresh at) (rw c.new-under_way.ensures at c.in_ok-insert.ensures.ok))
     (message_sent agree.messages _ c.args.from.0 c.args.message.0 c.args.to (fresh at)
-        (rw c.new-under_way.ensures at c.in_ok-insert.ensures.ok))
+    (rw c.new-under_way.ensures at c.in_ok-insert.ensures.ok))
     (places_next s agree.places (λ k h. h) (λ k h. h) c.insert.ensures.keeps (λ k h. cc) (λ k h. cc) c.in_ok-insert.ensures.page)
 
 pub returns-in_err-make_room : goal.returns-in_err-make_room
@@ -76,10 +76,10 @@ returns-in_err-insert c =
     let p = err_from_is_err_and c.from_residual-in_err-insert.result c.from_residual-in_err-insert.ensures.1 in
     rw p.1
     (no_memory (Send c.args.from c.args.to c.args.message c.args.generation) c.self.invariant c.self.view_is
-        (comes (goal.at.returns-in_err-insert c).After-make_room)
+    (comes (goal.at.returns-in_err-insert c).After-make_room)
     (c.in_ok-make_room.ensures.ok).0
     (asks (any (is_message_beside c.args.message.0) (present (accepted c.self.inside).steps)) _
-        (c.self.invariant.places.messages c.args.message.0) c.in_err-insert.ensures.grows) _ p.2 c.make_room.ensures.items)
+    (c.self.invariant.places.messages c.args.message.0) c.in_err-insert.ensures.grows) _ p.2 c.make_room.ensures.items)
 
 pub returns : goal.returns
 returns c =

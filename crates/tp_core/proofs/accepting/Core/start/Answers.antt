@@ -50,7 +50,7 @@ invariant_of-self-2 c =
     let agree = c.self.invariant in
     let at = (goal.at.invariant_of-self-2 c).After-make_room in
     agree_after Start agree (comes at) refl (c.in_ok-make_room.ensures.ok).0 c.in_ok-make_room.ensures.pieces c.make_room.ensures.frugal
-        refl refl c.make_room.ensures.items c.push_reserved.ensures.items c.push_reserved.ensures.capacity
+    refl refl c.make_room.ensures.items c.push_reserved.ensures.items c.push_reserved.ensures.capacity
     (numbers_stay Start agree.numbers (lawful at) (λ x. refl)) refl refl agree.tasks agree.actions agree.messages
     (control_places (Start ∷ []) _ refl agree.places)
     (c.in_ok-start.ensures.follows c.self.inside.nodes (present (accepted c.self.inside).steps) agree.wave)

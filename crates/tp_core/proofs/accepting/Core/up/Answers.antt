@@ -42,7 +42,7 @@ invariant_of-self-2 c =
     let agree = c.self.invariant in
     let at = (goal.at.invariant_of-self-2 c).After-make_room in
     agree_after (Up c.args.node) agree (comes at) refl (c.in_ok-make_room.ensures.ok).0 c.in_ok-make_room.ensures.pieces
-        c.make_room.ensures.frugal refl refl c.make_room.ensures.items c.push_reserved.ensures.items c.push_reserved.ensures.capacity
+    c.make_room.ensures.frugal refl refl c.make_room.ensures.items c.push_reserved.ensures.items c.push_reserved.ensures.capacity
     (numbers_stay (Up c.args.node) agree.numbers (lawful at) (λ x. refl)) refl refl agree.tasks agree.actions agree.messages
     (control_places (Up c.args.node ∷ []) _ refl agree.places)
     (c.in_ok-up.ensures.follows c.self.inside.nodes (present (accepted c.self.inside).steps) agree.wave)

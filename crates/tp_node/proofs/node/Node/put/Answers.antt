@@ -15,19 +15,19 @@ pub invariant_of-self-2 : goal.invariant_of-self-2
 invariant_of-self-2 g c =
     let input : IsInput (g.G.Graph.meaning c.self.inside.graph) c.args.feed.target.0 c.args.feed.slot c.args.value =
     subst (λ (n : NodeState g.row.G.Denot). IsInput (g.G.Graph.meaning n.graph) c.args.feed.target.0 c.args.feed.slot c.args.value)
-        (sym c.self.view_is) c.requires.input in
+    (sym c.self.view_is) c.requires.input in
     let lives : (g.G.Graph.meaning c.self.inside.graph).home c.args.feed.target.0 c.self.inside.nodes ≡ c.self.inside.shares.node =
     subst (λ (n : NodeState g.row.G.Denot). (g.G.Graph.meaning n.graph).home c.args.feed.target.0 n.nodes ≡ n.numbers.node)
-        (sym c.self.view_is) c.requires.here in
+    (sym c.self.view_is) c.requires.here in
     let step : c.putting_step-step.result ≡ (if is_some (task_of c.self.inside.local.store c.args.feed.target) then Supply
-        c.args.feed.target else inserting c.self.inside.shares.node c.args.feed.target (c.arity-arity.result - 1)) =
+    c.args.feed.target else inserting c.self.inside.shares.node c.args.feed.target (c.arity-arity.result - 1)) =
     subst
     (λ (n : NodeState g.row.G.Denot). c.putting_step-step.result
     ≡ (if is_some (task_of n.state.store c.args.feed.target) then Supply c.args.feed.target else inserting n.numbers.node
     c.args.feed.target (c.arity-arity.result - 1)))
     (sym c.self.view_is) c.putting_step-step.ensures in
     put_keeps _ _ _ _ _ _ _ c.args.feed.target _ _ c.self.invariant c.putting_step-step.result _ (c.arity-arity.result - 1)
-        c.class-class.result c.args.feed.slot c.args.value input lives
+    c.class-class.result c.args.feed.slot c.args.value input lives
     (rw c.arity-arity.ensures at c.in_ok-deliver.ensures.delivered) step c.in-Ok.ensures.shares
     (c.in_ok-deliver.ensures.counted ∙ ap (λ d. pending_here c.self.inside.local + inserted_by d) c.in_ok-deliver.ensures.answer
     ∙ ap (λ n. pending_here c.self.inside.local + n)
