@@ -6,7 +6,8 @@ status 2.
 import argparse
 
 from . import bench, build, capi, demo, docs, drawn, gate_times, lanes, library, limits, new_pool, soak, tries, wrong
-from .limits import cuts, generations, hostile_numbers, memory, pictures, random_texts, refuse, refuse_tests, stacks, strange
+from .limits import cuts, generations, hostile_numbers, live, memory, pictures, random_texts, refuse, refuse_tests
+from .limits import stacks, strange
 
 COMMANDS = {
     "build": build,
@@ -27,6 +28,7 @@ LIMITS = {
     "refuse": refuse,
     "refuse-tests": refuse_tests,
     "memory": memory,
+    "live": live,
     "stacks": stacks,
     "hostile-numbers": hostile_numbers,
     "generations": generations,
