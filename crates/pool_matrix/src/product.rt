@@ -2,7 +2,7 @@ ghost use Rattle.std.specs.Prelude.{◌≡◌, ◌<◌, ◌≤◌, ◌+◌, ◌-
 ghost use Rattle.pool_matrix.specs.Matrices.{AreMatrices, AreNoMatrices, IsProduct, matrix_graph};
 ghost use Rattle.pool_matrix.specs.MatrixLaws.{matrix_lawful};
 
-use crate::row::Matrices;
+use crate::row::LentMatrices;
 use crate::tile::make_tile;
 use std::alloc::Global;
 use tp_base::{NodeId, Refusal, TaskId};
