@@ -6,3 +6,4 @@ pub mod Answering
 pub mod Turns
 pub mod Begins
 pub mod Gathering
+pub mod Running

@@ -9,12 +9,12 @@ use Rattle.tp_node.proofs.Brought.{brought_counts}
 use Rattle.tp_node.proofs.node.Node.deliver.Goals as goal
 
 pub room_to_deliver-requires-clause-active : goal.room_to_deliver-requires-clause-active
-room_to_deliver-requires-clause-active g c =
+room_to_deliver-requires-clause-active g c κs within =
     subst (λ (n : NodeState g.row.G.Denot). HasBrought (g.G.Graph.meaning n.graph) n c.args.parcel → 0 < n.numbers.pending) c.self.view_is
     (brought_counts _ _ _ _ c.args.parcel c.self.invariant) c.requires.brought
 
 pub put-requires-clause-active : goal.put-requires-clause-active
-put-requires-clause-active g c =
+put-requires-clause-active g c κs within =
     subst (λ (n : NodeState g.row.G.Denot). HasBrought (g.G.Graph.meaning n.graph) n c.args.parcel → 0 < n.numbers.pending) c.self.view_is
     (brought_counts _ _ _ _ c.args.parcel c.self.invariant) c.requires.brought
 

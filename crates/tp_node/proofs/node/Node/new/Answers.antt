@@ -19,6 +19,6 @@ invariant_of-result g c = record {
   right = subst (λ (l : LocalState Numbers). AreRightValues (g.G.Graph.meaning c.args.graph) l.store) (sym c.new.ensures.first)
       (right_at_first _);
   here = subst (λ (l : LocalState Numbers). AreHere (g.G.Graph.meaning c.args.graph) c.args.nodes c.args.shares.node l.store)
-      (sym c.new.ensures.first) (here_at_first _ _ _);
+      (sym c.new.ensures.first) (here_at_first (g.G.Graph.meaning c.args.graph) c.args.nodes c.args.shares.node);
   seeded = λ u low seed. absurd (omega arith);
 }

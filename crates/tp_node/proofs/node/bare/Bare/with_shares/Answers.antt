@@ -23,6 +23,6 @@ invariant_of-result g c =
       right = subst (λ (l : LocalState Numbers). AreRightValues (g.G.Graph.meaning c.self.inside.graph) l.store) (sym c.self.invariant.0)
           (right_at_first _);
       here = subst (λ (l : LocalState Numbers). AreHere (g.G.Graph.meaning c.self.inside.graph) c.self.inside.nodes c.args.shares.node
-          l.store) (sym c.self.invariant.0) (here_at_first _ _ _);
+          l.store) (sym c.self.invariant.0) (here_at_first (g.G.Graph.meaning c.self.inside.graph) c.self.inside.nodes c.args.shares.node);
       seeded = λ u low seed. absurd (omega arith);
     }
