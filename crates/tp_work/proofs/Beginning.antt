@@ -43,7 +43,7 @@ module _ {G : Type 0} where
       → BeginsEach ws old new b l
   rests_then [] old mid new b m l rest each = (nothing_then [] b m l rest.0 each.0, each.1 ∙ rest.1)
   rests_then (w ∷ ws) old mid new b m l rest each =
-      (each.0, (each.1.0, (first_rests old mid each.0 b m each.1.0 w rest each.1.1.0, each.1.1.1)))
+      (each.0, each.1, first_rests old mid each.0 b m each.1 w rest each.2, each.3)
 
   pub nothing_begun : (n : NodeState G) (b : BoardState) → Rests n n b b
   nothing_begun n b = (record { history = refl; limit = refl; reserved = omega arith; fault = refl }, refl)
@@ -51,35 +51,35 @@ module _ {G : Type 0} where
   -- one more behind them
   pub then_one : (ws : List (Begun G)) (old mid new : NodeState G) (b m l : BoardState) (w : Begun G) → BeginsEach ws old mid b m
       → Begins mid new m l w → BeginsEach (ws ++ w ∷ []) old new b l
-  then_one [] old mid new b m l w each begins = (new, (l, (first_rests old mid new b m l w each begins, nothing_begun new l)))
+  then_one [] old mid new b m l w each begins = (new, l, first_rests old mid new b m l w each begins, nothing_begun new l)
   then_one (v ∷ ws) old mid new b m l w each begins =
-      (each.0, (each.1.0, (each.1.1.0, then_one ws each.0 mid new each.1.0 m l w each.1.1.1 begins)))
+      (each.0, each.1, each.2, then_one ws each.0 mid new each.1 m l w each.3 begins)
 
   -- nothing more begins
   pub then_rests : (ws : List (Begun G)) (old mid new : NodeState G) (b m l : BoardState) → BeginsEach ws old mid b m
       → Rests mid new m l → BeginsEach ws old new b l
   then_rests [] old mid new b m l each rest = (nothing_then [] b m l each.0 rest.0, rest.1 ∙ each.1)
   then_rests (v ∷ ws) old mid new b m l each rest =
-      (each.0, (each.1.0, (each.1.1.0, then_rests ws each.0 mid new each.1.0 m l each.1.1.1 rest)))
+      (each.0, each.1, each.2, then_rests ws each.0 mid new each.1 m l each.3 rest)
 
   -- what a call of `begin` comes to, before others
   pub begun_before : (o : Option (Begun G)) (ws : List (Begun G)) (old mid new : NodeState G) (b m l : BoardState)
       → MatchOption o ((next_task old ≡ None) × Rests old mid b m) (Begins old mid b m) → BeginsEach ws mid new m l
       → BeginsEach (option_to_list o ++ ws) old new b l
   begun_before None ws old mid new b m l is each = rests_then ws old mid new b m l is.1 each
-  begun_before (Some w) ws old mid new b m l is each = (mid, (m, (is, each)))
+  begun_before (Some w) ws old mid new b m l is each = (mid, m, is, each)
 
   pub same_graph : (ws : List (Begun G)) (old new : NodeState G) (b l : BoardState) → BeginsEach ws old new b l → new.graph ≡ old.graph
   same_graph [] old new b l each = ap (λ (n : NodeState G). n.graph) each.1
   same_graph (w ∷ ws) old new b l each =
-      same_graph ws each.0 new each.1.0 l each.1.1.1 ∙ ap (λ (n : NodeState G). n.graph) each.1.1.0.begun
+      same_graph ws each.0 new each.1 l each.3 ∙ ap (λ (n : NodeState G). n.graph) each.2.begun
 
   of_graph : (ws : List (Begun G)) (old new : NodeState G) (b l : BoardState) → BeginsEach ws old new b l
       → All (λ (w : Begun G). w.graph ≡ new.graph) ws
   of_graph [] old new b l each = All-nil (λ (w : Begun G). w.graph ≡ new.graph)
   of_graph (w ∷ ws) old new b l each =
-      All-cons (λ (x : Begun G). x.graph ≡ new.graph) w ws (each.1.1.0.graph ∙ sym (same_graph (w ∷ ws) old new b l each))
-      (of_graph ws each.0 new each.1.0 l each.1.1.1)
+      All-cons (λ (x : Begun G). x.graph ≡ new.graph) w ws (each.2.graph ∙ sym (same_graph (w ∷ ws) old new b l each))
+      (of_graph ws each.0 new each.1 l each.3)
 
   -- ---- the desk
   abbrev desk : NodeState G → List (Begun G) → DeskState G
