@@ -1,6 +1,7 @@
 ghost use Rattle.std.specs.Prelude.{◌≡◌, ◌≤◌, ◌⊎◌, MatchResult, map};
 ghost use Rattle.pool_cells.specs.Texts.{AreLines, lines_of};
-ghost use Rattle.pool_rod.specs.Heats.{evolve};
+ghost use Rattle.pool_block_runs.specs.Runs.{HasRunInParts};
+ghost use Rattle.pool_rod.specs.Heats.{block_heated, evolve, heated};
 ghost use Rattle.pool_cli.specs.Faults.{complaint, status_of};
 ghost use Rattle.pool_cli.specs.Programs.{AsksForSome, HasAnswered, HasFailed};
 ghost use Rattle.pool_cli.specs.Rods.{AreBadLines, AreSuited, AreUnsuited, IsWithoutRod, heat_program};
@@ -80,12 +81,12 @@ pub fn heat_watched<
 
 /// The cells of a rod, as the lines of a text spell them.
 #[derive(Drop)]
-pub(crate) struct Cells {
+pub(crate) struct RodCells {
     pub(crate) numbers: Vec<i64>,
 }
 
 impl Program for Request {
-    type Data = Cells;
+    type Data = RodCells;
 
     ghost about = { heat_program };
 
@@ -101,11 +102,11 @@ impl Program for Request {
         "Reading the rod from standard input up to Ctrl-D, one whole number a line: heat STEPS BLOCK < FILE\n"
     }
 
-    fn load(alloc: Global, input: &str) -> Result<Cells, Fault> {
+    fn load(alloc: Global, input: &str) -> Result<RodCells, Fault> {
         cells_of(alloc, input)
     }
 
-    fn check(self, cells: &Cells) -> Result<(), Fault> {
+    fn check(self, cells: &RodCells) -> Result<(), Fault> {
         check_cells(self, cells)
     }
 
@@ -113,7 +114,7 @@ impl Program for Request {
         self,
         rt: &R,
         alloc: Global,
-        cells: Cells,
+        cells: RodCells,
         progress: Option<&Progress>,
     ) -> Result<Vec<u8>, Fault> {
         text_after(rt, alloc, self, cells, progress)
@@ -121,17 +122,17 @@ impl Program for Request {
 }
 
 /// The cells of a rod, from their text, one number a line.
-fn cells_of(alloc: Global, input: &str) -> Result<Cells, Fault>
+fn cells_of(alloc: Global, input: &str) -> Result<RodCells, Fault>
     ensures { MatchResult result (λ cells. AreLines input.now cells.numbers.items) (AreBadLines input.now) }
 {
     match numbers_of(alloc, input) {
-        Ok(numbers) => Ok(Cells { numbers }),
+        Ok(numbers) => Ok(RodCells { numbers }),
         Err(fault) => Err(Fault::Lines(fault)),
     }
 }
 
 /// Whether a step of the cells, in such blocks at so many nodes, is a run.
-fn check_cells(request: Request, cells: &Cells) -> Result<(), Fault>
+fn check_cells(request: Request, cells: &RodCells) -> Result<(), Fault>
     ensures { MatchResult result (λ _. AreSuited request cells.now) (AreUnsuited request cells.now) }
 {
     if cells.numbers.is_empty() {
@@ -149,7 +150,7 @@ fn text_after<R: Threads + Wait + Sync>(
     rt: &R,
     alloc: Global,
     request: Request,
-    cells: Cells,
+    cells: RodCells,
     progress: Option<&Progress>,
 ) -> Result<Vec<u8>, Fault>
     requires { IsWithinLimits request.config }
@@ -181,7 +182,8 @@ fn heat_counted<R: Threads + Wait + Sync>(
 ) -> Result<Vec<i64>, LentFault>
     requires { IsWithinLimits config }
     ensures { MatchResult result
-        (λ rod. rod.items ≡ evolve steps cells.items)
+        (λ rod. (rod.items ≡ evolve steps cells.items)
+        × HasRunInParts config.nodes config.workers heated block_heated cells.items size steps)
         (IsPartFault config.nodes config.workers cells.items size steps) }
 {
     run_in_parts_counted(rt, alloc, ThreePoints, cells, size, steps, config, progress)

@@ -10,12 +10,13 @@ use pool_rows::{RowCount, push_row};
 use std::alloc::Global;
 
 /// The grid that a text gives: its rows as lines, the numbers of a row by single spaces. Refused with the first line that is no
-/// row, or has another count of numbers than the first line; where there is no line; and where memory is refused.
+/// row, or has another count of numbers than the first line; where there is no line; and where memory is refused,
+/// which is asked for only where the first line begins with a number.
 pub fn rows_of(alloc: Global, text: &str) -> Result<Rows, GridFault>
     ensures read { IfOk result (λ read. AreGrid (lines text.now) read.width read.numbers.items) }
     ensures bad { IfErr result (IsTextFault text.now) }
 {
-    let mut reading = Reading {
+    let mut reading = GridReading {
         lines: 0,
         width: 0,
         numbers: Vec::new(alloc),
@@ -28,13 +29,13 @@ pub fn rows_of(alloc: Global, text: &str) -> Result<Rows, GridFault>
 
 /// A grid while its lines come.
 #[derive(Drop)]
-struct Reading {
+struct GridReading {
     lines: usize,
     width: usize,
     numbers: Vec<i64>,
 }
 
-impl Reading {
+impl GridReading {
     /// Takes a line more, where it can follow.
     fn take(&mut self, line: &str) -> Result<(), GridFault>
         requires { self.old.lines + 1 < 2 ^ 64 }
@@ -71,7 +72,7 @@ impl Reading {
             → AreGrid seen read.width read.numbers.items) }
         ensures none { IfErr result (λ fault. (fault ≡ Empty) × (self.lines ≡ 0)) }
     {
-        let Reading {
+        let GridReading {
             lines,
             width,
             numbers,

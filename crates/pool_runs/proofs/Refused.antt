@@ -1,5 +1,5 @@
 -- Why a run over lent data gives nothing.
-use Rattle.std.proofs.Common.{◌≡◌, ◌<◌, ◌≤◌, ◌+◌, ◌-◌, ◌*◌, ◌/◌, ℕ, ℤ, true, false, List, length, sym, ap, subst, ◌∙◌, ⊎_elim, inl, inr}
+use Rattle.std.proofs.Common.{◌≡◌, ◌<◌, ◌≤◌, ◌+◌, ◌-◌, ◌*◌, ◌/◌, ℕ, ℤ, true, List, length, sym, ap, subst, ◌∙◌, ⊎_elim, inl, inr}
 use Rattle.std.proofs.Common.{arith}
 use Rattle.std.proofs.lemmas.Bool.{false≢true}
 use Rattle.std.proofs.lemmas.Nat.{div-mul-add, mul-add-lt}
@@ -14,7 +14,8 @@ use Rattle.pool_block_runs.specs.declared.fault.LentFault.TheVariants.{BadInput,
 use Rattle.pool_rod.specs.Heats.{block_heated, blocks_of, heat_graph, heated}
 use Rattle.pool_runs.specs.Faults.{IsLentFault, IsPartFault}
 use Rattle.pool_matrix.specs.Matrices.{IsMatrixRefusal, LacksTile, matrix_graph}
-use Rattle.tp_work.specs.Outcomes.{HasEachOnce, IsFault, IsOutcome}
+use Rattle.tp_work.specs.Outcomes.{IsFault, IsOutcome}
+use Rattle.tp_graph.specs.Found.{HasEachOnce}
 
 -- the fault of a pool, whatever else may be at fault
 pub lent_fault : (n workers : ℕ) (P : Type 0) (g h : TaskGraph) (fault : LentFault) → g ≡ h → IsLentFault n workers ⊥ g fault

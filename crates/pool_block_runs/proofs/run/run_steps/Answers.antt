@@ -3,7 +3,8 @@ use Rattle.tp_graph.specs.Graphs.{TaskGraph}
 use Rattle.tp_graph.specs.Serial.{AreRight}
 use Rattle.pool_blocks.specs.Stencils.{block_graph}
 use Rattle.pool_block_runs.proofs.Refused.{cells_refused}
-use Rattle.tp_work.specs.Outcomes.{HasEachOnce, IsFault, IsOutcome}
+use Rattle.tp_work.specs.Outcomes.{IsFault, IsOutcome}
+use Rattle.tp_graph.specs.Found.{HasEachOnce}
 use Rattle.pool_block_runs.proofs.run.run_steps.Goals as goal
 
 pub cells_of-requires : goal.cells_of-requires
@@ -30,3 +31,12 @@ returns-in-NoMemory g c =
 
 pub returns-in-Err : goal.returns-in-Err
 returns-in-Err g c = subst (λ graph. IsFault c.args.config.nodes graph c.in-Err.fault) c.copied.ensures c.in-Err.ensures.fault
+
+pub returns-in-Ok-cells_of : goal.returns-in-Ok-cells_of
+returns-in-Ok-cells_of g c = (
+  c.in-Ok-cells_of.ensures.made,
+  (
+    c.in-Ok.outcome,
+    subst (λ graph. IsOutcome c.args.config.nodes c.args.config.workers graph c.in-Ok.outcome) c.copied.ensures c.in-Ok.ensures.outcome,
+  ),
+)
