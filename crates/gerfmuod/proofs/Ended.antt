@@ -7,9 +7,8 @@ use Rattle.tp_base.specs.declared.Refusal.{Refusal}
 use Rattle.tp_base.specs.declared.Refusal.TheVariants.{HistoryFull}
 use Rattle.tp_base.specs.declared.Step.{Step}
 use Rattle.tp_base.specs.declared.Step.TheVariants.{Give, Judge}
-use Rattle.tp_wave.specs.Cut.{visited_at}
 use Rattle.tp_wave.specs.Generations.{present}
-use Rattle.tp_wave.specs.Sums.{judgement, until, visit, waves}
+use Rattle.tp_wave.specs.Sums.{judgement, until, visit, waves, visited_at}
 use Rattle.tp_core.specs.declared.Reply.{Reply}
 use Rattle.tp_core.specs.declared.Reply.TheVariants.{Plain, WaveSums, Not, Over, Opened}
 use Rattle.tp_core.specs.Accepted.{Accepted, judged, reply_to, with_step}

@@ -4,7 +4,7 @@ use Rattle.tp_base.specs.declared.limits.TheConstants.{MAX_NODES, MAX_STEPS}
 use Rattle.tp_core.specs.Accepted.{Accepted}
 use Rattle.tp_core.specs.Generations.{AreRuns, InEach}
 use Rattle.tp_core.specs.NeverEarly.{IsNeverEarly, IsOverFrom}
-use Rattle.tp_wave.specs.Cut.{visited_at}
+use Rattle.tp_wave.specs.Sums.{visited_at}
 use Rattle.tp_wave.specs.Generations.{present}
 use Rattle.gerfmuod.specs.declared.pool.Pool.TheInside.{Inside}
 

@@ -18,7 +18,8 @@ use Rattle.pool_block_runs.specs.Events.{TakeSteps, step_events}
 use Rattle.pool_block_runs.specs.Faults.{IsLentFault, IsOfPart, IsPartFault}
 use Rattle.pool_block_runs.specs.declared.fault.LentFault.{LentFault}
 use Rattle.pool_block_runs.specs.declared.fault.LentFault.TheVariants.{BadInput, Run, Unmade}
-use Rattle.tp_work.specs.Outcomes.{HasEachOnce, IsFault, IsOutcome, times}
+use Rattle.tp_work.specs.Outcomes.{IsFault, IsOutcome}
+use Rattle.tp_graph.specs.Found.{HasEachOnce, times}
 
 -- what follows from what is known of an answer
 pub match_weaker : {T E : Type 0} (r : Result T E) (P P2 : T → Type 0) (Q Q2 : E → Type 0) → ((x : T) → P x → P2 x)

@@ -15,7 +15,7 @@ pub fn rows_of(alloc: Global, text: &str) -> Result<Rows, GridFault>
     ensures read { IfOk result (λ read. AreGrid (lines text.now) read.width read.numbers.items) }
     ensures bad { IfErr result (IsTextFault text.now) }
 {
-    let mut reading = Reading {
+    let mut reading = GridReading {
         lines: 0,
         width: 0,
         numbers: Vec::new(alloc),
@@ -28,13 +28,13 @@ pub fn rows_of(alloc: Global, text: &str) -> Result<Rows, GridFault>
 
 /// A grid while its lines come.
 #[derive(Drop)]
-struct Reading {
+struct GridReading {
     lines: usize,
     width: usize,
     numbers: Vec<i64>,
 }
 
-impl Reading {
+impl GridReading {
     /// Takes a line more, where it can follow.
     fn take(&mut self, line: &str) -> Result<(), GridFault>
         requires { self.old.lines + 1 < 2 ^ 64 }
@@ -71,7 +71,7 @@ impl Reading {
             → AreGrid seen read.width read.numbers.items) }
         ensures none { IfErr result (λ fault. (fault ≡ Empty) × (self.lines ≡ 0)) }
     {
-        let Reading {
+        let GridReading {
             lines,
             width,
             numbers,

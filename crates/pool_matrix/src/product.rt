@@ -2,7 +2,7 @@ ghost use Rattle.std.specs.Prelude.{◌≡◌, ◌<◌, ◌≤◌, ◌+◌, ◌-
 ghost use Rattle.pool_matrix.specs.Matrices.{AreMatrices, AreNoMatrices, IsProduct, matrix_graph};
 ghost use Rattle.pool_matrix.specs.MatrixLaws.{matrix_lawful};
 
-use crate::row::Matrices;
+use crate::row::LentMatrices;
 use crate::tile::make_tile;
 use std::alloc::Global;
 use tp_base::{NodeId, Refusal, TaskId};
@@ -123,7 +123,7 @@ impl<'a> Graph for Product<'a> {
     }
 
     fn body(&self, alloc: Global, task: TaskId, inputs: &[Value]) -> Result<Value, Refusal> {
-        let matrices = Matrices {
+        let matrices = LentMatrices {
             left: self.left,
             right: self.right,
             order: self.tiles as usize * self.side as usize,

@@ -9,7 +9,7 @@ use tp_base::Refusal;
 
 /// Two matrices of as many rows as columns, row by row.
 #[derive(Clone, Copy)]
-pub(crate) struct Matrices<'a> {
+pub(crate) struct LentMatrices<'a> {
     pub(crate) left: &'a [i64],
     pub(crate) right: &'a [i64],
     pub(crate) order: usize,
@@ -26,7 +26,12 @@ fn entry(numbers: &[i64], order: usize, x: usize, y: usize) -> i64
 }
 
 /// So many numbers of row z of the right, from column y on.
-pub(crate) fn right_part<'a>(matrices: Matrices<'a>, z: usize, y: usize, count: usize) -> &'a [i64]
+pub(crate) fn right_part<'a>(
+    matrices: LentMatrices<'a>,
+    z: usize,
+    y: usize,
+    count: usize,
+) -> &'a [i64]
     requires places { (z < matrices.order) × (y + count ≤ matrices.order) }
     ensures long { length result.now ≡ count }
     ensures same { (n : ℕ) → n < count
@@ -121,7 +126,7 @@ fn add_row(
 /// A row of a tile that begins at column y of row x, with the products of as many z from a start on as it is long. No number
 /// of the right that it takes is farther from 0 than the largest. Refused exactly where a number leaves `i64`.
 pub(crate) fn add_rows(
-    matrices: Matrices,
+    matrices: LentMatrices,
     sums: &mut [i64],
     x: usize,
     y: usize,

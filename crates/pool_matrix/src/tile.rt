@@ -3,7 +3,7 @@ ghost use Rattle.tp_base.specs.declared.Refusal.TheVariants.{BodyFailed, NoMemor
 ghost use Rattle.tp_graph.specs.Values.{all_fit, gather};
 ghost use Rattle.pool_matrix.specs.Matrices.{entry, tile_entry};
 
-use crate::row::{Matrices, add_rows, largest_of, right_part};
+use crate::row::{LentMatrices, add_rows, largest_of, right_part};
 use std::alloc::Global;
 use tp_base::Refusal;
 
@@ -33,7 +33,7 @@ fn begin_tile(alloc: Global, count: usize, before: &[i64]) -> Result<Vec<i64>, R
 }
 
 /// How far from 0 the farthest number is of a tile of the right, which begins at column y of a row.
-fn largest_of_tile(matrices: Matrices, side: usize, row: usize, y: usize) -> u64
+fn largest_of_tile(matrices: LentMatrices, side: usize, row: usize, y: usize) -> u64
     requires { (row + side ≤ matrices.order) × (y + side ≤ matrices.order) }
     ensures { (z n : ℕ) → z < side → n < side
         → unsigned_abs (entry matrices.entry.order matrices.entry.right.now (row + z) (y + n)) ≤ result }
@@ -49,7 +49,7 @@ fn largest_of_tile(matrices: Matrices, side: usize, row: usize, y: usize) -> u64
 /// `BodyFailed` exactly where a number leaves `i64`, and with `NoMemory` where memory is refused first.
 pub(crate) fn make_tile(
     alloc: Global,
-    matrices: Matrices,
+    matrices: LentMatrices,
     side: usize,
     i: usize,
     j: usize,

@@ -6,7 +6,7 @@ use Rattle.std.proofs.lemmas.Bool.{ne_eqb}
 use Rattle.std.proofs.lemmas.Bool.Decides.{nat_tests}
 use Rattle.std.proofs.lemmas.List.FromFn.{map-range_with_len_more}
 use Rattle.std.proofs.lemmas.List.Sums.{sum_by-cons}
-use Rattle.tp_graph.specs.Found.{HasOneOfEach}
+use Rattle.tp_graph.specs.Found.{HasEachOnce}
 use Rattle.tp_graph.specs.Serial.{Results}
 
 -- a task that no result is of has none
@@ -18,7 +18,7 @@ times-none t (x ∷ xs) h =
     ∙ ap (λ b. cond b 1 0 + count_by (λ r. r.0.0 == t) xs) (ne_eqb x.0.0 t (h 0 x (omega arith))) ∙ rest
 
 -- where each task has one result, none lacks one
-pub has_one : (tasks t : ℕ) (results : Results) → HasOneOfEach tasks results → t < tasks → All (λ r. r.0.0 ≢ t) results → ⊥
+pub has_one : (tasks t : ℕ) (results : Results) → HasEachOnce tasks results → t < tasks → All (λ r. r.0.0 ≢ t) results → ⊥
 has_one tasks t results once h none =
     let one : count_by (λ r. r.0.0 == t) results ≡ 1 = grind (arith, nat_tests, once t) in
     absurd (omega (arith, one, times-none t results none))

@@ -1,5 +1,5 @@
 ghost use Rattle.std.specs.Prelude.{◌≡◌, ◌<◌, ◌-◌, ◌*◌, IfOk};
-ghost use Rattle.tp_graph.specs.Found.{ArePlaces, HasOneOfEach};
+ghost use Rattle.tp_graph.specs.Found.{ArePlaces, HasEachOnce};
 ghost use Rattle.tp_graph.specs.Serial.{AreRight};
 ghost use Rattle.pool_patterns.specs.Kernels.{kernel_graph};
 ghost use Rattle.pool_patterns.specs.Rows.{cell, checksum, row_at};
@@ -20,7 +20,7 @@ pub fn last_row<P: Relation>(
     requires right { AreRight
         (kernel_graph (P.relation grid.now.table.now.pattern grid.now.table.now.width) grid.now.table.now.width
         grid.now.table.now.steps grid.now.iterations) results.now }
-    requires once { HasOneOfEach (grid.now.table.now.steps * grid.now.table.now.width) results.now }
+    requires once { HasEachOnce (grid.now.table.now.steps * grid.now.table.now.width) results.now }
     ensures { IfOk result (λ row. row.items ≡
         row_at (P.relation grid.now.table.now.pattern grid.now.table.now.width) grid.now.table.now.width grid.now.iterations
         (grid.now.table.now.steps - 1)) }
@@ -45,7 +45,7 @@ fn cell_at<P: Relation>(
     requires right { AreRight
         (kernel_graph (P.relation grid.now.table.now.pattern grid.now.table.now.width) grid.now.table.now.width
         grid.now.table.now.steps grid.now.iterations) results.now }
-    requires once { HasOneOfEach (grid.now.table.now.steps * grid.now.table.now.width) results.now }
+    requires once { HasEachOnce (grid.now.table.now.steps * grid.now.table.now.width) results.now }
     requires places { ArePlaces (grid.now.table.now.steps * grid.now.table.now.width) results.now places.now }
     ensures { result ≡
         cell (P.relation grid.now.table.now.pattern grid.now.table.now.width) grid.now.table.now.width grid.now.iterations

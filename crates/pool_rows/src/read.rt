@@ -17,7 +17,7 @@ pub fn matrices_of(alloc: Global, text: &str) -> Result<Matrices, RowFault>
     ensures read { IfOk result (λ read. AreMatrices (lines text.now) read.order read.left.items read.right.items) }
     ensures bad { IfErr result (IsTextFault text.now) }
 {
-    let mut reading = Reading {
+    let mut reading = MatrixReading {
         lines: 0,
         order: 0,
         left: Vec::new(alloc),
@@ -31,14 +31,14 @@ pub fn matrices_of(alloc: Global, text: &str) -> Result<Matrices, RowFault>
 
 /// Two matrices while their lines come.
 #[derive(Drop)]
-struct Reading {
+struct MatrixReading {
     lines: usize,
     order: usize,
     left: Vec<i64>,
     right: Vec<i64>,
 }
 
-impl Reading {
+impl MatrixReading {
     /// Takes a line more, where it can follow.
     fn take(&mut self, line: &str) -> Result<(), RowFault>
         requires { self.old.lines + 1 < 2 ^ 64 }
@@ -89,7 +89,7 @@ impl Reading {
         ensures missing { IfErr result (λ fault. (seen : List (List ℕ)) → length seen ≡ self.lines
             → HasRead seen self.order self.left.items self.right.items → IsEndFault seen fault) }
     {
-        let Reading {
+        let MatrixReading {
             lines,
             order,
             left,

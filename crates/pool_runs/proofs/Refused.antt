@@ -14,7 +14,8 @@ use Rattle.pool_block_runs.specs.declared.fault.LentFault.TheVariants.{BadInput,
 use Rattle.pool_rod.specs.Heats.{block_heated, blocks_of, heat_graph, heated}
 use Rattle.pool_runs.specs.Faults.{IsLentFault, IsPartFault}
 use Rattle.pool_matrix.specs.Matrices.{IsMatrixRefusal, LacksTile, matrix_graph}
-use Rattle.tp_work.specs.Outcomes.{HasEachOnce, IsFault, IsOutcome}
+use Rattle.tp_work.specs.Outcomes.{IsFault, IsOutcome}
+use Rattle.tp_graph.specs.Found.{HasEachOnce}
 
 -- the fault of a pool, whatever else may be at fault
 pub lent_fault : (n workers : ℕ) (P : Type 0) (g h : TaskGraph) (fault : LentFault) → g ≡ h → IsLentFault n workers ⊥ g fault

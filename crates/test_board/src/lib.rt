@@ -5,6 +5,8 @@
 #[cfg(test)]
 mod calls;
 #[cfg(test)]
+mod opening;
+#[cfg(test)]
 mod pair;
 #[cfg(test)]
 mod tables;

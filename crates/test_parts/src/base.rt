@@ -1,3 +1,5 @@
+ghost use Rattle.std.specs.Prelude.{◌≡◌, []};
+
 use std::alloc::AllocError;
 use std::test::Fail;
 use tp_base::{History, NodeId, Step, Table};
@@ -35,8 +37,10 @@ fn values_lie_under_near_and_far_numbers(rt: HostRuntime) -> Result<(), Fail> {
     Ok(())
 }
 
-/// Records two events, the first of them at node 1.
-fn record_two(history: &mut History) -> Result<(), AllocError> {
+/// Records two events of a history without any, the first of them at node 1.
+fn record_two(history: &mut History) -> Result<(), AllocError>
+    requires { history.old.events ≡ [] }
+{
     history.reserve(2)?;
     history.push_reserved(NodeId(1), Step::Ready(NodeId(1)));
     history.push_reserved(NodeId(0), Step::Start);

@@ -1,7 +1,7 @@
 ghost use Rattle.std.specs.Prelude.{◌<◌};
 ghost use Rattle.tp_base.specs.History.{NamesSmall};
 
-use std::alloc::AllocError;
+use std::alloc::{AllocError, Global};
 use std::test::Fail;
 use tp_base::{ActionId, Generation, History, Inputs, MessageId, NodeId, Step, TaskId};
 
@@ -57,15 +57,16 @@ fn inputs(place: u32) -> Inputs {
     inputs
 }
 
-/// Records so many events, after room was made for some of them at once.
-fn record(history: &mut History, steps: u32, room: usize) -> Result<(), AllocError> {
-    history.reserve(room)?;
+/// A history of so many events, where room was made for some of them at once.
+fn recorded(alloc: Global, steps: u32, room: u32) -> Result<History, AllocError> {
+    let mut history = History::new(alloc);
+    history.reserve(room as usize)?;
     for place in 0..steps {
         history.reserve(1)?;
         let (node, step) = event(place);
         history.push_reserved(node, step);
     }
-    Ok(())
+    Ok(history)
 }
 
 /// The first of so many places at which another event is read than was recorded.
@@ -87,8 +88,7 @@ fn each_step_is_read_back_from_its_piece(rt: HostRuntime) -> Result<(), Fail> {
         (3_000, 2_049),
         (1_048_576, 0),
     ] {
-        let mut history = History::new(rt.alloc());
-        assert_eq!(rt; record(&mut history, steps, room), Ok(()));
+        let history = recorded(rt.alloc(), steps, room)?;
         assert_eq!(rt; history.len(), steps as usize, "{steps} steps");
         assert_eq!(rt; first_wrong(&history, steps), None, "of {steps} steps");
         assert_eq!(rt; history.at(steps as usize), None, "past {steps} steps");

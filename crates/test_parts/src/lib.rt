@@ -23,6 +23,8 @@ mod pools;
 #[cfg(test)]
 mod raw;
 #[cfg(test)]
+mod runs;
+#[cfg(test)]
 mod samples;
 #[cfg(test)]
 mod settling;

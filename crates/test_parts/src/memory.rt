@@ -34,7 +34,7 @@ struct Parts {
 #[derive(Clone, Copy)]
 enum Call {
     TableInsert(u32),
-    HistoryReserve(usize),
+    HistoryReserve(u32),
     LinkPut(u32),
     StoreInsert(u32),
     StoreDeliver(u32, u64),
@@ -105,7 +105,7 @@ impl Parts {
     fn answer(&mut self, alloc: Global, call: Call) -> Result<u32, Refusal> {
         match call {
             Call::TableInsert(number) => done(self.table.insert(number, number)),
-            Call::HistoryReserve(room) => done(self.history.reserve(room)),
+            Call::HistoryReserve(room) => reserve(&mut self.history, room),
             Call::LinkPut(number) => put(&mut self.link, number),
             Call::StoreInsert(task) => self.store.insert(TaskId(task), 1).map(|()| 0),
             Call::StoreDeliver(task, value) => deliver(&mut self.store, TaskId(task), value),
@@ -223,6 +223,14 @@ const FEED: Feed = Feed {
     target: TaskId(1),
     slot: 0,
 };
+
+/// Makes room in a history, in which these tests record nothing.
+fn reserve(history: &mut History, room: u32) -> Result<u32, Refusal> {
+    if !history.is_empty() {
+        return Err(Refusal::Stranger);
+    }
+    done(history.reserve(room as usize))
+}
 
 fn done(made: Result<(), AllocError>) -> Result<u32, Refusal> {
     made?;

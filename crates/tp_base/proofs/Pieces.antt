@@ -1,16 +1,16 @@
 -- Where the elements of pieces stand in the whole.
 use Rattle.std.proofs.Common.{◌≡◌, ◌≤◌, ◌<◌, ◌+◌, ◌-◌, ◌*◌, ◌/◌, ◌%◌, ◌++◌, ◌∙◌, ℕ, List, [], ◌∷◌, None, Some, suc, zero, length, slice_get}
-use Rattle.std.proofs.Common.{Vec, Option, Bor, refl, sym, ap, arith}
+use Rattle.std.proofs.Common.{Vec, reverse, vec_len, Option, Bor, refl, sym, ap, inl, inr, arith}
 use Rattle.std.specs.List.{All}
 use Rattle.std.specs.Option.{option_copied, unwrap_or}
 use Rattle.std.specs.Slice.{IsItemAt}
 use Rattle.std.specs.declared.alloc.Global.{Global}
-use Rattle.std.proofs.lemmas.Nat.{div-add-mod'}
+use Rattle.std.proofs.lemmas.Nat.{div-add-mod', mod-mul-add}
 use Rattle.std.proofs.lemmas.Option.{slice_get_past, slice_get_read}
-use Rattle.std.proofs.lemmas.List.{length-append, append_assoc}
+use Rattle.std.proofs.lemmas.List.{length-append, length-reverse, append_assoc}
 use Rattle.std.proofs.lemmas.List.Elements.{All-head, All-tail}
 use Rattle.tp_base.specs.declared.history.TheConstants.{PIECE}
-use Rattle.tp_base.specs.Pieces.{joined, IsFull}
+use Rattle.tp_base.specs.Pieces.{joined, places, ArePieces, IsFull}
 
 module _ {X : Type 0} where
   pub item_at : (xs : List X) (i : ℕ) (found : Option (Bor X)) → IsItemAt xs i found → option_copied found ≡ slice_get xs i
@@ -31,6 +31,36 @@ module _ {X : Type 0} where
   length_joined [] h = refl
   length_joined (p ∷ ps) h =
       omega (arith, length-append p.items (joined ps), p.ok.0, All-head IsFull p ps h, length_joined ps (All-tail IsFull p ps h))
+
+  -- so many elements in all
+  pub counted : (full : Vec (Vec X Global) Global) (last : Vec X Global) → All IsFull full.items
+      → length (reverse (joined full.items ++ last.items)) ≡ vec_len full * PIECE + vec_len last
+  counted full last h =
+      omega (
+        arith,
+        length-reverse (joined full.items ++ last.items),
+        length-append (joined full.items) last.items,
+        length_joined full.items h,
+        full.ok.0,
+        last.ok.0,
+      )
+
+  -- Events and free places are whole pieces.
+  pub whole_pieces : (full : Vec (Vec X Global) Global) (last : Vec X Global) (spare : Vec (Vec X Global) Global)
+      → ArePieces full last spare → (length (reverse (joined full.items ++ last.items)) + places last spare) % 1024 ≡ 0
+  whole_pieces full last spare h =
+      let all = counted full last h.each in
+      let within = last.ok.1 in
+      elim h.room [
+        | inl none ↦
+            let same : length (reverse (joined full.items ++ last.items)) + places last spare ≡ (vec_len full + vec_len spare) * 1024 + 0 =
+            omega (arith, all, within, none) in
+            ap (λ n. n % 1024) same ∙ mod-mul-add (vec_len full + vec_len spare) 1024 0 (omega arith)
+        | inr some ↦
+            let same : length (reverse (joined full.items ++ last.items)) + places last spare
+            ≡ (vec_len full + vec_len spare + 1) * 1024 + 0 = omega (arith, all, within, some) in
+            ap (λ n. n % 1024) same ∙ mod-mul-add (vec_len full + vec_len spare + 1) 1024 0 (omega arith)
+      ]
 
   at_piece-from : (pieces : List (Vec X Global)) (last : List X) (i j : ℕ) (p : Vec X Global)
       → All IsFull pieces → slice_get pieces i ≡ Some p → j < PIECE

@@ -1,6 +1,6 @@
 -- What a call answers whose checks are made by two calls in turn.
 use Rattle.std.proofs.Common.{ℕ, ◌≡◌, List, [], ◌∷◌, ◌++◌, Bool, true, false, Some, None, Option, Result, Ok, Err, ◌<◌, length, ◌+◌, refl}
-use Rattle.std.proofs.Common.{sym, ap, subst, ◌∙◌, arith}
+use Rattle.std.proofs.Common.{sym, ap, subst, ◌∙◌, ◌≤◌, ◌%◌, max, arith}
 use Rattle.std.proofs.lemmas.Bool.Decides.{nat_tests}
 use Rattle.std.specs.Prelude.{if◌then◌else◌, MatchOption, IfErr, nat_lt}
 use Rattle.std.specs.Result.{result_err}
@@ -9,7 +9,7 @@ use Rattle.tp_base.specs.declared.refusal.Refusal.{Refusal}
 use Rattle.tp_base.specs.declared.step.Step.{Step}
 use Rattle.tp_base.specs.Checks.{Check, first_refusal}
 use Rattle.tp_base.specs.History.{Event}
-use Rattle.tp_wave.specs.Checks.{control_checks, wave_checks}
+use Rattle.tp_wave.specs.ControlChecks.{control_checks, wave_checks}
 use Rattle.tp_wave.specs.Generations.{present, present_events}
 use Rattle.tp_wave.specs.Machine.{pending_at, steps_of}
 use Rattle.tp_wave.specs.Sums.{is_ended}
@@ -75,7 +75,7 @@ same_answer-to (Some g) want (Err e) (Ok y) same answer = absurd cc
 same_answer-to (Some g) want (Err e) (Err f) same answer = let first : f ≡ g = cc in ap Err first
 
 -- What a call answers that returns another's error.
-same_answer : {A B : Type 0} (cs : List Check) (more : ℕ) (b : BoardState) (r : Result A Refusal) (q : Result B Refusal)
+pub same_answer : {A B : Type 0} (cs : List Check) (more : ℕ) (b : BoardState) (r : Result A Refusal) (q : Result B Refusal)
     → result_err r ≡ result_err q → AnswersBy cs more b r → AnswersBy cs more b q
 same_answer cs more b r q same answer = same_answer-to (first_refusal cs) (b.reserved < more) r q same answer
 
@@ -127,3 +127,10 @@ pub full : {A : Type 0} (b : BoardState) (more count : ℕ) (result : Result A R
     → count ≡ length b.history → b.limit < length b.history + more → result ≡ Err (HistoryFull count)
     → AnswersBy (full_check more b ∷ []) more b result
 full b more count result is less answer = rw (full_test b.limit (length b.history) more less) (answer ∙ ap (λ n. Err (HistoryFull n)) is)
+
+-- A history without room for one event more has whole pieces.
+pub at_piece : (events : List Event) (room reserved : ℕ) → reserved ≤ room → room < max reserved 1 → (length events + room) % 1024 ≡ 0
+    → length events % 1024 ≡ 0
+at_piece events room reserved has grows whole =
+    let same : length events ≡ length events + room = omega (arith, has, grows) in
+    ap (λ n. n % 1024) same ∙ whole

@@ -14,11 +14,11 @@ use Rattle.tp_base.specs.declared.Sums.{Sums}
 use Rattle.tp_wave.specs.Sums.{is_ended, waves}
 use Rattle.tp_wave.specs.Wave.{started}
 use Rattle.tp_wave.specs.Control.{is_control}
-use Rattle.tp_wave.specs.Machine.{node_of, step_of, steps_of, pending_at, pending_after, under_way, under_way_after, IsOf, IsRun, Needs}
+use Rattle.tp_wave.specs.Machine.{node_beside, step_of, steps_of, pending_at, pending_after, under_way, under_way_after, IsOf, IsRun, Needs}
 use Rattle.tp_wave.specs.Machine.{is_send_numbered, is_send_to}
 use Rattle.tp_wave.proofs.Given.{pool_step}
 use Rattle.tp_wave.specs.declared.wave.Wave.{Wave}
-use Rattle.tp_ledgers.specs.Numbers.{AreWithin, NodeNumbers, ending, event, is_done, is_plain, is_recv, is_send, numbers_after, plus_if}
+use Rattle.tp_ledgers.specs.Numbers.{AreWithin, ShareNumbers, ending, event, is_done, is_plain, is_recv, is_send, numbers_after, plus_if}
 use Rattle.tp_ledgers.specs.Numbers.{receiving, sending}
 use Rattle.tp_ledgers.specs.Books.{BookTotals, IsBooked, totals_after, with_under}
 use Rattle.tp_board.specs.Boards.{IsBoard}
@@ -62,7 +62,7 @@ pool_next n nodes h t w i under s board places below room own pool needs moved =
     }
 
 -- a node's numbers are no more than the history's events
-pub within : (n nodes : ℕ) (h : List Event) (t : BookTotals) (w : Wave) (x : NodeNumbers) → IsBoard n nodes h t w → IsBooked x t
+pub within : (n nodes : ℕ) (h : List Event) (t : BookTotals) (w : Wave) (x : ShareNumbers) → IsBoard n nodes h t w → IsBooked x t
     → x.node < n → AreWithin (length h) x
 within n nodes h t w x board booked below =
     record {
@@ -72,7 +72,7 @@ within n nodes h t w x board booked below =
       done = omega (arith, booked.done, board.done, count-le is_done h);
     }
 
-one_step : (most : ℕ) (x : NodeNumbers) (s : Step) → AreWithin most x → AreWithin (most + 1) (numbers_after s x)
+one_step : (most : ℕ) (x : ShareNumbers) (s : Step) → AreWithin most x → AreWithin (most + 1) (numbers_after s x)
 one_step most x (Insert i t k) are =
     record {
       pending = omega (arith, are.pending);
@@ -117,7 +117,7 @@ one_step most x _ are =
     }
 
 -- nor after one more
-pub within_next : (n nodes : ℕ) (h : List Event) (t : BookTotals) (w : Wave) (x : NodeNumbers) (s : Step) → IsBoard n nodes h t w
+pub within_next : (n nodes : ℕ) (h : List Event) (t : BookTotals) (w : Wave) (x : ShareNumbers) (s : Step) → IsBoard n nodes h t w
     → IsBooked x t → x.node < n → length h < 1048576
     → AreWithin 1048576 (numbers_after s x)
 within_next n nodes h t w x s board booked below short =
@@ -154,7 +154,7 @@ plain_under (Recv j m g) under plain = absurd cc
 plain_under _ under plain = refl
 
 -- after a step that names no message
-pub plain_next : (n nodes : ℕ) (h : List Event) (t : BookTotals) (w : Wave) (x : NodeNumbers) (s : Step) → IsBoard n nodes h t w
+pub plain_next : (n nodes : ℕ) (h : List Event) (t : BookTotals) (w : Wave) (x : ShareNumbers) (s : Step) → IsBoard n nodes h t w
     → length h < 1048576 → IsBooked x t → x.node < n
     → IsTrue (is_plain s) → IsOf x.node s → 0 < x.pending → IsBoard n nodes (event x.node s ∷ h) (totals_after x.node s t) w
 plain_next n nodes h t w x s board places booked below plain own active =
@@ -162,7 +162,7 @@ plain_next n nodes h t w x s board places booked below plain own active =
     pool_next n nodes h t w x.node t.under s board places below booked.known own (plain_is_pool s plain) needs (plain_under s t.under plain)
 
 -- after the sending of message m, in generation k
-pub send_next : (n nodes b m k : ℕ) (h : List Event) (t : BookTotals) (w : Wave) (x : NodeNumbers) → IsBoard n nodes h t w
+pub send_next : (n nodes b m k : ℕ) (h : List Event) (t : BookTotals) (w : Wave) (x : ShareNumbers) → IsBoard n nodes h t w
     → length h < 1048576 → IsBooked x t → x.node < n → b < n → x.node ≢ b → 0 < x.pending
     → IsFalse (any (is_send_numbered m) (steps_of h))
     → IsBoard n nodes (event x.node (sending k x.node b m)
@@ -173,7 +173,7 @@ send_next n nodes b m k h t w x board places booked below there apart active fre
     pool_next n nodes h t w x.node (t.under + 1) (sending k x.node b m) board places below booked.known refl refl needs refl
 
 -- after the receipt of a message
-pub recv_next : (n nodes m k : ℕ) (h : List Event) (t : BookTotals) (w : Wave) (x : NodeNumbers) → IsBoard n nodes h t w
+pub recv_next : (n nodes m k : ℕ) (h : List Event) (t : BookTotals) (w : Wave) (x : ShareNumbers) → IsBoard n nodes h t w
     → length h < 1048576 → IsBooked x t → x.node < n → 0 < t.under
     → IsTrue (any (is_send_to x.node m) (steps_of h))
     → IsBoard n nodes (event x.node (receiving k x.node m)
@@ -183,7 +183,7 @@ recv_next n nodes m k h t w x board places booked below some sent_before =
     pool_next n nodes h t w x.node (t.under - 1) (receiving k x.node m) board places below booked.known refl refl needs refl
 
 -- after the end of a message's action
-pub end_next : (n nodes m k : ℕ) (h : List Event) (t : BookTotals) (w : Wave) (x : NodeNumbers) → IsBoard n nodes h t w
+pub end_next : (n nodes m k : ℕ) (h : List Event) (t : BookTotals) (w : Wave) (x : ShareNumbers) → IsBoard n nodes h t w
     → length h < 1048576 → IsBooked x t → x.node < n → 0 < x.pending
     → IsBoard n nodes (event x.node (ending k x.node m) ∷ h) (totals_after x.node (ending k x.node m) t) w
 end_next n nodes m k h t w x board places booked below active =
@@ -206,16 +206,16 @@ balanced_step n past i _ needs before = before
 -- in a run what was sent was received or is under way
 balanced : (n : ℕ) (h : List Event) → IsRun n h → count is_send (steps_of h) ≡ count is_recv (steps_of h) + under_way (steps_of h)
 balanced n [] run = refl
-balanced n (e ∷ past) run = balanced_step n past (node_of e) (step_of e) run.0.needed (balanced n past run.1)
+balanced n (e ∷ past) run = balanced_step n past (node_beside e) (step_of e) run.0.needed (balanced n past run.1)
 
 pub balance : (n nodes : ℕ) (h : List Event) (t : BookTotals) (w : Wave) → IsBoard n nodes h t w
     → count is_send (steps_of h) ≡ count is_recv (steps_of h) + t.under
 balance n nodes h t w board = omega (arith, balanced n h board.run, board.under)
 
-pub agree_last : (h : List Event) (xs ys : List NodeNumbers) (x : NodeNumbers) → ys ≡ xs ++ x ∷ [] → x.pending ≡ pending_at x.node h
-    → All (λ (s : NodeNumbers). s.pending ≡ pending_at s.node h) xs
-    → All (λ (s : NodeNumbers). s.pending ≡ pending_at s.node h) ys
+pub agree_last : (h : List Event) (xs ys : List ShareNumbers) (x : ShareNumbers) → ys ≡ xs ++ x ∷ [] → x.pending ≡ pending_at x.node h
+    → All (λ (s : ShareNumbers). s.pending ≡ pending_at s.node h) xs
+    → All (λ (s : ShareNumbers). s.pending ≡ pending_at s.node h) ys
 agree_last h xs ys x is last rest =
-    let P : NodeNumbers → Type 0 = λ s. s.pending ≡ pending_at s.node h in
+    let P : ShareNumbers → Type 0 = λ s. s.pending ≡ pending_at s.node h in
     let one : All P (x ∷ []) = All-cons P x [] last (λ k d less. absurd (omega arith)) in
     rw is (All-append P xs (x ∷ []) rest one)

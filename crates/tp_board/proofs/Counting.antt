@@ -9,7 +9,7 @@ use Rattle.tp_base.specs.declared.step.Step.{Step}
 use Rattle.tp_base.specs.declared.step.Step.TheVariants.{Insert, ActionOpen, Send, Recv}
 use Rattle.tp_wave.specs.Steps.{count, is_send_of, is_recv_at}
 use Rattle.tp_wave.specs.Generations.{present, present_events}
-use Rattle.tp_wave.specs.Machine.{node_of, step_of, steps_of, pending_at, pending_after, under_way, under_way_after, IsOf}
+use Rattle.tp_wave.specs.Machine.{node_beside, step_of, steps_of, pending_at, pending_after, under_way, under_way_after, IsOf}
 use Rattle.tp_wave.proofs.Generations.{length-present, steps-present}
 use Rattle.tp_ledgers.specs.Numbers.{event, is_done, is_recv, is_send, plus_if}
 use Rattle.tp_board.specs.Counts.{counts_at, counts_after, AreCountsOf, AreFew}
@@ -103,7 +103,7 @@ pending_most false s p m less = omega arith
 pub pending_at-le : (i : ℕ) (h : List Event) → pending_at i h ≤ length h + 1
 pending_at-le i [] = omega arith
 pending_at-le i (e ∷ h) =
-    let most = pending_most (node_of e == i) (step_of e) (pending_at i h) (length h + 1) (pending_at-le i h) in
+    let most = pending_most (node_beside e == i) (step_of e) (pending_at i h) (length h + 1) (pending_at-le i h) in
     omega arith
 
 -- no count is above the number of events

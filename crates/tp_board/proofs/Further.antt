@@ -12,7 +12,7 @@ use Rattle.tp_wave.specs.Steps.{any, count, is_reopen}
 use Rattle.tp_wave.specs.Sums.{is_ended, judgement, sums_of}
 use Rattle.tp_wave.specs.Wave.{Follows}
 use Rattle.tp_wave.specs.Control.{is_control}
-use Rattle.tp_wave.specs.Cut.{IsQuiet}
+use Rattle.tp_wave.specs.Cut.{IsQuietHistory}
 use Rattle.tp_wave.specs.Generations.{IsOfGeneration, generation, present, present_events}
 use Rattle.tp_wave.specs.Machine.{step_of, steps_of, pending_at, pending_after, under_way, under_way_after, IsOf, Needs, is_send_numbered}
 use Rattle.tp_wave.specs.Machine.{is_send_to}
@@ -20,7 +20,7 @@ use Rattle.tp_wave.specs.declared.wave.Wave.{Wave}
 use Rattle.tp_wave.proofs.Generations.{few_law, length-present, present-goes_on, steps-present}
 use Rattle.tp_wave.proofs.Judged.{judged_law}
 use Rattle.tp_ledgers.specs.Books.{BookTotals, IsBooked, totals_after, with_judged, with_under}
-use Rattle.tp_ledgers.specs.Numbers.{AreWithin, NodeNumbers, ending, event, is_done, is_plain, is_recv, is_send, numbers_after, receiving}
+use Rattle.tp_ledgers.specs.Numbers.{AreWithin, ShareNumbers, ending, event, is_done, is_plain, is_recv, is_send, numbers_after, receiving}
 use Rattle.tp_ledgers.specs.Numbers.{sending}
 use Rattle.tp_ledgers.specs.Reopening.{AreFirst}
 use Rattle.tp_board.specs.Boards.{IsBoard, IsBoardOf, ended_number}
@@ -60,7 +60,7 @@ ended_now n nodes h t w board some = ended_out n t.judged (present (steps_of h))
 
 -- and nothing of it is left
 pub quiet_out : (n nodes : ℕ) (h : List Event) (t : BookTotals) (w : Wave) → IsBoardOf n nodes h t w → 0 < t.judged
-    → IsQuiet n (present_events h)
+    → IsQuietHistory n (present_events h)
 quiet_out n nodes h t w board some =
     judged_law n (present_events h) board.now.run (ended_out n t.judged (steps_of (present_events h)) board.now.judged some)
 
@@ -81,7 +81,7 @@ pub few_generations : (n nodes : ℕ) (h : List Event) (t : BookTotals) (w : Wav
 few_generations n nodes h t w board = omega (arith, few_law n h board.runs, board.whole)
 
 -- a node's numbers are no more than the history's events
-pub within_all : (n nodes : ℕ) (h : List Event) (t : BookTotals) (w : Wave) (x : NodeNumbers) → IsBoardOf n nodes h t w → IsBooked x t
+pub within_all : (n nodes : ℕ) (h : List Event) (t : BookTotals) (w : Wave) (x : ShareNumbers) → IsBoardOf n nodes h t w → IsBooked x t
     → x.node < n → AreWithin (length h) x
 within_all n nodes h t w x board booked below =
     let are = within n nodes (present_events h) t w x board.now booked below in
@@ -97,7 +97,7 @@ short_now : (h : List Event) → length h < 1048576 → length (present_events h
 short_now h places = omega (arith, length-present h)
 
 -- nor after one more
-pub within_more : (n nodes : ℕ) (h : List Event) (t : BookTotals) (w : Wave) (x : NodeNumbers) (s : Step) → IsBoardOf n nodes h t w
+pub within_more : (n nodes : ℕ) (h : List Event) (t : BookTotals) (w : Wave) (x : ShareNumbers) (s : Step) → IsBoardOf n nodes h t w
     → IsBooked x t → x.node < n → length h < 1048576
     → AreWithin 1048576 (numbers_after s x)
 within_more n nodes h t w x s board booked below places =
@@ -125,7 +125,7 @@ plain_carries k (MessageEnd j m g) plain = absurd cc
 plain_carries k _ plain = tt
 
 -- after a step that names no message
-pub plain_follows : (n nodes a : ℕ) (h now : List Event) (t after : BookTotals) (w : Wave) (x : NodeNumbers) (s : Step)
+pub plain_follows : (n nodes a : ℕ) (h now : List Event) (t after : BookTotals) (w : Wave) (x : ShareNumbers) (s : Step)
     → now ≡ event a s ∷ h → a ≡ x.node → after ≡ totals_after x.node s t
     → IsBoardOf n nodes h t w → length h < 1048576 → IsBooked x t → x.node < n → IsTrue (is_plain s) × IsOf x.node s × (0 < x.pending)
     → IsBoardOf n nodes now after w
@@ -137,7 +137,7 @@ plain_follows n nodes a h now t after w x s is is_a is_after board places booked
     (plain_carries (generation (steps_of h)) s lawful.0) next
 
 -- after the sending of a message
-pub send_follows : (n nodes a b j m : ℕ) (h now : List Event) (t after sent : BookTotals) (w : Wave) (x : NodeNumbers)
+pub send_follows : (n nodes a b j m : ℕ) (h now : List Event) (t after sent : BookTotals) (w : Wave) (x : ShareNumbers)
     → now ≡ event a (sending (generation (steps_of h)) a b m) ∷ h → a ≡ x.node → b ≡ j
     → after ≡ totals_after x.node (sending (generation (steps_of h)) a b m) t
     → sent ≡ with_under (under_way_after (sending (generation (steps_of h)) a b m) after.under) after
@@ -156,7 +156,7 @@ send_follows n nodes a b j m h now t after sent w x is is_a is_b is_after is_sen
     goes_on n nodes h now t sent w w (event a (sending k a b m)) board is places refl refl next
 
 -- after the receipt of a message
-pub recv_follows : (n nodes a m k : ℕ) (h now : List Event) (t after left : BookTotals) (w : Wave) (x : NodeNumbers)
+pub recv_follows : (n nodes a m k : ℕ) (h now : List Event) (t after left : BookTotals) (w : Wave) (x : ShareNumbers)
     → now ≡ event a (receiving k a m) ∷ h → k ≡ generation (steps_of h) → a ≡ x.node
     → after ≡ totals_after x.node (receiving k a m) t → left ≡ with_under (under_way_after (receiving k a m) after.under) after
     → 0 < after.under
@@ -170,7 +170,7 @@ recv_follows n nodes a m k h now t after left w x is is_k is_a is_after is_left 
     goes_on n nodes h now t left w w (event a (receiving k a m)) board is places refl is_k next
 
 -- after the end of a message's action
-pub end_follows : (n nodes a m k : ℕ) (h now : List Event) (t after : BookTotals) (w : Wave) (x : NodeNumbers)
+pub end_follows : (n nodes a m k : ℕ) (h now : List Event) (t after : BookTotals) (w : Wave) (x : ShareNumbers)
     → now ≡ event a (ending k a m) ∷ h → k ≡ generation (steps_of h) → a ≡ x.node
     → after ≡ totals_after x.node (ending k a m) t → IsBoardOf n nodes h t w → length h < 1048576 → IsBooked x t → x.node < n
     → 0 < x.pending → IsBoardOf n nodes now after w
@@ -272,7 +272,7 @@ sums_now n h now i k sums is at given = rw (is, ← at, ← steps-present h) giv
 pub quiet_judged : (n nodes w : ℕ) (h now : List Event) (t : BookTotals) (before after : Wave) → IsBoardOf n nodes h t before
     → now ≡ event 0 Judge ∷ h
     → Follows n (Judge ∷ steps_of (present_events h)) after → judgement n (steps_of (present_events h)) ≡ Some w
-    → IsQuiet n (present_events now)
+    → IsQuietHistory n (present_events now)
 quiet_judged n nodes w h now t before after board is follows judged =
     let ended : IsTrue (is_ended n (steps_of (event 0 Judge ∷ present_events h))) = rw judged refl in
     rw is (judged_law n (event 0 Judge
@@ -290,7 +290,7 @@ pub reopened : (n nodes : ℕ) (h now : List Event) (old new : BookTotals) (wave
 reopened n nodes h now old new wave fresh board is places judged first same follows =
     let b = board.now in
     let ended : IsTrue (is_ended n (steps_of (present_events h))) = rw (steps-present h) judged in
-    let quiet : IsQuiet n (present_events h) = judged_law n (present_events h) b.run ended in
+    let quiet : IsQuietHistory n (present_events h) = judged_law n (present_events h) b.run ended in
     rw is (record {
       now = record {
         nodes_are = b.nodes_are;

@@ -1,5 +1,5 @@
 -- What contracts see of a board, and what its calls are refused for.
-use Rattle.std.specs.Prelude.{ℕ, ◌+◌, ◌-◌, ◌≡◌, ◌<◌, List, [], ◌∷◌, ◌++◌, length, Option, Some, Result, Err, MatchOption, IfErr, nat_lt}
+use Rattle.std.specs.Prelude.{ℕ, ◌+◌, ◌-◌, ◌%◌, ◌≡◌, ◌<◌, List, [], ◌∷◌, ◌++◌, length, Option, Some, Result, Err, MatchOption, IfErr, nat_lt}
 use Rattle.std.specs.Option.{option_or}
 use Rattle.tp_base.specs.History.{Event}
 use Rattle.tp_base.specs.declared.refusal.Refusal.{Refusal}
@@ -8,7 +8,7 @@ use Rattle.tp_base.specs.declared.ids.NodeId.{NodeId}
 use Rattle.tp_base.specs.declared.step.Step.{Step}
 use Rattle.tp_base.specs.declared.step.Step.TheVariants.{Give}
 use Rattle.tp_base.specs.Checks.{Check, first_refusal}
-use Rattle.tp_wave.specs.Checks.{control_checks}
+use Rattle.tp_wave.specs.ControlChecks.{control_checks}
 use Rattle.tp_wave.specs.Generations.{present, present_events}
 use Rattle.tp_wave.specs.Machine.{pending_at, steps_of}
 
@@ -41,6 +41,10 @@ full_check more b = (nat_lt b.limit (length b.history + more), HistoryFull (leng
 abbrev pub AnswersBy : {A : Type 0} → List Check → ℕ → BoardState → Result A Refusal → Type 0
 AnswersBy checks more b result =
     MatchOption (first_refusal checks) (IfErr result (λ e. (e ≡ NoMemory) × (b.reserved < more))) (λ e. result ≡ Err e)
+
+-- A call is refused memory only where the next event is the first of a piece of 1,024, in which a history lies.
+abbrev pub IsAtPiece : BoardState → Refusal → Type 0
+IsAtPiece b e = e ≡ NoMemory → length b.history % 1024 ≡ 0
 
 -- the checks of a control step that no node has to be idle for
 abbrev pub step_checks : ℕ → BoardState → Step → List Check

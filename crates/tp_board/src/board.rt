@@ -1,14 +1,14 @@
-ghost use Rattle.std.specs.Prelude.{◌≡◌, ◌==◌, ◌≤◌, ◌<◌, ◌+◌, ◌-◌, ◌∷◌, ℕ, [], length, max, slice_index, IsTrue, IfOk, IsOk, OnErr, OnOk};
-ghost use Rattle.std.specs.Prelude.{None};
+ghost use Rattle.std.specs.Prelude.{◌≡◌, ◌==◌, ◌≤◌, ◌<◌, ◌+◌, ◌-◌, ◌∷◌, ℕ, [], length, max, slice_index, IsTrue, IfErr, IfOk, IsOk, OnErr};
+ghost use Rattle.std.specs.Prelude.{OnOk, None};
 ghost use Rattle.tp_ledgers.specs.Books.{first_totals};
 ghost use Rattle.tp_ledgers.specs.Names.{under_parts};
 ghost use Rattle.tp_ledgers.specs.Numbers.{AreWithin, ending, event, is_done, is_plain, is_recv, is_send, numbers_after, receiving};
 ghost use Rattle.tp_ledgers.specs.Numbers.{sending};
 ghost use Rattle.tp_board.specs.Routes.{is_send_between};
-ghost use Rattle.tp_board.specs.States.{AnswersBy, full_check, with_event, with_fault, with_reserved};
+ghost use Rattle.tp_board.specs.States.{AnswersBy, IsAtPiece, full_check, with_event, with_fault, with_reserved};
 ghost use Rattle.tp_wave.specs.Generations.{AreRuns, generation, present, present_events};
 ghost use Rattle.tp_wave.specs.Machine.{IsOf, is_send_to, pending_at, steps_of, under_way};
-ghost use Rattle.tp_wave.specs.Cut.{IsQuiet};
+ghost use Rattle.tp_wave.specs.Cut.{IsQuietHistory};
 ghost use Rattle.tp_wave.specs.Steps.{any, count};
 ghost use Rattle.tp_wave.specs.Sums.{is_ended};
 
@@ -172,6 +172,7 @@ impl<K: Ledgers> Board<K> {
         ensures places { (length self.old.history + self.old.reserved ≤ self.old.limit) × (self.old.limit ≤ 1048576) }
         ensures run { AreRuns K.names.nodes self.old.history }
     {
+        // The places are known by a call of the log alone. Its answer is not used, so it costs no instruction.
         let _count = self.log.len();
         self.accounts.audit(shares);
     }
@@ -200,6 +201,7 @@ impl<K: Ledgers> Board<K> {
     pub(crate) fn no_links(&mut self) -> Share<Under<K>>
         ensures same { self.new ≡ self.old }
         ensures none { (result.parts ≡ 0) × (result.amount ≡ 0) }
+        ensures few { (1 ≤ K.names.nodes) × (K.names.nodes ≤ 8) }
     {
         self.accounts.no_links()
     }
@@ -215,10 +217,11 @@ impl<K: Ledgers> Board<K> {
         ensures done { (result.done ≡ parts.done) × (result.done ≡ count is_done (present (steps_of self.history))) }
         ensures balance { result.sent ≡ result.received + result.under }
         ensures ended { result.ended ≡ is_ended K.names.nodes (present (steps_of self.history)) }
-        ensures quiet { IsTrue result.ended → IsQuiet K.names.nodes (present_events self.history) }
+        ensures quiet { IsTrue result.ended → IsQuietHistory K.names.nodes (present_events self.history) }
         ensures fault { result.fault ≡ self.fault }
         ensures history { result.history.events ≡ self.history }
         ensures run { AreRuns K.names.nodes self.history }
+        ensures few { length self.history ≤ 1048576 }
     {
         let (sent, received, done) = self.log.totals();
         let ended = self.accounts.is_ended();
@@ -244,7 +247,8 @@ impl<K: Ledgers> Board<K> {
 
     /// Adds a step of a node that names no message.
     ///
-    /// Refused: `HistoryFull` where the history has reached its limit; `NoMemory` where memory has to grow and does not.
+    /// Refused: `HistoryFull` where the history has reached its limit; `NoMemory` where memory has to grow and does not, as it
+    /// may have to at each 1,024th event.
     #[inline(always)]
     pub fn append(&mut self, step: Step, shares: &mut Shares<K>) -> Result<(), Refusal>
         requires lawful { IsTrue (is_plain step) × IsOf shares.old.node step × (0 < shares.old.pending) }
@@ -252,6 +256,7 @@ impl<K: Ledgers> Board<K> {
         ensures shares { OnOk result (shares.new ≡ numbers_after step shares.old) }
         ensures within { OnOk result (AreWithin 1048576 shares.new) }
         ensures refusal { AnswersBy (full_check 1 self.old ∷ []) 1 self.old result }
+        ensures piece { IfErr result (IsAtPiece self.old) }
         ensures reserved { 0 < self.old.reserved → IsOk result }
         ensures refused { OnErr result ((self.new ≡ self.old) × (shares.new ≡ shares.old)) }
     {
@@ -313,6 +318,7 @@ impl<K: Ledgers> Board<K> {
         ensures within { OnOk result (AreWithin 1048576 shares.new) }
         ensures link { OnOk result (link.new ≡ record link.old { under = link.old.under - 1 }) }
         ensures refusal { AnswersBy (full_check 1 self.old ∷ []) 1 self.old result }
+        ensures piece { IfErr result (IsAtPiece self.old) }
         ensures reserved { 0 < self.old.reserved → IsOk result }
         ensures refused { OnErr result ((self.new ≡ self.old) × (shares.new ≡ shares.old) × (link.new ≡ link.old)) }
     {
@@ -335,6 +341,7 @@ impl<K: Ledgers> Board<K> {
         ensures shares { OnOk result (shares.new ≡ record shares.old { pending = shares.old.pending - 1 }) }
         ensures within { OnOk result (AreWithin 1048576 shares.new) }
         ensures refusal { AnswersBy (full_check 1 self.old ∷ []) 1 self.old result }
+        ensures piece { IfErr result (IsAtPiece self.old) }
         ensures reserved { 0 < self.old.reserved → IsOk result }
         ensures refused { OnErr result ((self.new ≡ self.old) × (shares.new ≡ shares.old)) }
     {

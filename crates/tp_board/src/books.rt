@@ -1,8 +1,8 @@
-ghost use Rattle.std.specs.Prelude.{◌≡◌, ◌≤◌, ◌<◌, ◌+◌, ◌-◌, ◌*◌, [], IfErr, IfOk, IsTrue, None, sum_by, vec_len};
+ghost use Rattle.std.specs.Prelude.{◌≡◌, ◌≤◌, ◌<◌, ◌+◌, ◌-◌, ◌*◌, [], IfErr, IfOk, IsTrue, None, length, sum_by, vec_len};
 ghost use Rattle.std.specs.List.{All};
 ghost use Rattle.tp_base.specs.declared.refusal.Refusal.TheVariants as refusals;
 ghost use Rattle.tp_ledgers.specs.Numbers.{first_links, first_numbers, first_shares, is_done, is_recv, is_send};
-ghost use Rattle.tp_wave.specs.Cut.{IsQuiet};
+ghost use Rattle.tp_wave.specs.Cut.{IsQuietHistory};
 ghost use Rattle.tp_wave.specs.Generations.{AreRuns, present, present_events};
 ghost use Rattle.tp_wave.specs.Machine.{pending_at, steps_of, under_way};
 ghost use Rattle.tp_wave.specs.Steps.{count};
@@ -95,22 +95,23 @@ pub fn close_books<K: Ledgers>(books: Books<K>) -> Totals
         × (result.done ≡ count is_done (present (steps_of books.board.history))) }
     ensures balance { result.sent ≡ result.received + result.under }
     ensures ended { result.ended ≡ is_ended K.names.nodes (present (steps_of books.board.history)) }
-    ensures quiet { IsTrue result.ended → IsQuiet K.names.nodes (present_events books.board.history) }
+    ensures quiet { IsTrue result.ended → IsQuietHistory K.names.nodes (present_events books.board.history) }
     ensures fault { result.fault ≡ books.board.fault }
     ensures history { result.history.events ≡ books.board.history }
     ensures run { AreRuns K.names.nodes books.board.history }
+    ensures few { length books.board.history ≤ 1048576 }
 {
     let Books {
         mut board,
         mut shares,
         links,
     } = books;
-    let _nodes = board.nodes();
+    let none = board.no_links();
     let Some(first) = shares.pop() else {
         unreachable!()
     };
     let (pending, parts) = gather(&mut board, first, shares);
-    let under = gather_links(board.no_links(), links);
+    let under = gather_links(none, links);
     board.close(pending, parts, under)
 }
 

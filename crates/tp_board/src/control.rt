@@ -4,7 +4,7 @@ ghost use Rattle.tp_board.specs.Judgements.{is_over};
 ghost use Rattle.tp_ledgers.specs.Numbers.{event, node_at};
 ghost use Rattle.tp_board.specs.States.{AnswersBy, step_checks, visit_checks, with_event};
 ghost use Rattle.tp_wave.specs.Control.{parent};
-ghost use Rattle.tp_wave.specs.Cut.{IsQuiet};
+ghost use Rattle.tp_wave.specs.Cut.{IsQuietHistory};
 ghost use Rattle.tp_wave.specs.Generations.{present, present_events};
 ghost use Rattle.tp_wave.specs.Machine.{steps_of};
 ghost use Rattle.tp_wave.specs.Sums.{is_ended, judgement, sums_of};
@@ -62,7 +62,6 @@ impl<K: Ledgers> Board<K> {
         ensures refusal { AnswersBy (step_checks K.names.nodes self.old (steps.Up child)) 1 self.old result }
         ensures refused { OnErr result (self.new ≡ self.old) }
     {
-        let _parent = shares.node();
         let mut wave = self.wave;
         wave.up(child)?;
         self.log.add(child, Step::Up(child))?;
@@ -104,7 +103,7 @@ impl<K: Ledgers> Board<K> {
         ensures first { OnOk result (IsFalse (is_ended K.names.nodes (present (steps_of self.old.history)))) }
         ensures over { IfOk result (λ j. is_over j ≡ is_some (judgement K.names.nodes (present (steps_of self.old.history)))) }
         ensures ended { IfOk result (λ j. is_over j ≡ is_ended K.names.nodes (present (steps_of self.new.history))) }
-        ensures quiet { IfOk result (λ j. IsTrue (is_over j) → IsQuiet K.names.nodes (present_events self.new.history)) }
+        ensures quiet { IfOk result (λ j. IsTrue (is_over j) → IsQuietHistory K.names.nodes (present_events self.new.history)) }
         ensures refusal { AnswersBy (step_checks K.names.nodes self.old steps.Judge) 1 self.old result }
         ensures refused { OnErr result (self.new ≡ self.old) }
     {
@@ -123,7 +122,7 @@ impl<K: Ledgers> Board<K> {
     pub fn audit_ended(&mut self, ended: &mut Ended<K>)
         ensures same { self.new ≡ self.old }
         ensures ended { IsTrue (is_ended K.names.nodes (present (steps_of self.old.history))) }
-        ensures quiet { IsQuiet K.names.nodes (present_events self.old.history) }
+        ensures quiet { IsQuietHistory K.names.nodes (present_events self.old.history) }
     {
         self.accounts.audit_ended(ended);
     }

@@ -1,9 +1,10 @@
-ghost use Rattle.std.specs.Prelude.{◌≡◌, ◌∷◌, ◌+◌, ◌≤◌, ◌<◌, [], length, max, IsTrue, IsFalse, IfOk, IsOk, OnErr, OnOk, None};
+ghost use Rattle.std.specs.Prelude.{◌≡◌, ◌∷◌, ◌+◌, ◌≤◌, ◌<◌, [], length, max, IsTrue, IsFalse, IfErr, IfOk, IsOk, OnErr, OnOk};
+ghost use Rattle.std.specs.Prelude.{None};
 ghost use Rattle.tp_base.specs.declared.step.Step.TheVariants as steps;
 ghost use Rattle.tp_board.specs.Counts.{AreFew, counts_at};
 ghost use Rattle.tp_ledgers.specs.Numbers.{event, is_done, is_recv, is_send, sending};
 ghost use Rattle.tp_board.specs.Routes.{is_send_between};
-ghost use Rattle.tp_board.specs.States.{AnswersBy, full_check, with_event, with_fault, with_reserved};
+ghost use Rattle.tp_board.specs.States.{AnswersBy, IsAtPiece, full_check, with_event, with_fault, with_reserved};
 ghost use Rattle.tp_wave.specs.Generations.{generation, present, present_events};
 ghost use Rattle.tp_wave.specs.Machine.{IsOf, is_send_numbered, steps_of};
 ghost use Rattle.tp_wave.specs.Steps.{any, count, is_reopen};
@@ -86,6 +87,7 @@ impl Log {
         ensures ok { OnOk result (self.new ≡ with_event (event node.0 step) self.old) }
         ensures places { OnOk result (length self.old.history < 1048576) }
         ensures refusal { AnswersBy (full_check 1 self.old ∷ []) 1 self.old result }
+        ensures piece { IfErr result (IsAtPiece self.old) }
         ensures reserved { 0 < self.old.reserved → IsOk result }
         ensures refused { OnErr result (self.new ≡ self.old) }
     {

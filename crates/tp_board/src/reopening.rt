@@ -5,7 +5,7 @@ ghost use Rattle.tp_board.specs.States.{with_event};
 ghost use Rattle.tp_ledgers.specs.Fresh.{HasRoom};
 ghost use Rattle.tp_ledgers.specs.Numbers.{event, first_numbers};
 ghost use Rattle.tp_ledgers.specs.Reopening.{begun_anew};
-ghost use Rattle.tp_wave.specs.Cut.{IsQuiet};
+ghost use Rattle.tp_wave.specs.Cut.{IsQuietHistory};
 ghost use Rattle.tp_wave.specs.Generations.{present, present_events};
 ghost use Rattle.tp_wave.specs.Machine.{steps_of};
 ghost use Rattle.tp_wave.specs.Sums.{is_ended};
@@ -34,7 +34,7 @@ impl<K: Ledgers> Board<K> {
         ensures each_share { vec_len result ≡ K.names.nodes }
         ensures idle { All (λ s. s.pending ≡ 0) shares.items }
         ensures ended { IsTrue (is_ended K.names.nodes (present (steps_of self.old.history))) }
-        ensures quiet { IsQuiet K.names.nodes (present_events self.old.history) }
+        ensures quiet { IsQuietHistory K.names.nodes (present_events self.old.history) }
     {
         let mut ended = ended;
         self.audit_ended(&mut ended);
@@ -49,7 +49,7 @@ impl<K: Ledgers> Board<K> {
 
     /// Changes nothing, and tells that the nodes have nothing pending where nothing is left.
     fn audit_each(&mut self, shares: &mut [Shares<K>])
-        requires { IsQuiet K.names.nodes (present_events self.old.history) }
+        requires { IsQuietHistory K.names.nodes (present_events self.old.history) }
         ensures same { (self.new ≡ self.old) × (shares.new ≡ shares.old) }
         ensures idle { All (λ s. s.pending ≡ 0) shares.old }
     {

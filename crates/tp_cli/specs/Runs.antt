@@ -18,7 +18,8 @@ use Rattle.tp_cli.specs.declared.run.Plan.{Plan}
 use Rattle.tp_text.specs.Spelling.{line}
 use Rattle.tp_text.specs.TraceOf.{CanBeTraced, IsTraceOf}
 use Rattle.tp_wave.specs.Machine.{History, steps_of}
-use Rattle.tp_work.specs.Outcomes.{HasEachOnce, IsFault, IsOutcome, IsWithinLimits}
+use Rattle.tp_work.specs.Outcomes.{IsFault, IsOutcome, IsWithinLimits}
+use Rattle.tp_graph.specs.Found.{HasEachOnce}
 use Rattle.tp_work.specs.Series.{IsSeries, IsSeriesFault}
 use Rattle.tp_work.specs.declared.config.Outcome.{Outcome}
 use Rattle.tp_work.specs.declared.series.Round.{Round}

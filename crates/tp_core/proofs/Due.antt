@@ -14,7 +14,7 @@ use Rattle.tp_wave.specs.Sums.{is_ended, judgement}
 use Rattle.tp_wave.specs.Control.{is_control, IsDue}
 use Rattle.tp_wave.specs.Generations.{present}
 use Rattle.tp_wave.specs.Wave.{Follows, Stands}
-use Rattle.tp_wave.specs.Checks.{control_refusal}
+use Rattle.tp_wave.specs.ControlChecks.{control_refusal}
 use Rattle.tp_wave.specs.declared.Wave.{Wave}
 use Rattle.tp_wave.proofs.Exact.{checks_exact}
 use Rattle.tp_core.specs.declared.numbers.NodeNumbers.{NodeNumbers}
@@ -22,7 +22,7 @@ use Rattle.tp_core.specs.World.{World, IsQuiet}
 use Rattle.tp_core.specs.Pool.{after}
 use Rattle.tp_core.specs.Run.{world, IsLawful, IsLawfulRun}
 use Rattle.tp_core.specs.Accepted.{numbers_in}
-use Rattle.tp_core.specs.Settling.{MaySettle, IsTold, IsTaken, GoesOn, AreTaken}
+use Rattle.tp_core.specs.ToTheEnd.{MaySettle, IsTold, IsTaken, GoesOn, AreTaken}
 use Rattle.tp_core.proofs.Bounds.{count_bound}
 use Rattle.tp_core.proofs.Keeping.{zeros, moved, numbers_stay}
 use Rattle.tp_core.proofs.Quiet.{nothing_pending_when_quiet}

@@ -7,11 +7,10 @@ use Rattle.std.specs.List.{list_any}
 use Rattle.tp_base.specs.declared.Step.{Step}
 use Rattle.tp_base.specs.declared.Step.TheVariants.{Insert, Give, Judge}
 use Rattle.tp_wave.specs.Steps.{before, any, count, is_give}
-use Rattle.tp_wave.specs.Sums.{judgement}
+use Rattle.tp_wave.specs.Sums.{judgement, visited_at}
 use Rattle.tp_wave.specs.Control.{in_wave, has_ended}
 use Rattle.tp_wave.specs.Machine.{History, steps_of}
 use Rattle.tp_wave.specs.Machine as machine
-use Rattle.tp_wave.specs.Cut.{visited_at}
 use Rattle.tp_wave.proofs.Positions.{before-all, before-past}
 use Rattle.tp_wave.proofs.Judged.{ended_law}
 use Rattle.tp_core.specs.declared.life.Life.{Life}

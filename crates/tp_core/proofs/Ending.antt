@@ -24,10 +24,12 @@ use Rattle.tp_wave.specs.Generations.{present, generation}
 use Rattle.tp_core.specs.Run.{world, IsLawful, IsLawfulRun}
 use Rattle.tp_core.specs.Generations.{MayCome, AreRuns}
 use Rattle.tp_core.specs.Accepted.{Accepted, IsRefusedFor, world_of}
-use Rattle.tp_core.specs.Kept.{accepted, Agree, IsKept, HasActions, HasMessages, HasNumbers, HasPieces, HasTasks, all_left}
+use Rattle.tp_core.specs.Kept.{accepted, Agree, IsKept, HasActions, HasMessages, HasNumbers, HasPieces, HasPlaces, HasTasks, IsFrugal}
+use Rattle.tp_core.specs.Kept.{all_left}
 use Rattle.tp_core.specs.Settled.{settle_checks, rooms_check, ends_before, IsSettled}
-use Rattle.tp_core.specs.Settling.{AreTaken, MaySettle}
+use Rattle.tp_core.specs.ToTheEnd.{AreTaken, MaySettle}
 use Rattle.tp_core.proofs.Keeping.{numbers_stay}
+use Rattle.tp_core.proofs.Places.{control_places}
 use Rattle.tp_core.proofs.Quiet.{none_from_length}
 use Rattle.tp_core.proofs.Settling.{judged_soon}
 use Rattle.tp_core.proofs.Generations.{no_reopening, present-control}
@@ -154,8 +156,8 @@ generation_stays (s ∷ later) old c =
 pub agree_settled : {c : Inside} {w count : ℕ} (steps : Vec Step Global) (wave : Wave) → IsKept c
     → AreTaken c.nodes (accepted c).steps (reverse steps.items) wave w count
     → length (accepted c).steps + 9 * c.nodes ≤ MAX_STEPS → HasPieces (length (accepted c).steps + 9 * c.nodes) (vec_capacity steps)
-    → IsKept (record c { steps = steps; wave = wave })
-agree_settled {c} steps wave agree t room pieces =
+    → IsFrugal (length (accepted c).steps) (vec_capacity steps) → IsKept (record c { steps = steps; wave = wave })
+agree_settled {c} steps wave agree t room pieces frugal =
     let later : List Step = Judge ∷ t.taken in
     let all : List Step = (accepted c).steps in
     let old : List Step = present (accepted c).steps in
@@ -174,6 +176,7 @@ agree_settled {c} steps wave agree t room pieces =
       within = omega (arith, size, few, room);
       pieces = fewer_pieces (length steps.items) (length all + 9 * c.nodes) (vec_capacity steps)
           (omega (arith, few, size, length-reverse steps.items, ap length t.steps)) pieces;
+      frugal = omega (arith, frugal, size, length-reverse steps.items, ap length t.steps);
       numbers = subst (λ (xs : List Step). HasNumbers c.numbers (record { nodes = c.nodes; steps = xs })) (sym now)
           (same_numbers c.nodes c.numbers later old t.control t.run agree.numbers);
       left = subst (λ (w : World). c.left ≡ all_left w) (sym still) agree.left;
@@ -181,6 +184,8 @@ agree_settled {c} steps wave agree t room pieces =
       tasks = subst (λ (w : World). HasTasks c.tasks w.tasks) (sym still) agree.tasks;
       actions = subst (λ (w : World). HasActions c.opening c.named c.messages w.actions) (sym still) agree.actions;
       messages = subst (λ (w : World). HasMessages c.messages w.messages w.numbers) (sym still) agree.messages;
+      places = subst (λ (xs : List Step). HasPlaces xs c.tasks c.named c.messages) (sym now)
+          (control_places later old t.control agree.places);
       wave = subst (λ (xs : List Step). Follows c.nodes xs wave) (sym now) t.follows;
     }
 

@@ -25,7 +25,8 @@ use Rattle.tp_wave.specs.Generations.{present, generation}
 use Rattle.tp_core.specs.Run.{world, node_of, IsLawful, IsLawfulRun}
 use Rattle.tp_core.specs.Generations.{MayCome}
 use Rattle.tp_core.specs.Accepted.{Accepted, with_step, numbers_in, now_of}
-use Rattle.tp_core.specs.Kept.{accepted, Agree, IsKept, HasTasks, HasActions, HasMessages, HasNumbers, HasPieces, all_left}
+use Rattle.tp_core.specs.Kept.{accepted, Agree, IsKept, HasTasks, HasActions, HasMessages, HasNumbers, HasPieces, HasPlaces, IsFrugal}
+use Rattle.tp_core.specs.Kept.{all_left}
 use Rattle.tp_core.proofs.Counting.{life_in, one_if, node_inside, open_at-openings, pending_step, not_done-lacking, length-without}
 use Rattle.tp_core.proofs.Written.{written}
 use Rattle.tp_core.proofs.Generations.{present-goes_on}
@@ -160,20 +161,25 @@ accepted_next c d s nodes pushed = rw (nodes, pushed, reverse-append c.steps.ite
 pub generation-goes_on : (s : Step) (past : List Step) → IsFalse (is_reopen s) → generation (s ∷ past) ≡ generation past
 generation-goes_on s past on = rw on
 
+-- one step more
+pub frugal_next : (count room : ℕ) → IsFrugal count room → IsFrugal (count + 1) room
+frugal_next count room h = omega (arith, h)
+
 pub agree_after : {c d : Inside} {mid : List Step} {room : ℕ} (s : Step) → IsKept c → MayCome c.nodes (accepted c).steps s
     → IsFalse (is_reopen s) → length c.steps.items < MAX_STEPS
-    → HasPieces (length c.steps.items + 1) room → d.nodes ≡ c.nodes → d.generation ≡ c.generation → mid ≡ c.steps.items
-    → d.steps.items ≡ mid ++ s ∷ [] → vec_capacity d.steps ≡ room
+    → HasPieces (length c.steps.items + 1) room → IsFrugal (length c.steps.items) room → d.nodes ≡ c.nodes → d.generation ≡ c.generation
+    → mid ≡ c.steps.items → d.steps.items ≡ mid ++ s ∷ [] → vec_capacity d.steps ≡ room
     → HasNumbers d.numbers (with_step (now_of (accepted c)) s)
     → d.left ≡ pending_after s c.left → d.under ≡ under_way_after s c.under
     → HasTasks d.tasks (after s (world c.nodes (present (accepted c).steps))).tasks
     → HasActions d.opening d.named d.messages (after s (world c.nodes (present (accepted c).steps))).actions
     → HasMessages d.messages (after s (world c.nodes (present (accepted c).steps))).messages
     (after s (world c.nodes (present (accepted c).steps))).numbers
+    → HasPlaces (s ∷ present (accepted c).steps) d.tasks d.named d.messages
     → Follows c.nodes (s ∷ present (accepted c).steps) d.wave
     → IsKept d
-agree_after {c} {d} {mid} s agree comes on room pieces nodes same_generation stay pushed capacity numbers left under tasks actions
-    messages follows =
+agree_after {c} {d} {mid} s agree comes on room pieces frugal nodes same_generation stay pushed capacity numbers left under tasks actions
+    messages places follows =
     let lawful : IsLawful c.nodes (present (accepted c).steps) s = (comes.goes_on on).0 in
     let now : present (s ∷ (accepted c).steps) ≡ s ∷ present (accepted c).steps = present-goes_on s (accepted c).steps on in
     subst (λ a. Agree a d) (sym (accepted_next c d s nodes (rw stay at pushed))) record {
@@ -184,6 +190,7 @@ agree_after {c} {d} {mid} s agree comes on room pieces nodes same_generation sta
       generation_is = same_generation ∙ agree.generation_is ∙ sym (generation-goes_on s (accepted c).steps on);
       within = rw (length-reverse c.steps.items) (omega arith);
       pieces = rw (capacity, pushed, stay, length-append c.steps.items (s ∷ [])) pieces;
+      frugal = rw (capacity, pushed, stay, length-append c.steps.items (s ∷ [])) (frugal_next (length c.steps.items) _ frugal);
       numbers = subst (λ (xs : List Step). HasNumbers d.numbers (record { nodes = c.nodes; steps = xs })) (sym now) numbers;
       left = subst (λ (xs : List Step). d.left ≡ all_left (world c.nodes xs)) (sym now) (left
           ∙ rw agree.left (sym (left_step c.nodes (present (accepted c).steps) s lawful)));
@@ -193,30 +200,34 @@ agree_after {c} {d} {mid} s agree comes on room pieces nodes same_generation sta
       actions = subst (λ (xs : List Step). HasActions d.opening d.named d.messages (world c.nodes xs).actions) (sym now) actions;
       messages = subst (λ (xs : List Step). HasMessages d.messages (world c.nodes xs).messages (world c.nodes xs).numbers) (sym now)
           messages;
+      places = subst (λ (xs : List Step). HasPlaces xs d.tasks d.named d.messages) (sym now) places;
       wave = subst (λ (xs : List Step). Follows c.nodes xs d.wave) (sym now) follows;
     }
 
 -- a step of the pool
 pub agree_next : {c d : Inside} {mid : List Step} {room : ℕ} (s : Step) → IsKept c → MayCome c.nodes (accepted c).steps s
     → IsFalse (is_reopen s) → length c.steps.items < MAX_STEPS
-    → HasPieces (length c.steps.items + 1) room → is_control s ≡ false → d.nodes ≡ c.nodes → d.generation ≡ c.generation → d.wave ≡ c.wave
-    → mid ≡ c.steps.items → d.steps.items ≡ mid ++ s ∷ [] → vec_capacity d.steps ≡ room
+    → HasPieces (length c.steps.items + 1) room → IsFrugal (length c.steps.items) room → is_control s ≡ false → d.nodes ≡ c.nodes
+    → d.generation ≡ c.generation → d.wave ≡ c.wave → mid ≡ c.steps.items → d.steps.items ≡ mid ++ s ∷ [] → vec_capacity d.steps ≡ room
     → HasNumbers d.numbers (with_step (now_of (accepted c)) s)
     → d.left ≡ pending_after s c.left → d.under ≡ under_way_after s c.under
     → HasTasks d.tasks (after s (world c.nodes (present (accepted c).steps))).tasks
     → HasActions d.opening d.named d.messages (after s (world c.nodes (present (accepted c).steps))).actions
     → HasMessages d.messages (after s (world c.nodes (present (accepted c).steps))).messages
     (after s (world c.nodes (present (accepted c).steps))).numbers
+    → HasPlaces (s ∷ present (accepted c).steps) d.tasks d.named d.messages
     → IsKept d
-agree_next {c} {d} s agree comes on room pieces pool nodes same_generation wave stay pushed capacity numbers left under tasks actions
-    messages =
-    agree_after s agree comes on room pieces nodes same_generation stay pushed capacity numbers left under tasks actions messages
+agree_next {c} {d} s agree comes on room pieces frugal pool nodes same_generation wave stay pushed capacity numbers left under tasks
+    actions messages places =
+    agree_after s agree comes on room pieces frugal nodes same_generation stay pushed capacity numbers left under tasks actions messages
+    places
     (rw wave (pool_step c.nodes (present (accepted c).steps) s c.wave pool agree.wave))
 
 -- where a step was refused, after more room was made
 pub agree_room : {c : Inside} (steps : Vec Step Global) → IsKept c → steps.items ≡ c.steps.items
-    → HasPieces (length c.steps.items) (vec_capacity steps) → IsKept (record c { steps = steps })
-agree_room {c} steps agree stay pieces =
+    → HasPieces (length c.steps.items) (vec_capacity steps)
+    → IsFrugal (length c.steps.items) (vec_capacity steps) → IsKept (record c { steps = steps })
+agree_room {c} steps agree stay pieces frugal =
     let same : accepted (record c { steps = steps }) ≡ accepted c = rw stay refl in
     subst (λ a. Agree a (record c { steps = steps })) (sym same) record {
       some_node = agree.some_node;
@@ -226,11 +237,13 @@ agree_room {c} steps agree stay pieces =
       generation_is = agree.generation_is;
       within = agree.within;
       pieces = subst (λ (xs : List Step). HasPieces (length xs) (vec_capacity steps)) (sym stay) pieces;
+      frugal = subst (λ (xs : List Step). IsFrugal (length xs) (vec_capacity steps)) (sym stay) frugal;
       numbers = agree.numbers;
       left = agree.left;
       under = agree.under;
       tasks = agree.tasks;
       actions = agree.actions;
       messages = agree.messages;
+      places = agree.places;
       wave = agree.wave;
     }

@@ -35,9 +35,9 @@ judged_soon n later steps pos r q =
     let whole : history n (later ++ steps) ≡ front ++ history n steps = history-append n later steps in
     let run : machine.IsRun n (history n (later ++ steps)) = is_run n (later ++ steps) pos r in
     let old : IsLawfulRun n steps = IsLawfulRun-past n later steps r in
-    let quiet : cut.IsQuiet n (history n steps) = (quiet_seen n steps pos old).1 q in
+    let quiet : cut.IsQuietHistory n (history n steps) = (quiet_seen n steps pos old).1 q in
     let soon = soon_law n front (history n steps) pos (rw whole at run) quiet in
-    let still : cut.IsQuiet n (history n (later ++ steps)) = rw whole (quiet_law n front (history n steps) (rw whole at run) quiet).0 in
+    let still : cut.IsQuietHistory n (history n (later ++ steps)) = rw whole (quiet_law n front (history n steps) (rw whole at run) quiet).0 in
     let now : steps_of (front ++ history n steps) ≡ later ++ steps = ap steps_of (sym whole) ∙ steps_of-history n (later ++ steps) in
     let then' : steps_of (history n steps) ≡ steps = steps_of-history n steps in (
       omega (arith, soon.0, length-after n later steps),

@@ -19,10 +19,11 @@ use Rattle.tp_base.specs.Table.{lookup}
 use Rattle.tp_core.specs.NodeSet.{has}
 use Rattle.tp_core.specs.World.{Kind, Opening, Named, OfMessage, is_action, how_many, openings, IsQuiet}
 use Rattle.tp_core.specs.Accepted.{Accepted, world_of, numbers_in}
-use Rattle.tp_core.specs.Kept.{accepted, Agree, IsKept, HasActions, HasPieces, AreOpened, opened_below, is_kept_open}
+use Rattle.tp_core.specs.Kept.{accepted, Agree, IsKept, HasActions, HasPieces, IsFrugal, AreOpened, opened_below, is_kept_open}
 use Rattle.tp_core.proofs.Counting.{open_at-openings}
 use Rattle.tp_core.proofs.Quiet.{none_from_length}
-use Rattle.tp_core.proofs.Keeping.{zeros, accepted_next}
+use Rattle.tp_core.proofs.Places.{no_places}
+use Rattle.tp_core.proofs.Keeping.{zeros, accepted_next, frugal_next}
 use Rattle.tp_core.proofs.Bounds.{length-openings}
 use Rattle.tp_core.proofs.Written.{written}
 
@@ -63,11 +64,11 @@ first_actions n opening named messages opened no_name no_message = record { are_
 first_numbers : (i n : ℕ) → opened_below n i ≡ numbers_in i (record { nodes = n; steps = [] })
 first_numbers i n = ap (λ p. record { pending = p; sent = 0; received = 0 }) (grind (arith, open_at-openings i n))
 
-pub first_kept : {c : Inside} → 0 < c.nodes → c.nodes ≤ MAX_NODES → c.steps.items ≡ [] → c.generation ≡ 1
+pub first_kept : {c : Inside} → 0 < c.nodes → c.nodes ≤ MAX_NODES → c.steps.items ≡ [] → vec_capacity c.steps ≡ 0 → c.generation ≡ 1
     → AreOpened c.nodes c.numbers c.opening → c.left ≡ c.nodes → c.under ≡ 0
     → ((k : ℕ) → lookup c.named k ≡ None) → ((k : ℕ) → lookup c.tasks k ≡ None) → ((k : ℕ) → lookup c.messages k ≡ None)
     → Follows c.nodes [] c.wave → IsKept c
-first_kept {c} some few empty first opened left under no_name no_task no_message follows =
+first_kept {c} some few empty none first opened left under no_name no_task no_message follows =
     let nothing : accepted c ≡ record { nodes = c.nodes; steps = [] } = rw empty refl in
     subst (λ (a : Accepted). Agree a c) (sym nothing) (record {
       some_node = some;
@@ -77,24 +78,27 @@ first_kept {c} some few empty first opened left under no_name no_task no_message
       generation_is = first;
       within = zero-le;
       pieces = subst (λ (xs : List Step). HasPieces (length xs) (vec_capacity c.steps)) (sym empty) zero-le;
+      frugal = omega (arith, none);
       numbers = record { size = opened.size; each = λ i d h. opened.each i d h ∙ first_numbers i c.nodes };
       left = left ∙ sym (length-openings c.nodes) ∙ omega arith;
       under = under;
       tasks = record { found = no_task };
       actions = first_actions c.nodes c.opening c.named c.messages opened.opened no_name no_message;
       messages = record { known = λ m. rw (no_message m) refl; under_way = λ m j. rw (no_message m) refl };
+      places = no_places;
       wave = follows;
     })
 
 -- where a pool whose end was judged was reopened: all is as at first, but the list goes on
 pub reopened_kept : {c d : Inside} {mid : List Step} {room : ℕ} → IsKept c → MayCome c.nodes (accepted c).steps Reopen
     → length c.steps.items < MAX_STEPS
-    → HasPieces (length c.steps.items + 1) room → d.nodes ≡ c.nodes → d.generation ≡ c.generation + 1 → mid ≡ c.steps.items
-    → d.steps.items ≡ mid ++ Reopen ∷ [] → vec_capacity d.steps ≡ room
+    → HasPieces (length c.steps.items + 1) room → IsFrugal (length c.steps.items) room → d.nodes ≡ c.nodes
+    → d.generation ≡ c.generation + 1 → mid ≡ c.steps.items → d.steps.items ≡ mid ++ Reopen ∷ [] → vec_capacity d.steps ≡ room
     → AreOpened c.nodes d.numbers d.opening → d.left ≡ c.nodes → d.under ≡ 0
     → ((k : ℕ) → lookup d.named k ≡ None) → ((k : ℕ) → lookup d.tasks k ≡ None) → ((k : ℕ) → lookup d.messages k ≡ None)
     → Follows c.nodes [] d.wave → IsKept d
-reopened_kept {c} {d} {mid} agree comes room pieces nodes next stay pushed capacity opened left under no_name no_task no_message follows =
+reopened_kept {c} {d} {mid} agree comes room pieces frugal nodes next stay pushed capacity opened left under no_name no_task no_message
+    follows =
     subst (λ (a : Accepted). Agree a d) (sym (accepted_next c d Reopen nodes (rw stay at pushed))) record {
       some_node = agree.some_node;
       few_nodes = agree.few_nodes;
@@ -103,12 +107,14 @@ reopened_kept {c} {d} {mid} agree comes room pieces nodes next stay pushed capac
       generation_is = next ∙ ap (λ k. k + 1) agree.generation_is;
       within = rw (length-reverse c.steps.items) (omega arith);
       pieces = rw (capacity, pushed, stay, length-append c.steps.items (Reopen ∷ [])) pieces;
+      frugal = rw (capacity, pushed, stay, length-append c.steps.items (Reopen ∷ [])) (frugal_next (length c.steps.items) _ frugal);
       numbers = record { size = opened.size; each = λ i e h. opened.each i e h ∙ first_numbers i c.nodes };
       left = left ∙ sym (length-openings c.nodes) ∙ omega arith;
       under = under;
       tasks = record { found = no_task };
       actions = first_actions c.nodes d.opening d.named d.messages opened.opened no_name no_message;
       messages = record { known = λ m. rw (no_message m) refl; under_way = λ m j. rw (no_message m) refl };
+      places = no_places;
       wave = follows;
     }
 

@@ -9,7 +9,8 @@ use Rattle.tp_base.specs.declared.limits.TheConstants.{MAX_STEPS}
 use Rattle.tp_base.specs.Checks.{first_refusal}
 use Rattle.tp_core.specs.declared.accepting.Core.TheInside.{Inside}
 use Rattle.tp_core.specs.declared.reply.Reply.{Reply}
-use Rattle.tp_core.specs.Checks.{refusal_of}
+use Rattle.tp_wave.specs.Generations.{present}
+use Rattle.tp_core.specs.StepChecks.{refusal_of}
 use Rattle.tp_core.specs.Generations.{MayCome}
 use Rattle.tp_core.specs.Accepted.{Accepted, IsRefusedFor, asks_memory, begins_piece, keeps_more, refusal, reply_to, room_check, with_step}
 use Rattle.tp_core.specs.Kept.{accepted, IsKept}
@@ -53,7 +54,8 @@ pub no_room : {c : Inside} {old : Accepted} {mid : List Step} (s : Step) → IsK
 no_room {c} {old} s agree is lawful r told stay = (
   subst (λ (a : Accepted). IsRefusedFor (refusal a s) (asks_memory a s) r) is (
       rw (refused_for_room (accepted c) s lawful, length-reverse c.steps.items)
-      (weaken (first_refusal (room_check (length c.steps.items))) (begins_piece (length c.steps.items)) (keeps_more s) r told)
+      (weaken (first_refusal (room_check (length c.steps.items))) (begins_piece (length c.steps.items))
+      (keeps_more (present (accepted c).steps) s) r told)
       ),
   rw stay is,
 )
@@ -68,6 +70,8 @@ for_nothing {c} {old} s agree is lawful room =
 -- nor for what it keeps
 pub no_memory : {c : Inside} {old : Accepted} {mid : List Step} (s : Step) → IsKept c → accepted c ≡ old
     → MayCome c.nodes (accepted c).steps s → length c.steps.items < MAX_STEPS
-    → keeps_more s ≡ true → (r : Refusal) → r ≡ NoMemory → mid ≡ c.steps.items
+    → keeps_more (present (accepted c).steps) s ≡ true → (r : Refusal) → r ≡ NoMemory → mid ≡ c.steps.items
     → IsRefusedFor (refusal old s) (asks_memory old s) r × (record { nodes = c.nodes; steps = reverse mid } ≡ old)
-no_memory {c} {old} s agree is lawful room keeps r memory stay = (rw (for_nothing s agree is lawful room, keeps) (memory, refl), rw stay is)
+no_memory {c} {old} s agree is lawful room keeps r memory stay =
+    let asks : keeps_more (present old.steps) s ≡ true = subst (λ (a : Accepted). keeps_more (present a.steps) s ≡ true) is keeps in
+    (rw (for_nothing s agree is lawful room, asks) (memory, refl), rw stay is)

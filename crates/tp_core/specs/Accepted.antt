@@ -1,15 +1,16 @@
 -- What a core has accepted, and what it answers to the next step.
-use Rattle.std.specs.Prelude.{Bool, true, false, IsTrue, IsFalse, ℕ, ◌%◌, ◌||◌, ◌==◌, ◌≡◌, ◌<◌, ◌+◌, List, [], ◌∷◌, ◌++◌, nat_le, is_some}
-use Rattle.std.specs.Prelude.{length, Option, Some, None, Result, Ok, Err, if◌then◌else◌}
+use Rattle.std.specs.Prelude.{Bool, true, false, not, IsTrue, IsFalse, ℕ, ◌%◌, ◌||◌, ◌==◌, ◌≡◌, ◌<◌, ◌+◌, List, [], ◌∷◌, ◌++◌, nat_le}
+use Rattle.std.specs.Prelude.{is_some, length, Option, Some, None, Result, Ok, Err, if◌then◌else◌}
 use Rattle.std.specs.List.{list_any}
 use Rattle.tp_base.specs.declared.limits.TheConstants.{MAX_STEPS}
 use Rattle.tp_base.specs.declared.Refusal.{Refusal}
 use Rattle.tp_base.specs.declared.Refusal.TheVariants.{HistoryFull, NoMemory}
 use Rattle.tp_base.specs.declared.Step.{Step}
 use Rattle.tp_base.specs.declared.Step.TheVariants.{Insert, ActionOpen, Send, Give, Judge, Reopen}
-use Rattle.tp_wave.specs.Steps.{count, is_send_of, is_recv_at}
+use Rattle.tp_wave.specs.Steps.{any, count, is_send_of, is_recv_at}
 use Rattle.tp_wave.specs.Sums.{sums_of, judgement}
 use Rattle.tp_base.specs.Checks.{Check, first_refusal}
+use Rattle.tp_base.specs.Pages.{is_beside}
 use Rattle.tp_core.specs.declared.accepting.TheConstants.{PIECE}
 use Rattle.tp_core.specs.declared.numbers.NodeNumbers.{NodeNumbers}
 use Rattle.tp_core.specs.declared.reply.Reply.{Reply}
@@ -18,7 +19,7 @@ use Rattle.tp_core.specs.World.{World, pending}
 use Rattle.tp_wave.specs.Generations.{present, generation}
 use Rattle.tp_core.specs.Run.{world}
 use Rattle.tp_core.specs.Generations.{world_after, MayCome}
-use Rattle.tp_core.specs.Checks.{checks}
+use Rattle.tp_core.specs.StepChecks.{checks}
 
 -- The steps have the newest first.
 pub record Accepted : Type 0 where
@@ -40,16 +41,29 @@ refusal a s = first_refusal (checks a.nodes a.steps s ++ room_check (length a.st
 abbrev pub begins_piece : ℕ → Bool
 begins_piece taken = taken % PIECE == 0
 
--- The step keeps something under a number: a task, a named action or a message.
-abbrev pub keeps_more : Step → Bool
-keeps_more (Insert i t k) = true
-keeps_more (ActionOpen i a) = true
-keeps_more (Send i j m g) = true
-keeps_more _ = false
+-- The step inserts a task, opens a named action or sends a message whose number is k or lies in one page with k.
+abbrev pub is_task_beside : ℕ → Step → Bool
+is_task_beside k (Insert i t inputs) = is_beside k t.0
+is_task_beside k _ = false
+
+abbrev pub is_action_beside : ℕ → Step → Bool
+is_action_beside k (ActionOpen i a) = is_beside k a.0
+is_action_beside k _ = false
+
+abbrev pub is_message_beside : ℕ → Step → Bool
+is_message_beside k (Send i j m g) = is_beside k m.0
+is_message_beside k _ = false
+
+-- The step keeps something under a number, a task, a named action or a message, for which none of these steps made a place.
+abbrev pub keeps_more : List Step → Step → Bool
+keeps_more past (Insert i t k) = not (any (is_task_beside t.0) past)
+keeps_more past (ActionOpen i a) = not (any (is_action_beside a.0) past)
+keeps_more past (Send i j m g) = not (any (is_message_beside m.0) past)
+keeps_more past _ = false
 
 -- The step asks for memory.
 abbrev pub asks_memory : Accepted → Step → Bool
-asks_memory a s = keeps_more s || begins_piece (length a.steps)
+asks_memory a s = keeps_more (present a.steps) s || begins_piece (length a.steps)
 
 -- A step is refused by the first check that holds, or where none does for want of memory, if it asks for some.
 abbrev pub IsRefusedFor : Option Refusal → Bool → Refusal → Type 0

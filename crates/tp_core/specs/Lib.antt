@@ -3,11 +3,11 @@ pub mod World
 pub mod Pool
 pub mod Run
 pub mod Generations
-pub mod Checks
+pub mod StepChecks
 pub mod NeverEarly
 pub mod Laws
 pub mod Accepted
 pub mod Kept
 pub mod Reached
 pub mod Settled
-pub mod Settling
+pub mod ToTheEnd

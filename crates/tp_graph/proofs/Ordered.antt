@@ -12,7 +12,7 @@ use Rattle.tp_base.specs.declared.TaskId.{TaskId}
 use Rattle.tp_graph.specs.Graphs.{TaskGraph}
 use Rattle.tp_graph.specs.Serial.{AreRight, AreValues, Results}
 use Rattle.tp_graph.specs.Values.{value_of}
-use Rattle.tp_graph.specs.Found.{HasOneOfEach}
+use Rattle.tp_graph.specs.Found.{HasEachOnce}
 
 abbrev times : ℕ → Results → ℕ
 times t results = count_by (λ r. r.0.0 == t) results
@@ -93,7 +93,7 @@ in-turn (x ∷ xs) a (suc n) up from =
 -- results in the order of their tasks, each once, are the values of the tasks
 pub are_values : (g : TaskGraph) (tasks : ℕ) (results sorted : Results) → IsPermutation results sorted
     → IsNonDecreasingBy (λ (r : TaskId × List ℤ). r.0.0) sorted →
-    HasOneOfEach tasks results → AreRight g results → AreValues g tasks sorted
+    HasEachOnce tasks results → AreRight g results → AreValues g tasks sorted
 are_values g tasks results sorted same up once right =
     let count : (t : ℕ) → times t sorted ≡ (if nat_lt t tasks then 1 else 0) =
     λ t. sum_by-IsPermutation (λ r. cond (r.0.0 == t) 1 0) results sorted same ∙ once t in

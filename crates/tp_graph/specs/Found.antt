@@ -13,6 +13,10 @@ pub record ArePlaces (tasks : ℕ) (results : Results) (places : List ℕ) : Typ
   pub long : length places ≡ tasks
   pub each : (t k : ℕ) → t < tasks → IsPlaceOf results t k → IsPlaceOf results t (slice_index_or places t 0)
 
--- each task below a number has one result, and no other task has any
-abbrev pub HasOneOfEach : ℕ → Results → Type 0
-HasOneOfEach tasks results = (t : ℕ) → count_by (λ r. r.0.0 == t) results ≡ (if nat_lt t tasks then 1 else 0)
+-- how many results a task has
+abbrev pub times : ℕ → Results → ℕ
+times t results = count_by (λ r. r.0.0 == t) results
+
+-- Each task below a number has one result, and no other task has any.
+abbrev pub HasEachOnce : ℕ → Results → Type 0
+HasEachOnce tasks results = (t : ℕ) → times t results ≡ (if nat_lt t tasks then 1 else 0)

@@ -1,4 +1,4 @@
-use Rattle.std.specs.Prelude.{List, [], ◌∷◌, ℤ}
+use Rattle.std.specs.Prelude.{◌<◌, List, [], ◌∷◌, length, ℤ}
 use Rattle.std.specs.Arc.{arc_value}
 use Rattle.tp_graph.specs.declared.numbers.Numbers.{Numbers}
 use Rattle.tp_graph.specs.declared.numbers.Numbers.TheVariants.{Empty, Lone, Shared}
@@ -8,3 +8,8 @@ abbrev pub listed : Numbers → List ℤ
 listed Empty = []
 listed (Lone number) = number ∷ []
 listed (Shared numbers) = (arc_value numbers).items
+
+-- Only more numbers than one are shared.
+abbrev pub SharesMany : Numbers → Type 0
+SharesMany (Shared numbers) = 1 < length (arc_value numbers).items
+SharesMany _ = Unit {0}

@@ -1,6 +1,6 @@
 ghost use Rattle.std.specs.Prelude.{◌≡◌, ◌≢◌, ◌<◌, ℕ, All, Contains, IfOk, IfNone, IfSome, Some};
 ghost use Rattle.std.specs.List.Sorted.{IsPermutation};
-ghost use Rattle.tp_graph.specs.Found.{ArePlaces, HasOneOfEach};
+ghost use Rattle.tp_graph.specs.Found.{ArePlaces, HasEachOnce};
 ghost use Rattle.tp_graph.specs.Graphs.{TaskGraph};
 ghost use Rattle.tp_graph.specs.Serial.{AreRight, AreValues};
 ghost use Rattle.tp_graph.specs.Values.{value_of};
@@ -54,7 +54,7 @@ pub fn value_at<'a>(
 /// Results in the order of their tasks, as [`serial`](crate::serial) gives them. It takes no memory, and O(n log n) for n of them.
 pub fn in_order(results: Vec<(TaskId, Value)>) -> Vec<(TaskId, Value)>
     ensures same { IsPermutation results.items result.items }
-    ensures values { (g : TaskGraph) (tasks : ℕ) → HasOneOfEach tasks results.items → AreRight g results.items
+    ensures values { (g : TaskGraph) (tasks : ℕ) → HasEachOnce tasks results.items → AreRight g results.items
         → AreValues g tasks result.items }
 {
     let mut results = results;

@@ -1,4 +1,4 @@
-ghost use Rattle.std.specs.Prelude.{◌≡◌, ◌<◌, ◌+ℤ◌, [], ◌∷◌, true, false, length, Some, None, IsOk, OnErr, IfOk, IfErr, MatchResult};
+ghost use Rattle.std.specs.Prelude.{◌≡◌, ◌<◌, ◌≤◌, ◌+ℤ◌, [], ◌∷◌, true, false, length, Some, None, IsOk, OnErr, IfOk, IfErr, MatchResult};
 ghost use Rattle.std.specs.Cmp.{int_eq_equiv, on_equiv, on_per, partial_equiv_from_equiv};
 ghost use Rattle.std.specs.Cmp.Lexicographic.{pointwise, lists_equiv};
 ghost use Rattle.std.specs.Ordering.{int_eq};
@@ -24,11 +24,13 @@ pub struct Value {
 
 impl Model for Value {
     ghost use Rattle.std.specs.Prelude.{List, ℤ};
-    ghost use Rattle.tp_graph.specs.Numbers.{listed};
+    ghost use Rattle.tp_graph.specs.Numbers.{SharesMany, listed};
 
     ghost Value = { List ℤ };
 
     ghost view = { λ v. listed v.numbers };
+
+    ghost invariant = { λ v. SharesMany v.numbers };
 }
 
 impl Value {
@@ -115,9 +117,11 @@ impl Debug for Value {
     }
 }
 
-/// It takes no memory, and is refused where the numbers have as many owners as can be counted.
+/// It takes no memory, and is refused only where more than one number has as many owners as can be counted.
 impl Clone for Value {
     ghost is_clone = { λ value copy. copy ≡ value };
+
+    ghost is_infallible = { λ value. length value ≤ 1 };
 
     fn clone(&self) -> Result<Self, AllocError> {
         let numbers = match &self.numbers {

@@ -41,7 +41,7 @@ abbrev pub ending : ℕ → ℕ → ℕ → Step
 ending k j m = MessageEnd (node_at j) (record { 0 = m }) (record { 0 = k })
 
 -- A node by its number: its pending number, the messages that it has sent and received, and the tasks that it has done.
-pub record NodeNumbers : Type 0 where
+pub record ShareNumbers : Type 0 where
   pub node : ℕ
   pub pending : ℕ
   pub sent : ℕ
@@ -71,7 +71,7 @@ abbrev pub plus_if : Bool → ℕ → ℕ
 plus_if more n = if more then n + 1 else n
 
 -- a node's numbers after a step of its own
-abbrev pub numbers_after : Step → NodeNumbers → NodeNumbers
+abbrev pub numbers_after : Step → ShareNumbers → ShareNumbers
 numbers_after s n =
     record {
       node = n.node;
@@ -82,7 +82,7 @@ numbers_after s n =
     }
 
 -- a node's numbers at first: its opening action is pending
-abbrev pub first_numbers : ℕ → NodeNumbers
+abbrev pub first_numbers : ℕ → ShareNumbers
 first_numbers i = record { node = i; pending = 1; sent = 0; received = 0; done = 0 }
 
 abbrev pub empty_parts : ℕ → PartNumbers
@@ -92,7 +92,7 @@ abbrev pub first_pending : ℕ → PendingNumber
 first_pending i = record { node = i; amount = 1 }
 
 -- the first numbers of n nodes, in rising order
-abbrev pub first_shares : ℕ → List NodeNumbers
+abbrev pub first_shares : ℕ → List ShareNumbers
 first_shares n = map first_numbers (range_with_len 0 n)
 
 abbrev pub empty_link : ℕ → ℕ → LinkNumbers
@@ -107,7 +107,7 @@ abbrev pub first_links : ℕ → List LinkNumbers
 first_links n = flat_map (links_of n) (range_with_len 0 n)
 
 -- No number is above so many, the opening action apart.
-pub record AreWithin (most : ℕ) (n : NodeNumbers) : Type 0 where
+pub record AreWithin (most : ℕ) (n : ShareNumbers) : Type 0 where
   pub pending : n.pending ≤ most + 1
   pub sent : n.sent ≤ most
   pub received : n.received ≤ most

@@ -10,7 +10,7 @@ use Rattle.tp_monitor.specs.Monitors.{is_idle}
 use Rattle.tp_monitor.specs.declared.TaskpoolState.TheVariants.{NotReady, Busy, Idle, Terminated}
 use Rattle.tp_base.specs.Checks.{first_refusal}
 use Rattle.tp_local.specs.Actions.{opening_count}
-use Rattle.tp_local.specs.Locals.{LocalState, finish_checks, is_live, pending}
+use Rattle.tp_local.specs.Locals.{LocalState, finish_checks, is_live, pending_here}
 use Rattle.tp_local.specs.Locals.{Numbers, EachOnce}
 use Rattle.tp_store.proofs.Counting.{passing-insert}
 use Rattle.tp_store.specs.Content.{Task, Content, task_of, life_of, done, unfinished, is_unfinished, is_done}
@@ -77,9 +77,9 @@ announced false false true a b c = refl
 announced false false false a b c = cc
 
 -- the end can be announced where nothing is pending
-pub idle_finishes : {V : Type 0} (l : LocalState V) → l.ended ≡ false → pending l ≡ 0 → first_refusal (finish_checks l) ≡ None
+pub idle_finishes : {V : Type 0} (l : LocalState V) → l.ended ≡ false → pending_here l ≡ 0 → first_refusal (finish_checks l) ≡ None
 idle_finishes l going none =
-    announced l.ended l.actions.opening (pending l == 0) going (closed l.actions.opening refl) (ap (λ n. n == 0) none)
+    announced l.ended l.actions.opening (pending_here l == 0) going (closed l.actions.opening refl) (ap (λ n. n == 0) none)
   where
     closed : (b : Bool) → l.actions.opening ≡ b → b ≡ false
     closed false e = refl

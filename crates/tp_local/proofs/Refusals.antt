@@ -9,7 +9,7 @@ use Rattle.tp_base.specs.declared.TaskId.{TaskId}
 use Rattle.tp_base.specs.declared.Refusal.{Refusal}
 use Rattle.tp_base.specs.declared.Refusal.TheVariants.{TaskKnown, Inactive}
 use Rattle.tp_store.specs.Content.{Content, task_of, refusal_of_new, refusal_of_insert, refusal_of_deliver, refusal_of_value}
-use Rattle.tp_local.specs.Locals.{LocalState, pending, is_inactive, refusal_of_new_task, refusal_of_insertion, refusal_of_delivery}
+use Rattle.tp_local.specs.Locals.{LocalState, pending_here, is_inactive, refusal_of_new_task, refusal_of_insertion, refusal_of_delivery}
 
 -- a task that is not known, at an active node
 alike : (known inactive : Bool) (kept r : Option Refusal) → known ≡ false → inactive ≡ false
@@ -35,13 +35,13 @@ chosen false x y h = refl
 
 -- l is the state of a node, s the content of its store, and t a task that is not known, where something is pending
 module _ {V : Type 0} (l : LocalState V) (s : Content V) (t : TaskId) (is : l.store ≡ s) (new : is_some (task_of l.store t)
-    ≡ false) (m : ℕ) (counted : m ≡ pending l) (some : m ≡ 0 → ⊥) where
+    ≡ false) (m : ℕ) (counted : m ≡ pending_here l) (some : m ≡ 0 → ⊥) where
   new_there : is_some (task_of s t) ≡ false
   new_there = ap (λ c. is_some (task_of c t)) (sym is) ∙ new
 
   insertion_of_new : refusal_of_insertion l t ≡ refusal_of_new s
   insertion_of_new =
-      alike (is_some (task_of l.store t)) (is_inactive l) (Some TaskKnown) (refusal_of_new l.store) new (active (pending l) m counted some)
+      alike (is_some (task_of l.store t)) (is_inactive l) (Some TaskKnown) (refusal_of_new l.store) new (active (pending_here l) m counted some)
       ∙ ap refusal_of_new is
 
   -- the refusal of an insertion is the store's
@@ -56,7 +56,7 @@ module _ {V : Type 0} (l : LocalState V) (s : Content V) (t : TaskId) (is : l.st
   delivery_is arity slot =
       deliver_of_new arity slot
       ∙ sym (alike (is_some (task_of l.store t)) (is_inactive l) (refusal_of_deliver l.store t arity slot) (refusal_of_new l.store) new
-      (active (pending l) m counted some)
+      (active (pending_here l) m counted some)
       ∙ ap refusal_of_new is)
 
 -- a task that is known
@@ -79,14 +79,14 @@ pick false false a b ha hb hi = hb refl
 
 -- an active node refuses no value that its store takes
 pub delivery_free : {V : Type 0} (l : LocalState V) (t : TaskId) (arity slot : ℕ) → refusal_of_deliver l.store t arity slot ≡ None
-    → 0 < pending l → refusal_of_delivery l t arity slot ≡ None
+    → 0 < pending_here l → refusal_of_delivery l t arity slot ≡ None
 delivery_free l t arity slot free some =
     pick (is_some (task_of l.store t)) (is_inactive l) (refusal_of_deliver l.store t arity slot) (refusal_of_new l.store) free
     (λ new. sym (unknown (task_of l.store t) (λ x. refusal_of_value x arity slot) (refusal_of_new l.store) new) ∙ free)
-    (active (pending l) (pending l) refl (λ none. absurd (omega (arith, some, none))))
+    (active (pending_here l) (pending_here l) refl (λ none. absurd (omega (arith, some, none))))
 
 -- where something is pending, what a delivery is refused is the store's answer
-pub delivery_active : {V : Type 0} (l : LocalState V) (s : Content V) (t : TaskId) → l.store ≡ s → (m : ℕ) → m ≡ pending l → (m ≡ 0 → ⊥)
+pub delivery_active : {V : Type 0} (l : LocalState V) (s : Content V) (t : TaskId) → l.store ≡ s → (m : ℕ) → m ≡ pending_here l → (m ≡ 0 → ⊥)
     → (arity slot : ℕ)
     → refusal_of_deliver s t arity slot ≡ refusal_of_delivery l t arity slot
 delivery_active l s t is m counted some arity slot = go (is_some (task_of l.store t)) refl

@@ -54,17 +54,17 @@ module _ {V : Type 0} where
   first_state = record { store = nothing_stored; actions = first_actions; sent = 0; received = 0; ended = false }
 
   -- how many tasks are not done and how many actions are open, together
-  abbrev pub pending : LocalState V → ℕ
-  pending l = unfinished l.store + open_count l.actions
+  abbrev pub pending_here : LocalState V → ℕ
+  pending_here l = unfinished l.store + open_count l.actions
 
   -- where the pool stands at the node
   abbrev pub standing : LocalState V → TaskpoolState
-  standing l = if l.ended then Terminated else (if l.actions.opening then NotReady else (if pending l == 0 then Idle else Busy))
+  standing l = if l.ended then Terminated else (if l.actions.opening then NotReady else (if pending_here l == 0 then Idle else Busy))
 
   -- ---- the checks of each call, in their order
   -- the node is inactive
   abbrev pub is_inactive : LocalState V → Bool
-  is_inactive l = pending l == 0
+  is_inactive l = pending_here l == 0
 
   -- A task is inserted at an active node, where its store takes one more.
   abbrev pub refusal_of_new_task : LocalState V → Option Refusal

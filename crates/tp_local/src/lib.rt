@@ -3,7 +3,7 @@
 
 mod actions;
 mod feeds;
-mod held;
+mod holder;
 mod local;
 mod numbers;
 mod tally;

@@ -13,11 +13,11 @@ ghost use Rattle.tp_store.specs.Sound.{IsSound};
 ghost use Rattle.tp_store.specs.declared.life.Life.TheVariants as lives;
 ghost use Rattle.tp_local.specs.Actions.{open_count, without_opening, with_named, without_named, with_message, without_message};
 ghost use Rattle.tp_local.specs.Actions.{has_message};
-ghost use Rattle.tp_local.specs.Locals.{first_state, pending, is_live, standing, refusal_of_insertion, refusal_of_delivery, send_checks};
+ghost use Rattle.tp_local.specs.Locals.{first_state, pending_here, is_live, standing, refusal_of_insertion, refusal_of_delivery, send_checks};
 ghost use Rattle.tp_local.specs.Locals.{receive_checks, end_checks, open_checks, close_checks, ready_checks, finish_checks};
 
 use crate::actions::OpenActions;
-use crate::held::Held;
+use crate::holder::Holder;
 use crate::tally::Tally;
 use std::alloc::Global;
 use std::marker::Model;
@@ -37,7 +37,7 @@ use tp_store::{Begun, Counts, Delivered, Life, TaskItem, TaskStore};
 /// call names, in their order.
 #[derive(Drop)]
 pub struct Local {
-    store: Held<TaskStore<RawSlots<TaskItem<Value>>, Value>>,
+    store: Holder<TaskStore<RawSlots<TaskItem<Value>>, Value>>,
     actions: OpenActions,
     tally: Tally,
 }
@@ -62,10 +62,10 @@ impl Local {
     /// Nothing is stored, and the opening action alone is open. It takes no memory.
     pub fn new(alloc: Global, pool: PoolId) -> Self
         ensures first { result ≡ first_state }
-        ensures counted { pending result ≡ 1 }
+        ensures counted { pending_here result ≡ 1 }
     {
         Local {
-            store: Held {
+            store: Holder {
                 value: TaskStore::new(alloc),
             },
             actions: OpenActions::new(alloc),
@@ -81,7 +81,7 @@ impl Local {
         requires { class < CLASSES }
         ensures checked { OnOk result (refusal_of_insertion self.old task ≡ None) }
         ensures inserted { OnOk result (self.new ≡ record self.old { store = with_inserted self.old.store task class }) }
-        ensures counted { OnOk result (pending self.new ≡ pending self.old + 1) }
+        ensures counted { OnOk result (pending_here self.new ≡ pending_here self.old + 1) }
         ensures refused { IfErr result (λ e. e ≡ unwrap_or (refusal_of_insertion self.old task) Refusal.NoMemory) }
         ensures kept { OnErr result (self.new ≡ self.old) }
     {
@@ -117,7 +117,7 @@ impl Local {
         ensures checked { OnOk result (refusal_of_delivery self.old task arity slot ≡ None) }
         ensures answer { IfOk result (λ d. d ≡ delivered_to self.old.store task arity) }
         ensures delivered { OnOk result (self.new ≡ record self.old { store = with_delivered self.old.store task arity class slot value }) }
-        ensures counted { IfOk result (λ d. pending self.new ≡ pending self.old + inserted_by d) }
+        ensures counted { IfOk result (λ d. pending_here self.new ≡ pending_here self.old + inserted_by d) }
         ensures refused { IfErr result (λ e. e.0 ≡ unwrap_or (refusal_of_delivery self.old task arity slot) Refusal.NoMemory) }
         ensures no_growth { OnErr result (IsTrue (is_some (task_of self.old.store task))
             → IsTrue (is_some (refusal_of_delivery self.old task arity slot))) }
@@ -146,11 +146,11 @@ impl Local {
         requires arity_in_range { arity ≤ MAX_INPUTS }
         requires class_in_range { class < CLASSES }
         requires slot_in_range { slot < arity }
-        requires inactive { pending self.old ≡ 0 }
+        requires inactive { pending_here self.old ≡ 0 }
         ensures checked { OnOk result (refusal_of_delivery self.old task arity slot ≡ None) }
         ensures answer { IfOk result (λ d. d ≡ delivered_to self.old.store task arity) }
         ensures delivered { OnOk result (self.new ≡ record self.old { store = with_delivered self.old.store task arity class slot value }) }
-        ensures counted { IfOk result (λ d. pending self.new ≡ pending self.old + inserted_by d) }
+        ensures counted { IfOk result (λ d. pending_here self.new ≡ pending_here self.old + inserted_by d) }
         ensures refused { IfErr result (λ e. e.0 ≡ unwrap_or (refusal_of_delivery self.old task arity slot) Refusal.NoMemory) }
         ensures no_growth { OnErr result (IsTrue (is_some (task_of self.old.store task))
             → IsTrue (is_some (refusal_of_delivery self.old task arity slot))) }
@@ -172,11 +172,10 @@ impl Local {
         ensures inputs { IfSome result (λ b. map (λ v. Some v) b.inputs.items ≡ values_of self.old.store b.task) }
         ensures begun { MatchOption result (self.new ≡ self.old) (λ b. self.new
             ≡ record self.old { store = with_begun self.old.store b.task }) }
-        ensures counted { pending self.new ≡ pending self.old }
-        ensures active { OnSome result (0 < pending self.old) }
+        ensures counted { pending_here self.new ≡ pending_here self.old }
+        ensures active { OnSome result (0 < pending_here self.old) }
         ensures sound { IsSound self.old.store }
     {
-        let _results = self.store.value.results();
         self.store.value.begin()
     }
 
@@ -186,7 +185,7 @@ impl Local {
     pub fn done(&mut self, task: TaskId, value: Value) -> Result<(), (Refusal, Value)>
         ensures checked { OnOk result (refusal_of_done (life_of self.old.store task) ≡ None) }
         ensures done { OnOk result (self.new ≡ record self.old { store = with_done self.old.store task value }) }
-        ensures counted { OnOk result (pending self.new + 1 ≡ pending self.old) }
+        ensures counted { OnOk result (pending_here self.new + 1 ≡ pending_here self.old) }
         ensures refused { IfErr result (λ e. Some e.0 ≡ refusal_of_done (life_of self.old.store task)) }
         ensures value_returned { IfErr result (λ e. e.1 ≡ value) }
         ensures kept { OnErr result (self.new ≡ self.old) }
@@ -220,7 +219,7 @@ impl Local {
         ensures checked { OnOk result (first_refusal (receive_checks self.old message.0) ≡ None) }
         ensures received { OnOk result (self.new
             ≡ record self.old { received = self.old.received + 1; actions = with_message self.old.actions message.0 feed }) }
-        ensures counted { OnOk result (pending self.new ≡ pending self.old + 1) }
+        ensures counted { OnOk result (pending_here self.new ≡ pending_here self.old + 1) }
         ensures refused { IfErr result (λ e. e ≡ unwrap_or (first_refusal (receive_checks self.old message.0)) Refusal.NoMemory) }
         ensures kept { OnErr result (self.new ≡ self.old) }
     {
@@ -243,7 +242,7 @@ impl Local {
     pub fn end(&mut self, message: MessageId) -> Result<(), Refusal>
         ensures refused { result_err result ≡ first_refusal (end_checks self.old message.0) }
         ensures closed { OnOk result (self.new ≡ record self.old { actions = without_message self.old.actions message.0 }) }
-        ensures counted { OnOk result (pending self.new + 1 ≡ pending self.old) }
+        ensures counted { OnOk result (pending_here self.new + 1 ≡ pending_here self.old) }
         ensures kept { OnErr result (self.new ≡ self.old) }
     {
         if !self.actions.has_message(message) {
@@ -261,7 +260,7 @@ impl Local {
     pub fn open(&mut self, action: ActionId) -> Result<(), Refusal>
         ensures checked { OnOk result (first_refusal (open_checks self.old action.0) ≡ None) }
         ensures opened { OnOk result (self.new ≡ record self.old { actions = with_named self.old.actions action.0 }) }
-        ensures counted { OnOk result (pending self.new ≡ pending self.old + 1) }
+        ensures counted { OnOk result (pending_here self.new ≡ pending_here self.old + 1) }
         ensures refused { IfErr result (λ e. e ≡ unwrap_or (first_refusal (open_checks self.old action.0)) Refusal.NoMemory) }
         ensures kept { OnErr result (self.new ≡ self.old) }
     {
@@ -284,7 +283,7 @@ impl Local {
     pub fn close(&mut self, action: ActionId) -> Result<(), Refusal>
         ensures refused { result_err result ≡ first_refusal (close_checks self.old action.0) }
         ensures closed { OnOk result (self.new ≡ record self.old { actions = without_named self.old.actions action.0 }) }
-        ensures counted { OnOk result (pending self.new + 1 ≡ pending self.old) }
+        ensures counted { OnOk result (pending_here self.new + 1 ≡ pending_here self.old) }
         ensures kept { OnErr result (self.new ≡ self.old) }
     {
         if !self.actions.has_named(action) {
@@ -301,7 +300,7 @@ impl Local {
     pub fn ready(&mut self) -> Result<(), Refusal>
         ensures refused { result_err result ≡ first_refusal (ready_checks self.old) }
         ensures closed { OnOk result (self.new ≡ record self.old { actions = without_opening self.old.actions }) }
-        ensures counted { OnOk result (pending self.new + 1 ≡ pending self.old) }
+        ensures counted { OnOk result (pending_here self.new + 1 ≡ pending_here self.old) }
         ensures kept { OnErr result (self.new ≡ self.old) }
     {
         if !self.actions.is_opening() {
@@ -326,7 +325,7 @@ impl Local {
 
     /// Announces the pool's end, where nothing is pending. It may have been announced before.
     pub fn announce(&mut self)
-        requires { pending self.old ≡ 0 }
+        requires { pending_here self.old ≡ 0 }
         ensures { self.new ≡ record self.old { ended = true } }
     {
         if self.is_over() {
@@ -344,7 +343,7 @@ impl Local {
         requires over { IsTrue self.old.ended }
         ensures results { result.items ≡ self.old.store.results }
         ensures first { self.new ≡ first_state }
-        ensures counted { pending self.new ≡ 1 }
+        ensures counted { pending_here self.new ≡ 1 }
     {
         self.tally.reopen();
         self.actions = OpenActions::new(alloc);
@@ -353,7 +352,7 @@ impl Local {
 
     /// How many tasks are not done and how many actions are open, together.
     pub fn pending(&self) -> u32
-        ensures pending { result ≡ pending self.now }
+        ensures pending { result ≡ pending_here self.now }
         ensures tasks { unfinished self.now.store ≤ MAX_LIVE_TASKS }
         ensures actions { open_count self.now.actions ≤ MAX_ACTIONS }
     {
@@ -380,7 +379,7 @@ impl Local {
     /// Where the pool stands here. Nothing is pending where it is Terminated.
     pub fn state(&self) -> TaskpoolState
         ensures state { result ≡ standing self.now }
-        ensures over { result ≡ Terminated → pending self.now ≡ 0 }
+        ensures over { result ≡ Terminated → pending_here self.now ≡ 0 }
     {
         self.tally.state()
     }
@@ -395,7 +394,7 @@ impl Local {
     /// Whether the opening action is open.
     pub fn is_opening(&self) -> bool
         ensures open { result ≡ self.now.actions.opening }
-        ensures active { IsTrue result → 0 < pending self.now }
+        ensures active { IsTrue result → 0 < pending_here self.now }
     {
         self.actions.is_opening()
     }
@@ -403,7 +402,7 @@ impl Local {
     /// Whether a named action is open.
     pub fn has_named(&self, action: ActionId) -> bool
         ensures open { result ≡ set.contains self.now.actions.named action.0 }
-        ensures active { IsTrue result → 0 < pending self.now }
+        ensures active { IsTrue result → 0 < pending_here self.now }
     {
         self.actions.has_named(action)
     }
@@ -411,7 +410,7 @@ impl Local {
     /// Whether the action of a message is open.
     pub fn has_message(&self, message: MessageId) -> bool
         ensures open { result ≡ has_message self.now.actions message.0 }
-        ensures active { IsTrue result → 0 < pending self.now }
+        ensures active { IsTrue result → 0 < pending_here self.now }
     {
         self.actions.has_message(message)
     }
@@ -428,7 +427,7 @@ impl Local {
     #[inline(always)]
     pub fn life(&self, task: TaskId) -> Option<Life>
         ensures life { result ≡ life_of self.now.store task }
-        ensures active { IsTrue (is_live result) → 0 < pending self.now }
+        ensures active { IsTrue (is_live result) → 0 < pending_here self.now }
         ensures sound { IsSound self.now.store }
     {
         self.store.value.life(task)

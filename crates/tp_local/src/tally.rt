@@ -3,7 +3,7 @@ ghost use Rattle.std.specs.Result.{result_err};
 ghost use Rattle.tp_base.specs.declared.Refusal.TheVariants.{WrongLife, HistoryFull};
 ghost use Rattle.tp_base.specs.Checks.{first_refusal};
 ghost use Rattle.tp_monitor.specs.Monitors.{IsWithinLimits, first_numbers, ready_numbers, sent_numbers, received_numbers};
-ghost use Rattle.tp_monitor.specs.Monitors.{message_ended_numbers, pending, standing, is_idle};
+ghost use Rattle.tp_monitor.specs.Monitors.{message_ended_numbers, monitored_pending, standing, is_idle};
 ghost use Rattle.tp_monitor.specs.declared.TaskpoolState.TheVariants.{Terminated};
 
 use std::marker::Model;
@@ -47,7 +47,7 @@ impl Tally {
 
     /// One more task is not done.
     pub(crate) fn add_task(&mut self)
-        requires active { 0 < pending self.old.numbers }
+        requires active { 0 < monitored_pending self.old.numbers }
         requires room { self.old.numbers.tasks < MAX_LIVE_TASKS }
         ensures { self.new ≡ record self.old { numbers = record self.old.numbers { tasks = self.old.numbers.tasks + 1 } } }
     {
@@ -70,7 +70,7 @@ impl Tally {
     ///
     /// Refused `HistoryFull` (16) where so many are open as may be.
     pub(crate) fn add_action(&mut self) -> Result<(), Refusal>
-        requires { 0 < pending self.old.numbers }
+        requires { 0 < monitored_pending self.old.numbers }
         ensures refused { result_err result ≡ first_refusal ((self.old.numbers.actions == MAX_ACTIONS, HistoryFull MAX_ACTIONS) ∷ []) }
         ensures added { OnOk result (self.new
             ≡ record self.old { numbers = record self.old.numbers { actions = self.old.numbers.actions + 1 } }) }
@@ -104,7 +104,7 @@ impl Tally {
     ///
     /// Refused `HistoryFull` (16) where so many were sent as may be.
     pub(crate) fn send(&mut self) -> Result<(), Refusal>
-        requires { 0 < pending self.old.numbers }
+        requires { 0 < monitored_pending self.old.numbers }
         ensures refused { result_err result ≡ first_refusal ((self.old.numbers.sent == MAX_STEPS, HistoryFull MAX_STEPS) ∷ []) }
         ensures sent { OnOk result (self.new ≡ record self.old { numbers = sent_numbers self.old.numbers }) }
         ensures kept { OnErr result (self.new ≡ self.old) }
@@ -163,7 +163,7 @@ impl Tally {
     /// Where the pool stands.
     pub(crate) fn state(&self) -> TaskpoolState
         ensures state { result ≡ standing self.now }
-        ensures over { result ≡ Terminated → pending self.now.numbers ≡ 0 }
+        ensures over { result ≡ Terminated → monitored_pending self.now.numbers ≡ 0 }
     {
         self.monitor.taskpool_state(self.pool)
     }

@@ -27,19 +27,19 @@ pub record IsWithinLimits (n : MonitorNumbers) : Type 0 where
   pub received : n.received ≤ MAX_STEPS
 
 -- unfinished tasks and open actions
-abbrev pub pending : MonitorNumbers → ℕ
-pending n = n.tasks + n.actions
+abbrev pub monitored_pending : MonitorNumbers → ℕ
+monitored_pending n = n.tasks + n.actions
 
 -- What each monitor keeps: nothing is pending once the end was announced.
 pub record IsMonitor (m : Monitored) : Type 0 where
   pub limits : IsWithinLimits m.numbers
-  pub over : IsTrue m.announced → pending m.numbers ≡ 0
+  pub over : IsTrue m.announced → monitored_pending m.numbers ≡ 0
 
 -- where a monitored pool stands
 abbrev pub standing : Monitored → TaskpoolState
 standing m =
     if m.announced then Terminated
-    else (if m.numbers.opening == 1 then NotReady else (if pending m.numbers == 0 then Idle else Busy))
+    else (if m.numbers.opening == 1 then NotReady else (if monitored_pending m.numbers == 0 then Idle else Busy))
 
 -- whether this is the pool that is monitored
 abbrev pub is_pool : PoolId → Option PoolId → Bool
@@ -80,7 +80,7 @@ first_numbers = record { tasks = 0; actions = 1; opening = 1; sent = 0; received
 
 -- the node is inactive
 abbrev pub is_inactive : MonitorNumbers → Bool
-is_inactive n = pending n == 0
+is_inactive n = monitored_pending n == 0
 
 -- a number that changes by so much falls below 0
 abbrev pub falls_below : ℕ → ℤ → Bool

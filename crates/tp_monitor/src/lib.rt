@@ -1,10 +1,12 @@
 //! The monitor of a node: five numbers that tell whether a pool can still change there.
 #![tactic(auto)]
 
+mod laws;
 mod monitor;
 mod numbers;
 mod state;
 
+pub use laws::limit_of_actions_is_this;
 pub use monitor::Monitor;
 pub use numbers::{MAX_ACTIONS, MonitorNumbers};
 pub use state::TaskpoolState;

@@ -28,7 +28,7 @@ ghost use Rattle.tp_monitor.specs.Monitors.{
   sent_numbers,
   received_numbers,
   message_ended_numbers,
-  pending,
+  monitored_pending,
 };
 ghost use Rattle.tp_monitor.specs.declared.state.TaskpoolState.TheVariants.{Terminated};
 
@@ -277,7 +277,7 @@ impl Monitor {
     /// Where a pool stands here. Nothing is pending where it is Terminated.
     pub fn taskpool_state(&self, pool: PoolId) -> TaskpoolState
         ensures state { result ≡ state_of self.now pool }
-        ensures over { result ≡ Terminated → pending self.now.numbers ≡ 0 }
+        ensures over { result ≡ Terminated → monitored_pending self.now.numbers ≡ 0 }
     {
         if self.monitors(pool) {
             self.standing()
@@ -301,7 +301,7 @@ impl Monitor {
     /// Where the monitored pool stands.
     fn standing(&self) -> TaskpoolState
         ensures state { result ≡ standing self.now }
-        ensures over { result ≡ Terminated → pending self.now.numbers ≡ 0 }
+        ensures over { result ≡ Terminated → monitored_pending self.now.numbers ≡ 0 }
     {
         if self.announced {
             TaskpoolState::Terminated

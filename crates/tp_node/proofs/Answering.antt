@@ -5,7 +5,7 @@ use Rattle.std.specs.Prelude.{Result, Ok, Err, OnErr, OnOk, drop, slice_get}
 use Rattle.std.proofs.lemmas.List.Elements.{All-cons, All-drop}
 use Rattle.tp_base.specs.declared.refusal.Refusal.{Refusal}
 use Rattle.tp_base.specs.declared.refusal.Refusal.TheVariants.{NoMemory}
-use Rattle.tp_board.specs.Calls.{Answers, AnswersWith}
+use Rattle.tp_board.specs.Calls.{AnswersFirst, AnswersWith}
 use Rattle.std.specs.Prelude.{IsTrue}
 use Rattle.tp_base.specs.History.{Event}
 use Rattle.tp_graph.specs.Carried.{Carried}
@@ -42,7 +42,7 @@ module _ (A : Type 0) {B : Type 0} (checks : List Check) (e : Refusal) (back : B
   as_before None same = ap pair_of same
   as_before (Some f) same = let it : e ≡ f = cc in ap second_of it
 
-  pub refused_with : Answers checks (first_of e) → AnswersWith checks back (second_of e)
+  pub refused_with : AnswersFirst checks (first_of e) → AnswersWith checks back (second_of e)
   refused_with answers = as_before (first_refusal checks) answers
 
 -- no message is first on an empty wire

@@ -2,21 +2,19 @@
 use Rattle.std.proofs.Common.{◌≡◌, ℕ, zero, suc, ◌+◌, ◌<◌, ◌≤◌, true, false, List, [], ◌∷◌, ◌++◌, map, take, drop, Option, Some, None}
 use Rattle.std.proofs.Common.{is_some, unwrap_or}
 use Rattle.std.proofs.Common.{refl, sym, ap, subst, ◌∙◌, inl, inr, arith, count_by, add-one}
-use Rattle.std.specs.Prelude.{IfSome, MatchOption, Result, Ok, Err, IfErr, max, nat_lt, reverse}
+use Rattle.std.specs.Prelude.{IfSome, MatchOption, Result, Ok, max, nat_lt, reverse}
 use Rattle.std.specs.Option.{option_map}
-use Rattle.std.specs.Result.{result_err}
 use Rattle.std.specs.Ordering.{nat_cmp}
 use Rattle.std.specs.FinMap as finite
 use Rattle.std.proofs.lemmas.Bool.{cases_eq}
 use Rattle.std.proofs.lemmas.Bool.Decides.{nat_tests}
 use Rattle.std.proofs.lemmas.List.{length-append, map-append, reverse-append}
-use Rattle.tp_base.specs.Checks.{Check, first_refusal}
 use Rattle.tp_base.specs.History.{Event}
 use Rattle.tp_base.specs.declared.ids.TaskId.{TaskId}
 use Rattle.tp_base.specs.declared.refusal.Refusal.{Refusal}
-use Rattle.tp_base.specs.declared.refusal.Refusal.TheVariants.{NoMemory}
 use Rattle.tp_base.specs.declared.step.Step.TheVariants as steps
-use Rattle.tp_board.specs.Calls.{Answers, Appends}
+use Rattle.tp_board.specs.Calls.{Appends}
+use Rattle.tp_board.proofs.Answering.{same_answer}
 use Rattle.tp_board.specs.Numbers.{event}
 use Rattle.tp_board.specs.States.{AnswersBy, BoardState, full_check, with_reserved}
 use Rattle.tp_graph.specs.Carried.{Begun}
@@ -234,27 +232,11 @@ begins_reserved (Some work) old new before mid later more is begins = record {
   begun = begins.begun;
 }
 
--- a call that goes on where room was made answers as that did
-pub answers_as : {A B : Type 0} (checks : List Check) (more : ℕ) (b : BoardState) (r : Result A Refusal) (q : Result B Refusal)
-    → result_err r ≡ result_err q
-    → AnswersBy checks more b r → Answers checks q
-answers_as checks more b r q same answers = go (first_refusal checks) r q same answers
-  where
-    go : {A B : Type 0} (o : Option Refusal) (r : Result A Refusal) (q : Result B Refusal) → result_err r ≡ result_err q
-        → MatchOption o (IfErr r (λ e. (e ≡ NoMemory) × (b.reserved < more))) (λ e. r ≡ Err e)
-        → MatchOption o (IfErr q (λ e. e ≡ NoMemory)) (λ e. q ≡ Err e)
-    go None (Ok x) (Ok y) same answers = tt
-    go None (Ok x) (Err f) same answers = absurd cc
-    go None (Err e) (Ok y) same answers = tt
-    go None (Err e) (Err f) same answers = let first : f ≡ e = cc in first ∙ answers.0
-    go (Some g) (Ok x) q same answers = absurd cc
-    go (Some g) (Err e) (Ok y) same answers = absurd cc
-    go (Some g) (Err e) (Err f) same answers = let first : f ≡ g = cc in ap Err first
-
--- the same of room that was made for so many
+-- A call that goes on where room was made for so many answers as that did.
 pub room_answers : {A B : Type 0} (more k : ℕ) (b : BoardState) (x : A) (y : B) → more ≡ k
-    → AnswersBy {A = A} (full_check more b ∷ []) more b (Ok x) → Answers {A = B} (full_check k b ∷ []) (Ok y)
+    → AnswersBy {A = A} (full_check more b ∷ []) more b (Ok x)
+    → AnswersBy {A = B} (full_check k b ∷ []) k b (Ok y)
 room_answers {A} {B} more k b x y same answers =
     let r : Result A Refusal = Ok x in
     let q : Result B Refusal = Ok y in
-    subst (λ n. Answers {A = B} (full_check n b ∷ []) q) same (answers_as (full_check more b ∷ []) more b r q refl answers)
+    subst (λ n. AnswersBy {A = B} (full_check n b ∷ []) n b q) same (same_answer (full_check more b ∷ []) more b r q refl answers)

@@ -9,7 +9,7 @@ use Rattle.tp_base.specs.declared.ids.TaskId.{TaskId}
 use Rattle.tp_graph.specs.Graphs.{TaskGraph}
 use Rattle.tp_graph.specs.Serial.{AreRight, Results}
 use Rattle.tp_graph.specs.Values.{value_of}
-use Rattle.tp_board.specs.Numbers.{NodeNumbers}
+use Rattle.tp_board.specs.Numbers.{ShareNumbers}
 use Rattle.tp_ledgers.specs.Reopening.{begun_anew}
 use Rattle.tp_node.specs.Nodes.{NodeState, anew}
 use Rattle.tp_local.specs.Locals.{Numbers}
@@ -29,7 +29,7 @@ module _ {G : Type 0} where
   pub numbers_anew : (nodes : List (NodeState G))
       → map begun_anew (map (λ (n : NodeState G). n.numbers) nodes) ≡ map (λ (n : NodeState G). n.numbers) (map anew nodes)
   numbers_anew [] = refl
-  numbers_anew (n ∷ nodes) = ap (λ (ms : List NodeNumbers). begun_anew n.numbers ∷ ms) (numbers_anew nodes)
+  numbers_anew (n ∷ nodes) = ap (λ (ms : List ShareNumbers). begun_anew n.numbers ∷ ms) (numbers_anew nodes)
 
   abbrev pub results_of : NodeState G → List (TaskId × Numbers)
   results_of n = n.state.store.results

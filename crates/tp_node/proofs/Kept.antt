@@ -10,11 +10,11 @@ use Rattle.std.proofs.lemmas.List.{length-append}
 use Rattle.tp_base.specs.declared.ids.TaskId.{TaskId}
 use Rattle.tp_base.specs.declared.step.Step.{Step}
 use Rattle.tp_base.specs.declared.step.Step.TheVariants as steps
-use Rattle.tp_board.specs.Numbers.{NodeNumbers, numbers_after}
+use Rattle.tp_board.specs.Numbers.{ShareNumbers, numbers_after}
 use Rattle.tp_graph.specs.Graphs.{TaskGraph}
 use Rattle.tp_graph.specs.Values.{value_of, IsInput}
-use Rattle.tp_local.specs.Locals.{LocalState, pending}
-use Rattle.tp_node.specs.Nodes.{NodeState, IsNode, IsCountedBy, AreRightValues, inserting, task_at, with_store}
+use Rattle.tp_local.specs.Locals.{LocalState, pending_here}
+use Rattle.tp_node.specs.Nodes.{NodeState, AreHere, IsNode, IsCountedBy, AreRightValues, inserting, task_at, with_store}
 use Rattle.tp_local.specs.Locals.{Numbers}
 use Rattle.tp_node.proofs.Right.{here, there, right-inserted, right-delivered, right-begun, right-done}
 use Rattle.tp_store.specs.Content.{Task, Content, nothing_stored, task_of, begun, done, fresh, with_value, with_task, with_inserted}
@@ -46,25 +46,47 @@ module _ (s : Content Numbers) (t : TaskId) where
   pub known-done : (value : Numbers) → KeepsKnown s (with_done s t value)
   known-done value u e = known-changed done (task_of s t) u e
 
-module _ (pool : ℕ) (g : TaskGraph) {G : Type 0} (graph : G) (nodes next : ℕ) (l : LocalState Numbers) (m : NodeNumbers) where
-  abbrev pub node : LocalState Numbers → NodeNumbers → NodeState G
+-- where the tasks live
+module _ (g : TaskGraph) (nodes node : ℕ) (s : Content Numbers) (t : TaskId) (all : AreHere g nodes node s) where
+  pub here-put : (x : Task Numbers) → g.home t.0 nodes ≡ node → AreHere g nodes node (with_task s t x)
+  here-put x lives u y e = elim (cases_eq u.0 t.0) [
+    | inl same ↦ ap (λ k. g.home k nodes) same ∙ lives
+    | inr apart ↦ all u y (sym (there s t x u apart) ∙ e)
+  ]
+
+  here-changed : (change : Task Numbers → Task Numbers) (o : Option (Task Numbers)) → task_of s t ≡ o → (u : TaskId) (y : Task Numbers)
+      → finite.get (unwrap_or (option_map (λ x. finite.insert s.tasks t.0 (change x)) o) s.tasks) u.0 ≡ Some y → g.home u.0 nodes ≡ node
+  here-changed change None is u y e = all u y e
+  here-changed change (Some x) is u y e = elim (cases_eq u.0 t.0) [
+    | inl same ↦ ap (λ k. g.home k nodes) same ∙ all t x is
+    | inr apart ↦ all u y (sym (there s t (change x) u apart) ∙ e)
+  ]
+
+  pub here-begun : AreHere g nodes node (with_begun s t)
+  here-begun u y e = here-changed begun (task_of s t) refl u y e
+
+  pub here-done : (value : Numbers) → AreHere g nodes node (with_done s t value)
+  here-done value u y e = here-changed done (task_of s t) refl u y e
+
+module _ (pool : ℕ) (g : TaskGraph) {G : Type 0} (graph : G) (nodes next : ℕ) (l : LocalState Numbers) (m : ShareNumbers) where
+  abbrev pub node : LocalState Numbers → ShareNumbers → NodeState G
   node l m = record { graph = graph; nodes = nodes; state = l; numbers = m }
 
-  pub keeps : (k : LocalState Numbers) (n : NodeNumbers) → IsNode pool g (node l m) next → IsCountedBy n k → AreRightValues g k.store
-      → n.node ≡ m.node → KeepsKnown l.store k.store → IsNode pool g (node k n) next
-  keeps k n kept counted right place known = record {
+  pub keeps : (k : LocalState Numbers) (n : ShareNumbers) → IsNode pool g (node l m) next → IsCountedBy n k → AreRightValues g k.store
+      → AreHere g nodes m.node k.store → n.node ≡ m.node → KeepsKnown l.store k.store → IsNode pool g (node k n) next
+  keeps k n kept counted right live place known = record {
     nodes = kept.nodes;
     some = kept.some;
     few = kept.few;
     counted = counted;
     right = right;
-    seeded = λ u low seed.
-        kept.seeded u low
-        (record { known = seed.known; free = seed.free; here = seed.here ∙ place; absent = known (task_at u) seed.absent });
+    here = λ u y e. live u y e ∙ sym place;
+    seeded = λ u low seed. kept.seeded u low (record
+        { known = seed.known; free = seed.free; here = seed.here ∙ place; absent = known (task_at u) seed.absent });
   }
 
-  module _ (t : TaskId) (k : LocalState Numbers) (n : NodeNumbers) (kept : IsNode pool g (node l m) next) where
-    pub begun_keeps : k ≡ with_store (with_begun l.store t) l → n ≡ numbers_after (steps.Begin t) m → pending k ≡ pending l
+  module _ (t : TaskId) (k : LocalState Numbers) (n : ShareNumbers) (kept : IsNode pool g (node l m) next) where
+    pub begun_keeps : k ≡ with_store (with_begun l.store t) l → n ≡ numbers_after (steps.Begin t) m → pending_here k ≡ pending_here l
         → IsNode pool g (node k n) next
     begun_keeps ek en ep = keeps k n kept
         (record {
@@ -74,14 +96,15 @@ module _ (pool : ℕ) (g : TaskGraph) {G : Type 0} (graph : G) (nodes next : ℕ
           done = ap (λ z. z.done) en ∙ kept.counted.done ∙ sym (ap (λ z. length z.store.results) ek);
         })
         (subst (λ (z : LocalState Numbers). AreRightValues g z.store) (sym ek) (right-begun g l.store t kept.right))
+        (subst (λ (z : LocalState Numbers). AreHere g nodes m.node z.store) (sym ek) (here-begun g nodes m.node l.store t kept.here))
         (ap (λ z. z.node) en)
         (subst (λ (z : LocalState Numbers). KeepsKnown l.store z.store) (sym ek) (known-begun l.store t))
 
     pub done_keeps : (value : Numbers) → value_of g t.0 ≡ Some value → k ≡ with_store (with_done l.store t value) l
-        → n ≡ numbers_after (steps.Done t) m → pending k + 1 ≡ pending l → IsNode pool g (node k n) next
+        → n ≡ numbers_after (steps.Done t) m → pending_here k + 1 ≡ pending_here l → IsNode pool g (node k n) next
     done_keeps value right ek en ep = keeps k n kept
         (record {
-          pending = let e : n.pending ≡ m.pending - 1 = ap (λ z. z.pending) en in let f : m.pending ≡ pending l =
+          pending = let e : n.pending ≡ m.pending - 1 = ap (λ z. z.pending) en in let f : m.pending ≡ pending_here l =
               kept.counted.pending in omega (arith, e, f, ep);
           sent = ap (λ z. z.sent) en ∙ kept.counted.sent ∙ sym (ap (λ z. z.sent) ek);
           received = ap (λ z. z.received) en ∙ kept.counted.received ∙ sym (ap (λ z. z.received) ek);
@@ -89,17 +112,18 @@ module _ (pool : ℕ) (g : TaskGraph) {G : Type 0} (graph : G) (nodes next : ℕ
               ∙ sym (ap (λ z. length z.store.results) ek);
         })
         (subst (λ (z : LocalState Numbers). AreRightValues g z.store) (sym ek) (right-done g l.store t value kept.right right))
+        (subst (λ (z : LocalState Numbers). AreHere g nodes m.node z.store) (sym ek) (here-done g nodes m.node l.store t kept.here value))
         (ap (λ z. z.node) en)
         (subst (λ (z : LocalState Numbers). KeepsKnown l.store z.store) (sym ek) (known-done l.store t value))
 
-    pub seed_keeps : (step : Step) (class : ℕ) → t.0 < g.tasks → g.arity t.0 ≡ 0 → k ≡ with_store (with_inserted l.store t class) l
-        → step ≡ inserting m.node t 0 → n ≡ numbers_after step m
-        → pending k ≡ pending l + 1 → IsNode pool g (node k n) next
-    seed_keeps step class known free ek es en ep =
+    pub seed_keeps : (step : Step) (class : ℕ) → t.0 < g.tasks → g.arity t.0 ≡ 0 → g.home t.0 nodes ≡ m.node
+        → k ≡ with_store (with_inserted l.store t class) l → step ≡ inserting m.node t 0 → n ≡ numbers_after step m
+        → pending_here k ≡ pending_here l + 1 → IsNode pool g (node k n) next
+    seed_keeps step class known free lives ek es en ep =
         let em : n ≡ numbers_after (inserting m.node t 0) m = en ∙ ap (λ z. numbers_after z m) es in
         keeps k n kept
         (record {
-          pending = let e : n.pending ≡ m.pending + 1 = ap (λ z. z.pending) em in let f : m.pending ≡ pending l =
+          pending = let e : n.pending ≡ m.pending + 1 = ap (λ z. z.pending) em in let f : m.pending ≡ pending_here l =
               kept.counted.pending in omega (arith, e, f, ep);
           sent = ap (λ z. z.sent) em ∙ kept.counted.sent ∙ sym (ap (λ z. z.sent) ek);
           received = ap (λ z. z.received) em ∙ kept.counted.received ∙ sym (ap (λ z. z.received) ek);
@@ -107,6 +131,8 @@ module _ (pool : ℕ) (g : TaskGraph) {G : Type 0} (graph : G) (nodes next : ℕ
         })
         (subst (λ (z : LocalState Numbers). AreRightValues g z.store) (sym ek)
         (right-inserted g l.store t class kept.right known (sym free)))
+        (subst (λ (z : LocalState Numbers). AreHere g nodes m.node z.store) (sym ek)
+        (here-put g nodes m.node l.store t kept.here (fresh 0 class) lives))
         (ap (λ z. z.node) em)
         (subst (λ (z : LocalState Numbers). KeepsKnown l.store z.store) (sym ek) (known-put l.store t (fresh 0 class)))
 
@@ -130,10 +156,10 @@ module _ (pool : ℕ) (g : TaskGraph) {G : Type 0} (graph : G) (nodes next : ℕ
     put_done false i = refl
 
     pub put_keeps : (step : Step) (known : Bool) (inputs class slot : ℕ) (value : Numbers) → IsInput g t.0 slot value
-        → k ≡ with_store (with_delivered l.store t (g.arity t.0) class slot value) l
-        → step ≡ put_step known inputs → n ≡ numbers_after step m → pending k ≡ pending l + (if known then 0 else 1)
+        → g.home t.0 nodes ≡ m.node → k ≡ with_store (with_delivered l.store t (g.arity t.0) class slot value) l
+        → step ≡ put_step known inputs → n ≡ numbers_after step m → pending_here k ≡ pending_here l + (if known then 0 else 1)
         → IsNode pool g (node k n) next
-    put_keeps step known inputs class slot value input ek es en ep =
+    put_keeps step known inputs class slot value input lives ek es en ep =
         let em : n ≡ numbers_after (put_step known inputs) m = en ∙ ap (λ z. numbers_after z m) es in
         keeps k n kept
         (record {
@@ -145,6 +171,9 @@ module _ (pool : ℕ) (g : TaskGraph) {G : Type 0} (graph : G) (nodes next : ℕ
         })
         (subst (λ (z : LocalState Numbers). AreRightValues g z.store) (sym ek)
         (right-delivered g l.store t class slot value kept.right input))
+        (subst (λ (z : LocalState Numbers). AreHere g nodes m.node z.store) (sym ek)
+        (here-put g nodes m.node l.store t kept.here (with_value (unwrap_or (task_of l.store t) (fresh (g.arity t.0) class)) slot value)
+        lives))
         (ap (λ z. z.node) em)
         (subst (λ (z : LocalState Numbers). KeepsKnown l.store z.store) (sym ek)
         (known-put l.store t (with_value (unwrap_or (task_of l.store t) (fresh (g.arity t.0) class)) slot value)))
@@ -155,6 +184,9 @@ inserts_if true inputs = refl
 inserts_if false inputs = refl
 
 -- a store without tasks
+pub here_at_first : (g : TaskGraph) (nodes node : ℕ) → AreHere g nodes node nothing_stored
+here_at_first g nodes node t x e = absurd (let none : None ≡ Some x = sym (finite.get-empty nat_cmp t.0) ∙ e in cc)
+
 pub right_at_first : (g : TaskGraph) → AreRightValues g nothing_stored
 right_at_first g = record {
   tasks = λ t x e. absurd (let none : None ≡ Some x = sym (finite.get-empty nat_cmp t.0) ∙ e in cc);

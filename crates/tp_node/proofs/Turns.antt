@@ -5,8 +5,8 @@ use Rattle.std.specs.List.{find}
 use Rattle.tp_base.specs.History.{Event}
 use Rattle.tp_base.specs.declared.refusal.Refusal.{Refusal}
 use Rattle.tp_base.specs.declared.step.Step.{Step}
-use Rattle.tp_board.specs.States.{BoardState, full_check, with_event}
-use Rattle.tp_board.specs.Calls.{Answers, Appends}
+use Rattle.tp_board.specs.States.{AnswersBy, BoardState, full_check, with_event}
+use Rattle.tp_board.specs.Calls.{Appends}
 use Rattle.tp_node.specs.Turns.{turn_of}
 use Rattle.tp_turns.specs.Turns.{IsMade, MakesFirst, control_event, ends, may_make, turn_steps}
 use Rattle.tp_node.specs.Nodes.{NodeState}
@@ -80,8 +80,8 @@ module _ {G K : Type 0} (node : NodeState G) {old new : BoardState} {r : Result 
   answered = when_some (turn_of node old) (λ s. IfOk r (IsMade (ends node.nodes old.history s))) (λ s is.
       (turn.some s (is_first ∙ is)).answer)
 
-  pub refused : IfSome (turn_of node old) (λ s. Answers (full_check 1 old ∷ []) r)
-  refused = when_some (turn_of node old) (λ s. Answers (full_check 1 old ∷ []) r) (λ s is. (turn.some s (is_first ∙ is)).refusal)
+  pub refused : IfSome (turn_of node old) (λ s. AnswersBy (full_check 1 old ∷ []) 1 old r)
+  refused = when_some (turn_of node old) (λ s. AnswersBy (full_check 1 old ∷ []) 1 old r) (λ s is. (turn.some s (is_first ∙ is)).refusal)
 
   unchanged_by : (o : Option Step) → turn_of node old ≡ o → OnErr r (new ≡ old)
   unchanged_by None is = subst (λ (q : Result (Turn K) Refusal). OnErr q (new ≡ old)) (sym (turn.none (is_first ∙ is)).0) tt

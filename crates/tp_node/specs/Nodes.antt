@@ -6,13 +6,13 @@ use Rattle.tp_base.specs.History.{Event}
 use Rattle.tp_base.specs.declared.ids.TaskId.{TaskId}
 use Rattle.tp_base.specs.declared.step.Step.{Step}
 use Rattle.tp_base.specs.declared.step.Step.TheVariants as steps
-use Rattle.tp_board.specs.Numbers.{NodeNumbers, ending, event, node_at, numbers_after, first_numbers}
+use Rattle.tp_board.specs.Numbers.{ShareNumbers, ending, event, node_at, numbers_after, first_numbers}
 use Rattle.tp_graph.specs.Carried.{Carried}
 use Rattle.tp_graph.specs.Graphs.{TaskGraph}
 use Rattle.tp_graph.specs.Values.{value_of}
 use Rattle.tp_graph.specs.declared.feed.Feed.{Feed}
 use Rattle.tp_local.specs.Actions.{Actions, without_opening, with_named, without_named, with_message, without_message, Brought}
-use Rattle.tp_local.specs.Locals.{LocalState, Numbers, first_state, pending, state_code}
+use Rattle.tp_local.specs.Locals.{LocalState, Numbers, first_state, pending_here, state_code}
 use Rattle.tp_wave.specs.Machine.{pending_at}
 use Rattle.tp_store.specs.Content.{Task, Content, task_of, with_inserted, with_delivered, with_begun, with_done}
 
@@ -22,10 +22,10 @@ pub record NodeState (G : Type 0) : Type 0 where
   pub graph : G
   pub nodes : ℕ
   pub state : LocalState Numbers
-  pub numbers : NodeNumbers
+  pub numbers : ShareNumbers
 
 -- how a proof tells nodes apart
-abbrev pub numbers_code : Coded NodeNumbers
+abbrev pub numbers_code : Coded ShareNumbers
 numbers_code =
     code_by
     (ℕ × (ℕ × (ℕ × (ℕ × ℕ))))
@@ -37,7 +37,7 @@ numbers_code =
 abbrev pub node_code : {G : Type 0} → Coded G → Coded (NodeState G)
 node_code {G} code =
     code_by
-    (G × (ℕ × (LocalState Numbers × NodeNumbers)))
+    (G × (ℕ × (LocalState Numbers × ShareNumbers)))
     (coded× code (coded× coded_ℕ (coded× (state_code (coded_list coded_ℤ)) numbers_code)))
     (λ n. (n.graph, (n.nodes, (n.state, n.numbers))))
     (λ p. record { graph = p.0; nodes = p.1.0; state = p.1.1.0; numbers = p.1.1.1 })
@@ -114,22 +114,22 @@ module _ {G : Type 0} where
   abbrev pub after : Step → LocalState Numbers → NodeState G → NodeState G
   after s l n = record { graph = n.graph; nodes = n.nodes; state = l; numbers = numbers_after s n.numbers }
 
-  abbrev pub node_of : NodeState G → ℕ
-  node_of n = n.numbers.node
+  abbrev pub number_of : NodeState G → ℕ
+  number_of n = n.numbers.node
 
   -- the event of a step of the node
   abbrev pub event_of : NodeState G → Step → Event
-  event_of n s = event (node_of n) s
+  event_of n s = event (number_of n) s
 
   -- ---- each call's step, and the node after it
   abbrev pub seeding : NodeState G → ℕ → Step
-  seeding n t = inserting (node_of n) (task_at t) 0
+  seeding n t = inserting (number_of n) (task_at t) 0
 
   abbrev pub seeded : TaskGraph → ℕ → NodeState G → NodeState G
   seeded g t n = after (seeding n t) (with_store (with_inserted n.state.store (task_at t) (g.class t)) n.state) n
 
   abbrev pub closing : NodeState G → Step
-  closing n = steps.Ready (node_at (node_of n))
+  closing n = steps.Ready (node_at (number_of n))
 
   abbrev pub made_ready : NodeState G → NodeState G
   made_ready n = after (closing n) (with_actions (without_opening n.state.actions) n.state) n
@@ -138,14 +138,14 @@ module _ {G : Type 0} where
   begun_with t n = after (steps.Begin t) (with_store (with_begun n.state.store t) n.state) n
 
   abbrev pub putting_at : TaskGraph → Feed → NodeState G → Step
-  putting_at g f n = putting g (node_of n) n.state.store f.target
+  putting_at g f n = putting g (number_of n) n.state.store f.target
 
   abbrev pub fed_with : TaskGraph → Feed → Numbers → NodeState G → NodeState G
   fed_with g f value n = after (putting_at g f n) (with_store (put_to g f value n.state.store) n.state) n
 
   -- in generation k
   abbrev pub ending_of : ℕ → ℕ → NodeState G → Step
-  ending_of k m n = ending k (node_of n) m
+  ending_of k m n = ending k (number_of n) m
 
   -- the value of a received message was put, and then its action closed, in generation k
   abbrev pub delivered_with : TaskGraph → Feed → Numbers → ℕ → ℕ → NodeState G → NodeState G
@@ -157,13 +157,13 @@ module _ {G : Type 0} where
   done_with t value n = after (steps.Done t) (with_store (with_done n.state.store t value) n.state) n
 
   abbrev pub opening_of : ℕ → NodeState G → Step
-  opening_of a n = steps.ActionOpen (node_at (node_of n)) (record { 0 = a })
+  opening_of a n = steps.ActionOpen (node_at (number_of n)) (record { 0 = a })
 
   abbrev pub opened_with : ℕ → NodeState G → NodeState G
   opened_with a n = after (opening_of a n) (with_actions (with_named n.state.actions a) n.state) n
 
   abbrev pub closing_of : ℕ → NodeState G → Step
-  closing_of a n = steps.ActionClose (node_at (node_of n)) (record { 0 = a })
+  closing_of a n = steps.ActionClose (node_at (number_of n)) (record { 0 = a })
 
   abbrev pub closed_with : ℕ → NodeState G → NodeState G
   closed_with a n = after (closing_of a n) (with_actions (without_named n.state.actions a) n.state) n
@@ -174,7 +174,7 @@ module _ {G : Type 0} where
 
   -- the pool was reopened
   abbrev pub anew : NodeState G → NodeState G
-  anew n = first_node n.graph n.nodes (node_of n)
+  anew n = first_node n.graph n.nodes (number_of n)
 
 -- A message was received whose action is open at the node: it brought this feed, and the task that it goes to lives here.
 pub record HasBrought (g : TaskGraph) {G : Type 0} (n : NodeState G) (m : Carried G) : Type 0 where
@@ -193,9 +193,13 @@ pub record AreRightValues (g : TaskGraph) (c : Content Numbers) : Type 0 where
   pub tasks : (t : TaskId) (x : Task Numbers) → task_of c t ≡ Some x → IsRightTask g t.0 x
   pub results : All (λ r. value_of g r.0.0 ≡ Some r.1) c.results
 
+-- Each task of the store, done or not, lives at this node, of so many.
+abbrev pub AreHere : TaskGraph → ℕ → ℕ → Content Numbers → Type 0
+AreHere g nodes node c = (t : TaskId) (x : Task Numbers) → task_of c t ≡ Some x → g.home t.0 nodes ≡ node
+
 -- A node's numbers are counted over its state: what is pending are its unfinished tasks and open actions.
-pub record IsCountedBy (n : NodeNumbers) (l : LocalState Numbers) : Type 0 where
-  pub pending : n.pending ≡ pending l
+pub record IsCountedBy (n : ShareNumbers) (l : LocalState Numbers) : Type 0 where
+  pub pending : n.pending ≡ pending_here l
   pub sent : n.sent ≡ l.sent
   pub received : n.received ≡ l.received
   pub done : n.done ≡ length l.store.results
@@ -207,6 +211,7 @@ pub record IsNode (pool : ℕ) (g : TaskGraph) {G : Type 0} (n : NodeState G) (n
   pub few : n.nodes ≤ 8
   pub counted : IsCountedBy n.numbers n.state
   pub right : AreRightValues g n.state.store
+  pub here : AreHere g n.nodes n.numbers.node n.state.store
   pub seeded : (t : ℕ) → t < next → IsSeedOf g n t → ⊥
 
 -- The node is of a pool of so many nodes.
@@ -216,11 +221,11 @@ pub record IsOfPool (pool : ℕ) {G : Type 0} (n : NodeState G) : Type 0 where
   pub few : n.nodes ≤ 8
 
 -- a node's numbers, counted over its state
-abbrev pub counted_of : {G : Type 0} → NodeState G → NodeNumbers
+abbrev pub counted_of : {G : Type 0} → NodeState G → ShareNumbers
 counted_of n =
     record {
       node = n.numbers.node;
-      pending = pending n.state;
+      pending = pending_here n.state;
       sent = n.state.sent;
       received = n.state.received;
       done = length n.state.store.results;

@@ -11,7 +11,7 @@ use Rattle.tp_graph.specs.Carried.{Carried}
 use Rattle.tp_graph.specs.Graphs.{TaskGraph}
 use Rattle.tp_graph.specs.declared.feed.Feed.{Feed}
 use Rattle.tp_local.specs.Actions.{has_message}
-use Rattle.tp_local.specs.Locals.{LocalState, pending}
+use Rattle.tp_local.specs.Locals.{LocalState, is_inactive}
 use Rattle.tp_node.specs.Nodes.{NodeState}
 use Rattle.tp_node.specs.Wires.{WireState, generation_of}
 use Rattle.tp_store.specs.Content.{Content, task_of, is_running, has_begun, unfinished}
@@ -23,10 +23,6 @@ use Rattle.tp_wave.specs.Steps.{any}
 
 -- ---- tests
 module _ {V : Type 0} where
-  -- nothing is pending
-  abbrev pub is_inactive : LocalState V → Bool
-  is_inactive l = pending l == 0
-
   -- the task runs here
   abbrev pub runs : Content V → TaskId → Bool
   runs c t = passes c t (λ x. is_running x.life)

@@ -1,7 +1,7 @@
 ghost use Rattle.std.specs.Prelude.{◌≡◌, ◌≤◌, ◌<◌, length, IsTrue};
 ghost use Rattle.tp_board.specs.Numbers.{first_numbers};
 ghost use Rattle.tp_graph.specs.Serial.{AreRight};
-ghost use Rattle.tp_local.specs.Locals.{pending, standing};
+ghost use Rattle.tp_local.specs.Locals.{pending_here, standing};
 ghost use Rattle.tp_node.specs.Nodes.{AgreesWith, counted_of, first_node};
 ghost use Rattle.tp_store.specs.Content.{counts_of};
 ghost use Rattle.tp_wave.specs.Generations.{AreRuns, present_events};
@@ -26,7 +26,8 @@ use tp_store::Counts;
 /// A node of a pool: what lies under its lock.
 ///
 /// Its type keeps that its pending number counts its unfinished tasks and its open actions, that what it has sent, received
-/// and done are the numbers of its shares, and that each value in it is the one that the graph defines. Contracts see its
+/// and done are the numbers of its shares, that each task in it lives there, and that each value in it is the one that
+/// the graph defines. Contracts see its
 /// graph, how many nodes the pool has, its own state, and the numbers of its shares.
 #[derive(Drop)]
 pub struct Node<G: Graph, K: Ledgers> {
@@ -96,7 +97,7 @@ impl<G: Graph, K: Ledgers> Node<G, K> {
 
     /// How many of its tasks are unfinished and how many of its actions are open, together.
     pub fn pending(&self) -> u32
-        ensures counted { result ≡ pending self.now.state }
+        ensures counted { result ≡ pending_here self.now.state }
         ensures share { result ≡ self.now.numbers.pending }
     {
         self.local.pending()

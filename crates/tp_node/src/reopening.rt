@@ -4,14 +4,14 @@ ghost use Rattle.std.specs.List.{All, flat_map};
 ghost use Rattle.std.specs.Result.{result_err};
 ghost use Rattle.tp_base.specs.Checks.{first_refusal};
 ghost use Rattle.tp_base.specs.declared.step.Step.TheVariants as steps;
-ghost use Rattle.tp_board.specs.Calls.{Answers, Appends};
+ghost use Rattle.tp_board.specs.Calls.{AnswersFirst, Appends};
 ghost use Rattle.tp_board.specs.Fresh.{HasRoom};
 ghost use Rattle.tp_board.specs.Numbers.{event};
 ghost use Rattle.tp_board.specs.States.{full_check, with_event};
 ghost use Rattle.tp_graph.specs.Serial.{AreRight};
 ghost use Rattle.tp_node.specs.Calls.{AnswersWithBoth};
 ghost use Rattle.tp_node.specs.Nodes.{IsOfPool, anew};
-ghost use Rattle.tp_wave.specs.Cut.{IsQuiet};
+ghost use Rattle.tp_wave.specs.Cut.{IsQuietHistory};
 ghost use Rattle.tp_wave.specs.Generations.{present, present_events};
 ghost use Rattle.tp_wave.specs.Machine.{steps_of};
 ghost use Rattle.tp_wave.specs.Sums.{is_ended};
@@ -54,7 +54,7 @@ impl<G: Graph, K: Ledgers> Pool<G, K> {
         ensures results { IfOk result (λ r. r.results.items ≡ flat_map (λ n. n.state.store.results) self.nodes.items) }
         ensures right { IfOk result (λ r. (g : G) → All (λ n. n.graph ≡ g) self.nodes.items → AreRight (G.meaning g) r.results.items) }
         ensures ended { OnOk result (IsTrue (is_ended K.names.nodes (present (steps_of self.board.history)))) }
-        ensures quiet { OnOk result (IsQuiet K.names.nodes (present_events self.board.history)) }
+        ensures quiet { OnOk result (IsQuietHistory K.names.nodes (present_events self.board.history)) }
         ensures refused { AnswersWithBoth (full_check 1 self.board ∷ []) self ended result }
     {
         let mut pool = self;
@@ -89,7 +89,7 @@ fn room_for<G: Graph, K: Ledgers>(
         × (sum_by (λ n. length n.state.store.results) nodes.now.items ≤ vec_capacity r.results)) }
     ensures reserved { OnOk result (0 < board.new.reserved) }
     ensures same { Appends [] board.old board.new }
-    ensures refusal { Answers (full_check 1 board.old ∷ []) result }
+    ensures refusal { AnswersFirst (full_check 1 board.old ∷ []) result }
     ensures refused { OnErr result (board.new ≡ board.old) }
 {
     check_full(board)?;
@@ -167,7 +167,7 @@ fn begin_anew<G: Graph, K: Ledgers>(
     ensures results { result.results.items ≡ flat_map (λ n. n.state.store.results) pool.nodes.items }
     ensures right { (g : G) → All (λ n. n.graph ≡ g) pool.nodes.items → AreRight (G.meaning g) result.results.items }
     ensures ended { IsTrue (is_ended K.names.nodes (present (steps_of pool.board.history))) }
-    ensures quiet { IsQuiet K.names.nodes (present_events pool.board.history) }
+    ensures quiet { IsQuietHistory K.names.nodes (present_events pool.board.history) }
 {
     let Pool {
         nodes,
@@ -206,7 +206,7 @@ fn reopen_nodes<G: Graph, K: Ledgers>(
     ensures results { result.1.items ≡ flat_map (λ n. n.state.store.results) nodes.items }
     ensures right { (g : G) → All (λ n. n.graph ≡ g) nodes.items → AreRight (G.meaning g) result.1.items }
     ensures ended { IsTrue (is_ended K.names.nodes (present (steps_of board.old.history))) }
-    ensures quiet { IsQuiet K.names.nodes (present_events board.old.history) }
+    ensures quiet { IsQuietHistory K.names.nodes (present_events board.old.history) }
 {
     let ReopeningRoom {
         fresh,

@@ -4,7 +4,7 @@ ghost use Rattle.tp_board.specs.Numbers.{event, is_send, numbers_after, receivin
 ghost use Rattle.tp_board.specs.States.{full_check};
 ghost use Rattle.tp_graph.specs.Carried.{Carried, IsFeed};
 ghost use Rattle.tp_graph.specs.Values.{value_of};
-ghost use Rattle.tp_board.specs.Calls.{Answers, Appends};
+ghost use Rattle.tp_board.specs.Calls.{AnswersFirst, Appends};
 ghost use Rattle.tp_node.specs.Wires.{IsOnWay, empty_wire, generation_of, link_of, message_on, with_message};
 ghost use Rattle.tp_wave.specs.Generations.{present};
 ghost use Rattle.tp_wave.specs.Machine.{is_send_to, steps_of, under_way};
@@ -131,7 +131,7 @@ impl<G: Graph, K: Ledgers> Wire<G, K> {
             ≡ numbers_after (sending (generation_of board.old) shares.old.node self.old.to m.0) shares.old) }
         ensures last { IfOk result (λ m. self.new
             ≡ with_message (message_on self.old graph (generation_of board.old) m.0 feed value) self.old) }
-        ensures refusal { Answers (full_check 1 board.old ∷ []) result }
+        ensures refusal { AnswersFirst (full_check 1 board.old ∷ []) result }
         ensures refused { OnErr result (Appends [] board.old board.new × (shares.new ≡ shares.old) × (self.new ≡ self.old)) }
     {
         board.reserve(1)?;

@@ -101,16 +101,19 @@ pub struct Finished<G: Graph> {
     task: TaskId,
     value: Value,
     fed: u32,
+    // How many feeds the task has: the graph is asked once.
+    feeds: u32,
 }
 
 impl<G: Graph> Model for Finished<G> {
+    ghost use Rattle.std.specs.Prelude.{◌≡◌};
     ghost use Rattle.tp_graph.specs.Carried.{Ran, HasRun};
 
     ghost Value = { Ran G };
 
     ghost view = { λ f. record { graph = f.graph; task = f.task; value = f.value; fed = f.fed } };
 
-    ghost invariant = { λ f. HasRun (G.meaning f.graph) f.task.0 f.value f.fed };
+    ghost invariant = { λ f. HasRun (G.meaning f.graph) f.task.0 f.value f.fed × (f.feeds ≡ (G.meaning f.graph).feeds f.task.0) };
 }
 
 impl<G: Graph> Finished<G> {
@@ -125,6 +128,7 @@ impl<G: Graph> Finished<G> {
             task,
             value,
             fed: 0,
+            feeds: graph.feeds(task),
         }
     }
 
@@ -172,7 +176,7 @@ impl<G: Graph> Finished<G> {
         ensures all { IsTrue result ↔ (self.now.fed ≡ (G.meaning self.now.graph).feeds self.now.task.0) }
         ensures few { self.now.fed ≤ (G.meaning self.now.graph).feeds self.now.task.0 }
     {
-        self.fed == self.graph.feeds(self.task)
+        self.fed == self.feeds
     }
 
     /// The next feed, which has to be passed on.
@@ -190,8 +194,6 @@ impl<G: Graph> Finished<G> {
         requires { HasFeed (G.meaning self.old.graph) self.old }
         ensures { self.new ≡ passed_on self.old }
     {
-        let feeds = self.graph.feeds(self.task);
-        prove!(self.fed < feeds);
         self.fed += 1;
     }
 }

@@ -32,13 +32,13 @@ impl Standing {
 
 /// A pool of a registry: its name, the graph that it works out, and where it stands.
 #[derive(Drop)]
-pub struct Entry {
+pub struct PoolEntry {
     name: String,
     graph: AnyGraph,
     pub(crate) standing: Standing,
 }
 
-impl Model for Entry {
+impl Model for PoolEntry {
     ghost use Rattle.std.specs.Prelude.{string_bytes};
     ghost use Rattle.tp_pools.specs.Pools.{Entered};
 
@@ -47,12 +47,12 @@ impl Model for Entry {
     ghost view = { λ e. record { name = string_bytes e.name; graph = e.graph; standing = e.standing } };
 }
 
-impl Entry {
+impl PoolEntry {
     /// A pool that was registered just now. It takes no memory.
     pub(crate) fn new(name: String, graph: AnyGraph) -> Self
         ensures { result ≡ registered (string_bytes name) graph }
     {
-        Entry {
+        PoolEntry {
             name,
             graph,
             standing: Standing::Registered,

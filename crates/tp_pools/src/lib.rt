@@ -5,5 +5,5 @@
 mod entry;
 mod registry;
 
-pub use entry::{Entry, Standing};
+pub use entry::{PoolEntry, Standing};
 pub use registry::Registry;

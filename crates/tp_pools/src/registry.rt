@@ -10,7 +10,7 @@ ghost use Rattle.tp_pools.specs.declared.entry.Standing.TheVariants as stand;
 ghost use Rattle.pool_samples.specs.Words.{word_of};
 ghost use Rattle.pool_samples.specs.declared.any.AnyGraph.{AnyGraph};
 
-use crate::entry::{Entry, Standing};
+use crate::entry::{PoolEntry, Standing};
 use pool_samples::{AnyGraph, checked};
 use std::alloc::{AllocError, Global};
 use std::marker::Model;
@@ -20,7 +20,7 @@ use tp_base::{MAX_POOLS, PoolId, Refusal};
 #[derive(Drop)]
 pub struct Registry {
     alloc: Global,
-    pools: Vec<Entry>,
+    pools: Vec<PoolEntry>,
 }
 
 impl Model for Registry {
@@ -68,7 +68,7 @@ impl Registry {
             return Err(Refusal::StoreFull);
         }
         let name = String::from_str(self.alloc, name)?;
-        self.pools.push(Entry::new(name, graph))?;
+        self.pools.push(PoolEntry::new(name, graph))?;
         Ok(PoolId(number))
     }
 
@@ -148,7 +148,7 @@ impl Registry {
     }
 
     /// All pools, in the order of registration.
-    pub fn list(&self) -> &[Entry]
+    pub fn list(&self) -> &[PoolEntry]
         ensures same { result.now ≡ self.now }
         ensures few { length result.now ≤ MAX_POOLS }
     {
@@ -180,7 +180,7 @@ impl Registry {
 }
 
 /// Tells how each registered pool ended, by the answer of its rank.
-fn settle_each<T, E>(pools: &mut [Entry], answers: &[Result<T, E>])
+fn settle_each<T, E>(pools: &mut [PoolEntry], answers: &[Result<T, E>])
     requires { length answers.now ≡ count_by is_waiting pools.old }
     ensures { AreSettled answers.now pools.old pools.new }
 {

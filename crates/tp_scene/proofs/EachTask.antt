@@ -20,7 +20,7 @@ use Rattle.tp_core.specs.declared.life.Life.{Life}
 use Rattle.tp_core.specs.declared.life.Life.TheVariants as life
 use Rattle.tp_core.specs.World.{Task, IsQuiet, how_many, home_of, life_of, is_done}
 use Rattle.tp_core.specs.Pool.{with_life, without, lacking, supplied}
-use Rattle.tp_core.specs.Checks.{is_running}
+use Rattle.tp_core.specs.StepChecks.{is_running}
 use Rattle.tp_core.specs.NeverEarly.{is_begin_of}
 use Rattle.tp_core.specs.Run.{world, history}
 use Rattle.tp_core.specs.Generations.{AreRuns, MayCome, world_after}

@@ -15,7 +15,7 @@ use Rattle.tp_wave.specs.Sums.{total, visit, judgement}
 use Rattle.tp_wave.specs.Generations.{present, generation}
 use Rattle.tp_core.specs.declared.life.Life.TheVariants as life
 use Rattle.tp_core.specs.World.{home_of, life_of}
-use Rattle.tp_core.specs.Checks.{is_idle}
+use Rattle.tp_core.specs.StepChecks.{is_idle}
 use Rattle.tp_core.specs.Generations.{AreRuns, world_after}
 use Rattle.tp_core.proofs.Counting.{home_inside}
 use Rattle.tp_core.proofs.Generations.{present_run}

@@ -9,7 +9,7 @@ use Rattle.std.proofs.lemmas.Bool.Decides.{nat_tests}
 use Rattle.tp_base.specs.declared.Step.{Step}
 use Rattle.tp_base.specs.declared.limits.TheConstants.{MAX_NODES}
 use Rattle.tp_core.specs.World.{pending}
-use Rattle.tp_core.specs.Checks.{is_idle}
+use Rattle.tp_core.specs.StepChecks.{is_idle}
 use Rattle.tp_core.specs.Generations.{world_after}
 use Rattle.tp_scene.specs.declared.lanes.Lanes.{Lanes}
 use Rattle.tp_scene.specs.declared.scene.Pause.{Pause}

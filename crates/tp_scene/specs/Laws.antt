@@ -9,7 +9,7 @@ use Rattle.tp_wave.specs.Steps.{before_newest, count, is_recv}
 use Rattle.tp_wave.specs.Sums.{total}
 use Rattle.tp_wave.specs.Machine.{is_send_numbered}
 use Rattle.tp_core.specs.World.{World, Message, how_many, home_of, life_of}
-use Rattle.tp_core.specs.Checks.{is_running}
+use Rattle.tp_core.specs.StepChecks.{is_running}
 use Rattle.tp_core.specs.NeverEarly.{is_begin_of}
 use Rattle.tp_core.specs.Generations.{AreRuns, world_after}
 use Rattle.tp_scene.specs.declared.scene.Running.{Running}

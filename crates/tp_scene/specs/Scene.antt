@@ -9,7 +9,7 @@ use Rattle.tp_wave.specs.Sums.{visit, sums_of, judgement}
 use Rattle.tp_wave.specs.Generations.{present, generation}
 use Rattle.tp_core.specs.World.{home_of, how_many}
 use Rattle.tp_core.specs.Pool.{without}
-use Rattle.tp_core.specs.Checks.{is_idle}
+use Rattle.tp_core.specs.StepChecks.{is_idle}
 use Rattle.tp_core.specs.Generations.{world_after, AreRuns}
 use Rattle.tp_core.specs.Accepted.{refusal}
 use Rattle.tp_base.specs.declared.Refusal.{Refusal}

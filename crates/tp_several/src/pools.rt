@@ -46,36 +46,12 @@ fn run_each<A: Gate, R: Threads + Wait + Sync>(
     requires limits { IsWithinLimits config }
     ensures { IfOk result (λ answers. AreRunAnswers config.nodes config.workers graphs.items answers.items) }
 {
-    let runner = Runner {
-        rt,
-        alloc,
-        config,
-        gate,
-    };
     thread::map_vec(
         rt,
         graphs,
         &|graph| -> Result<Outcome, Fault>
-            requires { IsWithinLimits runner.config }
-            ensures { IsRunAnswer runner.entry.config.nodes runner.entry.config.workers graph result }
-        { runner.run(graph) },
+            requires { IsWithinLimits config }
+            ensures { IsRunAnswer config.nodes config.workers graph result }
+        { run_pool(rt, alloc, graph, config, gate) },
     )
-}
-
-/// How each pool is run.
-#[derive(Drop)]
-struct Runner<'a, A, R> {
-    rt: &'a R,
-    alloc: Global,
-    config: Config,
-    gate: &'a A,
-}
-
-impl<A: Gate, R: Threads + Wait + Sync> Runner<'_, A, R> {
-    fn run(&self, graph: AnyGraph) -> Result<Outcome, Fault>
-        requires { IsWithinLimits self.now.config }
-        ensures { IsRunAnswer self.now.config.nodes self.now.config.workers graph result }
-    {
-        run_pool(self.rt, self.alloc, graph, self.config, self.gate)
-    }
 }

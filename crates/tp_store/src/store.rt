@@ -183,6 +183,7 @@ impl<S: Slots<TaskItem<V>>, V: MadeWith<Global> + Drop> TaskStore<S, V> {
     ghost use Rattle.tp_store.specs.Content.{task_of, life_of, values_of, unfinished, refusal_of_new, refusal_of_insert};
     ghost use Rattle.tp_store.specs.Content.{refusal_of_deliver, refusal_of_done};
     ghost use Rattle.tp_store.specs.Content.{with_inserted, with_delivered, with_begun, with_done, delivered_to, inserted_by, NoneGoesBack};
+    ghost use Rattle.tp_store.specs.Sound.{IsSound};
 
     /// Inserts an input-free task, ready at once. Its class is 0 to 3.
     ///
@@ -302,6 +303,7 @@ impl<S: Slots<TaskItem<V>>, V: MadeWith<Global> + Drop> TaskStore<S, V> {
         ensures content { MatchOption result (self.new ≡ self.old) (λ b. self.new ≡ with_begun self.old b.task) }
         ensures unfinished { unfinished self.new ≡ unfinished self.old }
         ensures lives { NoneGoesBack self.old self.new }
+        ensures sound { IsSound self.old }
     {
         let Some(place) = self.slots.pop_ready() else {
             return None;

@@ -17,7 +17,7 @@ use Rattle.tp_base.specs.declared.limits.TheConstants.{MAX_STEPS}
 use Rattle.tp_base.specs.declared.Step.{Step}
 use Rattle.tp_base.specs.declared.Step.TheVariants.{Send, Recv, Start, Down, Give, Up, Judge, Reopen}
 use Rattle.tp_base.specs.declared.Refusal.{Refusal}
-use Rattle.tp_wave.specs.Checks.{control_refusal}
+use Rattle.tp_wave.specs.ControlChecks.{control_refusal}
 use Rattle.tp_wave.specs.Control.{in_wave, is_control, AreLawfulWaves}
 use Rattle.tp_wave.specs.Generations.{present, present_events}
 use Rattle.tp_wave.specs.Generations as histories

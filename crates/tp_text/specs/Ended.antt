@@ -1,7 +1,7 @@
 -- What the line `ended W` says of the pool.
 use Rattle.std.specs.Prelude.{ℕ, ◌≡◌, List, ◌∷◌, ◌++◌, Ok}
 use Rattle.tp_base.specs.declared.Step.{Step}
-use Rattle.tp_wave.specs.Cut.{visited_at}
+use Rattle.tp_wave.specs.Sums.{visited_at}
 use Rattle.tp_wave.specs.Generations.{present, generation}
 use Rattle.tp_core.specs.declared.Reply.TheVariants.{Over}
 use Rattle.tp_core.specs.Accepted.{answer, after_all}

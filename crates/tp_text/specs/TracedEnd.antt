@@ -1,7 +1,7 @@
 -- What a sound trace says of the end.
 use Rattle.std.specs.Prelude.{ℕ, ◌≡◌, List, ◌∷◌, ◌++◌, IsTrue, Some, None}
 use Rattle.tp_wave.specs.Steps.{any, is_reopen}
-use Rattle.tp_wave.specs.Cut.{visited_at}
+use Rattle.tp_wave.specs.Sums.{visited_at}
 use Rattle.tp_wave.specs.Generations.{present}
 use Rattle.tp_base.specs.declared.Step.TheVariants.{Reopen}
 use Rattle.tp_core.specs.NeverEarly.{IsOverFrom}

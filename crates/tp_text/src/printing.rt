@@ -58,14 +58,14 @@ pub(crate) fn push_refusal(out: &mut Vec<u8>, refusal: Refusal) -> Result<(), Al
 
 /// The counters of a node, or those of all nodes added up.
 #[derive(Clone, Copy)]
-struct Counts {
+struct LineCounts {
     pending: u64,
     sent: u64,
     received: u64,
 }
 
-impl Counts {
-    fn of(numbers: &NodeNumbers) -> Counts
+impl LineCounts {
+    fn of(numbers: &NodeNumbers) -> LineCounts
         ensures value { result ≡ record {
           pending = numbers.now.pending;
           sent = numbers.now.sent;
@@ -73,14 +73,14 @@ impl Counts {
         } }
         ensures small { (result.pending < 2 ^ 32) × (result.sent < 2 ^ 32) × (result.received < 2 ^ 32) }
     {
-        Counts {
+        LineCounts {
             pending: u64::from(numbers.pending),
             sent: u64::from(numbers.sent),
             received: u64::from(numbers.received),
         }
     }
 
-    fn plus(self, other: Counts) -> Counts
+    fn plus(self, other: LineCounts) -> LineCounts
         requires pending { self.pending + other.pending < 2 ^ 64 }
         requires sent { self.sent + other.sent < 2 ^ 64 }
         requires received { self.received + other.received < 2 ^ 64 }
@@ -90,7 +90,7 @@ impl Counts {
           received = self.received + other.received;
         } }
     {
-        Counts {
+        LineCounts {
             pending: self.pending + other.pending,
             sent: self.sent + other.sent,
             received: self.received + other.received,
@@ -98,7 +98,7 @@ impl Counts {
     }
 }
 
-fn push_counts(out: &mut Vec<u8>, numbers: Counts) -> Result<(), AllocError>
+fn push_counts(out: &mut Vec<u8>, numbers: LineCounts) -> Result<(), AllocError>
     ensures { OnOk result (out.new.items ≡ out.old.items ++ counts (record {
       pending = numbers.pending;
       sent = numbers.sent;
@@ -114,7 +114,7 @@ fn push_node(out: &mut Vec<u8>, node: u64, numbers: &NodeNumbers) -> Result<(), 
     ensures { OnOk result (out.new.items ≡ out.old.items ++ node_line node numbers.now) }
 {
     push_count(out, b"node ", node)?;
-    push_counts(out, Counts::of(numbers))?;
+    push_counts(out, LineCounts::of(numbers))?;
     out.extend_from_slice(b"\n")
 }
 
@@ -128,24 +128,24 @@ fn push_nodes(out: &mut Vec<u8>, nodes: &[NodeNumbers]) -> Result<(), AllocError
 }
 
 /// The counters of all these nodes, added up.
-fn all_counts(nodes: &[NodeNumbers]) -> Counts
+fn all_counts(nodes: &[NodeNumbers]) -> LineCounts
     requires { length nodes.now ≤ MAX_NODES }
     ensures pending { result.pending ≡ total (length nodes.now) (λ i. (listed nodes.now i).pending) }
     ensures sent { result.sent ≡ total (length nodes.now) (λ i. (listed nodes.now i).sent) }
     ensures received { result.received ≡ total (length nodes.now) (λ i. (listed nodes.now i).received) }
 {
-    let mut sums = Counts {
+    let mut sums = LineCounts {
         pending: 0,
         sent: 0,
         received: 0,
     };
     for numbers in nodes {
-        sums = sums.plus(Counts::of(numbers));
+        sums = sums.plus(LineCounts::of(numbers));
     }
     sums
 }
 
-fn push_total(out: &mut Vec<u8>, sums: Counts, under: u64) -> Result<(), AllocError>
+fn push_total(out: &mut Vec<u8>, sums: LineCounts, under: u64) -> Result<(), AllocError>
     ensures { OnOk result (out.new.items ≡ out.old.items ++ line (codes "total" ++ counts (record {
       pending = sums.pending;
       sent = sums.sent;

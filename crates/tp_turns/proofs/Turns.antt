@@ -12,12 +12,12 @@ use Rattle.tp_base.specs.declared.step.Step.{Step}
 use Rattle.tp_base.specs.declared.step.Step.TheVariants.{Start, Down, Give, Up, Judge}
 use Rattle.tp_board.specs.Numbers.{node_at}
 use Rattle.tp_board.specs.States.{AnswersBy, BoardState, full_check, step_checks, visit_checks, with_event}
-use Rattle.tp_board.specs.Calls.{Answers}
 use Rattle.tp_turns.specs.Turns.{ComesTo, IsMade, Makes, MakesFirst, control_event, ends, is_for_room, may_make, turn_checks, turn_steps}
 use Rattle.tp_turns.specs.Turns.{wave_steps}
+use Rattle.tp_board.proofs.Answering.{same_answer}
 use Rattle.tp_turns.specs.declared.turn.Turn.{Turn}
 use Rattle.tp_turns.specs.declared.turn.Turn.TheVariants.{Idle}
-use Rattle.tp_wave.specs.Checks.{control_checks}
+use Rattle.tp_wave.specs.ControlChecks.{control_checks}
 use Rattle.tp_wave.specs.Generations.{present, present_events}
 use Rattle.tp_wave.specs.Machine.{pending_at, steps_of}
 use Rattle.tp_wave.specs.Sums.{judgement}
@@ -53,21 +53,6 @@ room {A} b e r is answer =
       | false ↦ λ h. ap is_for_room (subst (λ (z : Result A Refusal). IfErr z (λ f. (f ≡ NoMemory) × (b.reserved < 1))) is h).0
     ] answer
 
--- Another call that returns its error answers the same.
-same_to : {A B : Type 0} (o : Option Refusal) (want : Type 0) (r : Result A Refusal) (q : Result B Refusal) → result_err r ≡ result_err q
-    → MatchOption o (IfErr r (λ e. (e ≡ NoMemory) × want)) (λ e. r ≡ Err e) → MatchOption o (IfErr q (λ e. e ≡ NoMemory)) (λ e. q ≡ Err e)
-same_to None want (Ok x) (Ok y) same answer = tt
-same_to None want (Ok x) (Err f) same answer = absurd cc
-same_to None want (Err e) (Ok y) same answer = tt
-same_to None want (Err e) (Err f) same answer = let first : f ≡ e = cc in first ∙ answer.0
-same_to (Some g) want (Ok x) q same answer = absurd cc
-same_to (Some g) want (Err e) (Ok y) same answer = absurd cc
-same_to (Some g) want (Err e) (Err f) same answer = let first : f ≡ g = cc in ap Err first
-
-same_room : {A B : Type 0} (b : BoardState) (r : Result A Refusal) (q : Result B Refusal) → result_err r ≡ result_err q
-    → AnswersBy (full_check 1 b ∷ []) 1 b r → Answers (full_check 1 b ∷ []) q
-same_room b r q same answer = same_to (first_refusal (full_check 1 b ∷ [])) (b.reserved < 1) r q same answer
-
 -- ---- one step
 -- the first of a list of one step
 abbrev only : Step → Option Refusal → Option Step
@@ -94,7 +79,7 @@ module _ {A K : Type 0} (n : ℕ) (s : Step) (old new : BoardState) (ended : A �
       record {
         event = h.event;
         answer = subst (λ b. IsMade b turn) h.over h.answer;
-        refusal = same_room old (Ok x) (Ok turn) refl answer;
+        refusal = same_answer (full_check 1 old ∷ []) 1 old (Ok x) (Ok turn) refl answer;
         refused = tt;
       }
   made (Ok x) (Err f) h answer = absurd h.answer
@@ -106,7 +91,12 @@ module _ {A K : Type 0} (n : ℕ) (s : Step) (old new : BoardState) (ended : A �
       let r : Result A Refusal = Err e in
       let q : Result (Turn K) Refusal = Err f in
       let is : q ≡ refused_with e true = h.answer ∙ ap (refused_with e) (room old e r refl answer) in
-      record { event = tt; answer = tt; refusal = same_room old r q (sym (ap result_err is)) answer; refused = h.same }
+      record {
+        event = tt;
+        answer = tt;
+        refusal = same_answer (full_check 1 old ∷ []) 1 old r q (sym (ap result_err is)) answer;
+        refused = h.same;
+      }
 
   -- where one of its checks holds
   none : (r : Result A Refusal) (q : Result (Turn K) Refusal) (e : Refusal) → IsTried n s old new ended r q → r ≡ Err e

@@ -9,11 +9,10 @@ use Rattle.tp_base.specs.declared.refusal.Refusal.TheVariants.{HistoryFull, NoMe
 use Rattle.tp_base.specs.declared.step.Step.{Step}
 use Rattle.tp_base.specs.declared.step.Step.TheVariants.{Start, Down, Give, Up, Judge}
 use Rattle.tp_board.specs.Numbers.{event, node_at}
-use Rattle.tp_board.specs.States.{BoardState, full_check, with_event}
-use Rattle.tp_board.specs.Calls.{Answers}
+use Rattle.tp_board.specs.States.{AnswersBy, BoardState, full_check, with_event}
 use Rattle.tp_turns.specs.declared.turn.Turn.{Turn}
 use Rattle.tp_turns.specs.declared.turn.Turn.TheVariants.{Idle, Moved, Over}
-use Rattle.tp_wave.specs.Checks.{control_checks}
+use Rattle.tp_wave.specs.ControlChecks.{control_checks}
 use Rattle.tp_wave.specs.Generations.{present, present_events}
 use Rattle.tp_wave.specs.Machine.{pending_at, steps_of}
 use Rattle.tp_wave.specs.Steps.{is_judge}
@@ -66,7 +65,7 @@ IsMade ended (Over e) = IsTrue ended
 pub record Makes {K : Type 0} (n : ℕ) (s : Step) (old new : BoardState) (result : Result (Turn K) Refusal) : Type 0 where
   pub event : OnOk result (new ≡ with_event (control_event s) old)
   pub answer : IfOk result (IsMade (ends n old.history s))
-  pub refusal : Answers (full_check 1 old ∷ []) result
+  pub refusal : AnswersBy (full_check 1 old ∷ []) 1 old result
   pub refused : OnErr result (new ≡ old)
 
 -- The first of these steps that node i may make was made, or there is none.

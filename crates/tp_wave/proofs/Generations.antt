@@ -11,7 +11,7 @@ use Rattle.tp_wave.specs.Steps.{count, is_reopen}
 use Rattle.tp_wave.specs.Sums.{is_ended}
 use Rattle.tp_wave.specs.Control.{is_control}
 use Rattle.tp_wave.specs.Machine.{History, step_of, steps_of, IsNext, IsRun}
-use Rattle.tp_wave.specs.Cut.{IsQuiet}
+use Rattle.tp_wave.specs.Cut.{IsQuietHistory}
 use Rattle.tp_wave.specs.Generations.{present, present_events, generation, IsOfGeneration, MayReopen, GoesOn, MayCome, AreRuns, InEach}
 use Rattle.tp_wave.specs.Generations.{ended_generations, IsEndedRun, EndedGenerationsLaw, GenerationsLaw, IsNeverEarly, NeverEarlyInEachLaw}
 use Rattle.tp_wave.specs.Generations.{ReopeningLaw, OverLaw, PresentLaw, FewGenerationsLaw}
@@ -78,7 +78,7 @@ over_law n past e r ended =
       | inl reopens ↦ reopens
       | inr on ↦
           let next : IsNext n (present_events past) e = (r.0.goes_on on).next in
-          let quiet : IsQuiet n (present_events past) = judged_law n (present_events past) (present_run n past r.1) ended in
+          let quiet : IsQuietHistory n (present_events past) = judged_law n (present_events past) (present_run n past r.1) ended in
           let control : IsTrue (is_control e.1) = (quiet_step n (present_events past) e.0 e.1 next quiet).1 in
           absurd (both_ways (is_ended n (steps_of (present_events past))) (next.control control).0 ended)
     ]

@@ -11,7 +11,7 @@ use Rattle.tp_wave.specs.Steps.{before, count, any, is_start, is_down, is_give, 
 use Rattle.tp_wave.specs.Sums.{waves, earlier, total, four_equal, judgement, is_ended}
 use Rattle.tp_wave.specs.Control.{parent, in_wave, has_ended, is_reached, is_control, IsDue, IsControlStep, AreLawfulWaves}
 use Rattle.tp_wave.specs.Machine.{History, steps_of, IsRun}
-use Rattle.tp_wave.specs.Cut.{IsQuiet}
+use Rattle.tp_wave.specs.Cut.{IsQuietHistory}
 use Rattle.tp_wave.specs.Settling.{SoonLaw, ComesNext, GoesOnLaw}
 use Rattle.tp_wave.proofs.Totals.{total_one-changes, total-zero}
 use Rattle.tp_wave.proofs.Positions.{before-all, before-append, length-steps_of}
@@ -270,7 +270,7 @@ two_later later h l =
     rw (one.1, two.1) (simp length-append (omega arith))
 
 -- Where it was quiet, no third wave is started.
-no_third : (n : ℕ) (later h : History) → IsRun n (later ++ h) → IsQuiet n h → waves (steps_of h) + 2 ≤ waves (steps_of (later ++ h))
+no_third : (n : ℕ) (later h : History) → IsRun n (later ++ h) → IsQuietHistory n h → waves (steps_of h) + 2 ≤ waves (steps_of (later ++ h))
     → IsFalse (is_ended n (steps_of (later ++ h))) → IsTrue (in_wave is_judge (steps_of (later ++ h))) → ⊥
 no_third n later h r q l open' judged =
     let s : List Step = steps_of (later ++ h) in
@@ -289,7 +289,7 @@ start_needs : (n : ℕ) (past : List Step) (s : Step) → (IsTrue (is_control s)
 start_needs n past Start c e = c refl
 start_needs n past _ c e = cc
 
-few_waves : (n : ℕ) (later h : History) → IsRun n (later ++ h) → IsQuiet n h → waves (steps_of (later ++ h)) ≤ waves (steps_of h) + 2
+few_waves : (n : ℕ) (later h : History) → IsRun n (later ++ h) → IsQuietHistory n h → waves (steps_of (later ++ h)) ≤ waves (steps_of h) + 2
 few_waves n [] h r q = omega arith
 few_waves n (e ∷ later) h r q =
     let s : List Step = steps_of (later ++ h) in
@@ -307,7 +307,7 @@ few_waves n (e ∷ later) h r q =
           ]
     ]
 
-count_quiet : (n : ℕ) (later h : History) → IsRun n (later ++ h) → IsQuiet n h
+count_quiet : (n : ℕ) (later h : History) → IsRun n (later ++ h) → IsQuietHistory n h
     → count is_control (steps_of (later ++ h)) ≡ count is_control (steps_of h) + length later
 count_quiet n [] h r q = omega arith
 count_quiet n (e ∷ later) h r q =
@@ -319,7 +319,7 @@ some_mark n steps p e =
     let root : reached steps 0 ≡ 1 = ap one e in
     omega (arith, root, total_at_least n 0 (reached steps) p)
 
-soon : (n : ℕ) (later h : History) → 0 < n → IsRun n (later ++ h) → IsQuiet n h → length later < 9 * n
+soon : (n : ℕ) (later h : History) → 0 < n → IsRun n (later ++ h) → IsQuietHistory n h → length later < 9 * n
 soon n later h p r q =
     let s : List Step = steps_of (later ++ h) in
     let old : List Step = steps_of h in
@@ -417,7 +417,7 @@ finish n s all (suc d) l =
       ]
     ]
 
-module _ (n : ℕ) (h : History) (p : 0 < n) (q : IsQuiet n h) (e : IsFalse (is_ended n (steps_of h))) where
+module _ (n : ℕ) (h : History) (p : 0 < n) (q : IsQuietHistory n h) (e : IsFalse (is_ended n (steps_of h))) where
   root : NodeId
   root = record { 0 = 0 }
 

@@ -6,9 +6,9 @@ use Rattle.tp_base.specs.History.{Event}
 use Rattle.tp_base.specs.declared.Step.{Step}
 use Rattle.tp_base.specs.declared.Step.TheVariants.{Send, Recv, MessageEnd}
 use Rattle.tp_wave.specs.Steps.{before, count, is_judge, is_reopen}
-use Rattle.tp_wave.specs.Sums.{judgement, is_ended}
-use Rattle.tp_wave.specs.Machine.{History, node_of, step_of, steps_of, IsNext, IsRun}
-use Rattle.tp_wave.specs.Cut.{IsQuiet, visited_at}
+use Rattle.tp_wave.specs.Sums.{judgement, is_ended, visited_at}
+use Rattle.tp_wave.specs.Machine.{History, node_beside, step_of, steps_of, IsNext, IsRun}
+use Rattle.tp_wave.specs.Cut.{IsQuietHistory}
 
 -- what has happened since the newest thing that passes the test, or all
 abbrev pub since : {A : Type 0} → (A → Bool) → List A → List A
@@ -36,7 +36,7 @@ IsOfGeneration k _ = Unit {0}
 
 -- The pool may be reopened exactly where the end of its present generation was judged.
 pub record MayReopen (n : ℕ) (past : History) (e : Event) : Type 0 where
-  pub beside : node_of e ≡ 0
+  pub beside : node_beside e ≡ 0
   pub ended : IsTrue (is_ended n (steps_of (present_events past)))
 
 -- Any other event goes on with the present generation, and carries its number.
@@ -81,7 +81,7 @@ abbrev pub IsNeverEarly : ℕ → History → Type 0
 IsNeverEarly n h =
     (w : ℕ) (later past : History) (e : Event) → h ≡ later ++ e ∷ past → IsTrue (is_judge (step_of e))
     → judgement n (steps_of past) ≡ Some w
-    → (p : ℕ) → visited_at w 0 (steps_of past) ≤ p → IsQuiet n (before p h)
+    → (p : ℕ) → visited_at w 0 (steps_of past) ≤ p → IsQuietHistory n (before p h)
 
 -- The detector is never early in any generation.
 abbrev pub NeverEarlyInEachLaw : Type 0
@@ -90,7 +90,7 @@ NeverEarlyInEachLaw = (n : ℕ) (h : History) → AreRuns n h → InEach (IsNeve
 -- Where the pool is reopened, nothing is left of the generation that ended.
 abbrev pub ReopeningLaw : Type 0
 ReopeningLaw =
-    (n : ℕ) (past : History) (e : Event) → AreRuns n (e ∷ past) → IsTrue (is_reopen (step_of e)) → IsQuiet n (present_events past)
+    (n : ℕ) (past : History) (e : Event) → AreRuns n (e ∷ past) → IsTrue (is_reopen (step_of e)) → IsQuietHistory n (present_events past)
 
 -- Once the end of a generation was judged, nothing comes but the reopening.
 abbrev pub OverLaw : Type 0

@@ -3,7 +3,7 @@ pub mod Control
 pub mod Sums
 pub mod Machine
 pub mod Cut
-pub mod Checks
+pub mod ControlChecks
 pub mod Wave
 pub mod Moves
 pub mod Generations

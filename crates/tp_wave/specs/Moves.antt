@@ -3,7 +3,7 @@ use Rattle.std.specs.Prelude.{ℕ, ◌≡◌, Bool, List, ◌∷◌, Option}
 use Rattle.tp_base.specs.Checks.{first_refusal}
 use Rattle.tp_base.specs.declared.Refusal.{Refusal}
 use Rattle.tp_base.specs.declared.Step.{Step}
-use Rattle.tp_wave.specs.Checks.{control_refusal, wave_checks}
+use Rattle.tp_wave.specs.ControlChecks.{control_refusal, wave_checks}
 use Rattle.tp_wave.specs.Wave.{Follows, Stands}
 use Rattle.tp_wave.specs.declared.wave.Wave.{Wave}
 

@@ -10,7 +10,7 @@ use Rattle.tp_base.specs.declared.step.Step.TheVariants.{Insert, Begin, Done}
 use Rattle.tp_graph.specs.Serial.{Results}
 use Rattle.tp_wave.specs.Steps.{count, is_done}
 use Rattle.tp_work.specs.Lives.{LivesOnce, life, moments, with_moment}
-use Rattle.tp_work.specs.Outcomes.{HasEachOnce}
+use Rattle.tp_graph.specs.Found.{HasEachOnce}
 
 abbrev bit : Bool → ℕ
 bit b = cond b 1 0

@@ -4,17 +4,17 @@ use Rattle.std.specs.Prelude.{sum_by}
 use Rattle.std.specs.List.{All, flat_map}
 use Rattle.std.proofs.lemmas.List.{get_or-map, length-append, length-map}
 use Rattle.std.proofs.lemmas.List.Sums.{sum_by-cons}
-use Rattle.tp_board.specs.Numbers.{NodeNumbers}
+use Rattle.tp_board.specs.Numbers.{ShareNumbers}
 use Rattle.tp_node.specs.Nodes.{NodeState, counted_of}
 use Rattle.tp_node.proofs.Gathering.{results_of}
 
 module _ {G : Type 0} where
   -- as many tasks were done as there are results
   pub done_by : (nodes : List (NodeState G))
-      → sum_by (λ (s : NodeNumbers). s.done) (map counted_of nodes) ≡ length (flat_map results_of nodes)
+      → sum_by (λ (s : ShareNumbers). s.done) (map counted_of nodes) ≡ length (flat_map results_of nodes)
   done_by [] = refl
   done_by (n ∷ nodes) =
-      sum_by-cons (λ (s : NodeNumbers). s.done) (counted_of n) (map counted_of nodes)
+      sum_by-cons (λ (s : ShareNumbers). s.done) (counted_of n) (map counted_of nodes)
       ∙ ap (λ k. length (results_of n) + k) (done_by nodes)
       ∙ sym (length-append (results_of n) (flat_map results_of nodes))
 

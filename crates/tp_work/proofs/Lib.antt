@@ -1,3 +1,4 @@
+mod Beginning
 pub mod Counted
 pub mod Gathering
 pub mod Living

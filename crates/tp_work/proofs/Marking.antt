@@ -9,7 +9,8 @@ use Rattle.std.proofs.lemmas.List.Elements.{filter-append}
 use Rattle.std.proofs.lemmas.List.Sums.{count_by_more_yes, length-filter}
 use Rattle.tp_base.specs.declared.ids.TaskId.{TaskId}
 use Rattle.tp_graph.specs.Serial.{Results}
-use Rattle.tp_work.specs.Outcomes.{AreMarks, HasEachOnce, is_marked, times}
+use Rattle.tp_work.specs.Outcomes.{AreMarks, is_marked}
+use Rattle.tp_graph.specs.Found.{HasEachOnce, times}
 use Rattle.std.specs.Prelude.{ℤ}
 
 count_by-take : {X : Type 0} (p : X → Bool) (xs : List X) (i : ℕ) → count_by p (take i xs) ≤ count_by p xs

@@ -10,7 +10,7 @@ use Rattle.tp_board.specs.Numbers.{is_done, is_send}
 use Rattle.tp_board.specs.States.{BoardState, with_fault}
 use Rattle.tp_graph.specs.Graphs.{TaskGraph}
 use Rattle.tp_graph.specs.Serial.{AreRight}
-use Rattle.tp_local.specs.Locals.{pending}
+use Rattle.tp_local.specs.Locals.{pending_here}
 use Rattle.tp_node.specs.Nodes.{NodeState}
 use Rattle.tp_node.specs.Wires.{WireState}
 use Rattle.tp_wave.proofs.Generations.{present-goes_on, present_run, steps-present}
@@ -21,7 +21,8 @@ use Rattle.tp_wave.specs.Sums.{is_ended, total}
 use Rattle.tp_work.proofs.Gathering.{sum_by-map}
 use Rattle.tp_work.proofs.Placing.{sum_by-same, total-range}
 use Rattle.tp_work.specs.Lives.{LivesOnce}
-use Rattle.tp_work.specs.Outcomes.{HasEachOnce, IsAnswer, IsComplete, IsFault, IsLack, IsOutcome, IsUngathered}
+use Rattle.tp_work.specs.Outcomes.{IsAnswer, IsComplete, IsFault, IsLack, IsOutcome, IsUngathered}
+use Rattle.tp_graph.specs.Found.{HasEachOnce}
 use Rattle.tp_work.specs.Places.{AreInOrder, AreOf, IsWhole}
 use Rattle.tp_work.specs.Reports.{AreOfTheRun, IsGathered, IsOfItsRun, IsReport, IsReportOf}
 use Rattle.tp_work.specs.declared.config.Fault.{Fault}
@@ -31,10 +32,10 @@ use Rattle.std.specs.List.{range_with_len}
 module _ {G : Type 0} where
   -- what is pending at the nodes is what is pending in the run
   pub pending_of_run : (n : ℕ) (nodes : List (NodeState G)) (r : Report) → length nodes ≡ n → AreInOrder nodes → AreOfTheRun nodes r
-      → sum_by (λ s. pending s.state) nodes ≡ total n (λ i. pending_at i (present_events r.history.events))
+      → sum_by (λ s. pending_here s.state) nodes ≡ total n (λ i. pending_at i (present_events r.history.events))
   pending_of_run n nodes r each order agree =
       let now : ℕ → ℕ = λ i. pending_at i (present_events r.history.events) in
-      sum_by-same (λ s. pending s.state) (λ s. now s.numbers.node) nodes agree
+      sum_by-same (λ s. pending_here s.state) (λ s. now s.numbers.node) nodes agree
       ∙ sym (sum_by-map now (λ (s : NodeState G). s.numbers.node) nodes)
       ∙ ap (sum_by now) (order ∙ ap (range_with_len 0) each)
       ∙ total-range now n

@@ -12,7 +12,7 @@ use Rattle.tp_base.specs.declared.ids.MessageId.{MessageId}
 use Rattle.tp_base.specs.declared.ids.NodeId.{NodeId}
 use Rattle.tp_base.specs.declared.step.Step.{Step}
 use Rattle.tp_base.specs.declared.step.Step.TheVariants.{Reopen, Send}
-use Rattle.tp_wave.specs.Generations.{ended_generations, present_events}
+use Rattle.tp_wave.specs.Generations.{ended_generations, generation, present_events}
 use Rattle.tp_wave.specs.Machine.{History, step_of, steps_of}
 use Rattle.tp_wave.specs.Steps.{any, count, is_reopen, is_send}
 use Rattle.tp_wave.proofs.Generations.{length-present, present-goes_on, present-reopened}
@@ -29,6 +29,15 @@ ended-reopened e past r = rw r
 
 ended-goes_on : (e : Event) (past : History) → IsFalse (is_reopen (step_of e)) → ended_generations (e ∷ past) ≡ ended_generations past
 ended-goes_on e past on = rw on
+
+-- There are as many generations as the number of the present one says.
+pub many_generations : (h : History) → length (generations h) ≡ generation (steps_of h)
+many_generations [] = refl
+many_generations (e ∷ past) =
+    elim (cases_Bool (is_reopen e.1)) [
+      | inl reopens ↦ rw reopens (omega (arith, many_generations past))
+      | inr on ↦ rw on (many_generations past)
+    ]
 
 -- In the present generation nothing was reopened.
 pub one_present : (h : History) → IsFalse (any is_reopen (steps_of (present_events h)))

@@ -1,11 +1,11 @@
 -- What a pool answers once all its threads have ended.
-use Rattle.std.specs.Prelude.{ℕ, List, Bool, false, length, slice_index_or, ◌≡◌, ◌+◌, ◌*◌, ◌≤◌, ◌==◌, ◌⊎◌, nat_lt, if◌then◌else◌, IsTrue}
+use Rattle.std.specs.Prelude.{ℕ, List, Bool, false, length, slice_index_or, ◌≡◌, ◌+◌, ◌*◌, ◌≤◌, ◌⊎◌, if◌then◌else◌, IsTrue}
 use Rattle.std.specs.Prelude.{MatchOption, vec_len}
-use Rattle.std.specs.List.{count_by}
 use Rattle.tp_base.specs.declared.limits.TheConstants.{MAX_IDLE_TURNS, MAX_NODES, MAX_STEPS, MAX_WORKERS}
 use Rattle.tp_base.specs.declared.refusal.Refusal.{Refusal}
 use Rattle.tp_base.specs.declared.refusal.Refusal.TheVariants.{HistoryFull, Missing, NoMemory, NoNode, Stranger}
 use Rattle.tp_board.specs.Numbers.{is_done, is_send}
+use Rattle.tp_graph.specs.Found.{HasEachOnce, times}
 use Rattle.tp_graph.specs.Graphs.{TaskGraph}
 use Rattle.tp_graph.specs.Serial.{AreRight, Results}
 use Rattle.tp_wave.specs.Machine.{IsRun, steps_of}
@@ -23,14 +23,6 @@ pub record IsWithinLimits (c : Config) : Type 0 where
   pub nodes : (1 ≤ c.nodes) × (c.nodes ≤ MAX_NODES)
   pub workers : (1 ≤ c.workers) × (c.workers ≤ MAX_WORKERS)
   pub idle_turns : (1 ≤ c.idle_turns) × (c.idle_turns ≤ MAX_IDLE_TURNS)
-
--- how many results a task has
-abbrev pub times : ℕ → Results → ℕ
-times t results = count_by (λ r. r.0.0 == t) results
-
--- Each task below a number has one result, and no other task has any.
-abbrev pub HasEachOnce : ℕ → Results → Type 0
-HasEachOnce tasks results = (t : ℕ) → times t results ≡ (if nat_lt t tasks then 1 else 0)
 
 -- the mark of a task
 abbrev pub is_marked : List Bool → ℕ → Bool

@@ -6,10 +6,10 @@ use Rattle.tp_board.specs.Numbers.{is_done, is_recv, is_send}
 use Rattle.tp_board.specs.States.{BoardState}
 use Rattle.tp_graph.specs.Graphs.{TaskGraph}
 use Rattle.tp_graph.specs.Serial.{AreRight}
-use Rattle.tp_local.specs.Locals.{pending}
+use Rattle.tp_local.specs.Locals.{pending_here}
 use Rattle.tp_node.specs.Nodes.{NodeState}
 use Rattle.tp_node.specs.Wires.{WireState}
-use Rattle.tp_wave.specs.Cut.{IsQuiet}
+use Rattle.tp_wave.specs.Cut.{IsQuietHistory}
 use Rattle.tp_wave.specs.Generations.{AreRuns, present, present_events}
 use Rattle.tp_wave.specs.Machine.{pending_at, steps_of, under_way}
 use Rattle.tp_wave.specs.Steps.{count}
@@ -24,7 +24,7 @@ told_of_end nodes = count_by (λ n. n.state.ended) nodes
 -- and the results of all nodes. Fault and events are the board's.
 pub record IsGathered {G : Type 0} (nodes : List (NodeState G)) (links : List (WireState G)) (board : BoardState) (r : Report) : Type 0
   where
-    pub pending : r.pending ≡ sum_by (λ n. pending n.state) nodes
+    pub pending : r.pending ≡ sum_by (λ n. pending_here n.state) nodes
     pub sent : r.sent ≡ sum_by (λ n. n.state.sent) nodes
     pub received : r.received ≡ sum_by (λ n. n.state.received) nodes
     pub under : r.under ≡ sum_by (λ w. length w.messages) links
@@ -44,11 +44,11 @@ pub record IsOfItsRun (n : ℕ) (r : Report) : Type 0 where
   pub under : r.under ≡ under_way (present (steps_of r.history.events))
   pub done : r.done ≡ count is_done (present (steps_of r.history.events))
   pub ended : r.ended ≡ is_ended n (present (steps_of r.history.events))
-  pub quiet : IsTrue r.ended → IsQuiet n (present_events r.history.events)
+  pub quiet : IsTrue r.ended → IsQuietHistory n (present_events r.history.events)
 
 -- what is pending at each node is the number of the present generation
 abbrev pub AreOfTheRun : {G : Type 0} → List (NodeState G) → Report → Type 0
-AreOfTheRun nodes r = All (λ n. pending n.state ≡ pending_at n.numbers.node (present_events r.history.events)) nodes
+AreOfTheRun nodes r = All (λ n. pending_here n.state ≡ pending_at n.numbers.node (present_events r.history.events)) nodes
 
 -- A report of a pool of n nodes, each at its place, that works a graph out: its numbers are those of the present generation,
 -- what was sent less what was received is under way, and its results are values of the graph.

@@ -14,7 +14,8 @@ use Rattle.tp_wave.specs.Machine.{History, steps_of}
 use Rattle.tp_wave.specs.Steps.{count}
 use Rattle.tp_wave.specs.Sums.{is_ended}
 use Rattle.tp_work.specs.Lives.{LivesInEach, LivesOnce, generations, sent_in}
-use Rattle.tp_work.specs.Outcomes.{HasEachOnce, IsAnswer, IsUngathered}
+use Rattle.tp_work.specs.Outcomes.{IsAnswer, IsUngathered}
+use Rattle.tp_graph.specs.Found.{HasEachOnce}
 use Rattle.tp_work.specs.Reports.{IsReport, IsReportOf}
 use Rattle.tp_work.specs.declared.config.Fault.{Fault}
 use Rattle.tp_work.specs.declared.gathered.Report.{Report}

@@ -1,12 +1,15 @@
 ghost use Rattle.std.specs.Prelude.{◌≡◌, ◌≢◌, ◌⊎◌, ◌+◌, ◌-◌, ◌++◌, ◌*◌, ◌/◌, ◌<◌, ◌≤◌, [], None, Some, IfErr, IfNone, IsOk, MatchOption};
-ghost use Rattle.std.specs.Prelude.{OnErr, OnOk, length, max, min, vec_len};
+ghost use Rattle.std.specs.Prelude.{OnErr, OnOk, length, max, min, reverse, vec_capacity, vec_len};
 ghost use Rattle.std.specs.Option.{option_to_list};
 ghost use Rattle.tp_base.specs.declared.refusal.Refusal.TheVariants.{NoMemory};
-ghost use Rattle.tp_board.specs.Calls.{Answers, Appends};
+ghost use Rattle.tp_board.specs.Calls.{Appends};
+ghost use Rattle.tp_board.specs.States.{AnswersBy};
 ghost use Rattle.tp_node.specs.Begins.{next_task, ready_count};
 ghost use Rattle.tp_node.specs.Refused.{begin_checks};
+ghost use Rattle.tp_work.specs.Desks.{BeginsEach};
 
 use std::alloc::Global;
+use std::marker::Model;
 use tp_base::{MAX_STEPS, Refusal};
 use tp_board::{Board, Ledgers};
 use tp_graph::Graph;
@@ -53,23 +56,34 @@ impl Share {
 }
 
 /// What lies under a node's lock: the node, and the works that have begun and wait for a worker. Whoever is free takes the
-/// next one, whoever began it, so that none waits behind a long body while another worker of the node is idle.
+/// next one, whoever began it, so that none waits behind a long body while another worker of the node is idle. Its type keeps
+/// that at most seven wait, each of the node's graph. Contracts see the node and the works, the next one first.
 #[derive(Drop)]
-pub(crate) struct Desk<N, W> {
+pub(crate) struct Desk<G: Graph, K: Ledgers> {
     /// The node.
-    pub node: N,
+    pub node: Node<G, K>,
     // The next one last.
-    begun: Vec<W>,
+    begun: Vec<Work<G>>,
 }
 
-/// The desk of a pool's node.
-pub(crate) type NodeDesk<G, K> = Desk<Node<G, K>, Work<G>>;
+impl<G: Graph, K: Ledgers> Model for Desk<G, K> {
+    ghost use Rattle.std.specs.Prelude.{reverse};
+    ghost use Rattle.tp_work.specs.Desks.{DeskState, IsDesk, desk_code};
 
-impl<N: Drop, W: Drop> Desk<N, W> {
+    ghost Value = { DeskState G };
+
+    ghost coded = { desk_code G.code };
+
+    ghost view = { λ d. record { node = d.node; begun = reverse d.begun.items } };
+
+    ghost invariant = { λ d. IsDesk (record { node = d.node; begun = reverse d.begun.items }) };
+}
+
+impl<G: Graph, K: Ledgers> Desk<G, K> {
     /// A node at which no work waits. It takes no memory.
-    pub fn new(alloc: Global, node: N) -> Self
+    pub fn new(alloc: Global, node: Node<G, K>) -> Self
         ensures node { result.node ≡ node }
-        ensures none { result.begun.items ≡ [] }
+        ensures none { result.begun ≡ [] }
     {
         Desk {
             node,
@@ -78,7 +92,7 @@ impl<N: Drop, W: Drop> Desk<N, W> {
     }
 
     /// The node alone. Works that wait are dropped: there are some only where a fault has stopped the pool.
-    pub fn into_node(self) -> N
+    pub fn into_node(self) -> Node<G, K>
         ensures { result ≡ self.node }
     {
         let Desk { node, begun: _ } = self;
@@ -87,20 +101,18 @@ impl<N: Drop, W: Drop> Desk<N, W> {
 
     /// Takes the next work that waits, where there is one.
     #[inline(always)]
-    pub fn take(&mut self) -> Option<W>
+    pub fn take(&mut self) -> Option<Work<G>>
         ensures node { self.new.node ≡ self.old.node }
-        ensures next { self.old.begun.items ≡ self.new.begun.items ++ option_to_list result }
-        ensures none { IfNone result (self.new.begun.items ≡ []) }
+        ensures next { self.old.begun ≡ option_to_list result ++ self.new.begun }
+        ensures none { IfNone result (self.new.begun ≡ []) }
     {
         self.begun.pop()
     }
-}
 
-impl<G: Graph, K: Ledgers> Desk<Node<G, K>, Work<G>> {
     /// How many tasks wait for a worker: those that are ready, and those that have begun.
     #[inline(always)]
     pub fn waiting(&self) -> u64
-        ensures { result ≡ ready_count self.now.node + vec_len self.now.begun }
+        ensures { result ≡ ready_count self.now.node + length self.now.begun }
     {
         self.node.counts().ready as u64 + self.begun.len() as u64
     }
@@ -108,7 +120,8 @@ impl<G: Graph, K: Ledgers> Desk<Node<G, K>, Work<G>> {
     /// Begins a worker's share of the node's ready tasks, and puts the first of them where the worker wants it, so that it is
     /// moved once; `None` where no task is ready. No work may wait, so that works are taken in the order in which they began.
     ///
-    /// Refused, where a task is ready: `HistoryFull` where the history has reached its limit; `NoMemory`. Nothing changes then.
+    /// Refused, where a task is ready: `HistoryFull` where the history has reached its limit; `NoMemory` where the board has
+    /// to ask for memory for the first event. Nothing changes then.
     #[inline(always)]
     pub(crate) fn begin(
         &mut self,
@@ -116,11 +129,13 @@ impl<G: Graph, K: Ledgers> Desk<Node<G, K>, Work<G>> {
         share: Share,
         begun: &mut Option<Work<G>>,
     ) -> Result<(), Refusal>
-        requires empty { self.old.begun.items ≡ [] }
+        requires empty { self.old.begun ≡ [] }
         ensures none { next_task self.old.node ≡ None → IsOk result × (begun.new ≡ None) }
         ensures first { OnOk result
             (MatchOption begun.new (next_task self.old.node ≡ None) (λ first. next_task self.old.node ≡ Some first.task)) }
-        ensures refusal { MatchOption (next_task self.old.node) (Unit {0}) (λ t. Answers (begin_checks board.old) result) }
+        ensures begun { OnOk result
+            (BeginsEach (option_to_list begun.new ++ self.new.begun) self.old.node self.new.node board.old board.new) }
+        ensures refusal { MatchOption (next_task self.old.node) (Unit {0}) (λ t. AnswersBy (begin_checks board.old) 1 board.old result) }
         ensures refused { OnErr result (Appends [] board.old board.new × (self.new ≡ self.old) × (begun.new ≡ begun.old)) }
         ensures full { board.old.limit ≡ 1048576 → length board.old.history < 1048576 → IfErr result (λ e. e ≡ NoMemory) }
     {
@@ -133,16 +148,44 @@ impl<G: Graph, K: Ledgers> Desk<Node<G, K>, Work<G>> {
     }
 
     /// Begins as many more ready tasks, whose works then wait. A refusal ends it: whoever begins the next task is told.
-    fn begin_more(&mut self, board: &mut Board<K>, count: u32) {
+    fn begin_more(&mut self, board: &mut Board<K>, count: u32)
+        requires empty { self.old.begun ≡ [] }
+        requires few { count ≤ 7 }
+        ensures { BeginsEach self.new.begun self.old.node self.new.node board.old board.new }
+    {
         if self.begun.reserve(count as usize).is_err() {
             return;
         }
-        for _ in 0..count {
-            let Ok(Some(work)) = self.node.begin(board) else {
-                break;
-            };
-            self.begun.push_reserved(work);
-        }
-        self.begun.as_mut_slice().reverse();
+        begin_works(&mut self.node, board, count, &mut self.begun);
+        turn_round(&mut self.begun);
     }
+}
+
+/// Begins so many ready tasks of a node, or fewer where a call is refused or no more are ready, and adds their works to a list
+/// in that order.
+fn begin_works<G: Graph, K: Ledgers>(
+    node: &mut Node<G, K>,
+    board: &mut Board<K>,
+    count: u32,
+    works: &mut Vec<Work<G>>,
+)
+    requires empty { works.old.items ≡ [] }
+    requires room { count ≤ vec_capacity works.old }
+    ensures few { vec_len works.new ≤ count }
+    ensures begun { BeginsEach works.new.items node.old node.new board.old board.new }
+{
+    for _ in 0..count {
+        match node.begin(board) {
+            Ok(Some(work)) => works.push_reserved(work),
+            Ok(None) => return,
+            Err(_) => return,
+        }
+    }
+}
+
+/// Turns a list round.
+fn turn_round<T>(items: &mut Vec<T>)
+    ensures { items.new.items ≡ reverse items.old.items }
+{
+    items.as_mut_slice().reverse();
 }

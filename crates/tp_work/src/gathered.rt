@@ -109,8 +109,8 @@ fn gather<G: Graph, K: Ledgers>(pool: Pool<G, K>, room: ReportRoom<K>) -> Report
         mut links,
         mut results,
     } = room;
+    // That there are at most 8 nodes is known by the board alone. The answer is not used, so it costs no instruction.
     let _nodes = board.nodes();
-    let _events = board.len();
     let announced = count_told(&nodes);
     take_nodes(nodes, &mut shares, &mut results);
     take_wires(wires, &mut links);

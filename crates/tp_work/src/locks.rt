@@ -4,7 +4,7 @@ ghost use Rattle.tp_work.specs.Places as places;
 ghost use Rattle.tp_work.specs.Places.{AreInOrder, AreLinksInOrder, AreOf};
 ghost use Rattle.tp_work.specs.Outcomes.{IsMisplaced};
 
-use crate::desk::{Desk, NodeDesk};
+use crate::desk::Desk;
 use crate::doorbell::Doorbell;
 use std::alloc::{AllocError, Global};
 use std::hint::spin_loop;
@@ -20,7 +20,7 @@ use tp_node::{Node, Pool, Wire};
 #[derive(Drop)]
 pub(crate) struct Locks<G: Graph, K: Ledgers> {
     /// The nodes, in rising order.
-    pub sites: Vec<Site<NodeDesk<G, K>>>,
+    pub sites: Vec<Site<Desk<G, K>>>,
     /// The links, by sender and then by receiver.
     pub lines: Vec<Line<G, K>>,
     /// The board.
@@ -113,11 +113,7 @@ impl<N: Drop, W: Drop> Room<N, W> {
 
 impl<G: Graph, K: Ledgers> Locks<G, K> {
     /// Puts the parts of a pool under locks, into the room that was made for them.
-    pub fn new(
-        alloc: Global,
-        pool: Pool<G, K>,
-        room: Room<Site<NodeDesk<G, K>>, Line<G, K>>,
-    ) -> Self
+    pub fn new(alloc: Global, pool: Pool<G, K>, room: Room<Site<Desk<G, K>>, Line<G, K>>) -> Self
         requires nodes { (room.nodes.items ≡ []) × (vec_len pool.nodes ≤ vec_capacity room.nodes) }
         requires links { (room.links.items ≡ []) × (vec_len pool.links ≤ vec_capacity room.links) }
         ensures nodes { vec_len result.sites ≡ vec_len pool.nodes }
@@ -228,7 +224,11 @@ fn two_rooms<S: Drop, L: Drop, N: Drop, W: Drop>(
     ))
 }
 
-fn lock_nodes<N: Drop, W: Drop>(alloc: Global, nodes: Vec<N>, sites: &mut Vec<Site<Desk<N, W>>>)
+fn lock_nodes<G: Graph, K: Ledgers>(
+    alloc: Global,
+    nodes: Vec<Node<G, K>>,
+    sites: &mut Vec<Site<Desk<G, K>>>,
+)
     requires { (sites.old.items ≡ []) × (vec_len nodes ≤ vec_capacity sites.old) }
     ensures { vec_len sites.new ≡ vec_len nodes }
 {
@@ -254,7 +254,7 @@ fn lock_links<G: Graph, K: Ledgers>(links: Vec<Wire<G, K>>, lines: &mut Vec<Line
     }
 }
 
-fn unlock_nodes<N: Drop, W: Drop>(sites: Vec<Site<Desk<N, W>>>, nodes: &mut Vec<N>)
+fn unlock_nodes<G: Graph, K: Ledgers>(sites: Vec<Site<Desk<G, K>>>, nodes: &mut Vec<Node<G, K>>)
     requires { (nodes.old.items ≡ []) × (vec_len sites ≤ vec_capacity nodes.old) }
     ensures { vec_len nodes.new ≡ vec_len sites }
 {

@@ -1,5 +1,6 @@
 ghost use Rattle.std.specs.Prelude.{◌≡◌, ◌<◌, ◌↔◌, false, true, length, slice_set, All, IfOk, IsTrue};
-ghost use Rattle.tp_work.specs.Outcomes.{AreMarks, HasEachOnce, is_marked};
+ghost use Rattle.tp_work.specs.Outcomes.{AreMarks, is_marked};
+ghost use Rattle.tp_graph.specs.Found.{HasEachOnce};
 
 use std::alloc::{AllocError, Global};
 use tp_base::TaskId;

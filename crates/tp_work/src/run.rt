@@ -2,7 +2,8 @@ ghost use Rattle.std.specs.Prelude.{◌≡◌, ◌↔◌, ◌*◌, length, IfErr
 ghost use Rattle.std.specs.Prelude.{if◌then◌else◌};
 ghost use Rattle.tp_base.specs.declared.refusal.Refusal.TheVariants.{Missing, NoMemory};
 ghost use Rattle.tp_graph.specs.Graphs.{TaskGraph};
-ghost use Rattle.tp_work.specs.Outcomes.{HasEachOnce, IsAnswer, IsComplete, IsFault, IsLack, IsOutcome, IsWithinLimits};
+ghost use Rattle.tp_work.specs.Outcomes.{IsAnswer, IsComplete, IsFault, IsLack, IsOutcome, IsWithinLimits};
+ghost use Rattle.tp_graph.specs.Found.{HasEachOnce};
 ghost use Rattle.tp_wave.specs.Machine.{steps_of};
 ghost use Rattle.tp_work.specs.Lives.{LivesOnce};
 ghost use Rattle.tp_work.specs.Places.{IsWhole};
@@ -19,7 +20,7 @@ use std::sync::Wait;
 use std::thread::Threads;
 use tp_base::{MAX_STEPS, Refusal};
 use tp_board::{Blanks, Brand, Ledgers};
-use tp_graph::{Comparable, Graph, Named, Only};
+use tp_graph::{Graph, Named, Only};
 
 /// Runs a pool that works a graph out, by so many threads at each node, and gathers what it has made when all have ended.
 ///
@@ -40,18 +41,30 @@ pub fn run_pool<G: Graph, A: Gate, R: Threads + Wait + Sync>(
     ensures outcome { IfOk result (IsOutcome config.nodes config.workers (G.meaning graph)) }
     ensures fault { IfErr result (IsFault config.nodes (G.meaning graph)) }
 {
-    run_only::<G, Brand, A, R>(rt, alloc, graph, config, gate)
+    let blanks = Blanks::new(config.nodes);
+    run_only::<G, Brand, Brand, A, R>(rt, alloc, graph, config, gate, blanks)
 }
 
-/// Runs a pool over the one graph that `D` names, so that no two parts of it have to be compared.
-fn run_only<'a, G: Graph, D: Named<G> + Send + Sync, A: Gate, R: Threads + Wait + Sync>(
+/// Opens a pool over the one graph that `D` names, so that no two parts of it have to be compared, with the ledgers that `K`
+/// names. Runs it, and tells what it has made when all its threads have ended.
+fn run_only<
+    'a,
+    G: Graph,
+    D: Named<G> + Send + Sync,
+    K: Ledgers + Send + Sync,
+    A: Gate,
+    R: Threads + Wait + Sync,
+>(
     rt: &'a R,
     alloc: Global,
     graph: G,
     config: Config,
     gate: &'a A,
+    blanks: Blanks,
 ) -> Result<Outcome, Fault>
     requires it { D.it ≡ Some graph }
+    requires names { blanks ≡ K.names }
+    requires nodes { blanks.nodes ≡ config.nodes }
     requires limits { IsWithinLimits config }
     ensures outcome { IfOk result (IsOutcome config.nodes config.workers (G.meaning graph)) }
     ensures fault { IfErr result (IsFault config.nodes (G.meaning graph)) }
@@ -63,27 +76,12 @@ fn run_only<'a, G: Graph, D: Named<G> + Send + Sync, A: Gate, R: Threads + Wait 
         config,
         gate,
     };
-    let blanks = Blanks::new(config.nodes);
-    run::<Only<G, D>, Brand, A, R>(&runner, blanks)
-}
-
-/// Opens a pool, runs it, and tells what it has made when all its threads have ended.
-fn run<G: Comparable, K: Ledgers + Send + Sync, A: Gate, R: Threads + Wait + Sync>(
-    runner: &Runner<'_, G, A, R>,
-    blanks: Blanks,
-) -> Result<Outcome, Fault>
-    requires names { blanks ≡ K.names }
-    requires nodes { blanks.nodes ≡ runner.now.config.nodes }
-    requires limits { IsWithinLimits runner.now.config }
-    ensures outcome { IfOk result (IsOutcome runner.now.config.nodes runner.now.config.workers (G.meaning runner.now.graph)) }
-    ensures fault { IfErr result (IsFault runner.now.config.nodes (G.meaning runner.now.graph)) }
-{
     let pool = match runner.open::<K>(blanks) {
         Ok(pool) => pool,
         Err(refusal) => return Err(ungathered(refusal)),
     };
     match runner.run_generation(pool, 1) {
-        Ok(ran) => outcome_of(runner.alloc, &runner.graph, runner.config, ran),
+        Ok(ran) => outcome_of(alloc, &runner.graph, config, ran),
         Err(refusal) => Err(ungathered(refusal)),
     }
 }

@@ -92,7 +92,7 @@ impl<G: Comparable, A: Gate, R: Threads + Wait + Sync> Runner<'_, G, A, R> {
     }
 
     /// Starts all workers, and waits for their answers. Where one cannot be started, `NoMemory` is among the refusals.
-    fn run_workers<K: Ledgers + Send + Sync>(&self, locks: &Locks<G, K>) -> Answers
+    fn run_workers<K: Ledgers + Send + Sync>(&self, locks: &Locks<G, K>) -> WorkerAnswers
         requires limits { IsWithinLimits self.now.config }
         ensures all { result.refusal ≡ None → result.workers ≡ self.now.config.nodes * self.now.config.workers }
     {
@@ -142,14 +142,14 @@ pub(crate) struct Ran<G: Graph, K: Ledgers> {
 
 /// What the workers of a pool have answered.
 #[derive(Clone, Copy)]
-struct Answers {
+struct WorkerAnswers {
     /// How many have answered.
     workers: u32,
     /// A refusal that one of them answered, where there is one.
     refusal: Option<Refusal>,
 }
 
-impl Answers {
+impl WorkerAnswers {
     /// The same, where so many workers were wanted: a worker that has not answered could not be started.
     fn of_all(self, wanted: u32) -> Self
         ensures workers { result.workers ≡ self.workers }
@@ -157,7 +157,7 @@ impl Answers {
         ensures refusal { IfSome self.refusal (λ e. result.refusal ≡ Some e) }
     {
         if self.refusal.is_none() && self.workers != wanted {
-            return Answers {
+            return WorkerAnswers {
                 workers: self.workers,
                 refusal: Some(Refusal::NoMemory),
             };
@@ -176,10 +176,10 @@ fn keep<T: Drop, F: Drop>(
 }
 
 /// Waits for each thread, and counts those that have answered.
-fn answers_of<R: Threads>(rt: &R, handles: Vec<JoinHandle<Option<Refusal>>>) -> Answers
+fn answers_of<R: Threads>(rt: &R, handles: Vec<JoinHandle<Option<Refusal>>>) -> WorkerAnswers
     ensures { result.workers ≤ vec_len handles }
 {
-    let mut answers = Answers {
+    let mut answers = WorkerAnswers {
         workers: 0,
         refusal: None,
     };
@@ -258,7 +258,6 @@ fn check_board<K: Ledgers>(board: &Board<K>, number: u32) -> Result<(), Refusal>
     ensures number { OnOk result (length (generations board.now.history) ≡ number) }
     ensures refusal { IfErr result IsMisplaced }
 {
-    let _history = board.history();
     if board.generation().0 != number || board.limit() != MAX_STEPS {
         return Err(Refusal::Stranger);
     }

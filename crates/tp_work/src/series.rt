@@ -6,7 +6,8 @@ ghost use Rattle.tp_graph.specs.Graphs.{TaskGraph};
 ghost use Rattle.tp_graph.specs.Serial.{AreRight};
 ghost use Rattle.tp_wave.specs.Generations.{present_events};
 ghost use Rattle.tp_work.specs.Lives.{LivesInEach, generations, sent_in};
-ghost use Rattle.tp_work.specs.Outcomes.{HasEachOnce, IsAnswer, IsWithinLimits};
+ghost use Rattle.tp_work.specs.Outcomes.{IsAnswer, IsWithinLimits};
+ghost use Rattle.tp_graph.specs.Found.{HasEachOnce};
 ghost use Rattle.tp_work.specs.Places.{IsWhole};
 ghost use Rattle.tp_work.specs.Reports.{IsReport, told_of_end};
 ghost use Rattle.tp_work.specs.Series.{AddsKept, IsKept, IsSeries, IsSeriesFault, IsSeriesLack, IsTold, with_messages};
@@ -69,19 +70,31 @@ pub fn run_generations<G: Graph, A: Gate, R: Threads + Wait + Sync>(
     ensures series { IfOk result (IsSeries config.nodes config.workers (G.meaning graph) count) }
     ensures fault { IfErr result (IsSeriesFault config.nodes (G.meaning graph) count) }
 {
-    run_only::<G, Brand, A, R>(rt, alloc, graph, config, gate, count)
+    let blanks = Blanks::new(config.nodes);
+    run_only::<G, Brand, Brand, A, R>(rt, alloc, graph, config, gate, count, blanks)
 }
 
-/// Runs a series over the one graph that `D` names, so that no two parts of its pool have to be compared.
-fn run_only<'a, G: Graph, D: Named<G> + Send + Sync, A: Gate, R: Threads + Wait + Sync>(
+/// Opens a pool over the one graph that `D` names, so that no two parts of it have to be compared, with the ledgers that `K`
+/// names. Runs all its generations, and keeps their rounds.
+fn run_only<
+    'a,
+    G: Graph,
+    D: Named<G> + Send + Sync,
+    K: Ledgers + Send + Sync,
+    A: Gate,
+    R: Threads + Wait + Sync,
+>(
     rt: &'a R,
     alloc: Global,
     graph: G,
     config: Config,
     gate: &'a A,
     count: u32,
+    blanks: Blanks,
 ) -> Result<Series, Fault>
     requires it { D.it ≡ Some graph }
+    requires names { blanks ≡ K.names }
+    requires nodes { blanks.nodes ≡ config.nodes }
     requires limits { IsWithinLimits config }
     requires count { (1 ≤ count) × (count ≤ 9) }
     ensures series { IfOk result (IsSeries config.nodes config.workers (G.meaning graph) count) }
@@ -94,40 +107,20 @@ fn run_only<'a, G: Graph, D: Named<G> + Send + Sync, A: Gate, R: Threads + Wait 
         config,
         gate,
     };
-    let rounds = match Vec::with_capacity(alloc, count as usize) {
+    let mut rounds = match Vec::with_capacity(alloc, count as usize) {
         Ok(rounds) => rounds,
         Err(_) => return Err(ungathered(Refusal::NoMemory)),
     };
-    let blanks = Blanks::new(config.nodes);
-    run_all::<Only<G, D>, Brand, A, R>(&runner, blanks, count, rounds)
-}
-
-/// Opens a pool, runs all its generations, and keeps their rounds.
-fn run_all<G: Comparable, K: Ledgers + Send + Sync, A: Gate, R: Threads + Wait + Sync>(
-    runner: &Runner<'_, G, A, R>,
-    blanks: Blanks,
-    count: u32,
-    rounds: Vec<Round>,
-) -> Result<Series, Fault>
-    requires names { blanks ≡ K.names }
-    requires nodes { blanks.nodes ≡ runner.now.config.nodes }
-    requires limits { IsWithinLimits runner.now.config }
-    requires count { 1 ≤ count }
-    requires room { (rounds.items ≡ []) × (count ≤ vec_capacity rounds) }
-    ensures series { IfOk result (IsSeries runner.now.config.nodes runner.now.config.workers (G.meaning runner.now.graph) count) }
-    ensures fault { IfErr result (IsSeriesFault runner.now.config.nodes (G.meaning runner.now.graph) count) }
-{
-    let mut rounds = rounds;
     let pool = match runner.open::<K>(blanks) {
         Ok(pool) => pool,
         Err(refusal) => return Err(ungathered(refusal)),
     };
-    let pool = match run_earlier(runner, pool, count, &mut rounds) {
+    let pool = match run_earlier(&runner, pool, count, &mut rounds) {
         Ok(pool) => pool,
         Err(fault) => return Err(fault),
     };
     match runner.run_generation(pool, count) {
-        Ok(ran) => series_of(runner.alloc, &runner.graph, runner.config, ran, rounds),
+        Ok(ran) => series_of(alloc, &runner.graph, config, ran, rounds),
         Err(refusal) => Err(ungathered(refusal)),
     }
 }

@@ -3,7 +3,7 @@ ghost use Rattle.std.specs.Prelude.{◌≡◌, OnOk};
 mod passing;
 mod receiving;
 
-use crate::desk::{NodeDesk, Share};
+use crate::desk::{Desk, Share};
 use crate::gate::Gate;
 use crate::locks::{Locks, Site, lock_soon};
 use std::alloc::Global;
@@ -51,7 +51,7 @@ struct Hands<G: Graph> {
 }
 
 /// What a turn did.
-enum Turn<K: Ledgers> {
+enum WorkerTurn<K: Ledgers> {
     /// There was nothing to do.
     Idle,
     /// Something was done.
@@ -110,26 +110,26 @@ impl<'a, G: Comparable, K: Ledgers, A: Gate, R: Wait> Worker<'a, G, K, A, R> {
     }
 
     /// Takes turns until the pool has ended. The hands are lent, so that no way out of it has to drop what they hold.
-    fn work_at(&self, site: &Site<NodeDesk<G, K>>, hands: &mut Hands<G>) -> Result<(), Refusal> {
+    fn work_at(&self, site: &Site<Desk<G, K>>, hands: &mut Hands<G>) -> Result<(), Refusal> {
         let mut idle = 0u32;
         let mut seen = None;
         for _ in self.rt.forever() {
             match self.turn(site, hands, idle, &mut seen)? {
-                Turn::Idle => {
+                WorkerTurn::Idle => {
                     idle = idle.saturating_add(1);
                     if idle >= self.idle_turns {
                         return Err(Refusal::Stalled(idle));
                     }
                     self.rest(site, seen, idle);
                 }
-                Turn::Moved => idle = 0,
-                Turn::Begun => {
+                WorkerTurn::Moved => idle = 0,
+                WorkerTurn::Begun => {
                     site.call_for_waiting();
                     self.perform(hands, idle)?;
                     idle = 0;
                 }
-                Turn::Over(ended) => return self.announce(ended),
-                Turn::Stop => return Ok(()),
+                WorkerTurn::Over(ended) => return self.announce(ended),
+                WorkerTurn::Stop => return Ok(()),
             }
         }
         unreachable!()
@@ -139,7 +139,7 @@ impl<'a, G: Comparable, K: Ledgers, A: Gate, R: Wait> Worker<'a, G, K, A, R> {
     /// tell of nothing that a turn may find to do.
     #[cold]
     #[inline(never)]
-    fn rest(&self, site: &Site<NodeDesk<G, K>>, seen: Option<Seen>, idle: u32) {
+    fn rest(&self, site: &Site<Desk<G, K>>, seen: Option<Seen>, idle: u32) {
         if idle == 1 {
             self.look_around(site, seen);
             return;
@@ -151,7 +151,7 @@ impl<'a, G: Comparable, K: Ledgers, A: Gate, R: Wait> Worker<'a, G, K, A, R> {
         site.bell.get_up();
     }
 
-    fn look_around(&self, site: &Site<NodeDesk<G, K>>, seen: Option<Seen>) {
+    fn look_around(&self, site: &Site<Desk<G, K>>, seen: Option<Seen>) {
         for _ in 0..LOOKS {
             spin();
             if self.is_wanted(site, seen) {
@@ -161,7 +161,7 @@ impl<'a, G: Comparable, K: Ledgers, A: Gate, R: Wait> Worker<'a, G, K, A, R> {
     }
 
     /// Whether the hints tell of a stop, a task that waits, a message, or a control step since the worker last asked for one.
-    fn is_wanted(&self, site: &Site<NodeDesk<G, K>>, seen: Option<Seen>) -> bool {
+    fn is_wanted(&self, site: &Site<Desk<G, K>>, seen: Option<Seen>) -> bool {
         if site.waiting.load(Ordering::SeqCst) > 0 || site.mail.load(Ordering::SeqCst) > 0 {
             return true;
         }
@@ -174,11 +174,11 @@ impl<'a, G: Comparable, K: Ledgers, A: Gate, R: Wait> Worker<'a, G, K, A, R> {
     #[inline(always)]
     fn turn(
         &self,
-        site: &Site<NodeDesk<G, K>>,
+        site: &Site<Desk<G, K>>,
         hands: &mut Hands<G>,
         idle: u32,
         seen: &mut Option<Seen>,
-    ) -> Result<Turn<K>, Refusal> {
+    ) -> Result<WorkerTurn<K>, Refusal> {
         let mut desk = lock_soon(self.rt, &site.desk);
         self.turn_at(&mut desk, site, hands, idle, seen)
     }
@@ -187,58 +187,60 @@ impl<'a, G: Comparable, K: Ledgers, A: Gate, R: Wait> Worker<'a, G, K, A, R> {
     #[inline(always)]
     fn turn_at(
         &self,
-        desk: &mut NodeDesk<G, K>,
-        site: &Site<NodeDesk<G, K>>,
+        desk: &mut Desk<G, K>,
+        site: &Site<Desk<G, K>>,
         hands: &mut Hands<G>,
         idle: u32,
         seen: &mut Option<Seen>,
-    ) -> Result<Turn<K>, Refusal> {
+    ) -> Result<WorkerTurn<K>, Refusal> {
         check_node(&desk.node, self.place, &self.graph)?;
         if let Some(finished) = hands.finished.take() {
             self.pass_on(&mut desk.node, finished)?;
         }
         if self.locks.is_stopped.load(Ordering::SeqCst) {
-            return Ok(Turn::Stop);
+            return Ok(WorkerTurn::Stop);
         }
         if !self.gate.inside(self.place) {
             return Err(Refusal::Stalled(idle));
         }
         match desk.node.state() {
-            TaskpoolState::Terminated => Ok(Turn::Stop),
+            TaskpoolState::Terminated => Ok(WorkerTurn::Stop),
             TaskpoolState::NotReady => self.open(&mut desk.node, site),
             _ => self.go_on(desk, site, hands, seen),
         }
     }
 
     /// Inserts input-free tasks, and closes the opening action after the last.
-    fn open(&self, here: &mut Node<G, K>, site: &Site<NodeDesk<G, K>>) -> Result<Turn<K>, Refusal> {
+    fn open(&self, here: &mut Node<G, K>, site: &Site<Desk<G, K>>) -> Result<WorkerTurn<K>, Refusal>
+        ensures { here.new.graph ≡ here.old.graph }
+    {
         let mut board = lock_soon(self.rt, &self.locks.board);
         let opened = open_tasks(here, &mut board);
         drop(board);
         site.tell_waiting(here.counts().ready as u64);
         opened?;
-        Ok(Turn::Moved)
+        Ok(WorkerTurn::Moved)
     }
 
     /// A turn of a node whose opening action is closed.
     #[inline(always)]
     fn go_on(
         &self,
-        desk: &mut NodeDesk<G, K>,
-        site: &Site<NodeDesk<G, K>>,
+        desk: &mut Desk<G, K>,
+        site: &Site<Desk<G, K>>,
         hands: &mut Hands<G>,
         seen: &mut Option<Seen>,
-    ) -> Result<Turn<K>, Refusal> {
+    ) -> Result<WorkerTurn<K>, Refusal> {
         if site.mail.load(Ordering::SeqCst) > 0 && self.receive(&mut desk.node, site)? {
             site.tell_waiting(desk.waiting());
-            return Ok(Turn::Moved);
+            return Ok(WorkerTurn::Moved);
         }
         let waiting = desk.waiting();
         site.tell_waiting(waiting.saturating_sub(1));
         if waiting > 0 {
             self.next_work(desk, &mut hands.begun)?;
             if hands.begun.is_some() {
-                return Ok(Turn::Begun);
+                return Ok(WorkerTurn::Begun);
             }
         }
         self.control(&mut desk.node, seen)
@@ -247,11 +249,7 @@ impl<'a, G: Comparable, K: Ledgers, A: Gate, R: Wait> Worker<'a, G, K, A, R> {
     /// Puts the next work of the desk into the worker's hands. Where none waits there, the worker's share of the ready tasks
     /// begins.
     #[inline(always)]
-    fn next_work(
-        &self,
-        desk: &mut NodeDesk<G, K>,
-        begun: &mut Option<Work<G>>,
-    ) -> Result<(), Refusal> {
+    fn next_work(&self, desk: &mut Desk<G, K>, begun: &mut Option<Work<G>>) -> Result<(), Refusal> {
         if let Some(work) = desk.take() {
             *begun = Some(work);
             return Ok(());
@@ -261,30 +259,38 @@ impl<'a, G: Comparable, K: Ledgers, A: Gate, R: Wait> Worker<'a, G, K, A, R> {
     }
 
     /// Makes a control step, where the node can make one.
-    fn control(&self, here: &mut Node<G, K>, seen: &mut Option<Seen>) -> Result<Turn<K>, Refusal> {
+    fn control(
+        &self,
+        here: &mut Node<G, K>,
+        seen: &mut Option<Seen>,
+    ) -> Result<WorkerTurn<K>, Refusal>
+        ensures { here.new ≡ here.old }
+    {
         let now = Some(Seen {
             control_steps: self.locks.control_steps.load(Ordering::SeqCst),
             pending: here.pending(),
         });
         if *seen == now {
-            return Ok(Turn::Idle);
+            return Ok(WorkerTurn::Idle);
         }
         match self.control_turn(here)? {
             ControlTurn::Idle => {
                 *seen = now;
-                Ok(Turn::Idle)
+                Ok(WorkerTurn::Idle)
             }
             ControlTurn::Moved => {
                 self.locks.control_steps.fetch_add(1, Ordering::SeqCst);
                 self.locks.ring_beside(self.place);
-                Ok(Turn::Moved)
+                Ok(WorkerTurn::Moved)
             }
-            ControlTurn::Over(ended) => Ok(Turn::Over(ended)),
+            ControlTurn::Over(ended) => Ok(WorkerTurn::Over(ended)),
         }
     }
 
     #[inline(always)]
-    fn control_turn(&self, here: &mut Node<G, K>) -> Result<ControlTurn<K>, Refusal> {
+    fn control_turn(&self, here: &mut Node<G, K>) -> Result<ControlTurn<K>, Refusal>
+        ensures { here.new ≡ here.old }
+    {
         let mut board = lock_soon(self.rt, &self.locks.board);
         here.control_turn(&mut board)
     }
@@ -318,7 +324,7 @@ impl<'a, G: Comparable, K: Ledgers, A: Gate, R: Wait> Worker<'a, G, K, A, R> {
 
     fn announce_at(
         &self,
-        site: &Site<NodeDesk<G, K>>,
+        site: &Site<Desk<G, K>>,
         place: NodeId,
         ended: &mut Ended<K>,
     ) -> Result<(), Refusal> {
@@ -326,10 +332,19 @@ impl<'a, G: Comparable, K: Ledgers, A: Gate, R: Wait> Worker<'a, G, K, A, R> {
         let checked = check_node(&desk.node, place, &self.graph);
         if checked.is_ok() {
             let mut board = lock_soon(self.rt, &self.locks.board);
-            desk.node.quiet_under(ended, &mut board);
+            tell_end(&mut desk, ended, &mut board);
         }
         checked
     }
+}
+
+/// Announces the end to the node of a desk.
+fn tell_end<G: Graph, K: Ledgers>(
+    desk: &mut Desk<G, K>,
+    ended: &mut Ended<K>,
+    board: &mut Board<K>,
+) {
+    desk.node.quiet_under(ended, board);
 }
 
 /// Lets a moment pass, and keeps the processor.
@@ -344,7 +359,9 @@ fn spin() {
 fn open_tasks<G: Graph, K: Ledgers>(
     here: &mut Node<G, K>,
     board: &mut Board<K>,
-) -> Result<(), Refusal> {
+) -> Result<(), Refusal>
+    ensures { here.new.graph ≡ here.old.graph }
+{
     for _ in 0..SEEDS_IN_A_HOLD {
         if !here.seed(board)? {
             return here.ready(board);

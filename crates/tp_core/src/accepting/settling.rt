@@ -3,9 +3,9 @@ ghost use Rattle.tp_base.specs.declared.limits.TheConstants.{MAX_STEPS};
 ghost use Rattle.tp_base.specs.Checks.{first_refusal};
 ghost use Rattle.tp_wave.specs.Wave.{nodes_of};
 ghost use Rattle.tp_core.specs.Accepted.{IsRefusedFor};
-ghost use Rattle.tp_core.specs.Kept.{HasPieces};
+ghost use Rattle.tp_core.specs.Kept.{HasPieces, IsFrugal};
 ghost use Rattle.tp_core.specs.Settled.{ends_before, rooms_check};
-ghost use Rattle.tp_core.specs.Settling.{AreTaken, IsTaken, MaySettle};
+ghost use Rattle.tp_core.specs.ToTheEnd.{AreTaken, IsTaken, MaySettle};
 
 use super::{Core, PIECE};
 use crate::numbers::NodeNumbers;
@@ -53,10 +53,12 @@ fn make_rooms(steps: &mut Vec<Step>, more: usize) -> Result<(), Refusal>
     requires full { length steps.old.items ≤ MAX_STEPS }
     requires few { more ≤ PIECE }
     requires pieces { HasPieces (length steps.old.items) (vec_capacity steps.old) }
+    requires frugal { IsFrugal (length steps.old.items) (vec_capacity steps.old) }
     ensures items { steps.new.items ≡ steps.old.items }
     ensures room { OnOk result (length steps.old.items + more ≤ MAX_STEPS) }
     ensures pieces { OnOk result (HasPieces (length steps.old.items + more) (vec_capacity steps.new)) }
     ensures kept { HasPieces (length steps.old.items) (vec_capacity steps.new) }
+    ensures frugal { IsFrugal (length steps.old.items) (vec_capacity steps.new) }
     ensures err { IfErr result
         (IsRefusedFor (first_refusal (rooms_check (length steps.old.items) more)) (ends_before (length steps.old.items) more)) }
 {
@@ -65,8 +67,8 @@ fn make_rooms(steps: &mut Vec<Step>, more: usize) -> Result<(), Refusal>
         return Err(Refusal::HistoryFull(taken as u32));
     }
     let end = (taken + (PIECE - 1)) / PIECE * PIECE;
-    if end < taken + more {
-        steps.reserve(end + PIECE - taken)?;
+    if end < taken + more && steps.capacity() < end + PIECE {
+        steps.reserve_exact(taken.max(end + PIECE - taken))?;
     }
     Ok(())
 }

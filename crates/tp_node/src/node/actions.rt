@@ -1,7 +1,8 @@
-ghost use Rattle.std.specs.Prelude.{◌≡◌, [], ◌∷◌, OnErr, OnOk};
+ghost use Rattle.std.specs.Prelude.{◌≡◌, [], ◌∷◌, IfErr, OnErr, OnOk};
 ghost use Rattle.tp_monitor.specs.declared.state.TaskpoolState.TheVariants.{Terminated};
-ghost use Rattle.tp_board.specs.Calls.{Answers, Appends};
-ghost use Rattle.tp_local.specs.Locals.{pending, standing};
+ghost use Rattle.tp_board.specs.Calls.{AnswersFirst, Appends};
+ghost use Rattle.tp_board.specs.States.{AnswersBy, IsAtPiece};
+ghost use Rattle.tp_local.specs.Locals.{pending_here, standing};
 ghost use Rattle.tp_node.specs.Nodes.{HasNoSeed, closed_with, closing, closing_of, event_of, made_ready, opened_with, opening_of, over};
 ghost use Rattle.tp_local.specs.Locals.{EachOnce};
 ghost use Rattle.tp_node.specs.Refused.{close_checks, open_checks, ready_checks};
@@ -15,12 +16,14 @@ use tp_graph::Graph;
 impl<G: Graph, K: Ledgers> Node<G, K> {
     /// Closes the opening action. Each input-free task of the node has to be inserted before.
     ///
-    /// Refused: `NoAction` where it is closed; `HistoryFull` where the history has reached its limit; `NoMemory`.
+    /// Refused: `NoAction` where it is closed; `HistoryFull` where the history has reached its limit; `NoMemory` where the
+    /// board has to ask for memory for the event.
     pub fn ready(&mut self, board: &mut Board<K>) -> Result<(), Refusal>
         requires seeded { HasNoSeed (G.meaning self.old.graph) self.old }
         ensures event { OnOk result (Appends (event_of self.old (closing self.old) ∷ []) board.old board.new) }
         ensures closed { OnOk result (self.new ≡ made_ready self.old) }
-        ensures refusal { Answers (ready_checks self.old board.old) result }
+        ensures refusal { AnswersBy (ready_checks self.old board.old) 1 board.old result }
+        ensures piece { IfErr result (IsAtPiece board.old) }
         ensures refused { OnErr result (Appends [] board.old board.new × (self.new ≡ self.old)) }
     {
         if !self.local.is_opening() {
@@ -40,7 +43,7 @@ impl<G: Graph, K: Ledgers> Node<G, K> {
     pub fn action_open(&mut self, board: &mut Board<K>, action: ActionId) -> Result<(), Refusal>
         ensures event { OnOk result (Appends (event_of self.old (opening_of action.0 self.old) ∷ []) board.old board.new) }
         ensures opened { OnOk result (self.new ≡ opened_with action.0 self.old) }
-        ensures refusal { Answers (open_checks self.old board.old action.0) result }
+        ensures refusal { AnswersFirst (open_checks self.old board.old action.0) result }
         ensures refused { OnErr result (Appends [] board.old board.new × (self.new ≡ self.old)) }
     {
         if self.local.has_named(action) {
@@ -61,11 +64,13 @@ impl<G: Graph, K: Ledgers> Node<G, K> {
 
     /// Closes a named action.
     ///
-    /// Refused: `NoAction` where it is not open; `HistoryFull` where the history has reached its limit; `NoMemory`.
+    /// Refused: `NoAction` where it is not open; `HistoryFull` where the history has reached its limit; `NoMemory` where the
+    /// board has to ask for memory for the event.
     pub fn action_close(&mut self, board: &mut Board<K>, action: ActionId) -> Result<(), Refusal>
         ensures event { OnOk result (Appends (event_of self.old (closing_of action.0 self.old) ∷ []) board.old board.new) }
         ensures closed { OnOk result (self.new ≡ closed_with action.0 self.old) }
-        ensures refusal { Answers (close_checks self.old board.old action.0) result }
+        ensures refusal { AnswersBy (close_checks self.old board.old action.0) 1 board.old result }
+        ensures piece { IfErr result (IsAtPiece board.old) }
         ensures refused { OnErr result (Appends [] board.old board.new × (self.new ≡ self.old)) }
     {
         if !self.local.has_named(action) {
@@ -85,12 +90,14 @@ impl<G: Graph, K: Ledgers> Node<G, K> {
     pub fn quiet_under(&mut self, ended: &mut Ended<K>, board: &mut Board<K>)
         ensures board { board.new ≡ board.old }
         ensures over { self.new ≡ over self.old }
-        ensures idle { (self.old.numbers.pending ≡ 0) × (pending self.old.state ≡ 0) × (unfinished self.old.state.store ≡ 0) }
+        ensures idle { (self.old.numbers.pending ≡ 0) × (pending_here self.old.state ≡ 0) × (unfinished self.old.state.store ≡ 0) }
         ensures each_once { EachOnce self.old.state.store }
         ensures terminated { standing self.new.state ≡ Terminated }
     {
         board.audit_ended(ended);
         board.audit(&mut self.shares);
+        // That each task has one result is known by a call of the store alone, and the announcement calls none. The answer is
+        // not used, so it costs no instruction.
         let _results = self.local.results();
         self.local.announce();
     }

@@ -23,7 +23,7 @@ pub(crate) struct Bare<G: Graph> {
 
 impl<G: Graph> Model for Bare<G> {
     ghost use Rattle.std.specs.Prelude.{◌≡◌};
-    ghost use Rattle.tp_local.specs.Locals.{first_state, pending};
+    ghost use Rattle.tp_local.specs.Locals.{first_state, pending_here};
     ghost use Rattle.tp_node.specs.Nodes.{NodeState, first_node, node_code};
 
     ghost Value = { NodeState G };
@@ -32,7 +32,7 @@ impl<G: Graph> Model for Bare<G> {
 
     ghost view = { λ b. first_node b.graph b.nodes b.number.0 };
 
-    ghost invariant = { λ b. (b.local ≡ first_state) × (pending b.local ≡ 1) };
+    ghost invariant = { λ b. (b.local ≡ first_state) × (pending_here b.local ≡ 1) };
 }
 
 impl<G: Graph, K: Ledgers> Node<G, K> {

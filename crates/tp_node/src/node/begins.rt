@@ -1,6 +1,6 @@
 ghost use Rattle.std.specs.Prelude.{◌≡◌, ◌≤◌, ◌<◌, [], ◌∷◌, None, Some, min, IfOk, IfSome, IsOk, MatchOption, OnErr};
-ghost use Rattle.tp_board.specs.Calls.{Answers, Appends};
-ghost use Rattle.tp_board.specs.States.{full_check};
+ghost use Rattle.tp_board.specs.Calls.{Appends};
+ghost use Rattle.tp_board.specs.States.{AnswersBy, full_check};
 ghost use Rattle.tp_node.specs.Begins.{BeginsSome, ready_count};
 ghost use Rattle.tp_node.specs.Calls.{Begins};
 ghost use Rattle.tp_slots.specs.Content.{front};
@@ -20,7 +20,8 @@ impl<G: Graph, K: Ledgers> Node<G, K> {
     /// Each place of the answer has the work of one of them, in the order in which they began. Room for all their events is
     /// made first.
     ///
-    /// Refused: `HistoryFull` where fewer events may be than tasks would begin; `NoMemory`. No task has begun then.
+    /// Refused: `HistoryFull` where fewer events may be than tasks would begin; `NoMemory` where the board has to ask for
+    /// memory for some of their events. No task has begun then.
     pub fn begin_some(
         &mut self,
         board: &mut Board<K>,
@@ -28,9 +29,10 @@ impl<G: Graph, K: Ledgers> Node<G, K> {
     ) -> Result<SmallVec<Option<Work<G>>, 8>, Refusal>
         requires { (1 ≤ max) × (max ≤ 8) }
         ensures none { ready_count self.old ≡ 0 → IsOk result }
-        ensures begun { IfOk result (λ works.
-            BeginsSome self.old self.new board.old board.new (min (ready_count self.old) max) works.items) }
-        ensures refusal { Answers (full_check (min (ready_count self.old) max) board.old ∷ []) result }
+        ensures begun { IfOk result (λ works. BeginsSome self.old self.new board.old board.new (min (ready_count self.old) max)
+            works.items) }
+        ensures refusal { AnswersBy (full_check (min (ready_count self.old) max) board.old ∷ [])
+            (min (ready_count self.old) max) board.old result }
         ensures refused { OnErr result (Appends [] board.old board.new × (self.new ≡ self.old)) }
     {
         let count = self.counts().ready.min(max);

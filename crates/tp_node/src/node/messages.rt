@@ -3,7 +3,7 @@ ghost use Rattle.tp_board.specs.Numbers.{is_send, receiving, sending};
 ghost use Rattle.tp_graph.specs.Carried.{IsFeed};
 ghost use Rattle.tp_local.specs.Actions.{has_message, without_message};
 ghost use Rattle.tp_store.specs.Content.{refusal_of_deliver};
-ghost use Rattle.tp_board.specs.Calls.{Answers, AnswersWith, Appends};
+ghost use Rattle.tp_board.specs.Calls.{AnswersFirst, AnswersWith, Appends};
 ghost use Rattle.tp_node.specs.Calls.{Receives, Rests};
 ghost use Rattle.tp_node.specs.Feeds.{HasFeed, next_feed_of, next_home, passed_on};
 ghost use Rattle.tp_node.specs.Nodes.{HasBrought, after, delivered_with, ending_of, event_of, putting_at, with_actions, with_sent};
@@ -49,7 +49,7 @@ impl<G: Graph, K: Ledgers> Node<G, K> {
             (message_on wire.old self.old.graph (generation_of board.old) m.0 (next_feed_of (G.meaning self.old.graph) finished.old)
             finished.old.value) wire.old) }
         ensures passed { OnOk result (finished.new ≡ passed_on finished.old) }
-        ensures refusal { Answers (send_checks self.old board.old finished.old.task) result }
+        ensures refusal { AnswersFirst (send_checks self.old board.old finished.old.task) result }
         ensures refused { OnErr result (Appends [] board.old board.new × (self.new ≡ self.old) × (wire.new ≡ wire.old)
             × (finished.new ≡ finished.old)) }
     {
@@ -89,7 +89,7 @@ impl<G: Graph, K: Ledgers> Node<G, K> {
         ensures refused { OnErr result (Appends [] board.old board.new × (self.new ≡ self.old)) }
     {
         let feed = parcel.feed();
-        let _is_open = self.local.has_message(parcel.number());
+        let _ = &self.local; // the open action is pending
         if let Err(refusal) = self.room_to_deliver(board, feed) {
             return Err((refusal, parcel));
         }
@@ -128,7 +128,7 @@ impl<G: Comparable, K: Ledgers> Node<G, K> {
             × (wire.new ≡ wire.old)) (Receives self.old self.new board.old board.new wire.old wire.new)) }
         ensures brought { IfOk result (λ parcel. MatchOption parcel (Unit {0}) (HasBrought (G.meaning self.new.graph) self.new)) }
         ensures refusal { MatchOption (slice_get wire.old.messages 0) (Unit {0}) (λ m.
-            Answers (receive_checks self.old board.old wire.old (G.eq m.graph self.old.graph) m) result) }
+            AnswersFirst (receive_checks self.old board.old wire.old (G.eq m.graph self.old.graph) m) result) }
         ensures refused { OnErr result (Appends [] board.old board.new × (self.new ≡ self.old) × (wire.new ≡ wire.old)) }
     {
         let Some(message) = wire.front() else {
@@ -183,7 +183,7 @@ impl<G: Graph, K: Ledgers> Node<G, K> {
         ensures free { OnOk result
             (refusal_of_deliver self.now.state.store feed.target ((G.meaning self.now.graph).arity feed.target.0) feed.slot
             ≡ None) }
-        ensures refusal { Answers (deliver_checks (G.meaning self.now.graph) self.now board.old feed) result }
+        ensures refusal { AnswersFirst (deliver_checks (G.meaning self.now.graph) self.now board.old feed) result }
         ensures same { Appends [] board.old board.new }
     {
         let is_full = self.check_put(feed)?;
@@ -200,7 +200,6 @@ impl<G: Graph, K: Ledgers> Node<G, K> {
             ≡ after (ending_of (generation_of board.old) message.0 self.old)
             (with_actions (without_message self.old.state.actions message.0) self.old.state) self.old }
     {
-        let _is_open = self.local.has_message(message);
         let Ok(()) = board.append_end(message, &mut self.shares) else {
             unreachable!()
         };

@@ -1,10 +1,10 @@
 ghost use Rattle.std.specs.Prelude.{◌≡◌, ◌≤◌, ◌<◌, ◌+◌, ◌-◌, ℕ, [], ◌∷◌, false, Some, None, if◌then◌else◌, is_some, IfErr, IfOk, IsTrue};
 ghost use Rattle.std.specs.Prelude.{MatchBool, MatchOption, OnErr, OnOk};
 ghost use Rattle.tp_base.specs.declared.refusal.Refusal.TheVariants.{NoMemory, StoreFull, WrongLife};
-ghost use Rattle.tp_board.specs.States.{full_check};
+ghost use Rattle.tp_board.specs.States.{AnswersBy, IsAtPiece, full_check};
 ghost use Rattle.tp_graph.specs.Carried.{IsFeed};
 ghost use Rattle.tp_graph.specs.Values.{IsInput};
-ghost use Rattle.tp_board.specs.Calls.{Answers, AnswersWith, Appends};
+ghost use Rattle.tp_board.specs.Calls.{AnswersFirst, AnswersByWith, Appends};
 ghost use Rattle.tp_node.specs.Calls.{Begins, Rests, SeedsIf};
 ghost use Rattle.tp_node.specs.Feeds.{HasFeed, next_feed_of, next_home, passed_on};
 ghost use Rattle.tp_node.specs.Nodes.{HasNoSeed, IsFirst, IsNextSeed, IsSeed, IsSeedOf, done_with, event_of, fed_with, inserting};
@@ -32,7 +32,7 @@ impl<G: Graph, K: Ledgers> Node<G, K> {
         ensures none { HasNoSeed (G.meaning self.old.graph) self.old → result ≡ Ok false }
         ensures seeded { IfOk result (SeedsIf self.old self.new board.old board.new (G.meaning self.old.graph)) }
         ensures refusal { (t : ℕ) → IsNextSeed (G.meaning self.old.graph) self.old t
-            → Answers (seed_checks self.old board.old (task_at t)) result }
+            → AnswersFirst (seed_checks self.old board.old (task_at t)) result }
         ensures refused { OnErr result (Appends [] board.old board.new × (self.new ≡ self.old)) }
     {
         let Some(task) = self.next_seed() else {
@@ -45,13 +45,15 @@ impl<G: Graph, K: Ledgers> Node<G, K> {
     /// Begins the next ready task, of the lowest class that has one. Its inputs are moved out. It answers `None` where no
     /// task is ready.
     ///
-    /// Refused, where a task is ready: `HistoryFull` where the history has reached its limit; `NoMemory`.
+    /// Refused, where a task is ready: `HistoryFull` where the history has reached its limit; `NoMemory` where the board has
+    /// to ask for memory for the event.
     pub fn begin(&mut self, board: &mut Board<K>) -> Result<Option<Work<G>>, Refusal>
         ensures none { front self.old.state.store.ready ≡ None → result ≡ Ok None }
-        ensures begun { IfOk result (λ work.
-            MatchOption work ((front self.old.state.store.ready ≡ None)
-            × Rests self.old self.new board.old board.new) (Begins self.old self.new board.old board.new)) }
-        ensures refusal { MatchOption (front self.old.state.store.ready) (Unit {0}) (λ t. Answers (begin_checks board.old) result) }
+        ensures begun { IfOk result (λ work. MatchOption work
+            ((front self.old.state.store.ready ≡ None) × Rests self.old self.new board.old board.new)
+            (Begins self.old self.new board.old board.new)) }
+        ensures refusal { MatchOption (front self.old.state.store.ready) (Unit {0})
+            (λ t. AnswersBy (begin_checks board.old) 1 board.old result) }
         ensures refused { OnErr result (Appends [] board.old board.new × (self.new ≡ self.old)) }
     {
         if !self.local.has_ready() {
@@ -78,7 +80,7 @@ impl<G: Graph, K: Ledgers> Node<G, K> {
         ensures put { OnOk result (self.new
             ≡ fed_with (G.meaning self.old.graph) (next_feed_of (G.meaning self.old.graph) finished.old) finished.old.value self.old) }
         ensures passed { OnOk result (finished.new ≡ passed_on finished.old) }
-        ensures refusal { Answers (feed_checks (G.meaning self.old.graph) self.old board.old finished.old.task
+        ensures refusal { AnswersFirst (feed_checks (G.meaning self.old.graph) self.old board.old finished.old.task
             (next_feed_of (G.meaning self.old.graph) finished.old)) result }
         ensures refused { OnErr result (Appends [] board.old board.new × (self.new ≡ self.old) × (finished.new ≡ finished.old)) }
     {
@@ -101,7 +103,7 @@ impl<G: Graph, K: Ledgers> Node<G, K> {
     /// one, and its feeds count as passed on.
     ///
     /// Refused: `WrongLife` where the task does not run here; `HistoryFull` where the history has reached its limit;
-    /// `NoMemory`. The finished task comes back then.
+    /// `NoMemory` where the board has to ask for memory for the event. The finished task comes back then.
     pub fn done(
         &mut self,
         board: &mut Board<K>,
@@ -111,7 +113,8 @@ impl<G: Graph, K: Ledgers> Node<G, K> {
         requires all_fed { finished.fed ≡ (G.meaning self.old.graph).feeds finished.task.0 }
         ensures event { OnOk result (Appends (event_of self.old (steps.Done finished.task) ∷ []) board.old board.new) }
         ensures done { OnOk result (self.new ≡ done_with finished.task finished.value self.old) }
-        ensures refusal { AnswersWith (done_checks self.old board.old finished.task) finished result }
+        ensures refusal { AnswersByWith (done_checks self.old board.old finished.task) 1 board.old finished result }
+        ensures piece { IfErr result (λ e. IsAtPiece board.old e.0) }
         ensures refused { OnErr result (Appends [] board.old board.new × (self.new ≡ self.old)) }
     {
         let task = finished.task();
@@ -148,7 +151,7 @@ impl<G: Graph, K: Ledgers> Node<G, K> {
         requires seed { IsSeedOf (G.meaning self.old.graph) self.old task }
         ensures event { OnOk result (Appends (event_of self.old (seeding self.old task) ∷ []) board.old board.new) }
         ensures seeded { OnOk result (self.new ≡ seeded (G.meaning self.old.graph) task self.old) }
-        ensures refusal { Answers (seed_checks self.old board.old (task_at task)) result }
+        ensures refusal { AnswersFirst (seed_checks self.old board.old (task_at task)) result }
         ensures refused { OnErr result (Appends [] board.old board.new × (self.new ≡ self.old)) }
     {
         let task = TaskId(task);
@@ -213,6 +216,7 @@ impl<G: Graph, K: Ledgers> Node<G, K> {
         requires reserved { 0 < board.old.reserved }
         requires active { 0 < self.old.numbers.pending }
         requires feed { IsFeed (G.meaning self.old.graph) feed }
+        requires here { (G.meaning self.old.graph).home feed.target.0 self.old.nodes ≡ self.old.numbers.node }
         requires input { IsInput (G.meaning self.old.graph) feed.target.0 feed.slot value }
         requires free { refusal_of_deliver self.old.state.store feed.target ((G.meaning self.old.graph).arity feed.target.0) feed.slot
             ≡ None }
@@ -283,7 +287,7 @@ pub(crate) fn make_room<K: Ledgers>(
     is_full: bool,
 ) -> Result<(), Refusal>
     ensures reserved { OnOk result (events ≤ board.new.reserved) }
-    ensures refusal { Answers (full_check events board.old ∷ (is_full, StoreFull) ∷ []) result }
+    ensures refusal { AnswersFirst (full_check events board.old ∷ (is_full, StoreFull) ∷ []) result }
     ensures same { Appends [] board.old board.new }
 {
     let room = board.reserve(events);

@@ -18,6 +18,7 @@ impl<'a, G: Comparable, K: Ledgers, A: Gate, R: Wait> Worker<'a, G, K, A, R> {
     /// row that stay at the node.
     pub fn pass_on(&self, here: &mut Node<G, K>, finished: Finished<G>) -> Result<(), Refusal>
         requires { here.old.graph ≡ self.now.graph }
+        ensures { here.new.graph ≡ here.old.graph }
     {
         if !is_same(&finished.graph(), &self.graph) {
             return Err(Refusal::Stranger);
@@ -51,7 +52,7 @@ impl<'a, G: Comparable, K: Ledgers, A: Gate, R: Wait> Worker<'a, G, K, A, R> {
         requires next { HasFeed (G.meaning here.old.graph) finished.old }
         requires there { feeds.next_home (G.meaning here.old.graph) finished.old here.old.nodes ≡ to.0 }
         requires node { to.0 < here.old.nodes }
-        ensures node { OnOk result (IsSameNode here.old here.new) }
+        ensures node { IsSameNode here.old here.new }
         ensures passed { OnOk result (IsFarther finished.old finished.new) }
     {
         let (number, nodes) = (here.number(), here.nodes());
@@ -86,7 +87,7 @@ fn send_next<G: Graph, K: Ledgers>(
     requires graph { finished.old.graph ≡ here.old.graph }
     requires next { HasFeed (G.meaning here.old.graph) finished.old }
     requires there { feeds.next_home (G.meaning here.old.graph) finished.old here.old.nodes ≡ to.0 }
-    ensures node { OnOk result (IsSameNode here.old here.new) }
+    ensures node { IsSameNode here.old here.new }
     ensures passed { OnOk result (IsFarther finished.old finished.new) }
 {
     check_wire(wire, here.number(), to)?;
@@ -119,7 +120,7 @@ fn feed_here<G: Graph, K: Ledgers>(
     requires graph { finished.old.graph ≡ here.old.graph }
     requires next { HasFeed (G.meaning here.old.graph) finished.old }
     requires here { feeds.next_home (G.meaning here.old.graph) finished.old here.old.nodes ≡ here.old.numbers.node }
-    ensures node { OnOk result (IsSameNode here.old here.new) }
+    ensures node { IsSameNode here.old here.new }
     ensures passed { OnOk result (IsFarther finished.old finished.new) }
     ensures next { IfOk result (λ next.
         MatchOption next (finished.new.fed
@@ -145,6 +146,7 @@ fn record_done<G: Graph, K: Ledgers>(
 ) -> Result<(), Refusal>
     requires graph { finished.graph ≡ here.old.graph }
     requires all_fed { finished.fed ≡ (G.meaning here.old.graph).feeds finished.task.0 }
+    ensures { here.new.graph ≡ here.old.graph }
 {
     match here.done(board, finished) {
         Ok(()) => Ok(()),

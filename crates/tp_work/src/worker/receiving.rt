@@ -1,6 +1,6 @@
 ghost use Rattle.std.specs.Prelude.{◌≡◌, ◌+◌, length, IfOk, IsFalse, IsTrue};
 
-use crate::desk::NodeDesk;
+use crate::desk::Desk;
 use crate::gate::Gate;
 use crate::locks::{Line, Site, check_wire, link_place, lock_soon};
 use crate::worker::Worker;
@@ -13,11 +13,9 @@ use tp_node::{Node, Wire};
 
 impl<'a, G: Comparable, K: Ledgers, A: Gate, R: Wait> Worker<'a, G, K, A, R> {
     /// Receives a message and delivers its value, where there is one.
-    pub fn receive(
-        &self,
-        here: &mut Node<G, K>,
-        site: &Site<NodeDesk<G, K>>,
-    ) -> Result<bool, Refusal> {
+    pub fn receive(&self, here: &mut Node<G, K>, site: &Site<Desk<G, K>>) -> Result<bool, Refusal>
+        ensures { here.new.graph ≡ here.old.graph }
+    {
         let (number, nodes) = (here.number(), here.nodes());
         for from in 0..nodes {
             if from == number.0 {
@@ -36,10 +34,12 @@ impl<'a, G: Comparable, K: Ledgers, A: Gate, R: Wait> Worker<'a, G, K, A, R> {
     fn receive_from(
         &self,
         here: &mut Node<G, K>,
-        site: &Site<NodeDesk<G, K>>,
+        site: &Site<Desk<G, K>>,
         line: &Line<G, K>,
         from: NodeId,
-    ) -> Result<bool, Refusal> {
+    ) -> Result<bool, Refusal>
+        ensures { here.new.graph ≡ here.old.graph }
+    {
         let mut wire = lock_soon(self.rt, &line.wire);
         let mut board = lock_soon(self.rt, &self.locks.board);
         let received = receive_next(here, &mut wire, &mut board, from);
@@ -59,6 +59,7 @@ fn receive_next<G: Comparable, K: Ledgers>(
     board: &mut Board<K>,
     from: NodeId,
 ) -> Result<bool, Refusal>
+    ensures graph { here.new.graph ≡ here.old.graph }
     ensures delivered { IfOk result (λ took. IsTrue took → length board.new.history ≡ length board.old.history + 3) }
     ensures none { IfOk result (λ took. IsFalse took → board.new.history ≡ board.old.history) }
 {

@@ -3,7 +3,8 @@ use Rattle.tp_graph.specs.Graphs.{TaskGraph}
 use Rattle.tp_graph.specs.Serial.{AreRight}
 use Rattle.pool_blocks.specs.Stencils.{block_graph}
 use Rattle.pool_block_runs.proofs.Refused.{cells_refused}
-use Rattle.tp_work.specs.Outcomes.{HasEachOnce, IsFault, IsOutcome}
+use Rattle.tp_work.specs.Outcomes.{IsFault, IsOutcome}
+use Rattle.tp_graph.specs.Found.{HasEachOnce}
 use Rattle.pool_block_runs.proofs.run.run_steps.Goals as goal
 
 pub cells_of-requires : goal.cells_of-requires

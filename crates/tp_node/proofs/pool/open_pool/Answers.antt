@@ -1,5 +1,5 @@
 use Rattle.std.proofs.Common.{◌∙◌, ap, map}
-use Rattle.tp_board.specs.Numbers.{LinkNumbers, NodeNumbers}
+use Rattle.tp_board.specs.Numbers.{LinkNumbers, ShareNumbers}
 use Rattle.tp_node.specs.Nodes.{first_node}
 use Rattle.tp_node.specs.Wires.{empty_wire}
 use Rattle.tp_node.proofs.pool.open_pool.Goals as goal
@@ -12,7 +12,7 @@ open_parts-requires-clause-empty g c κs within = c.in_ok-board.ensures.all_empt
 
 pub returns-clause-nodes : goal.returns-clause-nodes
 returns-clause-nodes g c =
-    c.in_ok-nodes.ensures.nodes ∙ ap (map (λ (s : NodeNumbers). first_node c.args.graph c.args.nodes s.node)) c.in_ok-board.ensures.shares
+    c.in_ok-nodes.ensures.nodes ∙ ap (map (λ (s : ShareNumbers). first_node c.args.graph c.args.nodes s.node)) c.in_ok-board.ensures.shares
 
 pub returns-clause-links : goal.returns-clause-links
 returns-clause-links g c = c.in_ok-nodes.ensures.links ∙ ap (map (λ (l : LinkNumbers). empty_wire l)) c.in_ok-board.ensures.links

@@ -1,7 +1,7 @@
 use Rattle.std.proofs.Common.{rules, List, ◌≡◌, ap, sym, subst, ◌∙◌, length}
 use Rattle.std.specs.Prelude.{sum_by}
 use Rattle.std.specs.List.{All, count_by}
-use Rattle.tp_board.specs.Numbers.{LinkNumbers, NodeNumbers}
+use Rattle.tp_board.specs.Numbers.{LinkNumbers, ShareNumbers}
 use Rattle.tp_node.specs.Nodes.{NodeState, counted_of}
 use Rattle.tp_node.specs.Wires.{link_of}
 use Rattle.tp_wave.specs.Generations.{present_events}
@@ -13,17 +13,17 @@ pub returns-clause-gathered : goal.returns-clause-gathered
 returns-clause-gathered g c =
     let all : c.deref.result.now ≡ c.args.pool.nodes.items = search rules in
     record {
-      pending = c.close_books-totals.ensures.pending ∙ ap (sum_by (λ (s : NodeNumbers). s.pending)) c.take_nodes.ensures.shares
-          ∙ sum_by-map (λ (s : NodeNumbers). s.pending) counted_of c.args.pool.nodes.items;
-      sent = c.close_books-totals.ensures.sent.0 ∙ ap (sum_by (λ (s : NodeNumbers). s.sent)) c.take_nodes.ensures.shares
-          ∙ sum_by-map (λ (s : NodeNumbers). s.sent) counted_of c.args.pool.nodes.items;
-      received = c.close_books-totals.ensures.received.0 ∙ ap (sum_by (λ (s : NodeNumbers). s.received)) c.take_nodes.ensures.shares
-          ∙ sum_by-map (λ (s : NodeNumbers). s.received) counted_of c.args.pool.nodes.items;
+      pending = c.close_books-totals.ensures.pending ∙ ap (sum_by (λ (s : ShareNumbers). s.pending)) c.take_nodes.ensures.shares
+          ∙ sum_by-map (λ (s : ShareNumbers). s.pending) counted_of c.args.pool.nodes.items;
+      sent = c.close_books-totals.ensures.sent.0 ∙ ap (sum_by (λ (s : ShareNumbers). s.sent)) c.take_nodes.ensures.shares
+          ∙ sum_by-map (λ (s : ShareNumbers). s.sent) counted_of c.args.pool.nodes.items;
+      received = c.close_books-totals.ensures.received.0 ∙ ap (sum_by (λ (s : ShareNumbers). s.received)) c.take_nodes.ensures.shares
+          ∙ sum_by-map (λ (s : ShareNumbers). s.received) counted_of c.args.pool.nodes.items;
       under = c.close_books-totals.ensures.under.0 ∙ ap (sum_by (λ (l : LinkNumbers). l.under)) c.take_wires.ensures
           ∙ sum_by-map (λ (l : LinkNumbers). l.under) link_of c.args.pool.links.items;
       balance = c.close_books-totals.ensures.balance;
       announced = c.count_told-announced.ensures ∙ ap (count_by (λ (n : NodeState g.row.G.Denot). n.state.ended)) all;
-      done = c.close_books-totals.ensures.done.0 ∙ ap (sum_by (λ (s : NodeNumbers). s.done)) c.take_nodes.ensures.shares
+      done = c.close_books-totals.ensures.done.0 ∙ ap (sum_by (λ (s : ShareNumbers). s.done)) c.take_nodes.ensures.shares
           ∙ done_by c.args.pool.nodes.items ∙ ap length (sym c.take_nodes.ensures.results) ∙ search rules;
       results = c.take_nodes.ensures.results;
       fault = c.close_books-totals.ensures.fault;
@@ -37,5 +37,5 @@ returns-clause-each_node g c =
     rw c.close_books-totals.ensures.history c.close_books-totals.ensures.each_pending in
     All-of_map (λ s. s.pending
     ≡ pending_at s.node (present_events c.close_books-totals.result.history.events)) counted_of c.args.pool.nodes.items
-    (subst (λ (shares : List NodeNumbers). All (λ s. s.pending
+    (subst (λ (shares : List ShareNumbers). All (λ s. s.pending
     ≡ pending_at s.node (present_events c.close_books-totals.result.history.events)) shares) c.take_nodes.ensures.shares each)

@@ -1,5 +1,5 @@
 use Rattle.std.proofs.Common.{rules, ◌≡◌, ◌++◌, ◌∷◌, [], ◌∙◌, ap, arith, length, vec_len}
-use Rattle.tp_board.specs.Numbers.{NodeNumbers}
+use Rattle.tp_board.specs.Numbers.{ShareNumbers}
 use Rattle.tp_graph.specs.Serial.{Results}
 use Rattle.tp_node.proofs.Gathering.{results_of}
 use Rattle.tp_work.proofs.gathered.take_node.Goals as goal
@@ -12,7 +12,7 @@ unreachable-requires g c =
 
 pub returns-clause-shares : goal.returns-clause-shares
 returns-clause-shares g c =
-    c.push_reserved.ensures.items ∙ ap (λ (s : NodeNumbers). c.args.shares.now.items ++ s ∷ []) c.into_parts-share.ensures.counted
+    c.push_reserved.ensures.items ∙ ap (λ (s : ShareNumbers). c.args.shares.now.items ++ s ∷ []) c.into_parts-share.ensures.counted
 
 pub returns-clause-results : goal.returns-clause-results
 returns-clause-results g c =

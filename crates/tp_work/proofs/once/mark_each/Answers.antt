@@ -1,7 +1,7 @@
 use Rattle.std.proofs.Common.{ℕ, ap, subst, sym}
 use Rattle.tp_work.proofs.Marking.{not_once}
 use Rattle.tp_work.proofs.once.mark_each.Goals as goal
-use Rattle.tp_work.specs.Outcomes.{HasEachOnce}
+use Rattle.tp_graph.specs.Found.{HasEachOnce}
 
 pub returns-then-not-mark-clause-no : goal.returns-then-not-mark-clause-no
 returns-then-not-mark-clause-no c =

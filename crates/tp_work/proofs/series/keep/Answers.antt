@@ -7,7 +7,7 @@ use Rattle.tp_graph.specs.Serial.{Results}
 use Rattle.tp_wave.specs.Machine.{History}
 use Rattle.tp_work.proofs.Rounds.{is_fault, not_ended}
 use Rattle.tp_work.specs.Lives.{generations}
-use Rattle.tp_work.specs.Outcomes.{HasEachOnce}
+use Rattle.tp_graph.specs.Found.{HasEachOnce}
 use Rattle.tp_work.specs.Series.{IsKept}
 use Rattle.tp_work.specs.declared.series.Round.{Round}
 use Rattle.tp_work.proofs.series.keep.Goals as goal

@@ -2,7 +2,7 @@ use Rattle.std.proofs.Common.{rules, ◌≡◌, ◌∙◌, ◌+◌, ℕ, IsTrue,
 use Rattle.std.proofs.lemmas.List.{length-map, length-reverse}
 use Rattle.tp_work.proofs.Rounds.{is_series}
 use Rattle.tp_work.specs.Lives.{LivesInEach, generations, sent_in}
-use Rattle.tp_work.specs.Outcomes.{HasEachOnce}
+use Rattle.tp_graph.specs.Found.{HasEachOnce}
 use Rattle.tp_work.specs.Series.{IsKept}
 use Rattle.tp_work.specs.declared.series.Round.{Round}
 use Rattle.tp_work.proofs.series.series_from.Goals as goal

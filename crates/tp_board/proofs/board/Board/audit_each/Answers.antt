@@ -1,7 +1,7 @@
 use Rattle.std.proofs.Common.{◌≡◌, ◌∙◌, ap, get_or, set, arith}
 use Rattle.std.proofs.lemmas.List.{set-get_or, take_all}
 use Rattle.std.proofs.lemmas.List.Elements.{All-more}
-use Rattle.tp_ledgers.specs.Numbers.{NodeNumbers}
+use Rattle.tp_ledgers.specs.Numbers.{ShareNumbers}
 use Rattle.tp_board.specs.States.{BoardState}
 use Rattle.tp_wave.specs.Generations.{present_events}
 use Rattle.tp_wave.specs.Machine.{pending_at}
@@ -9,7 +9,7 @@ use Rattle.tp_board.proofs.board.Board.audit_each.Goals as goal
 
 pub loop-next-preserved : goal.loop-next-preserved
 loop-next-preserved g c =
-    let P : NodeNumbers → Type 0 = λ s. s.pending ≡ 0 in
+    let P : ShareNumbers → Type 0 = λ s. s.pending ≡ 0 in
     let all = c.loop-next.shares in
     let i = c.loop-next.next-index in
     let next = c.next-item.result in

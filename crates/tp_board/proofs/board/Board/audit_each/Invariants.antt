@@ -1,6 +1,6 @@
 use Rattle.std.proofs.Common.{◌≡◌, take}
 use Rattle.std.specs.List.{All}
-use Rattle.tp_ledgers.specs.Numbers.{NodeNumbers}
+use Rattle.tp_ledgers.specs.Numbers.{ShareNumbers}
 use Rattle.tp_board.proofs.board.Board.audit_each.Given as goal
 
 abbrev pub invariant-loop-next : goal.invariant-loop-next
@@ -8,5 +8,5 @@ invariant-loop-next g l =
     record {
       board : l.self ≡ l.fn.self;
       shares : l.shares ≡ l.fn.shares;
-      idle : All (λ (s : NodeNumbers). s.pending ≡ 0) (take l.next-index l.shares);
+      idle : All (λ (s : ShareNumbers). s.pending ≡ 0) (take l.next-index l.shares);
     }

@@ -2,7 +2,7 @@ use Rattle.std.proofs.Common.{ℕ, ◌≡◌, List, [], ◌∷◌, ◌++◌, ap,
 use Rattle.std.proofs.Math.Seq.{take-append_seam}
 use Rattle.std.proofs.lemmas.List.Elements.{All-cons, All-nil, All-same}
 use Rattle.std.specs.List.{All}
-use Rattle.tp_ledgers.specs.Numbers.{NodeNumbers, first_numbers}
+use Rattle.tp_ledgers.specs.Numbers.{ShareNumbers, first_numbers}
 use Rattle.tp_ledgers.specs.Reopening.{begun_anew}
 use Rattle.tp_board.specs.States.{BoardState}
 use Rattle.tp_board.proofs.Further.{reopened, told}
@@ -13,13 +13,13 @@ use Rattle.tp_wave.specs.Wave.{Follows}
 use Rattle.tp_board.proofs.board.Board.reopen.Goals as goal
 
 -- a list that was lent and came back unchanged
-written_back : (n : ℕ) (new old : List NodeNumbers) → n ≡ length old → new ≡ old → take n (new ++ drop (length new) old) ≡ old
+written_back : (n : ℕ) (new old : List ShareNumbers) → n ≡ length old → new ≡ old → take n (new ++ drop (length new) old) ≡ old
 written_back n new old is same = rw (same, is) (take-append_seam old (drop (length old) old))
 
 -- numbers that have begun anew are first ones
-all_first : (xs : List NodeNumbers) → All (λ (s : NodeNumbers). s ≡ first_numbers s.node) (map begun_anew xs)
-all_first [] = All-nil (λ (s : NodeNumbers). s ≡ first_numbers s.node)
-all_first (x ∷ xs) = All-cons (λ (s : NodeNumbers). s ≡ first_numbers s.node) (begun_anew x) (map begun_anew xs) refl (all_first xs)
+all_first : (xs : List ShareNumbers) → All (λ (s : ShareNumbers). s ≡ first_numbers s.node) (map begun_anew xs)
+all_first [] = All-nil (λ (s : ShareNumbers). s ≡ first_numbers s.node)
+all_first (x ∷ xs) = All-cons (λ (s : ShareNumbers). s ≡ first_numbers s.node) (begun_anew x) (map begun_anew xs) refl (all_first xs)
 
 pub reopen-anew-requires-clause-totals : goal.reopen-anew-requires-clause-totals
 reopen-anew-requires-clause-totals g c =
@@ -45,4 +45,4 @@ returns-clause-shares g c =
     (written_back _ _ _ (omega (arith, c.args.shares.ok.0)) (c.audit_each.ensures.same.1 ∙ c.deref_mut.ensures.value))
 
 pub returns-clause-all_first : goal.returns-clause-all_first
-returns-clause-all_first g c = All-same (λ (s : NodeNumbers). s ≡ first_numbers s.node) _ _ c.reopen-anew.ensures.shares (all_first _)
+returns-clause-all_first g c = All-same (λ (s : ShareNumbers). s ≡ first_numbers s.node) _ _ c.reopen-anew.ensures.shares (all_first _)

@@ -6,6 +6,7 @@ use Rattle.tp_wave.specs.Generations.{present}
 use Rattle.tp_core.specs.Generations.{MayCome}
 use Rattle.tp_core.specs.Run.{IsLawful}
 use Rattle.tp_core.specs.Kept.{accepted}
+use Rattle.tp_core.proofs.Places.{places_next}
 use Rattle.tp_core.proofs.Keeping.{agree_next, numbers_written}
 use Rattle.tp_core.proofs.Bounds.{MayClose, may_close}
 use Rattle.tp_core.proofs.Tables.{named_closed}
@@ -35,12 +36,13 @@ invariant_of-self-2 c =
     let agree = c.self.invariant in
     let s = ActionClose c.args.node c.args.action in
     let at = (goal.at.invariant_of-self-2 c).After-make_room in
-    agree_next s agree (comes at) refl (c.in_ok-make_room.ensures.ok).0 c.in_ok-make_room.ensures.pieces refl refl refl refl
-    c.make_room.ensures.items c.push_reserved.ensures.items c.push_reserved.ensures.capacity
+    agree_next s agree (comes at) refl (c.in_ok-make_room.ensures.ok).0 c.in_ok-make_room.ensures.pieces c.make_room.ensures.frugal refl
+    refl refl refl c.make_room.ensures.items c.push_reserved.ensures.items c.push_reserved.ensures.capacity
     (numbers_written s agree.numbers (lawful at) c.args.node.0 _ (may at).inside refl refl) refl refl agree.tasks
-    (named_closed agree.actions _ c.args.node.0 c.args.action.0 _ (may at).once (may at).there c.set.ensures
+    (named_closed agree.actions _ c.args.node.0 c.args.action.0 _ (may at).once (may at).there c.set.ensures.puts
     (λ i. c.without.ensures i ∙ rw (← c.in-Some.ensures) refl))
     agree.messages
+    (places_next s agree.places (λ k h. h) c.set.ensures.keeps (λ k h. h) (λ k h. cc) (λ k h. cc) (λ k h. cc))
 
 pub returns-in_err-make_room : goal.returns-in_err-make_room
 returns-in_err-make_room c =

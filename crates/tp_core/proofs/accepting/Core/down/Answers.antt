@@ -1,4 +1,4 @@
-use Rattle.std.proofs.Common.{refl, sym, arith}
+use Rattle.std.proofs.Common.{refl, sym, arith, ◌∷◌, []}
 use Rattle.std.proofs.lemmas.Grind.{common_steps}
 use Rattle.std.proofs.lemmas.Result.{err_from_is_err_and}
 use Rattle.tp_base.specs.declared.Step.TheVariants.{Down}
@@ -7,6 +7,7 @@ use Rattle.tp_wave.specs.Generations.{present}
 use Rattle.tp_core.specs.Generations.{MayCome}
 use Rattle.tp_core.specs.Run.{IsLawful}
 use Rattle.tp_core.specs.Kept.{accepted}
+use Rattle.tp_core.proofs.Places.{control_places}
 use Rattle.tp_core.proofs.Keeping.{agree_after, agree_room, numbers_stay}
 use Rattle.tp_core.proofs.Taking.{taken, no_room, by_wave}
 use Rattle.tp_core.proofs.accepting.Core.down.Goals as goal
@@ -38,14 +39,16 @@ returns-in_err-make_room c =
 
 pub invariant_of-self : goal.invariant_of-self
 invariant_of-self c = agree_room c.make_room.new.steps c.self.invariant c.make_room.ensures.items c.make_room.ensures.kept
+    c.make_room.ensures.frugal
 
 pub invariant_of-self-2 : goal.invariant_of-self-2
 invariant_of-self-2 c =
     let agree = c.self.invariant in
     let at = (goal.at.invariant_of-self-2 c).After-make_room in
-    agree_after (Down c.args.node) agree (comes at) refl (c.in_ok-make_room.ensures.ok).0 c.in_ok-make_room.ensures.pieces refl refl
-    c.make_room.ensures.items c.push_reserved.ensures.items c.push_reserved.ensures.capacity
+    agree_after (Down c.args.node) agree (comes at) refl (c.in_ok-make_room.ensures.ok).0 c.in_ok-make_room.ensures.pieces
+    c.make_room.ensures.frugal refl refl c.make_room.ensures.items c.push_reserved.ensures.items c.push_reserved.ensures.capacity
     (numbers_stay (Down c.args.node) agree.numbers (lawful at) (λ x. refl)) refl refl agree.tasks agree.actions agree.messages
+    (control_places (Down c.args.node ∷ []) _ refl agree.places)
     (c.in_ok-down.ensures.follows c.self.inside.nodes (present (accepted c.self.inside).steps) agree.wave)
 
 pub returns : goal.returns

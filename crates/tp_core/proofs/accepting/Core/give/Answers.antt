@@ -1,4 +1,4 @@
-use Rattle.std.proofs.Common.{◌≡◌, Bool, true, false, Option, Some, None, refl, sym, subst, ap, arith}
+use Rattle.std.proofs.Common.{◌≡◌, Bool, true, false, Option, Some, None, refl, sym, subst, ap, arith, ◌∷◌, []}
 use Rattle.std.proofs.lemmas.Grind.{common_steps}
 use Rattle.std.proofs.lemmas.Result.{err_from_is_err_and}
 use Rattle.tp_base.specs.declared.Step.TheVariants.{Give}
@@ -16,6 +16,7 @@ use Rattle.tp_core.specs.Accepted.{Accepted, refusal, numbers_at, world_of}
 use Rattle.tp_core.specs.Kept.{accepted}
 use Rattle.tp_core.proofs.Exact.{give_refused, give_active}
 use Rattle.tp_core.proofs.Bounds.{small}
+use Rattle.tp_core.proofs.Places.{control_places}
 use Rattle.tp_core.proofs.Keeping.{agree_after, numbers_stay, zeros}
 use Rattle.tp_core.proofs.Taking.{taken, no_room}
 use Rattle.std.specs.List.{slice_index_or}
@@ -85,9 +86,10 @@ invariant_of-self-2 c =
     let agree = c.self.invariant in
     let at = (goal.at.invariant_of-self-2 c).After-make_room in
     let there = counted (goal.at.invariant_of-self-2 c).After-give in
-    agree_after (Give c.args.node) agree (comes at) refl (c.in_ok-make_room.ensures.ok).0 c.in_ok-make_room.ensures.pieces refl refl
-    c.make_room.ensures.items c.push_reserved.ensures.items c.push_reserved.ensures.capacity
+    agree_after (Give c.args.node) agree (comes at) refl (c.in_ok-make_room.ensures.ok).0 c.in_ok-make_room.ensures.pieces
+    c.make_room.ensures.frugal refl refl c.make_room.ensures.items c.push_reserved.ensures.items c.push_reserved.ensures.capacity
     (numbers_stay (Give c.args.node) agree.numbers (lawful at) (λ x. refl)) refl refl agree.tasks agree.actions agree.messages
+    (control_places (Give c.args.node ∷ []) _ refl agree.places)
     (c.in_ok-sums.ensures.follows c.self.inside.nodes (present (accepted c.self.inside).steps) agree.wave
     (ap (λ (x : NodeNumbers). x.sent) there) (ap (λ (x : NodeNumbers). x.received) there))
 

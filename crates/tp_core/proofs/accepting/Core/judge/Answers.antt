@@ -1,4 +1,4 @@
-use Rattle.std.proofs.Common.{ap, ◌∙◌, refl, sym, arith}
+use Rattle.std.proofs.Common.{ap, ◌∙◌, refl, sym, arith, ◌∷◌, []}
 use Rattle.std.proofs.lemmas.Grind.{common_steps}
 use Rattle.std.proofs.lemmas.Result.{err_from_is_err_and}
 use Rattle.tp_base.specs.declared.Step.TheVariants.{Judge}
@@ -11,6 +11,7 @@ use Rattle.tp_core.specs.Accepted.{Accepted, judged}
 use Rattle.tp_core.specs.Kept.{accepted, Agree}
 use Rattle.tp_core.specs.declared.accepting.Core.TheInside.{Inside}
 use Rattle.tp_core.proofs.Counting.{two_told}
+use Rattle.tp_core.proofs.Places.{control_places}
 use Rattle.tp_core.proofs.Keeping.{agree_after, numbers_stay}
 use Rattle.tp_core.proofs.Taking.{taken, no_room, by_wave}
 use Rattle.tp_core.proofs.accepting.Core.judge.Goals as goal
@@ -47,9 +48,10 @@ pub invariant_of-self-2 : goal.invariant_of-self-2
 invariant_of-self-2 c =
     let agree = c.self.invariant in
     let at = (goal.at.invariant_of-self-2 c).After-make_room in
-    agree_after Judge agree (comes at) refl (c.in_ok-make_room.ensures.ok).0 c.in_ok-make_room.ensures.pieces refl refl
-    c.make_room.ensures.items c.push_reserved.ensures.items c.push_reserved.ensures.capacity
+    agree_after Judge agree (comes at) refl (c.in_ok-make_room.ensures.ok).0 c.in_ok-make_room.ensures.pieces c.make_room.ensures.frugal
+    refl refl c.make_room.ensures.items c.push_reserved.ensures.items c.push_reserved.ensures.capacity
     (numbers_stay Judge agree.numbers (lawful at) (λ x. refl)) refl refl agree.tasks agree.actions agree.messages
+    (control_places (Judge ∷ []) _ refl agree.places)
     (c.in_ok-judged.ensures.follows c.self.inside.nodes (present (accepted c.self.inside).steps) agree.wave (told agree))
 
 pub returns : goal.returns

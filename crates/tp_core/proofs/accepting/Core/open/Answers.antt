@@ -4,10 +4,13 @@ use Rattle.std.proofs.lemmas.Result.{err_from_is_err_and}
 use Rattle.tp_base.specs.declared.Step.TheVariants.{ActionOpen}
 use Rattle.tp_base.specs.declared.limits.TheConstants.{MAX_NODES}
 use Rattle.tp_core.specs.World.{Named}
+use Rattle.tp_wave.specs.Steps.{any}
+use Rattle.tp_core.specs.Accepted.{is_action_beside}
 use Rattle.tp_wave.specs.Generations.{present}
 use Rattle.tp_core.specs.Generations.{MayCome}
 use Rattle.tp_core.specs.Run.{IsLawful}
 use Rattle.tp_core.specs.Kept.{accepted}
+use Rattle.tp_core.proofs.Places.{asks, places_next}
 use Rattle.tp_core.proofs.Keeping.{agree_next, numbers_written, zeros}
 use Rattle.tp_core.proofs.Bounds.{small}
 use Rattle.tp_core.proofs.Tables.{named_opened}
@@ -48,12 +51,13 @@ invariant_of-self-2 c =
     let agree = c.self.invariant in
     let s = ActionOpen c.args.node c.args.action in
     let at = (goal.at.invariant_of-self-2 c).After-make_room in
-    agree_next s agree (comes at) refl (c.in_ok-make_room.ensures.ok).0 c.in_ok-make_room.ensures.pieces refl refl refl refl
-    c.make_room.ensures.items c.push_reserved.ensures.items c.push_reserved.ensures.capacity
+    agree_next s agree (comes at) refl (c.in_ok-make_room.ensures.ok).0 c.in_ok-make_room.ensures.pieces c.make_room.ensures.frugal refl
+    refl refl refl c.make_room.ensures.items c.push_reserved.ensures.items c.push_reserved.ensures.capacity
     (numbers_written s agree.numbers (lawful at) c.args.node.0 _ (low at) refl refl) refl refl agree.tasks
     (named_opened agree.actions _ c.args.node.0 c.args.action.0 _ c.in_ok-insert.ensures.ok
     (λ i. c.with.ensures i ∙ grind (arith, c.get.ensures, c.new.ensures i, c.unwrap_or-nodes.ensures)))
     agree.messages
+    (places_next s agree.places (λ k h. h) c.insert.ensures.keeps (λ k h. h) (λ k h. cc) c.in_ok-insert.ensures.page (λ k h. cc))
 
 pub returns-in_err-insert : goal.returns-in_err-insert
 returns-in_err-insert c =
@@ -61,7 +65,9 @@ returns-in_err-insert c =
     rw p.1
     (no_memory (ActionOpen c.args.node c.args.action) c.self.invariant c.self.view_is
     (comes (goal.at.returns-in_err-insert c).After-make_room)
-    (c.in_ok-make_room.ensures.ok).0 refl _ p.2 c.make_room.ensures.items)
+    (c.in_ok-make_room.ensures.ok).0
+    (asks (any (is_action_beside c.args.action.0) (present (accepted c.self.inside).steps)) _
+    (c.self.invariant.places.named c.args.action.0) c.in_err-insert.ensures.grows) _ p.2 c.make_room.ensures.items)
 
 pub returns-in_err-make_room : goal.returns-in_err-make_room
 returns-in_err-make_room c =

@@ -6,6 +6,7 @@ use Rattle.tp_wave.specs.Generations.{present}
 use Rattle.tp_core.specs.Generations.{MayCome}
 use Rattle.tp_core.specs.Run.{IsLawful}
 use Rattle.tp_core.specs.Kept.{accepted}
+use Rattle.tp_core.proofs.Places.{places_next}
 use Rattle.tp_core.proofs.Keeping.{agree_next, numbers_written}
 use Rattle.tp_core.proofs.Bounds.{MayClose, may_close}
 use Rattle.tp_core.proofs.Tables.{opening_closed}
@@ -32,11 +33,13 @@ pub invariant_of-self-2 : goal.invariant_of-self-2
 invariant_of-self-2 c =
     let agree = c.self.invariant in
     let at = (goal.at.invariant_of-self-2 c).After-make_room in
-    agree_next (Ready c.args.node) agree (comes at) refl (c.in_ok-make_room.ensures.ok).0 c.in_ok-make_room.ensures.pieces refl refl refl
-    refl c.make_room.ensures.items c.push_reserved.ensures.items c.push_reserved.ensures.capacity
+    agree_next (Ready c.args.node) agree (comes at) refl (c.in_ok-make_room.ensures.ok).0 c.in_ok-make_room.ensures.pieces
+    c.make_room.ensures.frugal refl refl refl refl c.make_room.ensures.items c.push_reserved.ensures.items
+    c.push_reserved.ensures.capacity
     (numbers_written (Ready c.args.node) agree.numbers (lawful at) c.args.node.0 _ (may at).inside refl refl) refl refl agree.tasks
     (opening_closed agree.actions _ c.args.node.0 (may at).once (may at).there c.without-self-inside.ensures)
     agree.messages
+    (places_next (Ready c.args.node) agree.places (λ k h. h) (λ k h. h) (λ k h. h) (λ k h. cc) (λ k h. cc) (λ k h. cc))
 
 pub returns-in_err-make_room : goal.returns-in_err-make_room
 returns-in_err-make_room c =

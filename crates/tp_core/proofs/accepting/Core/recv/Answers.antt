@@ -9,6 +9,7 @@ use Rattle.tp_core.specs.Generations.{MayCome}
 use Rattle.tp_core.specs.Run.{IsLawful}
 use Rattle.tp_core.specs.Kept.{accepted}
 use Rattle.tp_core.proofs.Sets.{lists_are_sets}
+use Rattle.tp_core.proofs.Places.{places_next}
 use Rattle.tp_core.proofs.Keeping.{agree_next, numbers_written}
 use Rattle.tp_core.proofs.Bounds.{MayReceive, may_receive, small}
 use Rattle.tp_core.proofs.Tables.{received, message_received}
@@ -61,12 +62,13 @@ invariant_of-self-2 c =
     let agree = c.self.invariant in
     let s = Recv c.args.node c.args.message c.args.generation in
     let at = (goal.at.invariant_of-self-2 c).After-make_room in
-    agree_next s agree (comes at) refl (c.in_ok-make_room.ensures.ok).0 c.in_ok-make_room.ensures.pieces refl refl refl refl
-    c.make_room.ensures.items c.push_reserved.ensures.items c.push_reserved.ensures.capacity
+    agree_next s agree (comes at) refl (c.in_ok-make_room.ensures.ok).0 c.in_ok-make_room.ensures.pieces c.make_room.ensures.frugal refl
+    refl refl refl c.make_room.ensures.items c.push_reserved.ensures.items c.push_reserved.ensures.capacity
     (numbers_written s agree.numbers (lawful at) c.args.node.0 _ (may at).inside refl refl) refl refl agree.tasks
-    (received agree.actions _ c.args.message.0 c.args.node (was at) (rw c.new-received.ensures at c.set.ensures))
+    (received agree.actions _ c.args.message.0 c.args.node (was at) (rw c.new-received.ensures at c.set.ensures.puts))
     (message_received agree.messages _ c.args.message.0 c.args.node ((lists_are_sets _ _ agree.is_run).messages c.args.message.0) (was at)
-    (rw c.new-received.ensures at c.set.ensures))
+    (rw c.new-received.ensures at c.set.ensures.puts))
+    (places_next s agree.places (λ k h. h) (λ k h. h) c.set.ensures.keeps (λ k h. cc) (λ k h. cc) (λ k h. cc))
 
 pub returns-in_err-make_room : goal.returns-in_err-make_room
 returns-in_err-make_room c =

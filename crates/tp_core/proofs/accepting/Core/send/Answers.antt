@@ -5,10 +5,13 @@ use Rattle.std.specs.Prelude.{is_some}
 use Rattle.tp_base.specs.declared.Step.TheVariants.{Send}
 use Rattle.tp_base.specs.declared.limits.TheConstants.{MAX_NODES}
 use Rattle.tp_base.specs.Table.{lookup}
+use Rattle.tp_wave.specs.Steps.{any}
+use Rattle.tp_core.specs.Accepted.{is_message_beside}
 use Rattle.tp_wave.specs.Generations.{present, generation}
 use Rattle.tp_core.specs.Generations.{MayCome}
 use Rattle.tp_core.specs.Run.{IsLawful}
 use Rattle.tp_core.specs.Kept.{accepted}
+use Rattle.tp_core.proofs.Places.{asks, places_next}
 use Rattle.tp_core.proofs.Keeping.{agree_next, numbers_written, zeros}
 use Rattle.tp_core.proofs.Bounds.{small}
 use Rattle.tp_core.proofs.Tables.{posted, message_sent}
@@ -52,12 +55,13 @@ invariant_of-self-2 c =
     let agree = c.self.invariant in
     let s = Send c.args.from c.args.to c.args.message c.args.generation in
     let at = (goal.at.invariant_of-self-2 c).After-make_room in
-    agree_next s agree (comes at) refl (c.in_ok-make_room.ensures.ok).0 c.in_ok-make_room.ensures.pieces refl refl refl refl
-    c.make_room.ensures.items c.push_reserved.ensures.items c.push_reserved.ensures.capacity
+    agree_next s agree (comes at) refl (c.in_ok-make_room.ensures.ok).0 c.in_ok-make_room.ensures.pieces c.make_room.ensures.frugal refl
+    refl refl refl c.make_room.ensures.items c.push_reserved.ensures.items c.push_reserved.ensures.capacity
     (numbers_written s agree.numbers (lawful at) c.args.from.0 _ (low at) refl refl) refl refl agree.tasks
     (posted agree.actions _ c.args.message.0 c.args.to (fresh at) (rw c.new-under_way.ensures at c.in_ok-insert.ensures.ok))
     (message_sent agree.messages _ c.args.from.0 c.args.message.0 c.args.to (fresh at)
     (rw c.new-under_way.ensures at c.in_ok-insert.ensures.ok))
+    (places_next s agree.places (λ k h. h) (λ k h. h) c.insert.ensures.keeps (λ k h. cc) (λ k h. cc) c.in_ok-insert.ensures.page)
 
 pub returns-in_err-make_room : goal.returns-in_err-make_room
 returns-in_err-make_room c =
@@ -73,7 +77,9 @@ returns-in_err-insert c =
     rw p.1
     (no_memory (Send c.args.from c.args.to c.args.message c.args.generation) c.self.invariant c.self.view_is
     (comes (goal.at.returns-in_err-insert c).After-make_room)
-    (c.in_ok-make_room.ensures.ok).0 refl _ p.2 c.make_room.ensures.items)
+    (c.in_ok-make_room.ensures.ok).0
+    (asks (any (is_message_beside c.args.message.0) (present (accepted c.self.inside).steps)) _
+    (c.self.invariant.places.messages c.args.message.0) c.in_err-insert.ensures.grows) _ p.2 c.make_room.ensures.items)
 
 pub returns : goal.returns
 returns c =

@@ -9,7 +9,7 @@ use Rattle.tp_wave.specs.Generations.{present}
 use Rattle.tp_core.specs.Kept.{accepted}
 use Rattle.tp_base.specs.Checks.{first_refusal}
 use Rattle.tp_core.specs.Settled.{IsSettled, settle_checks}
-use Rattle.tp_core.specs.Settling.{AreTaken}
+use Rattle.tp_core.specs.ToTheEnd.{AreTaken}
 use Rattle.tp_core.proofs.Ending.{same_quiet, by_quiet, by_none, no_rooms, ready_there, agree_settled, settled}
 use Rattle.tp_core.proofs.accepting.Core.take_steps.Goals as goal
 use Rattle.tp_core.proofs.accepting.Core.take_steps.Goals.{After-make_rooms, After-take_to_end}
@@ -58,6 +58,7 @@ invariant_of-self-2 c =
     agree_settled c.take_to_end.new.steps c.take_to_end.new.wave c.self.invariant (taken (goal.at.invariant_of-self-2 c).After-take_to_end)
     (rw (length-reverse c.self.inside.steps.items) c.in_ok-make_rooms.ensures.room)
     (rw (length-reverse c.self.inside.steps.items, c.take_to_end.ensures.capacity) c.in_ok-make_rooms.ensures.pieces)
+    (rw (length-reverse c.self.inside.steps.items, c.take_to_end.ensures.capacity) c.make_rooms.ensures.frugal)
 
 pub returns : goal.returns
 returns c =

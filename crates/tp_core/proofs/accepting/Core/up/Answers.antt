@@ -1,4 +1,4 @@
-use Rattle.std.proofs.Common.{refl, sym, arith}
+use Rattle.std.proofs.Common.{refl, sym, arith, ◌∷◌, []}
 use Rattle.std.proofs.lemmas.Grind.{common_steps}
 use Rattle.std.proofs.lemmas.Result.{err_from_is_err_and}
 use Rattle.tp_base.specs.declared.Step.TheVariants.{Up}
@@ -7,6 +7,7 @@ use Rattle.tp_wave.specs.Generations.{present}
 use Rattle.tp_core.specs.Generations.{MayCome}
 use Rattle.tp_core.specs.Run.{IsLawful}
 use Rattle.tp_core.specs.Kept.{accepted}
+use Rattle.tp_core.proofs.Places.{control_places}
 use Rattle.tp_core.proofs.Keeping.{agree_after, numbers_stay}
 use Rattle.tp_core.proofs.Taking.{taken, no_room, by_wave}
 use Rattle.tp_core.proofs.accepting.Core.up.Goals as goal
@@ -40,9 +41,10 @@ pub invariant_of-self-2 : goal.invariant_of-self-2
 invariant_of-self-2 c =
     let agree = c.self.invariant in
     let at = (goal.at.invariant_of-self-2 c).After-make_room in
-    agree_after (Up c.args.node) agree (comes at) refl (c.in_ok-make_room.ensures.ok).0 c.in_ok-make_room.ensures.pieces refl refl
-    c.make_room.ensures.items c.push_reserved.ensures.items c.push_reserved.ensures.capacity
+    agree_after (Up c.args.node) agree (comes at) refl (c.in_ok-make_room.ensures.ok).0 c.in_ok-make_room.ensures.pieces
+    c.make_room.ensures.frugal refl refl c.make_room.ensures.items c.push_reserved.ensures.items c.push_reserved.ensures.capacity
     (numbers_stay (Up c.args.node) agree.numbers (lawful at) (λ x. refl)) refl refl agree.tasks agree.actions agree.messages
+    (control_places (Up c.args.node ∷ []) _ refl agree.places)
     (c.in_ok-up.ensures.follows c.self.inside.nodes (present (accepted c.self.inside).steps) agree.wave)
 
 pub returns : goal.returns

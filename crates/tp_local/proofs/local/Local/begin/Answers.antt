@@ -3,10 +3,10 @@ use Rattle.std.specs.Prelude.{OnSome}
 use Rattle.tp_local.proofs.Idle.{begun_counts}
 use Rattle.tp_local.proofs.local.Local.begin.Goals as goal
 use Rattle.tp_local.specs.Actions.{open_count}
-use Rattle.tp_local.specs.Locals.{LocalState, pending}
+use Rattle.tp_local.specs.Locals.{LocalState, pending_here}
 use Rattle.tp_local.specs.Locals.{Numbers}
 
 pub returns-clause-active : goal.returns-clause-active
 returns-clause-active c =
-    subst (λ (l : LocalState Numbers). OnSome c.begin.result (0 < pending l)) c.self.view_is
+    subst (λ (l : LocalState Numbers). OnSome c.begin.result (0 < pending_here l)) c.self.view_is
     (begun_counts c.self.inside.store.value (open_count c.self.inside.actions) (λ b. b.task) c.begin.result c.begin.ensures.life)

@@ -2,7 +2,7 @@ use Rattle.std.proofs.Common.{◌<◌, arith, subst}
 use Rattle.std.specs.Prelude.{IsTrue}
 use Rattle.tp_local.proofs.Idle.{live_counts}
 use Rattle.tp_local.proofs.local.Local.life.Goals as goal
-use Rattle.tp_local.specs.Locals.{LocalState, is_live, pending}
+use Rattle.tp_local.specs.Locals.{LocalState, is_live, pending_here}
 use Rattle.tp_local.specs.Locals.{Numbers}
 use Rattle.tp_store.specs.Content.{unfinished}
 
@@ -10,4 +10,4 @@ pub returns-clause-active : goal.returns-clause-active
 returns-clause-active c live =
     let some : 0 < unfinished c.self.inside.store.value =
     live_counts c.self.inside.store.value c.args.task (subst (λ o. IsTrue (is_live o)) c.life.ensures.life live) in
-    subst (λ (l : LocalState Numbers). 0 < pending l) c.self.view_is (omega (arith, some))
+    subst (λ (l : LocalState Numbers). 0 < pending_here l) c.self.view_is (omega (arith, some))

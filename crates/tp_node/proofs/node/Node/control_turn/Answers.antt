@@ -1,5 +1,5 @@
 use Rattle.std.proofs.Common.{◌≡◌, ap, false, is_some, sym, ◌∙◌, rules}
-use Rattle.tp_board.specs.Numbers.{NodeNumbers}
+use Rattle.tp_board.specs.Numbers.{ShareNumbers}
 use Rattle.tp_node.specs.Nodes.{NodeState}
 use Rattle.tp_node.proofs.Turns.{answered, appended, idle, kept, refused, turn_told, unset}
 use Rattle.tp_node.proofs.node.Node.control_turn.Goals as goal
@@ -9,7 +9,7 @@ returns g c =
     let now = c.args.self.now in
     let nodes = sym c.self.invariant.nodes ∙ ap (λ (n : NodeState g.row.G.Denot). n.nodes) c.self.view_is in
     let number =
-    ap (λ (n : NodeNumbers). n.node) c.audit.ensures.same.1 ∙ ap (λ (n : NodeState g.row.G.Denot). n.numbers.node) c.self.view_is in
+    ap (λ (n : ShareNumbers). n.node) c.audit.ensures.same.1 ∙ ap (λ (n : NodeState g.row.G.Denot). n.numbers.node) c.self.view_is in
     let turn = turn_told now c.args.board.now nodes number c.audit.ensures.same.0 c.make_first.ensures in
     let sound : is_some c.args.board.now.fault ≡ false = search rules in
     record {

@@ -1,10 +1,22 @@
-use Rattle.std.proofs.Common.{subst, rules}
+use Rattle.std.proofs.Common.{◌<◌, subst, rules}
 use Rattle.std.specs.Prelude.{Err}
 use Rattle.tp_graph.specs.declared.feed.Feed.{Feed}
 use Rattle.tp_board.specs.Calls.{AnswersWith}
+use Rattle.tp_node.specs.Nodes.{HasBrought, NodeState}
 use Rattle.tp_node.specs.Refused.{deliver_checks}
 use Rattle.tp_node.proofs.Answering.{refused_with}
+use Rattle.tp_node.proofs.Brought.{brought_counts}
 use Rattle.tp_node.proofs.node.Node.deliver.Goals as goal
+
+pub room_to_deliver-requires-clause-active : goal.room_to_deliver-requires-clause-active
+room_to_deliver-requires-clause-active g c κs within =
+    subst (λ (n : NodeState g.row.G.Denot). HasBrought (g.G.Graph.meaning n.graph) n c.args.parcel → 0 < n.numbers.pending) c.self.view_is
+    (brought_counts _ _ _ _ c.args.parcel c.self.invariant) c.requires.brought
+
+pub put-requires-clause-active : goal.put-requires-clause-active
+put-requires-clause-active g c κs within =
+    subst (λ (n : NodeState g.row.G.Denot). HasBrought (g.G.Graph.meaning n.graph) n c.args.parcel → 0 < n.numbers.pending) c.self.view_is
+    (brought_counts _ _ _ _ c.args.parcel c.self.invariant) c.requires.brought
 
 pub returns-in-Err-clause-refusal : goal.returns-in-Err-clause-refusal
 returns-in-Err-clause-refusal g c =

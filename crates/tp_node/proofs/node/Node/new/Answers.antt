@@ -1,8 +1,8 @@
 use Rattle.std.proofs.Common.{arith, sym, ap, subst, ◌∙◌, length}
 use Rattle.tp_local.specs.Locals.{LocalState}
-use Rattle.tp_node.specs.Nodes.{AreRightValues}
+use Rattle.tp_node.specs.Nodes.{AreHere, AreRightValues}
 use Rattle.tp_local.specs.Locals.{Numbers}
-use Rattle.tp_node.proofs.Kept.{right_at_first}
+use Rattle.tp_node.proofs.Kept.{here_at_first, right_at_first}
 use Rattle.tp_node.proofs.node.Node.new.Goals as goal
 
 pub invariant_of-result : goal.invariant_of-result
@@ -18,5 +18,7 @@ invariant_of-result g c = record {
   };
   right = subst (λ (l : LocalState Numbers). AreRightValues (g.G.Graph.meaning c.args.graph) l.store) (sym c.new.ensures.first)
       (right_at_first _);
+  here = subst (λ (l : LocalState Numbers). AreHere (g.G.Graph.meaning c.args.graph) c.args.nodes c.args.shares.node l.store)
+      (sym c.new.ensures.first) (here_at_first (g.G.Graph.meaning c.args.graph) c.args.nodes c.args.shares.node);
   seeded = λ u low seed. absurd (omega arith);
 }

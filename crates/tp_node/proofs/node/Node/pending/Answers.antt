@@ -1,10 +1,10 @@
 use Rattle.std.proofs.Common.{ap, sym, ◌∙◌}
-use Rattle.tp_local.specs.Locals.{pending}
+use Rattle.tp_local.specs.Locals.{pending_here}
 use Rattle.tp_node.specs.Nodes.{NodeState}
 use Rattle.tp_node.proofs.node.Node.pending.Goals as goal
 
 pub returns-clause-counted : goal.returns-clause-counted
-returns-clause-counted g c = c.pending.ensures.pending ∙ ap (λ (n : NodeState g.row.G.Denot). pending n.state) c.self.view_is
+returns-clause-counted g c = c.pending.ensures.pending ∙ ap (λ (n : NodeState g.row.G.Denot). pending_here n.state) c.self.view_is
 
 pub returns-clause-share : goal.returns-clause-share
 returns-clause-share g c =

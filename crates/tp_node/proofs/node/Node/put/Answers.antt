@@ -3,7 +3,7 @@ use Rattle.std.specs.Prelude.{if◌then◌else◌}
 use Rattle.tp_base.specs.declared.step.Step.TheVariants.{Supply}
 use Rattle.tp_graph.specs.Values.{IsInput}
 use Rattle.tp_node.specs.Nodes.{NodeState, inserting}
-use Rattle.tp_local.specs.Locals.{pending}
+use Rattle.tp_local.specs.Locals.{pending_here}
 use Rattle.tp_node.proofs.Kept.{inserts_if, put_keeps}
 use Rattle.tp_node.proofs.node.Node.put.Goals as goal
 use Rattle.std.proofs.lemmas.Result.{err_from_is_err_and}
@@ -16,19 +16,21 @@ invariant_of-self-2 g c =
     let input : IsInput (g.G.Graph.meaning c.self.inside.graph) c.args.feed.target.0 c.args.feed.slot c.args.value =
     subst (λ (n : NodeState g.row.G.Denot). IsInput (g.G.Graph.meaning n.graph) c.args.feed.target.0 c.args.feed.slot c.args.value)
     (sym c.self.view_is) c.requires.input in
-    let step : c.putting_step-step.result
-    ≡ (if is_some (task_of c.self.inside.local.store c.args.feed.target) then Supply c.args.feed.target else inserting
-    c.self.inside.shares.node c.args.feed.target (c.arity-arity.result - 1)) =
+    let lives : (g.G.Graph.meaning c.self.inside.graph).home c.args.feed.target.0 c.self.inside.nodes ≡ c.self.inside.shares.node =
+    subst (λ (n : NodeState g.row.G.Denot). (g.G.Graph.meaning n.graph).home c.args.feed.target.0 n.nodes ≡ n.numbers.node)
+    (sym c.self.view_is) c.requires.here in
+    let step : c.putting_step-step.result ≡ (if is_some (task_of c.self.inside.local.store c.args.feed.target) then Supply
+    c.args.feed.target else inserting c.self.inside.shares.node c.args.feed.target (c.arity-arity.result - 1)) =
     subst
     (λ (n : NodeState g.row.G.Denot). c.putting_step-step.result
     ≡ (if is_some (task_of n.state.store c.args.feed.target) then Supply c.args.feed.target else inserting n.numbers.node
     c.args.feed.target (c.arity-arity.result - 1)))
     (sym c.self.view_is) c.putting_step-step.ensures in
     put_keeps _ _ _ _ _ _ _ c.args.feed.target _ _ c.self.invariant c.putting_step-step.result _ (c.arity-arity.result - 1)
-    c.class-class.result c.args.feed.slot c.args.value input
+    c.class-class.result c.args.feed.slot c.args.value input lives
     (rw c.arity-arity.ensures at c.in_ok-deliver.ensures.delivered) step c.in-Ok.ensures.shares
-    (c.in_ok-deliver.ensures.counted ∙ ap (λ d. pending c.self.inside.local + inserted_by d) c.in_ok-deliver.ensures.answer
-    ∙ ap (λ n. pending c.self.inside.local + n)
+    (c.in_ok-deliver.ensures.counted ∙ ap (λ d. pending_here c.self.inside.local + inserted_by d) c.in_ok-deliver.ensures.answer
+    ∙ ap (λ n. pending_here c.self.inside.local + n)
     (inserts_if (is_some (task_of c.self.inside.local.store c.args.feed.target)) (c.arity-arity.result - 1)))
 
 pub returns-in_err-deliver-clause-refused : goal.returns-in_err-deliver-clause-refused
@@ -40,7 +42,7 @@ returns-in_err-deliver-clause-refused g c =
     ((g.G.Graph.meaning n.graph).arity c.args.feed.target.0) c.args.feed.slot ≡ None) (sym c.self.view_is) c.requires.free) in
     let share : 0 < c.self.inside.shares.pending =
     subst (λ (n : NodeState g.row.G.Denot). 0 < n.numbers.pending) (sym c.self.view_is) c.requires.active in
-    let some : 0 < pending c.self.inside.local = rw c.self.invariant.counted.pending at share in
+    let some : 0 < pending_here c.self.inside.local = rw c.self.invariant.counted.pending at share in
     let none = delivery_free c.self.inside.local c.args.feed.target c.arity-arity.result c.args.feed.slot free some in
     let first : c.in_err-deliver.field-0.0.0 ≡ NoMemory = c.in_err-deliver.ensures.refused ∙ ap (λ o. unwrap_or o NoMemory) none in
     rw (p.1, p.2) (λ i. (first i, c.in_err-deliver.ensures.value_returned i))

@@ -1,5 +1,5 @@
 use Rattle.std.proofs.Common.{◌≡◌, arith, refl, sym, ap, ◌∙◌, rules}
-use Rattle.tp_board.specs.Numbers.{NodeNumbers}
+use Rattle.tp_board.specs.Numbers.{ShareNumbers}
 use Rattle.tp_node.specs.Nodes.{NodeState}
 use Rattle.tp_node.proofs.Answering.{brings, none_first, sent_first}
 use Rattle.tp_node.proofs.node.Node.receive.Goals as goal
@@ -26,8 +26,8 @@ returns-clause-brought g c =
     c.in_ok-check_message.ensures.graph ∙ sym (ap (λ (n : NodeState g.row.G.Denot). n.graph) c.self.view_is) in
     let place : c.args.wire.now.to ≡ c.take-message.new.shares.node =
     c.requires.to_here ∙ sym (ap (λ (n : NodeState g.row.G.Denot). n.numbers.node) c.self.view_is)
-    ∙ sym (ap (λ (s : NodeNumbers). s.node) c.audit.ensures.same.1)
-    ∙ sym (ap (λ (s : NodeNumbers). s.node) c.take-message.ensures.shares) in
+    ∙ sym (ap (λ (s : ShareNumbers). s.node) c.audit.ensures.same.1)
+    ∙ sym (ap (λ (s : ShareNumbers). s.node) c.take-message.ensures.shares) in
     brings (λ graph.
     g.G.Graph.meaning graph) _ _ _ _ _ c.in-Some.message.now c.take-message.result c.receive-2.result _ new c.number-number.result
     c.feed-feed.result

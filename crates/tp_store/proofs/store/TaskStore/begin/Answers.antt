@@ -1,6 +1,7 @@
 use Rattle.std.proofs.Common.{subst, ap, sym, rules, ◌∙◌, arith}
 use Rattle.tp_store.specs.Kept.{content_of, Leaves}
 use Rattle.tp_store.specs.Content.{unfinished, with_begun, NoneGoesBack}
+use Rattle.tp_store.specs.Sound.{IsSound}
 use Rattle.tp_store.proofs.Contents.{begun_goes_on}
 use Rattle.tp_store.proofs.Changes.{none_next, same_slots, can_begin, some_ready, begins, begun_all}
 use Rattle.tp_store.proofs.store.TaskStore.begin.Given as given
@@ -24,6 +25,7 @@ returns-in_default g c =
       content = content;
       unfinished = ap unfinished content;
       lives = subst (λ v. NoneGoesBack c.args.self.now v) (sym content) (λ t. omega arith);
+      sound = subst (λ v. IsSound v) c.self.view_is c.self.invariant.sound;
     }
 
 -- ---- a task is ready
@@ -68,4 +70,5 @@ returns g c =
       unfinished = all.count;
       lives = subst (λ v.
           NoneGoesBack c.args.self.now v) (sym all.content) (begun_goes_on c.args.self.now c.begin_at-inputs.result.0 told.1);
+      sound = subst (λ v. IsSound v) c.self.view_is c.self.invariant.sound;
     }

@@ -2,7 +2,7 @@ use Rattle.std.proofs.Common.{◌≡◌, ◌∙◌, ◌*◌, ◌-◌, ℕ, sym, 
 use Rattle.std.proofs.lemmas.List.{length-map}
 use Rattle.std.proofs.lemmas.Result.{IfOk-weaker}
 use Rattle.tp_base.specs.declared.limits.TheConstants.{MAX_STEPS}
-use Rattle.tp_board.specs.Numbers.{NodeNumbers, first_links, first_shares}
+use Rattle.tp_board.specs.Numbers.{ShareNumbers, first_links, first_shares}
 use Rattle.tp_board.specs.States.{BoardState}
 use Rattle.tp_ledgers.specs.Names.{PoolNames}
 use Rattle.tp_node.specs.Nodes.{first_node}
@@ -18,7 +18,7 @@ returns-clause-nodes g c =
     let same : g.K.Ledgers.names.nodes ≡ n = sym (ap (λ (names : PoolNames). names.nodes) c.requires.names) ∙ c.requires.nodes in
     IfOk-weaker c.open_pool.result (λ (p : Pool g.row.G.Denot g.row.K.Denot). p.nodes.items
     ≡ first_nodes c.args.self.now.graph n) (λ p. vec_len p.nodes ≡ g.K.Ledgers.names.nodes)
-    (λ p is. p.nodes.ok.0 ∙ ap length is ∙ length-map (first_shares n) (λ (s : NodeNumbers). first_node c.args.self.now.graph n s.node)
+    (λ p is. p.nodes.ok.0 ∙ ap length is ∙ length-map (first_shares n) (λ (s : ShareNumbers). first_node c.args.self.now.graph n s.node)
     ∙ length-first_shares n ∙ sym same) c.open_pool.ensures.nodes
 
 pub returns-clause-links : goal.returns-clause-links
