@@ -1,6 +1,6 @@
 -- How many events a pool over cells in blocks takes, its waves apart: a task as many as it has inputs and 2 more, or 3 where it
 -- has none, and a message 3.
-use Rattle.std.specs.Prelude.{ℕ, zero, suc, ◌==◌, if◌then◌else◌, ◌≡◌, ◌+◌, ◌-◌, ◌*◌, ◌/◌, ◌^◌, ◌<◌, ◌≤◌, ◌⊎◌, min, max}
+use Rattle.std.specs.Prelude.{ℕ, zero, suc, ◌==◌, if◌then◌else◌, ◌≡◌, ◌+◌, ◌-◌, ◌*◌, ◌/◌, ◌<◌, ◌≤◌, ◌⊎◌, min, max}
 use Rattle.tp_base.specs.declared.limits.TheConstants.{MAX_STEPS}
 use Rattle.pool_blocks.specs.Stencils.{blocks_of}
 
@@ -38,13 +38,13 @@ all_events blocks nodes steps = 3 * blocks + steps * step_events blocks nodes
 abbrev pub TakeNoStep : ℕ → ℕ → ℕ → Type 0
 TakeNoStep cells size nodes = (cells ≡ 0) ⊎ ((size ≡ 0) ⊎ (MAX_STEPS < all_events (blocks_of cells size) nodes 1))
 
--- as many steps as 1,000,000 events let, with no more than 16,777,216 numbers kept, and one at least
-abbrev pub planned : ℕ → ℕ → ℕ → ℕ
-planned cells blocks nodes = max (min ((1000000 - 3 * blocks) / step_events blocks nodes) (2 ^ 24 / cells)) 1
+-- as many steps as 1,000,000 events let, and one at least
+abbrev pub planned : ℕ → ℕ → ℕ
+planned blocks nodes = max ((1000000 - 3 * blocks) / step_events blocks nodes) 1
 
 -- so many cells, in blocks of so many at so many nodes, take so many steps in one run
 pub record TakeSteps (cells size nodes steps : ℕ) : Type 0 where
   pub some_cells : 1 ≤ cells
   pub some_size : 1 ≤ size
   pub few_events : all_events (blocks_of cells size) nodes steps ≤ MAX_STEPS
-  pub all_planned : steps ≡ planned cells (blocks_of cells size) nodes
+  pub all_planned : steps ≡ planned (blocks_of cells size) nodes
