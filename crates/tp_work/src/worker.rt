@@ -1,4 +1,4 @@
-ghost use Rattle.std.specs.Prelude.{◌≡◌, OnOk};
+ghost use Rattle.std.specs.Prelude.{◌≡◌, IfOk, None, OnOk, Some, if◌then◌else◌};
 
 mod passing;
 mod receiving;
@@ -362,7 +362,10 @@ fn spin() {
 
 /// A copy of a finished task's value, where the graph does not keep it.
 #[inline(always)]
-fn unkept<G: Graph>(finished: &Finished<G>) -> Result<Option<Value>, AllocError> {
+fn unkept<G: Graph>(finished: &Finished<G>) -> Result<Option<Value>, AllocError>
+    ensures { IfOk result (λ copy.
+        copy ≡ (if (G.meaning finished.now.graph).keeps finished.now.task.0 then None else Some finished.now.value)) }
+{
     if finished.graph().keeps(finished.task()) {
         return Ok(None);
     }
