@@ -1,7 +1,5 @@
 use Rattle.std.proofs.Common.{subst}
-use Rattle.tp_graph.proofs.Left.{results_kept}
-use Rattle.pool_matrix.specs.Matrices.{matrix_graph}
-use Rattle.pool_runs.proofs.Refused.{product-graph, product_refused}
+use Rattle.pool_runs.proofs.Refused.{product-graph, product_kept, product_refused}
 use Rattle.pool_runs.proofs.product.run_product.Goals as goal
 use Rattle.tp_work.specs.Outcomes.{IsFault, IsOutcome}
 
@@ -9,7 +7,7 @@ pub matrix_of-requires : goal.matrix_of-requires
 matrix_of-requires g c =
     let p = c.in-Some.product in
     rw c.deref.ensures.value
-    (results_kept (matrix_graph p.left.now p.right.now p.tiles p.side) c.in-Ok.outcome.results.items c.in-Ok.ensures.outcome.right)
+    (product_kept c.args.config.nodes c.args.config.workers p.left.now p.right.now p.tiles p.side c.in-Ok.outcome c.in-Ok.ensures.outcome)
 
 pub unreachable-requires : goal.unreachable-requires
 unreachable-requires g c =
