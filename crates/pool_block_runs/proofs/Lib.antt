@@ -1,3 +1,2 @@
 pub mod Planned
 pub mod Refused
-pub mod Crossings

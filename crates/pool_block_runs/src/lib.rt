@@ -3,12 +3,10 @@
 
 mod events;
 mod fault;
-mod laws;
 mod parts;
 mod run;
 
 pub use events::steps_at_once;
 pub use fault::LentFault;
-pub use laws::messages_are_counted;
 pub use parts::run_in_parts;
 pub use run::run_steps;
