@@ -6,11 +6,11 @@ use Rattle.std.proofs.lemmas.Bool.Decides.{nat_tests}
 use Rattle.std.specs.Prelude.{nat_lt}
 use Rattle.tp_base.specs.declared.Step.{Step}
 use Rattle.tp_base.specs.declared.Step.TheVariants.{Insert, Supply, Begin, Done, Send, Recv, MessageEnd}
-use Rattle.tp_graph.specs.Graphs.{TaskGraph}
 use Rattle.tp_wave.proofs.Totals.{total-equal, total-zero, total_one-changes}
 use Rattle.tp_wave.specs.Steps.{count, is_recv, is_send}
 use Rattle.tp_wave.specs.Sums.{total}
-use Rattle.pool_events.specs.Events.{EventsLaw, WorkOut, below, is_begin_of, is_done_of, is_insert_of, is_message_end, is_supply_of}
+use Rattle.pool_events.proofs.Totals.{total-const}
+use Rattle.pool_events.specs.Events.{EventsLaw, below, is_begin_of, is_done_of, is_insert_of, is_message_end, is_supply_of}
 use Rattle.pool_events.specs.Events.{is_work, task_events}
 
 -- what a task below a number has, and what one that is not
@@ -136,4 +136,19 @@ events_counted n g steps h =
       h.sent,
       h.received,
       h.closed,
+    )
+
+-- Where each task is inserted, begins and is done once, there are 3 steps for each at least, beside the messages sent and received.
+pub least_steps : (tasks : ℕ) (steps : List Step) → ((t : ℕ) → count (is_insert_of t) steps ≡ below tasks (λ u. 1) t)
+    → ((t : ℕ) → count (is_begin_of t) steps ≡ below tasks (λ u. 1) t)
+    → ((t : ℕ) → count (is_done_of t) steps ≡ below tasks (λ u. 1) t)
+    → 3 * tasks + count is_send steps + count is_recv steps ≤ count is_work steps
+least_steps tasks steps inserted begun done =
+    omega (
+      arith,
+      kinds steps,
+      kind is_insert_of is_insert inserts tasks (λ t. 1) steps inserted,
+      kind is_begin_of is_begin begins tasks (λ t. 1) steps begun,
+      kind is_done_of is_done dones tasks (λ t. 1) steps done,
+      total-const tasks 1,
     )

@@ -1,5 +1,5 @@
 -- Sums over numbers in a row.
-use Rattle.std.proofs.Common.{◌≡◌, ◌∙◌, ◌+◌, ◌*◌, ◌<◌, ◌≤◌, ℕ, zero, suc, refl, arith}
+use Rattle.std.proofs.Common.{◌≡◌, ◌+◌, ◌*◌, ℕ, zero, suc, refl, arith}
 use Rattle.tp_wave.specs.Sums.{total}
 
 -- a sum is that of its beginning and that of the rest
