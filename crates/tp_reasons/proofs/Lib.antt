@@ -2,3 +2,8 @@ pub mod Parts
 pub mod Numerals
 pub mod Fields
 pub mod Several
+pub mod Places
+pub mod Seen
+pub mod Told
+pub mod Shown
+pub mod Reasons
