@@ -4,6 +4,7 @@ pub mod Fields
 pub mod Several
 pub mod Places
 pub mod Seen
+pub mod Steps
 pub mod Told
 pub mod Shown
 pub mod Reasons

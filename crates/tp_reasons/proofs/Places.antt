@@ -1,6 +1,6 @@
 -- The lines of a text, and its words.
-use Rattle.std.proofs.Common.{◌≡◌, ◌≢◌, ◌<◌, ◌≤◌, ◌+◌, ◌-◌, ℕ, zero, suc, List, [], ◌∷◌, ◌++◌, Option, None, Some, length, get_or, ap, ◌∙◌, sym}
-use Rattle.std.proofs.Common.{refl, subst, arith, length-append, append_assoc}
+use Rattle.std.proofs.Common.{◌≡◌, ◌≢◌, ◌<◌, ◌≤◌, ◌+◌, ◌-◌, ℕ, zero, suc, List, [], ◌∷◌, ◌++◌, ◌∙◌, Option, None, Some, length}
+use Rattle.std.proofs.Common.{ap, append_assoc, arith, get_or, length-append, refl, subst, sym}
 use Rattle.std.proofs.Math.Seq.{get_or-append_seam}
 use Rattle.std.specs.Borrow.{Bor}
 use Rattle.tp_reasons.specs.Cuts.{parts, parts_behind}
@@ -35,13 +35,16 @@ module _ (text : List ℕ) (l : ℕ) (rest first : List ℕ) (behind : Option (B
   all = left.is ∙ ap (λ ps. left.seen ++ ps) cut
 
   long : length (parts 10 text) ≡ count + (1 + length (parts_behind 10 behind))
-  long = ap length all ∙ length-append left.seen (first ∷ parts_behind 10 behind) ∙ ap (λ n. n + (1 + length (parts_behind 10 behind))) left.as_many
+  long =
+      ap length all ∙ length-append left.seen (first ∷ parts_behind 10 behind)
+      ∙ ap (λ n. n + (1 + length (parts_behind 10 behind))) left.as_many
 
   -- so many lines stand before it
   pub is_line : count ≡ l - 1 → first ≡ line_at l text
   is_line here =
-      sym (get_or-append_seam left.seen first (parts_behind 10 behind) []) ∙ ap (λ i. get_or (left.seen ++ first ∷ parts_behind 10 behind) i [])
-      (left.as_many ∙ here) ∙ ap (λ ps. get_or ps (l - 1) []) (sym all)
+      sym (get_or-append_seam left.seen first (parts_behind 10 behind) [])
+      ∙ ap (λ i. get_or (left.seen ++ first ∷ parts_behind 10 behind) i []) (left.as_many ∙ here)
+      ∙ ap (λ ps. get_or ps (l - 1) []) (sym all)
 
   -- there are fewer lines
   pub no_line : behind ≡ None → count < l - 1 → [] ≡ line_at l text

@@ -2,13 +2,12 @@
 use Rattle.std.specs.Prelude.{ℕ, ◌≡◌, ◌≢◌, ◌<◌, ◌≤◌, ◌+◌, ◌-◌, ◌++◌, ◌↔◌, List, [], ◌∷◌, codes, decimal, get_or, length}
 use Rattle.std.specs.Borrow.{Bor}
 use Rattle.std.specs.List.{All}
-use Rattle.tp_text.specs.Keywords.{keyword_text}
+use Rattle.tp_base.specs.declared.Step.{Step}
+use Rattle.tp_base.specs.declared.limits.TheConstants.{MAX_INPUTS}
 use Rattle.tp_text.specs.Script.{version_lines}
-use Rattle.tp_text.specs.Spelling.{IsNumber}
+use Rattle.tp_text.specs.Spelling.{IsNumber, numbers_of, word_of}
 use Rattle.tp_text.specs.Trace.{format_line}
-use Rattle.tp_text.specs.declared.keyword.Keyword.{Keyword}
-use Rattle.tp_text.specs.declared.keyword.Keyword.TheVariants.{Insert, Supply, Begin, Done, Open, Close, Ready, Send, Recv, End, Start}
-use Rattle.tp_text.specs.declared.keyword.Keyword.TheVariants.{Down, Give, Up, Judge, Reopen}
+use Rattle.tp_text.specs.declared.version.Version.{Version as TextVersion}
 use Rattle.tp_text.specs.declared.version.Version.TheVariants as versions
 use Rattle.tp_reasons.specs.Cuts.{parts}
 use Rattle.tp_reasons.specs.declared.line.Grammar.{Grammar}
@@ -30,33 +29,14 @@ IsEnded l text = l - 1 + 1 < length (parts 10 text)
 
 -- ---- the words of a step
 
--- Behind the number of a message stands in version 2 that of its generation.
-abbrev pub by_version : Version → ℕ → ℕ → ℕ
-by_version One one two = one
-by_version Two one two = two
+-- the same version, as the grammar of texts has it
+abbrev pub spelled : Version → TextVersion
+spelled One = versions.One
+spelled Two = versions.Two
 
--- how many numbers stand behind a keyword
-abbrev pub numbers_due : Version → Keyword → ℕ
-numbers_due v Insert = 3
-numbers_due v Supply = 1
-numbers_due v Begin = 1
-numbers_due v Done = 1
-numbers_due v Open = 2
-numbers_due v Close = 2
-numbers_due v Ready = 1
-numbers_due v Send = by_version v 3 4
-numbers_due v Recv = by_version v 2 3
-numbers_due v End = by_version v 2 3
-numbers_due v Start = 0
-numbers_due v Down = 1
-numbers_due v Give = 1
-numbers_due v Up = 1
-numbers_due v Judge = 0
-numbers_due v Reopen = 0
-
--- The word is a keyword, behind which so many numbers stand.
-abbrev pub IsKeyword : Version → List ℕ → ℕ → Type 0
-IsKeyword v word due = (k : Keyword) × (word ≡ keyword_text k) × (due ≡ numbers_due v k)
+-- The line of a step begins with the word, and has so many numbers.
+abbrev pub BeginsStep : Version → List ℕ → ℕ → Type 0
+BeginsStep v word due = (s : Step) × (word ≡ word_of s) × (due ≡ length (numbers_of (spelled v) s))
 
 -- a number of at most six digits, without leading zeros
 abbrev pub IsNumeral : List ℕ → Type 0
@@ -67,23 +47,28 @@ abbrev pub IsFirstOther : List (List ℕ) → Bor (List ℕ) → Type 0
 IsFirstOther words other = (before : List (List ℕ)) × (after : List (List ℕ)) × (words ≡ before ++ other.now ∷ after)
     × All IsNumeral before × ¬ IsNumeral other.now
 
--- The keyword wants numbers behind it: it is not the judgement of a trace, and not a step that the version lacks.
+-- The word wants numbers behind it: it is not the judgement of a trace, and not a step that the version lacks.
 abbrev pub IsCounted : Grammar → Version → List ℕ → Type 0
 IsCounted grammar v word = ¬ ((word ≡ codes "reopen") × (v ≡ One)) × ¬ ((word ≡ codes "judge") × (grammar ≡ Trace))
 
+-- the words behind `insert`: two, and a number of inputs that no task has
+abbrev pub AreOfManyInputs : List (List ℕ) → Type 0
+AreOfManyInputs words = (node : List ℕ) × (task : List ℕ) × (inputs : ℕ) × (words ≡ node ∷ task ∷ decimal inputs ∷ [])
+    × (MAX_INPUTS < inputs) × IsNumber inputs
+
 -- Why these words are no step. Of several reasons it is the first, in the order in which they stand here.
 abbrev pub IsStepReason : Grammar → Version → List ℕ → List (List ℕ) → LineReason → Type 0
-IsStepReason grammar v word more (reasons.NoStep first) = (first.now ≡ word) × ((k : Keyword) → word ≢ keyword_text k)
+IsStepReason grammar v word more (reasons.NoStep first) = (first.now ≡ word) × ((s : Step) → word ≢ word_of s)
 IsStepReason grammar v word more reasons.NoReopening = (word ≡ codes "reopen") × (v ≡ One)
 IsStepReason grammar v word more reasons.NoJudgement = (word ≡ codes "judge") × (grammar ≡ Trace)
 IsStepReason grammar v word more (reasons.NoNumber other) =
-    (due : ℕ) × IsKeyword v word due × IsCounted grammar v word × IsFirstOther more other
-IsStepReason grammar v word more (reasons.Count count) = IsKeyword v word count.due × IsCounted grammar v word × All IsNumeral more
+    (due : ℕ) × BeginsStep v word due × IsCounted grammar v word × IsFirstOther more other
+IsStepReason grammar v word more (reasons.Count count) = BeginsStep v word count.due × IsCounted grammar v word × All IsNumeral more
     × (count.has ≡ length more) × (count.has ≢ count.due)
-IsStepReason grammar v word more reasons.ManyInputs = IsKeyword v word (length more) × IsCounted grammar v word × All IsNumeral more
-    × (word ≡ codes "insert")
-IsStepReason grammar v word more reasons.Other = IsKeyword v word (length more) × IsCounted grammar v word × All IsNumeral more
-    × (word ≢ codes "insert")
+IsStepReason grammar v word more reasons.ManyInputs = BeginsStep v word (length more) × IsCounted grammar v word × All IsNumeral more
+    × (word ≡ codes "insert") × AreOfManyInputs more
+IsStepReason grammar v word more reasons.Other = BeginsStep v word (length more) × IsCounted grammar v word × All IsNumeral more
+    × ¬ ((word ≡ codes "insert") × AreOfManyInputs more)
 IsStepReason grammar v word more reason = ⊥
 
 -- ---- the line of a text

@@ -1,14 +1,18 @@
-ghost use Rattle.std.specs.Prelude.{◌≡◌, ◌≢◌, ◌<◌, ◌≤◌, ◌+◌, ◌-◌, ◌↔◌, ◌∷◌, ◌++◌, [], IsTrue, List, ℕ, codes, get_or, length, MatchOption, MatchResult, true, false};
+ghost use Rattle.std.specs.Prelude.{◌≡◌, ◌≢◌, ◌<◌, ◌≤◌, ◌+◌, ◌-◌, ◌↔◌, ◌∷◌, ◌++◌, [], IsTrue, List, ℕ};
+ghost use Rattle.std.specs.Prelude.{codes, decimal, length, MatchOption, MatchResult, true, false};
 ghost use Rattle.std.specs.List.{All};
+ghost use Rattle.tp_base.specs.declared.limits.TheConstants.{MAX_INPUTS};
 ghost use Rattle.tp_text.specs.Keywords.{keyword_text};
 ghost use Rattle.tp_text.specs.Reading.{syntax_text};
+ghost use Rattle.tp_text.specs.Spelling.{IsNumber};
 ghost use Rattle.tp_text.specs.declared.keyword.Keyword.{Keyword};
 ghost use Rattle.tp_reasons.specs.Cuts.{parts, parts_behind};
-ghost use Rattle.tp_reasons.specs.Lines.{IsCounted, IsEnded, IsFirstOther, IsKeyword, IsLineReason, IsNumeral, IsSecond, IsStepReason, IsTextReason};
-ghost use Rattle.tp_reasons.specs.Lines.{by_version, format_at, line_at, nodes_at, second_head};
+ghost use Rattle.tp_reasons.specs.Lines.{AreOfManyInputs, BeginsStep, IsCounted, IsEnded, IsFirstOther, IsLineReason};
+ghost use Rattle.tp_reasons.specs.Lines.{IsNumeral, IsSecond, IsStepReason, IsTextReason, format_at, line_at, nodes_at, second_head};
 
-use crate::cuts::cut;
+use crate::cuts::{cut, three};
 use crate::digits::number_of;
+use tp_base::MAX_INPUTS;
 
 /// What a text is read as.
 #[derive(Clone, Copy, Debug, PartialEq, Eq)]
@@ -220,7 +224,7 @@ fn uncounted(grammar: Grammar, version: Version, word: &[u8]) -> Option<LineReas
 
 /// Why what stands behind a keyword, of which so many numbers are due, is not these.
 fn numbers_reason<'a>(word: &[u8], rest: Option<&'a [u8]>, due: usize) -> LineReason<'a>
-    ensures { (grammar : Grammar) (version : Version) → IsKeyword version word.now due → IsCounted grammar version word.now
+    ensures { (grammar : Grammar) (version : Version) → BeginsStep version word.now due → IsCounted grammar version word.now
         → IsStepReason grammar version word.now (parts_behind 32 rest) result }
 {
     let has = match count_of(rest) {
@@ -231,8 +235,29 @@ fn numbers_reason<'a>(word: &[u8], rest: Option<&'a [u8]>, due: usize) -> LineRe
         return LineReason::Count(StepCount { has, due });
     }
     match word {
-        b"insert" => LineReason::ManyInputs,
+        b"insert" if are_of_many_inputs(rest) => LineReason::ManyInputs,
         _ => LineReason::Other,
+    }
+}
+
+/// Whether the last of three words is a number of inputs that no task has.
+fn are_of_many_inputs(rest: Option<&[u8]>) -> bool
+    ensures { IsTrue result ↔ AreOfManyInputs (parts_behind 32 rest) }
+{
+    match three(rest, b' ') {
+        Some((_, _, inputs)) => is_many(inputs),
+        None => false,
+    }
+}
+
+/// Whether a word is a number of at most six digits that no task has as the number of its inputs.
+fn is_many(word: &[u8]) -> bool
+    ensures yes { result ≡ true → (inputs : ℕ) × (word.now ≡ decimal inputs) × (MAX_INPUTS < inputs) × IsNumber inputs }
+    ensures no { result ≡ false → (inputs : ℕ) → word.now ≡ decimal inputs → MAX_INPUTS < inputs → ¬ IsNumber inputs }
+{
+    match number_of(word) {
+        Some(inputs) => u32::from(MAX_INPUTS) < inputs && inputs < 1_000_000,
+        None => false,
     }
 }
 
@@ -268,7 +293,7 @@ fn is_numeral(word: &[u8]) -> bool
 
 /// How many numbers stand behind a keyword, where the word is one.
 fn numbers_due(version: Version, word: &[u8]) -> Option<usize>
-    ensures { MatchOption result ((k : Keyword) → word.now ≢ keyword_text k) (IsKeyword version word.now) }
+    ensures { MatchOption result ((k : Keyword) → word.now ≢ keyword_text k) (BeginsStep version word.now) }
 {
     match word {
         b"insert" => Some(3),
@@ -291,8 +316,10 @@ fn numbers_due(version: Version, word: &[u8]) -> Option<usize>
     }
 }
 
+/// One number in version 1, and the other in version 2, where that of its generation stands behind a message.
 fn by_version(version: Version, one: usize, two: usize) -> usize
-    ensures { result ≡ by_version version one two }
+    ensures one { version ≡ Version.One → result ≡ one }
+    ensures two { version ≡ Version.Two → result ≡ two }
 {
     match version {
         Version::One => one,
