@@ -22,10 +22,7 @@ fn split_at_first(text: &[u8], byte: u8) -> (&[u8], &[u8])
 }
 
 /// The parts of what stands behind such a byte, where they are three.
-pub(crate) fn three<'a>(
-    rest: Option<&'a [u8]>,
-    byte: u8,
-) -> Option<(&'a [u8], &'a [u8], &'a [u8])>
+pub(crate) fn three<'a>(rest: Option<&'a [u8]>, byte: u8) -> Option<(&'a [u8], &'a [u8], &'a [u8])>
     ensures { MatchOption result (length (parts_behind byte rest.entry) ≢ 3)
         (λ texts. parts_behind byte rest.entry ≡ texts.0.now ∷ texts.1.now ∷ texts.2.now ∷ []) }
 {
