@@ -35,7 +35,7 @@ pub(crate) fn answer_at_terminal<I: Read, O: Write, E: Diagnostics>(
     ensures { IsTextEnd E.tells kind (I.remaining reader.old) (I.remaining reader.new)
         (O.contents out.old) (O.contents out.new) (out.new ≡ out.old) result err.old err.new }
 {
-    let answered = match answered(alloc, kind, reader) {
+    let answered = match answer_of(alloc, kind, reader) {
         Ok(answered) => answered,
         Err(fault) => return complain(&Fault::Text(fault), err),
     };
@@ -60,7 +60,7 @@ fn explained<E: Diagnostics>(kind: TextKind, answered: &Answered, err: &mut E) -
 }
 
 /// Reads a text of a kind, and finds what is answered to it.
-fn answered<I: Read>(alloc: Global, kind: TextKind, reader: &mut I) -> Result<Answered, TextFault>
+fn answer_of<I: Read>(alloc: Global, kind: TextKind, reader: &mut I) -> Result<Answered, TextFault>
     ensures ok { IfOk result (λ it. ReadsAll (I.remaining reader.old) (I.remaining reader.new) it.text.items
         × IsTextTo kind it.text.items it.verdict it.answer.items) }
     ensures why { IfErr result (IsUnansweredText kind (I.remaining reader.old) (I.remaining reader.new)) }

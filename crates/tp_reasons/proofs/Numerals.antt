@@ -71,3 +71,7 @@ pub too_large : (text : List ℕ) (large : ℕ) → large < 1000000000 → text 
     → text ≢ decimal n
 too_large text large most is above n small e =
     let same : large ≡ n = decimal_injective large n (omega arith) (omega arith) (sym is ∙ e) in omega (arith, same)
+
+-- a text spells one number
+pub one_number : (text : List ℕ) (a b : ℕ) → a < 1000000000 → text ≡ decimal a → text ≡ decimal b → b < 1000000 → a ≡ b
+one_number text a b most e f small = decimal_injective a b (omega arith) (omega arith) (sym e ∙ f)

@@ -1,8 +1,9 @@
 -- The lines of a text, and its words.
 use Rattle.std.proofs.Common.{◌≡◌, ◌≢◌, ◌<◌, ◌≤◌, ◌+◌, ◌-◌, ℕ, zero, suc, List, [], ◌∷◌, ◌++◌, ◌∙◌, Option, None, Some, length}
-use Rattle.std.proofs.Common.{ap, append_assoc, arith, get_or, length-append, refl, subst, sym}
+use Rattle.std.proofs.Common.{Bool, true, false, IsTrue, ◌↔◌, ap, append_assoc, arith, get_or, length-append, refl, subst, sym, true≢false}
 use Rattle.std.proofs.Math.Seq.{get_or-append_seam}
 use Rattle.std.specs.Borrow.{Bor}
+use Rattle.std.specs.Option.{is_some}
 use Rattle.tp_reasons.specs.Cuts.{parts, parts_behind}
 use Rattle.tp_reasons.specs.Lines.{IsEnded, line_at}
 use Rattle.tp_reasons.proofs.Parts.{some_parts}
@@ -35,9 +36,7 @@ module _ (text : List ℕ) (l : ℕ) (rest first : List ℕ) (behind : Option (B
   all = left.is ∙ ap (λ ps. left.seen ++ ps) cut
 
   long : length (parts 10 text) ≡ count + (1 + length (parts_behind 10 behind))
-  long =
-      ap length all ∙ length-append left.seen (first ∷ parts_behind 10 behind)
-      ∙ ap (λ n. n + (1 + length (parts_behind 10 behind))) left.as_many
+  long = omega (arith, ap length all, length-append left.seen (first ∷ parts_behind 10 behind), left.as_many)
 
   -- so many lines stand before it
   pub is_line : count ≡ l - 1 → first ≡ line_at l text
@@ -64,3 +63,14 @@ module _ (text : List ℕ) (l : ℕ) (rest first : List ℕ) (behind : Option (B
       let P : Option (Bor (List ℕ)) → Type 0 = λ b. 0 < length (parts_behind 10 b) in
       let more : 0 < length (parts_behind 10 behind) = subst P (sym some) (some_parts 10 after.now) in
       omega (arith, long, more, here)
+
+-- whether something stands behind it tells whether it is ended
+pub ended_told : (text : List ℕ) (l : ℕ) (rest first : List ℕ) (behind : Option (Bor (List ℕ))) (count : ℕ) → IsLeft 10 text count rest
+    → parts 10 rest ≡ first ∷ parts_behind 10 behind → (told : Bool) → told ≡ is_some behind → count ≡ l - 1
+    → IsTrue told ↔ IsEnded l text
+ended_told text l rest first None count left cut told e here = (
+  λ is. let bad : true ≡ false = sym is ∙ e in absurd (true≢false bad),
+  λ ended. absurd (unended text l rest first None count left cut refl (omega (arith, here)) ended),
+)
+ended_told text l rest first (Some after) count left cut told e here =
+    (λ is. is_ended text l rest first (Some after) count left cut after refl here, λ ended. e)

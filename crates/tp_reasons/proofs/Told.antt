@@ -1,5 +1,6 @@
 -- The line that an answer tells.
 use Rattle.std.proofs.Common.{◌≡◌, ◌≢◌, ◌<◌, ◌++◌, ◌∙◌, ℕ, List, [], ◌∷◌, ap, append_assoc, codes, decimal, sym}
+use Rattle.std.proofs.Common.{MatchOption, None, Option, Some}
 use Rattle.std.proofs.lemmas.List.{append_cancel_left, append_cancel_right}
 use Rattle.tp_text.specs.Reading.{syntax_text}
 
@@ -27,3 +28,10 @@ module _ (answer told : List ℕ) (is : answer ≡ codes "syntax line " ++ told)
   pub told_number : (digits : List ℕ) → told ≡ digits ++ 10 ∷ [] → (n : ℕ) → digits ≡ decimal n → answer ≡ syntax_text n
   told_number digits ends n e =
       is ∙ ap (λ t. codes "syntax line " ++ t) (ends ∙ ap (λ d. d ++ 10 ∷ []) e) ∙ sym (spelt n)
+
+  -- by the number that is found where the digits stand
+  pub told_by : (digits : List ℕ) → told ≡ digits ++ 10 ∷ [] → (found : Option ℕ)
+      → MatchOption found ((n : ℕ) → n < 1000000000 → digits ≢ decimal n) (λ n. (n < 1000000000) × (digits ≡ decimal n))
+      → MatchOption found ((l : ℕ) → l < 1000000000 → answer ≢ syntax_text l) (λ l. (l < 1000000000) × (answer ≡ syntax_text l))
+  told_by digits ends None none = untold_number digits ends none
+  told_by digits ends (Some n) found = (found.0, told_number digits ends n found.1)

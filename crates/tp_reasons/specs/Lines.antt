@@ -3,12 +3,10 @@ use Rattle.std.specs.Prelude.{ℕ, ◌≡◌, ◌≢◌, ◌<◌, ◌≤◌, ◌
 use Rattle.std.specs.Borrow.{Bor}
 use Rattle.std.specs.List.{All}
 use Rattle.tp_base.specs.declared.Step.{Step}
+use Rattle.tp_base.specs.declared.Step.TheVariants.{Insert, Supply, Begin, Done, ActionOpen, ActionClose, Ready, Send, Recv, MessageEnd}
+use Rattle.tp_base.specs.declared.Step.TheVariants.{Start, Down, Give, Up, Judge, Reopen}
 use Rattle.tp_base.specs.declared.limits.TheConstants.{MAX_INPUTS}
-use Rattle.tp_text.specs.Script.{version_lines}
-use Rattle.tp_text.specs.Spelling.{IsNumber, numbers_of, word_of}
-use Rattle.tp_text.specs.Trace.{format_line}
-use Rattle.tp_text.specs.declared.version.Version.{Version as TextVersion}
-use Rattle.tp_text.specs.declared.version.Version.TheVariants as versions
+use Rattle.tp_text.specs.Spelling.{IsNumber, word_of}
 use Rattle.tp_reasons.specs.Cuts.{parts}
 use Rattle.tp_reasons.specs.declared.line.Grammar.{Grammar}
 use Rattle.tp_reasons.specs.declared.line.Grammar.TheVariants.{Script, Trace}
@@ -29,14 +27,33 @@ IsEnded l text = l - 1 + 1 < length (parts 10 text)
 
 -- ---- the words of a step
 
--- the same version, as the grammar of texts has it
-abbrev pub spelled : Version → TextVersion
-spelled One = versions.One
-spelled Two = versions.Two
+-- Behind the number of a message stands in version 2 that of its generation.
+abbrev pub by_version : Version → ℕ → ℕ → ℕ
+by_version One one two = one
+by_version Two one two = two
+
+-- how many numbers the line of a step has
+abbrev pub numbers_due : Version → Step → ℕ
+numbers_due v (Insert i t k) = 3
+numbers_due v (Supply t) = 1
+numbers_due v (Begin t) = 1
+numbers_due v (Done t) = 1
+numbers_due v (ActionOpen i a) = 2
+numbers_due v (ActionClose i a) = 2
+numbers_due v (Ready i) = 1
+numbers_due v (Send i j m g) = by_version v 3 4
+numbers_due v (Recv j m g) = by_version v 2 3
+numbers_due v (MessageEnd j m g) = by_version v 2 3
+numbers_due v Start = 0
+numbers_due v (Down i) = 1
+numbers_due v (Give i) = 1
+numbers_due v (Up i) = 1
+numbers_due v Judge = 0
+numbers_due v Reopen = 0
 
 -- The line of a step begins with the word, and has so many numbers.
 abbrev pub BeginsStep : Version → List ℕ → ℕ → Type 0
-BeginsStep v word due = (s : Step) × (word ≡ word_of s) × (due ≡ length (numbers_of (spelled v) s))
+BeginsStep v word due = (s : Step) × (word ≡ word_of s) × (due ≡ numbers_due v s)
 
 -- a number of at most six digits, without leading zeros
 abbrev pub IsNumeral : List ℕ → Type 0
@@ -75,8 +92,8 @@ IsStepReason grammar v word more reason = ⊥
 
 -- the line with which a text of version 2 begins
 abbrev pub second_head : Grammar → List ℕ
-second_head Script = version_lines versions.Two
-second_head Trace = format_line versions.Two
+second_head Script = codes "script 2\n"
+second_head Trace = codes "trace 2\n"
 
 -- The text tells that it is of version 2.
 abbrev pub IsSecond : Grammar → List ℕ → Type 0

@@ -1,14 +1,13 @@
 ghost use Rattle.std.specs.Prelude.{◌≡◌, ◌≢◌, ◌<◌, ◌≤◌, ◌+◌, ◌-◌, ◌↔◌, ◌∷◌, ◌++◌, [], IsTrue, List, ℕ};
 ghost use Rattle.std.specs.Prelude.{codes, decimal, length, MatchOption, MatchResult, true, false};
 ghost use Rattle.std.specs.List.{All};
+ghost use Rattle.tp_base.specs.declared.Step.{Step};
 ghost use Rattle.tp_base.specs.declared.limits.TheConstants.{MAX_INPUTS};
-ghost use Rattle.tp_text.specs.Keywords.{keyword_text};
 ghost use Rattle.tp_text.specs.Reading.{syntax_text};
-ghost use Rattle.tp_text.specs.Spelling.{IsNumber};
-ghost use Rattle.tp_text.specs.declared.keyword.Keyword.{Keyword};
+ghost use Rattle.tp_text.specs.Spelling.{IsNumber, word_of};
 ghost use Rattle.tp_reasons.specs.Cuts.{parts, parts_behind};
-ghost use Rattle.tp_reasons.specs.Lines.{AreOfManyInputs, BeginsStep, IsCounted, IsEnded, IsFirstOther, IsLineReason};
-ghost use Rattle.tp_reasons.specs.Lines.{IsNumeral, IsSecond, IsStepReason, IsTextReason, format_at, line_at, nodes_at, second_head};
+ghost use Rattle.tp_reasons.specs.Lines.{AreOfManyInputs, BeginsStep, IsCounted, IsEnded, IsFirstOther, IsLineReason, IsNumeral};
+ghost use Rattle.tp_reasons.specs.Lines.{IsSecond, IsStepReason, IsTextReason, by_version, format_at, line_at, nodes_at, second_head};
 
 use crate::cuts::{cut, three};
 use crate::digits::number_of;
@@ -225,7 +224,7 @@ fn uncounted(grammar: Grammar, version: Version, word: &[u8]) -> Option<LineReas
 /// Why what stands behind a keyword, of which so many numbers are due, is not these.
 fn numbers_reason<'a>(word: &[u8], rest: Option<&'a [u8]>, due: usize) -> LineReason<'a>
     ensures { (grammar : Grammar) (version : Version) → BeginsStep version word.now due → IsCounted grammar version word.now
-        → IsStepReason grammar version word.now (parts_behind 32 rest) result }
+        → IsStepReason grammar version word.now (parts_behind 32 rest.entry) result }
 {
     let has = match count_of(rest) {
         Ok(has) => has,
@@ -242,7 +241,7 @@ fn numbers_reason<'a>(word: &[u8], rest: Option<&'a [u8]>, due: usize) -> LineRe
 
 /// Whether the last of three words is a number of inputs that no task has.
 fn are_of_many_inputs(rest: Option<&[u8]>) -> bool
-    ensures { IsTrue result ↔ AreOfManyInputs (parts_behind 32 rest) }
+    ensures { IsTrue result ↔ AreOfManyInputs (parts_behind 32 rest.entry) }
 {
     match three(rest, b' ') {
         Some((_, _, inputs)) => is_many(inputs),
@@ -267,10 +266,22 @@ fn count_of(behind: Option<&[u8]>) -> Result<usize, &[u8]>
         (λ has. All IsNumeral (parts_behind 32 behind.entry) × (has ≡ length (parts_behind 32 behind.entry)))
         (IsFirstOther (parts_behind 32 behind.entry)) }
 {
-    let mut rest = behind;
+    match behind {
+        Some(words) => count_in(words),
+        None => Ok(0),
+    }
+}
+
+/// How many words there are, where they are numbers, or the first that is none.
+fn count_in(words: &[u8]) -> Result<usize, &[u8]>
+    ensures { MatchResult result
+        (λ has. All IsNumeral (parts 32 words.now) × (has ≡ length (parts 32 words.now)))
+        (IsFirstOther (parts 32 words.now)) }
+{
+    let mut rest = Some(words);
     let mut count = 0;
-    while let Some(words) = rest {
-        let (word, behind) = cut(words, b' ');
+    while let Some(left) = rest {
+        let (word, behind) = cut(left, b' ');
         if !is_numeral(word) {
             return Err(word);
         }
@@ -293,7 +304,7 @@ fn is_numeral(word: &[u8]) -> bool
 
 /// How many numbers stand behind a keyword, where the word is one.
 fn numbers_due(version: Version, word: &[u8]) -> Option<usize>
-    ensures { MatchOption result ((k : Keyword) → word.now ≢ keyword_text k) (BeginsStep version word.now) }
+    ensures { MatchOption result ((s : Step) → word.now ≢ word_of s) (BeginsStep version word.now) }
 {
     match word {
         b"insert" => Some(3),
@@ -318,8 +329,7 @@ fn numbers_due(version: Version, word: &[u8]) -> Option<usize>
 
 /// One number in version 1, and the other in version 2, where that of its generation stands behind a message.
 fn by_version(version: Version, one: usize, two: usize) -> usize
-    ensures one { version ≡ Version.One → result ≡ one }
-    ensures two { version ≡ Version.Two → result ≡ two }
+    ensures { result ≡ by_version version one two }
 {
     match version {
         Version::One => one,

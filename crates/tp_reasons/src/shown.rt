@@ -1,4 +1,5 @@
-ghost use Rattle.std.specs.Prelude.{◌≡◌, IsTrue, MatchOption, false, true};
+ghost use Rattle.std.specs.Prelude.{◌≡◌, MatchOption, false, true};
+ghost use Rattle.std.specs.List.{list_all};
 ghost use Rattle.tp_reasons.specs.LineTexts.{is_shown, is_visible};
 
 use crate::line::{LineReason, StepCount, TextReason};
@@ -8,10 +9,12 @@ use std::fmt;
 fn shown(word: &[u8]) -> Option<&str>
     ensures { MatchOption result (is_shown word.now ≡ false) (λ text. (text.now ≡ word.now) × (is_shown word.now ≡ true)) }
 {
-    if is_shown(word) {
-        std::str::from_utf8(word).ok()
-    } else {
-        None
+    if !is_shown(word) {
+        return None;
+    }
+    match std::str::from_utf8(word) {
+        Ok(text) => Some(text),
+        Err(_) => None,
     }
 }
 
@@ -19,7 +22,14 @@ fn shown(word: &[u8]) -> Option<&str>
 fn is_shown(word: &[u8]) -> bool
     ensures { result ≡ is_shown word.now }
 {
-    1 <= word.len() && word.len() <= 32 && word.iter().all(|byte| is_visible(*byte))
+    1 <= word.len() && word.len() <= 32 && are_visible(word)
+}
+
+/// Whether each byte is a visible character of ASCII.
+fn are_visible(word: &[u8]) -> bool
+    ensures { result ≡ list_all is_visible word.now }
+{
+    word.iter().all(|byte| is_visible(*byte))
 }
 
 /// Whether a byte is a visible character of ASCII.
