@@ -1,5 +1,5 @@
 -- The lines of a text, and its words.
-use Rattle.std.proofs.Common.{◌≡◌, ◌≢◌, ◌<◌, ◌≤◌, ◌+◌, ◌-◌, ℕ, zero, suc, List, [], ◌∷◌, ◌++◌, ◌∙◌, Option, None, Some, length}
+use Rattle.std.proofs.Common.{◌≡◌, ◌<◌, ◌≤◌, ◌+◌, ◌-◌, ℕ, zero, suc, List, [], ◌∷◌, ◌++◌, ◌∙◌, Option, None, Some, length}
 use Rattle.std.proofs.Common.{Bool, true, false, IsTrue, ◌↔◌, ap, append_assoc, arith, get_or, length-append, refl, subst, sym, true≢false}
 use Rattle.std.proofs.Math.Seq.{get_or-append_seam}
 use Rattle.std.specs.Borrow.{Bor}

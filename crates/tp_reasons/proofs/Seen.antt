@@ -1,5 +1,5 @@
 -- The words of a line, one after another.
-use Rattle.std.proofs.Common.{◌≡◌, ◌<◌, ◌≤◌, ◌+◌, ◌^◌, ◌∙◌, ◌++◌, ℕ, List, [], ◌∷◌, Option, None, Some, ap}
+use Rattle.std.proofs.Common.{◌≡◌, ◌≤◌, ◌+◌, ◌∙◌, ◌++◌, ℕ, List, [], ◌∷◌, ap}
 use Rattle.std.proofs.Common.{append-nil, append_assoc, arith, length, length-append, refl, subst, sym}
 use Rattle.std.proofs.lemmas.List.Elements.{All-push}
 use Rattle.std.proofs.lemmas.List.Splits.{length-slice_split}
@@ -7,7 +7,7 @@ use Rattle.std.proofs.lemmas.List.Sums.{count_by-le-length}
 use Rattle.std.specs.Borrow.{Bor}
 use Rattle.std.specs.List.{All}
 use Rattle.std.specs.Prelude.{◌==◌}
-use Rattle.tp_reasons.specs.Cuts.{parts, parts_behind}
+use Rattle.tp_reasons.specs.Cuts.{parts}
 use Rattle.tp_reasons.specs.Lines.{IsFirstOther, IsNumeral}
 
 -- The words before those that are left are so many, and numbers.

@@ -1,5 +1,5 @@
 -- How the reasons of texts read.
-use Rattle.std.specs.Prelude.{ℕ, ◌≤◌, ◌++◌, ◌&&◌, Bool, List, codes, decimal, if◌then◌else◌, length, nat_le}
+use Rattle.std.specs.Prelude.{ℕ, ◌++◌, ◌&&◌, Bool, List, codes, decimal, if◌then◌else◌, length, nat_le}
 use Rattle.std.specs.List.{list_all}
 use Rattle.tp_reasons.specs.declared.line.LineReason.{LineReason}
 use Rattle.tp_reasons.specs.declared.line.LineReason.TheVariants as reasons
