@@ -96,7 +96,7 @@ fn answer_words<R: Threads + Wait + Sync, I: Read, O: Write>(
 }
 
 /// Answers a text of a kind.
-pub(crate) fn answer_text<I: Read, O: Write>(
+fn answer_text<I: Read, O: Write>(
     alloc: Global,
     kind: TextKind,
     reader: &mut I,

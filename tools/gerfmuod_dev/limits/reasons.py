@@ -52,6 +52,44 @@ SEVERAL = [
     ([f"reduce:4:{seed}" for seed in range(9)], b"refused 23 StoreFull\n", b"more than 8 pools\n"),
     (["x"] * 9, b"refused 23 StoreFull\n", b"more than 8 pools\n"),
 ]
+NO_NUMBER = b" of at most six digits without leading zeros\n"
+NO_NODES = b" is not `nodes N`, N from 1 to 8\n"
+# each a text for `sim`, the first line that is not of the grammar, and what is wrong with it
+SCRIPTS = [
+    (b"", 1, b" is missing\n"),
+    (b"nodes 9\n", 1, NO_NODES),
+    (b"nodes 1\r\n", 1, NO_NODES),
+    (b"nodes 1", 1, b" has no end\n"),
+    (b"script 2\n", 2, b" is missing\n"),
+    (b"script 2\nready 0\n", 2, NO_NODES),
+    (b"nodes 1\nready 0\nsuply 1\n", 3, b": no step `suply`\n"),
+    (b"nodes 1\n\nready 0\n", 2, b": no step\n"),
+    (b"nodes 1\n\x1b[2J\n", 2, b": no step\n"),
+    (b"nodes 1\n" + b"x" * 33 + b"\n", 2, b": no step\n"),
+    (b"nodes 1\nready 0", 2, b" has no end\n"),
+    (b"nodes 1\nreopen\n", 2, b": no step `reopen` in version 1\n"),
+    (b"nodes 1\nsupply x 1\n", 2, b": no number `x`" + NO_NUMBER),
+    (b"nodes 1\nready 00\n", 2, b": no number `00`" + NO_NUMBER),
+    (b"nodes 1\nready  0\n", 2, b": no number" + NO_NUMBER),
+    (b"nodes 1\nsupply 1000000\n", 2, b": no number `1000000`" + NO_NUMBER),
+    (b"nodes 1\nready \xd9\xa0\n", 2, b": no number" + NO_NUMBER),
+    (b"nodes 1\ninsert 0 1\n", 2, b": the step has 3 numbers, and not 2\n"),
+    (b"nodes 1\nstart 0\n", 2, b": the step has 0 numbers, and not 1\n"),
+    (b"script 2\nnodes 2\nsend 0 1 5\n", 3, b": the step has 4 numbers, and not 3\n"),
+    (b"nodes 1\ninsert 0 1 17\n", 2, b": a task has at most 16 inputs\n"),
+]
+# and for `audit`
+TRACES = [
+    (b"", 1, b" is missing\n"),
+    (b"trace 3\nnodes 1\n", 1, b" is neither `trace 1` nor `trace 2`\n"),
+    (b"trace 1", 1, b" has no end\n"),
+    (b"trace 1\nready 0\n", 2, NO_NODES),
+    (b"trace 1\nnodes 1\njudge\n", 3, b": behind `judge` stands `not` or `ended W`, W from 1 on\n"),
+    (b"trace 1\nnodes 1\njudge ended 0\n", 3, b": behind `judge` stands `not` or `ended W`, W from 1 on\n"),
+    (b"trace 1\nnodes 1\njudge not", 3, b" has no end\n"),
+    (b"trace 2\nnodes 2\nrecv 1 5\n", 3, b": the step has 3 numbers, and not 2\n"),
+    (b"trace 1\nnodes 1\ndone 1\nsuply 1\n", 4, b": no step `suply`\n"),
+]
 # what is answered to a script without steps
 STARTED = b"node 0 pending 1 sent 0 received 0\ntotal pending 1 sent 0 received 0 under 0\nquiet no\n"
 # what ends in other ways tells the same at a terminal: the words, the input, and the answer
@@ -130,6 +168,10 @@ def run(words):
         judge(tally, f"run {word}", words.tp, ["run", word], b"", Answer(1, b"", BAD_SPEC), word + b": " + reason)
     for several, line, reason in SEVERAL:
         judge(tally, f"pools {several}", words.tp, ["pools", *several], b"", Answer(1, b"", line), reason)
+    for name, texts in ("sim", SCRIPTS), ("audit", TRACES):
+        for text, line, reason in texts:
+            wanted = Answer(2, b"syntax line %d\n" % line, b"")
+            judge(tally, f"{name} {text}", words.tp, [name], text, wanted, b"line %d" % line + reason)
     for asked, stdin, wanted in OTHERS:
         judge(tally, f"{asked}", words.tp, asked, stdin, wanted, b"")
     came = typed(words.tp, ["sim"], b"nodes 1\n")

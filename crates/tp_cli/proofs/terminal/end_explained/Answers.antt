@@ -6,8 +6,8 @@ use Rattle.tp_cli.proofs.terminal.end_explained.Goals as goal
 pub returns-in-Ok-Answer-clause-ending : goal.returns-in-Ok-Answer-clause-ending
 returns-in-Ok-Answer-clause-ending g c =
     let asked = rw c.in-Ok-Answer.field-0-is at c.in-Ok-Answer.ensures.asked in
-    ended_text g.E.Diagnostics.tells (map (λ w. w.now) c.args.words.now) _ _ _ _ _ _ _ _ c.in-Ok-Answer.kind c.answer_text.result asked
-    c.answer_text.ensures.answered c.answer_text.ensures.why c.told.ensures.done c.told.ensures.faulty
+    ended_text g.E.Diagnostics.tells (map (λ w. w.now) c.args.words.now) _ _ _ _ _ _ _ _ c.in-Ok-Answer.kind asked
+    c.answer_at_terminal.ensures
 
 pub returns-in-Ok-Answer-clause-unread : goal.returns-in-Ok-Answer-clause-unread
 returns-in-Ok-Answer-clause-unread g c =
