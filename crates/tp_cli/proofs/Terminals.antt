@@ -1,6 +1,6 @@
 -- How a run ends at a terminal.
-use Rattle.std.proofs.Common.{◌≡◌, ◌≢◌, ◌∙◌, ◌⊎◌, ◌<◌, ℕ, Bool, true, false, List, Option, Result, Ok, Err, IfErr, IfOk, ap, arith, codes, inl, inr, length}
-use Rattle.std.proofs.Common.{map, refl, subst, sym}
+use Rattle.std.proofs.Common.{◌≡◌, ◌≢◌, ◌∙◌, ◌⊎◌, ◌<◌, ℕ, Bool, true, false, List, Option, Result, Ok, Err, IfErr, IfOk}
+use Rattle.std.proofs.Common.{ap, arith, codes, inl, inr, length, map, refl, subst, sym}
 use Rattle.std.proofs.lemmas.Option.{slice_get_within}
 use Rattle.std.proofs.lemmas.Result.{IfErr-weaker, IfOk-weaker}
 use Rattle.std.specs.Io.KnownBytes.{Appends}
@@ -149,7 +149,8 @@ module _ {D : Type 0} (tells : D → List ℕ → D → Type 0) (asking : List T
     ]
 
     complained : (r : Result Status Fault) → Answered r → IfErr r Lacks → Kept r → Told r → Explained r → code ≡ 1
-        → (f : Fault) × (met : D) × (code ≡ code_of (status_of f)) × tells old (line_of f) met × IsExplained tells asking f met new × Lacks f
+        → (f : Fault) × (met : D) × (code ≡ code_of (status_of f)) × tells old (line_of f) met
+        × IsExplained tells asking f met new × Lacks f
     complained (Ok t) answered lacks kept told explained one =
         absurd (if_fault asking read_old read_new written_old written_new t (ap code_of (sym kept.0) ∙ sym is ∙ one) answered)
     complained (Err f) answered lacks kept told explained one =

@@ -80,7 +80,7 @@ abbrev pub reason_line : TextReason → List ℕ
 reason_line reason = text_text reason ++ codes "\n"
 
 -- Behind an answer that names the first line that is not of the grammar it is told what is wrong with that line; behind another
--- answer nothing is.
+-- answer nothing is. (No text that is read has as many lines as 1,000,000,000.)
 abbrev pub IsTextExplained : {D : Type 0} → (D → List ℕ → D → Type 0) → TextKind → List ℕ → List ℕ → D → D → Type 0
 IsTextExplained tells kind bytes answer old new =
     ((reason : TextReason) × (answer ≡ syntax_text reason.line) × IsTextReason (grammar_of kind) reason.line bytes reason.reason

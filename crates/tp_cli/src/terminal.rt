@@ -16,20 +16,29 @@ use std::alloc::Global;
 use std::io::{Read, Write};
 use std::sync::Wait;
 use std::thread::Threads;
+use tp_progress::Screen;
 use tp_reasons::{word_reason, words_reason};
 use tp_shell::{Diagnostics, Status, complain};
 
 /// Runs the program as [`crate::main_with`] does, for who reads the complaints at a terminal: where a word names no pool, or
 /// several words may not be registered, a second line says why; and where a line of a script or a trace is not of the grammar, a
 /// line says what is wrong with it. All else is the same: what is written to `out`, what is read, the first line, and the exit
-/// status. A script or a trace is kept until it is answered, so it takes its memory twice.
-pub fn main_at_terminal<R: Threads + Wait + Sync, I: Read, O: Write, E: Diagnostics>(
+/// status. A script or a trace is kept until it is answered, so it takes its memory twice. While a pool is run a screen, where there
+/// is one, is told how far the run is.
+pub fn main_at_terminal<
+    R: Threads + Wait + Sync,
+    I: Read,
+    O: Write,
+    E: Diagnostics,
+    W: Write + Send + Drop,
+>(
     rt: &R,
     alloc: Global,
     words: &[&str],
     reader: &mut I,
     out: &mut O,
     err: &mut E,
+    screen: Option<Screen<W>>,
 ) -> u8
     ensures range { result ≤ 3 }
     // 0: as without a terminal, and nothing is complained of.
@@ -49,17 +58,24 @@ pub fn main_at_terminal<R: Threads + Wait + Sync, I: Read, O: Write, E: Diagnost
         ⊎ ((err.new ≡ err.old) × RefusedPool (map (λ w. w.now) words.now) (O.contents out.old) (O.contents out.new)) }
     ensures unread { ReadsAText (map (λ w. w.now) words.now) ⊎ (reader.new ≡ reader.old) }
 {
-    end_explained(rt, alloc, words, reader, out, err).code()
+    end_explained(rt, alloc, words, reader, out, err, screen).code()
 }
 
 /// Writes what the words ask for, and tells the fault that was met, with its reason.
-fn end_explained<R: Threads + Wait + Sync, I: Read, O: Write, E: Diagnostics>(
+fn end_explained<
+    R: Threads + Wait + Sync,
+    I: Read,
+    O: Write,
+    E: Diagnostics,
+    W: Write + Send + Drop,
+>(
     rt: &R,
     alloc: Global,
     words: &[&str],
     reader: &mut I,
     out: &mut O,
     err: &mut E,
+    screen: Option<Screen<W>>,
 ) -> Status
     ensures ending { IsEnding E.tells (map (λ w. w.now) words.now) (I.remaining reader.old) (I.remaining reader.new)
         (O.contents out.old) (O.contents out.new) (out.new ≡ out.old) result err.old err.new }
@@ -67,7 +83,9 @@ fn end_explained<R: Threads + Wait + Sync, I: Read, O: Write, E: Diagnostics>(
 {
     match requested(alloc, words) {
         Ok(Request::Answer(kind)) => answer_at_terminal(alloc, kind, reader, out, err),
-        Ok(Request::Run(spec, plan)) => told_of_run(run(rt, alloc, spec, plan, out), spec, err),
+        Ok(Request::Run(spec, plan)) => {
+            told_of_run(run(rt, alloc, spec, plan, out, screen), spec, err)
+        }
         Ok(Request::Pools(specs, config)) => {
             let specs: &[&str] = &specs;
             told_of_pools(run_several(rt, alloc, specs, config, out), specs, err)
