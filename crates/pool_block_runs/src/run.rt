@@ -12,8 +12,8 @@ use std::thread::Threads;
 use tp_base::Refusal;
 use tp_work::{Config, OpenGate, run_pool};
 
-/// Cells after so many steps of a stencil, worked out by a pool of threads, which ended. Refused: `Run` with what [`run_pool`] answered where it
-/// was refused, and `Unmade` with its outcome where there was no memory for the cells.
+/// Cells after so many steps of a stencil, worked out by a pool of threads, which ended. Refused: `Run` with what
+/// [`run_pool`] answered where it was refused, and `Unmade` with its outcome where there was no memory for the cells.
 pub fn run_steps<S: Stencil, R: Threads + Wait + Sync>(
     rt: &R,
     alloc: Global,
