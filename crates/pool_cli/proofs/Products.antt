@@ -2,8 +2,8 @@
 use Rattle.std.proofs.Common.{◌≡◌, ◌∙◌, ◌≤◌, ◌<◌, ◌+◌, ◌-◌, ◌*◌, ◌/◌, ◌%◌, ◌^◌, ℕ, zero, suc, ℤ, List, length, ap, refl, arith, rules}
 use Rattle.std.proofs.Common.{tests}
 use Rattle.std.proofs.lemmas.Nat.{div-add-mod', mul-le}
+use Rattle.pool_matrix.specs.Events.{events_of_messages, events_of_tasks, product_events}
 use Rattle.pool_matrix.specs.Matrices.{list_of, product_of}
-use Rattle.pool_cli.specs.Tiles.{message_events, product_events, task_events}
 
 length-list_of : {A : Type 0} (count : ℕ) (f : ℕ → A) → length (list_of count f) ≡ count
 length-list_of zero f = refl
@@ -34,19 +34,19 @@ pub cube_small : (tiles factor : ℕ) → tiles < 2 ^ 15 → factor ≤ tiles �
 cube_small tiles factor few least = mul-le (tiles * tiles) factor (2 ^ 30) (2 ^ 15) (square_small tiles few) (omega (arith, few, least))
 
 -- the events of a run, by the number of its messages
-counted : (tiles nodes now messages : ℕ) → now ≡ tiles → 3 * messages ≡ message_events tiles nodes
+counted : (tiles nodes now messages : ℕ) → now ≡ tiles → 3 * messages ≡ events_of_messages tiles nodes
     → 3 * (now * now * now) + 3 * messages ≡ product_events tiles nodes
 counted tiles nodes now messages same are =
-    ap (λ tasks. tasks + 3 * messages) (ap task_events same) ∙ ap (λ more. task_events tiles + more) are
+    ap (λ tasks. tasks + 3 * messages) (ap events_of_tasks same) ∙ ap (λ more. events_of_tasks tiles + more) are
 
 pub events_at_several : (tiles nodes now messages : ℕ) → now ≡ tiles → 1 < nodes → messages ≡ now * now * (now - 1)
     → 3 * (now * now * now) + 3 * messages ≡ product_events tiles nodes
 events_at_several tiles nodes now messages same several are =
-    let each : 3 * (tiles * tiles * (tiles - 1)) ≡ message_events tiles nodes = search (tests, rules) in
+    let each : 3 * (tiles * tiles * (tiles - 1)) ≡ events_of_messages tiles nodes = search (tests, rules) in
     counted tiles nodes now messages same (ap (λ n. 3 * n) are ∙ ap (λ n. 3 * (n * n * (n - 1))) same ∙ each)
 
 pub events_at_one : (tiles nodes now messages : ℕ) → now ≡ tiles → nodes ≤ 1 → messages ≡ 0
     → 3 * (now * now * now) + 3 * messages ≡ product_events tiles nodes
 events_at_one tiles nodes now messages same one none =
-    let each : 0 ≡ message_events tiles nodes = search (tests, rules) in
+    let each : 0 ≡ events_of_messages tiles nodes = search (tests, rules) in
     counted tiles nodes now messages same (ap (λ n. 3 * n) none ∙ each)

@@ -6,3 +6,4 @@ pub mod Counted
 pub mod Relations
 pub mod Found
 pub mod Events
+pub mod EventLaws
