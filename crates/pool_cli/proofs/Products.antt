@@ -1,9 +1,10 @@
 -- Lengths of products, and sizes of tiles.
 use Rattle.std.proofs.Common.{◌≡◌, ◌∙◌, ◌≤◌, ◌<◌, ◌+◌, ◌-◌, ◌*◌, ◌/◌, ◌%◌, ◌^◌, ℕ, zero, suc, ℤ, List, length, ap, refl, arith, rules}
-use Rattle.std.proofs.Common.{tests}
+use Rattle.std.proofs.Common.{subst, tests}
 use Rattle.std.proofs.lemmas.Nat.{div-add-mod', mul-le}
 use Rattle.pool_matrix.specs.Events.{events_of_messages, events_of_tasks, product_events}
-use Rattle.pool_matrix.specs.Matrices.{list_of, product_of}
+use Rattle.pool_block_runs.specs.Runs.{HasRun}
+use Rattle.pool_matrix.specs.Matrices.{list_of, matrix_graph, product_of}
 
 length-list_of : {A : Type 0} (count : ℕ) (f : ℕ → A) → length (list_of count f) ≡ count
 length-list_of zero f = refl
@@ -14,6 +15,15 @@ pub product_full : (order rows : ℕ) (left right made : List ℤ) → rows ≡ 
     → length made ≡ order * order
 product_full order rows left right made same is =
     ap length is ∙ length-list_of (rows * rows) _ ∙ ap (λ n. n * n) same
+
+-- the run of what was lent is that of the matrices
+pub same_run : (n workers order rows side : ℕ) (lent_left lent_right left right : List ℤ) → rows ≡ order → lent_left ≡ left
+    → lent_right ≡ right → HasRun n workers (matrix_graph lent_left lent_right (rows / side) side)
+    → HasRun n workers (matrix_graph left right (order / side) side)
+same_run n workers order rows side lent_left lent_right left right same is_left is_right run =
+    subst (λ k. HasRun n workers (matrix_graph left right (k / side) side)) same
+    (subst (λ xs. HasRun n workers (matrix_graph left xs (rows / side) side)) is_right
+    (subst (λ xs. HasRun n workers (matrix_graph xs lent_right (rows / side) side)) is_left run))
 
 -- what fills some rows is not nothing
 not_none : (rows side tiles : ℕ) → 1 ≤ rows → tiles * side ≡ rows → 1 ≤ tiles
