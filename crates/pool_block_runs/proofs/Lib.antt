@@ -1,3 +1,3 @@
 pub mod Planned
 pub mod Refused
-pub mod Crossings
+pub mod Outcomes

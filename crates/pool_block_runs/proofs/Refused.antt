@@ -1,5 +1,5 @@
 -- Why a run over lent cells gives nothing.
-use Rattle.std.proofs.Common.{◌≡◌, ◌≢◌, ◌<◌, ◌≤◌, ◌+◌, ◌-◌, ◌*◌, ◌^◌, ℕ, suc, ℤ, Bool, true, Result, Ok, Err, List, [], ◌∷◌, length, cond}
+use Rattle.std.proofs.Common.{◌≡◌, ◌≢◌, ◌<◌, ◌≤◌, ◌+◌, ◌-◌, ◌*◌, ℕ, suc, ℤ, Bool, true, Result, Ok, Err, List, [], ◌∷◌, length, cond}
 use Rattle.std.proofs.Common.{refl, sym, ap, subst, ◌∙◌, ⊎_elim, inl, inr, arith}
 use Rattle.std.specs.Prelude.{◌==◌, MatchResult}
 use Rattle.std.specs.List.{All}
@@ -16,6 +16,7 @@ use Rattle.pool_blocks.specs.Stencils.{AreNoSteps, AreSteps, BlockStep, IsCellsR
 use Rattle.pool_blocks.specs.Stencils.{blocks_of}
 use Rattle.pool_block_runs.specs.Events.{TakeSteps, step_events}
 use Rattle.pool_block_runs.specs.Faults.{IsLentFault, IsOfPart, IsPartFault}
+use Rattle.pool_block_runs.specs.Runs.{HasRun, HasRunInParts}
 use Rattle.pool_block_runs.specs.declared.fault.LentFault.{LentFault}
 use Rattle.pool_block_runs.specs.declared.fault.LentFault.TheVariants.{BadInput, Run, Unmade}
 use Rattle.tp_work.specs.Outcomes.{IsFault, IsOutcome}
@@ -90,6 +91,19 @@ next_part : (step : Step) (next : BlockStep) (cells made : List ℤ) (size steps
     Holds (block_graph next made (blocks_of (length made) size) size part) → IsOfPart step next cells size steps Holds
 next_part step next cells made size steps left part Holds long is h k some holds =
     (steps - left, part, some, omega (arith, h, k), subst Holds (part-graph step next cells made size (steps - left) part long is) holds)
+
+-- where the pool of the next part ended, that of the last of the steps taken did
+pub part_run : (n workers : ℕ) (step : Step) (next : BlockStep) (cells made : List ℤ) (size steps left part : ℕ) → KeepsLength step
+    → made ≡ after step (steps - left) cells → left ≤ steps → part ≤ left → 1 ≤ part →
+    HasRun n workers (block_graph next made (blocks_of (length made) size) size part)
+    → HasRunInParts n workers step next cells size (steps - (left - part))
+part_run n workers step next cells made size steps left part long is h k some run = inr (
+  steps - left,
+  part,
+  some,
+  omega (arith, h, k),
+  subst (HasRun n workers) (part-graph step next cells made size (steps - left) part long is) run,
+)
 
 -- the fault of a part of the steps is one of the whole
 pub part_fault : (n workers : ℕ) (takes : ℕ → ℕ

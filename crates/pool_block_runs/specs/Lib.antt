@@ -1,2 +1,4 @@
 pub mod Events
 pub mod Faults
+pub mod Outcomes
+pub mod Runs

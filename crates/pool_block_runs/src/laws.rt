@@ -1,7 +1,11 @@
-ghost use Rattle.pool_block_runs.specs.Events.{MessagesAreCounted};
+ghost use Rattle.pool_block_runs.specs.Outcomes.{LeastEventsLaw, OutcomeLaw, RunEventsLaw};
 
-/// Two messages cross each boundary between two nodes at each step, and there are as many boundaries as are counted.
-#[tactic(auto, using(crate::proofs::Crossings::messages_counted))]
-pub fn messages_are_counted()
-    ensures { MessagesAreCounted }
+/// An outcome takes 3 events for each task and 2 for each message at least. Its steps work its graph out where each input but the
+/// first was supplied and each feed to another node was a message that was closed; a run of steps in blocks took then exactly the
+/// events that are counted beforehand.
+#[tactic(auto, using(crate::proofs::Outcomes::outcome_law, crate::proofs::Outcomes::run_law))]
+pub fn run_events_are_counted()
+    ensures least { LeastEventsLaw }
+    ensures works { OutcomeLaw }
+    ensures exact { RunEventsLaw }
 {}

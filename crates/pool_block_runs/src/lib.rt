@@ -9,6 +9,6 @@ mod run;
 
 pub use events::steps_at_once;
 pub use fault::LentFault;
-pub use laws::messages_are_counted;
+pub use laws::run_events_are_counted;
 pub use parts::run_in_parts;
 pub use run::run_steps;

@@ -1,6 +1,7 @@
 ghost use Rattle.std.specs.Prelude.{◌≡◌, MatchResult, length};
 ghost use Rattle.pool_blocks.specs.Stencils.{AreSteps, after, block_graph, blocks_of};
 ghost use Rattle.pool_block_runs.specs.Faults.{IsLentFault, IsPartFault};
+ghost use Rattle.pool_block_runs.specs.Runs.{HasRun, HasRunInParts};
 ghost use Rattle.tp_work.specs.Outcomes.{IsWithinLimits};
 
 use crate::events::steps_at_once;
@@ -26,7 +27,8 @@ pub fn run_in_parts<S: Stencil, R: Threads + Wait + Sync>(
 ) -> Result<Vec<i64>, LentFault>
     requires { IsWithinLimits config }
     ensures { MatchResult result
-        (λ made. made.items ≡ after (S.step stencil) steps cells.items)
+        (λ made. (made.items ≡ after (S.step stencil) steps cells.items)
+        × HasRunInParts config.nodes config.workers (S.step stencil) (S.next stencil) cells.items size steps)
         (IsPartFault config.nodes config.workers (S.takes stencil) (S.step stencil) (S.next stencil)
         cells.items size steps) }
 {
@@ -59,7 +61,9 @@ fn run_part<S: Stencil, R: Threads + Wait + Sync>(
     requires limits { IsWithinLimits config }
     requires taken { AreSteps (S.takes stencil) (length cells.now) size steps }
     ensures { MatchResult result
-        (λ made. made.items ≡ after (S.step stencil) steps cells.now)
+        (λ made. (made.items ≡ after (S.step stencil) steps cells.now)
+        × HasRun config.nodes config.workers
+        (block_graph (S.next stencil) cells.now (blocks_of (length cells.now) size) size steps))
         (IsLentFault config.nodes config.workers ⊥
         (block_graph (S.next stencil) cells.now (blocks_of (length cells.now) size) size steps)) }
 {

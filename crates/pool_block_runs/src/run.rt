@@ -1,6 +1,7 @@
 ghost use Rattle.std.specs.Prelude.{◌≡◌, MatchResult};
 ghost use Rattle.pool_blocks.specs.Stencils.{after, block_graph};
 ghost use Rattle.pool_block_runs.specs.Faults.{IsLentFault};
+ghost use Rattle.pool_block_runs.specs.Runs.{HasRun};
 ghost use Rattle.tp_work.specs.Outcomes.{IsWithinLimits};
 
 use crate::fault::LentFault;
@@ -11,8 +12,8 @@ use std::thread::Threads;
 use tp_base::Refusal;
 use tp_work::{Config, OpenGate, run_pool};
 
-/// Cells after so many steps of a stencil, worked out by a pool of threads. Refused: `Run` with what [`run_pool`] answered where it
-/// was refused, and `Unmade` with its outcome where there was no memory for the cells.
+/// Cells after so many steps of a stencil, worked out by a pool of threads, which ended. Refused: `Run` with what
+/// [`run_pool`] answered where it was refused, and `Unmade` with its outcome where there was no memory for the cells.
 pub fn run_steps<S: Stencil, R: Threads + Wait + Sync>(
     rt: &R,
     alloc: Global,
@@ -21,7 +22,10 @@ pub fn run_steps<S: Stencil, R: Threads + Wait + Sync>(
 ) -> Result<Vec<i64>, LentFault>
     requires { IsWithinLimits config }
     ensures { MatchResult result
-        (λ made. made.items ≡ after (S.step work.entry.stencil) work.entry.steps work.entry.cells.now)
+        (λ made. (made.items ≡ after (S.step work.entry.stencil) work.entry.steps work.entry.cells.now)
+        × HasRun config.nodes config.workers
+        (block_graph (S.next work.entry.stencil) work.entry.cells.now work.entry.blocks work.entry.size
+        work.entry.steps))
         (IsLentFault config.nodes config.workers ⊥
         (block_graph (S.next work.entry.stencil) work.entry.cells.now work.entry.blocks work.entry.size
         work.entry.steps)) }

@@ -5,3 +5,5 @@ pub mod Blocks
 pub mod Lacking
 pub mod Valued
 pub mod Cuts
+pub mod Crossings
+pub mod Events

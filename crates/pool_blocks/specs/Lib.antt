@@ -1,3 +1,4 @@
 pub mod Lists
 pub mod Stencils
 pub mod StencilLaws
+pub mod Events

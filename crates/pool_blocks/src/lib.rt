@@ -3,10 +3,12 @@
 #![tactic(auto)]
 
 mod inputs;
+mod laws;
 mod result;
 mod stencil;
 mod steps;
 
+pub use laws::block_events_are_counted;
 pub use result::{cells_by_one, cells_of};
 pub use stencil::Stencil;
 pub use steps::Steps;

@@ -23,6 +23,10 @@ abbrev pub IsFirstBad : List ℕ → ℕ → Type 0
 IsFirstBad text k = (zs : List ℤ) × (rest : List ℕ) × (line : List ℕ) × (more : List ℕ)
     × (k ≡ length zs + 1) × BeginsWith text zs rest × IsFirstLine rest line more × ((z : ℤ) → Spells line z → FitsSigned w64 z → ⊥)
 
+-- the first line of the text spells a number of 64 bits
+abbrev pub BeginsWithNumber : List ℕ → Type 0
+BeginsWithNumber text = (z : ℤ) × (rest : List ℕ) × BeginsWith text (z ∷ []) rest × FitsSigned w64 z
+
 -- a number as a line
 abbrev pub line_of : ℤ → List ℕ
 line_of z = signed_decimal z ++ 10 ∷ []

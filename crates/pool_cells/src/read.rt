@@ -1,15 +1,16 @@
 ghost use Rattle.std.specs.Prelude.{◌≡◌, ◌∷◌, ◌++◌, [], ℕ, IfErr, IfOk, OnOk};
-ghost use Rattle.pool_cells.specs.Texts.{AreLines, IsFirstBad};
-ghost use Rattle.pool_cells.specs.declared.fault.LineFault.TheVariants.{Line};
+ghost use Rattle.pool_cells.specs.Texts.{AreLines, BeginsWithNumber, IsFirstBad};
+ghost use Rattle.pool_cells.specs.declared.fault.LineFault.TheVariants.{Line, Memory};
 
 use crate::fault::LineFault;
 use std::alloc::{AllocError, Global};
 
 /// The numbers that the lines of a text spell, one a line. Refused where a line spells no number of 64 bits, with the first of
-/// these, and where memory is refused.
+/// these, and where memory is refused, which is asked for only where the first line spells a number.
 pub fn numbers_of(alloc: Global, text: &str) -> Result<Vec<i64>, LineFault>
     ensures numbers { IfOk result (λ numbers. AreLines text.now numbers.items) }
     ensures bad { IfErr result (λ fault. (k : ℕ) → fault ≡ Line k → IsFirstBad text.now k) }
+    ensures memory { IfErr result (λ fault. fault ≡ Memory → BeginsWithNumber text.now) }
 {
     let mut numbers = Vec::new(alloc);
     for line in text.lines() {

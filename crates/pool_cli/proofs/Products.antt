@@ -1,9 +1,10 @@
 -- Lengths of products, and sizes of tiles.
 use Rattle.std.proofs.Common.{◌≡◌, ◌∙◌, ◌≤◌, ◌<◌, ◌+◌, ◌-◌, ◌*◌, ◌/◌, ◌%◌, ◌^◌, ℕ, zero, suc, ℤ, List, length, ap, refl, arith, rules}
-use Rattle.std.proofs.Common.{tests}
+use Rattle.std.proofs.Common.{subst, tests}
 use Rattle.std.proofs.lemmas.Nat.{div-add-mod', mul-le}
-use Rattle.pool_matrix.specs.Matrices.{list_of, product_of}
-use Rattle.pool_cli.specs.Tiles.{message_events, product_events, task_events}
+use Rattle.pool_matrix.specs.Events.{events_of_messages, events_of_tasks, product_events}
+use Rattle.pool_block_runs.specs.Runs.{HasRun}
+use Rattle.pool_matrix.specs.Matrices.{list_of, matrix_graph, product_of}
 
 length-list_of : {A : Type 0} (count : ℕ) (f : ℕ → A) → length (list_of count f) ≡ count
 length-list_of zero f = refl
@@ -14,6 +15,15 @@ pub product_full : (order rows : ℕ) (left right made : List ℤ) → rows ≡ 
     → length made ≡ order * order
 product_full order rows left right made same is =
     ap length is ∙ length-list_of (rows * rows) _ ∙ ap (λ n. n * n) same
+
+-- the run of what was lent is that of the matrices
+pub same_run : (n workers order rows side : ℕ) (lent_left lent_right left right : List ℤ) → rows ≡ order → lent_left ≡ left
+    → lent_right ≡ right → HasRun n workers (matrix_graph lent_left lent_right (rows / side) side)
+    → HasRun n workers (matrix_graph left right (order / side) side)
+same_run n workers order rows side lent_left lent_right left right same is_left is_right run =
+    subst (λ k. HasRun n workers (matrix_graph left right (k / side) side)) same
+    (subst (λ xs. HasRun n workers (matrix_graph left xs (rows / side) side)) is_right
+    (subst (λ xs. HasRun n workers (matrix_graph xs lent_right (rows / side) side)) is_left run))
 
 -- what fills some rows is not nothing
 not_none : (rows side tiles : ℕ) → 1 ≤ rows → tiles * side ≡ rows → 1 ≤ tiles
@@ -34,19 +44,19 @@ pub cube_small : (tiles factor : ℕ) → tiles < 2 ^ 15 → factor ≤ tiles �
 cube_small tiles factor few least = mul-le (tiles * tiles) factor (2 ^ 30) (2 ^ 15) (square_small tiles few) (omega (arith, few, least))
 
 -- the events of a run, by the number of its messages
-counted : (tiles nodes now messages : ℕ) → now ≡ tiles → 3 * messages ≡ message_events tiles nodes
+counted : (tiles nodes now messages : ℕ) → now ≡ tiles → 3 * messages ≡ events_of_messages tiles nodes
     → 3 * (now * now * now) + 3 * messages ≡ product_events tiles nodes
 counted tiles nodes now messages same are =
-    ap (λ tasks. tasks + 3 * messages) (ap task_events same) ∙ ap (λ more. task_events tiles + more) are
+    ap (λ tasks. tasks + 3 * messages) (ap events_of_tasks same) ∙ ap (λ more. events_of_tasks tiles + more) are
 
 pub events_at_several : (tiles nodes now messages : ℕ) → now ≡ tiles → 1 < nodes → messages ≡ now * now * (now - 1)
     → 3 * (now * now * now) + 3 * messages ≡ product_events tiles nodes
 events_at_several tiles nodes now messages same several are =
-    let each : 3 * (tiles * tiles * (tiles - 1)) ≡ message_events tiles nodes = search (tests, rules) in
+    let each : 3 * (tiles * tiles * (tiles - 1)) ≡ events_of_messages tiles nodes = search (tests, rules) in
     counted tiles nodes now messages same (ap (λ n. 3 * n) are ∙ ap (λ n. 3 * (n * n * (n - 1))) same ∙ each)
 
 pub events_at_one : (tiles nodes now messages : ℕ) → now ≡ tiles → nodes ≤ 1 → messages ≡ 0
     → 3 * (now * now * now) + 3 * messages ≡ product_events tiles nodes
 events_at_one tiles nodes now messages same one none =
-    let each : 0 ≡ message_events tiles nodes = search (tests, rules) in
+    let each : 0 ≡ events_of_messages tiles nodes = search (tests, rules) in
     counted tiles nodes now messages same (ap (λ n. 3 * n) none ∙ each)

@@ -3,12 +3,13 @@ use Rattle.std.specs.Prelude.{ℕ, ℤ, ◌≡◌, ◌<◌, ◌≤◌, ◌*◌, 
 use Rattle.std.specs.Str.Lines.{lines}
 use Rattle.tp_base.specs.declared.limits.TheConstants.{MAX_STEPS}
 use Rattle.pool_block_runs.specs.Events.{TakeSteps, all_events}
+use Rattle.pool_block_runs.specs.Runs.{HasRunInParts}
 use Rattle.pool_cli.specs.GridCommand.{AsksForGrid, LackGridSteps, relax_app}
 use Rattle.pool_cli.specs.Programs.{About}
 use Rattle.pool_cli.specs.declared.fault.Fault.{Fault}
 use Rattle.pool_cli.specs.declared.fault.Fault.TheVariants as faults
 use Rattle.pool_cli.specs.declared.relax_request.RelaxRequest.{RelaxRequest}
-use Rattle.pool_grid.specs.Grids.{blocks_of, evolve}
+use Rattle.pool_grid.specs.Grids.{block_relaxed, blocks_of, evolve, relaxed}
 use Rattle.pool_grid_rows.specs.Grids.{AreGrid, IsTextFault}
 use Rattle.pool_grid_rows.specs.declared.rows.Rows.{Rows}
 use Rattle.pool_grid_runs.specs.Faults.{IsGridPartFault}
@@ -40,11 +41,14 @@ IsUntaken request grid faults.TooMany = (request.rows * grid.width < 2 ^ 32)
     × (MAX_STEPS < all_events (blocks_of (length grid.numbers.items) (request.rows * grid.width)) request.config.nodes 1)
 IsUntaken request grid fault = ⊥
 
--- a run over the grid gave none, and this is its own fault; or there is no memory for the grid's text
+-- a run over the grid gave none, and this is its own fault; or it was run to the last step, and there is no memory for the grid's
+-- text
 abbrev pub IsWithoutGrid : RelaxRequest → Rows → Fault → Type 0
 IsWithoutGrid request grid (faults.Relaxed fault) =
     IsGridPartFault request.config.nodes request.config.workers grid.numbers.items grid.width request.rows request.steps fault
-IsWithoutGrid request grid faults.Memory = Unit {0}
+IsWithoutGrid request grid faults.Memory =
+    HasRunInParts request.config.nodes request.config.workers (relaxed grid.width) (block_relaxed grid.width) grid.numbers.items
+    (request.rows * grid.width) request.steps
 IsWithoutGrid request grid fault = ⊥
 
 -- a grid as text: its rows of so many numbers as lines

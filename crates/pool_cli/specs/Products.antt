@@ -1,13 +1,14 @@
 -- The program `product`: two matrices, and the text of their product.
-use Rattle.std.specs.Prelude.{ℕ, ◌≡◌, List}
+use Rattle.std.specs.Prelude.{ℕ, ◌≡◌, ◌/◌, List}
 use Rattle.std.specs.Str.Lines.{lines}
+use Rattle.pool_block_runs.specs.Runs.{HasRun}
 use Rattle.pool_cli.specs.Command.{AsksForProduct, LackSide, product_app}
 use Rattle.pool_cli.specs.Programs.{About}
 use Rattle.pool_cli.specs.Tiles.{IsTileFault, IsWithinEvents}
 use Rattle.pool_cli.specs.declared.fault.Fault.{Fault}
 use Rattle.pool_cli.specs.declared.fault.Fault.TheVariants as faults
 use Rattle.pool_cli.specs.declared.product_request.ProductRequest.{ProductRequest}
-use Rattle.pool_matrix.specs.Matrices.{product_of}
+use Rattle.pool_matrix.specs.Matrices.{matrix_graph, product_of}
 use Rattle.pool_rows.specs.Faults.{IsTextFault}
 use Rattle.pool_rows.specs.Matrices.{AreMatrices, rows_text}
 use Rattle.pool_rows.specs.declared.matrices.Matrices.{Matrices}
@@ -32,11 +33,13 @@ abbrev pub AreUnfilled : ProductRequest → Matrices → Fault → Type 0
 AreUnfilled request m (faults.Tiles fault) = IsTileFault m.order request.side request.config.nodes fault
 AreUnfilled request m fault = ⊥
 
--- the run gave no product, and this is its own fault; or there is no memory for the product's text
+-- the run gave no product, and this is its own fault; or its pool has an outcome, in which each task has a value, and there is no
+-- memory for the product's text
 abbrev pub IsWithoutProduct : ProductRequest → Matrices → Fault → Type 0
 IsWithoutProduct request m (faults.Product fault) =
     IsProductFault request.config.nodes request.config.workers m.left.items m.right.items m.order request.side fault
-IsWithoutProduct request m faults.Memory = Unit {0}
+IsWithoutProduct request m faults.Memory =
+    HasRun request.config.nodes request.config.workers (matrix_graph m.left.items m.right.items (m.order / request.side) request.side)
 IsWithoutProduct request m fault = ⊥
 
 abbrev pub product_program : About ProductRequest Matrices

@@ -1,9 +1,10 @@
 -- The program `heat`: a rod of cells, and its text after some steps.
 use Rattle.std.specs.Prelude.{ℕ, ◌≡◌, ◌<◌, ◌⊎◌, [], length, List}
 use Rattle.tp_base.specs.declared.limits.TheConstants.{MAX_STEPS}
-use Rattle.pool_cells.specs.Texts.{AreLines, IsFirstBad, lines_of}
+use Rattle.pool_cells.specs.Texts.{AreLines, BeginsWithNumber, IsFirstBad, lines_of}
 use Rattle.pool_cells.specs.declared.fault.LineFault.TheVariants.{Line, Memory}
-use Rattle.pool_rod.specs.Heats.{blocks_of, evolve}
+use Rattle.pool_block_runs.specs.Runs.{HasRunInParts}
+use Rattle.pool_rod.specs.Heats.{block_heated, blocks_of, evolve, heated}
 use Rattle.pool_runs.specs.Events.{TakeSteps, heat_events}
 use Rattle.pool_runs.specs.Faults.{IsPartFault}
 use Rattle.pool_cli.specs.Command.{AsksForHeat, LackSteps, heat_app}
@@ -14,10 +15,10 @@ use Rattle.pool_cli.specs.declared.heat.RodCells.{RodCells}
 use Rattle.pool_cli.specs.declared.request.Request.{Request}
 use Rattle.tp_work.specs.Outcomes.{IsWithinLimits}
 
--- a line is the first that spells no number of 64 bits, or there is no memory for the numbers
+-- a line is the first that spells no number of 64 bits; or the first line spells one, and there is no memory for the numbers
 abbrev pub AreBadLines : List ℕ → Fault → Type 0
 AreBadLines bytes (faults.Lines (Line k)) = IsFirstBad bytes k
-AreBadLines bytes (faults.Lines Memory) = Unit {0}
+AreBadLines bytes (faults.Lines Memory) = BeginsWithNumber bytes
 AreBadLines bytes fault = ⊥
 
 -- Even one step of so many cells, in blocks of so many at so many nodes, is no run: the blocks are of none, or it takes more
@@ -35,11 +36,13 @@ AreUnsuited request cells faults.Empty = cells.numbers.items ≡ []
 AreUnsuited request cells faults.TooMany = IsNoStep (length cells.numbers.items) request.block request.config.nodes
 AreUnsuited request cells fault = ⊥
 
--- a run over the cells gave no rod, and this is its own fault; or there is no memory for the rod's text
+-- a run over the cells gave no rod, and this is its own fault; or they were run to the last step, and there is no memory for the
+-- rod's text
 abbrev pub IsWithoutRod : Request → RodCells → Fault → Type 0
 IsWithoutRod request cells (faults.Rod fault) =
     IsPartFault request.config.nodes request.config.workers cells.numbers.items request.block request.steps fault
-IsWithoutRod request cells faults.Memory = Unit {0}
+IsWithoutRod request cells faults.Memory =
+    HasRunInParts request.config.nodes request.config.workers heated block_heated cells.numbers.items request.block request.steps
 IsWithoutRod request cells fault = ⊥
 
 abbrev pub heat_program : About Request RodCells

@@ -1,20 +1,9 @@
--- The tiles that a product is worked out in, and how many events its run takes, the waves apart.
-use Rattle.std.specs.Prelude.{ℕ, ◌≡◌, ◌<◌, ◌≤◌, ◌+◌, ◌-◌, ◌*◌, ◌/◌, ◌%◌, ◌^◌, nat_lt, if◌then◌else◌}
+-- The tiles that a product is worked out in, by the events that its run takes.
+use Rattle.std.specs.Prelude.{ℕ, ◌≡◌, ◌<◌, ◌≤◌, ◌/◌, ◌%◌, ◌^◌}
 use Rattle.tp_base.specs.declared.limits.TheConstants.{MAX_STEPS}
 use Rattle.pool_cli.specs.declared.tiles.TileFault.{TileFault}
 use Rattle.pool_cli.specs.declared.tiles.TileFault.TheVariants.{TooManyRows, Unfilled, TooManyEvents}
-
--- For each tile of the product there are as many tasks as tiles along a side. Each takes 3 events: the first has no input, and
--- any other has one, the tile so far.
-abbrev pub task_events : ℕ → ℕ
-task_events tiles = 3 * (tiles * tiles * tiles)
-
--- The tile so far is at another node, where there are several: a message for each task but the first, of 3 events.
-abbrev pub message_events : ℕ → ℕ → ℕ
-message_events tiles nodes = if nat_lt 1 nodes then 3 * (tiles * tiles * (tiles - 1)) else 0
-
-abbrev pub product_events : ℕ → ℕ → ℕ
-product_events tiles nodes = task_events tiles + message_events tiles nodes
+use Rattle.pool_matrix.specs.Events.{product_events}
 
 -- tiles of so many rows and columns fill a matrix of so many
 abbrev pub FillRows : ℕ → ℕ → Type 0

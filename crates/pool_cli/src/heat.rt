@@ -1,6 +1,7 @@
 ghost use Rattle.std.specs.Prelude.{◌≡◌, ◌≤◌, ◌⊎◌, MatchResult, map};
 ghost use Rattle.pool_cells.specs.Texts.{AreLines, lines_of};
-ghost use Rattle.pool_rod.specs.Heats.{evolve};
+ghost use Rattle.pool_block_runs.specs.Runs.{HasRunInParts};
+ghost use Rattle.pool_rod.specs.Heats.{block_heated, evolve, heated};
 ghost use Rattle.pool_cli.specs.Faults.{complaint, status_of};
 ghost use Rattle.pool_cli.specs.Programs.{AsksForSome, HasAnswered, HasFailed};
 ghost use Rattle.pool_cli.specs.Rods.{AreBadLines, AreSuited, AreUnsuited, IsWithoutRod, heat_program};
@@ -181,7 +182,8 @@ fn heat_counted<R: Threads + Wait + Sync>(
 ) -> Result<Vec<i64>, LentFault>
     requires { IsWithinLimits config }
     ensures { MatchResult result
-        (λ rod. rod.items ≡ evolve steps cells.items)
+        (λ rod. (rod.items ≡ evolve steps cells.items)
+        × HasRunInParts config.nodes config.workers heated block_heated cells.items size steps)
         (IsPartFault config.nodes config.workers cells.items size steps) }
 {
     run_in_parts_counted(rt, alloc, ThreePoints, cells, size, steps, config, progress)

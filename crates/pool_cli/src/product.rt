@@ -1,5 +1,6 @@
-ghost use Rattle.std.specs.Prelude.{◌≡◌, ◌≤◌, ◌⊎◌, List, ℕ, MatchResult, map};
-ghost use Rattle.pool_matrix.specs.Matrices.{product_of};
+ghost use Rattle.std.specs.Prelude.{◌≡◌, ◌≤◌, ◌/◌, ◌⊎◌, List, ℕ, MatchResult, map};
+ghost use Rattle.pool_block_runs.specs.Runs.{HasRun};
+ghost use Rattle.pool_matrix.specs.Matrices.{matrix_graph, product_of};
 ghost use Rattle.pool_cli.specs.Faults.{complaint, status_of};
 ghost use Rattle.pool_cli.specs.Products.{AreBadRows, AreFilled, AreSpelt, AreUnfilled, IsWithoutProduct, product_program};
 ghost use Rattle.pool_cli.specs.Programs.{AsksForSome, HasAnswered, HasFailed};
@@ -162,7 +163,10 @@ fn product_text<R: Threads + Wait + Sync>(
         Ok(product) => product,
         Err(fault) => return Err(Fault::Product(fault)),
     };
-    text_of_rows(alloc, matrices.order, &product).map_err(|_| Fault::Memory)
+    match text_of_rows(alloc, matrices.order, &product) {
+        Ok(text) => Ok(text),
+        Err(_) => Err(Fault::Memory),
+    }
 }
 
 /// [`run_product`](pool_runs::run_product), with its tasks counted.
@@ -178,7 +182,8 @@ fn product_counted<R: Threads + Wait + Sync>(
 ) -> Result<Vec<i64>, LentFault>
     requires { IsWithinLimits config }
     ensures { MatchResult result
-        (λ made. made.items ≡ product_of order left.now right.now)
+        (λ made. (made.items ≡ product_of order left.now right.now)
+        × HasRun config.nodes config.workers (matrix_graph left.now right.now (order / side) side))
         (IsProductFault config.nodes config.workers left.now right.now order side) }
 {
     let Some(product) = Product::new(left, right, order, side) else {

@@ -1,5 +1,6 @@
 ghost use Rattle.std.specs.Prelude.{◌≡◌, ◌≤◌, ◌<◌, ◌*◌, ◌%◌, ◌^◌, ◌⊎◌, List, ℕ, length, IfOk, MatchOption, MatchResult, map};
-ghost use Rattle.pool_grid.specs.Grids.{evolve};
+ghost use Rattle.pool_block_runs.specs.Runs.{HasRunInParts};
+ghost use Rattle.pool_grid.specs.Grids.{block_relaxed, evolve, relaxed};
 ghost use Rattle.pool_cli.specs.Faults.{complaint, status_of};
 ghost use Rattle.pool_cli.specs.Grids.{IsBadGrid, IsSpeltGrid, IsTaken, IsUntaken, IsWithoutGrid, grid_text, relax_program};
 ghost use Rattle.pool_cli.specs.Programs.{AsksForSome, HasAnswered, HasFailed};
@@ -208,7 +209,8 @@ fn grid_counted<R: Threads + Wait + Sync>(
 ) -> Result<Vec<i64>, LentFault>
     requires { IsWithinLimits config }
     ensures { MatchResult result
-        (λ grid. grid.items ≡ evolve width steps cells.items)
+        (λ grid. (grid.items ≡ evolve width steps cells.items)
+        × HasRunInParts config.nodes config.workers (relaxed width) (block_relaxed width) cells.items (rows * width) steps)
         (IsGridPartFault config.nodes config.workers cells.items width rows steps) }
 {
     let Some(blocks) = row_blocks(width, rows) else {

@@ -1,5 +1,6 @@
 ghost use Rattle.std.specs.Prelude.{◌≡◌, ◌≤◌, ◌<◌, ◌^◌, MatchResult};
-ghost use Rattle.pool_cli.specs.Tiles.{IsTileFault, IsWithinEvents, product_events};
+ghost use Rattle.pool_cli.specs.Tiles.{IsTileFault, IsWithinEvents};
+ghost use Rattle.pool_matrix.specs.Events.{product_events};
 
 use tp_base::MAX_STEPS;
 

@@ -2,7 +2,8 @@
 use Rattle.std.proofs.Common.{◌≡◌, ℕ, ℤ, List, [], ◌∷◌, ◌++◌, Option, Some, length, refl, sym, ap, ◌∙◌, subst, append-nil, arith}
 use Rattle.std.specs.Prelude.{MatchOption}
 use Rattle.pool_rows.proofs.Places.{rows_more}
-use Rattle.pool_rows.specs.Matrices.{AreRows, SpellsRow}
+use Rattle.pool_rows.proofs.Rows.{row_begins}
+use Rattle.pool_rows.specs.Matrices.{AreRows, BeginsRow, HasFirstNumber, SpellsRow}
 
 -- the line is a row of so many numbers, kept behind the others
 abbrev pub Keeps : List ℕ → ℕ → List ℤ → List ℤ → Type 0
@@ -27,3 +28,9 @@ taken_next seen line width has old new same rows (row, s, l, e) =
 pub nothing : (seen : List (List ℕ)) → length seen ≡ 0 → seen ≡ []
 nothing [] e = refl
 nothing (x ∷ seen) e = absurd (omega (arith, e))
+
+-- the first line begins with a number: a row is before the line, or the line does
+pub first_number : (seen : List (List ℕ)) (line : List ℕ) (width : ℕ) (numbers : List ℤ) → AreRows width seen numbers → BeginsRow line
+    → HasFirstNumber (seen ++ line ∷ [])
+first_number [] line width numbers rows begins = begins
+first_number (x ∷ seen) line width numbers rows begins = row_begins x rows.0 rows.4

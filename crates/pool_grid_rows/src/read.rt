@@ -10,7 +10,8 @@ use pool_rows::{RowCount, push_row};
 use std::alloc::Global;
 
 /// The grid that a text gives: its rows as lines, the numbers of a row by single spaces. Refused with the first line that is no
-/// row, or has another count of numbers than the first line; where there is no line; and where memory is refused.
+/// row, or has another count of numbers than the first line; where there is no line; and where memory is refused,
+/// which is asked for only where the first line begins with a number.
 pub fn rows_of(alloc: Global, text: &str) -> Result<Rows, GridFault>
     ensures read { IfOk result (λ read. AreGrid (lines text.now) read.width read.numbers.items) }
     ensures bad { IfErr result (IsTextFault text.now) }

@@ -4,6 +4,7 @@ use Rattle.tp_graph.specs.Graphs.{TaskGraph}
 use Rattle.pool_grid.proofs.Cuts.{no_row}
 use Rattle.pool_grid.specs.Grids.{are_whole_rows, block_relaxed, blocks_of, grid_graph, relaxed}
 use Rattle.pool_block_runs.specs.Faults.{IsLentFault, IsPartFault}
+use Rattle.pool_block_runs.specs.Runs.{HasRunInParts}
 use Rattle.pool_block_runs.specs.declared.fault.LentFault.{LentFault}
 use Rattle.pool_block_runs.specs.declared.fault.LentFault.TheVariants.{BadInput, Run, Unmade}
 use Rattle.pool_grid_runs.specs.Faults.{GridTakesNoStep, IsGridPartFault}
@@ -42,3 +43,11 @@ grid_part n workers cells width rows steps (Unmade outcome) why = why
 pub takes_none : (n count width rows : ℕ) → (width ≡ 0) ⊎ (2 ^ 32 ≤ rows * width) → GridTakesNoStep n count width rows
 takes_none n count width rows (inl none) = inl none
 takes_none n count width rows (inr large) = inr (inl large)
+
+-- the run in parts of a grid that was lent
+pub grid_ran : (n workers : ℕ) (cells : List ℤ) (grid_width width size rows steps : ℕ) → grid_width ≡ width → size ≡ rows * width →
+    HasRunInParts n workers (relaxed grid_width) (block_relaxed grid_width) cells size steps
+    → HasRunInParts n workers (relaxed width) (block_relaxed width) cells (rows * width) steps
+grid_ran n workers cells grid_width width size rows steps wide large ran =
+    subst (λ k. HasRunInParts n workers (relaxed width) (block_relaxed width) cells k steps) large
+    (subst (λ w. HasRunInParts n workers (relaxed w) (block_relaxed w) cells size steps) wide ran)

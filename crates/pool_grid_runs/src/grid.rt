@@ -1,5 +1,6 @@
-ghost use Rattle.std.specs.Prelude.{◌≡◌, MatchResult};
-ghost use Rattle.pool_grid.specs.Grids.{evolve};
+ghost use Rattle.std.specs.Prelude.{◌≡◌, ◌*◌, MatchResult, length};
+ghost use Rattle.pool_block_runs.specs.Runs.{HasRun, HasRunInParts};
+ghost use Rattle.pool_grid.specs.Grids.{block_relaxed, blocks_of, evolve, grid_graph, relaxed};
 ghost use Rattle.pool_grid_runs.specs.Faults.{IsGridFault, IsGridPartFault};
 ghost use Rattle.tp_work.specs.Outcomes.{IsWithinLimits};
 
@@ -23,7 +24,9 @@ pub fn run_grid<R: Threads + Wait + Sync>(
 ) -> Result<Vec<i64>, LentFault>
     requires { IsWithinLimits config }
     ensures { MatchResult result
-        (λ grid. grid.items ≡ evolve width steps cells.now)
+        (λ grid. (grid.items ≡ evolve width steps cells.now)
+        × HasRun config.nodes config.workers
+        (grid_graph width cells.now (blocks_of (length cells.now) (rows * width)) (rows * width) steps))
         (IsGridFault config.nodes config.workers cells.now width rows steps) }
 {
     let Some(grid) = grid_in_blocks(cells, width, rows, steps) else {
@@ -46,7 +49,8 @@ pub fn run_grid_in_parts<R: Threads + Wait + Sync>(
 ) -> Result<Vec<i64>, LentFault>
     requires { IsWithinLimits config }
     ensures { MatchResult result
-        (λ grid. grid.items ≡ evolve width steps cells.items)
+        (λ grid. (grid.items ≡ evolve width steps cells.items)
+        × HasRunInParts config.nodes config.workers (relaxed width) (block_relaxed width) cells.items (rows * width) steps)
         (IsGridPartFault config.nodes config.workers cells.items width rows steps) }
 {
     let Some(blocks) = row_blocks(width, rows) else {

@@ -1,3 +1,4 @@
 pub mod Matrices
 pub mod Rows
 pub mod MatrixLaws
+pub mod Events

@@ -58,11 +58,11 @@ IsPrintOf (what.Run q) text = IsRunText q text
 IsPrintOf what.NoPattern text = ⊥
 
 -- Why there is no text of a run: the tasks are no grid of a run; or they are one, and the run gave no row, for which
--- this is its own fault, or there is no memory for the text.
+-- this is its own fault, or its pool has an outcome, and there is no memory for the text.
 abbrev pub IsWithoutText : Request → Fault → Type 0
 IsWithoutText q (faults.Table fault) = IsTableFault (relates q.pattern q.width) q.width q.steps fault
 IsWithoutText q (faults.Run fault) = IsGrid q × IsPatternFault q.config.nodes q.config.workers (graph_of q) fault
-IsWithoutText q faults.Memory = IsGrid q
+IsWithoutText q faults.Memory = IsGrid q × (o : Outcome) × IsOutcome q.config.nodes q.config.workers (graph_of q) o
 IsWithoutText q fault = ⊥
 
 -- why there is no text of what is asked for

@@ -6,4 +6,5 @@ pub mod Counted
 pub mod Relations
 pub mod Found
 pub mod Events
+pub mod EventLaws
 pub mod LastRow

@@ -1,22 +1,10 @@
 -- Why there is no table of a grid.
-use Rattle.std.specs.Prelude.{◌≡◌, ◌<◌, ◌+◌, ◌*◌, ◌/◌, ◌%◌, ◌⊎◌, ℕ, zero, suc, if◌then◌else◌, nat_lt, ⊤}
+use Rattle.std.specs.Prelude.{◌≡◌, ◌<◌, ◌⊎◌, ℕ, ⊤}
 use Rattle.tp_base.specs.declared.limits.TheConstants.{MAX_STEPS}
+use Rattle.pool_patterns.specs.Events.{grid_events}
 use Rattle.pool_patterns.specs.Grids.{Relation, inputs}
 use Rattle.pool_patterns.specs.declared.fault.TableFault.{TableFault}
 use Rattle.pool_patterns.specs.declared.fault.TableFault.TheVariants.{Empty, TooManyInputs, TooManyEvents, NoMemory}
-
--- how many events a task takes at one node: as many as it has inputs and 2 more, or 3 where it has none
-abbrev pub task_events : ℕ → ℕ
-task_events count = if nat_lt 0 count then count + 2 else 3
-
--- the events of the tasks below a number
-abbrev pub events_below : Relation → ℕ → ℕ → ℕ
-events_below r w zero = 0
-events_below r w (suc p) = events_below r w p + task_events (inputs r w (p / w) (p % w))
-
--- the events of a grid at one node, its waves apart
-abbrev pub grid_events : Relation → ℕ → ℕ → ℕ
-grid_events r w steps = events_below r w (steps * w)
 
 -- a task of the grid has more than 16 inputs
 pub record IsWide (r : Relation) (w steps : ℕ) : Type 0 where

@@ -4,6 +4,7 @@ pub mod Kernels
 pub mod Rows
 pub mod Relations
 pub mod Tables
+pub mod Events
 pub mod Faults
 pub mod Kinds
 pub mod GridLaws

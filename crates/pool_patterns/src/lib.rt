@@ -8,6 +8,7 @@ mod fault;
 mod grid;
 mod kernel;
 mod kinds;
+mod laws;
 mod noting;
 mod pattern;
 mod relating;
@@ -18,6 +19,7 @@ mod table;
 
 pub use fault::TableFault;
 pub use grid::Grid;
+pub use laws::grid_events_are_counted;
 pub use pattern::Pattern;
 pub use relation::Relation;
 pub use row::{checksum, last_row};

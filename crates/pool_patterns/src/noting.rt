@@ -1,5 +1,6 @@
 ghost use Rattle.std.specs.Prelude.{◌≡◌, ◌≤◌, ◌<◌, ◌+◌, ◌-◌, ◌*◌, ◌/◌, ◌%◌, ◌^◌, min, length, slice_index_or, IfOk, IfErr, ℕ};
-ghost use Rattle.pool_patterns.specs.Faults.{IsTableFault, task_events};
+ghost use Rattle.pool_events.specs.Events.{task_events};
+ghost use Rattle.pool_patterns.specs.Faults.{IsTableFault};
 ghost use Rattle.pool_patterns.specs.Grids.{AreSizes, Relation};
 ghost use Rattle.pool_patterns.specs.Kinds.{AreKinds};
 ghost use Rattle.pool_patterns.specs.Tables.{AreSpots, IsSpot};

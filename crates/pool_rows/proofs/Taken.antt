@@ -6,11 +6,11 @@ use Rattle.std.specs.Prelude.{MatchOption}
 use Rattle.std.specs.Str.Lines.{lines}
 use Rattle.std.proofs.lemmas.List.Splits.{length-slice_split}
 use Rattle.pool_rows.specs.Faults.{HasColumns, IsEndFault, IsNoRowOf, IsRowPlace, IsTextFault}
-use Rattle.pool_rows.specs.Matrices.{AreMatrices, IsBeginning, SpellsRow}
+use Rattle.pool_rows.specs.Matrices.{AreMatrices, HasFirstNumber, IsBeginning, SpellsRow}
 use Rattle.pool_rows.specs.Reading.{HasRead, IsAbove, IsBelow, IsFirstRefused, IsRefused}
 use Rattle.pool_rows.specs.declared.fault.RowFault.{RowFault}
 use Rattle.pool_rows.specs.declared.fault.RowFault.TheVariants as faults
-use Rattle.pool_rows.proofs.Rows.{as_long, length-spelt}
+use Rattle.pool_rows.proofs.Rows.{as_long, length-spelt, row_begins}
 use Rattle.pool_rows.proofs.Places.{HasFirst, above_first, below_first, length-below, above_more, between_more, below_more}
 use Rattle.pool_rows.proofs.Beginnings.{NoRow, no_first, no_row_above, no_space_between, no_row_below, none_more}
 
@@ -41,6 +41,14 @@ read_first seen order left right h (inr (inr below)) = below_first seen order le
 columns : (seen : List (List ℕ)) (order : ℕ) → HasFirst seen order → HasColumns seen order
 columns seen order f = subst (λ l. HasColumns l order) (sym f.is) (f.row, f.spelt, f.long)
 
+first_number : (seen : List (List ℕ)) (order : ℕ) (more : List (List ℕ)) → HasFirst seen order → HasFirstNumber (seen ++ more)
+first_number seen order more f = subst (λ l. HasFirstNumber (l ++ more)) (sym f.is) (row_begins f.line f.row f.spelt)
+
+number_more : (seen : List (List ℕ)) (line : List ℕ) (more : List (List ℕ)) → HasFirstNumber (seen ++ line ∷ [])
+    → HasFirstNumber (seen ++ line ∷ more)
+number_more [] line more h = h
+number_more (x ∷ seen) line more h = h
+
 some_numbers : (line : List ℕ) (row : List ℤ) → SpellsRow line row → 1 ≤ length row
 some_numbers line row s = omega (arith, length-spelt (slice_split (λ b. b == 32) line) row s, length-slice_split (λ b. b == 32) line)
 
@@ -66,10 +74,10 @@ first_taken (x ∷ seen) line order order' left right left' right' h read row = 
 
 pub first_refused : (seen : List (List ℕ)) (line : List ℕ) (fault : RowFault) → length seen ≡ 0 → IsFirstRefused line fault
     → IsRefused seen line fault
-first_refused seen line fault h (inl memory) = inl memory
+first_refused [] line fault h (inl memory) = inl memory
 first_refused [] line fault h (inr (is, never)) =
     subst (IsRefused [] line) (sym is) (inr (no_first [] line refl never, (refl, inl refl, never)))
-first_refused (x ∷ seen) line fault h (inr why) = absurd (omega (arith, h))
+first_refused (x ∷ seen) line fault h why = absurd (omega (arith, h))
 
 -- ---- a row where one is due
 
@@ -93,7 +101,7 @@ row_refused seen line order place (faults.Uneven count) f due at (is, same, (row
     other,
   ),
 )
-row_refused seen line order place faults.Memory f due at why = inl refl
+row_refused seen line order place faults.Memory f due at why = inl (refl, first_number seen order (line ∷ []) f)
 row_refused seen line order place faults.Empty f due at why = absurd why
 row_refused seen line order place (faults.NotEmpty k) f due at why = absurd why
 row_refused seen line order place (faults.Extra k) f due at why = absurd why
@@ -190,7 +198,8 @@ read_columns seen order left right some read = columns seen order (read_first se
 pub refused_text : (text : List ℕ) (seen : List (List ℕ)) (line : List ℕ) (more : List (List ℕ)) (fault : RowFault) → lines text ≡ seen
     ++ line ∷ more → IsBeginning seen
     → IsRefused seen line fault → IsTextFault text fault
-refused_text text seen line more fault is begins (inl memory) = inl memory
+refused_text text seen line more fault is begins (inl (memory, number)) =
+    inl (memory, subst HasFirstNumber (sym is) (number_more seen line more number))
 refused_text text seen line more fault is begins (inr (none, why)) =
     inr (inl (record { before = seen; line = line; more = more; is = is; begins = begins; none = none; why = why }))
 

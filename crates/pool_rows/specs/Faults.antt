@@ -1,7 +1,7 @@
 -- Why a text is no two matrices: which line is the first at fault, counted from 1, and what is wrong with it.
 use Rattle.std.specs.Prelude.{◌≡◌, ◌≢◌, ◌+◌, ◌<◌, ◌≤◌, ◌⊎◌, ℕ, ℤ, List, [], ◌∷◌, ◌++◌, length}
 use Rattle.std.specs.Str.Lines.{lines}
-use Rattle.pool_rows.specs.Matrices.{AreMatrices, IsBeginning, SpellsRow}
+use Rattle.pool_rows.specs.Matrices.{AreMatrices, HasFirstNumber, IsBeginning, SpellsRow}
 use Rattle.pool_rows.specs.declared.fault.RowFault.{RowFault}
 use Rattle.pool_rows.specs.declared.fault.RowFault.TheVariants.{Empty, Extra, Memory, Missing, NoRow, NotEmpty, Uneven}
 
@@ -55,6 +55,8 @@ IsEndFault seen (Missing due) = (due.line ≡ length seen + 1) × HasColumns see
     × ((order : ℕ) (left right : List ℤ) → ¬ (AreMatrices seen order left right))
 IsEndFault seen fault = ⊥
 
--- why a text is no two matrices: a line is at fault, or its lines are too few, or there was no memory
+-- why a text is no two matrices: a line is at fault, or its lines are too few; or the first line begins with a number, and there
+-- was no memory
 abbrev pub IsTextFault : List ℕ → RowFault → Type 0
-IsTextFault text fault = (fault ≡ Memory) ⊎ (HasBadLine text fault ⊎ (IsBeginning (lines text) × IsEndFault (lines text) fault))
+IsTextFault text fault = ((fault ≡ Memory) × HasFirstNumber (lines text))
+    ⊎ (HasBadLine text fault ⊎ (IsBeginning (lines text) × IsEndFault (lines text) fault))

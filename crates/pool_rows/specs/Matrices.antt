@@ -16,6 +16,16 @@ AreSpelt (part ∷ parts) (z ∷ zs) = Spells part z × FitsSigned w64 z × AreS
 abbrev pub SpellsRow : List ℕ → List ℤ → Type 0
 SpellsRow line row = AreSpelt (slice_split (λ b. b == 32) line) row
 
+-- the line begins with a number of 64 bits, behind which is a space or nothing
+abbrev pub BeginsRow : List ℕ → Type 0
+BeginsRow line = (part : List ℕ) × (parts : List (List ℕ)) × (z : ℤ)
+    × (slice_split (λ b. b == 32) line ≡ part ∷ parts) × Spells part z × FitsSigned w64 z
+
+-- the first line does
+abbrev pub HasFirstNumber : List (List ℕ) → Type 0
+HasFirstNumber [] = ⊥
+HasFirstNumber (line ∷ more) = BeginsRow line
+
 -- each line is a row of so many numbers, and the rows one behind another are the numbers
 abbrev pub AreRows : ℕ → List (List ℕ) → List ℤ → Type 0
 AreRows order [] numbers = numbers ≡ []

@@ -1,7 +1,7 @@
 -- What is known of two matrices while their lines come.
 use Rattle.std.specs.Prelude.{◌≡◌, ◌≤◌, ◌⊎◌, ℕ, ℤ, List, [], ◌∷◌, ◌++◌, length}
 use Rattle.pool_rows.specs.Faults.{IsLineFault}
-use Rattle.pool_rows.specs.Matrices.{AreRows, IsBeginning, SpellsRow}
+use Rattle.pool_rows.specs.Matrices.{AreRows, BeginsRow, HasFirstNumber, IsBeginning, SpellsRow}
 use Rattle.pool_rows.specs.declared.fault.RowFault.{RowFault}
 use Rattle.pool_rows.specs.declared.fault.RowFault.TheVariants.{Memory, NoRow}
 
@@ -28,10 +28,11 @@ pub record IsBelow (seen : List (List ℕ)) (order : ℕ) (left right : List ℤ
 abbrev pub HasRead : List (List ℕ) → ℕ → List ℤ → List ℤ → Type 0
 HasRead seen order left right = ((seen ≡ []) × (left ≡ []) × (right ≡ [])) ⊎ (IsAbove seen order left right ⊎ IsBelow seen order left right)
 
--- a line that cannot follow was refused, and why; or memory was
+-- a line that cannot follow was refused, and why; or memory was, and the first line begins with a number
 abbrev pub IsRefused : List (List ℕ) → List ℕ → RowFault → Type 0
-IsRefused seen line fault = (fault ≡ Memory) ⊎ ((¬ (IsBeginning (seen ++ line ∷ []))) × IsLineFault seen line fault)
+IsRefused seen line fault = ((fault ≡ Memory) × HasFirstNumber (seen ++ line ∷ []))
+    ⊎ ((¬ (IsBeginning (seen ++ line ∷ []))) × IsLineFault seen line fault)
 
--- the first line is no row, or memory was refused
+-- the first line is no row, or it begins with a number, and memory was refused
 abbrev pub IsFirstRefused : List ℕ → RowFault → Type 0
-IsFirstRefused line fault = (fault ≡ Memory) ⊎ ((fault ≡ NoRow 1) × ((row : List ℤ) → ¬ (SpellsRow line row)))
+IsFirstRefused line fault = ((fault ≡ Memory) × BeginsRow line) ⊎ ((fault ≡ NoRow 1) × ((row : List ℤ) → ¬ (SpellsRow line row)))

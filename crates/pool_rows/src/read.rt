@@ -12,7 +12,7 @@ use std::alloc::Global;
 /// Two square matrices of as many rows and columns, as a text gives them: the rows of the one as lines, the numbers of a row by
 /// single spaces; an empty line; the rows of the other. The first row says how many columns there are. Refused with the first
 /// line that no two matrices have there, and why; where there is no line, or one is due behind the last; and where memory is
-/// refused.
+/// refused, which is asked for only where the first line begins with a number.
 pub fn matrices_of(alloc: Global, text: &str) -> Result<Matrices, RowFault>
     ensures read { IfOk result (λ read. AreMatrices (lines text.now) read.order read.left.items read.right.items) }
     ensures bad { IfErr result (IsTextFault text.now) }

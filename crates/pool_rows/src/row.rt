@@ -1,16 +1,19 @@
-ghost use Rattle.std.specs.Prelude.{◌≡◌, ◌≢◌, ◌++◌, [], ℤ, List, length, IfErr, IfOk, MatchOption, OnOk};
+ghost use Rattle.std.specs.Prelude.{◌≡◌, ◌≢◌, ◌++◌, [], ℤ, List, length, IfErr, MatchOption, MatchResult, OnOk};
 ghost use Rattle.pool_rows.specs.Faults.{IsNoRowOf};
-ghost use Rattle.pool_rows.specs.Matrices.{SpellsRow};
+ghost use Rattle.pool_rows.specs.Matrices.{BeginsRow, SpellsRow};
 ghost use Rattle.pool_rows.specs.declared.fault.RowFault.TheVariants.{NotEmpty};
 
 use crate::fault::{RowCount, RowFault};
 use std::alloc::AllocError;
 
-/// Keeps the numbers of a row behind those that are there, and answers how many they are; none where the line is no row.
+/// Keeps the numbers of a row behind those that are there, and answers how many they are; none where the line is no row. Memory is
+/// asked for only where the line begins with a number.
 pub fn push_row(numbers: &mut Vec<i64>, line: &str) -> Result<Option<usize>, AllocError>
-    ensures { IfOk result (λ count. MatchOption count
+    ensures { MatchResult result
+        (λ count. MatchOption count
         ((row : List ℤ) → ¬ (SpellsRow line.now row))
-        (λ count. (row : List ℤ) × SpellsRow line.now row × (count ≡ length row) × (numbers.new.items ≡ numbers.old.items ++ row))) }
+        (λ count. (row : List ℤ) × SpellsRow line.now row × (count ≡ length row) × (numbers.new.items ≡ numbers.old.items ++ row)))
+        (λ _. BeginsRow line.now) }
 {
     let mut count = 0;
     for part in line.split(' ') {

@@ -1,6 +1,7 @@
-ghost use Rattle.std.specs.Prelude.{◌≡◌, MatchResult};
+ghost use Rattle.std.specs.Prelude.{◌≡◌, ◌/◌, MatchResult};
+ghost use Rattle.pool_block_runs.specs.Runs.{HasRun};
 ghost use Rattle.pool_runs.specs.Faults.{IsProductFault};
-ghost use Rattle.pool_matrix.specs.Matrices.{product_of};
+ghost use Rattle.pool_matrix.specs.Matrices.{matrix_graph, product_of};
 ghost use Rattle.tp_work.specs.Outcomes.{IsWithinLimits};
 
 use pool_block_runs::LentFault;
@@ -26,7 +27,8 @@ pub fn run_product<R: Threads + Wait + Sync>(
 ) -> Result<Vec<i64>, LentFault>
     requires { IsWithinLimits config }
     ensures { MatchResult result
-        (λ made. made.items ≡ product_of order left.now right.now)
+        (λ made. (made.items ≡ product_of order left.now right.now)
+        × HasRun config.nodes config.workers (matrix_graph left.now right.now (order / side) side))
         (IsProductFault config.nodes config.workers left.now right.now order side) }
 {
     let Some(product) = Product::new(left, right, order, side) else {

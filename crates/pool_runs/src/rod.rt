@@ -1,5 +1,6 @@
-ghost use Rattle.std.specs.Prelude.{◌≡◌, MatchResult};
-ghost use Rattle.pool_rod.specs.Heats.{evolve};
+ghost use Rattle.std.specs.Prelude.{◌≡◌, MatchResult, length};
+ghost use Rattle.pool_block_runs.specs.Runs.{HasRun, HasRunInParts};
+ghost use Rattle.pool_rod.specs.Heats.{block_heated, blocks_of, evolve, heat_graph, heated};
 ghost use Rattle.pool_runs.specs.Faults.{IsHeatFault, IsPartFault};
 ghost use Rattle.tp_work.specs.Outcomes.{IsWithinLimits};
 
@@ -23,7 +24,8 @@ pub fn run_heat<R: Threads + Wait + Sync>(
 ) -> Result<Vec<i64>, LentFault>
     requires { IsWithinLimits config }
     ensures { MatchResult result
-        (λ rod. rod.items ≡ evolve steps cells.now)
+        (λ rod. (rod.items ≡ evolve steps cells.now)
+        × HasRun config.nodes config.workers (heat_graph cells.now (blocks_of (length cells.now) size) size steps))
         (IsHeatFault config.nodes config.workers cells.now size steps) }
 {
     let Some(heat) = heat_of(cells, size, steps) else {
@@ -45,7 +47,8 @@ pub fn run_heat_in_parts<R: Threads + Wait + Sync>(
 ) -> Result<Vec<i64>, LentFault>
     requires { IsWithinLimits config }
     ensures { MatchResult result
-        (λ rod. rod.items ≡ evolve steps cells.items)
+        (λ rod. (rod.items ≡ evolve steps cells.items)
+        × HasRunInParts config.nodes config.workers heated block_heated cells.items size steps)
         (IsPartFault config.nodes config.workers cells.items size steps) }
 {
     run_in_parts(rt, alloc, ThreePoints, cells, size, steps, config)

@@ -225,7 +225,10 @@ fn done_behind<R: Threads + Wait + Sync>(
 fn two_that_begin_together_wait_for_each_other(rt: HostRuntime) -> Result<(), Fail> {
     for workers in [2, 8] {
         let gate = TestGate::BodiesMeet(Meeting::new());
-        assert_eq!(rt; done_behind(&rt, rt.alloc(), workers, &gate), (127, workers));
+        assert_eq!(rt;
+            done_behind(&rt, rt.alloc(), workers, &gate),
+            (127, workers)
+        );
     }
     Ok(())
 }

@@ -47,3 +47,5 @@ mod strangers;
 mod terminal;
 #[cfg(test)]
 mod text;
+#[cfg(test)]
+mod text_reasons;

@@ -1,7 +1,9 @@
 use std::alloc::Global;
+use std::io::Sink;
 use std::sync::Wait;
 use std::thread::Threads;
 use tp_cli::{main_at_terminal, main_with};
+use tp_progress::Screen;
 
 /// How the program ends.
 #[derive(Drop)]
@@ -33,7 +35,15 @@ fn ends_so<R: Threads + Wait + Sync>(
     let mut shown = Vec::new(alloc);
     let mut told = Vec::new(alloc);
     let mut reader = input;
-    let status = main_at_terminal(rt, alloc, words, &mut reader, &mut shown, &mut told);
+    let status = main_at_terminal(
+        rt,
+        alloc,
+        words,
+        &mut reader,
+        &mut shown,
+        &mut told,
+        None::<Screen<Sink>>,
+    );
     let (line, reason) = told.as_slice().split_at(ending.line.len().min(told.len()));
     status == ending.status
         && shown.as_slice() == out.as_slice()

@@ -1,9 +1,10 @@
 //! The program `tp`.
 #![tactic(auto)]
 
-use std::io::{ErrorKind, IsTerminal};
+use std::io::{ErrorKind, Write};
 use std::process::ExitCode;
 use tp_cli::{main_at_terminal, main_with, without_words};
+use tp_progress::Screen;
 use tp_shell::{arguments, words_of};
 
 /// The exit status is that of `main_with`, or of `main_at_terminal` where standard error is a terminal. Where there is no memory for
@@ -18,7 +19,7 @@ fn main(rt: HostRuntime) -> ExitCode {
         Err(_) => return complain(&rt, ErrorKind::OutOfMemory),
     };
     let alloc = rt.alloc();
-    if !rt.stderr().is_terminal() {
+    let Some(mut screen) = Screen::of(&rt.stdin(), rt.stderr()) else {
         let status = main_with(
             &rt,
             alloc,
@@ -28,10 +29,8 @@ fn main(rt: HostRuntime) -> ExitCode {
             &mut rt.stderr(),
         );
         return ExitCode::from(status);
-    }
-    if rt.stdin().is_terminal() {
-        tell_what_is_read(&rt, &words);
-    }
+    };
+    tell_what_is_read(&mut screen, &words);
     let status = main_at_terminal(
         &rt,
         alloc,
@@ -39,6 +38,7 @@ fn main(rt: HostRuntime) -> ExitCode {
         &mut rt.stdin(),
         &mut rt.stdout(),
         &mut rt.stderr(),
+        Some(screen),
     );
     ExitCode::from(status)
 }
@@ -50,9 +50,12 @@ fn complain<R: Eprint>(rt: &R, fault: ErrorKind) -> ExitCode {
     ExitCode::from(status)
 }
 
-/// Says that a script or a trace is read from standard input, where the words ask for one and for nothing else such as help.
-fn tell_what_is_read<R: Eprint>(rt: &R, words: &[&str]) {
-    if let [_, name @ ("sim" | "audit")] = words {
-        let _ = eprintln!(rt; "reads standard input: tp {name} < FILE");
+/// Says that a script or a trace is read from standard input where it is typed, where the words ask for one and for nothing else
+/// such as help.
+fn tell_what_is_read<W: Write>(screen: &mut Screen<W>, words: &[&str]) {
+    match words {
+        [_, "sim"] => screen.invite("reads standard input: tp sim < FILE\n"),
+        [_, "audit"] => screen.invite("reads standard input: tp audit < FILE\n"),
+        _ => {}
     }
 }

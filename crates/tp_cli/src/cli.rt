@@ -17,7 +17,7 @@ use crate::run::run;
 use crate::text::TextKind;
 use clap::Error;
 use std::alloc::Global;
-use std::io::{Read, Write};
+use std::io::{Read, Sink, Write};
 use std::sync::Wait;
 use std::thread::Threads;
 use tp_shell::{Diagnostics, Status, WordsFault, complain, show};
@@ -89,14 +89,14 @@ fn answer_words<R: Threads + Wait + Sync, I: Read, O: Write>(
 {
     match requested(alloc, words) {
         Ok(Request::Answer(kind)) => answer_text(alloc, kind, reader, out),
-        Ok(Request::Run(spec, plan)) => run(rt, alloc, spec, plan, out),
+        Ok(Request::Run(spec, plan)) => run::<O, R, Sink>(rt, alloc, spec, plan, out, None),
         Ok(Request::Pools(specs, config)) => run_several(rt, alloc, &specs, config, out),
         Err(error) => show_asked(alloc, &error, out),
     }
 }
 
 /// Answers a text of a kind.
-pub(crate) fn answer_text<I: Read, O: Write>(
+fn answer_text<I: Read, O: Write>(
     alloc: Global,
     kind: TextKind,
     reader: &mut I,

@@ -4,6 +4,7 @@
 mod cli;
 mod command;
 mod fault;
+mod kept;
 mod pools;
 mod request;
 mod run;

@@ -1,6 +1,7 @@
 ghost use Rattle.std.specs.Prelude.{◌≡◌, ◌≢◌, ◌↔◌, ℕ, List, Err, IfErr, IfOk, MatchResult};
 ghost use Rattle.std.specs.Io.KnownBytes.{Appends};
 ghost use Rattle.std.specs.String.{string_bytes};
+ghost use Rattle.std.specs.Thread.{IsSync};
 ghost use Rattle.tp_cli.specs.Runs.{IsPlan, IsPrintOf, IsRunFault, IsTextFor, IsTextOf, IsTextOfOne, IsUnprinted, IsUntold, IsWithoutOne};
 ghost use Rattle.tp_cli.specs.Runs.{IsWithoutText, NamesNoGraph, run_text, totals_text};
 ghost use Rattle.tp_graph.specs.Serial.{AreRight};
@@ -17,10 +18,11 @@ use std::sync::Wait;
 use std::thread::Threads;
 use tp_base::{Refusal, TaskId};
 use tp_graph::Value;
+use tp_progress::{Progress, Screen, run_pool_counted, watched};
 use tp_shell::{Status, write_text};
 use tp_table::print_table;
 use tp_text::print_trace;
-use tp_work::{Config, OpenGate, Outcome, run_pool};
+use tp_work::{Config, Outcome};
 
 /// What is printed of a run.
 #[derive(Clone, Copy, Debug, PartialEq, Eq)]
@@ -43,13 +45,14 @@ pub(crate) struct Plan {
 }
 
 /// Runs the pool that a word names, in so many generations, and writes their tables and totals or their one trace. Nothing is
-/// written before all of it is known.
-pub(crate) fn run<O: Write, R: Threads + Wait + Sync>(
+/// written before all of it is known. Meanwhile a screen is told how far the run is.
+pub(crate) fn run<O: Write, R: Threads + Wait + Sync, W: Write + Send + Drop>(
     rt: &R,
     alloc: Global,
     spec: &str,
     plan: Plan,
     out: &mut O,
+    screen: Option<Screen<W>>,
 ) -> Result<Status, Fault>
     requires { IsPlan plan }
     ensures ran { IfOk result (λ status. (status ≡ Done) × ((text : List ℕ)
@@ -63,7 +66,7 @@ pub(crate) fn run<O: Write, R: Threads + Wait + Sync>(
         Ok(graph) => graph,
         Err(_) => return Err(Fault::NoPool),
     };
-    let text = match text_of_run(rt, alloc, graph, plan) {
+    let text = match text_watched(rt, alloc, graph, plan, screen) {
         Ok(text) => text,
         Err(fault) => return Err(Fault::Run(fault)),
     };
@@ -73,12 +76,45 @@ pub(crate) fn run<O: Write, R: Threads + Wait + Sync>(
     }
 }
 
-/// Runs a pool of a graph, in so many generations: what is printed of them.
+/// Runs a pool of a graph, in so many generations: what is printed of them. Meanwhile a screen is told how far the run is.
+fn text_watched<R: Threads + Wait + Sync, W: Write + Send + Drop>(
+    rt: &R,
+    alloc: Global,
+    graph: AnyGraph,
+    plan: Plan,
+    screen: Option<Screen<W>>,
+) -> Result<Vec<u8>, RunFault>
+    requires { IsPlan plan }
+    ensures { MatchResult result
+        (λ text. IsTextOf plan.form graph plan.config.nodes plan.config.workers plan.generations text.items)
+        (IsWithoutText plan.form graph plan.config.nodes plan.config.workers plan.generations) }
+{
+    let Some(screen) = screen else {
+        return text_of_run(rt, alloc, graph, plan, None);
+    };
+    let progress = Progress::new();
+    let counts = &progress;
+    watched(
+        rt,
+        alloc,
+        screen,
+        counts,
+        move || -> Result<Vec<u8>, RunFault>
+            requires { IsSync R.row × IsPlan plan }
+            ensures { MatchResult result
+                (λ text. IsTextOf plan.form graph plan.config.nodes plan.config.workers plan.generations text.items)
+                (IsWithoutText plan.form graph plan.config.nodes plan.config.workers plan.generations) }
+        { text_of_run(rt, alloc, graph, plan, Some(counts)) },
+    )
+}
+
+/// Runs a pool of a graph, in so many generations: what is printed of them. The tasks are counted where there is a progress.
 fn text_of_run<R: Threads + Wait + Sync>(
     rt: &R,
     alloc: Global,
     graph: AnyGraph,
     plan: Plan,
+    progress: Option<&Progress>,
 ) -> Result<Vec<u8>, RunFault>
     requires { IsPlan plan }
     ensures { MatchResult result
@@ -87,9 +123,9 @@ fn text_of_run<R: Threads + Wait + Sync>(
 {
     // a pool of one generation is never opened for a second one
     if plan.generations == 1 {
-        text_of_one(rt, alloc, graph, plan.config, plan.form)
+        text_of_one(rt, alloc, graph, plan.config, plan.form, progress)
     } else {
-        text_of_generations(rt, alloc, graph, plan)
+        text_of_generations(rt, alloc, graph, plan, progress)
     }
 }
 
@@ -100,13 +136,14 @@ fn text_of_one<R: Threads + Wait + Sync>(
     graph: AnyGraph,
     config: Config,
     form: Form,
+    progress: Option<&Progress>,
 ) -> Result<Vec<u8>, RunFault>
     requires { IsWithinLimits config }
     ensures { MatchResult result
         (λ text. IsTextOfOne form graph config.nodes config.workers text.items)
         (IsWithoutOne form graph config.nodes config.workers) }
 {
-    let outcome = match run_pool(rt, alloc, graph, config, &OpenGate) {
+    let outcome = match run_pool_counted(rt, alloc, graph, config, progress) {
         Ok(outcome) => outcome,
         Err(fault) => return Err(RunFault::Pool(fault)),
     };

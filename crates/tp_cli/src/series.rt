@@ -4,7 +4,7 @@ ghost use Rattle.tp_base.specs.declared.refusal.Refusal.TheVariants.{NoMemory};
 ghost use Rattle.tp_cli.specs.Runs.{IsPlan, IsPrintOfSeries, IsRoundOf, IsTextOfSeries, IsUnprintedSeries, IsUntold, IsUntoldRound};
 ghost use Rattle.tp_cli.specs.Runs.{IsWithoutSeries, round_text, rounds_text};
 ghost use Rattle.pool_samples.specs.Any.{any_graph};
-ghost use Rattle.tp_work.specs.Series.{IsSeries};
+ghost use Rattle.tp_work.specs.Series.{IsSeries, IsSeriesFault};
 
 use crate::fault::RunFault;
 use crate::run::{Form, Plan, text_of_results};
@@ -13,22 +13,25 @@ use std::alloc::Global;
 use std::sync::Wait;
 use std::thread::Threads;
 use tp_base::Refusal;
+use tp_graph::Graph;
+use tp_progress::{Counted, Progress};
 use tp_text::print_trace;
-use tp_work::{OpenGate, Round, Series, run_generations};
+use tp_work::{Fault, OpenGate, Round, Series, run_generations};
 
-/// Runs a pool of a graph in so many generations: what is printed of them.
+/// Runs a pool of a graph in so many generations: what is printed of them. The tasks are counted where there is a progress.
 pub(crate) fn text_of_generations<R: Threads + Wait + Sync>(
     rt: &R,
     alloc: Global,
     graph: AnyGraph,
     plan: Plan,
+    progress: Option<&Progress>,
 ) -> Result<Vec<u8>, RunFault>
     requires { IsPlan plan }
     ensures { MatchResult result
         (λ text. IsTextOfSeries plan.form graph plan.config.nodes plan.config.workers plan.generations text.items)
         (IsWithoutSeries plan.form graph plan.config.nodes plan.config.workers plan.generations) }
 {
-    let series = match run_generations(rt, alloc, graph, plan.config, &OpenGate, plan.generations) {
+    let series = match series_of(rt, alloc, graph, plan, progress) {
         Ok(series) => series,
         Err(fault) => return Err(RunFault::Pool(fault)),
     };
@@ -36,6 +39,42 @@ pub(crate) fn text_of_generations<R: Threads + Wait + Sync>(
         Ok(text) => Ok(text),
         Err(refusal) => Err(RunFault::Text(refusal)),
     }
+}
+
+/// Runs a pool of a graph in so many generations. The tasks are counted where there is a progress.
+fn series_of<R: Threads + Wait + Sync>(
+    rt: &R,
+    alloc: Global,
+    graph: AnyGraph,
+    plan: Plan,
+    progress: Option<&Progress>,
+) -> Result<Series, Fault>
+    requires { IsPlan plan }
+    ensures series { IfOk result (IsSeries plan.config.nodes plan.config.workers (any_graph graph) plan.generations) }
+    ensures fault { IfErr result (IsSeriesFault plan.config.nodes (any_graph graph) plan.generations) }
+{
+    match progress {
+        Some(progress) => series_counted(rt, alloc, graph, plan, progress),
+        None => run_generations(rt, alloc, graph, plan.config, &OpenGate, plan.generations),
+    }
+}
+
+/// The same, with its tasks counted.
+fn series_counted<R: Threads + Wait + Sync>(
+    rt: &R,
+    alloc: Global,
+    graph: AnyGraph,
+    plan: Plan,
+    progress: &Progress,
+) -> Result<Series, Fault>
+    requires { IsPlan plan }
+    ensures series { IfOk result (IsSeries plan.config.nodes plan.config.workers (any_graph graph) plan.generations) }
+    ensures fault { IfErr result (IsSeriesFault plan.config.nodes (any_graph graph) plan.generations) }
+{
+    let tasks = u64::from(graph.tasks()).saturating_mul(u64::from(plan.generations));
+    progress.begin(tp_progress::Plan::of_tasks(tasks));
+    let counted = Counted::new(graph, progress);
+    run_generations(rt, alloc, counted, plan.config, &OpenGate, plan.generations)
 }
 
 /// What is printed of what a pool of a graph has made, in all its generations, that was run by this plan.

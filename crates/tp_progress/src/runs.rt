@@ -1,6 +1,7 @@
 ghost use Rattle.std.specs.Prelude.{◌≡◌, IfErr, IfOk, MatchResult};
 ghost use Rattle.pool_blocks.specs.Stencils.{after};
 ghost use Rattle.pool_block_runs.specs.Faults.{IsPartFault};
+ghost use Rattle.pool_block_runs.specs.Runs.{HasRunInParts};
 ghost use Rattle.tp_work.specs.Outcomes.{IsFault, IsOutcome, IsWithinLimits};
 
 use crate::counted::Counted;
@@ -62,7 +63,8 @@ pub fn run_in_parts_counted<S: Stencil, R: Threads + Wait + Sync>(
 ) -> Result<Vec<i64>, LentFault>
     requires { IsWithinLimits config }
     ensures { MatchResult result
-        (λ made. made.items ≡ after (S.step stencil) steps cells.items)
+        (λ made. (made.items ≡ after (S.step stencil) steps cells.items)
+        × HasRunInParts config.nodes config.workers (S.step stencil) (S.next stencil) cells.items size steps)
         (IsPartFault config.nodes config.workers (S.takes stencil) (S.step stencil) (S.next stencil)
         cells.items size steps) }
 {
@@ -87,7 +89,8 @@ fn run_in_parts_told<S: Stencil, R: Threads + Wait + Sync>(
 ) -> Result<Vec<i64>, LentFault>
     requires { IsWithinLimits config }
     ensures { MatchResult result
-        (λ made. made.items ≡ after (S.step stencil) steps cells.items)
+        (λ made. (made.items ≡ after (S.step stencil) steps cells.items)
+        × HasRunInParts config.nodes config.workers (S.step stencil) (S.next stencil) cells.items size steps)
         (IsPartFault config.nodes config.workers (S.takes stencil) (S.step stencil) (S.next stencil)
         cells.items size steps) }
 {

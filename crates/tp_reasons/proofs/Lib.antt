@@ -1,4 +1,11 @@
 pub mod Parts
+pub mod Letters
 pub mod Numerals
 pub mod Fields
 pub mod Several
+pub mod Places
+pub mod Seen
+pub mod Strips
+pub mod Told
+pub mod Visible
+pub mod Reasons

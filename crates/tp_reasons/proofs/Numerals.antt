@@ -1,6 +1,7 @@
 -- Texts of digits.
 use Rattle.std.proofs.Common.{◌≡◌, ◌≢◌, ℕ, zero, suc, ◌<◌, ◌≤◌, ◌^◌, List, length, get_or, take, decimal, sym, ap, ◌∙◌, subst, arith}
-use Rattle.std.proofs.lemmas.Fmt.{decimal_nonempty, first_decimal, decimal_digit, digits_decimal, decimal-digits_value, decimal_injective, length-decimal-le}
+use Rattle.std.proofs.lemmas.Fmt.{decimal_nonempty, first_decimal, decimal_digit, digits_decimal, decimal-digits_value}
+use Rattle.std.proofs.lemmas.Fmt.{decimal_injective, length-decimal-le}
 use Rattle.std.proofs.lemmas.List.{get_or-take, length-take-le, take_all}
 use Rattle.std.proofs.lemmas.Str.Parse.{IsNumeralModel, numerals_by_value, tells_by_index, digits_value_short}
 use Rattle.std.specs.Prelude.{slice_index}
@@ -48,7 +49,8 @@ module _ (text : List ℕ) (len value : ℕ) (h : HasDigits text len value) wher
       none_where_longer (omega (arith, none, some, ap length e)) n small e
 
   -- digits without leading zeros spell their value
-  pub spelt : 0 < len → len ≡ length text → ¬ ((1 < length text) × (slice_index text 0 ≡ 48)) → (value < 1000000000) × (text ≡ decimal value)
+  pub spelt : 0 < len → len ≡ length text → ¬ ((1 < length text) × (slice_index text 0 ≡ 48))
+      → (value < 1000000000) × (text ≡ decimal value)
   spelt some whole plain =
       let all : take len text ≡ text = take_all len text (omega arith) in
       let is : value ≡ digits_value 10 text = h.value_is ∙ ap (digits_value 10) all in
@@ -69,3 +71,7 @@ pub too_large : (text : List ℕ) (large : ℕ) → large < 1000000000 → text 
     → text ≢ decimal n
 too_large text large most is above n small e =
     let same : large ≡ n = decimal_injective large n (omega arith) (omega arith) (sym is ∙ e) in omega (arith, same)
+
+-- a text spells one number
+pub one_number : (text : List ℕ) (a b : ℕ) → a < 1000000000 → text ≡ decimal a → text ≡ decimal b → b < 1000000 → a ≡ b
+one_number text a b most e f small = decimal_injective a b (omega arith) (omega arith) (sym e ∙ f)

@@ -71,4 +71,5 @@ module _ (words : List (Bor (List ℕ))) (i : ℕ) (d : Bor (List ℕ)) (inside 
 pub each_taken : (words : List (Bor (List ℕ))) (k : ℕ) → length words ≤ MAX_POOLS → length words ≤ k
     → ArePoolsTo k (map (λ w. w.now) words) → ArePools (map (λ w. w.now) words)
 each_taken words k few past before =
-    let same = length-map words (λ w. w.now) in pools_all k (map (λ w. w.now) words) (omega (arith, same, few)) (omega (arith, same, past)) before
+    let same = length-map words (λ w. w.now) in
+    pools_all k (map (λ w. w.now) words) (omega (arith, same, few)) (omega (arith, same, past)) before

@@ -1,10 +1,10 @@
-ghost use Rattle.std.specs.Prelude.{◌≡◌, ◌≢◌, ◌≤◌, ◌*◌, ◌↔◌, ◌∷◌, [], IsTrue, List, ℕ, Some, codes, decimal, length, MatchOption, MatchResult};
+ghost use Rattle.std.specs.Prelude.{◌≡◌, ◌≢◌, ◌≤◌, ◌*◌, ◌↔◌, ◌∷◌, IsTrue, List, ℕ, Some, codes, decimal, MatchOption, MatchResult};
 ghost use Rattle.pool_samples.specs.Trees.{is_leaf_count};
 ghost use Rattle.tp_reasons.specs.Cuts.{parts_behind};
 ghost use Rattle.tp_reasons.specs.Words.{IsFieldReason, IsInRange, IsWordReason, NamesGraph, NamesNoGraph, fields, kind_text};
 ghost use Rattle.tp_reasons.specs.WordTexts.{field_name, form_text, range_text, word_text};
 
-use crate::cuts::cut;
+use crate::cuts::{cut, three, two};
 use crate::digits::number_of;
 use pool_samples::checked;
 use std::fmt;
@@ -100,7 +100,7 @@ fn product_reason(word: &str, rest: Option<&[u8]>) -> Option<WordReason>
     requires { fields word.now ≡ kind_text Kind.Product ∷ parts_behind 58 rest }
     ensures { MatchOption result (NamesGraph word.now) (IsWordReason word.now) }
 {
-    let Some((order, side, seed)) = three(rest) else {
+    let Some((order, side, seed)) = three(rest, b':') else {
         return Some(WordReason::Form(Kind::Product));
     };
     let order = match number_in(Field::Order, order) {
@@ -125,7 +125,7 @@ fn wavefront_reason(word: &str, rest: Option<&[u8]>) -> Option<WordReason>
     requires { fields word.now ≡ kind_text Kind.Wavefront ∷ parts_behind 58 rest }
     ensures { MatchOption result (NamesGraph word.now) (IsWordReason word.now) }
 {
-    let Some((rows, columns, seed)) = three(rest) else {
+    let Some((rows, columns, seed)) = three(rest, b':') else {
         return Some(WordReason::Form(Kind::Wavefront));
     };
     if let Err(reason) = number_in(Field::Rows, rows) {
@@ -145,7 +145,7 @@ fn reduce_reason(word: &str, rest: Option<&[u8]>) -> Option<WordReason>
     requires { fields word.now ≡ kind_text Kind.Reduce ∷ parts_behind 58 rest }
     ensures { MatchOption result (NamesGraph word.now) (IsWordReason word.now) }
 {
-    let Some((leaves, seed)) = two(rest) else {
+    let Some((leaves, seed)) = two(rest, b':') else {
         return Some(WordReason::Form(Kind::Reduce));
     };
     if let Err(reason) = number_in(Field::Leaves, leaves) {
@@ -154,37 +154,6 @@ fn reduce_reason(word: &str, rest: Option<&[u8]>) -> Option<WordReason>
     match number_in(Field::Seed, seed) {
         Ok(_) => None,
         Err(reason) => Some(reason),
-    }
-}
-
-/// The fields, where they are three.
-fn three<'a>(rest: Option<&'a [u8]>) -> Option<(&'a [u8], &'a [u8], &'a [u8])>
-    ensures { MatchOption result (length (parts_behind 58 rest.entry) ≢ 3)
-        (λ texts. parts_behind 58 rest.entry ≡ texts.0.now ∷ texts.1.now ∷ texts.2.now ∷ []) }
-{
-    let (first, rest) = cut(rest?, b':');
-    let (second, third) = two(rest)?;
-    Some((first, second, third))
-}
-
-/// The fields, where they are two.
-fn two<'a>(rest: Option<&'a [u8]>) -> Option<(&'a [u8], &'a [u8])>
-    ensures { MatchOption result (length (parts_behind 58 rest.entry) ≢ 2)
-        (λ texts. parts_behind 58 rest.entry ≡ texts.0.now ∷ texts.1.now ∷ []) }
-{
-    let (first, rest) = cut(rest?, b':');
-    let second = one(rest)?;
-    Some((first, second))
-}
-
-/// The field, where it is one.
-fn one<'a>(rest: Option<&'a [u8]>) -> Option<&'a [u8]>
-    ensures { MatchOption result (length (parts_behind 58 rest.entry) ≢ 1) (λ text. parts_behind 58 rest.entry ≡ text.now ∷ []) }
-{
-    let (first, rest) = cut(rest?, b':');
-    match rest {
-        None => Some(first),
-        Some(_) => None,
     }
 }
 

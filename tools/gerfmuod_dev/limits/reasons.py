@@ -1,17 +1,22 @@
 """Runs the program with and without a terminal as its standard error.
 
 Output and status are the same. Without a terminal a fault is told by one line, as ever; at one a second line says why,
-where there is a reason, and a script or a trace that is read from a terminal is announced. Prints each case that ends
-otherwise. The last line is `N passed, M failed`; the status is 1 where one failed. It needs pseudo-terminals.
+where there is a reason, and a script or a trace that is read from a terminal is announced. A run of over a second tells
+a terminal how far it is, and leaves it clear. Prints each case that ends otherwise. The last line is `N passed, M
+failed`; the status is 1 where one failed. It needs pseudo-terminals, and /proc.
 """
 import os
 import pty
+import re
+import signal
 import subprocess
 import termios
 import threading
+import time
 
 from .. import running
 from ..running import Answer
+from . import progress
 
 BAD_SPEC = b"refused 26 BadSpec\n"
 FIELD = b" is no number of at most six digits without leading zeros\n"
@@ -52,6 +57,48 @@ SEVERAL = [
     ([f"reduce:4:{seed}" for seed in range(9)], b"refused 23 StoreFull\n", b"more than 8 pools\n"),
     (["x"] * 9, b"refused 23 StoreFull\n", b"more than 8 pools\n"),
 ]
+NO_NUMBER = b" of at most six digits without leading zeros\n"
+NO_NODES = b" is not `nodes N`, N from 1 to 8\n"
+# each a text for `sim`, the first line that is not of the grammar, and what is wrong with it
+SCRIPTS = [
+    (b"", 1, b" is missing\n"),
+    (b"nodes 9\n", 1, NO_NODES),
+    (b"nodes 1\r\n", 1, NO_NODES),
+    (b"nodes 1", 1, b" has no end\n"),
+    (b"script 2\n", 2, b" is missing\n"),
+    (b"script 2\nready 0\n", 2, NO_NODES),
+    (b"nodes 1\nready 0\nsuply 1\n", 3, b": no step `suply`\n"),
+    (b"nodes 1\n\nready 0\n", 2, b": no step\n"),
+    (b"nodes 1\n\x1b[2J\n", 2, b": no step\n"),
+    (b"nodes 1\n" + b"x" * 33 + b"\n", 2, b": no step\n"),
+    (b"nodes 1\nready 0", 2, b" has no end\n"),
+    (b"nodes 1\nreopen\n", 2, b": no step `reopen` in version 1\n"),
+    (b"nodes 1\nsupply x 1\n", 2, b": no number `x`" + NO_NUMBER),
+    (b"nodes 1\nready 00\n", 2, b": no number `00`" + NO_NUMBER),
+    (b"nodes 1\nready  0\n", 2, b": no number" + NO_NUMBER),
+    (b"nodes 1\nsupply 1000000\n", 2, b": no number `1000000`" + NO_NUMBER),
+    (b"nodes 1\nready \xd9\xa0\n", 2, b": no number" + NO_NUMBER),
+    (b"nodes 1\ninsert 0 1\n", 2, b": the step has 3 numbers, and not 2\n"),
+    (b"nodes 1\nstart 0\n", 2, b": the step has 0 numbers, and not 1\n"),
+    (b"script 2\nnodes 2\nsend 0 1 5\n", 3, b": the step has 4 numbers, and not 3\n"),
+    (b"nodes 1\ninsert 0 1 17\n", 2, b": a task has at most 16 inputs\n"),
+]
+# and for `audit`
+TRACES = [
+    (b"", 1, b" is missing\n"),
+    (b"trace 3\nnodes 1\n", 1, b" is neither `trace 1` nor `trace 2`\n"),
+    (b"trace 1", 1, b" has no end\n"),
+    (b"trace 1\nready 0\n", 2, NO_NODES),
+    (b"trace 1\nnodes 1\njudge\n", 3, b": behind `judge` stands `not` or `ended W`, W from 1 on\n"),
+    (b"trace 1\nnodes 1\njudge ended 0\n", 3, b": behind `judge` stands `not` or `ended W`, W from 1 on\n"),
+    (b"trace 1\nnodes 1\njudge not", 3, b" has no end\n"),
+    (b"trace 2\nnodes 2\nrecv 1 5\n", 3, b": the step has 3 numbers, and not 2\n"),
+    (b"trace 1\nnodes 1\ndone 1\nsuply 1\n", 4, b": no step `suply`\n"),
+]
+# a run that is stopped on its way takes over a second
+LONG = ["run", "product:64:2:0", "--workers", "2", "--generations", "9"]
+# lines of how far a run is, the last of them cleared
+PROGRESS = re.compile(rb"(" + progress.LINE + rb")+" + progress.CLEARED)
 # what is answered to a script without steps
 STARTED = b"node 0 pending 1 sent 0 received 0\ntotal pending 1 sent 0 received 0 under 0\nquiet no\n"
 # what ends in other ways tells the same at a terminal: the words, the input, and the answer
@@ -84,7 +131,25 @@ def at_terminal(program, words, stdin):
     os.close(slave)
     listener.join()
     os.close(master)
-    return came._replace(err=b"".join(told).replace(b"\r\n", b"\n"))
+    plain = PROGRESS.sub(b"", b"".join(told))
+    return came._replace(err=plain.replace(b"\r\n", b"\n"))
+
+
+def paused(program, words):
+    """Runs the program with a terminal as its standard error, and stops it for a second once it has several threads."""
+    told = progress.Told()
+    ran = subprocess.Popen([program, *words], stdin=subprocess.DEVNULL, stdout=subprocess.PIPE, stderr=told.slave)
+    os.close(told.slave)
+    told.start()
+    while ran.poll() is None and len(os.listdir(f"/proc/{ran.pid}/task")) == 1:
+        time.sleep(0.001)
+    time.sleep(0.05)
+    ran.send_signal(signal.SIGSTOP)
+    time.sleep(1)
+    ran.send_signal(signal.SIGCONT)
+    out, _ = ran.communicate()
+    told.join()
+    return Answer(running.status_of(ran.returncode), out, told.text)
 
 
 def typed(program, words, text):
@@ -130,6 +195,15 @@ def run(words):
         judge(tally, f"run {word}", words.tp, ["run", word], b"", Answer(1, b"", BAD_SPEC), word + b": " + reason)
     for several, line, reason in SEVERAL:
         judge(tally, f"pools {several}", words.tp, ["pools", *several], b"", Answer(1, b"", line), reason)
+    for name, texts in ("sim", SCRIPTS), ("audit", TRACES):
+        for text, line, reason in texts:
+            wanted = Answer(2, b"syntax line %d\n" % line, b"")
+            judge(tally, f"{name} {text}", words.tp, [name], text, wanted, b"line %d" % line + reason)
+    piped = running.run([words.tp, *LONG])
+    tally.judge(piped.status == 0 and piped.out and not piped.err, f"a long run, piped: {piped.told()}")
+    came = paused(words.tp, LONG)
+    is_well = came.status == 0 and came.out == piped.out and PROGRESS.fullmatch(came.err)
+    tally.judge(is_well, f"a long run at a terminal: {came.told()}")
     for asked, stdin, wanted in OTHERS:
         judge(tally, f"{asked}", words.tp, asked, stdin, wanted, b"")
     came = typed(words.tp, ["sim"], b"nodes 1\n")

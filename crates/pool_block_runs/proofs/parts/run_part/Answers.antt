@@ -2,6 +2,7 @@ use Rattle.std.proofs.Common.{◌≡◌, ◌∙◌, ap, length, subst}
 use Rattle.pool_blocks.specs.Stencils.{after, block_graph, blocks_of}
 use Rattle.pool_block_runs.proofs.Refused.{are_not_none, match_weaker}
 use Rattle.pool_block_runs.specs.Faults.{IsLentFault}
+use Rattle.pool_block_runs.specs.Runs.{HasRun}
 use Rattle.pool_block_runs.proofs.parts.run_part.Goals as goal
 
 pub unreachable-requires : goal.unreachable-requires
@@ -24,7 +25,10 @@ returns g c =
     ∙ ap (λ k. block_graph (s.next a.stencil) a.cells.now blocks k work.steps) made.3
     ∙ ap (block_graph (s.next a.stencil) a.cells.now blocks a.size) made.4 in
     match_weaker c.run_steps.result _ _ _ _
-    (λ cells is. is ∙ ap (λ p. after (s.step p) work.steps work.cells.now) made.0
-    ∙ ap (λ n. after (s.step a.stencil) n work.cells.now) made.4 ∙ ap (after (s.step a.stencil) a.steps) made.1)
+    (λ cells is. (
+      is.0 ∙ ap (λ p. after (s.step p) work.steps work.cells.now) made.0
+          ∙ ap (λ n. after (s.step a.stencil) n work.cells.now) made.4 ∙ ap (after (s.step a.stencil) a.steps) made.1,
+      subst (HasRun a.config.nodes a.config.workers) graph is.1,
+    ))
     (λ fault why. subst (λ graph. IsLentFault a.config.nodes a.config.workers ⊥ graph fault) graph why)
     c.run_steps.ensures

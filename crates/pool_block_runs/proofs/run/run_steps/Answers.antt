@@ -33,3 +33,12 @@ returns-in-NoMemory g c =
 
 pub returns-in-Err : goal.returns-in-Err
 returns-in-Err g c = subst (λ graph. IsFault c.args.config.nodes graph c.in-Err.fault) c.copied.ensures c.in-Err.ensures.fault
+
+pub returns-in-Ok-cells_of : goal.returns-in-Ok-cells_of
+returns-in-Ok-cells_of g c = (
+  c.in-Ok-cells_of.ensures.made,
+  (
+    c.in-Ok.outcome,
+    subst (λ graph. IsOutcome c.args.config.nodes c.args.config.workers graph c.in-Ok.outcome) c.copied.ensures c.in-Ok.ensures.outcome,
+  ),
+)

@@ -1,4 +1,4 @@
-use Rattle.std.proofs.Common.{subst}
+use Rattle.std.proofs.Common.{rules, subst}
 use Rattle.pool_runs.proofs.Refused.{product-graph, product_kept, product_refused}
 use Rattle.pool_cli.proofs.product.product_counted.Goals as goal
 use Rattle.tp_work.specs.Outcomes.{IsFault, IsOutcome}
@@ -30,3 +30,15 @@ returns-in-Err g c =
     let graph = product-graph product.left.now product.right.now c.args.left.now c.args.right.now product.tiles product.side c.args.order
     c.args.side c.in-Some.ensures.right.some_side c.in-Some.ensures.made in
     subst (λ graph. IsFault c.args.config.nodes graph c.in-Err.fault) graph c.in-Err.ensures.fault
+
+pub returns-in-Ok-matrix_of : goal.returns-in-Ok-matrix_of
+returns-in-Ok-matrix_of g c =
+    let product = c.in-Some.product in
+    let graph = product-graph product.left.now product.right.now c.args.left.now c.args.right.now product.tiles product.side c.args.order
+    c.args.side c.in-Some.ensures.right.some_side c.in-Some.ensures.made in (
+      search rules,
+      (
+        c.in-Ok.outcome,
+        subst (λ graph. IsOutcome c.args.config.nodes c.args.config.workers graph c.in-Ok.outcome) graph c.in-Ok.ensures.outcome,
+      ),
+    )

@@ -10,4 +10,4 @@ pub text_of_cells-requires-clause-whole_rows : goal.text_of_cells-requires-claus
 text_of_cells-requires-clause-whole_rows g c =
     let grid = c.args.grid in
     ap (λ cells. length cells % grid.width) c.deref.ensures.value
-    ∙ made_whole grid.width c.args.request.steps grid.numbers.items c.in-Ok.made.items c.in-Ok.ensures c.requires.taken.whole_rows
+    ∙ made_whole grid.width c.args.request.steps grid.numbers.items c.in-Ok.made.items c.in-Ok.ensures.0 c.requires.taken.whole_rows

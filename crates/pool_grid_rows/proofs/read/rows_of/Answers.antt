@@ -62,7 +62,7 @@ returns-in_err-take-clause-bad c =
     let more = one_more lines_steps (λ x. x.now) c.loop-line.line-iterator c.in-Some.line c.next.new.self known.1 known.5 step in
     let passed = err_from_is_err_and c.from_residual.result c.from_residual.ensures.1 in
     let bad = rw (sym passed.2) at (c.in_err-take.ensures.bad known.0 known.3 known.4) in
-    rw passed.1 (inr (inr (record {
+    rw passed.1 (inr (record {
       before = known.0;
       line = line;
       more = more.rest;
@@ -71,7 +71,7 @@ returns-in_err-take-clause-bad c =
       numbers = c.loop-line.reading.numbers.items;
       rows = known.4;
       bad = bad;
-    })))
+    }))
 
 pub returns-clause-read : goal.returns-clause-read
 returns-clause-read c =
@@ -88,4 +88,4 @@ returns-clause-bad c =
     let step : lines_steps c.loop-line.line-iterator None c.next.new.self = search rules in
     let all = none_left lines_steps (λ x. x.now) c.loop-line.line-iterator c.next.new.self known.1 known.5 step in
     let whole : lines c.args.text.now ≡ known.0 = known.2 ∙ ap (λ l. known.0 ++ l) all ∙ append-nil known.0 in
-    IfErr-weaker c.finish.result _ _ (λ fault is. inr (inl (is.0, whole ∙ nothing known.0 (known.3 ∙ is.1)))) c.finish.ensures.none
+    IfErr-weaker c.finish.result _ _ (λ fault is. inl (is.0, whole ∙ nothing known.0 (known.3 ∙ is.1))) c.finish.ensures.none

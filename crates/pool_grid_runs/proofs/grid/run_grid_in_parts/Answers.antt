@@ -2,7 +2,7 @@ use Rattle.std.proofs.Common.{◌∙◌, ap, length, subst}
 use Rattle.pool_block_runs.proofs.Refused.{match_weaker}
 use Rattle.pool_block_runs.specs.Faults.{IsPartFault}
 use Rattle.pool_grid.specs.Grids.{are_whole_rows, block_relaxed, evolve, relaxed}
-use Rattle.pool_grid_runs.proofs.Refused.{grid_part, takes_none}
+use Rattle.pool_grid_runs.proofs.Refused.{grid_part, grid_ran, takes_none}
 use Rattle.pool_grid_runs.proofs.grid.run_grid_in_parts.Goals as goal
 
 pub returns-in_default : goal.returns-in_default
@@ -14,7 +14,10 @@ returns g c =
     let blocks = c.in-Some.blocks in
     let cut = c.in-Some.ensures.made in
     match_weaker c.run_in_parts.result _ _ _ _
-    (λ cells is. is ∙ ap (λ w. evolve w a.steps a.cells.items) cut.0)
+    (λ cells is. (
+      is.0 ∙ ap (λ w. evolve w a.steps a.cells.items) cut.0,
+      grid_ran a.config.nodes a.config.workers a.cells.items _ a.width blocks.size a.rows a.steps cut.0 cut.1 is.1,
+    ))
     (λ fault why.
     grid_part a.config.nodes a.config.workers a.cells.items a.width a.rows a.steps fault
     (subst (λ k.

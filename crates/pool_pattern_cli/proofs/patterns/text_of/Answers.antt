@@ -23,8 +23,13 @@ returns g c =
     let table = c.new-grid.result.table.now in
     let pattern : table.pattern ≡ q.pattern = search rules in
     let width : table.width ≡ q.width = search rules in
-    let steps : table.steps ≡ q.steps = search rules in
-    same_grid q _ _ _ _ pattern width steps c.new-grid.ensures.iterations table.some_columns table.some_steps table.narrow
+    let run = c.in-Ok-run_pattern.run' in
+    let steps : table.steps ≡ q.steps = search rules in (
+      same_grid q _ _ _ _ pattern width steps c.new-grid.ensures.iterations table.some_columns table.some_steps table.narrow,
+      run.outcome,
+      subst (λ graph. IsOutcome q.config.nodes q.config.workers graph run.outcome)
+          (same_graph q _ _ _ _ pattern width steps c.new-grid.ensures.iterations) c.in-Ok-run_pattern.ensures.outcome,
+    )
 
 pub returns-in-Ok-lines_of : goal.returns-in-Ok-lines_of
 returns-in-Ok-lines_of g c =

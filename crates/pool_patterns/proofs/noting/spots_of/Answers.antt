@@ -1,7 +1,7 @@
 use Rattle.std.proofs.Common.{◌≡◌, ◌<◌, ◌*◌, subst, arith, rules}
 use Rattle.pool_patterns.proofs.Events.{events_more}
 use Rattle.pool_patterns.proofs.Noted.{spots_more}
-use Rattle.pool_patterns.specs.Faults.{events_below}
+use Rattle.pool_patterns.specs.Events.{events_below}
 use Rattle.pool_patterns.specs.Tables.{AreSpots}
 use Rattle.pool_patterns.proofs.noting.spots_of.Goals as goal
 

@@ -1,5 +1,5 @@
 use Rattle.std.proofs.Common.{◌≡◌, ◌≤◌, ◌*◌, vec_len, vec_capacity}
-use Rattle.pool_patterns.specs.Faults.{events_below}
+use Rattle.pool_patterns.specs.Events.{events_below}
 use Rattle.pool_patterns.specs.Grids.{Relation}
 use Rattle.pool_patterns.specs.Kinds.{AreKinds}
 use Rattle.pool_patterns.specs.Tables.{AreSpots}

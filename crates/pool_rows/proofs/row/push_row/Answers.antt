@@ -7,9 +7,10 @@ use Rattle.std.specs.Str.Iter.{split_steps}
 use Rattle.std.specs.Str.Pattern.{FindsChar}
 use Rattle.std.proofs.lemmas.Iterator.Splits.{YieldsList-from_str_split}
 use Rattle.std.proofs.lemmas.List.{length-append}
+use Rattle.std.proofs.lemmas.Result.{err_from_is_err_and}
 use Rattle.pool_cells.specs.Texts.{Spells}
 use Rattle.pool_rows.specs.Matrices.{AreSpelt}
-use Rattle.pool_rows.proofs.Rows.{spelt_more, spelt_at}
+use Rattle.pool_rows.proofs.Rows.{row_begun, spelt_more, spelt_at}
 use Rattle.pool_rows.proofs.Yields.{one_more, none_left}
 use Rattle.pool_rows.proofs.row.push_row.Goals as goal
 
@@ -64,6 +65,18 @@ loop-part-preserved c =
         more.yields,
       ),
     )
+
+pub returns-in_err-push-in-Ok : goal.returns-in_err-push-in-Ok
+returns-in_err-push-in-Ok c =
+    let known = c.loop-part.invariant.2 in
+    let step : split_steps FindsChar (λ a b. b ≡ a) c.loop-part.part-iterator (Some c.in-Some.part) c.next.new.self = search rules in
+    let more = one_more (split_steps FindsChar (λ a b. b ≡ a)) (λ x.
+    x.now) c.loop-part.part-iterator c.in-Some.part c.next.new.self known.1 known.7 step in
+    let spelt : Spells c.in-Some.part.now c.in-Ok.number = search rules in
+    let fits : FitsSigned w64 c.in-Ok.number = search rules in
+    let passed = err_from_is_err_and c.from_residual.result c.from_residual.ensures.1 in
+    rw passed.1 (row_begun c.args.line.now known.0 more.rest known.2 c.in-Some.part.now c.in-Ok.number
+    (known.3 ∙ ap (λ l. known.0 ++ l) more.is) known.4 spelt fits)
 
 pub returns : goal.returns
 returns c =

@@ -16,20 +16,20 @@ returns-in-Err-clause-unnamed g c = (
   λ none. refl,
 )
 
-pub returns-in-Err-text_of_run-clause-why : goal.returns-in-Err-text_of_run-clause-why
-returns-in-Err-text_of_run-clause-why g c = (c.in-Ok.graph, c.in-Ok.ensures.only, c.in-Err-text_of_run.ensures)
+pub returns-in-Err-text_watched-clause-why : goal.returns-in-Err-text_watched-clause-why
+returns-in-Err-text_watched-clause-why g c = (c.in-Ok.graph, c.in-Ok.ensures.only, c.in-Err-text_watched.ensures)
 
-pub returns-in-Err-text_of_run-clause-unnamed : goal.returns-in-Err-text_of_run-clause-unnamed
-returns-in-Err-text_of_run-clause-unnamed g c = (λ is. cc, λ none. absurd (none c.in-Ok.graph c.in-Ok.ensures.only))
+pub returns-in-Err-text_watched-clause-unnamed : goal.returns-in-Err-text_watched-clause-unnamed
+returns-in-Err-text_watched-clause-unnamed g c = (λ is. cc, λ none. absurd (none c.in-Ok.graph c.in-Ok.ensures.only))
 
 pub returns-clause-why : goal.returns-clause-why
-returns-clause-why g c = (c.in-Ok-text_of_run.text.items, (c.in-Ok.graph, c.in-Ok.ensures.only, c.in-Ok-text_of_run.ensures))
+returns-clause-why g c = (c.in-Ok-text_watched.text.items, (c.in-Ok.graph, c.in-Ok.ensures.only, c.in-Ok-text_watched.ensures))
 
 pub returns-in-Ok-write_text-clause-ran : goal.returns-in-Ok-write_text-clause-ran
 returns-in-Ok-write_text-clause-ran g c =
     let plan = c.args.plan in
     let text = subst (IsTextOf plan.form c.in-Ok.graph plan.config.nodes plan.config.workers plan.generations)
-    (sym c.deref.ensures.value) c.in-Ok-text_of_run.ensures in
+    (sym c.deref.ensures.value) c.in-Ok-text_watched.ensures in
     (refl, (c.deref.result.now, (c.in-Ok.graph, c.in-Ok.ensures.only, text), c.in-Ok-write_text.ensures))
 
 pub returns-in-Ok-write_text-clause-unnamed : goal.returns-in-Ok-write_text-clause-unnamed

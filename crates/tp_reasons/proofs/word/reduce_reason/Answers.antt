@@ -13,12 +13,12 @@ returns-in-Err c =
 pub returns-in-Err-number_in : goal.returns-in-Err-number_in
 returns-in-Err-number_in c =
     second_wrong c.args.word.now Reduce c.in-Err-number_in.reason Leaves Seed [] c.in-Some.leaves.now c.in-Some.seed.now [] refl
-    (c.requires ∙ ap (λ l. kind_text Reduce ∷ l) c.in-Some.ensures) (c.in_default-number_in.field-0, c.in_default-number_in.ensures.0, c.in_default-number_in.ensures.1)
-    refl c.in-Err-number_in.ensures
+    (c.requires ∙ ap (λ l. kind_text Reduce ∷ l) c.in-Some.ensures)
+    (c.in_default-number_in.field-0, c.in_default-number_in.ensures.0, c.in_default-number_in.ensures.1) refl c.in-Err-number_in.ensures
 
 pub returns-in-Ok : goal.returns-in-Ok
 returns-in-Ok c =
     reduce_named c.args.word.now c.in_default-number_in.field-0 c.in-Ok.field-0
-    (two_is c.args.word.now (kind_text Reduce) _ _ c.in_default-number_in.field-0 c.in-Ok.field-0 (c.requires ∙ ap (λ l. kind_text Reduce ∷ l) c.in-Some.ensures)
-    c.in_default-number_in.ensures.1 c.in-Ok.ensures.1)
+    (two_is c.args.word.now (kind_text Reduce) _ _ c.in_default-number_in.field-0 c.in-Ok.field-0
+    (c.requires ∙ ap (λ l. kind_text Reduce ∷ l) c.in-Some.ensures) c.in_default-number_in.ensures.1 c.in-Ok.ensures.1)
     c.in_default-number_in.ensures.0 c.in-Ok.ensures.0

@@ -1,11 +1,30 @@
 -- How many boundaries between nodes there are, where each node has a range of blocks.
-use Rattle.std.proofs.Common.{◌≡◌, ◌≢◌, ◌<◌, ◌≤◌, ◌+◌, ◌-◌, ◌*◌, ◌/◌, ◌%◌, ℕ, zero, suc, min, if◌then◌else◌, refl, sym, ap, ◌∙◌, ◌⊎◌}
-use Rattle.std.proofs.Common.{⊎_elim, inl, inr, add-one, arith}
+use Rattle.std.proofs.Common.{◌≡◌, ◌≢◌, ◌<◌, ◌≤◌, ◌+◌, ◌-◌, ◌*◌, ◌/◌, ◌%◌, ◌==◌, ℕ, zero, suc, if◌then◌else◌, refl, sym, ap, ◌∙◌, ◌⊎◌}
+use Rattle.std.proofs.Common.{⊎_elim, inl, inr, arith}
 use Rattle.std.proofs.lemmas.Bool.{cases_lt, eq-eqb, ne_eqb}
 use Rattle.std.proofs.lemmas.Nat.{div-add-mod', div-mul-add}
-use Rattle.pool_block_runs.specs.Events.{MessagesAreCounted, crossings, home_of}
+use Rattle.tp_wave.specs.Sums.{total}
+use Rattle.pool_blocks.specs.Events.{step_messages}
+
+-- the node of a block
+abbrev pub home_of : ℕ → ℕ → ℕ → ℕ
+home_of blocks nodes b = b * nodes / blocks
+
+-- 1 where two blocks are at different nodes
+abbrev pub apart : ℕ → ℕ → ℕ → ℕ → ℕ
+apart blocks nodes a b = if home_of blocks nodes a == home_of blocks nodes b then 0 else 1
+
+-- how many of the blocks behind the first, so many, are at another node than the block before
+abbrev crossings : ℕ → ℕ → ℕ → ℕ
+crossings blocks nodes b = total b (λ c. apart blocks nodes c (suc c))
 
 module _ (blocks nodes : ℕ) (some : 1 ≤ blocks) where
+  apart-same : (a b : ℕ) → home_of blocks nodes a ≡ home_of blocks nodes b → apart blocks nodes a b ≡ 0
+  apart-same a b e = rw (eq-eqb (home_of blocks nodes a) (home_of blocks nodes b) e) refl
+
+  apart-other : (a b : ℕ) → home_of blocks nodes a ≢ home_of blocks nodes b → apart blocks nodes a b ≡ 1
+  apart-other a b d = rw (ne_eqb (home_of blocks nodes a) (home_of blocks nodes b) d) refl
+
   -- where there are no more nodes than blocks, a block's node is that of the block before it, or the next
   next-home : (b : ℕ) → nodes ≤ blocks → (home_of blocks nodes (suc b) ≡ home_of blocks nodes b)
       ⊎ (home_of blocks nodes (suc b) ≡ suc (home_of blocks nodes b))
@@ -42,20 +61,14 @@ module _ (blocks nodes : ℕ) (some : 1 ≤ blocks) where
   few-crossings (suc b) few =
       ⊎_elim
       (λ (same : home_of blocks nodes (suc b) ≡ home_of blocks nodes b).
-      ap (λ t. if t then crossings blocks nodes b else crossings blocks nodes b + 1)
-      (eq-eqb (home_of blocks nodes b) (home_of blocks nodes (suc b)) (sym same)) ∙ few-crossings b few ∙ sym same)
+      omega (arith, few-crossings b few, apart-same b (suc b) (sym same), same))
       (λ (next : home_of blocks nodes (suc b) ≡ suc (home_of blocks nodes b)).
-      ap (λ t. if t then crossings blocks nodes b else crossings blocks nodes b + 1)
-      (ne_eqb (home_of blocks nodes b) (home_of blocks nodes (suc b)) (λ e. omega (arith, e, next)))
-      ∙ ap (λ n. n + 1) (few-crossings b few) ∙ add-one (home_of blocks nodes b) ∙ sym next)
+      omega (arith, few-crossings b few, apart-other b (suc b) (λ e. omega (arith, e, next)), next))
       (next-home b few)
 
   many-crossings : (b : ℕ) → blocks ≤ nodes → crossings blocks nodes b ≡ b
   many-crossings zero many = refl
-  many-crossings (suc b) many =
-      ap (λ t. if t then crossings blocks nodes b else crossings blocks nodes b + 1)
-      (ne_eqb (home_of blocks nodes b) (home_of blocks nodes (suc b)) (other-home b many))
-      ∙ ap (λ n. n + 1) (many-crossings b many) ∙ add-one b
+  many-crossings (suc b) many = omega (arith, many-crossings b many, apart-other b (suc b) (other-home b many))
 
   -- the node of the last block is the last
   last-home : 1 ≤ nodes → nodes ≤ blocks → home_of blocks nodes (blocks - 1) ≡ nodes - 1
@@ -70,7 +83,9 @@ module _ (blocks nodes : ℕ) (some : 1 ≤ blocks) where
       let e : p * nodes ≡ q * blocks + (p - q) = omega (arith, product, whole, less) in
       ap (λ m. m / blocks) e ∙ div-mul-add q blocks (p - q) (omega (arith, as-blocks))
 
-pub messages_counted : MessagesAreCounted
+-- two messages cross each boundary between two nodes at each step, and there are as many boundaries as are counted
+pub messages_counted : (blocks nodes : ℕ) → 1 ≤ blocks → 1 ≤ nodes
+    → 2 * total (blocks - 1) (λ b. apart blocks nodes b (suc b)) ≡ step_messages blocks nodes
 messages_counted blocks nodes some one =
     ⊎_elim
     (λ (t : nodes < blocks).
