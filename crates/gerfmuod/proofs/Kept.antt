@@ -2,7 +2,7 @@
 use Rattle.tp_core.specs.Generations.{InEach}
 use Rattle.tp_core.specs.NeverEarly.{IsNeverEarly}
 use Rattle.tp_core.proofs.Generations.{never_early_in_each}
-use Rattle.gerfmuod.specs.declared.pool.Pool.TheInside.{Inside}
+use Rattle.gerfmuod.specs.declared.pool.CoreRoom.TheInside.{Inside}
 use Rattle.gerfmuod.specs.Pool.{IsKept}
 
 pub kept_never_early : (p : Inside) → IsKept p → InEach (IsNeverEarly p.core.nodes) p.core.steps

@@ -6,7 +6,7 @@ use Rattle.tp_core.specs.Generations.{AreRuns, InEach}
 use Rattle.tp_core.specs.NeverEarly.{IsNeverEarly, IsOverFrom}
 use Rattle.tp_wave.specs.Sums.{visited_at}
 use Rattle.tp_wave.specs.Generations.{present}
-use Rattle.gerfmuod.specs.declared.pool.Pool.TheInside.{Inside}
+use Rattle.gerfmuod.specs.declared.pool.CoreRoom.TheInside.{Inside}
 
 -- The number of the nodes is that of the core, and its steps are runs through all generations.
 pub record IsKept (p : Inside) : Type 0 where

@@ -7,7 +7,7 @@ ghost use Rattle.gerfmuod.specs.Told.{reply_told, refusal_told, IsTold, IsToldOf
 
 use crate::answer::{Answer, Counters, Settled, Whole};
 use crate::event::{Event, insert_step, step_of};
-use crate::pool::Pool;
+use crate::pool::CoreRoom;
 use std::alloc::Global;
 use tp_base::{Generation, MAX_NODES, MAX_STEPS, MessageId, NodeId, Refusal, Step, TaskId};
 use tp_core::Reply;
@@ -20,11 +20,11 @@ fn can_be(nodes: u32) -> bool
 }
 
 /// A pool over so many nodes, or over one where there cannot be so many.
-pub(crate) fn made(alloc: Global, nodes: u32) -> Pool
+pub(crate) fn made(alloc: Global, nodes: u32) -> CoreRoom
     ensures { result ≡ opened nodes }
 {
     let nodes = if can_be(nodes) { nodes } else { 1 };
-    Pool::new(alloc, nodes)
+    CoreRoom::new(alloc, nodes)
 }
 
 /// 0, or the number of the refusal where there cannot be so many nodes.
@@ -93,7 +93,7 @@ fn of_refusal(refusal: Refusal) -> Answer
 /// Takes the next step, and tells it as C reads it.
 #[inline(always)]
 #[tactic(auto, using(crate::proofs::Ended::told_over))]
-fn told(pool: &mut Pool, step: Option<Step>) -> Answer
+fn told(pool: &mut CoreRoom, step: Option<Step>) -> Answer
     ensures { IsTold pool.old step result pool.new
         × TellsNoEarlyEnd (result.told ≡ 3) result.number pool.new }
 {
@@ -108,7 +108,7 @@ fn told(pool: &mut Pool, step: Option<Step>) -> Answer
 /// Takes the next step, of whichever kind, as C writes it.
 #[inline(always)]
 pub(crate) fn answered(
-    pool: &mut Pool,
+    pool: &mut CoreRoom,
     kind: u32,
     first: u32,
     second: u32,
@@ -130,7 +130,7 @@ pub(crate) fn answered(
 
 /// A fresh task waits at its home node for so many inputs.
 #[inline(always)]
-pub(crate) fn insert(pool: &mut Pool, node: u32, task: u32, inputs: u32) -> Answer
+pub(crate) fn insert(pool: &mut CoreRoom, node: u32, task: u32, inputs: u32) -> Answer
     ensures { IsTold pool.old (insert_asked node task inputs) result pool.new
         × TellsNoEarlyEnd (result.told ≡ 3) result.number pool.new }
 {
@@ -139,7 +139,7 @@ pub(crate) fn insert(pool: &mut Pool, node: u32, task: u32, inputs: u32) -> Answ
 
 /// A waiting task gets one input.
 #[inline(always)]
-pub(crate) fn supply(pool: &mut Pool, task: u32) -> Answer
+pub(crate) fn supply(pool: &mut CoreRoom, task: u32) -> Answer
     ensures { IsTold pool.old (Some (supply_of task)) result pool.new
         × TellsNoEarlyEnd (result.told ≡ 3) result.number pool.new }
 {
@@ -148,7 +148,7 @@ pub(crate) fn supply(pool: &mut Pool, task: u32) -> Answer
 
 /// A ready task begins to run.
 #[inline(always)]
-pub(crate) fn begin(pool: &mut Pool, task: u32) -> Answer
+pub(crate) fn begin(pool: &mut CoreRoom, task: u32) -> Answer
     ensures { IsTold pool.old (Some (begin_of task)) result pool.new
         × TellsNoEarlyEnd (result.told ≡ 3) result.number pool.new }
 {
@@ -157,7 +157,7 @@ pub(crate) fn begin(pool: &mut Pool, task: u32) -> Answer
 
 /// A running task is done.
 #[inline(always)]
-pub(crate) fn done(pool: &mut Pool, task: u32) -> Answer
+pub(crate) fn done(pool: &mut CoreRoom, task: u32) -> Answer
     ensures { IsTold pool.old (Some (done_of task)) result pool.new
         × TellsNoEarlyEnd (result.told ≡ 3) result.number pool.new }
 {
@@ -166,7 +166,7 @@ pub(crate) fn done(pool: &mut Pool, task: u32) -> Answer
 
 /// A node sends a message to another.
 #[inline(always)]
-pub(crate) fn send(pool: &mut Pool, from: u32, to: u32, message: u32, generation: u32) -> Answer
+pub(crate) fn send(pool: &mut CoreRoom, from: u32, to: u32, message: u32, generation: u32) -> Answer
     ensures { IsTold pool.old (Some (send_of from to message generation)) result pool.new
         × TellsNoEarlyEnd (result.told ≡ 3) result.number pool.new }
 {
@@ -183,7 +183,7 @@ pub(crate) fn send(pool: &mut Pool, from: u32, to: u32, message: u32, generation
 
 /// A node receives a message, whose action opens.
 #[inline(always)]
-pub(crate) fn receive(pool: &mut Pool, node: u32, message: u32, generation: u32) -> Answer
+pub(crate) fn receive(pool: &mut CoreRoom, node: u32, message: u32, generation: u32) -> Answer
     ensures { IsTold pool.old (Some (receive_of node message generation)) result pool.new
         × TellsNoEarlyEnd (result.told ≡ 3) result.number pool.new }
 {
@@ -195,7 +195,7 @@ pub(crate) fn receive(pool: &mut Pool, node: u32, message: u32, generation: u32)
 
 /// The action of a message closes.
 #[inline(always)]
-pub(crate) fn message_end(pool: &mut Pool, node: u32, message: u32, generation: u32) -> Answer
+pub(crate) fn message_end(pool: &mut CoreRoom, node: u32, message: u32, generation: u32) -> Answer
     ensures { IsTold pool.old (Some (message_end_of node message generation)) result pool.new
         × TellsNoEarlyEnd (result.told ≡ 3) result.number pool.new }
 {
@@ -206,7 +206,7 @@ pub(crate) fn message_end(pool: &mut Pool, node: u32, message: u32, generation: 
 }
 
 /// The counters of a node.
-pub(crate) fn counted(pool: &mut Pool, node: u32) -> Counters
+pub(crate) fn counted(pool: &mut CoreRoom, node: u32) -> Counters
     ensures { (pool.new ≡ pool.old) × (result ≡ counters_at node pool.old) }
 {
     if node >= pool.nodes() {
@@ -227,7 +227,7 @@ pub(crate) fn counted(pool: &mut Pool, node: u32) -> Counters
 }
 
 /// The pool as a whole.
-pub(crate) fn seen(pool: &mut Pool) -> Whole
+pub(crate) fn seen(pool: &mut CoreRoom) -> Whole
     ensures { (pool.new ≡ pool.old) × IsWhole pool.old result }
 {
     let steps = pool.steps().len() as u32;
@@ -241,7 +241,7 @@ pub(crate) fn seen(pool: &mut Pool) -> Whole
 
 /// Settles a pool.
 #[tactic(auto, using(crate::proofs::Ended::settled_over))]
-pub(crate) fn settled(pool: &mut Pool) -> Settled
+pub(crate) fn settled(pool: &mut CoreRoom) -> Settled
     ensures { IsSettled pool.old result pool.new × TellsNoEarlyEnd (result.refused ≡ 0) result.wave pool.new }
 {
     match pool.settle() {

@@ -2,7 +2,7 @@ ghost use Rattle.std.specs.Prelude.{◌≡◌, ◌≤◌, Some};
 ghost use Rattle.std.specs.Borrow.{full_share, sem};
 ghost use Rattle.std.specs.Ptr.{lies_at, room_at};
 ghost use Rattle.tp_core.specs.Accepted.{Accepted};
-ghost use Rattle.gerfmuod.specs.contracts.pool.Pool.{the_row as core_row};
+ghost use Rattle.gerfmuod.specs.contracts.pool.CoreRoom.{the_row as core_row};
 ghost use Rattle.gerfmuod.specs.Asked.{counters_at, IsSettled, IsWhole};
 ghost use Rattle.gerfmuod.specs.Events.{begin_of, done_of, event_of, insert_asked, message_end_of, receive_of, send_of, supply_of};
 ghost use Rattle.gerfmuod.specs.Opened.{opened, opening};
@@ -16,7 +16,7 @@ use crate::calls::{
     settled, supply,
 };
 use crate::history::traced;
-use crate::pool::Pool;
+use crate::pool::CoreRoom;
 use std::alloc::Global;
 
 /// The version of the library, 0.1.0: ten thousands, hundreds and ones.
@@ -35,7 +35,7 @@ pub extern "C" fn gerfmuod_version() -> u32
 pub extern "C" fn gerfmuod_core_size() -> usize
     ensures { result ≤ 512 }
 {
-    size_of::<Pool>()
+    size_of::<CoreRoom>()
 }
 
 /// Makes a core of 1 to 8 nodes in the memory at `core`. It takes no other memory. Where there cannot be so many nodes it
@@ -46,7 +46,7 @@ pub unsafe extern "C" fn gerfmuod_open(alloc: Global, core: *mut u8, nodes: u32)
     ensures* { sem 𝓛 (lies_at core_row full_share core (opened nodes)) ∗ ⌜ result ≡ opening nodes ⌝ }
 {
     let made = made(alloc, nodes);
-    (core as *mut Pool).write(made);
+    (core as *mut CoreRoom).write(made);
     opening(nodes)
 }
 
@@ -69,7 +69,7 @@ pub unsafe extern "C" fn gerfmuod_step(
         × TellsNoEarlyEnd (result.told ≡ 3) result.number new ⌝) }
 {
     answered(
-        &mut *(core as *mut Pool),
+        &mut *(core as *mut CoreRoom),
         kind,
         first,
         second,
@@ -88,7 +88,7 @@ pub unsafe extern "C" fn gerfmuod_insert(core: *mut u8, node: u32, task: u32, in
         ∗ ⌜ IsTold old (insert_asked node task inputs) result new
         × TellsNoEarlyEnd (result.told ≡ 3) result.number new ⌝) }
 {
-    insert(&mut *(core as *mut Pool), node, task, inputs)
+    insert(&mut *(core as *mut CoreRoom), node, task, inputs)
 }
 
 /// A waiting task gets one input. Refused for the first that holds: `NoTask`, `WrongLife`, `HistoryFull`, `NoMemory`.
@@ -100,7 +100,7 @@ pub unsafe extern "C" fn gerfmuod_supply(core: *mut u8, task: u32) -> Answer
         ∗ ⌜ IsTold old (Some (supply_of task)) result new
         × TellsNoEarlyEnd (result.told ≡ 3) result.number new ⌝) }
 {
-    supply(&mut *(core as *mut Pool), task)
+    supply(&mut *(core as *mut CoreRoom), task)
 }
 
 /// A ready task begins to run. Refused for the first that holds: `NoTask`, `WrongLife`, `HistoryFull`, `NoMemory`.
@@ -112,7 +112,7 @@ pub unsafe extern "C" fn gerfmuod_begin(core: *mut u8, task: u32) -> Answer
         ∗ ⌜ IsTold old (Some (begin_of task)) result new
         × TellsNoEarlyEnd (result.told ≡ 3) result.number new ⌝) }
 {
-    begin(&mut *(core as *mut Pool), task)
+    begin(&mut *(core as *mut CoreRoom), task)
 }
 
 /// A running task is done. Refused for the first that holds: `NoTask`, `WrongLife`, `HistoryFull`, `NoMemory`.
@@ -124,7 +124,7 @@ pub unsafe extern "C" fn gerfmuod_done(core: *mut u8, task: u32) -> Answer
         ∗ ⌜ IsTold old (Some (done_of task)) result new
         × TellsNoEarlyEnd (result.told ≡ 3) result.number new ⌝) }
 {
-    done(&mut *(core as *mut Pool), task)
+    done(&mut *(core as *mut CoreRoom), task)
 }
 
 /// A node that is active sends a message to another. Refused for the first that holds: `NoNode`, `Stranger`, `SameNode`,
@@ -143,7 +143,7 @@ pub unsafe extern "C" fn gerfmuod_send(
         ∗ ⌜ IsTold old (Some (send_of from to message generation)) result new
         × TellsNoEarlyEnd (result.told ≡ 3) result.number new ⌝) }
 {
-    send(&mut *(core as *mut Pool), from, to, message, generation)
+    send(&mut *(core as *mut CoreRoom), from, to, message, generation)
 }
 
 /// A node receives a message, whose action opens. Refused for the first that holds: `NoNode`, `Stranger`, `NoMessage`,
@@ -161,7 +161,7 @@ pub unsafe extern "C" fn gerfmuod_receive(
         ∗ ⌜ IsTold old (Some (receive_of node message generation)) result new
         × TellsNoEarlyEnd (result.told ≡ 3) result.number new ⌝) }
 {
-    receive(&mut *(core as *mut Pool), node, message, generation)
+    receive(&mut *(core as *mut CoreRoom), node, message, generation)
 }
 
 /// The action of a received message closes. Refused for the first that holds: `NoNode`, `Stranger`, `NoAction`,
@@ -179,7 +179,7 @@ pub unsafe extern "C" fn gerfmuod_message_end(
         ∗ ⌜ IsTold old (Some (message_end_of node message generation)) result new
         × TellsNoEarlyEnd (result.told ≡ 3) result.number new ⌝) }
 {
-    message_end(&mut *(core as *mut Pool), node, message, generation)
+    message_end(&mut *(core as *mut CoreRoom), node, message, generation)
 }
 
 /// The counters of a node, or 1, `NoNode`, where there is no such node.
@@ -190,7 +190,7 @@ pub unsafe extern "C" fn gerfmuod_numbers(core: *mut u8, node: u32) -> Counters
     ensures* { ∃ₛ (λ (new : Accepted). sem 𝓛 (lies_at core_row full_share core new)
         ∗ ⌜ (new ≡ old) × (result ≡ counters_at node old) ⌝) }
 {
-    counted(&mut *(core as *mut Pool), node)
+    counted(&mut *(core as *mut CoreRoom), node)
 }
 
 /// The pool as a whole: how many steps were taken and how many more can be, how many messages are under way, and whether
@@ -202,7 +202,7 @@ pub unsafe extern "C" fn gerfmuod_whole(core: *mut u8) -> Whole
     ensures* { ∃ₛ (λ (new : Accepted). sem 𝓛 (lies_at core_row full_share core new)
         ∗ ⌜ (new ≡ old) × IsWhole old result ⌝) }
 {
-    seen(&mut *(core as *mut Pool))
+    seen(&mut *(core as *mut CoreRoom))
 }
 
 /// Takes control steps until the end is judged, where nothing is left; it is refused as `Core::settle` tells.
@@ -213,7 +213,7 @@ pub unsafe extern "C" fn gerfmuod_settle(core: *mut u8) -> Settled
     ensures* { ∃ₛ (λ (new : Accepted). sem 𝓛 (lies_at core_row full_share core new)
         ∗ ⌜ IsSettled old result new × TellsNoEarlyEnd (result.refused ≡ 0) result.wave new ⌝) }
 {
-    settled(&mut *(core as *mut Pool))
+    settled(&mut *(core as *mut CoreRoom))
 }
 
 /// Puts the trace of the steps that were taken at the front of the room: `tp audit` and `gerfmuod_audit` judge it.
@@ -224,10 +224,10 @@ pub unsafe extern "C" fn gerfmuod_trace(alloc: Global, core: *mut u8, room: &mut
     ensures* { ∃ₛ (λ (new : Accepted). sem 𝓛 (lies_at core_row full_share core new)
         ∗ ⌜ (new ≡ old) × IsTraced old room.old result room.new ⌝) }
 {
-    traced(alloc, &mut *(core as *mut Pool), room)
+    traced(alloc, &mut *(core as *mut CoreRoom), room)
 }
 
-fn end(pool: Pool) {
+fn end(pool: CoreRoom) {
     drop(pool)
 }
 
@@ -238,6 +238,6 @@ pub unsafe extern "C" fn gerfmuod_close(core: *mut u8)
     requires* { sem 𝓛 (lies_at core_row full_share core old) }
     ensures* { sem 𝓛 (room_at core_row core) }
 {
-    let ended = (core as *mut Pool).read();
+    let ended = (core as *mut CoreRoom).read();
     end(ended)
 }

@@ -10,7 +10,7 @@ ghost use Rattle.gerfmuod.specs.Homes.{tasks_after, HasHomes, IsSmall};
 ghost use Rattle.gerfmuod.specs.Written.{IsTraced};
 
 use crate::answer::Written;
-use crate::pool::Pool;
+use crate::pool::CoreRoom;
 use crate::text::{NO_MEMORY, NO_TEXT, WRITTEN, put, unwritten};
 use std::alloc::{AllocError, Global};
 use tp_base::{History, NodeId, Refusal, Step, Table};
@@ -91,7 +91,7 @@ fn recorded(alloc: Global, steps: &[Step], nodes: u32) -> Result<History, AllocE
 }
 
 /// The trace of what a pool has taken.
-fn trace(alloc: Global, pool: &Pool) -> Result<Vec<u8>, Refusal>
+fn trace(alloc: Global, pool: &CoreRoom) -> Result<Vec<u8>, Refusal>
     ensures ok { IfOk result (λ text. IsTraceOf pool.now.nodes pool.now.steps text.items × CanBeTraced pool.now.steps) }
     ensures err { IfErr result (λ r. (r ≡ Refusal.NoMemory) ⊎ ((r ≡ Refusal.BadSpec) × ¬ CanBeTraced pool.now.steps)) }
 {
@@ -104,7 +104,7 @@ fn trace(alloc: Global, pool: &Pool) -> Result<Vec<u8>, Refusal>
 }
 
 /// Puts the trace of what a pool has taken at the front of the room.
-pub(crate) fn traced(alloc: Global, pool: &mut Pool, room: &mut [u8]) -> Written
+pub(crate) fn traced(alloc: Global, pool: &mut CoreRoom, room: &mut [u8]) -> Written
     ensures { (pool.new ≡ pool.old) × IsTraced pool.old room.old result room.new }
 {
     match trace(alloc, pool) {

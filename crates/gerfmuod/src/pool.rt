@@ -8,7 +8,7 @@ use tp_core::{Core, Reply};
 
 /// A core and the number of its nodes. Contracts see what the core has accepted.
 #[derive(Drop)]
-pub(crate) struct Pool {
+pub(crate) struct CoreRoom {
     core: Core,
     nodes: u32,
 }
@@ -16,14 +16,14 @@ pub(crate) struct Pool {
 /// How many bytes the header gives to a core.
 const ROOM: usize = 512;
 
-const _: () = prove!(size_of::<Pool>() <= ROOM);
+const _: () = prove!(size_of::<CoreRoom>() <= ROOM);
 
-const _: () = prove!(align_of::<Pool>() <= 8);
+const _: () = prove!(align_of::<CoreRoom>() <= 8);
 
 /// Compiles only for what may go from thread to thread, as a program in C may hand on its core.
 fn can_be_sent<T: Send>() {}
 
-impl Model for Pool {
+impl Model for CoreRoom {
     ghost use Rattle.tp_core.specs.Accepted.{Accepted};
 
     ghost Value = { Accepted };
@@ -35,19 +35,19 @@ impl Model for Pool {
     ghost invariant = { IsKept };
 }
 
-impl Pool {
+impl CoreRoom {
     ghost use Rattle.tp_core.specs.Generations.{AreRuns, InEach};
     ghost use Rattle.tp_core.specs.NeverEarly.{IsNeverEarly};
     ghost use Rattle.tp_core.specs.Settled.{Settles};
     ghost use Rattle.gerfmuod.specs.Told.{AnswersTo};
 
     /// A pool over the nodes 0 to `nodes` - 1, 1 to 8 of them. It takes no memory.
-    pub(crate) fn new(alloc: Global, nodes: u32) -> Pool
+    pub(crate) fn new(alloc: Global, nodes: u32) -> CoreRoom
         requires { (1 ≤ nodes) × (nodes ≤ MAX_NODES) }
         ensures { result ≡ record { nodes = nodes; steps = [] } }
     {
-        can_be_sent::<Pool>();
-        Pool {
+        can_be_sent::<CoreRoom>();
+        CoreRoom {
             core: Core::new(alloc, nodes),
             nodes,
         }

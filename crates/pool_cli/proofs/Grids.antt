@@ -7,14 +7,14 @@ use Rattle.std.specs.Prelude.{◌==◌}
 use Rattle.tp_base.specs.declared.limits.TheConstants.{MAX_STEPS}
 use Rattle.pool_block_runs.specs.Events.{TakeNoStep, all_events}
 use Rattle.pool_blocks.proofs.Blocks.{after-length}
-use Rattle.pool_cli.proofs.Asked.{same_text}
-use Rattle.pool_cli.specs.Command.{IsNumberOf, LacksNumber}
 use Rattle.pool_cli.specs.GridCommand.{LacksSize}
 use Rattle.pool_grid.specs.GridLaws.{relaxed-long}
 use Rattle.pool_grid.specs.Grids.{blocks_of, evolve, relaxed}
 use Rattle.pool_grid_rows.specs.Grids.{AreGrid}
 use Rattle.pool_rows.proofs.Rows.{length-spelt}
 use Rattle.pool_rows.specs.Matrices.{AreRows, SpellsRow}
+use Rattle.tp_shell.proofs.Numbers.{same_text}
+use Rattle.tp_shell.specs.Command.{IsNumberOf, LacksNumber}
 use Rattle.clap.specs.Words.{Row, Text}
 use Rattle.std.specs.Str.Parse.{digits_value, without_leading_plus}
 

@@ -1,4 +1,3 @@
-pub mod Asked
 pub mod Ending
 pub mod Grids
 pub mod Products

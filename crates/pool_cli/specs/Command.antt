@@ -1,13 +1,12 @@
 -- The command lines as plain data, and what their words ask for. Of a parse clap says what it finds for each argument, and by
 -- which faults it fails, as functions of the command and the words.
-use Rattle.std.specs.Prelude.{ℕ, ◌≡◌, ◌<◌, ◌^◌, ◌⊎◌, Bool, List, Some, pos, true, false, codes}
-use Rattle.std.specs.Str.Parse.{IsNumeral, without_leading_plus, digits_value}
+use Rattle.std.specs.Prelude.{ℕ, ◌≡◌, ◌⊎◌, Bool, List, Some, pos, true, false, codes}
 use Rattle.clap.specs.Words.{App, Row, Rule, Text, matches_of, new_app, new_rule, one_of, with_rule}
 use Rattle.clap.specs.declared.builder.action.ArgAction.TheVariants.{SetTrue}
 use Rattle.clap.specs.declared.builder.value_parser.ValueParser.TheVariants.{Signed, Unsigned}
 use Rattle.pool_cli.specs.declared.product_request.ProductRequest.{ProductRequest}
 use Rattle.pool_cli.specs.declared.request.Request.{Request}
-use Rattle.tp_shell.specs.Command.{AreCountsIn, with_count_rules, with_version}
+use Rattle.tp_shell.specs.Command.{AreCountsIn, IsNumberOf, LacksNumber, with_count_rules, with_version}
 
 -- how many steps the rod takes, a number of 64 bits
 abbrev pub steps_rule : Rule
@@ -34,15 +33,6 @@ abbrev pub product_app : App
 product_app = with_quiet_rule (with_count_rules (with_rule (with_version (new_app (codes "product"))) (size_rule (codes "SIDE"))))
 
 -- ---- what was found for the arguments
-
--- The word of the argument of this name spells this number.
-abbrev pub IsNumberOf : Text → List Row → ℕ → Type 0
-IsNumberOf name rows n = (t : Text) × (one_of name rows ≡ Some t) × IsNumeral 10 (without_leading_plus t)
-    × (n ≡ digits_value 10 (without_leading_plus t))
-
--- The argument of this name has no word that spells a number of so many bits.
-abbrev pub LacksNumber : ℕ → Text → List Row → Type 0
-LacksNumber bits name rows = (n : ℕ) → n < 2 ^ bits → ¬ IsNumberOf name rows n
 
 -- so many steps in blocks of so many cells
 abbrev pub AreStepsIn : List Row → ℕ → ℕ → Type 0

@@ -1,6 +1,5 @@
 -- What is told of a fault on standard error, and the exit status that it gives.
 use Rattle.std.specs.Prelude.{ℕ, ◌==◌, ◌++◌, if◌then◌else◌, List, codes, decimal}
-use Rattle.std.specs.String.{string_bytes}
 use Rattle.tp_base.specs.Refusals.{number_of, name_of}
 use Rattle.tp_base.specs.declared.refusal.Refusal.{Refusal}
 use Rattle.tp_base.specs.declared.refusal.Refusal.TheVariants.{BodyFailed, NoMemory}
@@ -17,10 +16,10 @@ use Rattle.pool_cli.specs.declared.fault.Fault.{Fault}
 use Rattle.pool_cli.specs.declared.fault.Fault.TheVariants as faults
 use Rattle.pool_cli.specs.declared.tiles.TileFault.{TileFault}
 use Rattle.pool_cli.specs.declared.tiles.TileFault.TheVariants.{TooManyRows, Unfilled, TooManyEvents}
+use Rattle.tp_shell.specs.Complaints.{no_memory, not_written, words_complaint}
 use Rattle.tp_shell.specs.declared.status.Status.{Status}
 use Rattle.tp_shell.specs.declared.status.Status.TheVariants as statuses
 use Rattle.tp_shell.specs.declared.streams.ReadFault.TheVariants as reading
-use Rattle.tp_shell.specs.declared.words.WordsFault.{WordsFault}
 use Rattle.tp_shell.specs.declared.words.WordsFault.TheVariants as words
 
 -- 1 where the words, the reading or the writing are at fault, 2 where the input is, 3 where the run was refused or memory was
@@ -54,14 +53,8 @@ status_of (faults.Relaxed fault) = statuses.Failed
 status_of faults.Memory = statuses.Failed
 status_of faults.Write = statuses.Fault
 
-abbrev pub no_memory : List ℕ
-no_memory = codes "there is no memory\n"
-
 abbrev pub not_read : List ℕ
 not_read = codes "the input cannot be read as text\n"
-
-abbrev pub not_written : List ℕ
-not_written = codes "the output cannot be written\n"
 
 abbrev pub no_line : List ℕ
 no_line = codes "the input has no line\n"
@@ -121,12 +114,6 @@ abbrev pub tile_complaint : TileFault → List ℕ
 tile_complaint TooManyRows = codes "the matrices have 32,768 rows or more\n"
 tile_complaint Unfilled = codes "tiles of SIDE rows and columns do not fill the matrices\n"
 tile_complaint TooManyEvents = codes "a run may have 1,048,576 events, and the product takes more: make SIDE larger\n"
-
--- of words that are at fault, the parser's own text
-abbrev pub words_complaint : WordsFault → List ℕ
-words_complaint (words.Words text) = string_bytes text ++ codes "\n"
-words_complaint words.Memory = no_memory
-words_complaint words.Write = not_written
 
 -- what is told of a fault
 abbrev pub complaint : Fault → List ℕ

@@ -1,9 +1,9 @@
 -- The command line of `relax` as plain data, and what its words ask for.
 use Rattle.std.specs.Prelude.{ℕ, ◌≤◌, ◌<◌, ◌^◌, ◌⊎◌, List, codes}
 use Rattle.clap.specs.Words.{App, Row, Text, matches_of, new_app, with_rule}
-use Rattle.pool_cli.specs.Command.{IsNumberOf, IsQuietIn, LacksNumber, size_rule, steps_rule, with_quiet_rule}
+use Rattle.pool_cli.specs.Command.{IsQuietIn, size_rule, steps_rule, with_quiet_rule}
 use Rattle.pool_cli.specs.declared.relax_request.RelaxRequest.{RelaxRequest}
-use Rattle.tp_shell.specs.Command.{AreCountsIn, with_count_rules, with_version}
+use Rattle.tp_shell.specs.Command.{AreCountsIn, IsNumberOf, LacksNumber, with_count_rules, with_version}
 
 -- the command line
 abbrev pub relax_app : App

@@ -10,7 +10,7 @@ use Rattle.pool_cli.specs.Command.{AsksForHeat, LackSteps, heat_app}
 use Rattle.pool_cli.specs.Programs.{About}
 use Rattle.pool_cli.specs.declared.fault.Fault.{Fault}
 use Rattle.pool_cli.specs.declared.fault.Fault.TheVariants as faults
-use Rattle.pool_cli.specs.declared.heat.Cells.{Cells}
+use Rattle.pool_cli.specs.declared.heat.RodCells.{RodCells}
 use Rattle.pool_cli.specs.declared.request.Request.{Request}
 use Rattle.tp_work.specs.Outcomes.{IsWithinLimits}
 
@@ -26,23 +26,23 @@ abbrev pub IsNoStep : ℕ → ℕ → ℕ → Type 0
 IsNoStep cells block nodes = (block ≡ 0) ⊎ (MAX_STEPS < heat_events (blocks_of cells block) nodes 1)
 
 -- some steps of the cells are one run
-abbrev pub AreSuited : Request → Cells → Type 0
+abbrev pub AreSuited : Request → RodCells → Type 0
 AreSuited request cells = (steps : ℕ) × TakeSteps (length cells.numbers.items) request.block request.config.nodes steps
 
 -- there is no cell, or even one step of them is no run
-abbrev pub AreUnsuited : Request → Cells → Fault → Type 0
+abbrev pub AreUnsuited : Request → RodCells → Fault → Type 0
 AreUnsuited request cells faults.Empty = cells.numbers.items ≡ []
 AreUnsuited request cells faults.TooMany = IsNoStep (length cells.numbers.items) request.block request.config.nodes
 AreUnsuited request cells fault = ⊥
 
 -- a run over the cells gave no rod, and this is its own fault; or there is no memory for the rod's text
-abbrev pub IsWithoutRod : Request → Cells → Fault → Type 0
+abbrev pub IsWithoutRod : Request → RodCells → Fault → Type 0
 IsWithoutRod request cells (faults.Rod fault) =
     IsPartFault request.config.nodes request.config.workers cells.numbers.items request.block request.steps fault
 IsWithoutRod request cells faults.Memory = Unit {0}
 IsWithoutRod request cells fault = ⊥
 
-abbrev pub heat_program : About Request Cells
+abbrev pub heat_program : About Request RodCells
 heat_program = record {
   app = heat_app;
   lacks = LackSteps;

@@ -1,7 +1,7 @@
 ghost use Rattle.std.specs.Prelude.{◌≡◌};
 ghost use Rattle.pool_cli.specs.Faults.{complaint, count_complaint, grid_complaint, line_complaint, missing_complaint, no_row};
 ghost use Rattle.pool_cli.specs.Faults.{product_complaint, refusal_complaint, row_complaint, status_of, tile_complaint, word_for};
-ghost use Rattle.pool_cli.specs.Faults.{words_complaint};
+ghost use Rattle.tp_shell.specs.Complaints.{words_complaint};
 
 use crate::tiles::TileFault;
 use pool_cells::LineFault;

@@ -80,12 +80,12 @@ pub fn heat_watched<
 
 /// The cells of a rod, as the lines of a text spell them.
 #[derive(Drop)]
-pub(crate) struct Cells {
+pub(crate) struct RodCells {
     pub(crate) numbers: Vec<i64>,
 }
 
 impl Program for Request {
-    type Data = Cells;
+    type Data = RodCells;
 
     ghost about = { heat_program };
 
@@ -101,11 +101,11 @@ impl Program for Request {
         "Reading the rod from standard input up to Ctrl-D, one whole number a line: heat STEPS BLOCK < FILE\n"
     }
 
-    fn load(alloc: Global, input: &str) -> Result<Cells, Fault> {
+    fn load(alloc: Global, input: &str) -> Result<RodCells, Fault> {
         cells_of(alloc, input)
     }
 
-    fn check(self, cells: &Cells) -> Result<(), Fault> {
+    fn check(self, cells: &RodCells) -> Result<(), Fault> {
         check_cells(self, cells)
     }
 
@@ -113,7 +113,7 @@ impl Program for Request {
         self,
         rt: &R,
         alloc: Global,
-        cells: Cells,
+        cells: RodCells,
         progress: Option<&Progress>,
     ) -> Result<Vec<u8>, Fault> {
         text_after(rt, alloc, self, cells, progress)
@@ -121,17 +121,17 @@ impl Program for Request {
 }
 
 /// The cells of a rod, from their text, one number a line.
-fn cells_of(alloc: Global, input: &str) -> Result<Cells, Fault>
+fn cells_of(alloc: Global, input: &str) -> Result<RodCells, Fault>
     ensures { MatchResult result (λ cells. AreLines input.now cells.numbers.items) (AreBadLines input.now) }
 {
     match numbers_of(alloc, input) {
-        Ok(numbers) => Ok(Cells { numbers }),
+        Ok(numbers) => Ok(RodCells { numbers }),
         Err(fault) => Err(Fault::Lines(fault)),
     }
 }
 
 /// Whether a step of the cells, in such blocks at so many nodes, is a run.
-fn check_cells(request: Request, cells: &Cells) -> Result<(), Fault>
+fn check_cells(request: Request, cells: &RodCells) -> Result<(), Fault>
     ensures { MatchResult result (λ _. AreSuited request cells.now) (AreUnsuited request cells.now) }
 {
     if cells.numbers.is_empty() {
@@ -149,7 +149,7 @@ fn text_after<R: Threads + Wait + Sync>(
     rt: &R,
     alloc: Global,
     request: Request,
-    cells: Cells,
+    cells: RodCells,
     progress: Option<&Progress>,
 ) -> Result<Vec<u8>, Fault>
     requires { IsWithinLimits request.config }

@@ -2,8 +2,8 @@ ghost use Rattle.std.specs.Prelude.{◌≡◌, IfErr, IfOk, MatchOption, ⊤, co
 ghost use Rattle.clap.specs.Values.{kind_of};
 ghost use Rattle.clap.specs.Words.{app_of, found_of, matches_of, rows_of};
 ghost use Rattle.clap.specs.declared.error.kind.ErrorKind.TheVariants.{MissingRequiredArgument};
-ghost use Rattle.pool_cli.specs.Command.{AreStepsIn, AsksForHeat, IsNumberOf, IsQuietIn, LackSteps, LacksNumber, heat_app};
-ghost use Rattle.tp_shell.specs.Command.{AreCountsIn, FailsAs};
+ghost use Rattle.pool_cli.specs.Command.{AreStepsIn, AsksForHeat, IsQuietIn, LackSteps, heat_app};
+ghost use Rattle.tp_shell.specs.Command.{AreCountsIn, FailsAs, IsNumberOf, LacksNumber};
 ghost use Rattle.tp_work.specs.Outcomes.{IsWithinLimits};
 
 use crate::quiet::{is_quiet, with_quiet};

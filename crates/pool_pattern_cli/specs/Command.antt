@@ -10,7 +10,7 @@ use Rattle.pool_pattern_cli.specs.Names.{name_of, with_numbers}
 use Rattle.pool_pattern_cli.specs.declared.request.Asked.{Asked}
 use Rattle.pool_pattern_cli.specs.declared.request.Asked.TheVariants as what
 use Rattle.pool_pattern_cli.specs.declared.request.Request.{Request}
-use Rattle.tp_shell.specs.Command.{AreCountsIn, with_count_rules, with_version}
+use Rattle.tp_shell.specs.Command.{AreCountsIn, IsNumberOf, LacksNumber, with_count_rules, with_version}
 use Rattle.tp_work.specs.Outcomes.{IsWithinLimits}
 
 -- the name of a pattern
@@ -49,15 +49,6 @@ patterns_app = with_count_rules (with_rule (with_rule (with_rule grid_app list_r
     (option_rule (codes "radius") (codes "1"))) (option_rule (codes "seed") (codes "0")))
 
 -- ---- what was found for the arguments
-
--- The word of the argument of this name spells this number.
-abbrev pub IsNumberOf : Text → List Row → ℕ → Type 0
-IsNumberOf name rows n = (t : Text) × (one_of name rows ≡ Some t) × IsNumeral 10 (without_leading_plus t)
-    × (n ≡ digits_value 10 (without_leading_plus t))
-
--- The argument of this name has no word that spells a number of so many bits.
-abbrev pub LacksNumber : ℕ → Text → List Row → Type 0
-LacksNumber bits name rows = (n : ℕ) → n < 2 ^ bits → ¬ IsNumberOf name rows n
 
 -- Where the option's text spells a number of 32 bits, that is this one.
 abbrev pub IsOption : Text → List Row → ℕ → Type 0

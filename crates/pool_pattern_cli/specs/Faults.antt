@@ -1,6 +1,5 @@
 -- What is told of a fault on standard error, and the exit status that it gives.
 use Rattle.std.specs.Prelude.{ℕ, ◌++◌, List, codes, decimal}
-use Rattle.std.specs.String.{string_bytes}
 use Rattle.tp_base.specs.Refusals.{number_of, name_of}
 use Rattle.tp_base.specs.declared.refusal.Refusal.{Refusal}
 use Rattle.tp_base.specs.declared.refusal.Refusal.TheVariants.{HistoryFull, NoMemory}
@@ -9,9 +8,9 @@ use Rattle.pool_patterns.specs.declared.fault.TableFault.TheVariants as tables
 use Rattle.pool_pattern_runs.specs.Faults.{refusal_of}
 use Rattle.pool_pattern_cli.specs.declared.fault.Fault.{Fault}
 use Rattle.pool_pattern_cli.specs.declared.fault.Fault.TheVariants as faults
+use Rattle.tp_shell.specs.Complaints.{no_memory, not_written, words_complaint}
 use Rattle.tp_shell.specs.declared.status.Status.{Status}
 use Rattle.tp_shell.specs.declared.status.Status.TheVariants as statuses
-use Rattle.tp_shell.specs.declared.words.WordsFault.{WordsFault}
 use Rattle.tp_shell.specs.declared.words.WordsFault.TheVariants as words
 
 -- 1 where the words or the writing are at fault, 2 where the tasks are no grid of a run, 3 where the run was refused or
@@ -27,12 +26,6 @@ status_of (faults.Run fault) = statuses.Failed
 status_of faults.Memory = statuses.Failed
 status_of faults.Write = statuses.Fault
 
-abbrev pub no_memory : List ℕ
-no_memory = codes "there is no memory\n"
-
-abbrev pub not_written : List ℕ
-not_written = codes "the output cannot be written\n"
-
 -- of tasks that are no grid of a run
 abbrev pub table_complaint : TableFault → List ℕ
 table_complaint tables.Empty = codes "there is no task\n"
@@ -45,12 +38,6 @@ abbrev pub run_complaint : Refusal → List ℕ
 run_complaint NoMemory = no_memory
 run_complaint (HistoryFull k) = codes "a run may have 1,048,576 events, and this one takes more\n"
 run_complaint r = codes "refused " ++ (decimal (number_of r) ++ (codes " " ++ (name_of r ++ codes "\n")))
-
--- of words that are at fault, the parser's own text
-abbrev pub words_complaint : WordsFault → List ℕ
-words_complaint (words.Words text) = string_bytes text ++ codes "\n"
-words_complaint words.Memory = no_memory
-words_complaint words.Write = not_written
 
 -- what is told of a fault
 abbrev pub complaint : Fault → List ℕ

@@ -1,4 +1,5 @@
-ghost use Rattle.pool_pattern_cli.specs.Faults.{complaint, run_complaint, status_of, table_complaint, words_complaint};
+ghost use Rattle.pool_pattern_cli.specs.Faults.{complaint, run_complaint, status_of, table_complaint};
+ghost use Rattle.tp_shell.specs.Complaints.{words_complaint};
 
 use pool_pattern_runs::PatternFault;
 use pool_patterns::TableFault;

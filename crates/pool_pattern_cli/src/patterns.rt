@@ -16,7 +16,7 @@ use crate::request::{Asked, Request, requested};
 use crate::text::lines_of;
 use clap::Error;
 use pool_pattern_runs::run_pattern;
-use pool_patterns::{Grid, Table};
+use pool_patterns::{FeedTable, Grid};
 use std::alloc::Global;
 use std::io::Write;
 use std::sync::Wait;
@@ -145,7 +145,7 @@ fn text_of<R: Threads + Wait + Sync>(
     requires limits { IsWithinLimits request.config }
     ensures { MatchResult result (λ text. IsRunText request (string_bytes text)) (IsWithoutText request) }
 {
-    let table = match Table::new(alloc, request.pattern, request.width, request.steps) {
+    let table = match FeedTable::new(alloc, request.pattern, request.width, request.steps) {
         Ok(table) => table,
         Err(fault) => return Err(Fault::Table(fault)),
     };

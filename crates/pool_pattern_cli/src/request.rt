@@ -3,13 +3,13 @@ ghost use Rattle.std.specs.Str.Parse.{IsNumeral, digits_value, without_leading_p
 ghost use Rattle.clap.specs.Values.{kind_of};
 ghost use Rattle.clap.specs.Words.{Text, app_of, found_of, matches_of, one_text, rows_of, rule_of};
 ghost use Rattle.clap.specs.declared.error.kind.ErrorKind.TheVariants.{MissingRequiredArgument};
-ghost use Rattle.pool_pattern_cli.specs.Command.{AsksFor, IsListed, IsMadeBy, IsName, IsNumberOf, IsUnlisted, IsWithOptions};
-ghost use Rattle.pool_pattern_cli.specs.Command.{LackWords, LacksNumber, LacksRun};
+ghost use Rattle.pool_pattern_cli.specs.Command.{AsksFor, IsListed, IsMadeBy, IsName, IsUnlisted, IsWithOptions};
+ghost use Rattle.pool_pattern_cli.specs.Command.{LackWords, LacksRun};
 ghost use Rattle.pool_pattern_cli.specs.Command.{grid_app, iterations_rule, list_rule, number_rule, option_rule, pattern_rule};
 ghost use Rattle.pool_pattern_cli.specs.Command.{patterns_app};
 ghost use Rattle.pool_pattern_cli.specs.Names.{name_of};
 ghost use Rattle.pool_patterns.specs.declared.pattern.Pattern.{Pattern};
-ghost use Rattle.tp_shell.specs.Command.{FailsAs};
+ghost use Rattle.tp_shell.specs.Command.{FailsAs, IsNumberOf, LacksNumber};
 
 use crate::names::pattern_of;
 use clap::error::ErrorKind;

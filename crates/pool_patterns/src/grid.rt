@@ -4,7 +4,7 @@ ghost use Rattle.pool_patterns.specs.Kernels.{kernel_graph, kernel_rule};
 
 use crate::kernel::{made, total_of};
 use crate::relation::Relation;
-use crate::table::Table;
+use crate::table::FeedTable;
 use std::alloc::Global;
 use tp_base::{NodeId, Refusal, TaskId};
 use tp_graph::{Graph, Value};
@@ -13,13 +13,13 @@ use tp_graph::{Graph, Value};
 /// Each node has a range of the columns.
 #[derive(Clone, Copy)]
 pub struct Grid<'a, P: Relation> {
-    table: &'a Table<P>,
+    table: &'a FeedTable<P>,
     iterations: u64,
 }
 
 impl<'a, P: Relation> Grid<'a, P> {
     /// The tasks of a table, with so many iterations of the kernel in each.
-    pub fn new(table: &'a Table<P>, iterations: u64) -> Self
+    pub fn new(table: &'a FeedTable<P>, iterations: u64) -> Self
         ensures table { result.table.now ≡ table.now }
         ensures iterations { result.iterations ≡ iterations }
     {
@@ -27,7 +27,7 @@ impl<'a, P: Relation> Grid<'a, P> {
     }
 
     /// The table.
-    pub(crate) fn table(&self) -> &'a Table<P>
+    pub(crate) fn table(&self) -> &'a FeedTable<P>
         ensures { result.now ≡ self.now.table.now }
     {
         self.table

@@ -1,6 +1,6 @@
 //! Task Bench's patterns as pools: grids of tasks in which a relation of columns says who feeds whom.
 //!
-//! A pattern is a [`Relation`]; [`Pattern`] has those of Task Bench. A [`Table`] is made of it once, a [`Grid`] that borrows the
+//! A pattern is a [`Relation`]; [`Pattern`] has those of Task Bench. A [`FeedTable`] is made of it once, a [`Grid`] that borrows the
 //! table is the graph that a pool runs, and [`last_row`] reads the numbers of the last row off its results.
 #![tactic(auto)]
 
@@ -21,4 +21,4 @@ pub use grid::Grid;
 pub use pattern::Pattern;
 pub use relation::Relation;
 pub use row::{checksum, last_row};
-pub use table::Table;
+pub use table::FeedTable;

@@ -14,7 +14,7 @@ use tp_base::TaskId;
 /// A grid of tasks over a pattern, so many rows of so many columns, with what each task waits for and feeds worked out once. A
 /// graph borrows it, so that each of its calls is a look.
 #[derive(Drop)]
-pub struct Table<P: Relation> {
+pub struct FeedTable<P: Relation> {
     pattern: P,
     width: u32,
     steps: u32,
@@ -29,7 +29,7 @@ pub struct Table<P: Relation> {
     ghost noted: { AreSpots (P.relation pattern width) width steps (steps * width) spots.items outputs.items },
 }
 
-impl<P: Relation> Table<P> {
+impl<P: Relation> FeedTable<P> {
     /// So many rows of so many columns. Refused with `Empty` where there is no column or no row, with `TooManyInputs` where a
     /// task has more than 16, with `TooManyEvents` where the tasks take more than 1,048,576 events at one node, and with
     /// `NoMemory` where memory is refused first. It takes O(width * width) for each row up to where the relation comes again
@@ -48,7 +48,7 @@ impl<P: Relation> Table<P> {
         let kinds = kinds_of(alloc, &pattern, width, period.min(steps - 1))?;
         let spots = spots_of(alloc, &kinds, width, steps, period)?;
         let Kinds { outputs, .. } = kinds;
-        Ok(Table {
+        Ok(FeedTable {
             pattern,
             width,
             steps,

@@ -1,4 +1,4 @@
-//! Tests of the pools over cells in blocks: rod, grid, and a grid as text. They stand apart from the crates that they test,
+//! Tests of the pools over lent data: rod, grid and product, and a grid as text. They stand apart from the crates that they test,
 //! whose functions would else be proved once more with them.
 #![tactic(auto)]
 
@@ -6,6 +6,8 @@
 mod by_one;
 #[cfg(test)]
 mod counted;
+#[cfg(test)]
+mod lent;
 #[cfg(test)]
 mod run;
 #[cfg(test)]

@@ -1,4 +1,4 @@
-use pool_patterns::{Grid, Pattern, Relation, Table, TableFault};
+use pool_patterns::{FeedTable, Grid, Pattern, Relation, TableFault};
 use std::alloc::{AllocError, Global};
 use std::test::Fail;
 use tp_base::TaskId;
@@ -32,7 +32,7 @@ pub(crate) fn looks<P: Relation + Send + Sync>(
     width: u32,
     steps: u32,
 ) -> Result<(Vec<(u32, u32, u8)>, Vec<u8>), TableFault> {
-    let table = Table::new(alloc, pattern, width, steps)?;
+    let table = FeedTable::new(alloc, pattern, width, steps)?;
     let grid = Grid::new(&table, 0);
     Ok((feeds_of(alloc, grid)?, arities_of(alloc, grid)?))
 }

@@ -1,10 +1,10 @@
-use pool_patterns::{Pattern, Table, TableFault};
+use pool_patterns::{FeedTable, Pattern, TableFault};
 use std::alloc::Global;
 use std::test::Fail;
 
 /// Why there is no such table.
 fn fault(alloc: Global, pattern: Pattern, width: u32, steps: u32) -> Option<TableFault> {
-    match Table::new(alloc, pattern, width, steps) {
+    match FeedTable::new(alloc, pattern, width, steps) {
         Ok(_) => None,
         Err(fault) => Some(fault),
     }

@@ -1,4 +1,4 @@
-use pool_patterns::{Grid, Pattern, Table, checksum};
+use pool_patterns::{FeedTable, Grid, Pattern, checksum};
 use std::alloc::Global;
 use std::test::Fail;
 use tp_base::Refusal;
@@ -16,7 +16,7 @@ fn numbers<G: Graph>(alloc: Global, graph: G) -> Result<Vec<i64>, Refusal> {
 
 #[test]
 fn three_rows_of_three_columns(rt: HostRuntime) -> Result<(), Fail> {
-    let table = Table::new(rt.alloc(), Pattern::Stencil, 3, 3)?;
+    let table = FeedTable::new(rt.alloc(), Pattern::Stencil, 3, 3)?;
     // With no iteration a task has the sum of its inputs, its column and 1.
     let plain = numbers(rt.alloc(), Grid::new(&table, 0))?;
     assert_eq!(rt; plain.as_slice(), [1, 2, 3, 4, 8, 8, 13, 22, 19].as_slice());

@@ -8,7 +8,7 @@ use std::sync::atomic::{AtomicBool, Ordering};
 use std::test::Fail;
 use tp_base::{NodeId, Refusal, TaskId};
 use tp_graph::{Graph, Value};
-use tp_work::{Config, OpenGate, run_pool};
+use tp_work::{Config, Gate, OpenGate, run_pool};
 
 /// A tree of two leaves at one node, whose bodies wait for each other.
 #[derive(Clone, Copy)]
@@ -73,5 +73,37 @@ fn two_bodies_of_a_node_run_under_no_lock(rt: HostRuntime) -> Result<(), Fail> {
     let ended = run_pool(&rt, rt.alloc(), pair, config, &OpenGate).is_ok();
     let have_missed = have_missed.load(Ordering::SeqCst);
     assert_eq!(rt; (ended, have_missed), (true, false));
+    Ok(())
+}
+
+/// Lets no body run.
+#[derive(Clone, Copy, Debug)]
+struct Barred;
+
+impl Gate for Barred {
+    fn before(&self, _task: TaskId) -> bool {
+        false
+    }
+
+    fn inside(&self, _node: NodeId) -> bool {
+        true
+    }
+}
+
+// A body that ran would wait for the other one in vain.
+#[test]
+fn a_barred_body_does_not_run(rt: HostRuntime) -> Result<(), Fail> {
+    let (meeting, have_missed) = (Meeting::new(), AtomicBool::new(false));
+    let pair = Pair {
+        tree: Reduce { leaves: 2, seed: 0 },
+        meeting: &meeting,
+        have_missed: &have_missed,
+    };
+    let refusal = match run_pool(&rt, rt.alloc(), pair, Config::new(1, 1), &Barred) {
+        Ok(_) => None,
+        Err(fault) => Some(fault.refusal),
+    };
+    let have_missed = have_missed.load(Ordering::SeqCst);
+    assert_eq!(rt; (refusal, have_missed), (Some(Refusal::Stalled(0)), false));
     Ok(())
 }

@@ -33,6 +33,8 @@ enum TestGate {
     BodiesMeet(Meeting),
     /// Nodes 0 and 1, under their locks, wait for each other.
     NodesMeet(Meeting),
+    /// So many bodies wait for each other.
+    BodiesGather(Turns),
     /// All bodies but one may run.
     AllBut(TaskId),
     /// A body waits for turns, and a turn is refused.
@@ -44,6 +46,7 @@ impl Gate for TestGate {
         match self {
             TestGate::BodiesMeet(meeting) => meeting.arrive(task.0),
             TestGate::NodesMeet(_) => true,
+            TestGate::BodiesGather(bodies) => bodies.take() && bodies.wait(),
             TestGate::AllBut(barred) => task != *barred,
             TestGate::Turns(turns) => turns.wait(),
         }
@@ -53,7 +56,7 @@ impl Gate for TestGate {
         match self {
             TestGate::NodesMeet(meeting) => meeting.arrive(node.0),
             TestGate::Turns(turns) => turns.take(),
-            TestGate::BodiesMeet(_) | TestGate::AllBut(_) => true,
+            TestGate::BodiesMeet(_) | TestGate::BodiesGather(_) | TestGate::AllBut(_) => true,
         }
     }
 }
@@ -92,7 +95,7 @@ impl Meeting {
     }
 }
 
-/// Counts the turns of a node, from 0, and refuses one of them. A body waits until so many were taken.
+/// Counts the turns of a node, or bodies, from 0, and refuses one of them. A body waits until so many were taken.
 #[derive(Drop)]
 struct Turns {
     taken: AtomicU64,
@@ -202,13 +205,16 @@ fn two_nodes_are_held_at_once(rt: HostRuntime) -> Result<(), Fail> {
     Ok(())
 }
 
-/// Runs the wide tree on one node, where the bodies of tasks 0 and 1 wait for each other, and answers how many tasks were
-/// done, and by how many workers.
-fn done_where_two_meet<R: Threads + Wait + Sync>(rt: &R, alloc: Global, workers: u32) -> (u32, u32)
+/// Runs the wide tree on one node behind a gate, and answers how many tasks were done, and by how many workers.
+fn done_behind<R: Threads + Wait + Sync>(
+    rt: &R,
+    alloc: Global,
+    workers: u32,
+    gate: &TestGate,
+) -> (u32, u32)
     requires { (1 ≤ workers) × (workers ≤ 8) }
 {
-    let gate = TestGate::BodiesMeet(Meeting::new());
-    match run_pool(rt, alloc, WIDE, Config::new(1, workers), &gate) {
+    match run_pool(rt, alloc, WIDE, Config::new(1, workers), gate) {
         Ok(outcome) => (outcome.tasks, outcome.workers),
         Err(_) => (0, 0),
     }
@@ -217,8 +223,18 @@ fn done_where_two_meet<R: Threads + Wait + Sync>(rt: &R, alloc: Global, workers:
 // Eight of the 64 ready tasks begin at once, 0 and 1 among them: one worker that kept them all would wait in vain.
 #[test]
 fn two_that_begin_together_wait_for_each_other(rt: HostRuntime) -> Result<(), Fail> {
-    assert_eq!(rt; done_where_two_meet(&rt, rt.alloc(), 2), (127, 2));
-    assert_eq!(rt; done_where_two_meet(&rt, rt.alloc(), 8), (127, 8));
+    for workers in [2, 8] {
+        let gate = TestGate::BodiesMeet(Meeting::new());
+        assert_eq!(rt; done_behind(&rt, rt.alloc(), workers, &gate), (127, workers));
+    }
+    Ok(())
+}
+
+// The first eight of the 64 ready tasks: fewer threads that run bodies of the node would wait in vain.
+#[test]
+fn eight_bodies_of_a_node_wait_for_each_other(rt: HostRuntime) -> Result<(), Fail> {
+    let gate = TestGate::BodiesGather(Turns::new(8, u64::MAX));
+    assert_eq!(rt; done_behind(&rt, rt.alloc(), 8, &gate), (127, 8));
     Ok(())
 }
 

@@ -14,7 +14,7 @@ use Rattle.tp_draw.specs.Ends.{IsPictureOfAll, IsPictureWithFault, IsTextAskedFo
 use Rattle.tp_draw.specs.Faults.{line_of, status_of}
 use Rattle.tp_draw.specs.declared.fault.Fault.{Fault}
 use Rattle.tp_draw.specs.declared.fault.Fault.TheVariants as faults
-use Rattle.tp_draw.specs.declared.request.Plan.{Plan}
+use Rattle.tp_draw.specs.declared.request.GraphPlan.{GraphPlan}
 use Rattle.tp_draw.specs.declared.request.View.{View}
 use Rattle.tp_draw.specs.declared.run.Drawn.{Drawn}
 use Rattle.tp_shell.proofs.Asked.{shown_asked, words_fault}
@@ -47,7 +47,7 @@ module _ (asking : List Text) (read_old read_new : Option (List ℕ)) where
       → IsTextAskedFor asking read_old read_new text
   run_asked_for view asked text is = inl (view, asked, is)
 
-  pub graph_asked_for : (spec : Text) (plan : Plan) → AsksForGraph asking spec plan → (text : List ℕ) → IsDrawnFor spec plan text
+  pub graph_asked_for : (spec : Text) (plan : GraphPlan) → AsksForGraph asking spec plan → (text : List ℕ) → IsDrawnFor spec plan text
       → IsTextAskedFor asking read_old read_new text
   graph_asked_for spec plan asked text is = inr (spec, plan, asked, is)
 
@@ -87,7 +87,7 @@ module _ (asking : List Text) (read_old read_new : Option (List ℕ)) where
       run_failed fault (inr (inr nothing)) = inr (inr (no_picture fault nothing.0 nothing.1))
 
     -- ---- graphs
-    module _ (spec : Text) (plan : Plan) (asked : AsksForGraph asking spec plan) where
+    module _ (spec : Text) (plan : GraphPlan) (asked : AsksForGraph asking spec plan) where
       undrawn : (fault : Fault) → Same → IsUndrawn spec fault → Same × HasNothing asking read_old read_new fault
       undrawn (faults.Words fault) same why = absurd why
       undrawn (faults.Text fault) same why = absurd why

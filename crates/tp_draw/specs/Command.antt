@@ -6,9 +6,9 @@ use Rattle.clap.specs.Words.{App, Row, Rule, Text, first_of, one_of, new_app, ne
 use Rattle.clap.specs.declared.builder.action.ArgAction.TheVariants.{SetTrue}
 use Rattle.clap.specs.declared.builder.value_parser.ValueParser.TheVariants.{Signed}
 use Rattle.tp_base.specs.declared.limits.TheConstants.{MAX_NODES}
-use Rattle.tp_draw.specs.declared.request.Form.{Form}
-use Rattle.tp_draw.specs.declared.request.Form.TheVariants.{Picture, Dot}
-use Rattle.tp_draw.specs.declared.request.Plan.{Plan}
+use Rattle.tp_draw.specs.declared.request.GraphForm.{GraphForm}
+use Rattle.tp_draw.specs.declared.request.GraphForm.TheVariants.{Picture, Dot}
+use Rattle.tp_draw.specs.declared.request.GraphPlan.{GraphPlan}
 use Rattle.tp_draw.specs.declared.request.Request.{Request}
 use Rattle.tp_draw.specs.declared.request.Request.TheVariants.{Run, Graph}
 use Rattle.tp_draw.specs.declared.request.View.{View}
@@ -66,7 +66,7 @@ abbrev pub IsViewIn : List Row → View → Type 0
 IsViewIn rows view = IsWidthIn rows view.pixels × IsFlagIn (codes "until-fault") rows view.until_fault
 
 -- the text for graphviz where the flag was given, and where it was not, the picture
-abbrev pub IsFormIn : List Row → Form → Type 0
+abbrev pub IsFormIn : List Row → GraphForm → Type 0
 IsFormIn rows form = (one_of (codes "dot") rows ≡ Some (codes "true") → form ≡ Dot)
     × (one_of (codes "dot") rows ≡ Some (codes "false") → (width : Option ℕ) × (form ≡ Picture width) × IsWidthIn rows width)
 
@@ -75,7 +75,7 @@ abbrev pub IsRunAt : View → Option (Text × List Row) → Type 0
 IsRunAt view found = (rows : List Row) × (found ≡ Some (codes "run", rows)) × IsViewIn rows view
 
 -- it is `graph`, with this word for SPEC, on so many nodes, in this form
-abbrev pub IsGraphOf : Text → Plan → Option (Text × List Row) → Type 0
+abbrev pub IsGraphOf : Text → GraphPlan → Option (Text × List Row) → Type 0
 IsGraphOf spec plan found = (rows : List Row) × (found ≡ Some (codes "graph", rows)) × (first_of (codes "SPEC") rows ≡ Some spec)
     × IsCount MAX_NODES (codes "nodes") rows plan.nodes × IsFormIn rows plan.form
 
@@ -85,11 +85,11 @@ IsNeither found = ((rows : List Row) → ¬ (found ≡ Some (codes "run", rows))
     × ((rows : List Row) (spec : Text) → found ≡ Some (codes "graph", rows) → ¬ (first_of (codes "SPEC") rows ≡ Some spec))
 
 -- how a graph may be drawn
-abbrev pub IsLawfulForm : Form → Type 0
+abbrev pub IsLawfulForm : GraphForm → Type 0
 IsLawfulForm (Picture width) = IsWithin width
 IsLawfulForm Dot = Unit {0}
 
-abbrev pub IsPlan : Plan → Type 0
+abbrev pub IsPlan : GraphPlan → Type 0
 IsPlan plan = (1 ≤ plan.nodes) × (plan.nodes ≤ MAX_NODES) × IsLawfulForm plan.form
 
 -- the subcommand that was found, with its matches, makes the request
@@ -110,7 +110,7 @@ abbrev pub AsksForRun : List Text → Type 0
 AsksForRun words = (view : View) × AsksForRunAt words view
 
 -- the graph that this one of them names, on so many nodes, in this form
-abbrev pub AsksForGraph : List Text → Text → Plan → Type 0
+abbrev pub AsksForGraph : List Text → Text → GraphPlan → Type 0
 AsksForGraph words spec plan = IsGraphOf spec plan (subcommand_of draw_app words)
 
 -- nothing that is known

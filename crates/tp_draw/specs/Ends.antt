@@ -27,9 +27,9 @@ use Rattle.tp_draw.specs.Scaled.{shown}
 use Rattle.tp_draw.specs.declared.fault.Fault.{Fault}
 use Rattle.tp_draw.specs.declared.fault.Fault.TheVariants as faults
 use Rattle.tp_draw.specs.declared.page.TheConstants.{MAX_TASKS}
-use Rattle.tp_draw.specs.declared.request.Form.{Form}
-use Rattle.tp_draw.specs.declared.request.Form.TheVariants.{Picture, Dot}
-use Rattle.tp_draw.specs.declared.request.Plan.{Plan}
+use Rattle.tp_draw.specs.declared.request.GraphForm.{GraphForm}
+use Rattle.tp_draw.specs.declared.request.GraphForm.TheVariants.{Picture, Dot}
+use Rattle.tp_draw.specs.declared.request.GraphPlan.{GraphPlan}
 use Rattle.tp_draw.specs.declared.request.View.{View}
 use Rattle.tp_draw.specs.declared.run.Drawn.{Drawn}
 use Rattle.tp_text.specs.Reading.{AreStepsBeforeFault, IsSoundTraceOf, LacksHead}
@@ -126,14 +126,14 @@ HasFailedRun view read_old read_new written_old written_new Unwritten fault =
 -- ---- graphs
 
 -- what is written of a graph on so many nodes: its picture, or its text for graphviz
-abbrev pub IsTextOfGraph : List ℕ → AnyGraph → ℕ → Form → List ℕ → Type 0
+abbrev pub IsTextOfGraph : List ℕ → AnyGraph → ℕ → GraphForm → List ℕ → Type 0
 IsTextOfGraph name g nodes (Picture pixels) text = (layers : List ℕ) × AreLayers (any_graph g) layers
     × (text ≡ shown pixels (charts.page_width (wide layers)) (charts.page_height (wide layers) (last_layer layers))
     (page_text name (any_graph g) nodes layers))
 IsTextOfGraph name g nodes Dot text = text ≡ dot_of (any_graph g) nodes
 
 -- The word names a graph that has no more tasks than are drawn, and this is its text.
-abbrev pub IsDrawnFor : Text → Plan → List ℕ → Type 0
+abbrev pub IsDrawnFor : Text → GraphPlan → List ℕ → Type 0
 IsDrawnFor spec plan text = (g : AnyGraph) × (spec ≡ word_of g) × ((any_graph g).tasks ≤ MAX_TASKS)
     × IsTextOfGraph spec g plan.nodes plan.form text
 
@@ -151,11 +151,11 @@ IsUndrawn spec fault = ⊥
 
 -- The words ask for a graph, and this is its text.
 abbrev pub IsGraphText : List Text → List ℕ → Type 0
-IsGraphText words text = (spec : Text) × (plan : Plan) × AsksForGraph words spec plan × IsDrawnFor spec plan text
+IsGraphText words text = (spec : Text) × (plan : GraphPlan) × AsksForGraph words spec plan × IsDrawnFor spec plan text
 
 -- The words ask for a graph, and by this fault there is no text of it.
 abbrev pub LacksGraphText : List Text → Fault → Type 0
-LacksGraphText words fault = (spec : Text) × (plan : Plan) × AsksForGraph words spec plan × IsUndrawn spec fault
+LacksGraphText words fault = (spec : Text) × (plan : GraphPlan) × AsksForGraph words spec plan × IsUndrawn spec fault
 
 -- ---- how the program ends
 

@@ -15,7 +15,7 @@ use crate::fault::Fault;
 use crate::graphviz::dot;
 use crate::page::{MAX_TASKS, graph_page};
 use crate::picture::write_picture;
-use crate::request::{Form, Plan, Request, requested};
+use crate::request::{GraphForm, GraphPlan, Request, requested};
 use crate::run::draw_run;
 use crate::scaled::shown;
 use clap::Error;
@@ -100,7 +100,12 @@ fn show_asked<O: Write>(alloc: Global, error: &Error, out: &mut O) -> Result<(),
 }
 
 /// Draws the graph that a word names. Nothing is written before all of it is known.
-fn draw_graph<O: Write>(alloc: Global, spec: &str, plan: Plan, out: &mut O) -> Result<(), Fault>
+fn draw_graph<O: Write>(
+    alloc: Global,
+    spec: &str,
+    plan: GraphPlan,
+    out: &mut O,
+) -> Result<(), Fault>
     requires { IsPlan plan }
     ensures drawn { OnOk result ((text : List ℕ) × IsDrawnFor spec.now plan text × Appends (O.contents out.old) (O.contents out.new) text) }
     ensures why { IfErr result (λ fault. ((fault ≡ Fault.Write) × ((text : List ℕ) × IsDrawnFor spec.now plan text))
@@ -124,17 +129,17 @@ fn text_of_graph(
     alloc: Global,
     spec: &str,
     graph: AnyGraph,
-    plan: Plan,
+    plan: GraphPlan,
 ) -> Result<Vec<u8>, AllocError>
     requires plan { IsPlan plan }
     requires few { (any_graph graph).tasks ≤ MAX_TASKS }
     ensures { IfOk result (λ text. IsTextOfGraph spec.now graph plan.nodes plan.form text.items) }
 {
     match plan.form {
-        Form::Picture(pixels) => {
+        GraphForm::Picture(pixels) => {
             let page = graph_page(alloc, spec.as_bytes(), graph, plan.nodes)?;
             shown(alloc, page, pixels)
         }
-        Form::Dot => dot(alloc, graph, plan.nodes),
+        GraphForm::Dot => dot(alloc, graph, plan.nodes),
     }
 }

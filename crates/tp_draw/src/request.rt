@@ -27,7 +27,7 @@ pub(crate) struct View {
 
 /// What is written of a graph.
 #[derive(Clone, Copy, Debug, PartialEq, Eq)]
-pub(crate) enum Form {
+pub(crate) enum GraphForm {
     /// Its picture, so many pixels wide, or in its own size.
     Picture(Option<u32>),
     /// Its text for graphviz.
@@ -36,9 +36,9 @@ pub(crate) enum Form {
 
 /// On how many nodes a graph is drawn, and how.
 #[derive(Clone, Copy, Debug, PartialEq, Eq)]
-pub(crate) struct Plan {
+pub(crate) struct GraphPlan {
     pub(crate) nodes: u32,
-    pub(crate) form: Form,
+    pub(crate) form: GraphForm,
 }
 
 /// What the words ask for.
@@ -47,7 +47,7 @@ pub(crate) enum Request<'a> {
     /// The picture of the run that a trace tells.
     Run(View),
     /// The graph that a word names.
-    Graph(&'a str, Plan),
+    Graph(&'a str, GraphPlan),
 }
 
 /// The request that the words make.
@@ -115,26 +115,26 @@ fn graph_asked<'a>(arguments: &ArgMatches<'a>) -> Option<Request<'a>>
 }
 
 /// On how many nodes the graph is drawn, and how.
-fn plan_of(arguments: &ArgMatches) -> Plan
+fn plan_of(arguments: &ArgMatches) -> GraphPlan
     ensures lawful { IsPlan result }
     ensures nodes { IsCount MAX_NODES (codes "nodes") (rows_of (found_of arguments.now)) result.nodes }
     ensures form { IsFormIn (rows_of (found_of arguments.now)) result.form }
 {
-    Plan {
+    GraphPlan {
         nodes: count_of(arguments, "nodes", MAX_NODES),
         form: form_of(arguments),
     }
 }
 
 /// What is written of the graph.
-fn form_of(arguments: &ArgMatches) -> Form
+fn form_of(arguments: &ArgMatches) -> GraphForm
     ensures asked { IsFormIn (rows_of (found_of arguments.now)) result }
     ensures lawful { IsLawfulForm result }
 {
     if flag_of(arguments, "dot") {
-        Form::Dot
+        GraphForm::Dot
     } else {
-        Form::Picture(width_of(arguments))
+        GraphForm::Picture(width_of(arguments))
     }
 }
 

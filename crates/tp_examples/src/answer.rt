@@ -9,13 +9,13 @@ const AUDIT: [&str; 2] = ["tp", "audit"];
 
 /// What is answered to words with an input: what was written, what was complained of, and the exit status.
 #[derive(Drop)]
-struct Answer {
+struct ProgramAnswer {
     out: String,
     err: String,
     status: u8,
 }
 
-impl Answer {
+impl ProgramAnswer {
     fn to<R: Threads + Wait + Sync>(
         rt: &R,
         alloc: Global,
@@ -26,7 +26,7 @@ impl Answer {
         let mut out = Vec::new(alloc);
         let mut err = Vec::new(alloc);
         let status = main_with(rt, alloc, words, &mut reader, &mut out, &mut err);
-        Ok(Answer {
+        Ok(ProgramAnswer {
             out: text_of(out)?,
             err: text_of(err)?,
             status,
@@ -48,7 +48,7 @@ pub(crate) fn print_answer<R: Threads + Wait + Sync, W: Write>(
     input: &str,
     told: Told,
 ) -> io::Result<()> {
-    let answer = Answer::to(rt, alloc, words, input.as_bytes())?;
+    let answer = ProgramAnswer::to(rt, alloc, words, input.as_bytes())?;
     print_output(printer, &answer.out, told)?;
     print_complaints(printer, &answer.err, told)?;
     writeln!(printer, "status {}", answer.status)
@@ -62,8 +62,8 @@ pub(crate) fn print_judgement<R: Threads + Wait + Sync, W: Write>(
     printer: &mut W,
     words: &[&str],
 ) -> io::Result<()> {
-    let trace = Answer::to(rt, alloc, words, b"")?;
-    let judgement = Answer::to(rt, alloc, &AUDIT, trace.out.as_bytes())?;
+    let trace = ProgramAnswer::to(rt, alloc, words, b"")?;
+    let judgement = ProgramAnswer::to(rt, alloc, &AUDIT, trace.out.as_bytes())?;
     for line in judgement.out.lines() {
         if line.starts_with("ended ") {
             writeln!(printer, "ended")?;
@@ -81,11 +81,11 @@ pub(crate) fn print_judgements_of_parts<R: Threads + Wait + Sync, W: Write>(
     printer: &mut W,
     words: &[&str],
 ) -> io::Result<()> {
-    let trace = Answer::to(rt, alloc, words, b"")?;
+    let trace = ProgramAnswer::to(rt, alloc, words, b"")?;
     let bytes = trace.out.as_bytes();
     for (place, byte) in bytes.iter().enumerate() {
         if *byte == b'\n' {
-            let judgement = Answer::to(rt, alloc, &AUDIT, &bytes[..=place])?;
+            let judgement = ProgramAnswer::to(rt, alloc, &AUDIT, &bytes[..=place])?;
             let last = judgement.out.lines().last().unwrap_or("");
             writeln!(printer, "{last}, status {}", judgement.status)?;
         }

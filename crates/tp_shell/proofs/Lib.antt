@@ -1,4 +1,5 @@
 pub mod Asked
 pub mod Bounded
+pub mod Numbers
 pub mod Statuses
 pub mod Written

@@ -1,6 +1,6 @@
 -- The options of a pool as plain data, and what the words of a command line ask for. Of a parse clap says what it finds for each
 -- argument, and by which faults it fails, as functions of the command and the words.
-use Rattle.std.specs.Prelude.{ℕ, ◌≡◌, ◌≤◌, ◌⊎◌, List, [], ◌∷◌, Some, pos, true, codes}
+use Rattle.std.specs.Prelude.{ℕ, ◌≡◌, ◌<◌, ◌≤◌, ◌^◌, ◌⊎◌, List, [], ◌∷◌, Some, pos, true, codes}
 use Rattle.std.specs.Str.Parse.{IsNumeral, without_leading_plus, digits_value}
 use Rattle.tp_base.specs.declared.limits.TheConstants.{MAX_NODES, MAX_WORKERS}
 use Rattle.clap.specs.Faults.{fault_of}
@@ -39,6 +39,17 @@ IsCount most name rows k = (t : Text) → one_of name rows ≡ Some t → IsNume
 -- at so many nodes with so many workers
 abbrev pub AreCountsIn : List Row → ℕ → ℕ → Type 0
 AreCountsIn rows nodes workers = IsCount MAX_NODES (codes "nodes") rows nodes × IsCount MAX_WORKERS (codes "workers") rows workers
+
+-- ---- what was found for the arguments
+
+-- The word of the argument of this name spells this number.
+abbrev pub IsNumberOf : Text → List Row → ℕ → Type 0
+IsNumberOf name rows n = (t : Text) × (one_of name rows ≡ Some t) × IsNumeral 10 (without_leading_plus t)
+    × (n ≡ digits_value 10 (without_leading_plus t))
+
+-- The argument of this name has no word that spells a number of so many bits.
+abbrev pub LacksNumber : ℕ → Text → List Row → Type 0
+LacksNumber bits name rows = (n : ℕ) → n < 2 ^ bits → ¬ IsNumberOf name rows n
 
 -- ---- words that make no request
 

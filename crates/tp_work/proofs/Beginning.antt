@@ -4,7 +4,7 @@ use Rattle.std.proofs.Common.{append-nil}
 use Rattle.std.specs.Prelude.{MatchOption, reverse}
 use Rattle.std.specs.List.{All}
 use Rattle.std.specs.Option.{option_to_list}
-use Rattle.std.proofs.lemmas.List.{length-reverse, reverse-append}
+use Rattle.std.proofs.lemmas.List.{length-reverse, reverse-append, reverse-reverse}
 use Rattle.std.proofs.lemmas.List.Elements.{All-cons, All-nil, All-tail}
 use Rattle.std.proofs.Math.Seq.{take-append_seam}
 use Rattle.tp_base.specs.History.{Event}
@@ -69,6 +69,14 @@ module _ {G : Type 0} where
   begun_before None ws old mid new b m l is each = rests_then ws old mid new b m l is.1 each
   begun_before (Some w) ws old mid new b m l is each = (mid, m, is, each)
 
+  -- no other follows
+  pub begun_first : (o : Option (Begun G)) (ws : List (Begun G)) (old new : NodeState G) (b l : BoardState)
+      → MatchOption o ((next_task old ≡ None) × Rests old new b l) (Begins old new b l) → ws ≡ []
+      → BeginsEach (option_to_list o ++ ws) old new b l
+  begun_first o ws old new b l is none =
+      subst (λ (vs : List (Begun G)). BeginsEach (option_to_list o ++ vs) old new b l) (sym none)
+      (begun_before o [] old new new b l l is (nothing_begun new l))
+
   pub same_graph : (ws : List (Begun G)) (old new : NodeState G) (b l : BoardState) → BeginsEach ws old new b l → new.graph ≡ old.graph
   same_graph [] old new b l each = ap (λ (n : NodeState G). n.graph) each.1
   same_graph (w ∷ ws) old new b l each =
@@ -88,6 +96,12 @@ module _ {G : Type 0} where
   pub desk_after : (ws : List (Begun G)) (old new : NodeState G) (b l : BoardState) → BeginsEach ws old new b l → length ws ≤ 7
       → IsDesk (desk new ws)
   desk_after ws old new b l each few = record { few = few; graph = of_graph ws old new b l each }
+
+  -- the works were added in order, and the list was turned round
+  pub desk_turned : (ws us : List (Begun G)) (old new : NodeState G) (b l : BoardState) → us ≡ reverse ws → BeginsEach ws old new b l
+      → length ws ≤ 7 → IsDesk (desk new (reverse us))
+  desk_turned ws us old new b l e each few =
+      subst (λ (vs : List (Begun G)). IsDesk (desk new vs)) (sym (ap reverse e ∙ reverse-reverse ws)) (desk_after ws old new b l each few)
 
   pub desk_stays : (old new : NodeState G) (ws : List (Begun G)) → IsDesk (desk old ws) → new.graph ≡ old.graph → IsDesk (desk new ws)
   desk_stays old new ws is same = record {

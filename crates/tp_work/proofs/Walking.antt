@@ -14,7 +14,7 @@ use Rattle.tp_base.specs.declared.step.Step.{Step}
 use Rattle.tp_base.specs.declared.step.Step.TheVariants.{Reopen, Send}
 use Rattle.tp_wave.specs.Generations.{ended_generations, generation, present_events}
 use Rattle.tp_wave.specs.Machine.{History, step_of, steps_of}
-use Rattle.tp_wave.specs.Steps.{any, count, is_reopen, is_send}
+use Rattle.tp_wave.specs.Steps.{any, is_reopen, is_send}
 use Rattle.tp_wave.proofs.Generations.{length-present, present-goes_on, present-reopened}
 use Rattle.tp_wave.proofs.Given.{count-le}
 use Rattle.tp_wave.proofs.Positions.{length-steps_of}

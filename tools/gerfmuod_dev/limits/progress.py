@@ -3,7 +3,8 @@
 Standard error of `heat`, `product` and `relax` is a pseudo-terminal. Runs that have no end in sight have to tell there
 how far they are; they are killed then. Runs that end have to leave the terminal clear, and to write to standard output
 what they write where there is no terminal. With `--quiet` nothing is told. Where standard input is a pseudo-terminal,
-too, what is read is told once. The last line is `N passed, M failed`; the status is 1 where one failed.
+too, what is read is told once. A product that leaves 64 bits is told as such. The last line is `N passed, M failed`;
+the status is 1 where one failed.
 """
 import os
 import pty
@@ -130,6 +131,12 @@ def try_typed(tally, case, what, lines):
     tally.judge(asked == running.run([case.program, "--help"]), f"{named(case)}, help at a terminal: {asked.told()}")
 
 
+def try_refused(tally, case, line):
+    """A run that is refused tells this line, and writes nothing."""
+    came = running.run([case.program, *case.words], case.stdin)
+    tally.judge(came == running.Answer(3, b"", line), f"{named(case)}: {came.told()}")
+
+
 def named(case):
     return " ".join([os.path.basename(case.program), *case.words])
 
@@ -165,4 +172,6 @@ def run(words):
         try_typed(tally, Case(words.relax, ["2", "1"], small_grid), "the grid", "one row a line: relax STEPS ROWS_A_BLOCK")
         lines_of_two = "an empty line between them: product SIDE"
         try_typed(tally, Case(words.product, ["1"], small_matrices), "two matrices", lines_of_two)
+        large = running.write(f"{folder}/large", [2**63 - 1, "", 2])
+        try_refused(tally, Case(words.product, ["1"], large), b"a number of the product leaves 64 bits\n")
     return tally.end()

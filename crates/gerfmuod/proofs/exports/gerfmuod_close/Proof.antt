@@ -26,8 +26,8 @@ use denote.Triple.Spec.{triple_of}
 use denote.Triple.Walked.{Stays, walk_of, stay_dropped, Goes-dropped, ends_at}
 use denote.Triple.Table.{framed}
 use borrow.Table.OneValue.{part_out}
-use Rattle.gerfmuod.specs.contracts.pool.Pool.{the_row as R}
-use Rattle.gerfmuod.proofs.pool.Pool.TheLaws.{the_row_laws}
+use Rattle.gerfmuod.specs.contracts.pool.CoreRoom.{the_row as R}
+use Rattle.gerfmuod.proofs.pool.CoreRoom.TheLaws.{the_row_laws}
 use Rattle.gerfmuod.specs.contracts.exports.gerfmuod_close as f
 use Rattle.gerfmuod.proofs.exports.gerfmuod_close.Statement.{statement}
 use Rattle.gerfmuod.proofs.exports.gerfmuod_close.Code as code

@@ -33,7 +33,7 @@ use denote.Triple.Walked.{Stays, walk_of, stay_dropped, Goes-dropped, ends_at}
 use denote.Triple.Table.{framed}
 use Rattle.tp_core.specs.Accepted.{Accepted}
 use Rattle.gerfmuod.specs.Asked.{counters_at}
-use Rattle.gerfmuod.specs.contracts.pool.Pool.{the_row as R}
+use Rattle.gerfmuod.specs.contracts.pool.CoreRoom.{the_row as R}
 use Rattle.gerfmuod.specs.declared.answer.Counters.{Counters}
 use Rattle.gerfmuod.specs.contracts.answer.Counters.{the_row as A}
 use Rattle.gerfmuod.proofs.answer.Counters.TheLaws.{the_row_laws}

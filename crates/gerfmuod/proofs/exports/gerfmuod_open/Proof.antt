@@ -31,8 +31,8 @@ use borrow.Table.OneValue.{part_in}
 use Rattle.std.specs.contracts.alloc.Global.{the_row as Z}
 use Rattle.std.proofs.alloc.Global.TheLaws as heap
 use Rattle.tp_core.specs.Accepted.{Accepted}
-use Rattle.gerfmuod.specs.contracts.pool.Pool.{the_row as R}
-use Rattle.gerfmuod.proofs.pool.Pool.TheLaws.{the_row_laws}
+use Rattle.gerfmuod.specs.contracts.pool.CoreRoom.{the_row as R}
+use Rattle.gerfmuod.proofs.pool.CoreRoom.TheLaws.{the_row_laws}
 use Rattle.gerfmuod.specs.Opened.{opened, opening}
 use Rattle.gerfmuod.specs.contracts.exports.gerfmuod_open as f
 use Rattle.gerfmuod.proofs.exports.gerfmuod_open.Statement.{statement}

@@ -31,7 +31,7 @@ use denote.Triple.Table.{framed}
 use Rattle.tp_core.specs.Accepted.{Accepted}
 use Rattle.gerfmuod.specs.Asked.{IsSettled}
 use Rattle.gerfmuod.specs.Pool.{TellsNoEarlyEnd}
-use Rattle.gerfmuod.specs.contracts.pool.Pool.{the_row as R}
+use Rattle.gerfmuod.specs.contracts.pool.CoreRoom.{the_row as R}
 use Rattle.gerfmuod.specs.declared.answer.Settled.{Settled}
 use Rattle.gerfmuod.specs.contracts.answer.Settled.{the_row as A}
 use Rattle.gerfmuod.proofs.answer.Settled.TheLaws.{the_row_laws}

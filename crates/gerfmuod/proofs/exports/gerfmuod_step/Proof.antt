@@ -35,7 +35,7 @@ use Rattle.tp_core.specs.Accepted.{Accepted}
 use Rattle.gerfmuod.specs.Events.{event_of}
 use Rattle.gerfmuod.specs.Pool.{TellsNoEarlyEnd}
 use Rattle.gerfmuod.specs.Told.{IsToldOf}
-use Rattle.gerfmuod.specs.contracts.pool.Pool.{the_row as R}
+use Rattle.gerfmuod.specs.contracts.pool.CoreRoom.{the_row as R}
 use Rattle.gerfmuod.specs.declared.answer.Answer.{Answer}
 use Rattle.gerfmuod.specs.contracts.answer.Answer.{the_row as A}
 use Rattle.gerfmuod.proofs.answer.Answer.TheLaws.{the_row_laws}

@@ -35,7 +35,7 @@ use Rattle.std.specs.contracts.alloc.Global.{the_row as Z}
 use Rattle.std.proofs.alloc.Global.TheLaws as heap
 use Rattle.tp_core.specs.Accepted.{Accepted}
 use Rattle.gerfmuod.specs.Written.{IsTraced}
-use Rattle.gerfmuod.specs.contracts.pool.Pool.{the_row as R}
+use Rattle.gerfmuod.specs.contracts.pool.CoreRoom.{the_row as R}
 use Rattle.gerfmuod.specs.declared.answer.Written.{Written}
 use Rattle.gerfmuod.specs.contracts.answer.Written.{the_row as A}
 use Rattle.gerfmuod.proofs.answer.Written.TheLaws.{the_row_laws}

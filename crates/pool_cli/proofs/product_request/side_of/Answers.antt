@@ -2,7 +2,7 @@ use Rattle.std.proofs.Common.{codes, sym}
 use Rattle.std.specs.Str.Parse.{ExplainsUnsignedError, HasUnsignedDigitsIfOk, ParsesUnsigned}
 use Rattle.clap.proofs.WalkLemmas.{one_text-rows}
 use Rattle.clap.specs.Words.{found_of, one_text, rows_of}
-use Rattle.pool_cli.proofs.Asked.{number_read}
+use Rattle.tp_shell.proofs.Numbers.{number_read}
 use Rattle.pool_cli.proofs.product_request.side_of.Goals as goal
 
 pub returns : goal.returns

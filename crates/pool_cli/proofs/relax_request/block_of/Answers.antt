@@ -1,6 +1,6 @@
 use Rattle.std.proofs.Common.{codes, rules}
 use Rattle.clap.specs.Words.{found_of, rows_of}
-use Rattle.pool_cli.proofs.Asked.{none_lacks}
+use Rattle.tp_shell.proofs.Numbers.{none_lacks}
 use Rattle.pool_cli.proofs.Grids.{lacks_size}
 use Rattle.pool_cli.proofs.relax_request.block_of.Goals as goal
 

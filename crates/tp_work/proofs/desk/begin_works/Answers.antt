@@ -1,4 +1,4 @@
-use Rattle.std.proofs.Common.{◌≡◌, ◌+◌, ◌-◌, ◌≤◌, sym, subst, arith, vec_capacity, vec_len}
+use Rattle.std.proofs.Common.{sym, subst, arith}
 use Rattle.tp_work.specs.Desks.{BeginsEach}
 use Rattle.tp_work.proofs.Beginning.{then_one, then_rests}
 use Rattle.tp_work.proofs.desk.begin_works.Goals as goal

@@ -1,4 +1,4 @@
-use Rattle.std.proofs.Common.{rules, ◌≡◌, ◌∙◌, ◌+◌, ◌-◌, ◌<◌, ℕ, length, map, reverse, refl, sym, ap, subst, arith, take, vec_len}
+use Rattle.std.proofs.Common.{rules, ◌≡◌, ◌∙◌, ◌+◌, ◌-◌, ◌<◌, ℕ, length, map, refl, sym, ap, subst, arith, take, vec_len}
 use Rattle.std.proofs.lemmas.List.{length-drop, length-map, length-reverse}
 use Rattle.tp_base.specs.History.{Event}
 use Rattle.tp_wave.specs.Generations.{ended_generations}

@@ -1,4 +1,4 @@
-use Rattle.std.proofs.Common.{◌≡◌, ℕ, refl, subst}
+use Rattle.std.proofs.Common.{ℕ, refl, subst}
 use Rattle.tp_work.specs.Reports.{IsReportOf}
 use Rattle.tp_work.proofs.series.stopped_for.Goals as goal
 

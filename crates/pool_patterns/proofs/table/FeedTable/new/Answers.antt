@@ -5,9 +5,9 @@ use Rattle.pool_patterns.proofs.Noted.{kinds_are, none_wide}
 use Rattle.pool_patterns.specs.Faults.{IsTableFault}
 use Rattle.pool_patterns.specs.Grids.{Relation}
 use Rattle.pool_patterns.specs.Kinds.{IsRowsFault}
-use Rattle.pool_patterns.proofs.table.Table.new.Goals as goal
-use Rattle.pool_patterns.proofs.table.Table.new.Goals.{then-width-via-then-width, then-width-via-else-width+then-steps}
-use Rattle.pool_patterns.proofs.table.Table.new.Goals.{then-width-via-else-width+else-steps+then-from}
+use Rattle.pool_patterns.proofs.table.FeedTable.new.Goals as goal
+use Rattle.pool_patterns.proofs.table.FeedTable.new.Goals.{then-width-via-then-width, then-width-via-else-width+then-steps}
+use Rattle.pool_patterns.proofs.table.FeedTable.new.Goals.{then-width-via-else-width+else-steps+then-from}
 
 pub returns-then-width-clause-refused : goal.returns-then-width-clause-refused
 returns-then-width-clause-refused g c =

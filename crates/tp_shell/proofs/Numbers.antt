@@ -1,10 +1,10 @@
 -- The number that the word of an argument spells.
-use Rattle.std.proofs.Common.{◌≡◌, ◌∙◌, ◌<◌, ◌^◌, refl, ap, sym, subst, ℕ, List, Option, Some, None, MatchOption, Result, Ok, Err}
-use Rattle.std.proofs.Common.{unwrap_or}
+use Rattle.std.proofs.Common.{◌≡◌, ◌∙◌, ◌<◌, ◌^◌, refl, ap, sym, subst}
+use Rattle.std.proofs.Common.{ℕ, List, Option, Some, None, MatchOption, Result, Ok, Err, unwrap_or}
 use Rattle.std.specs.Str.Parse.{IsNumeral, ParsesUnsigned, digits_value, without_leading_plus}
 use Rattle.clap.specs.Matches.{ReadsOne}
 use Rattle.clap.specs.Words.{Row, Text, one_of}
-use Rattle.pool_cli.specs.Command.{IsNumberOf, LacksNumber}
+use Rattle.tp_shell.specs.Command.{IsNumberOf, LacksNumber}
 
 -- what holds of nothing
 pub none_lacks : {X : Type 0} (r : Option X) (P : Type 0) (Q : X → Type 0) → r ≡ None → P → MatchOption r P Q
@@ -15,8 +15,8 @@ pub same_text : (t u : Text) → ◌≡◌ {A = Option Text} (Some t) (Some u) �
 same_text t u e = sym (ap (λ (o : Option Text). unwrap_or o t) e)
 
 -- the number that is read of an argument
-pub number_read : {E : Type 0} (bits : ℕ) (gives : Text → Result ℕ E
-    → Type 0) (name : Text) (rows : List Row) (o : Option Text) (r : Option ℕ)
+pub number_read : {E : Type 0} (bits : ℕ) (gives : Text → Result ℕ E → Type 0) (name : Text) (rows : List Row)
+    (o : Option Text) (r : Option ℕ)
     → ((t : Text) (x : Result ℕ E) → gives t x → ParsesUnsigned bits 10 t x)
     → one_of name rows ≡ o → (o ≡ None → r ≡ None) → ((t : Text) → o ≡ Some t → ReadsOne gives t r)
     → MatchOption r (LacksNumber bits name rows) (IsNumberOf name rows)

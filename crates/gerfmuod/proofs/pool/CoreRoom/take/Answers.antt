@@ -3,7 +3,7 @@ use Rattle.tp_core.specs.Accepted.{Accepted}
 use Rattle.tp_core.specs.Generations.{InEach}
 use Rattle.tp_core.specs.NeverEarly.{IsNeverEarly}
 use Rattle.gerfmuod.proofs.Kept.{kept_never_early}
-use Rattle.gerfmuod.proofs.pool.Pool.take.Goals as goal
+use Rattle.gerfmuod.proofs.pool.CoreRoom.take.Goals as goal
 
 pub returns-in-None-clause-never_early : goal.returns-in-None-clause-never_early
 returns-in-None-clause-never_early c =
