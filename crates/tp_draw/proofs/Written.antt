@@ -3,7 +3,7 @@ use Rattle.std.proofs.Common.{◌≡◌, ℕ, List, [], ◌∷◌, ◌++◌, ref
 use Rattle.std.proofs.lemmas.List.{append-nil}
 use Rattle.std.specs.Prelude.{Result, Ok, Err, OnOk}
 use Rattle.std.specs.List.{flat_map}
-use Rattle.tp_draw.specs.declared.parts.Part.{Part}
+use Rattle.tp_draw.specs.declared.parts.TextPart.{TextPart}
 use Rattle.tp_draw.specs.Parts.{part_text, text_of}
 
 -- what follows where a call has answered `Ok`
@@ -11,7 +11,7 @@ pub then_ok : {A E P Q : Type 0} (r : Result A E) → OnOk r P → (P → Q) →
 then_ok (Ok x) h f = f h
 then_ok (Err e) h f = h
 
-pub text_is : (parts : List Part) → text_of parts ≡ flat_map part_text parts
+pub text_is : (parts : List TextPart) → text_of parts ≡ flat_map part_text parts
 text_is [] = refl
 text_is (p ∷ []) = sym (append-nil (part_text p))
 text_is (p ∷ q ∷ rest) = ap (λ l. part_text p ++ l) (text_is (q ∷ rest))

@@ -1,16 +1,16 @@
 -- Text made of parts.
 use Rattle.std.specs.Prelude.{ℕ, zero, suc, ◌++◌, List, [], ◌∷◌, decimal}
 use Rattle.tp_scene.specs.Pieces.{◌⧺◌, tenths}
-use Rattle.tp_draw.specs.declared.parts.Part.{Part}
-use Rattle.tp_draw.specs.declared.parts.Part.TheVariants as part
+use Rattle.tp_draw.specs.declared.parts.TextPart.{TextPart}
+use Rattle.tp_draw.specs.declared.parts.TextPart.TheVariants as part
 
-abbrev pub part_text : Part → List ℕ
+abbrev pub part_text : TextPart → List ℕ
 part_text (part.Text text) = text.now
 part_text (part.Number n) = decimal n
 part_text (part.Tenths length) = tenths length
 
 -- the parts, one behind the other
-abbrev pub text_of : List Part → List ℕ
+abbrev pub text_of : List TextPart → List ℕ
 text_of [] = []
 text_of (p ∷ []) = part_text p
 text_of (p ∷ q ∷ rest) = part_text p ⧺ text_of (q ∷ rest)

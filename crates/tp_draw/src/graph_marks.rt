@@ -6,7 +6,7 @@ ghost use Rattle.tp_draw.specs.GraphMarks.{message_text};
 ghost use Rattle.tp_draw.specs.GraphPage.{feeds_of};
 
 use crate::chart::Chart;
-use crate::parts::{Part, push_parts};
+use crate::parts::{TextPart, push_parts};
 use std::alloc::AllocError;
 use tp_base::TaskId;
 use tp_graph::Graph;
@@ -60,19 +60,19 @@ impl<G: Graph> Drawing<G> {
         push_parts(
             out,
             &[
-                Part::Text(b"<circle class=\"n"),
-                Part::Number(home.0 as u64),
-                Part::Text(b"\" cx=\""),
-                Part::Tenths(x),
-                Part::Text(b"\" cy=\""),
-                Part::Tenths(y),
-                Part::Text(b"\" r=\""),
-                Part::Tenths(radius),
-                Part::Text(b"\"><title>task "),
-                Part::Number(task as u64),
-                Part::Text(b" at node "),
-                Part::Number(home.0 as u64),
-                Part::Text(b"</title></circle>\n"),
+                TextPart::Text(b"<circle class=\"n"),
+                TextPart::Number(home.0 as u64),
+                TextPart::Text(b"\" cx=\""),
+                TextPart::Tenths(x),
+                TextPart::Text(b"\" cy=\""),
+                TextPart::Tenths(y),
+                TextPart::Text(b"\" r=\""),
+                TextPart::Tenths(radius),
+                TextPart::Text(b"\"><title>task "),
+                TextPart::Number(task as u64),
+                TextPart::Text(b" at node "),
+                TextPart::Number(home.0 as u64),
+                TextPart::Text(b"</title></circle>\n"),
             ],
         )
     }
@@ -88,13 +88,13 @@ impl<G: Graph> Drawing<G> {
         push_parts(
             out,
             &[
-                Part::Text(b"<text class=\"number\" x=\""),
-                Part::Tenths(x),
-                Part::Text(b"\" y=\""),
-                Part::Tenths(y + 33),
-                Part::Text(b"\">"),
-                Part::Number(task as u64),
-                Part::Text(b"</text>\n"),
+                TextPart::Text(b"<text class=\"number\" x=\""),
+                TextPart::Tenths(x),
+                TextPart::Text(b"\" y=\""),
+                TextPart::Tenths(y + 33),
+                TextPart::Text(b"\">"),
+                TextPart::Number(task as u64),
+                TextPart::Text(b"</text>\n"),
             ],
         )
     }
@@ -114,27 +114,27 @@ impl<G: Graph> Drawing<G> {
         push_parts(
             out,
             &[
-                Part::Text(b"M"),
-                Part::Tenths(start),
-                Part::Text(b","),
-                Part::Tenths(top),
-                Part::Text(b"C"),
-                Part::Tenths(start),
-                Part::Text(b","),
-                Part::Tenths(middle),
-                Part::Text(b" "),
-                Part::Tenths(end),
-                Part::Text(b","),
-                Part::Tenths(middle),
-                Part::Text(b" "),
-                Part::Tenths(end),
-                Part::Text(b","),
-                Part::Tenths(foot),
-                Part::Text(b"\"><title>task "),
-                Part::Number(from as u64),
-                Part::Text(b" to task "),
-                Part::Number(to as u64),
-                Part::Text(b"</title></path>\n"),
+                TextPart::Text(b"M"),
+                TextPart::Tenths(start),
+                TextPart::Text(b","),
+                TextPart::Tenths(top),
+                TextPart::Text(b"C"),
+                TextPart::Tenths(start),
+                TextPart::Text(b","),
+                TextPart::Tenths(middle),
+                TextPart::Text(b" "),
+                TextPart::Tenths(end),
+                TextPart::Text(b","),
+                TextPart::Tenths(middle),
+                TextPart::Text(b" "),
+                TextPart::Tenths(end),
+                TextPart::Text(b","),
+                TextPart::Tenths(foot),
+                TextPart::Text(b"\"><title>task "),
+                TextPart::Number(from as u64),
+                TextPart::Text(b" to task "),
+                TextPart::Number(to as u64),
+                TextPart::Text(b"</title></path>\n"),
             ],
         )
     }
@@ -167,9 +167,9 @@ impl<G: Graph> Drawing<G> {
         push_parts(
             out,
             &[
-                Part::Text(b"<path class=\"message s"),
-                Part::Number(home.0 as u64),
-                Part::Text(b"\" d=\""),
+                TextPart::Text(b"<path class=\"message s"),
+                TextPart::Number(home.0 as u64),
+                TextPart::Text(b"\" d=\""),
             ],
         )?;
         self.push_curve(out, task, target.0)

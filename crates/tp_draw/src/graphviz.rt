@@ -3,7 +3,7 @@ ghost use Rattle.tp_base.specs.declared.limits.TheConstants.{MAX_NODES};
 ghost use Rattle.tp_draw.specs.Dot.{cluster, cluster_begin, dot_of, edge, edges, member};
 ghost use Rattle.tp_draw.specs.Parts.{joined};
 
-use crate::parts::{Part, push_parts};
+use crate::parts::{TextPart, push_parts};
 use std::alloc::{AllocError, Global};
 use tp_base::TaskId;
 use tp_graph::Graph;
@@ -30,9 +30,9 @@ fn push_member<G: Graph>(
     push_parts(
         out,
         &[
-            Part::Text(b"t"),
-            Part::Number(task as u64),
-            Part::Text(b";\n"),
+            TextPart::Text(b"t"),
+            TextPart::Number(task as u64),
+            TextPart::Text(b";\n"),
         ],
     )
 }
@@ -77,13 +77,13 @@ fn push_cluster_begin(out: &mut Vec<u8>, node: u32) -> Result<(), AllocError>
     push_parts(
         out,
         &[
-            Part::Text(b"subgraph cluster_"),
-            Part::Number(node as u64),
-            Part::Text(b" {\nlabel=\"node "),
-            Part::Number(node as u64),
-            Part::Text(b"\";\nnode [fillcolor="),
-            Part::Number(node as u64 + 1),
-            Part::Text(b"];\n"),
+            TextPart::Text(b"subgraph cluster_"),
+            TextPart::Number(node as u64),
+            TextPart::Text(b" {\nlabel=\"node "),
+            TextPart::Number(node as u64),
+            TextPart::Text(b"\";\nnode [fillcolor="),
+            TextPart::Number(node as u64 + 1),
+            TextPart::Text(b"];\n"),
         ],
     )
 }
@@ -110,11 +110,11 @@ fn push_edge<G: Graph>(out: &mut Vec<u8>, graph: G, task: u32, turn: u32) -> Res
     push_parts(
         out,
         &[
-            Part::Text(b"t"),
-            Part::Number(task as u64),
-            Part::Text(b" -> t"),
-            Part::Number(target.0 as u64),
-            Part::Text(b";\n"),
+            TextPart::Text(b"t"),
+            TextPart::Number(task as u64),
+            TextPart::Text(b" -> t"),
+            TextPart::Number(target.0 as u64),
+            TextPart::Text(b";\n"),
         ],
     )
 }

@@ -10,7 +10,7 @@ ghost use Rattle.tp_draw.specs.Parts.{joined};
 
 use crate::chart::Chart;
 use crate::graph_marks::{Drawing, is_message};
-use crate::parts::{Part, push_parts};
+use crate::parts::{TextPart, push_parts};
 use crate::picture::Picture;
 use std::alloc::{AllocError, Global};
 use tp_base::TaskId;
@@ -51,16 +51,16 @@ fn push_head(out: &mut Vec<u8>, chart: &Chart) -> Result<(), AllocError>
     push_parts(
         out,
         &[
-            Part::Text(b"<svg xmlns=\"http://www.w3.org/2000/svg\" width=\""),
-            Part::Tenths(width),
-            Part::Text(b"\" height=\""),
-            Part::Tenths(height),
-            Part::Text(b"\" viewBox=\"0 0 "),
-            Part::Tenths(width),
-            Part::Text(b" "),
-            Part::Tenths(height),
-            Part::Text(b"\">\n"),
-            Part::Text(STYLE),
+            TextPart::Text(b"<svg xmlns=\"http://www.w3.org/2000/svg\" width=\""),
+            TextPart::Tenths(width),
+            TextPart::Text(b"\" height=\""),
+            TextPart::Tenths(height),
+            TextPart::Text(b"\" viewBox=\"0 0 "),
+            TextPart::Tenths(width),
+            TextPart::Text(b" "),
+            TextPart::Tenths(height),
+            TextPart::Text(b"\">\n"),
+            TextPart::Text(STYLE),
         ],
     )
 }
@@ -134,23 +134,23 @@ fn push_headline<G: Graph>(
     push_parts(
         out,
         &[
-            Part::Text(b"<text class=\"head\" x=\"24\" y=\"28\">"),
-            Part::Text(name),
-            Part::Text(b", "),
-            Part::Number(nodes as u64),
-            Part::Text(b" node"),
-            Part::Text(of_nodes),
-            Part::Text(b"</text>\n<text x=\"24\" y=\"46\">"),
-            Part::Number(tasks),
-            Part::Text(b" task"),
-            Part::Text(of_tasks),
-            Part::Text(b", "),
-            Part::Number(feeds),
-            Part::Text(b" feed"),
-            Part::Text(of_feeds),
-            Part::Text(b", "),
-            Part::Number(messages),
-            Part::Text(b" of them messages</text>\n"),
+            TextPart::Text(b"<text class=\"head\" x=\"24\" y=\"28\">"),
+            TextPart::Text(name),
+            TextPart::Text(b", "),
+            TextPart::Number(nodes as u64),
+            TextPart::Text(b" node"),
+            TextPart::Text(of_nodes),
+            TextPart::Text(b"</text>\n<text x=\"24\" y=\"46\">"),
+            TextPart::Number(tasks),
+            TextPart::Text(b" task"),
+            TextPart::Text(of_tasks),
+            TextPart::Text(b", "),
+            TextPart::Number(feeds),
+            TextPart::Text(b" feed"),
+            TextPart::Text(of_feeds),
+            TextPart::Text(b", "),
+            TextPart::Number(messages),
+            TextPart::Text(b" of them messages</text>\n"),
         ],
     )
 }
@@ -163,13 +163,13 @@ fn push_node(out: &mut Vec<u8>, node: u32) -> Result<(), AllocError>
     push_parts(
         out,
         &[
-            Part::Text(b"<text class=\"name n"),
-            Part::Number(node as u64),
-            Part::Text(b"\" x=\""),
-            Part::Number(24 + 54 * node as u64),
-            Part::Text(b"\" y=\"86\">node "),
-            Part::Number(node as u64),
-            Part::Text(b"</text>\n"),
+            TextPart::Text(b"<text class=\"name n"),
+            TextPart::Number(node as u64),
+            TextPart::Text(b"\" x=\""),
+            TextPart::Number(24 + 54 * node as u64),
+            TextPart::Text(b"\" y=\"86\">node "),
+            TextPart::Number(node as u64),
+            TextPart::Text(b"</text>\n"),
         ],
     )
 }

@@ -8,7 +8,7 @@ use std::alloc::AllocError;
 
 /// A part of a text.
 #[derive(Clone, Copy)]
-pub(crate) enum Part<'a> {
+pub(crate) enum TextPart<'a> {
     /// These bytes.
     Text(&'a [u8]),
     /// A number in decimal.
@@ -32,18 +32,18 @@ fn push_tenths(out: &mut Vec<u8>, length: u64) -> Result<(), AllocError>
     push_number(out, length % 10)
 }
 
-fn push_part(out: &mut Vec<u8>, part: Part<'_>) -> Result<(), AllocError>
+fn push_part(out: &mut Vec<u8>, part: TextPart<'_>) -> Result<(), AllocError>
     ensures { OnOk result (out.new.items ≡ out.old.items ++ part_text part.entry) }
 {
     match part {
-        Part::Text(bytes) => out.extend_from_slice(bytes),
-        Part::Number(number) => push_number(out, number),
-        Part::Tenths(length) => push_tenths(out, length),
+        TextPart::Text(bytes) => out.extend_from_slice(bytes),
+        TextPart::Number(number) => push_number(out, number),
+        TextPart::Tenths(length) => push_tenths(out, length),
     }
 }
 
 /// Parts, each in turn.
-fn push_each(out: &mut Vec<u8>, parts: &[Part<'_>]) -> Result<(), AllocError>
+fn push_each(out: &mut Vec<u8>, parts: &[TextPart<'_>]) -> Result<(), AllocError>
     ensures { OnOk result (out.new.items ≡ out.old.items ++ flat_map part_text parts.now) }
 {
     for part in parts {
@@ -53,7 +53,7 @@ fn push_each(out: &mut Vec<u8>, parts: &[Part<'_>]) -> Result<(), AllocError>
 }
 
 /// Parts, one behind the other.
-pub(crate) fn push_parts(out: &mut Vec<u8>, parts: &[Part<'_>]) -> Result<(), AllocError>
+pub(crate) fn push_parts(out: &mut Vec<u8>, parts: &[TextPart<'_>]) -> Result<(), AllocError>
     ensures { OnOk result (out.new.items ≡ out.old.items ++ text_of parts.now) }
 {
     push_each(out, parts)

@@ -1,7 +1,7 @@
 ghost use Rattle.std.specs.Prelude.{◌≡◌, ◌≤◌, ◌<◌, ◌^◌, IfOk};
 ghost use Rattle.tp_draw.specs.Scaled.{IsWithin, scaled_text, shown};
 
-use crate::parts::{Part, push_parts};
+use crate::parts::{TextPart, push_parts};
 use crate::picture::Picture;
 use std::alloc::{AllocError, Global};
 
@@ -36,17 +36,17 @@ fn scaled(alloc: Global, picture: &Picture, pixels: u64) -> Result<Vec<u8>, Allo
     push_parts(
         &mut out,
         &[
-            Part::Text(b"<svg xmlns=\"http://www.w3.org/2000/svg\" width=\""),
-            Part::Number(pixels),
-            Part::Text(b"\" height=\""),
-            Part::Number(pixels * picture.height / picture.width),
-            Part::Text(b"\" viewBox=\"0 0 "),
-            Part::Tenths(picture.width),
-            Part::Text(b" "),
-            Part::Tenths(picture.height),
-            Part::Text(b"\">\n"),
-            Part::Text(&picture.text),
-            Part::Text(b"</svg>\n"),
+            TextPart::Text(b"<svg xmlns=\"http://www.w3.org/2000/svg\" width=\""),
+            TextPart::Number(pixels),
+            TextPart::Text(b"\" height=\""),
+            TextPart::Number(pixels * picture.height / picture.width),
+            TextPart::Text(b"\" viewBox=\"0 0 "),
+            TextPart::Tenths(picture.width),
+            TextPart::Text(b" "),
+            TextPart::Tenths(picture.height),
+            TextPart::Text(b"\">\n"),
+            TextPart::Text(&picture.text),
+            TextPart::Text(b"</svg>\n"),
         ],
     )?;
     Ok(out)

@@ -16,6 +16,10 @@ use tp_graph::{Comparable, Graph, is_same};
 use tp_monitor::TaskpoolState;
 use tp_node::{Finished, Node, Turn as ControlTurn, Work};
 
+/// How many turns a worker takes in one hold of its node's lock at most, as long as each leaves a message or a task for the next
+/// one.
+const TURNS_IN_A_HOLD: u32 = 8;
+
 /// How many tasks are inserted in one hold of the board's lock.
 const SEEDS_IN_A_HOLD: u32 = 64;
 
@@ -62,6 +66,11 @@ enum WorkerTurn<K: Ledgers> {
     Over(Ended<K>),
     /// A fault was set, or the end was announced.
     Stop,
+}
+
+/// Whether a message or a task waits for a turn.
+fn has_more<D>(site: &Site<D>) -> bool {
+    site.mail.load(Ordering::SeqCst) > 0 || site.waiting.load(Ordering::SeqCst) > 0
 }
 
 /// What a worker saw when its node could make no control step: how many there were, and the node's pending number. As long
@@ -170,7 +179,8 @@ impl<'a, G: Comparable, K: Ledgers, A: Gate, R: Wait> Worker<'a, G, K, A, R> {
             || !seen.is_some_and(|seen| seen.control_steps == control_steps)
     }
 
-    /// Passes on what a task that was begun before has made, and takes a turn, all in one hold of the node's lock.
+    /// Passes on what a task that was begun before has made, and takes turns, all in one hold of the node's lock, as long as each
+    /// leaves a message or a task for the next one.
     #[inline(always)]
     fn turn(
         &self,
@@ -180,7 +190,17 @@ impl<'a, G: Comparable, K: Ledgers, A: Gate, R: Wait> Worker<'a, G, K, A, R> {
         seen: &mut Option<Seen>,
     ) -> Result<WorkerTurn<K>, Refusal> {
         let mut desk = lock_soon(self.rt, &site.desk);
-        self.turn_at(&mut desk, site, hands, idle, seen)
+        for _ in 0..TURNS_IN_A_HOLD {
+            match self.turn_at(&mut desk, site, hands, idle, seen)? {
+                WorkerTurn::Moved => {
+                    if !has_more(site) {
+                        return Ok(WorkerTurn::Moved);
+                    }
+                }
+                turn => return Ok(turn),
+            }
+        }
+        Ok(WorkerTurn::Moved)
     }
 
     /// Passes on what the worker's last task has made, and takes a turn of the node.
