@@ -16,9 +16,8 @@ use tp_graph::{Comparable, Graph, Value, is_same};
 use tp_monitor::TaskpoolState;
 use tp_node::{Finished, Node, Turn as ControlTurn, Work};
 
-/// How many turns a worker takes in one hold of its node's lock at most, as long as each leaves a message or a task for the next
-/// one.
-const TURNS_IN_A_HOLD: u32 = 8;
+/// How many messages are received in one hold of the node's lock at most, each in a turn of its own.
+const MESSAGES_IN_A_HOLD: u32 = 8;
 
 /// How many tasks are inserted in one hold of the board's lock.
 const SEEDS_IN_A_HOLD: u32 = 64;
@@ -66,11 +65,6 @@ enum WorkerTurn<K: Ledgers> {
     Over(Ended<K>),
     /// A fault was set, or the end was announced.
     Stop,
-}
-
-/// Whether a message or a task waits for a turn.
-fn has_more<D>(site: &Site<D>) -> bool {
-    site.mail.load(Ordering::SeqCst) > 0 || site.waiting.load(Ordering::SeqCst) > 0
 }
 
 /// What a worker saw when its node could make no control step: how many there were, and the node's pending number. As long
@@ -179,8 +173,7 @@ impl<'a, G: Comparable, K: Ledgers, A: Gate, R: Wait> Worker<'a, G, K, A, R> {
             || !seen.is_some_and(|seen| seen.control_steps == control_steps)
     }
 
-    /// Passes on what a task that was begun before has made, and takes turns, all in one hold of the node's lock, as long as each
-    /// leaves a message or a task for the next one.
+    /// Passes on what a task that was begun before has made, and takes a turn, all in one hold of the node's lock.
     #[inline(always)]
     fn turn(
         &self,
@@ -192,17 +185,7 @@ impl<'a, G: Comparable, K: Ledgers, A: Gate, R: Wait> Worker<'a, G, K, A, R> {
         // It is dropped after the lock, which comes later: its numbers may be many.
         let mut spent = None;
         let mut desk = lock_soon(self.rt, &site.desk);
-        for _ in 0..TURNS_IN_A_HOLD {
-            match self.turn_at(&mut desk, site, hands, idle, seen, &mut spent)? {
-                WorkerTurn::Moved => {
-                    if !has_more(site) {
-                        return Ok(WorkerTurn::Moved);
-                    }
-                }
-                turn => return Ok(turn),
-            }
-        }
-        Ok(WorkerTurn::Moved)
+        self.turn_at(&mut desk, site, hands, idle, seen, &mut spent)
     }
 
     /// Passes on what the worker's last task has made, and takes a turn of the node. A copy of what the graph does not keep is
@@ -247,7 +230,8 @@ impl<'a, G: Comparable, K: Ledgers, A: Gate, R: Wait> Worker<'a, G, K, A, R> {
         Ok(WorkerTurn::Moved)
     }
 
-    /// A turn of a node whose opening action is closed.
+    /// A turn of a node whose opening action is closed. Where messages were received, those turns and the one that begins a task
+    /// are taken in one hold of the node's lock.
     #[inline(always)]
     fn go_on(
         &self,
@@ -256,11 +240,12 @@ impl<'a, G: Comparable, K: Ledgers, A: Gate, R: Wait> Worker<'a, G, K, A, R> {
         hands: &mut Hands<G>,
         seen: &mut Option<Seen>,
     ) -> Result<WorkerTurn<K>, Refusal> {
-        if site.mail.load(Ordering::SeqCst) > 0 && self.receive(&mut desk.node, site)? {
-            site.tell_waiting(desk.waiting());
+        let took = site.mail.load(Ordering::SeqCst) > 0 && self.receive_some(&mut desk.node, site)?;
+        let waiting = desk.waiting();
+        if took && (waiting == 0 || !self.may_go_on()?) {
+            site.tell_waiting(waiting);
             return Ok(WorkerTurn::Moved);
         }
-        let waiting = desk.waiting();
         site.tell_waiting(waiting.saturating_sub(1));
         if waiting > 0 {
             self.next_work(desk, &mut hands.begun)?;

@@ -3,7 +3,7 @@ ghost use Rattle.std.specs.Prelude.{◌≡◌, ◌+◌, length, IfOk, IsFalse, I
 use crate::desk::Desk;
 use crate::gate::Gate;
 use crate::locks::{Line, Site, check_wire, link_place, lock_soon};
-use crate::worker::Worker;
+use crate::worker::{MESSAGES_IN_A_HOLD, Worker};
 use std::sync::Wait;
 use std::sync::atomic::Ordering;
 use tp_base::{NodeId, Refusal};
@@ -12,8 +12,43 @@ use tp_graph::Comparable;
 use tp_node::{Node, Wire};
 
 impl<'a, G: Comparable, K: Ledgers, A: Gate, R: Wait> Worker<'a, G, K, A, R> {
+    /// Receives messages, as long as there are any, each in a turn of its own: so whether the pool was stopped, and the gate, is
+    /// asked before each but the first. Answers whether there was one.
+    #[inline(never)]
+    pub fn receive_some(
+        &self,
+        here: &mut Node<G, K>,
+        site: &Site<Desk<G, K>>,
+    ) -> Result<bool, Refusal>
+        ensures { here.new.graph ≡ here.old.graph }
+    {
+        if !self.receive(here, site)? {
+            return Ok(false);
+        }
+        for _ in 1..MESSAGES_IN_A_HOLD {
+            if site.mail.load(Ordering::SeqCst) == 0
+                || !self.may_go_on()?
+                || !self.receive(here, site)?
+            {
+                break;
+            }
+        }
+        Ok(true)
+    }
+
+    /// Whether another turn may follow in the same hold of the node's lock: none does where the pool was stopped.
+    pub fn may_go_on(&self) -> Result<bool, Refusal> {
+        if self.locks.is_stopped.load(Ordering::SeqCst) {
+            return Ok(false);
+        }
+        if !self.gate.inside(self.place) {
+            return Err(Refusal::Stalled(0));
+        }
+        Ok(true)
+    }
+
     /// Receives a message and delivers its value, where there is one.
-    pub fn receive(&self, here: &mut Node<G, K>, site: &Site<Desk<G, K>>) -> Result<bool, Refusal>
+    fn receive(&self, here: &mut Node<G, K>, site: &Site<Desk<G, K>>) -> Result<bool, Refusal>
         ensures { here.new.graph ≡ here.old.graph }
     {
         let (number, nodes) = (here.number(), here.nodes());
