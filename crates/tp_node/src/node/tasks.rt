@@ -1,7 +1,7 @@
 ghost use Rattle.std.specs.Prelude.{◌≡◌, ◌≤◌, ◌<◌, ◌+◌, ◌-◌, ℕ, [], ◌∷◌, false, Some, None, if◌then◌else◌, is_some, IfErr, IfOk, IsTrue};
 ghost use Rattle.std.specs.Prelude.{MatchBool, MatchOption, OnErr, OnOk};
 ghost use Rattle.tp_base.specs.declared.refusal.Refusal.TheVariants.{NoMemory, StoreFull, WrongLife};
-ghost use Rattle.tp_board.specs.States.{AnswersBy, IsAtPiece, full_check};
+ghost use Rattle.tp_board.specs.States.{AnswersBy, IsAtPiece, IsPastPiece, full_check};
 ghost use Rattle.tp_graph.specs.Carried.{IsFeed};
 ghost use Rattle.tp_graph.specs.Left.{left_of};
 ghost use Rattle.tp_graph.specs.Values.{IsInput};
@@ -47,7 +47,7 @@ impl<G: Graph, K: Ledgers> Node<G, K> {
     /// task is ready.
     ///
     /// Refused, where a task is ready: `HistoryFull` where the history has reached its limit; `NoMemory` where the board has
-    /// to ask for memory for the event.
+    /// to ask for memory for the event, as it may have to at each 1,024th event or message.
     pub fn begin(&mut self, board: &mut Board<K>) -> Result<Option<Work<G>>, Refusal>
         ensures none { front self.old.state.store.ready ≡ None → result ≡ Ok None }
         ensures begun { IfOk result (λ work. MatchOption work
@@ -55,6 +55,7 @@ impl<G: Graph, K: Ledgers> Node<G, K> {
             (Begins self.old self.new board.old board.new)) }
         ensures refusal { MatchOption (front self.old.state.store.ready) (Unit {0})
             (λ t. AnswersBy (begin_checks board.old) 1 board.old result) }
+        ensures piece { IfErr result (IsPastPiece 1 board.old) }
         ensures refused { OnErr result (Appends [] board.old board.new × (self.new ≡ self.old)) }
     {
         if !self.local.has_ready() {
