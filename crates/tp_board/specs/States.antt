@@ -1,5 +1,6 @@
 -- What contracts see of a board, and what its calls are refused for.
-use Rattle.std.specs.Prelude.{ℕ, ◌+◌, ◌-◌, ◌%◌, ◌≡◌, ◌<◌, ◌⊎◌, List, [], ◌∷◌, ◌++◌, length, Option, Some, Result, Err, MatchOption, IfErr, nat_lt}
+use Rattle.std.specs.Prelude.{ℕ, ◌+◌, ◌-◌, ◌%◌, ◌≡◌, ◌<◌, ◌⊎◌, List, [], ◌∷◌, ◌++◌, length, Option, Some}
+use Rattle.std.specs.Prelude.{Result, Err, MatchOption, IfErr, nat_lt}
 use Rattle.std.specs.Option.{option_or}
 use Rattle.tp_base.specs.History.{Event}
 use Rattle.tp_base.specs.declared.refusal.Refusal.{Refusal}
@@ -48,16 +49,17 @@ AnswersBy checks more b result =
 abbrev pub IsAtPiece : BoardState → Refusal → Type 0
 IsAtPiece b e = e ≡ NoMemory → length b.history % 1024 ≡ 0
 
--- how many more fit into the piece of 1,024 that was begun, where there are n
+-- how many more fit into the last piece of 1,024, where there are n
 abbrev pub left_of_piece : ℕ → ℕ
 left_of_piece n = (1024 - n % 1024) % 1024
 
--- A call that wants so many events, or messages among them, is refused memory only where the piece of 1,024 events that was
--- begun has fewer places left, or the piece of 1,024 messages of the present generation.
+-- A call that wants so many events is refused memory only where fewer are left of the piece of 1,024 events that was
+-- begun, or of the piece of 1,024 messages of the present generation.
 abbrev pub IsPastPiece : ℕ → BoardState → Refusal → Type 0
 IsPastPiece more b e =
     e ≡ NoMemory
-    → (left_of_piece (length b.history) < more) ⊎ (left_of_piece (count is_send (present (steps_of b.history))) < more)
+    → (left_of_piece (length b.history) < more)
+    ⊎ (left_of_piece (count is_send (present (steps_of b.history))) < more)
 
 -- the checks of a control step that no node has to be idle for
 abbrev pub step_checks : ℕ → BoardState → Step → List Check

@@ -153,7 +153,7 @@ impl<K: Ledgers> Board<K> {
     /// Makes sure of a place and of memory for so many more events: the next ones are then not refused for either.
     ///
     /// Refused: `HistoryFull` where fewer places are free; `NoMemory` where memory has to grow and does not, as it may have to
-    /// where the piece of 1,024 events that was begun, or of 1,024 messages, has fewer places left.
+    /// where fewer are left of the piece of 1,024 events that was begun, or of the piece of 1,024 messages.
     pub fn reserve(&mut self, more: u32) -> Result<(), Refusal>
         ensures ok { OnOk result (self.new ≡ with_reserved (max self.old.reserved more) self.old) }
         ensures places { OnOk result (length self.old.history + more ≤ self.old.limit) }

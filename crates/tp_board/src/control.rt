@@ -1,4 +1,5 @@
-ghost use Rattle.std.specs.Prelude.{◌≡◌, ◌==◌, ◌≤◌, ◌<◌, ◌∷◌, IsFalse, IsTrue, IfErr, IfOk, IsOk, OnErr, OnOk, None, Some, is_some, if◌then◌else◌};
+ghost use Rattle.std.specs.Prelude.{◌≡◌, ◌==◌, ◌≤◌, ◌<◌, ◌∷◌, IsFalse, IsTrue, IfErr, IfOk, IsOk, OnErr, OnOk, None, Some};
+ghost use Rattle.std.specs.Prelude.{is_some, if◌then◌else◌};
 ghost use Rattle.tp_base.specs.declared.step.Step.TheVariants as steps;
 ghost use Rattle.tp_board.specs.Judgements.{is_over};
 ghost use Rattle.tp_ledgers.specs.Numbers.{event, node_at};
