@@ -6,8 +6,8 @@ status 2.
 import argparse
 
 from . import bench, build, capi, demo, docs, drawn, gate_times, lanes, library, limits, new_pool, soak, tries, wrong
-from .limits import cuts, generations, hostile_numbers, memory, pictures, progress, random_texts, reasons, refuse
-from .limits import refuse_tests, stacks, strange
+from .limits import cuts, generations, hostile_numbers, live, memory, pictures, progress, random_texts, reasons
+from .limits import refuse, refuse_tests, stacks, strange
 
 COMMANDS = {
     "build": build,
@@ -28,6 +28,7 @@ LIMITS = {
     "refuse": refuse,
     "refuse-tests": refuse_tests,
     "memory": memory,
+    "live": live,
     "stacks": stacks,
     "hostile-numbers": hostile_numbers,
     "generations": generations,

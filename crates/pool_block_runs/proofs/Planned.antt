@@ -1,10 +1,10 @@
 -- Steps taken in parts.
 use Rattle.std.proofs.lemmas.Nat.{div-add-mod', mul-le}
-use Rattle.std.proofs.Common.{◌≡◌, ◌+◌, ◌*◌, ◌/◌, ◌%◌, ◌<◌, ◌≤◌, ◌-◌, ℕ, ℤ, List, min, max, ap, ◌∙◌, ⊎_elim, arith}
-use Rattle.std.proofs.Math.Nat.{min-le_left}
+use Rattle.std.proofs.Common.{◌≡◌, ◌+◌, ◌*◌, ◌/◌, ◌%◌, ◌<◌, ◌≤◌, ◌-◌, ℕ, ℤ, List, max, ap, ◌∙◌, ⊎_elim, arith, div-le_self}
 use Rattle.std.proofs.lemmas.Bool.{cases_lt}
 use Rattle.pool_blocks.proofs.Blocks.{after-on}
 use Rattle.pool_blocks.specs.Stencils.{Step, after}
+use Rattle.pool_block_runs.specs.Events.{planned, step_events}
 
 -- the next part of the steps, of which some are left
 pub part_more : (step : Step) (steps left part : ℕ) (made next cells : List ℤ) → part ≤ left → left ≤ steps
@@ -14,18 +14,19 @@ part_more step steps left part made next cells h k before is =
     is ∙ ap (after step part) before ∙ after-on step (steps - left) part cells ∙ ap (λ m. after step m cells) e
 
 -- the steps that are planned fit
-pub planned_fit : (first row kept : ℕ) → 1 ≤ row → first + row ≤ 1048576
-    → first + max (min ((1000000 - first) / row) kept) 1 * row ≤ 1048576
-planned_fit first row kept some one =
+pub planned_fit : (first row : ℕ) → 1 ≤ row → first + row ≤ 1048576 → first + max ((1000000 - first) / row) 1 * row ≤ 1048576
+planned_fit first row some one =
     let whole : (1000000 - first) / row * row + (1000000 - first) % row ≡ 1000000 - first = div-add-mod' (1000000 - first) row in
-    let few : min ((1000000 - first) / row) kept ≤ (1000000 - first) / row = min-le_left ((1000000 - first) / row) kept in
     ⊎_elim
-    (λ (h : min ((1000000 - first) / row) kept < 1).
-    let is : max (min ((1000000 - first) / row) kept) 1 ≡ 1 = omega (arith, h) in
+    (λ (h : (1000000 - first) / row < 1).
+    let is : max ((1000000 - first) / row) 1 ≡ 1 = omega (arith, h) in
     rw is (omega (arith, one)))
-    (λ (h : 1 ≤ min ((1000000 - first) / row) kept).
-    let is : max (min ((1000000 - first) / row) kept) 1 ≡ min ((1000000 - first) / row) kept = omega (arith, h) in
-    let most : min ((1000000 - first) / row) kept * row ≤ (1000000 - first) / row * row = mul-le _ row _ row few (omega arith) in
-    let least : 1 * row ≤ min ((1000000 - first) / row) kept * row = mul-le 1 row _ row h (omega arith) in
-    rw is (omega (arith, whole, least, most, some)))
-    (cases_lt (min ((1000000 - first) / row) kept) 1)
+    (λ (h : 1 ≤ (1000000 - first) / row).
+    let is : max ((1000000 - first) / row) 1 ≡ (1000000 - first) / row = omega (arith, h) in
+    let least : 1 * row ≤ (1000000 - first) / row * row = mul-le 1 row _ row h (omega arith) in
+    rw is (omega (arith, whole, least, some)))
+    (cases_lt ((1000000 - first) / row) 1)
+
+-- there are no more than the events that are planned for
+pub planned_few : (blocks nodes : ℕ) → planned blocks nodes ≤ 1000000
+planned_few blocks nodes = omega (arith, div-le_self (1000000 - 3 * blocks) (step_events blocks nodes))

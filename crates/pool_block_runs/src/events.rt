@@ -1,18 +1,14 @@
-ghost use Rattle.std.specs.Prelude.{◌≡◌, ◌≤◌, ◌+◌, ◌-◌, ◌*◌, ◌/◌, max, min, MatchOption};
+ghost use Rattle.std.specs.Prelude.{◌≡◌, ◌≤◌, ◌+◌, ◌-◌, ◌*◌, ◌/◌, max, MatchOption};
 ghost use Rattle.tp_base.specs.declared.limits.TheConstants.{MAX_STEPS};
 ghost use Rattle.pool_block_runs.specs.Events.{TakeNoStep, TakeSteps, step_events};
 
 use tp_base::MAX_STEPS;
 
-/// How many numbers a run may keep, so that its memory stays some hundred megabytes.
-const MOST_KEPT: u64 = 1 << 24;
-
 /// How many events are planned for a run of several steps: some are left for the waves that detect its end.
 const MOST_PLANNED: u64 = 1_000_000;
 
-/// How many steps of so many cells, in blocks of so many, one run takes at so many nodes: as many as the limit of events lets,
-/// and no more than keep some 16 million numbers. None where there is no cell, a block is of none, or the events of a single
-/// step are above the limit.
+/// How many steps of so many cells, in blocks of so many, one run takes at so many nodes: as many as the limit of events lets.
+/// None where there is no cell, a block is of none, or the events of a single step are above the limit.
 pub fn steps_at_once(cells: u64, size: u32, nodes: u32) -> Option<u64>
     ensures { MatchOption result (TakeNoStep cells size nodes) (TakeSteps cells size nodes) }
 {
@@ -27,7 +23,7 @@ pub fn steps_at_once(cells: u64, size: u32, nodes: u32) -> Option<u64>
     if 3 * blocks + row > u64::from(MAX_STEPS) {
         return None;
     }
-    Some(planned_steps(3 * blocks, row, MOST_KEPT / cells))
+    Some(planned_steps(3 * blocks, row))
 }
 
 /// The events of one step.
@@ -42,11 +38,10 @@ fn row_events(blocks: u64, nodes: u32) -> u64
 
 /// As many steps as are planned for a run whose first row takes so many events, and each step so many: one at least.
 #[tactic(auto, using(crate::proofs::Planned::planned_fit))]
-fn planned_steps(first: u64, row: u64, kept: u64) -> u64
+fn planned_steps(first: u64, row: u64) -> u64
     requires { (1 ≤ row) × (first + row ≤ MAX_STEPS) }
-    ensures same { result ≡ max (min ((1000000 - first) / row) kept) 1 }
+    ensures same { result ≡ max ((1000000 - first) / row) 1 }
     ensures fit { first + result * row ≤ MAX_STEPS }
 {
-    let planned = MOST_PLANNED.saturating_sub(first) / row;
-    planned.min(kept).max(1)
+    (MOST_PLANNED.saturating_sub(first) / row).max(1)
 }

@@ -1,9 +1,10 @@
 -- The values of the tasks are the blocks of the cells after so many steps.
 use Rattle.std.proofs.Common.{◌≡◌, ◌<◌, ◌≤◌, ◌+◌, ◌-◌, ◌*◌, ◌%◌, ℕ, zero, suc, ℤ, Bool, List, [], ◌++◌, length, get_or, take, true, false}
-use Rattle.std.proofs.Common.{if◌then◌else◌, nat_lt, refl, ap, sym, ◌∙◌, ⊎_elim, Some, arith}
+use Rattle.std.proofs.Common.{if◌then◌else◌, nat_lt, refl, ap, sym, ◌∙◌, ⊎_elim, IsTrue, Some, arith}
 use Rattle.std.proofs.Math.Seq.{take-add}
 use Rattle.std.proofs.lemmas.Nat.{mul-le, mul-add-lt, mod-mul-add}
 use Rattle.std.proofs.lemmas.List.{get_or_past, take_all}
+use Rattle.std.proofs.lemmas.Bool.{le-leb}
 use Rattle.std.proofs.lemmas.Bool.Decides.{nat_tests}
 use Rattle.tp_graph.proofs.Made.{inputs_of, some_same}
 use Rattle.tp_graph.specs.Blocks.{block_of}
@@ -143,3 +144,11 @@ module _ (takes : ℕ → ℕ → Bool) (step : Step) (next : BlockStep) (cells 
       let past : length (after step steps cells) ≤ b * size =
       omega (arith, after-length step steps cells long, cut.whole, mul-le blocks size b size (omega (arith, n, h)) (omega arith)) in
       e ∙ take_all (b * size) (after step steps cells) past
+
+-- the blocks after the last step are kept
+pub last_kept : (next : BlockStep) (cells : List ℤ) (blocks size steps n k b : ℕ) → n ≡ blocks → k ≡ steps
+    → IsTrue ((block_graph next cells blocks size steps).keeps (k * n + b))
+unfolding block_graph
+last_kept next cells blocks size steps n k b few many =
+    let place : k * n + b ≡ steps * blocks + b = ap (λ j. j * n + b) many ∙ ap (λ j. steps * j + b) few in
+    le-leb (steps * blocks) (k * n + b) (omega (arith, place))

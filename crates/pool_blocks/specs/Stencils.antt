@@ -1,6 +1,6 @@
 -- Steps of a stencil over some cells in blocks: what a block becomes is made of itself and of its neighbours.
 use Rattle.std.specs.Prelude.{◌≡◌, ◌≢◌, ◌<◌, ◌≤◌, ◌+◌, ◌-◌, ◌*◌, ◌/◌, ◌%◌, ◌^◌, ◌⊎◌, All, ℕ, zero, suc, ℤ, Bool, true, false, List, []}
-use Rattle.std.specs.Prelude.{length, slice_index_or, Some, if◌then◌else◌, nat_lt}
+use Rattle.std.specs.Prelude.{length, slice_index_or, Some, if◌then◌else◌, nat_lt, nat_le}
 use Rattle.tp_base.specs.declared.Refusal.{Refusal}
 use Rattle.tp_base.specs.declared.Refusal.TheVariants.{Missing, NoMemory}
 use Rattle.tp_graph.specs.Blocks.{block_of}
@@ -84,7 +84,8 @@ next_of next befores inputs =
     next (if nat_lt 0 befores then slice_index_or inputs 0 [] else []) (slice_index_or inputs befores [])
     (slice_index_or inputs (befores + 1) [])
 
--- The graph of so many steps. Blocks that lie together run at one node: each node has a range of them.
+-- The graph of so many steps. Blocks that lie together run at one node: each node has a range of them. Those after the
+-- last step are kept.
 unfoldable pub block_graph : BlockStep → List ℤ → ℕ → ℕ → ℕ → TaskGraph
 block_graph next cells blocks size steps = record {
   tasks = (steps + 1) * blocks;
@@ -97,6 +98,7 @@ block_graph next cells blocks size steps = record {
   turn = λ t s. befores blocks t + befores blocks (source blocks t s) - s;
   home = λ t m. (t % blocks) * m / blocks;
   rule = λ t inputs. Some (if nat_lt t blocks then block_of size t cells else next_of next (befores blocks t) inputs);
+  keeps = λ t. nat_le (steps * blocks) t;
 }
 
 -- a block of the last step has no result

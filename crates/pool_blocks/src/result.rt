@@ -1,6 +1,6 @@
 ghost use Rattle.std.specs.Prelude.{◌≡◌, IfOk, IfErr};
 ghost use Rattle.tp_base.specs.declared.Refusal.TheVariants.{NoMemory};
-ghost use Rattle.tp_graph.specs.Serial.{AreRight};
+ghost use Rattle.tp_graph.specs.Left.{AreKept};
 ghost use Rattle.pool_blocks.specs.Stencils.{IsCellsRefusal, LacksBlock, after, block_graph};
 
 use crate::stencil::Stencil;
@@ -16,7 +16,7 @@ pub fn cells_of<S: Stencil>(
     work: &Steps<S>,
     results: &[(TaskId, Value)],
 ) -> Result<Vec<i64>, Refusal>
-    requires { AreRight (block_graph (S.next work.now.stencil) work.now.cells.now work.now.blocks work.now.size work.now.steps)
+    requires { AreKept (block_graph (S.next work.now.stencil) work.now.cells.now work.now.blocks work.now.size work.now.steps)
         results.now }
     ensures made { IfOk result (λ cells. cells.items ≡ after (S.step work.now.stencil) work.now.steps work.now.cells.now) }
     ensures whole { IfOk result (λ cells. LacksBlock work.now.blocks work.now.steps results.now → ⊥) }

@@ -194,6 +194,11 @@ impl<'a, S: Stencil> Graph for Steps<'a, S> {
         NodeId(task.0 % self.blocks * nodes / self.blocks)
     }
 
+    /// The blocks after the last step.
+    fn keeps(&self, task: TaskId) -> bool {
+        self.steps * self.blocks <= task.0
+    }
+
     fn body(&self, alloc: Global, task: TaskId, inputs: &[Value]) -> Result<Value, Refusal> {
         if task.0 < self.blocks {
             return Ok(Value::of(alloc, block_at(self.cells, self.blocks, self.size, task.0))?);

@@ -44,6 +44,10 @@ impl Graph for Chain {
         NodeId(task.0 % nodes)
     }
 
+    fn keeps(&self, _task: TaskId) -> bool {
+        true
+    }
+
     fn body(&self, alloc: Global, task: TaskId, inputs: &[Value]) -> Result<Value, Refusal> {
         let before = match inputs {
             [] => 0,

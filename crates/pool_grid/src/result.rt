@@ -1,6 +1,6 @@
 ghost use Rattle.std.specs.Prelude.{◌≡◌, IfOk, IfErr};
 ghost use Rattle.tp_base.specs.declared.Refusal.TheVariants.{NoMemory};
-ghost use Rattle.tp_graph.specs.Serial.{AreRight};
+ghost use Rattle.tp_graph.specs.Left.{AreKept};
 ghost use Rattle.pool_blocks.specs.Stencils.{IsCellsRefusal, LacksBlock};
 ghost use Rattle.pool_grid.specs.Grids.{evolve, grid_graph};
 
@@ -13,7 +13,7 @@ use tp_graph::Value;
 /// The grid at its end, row by row, from the results of its tasks. Refused with `Missing` where a block of the last step has no
 /// result, and with `NoMemory` where memory is refused first.
 pub fn grid_of(alloc: Global, grid: &Grid, results: &[(TaskId, Value)]) -> Result<Vec<i64>, Refusal>
-    requires { AreRight (grid_graph grid.now.stencil.width grid.now.cells.now grid.now.blocks grid.now.size grid.now.steps) results.now }
+    requires { AreKept (grid_graph grid.now.stencil.width grid.now.cells.now grid.now.blocks grid.now.size grid.now.steps) results.now }
     ensures made { IfOk result (λ made. made.items ≡ evolve grid.now.stencil.width grid.now.steps grid.now.cells.now) }
     ensures whole { IfOk result (λ made. LacksBlock grid.now.blocks grid.now.steps results.now → ⊥) }
     ensures refused { IfErr result (IsCellsRefusal grid.now.blocks grid.now.steps results.now) }

@@ -1,5 +1,6 @@
 use Rattle.std.proofs.Common.{◌≡◌, ◌<◌, ◌≤◌, ◌+◌, ◌-◌, ◌*◌, ◌/◌, ◌%◌, ◌++◌, ℕ, zero, suc, ℤ, pos, ◌+ℤ◌, List, [], ◌∷◌, length, get_or, Some}
-use Rattle.std.proofs.Common.{None, Bool, true, false, if◌then◌else◌, nat_eq, refl, ap, sym, ◌∙◌, add-one, subst, arith}
+use Rattle.std.proofs.Common.{None, Bool, true, false, IsTrue, if◌then◌else◌, nat_eq, refl, ap, sym, ◌∙◌, add-one, subst, arith}
+use Rattle.std.proofs.lemmas.Bool.{eq-eqb}
 use Rattle.std.proofs.lemmas.Bool.Decides.{nat_tests}
 use Rattle.std.proofs.lemmas.Nat.{mul-add-lt, mod-mul-add, div-mul-add, div_below, div-add-mod'}
 use Rattle.tp_graph.specs.Values.{value_of, gather}
@@ -135,3 +136,11 @@ module _ (left right : List ℤ) (tiles side : ℕ) (kept : IsProduct tiles side
       ∙ ap (λ z. list_of q (λ m. sum_to (tiles * side) (term (tiles * side) left right (m / (tiles * side)) (m % (tiles * side))))
       ++ z ∷ []) (subst P (sym is) at h e n)
       ∙ sym (list-last q (λ m. sum_to (tiles * side) (term (tiles * side) left right (m / (tiles * side)) (m % (tiles * side)))))
+
+-- the last task that adds to a tile is kept
+pub last_kept : (left right : List ℤ) (tiles side t tile : ℕ) → 1 ≤ tiles → t ≡ tile * tiles + (tiles - 1)
+    → IsTrue ((matrix_graph left right tiles side).keeps t)
+unfolding matrix_graph
+last_kept left right tiles side t tile some e =
+    let column : t % tiles ≡ tiles - 1 = ap (λ n. n % tiles) e ∙ mod-mul-add tile tiles (tiles - 1) (omega (arith, some)) in
+    eq-eqb (t % tiles + 1) tiles (omega (arith, column, some))

@@ -122,6 +122,11 @@ impl<'a> Graph for Product<'a> {
         NodeId((task.0 / self.tiles + task.0 % self.tiles) % nodes)
     }
 
+    /// The last that adds to each tile.
+    fn keeps(&self, task: TaskId) -> bool {
+        task.0 % self.tiles + 1 == self.tiles
+    }
+
     fn body(&self, alloc: Global, task: TaskId, inputs: &[Value]) -> Result<Value, Refusal> {
         let matrices = LentMatrices {
             left: self.left,

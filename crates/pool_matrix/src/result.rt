@@ -1,5 +1,6 @@
 ghost use Rattle.std.specs.Prelude.{◌≡◌, ◌*◌, IfErr, IfOk};
-ghost use Rattle.tp_graph.specs.Serial.{AreRight, IsSerialRefusal};
+ghost use Rattle.tp_graph.specs.Left.{AreKept};
+ghost use Rattle.tp_graph.specs.Serial.{IsSerialRefusal};
 ghost use Rattle.pool_matrix.specs.Matrices.{IsMatrixRefusal, LacksTile, matrix_graph, product_of};
 
 use crate::product::Product;
@@ -15,7 +16,7 @@ pub fn matrix_of(
     product: &Product,
     results: &[(TaskId, Value)],
 ) -> Result<Vec<i64>, Refusal>
-    requires { AreRight
+    requires { AreKept
         (matrix_graph product.now.left.now product.now.right.now product.now.tiles product.now.side) results.now }
     ensures made { IfOk result
         (λ made. made.items

@@ -16,7 +16,7 @@ use tp_work::{Config, OpenGate, Outcome, run_pool};
 pub struct PatternRun {
     /// The numbers of the last row, column by column.
     pub row: Vec<u64>,
-    /// What the pool has made: all tasks' values, its tasks and messages, and its events.
+    /// What the pool has made: the values of the last row, its tasks and messages, and its events.
     pub outcome: Outcome,
 }
 

@@ -7,3 +7,4 @@ pub mod Relations
 pub mod Found
 pub mod Events
 pub mod EventLaws
+pub mod LastRow

@@ -1,5 +1,6 @@
 -- A grid of tasks: rows of w columns, in which a relation says which columns of a row feed which of the next.
-use Rattle.std.specs.Prelude.{◌≡◌, ◌<◌, ◌≤◌, ◌+◌, ◌*◌, ◌/◌, ◌%◌, ◌^◌, ℕ, zero, suc, ℤ, Bool, List, Option, if◌then◌else◌, nat_lt}
+use Rattle.std.specs.Prelude.{◌≡◌, ◌<◌, ◌≤◌, ◌+◌, ◌-◌, ◌*◌, ◌/◌, ◌%◌, ◌^◌, ℕ, zero, suc, ℤ, Bool, List, Option, if◌then◌else◌}
+use Rattle.std.specs.Prelude.{nat_le, nat_lt}
 use Rattle.tp_graph.specs.Graphs.{TaskGraph}
 use Rattle.pool_patterns.specs.Ranks.{rank, nth}
 
@@ -43,7 +44,7 @@ target r w q j k = suc q * w + output r w (suc q) j k
 abbrev pub slot : Relation → ℕ → ℕ → ℕ → ℕ → ℕ
 slot r w q j k = rank (λ c. r (suc q) c (output r w (suc q) j k)) j
 
--- Tasks are numbered row by row; a node has a range of columns.
+-- Tasks are numbered row by row; a node has a range of columns. The last row is kept.
 unfoldable pub grid_graph : Relation → ℕ → ℕ → (ℕ → List (List ℤ) → Option (List ℤ)) → TaskGraph
 grid_graph r w steps rule = record {
   tasks = steps * w;
@@ -56,6 +57,7 @@ grid_graph r w steps rule = record {
   turn = λ t s. turn r w (t / w) (t % w) s;
   home = λ t m. (t % w) * m / w;
   rule = rule;
+  keeps = λ t. nat_le ((steps - 1) * w) t;
 }
 
 -- no task of the grid has more than 16 inputs

@@ -78,6 +78,11 @@ impl<'a, P: Relation + Send + Sync> Graph for Grid<'a, P> {
         NodeId(self.table.spot(task).column * nodes / self.table.width())
     }
 
+    /// The last row.
+    fn keeps(&self, task: TaskId) -> bool {
+        (self.table.steps() - 1) * self.table.width() <= task.0
+    }
+
     fn body(&self, alloc: Global, task: TaskId, inputs: &[Value]) -> Result<Value, Refusal> {
         let total = total_of(inputs)?;
         let number = made(self.iterations, self.table.spot(task).column, total);

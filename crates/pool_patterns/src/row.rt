@@ -1,6 +1,6 @@
 ghost use Rattle.std.specs.Prelude.{◌≡◌, ◌<◌, ◌-◌, ◌*◌, IfOk};
 ghost use Rattle.tp_graph.specs.Found.{ArePlaces, HasEachOnce};
-ghost use Rattle.tp_graph.specs.Serial.{AreRight};
+ghost use Rattle.tp_graph.specs.Left.{AreKept};
 ghost use Rattle.pool_patterns.specs.Kernels.{kernel_graph};
 ghost use Rattle.pool_patterns.specs.Rows.{cell, checksum, row_at};
 
@@ -11,13 +11,14 @@ use std::alloc::{AllocError, Global};
 use tp_base::TaskId;
 use tp_graph::{Value, places, value_at};
 
-/// The numbers of the last row, column by column, from one result of each task, in any order: those of the plain method.
+/// The numbers of the last row, column by column, from one result of each task, in any order, of which those of the last
+/// row are their values: those of the plain method.
 pub fn last_row<P: Relation>(
     alloc: Global,
     grid: &Grid<P>,
     results: &[(TaskId, Value)],
 ) -> Result<Vec<u64>, AllocError>
-    requires right { AreRight
+    requires right { AreKept
         (kernel_graph (P.relation grid.now.table.now.pattern grid.now.table.now.width) grid.now.table.now.width
         grid.now.table.now.steps grid.now.iterations) results.now }
     requires once { HasEachOnce (grid.now.table.now.steps * grid.now.table.now.width) results.now }
@@ -42,7 +43,7 @@ fn cell_at<P: Relation>(
     column: u32,
 ) -> u64
     requires within { column < grid.now.table.now.width }
-    requires right { AreRight
+    requires right { AreKept
         (kernel_graph (P.relation grid.now.table.now.pattern grid.now.table.now.width) grid.now.table.now.width
         grid.now.table.now.steps grid.now.iterations) results.now }
     requires once { HasEachOnce (grid.now.table.now.steps * grid.now.table.now.width) results.now }

@@ -1,6 +1,6 @@
 ghost use Rattle.std.specs.Prelude.{◌≡◌, IfOk, IfErr};
 ghost use Rattle.tp_base.specs.declared.Refusal.TheVariants.{NoMemory};
-ghost use Rattle.tp_graph.specs.Serial.{AreRight};
+ghost use Rattle.tp_graph.specs.Left.{AreKept};
 ghost use Rattle.pool_blocks.specs.Stencils.{IsCellsRefusal, LacksBlock};
 ghost use Rattle.pool_rod.specs.Heats.{heat_graph, evolve};
 
@@ -13,7 +13,7 @@ use tp_graph::Value;
 /// The rod at its end, from the results of its tasks. Refused with `Missing` where a block of the last step has no
 /// result, and with `NoMemory` where memory is refused first.
 pub fn rod_of(alloc: Global, heat: &Heat, results: &[(TaskId, Value)]) -> Result<Vec<i64>, Refusal>
-    requires { AreRight (heat_graph heat.now.cells.now heat.now.blocks heat.now.size heat.now.steps) results.now }
+    requires { AreKept (heat_graph heat.now.cells.now heat.now.blocks heat.now.size heat.now.steps) results.now }
     ensures made { IfOk result (λ rod. rod.items ≡ evolve heat.now.steps heat.now.cells.now) }
     ensures whole { IfOk result (λ rod. LacksBlock heat.now.blocks heat.now.steps results.now → ⊥) }
     ensures refused { IfErr result (IsCellsRefusal heat.now.blocks heat.now.steps results.now) }

@@ -5,7 +5,9 @@ use Rattle.std.proofs.lemmas.Bool.{false≢true}
 use Rattle.std.proofs.lemmas.Nat.{div-mul-add, mul-add-lt}
 use Rattle.tp_base.specs.declared.Refusal.{Refusal}
 use Rattle.tp_base.specs.declared.Refusal.TheVariants.{Missing, NoMemory}
+use Rattle.tp_graph.proofs.Left.{results_kept}
 use Rattle.tp_graph.specs.Graphs.{TaskGraph}
+use Rattle.tp_graph.specs.Left.{AreKept}
 use Rattle.tp_graph.specs.Serial.{Results}
 use Rattle.pool_block_runs.proofs.Refused.{has_one}
 use Rattle.pool_block_runs.specs.Faults as any
@@ -15,6 +17,7 @@ use Rattle.pool_rod.specs.Heats.{block_heated, blocks_of, heat_graph, heated}
 use Rattle.pool_runs.specs.Faults.{IsLentFault, IsPartFault}
 use Rattle.pool_matrix.specs.Matrices.{IsMatrixRefusal, LacksTile, matrix_graph}
 use Rattle.tp_work.specs.Outcomes.{IsFault, IsOutcome}
+use Rattle.tp_work.specs.declared.config.Outcome.{Outcome}
 use Rattle.tp_graph.specs.Found.{HasEachOnce}
 
 -- the fault of a pool, whatever else may be at fault
@@ -59,6 +62,11 @@ product_refused left right tiles side results refusal once why =
     omega (arith, mul-add-lt (lack.row * tiles + lack.column) tiles (tiles - 1) (tiles * tiles) upper last) in
     absurd (has_one (tiles * tiles * tiles) ((lack.row * tiles + lack.column) * tiles + (tiles - 1)) results once within lack.none))
     why
+
+-- the results of a run have the values of the last of each tile
+pub product_kept : (n workers : ℕ) (left right : List ℤ) (tiles side : ℕ) (o : Outcome)
+    → IsOutcome n workers (matrix_graph left right tiles side) o → AreKept (matrix_graph left right tiles side) o.results.items
+product_kept n workers left right tiles side o is = results_kept (matrix_graph left right tiles side) o.results.items is.right
 
 -- the graph of the product, by what was lent
 pub product-graph : (product_left product_right left right : List ℤ) (tiles product_side order side : ℕ) → 1 ≤ side →

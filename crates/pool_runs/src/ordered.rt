@@ -1,5 +1,7 @@
 ghost use Rattle.std.specs.Prelude.{IfErr, IfOk};
-ghost use Rattle.tp_graph.specs.Serial.{AreValues};
+ghost use Rattle.tp_graph.specs.Graphs.{KeepsAll};
+ghost use Rattle.tp_graph.specs.Left.{AreResults};
+ghost use Rattle.tp_graph.specs.Serial.{AreInTaskOrder, AreValues};
 ghost use Rattle.tp_work.specs.Outcomes.{IsFault, IsWithinLimits};
 
 use std::alloc::Global;
@@ -9,8 +11,9 @@ use tp_base::TaskId;
 use tp_graph::{Graph, Value, in_order};
 use tp_work::{Config, Fault, OpenGate, run_pool};
 
-/// The value of each task of a graph, in rising order, as [`serial`](tp_graph::serial) gives them, worked out by a pool of threads.
-/// Refused for what [`run_pool`] is refused for.
+/// What a run leaves of each task of a graph, in rising order, worked out by a pool of threads: the value where the graph keeps
+/// it, and else no numbers. Of a graph that keeps all it is what [`serial`](tp_graph::serial) gives. Refused for what
+/// [`run_pool`] is refused for.
 pub fn run_in_order<G: Graph, R: Threads + Wait + Sync>(
     rt: &R,
     alloc: Global,
@@ -18,7 +21,10 @@ pub fn run_in_order<G: Graph, R: Threads + Wait + Sync>(
     config: Config,
 ) -> Result<Vec<(TaskId, Value)>, Fault>
     requires { IsWithinLimits config }
-    ensures values { IfOk result (λ results. AreValues (G.meaning graph) (G.meaning graph).tasks results.items) }
+    ensures order { IfOk result (λ results. AreInTaskOrder (G.meaning graph).tasks results.items) }
+    ensures left { IfOk result (λ results. AreResults (G.meaning graph) results.items) }
+    ensures values { IfOk result (λ results. KeepsAll (G.meaning graph)
+        → AreValues (G.meaning graph) (G.meaning graph).tasks results.items) }
     ensures fault { IfErr result (IsFault config.nodes (G.meaning graph)) }
 {
     let outcome = run_pool(rt, alloc, graph, config, &OpenGate)?;

@@ -9,3 +9,4 @@ pub mod Sums
 pub mod TreeSums
 pub mod Valued
 pub mod WaveCells
+pub mod Keeping

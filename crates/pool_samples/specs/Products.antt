@@ -1,4 +1,5 @@
 use Rattle.std.specs.Prelude.{◌≤◌, ◌+◌, ◌-◌, ◌*◌, ◌/◌, ◌%◌, ℕ, zero, suc, ℤ, pos, ◌+ℤ◌, ◌-ℤ◌, ◌*ℤ◌, List, [], ◌∷◌, length, slice_index_or}
+use Rattle.std.specs.Prelude.{true}
 use Rattle.std.specs.Prelude.{Option, Some, None, if◌then◌else◌, nat_lt, nat_eq}
 use Rattle.std.proofs.Props.{props}
 use Rattle.tp_graph.specs.Values.{then_some, fitting}
@@ -72,6 +73,7 @@ product_graph tiles side seed = record {
   turn = λ t s. 0;
   home = λ t m. (t / tiles + t % tiles) % m;
   rule = λ t inputs. tile_and_input (side * side) (tile side seed (t / tiles / tiles) (t / tiles % tiles) (t % tiles)) inputs;
+  keeps = λ t. true;
 }
 
 -- an entry of the product: one sum over all z

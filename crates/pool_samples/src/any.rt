@@ -96,6 +96,14 @@ impl Graph for AnyGraph {
         }
     }
 
+    fn keeps(&self, task: TaskId) -> bool {
+        match self {
+            AnyGraph::Product(product) => product.keeps(task),
+            AnyGraph::Wavefront(wavefront) => wavefront.keeps(task),
+            AnyGraph::Reduce(reduce) => reduce.keeps(task),
+        }
+    }
+
     fn body(&self, alloc: Global, task: TaskId, inputs: &[Value]) -> Result<Value, Refusal> {
         match self {
             AnyGraph::Product(product) => product.body(alloc, task, inputs),

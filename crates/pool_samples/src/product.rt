@@ -104,6 +104,10 @@ impl Graph for Product {
         NodeId((task.0 / self.tiles + task.0 % self.tiles) % nodes)
     }
 
+    fn keeps(&self, _task: TaskId) -> bool {
+        true
+    }
+
     fn body(&self, alloc: Global, task: TaskId, inputs: &[Value]) -> Result<Value, Refusal> {
         let i = task.0 / self.tiles / self.tiles;
         let j = task.0 / self.tiles % self.tiles;

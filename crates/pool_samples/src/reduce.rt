@@ -52,6 +52,10 @@ impl Graph for Reduce {
         NodeId(task.0 % nodes)
     }
 
+    fn keeps(&self, _task: TaskId) -> bool {
+        true
+    }
+
     fn body(&self, alloc: Global, task: TaskId, inputs: &[Value]) -> Result<Value, Refusal> {
         if task.0 < self.leaves {
             let leaf = (11 * task.0 + self.seed) % 100;

@@ -88,6 +88,10 @@ impl Graph for Wavefront {
         NodeId(task.0 % self.columns % nodes)
     }
 
+    fn keeps(&self, _task: TaskId) -> bool {
+        true
+    }
+
     fn body(&self, alloc: Global, task: TaskId, inputs: &[Value]) -> Result<Value, Refusal> {
         let least = match inputs {
             [] => 0,

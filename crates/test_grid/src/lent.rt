@@ -46,15 +46,15 @@ fn make_the_product<R: Threads + Wait + Sync>(rt: &R, alloc: Global, nodes: u32)
     gave(made, &[19, 22, 43, 50])
 }
 
-/// How many values so many nodes give of the rod's tasks.
-fn values_by<R: Threads + Wait + Sync>(rt: &R, alloc: Global, nodes: u32) -> usize
+/// How many results so many nodes give: one for each of the rod's tasks.
+fn results_by<R: Threads + Wait + Sync>(rt: &R, alloc: Global, nodes: u32) -> usize
     requires { (1 ≤ nodes) × (nodes ≤ 8) }
 {
     let Some(heat) = heat_of(&ROD, 2, 1) else {
         return 0;
     };
     match run_in_order(rt, alloc, heat, Config::new(nodes, 2)) {
-        Ok(values) => values.len(),
+        Ok(results) => results.len(),
         Err(_) => 0,
     }
 }
@@ -64,8 +64,8 @@ fn threads_make_the_plain_rod_and_product(rt: HostRuntime) -> Result<(), Fail> {
     for nodes in [1, 2, 5] {
         let rod = make_the_rod(&rt, rt.alloc(), nodes)?;
         let product = make_the_product(&rt, rt.alloc(), nodes);
-        let values = values_by(&rt, rt.alloc(), nodes);
-        assert_eq!(rt; (rod, product, values), (true, true, 4), "{nodes}");
+        let results = results_by(&rt, rt.alloc(), nodes);
+        assert_eq!(rt; (rod, product, results), (true, true, 4), "{nodes}");
     }
     Ok(())
 }

@@ -48,6 +48,10 @@ impl<'a> Graph for Pair<'a> {
         self.tree.home(task, nodes)
     }
 
+    fn keeps(&self, task: TaskId) -> bool {
+        self.tree.keeps(task)
+    }
+
     fn body(&self, alloc: Global, task: TaskId, inputs: &[Value]) -> Result<Value, Refusal> {
         if !self.meeting.arrive(task.0) {
             self.have_missed.store(true, Ordering::SeqCst);

@@ -44,6 +44,10 @@ impl Graph for Broken {
         self.tree.home(task, nodes)
     }
 
+    fn keeps(&self, task: TaskId) -> bool {
+        self.tree.keeps(task)
+    }
+
     fn body(&self, alloc: Global, task: TaskId, _inputs: &[Value]) -> Result<Value, Refusal> {
         if task.0 == 5 {
             return Err(Refusal::BodyFailed);

@@ -39,13 +39,15 @@ enum TestGate {
     AllBut(TaskId),
     /// A body waits for turns, and a turn is refused.
     Turns(Turns),
+    /// Node 0 waits at its first turn for turns of node 1, and one of its turns is refused.
+    Late(Late),
 }
 
 impl Gate for TestGate {
     fn before(&self, task: TaskId) -> bool {
         match self {
             TestGate::BodiesMeet(meeting) => meeting.arrive(task.0),
-            TestGate::NodesMeet(_) => true,
+            TestGate::NodesMeet(_) | TestGate::Late(_) => true,
             TestGate::BodiesGather(bodies) => bodies.take() && bodies.wait(),
             TestGate::AllBut(barred) => task != *barred,
             TestGate::Turns(turns) => turns.wait(),
@@ -56,6 +58,7 @@ impl Gate for TestGate {
         match self {
             TestGate::NodesMeet(meeting) => meeting.arrive(node.0),
             TestGate::Turns(turns) => turns.take(),
+            TestGate::Late(late) => late.take(node),
             TestGate::BodiesMeet(_) | TestGate::BodiesGather(_) | TestGate::AllBut(_) => true,
         }
     }
@@ -128,6 +131,23 @@ impl Turns {
     }
 }
 
+/// The turns of node 0, which waits at the first one for so many turns of node 1, and those of the other nodes.
+#[derive(Drop)]
+struct Late {
+    own: Turns,
+    others: Turns,
+}
+
+impl Late {
+    fn take(&self, node: NodeId) -> bool {
+        if node != NodeId(0) {
+            return self.others.take();
+        }
+        let is_first = self.own.taken.load(Ordering::SeqCst) == 0;
+        self.own.take() && (!is_first || self.others.wait())
+    }
+}
+
 /// What a pool came to.
 #[derive(Clone, Copy)]
 enum End {
@@ -141,6 +161,7 @@ enum End {
 #[derive(Clone, Copy)]
 struct Left {
     pending: u32,
+    received: u32,
     done: u32,
     ended: bool,
     fault: Option<Refusal>,
@@ -172,6 +193,7 @@ fn left_by(fault: &Fault) -> Option<Left> {
     let report = fault.report.as_ref()?;
     Some(Left {
         pending: report.pending,
+        received: report.received,
         done: report.done,
         ended: report.ended,
         fault: report.fault,
@@ -238,6 +260,24 @@ fn two_that_begin_together_wait_for_each_other(rt: HostRuntime) -> Result<(), Fa
 fn eight_bodies_of_a_node_wait_for_each_other(rt: HostRuntime) -> Result<(), Fail> {
     let gate = TestGate::BodiesGather(Turns::new(8, u64::MAX));
     assert_eq!(rt; done_behind(&rt, rt.alloc(), 8, &gate), (127, 8));
+    Ok(())
+}
+
+// Node 1 has 32 leaves, and half of their sums go to node 0: when node 1 has taken 40 turns, these 16 messages wait. Then node 0
+// opens, receives a message in each of its next three turns, and its fourth is refused: however many messages a worker receives
+// in one hold of its node's lock, the gate is asked before each.
+#[test]
+fn the_gate_is_asked_before_each_message(rt: HostRuntime) -> Result<(), Fail> {
+    let gate = TestGate::Late(Late {
+        own: Turns::new(0, 4),
+        others: Turns::new(40, u64::MAX),
+    });
+    let End::Stop(refusal, Some(left)) = run_tree(&rt, rt.alloc(), WIDE, Config::new(2, 1), &gate)
+    else {
+        return Err(Fail::new("the pool ended"));
+    };
+    assert_eq!(rt; refusal, Refusal::Stalled(0));
+    assert_eq!(rt; (left.received, left.ended), (3, false));
     Ok(())
 }
 

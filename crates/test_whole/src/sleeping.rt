@@ -46,6 +46,10 @@ impl<'a> Graph for Sleeping<'a> {
         self.tree.home(task, nodes)
     }
 
+    fn keeps(&self, task: TaskId) -> bool {
+        self.tree.keeps(task)
+    }
+
     fn body(&self, alloc: Global, task: TaskId, inputs: &[Value]) -> Result<Value, Refusal> {
         thread::sleep(self.clock, Duration::from_secs(2));
         self.tree.body(alloc, task, inputs)

@@ -1,6 +1,6 @@
 -- What a call answers whose checks are made by two calls in turn.
 use Rattle.std.proofs.Common.{ℕ, ◌≡◌, List, [], ◌∷◌, ◌++◌, Bool, true, false, Some, None, Option, Result, Ok, Err, ◌<◌, length, ◌+◌, refl}
-use Rattle.std.proofs.Common.{sym, ap, subst, ◌∙◌, ◌≤◌, ◌%◌, max, arith}
+use Rattle.std.proofs.Common.{sym, ap, subst, ◌∙◌, arith}
 use Rattle.std.proofs.lemmas.Bool.Decides.{nat_tests}
 use Rattle.std.specs.Prelude.{if◌then◌else◌, MatchOption, IfErr, nat_lt}
 use Rattle.std.specs.Result.{result_err}
@@ -128,9 +128,7 @@ pub full : {A : Type 0} (b : BoardState) (more count : ℕ) (result : Result A R
     → AnswersBy (full_check more b ∷ []) more b result
 full b more count result is less answer = rw (full_test b.limit (length b.history) more less) (answer ∙ ap (λ n. Err (HistoryFull n)) is)
 
--- A history without room for one event more has whole pieces.
-pub at_piece : (events : List Event) (room reserved : ℕ) → reserved ≤ room → room < max reserved 1 → (length events + room) % 1024 ≡ 0
-    → length events % 1024 ≡ 0
-at_piece events room reserved has grows whole =
-    let same : length events ≡ length events + room = omega (arith, has, grows) in
-    ap (λ n. n % 1024) same ∙ whole
+-- what holds of each error
+pub each_error : {A : Type 0} (r : Result A Refusal) {P : Refusal → Type 0} → ((e : Refusal) → P e) → IfErr r P
+each_error (Ok x) all = tt
+each_error (Err e) all = all e

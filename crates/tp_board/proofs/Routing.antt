@@ -1,7 +1,7 @@
 -- The routes of messages, by their numbers.
 use Rattle.std.proofs.Common.{ℕ, zero, suc, ◌+◌, ◌-◌, ◌≡◌, ◌≢◌, ◌<◌, ◌≤◌, ◌==◌, ◌&&◌, ◌||◌}
 use Rattle.std.proofs.Common.{List, [], ◌∷◌, ◌++◌, length, reverse, Bool, true, false, Some, None, length-append, inl, inr, refl, sym, ap}
-use Rattle.std.proofs.Common.{◌∙◌, arith}
+use Rattle.std.proofs.Common.{◌∙◌, ◌%◌, max, arith}
 use Rattle.std.specs.Prelude.{slice_get, IsFalse}
 use Rattle.std.proofs.lemmas.Bool.{eq-eqb, ne_eqb, cases_eq, cases_lt}
 use Rattle.std.proofs.lemmas.Grind.{reverse_onto}
@@ -19,6 +19,7 @@ use Rattle.tp_ledgers.specs.Numbers.{is_send}
 use Rattle.tp_board.specs.Routes.{IsNumbered, Route, RouteTable, is_route, is_send_between, routes_of}
 use Rattle.tp_board.specs.Counts.{AreCountsOf}
 use Rattle.tp_board.specs.Logs.{IsLog}
+use Rattle.tp_board.specs.States.{left_of_piece}
 use Rattle.tp_board.specs.declared.counts.Counts.{Counts}
 
 -- one route for each message
@@ -98,6 +99,19 @@ log_sends history limit reserved k counts routes log =
     let same : length routes.routes ≡ count is_send (present (steps_of history.events)) =
     ap length log.routed ∙ length-routes_of (present (steps_of history.events)) in
     (same, omega (arith, log.places, log.limited, count_present-le is_send history.events))
+
+-- Where all are whole pieces, there is room at least for what is left of the one that was begun.
+left_least : (n room : ℕ) → (n + room) % 1024 ≡ 0 → left_of_piece n ≤ room
+left_least n room whole = omega (arith, whole)
+
+-- Routes without room for so many more are past their piece.
+pub past_messages : (history : Recorded) (limit reserved k : ℕ) (counts : Counts) (routes : RouteTable) (more all : ℕ)
+    → IsLog history limit reserved k counts routes → all ≡ max reserved more → routes.room < all
+    → (length routes.routes + routes.room) % 1024 ≡ 0 → left_of_piece (count is_send (present (steps_of history.events))) < more
+past_messages history limit reserved k counts routes more all log is grows whole =
+    let left = left_least (length routes.routes) routes.room whole in
+    let short : left_of_piece (length routes.routes) < more = omega (arith, left, is, grows, log.routes_room) in
+    rw (← (log_sends _ _ _ _ _ _ log).0) short
 
 -- the log after the next message was sent
 pub log_send : (old new : Recorded) (limit reserved k : ℕ) (counts now : Counts) (routes kept : RouteTable) (from to : NodeId) (m : ℕ)

@@ -1,5 +1,6 @@
 -- What contracts see of a board, and what its calls are refused for.
-use Rattle.std.specs.Prelude.{ℕ, ◌+◌, ◌-◌, ◌%◌, ◌≡◌, ◌<◌, List, [], ◌∷◌, ◌++◌, length, Option, Some, Result, Err, MatchOption, IfErr, nat_lt}
+use Rattle.std.specs.Prelude.{ℕ, ◌+◌, ◌-◌, ◌%◌, ◌≡◌, ◌<◌, ◌⊎◌, List, [], ◌∷◌, ◌++◌, length, Option, Some}
+use Rattle.std.specs.Prelude.{Result, Err, MatchOption, IfErr, nat_lt}
 use Rattle.std.specs.Option.{option_or}
 use Rattle.tp_base.specs.History.{Event}
 use Rattle.tp_base.specs.declared.refusal.Refusal.{Refusal}
@@ -11,6 +12,8 @@ use Rattle.tp_base.specs.Checks.{Check, first_refusal}
 use Rattle.tp_wave.specs.ControlChecks.{control_checks}
 use Rattle.tp_wave.specs.Generations.{present, present_events}
 use Rattle.tp_wave.specs.Machine.{pending_at, steps_of}
+use Rattle.tp_wave.specs.Steps.{count}
+use Rattle.tp_ledgers.specs.Numbers.{is_send}
 
 -- A board has its events, the newest first, how many there may be, how many more are sure of a place and of memory, and
 -- the first fault that was set.
@@ -45,6 +48,18 @@ AnswersBy checks more b result =
 -- A call is refused memory only where the next event is the first of a piece of 1,024, in which a history lies.
 abbrev pub IsAtPiece : BoardState → Refusal → Type 0
 IsAtPiece b e = e ≡ NoMemory → length b.history % 1024 ≡ 0
+
+-- how many more fit into the last piece of 1,024, where there are n
+abbrev pub left_of_piece : ℕ → ℕ
+left_of_piece n = (1024 - n % 1024) % 1024
+
+-- A call that wants so many events is refused memory only where fewer are left of the piece of 1,024 events that was
+-- begun, or of the piece of 1,024 messages of the present generation.
+abbrev pub IsPastPiece : ℕ → BoardState → Refusal → Type 0
+IsPastPiece more b e =
+    e ≡ NoMemory
+    → (left_of_piece (length b.history) < more)
+    ⊎ (left_of_piece (count is_send (present (steps_of b.history))) < more)
 
 -- the checks of a control step that no node has to be idle for
 abbrev pub step_checks : ℕ → BoardState → Step → List Check

@@ -5,7 +5,7 @@ ghost use Rattle.tp_ledgers.specs.Names.{under_parts};
 ghost use Rattle.tp_ledgers.specs.Numbers.{AreWithin, ending, event, is_done, is_plain, is_recv, is_send, numbers_after, receiving};
 ghost use Rattle.tp_ledgers.specs.Numbers.{sending};
 ghost use Rattle.tp_board.specs.Routes.{is_send_between};
-ghost use Rattle.tp_board.specs.States.{AnswersBy, IsAtPiece, full_check, with_event, with_fault, with_reserved};
+ghost use Rattle.tp_board.specs.States.{AnswersBy, IsAtPiece, IsPastPiece, full_check, with_event, with_fault, with_reserved};
 ghost use Rattle.tp_wave.specs.Generations.{AreRuns, generation, present, present_events};
 ghost use Rattle.tp_wave.specs.Machine.{IsOf, is_send_to, pending_at, steps_of, under_way};
 ghost use Rattle.tp_wave.specs.Cut.{IsQuietHistory};
@@ -152,11 +152,13 @@ impl<K: Ledgers> Board<K> {
 
     /// Makes sure of a place and of memory for so many more events: the next ones are then not refused for either.
     ///
-    /// Refused: `HistoryFull` where fewer places are free; `NoMemory` where memory has to grow and does not.
+    /// Refused: `HistoryFull` where fewer places are free; `NoMemory` where memory has to grow and does not, as it may have to
+    /// where fewer are left of the piece of 1,024 events that was begun, or of the piece of 1,024 messages.
     pub fn reserve(&mut self, more: u32) -> Result<(), Refusal>
         ensures ok { OnOk result (self.new ≡ with_reserved (max self.old.reserved more) self.old) }
         ensures places { OnOk result (length self.old.history + more ≤ self.old.limit) }
         ensures refusal { AnswersBy (full_check more self.old ∷ []) more self.old result }
+        ensures piece { IfErr result (IsPastPiece more self.old) }
         ensures reserved { more ≤ self.old.reserved → IsOk result }
         ensures refused { OnErr result (self.new ≡ self.old) }
     {
@@ -268,7 +270,8 @@ impl<K: Ledgers> Board<K> {
     /// Adds the sending of the next message, over a link of the node's, in the present generation. Its number is answered:
     /// how many messages were sent before it.
     ///
-    /// Refused: `HistoryFull` where the history has reached its limit; `NoMemory` where memory has to grow and does not.
+    /// Refused: `HistoryFull` where the history has reached its limit; `NoMemory` where memory has to grow and does not, as it
+    /// may have to at each 1,024th event or message.
     pub fn append_send(
         &mut self,
         shares: &mut Shares<K>,
@@ -285,6 +288,7 @@ impl<K: Ledgers> Board<K> {
         ensures within { OnOk result (AreWithin 1048576 shares.new) }
         ensures link { OnOk result (link.new ≡ record link.old { under = link.old.under + 1 }) }
         ensures refusal { AnswersBy (full_check 1 self.old ∷ []) 1 self.old result }
+        ensures piece { IfErr result (IsPastPiece 1 self.old) }
         ensures reserved { 0 < self.old.reserved → IsOk result }
         ensures refused { OnErr result ((self.new ≡ self.old) × (shares.new ≡ shares.old) × (link.new ≡ link.old)) }
     {
@@ -300,7 +304,8 @@ impl<K: Ledgers> Board<K> {
 
     /// Adds the receipt of a message that was sent to the node in the present generation and is under way on the link.
     ///
-    /// Refused: `HistoryFull` where the history has reached its limit; `NoMemory` where memory has to grow and does not.
+    /// Refused: `HistoryFull` where the history has reached its limit; `NoMemory` where memory has to grow and does not, as it
+    /// may have to at each 1,024th event.
     pub fn append_recv(
         &mut self,
         message: MessageId,
@@ -332,7 +337,8 @@ impl<K: Ledgers> Board<K> {
 
     /// Adds the end of a message's action, in the present generation.
     ///
-    /// Refused: `HistoryFull` where the history has reached its limit; `NoMemory` where memory has to grow and does not.
+    /// Refused: `HistoryFull` where the history has reached its limit; `NoMemory` where memory has to grow and does not, as it
+    /// may have to at each 1,024th event.
     pub fn append_end(&mut self, message: MessageId, shares: &mut Shares<K>) -> Result<(), Refusal>
         requires few { message.0 < 1048576 }
         requires active { 0 < shares.old.pending }

@@ -1,8 +1,9 @@
-ghost use Rattle.std.specs.Prelude.{◌≡◌, ◌==◌, ◌≤◌, ◌<◌, ◌∷◌, IsFalse, IsTrue, IfOk, IsOk, OnErr, OnOk, None, Some, is_some, if◌then◌else◌};
+ghost use Rattle.std.specs.Prelude.{◌≡◌, ◌==◌, ◌≤◌, ◌<◌, ◌∷◌, IsFalse, IsTrue, IfErr, IfOk, IsOk, OnErr, OnOk, None, Some};
+ghost use Rattle.std.specs.Prelude.{is_some, if◌then◌else◌};
 ghost use Rattle.tp_base.specs.declared.step.Step.TheVariants as steps;
 ghost use Rattle.tp_board.specs.Judgements.{is_over};
 ghost use Rattle.tp_ledgers.specs.Numbers.{event, node_at};
-ghost use Rattle.tp_board.specs.States.{AnswersBy, step_checks, visit_checks, with_event};
+ghost use Rattle.tp_board.specs.States.{AnswersBy, IsAtPiece, step_checks, visit_checks, with_event};
 ghost use Rattle.tp_wave.specs.Control.{parent};
 ghost use Rattle.tp_wave.specs.Cut.{IsQuietHistory};
 ghost use Rattle.tp_wave.specs.Generations.{present, present_events};
@@ -19,11 +20,12 @@ impl<K: Ledgers> Board<K> {
     /// Opens the next wave, at node 0.
     ///
     /// Refused: `Ended` where the end was judged; `WaveOpen` where the newest wave was not judged yet; `HistoryFull`;
-    /// `NoMemory`.
+    /// `NoMemory`, as it may be at each 1,024th event.
     pub fn start(&mut self, shares: &Shares<K>) -> Result<(), Refusal>
         requires root { shares.now.node ≡ 0 }
         ensures ok { OnOk result (self.new ≡ with_event (event 0 steps.Start) self.old) }
         ensures refusal { AnswersBy (step_checks K.names.nodes self.old steps.Start) 1 self.old result }
+        ensures piece { IfErr result (IsAtPiece self.old) }
         ensures refused { OnErr result (self.new ≡ self.old) }
     {
         let root = shares.node();
@@ -37,10 +39,11 @@ impl<K: Ledgers> Board<K> {
     /// The node takes its token.
     ///
     /// Refused: `Ended` where the end was judged; `NoToken` where no token lies on the edge to the node; `HistoryFull`;
-    /// `NoMemory`.
+    /// `NoMemory`, as it may be at each 1,024th event.
     pub fn down(&mut self, shares: &Shares<K>) -> Result<(), Refusal>
         ensures ok { OnOk result (self.new ≡ with_event (event shares.now.node (steps.Down (node_at shares.now.node))) self.old) }
         ensures refusal { AnswersBy (step_checks K.names.nodes self.old (steps.Down (node_at shares.now.node))) 1 self.old result }
+        ensures piece { IfErr result (IsAtPiece self.old) }
         ensures refused { OnErr result (self.new ≡ self.old) }
     {
         let node = shares.node();
@@ -54,12 +57,13 @@ impl<K: Ledgers> Board<K> {
     /// A parent takes the sums that its child gave.
     ///
     /// Refused: `Ended` where the end was judged; `NoToken` where the child has not given in the newest wave, and where its
-    /// sums were taken; `HistoryFull`; `NoMemory`.
+    /// sums were taken; `HistoryFull`; `NoMemory`, as it may be at each 1,024th event.
     pub fn up(&mut self, child: NodeId, shares: &Shares<K>) -> Result<(), Refusal>
         requires child { (1 ≤ child.0) × (child.0 < K.names.nodes) }
         requires parent { shares.now.node ≡ parent child.0 }
         ensures ok { OnOk result (self.new ≡ with_event (child, steps.Up child) self.old) }
         ensures refusal { AnswersBy (step_checks K.names.nodes self.old (steps.Up child)) 1 self.old result }
+        ensures piece { IfErr result (IsAtPiece self.old) }
         ensures refused { OnErr result (self.new ≡ self.old) }
     {
         let mut wave = self.wave;
@@ -73,12 +77,13 @@ impl<K: Ledgers> Board<K> {
     ///
     /// Refused: `Ended` where the end was judged; `NoToken` where the newest wave has not come to the node, where the node
     /// gave in it, and where the sums of a child were not taken; `NotIdle` where the node is active; `HistoryFull`;
-    /// `NoMemory`.
+    /// `NoMemory`, as it may be at each 1,024th event.
     pub fn give(&mut self, shares: &Shares<K>) -> Result<Option<Sums>, Refusal>
         ensures ok { OnOk result (self.new ≡ with_event (event shares.now.node (steps.Give (node_at shares.now.node))) self.old) }
         ensures sums { IfOk result (λ sums. sums
             ≡ (if shares.now.node == 0 then Some (sums_of K.names.nodes (present (steps_of self.new.history))) else None)) }
         ensures refusal { AnswersBy (visit_checks K.names.nodes self.old (node_at shares.now.node)) 1 self.old result }
+        ensures piece { IfErr result (IsAtPiece self.old) }
         ensures refused { OnErr result (self.new ≡ self.old) }
     {
         let node = shares.node();
@@ -97,7 +102,7 @@ impl<K: Ledgers> Board<K> {
     /// left, and the one token of the end is handed out: a generation has at most one.
     ///
     /// Refused: `Ended` where the end was judged; `WaveNotEnded` where no ended wave waits for judgement; `HistoryFull`;
-    /// `NoMemory`.
+    /// `NoMemory`, as it may be at each 1,024th event.
     pub fn judge(&mut self) -> Result<Judgement<K>, Refusal>
         ensures ok { OnOk result (self.new ≡ with_event (event 0 steps.Judge) self.old) }
         ensures first { OnOk result (IsFalse (is_ended K.names.nodes (present (steps_of self.old.history)))) }
@@ -105,6 +110,7 @@ impl<K: Ledgers> Board<K> {
         ensures ended { IfOk result (λ j. is_over j ≡ is_ended K.names.nodes (present (steps_of self.new.history))) }
         ensures quiet { IfOk result (λ j. IsTrue (is_over j) → IsQuietHistory K.names.nodes (present_events self.new.history)) }
         ensures refusal { AnswersBy (step_checks K.names.nodes self.old steps.Judge) 1 self.old result }
+        ensures piece { IfErr result (IsAtPiece self.old) }
         ensures refused { OnErr result (self.new ≡ self.old) }
     {
         let mut wave = self.wave;

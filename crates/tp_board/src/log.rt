@@ -4,7 +4,7 @@ ghost use Rattle.tp_base.specs.declared.step.Step.TheVariants as steps;
 ghost use Rattle.tp_board.specs.Counts.{AreFew, counts_at};
 ghost use Rattle.tp_ledgers.specs.Numbers.{event, is_done, is_recv, is_send, sending};
 ghost use Rattle.tp_board.specs.Routes.{is_send_between};
-ghost use Rattle.tp_board.specs.States.{AnswersBy, IsAtPiece, full_check, with_event, with_fault, with_reserved};
+ghost use Rattle.tp_board.specs.States.{AnswersBy, IsAtPiece, IsPastPiece, full_check, with_event, with_fault, with_reserved};
 ghost use Rattle.tp_wave.specs.Generations.{generation, present, present_events};
 ghost use Rattle.tp_wave.specs.Machine.{IsOf, is_send_numbered, steps_of};
 ghost use Rattle.tp_wave.specs.Steps.{any, count, is_reopen};
@@ -62,6 +62,7 @@ impl Log {
         ensures ok { OnOk result (self.new ≡ with_reserved (max self.old.reserved more) self.old) }
         ensures places { OnOk result (length self.old.history + more ≤ self.old.limit) }
         ensures refusal { AnswersBy (full_check more self.old ∷ []) more self.old result }
+        ensures piece { IfErr result (IsPastPiece more self.old) }
         ensures reserved { more ≤ self.old.reserved → IsOk result }
         ensures refused { OnErr result (self.new ≡ self.old) }
     {
@@ -114,6 +115,7 @@ impl Log {
         ensures fresh { IfOk result (λ m. IsFalse (any (is_send_numbered m.0) (present (steps_of self.old.history)))) }
         ensures places { OnOk result (length self.old.history < 1048576) }
         ensures refusal { AnswersBy (full_check 1 self.old ∷ []) 1 self.old result }
+        ensures piece { IfErr result (IsPastPiece 1 self.old) }
         ensures reserved { 0 < self.old.reserved → IsOk result }
         ensures refused { OnErr result (self.new ≡ self.old) }
     {

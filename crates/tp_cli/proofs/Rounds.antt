@@ -11,7 +11,9 @@ use Rattle.tp_base.specs.declared.refusal.Refusal.{Refusal}
 use Rattle.tp_cli.specs.Runs.{IsPrintOfSeries, IsRoundOf, IsUnprintedSeries, IsUntoldRound, round_text, rounds_text, run_text}
 use Rattle.tp_cli.specs.declared.run.Form.{Form}
 use Rattle.tp_cli.specs.declared.run.Form.TheVariants.{Table}
+use Rattle.tp_graph.proofs.Left.{results_right}
 use Rattle.tp_graph.specs.Graphs.{TaskGraph}
+use Rattle.pool_samples.proofs.Keeping.{any_keeps}
 use Rattle.pool_samples.specs.Any.{any_graph}
 use Rattle.pool_samples.specs.declared.any.AnyGraph.{AnyGraph}
 use Rattle.tp_text.specs.Spelling.{line}
@@ -26,7 +28,11 @@ use Rattle.tp_work.specs.declared.series.Series.{Series}
 round_of : (n workers : ℕ) (g : AnyGraph) (h : Option History) (r : Round)
     → IsSomeAnd h (λ events. IsRound n workers (any_graph g) events r) → IsRoundOf g r
 round_of n workers g None r is = absurd is
-round_of n workers g (Some events) r is = record { each_once = is.each_once; right = is.right; tasks = is.tasks.0 }
+round_of n workers g (Some events) r is = record {
+  each_once = is.each_once;
+  right = results_right (any_graph g) r.results.items (any_keeps g) is.right;
+  tasks = is.tasks.0;
+}
 
 rounds_of : (n workers : ℕ) (g : AnyGraph) (hs : List History) (rounds : List Round) → AllZip (IsRound n workers (any_graph g)) hs rounds
     → All (IsRoundOf g) rounds

@@ -1,4 +1,5 @@
 pub mod Fits
+pub mod Left
 pub mod Made
 pub mod Ordered
 pub mod Placed

@@ -10,7 +10,8 @@ use Rattle.std.proofs.lemmas.List.Sums.{sum_by-cons}
 use Rattle.std.proofs.lemmas.List.Sorted.{sum_by-IsPermutation, All-permutation}
 use Rattle.tp_base.specs.declared.TaskId.{TaskId}
 use Rattle.tp_graph.specs.Graphs.{TaskGraph}
-use Rattle.tp_graph.specs.Serial.{AreRight, AreValues, Results}
+use Rattle.tp_graph.specs.Left.{AreResults, result_of}
+use Rattle.tp_graph.specs.Serial.{AreInTaskOrder, AreRight, AreValues, Results}
 use Rattle.tp_graph.specs.Values.{value_of}
 use Rattle.tp_graph.specs.Found.{HasEachOnce}
 
@@ -90,11 +91,10 @@ in-turn (x ∷ xs) a (suc n) up from =
     elim [ zero ↦ λ d h. first ∙ omega arith | suc i ↦ λ d h. later.1 i d (omega arith) ∙ omega (arith, first) ] in
     (ap suc later.0, each)
 
--- results in the order of their tasks, each once, are the values of the tasks
-pub are_values : (g : TaskGraph) (tasks : ℕ) (results sorted : Results) → IsPermutation results sorted
-    → IsNonDecreasingBy (λ (r : TaskId × List ℤ). r.0.0) sorted →
-    HasEachOnce tasks results → AreRight g results → AreValues g tasks sorted
-are_values g tasks results sorted same up once right =
+-- results whose tasks do not fall, each once, are in order
+pub in_order_of : (tasks : ℕ) (results sorted : Results) → IsPermutation results sorted
+    → IsNonDecreasingBy (λ (r : TaskId × List ℤ). r.0.0) sorted → HasEachOnce tasks results → AreInTaskOrder tasks sorted
+in_order_of tasks results sorted same up once =
     let count : (t : ℕ) → times t sorted ≡ (if nat_lt t tasks then 1 else 0) =
     λ t. sum_by-IsPermutation (λ r. cond (r.0.0 == t) 1 0) results sorted same ∙ once t in
     let all = in-turn sorted 0 tasks up (record {
@@ -102,8 +102,20 @@ are_values g tasks results sorted same up once right =
       inside = λ t h p. grind (arith, nat_tests, count t);
       above = λ t h. grind (arith, nat_tests, count t);
     }) in
+    record { long = all.0; rise = λ t d h. all.1 t d h ∙ omega arith }
+
+-- results in the order of their tasks, each once, are the values of the tasks
+pub are_values : (g : TaskGraph) (tasks : ℕ) (results sorted : Results) → IsPermutation results sorted
+    → IsNonDecreasingBy (λ (r : TaskId × List ℤ). r.0.0) sorted →
+    HasEachOnce tasks results → AreRight g results → AreValues g tasks sorted
+are_values g tasks results sorted same up once right =
+    let order = in_order_of tasks results sorted same up once in
     record {
-      long = all.0;
-      rise = λ t d h. all.1 t d h ∙ omega arith;
+      long = order.long;
+      rise = order.rise;
       right = All-permutation (λ r. value_of g r.0.0 ≡ Some r.1) results sorted same right;
     }
+
+-- they stay what is left of the values
+pub are_left : (g : TaskGraph) (results sorted : Results) → IsPermutation results sorted → AreResults g results → AreResults g sorted
+are_left g results sorted same each = All-permutation (λ r. result_of g r.0.0 ≡ Some r.1) results sorted same each

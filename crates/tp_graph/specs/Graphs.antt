@@ -1,10 +1,10 @@
-use Rattle.std.specs.Prelude.{◌≡◌, ◌<◌, ◌≤◌, ℕ, ℤ, List, Option}
+use Rattle.std.specs.Prelude.{◌≡◌, ◌<◌, ◌≤◌, ℕ, ℤ, Bool, true, List, Option}
 use Rattle.tp_base.specs.declared.limits.TheConstants.{CLASSES, MAX_INPUTS, MAX_NODES}
 
 -- A task graph as plain data. Tasks are the numbers below `tasks`. Task t waits for `arity t` inputs, in slots from 0
 -- on; what fills slot s is feed `turn t s` of task `source t s`. Task t passes its value on in `feeds t` feeds; feed k
 -- goes to slot `slot t k` of task `target t k`. `home t m` is its node where there are m nodes. `rule t` makes its value
--- of its inputs in slot order, or fails.
+-- of its inputs in slot order, or fails. `keeps t` says whether a run hands its value out at its end.
 pub record TaskGraph : Type 0 where
   pub tasks : ℕ
   pub arity : ℕ → ℕ
@@ -16,6 +16,7 @@ pub record TaskGraph : Type 0 where
   pub turn : ℕ → ℕ → ℕ
   pub home : ℕ → ℕ → ℕ
   pub rule : ℕ → List (List ℤ) → Option (List ℤ)
+  pub keeps : ℕ → Bool
 
 -- feed k of task p goes to a slot of a higher task, and is what fills that slot
 pub record FillsSlot (g : TaskGraph) (p : ℕ) (k : ℕ) : Type 0 where
@@ -40,3 +41,7 @@ pub record IsLawful (g : TaskGraph) : Type 0 where
   pub homes : (t m : ℕ) → t < g.tasks → 1 ≤ m → m ≤ MAX_NODES → g.home t m < m
   pub feeds_fill : (p k : ℕ) → p < g.tasks → k < g.feeds p → FillsSlot g p k
   pub slots_filled : (t s : ℕ) → t < g.tasks → s < g.arity t → IsFilled g t s
+
+-- a run hands the value of each task out
+abbrev pub KeepsAll : TaskGraph → Type 0
+KeepsAll g = (t : ℕ) → g.keeps t ≡ true

@@ -3,6 +3,7 @@ pub mod Building
 pub mod Carried
 pub mod Found
 pub mod Graphs
+pub mod Left
 pub mod Named
 pub mod Numbers
 pub mod Producers

@@ -5,13 +5,18 @@ use Rattle.tp_base.specs.declared.Refusal.TheVariants.{BodyFailed, NoMemory}
 use Rattle.tp_graph.specs.Graphs.{TaskGraph}
 use Rattle.tp_graph.specs.Values.{value_of}
 
--- results, each a task and its value
+-- results, each a task and numbers
 abbrev pub Results : Type 0
 Results = List (TaskId × List ℤ)
 
 -- each result is its task's value
 abbrev pub AreRight : TaskGraph → Results → Type 0
 AreRight g results = All (λ r. value_of g r.0.0 ≡ Some r.1) results
+
+-- results of the first tasks, so many, in rising order
+pub record AreInTaskOrder (count : ℕ) (results : Results) : Type 0 where
+  pub long : length results ≡ count
+  pub rise : (t : ℕ) (d : TaskId × List ℤ) → t < count → (slice_index_or results t d).0.0 ≡ t
 
 -- the values of the first tasks, so many, in rising order
 pub record AreValues (g : TaskGraph) (count : ℕ) (results : Results) : Type 0 where

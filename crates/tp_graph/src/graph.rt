@@ -44,6 +44,12 @@ pub trait Graph: Copy + Send + Sync {
         requires few { nodes ≤ MAX_NODES }
         ensures { result.0 ≡ (meaning self.now).home task.0 nodes };
 
+    /// Whether a run hands the value of a task out at its end. Of any other task its numbers are given back once the last task
+    /// that waits for them has run.
+    fn keeps(&self, task: TaskId) -> bool
+        requires { task.0 < (meaning self.now).tasks }
+        ensures { result ≡ (meaning self.now).keeps task.0 };
+
     /// What a task makes of its inputs, which are its producers' values in slot order. Refused with `BodyFailed` exactly
     /// where its rule fails or a number leaves `i64`, and with `NoMemory` where memory is refused first.
     fn body(&self, alloc: Global, task: TaskId, inputs: &[Value]) -> Result<Value, Refusal>

@@ -1,4 +1,7 @@
-ghost use Rattle.std.specs.Prelude.{◌≡◌, ◌<◌, ℕ, ℤ, List};
+ghost use Rattle.std.specs.Prelude.{◌≡◌, ◌<◌, ◌↔◌, ℕ, ℤ, List};
+ghost use Rattle.tp_graph.specs.Graphs.{KeepsAll};
+ghost use Rattle.tp_graph.specs.Left.{AreKept, AreResults};
+ghost use Rattle.tp_graph.specs.Serial.{AreRight, Results};
 ghost use Rattle.tp_graph.specs.Values.{value_of, outcome, AreInputs};
 
 use crate::graph::Graph;
@@ -7,6 +10,21 @@ use crate::graph::Graph;
 pub fn value_is_what_the_rule_makes<G: Graph>(graph: &G)
     ensures { (t : ℕ) (inputs : List (List ℤ)) → t < (G.meaning graph.now).tasks → AreInputs (G.meaning graph.now) t inputs
         → value_of (G.meaning graph.now) t ≡ outcome (G.meaning graph.now) t inputs }
+{
+    let _ = graph;
+}
+
+/// What a run leaves of a graph that keeps all are the values of its tasks.
+pub fn all_results_are_values<G: Graph>(graph: &G)
+    ensures { KeepsAll (G.meaning graph.now) → (results : Results)
+        → (AreResults (G.meaning graph.now) results ↔ AreRight (G.meaning graph.now) results) }
+{
+    let _ = graph;
+}
+
+/// Among what a run leaves stands the value of each task that the graph keeps.
+pub fn results_have_what_is_kept<G: Graph>(graph: &G)
+    ensures { (results : Results) → AreResults (G.meaning graph.now) results → AreKept (G.meaning graph.now) results }
 {
     let _ = graph;
 }

@@ -24,7 +24,7 @@ pub use builder::ValueBuilder;
 pub use feed::{Feed, feed_of};
 pub use found::{in_order, places, value_at};
 pub use graph::{Comparable, Graph, is_same};
-pub use laws::value_is_what_the_rule_makes;
+pub use laws::{all_results_are_values, results_have_what_is_kept, value_is_what_the_rule_makes};
 pub use message::{Message, Parcel};
 pub use one_thread::serial;
 pub use only::{Named, Only};

@@ -103,6 +103,11 @@ impl<G: Graph, D: Named<G> + Send + Sync> Graph for Only<G, D> {
     }
 
     #[inline]
+    fn keeps(&self, task: TaskId) -> bool {
+        self.graph.keeps(task)
+    }
+
+    #[inline]
     fn body(&self, alloc: Global, task: TaskId, inputs: &[Value]) -> Result<Value, Refusal> {
         self.graph.body(alloc, task, inputs)
     }

@@ -7,8 +7,8 @@ use Rattle.std.proofs.Math.Seq.{get_or-append_seam}
 use Rattle.std.proofs.lemmas.List.Elements.{All-append}
 use Rattle.tp_base.specs.declared.ids.TaskId.{TaskId}
 use Rattle.tp_graph.specs.Graphs.{TaskGraph}
-use Rattle.tp_graph.specs.Serial.{AreRight, Results}
-use Rattle.tp_graph.specs.Values.{value_of}
+use Rattle.tp_graph.specs.Left.{AreResults, result_of}
+use Rattle.tp_graph.specs.Serial.{Results}
 use Rattle.tp_board.specs.Numbers.{ShareNumbers}
 use Rattle.tp_ledgers.specs.Reopening.{begun_anew}
 use Rattle.tp_node.specs.Nodes.{NodeState, anew}
@@ -43,8 +43,8 @@ module _ {G : Type 0} where
 
   -- The results of one more node are right, where it is of the graph.
   pub right-more : (meaning : G → TaskGraph) (graph : G) (nodes : List (NodeState G)) (n : NodeState G) (results more : Results)
-      → (All (λ s. s.graph ≡ graph) nodes → AreRight (meaning graph) results) → AreRight (meaning n.graph) more
-      → All (λ s. s.graph ≡ graph) (nodes ++ n ∷ []) → AreRight (meaning graph) (results ++ more)
+      → (All (λ s. s.graph ≡ graph) nodes → AreResults (meaning graph) results) → AreResults (meaning n.graph) more
+      → All (λ s. s.graph ≡ graph) (nodes ++ n ∷ []) → AreResults (meaning graph) (results ++ more)
   right-more meaning graph nodes n results more before right all =
       let first : All (λ s. s.graph ≡ graph) nodes =
       λ k d within. ap (λ (s : NodeState G). s.graph) (sym (get_or_append_left nodes (n ∷ []) d k within))
@@ -52,5 +52,5 @@ module _ {G : Type 0} where
       let last : n.graph ≡ graph =
       ap (λ (s : NodeState G). s.graph) (sym (get_or-append_seam nodes n [] n))
       ∙ all (length nodes) n (omega (arith, length-append nodes (n ∷ []))) in
-      All-append (λ r. value_of (meaning graph) r.0.0
-      ≡ Some r.1) results more (before first) (subst (λ (own : G). AreRight (meaning own) more) last right)
+      All-append (λ r. result_of (meaning graph) r.0.0
+      ≡ Some r.1) results more (before first) (subst (λ (own : G). AreResults (meaning own) more) last right)

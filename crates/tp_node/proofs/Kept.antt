@@ -12,7 +12,8 @@ use Rattle.tp_base.specs.declared.step.Step.{Step}
 use Rattle.tp_base.specs.declared.step.Step.TheVariants as steps
 use Rattle.tp_board.specs.Numbers.{ShareNumbers, numbers_after}
 use Rattle.tp_graph.specs.Graphs.{TaskGraph}
-use Rattle.tp_graph.specs.Values.{value_of, IsInput}
+use Rattle.tp_graph.specs.Left.{result_of}
+use Rattle.tp_graph.specs.Values.{IsInput}
 use Rattle.tp_local.specs.Locals.{LocalState, pending_here}
 use Rattle.tp_node.specs.Nodes.{NodeState, AreHere, IsNode, IsCountedBy, AreRightValues, inserting, task_at, with_store}
 use Rattle.tp_local.specs.Locals.{Numbers}
@@ -100,21 +101,21 @@ module _ (pool : ℕ) (g : TaskGraph) {G : Type 0} (graph : G) (nodes next : ℕ
         (ap (λ z. z.node) en)
         (subst (λ (z : LocalState Numbers). KeepsKnown l.store z.store) (sym ek) (known-begun l.store t))
 
-    pub done_keeps : (value : Numbers) → value_of g t.0 ≡ Some value → k ≡ with_store (with_done l.store t value) l
+    pub done_keeps : (left : Numbers) → result_of g t.0 ≡ Some left → k ≡ with_store (with_done l.store t left) l
         → n ≡ numbers_after (steps.Done t) m → pending_here k + 1 ≡ pending_here l → IsNode pool g (node k n) next
-    done_keeps value right ek en ep = keeps k n kept
+    done_keeps left right ek en ep = keeps k n kept
         (record {
           pending = let e : n.pending ≡ m.pending - 1 = ap (λ z. z.pending) en in let f : m.pending ≡ pending_here l =
               kept.counted.pending in omega (arith, e, f, ep);
           sent = ap (λ z. z.sent) en ∙ kept.counted.sent ∙ sym (ap (λ z. z.sent) ek);
           received = ap (λ z. z.received) en ∙ kept.counted.received ∙ sym (ap (λ z. z.received) ek);
-          done = ap (λ z. z.done) en ∙ ap (λ z. z + 1) kept.counted.done ∙ sym (length-append l.store.results ((t, value) ∷ []))
+          done = ap (λ z. z.done) en ∙ ap (λ z. z + 1) kept.counted.done ∙ sym (length-append l.store.results ((t, left) ∷ []))
               ∙ sym (ap (λ z. length z.store.results) ek);
         })
-        (subst (λ (z : LocalState Numbers). AreRightValues g z.store) (sym ek) (right-done g l.store t value kept.right right))
-        (subst (λ (z : LocalState Numbers). AreHere g nodes m.node z.store) (sym ek) (here-done g nodes m.node l.store t kept.here value))
+        (subst (λ (z : LocalState Numbers). AreRightValues g z.store) (sym ek) (right-done g l.store t left kept.right right))
+        (subst (λ (z : LocalState Numbers). AreHere g nodes m.node z.store) (sym ek) (here-done g nodes m.node l.store t kept.here left))
         (ap (λ z. z.node) en)
-        (subst (λ (z : LocalState Numbers). KeepsKnown l.store z.store) (sym ek) (known-done l.store t value))
+        (subst (λ (z : LocalState Numbers). KeepsKnown l.store z.store) (sym ek) (known-done l.store t left))
 
     pub seed_keeps : (step : Step) (class : ℕ) → t.0 < g.tasks → g.arity t.0 ≡ 0 → g.home t.0 nodes ≡ m.node
         → k ≡ with_store (with_inserted l.store t class) l → step ≡ inserting m.node t 0 → n ≡ numbers_after step m

@@ -11,7 +11,8 @@ use Rattle.std.proofs.lemmas.Bool.Decides.{nat_tests}
 use Rattle.std.proofs.lemmas.List.Elements.{All-push}
 use Rattle.tp_base.specs.declared.ids.TaskId.{TaskId}
 use Rattle.tp_graph.specs.Graphs.{TaskGraph}
-use Rattle.tp_graph.specs.Values.{value_of, IsInput, AreInputs}
+use Rattle.tp_graph.specs.Left.{result_of}
+use Rattle.tp_graph.specs.Values.{IsInput, AreInputs}
 use Rattle.tp_node.specs.Nodes.{IsRightTask, AreRightValues}
 use Rattle.tp_local.specs.Locals.{Numbers}
 use Rattle.tp_slots.proofs.Sound.{get_inserted}
@@ -101,10 +102,10 @@ module _ (g : TaskGraph) (s : Content Numbers) (t : TaskId) where
       go (Some x) e =
           record { tasks = tasks_with (begun x) right (let is = right.tasks t x e in (is.0, is.1, λ k v n. cc)); results = right.results }
 
-  pub right-done : (value : Numbers) → AreRightValues g s → value_of g t.0 ≡ Some value → AreRightValues g (with_done s t value)
-  right-done value right e = record {
+  pub right-done : (left : Numbers) → AreRightValues g s → result_of g t.0 ≡ Some left → AreRightValues g (with_done s t left)
+  right-done left right e = record {
     tasks = go (task_of s t) refl;
-    results = All-push (λ r. value_of g r.0.0 ≡ Some r.1) s.results (t, value) right.results e;
+    results = All-push (λ r. result_of g r.0.0 ≡ Some r.1) s.results (t, left) right.results e;
   }
     where
       go : (o : Option (Task Numbers)) → task_of s t ≡ o

@@ -1,11 +1,11 @@
 -- What a node's turn comes to.
 use Rattle.std.proofs.Common.{ℕ, ◌≡◌, [], ◌∷◌, false, Option, Some, None, Result, Ok, Err, refl, sym, ap, subst, ◌∙◌, arith}
-use Rattle.std.specs.Prelude.{IfNone, IfOk, IfSome, OnErr, OnOk, if◌then◌else◌, is_some}
+use Rattle.std.specs.Prelude.{IfErr, IfNone, IfOk, IfSome, OnErr, OnOk, if◌then◌else◌, is_some}
 use Rattle.std.specs.List.{find}
 use Rattle.tp_base.specs.History.{Event}
 use Rattle.tp_base.specs.declared.refusal.Refusal.{Refusal}
 use Rattle.tp_base.specs.declared.step.Step.{Step}
-use Rattle.tp_board.specs.States.{AnswersBy, BoardState, full_check, with_event}
+use Rattle.tp_board.specs.States.{AnswersBy, BoardState, IsAtPiece, full_check, with_event}
 use Rattle.tp_board.specs.Calls.{Appends}
 use Rattle.tp_node.specs.Turns.{turn_of}
 use Rattle.tp_turns.specs.Turns.{IsMade, MakesFirst, control_event, ends, may_make, turn_steps}
@@ -86,6 +86,13 @@ module _ {G K : Type 0} (node : NodeState G) {old new : BoardState} {r : Result 
   unchanged_by : (o : Option Step) → turn_of node old ≡ o → OnErr r (new ≡ old)
   unchanged_by None is = subst (λ (q : Result (Turn K) Refusal). OnErr q (new ≡ old)) (sym (turn.none (is_first ∙ is)).0) tt
   unchanged_by (Some s) is = (turn.some s (is_first ∙ is)).refused
+
+  at_piece_by : (o : Option Step) → turn_of node old ≡ o → IfErr r (IsAtPiece old)
+  at_piece_by None is = subst (λ (q : Result (Turn K) Refusal). IfErr q (IsAtPiece old)) (sym (turn.none (is_first ∙ is)).0) tt
+  at_piece_by (Some s) is = (turn.some s (is_first ∙ is)).piece
+
+  pub at_piece : IfErr r (IsAtPiece old)
+  at_piece = at_piece_by (turn_of node old) refl
 
   pub kept : OnErr r (Appends [] old new)
   kept = on_err r (new ≡ old) (Appends [] old new) (unchanged_by (turn_of node old) refl) (nothing old new)

@@ -1,6 +1,6 @@
 -- What contracts see of a node, and how its calls change it.
 use Rattle.std.specs.Prelude.{ℕ, ◌+◌, ◌-◌, ◌≡◌, ◌<◌, ◌≤◌, List, true, Option, None, Some, length, is_some, MatchOption, if◌then◌else◌}
-use Rattle.std.specs.Prelude.{slice_index_or, All, refl}
+use Rattle.std.specs.Prelude.{slice_index_or, refl}
 use Rattle.std.specs.Coded.{Coded, code_by, coded×, coded_ℕ, coded_ℤ, coded_list}
 use Rattle.tp_base.specs.History.{Event}
 use Rattle.tp_base.specs.declared.ids.TaskId.{TaskId}
@@ -9,6 +9,7 @@ use Rattle.tp_base.specs.declared.step.Step.TheVariants as steps
 use Rattle.tp_board.specs.Numbers.{ShareNumbers, ending, event, node_at, numbers_after, first_numbers}
 use Rattle.tp_graph.specs.Carried.{Carried}
 use Rattle.tp_graph.specs.Graphs.{TaskGraph}
+use Rattle.tp_graph.specs.Left.{AreResults}
 use Rattle.tp_graph.specs.Values.{value_of}
 use Rattle.tp_graph.specs.declared.feed.Feed.{Feed}
 use Rattle.tp_local.specs.Actions.{Actions, without_opening, with_named, without_named, with_message, without_message, Brought}
@@ -188,10 +189,10 @@ IsRightTask g t x =
     (t < g.tasks) × (x.arity ≡ g.arity t)
     × ((s : ℕ) (v : Numbers) → slice_index_or x.values s None ≡ Some v → value_of g (g.source t s) ≡ Some v)
 
--- The values of the slots and the results are those that the graph defines.
+-- The values of the slots are those that the graph defines, and the results are what is left of such.
 pub record AreRightValues (g : TaskGraph) (c : Content Numbers) : Type 0 where
   pub tasks : (t : TaskId) (x : Task Numbers) → task_of c t ≡ Some x → IsRightTask g t.0 x
-  pub results : All (λ r. value_of g r.0.0 ≡ Some r.1) c.results
+  pub results : AreResults g c.results
 
 -- Each task of the store, done or not, lives at this node, of so many.
 abbrev pub AreHere : TaskGraph → ℕ → ℕ → Content Numbers → Type 0

@@ -1,6 +1,6 @@
 ghost use Rattle.std.specs.Prelude.{◌≡◌, ◌≤◌, ◌<◌, length, IsTrue};
 ghost use Rattle.tp_board.specs.Numbers.{first_numbers};
-ghost use Rattle.tp_graph.specs.Serial.{AreRight};
+ghost use Rattle.tp_graph.specs.Left.{AreResults};
 ghost use Rattle.tp_local.specs.Locals.{pending_here, standing};
 ghost use Rattle.tp_node.specs.Nodes.{AgreesWith, counted_of, first_node};
 ghost use Rattle.tp_store.specs.Content.{counts_of};
@@ -27,8 +27,8 @@ use tp_store::Counts;
 ///
 /// Its type keeps that its pending number counts its unfinished tasks and its open actions, that what it has sent, received
 /// and done are the numbers of its shares, that each task in it lives there, and that each value in it is the one that
-/// the graph defines. Contracts see its
-/// graph, how many nodes the pool has, its own state, and the numbers of its shares.
+/// the graph defines, or what is left of it. Contracts see its graph, how many nodes the pool has, its own state, and the
+/// numbers of its shares.
 #[derive(Drop)]
 pub struct Node<G: Graph, K: Ledgers> {
     graph: G,
@@ -126,11 +126,12 @@ impl<G: Graph, K: Ledgers> Node<G, K> {
         self.local.counts()
     }
 
-    /// Its tasks that are done, each with its value, in the order in which they were done.
+    /// Its tasks that are done, each with its value where the graph keeps that, and else with no numbers, in the order in which
+    /// they were done.
     pub fn results(&self) -> &[(TaskId, Value)]
         ensures same { result.now ≡ self.now.state.store.results }
         ensures share { length result.now ≡ self.now.numbers.done }
-        ensures right { AreRight (G.meaning self.now.graph) result.now }
+        ensures right { AreResults (G.meaning self.now.graph) result.now }
     {
         self.local.results()
     }
@@ -157,7 +158,7 @@ impl<G: Graph, K: Ledgers> Node<G, K> {
         ensures shares { result.0 ≡ self.numbers }
         ensures results { result.1.items ≡ self.state.store.results }
         ensures counted { result.0 ≡ counted_of self }
-        ensures right { AreRight (G.meaning self.graph) self.state.store.results }
+        ensures right { AreResults (G.meaning self.graph) self.state.store.results }
     {
         let Node {
             graph: _,

@@ -8,7 +8,7 @@ ghost use Rattle.tp_board.specs.Calls.{AnswersFirst, Appends};
 ghost use Rattle.tp_board.specs.Fresh.{HasRoom};
 ghost use Rattle.tp_board.specs.Numbers.{event};
 ghost use Rattle.tp_board.specs.States.{full_check, with_event};
-ghost use Rattle.tp_graph.specs.Serial.{AreRight};
+ghost use Rattle.tp_graph.specs.Left.{AreResults};
 ghost use Rattle.tp_node.specs.Calls.{AnswersWithBoth};
 ghost use Rattle.tp_node.specs.Nodes.{IsOfPool, anew};
 ghost use Rattle.tp_wave.specs.Cut.{IsQuietHistory};
@@ -29,7 +29,7 @@ use tp_graph::{Graph, Value};
 pub struct Reopened<G: Graph, K: Ledgers> {
     /// The pool, in whose present generation nothing has happened.
     pub pool: Pool<G, K>,
-    /// The results of the generation that ended, node by node, each a task and its value.
+    /// The results of the generation that ended, node by node, each a task and what is left of its value.
     pub results: Vec<(TaskId, Value)>,
 }
 
@@ -52,7 +52,7 @@ impl<G: Graph, K: Ledgers> Pool<G, K> {
         ensures empty { OnOk result (All (λ w. w.messages ≡ []) self.links.items) }
         ensures event { IfOk result (λ r. Appends (event 0 steps.Reopen ∷ []) self.board r.pool.board) }
         ensures results { IfOk result (λ r. r.results.items ≡ flat_map (λ n. n.state.store.results) self.nodes.items) }
-        ensures right { IfOk result (λ r. (g : G) → All (λ n. n.graph ≡ g) self.nodes.items → AreRight (G.meaning g) r.results.items) }
+        ensures right { IfOk result (λ r. (g : G) → All (λ n. n.graph ≡ g) self.nodes.items → AreResults (G.meaning g) r.results.items) }
         ensures ended { OnOk result (IsTrue (is_ended K.names.nodes (present (steps_of self.board.history)))) }
         ensures quiet { OnOk result (IsQuietHistory K.names.nodes (present_events self.board.history)) }
         ensures refused { AnswersWithBoth (full_check 1 self.board ∷ []) self ended result }
@@ -165,7 +165,7 @@ fn begin_anew<G: Graph, K: Ledgers>(
     ensures empty { All (λ w. w.messages ≡ []) pool.links.items }
     ensures event { Appends (event 0 steps.Reopen ∷ []) pool.board result.pool.board }
     ensures results { result.results.items ≡ flat_map (λ n. n.state.store.results) pool.nodes.items }
-    ensures right { (g : G) → All (λ n. n.graph ≡ g) pool.nodes.items → AreRight (G.meaning g) result.results.items }
+    ensures right { (g : G) → All (λ n. n.graph ≡ g) pool.nodes.items → AreResults (G.meaning g) result.results.items }
     ensures ended { IsTrue (is_ended K.names.nodes (present (steps_of pool.board.history))) }
     ensures quiet { IsQuietHistory K.names.nodes (present_events pool.board.history) }
 {
@@ -204,7 +204,7 @@ fn reopen_nodes<G: Graph, K: Ledgers>(
     ensures nodes { result.0.items ≡ map anew nodes.items }
     ensures board { board.new ≡ with_event (event 0 steps.Reopen) board.old }
     ensures results { result.1.items ≡ flat_map (λ n. n.state.store.results) nodes.items }
-    ensures right { (g : G) → All (λ n. n.graph ≡ g) nodes.items → AreRight (G.meaning g) result.1.items }
+    ensures right { (g : G) → All (λ n. n.graph ≡ g) nodes.items → AreResults (G.meaning g) result.1.items }
     ensures ended { IsTrue (is_ended K.names.nodes (present (steps_of board.old.history))) }
     ensures quiet { IsQuietHistory K.names.nodes (present_events board.old.history) }
 {
@@ -247,7 +247,7 @@ fn take_apart<G: Graph, K: Ledgers>(
     ensures bare { bare.new.items ≡ map anew nodes.items }
     ensures pool { All (IsOfPool K.names.nodes) bare.new.items }
     ensures results { results.new.items ≡ flat_map (λ n. n.state.store.results) nodes.items }
-    ensures right { (g : G) → All (λ n. n.graph ≡ g) nodes.items → AreRight (G.meaning g) results.new.items }
+    ensures right { (g : G) → All (λ n. n.graph ≡ g) nodes.items → AreResults (G.meaning g) results.new.items }
 {
     for node in nodes {
         let (share, more, left) = node.apart(ended, board);

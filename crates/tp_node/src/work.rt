@@ -1,10 +1,12 @@
 ghost use Rattle.std.specs.Prelude.{◌≡◌, ◌<◌, ◌≤◌, ◌↔◌, IsTrue, Some, IfOk, IfErr, MatchResult};
 ghost use Rattle.tp_graph.specs.Carried.{IsFeed};
+ghost use Rattle.tp_graph.specs.Left.{left_of};
 ghost use Rattle.tp_graph.specs.Values.{value_of, AreInputs, IsInput, IsRefusal};
 ghost use Rattle.tp_node.specs.Feeds.{HasFeed, next_feed_of, passed_on};
 
 use smallvec::SmallVec;
 use std::alloc::Global;
+use std::default::MadeWith;
 use std::marker::Model;
 use tp_base::{Refusal, TaskId};
 use tp_graph::{Feed, Graph, Value, feed_of, run_body};
@@ -161,6 +163,19 @@ impl<G: Graph> Finished<G> {
         ensures right { value_of (G.meaning self.graph) self.task.0 ≡ Some result }
     {
         self.value
+    }
+
+    /// What the pool hands out of its value at its end: the value where the graph keeps it, and else no numbers. What is not
+    /// handed out is dropped.
+    pub(crate) fn into_left(self, alloc: Global) -> Value
+        ensures left { result ≡ left_of (G.meaning self.graph) self.task.0 self.value }
+        ensures right { value_of (G.meaning self.graph) self.task.0 ≡ Some self.value }
+    {
+        if self.graph.keeps(self.task) {
+            self.value
+        } else {
+            Value::made_with(alloc)
+        }
     }
 
     /// How many of its feeds were passed on.

@@ -71,6 +71,11 @@ impl<'a, G: Graph> Graph for Counted<'a, G> {
         self.inner.home(task, nodes)
     }
 
+    #[inline]
+    fn keeps(&self, task: TaskId) -> bool {
+        self.inner.keeps(task)
+    }
+
     /// What the graph's own body makes. The task is counted then.
     #[inline]
     fn body(&self, alloc: Global, task: TaskId, inputs: &[Value]) -> Result<Value, Refusal> {

@@ -11,7 +11,7 @@ use Rattle.tp_base.specs.declared.refusal.Refusal.TheVariants.{HistoryFull, NoMe
 use Rattle.tp_base.specs.declared.step.Step.{Step}
 use Rattle.tp_base.specs.declared.step.Step.TheVariants.{Start, Down, Give, Up, Judge}
 use Rattle.tp_board.specs.Numbers.{node_at}
-use Rattle.tp_board.specs.States.{AnswersBy, BoardState, full_check, step_checks, visit_checks, with_event}
+use Rattle.tp_board.specs.States.{AnswersBy, BoardState, IsAtPiece, full_check, step_checks, visit_checks, with_event}
 use Rattle.tp_turns.specs.Turns.{ComesTo, IsMade, Makes, MakesFirst, control_event, ends, is_for_room, may_make, turn_checks, turn_steps}
 use Rattle.tp_turns.specs.Turns.{wave_steps}
 use Rattle.tp_board.proofs.Answering.{same_answer}
@@ -64,6 +64,7 @@ pub record IsTried {A K : Type 0} (n : ℕ) (s : Step) (old new : BoardState) (e
     → Bool) (r : Result A Refusal) (q : Result (Turn K) Refusal) : Type 0 where
   pub event : OnOk r (new ≡ with_event (control_event s) old)
   pub same : OnErr r (new ≡ old)
+  pub piece : IfErr r (IsAtPiece old)
   pub over : IfOk r (λ x. ended x ≡ ends n old.history s)
   pub answer : ComesTo ended r q
 
@@ -80,6 +81,7 @@ module _ {A K : Type 0} (n : ℕ) (s : Step) (old new : BoardState) (ended : A �
         event = h.event;
         answer = subst (λ b. IsMade b turn) h.over h.answer;
         refusal = same_answer (full_check 1 old ∷ []) 1 old (Ok x) (Ok turn) refl answer;
+        piece = tt;
         refused = tt;
       }
   made (Ok x) (Err f) h answer = absurd h.answer
@@ -95,6 +97,7 @@ module _ {A K : Type 0} (n : ℕ) (s : Step) (old new : BoardState) (ended : A �
         event = tt;
         answer = tt;
         refusal = same_answer (full_check 1 old ∷ []) 1 old r q (sym (ap result_err is)) answer;
+        piece = λ memory. (let same : e ≡ f = cc in h.piece (same ∙ memory));
         refused = h.same;
       }
 
@@ -137,48 +140,50 @@ never (Err e) = tt
 -- what is known of a step that is no judgement
 known : {A K : Type 0} (n : ℕ) (old new : BoardState) (r : Result A Refusal) (q : Result (Turn K) Refusal) (s : Step)
     → false ≡ ends n old.history s
-    → OnOk r (new ≡ with_event (control_event s) old) → OnErr r (new ≡ old) → ComesTo (λ _. false) r q
+    → OnOk r (new ≡ with_event (control_event s) old) → IfErr r (IsAtPiece old) → OnErr r (new ≡ old) → ComesTo (λ _. false) r q
     → IsTried n s old new (λ _. false) r q
-known n old new r q s is ok refused comes =
-    record { event = ok; same = refused; over = subst (λ b. IfOk r (λ x. false ≡ b)) is (never r); answer = comes }
+known n old new r q s is ok piece refused comes =
+    record { event = ok; same = refused; piece = piece; over = subst (λ b. IfOk r (λ x. false ≡ b)) is (never r); answer = comes }
 
 -- the answer of a call of the board, and what a turn makes of it, by their clauses
 module _ {A K : Type 0} {n i : ℕ} {old new : BoardState} {q : Result (Turn K) Refusal} (r : Result A Refusal) where
   pub down_tried : OnOk r (new ≡ with_event (control_event (Down (node_at i))) old)
-      → AnswersBy (step_checks n old (Down (node_at i))) 1 old r → OnErr r (new ≡ old) → ComesTo (λ _. false) r q
+      → AnswersBy (step_checks n old (Down (node_at i))) 1 old r → IfErr r (IsAtPiece old) → OnErr r (new ≡ old) → ComesTo (λ _. false) r q
       → MakesFirst n i (Down (node_at i) ∷ []) old new q
-  down_tried ok answer refused comes =
+  down_tried ok answer piece refused comes =
       tried n (Down (node_at i)) old new (λ _.
       false) i (control_checks n (present (steps_of old.history)) (Down (node_at i))) r q
-      (known n old new r q (Down (node_at i)) refl ok refused comes) refl (refl, (refl, (refl, tt))) answer
+      (known n old new r q (Down (node_at i)) refl ok piece refused comes) refl (refl, (refl, (refl, tt))) answer
 
   pub up_tried : {c : ℕ} → OnOk r (new ≡ with_event (control_event (Up (node_at c))) old)
-      → AnswersBy (step_checks n old (Up (node_at c))) 1 old r → OnErr r (new ≡ old) → ComesTo (λ _. false) r q
+      → AnswersBy (step_checks n old (Up (node_at c))) 1 old r → IfErr r (IsAtPiece old) → OnErr r (new ≡ old) → ComesTo (λ _. false) r q
       → MakesFirst n i (Up (node_at c) ∷ []) old new q
-  up_tried {c} ok answer refused comes =
+  up_tried {c} ok answer piece refused comes =
       tried n (Up (node_at c)) old new (λ _.
       false) i (control_checks n (present (steps_of old.history)) (Up (node_at c))) r q
-      (known n old new r q (Up (node_at c)) refl ok refused comes) refl (refl, (refl, (refl, tt))) answer
+      (known n old new r q (Up (node_at c)) refl ok piece refused comes) refl (refl, (refl, (refl, tt))) answer
 
   pub give_tried : OnOk r (new ≡ with_event (control_event (Give (node_at i))) old) → AnswersBy (visit_checks n old (node_at i)) 1 old r
-      → OnErr r (new ≡ old) → ComesTo (λ _. false) r q → MakesFirst n i (Give (node_at i) ∷ []) old new q
-  give_tried ok answer refused comes =
+      → IfErr r (IsAtPiece old) → OnErr r (new ≡ old) → ComesTo (λ _. false) r q → MakesFirst n i (Give (node_at i) ∷ []) old new q
+  give_tried ok answer piece refused comes =
       tried n (Give (node_at i)) old new (λ _.
-      false) i (turn_checks n i old.history (Give (node_at i))) r q (known n old new r q (Give (node_at i)) refl ok refused comes)
+      false) i (turn_checks n i old.history (Give (node_at i))) r q (known n old new r q (Give (node_at i)) refl ok piece refused comes)
       refl (refl, (refl, (refl, (refl, tt)))) answer
 
   pub start_tried : pending_at i (present_events old.history) ≡ 0 → OnOk r (new ≡ with_event (control_event Start) old)
-      → AnswersBy (step_checks n old Start) 1 old r → OnErr r (new ≡ old) → ComesTo (λ _. false) r q → MakesFirst n i (Start ∷ []) old new q
-  start_tried idle ok answer refused comes =
+      → AnswersBy (step_checks n old Start) 1 old r → IfErr r (IsAtPiece old) → OnErr r (new ≡ old)
+      → ComesTo (λ _. false) r q → MakesFirst n i (Start ∷ []) old new q
+  start_tried idle ok answer piece refused comes =
       let cs = control_checks n (present (steps_of old.history)) Start in
       let is : first_refusal cs ≡ first_refusal (turn_checks n i old.history Start) = rw idle refl in
-      tried n Start old new (λ _. false) i cs r q (known n old new r q Start refl ok refused comes) is (refl, (refl, tt)) answer
+      tried n Start old new (λ _. false) i cs r q (known n old new r q Start refl ok piece refused comes) is (refl, (refl, tt)) answer
 
   pub judge_tried : (ended : A → Bool) → IfOk r (λ x. ended x ≡ is_some (judgement n (present (steps_of old.history))))
-      → OnOk r (new ≡ with_event (control_event Judge) old) → AnswersBy (step_checks n old Judge) 1 old r → OnErr r (new ≡ old)
+      → OnOk r (new ≡ with_event (control_event Judge) old) → AnswersBy (step_checks n old Judge) 1 old r → IfErr r (IsAtPiece old)
+      → OnErr r (new ≡ old)
       → ComesTo ended r q → MakesFirst n i (Judge ∷ []) old new q
-  judge_tried ended over ok answer refused comes =
-      let all : IsTried n Judge old new ended r q = record { event = ok; same = refused; over = over; answer = comes } in
+  judge_tried ended over ok answer piece refused comes =
+      let all : IsTried n Judge old new ended r q = record { event = ok; same = refused; piece = piece; over = over; answer = comes } in
       tried n Judge old new ended i (control_checks n (present (steps_of old.history)) Judge) r q all refl (refl, (refl, tt)) answer
 
 -- ---- a step that may not be made
@@ -274,3 +279,12 @@ at_root {K} {n} {i} {old} {new} {r} is made = subst (λ k. MakesFirst n k (wave_
 pub turn_of_root : {K : Type 0} {n i : ℕ} {old new : BoardState} {r : Result (Turn K) Refusal} → i ≡ 0
     → MakesFirst n 0 (turn_steps 0) old new r → MakesFirst n i (turn_steps i) old new r
 turn_of_root {K} {n} {i} {old} {new} {r} is made = subst (λ k. MakesFirst n k (turn_steps k) old new r) (sym is) made
+
+-- A turn is refused memory only where the next event is the first of a piece.
+pub piece_of : {K : Type 0} {n i : ℕ} {ss : List Step} {old new : BoardState} {r : Result (Turn K) Refusal} → MakesFirst n i ss old new r
+    → IfErr r (IsAtPiece old)
+piece_of {K} {n} {i} {ss} {old} {new} {r} made =
+    elim (find (may_make n i old.history) ss) as (λ o. find (may_make n i old.history) ss ≡ o → IfErr r (IsAtPiece old)) [
+      | None ↦ λ is. rw (made.none is).0 tt
+      | Some s ↦ λ is. (made.some s is).piece
+    ] refl

@@ -1,6 +1,6 @@
 -- A node's control turn: which step of the waves it makes, and what it answers.
 use Rattle.std.specs.Prelude.{ℕ, ◌+◌, ◌*◌, ◌≡◌, ◌==◌, ◌&&◌, List, [], ◌∷◌, ◌++◌, Bool, true, false, IsTrue, IsFalse, Some, None, is_some}
-use Rattle.std.specs.Prelude.{is_none, if◌then◌else◌, Result, Ok, Err, IfOk, IsOkAnd, OnErr, OnOk, nat_lt}
+use Rattle.std.specs.Prelude.{is_none, if◌then◌else◌, Result, Ok, Err, IfErr, IfOk, IsOkAnd, OnErr, OnOk, nat_lt}
 use Rattle.std.specs.List.{find}
 use Rattle.tp_base.specs.Checks.{Check, first_refusal}
 use Rattle.tp_base.specs.History.{Event}
@@ -9,7 +9,7 @@ use Rattle.tp_base.specs.declared.refusal.Refusal.TheVariants.{HistoryFull, NoMe
 use Rattle.tp_base.specs.declared.step.Step.{Step}
 use Rattle.tp_base.specs.declared.step.Step.TheVariants.{Start, Down, Give, Up, Judge}
 use Rattle.tp_board.specs.Numbers.{event, node_at}
-use Rattle.tp_board.specs.States.{AnswersBy, BoardState, full_check, with_event}
+use Rattle.tp_board.specs.States.{AnswersBy, BoardState, IsAtPiece, full_check, with_event}
 use Rattle.tp_turns.specs.declared.turn.Turn.{Turn}
 use Rattle.tp_turns.specs.declared.turn.Turn.TheVariants.{Idle, Moved, Over}
 use Rattle.tp_wave.specs.ControlChecks.{control_checks}
@@ -66,6 +66,7 @@ pub record Makes {K : Type 0} (n : ℕ) (s : Step) (old new : BoardState) (resul
   pub event : OnOk result (new ≡ with_event (control_event s) old)
   pub answer : IfOk result (IsMade (ends n old.history s))
   pub refusal : AnswersBy (full_check 1 old ∷ []) 1 old result
+  pub piece : IfErr result (IsAtPiece old)
   pub refused : OnErr result (new ≡ old)
 
 -- The first of these steps that node i may make was made, or there is none.

@@ -26,7 +26,7 @@ pub enum Turn<K: Ledgers> {
 /// The waves are those of the four counter method of F. Mattern, "Algorithms for Distributed Termination Detection" (1987).
 ///
 /// Refused, where a step is lawful: `HistoryFull` where the history has reached its limit; `NoMemory` where no event is sure
-/// of memory and it has to grow and does not. The board is then as it was.
+/// of memory and it has to grow and does not, as it may have to at each 1,024th event. The board is then as it was.
 pub fn make_first<K: Ledgers>(
     board: &mut Board<K>,
     shares: &Shares<K>,

@@ -9,7 +9,7 @@ use Rattle.tp_base.specs.declared.refusal.Refusal.TheVariants.{Missing, NoMemory
 use Rattle.tp_board.specs.Numbers.{is_done, is_send}
 use Rattle.tp_board.specs.States.{BoardState, with_fault}
 use Rattle.tp_graph.specs.Graphs.{TaskGraph}
-use Rattle.tp_graph.specs.Serial.{AreRight}
+use Rattle.tp_graph.specs.Left.{AreResults}
 use Rattle.tp_local.specs.Locals.{pending_here}
 use Rattle.tp_node.specs.Nodes.{NodeState}
 use Rattle.tp_node.specs.Wires.{WireState}
@@ -43,7 +43,7 @@ module _ {G : Type 0} where
   pub is_report : (n : ℕ) (meaning : G
       → TaskGraph) (graph : G) (nodes : List (NodeState G)) (links : List (WireState G)) (board : BoardState) (r : Report)
       → IsGathered nodes links board r → IsOfItsRun n r → AreOfTheRun nodes r → IsWhole n graph nodes links
-      → ((g : G) → AreOf g nodes → AreRight (meaning g) r.results.items) → IsReport n (meaning graph) r
+      → ((g : G) → AreOf g nodes → AreResults (meaning g) r.results.items) → IsReport n (meaning graph) r
   is_report n meaning graph nodes links board r gathered run agree whole right =
       record {
         of_run = run;

@@ -7,7 +7,8 @@ use Rattle.tp_base.specs.declared.refusal.Refusal.TheVariants.{HistoryFull, Miss
 use Rattle.tp_board.specs.Numbers.{is_done, is_send}
 use Rattle.tp_graph.specs.Found.{HasEachOnce, times}
 use Rattle.tp_graph.specs.Graphs.{TaskGraph}
-use Rattle.tp_graph.specs.Serial.{AreRight, Results}
+use Rattle.tp_graph.specs.Left.{AreResults}
+use Rattle.tp_graph.specs.Serial.{Results}
 use Rattle.tp_wave.specs.Machine.{IsRun, steps_of}
 use Rattle.tp_wave.specs.Steps.{count}
 use Rattle.tp_wave.specs.Sums.{is_ended}
@@ -32,13 +33,13 @@ is_marked marks t = slice_index_or marks t false
 abbrev pub AreMarks : Results → List Bool → Type 0
 AreMarks results marks = (t : ℕ) → times t results ≡ (if is_marked marks t then 1 else 0)
 
--- Each task of the graph has one result, which is the value that the graph defines, and no other task has any. The events
--- are a run on n nodes whose end was judged and told to each node, in which each task of the graph was inserted, began and was
--- done once, with as many tasks done as there are results, and with the messages that are answered. So many workers at each
--- node have answered.
+-- Each task of the graph has a value and one result, which is that value where the graph keeps it, and else no numbers;
+-- and no other task has any result. The events are a run on n nodes whose end was judged and told to each node, in which
+-- each task of the graph was inserted, began and was done once, with as many tasks done as there are results, and with
+-- the messages that are answered. So many workers at each node have answered.
 pub record IsOutcome (n workers : ℕ) (g : TaskGraph) (o : Outcome) : Type 0 where
   pub each_once : HasEachOnce g.tasks o.results.items
-  pub right : AreRight g o.results.items
+  pub right : AreResults g o.results.items
   pub run : IsRun n o.history.events
   pub ended : IsTrue (is_ended n (steps_of o.history.events))
   pub announced : o.announced ≡ n

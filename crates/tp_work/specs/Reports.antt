@@ -5,7 +5,7 @@ use Rattle.tp_base.specs.declared.limits.TheConstants.{MAX_STEPS}
 use Rattle.tp_board.specs.Numbers.{is_done, is_recv, is_send}
 use Rattle.tp_board.specs.States.{BoardState}
 use Rattle.tp_graph.specs.Graphs.{TaskGraph}
-use Rattle.tp_graph.specs.Serial.{AreRight}
+use Rattle.tp_graph.specs.Left.{AreResults}
 use Rattle.tp_local.specs.Locals.{pending_here}
 use Rattle.tp_node.specs.Nodes.{NodeState}
 use Rattle.tp_node.specs.Wires.{WireState}
@@ -51,13 +51,13 @@ abbrev pub AreOfTheRun : {G : Type 0} → List (NodeState G) → Report → Type
 AreOfTheRun nodes r = All (λ n. pending_here n.state ≡ pending_at n.numbers.node (present_events r.history.events)) nodes
 
 -- A report of a pool of n nodes, each at its place, that works a graph out: its numbers are those of the present generation,
--- what was sent less what was received is under way, and its results are values of the graph.
+-- what was sent less what was received is under way, and its results are what is left of values of the graph.
 pub record IsReport (n : ℕ) (g : TaskGraph) (r : Report) : Type 0 where
   pub of_run : IsOfItsRun n r
   pub balance : r.sent ≡ r.received + r.under
   pub pending : r.pending ≡ total n (λ i. pending_at i (present_events r.history.events))
   pub done : r.done ≡ vec_len r.results
-  pub right : AreRight g r.results.items
+  pub right : AreResults g r.results.items
 
 -- The report of a pool with these nodes and this board: it tells how many of them were told of the end, and the fault and the
 -- events that the board has.

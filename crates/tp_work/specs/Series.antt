@@ -7,7 +7,7 @@ use Rattle.tp_base.specs.declared.refusal.Refusal.TheVariants.{HistoryFull, Miss
 use Rattle.tp_board.specs.Numbers.{is_done}
 use Rattle.tp_board.specs.States.{BoardState}
 use Rattle.tp_graph.specs.Graphs.{TaskGraph}
-use Rattle.tp_graph.specs.Serial.{AreRight}
+use Rattle.tp_graph.specs.Left.{AreResults}
 use Rattle.tp_node.specs.Nodes.{NodeState}
 use Rattle.tp_wave.specs.Generations.{AreRuns, present_events}
 use Rattle.tp_wave.specs.Machine.{History, steps_of}
@@ -22,14 +22,14 @@ use Rattle.tp_work.specs.declared.gathered.Report.{Report}
 use Rattle.tp_work.specs.declared.series.Round.{Round}
 use Rattle.tp_work.specs.declared.series.Series.{Series}
 
--- A round, beside the events of its generation: the end was judged on n nodes, each task of the graph lived once and has one
--- result, which is the value that the graph defines, and no other task has any. As many tasks were done as there are results,
--- and as many messages were sent, as are answered. So many workers at each node have answered.
+-- A round, beside the events of its generation: the end was judged on n nodes, each task of the graph lived once, has a
+-- value and has one result, which is what is left of that value, and no other task has any. As many tasks were done as
+-- there are results, and as many messages were sent, as are answered. So many workers at each node have answered.
 pub record IsRound (n workers : ℕ) (g : TaskGraph) (h : History) (r : Round) : Type 0 where
   pub ended : IsTrue (is_ended n (steps_of h))
   pub lives : LivesOnce g.tasks (steps_of h)
   pub each_once : HasEachOnce g.tasks r.results.items
-  pub right : AreRight g r.results.items
+  pub right : AreResults g r.results.items
   pub tasks : (r.tasks ≡ vec_len r.results) × (r.tasks ≡ count is_done (steps_of h))
   pub messages : r.messages ≡ sent_in h
   pub answered : r.workers ≡ n * workers
@@ -83,7 +83,7 @@ IsSeriesFault n g rounds f =
 -- so many workers at each of n nodes have answered.
 pub record IsKept (n workers : ℕ) (g : TaskGraph) (r : Round) : Type 0 where
   pub each_once : HasEachOnce g.tasks r.results.items
-  pub right : AreRight g r.results.items
+  pub right : AreResults g r.results.items
   pub tasks : r.tasks ≡ g.tasks
   pub answered : r.workers ≡ n * workers
 

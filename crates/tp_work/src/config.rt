@@ -40,7 +40,7 @@ impl Config {
 /// What a pool has made.
 #[derive(Drop)]
 pub struct Outcome {
-    /// Each task of the graph with its value, in no particular order.
+    /// Each task of the graph, in no particular order, with its value where the graph keeps that, and else with no numbers.
     pub results: Vec<(TaskId, Value)>,
     /// How many tasks were done.
     pub tasks: u32,

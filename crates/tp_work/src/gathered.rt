@@ -1,7 +1,7 @@
 ghost use Rattle.std.specs.Prelude.{◌≡◌, ◌<◌, ◌≤◌, ◌+◌, ◌-◌, ◌*◌, ◌++◌, ◌∷◌, [], IfErr, IfOk, length, map, sum_by, vec_capacity, vec_len};
 ghost use Rattle.std.specs.List.{All, flat_map};
 ghost use Rattle.tp_base.specs.declared.refusal.Refusal.TheVariants.{NoMemory};
-ghost use Rattle.tp_graph.specs.Serial.{AreRight};
+ghost use Rattle.tp_graph.specs.Left.{AreResults};
 ghost use Rattle.tp_node.specs.Nodes.{counted_of};
 ghost use Rattle.tp_node.specs.Wires.{link_of};
 ghost use Rattle.tp_work.specs.Reports.{AreOfTheRun, IsGathered, IsOfItsRun, told_of_end};
@@ -32,7 +32,7 @@ pub struct Report {
     pub announced: u32,
     /// The first fault.
     pub fault: Option<Refusal>,
-    /// The results of all nodes, each a task and its value.
+    /// The results of all nodes, each a task and what is left of its value.
     pub results: Vec<(TaskId, Value)>,
     /// The events.
     pub history: History,
@@ -50,7 +50,7 @@ pub fn finish<G: Graph, K: Ledgers>(
     ensures gathered { IfOk result (IsGathered pool.nodes.items pool.links.items pool.board) }
     ensures of_its_run { IfOk result (IsOfItsRun K.names.nodes) }
     ensures each_node { IfOk result (AreOfTheRun pool.nodes.items) }
-    ensures right { IfOk result (λ r. (g : G) → All (λ n. n.graph ≡ g) pool.nodes.items → AreRight (G.meaning g) r.results.items) }
+    ensures right { IfOk result (λ r. (g : G) → All (λ n. n.graph ≡ g) pool.nodes.items → AreResults (G.meaning g) r.results.items) }
     ensures refused { IfErr result (λ e. e ≡ (NoMemory, pool)) }
 {
     match room_for(alloc, &pool.nodes, &pool.links) {
@@ -97,7 +97,7 @@ fn gather<G: Graph, K: Ledgers>(pool: Pool<G, K>, room: ReportRoom<K>) -> Report
     ensures gathered { IsGathered pool.nodes.items pool.links.items pool.board result }
     ensures of_its_run { IsOfItsRun K.names.nodes result }
     ensures each_node { AreOfTheRun pool.nodes.items result }
-    ensures right { (g : G) → All (λ n. n.graph ≡ g) pool.nodes.items → AreRight (G.meaning g) result.results.items }
+    ensures right { (g : G) → All (λ n. n.graph ≡ g) pool.nodes.items → AreResults (G.meaning g) result.results.items }
 {
     let Pool {
         nodes,
@@ -158,7 +158,7 @@ fn take_nodes<G: Graph, K: Ledgers>(
     requires results { sum_by (λ n. length n.state.store.results) nodes.items ≤ vec_capacity results.old }
     ensures shares { shares.new.items ≡ map counted_of nodes.items }
     ensures results { results.new.items ≡ flat_map (λ n. n.state.store.results) nodes.items }
-    ensures right { (g : G) → All (λ n. n.graph ≡ g) nodes.items → AreRight (G.meaning g) results.new.items }
+    ensures right { (g : G) → All (λ n. n.graph ≡ g) nodes.items → AreResults (G.meaning g) results.new.items }
 {
     for node in nodes {
         take_node(node, shares, results);
@@ -175,7 +175,7 @@ fn take_node<G: Graph, K: Ledgers>(
     requires results { vec_len results.old + length node.state.store.results ≤ vec_capacity results.old }
     ensures shares { shares.new.items ≡ shares.old.items ++ counted_of node ∷ [] }
     ensures results { results.new.items ≡ results.old.items ++ node.state.store.results }
-    ensures right { AreRight (G.meaning node.graph) node.state.store.results }
+    ensures right { AreResults (G.meaning node.graph) node.state.store.results }
     ensures room { (vec_capacity shares.new ≡ vec_capacity shares.old) × (vec_capacity results.old ≤ vec_capacity results.new) }
 {
     let (share, mut more) = node.into_parts();

@@ -3,7 +3,7 @@ ghost use Rattle.std.specs.Prelude.{vec_len, IfErr, IfOk, IfSome, IsTrue, MatchO
 ghost use Rattle.std.specs.List.{All};
 ghost use Rattle.tp_base.specs.declared.limits.TheConstants.{MAX_STEPS};
 ghost use Rattle.tp_graph.specs.Graphs.{TaskGraph};
-ghost use Rattle.tp_graph.specs.Serial.{AreRight};
+ghost use Rattle.tp_graph.specs.Left.{AreResults};
 ghost use Rattle.tp_wave.specs.Generations.{present_events};
 ghost use Rattle.tp_work.specs.Lives.{LivesInEach, generations, sent_in};
 ghost use Rattle.tp_work.specs.Outcomes.{IsAnswer, IsWithinLimits};
@@ -31,7 +31,7 @@ use tp_node::{Pool, Reopened};
 /// What a generation of a series has made.
 #[derive(Drop)]
 pub struct Round {
-    /// Each task of the graph with its value, in no particular order.
+    /// Each task of the graph, in no particular order, with its value where the graph keeps that, and else with no numbers.
     pub results: Vec<(TaskId, Value)>,
     /// How many tasks were done.
     pub tasks: u32,
@@ -272,7 +272,7 @@ fn keep<G: Graph, K: Ledgers>(
     requires whole { IsWhole K.names.nodes graph pool.nodes.items pool.links.items }
     requires opened { (present_events pool.board.history ≡ []) × (1 < length (generations pool.board.history)) }
     requires fault { pool.board.fault ≡ None }
-    requires right { AreRight (G.meaning graph) results.items }
+    requires right { AreResults (G.meaning graph) results.items }
     requires room { vec_len rounds.old < vec_capacity rounds.old }
     ensures nodes { IfOk result (λ p. vec_len p.nodes ≡ K.names.nodes) }
     ensures links { IfOk result (λ p. vec_len p.links ≡ K.names.nodes * (K.names.nodes - 1)) }

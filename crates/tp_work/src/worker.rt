@@ -1,4 +1,4 @@
-ghost use Rattle.std.specs.Prelude.{◌≡◌, OnOk};
+ghost use Rattle.std.specs.Prelude.{◌≡◌, IfOk, None, OnOk, Some, if◌then◌else◌};
 
 mod passing;
 mod receiving;
@@ -6,13 +6,13 @@ mod receiving;
 use crate::desk::{Desk, Share};
 use crate::gate::Gate;
 use crate::locks::{Locks, Site, lock_soon};
-use std::alloc::Global;
+use std::alloc::{AllocError, Global};
 use std::hint::spin_loop;
 use std::sync::Wait;
 use std::sync::atomic::Ordering;
 use tp_base::{MAX_NODES, NodeId, Refusal};
 use tp_board::{Board, Ended, Ledgers};
-use tp_graph::{Comparable, Graph, is_same};
+use tp_graph::{Comparable, Graph, Value, is_same};
 use tp_monitor::TaskpoolState;
 use tp_node::{Finished, Node, Turn as ControlTurn, Work};
 
@@ -182,11 +182,14 @@ impl<'a, G: Comparable, K: Ledgers, A: Gate, R: Wait> Worker<'a, G, K, A, R> {
         idle: u32,
         seen: &mut Option<Seen>,
     ) -> Result<WorkerTurn<K>, Refusal> {
+        // It is dropped after the lock, which comes later: its numbers may be many.
+        let mut spent = None;
         let mut desk = lock_soon(self.rt, &site.desk);
-        self.turn_at(&mut desk, site, hands, idle, seen)
+        self.turn_at(&mut desk, site, hands, idle, seen, &mut spent)
     }
 
-    /// Passes on what the worker's last task has made, and takes a turn of the node.
+    /// Passes on what the worker's last task has made, and takes a turn of the node. A copy of what the graph does not keep is
+    /// left in `spent`, so that the one that the node drops is not the last.
     #[inline(always)]
     fn turn_at(
         &self,
@@ -195,9 +198,11 @@ impl<'a, G: Comparable, K: Ledgers, A: Gate, R: Wait> Worker<'a, G, K, A, R> {
         hands: &mut Hands<G>,
         idle: u32,
         seen: &mut Option<Seen>,
+        spent: &mut Option<Value>,
     ) -> Result<WorkerTurn<K>, Refusal> {
         check_node(&desk.node, self.place, &self.graph)?;
         if let Some(finished) = hands.finished.take() {
+            *spent = unkept(&finished)?;
             self.pass_on(&mut desk.node, finished)?;
         }
         if self.locks.is_stopped.load(Ordering::SeqCst) {
@@ -358,6 +363,18 @@ fn spin() {
     for _ in 0..SPINS_BEFORE_A_LOOK {
         spin_loop();
     }
+}
+
+/// A copy of a finished task's value, where the graph does not keep it.
+#[inline(always)]
+fn unkept<G: Graph>(finished: &Finished<G>) -> Result<Option<Value>, AllocError>
+    ensures { IfOk result (λ copy.
+        copy ≡ (if (G.meaning finished.now.graph).keeps finished.now.task.0 then None else Some finished.now.value)) }
+{
+    if finished.graph().keeps(finished.task()) {
+        return Ok(None);
+    }
+    Ok(Some(finished.value().clone()?))
 }
 
 /// Inserts input-free tasks, and closes the opening action after the last.

@@ -1,5 +1,5 @@
 ghost use Rattle.std.specs.Prelude.{◌≡◌, ◌≤◌};
-ghost use Rattle.tp_graph.specs.Serial.{AreRight};
+ghost use Rattle.tp_graph.specs.Left.{AreResults};
 ghost use Rattle.tp_node.specs.Nodes.{IsOfPool, anew};
 
 use crate::node::Node;
@@ -47,7 +47,7 @@ impl<G: Graph, K: Ledgers> Node<G, K> {
         ensures results { result.1.items ≡ self.state.store.results }
         ensures bare { result.2 ≡ anew self }
         ensures pool { IsOfPool K.names.nodes result.2 }
-        ensures right { AreRight (G.meaning self.graph) self.state.store.results }
+        ensures right { AreResults (G.meaning self.graph) self.state.store.results }
     {
         let mut node = self;
         node.quiet_under(ended, board);

@@ -1,6 +1,6 @@
-ghost use Rattle.std.specs.Prelude.{◌≡◌, ◌≤◌, ◌<◌, [], ◌∷◌, None, Some, min, IfOk, IfSome, IsOk, MatchOption, OnErr};
+ghost use Rattle.std.specs.Prelude.{◌≡◌, ◌≤◌, ◌<◌, [], ◌∷◌, None, Some, min, IfErr, IfOk, IfSome, IsOk, MatchOption, OnErr};
 ghost use Rattle.tp_board.specs.Calls.{Appends};
-ghost use Rattle.tp_board.specs.States.{AnswersBy, full_check};
+ghost use Rattle.tp_board.specs.States.{AnswersBy, IsPastPiece, full_check};
 ghost use Rattle.tp_node.specs.Begins.{BeginsSome, ready_count};
 ghost use Rattle.tp_node.specs.Calls.{Begins};
 ghost use Rattle.tp_slots.specs.Content.{front};
@@ -21,7 +21,8 @@ impl<G: Graph, K: Ledgers> Node<G, K> {
     /// made first.
     ///
     /// Refused: `HistoryFull` where fewer events may be than tasks would begin; `NoMemory` where the board has to ask for
-    /// memory for some of their events. No task has begun then.
+    /// memory for some of their events, as it may have to where a piece of 1,024 events or messages ends. No task has begun
+    /// then.
     pub fn begin_some(
         &mut self,
         board: &mut Board<K>,
@@ -33,6 +34,7 @@ impl<G: Graph, K: Ledgers> Node<G, K> {
             works.items) }
         ensures refusal { AnswersBy (full_check (min (ready_count self.old) max) board.old ∷ [])
             (min (ready_count self.old) max) board.old result }
+        ensures piece { IfErr result (IsPastPiece (min (ready_count self.old) max) board.old) }
         ensures refused { OnErr result (Appends [] board.old board.new × (self.new ≡ self.old)) }
     {
         let count = self.counts().ready.min(max);

@@ -1,5 +1,5 @@
-ghost use Rattle.std.specs.Prelude.{◌≡◌, [], ◌∷◌, IfNone, IfOk, IfSome, OnErr, OnOk};
-ghost use Rattle.tp_board.specs.States.{AnswersBy, full_check};
+ghost use Rattle.std.specs.Prelude.{◌≡◌, [], ◌∷◌, IfErr, IfNone, IfOk, IfSome, OnErr, OnOk};
+ghost use Rattle.tp_board.specs.States.{AnswersBy, IsAtPiece, full_check};
 ghost use Rattle.tp_board.specs.Calls.{Appends};
 ghost use Rattle.tp_node.specs.Turns.{turn_of};
 ghost use Rattle.tp_turns.specs.Turns.{IsMade, control_event, ends};
@@ -20,7 +20,7 @@ impl<G: Graph, K: Ledgers> Node<G, K> {
     /// The waves are those of the four counter method of F. Mattern, "Algorithms for Distributed Termination Detection" (1987).
     ///
     /// Refused, where it makes a step: `HistoryFull` where the history has reached its limit; `NoMemory` where the board has
-    /// to ask for memory for the event.
+    /// to ask for memory for the event, as it may have to at each 1,024th.
     pub fn control_turn(&mut self, board: &mut Board<K>) -> Result<Turn<K>, Refusal>
         ensures node { self.new ≡ self.old }
         ensures fault { IfSome board.old.fault (λ _. (result ≡ Ok Turn.Idle) × (board.new ≡ board.old)) }
@@ -28,6 +28,7 @@ impl<G: Graph, K: Ledgers> Node<G, K> {
         ensures event { IfSome (turn_of self.old board.old) (λ s. OnOk result (Appends (control_event s ∷ []) board.old board.new)) }
         ensures answer { IfSome (turn_of self.old board.old) (λ s. IfOk result (IsMade (ends self.old.nodes board.old.history s))) }
         ensures refusal { IfSome (turn_of self.old board.old) (λ s. AnswersBy (full_check 1 board.old ∷ []) 1 board.old result) }
+        ensures piece { IfErr result (IsAtPiece board.old) }
         ensures refused { OnErr result (Appends [] board.old board.new) }
     {
         if board.fault().is_some() {

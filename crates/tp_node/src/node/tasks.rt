@@ -1,8 +1,9 @@
 ghost use Rattle.std.specs.Prelude.{◌≡◌, ◌≤◌, ◌<◌, ◌+◌, ◌-◌, ℕ, [], ◌∷◌, false, Some, None, if◌then◌else◌, is_some, IfErr, IfOk, IsTrue};
 ghost use Rattle.std.specs.Prelude.{MatchBool, MatchOption, OnErr, OnOk};
 ghost use Rattle.tp_base.specs.declared.refusal.Refusal.TheVariants.{NoMemory, StoreFull, WrongLife};
-ghost use Rattle.tp_board.specs.States.{AnswersBy, IsAtPiece, full_check};
+ghost use Rattle.tp_board.specs.States.{AnswersBy, IsAtPiece, IsPastPiece, full_check};
 ghost use Rattle.tp_graph.specs.Carried.{IsFeed};
+ghost use Rattle.tp_graph.specs.Left.{left_of};
 ghost use Rattle.tp_graph.specs.Values.{IsInput};
 ghost use Rattle.tp_board.specs.Calls.{AnswersFirst, AnswersByWith, Appends};
 ghost use Rattle.tp_node.specs.Calls.{Begins, Rests, SeedsIf};
@@ -46,7 +47,7 @@ impl<G: Graph, K: Ledgers> Node<G, K> {
     /// task is ready.
     ///
     /// Refused, where a task is ready: `HistoryFull` where the history has reached its limit; `NoMemory` where the board has
-    /// to ask for memory for the event.
+    /// to ask for memory for the event, as it may have to at each 1,024th event or message.
     pub fn begin(&mut self, board: &mut Board<K>) -> Result<Option<Work<G>>, Refusal>
         ensures none { front self.old.state.store.ready ≡ None → result ≡ Ok None }
         ensures begun { IfOk result (λ work. MatchOption work
@@ -54,6 +55,7 @@ impl<G: Graph, K: Ledgers> Node<G, K> {
             (Begins self.old self.new board.old board.new)) }
         ensures refusal { MatchOption (front self.old.state.store.ready) (Unit {0})
             (λ t. AnswersBy (begin_checks board.old) 1 board.old result) }
+        ensures piece { IfErr result (IsPastPiece 1 board.old) }
         ensures refused { OnErr result (Appends [] board.old board.new × (self.new ≡ self.old)) }
     {
         if !self.local.has_ready() {
@@ -98,9 +100,9 @@ impl<G: Graph, K: Ledgers> Node<G, K> {
         }
     }
 
-    /// A task that runs here, and whose feeds were all passed on, is done. Its value goes to the end of the results. A
-    /// finished task that outlives its generation is taken where its task runs again in a later one: its value is the right
-    /// one, and its feeds count as passed on.
+    /// A task that runs here, and whose feeds were all passed on, is done. Its value goes to the end of the results where the
+    /// graph keeps it; else no numbers go there, and the value is dropped. A finished task that outlives its generation is
+    /// taken where its task runs again in a later one: its value is the right one, and its feeds count as passed on.
     ///
     /// Refused: `WrongLife` where the task does not run here; `HistoryFull` where the history has reached its limit;
     /// `NoMemory` where the board has to ask for memory for the event. The finished task comes back then.
@@ -112,7 +114,8 @@ impl<G: Graph, K: Ledgers> Node<G, K> {
         requires graph { finished.graph ≡ self.old.graph }
         requires all_fed { finished.fed ≡ (G.meaning self.old.graph).feeds finished.task.0 }
         ensures event { OnOk result (Appends (event_of self.old (steps.Done finished.task) ∷ []) board.old board.new) }
-        ensures done { OnOk result (self.new ≡ done_with finished.task finished.value self.old) }
+        ensures done { OnOk result (self.new
+            ≡ done_with finished.task (left_of (G.meaning self.old.graph) finished.task.0 finished.value) self.old) }
         ensures refusal { AnswersByWith (done_checks self.old board.old finished.task) 1 board.old finished result }
         ensures piece { IfErr result (λ e. IsAtPiece board.old e.0) }
         ensures refused { OnErr result (Appends [] board.old board.new × (self.new ≡ self.old)) }
@@ -124,7 +127,8 @@ impl<G: Graph, K: Ledgers> Node<G, K> {
         if let Err(refusal) = board.append(Step::Done(task), &mut self.shares) {
             return Err((refusal, finished));
         }
-        let Ok(()) = self.local.done(task, finished.into_value()) else {
+        let left = finished.into_left(self.alloc);
+        let Ok(()) = self.local.done(task, left) else {
             unreachable!()
         };
         Ok(())

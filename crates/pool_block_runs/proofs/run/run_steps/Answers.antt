@@ -1,6 +1,7 @@
 use Rattle.std.proofs.Common.{subst, sym}
+use Rattle.tp_graph.proofs.Left.{results_kept}
 use Rattle.tp_graph.specs.Graphs.{TaskGraph}
-use Rattle.tp_graph.specs.Serial.{AreRight}
+use Rattle.tp_graph.specs.Left.{AreKept, AreResults}
 use Rattle.pool_blocks.specs.Stencils.{block_graph}
 use Rattle.pool_block_runs.proofs.Refused.{cells_refused}
 use Rattle.tp_work.specs.Outcomes.{IsFault, IsOutcome}
@@ -11,8 +12,9 @@ pub cells_of-requires : goal.cells_of-requires
 cells_of-requires g c =
     let w = c.args.work in
     let right = subst (λ results.
-    AreRight (block_graph (g.S.Stencil.next w.stencil) w.cells.now w.blocks w.size w.steps) results) (sym c.deref.ensures.value)
-    (subst (λ graph. AreRight graph c.in-Ok.outcome.results.items) c.copied.ensures c.in-Ok.ensures.outcome.right) in
+    AreKept (block_graph (g.S.Stencil.next w.stencil) w.cells.now w.blocks w.size w.steps) results) (sym c.deref.ensures.value)
+    (results_kept (block_graph (g.S.Stencil.next w.stencil) w.cells.now w.blocks w.size w.steps) c.in-Ok.outcome.results.items
+    (subst (λ graph. AreResults graph c.in-Ok.outcome.results.items) c.copied.ensures c.in-Ok.ensures.outcome.right)) in
     (c.type_bounds.send-S, (c.type_bounds.sync-S, right))
 
 pub unreachable-requires : goal.unreachable-requires

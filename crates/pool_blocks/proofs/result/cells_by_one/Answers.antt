@@ -1,6 +1,8 @@
 use Rattle.std.proofs.Common.{subst, sym}
 use Rattle.std.proofs.lemmas.Result.{IfErr-weaker}
+use Rattle.tp_graph.proofs.Left.{right_kept}
 use Rattle.tp_graph.specs.Graphs.{TaskGraph}
+use Rattle.tp_graph.specs.Left.{AreKept}
 use Rattle.tp_graph.specs.Serial.{AreRight, AreValues, IsSerialRefusal}
 use Rattle.pool_blocks.proofs.Lacking.{all_there, only_memory}
 use Rattle.pool_blocks.proofs.Valued.{never_failed}
@@ -11,8 +13,9 @@ pub cells_of-requires : goal.cells_of-requires
 cells_of-requires g c =
     let w = c.args.work in
     let right = subst (λ results.
-    AreRight (block_graph (g.S.Stencil.next w.stencil) w.cells.now w.blocks w.size w.steps) results) (sym c.as_slice.ensures.value)
-    (subst (λ graph. AreRight graph c.in-Ok.results.items) c.copied.ensures c.in-Ok.ensures.right) in
+    AreKept (block_graph (g.S.Stencil.next w.stencil) w.cells.now w.blocks w.size w.steps) results) (sym c.as_slice.ensures.value)
+    (right_kept (block_graph (g.S.Stencil.next w.stencil) w.cells.now w.blocks w.size w.steps) c.in-Ok.results.items
+    (subst (λ graph. AreRight graph c.in-Ok.results.items) c.copied.ensures c.in-Ok.ensures.right)) in
     (c.type_bounds.send-S, (c.type_bounds.sync-S, right))
 
 pub returns-in-Err-clause-refused : goal.returns-in-Err-clause-refused

@@ -1,5 +1,5 @@
 use Rattle.std.proofs.Common.{ap, refl, ◌∙◌, ◌++◌, inr, arith}
-use Rattle.pool_blocks.proofs.Blocks.{cells_all, cells_more}
+use Rattle.pool_blocks.proofs.Blocks.{cells_all, cells_more, last_kept}
 use Rattle.pool_blocks.proofs.Lacking.{one_more_there, lacking}
 use Rattle.pool_blocks.specs.Stencils.{block_graph}
 use Rattle.pool_blocks.proofs.result.cells_of.Goals as goal
@@ -9,7 +9,9 @@ loop-b-preserved g c =
     let w = c.args.work.now in
     let s = g.S.Stencil in
     let met = g.met.S.Stencil g.world.𝓛 g.world.𝓜 g.world.𝓡 ((λ s x. x), (λ x. x), (λ x. x), λ x. x) in
-    let right = c.in-Some.ensures.right (block_graph (s.next w.stencil) w.cells.now w.blocks w.size w.steps) c.requires in
+    let kept = last_kept (s.next w.stencil) w.cells.now w.blocks w.size w.steps c.blocks-blocks.result c.steps-steps.result c.loop-b.b
+    c.blocks-blocks.ensures.same c.steps-steps.ensures in
+    let right = c.in-Some.ensures.kept (block_graph (s.next w.stencil) w.cells.now w.blocks w.size w.steps) c.requires kept in
     record {
       made =
           c.in_ok-extend_from_slice.ensures.items

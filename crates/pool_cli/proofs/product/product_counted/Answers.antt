@@ -1,7 +1,13 @@
 use Rattle.std.proofs.Common.{rules, subst}
-use Rattle.pool_runs.proofs.Refused.{product-graph, product_refused}
+use Rattle.pool_runs.proofs.Refused.{product-graph, product_kept, product_refused}
 use Rattle.pool_cli.proofs.product.product_counted.Goals as goal
 use Rattle.tp_work.specs.Outcomes.{IsFault, IsOutcome}
+
+pub matrix_of-requires : goal.matrix_of-requires
+matrix_of-requires g c =
+    let p = c.in-Some.product in
+    rw c.deref.ensures.value
+    (product_kept c.args.config.nodes c.args.config.workers p.left.now p.right.now p.tiles p.side c.in-Ok.outcome c.in-Ok.ensures.outcome)
 
 pub unreachable-requires : goal.unreachable-requires
 unreachable-requires g c =

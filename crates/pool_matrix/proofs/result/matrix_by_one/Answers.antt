@@ -1,7 +1,15 @@
 use Rattle.std.proofs.Common.{inl}
 use Rattle.std.proofs.lemmas.Result.{IfErr-weaker}
+use Rattle.tp_graph.proofs.Left.{right_kept}
+use Rattle.pool_matrix.specs.Matrices.{matrix_graph}
 use Rattle.pool_matrix.proofs.Lacking.{all_there, only_memory}
 use Rattle.pool_matrix.proofs.result.matrix_by_one.Goals as goal
+
+pub matrix_of-requires : goal.matrix_of-requires
+matrix_of-requires c =
+    let p = c.args.product in
+    rw c.as_slice.ensures.value
+    (right_kept (matrix_graph p.left.now p.right.now p.tiles p.side) c.in_ok-results.results.items c.in_ok-results.ensures.right)
 
 pub returns-clause-refused : goal.returns-clause-refused
 returns-clause-refused c =

@@ -1,9 +1,9 @@
-use Rattle.std.proofs.Common.{pos, get_or, ap, refl, sym, ◌∙◌, inr, arith, w64}
+use Rattle.std.proofs.Common.{◌+◌, ◌*◌, ◌/◌, ◌%◌, pos, get_or, ap, refl, sym, ◌∙◌, inr, arith, w64}
 use Rattle.std.proofs.lemmas.Int.{to_z-of_z}
 use Rattle.tp_graph.specs.Values.{value_of}
 use Rattle.pool_matrix.specs.Matrices.{matrix_graph}
 use Rattle.pool_matrix.proofs.Lacking.{one_more_there, lacking, none_lacks}
-use Rattle.pool_matrix.proofs.Tiles.{number_more, row_below}
+use Rattle.pool_matrix.proofs.Tiles.{last_kept, number_more, row_below}
 use Rattle.pool_matrix.proofs.result.matrix_of.Goals as goal
 
 pub task_at-requires : goal.task_at-requires
@@ -16,7 +16,9 @@ pub loop-q-preserved : goal.loop-q-preserved
 loop-q-preserved c =
     let p = c.args.product.now in
     let number = to_z-of_z w64 c.number_at.result (record { sfits = c.number_at.type_inv }) in
-    let right = c.in-Some.ensures.right (matrix_graph p.left.now p.right.now p.tiles p.side) c.requires in
+    let tile = c.loop-q.q / c.order-order.result / p.side * p.tiles + c.loop-q.q % c.order-order.result / p.side in
+    let kept = last_kept p.left.now p.right.now p.tiles p.side c.task_at.result tile p.in_rules.some_tiles c.task_at.ensures in
+    let right = c.in-Some.ensures.kept (matrix_graph p.left.now p.right.now p.tiles p.side) c.requires kept in
     let seen = ap (value_of (matrix_graph p.left.now p.right.now p.tiles p.side)) (sym c.task_at.ensures) ∙ right in
     let next = c.number_at.ensures ∙ ap (λ l. get_or l c.place_at.result (pos 0)) c.as_slice-in-loop-q.ensures
     ∙ ap (λ k. get_or c.in-Some.value.now k (pos 0)) c.place_at.ensures in

@@ -3,8 +3,9 @@ use Rattle.std.specs.Option.{unwrap_or}
 use Rattle.std.proofs.lemmas.Nat.{mul-add-lt}
 use Rattle.pool_patterns.proofs.CellValues.{number_there}
 use Rattle.pool_patterns.proofs.Found.{has_one}
+use Rattle.pool_patterns.proofs.LastRow.{last_kept}
 use Rattle.pool_patterns.specs.Grids.{Relation}
-use Rattle.pool_patterns.specs.Kernels.{kernel_graph}
+use Rattle.pool_patterns.specs.Kernels.{kernel_graph, kernel_rule}
 use Rattle.pool_patterns.specs.Rows.{cell}
 use Rattle.pool_patterns.proofs.row.cell_at.Goals as goal
 
@@ -13,7 +14,8 @@ unreachable-requires g c =
     let t = c.args.grid.now.table.now in
     let k = c.args.grid.now.iterations in
     let r : Relation = g.P.Relation.relation t.pattern t.width in
-    let right = c.in-Some.ensures.right (kernel_graph r t.width t.steps k) c.requires.right in
+    let kept = last_kept r t.width t.steps (kernel_rule t.width k) c.last-task.result.0 c.args.column c.last-task.ensures in
+    let right = c.in-Some.ensures.kept (kernel_graph r t.width t.steps k) c.requires.right kept in
     let there = number_there r t.width t.steps k t.some_columns t.narrow t.some_steps c.args.column c.last-task.result.0
     c.in-Some.value.now c.requires.within c.last-task.ensures right in
     let bad : None ≡ Some (cell r t.width k (t.steps - 1) c.args.column) = sym c.in-Err.ensures.1 ∙ there in
@@ -33,7 +35,8 @@ returns g c =
     let t = c.args.grid.now.table.now in
     let k = c.args.grid.now.iterations in
     let r : Relation = g.P.Relation.relation t.pattern t.width in
-    let right = c.in-Some.ensures.right (kernel_graph r t.width t.steps k) c.requires.right in
+    let kept = last_kept r t.width t.steps (kernel_rule t.width k) c.last-task.result.0 c.args.column c.last-task.ensures in
+    let right = c.in-Some.ensures.kept (kernel_graph r t.width t.steps k) c.requires.right kept in
     let there = number_there r t.width t.steps k t.some_columns t.narrow t.some_steps c.args.column c.last-task.result.0
     c.in-Some.value.now c.requires.within c.last-task.ensures right in
     ap (λ o. unwrap_or o 0) (sym c.in-Ok.ensures.0 ∙ there)

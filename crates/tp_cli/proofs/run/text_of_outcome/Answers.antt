@@ -3,9 +3,16 @@ use Rattle.std.proofs.lemmas.Result.{IfOk-weaker}
 use Rattle.tp_cli.proofs.Counted.{tasks-outcome}
 use Rattle.tp_cli.proofs.Printed.{printed_table}
 use Rattle.tp_cli.specs.Runs.{IsPrintOf}
+use Rattle.tp_graph.proofs.Left.{results_right}
+use Rattle.pool_samples.proofs.Keeping.{any_keeps}
 use Rattle.pool_samples.specs.Any.{any_graph}
 use Rattle.tp_text.proofs.Present.{run_in_each}
 use Rattle.tp_cli.proofs.run.text_of_outcome.Goals as goal
+
+pub text_of_results-requires-clause-right : goal.text_of_results-requires-clause-right
+text_of_results-requires-clause-right c =
+    rw c.deref.ensures.value
+    (results_right (any_graph c.args.graph) c.args.outcome.now.results.items (any_keeps c.args.graph) c.requires.made.right)
 
 pub text_of_results-requires-clause-tasks : goal.text_of_results-requires-clause-tasks
 text_of_results-requires-clause-tasks c =

@@ -1,7 +1,7 @@
 use Rattle.std.specs.Prelude.{◌≡◌, ◌≤◌, ◌+◌, length, map, sum_by, vec_capacity, vec_len}
 use Rattle.std.specs.List.{All, flat_map}
 use Rattle.std.specs.Vec.Iter.{into_iter_items}
-use Rattle.tp_graph.specs.Serial.{AreRight}
+use Rattle.tp_graph.specs.Left.{AreResults}
 use Rattle.tp_node.specs.Nodes.{IsOfPool, anew}
 use Rattle.tp_node.proofs.reopening.take_apart.Given as goal
 
@@ -13,7 +13,7 @@ invariant-loop-node g l =
       bare : l.bare.items ≡ map anew l.yielded;
       pool : All (IsOfPool g.K.Ledgers.names.nodes) l.bare.items;
       results : l.results.items ≡ flat_map (λ n. n.state.store.results) l.yielded;
-      right : (graph : _) → All (λ n. n.graph ≡ graph) l.yielded → AreRight (g.G.Graph.meaning graph) l.results.items;
+      right : (graph : _) → All (λ n. n.graph ≡ graph) l.yielded → AreResults (g.G.Graph.meaning graph) l.results.items;
       shares_room : vec_len l.shares + length (into_iter_items l.node-iterator) ≤ vec_capacity l.shares;
       bare_room : vec_len l.bare + length (into_iter_items l.node-iterator) ≤ vec_capacity l.bare;
       results_room : vec_len l.results + sum_by (λ n.

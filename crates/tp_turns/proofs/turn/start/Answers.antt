@@ -10,4 +10,4 @@ returns-then-pending-gt0 g c = start_active _ _ _ (subst (λ p. 0 < p) c.require
 pub returns : goal.returns
 returns g c =
     let idle : pending_at 0 (present_events c.args.board.now.history) ≡ 0 = omega arith in
-    start_tried c.start.result idle c.start.ensures.ok c.start.ensures.refusal c.start.ensures.refused c.moved.ensures
+    start_tried c.start.result idle c.start.ensures.ok c.start.ensures.refusal c.start.ensures.piece c.start.ensures.refused c.moved.ensures

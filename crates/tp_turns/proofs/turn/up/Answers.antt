@@ -9,4 +9,6 @@ returns-then-child-nodes g c =
     up_outside _ _ _ _ outside
 
 pub returns : goal.returns
-returns g c = rw (← c.node.ensures.number) (up_tried c.up.result c.up.ensures.ok c.up.ensures.refusal c.up.ensures.refused c.moved.ensures)
+returns g c =
+    rw (← c.node.ensures.number)
+    (up_tried c.up.result c.up.ensures.ok c.up.ensures.refusal c.up.ensures.piece c.up.ensures.refused c.moved.ensures)

@@ -1,7 +1,7 @@
 use Rattle.std.proofs.Common.{◌≡◌, ap, false, is_some, sym, ◌∙◌, rules}
 use Rattle.tp_board.specs.Numbers.{ShareNumbers}
 use Rattle.tp_node.specs.Nodes.{NodeState}
-use Rattle.tp_node.proofs.Turns.{answered, appended, idle, kept, refused, turn_told, unset}
+use Rattle.tp_node.proofs.Turns.{answered, appended, at_piece, idle, kept, refused, turn_told, unset}
 use Rattle.tp_node.proofs.node.Node.control_turn.Goals as goal
 
 pub returns : goal.returns
@@ -19,6 +19,7 @@ returns g c =
       event = appended now sound turn;
       answer = answered now sound turn;
       refusal = refused now sound turn;
+      piece = at_piece now sound turn;
       refused = kept now sound turn;
     }
 

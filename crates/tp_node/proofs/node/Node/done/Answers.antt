@@ -1,8 +1,10 @@
 use Rattle.std.proofs.Common.{◌≡◌, IsTrue, Some, ap, subst, sym, ◌∙◌, rules}
-use Rattle.tp_graph.specs.Values.{value_of}
+use Rattle.tp_base.specs.declared.ids.TaskId.{TaskId}
+use Rattle.tp_graph.proofs.Left.{result_left}
+use Rattle.tp_graph.specs.Left.{left_of, result_of}
 use Rattle.tp_node.proofs.Kept.{done_keeps}
 use Rattle.tp_node.proofs.Running.{it_runs, running_done}
-use Rattle.tp_node.specs.Nodes.{NodeState}
+use Rattle.tp_node.specs.Nodes.{NodeState, done_with}
 use Rattle.tp_node.specs.Refused.{runs}
 use Rattle.tp_node.proofs.node.Node.done.Goals as goal
 
@@ -16,11 +18,20 @@ unreachable-requires g c =
 
 pub invariant_of-self-2 : goal.invariant_of-self-2
 invariant_of-self-2 g c =
-    let graph : c.args.finished.graph ≡ c.self.inside.graph = c.requires.graph ∙ sym (ap (λ n. n.graph) c.self.view_is) in
-    let right : value_of (g.G.Graph.meaning c.self.inside.graph) c.task-task.result.0 ≡ Some c.into_value.result =
-    rw (← graph, c.task-task.ensures.same) c.into_value.ensures.right in
-    done_keeps _ _ _ _ _ _ _ c.task-task.result _ _ c.self.invariant c.into_value.result right c.in-Ok.ensures.done
+    let ran = c.args.finished in
+    let meaning = g.G.Graph.meaning in
+    let left = c.into_left-left in
+    let graph : ran.graph ≡ c.self.inside.graph = c.requires.graph ∙ sym (ap (λ n. n.graph) c.self.view_is) in
+    let result : result_of (meaning ran.graph) ran.task.0 ≡ Some left.result =
+    result_left (meaning ran.graph) ran.task.0 ran.value left.ensures.right ∙ ap Some (sym left.ensures.left) in
+    let right : result_of (meaning c.self.inside.graph) c.task-task.result.0 ≡ Some left.result =
+    subst (λ own. result_of (meaning own) c.task-task.result.0 ≡ Some left.result) graph
+    (ap (λ (t : TaskId). result_of (meaning ran.graph) t.0) c.task-task.ensures.same ∙ result) in
+    done_keeps _ _ _ _ _ _ _ c.task-task.result _ _ c.self.invariant left.result right c.in-Ok.ensures.done
     c.in_default-append.ensures.shares c.in-Ok.ensures.counted
 
 pub returns-clause-done : goal.returns-clause-done
-returns-clause-done g c = search rules
+returns-clause-done g c =
+    let ran = c.args.finished in
+    let same = c.into_left-left.ensures.left ∙ ap (λ own. left_of (g.G.Graph.meaning own) ran.task.0 ran.value) c.requires.graph in
+    search rules ∙ ap (λ value. done_with ran.task value c.args.self.now) same
