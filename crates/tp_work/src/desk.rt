@@ -43,6 +43,7 @@ impl Share {
 
     /// A worker's share of so many ready tasks, at least 1, where the history has so many events. More than one are no more
     /// than it has places left, so a history is full where it would be if one began at a time.
+    #[inline(always)]
     fn of_ready(self, ready: u32, events: usize) -> u32
         requires { events ≤ 1048576 }
         ensures few { (1 ≤ result) × (result ≤ self.most) }
@@ -50,6 +51,9 @@ impl Share {
         ensures places { 1 < result → events + result ≤ 1048576 }
         ensures same { result ≡ max (min (min (ready / self.workers) (1048576 - events)) self.most) 1 }
     {
+        if self.most == 1 {
+            return 1;
+        }
         let left = MAX_STEPS - events as u32;
         (ready / self.workers).min(left).min(self.most).max(1)
     }

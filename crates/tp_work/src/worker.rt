@@ -67,12 +67,12 @@ enum WorkerTurn<K: Ledgers> {
     Stop,
 }
 
-/// What a worker saw when its node could make no control step: how many there were, and the node's pending number. As long
-/// as it sees the same it need not ask again.
+/// What a worker saw when its node could make no control step: how many there were, and whether the node was idle. Which step
+/// comes next depends on nothing else, so as long as it sees the same it need not ask again.
 #[derive(Clone, Copy, PartialEq, Eq)]
 struct Seen {
     control_steps: u64,
-    pending: u32,
+    is_idle: bool,
 }
 
 impl<'a, G: Comparable, K: Ledgers, A: Gate, R: Wait> Worker<'a, G, K, A, R> {
@@ -278,7 +278,7 @@ impl<'a, G: Comparable, K: Ledgers, A: Gate, R: Wait> Worker<'a, G, K, A, R> {
     {
         let now = Some(Seen {
             control_steps: self.locks.control_steps.load(Ordering::SeqCst),
-            pending: here.pending(),
+            is_idle: here.pending() == 0,
         });
         if *seen == now {
             return Ok(WorkerTurn::Idle);

@@ -3,11 +3,12 @@ ghost use Rattle.tp_node.specs.Feeds as feeds;
 ghost use Rattle.tp_node.specs.Feeds.{HasFeed};
 ghost use Rattle.tp_work.specs.Feeds.{GoesTo, IsFarther, IsSameNode};
 
+use crate::desk::Desk;
 use crate::gate::Gate;
-use crate::locks::{check_wire, link_place, lock_soon};
+use crate::locks::{Site, check_wire, link_place, lock_soon};
 use crate::worker::Worker;
-use std::sync::Wait;
 use std::sync::atomic::Ordering;
+use std::sync::{MutexGuard, Wait};
 use tp_base::{NodeId, Refusal};
 use tp_board::{Board, Ledgers};
 use tp_graph::{Comparable, Graph, is_same};
@@ -15,7 +16,7 @@ use tp_node::{Finished, Node, Wire};
 
 impl<'a, G: Comparable, K: Ledgers, A: Gate, R: Wait> Worker<'a, G, K, A, R> {
     /// Passes the feeds of a finished task on, and records it as done. One hold of the board's lock serves all feeds in a
-    /// row that stay at the node.
+    /// row that stay at the node, the one that was sent to another node just before them, and the record.
     pub fn pass_on(&self, here: &mut Node<G, K>, finished: Finished<G>) -> Result<(), Refusal>
         requires { here.old.graph ≡ self.now.graph }
         ensures { here.new.graph ≡ here.old.graph }
@@ -26,28 +27,40 @@ impl<'a, G: Comparable, K: Ledgers, A: Gate, R: Wait> Worker<'a, G, K, A, R> {
         let mut finished = finished;
         let mut next = next_home(&finished, here.nodes());
         while let Some(home) = next {
-            if home != here.number() {
-                self.send(here, home, &mut finished)?;
-                next = next_home(&finished, here.nodes());
+            if home == here.number() {
+                let mut board = lock_soon(self.rt, &self.locks.board);
+                next = feed_here(here, &mut board, &mut finished)?;
+                if next.is_none() {
+                    return record_done(here, &mut board, finished);
+                }
                 continue;
             }
-            let mut board = lock_soon(self.rt, &self.locks.board);
-            next = feed_here(here, &mut board, &mut finished)?;
+            let Some(there) = self.locks.sites.get(home.0 as usize) else {
+                return Err(Refusal::NoNode);
+            };
+            let mut board = self.send(here, there, home, &mut finished)?;
+            next = feed_on(here, &mut board, &mut finished)?;
             if next.is_none() {
-                return record_done(here, &mut board, finished);
+                let done = record_done(here, &mut board, finished);
+                drop(board);
+                there.bell.ring();
+                return done;
             }
+            drop(board);
+            there.bell.ring();
         }
         let mut board = lock_soon(self.rt, &self.locks.board);
         record_done(here, &mut board, finished)
     }
 
-    /// Passes the next feed on to another node.
+    /// Passes the next feed on to another node, and hands out the board's lock, which is still held: whoever drops it rings there.
     fn send(
         &self,
         here: &mut Node<G, K>,
+        there: &Site<Desk<G, K>>,
         to: NodeId,
         finished: &mut Finished<G>,
-    ) -> Result<(), Refusal>
+    ) -> Result<MutexGuard<'a, Board<K>>, Refusal>
         requires graph { finished.old.graph ≡ here.old.graph }
         requires next { HasFeed (G.meaning here.old.graph) finished.old }
         requires there { feeds.next_home (G.meaning here.old.graph) finished.old here.old.nodes ≡ to.0 }
@@ -59,20 +72,12 @@ impl<'a, G: Comparable, K: Ledgers, A: Gate, R: Wait> Worker<'a, G, K, A, R> {
         let Some(line) = self.locks.lines.get(link_place(number.0, to.0, nodes)) else {
             return Err(Refusal::NoNode);
         };
-        let Some(there) = self.locks.sites.get(to.0 as usize) else {
-            return Err(Refusal::NoNode);
-        };
         let mut wire = lock_soon(self.rt, &line.wire);
         let mut board = lock_soon(self.rt, &self.locks.board);
-        let sent = send_next(here, &mut wire, &mut board, to, finished);
-        drop(board);
+        send_next(here, &mut wire, &mut board, to, finished)?;
         line.length.store(wire.len() as u64, Ordering::SeqCst);
-        if sent.is_ok() {
-            there.mail.fetch_add(1, Ordering::SeqCst);
-        }
-        drop(wire);
-        there.bell.ring();
-        sent
+        there.mail.fetch_add(1, Ordering::SeqCst);
+        Ok(board)
     }
 }
 
@@ -106,8 +111,34 @@ fn next_home<G: Graph>(finished: &Finished<G>, nodes: u32) -> Option<NodeId>
     if finished.all_fed() {
         return None;
     }
+    if nodes == 1 {
+        return Some(NodeId(0));
+    }
     let feed = finished.next_feed();
     Some(finished.graph().home(feed.target, nodes))
+}
+
+/// Passes on the next feeds that stay at the node, where the next one does. It answers where the next one goes then, where one
+/// is left.
+fn feed_on<G: Graph, K: Ledgers>(
+    here: &mut Node<G, K>,
+    board: &mut Board<K>,
+    finished: &mut Finished<G>,
+) -> Result<Option<NodeId>, Refusal>
+    requires graph { finished.old.graph ≡ here.old.graph }
+    ensures node { IsSameNode here.old here.new }
+    ensures graph { OnOk result (finished.new.graph ≡ finished.old.graph) }
+    ensures task { OnOk result (finished.new.task ≡ finished.old.task) }
+    ensures passed { OnOk result (finished.old.fed ≤ finished.new.fed) }
+    ensures next { IfOk result (λ next.
+        MatchOption next (finished.new.fed
+        ≡ (G.meaning finished.new.graph).feeds finished.new.task.0) (λ home.
+        GoesTo (G.meaning finished.new.graph) finished.new here.old.nodes home.0)) }
+{
+    match next_home(finished, here.nodes()) {
+        Some(home) if home == here.number() => feed_here(here, board, finished),
+        next => Ok(next),
+    }
 }
 
 /// Passes the next feed on to the node itself, and those after it, as long as they stay there. It answers where the next one
