@@ -89,7 +89,8 @@ pub fn allocate<X, A: Allocator>(
     len: usize,
 ) -> Result<(At<X>, Cells<X>, Deed<X, A>), AllocError>
     requires { FitsInBlock X.row len }
-    ensures { IfOk result (λ r. (r.1.cells ≡ row_from X.row r.0.ptr len) × (r.1.cells ≡ empty_at r.2.row) × (r.2.at ≡ r.0.ptr) × (r.2.len ≡ len) × (r.2.alloc ≡ alloc.now) × InBlock r.0.ptr) }
+    ensures { IfOk result (λ r. (r.1.cells ≡ row_from X.row r.0.ptr len) × (r.1.cells ≡ empty_at r.2.row) × (r.2.at ≡ r.0.ptr)
+        × (r.2.len ≡ len) × (r.2.alloc ≡ alloc.now) × InBlock r.0.ptr) }
 {
     match alloc.allocate(len * size_of::<X>(), align_of::<X>()) {
         Ok(block) => {

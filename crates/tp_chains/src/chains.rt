@@ -127,8 +127,10 @@ fn set_next<T>(cells: &mut Cells<Slot<T>>, link: Link<T>, next: Option<Link<T>>)
 pub fn append<T>(cells: &mut Cells<Slot<T>>, chain: &mut Chain<T>, link: Link<T>)
     requires chain { (places : List ℕ) × IsChain cells.old.cells chain.old places × (count_by (λ x. x == link.place) places ≡ 0) }
     requires link { IsLink cells.old.cells link }
-    ensures chain { (places : List ℕ) → IsChain cells.old.cells chain.old places → count_by (λ x. x == link.place) places ≡ 0 → IsChain cells.new.cells chain.new (places ++ link.place ∷ []) }
-    ensures others { (places : List ℕ) → IsChain cells.old.cells chain.old places → KeepsOthers cells.old.cells cells.new.cells (link.place ∷ places) }
+    ensures chain { (places : List ℕ) → IsChain cells.old.cells chain.old places → count_by (λ x. x == link.place) places ≡ 0
+        → IsChain cells.new.cells chain.new (places ++ link.place ∷ []) }
+    ensures others { (places : List ℕ) → IsChain cells.old.cells chain.old places
+        → KeepsOthers cells.old.cells cells.new.cells (link.place ∷ places) }
 {
     set_next(cells, link, None);
     let Some(back) = chain.back else {
@@ -144,7 +146,8 @@ pub fn append<T>(cells: &mut Cells<Slot<T>>, chain: &mut Chain<T>, link: Link<T>
 pub fn put_front<T>(cells: &mut Cells<Slot<T>>, chain: &mut Chain<T>, link: Link<T>)
     requires chain { (places : List ℕ) × IsChain cells.old.cells chain.old places × (count_by (λ x. x == link.place) places ≡ 0) }
     requires link { IsLink cells.old.cells link }
-    ensures chain { (places : List ℕ) → IsChain cells.old.cells chain.old places → count_by (λ x. x == link.place) places ≡ 0 → IsChain cells.new.cells chain.new (link.place ∷ places) }
+    ensures chain { (places : List ℕ) → IsChain cells.old.cells chain.old places → count_by (λ x. x == link.place) places ≡ 0
+        → IsChain cells.new.cells chain.new (link.place ∷ places) }
     ensures others { KeepsOthers cells.old.cells cells.new.cells (link.place ∷ []) }
 {
     set_next(cells, link, chain.front);
@@ -158,7 +161,9 @@ pub fn put_front<T>(cells: &mut Cells<Slot<T>>, chain: &mut Chain<T>, link: Link
 /// Takes the front slot out of the list.
 pub fn take_front<T>(cells: &Cells<Slot<T>>, chain: &mut Chain<T>) -> Option<Link<T>>
     requires { (places : List ℕ) × IsChain cells.now.cells chain.old places }
-    ensures { (places : List ℕ) → IsChain cells.now.cells chain.old places → MatchOption result ((places ≡ []) × IsChain cells.now.cells chain.new []) (λ link. IsLink cells.now.cells link × (rest : List ℕ) × (places ≡ link.place ∷ rest) × IsChain cells.now.cells chain.new rest) }
+    ensures { (places : List ℕ) → IsChain cells.now.cells chain.old places
+        → MatchOption result ((places ≡ []) × IsChain cells.now.cells chain.new []) (λ link. IsLink cells.now.cells link
+        × (rest : List ℕ) × (places ≡ link.place ∷ rest) × IsChain cells.now.cells chain.new rest) }
 {
     let Some(link) = chain.front else {
         return None;

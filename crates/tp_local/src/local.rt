@@ -13,8 +13,8 @@ ghost use Rattle.tp_store.specs.Sound.{IsSound};
 ghost use Rattle.tp_store.specs.declared.life.Life.TheVariants as lives;
 ghost use Rattle.tp_local.specs.Actions.{open_count, without_opening, with_named, without_named, with_message, without_message};
 ghost use Rattle.tp_local.specs.Actions.{has_message};
-ghost use Rattle.tp_local.specs.Locals.{first_state, pending_here, is_live, standing, refusal_of_insertion, refusal_of_delivery, send_checks};
-ghost use Rattle.tp_local.specs.Locals.{receive_checks, end_checks, open_checks, close_checks, ready_checks, finish_checks};
+ghost use Rattle.tp_local.specs.Locals.{first_state, pending_here, is_live, standing, refusal_of_insertion, refusal_of_delivery};
+ghost use Rattle.tp_local.specs.Locals.{send_checks, receive_checks, end_checks, open_checks, close_checks, ready_checks, finish_checks};
 
 use crate::actions::OpenActions;
 use crate::holder::Holder;

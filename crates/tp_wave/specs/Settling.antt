@@ -19,4 +19,6 @@ pub record ComesNext (n : ℕ) (h : History) (e : Event) : Type 0 where
 
 -- After a quiet run whose end was not judged the rules allow a control step.
 abbrev pub GoesOnLaw : Type 0
-GoesOnLaw = (n : ℕ) (h : History) → 0 < n → IsRun n h → IsQuietHistory n h → IsFalse (is_ended n (steps_of h)) → (e : Event) × ComesNext n h e
+GoesOnLaw =
+    (n : ℕ) (h : History) → 0 < n → IsRun n h → IsQuietHistory n h → IsFalse (is_ended n (steps_of h))
+    → (e : Event) × ComesNext n h e
