@@ -22,7 +22,8 @@ const ROWS: [Row; 9] = [
     ),
     // The first wave proves nothing: one message is under way.
     (
-        "trace 1\nnodes 2\nsend 0 1 1\nready 0\nready 1\nstart\ndown 1\ngive 1\nup 1\ngive 0\njudge not\nstart\ndown 1\ngive 1\nup 1\ngive 0\njudge ended 1\n",
+        "trace 1\nnodes 2\nsend 0 1 1\nready 0\nready 1\nstart\ndown 1\ngive 1\nup 1\ngive 0\njudge not\n\
+            start\ndown 1\ngive 1\nup 1\ngive 0\njudge ended 1\n",
         Verdict::Refused,
         "line 17 unjustified\n",
     ),
@@ -47,7 +48,8 @@ const ROWS: [Row; 9] = [
         "line 6 refused 5 WrongLife\n",
     ),
     (
-        "trace 1\nnodes 3\nready 0\nready 1\nstart\ndown 1\ngive 1\nsend 2 1 1\nrecv 1 1\nsend 1 2 2\nrecv 2 2\nend 2 2\nready 2\ndown 2\ngive 2\nup 1\nup 2\ngive 0\njudge ended 1\n",
+        "trace 1\nnodes 3\nready 0\nready 1\nstart\ndown 1\ngive 1\nsend 2 1 1\nrecv 1 1\nsend 1 2 2\nrecv 2 2\n\
+            end 2 2\nready 2\ndown 2\ngive 2\nup 1\nup 2\ngive 0\njudge ended 1\n",
         Verdict::Refused,
         "line 19 unjustified\n",
     ),

@@ -109,7 +109,8 @@ module _ {T : Type 0} where
         once = λ q. grind (arith, nat_tests, stands-cons q l.place []);
       }
 
-  pub appended : (cs : List (Ptr × Option (Slot T))) (front : Option (Link T)) (b l : Link T) (places : List ℕ) → IsLink cs l → IsChain cs (record { front = front; back = Some b }) places → stands l.place places ≡ 0
+  pub appended : (cs : List (Ptr × Option (Slot T))) (front : Option (Link T)) (b l : Link T) (places : List ℕ) → IsLink cs l
+      → IsChain cs (record { front = front; back = Some b }) places → stands l.place places ≡ 0
       → IsChain (with_next (with_next cs l.place None) b.place (Some l)) (record { front = front; back = Some l }) (places ++ l.place ∷ [])
   appended cs front b l places hl chain none =
       let qs = chain.back.1 in
@@ -130,7 +131,8 @@ module _ {T : Type 0} where
         once = once_more places l.place chain.once none;
       }
 
-  pub put_before : (cs : List (Ptr × Option (Slot T))) (front back : Option (Link T)) (l : Link T) (places : List ℕ) → IsLink cs l → IsChain cs (record { front = front; back = back }) places → stands l.place places ≡ 0
+  pub put_before : (cs : List (Ptr × Option (Slot T))) (front back : Option (Link T)) (l : Link T) (places : List ℕ) → IsLink cs l
+      → IsChain cs (record { front = front; back = back }) places → stands l.place places ≡ 0
       → IsPath (with_next cs l.place front) (Some l) (l.place ∷ places)
   put_before cs front back l places hl chain none =
       (refl, still_full cs l.place front l.ptr hl l.place l.ptr hl, rw (next_here cs l.place front l.ptr hl) (path_kept cs l.place front l.ptr hl places front none chain.path))
@@ -169,7 +171,8 @@ module _ {T : Type 0} where
   back_before cs None next l places b hl e h = cc
   back_before cs (Some x) next l places b hl e h = (still_full cs l.place next l.ptr hl x.place x.ptr h.0, l.place ∷ h.1, ap (λ ps. l.place ∷ ps) h.2)
 
-  module _ (cs : List (Ptr × Option (Slot T))) (places : List ℕ) (chain : Chain T) (l : Link T) (next : Option (Link T)) (at : chain.front ≡ Some l) (whole : IsChain cs chain places) (leads : next_at cs l.place ≡ next) where
+  module _ (cs : List (Ptr × Option (Slot T))) (places : List ℕ) (chain : Chain T) (l : Link T) (next : Option (Link T))
+      (at : chain.front ≡ Some l) (whole : IsChain cs chain places) (leads : next_at cs l.place ≡ next) where
     -- the only slot is taken
     pub taken_last : next ≡ None → IsLink cs l × (rest : List ℕ) × (places ≡ l.place ∷ rest) × IsChain cs (record { front = next; back = None }) rest
     taken_last none =

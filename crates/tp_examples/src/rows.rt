@@ -102,7 +102,8 @@ pub(crate) static TRACE_TEXTS: [(&str, &str); 12] = [
     ),
     (
         "an-end-that-is-right-over-all-generations-alone",
-        "trace 2\nnodes 1\nready 0\nstart\ngive 0\njudge not\nstart\ngive 0\njudge ended 1\nreopen\nready 0\nstart\ngive 0\njudge ended 2\n",
+        "trace 2\nnodes 1\nready 0\nstart\ngive 0\njudge not\nstart\ngive 0\njudge ended 1\n\
+            reopen\nready 0\nstart\ngive 0\njudge ended 2\n",
     ),
     ("a-trace-of-no-version", "trace 3\nnodes 1\n"),
 ];

@@ -40,7 +40,8 @@ polyline.wave,circle.wave{stroke:#e0a83a}polyline.tells,circle.tells,.end{stroke
 text.tells,.told,.seen{fill:#4fc47a}.over{fill:#4fc47a;fill-opacity:.12}
 .lost,path.fault{stroke:#ff6b81}text.fault{fill:#ff6b81}path.seam{stroke:#e6e9ed}}
 </style>
-<defs><marker id=\"a\" viewBox=\"0 0 8 8\" refX=\"7\" refY=\"4\" markerWidth=\"6\" markerHeight=\"6\" orient=\"auto\"><path class=\"dot\" d=\"M0,0.8L8,4L0,7.2z\"/></marker></defs>
+<defs><marker id=\"a\" viewBox=\"0 0 8 8\" refX=\"7\" refY=\"4\" markerWidth=\"6\" markerHeight=\"6\" orient=\"auto\">\
+<path class=\"dot\" d=\"M0,0.8L8,4L0,7.2z\"/></marker></defs>
 <rect class=\"page\" width=\"100%\" height=\"100%\"/>
 ";
 
