@@ -1,3 +1,4 @@
+mod Alone
 mod Beginning
 pub mod Counted
 pub mod Gathering

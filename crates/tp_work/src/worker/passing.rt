@@ -53,7 +53,8 @@ impl<'a, G: Comparable, K: Ledgers, A: Gate, R: Wait> Worker<'a, G, K, A, R> {
         record_done(here, &mut board, finished)
     }
 
-    /// Passes the next feed on to another node, and hands out the board's lock, which is still held: whoever drops it rings there.
+    /// Passes the next feed on to another node, and those after it, as long as they go there. It hands out the board's lock,
+    /// which is still held: whoever drops it rings there.
     fn send(
         &self,
         here: &mut Node<G, K>,
@@ -74,9 +75,12 @@ impl<'a, G: Comparable, K: Ledgers, A: Gate, R: Wait> Worker<'a, G, K, A, R> {
         };
         let mut wire = lock_soon(self.rt, &line.wire);
         let mut board = lock_soon(self.rt, &self.locks.board);
-        send_next(here, &mut wire, &mut board, to, finished)?;
+        let before = finished.fed();
+        send_row(here, &mut wire, &mut board, to, finished)?;
         line.length.store(wire.len() as u64, Ordering::SeqCst);
-        there.mail.fetch_add(1, Ordering::SeqCst);
+        there
+            .mail
+            .fetch_add((finished.fed() - before) as u64, Ordering::SeqCst);
         Ok(board)
     }
 }
@@ -100,6 +104,31 @@ fn send_next<G: Graph, K: Ledgers>(
     Ok(())
 }
 
+/// Passes the next feed on over a wire, and those after it, as long as they go to the same node.
+fn send_row<G: Graph, K: Ledgers>(
+    here: &mut Node<G, K>,
+    wire: &mut Wire<G, K>,
+    board: &mut Board<K>,
+    to: NodeId,
+    finished: &mut Finished<G>,
+) -> Result<(), Refusal>
+    requires graph { finished.old.graph ≡ here.old.graph }
+    requires next { HasFeed (G.meaning here.old.graph) finished.old }
+    requires there { feeds.next_home (G.meaning here.old.graph) finished.old here.old.nodes ≡ to.0 }
+    ensures node { IsSameNode here.old here.new }
+    ensures passed { OnOk result (IsFarther finished.old finished.new) }
+{
+    let nodes = here.nodes();
+    send_next(here, wire, board, to, finished)?;
+    while let Some(home) = next_home(finished, nodes) {
+        if home != to {
+            break;
+        }
+        send_next(here, wire, board, to, finished)?;
+    }
+    Ok(())
+}
+
 /// The node, of so many, that the next feed goes to, where one is left.
 #[inline(always)]
 fn next_home<G: Graph>(finished: &Finished<G>, nodes: u32) -> Option<NodeId>
@@ -111,6 +140,7 @@ fn next_home<G: Graph>(finished: &Finished<G>, nodes: u32) -> Option<NodeId>
     if finished.all_fed() {
         return None;
     }
+    let _task = finished.task(); // one of the graph's, so its feeds are tasks with homes
     if nodes == 1 {
         return Some(NodeId(0));
     }
