@@ -73,20 +73,41 @@ pub(crate) struct Line<G: Graph, K: Ledgers> {
     pub length: AtomicU64,
 }
 
-/// How often a held lock is tried, with a spin between, before a thread sleeps on it: a lock is mostly free before so many
-/// tries are over, and a sleep and its wake cost more. docs/DECISIONS.md has the measurements.
-const TRIES: u32 = 100;
+/// How often a held lock is tried again, after a moment's spin each time, before a thread sleeps on it: a lock is mostly free
+/// before so many tries are over, and a sleep and its wake cost more. docs/DECISIONS.md has the measurements.
+const TRIES: u32 = 12;
+
+/// How many spins the first of these moments takes. Each further one takes twice as many: a try takes the lock's word away from
+/// whoever holds the lock, and what lies beside it.
+const FIRST_SPINS: u32 = 32;
+
+/// How many spins a moment takes at most: a lock that is free should not wait long to be seen.
+const MOST_SPINS: u32 = 128;
 
 /// Takes a lock. Where it is held, the thread tries it again for a moment, and then sleeps as std has it. It does not yield: one
 /// that yielded would wait for all others that want its processor, and many that yield keep it from the one that holds the
 /// lock.
 #[inline(always)]
 pub(crate) fn lock_soon<'l, T, R: Wait>(rt: &R, lock: &'l Mutex<T>) -> MutexGuard<'l, T> {
+    match lock.try_lock() {
+        Some(guard) => guard,
+        None => lock_later(rt, lock),
+    }
+}
+
+/// Takes a lock that was held a moment ago.
+#[cold]
+#[inline(never)]
+fn lock_later<'l, T, R: Wait>(rt: &R, lock: &'l Mutex<T>) -> MutexGuard<'l, T> {
+    let mut spins = FIRST_SPINS;
     for _ in 0..TRIES {
+        for _ in 0..spins {
+            spin_loop();
+        }
         if let Some(guard) = lock.try_lock() {
             return guard;
         }
-        spin_loop();
+        spins = spins.saturating_mul(2).min(MOST_SPINS);
     }
     lock.lock(rt)
 }

@@ -173,6 +173,7 @@ fn feed_on<G: Graph, K: Ledgers>(
 
 /// Passes the next feed on to the node itself, and those after it, as long as they stay there. It answers where the next one
 /// goes, where one is left.
+#[inline(always)]
 fn feed_here<G: Graph, K: Ledgers>(
     here: &mut Node<G, K>,
     board: &mut Board<K>,
