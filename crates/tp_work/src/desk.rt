@@ -1,5 +1,5 @@
-ghost use Rattle.std.specs.Prelude.{◌≡◌, ◌≢◌, ◌⊎◌, ◌+◌, ◌-◌, ◌++◌, ◌*◌, ◌/◌, ◌<◌, ◌≤◌, [], None, Some, IfErr, IfNone, IsOk, MatchOption};
-ghost use Rattle.std.specs.Prelude.{OnErr, OnOk, length, max, min, reverse, vec_capacity, vec_len};
+ghost use Rattle.std.specs.Prelude.{◌≡◌, ◌≢◌, ◌⊎◌, ◌+◌, ◌-◌, ◌++◌, ◌*◌, ◌/◌, ◌<◌, ◌≤◌, [], None, Some, IfErr, IfNone, IsFalse, IsOk, IsTrue};
+ghost use Rattle.std.specs.Prelude.{MatchOption, OnErr, OnOk, length, max, min, reverse, vec_capacity, vec_len};
 ghost use Rattle.std.specs.Option.{option_to_list};
 ghost use Rattle.tp_base.specs.declared.refusal.Refusal.TheVariants.{NoMemory};
 ghost use Rattle.tp_board.specs.Calls.{Appends};
@@ -103,9 +103,25 @@ impl<G: Graph, K: Ledgers> Desk<G, K> {
         node
     }
 
-    /// Takes the next work that waits, where there is one.
+    /// Takes the next work that waits and puts it where the worker wants it, so that it is moved once. It answers whether there
+    /// was one; where none waits, nothing changes.
     #[inline(always)]
-    pub fn take(&mut self) -> Option<Work<G>>
+    pub fn take(&mut self, begun: &mut Option<Work<G>>) -> bool
+        ensures node { self.new.node ≡ self.old.node }
+        ensures next { IsTrue result → self.old.begun ≡ option_to_list begun.new ++ self.new.begun }
+        ensures taken { IsTrue result → begun.new ≢ None }
+        ensures none { IsFalse result → (self.old.begun ≡ []) × (self.new ≡ self.old) × (begun.new ≡ begun.old) }
+    {
+        if self.begun.is_empty() {
+            return false;
+        }
+        *begun = self.take_last();
+        true
+    }
+
+    /// Takes the next work that waits, where there is one. Apart from `take`, since mostly none does.
+    #[inline(never)]
+    fn take_last(&mut self) -> Option<Work<G>>
         ensures node { self.new.node ≡ self.old.node }
         ensures next { self.old.begun ≡ option_to_list result ++ self.new.begun }
         ensures none { IfNone result (self.new.begun ≡ []) }

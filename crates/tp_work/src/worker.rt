@@ -201,9 +201,9 @@ impl<'a, G: Comparable, K: Ledgers, A: Gate, R: Wait> Worker<'a, G, K, A, R> {
         spent: &mut Option<Value>,
     ) -> Result<WorkerTurn<K>, Refusal> {
         check_node(&desk.node, self.place, &self.graph)?;
-        if let Some(finished) = hands.finished.take() {
-            *spent = unkept(&finished)?;
-            self.pass_on(&mut desk.node, finished)?;
+        if let Some(finished) = &hands.finished {
+            *spent = unkept(finished)?;
+            self.pass_on(&mut desk.node, &mut hands.finished)?;
         }
         if self.locks.is_stopped.load(Ordering::SeqCst) {
             return Ok(WorkerTurn::Stop);
@@ -260,8 +260,7 @@ impl<'a, G: Comparable, K: Ledgers, A: Gate, R: Wait> Worker<'a, G, K, A, R> {
     /// begins.
     #[inline(always)]
     fn next_work(&self, desk: &mut Desk<G, K>, begun: &mut Option<Work<G>>) -> Result<(), Refusal> {
-        if let Some(work) = desk.take() {
-            *begun = Some(work);
+        if desk.take(begun) {
             return Ok(());
         }
         let mut board = lock_soon(self.rt, &self.locks.board);

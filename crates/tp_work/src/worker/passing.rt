@@ -14,43 +14,82 @@ use tp_board::{Board, Ledgers};
 use tp_graph::{Comparable, Graph, is_same};
 use tp_node::{Finished, Node, Wire};
 
+/// What passing on a task's feeds leaves: the board's lock, and the node to be rung once it is free.
+#[derive(Drop)]
+struct Passed<'a, G: Graph, K: Ledgers> {
+    board: MutexGuard<'a, Board<K>>,
+    told: Option<&'a Site<Desk<G, K>>>,
+}
+
 impl<'a, G: Comparable, K: Ledgers, A: Gate, R: Wait> Worker<'a, G, K, A, R> {
-    /// Passes the feeds of a finished task on, and records it as done. One hold of the board's lock serves all feeds in a
-    /// row that stay at the node, the one that was sent to another node just before them, and the record.
-    pub fn pass_on(&self, here: &mut Node<G, K>, finished: Finished<G>) -> Result<(), Refusal>
+    /// Passes the feeds of the finished task on that lies in the worker's hands, where one does, and records it as done. One hold
+    /// of the board's lock serves all feeds in a row that stay at the node, the one that was sent to another node just before
+    /// them, and the record. The task is taken out of the hands for the record alone, so that it is moved once.
+    pub fn pass_on(
+        &self,
+        here: &mut Node<G, K>,
+        hands: &mut Option<Finished<G>>,
+    ) -> Result<(), Refusal>
         requires { here.old.graph ≡ self.now.graph }
         ensures { here.new.graph ≡ here.old.graph }
     {
+        let Some(finished) = hands else {
+            return Ok(());
+        };
         if !is_same(&finished.graph(), &self.graph) {
             return Err(Refusal::Stranger);
         }
-        let mut finished = finished;
-        let mut next = next_home(&finished, here.nodes());
+        let Passed { mut board, told } = self.pass_feeds(here, finished)?;
+        let Some(finished) = hands.take() else {
+            return Ok(());
+        };
+        let done = record_done(here, &mut board, finished);
+        drop(board);
+        if let Some(site) = told {
+            site.bell.ring();
+        }
+        done
+    }
+
+    /// Passes all feeds of a finished task on. It hands out the board's lock of the last of them, which is still held.
+    fn pass_feeds(
+        &self,
+        here: &mut Node<G, K>,
+        finished: &mut Finished<G>,
+    ) -> Result<Passed<'a, G, K>, Refusal>
+        requires graph { finished.old.graph ≡ here.old.graph }
+        ensures node { IsSameNode here.old here.new }
+        ensures graph { OnOk result (finished.new.graph ≡ finished.old.graph) }
+        ensures all_fed { OnOk result (finished.new.fed ≡ (G.meaning finished.new.graph).feeds finished.new.task.0) }
+    {
+        let mut next = next_home(finished, here.nodes());
         while let Some(home) = next {
             if home == here.number() {
                 let mut board = lock_soon(self.rt, &self.locks.board);
-                next = feed_here(here, &mut board, &mut finished)?;
+                next = feed_here(here, &mut board, finished)?;
                 if next.is_none() {
-                    return record_done(here, &mut board, finished);
+                    return Ok(Passed { board, told: None });
                 }
                 continue;
             }
             let Some(there) = self.locks.sites.get(home.0 as usize) else {
                 return Err(Refusal::NoNode);
             };
-            let mut board = self.send(here, there, home, &mut finished)?;
-            next = feed_on(here, &mut board, &mut finished)?;
+            let mut board = self.send(here, there, home, finished)?;
+            next = feed_on(here, &mut board, finished)?;
             if next.is_none() {
-                let done = record_done(here, &mut board, finished);
-                drop(board);
-                there.bell.ring();
-                return done;
+                return Ok(Passed {
+                    board,
+                    told: Some(there),
+                });
             }
             drop(board);
             there.bell.ring();
         }
-        let mut board = lock_soon(self.rt, &self.locks.board);
-        record_done(here, &mut board, finished)
+        Ok(Passed {
+            board: lock_soon(self.rt, &self.locks.board),
+            told: None,
+        })
     }
 
     /// Passes the next feed on to another node, and those after it, as long as they go there. It hands out the board's lock,

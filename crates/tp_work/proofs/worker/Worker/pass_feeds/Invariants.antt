@@ -1,11 +1,12 @@
 use Rattle.std.specs.Prelude.{◌≡◌, ◌-◌, MatchOption}
-use Rattle.tp_work.specs.Feeds.{GoesTo}
-use Rattle.tp_work.proofs.worker.Worker.pass_on.Given as goal
+use Rattle.tp_work.specs.Feeds.{GoesTo, IsSameNode}
+use Rattle.tp_work.proofs.worker.Worker.pass_feeds.Given as goal
 
 abbrev pub invariant-loop-next : goal.invariant-loop-next
 invariant-loop-next g l = record {
+  node : IsSameNode l.fn.here l.here;
   same : l.finished.graph ≡ l.here.graph;
-  ours : l.here.graph ≡ l.self.graph;
+  graph : l.finished.graph ≡ l.fn.finished.graph;
   next : MatchOption l.next (l.finished.fed
       ≡ (g.G.Graph.meaning l.finished.graph).feeds l.finished.task.0) (λ home.
       GoesTo (g.G.Graph.meaning l.finished.graph) l.finished l.here.nodes home.0);

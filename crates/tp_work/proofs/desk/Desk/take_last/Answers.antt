@@ -1,6 +1,6 @@
 use Rattle.std.specs.Prelude.{reverse}
 use Rattle.tp_work.proofs.Beginning.{desk_fewer, popped}
-use Rattle.tp_work.proofs.desk.Desk.take.Goals as goal
+use Rattle.tp_work.proofs.desk.Desk.take_last.Goals as goal
 
 pub invariant_of-self : goal.invariant_of-self
 invariant_of-self g c =
