@@ -81,8 +81,9 @@ const TRIES: u32 = 12;
 /// whoever holds the lock, and what lies beside it.
 const FIRST_SPINS: u32 = 32;
 
-/// How many spins a moment takes at most: a lock that is free should not wait long to be seen.
-const MOST_SPINS: u32 = 128;
+/// How many spins a moment takes at most. No moment is longer than those before it together and one first moment more, so a lock
+/// that is free is seen before twice the wait is over.
+const MOST_SPINS: u32 = 1024;
 
 /// Takes a lock. Where it is held, the thread tries it again for a moment, and then sleeps as std has it. It does not yield: one
 /// that yielded would wait for all others that want its processor, and many that yield keep it from the one that holds the
