@@ -1,17 +1,14 @@
 -- Rows of sums, to which products are added place by place.
-use Rattle.std.proofs.Common.{◌≡◌, ◌≢◌, ◌<◌, ◌≤◌, ◌+◌, ◌*◌, ◌^◌, ◌&&◌, ◌⊎◌, ℕ, zero, suc, ℤ, pos, negsuc, ◌+ℤ◌, ◌*ℤ◌, List, [], ◌∷◌, length}
+use Rattle.std.proofs.Common.{◌≡◌, ◌≢◌, ◌<◌, ◌≤◌, ◌+◌, ◌^◌, ◌&&◌, ◌⊎◌, ℕ, zero, suc, ℤ, pos, negsuc, ◌+ℤ◌, List, [], ◌∷◌, length}
 use Rattle.std.proofs.Common.{get_or, set, Option, Some, None, Bool, true, false, if◌then◌else◌, inl, inr, refl, ap, sym, ◌∙◌, ⊎_elim}
 use Rattle.std.proofs.Common.{subst, arith, rules, get_or-set_same, get_or-set_other, length-set}
 use Rattle.std.specs.Prelude.{unsigned_abs}
 use Rattle.std.proofs.lemmas.Bool.{cases_eq, and_parts, and_from}
-use Rattle.std.proofs.lemmas.Int.{ints, unsigned_abs-mul}
-use Rattle.std.proofs.lemmas.Nat.{mul-le}
+use Rattle.std.proofs.lemmas.Int.{ints}
 use Rattle.tp_graph.specs.Values.{then_some, gather, fits}
 use Rattle.tp_graph.proofs.Fits.{fits-from}
-use Rattle.tp_graph.proofs.Made.{gathered, some_same}
-use Rattle.pool_matrix.specs.Matrices.{entry, more, running, term}
-use Rattle.pool_matrix.specs.Rows.{AreWithin, one_more, row_entry}
-use Rattle.pool_matrix.proofs.Running.{running_more, none_stays, gather_fails}
+use Rattle.tp_graph.proofs.Made.{some_same}
+use Rattle.pool_matrix.specs.Matrices.{more}
 
 -- a list that has f at each place is what is gathered
 pub gather_from : {A : Type 0} (n : ℕ) (f : ℕ → Option A) (xs : List A) (d : A) → length xs ≡ n
@@ -97,53 +94,3 @@ more_is sum number next e =
     let is = more-by (fits number && fits (sum +ℤ number)) (sum +ℤ number) next e in
     let both = and_parts (fits number) (fits (sum +ℤ number)) is.0 in
     (ap fits is.1 ∙ both.1, is.1)
-
--- a row with one product more each is within what is added
-pub row_within : (reach next largest left : ℕ) (by : ℤ) (sums right now : List ℤ) → length sums ≡ length right
-    → gather (length right) (one_more sums by right) ≡ Some now →
-    AreWithin reach sums → AreWithin largest right →
-    left ≡ unsigned_abs by → reach + left * largest ≤ next → AreWithin next now
-row_within reach next largest left by sums right now long made sums_in right_in is bound n h =
-    let all = gathered (length right) (one_more sums by right) now (pos 0) made in
-    let inside : n < length right = omega (arith, all.0) in
-    let s = get_or sums n (pos 0) in
-    let r = get_or right n (pos 0) in
-    let sum = more_is s (by *ℤ r) (get_or now n (pos 0)) (all.1 n inside) in
-    let first : unsigned_abs s ≤ reach = sums_in n (omega (arith, long, inside)) in
-    let factor : unsigned_abs r ≤ largest = right_in n inside in
-    let product : unsigned_abs (by *ℤ r) ≤ left * largest =
-    omega (arith, unsigned_abs-mul by r, is, mul-le (unsigned_abs by) (unsigned_abs r) left largest (omega (arith, is)) factor) in
-    let whole : unsigned_abs (s +ℤ by *ℤ r) ≤ next = omega (arith, abs_sum s (by *ℤ r), first, product, bound) in
-    subst (λ z. unsigned_abs z ≤ next) (sym sum.1) whole
-
-module _ (order : ℕ) (lefts rights : List ℤ) (x y start z side : ℕ) (left : ℤ) (before sums right : List ℤ)
-    (same : (n : ℕ) → n < side
-    → running (get_or before n (pos 0)) start z (term order lefts rights x (y + n))
-    ≡ Some (get_or sums n (pos 0))) (long : length right ≡ side)
-    (left_is : left ≡ entry order lefts x (start + z)) (right_is : (n : ℕ) → n < side
-    → get_or right n (pos 0) ≡ entry order rights (start + z) (y + n)) where
-  -- sum n of the row after one z more
-  next-is : (n : ℕ) (next : Option ℤ) → n < side → one_more sums left right n ≡ next
-      → running (get_or before n (pos 0)) start (z + 1) (term order lefts rights x (y + n)) ≡ next
-  next-is n next h e =
-      let product : left *ℤ get_or right n (pos 0) ≡ term order lefts rights x (y + n) (start + z) =
-      ap (λ b. left *ℤ b) (right_is n h) ∙ ap (λ a. a *ℤ entry order rights (start + z) (y + n)) left_is in
-      running_more (get_or before n (pos 0)) start z (term order lefts rights x (y + n)) (get_or sums n (pos 0))
-      (left *ℤ get_or right n (pos 0)) next (same n h) product e
-
-  -- one z more for each sum of a row
-  pub row_step : (now : List ℤ) → gather (length right) (one_more sums left right) ≡ Some now → (n : ℕ) → n < side →
-      running (get_or before n (pos 0)) start (z + 1) (term order lefts rights x (y + n)) ≡ Some (get_or now n (pos 0))
-  row_step now made n h =
-      let all = gathered (length right) (one_more sums left right) now (pos 0) made in
-      next-is n (Some (get_or now n (pos 0))) h (all.1 n (omega (arith, long)))
-
-  -- where a sum fails, so does the row
-  pub row_fails : z < side → gather (length right) (one_more sums left right) ≡ None
-      → gather side (row_entry order lefts rights x y start side before) ≡ None
-  row_fails inside failed =
-      let lack = gather_lacks (length right) (one_more sums left right) failed in
-      let within : lack.0 < side = omega (arith, long, lack.1) in
-      gather_fails side lack.0 (row_entry order lefts rights x y start side before) within
-      (none_stays (get_or before lack.0 (pos 0)) start (z + 1) side (term order lefts rights x (y + lack.0))
-      (next-is lack.0 None within lack.2) (omega arith))

@@ -1,5 +1,5 @@
 use Rattle.std.proofs.Common.{◌≡◌, ◌≢◌, ◌<◌, ◌≤◌, ◌+◌, ◌*◌, ◌/◌, ◌%◌, ◌^◌, ℕ, zero, suc, ℤ, List, [], ◌∷◌, ◌++◌, Option, Some, None, true}
-use Rattle.std.proofs.Common.{refl, ap, sym, ◌∙◌, ⊎_elim, add-one, arith, rules}
+use Rattle.std.proofs.Common.{refl, ap, sym, ◌∙◌, ⊎_elim, add-one, add-zero, add-suc, arith, rules}
 use Rattle.std.proofs.lemmas.Bool.{cases_eq}
 use Rattle.std.proofs.lemmas.Nat.{mul-le, div_below}
 use Rattle.tp_graph.specs.Values.{then_some, gather, fits, all_fit}
@@ -26,6 +26,16 @@ none_stays first start (suc count) (suc later) f e h =
     (λ (other : count ≢ later). ap (λ o.
     then_some o (λ s. more s (f (start + later)))) (none_stays first start (suc count) later f e (omega (arith, other))))
     (cases_eq count later)
+
+-- a sum goes on from where it was
+pub running_joined : (first : ℤ) (start some more_of : ℕ) (f : ℕ → ℤ) (sum : ℤ) → running first start some f ≡ Some sum
+    → running first start (some + more_of) f ≡ running sum (start + some) more_of f
+running_joined first start some zero f sum e = rw (add-zero some) e
+running_joined first start some (suc later) f sum e =
+    let place : start + (some + later) ≡ start + some + later = omega arith in
+    ap (λ n. running first start n f) (add-suc some later)
+    ∙ ap (λ o. then_some o (λ s. more s (f (start + (some + later))))) (running_joined first start some later f sum e)
+    ∙ ap (λ k. then_some (running sum (start + some) later f) (λ s. more s (f k))) place
 
 pub gather_more : {A : Type 0} (n : ℕ) (f : ℕ → Option A) (xs : List A) (y : A) → gather n f ≡ Some xs → f n ≡ Some y
     → gather (suc n) f ≡ Some (xs ++ y ∷ [])

@@ -2,7 +2,7 @@ ghost use Rattle.std.specs.Prelude.{◌≡◌, ◌<◌, ◌≤◌, ◌+◌, ◌*
 ghost use Rattle.std.specs.Prelude.{MatchResult, Some, None};
 ghost use Rattle.tp_base.specs.declared.Refusal.TheVariants.{BodyFailed};
 ghost use Rattle.tp_graph.specs.Values.{gather};
-ghost use Rattle.pool_matrix.specs.Matrices.{entry, more};
+ghost use Rattle.pool_matrix.specs.Matrices.{entry, more, term};
 ghost use Rattle.pool_matrix.specs.Rows.{AreWithin, one_more, row_entry};
 
 use tp_base::Refusal;
@@ -52,15 +52,6 @@ pub(crate) fn largest_of(numbers: &[i64]) -> u64
     largest
 }
 
-/// How far from 0 numbers may be that were no farther than a reach, with a product more each; none where they may leave `i64`.
-fn next_reach(reach: u64, left: i64, largest: u64) -> Option<u64>
-    ensures { IfSome result (λ next. (reach + unsigned_abs left * largest ≤ next) × (next < 2 ^ 63)) }
-{
-    let product = left.unsigned_abs().checked_mul(largest)?;
-    let next = reach.checked_add(product)?;
-    if next < 1 << 63 { Some(next) } else { None }
-}
-
 /// A sum and a product more, unless one of them leaves `i64`.
 fn add_product(sum: i64, left: i64, right: i64) -> Option<i64>
     ensures { MatchOption result (more sum (left *ℤ right) ≡ None) (λ next. more sum (left *ℤ right) ≡ Some next) }
@@ -85,42 +76,160 @@ fn add_row_checked(sums: &mut [i64], left: i64, right: &[i64]) -> Result<(), Ref
     Ok(())
 }
 
-/// A row of sums, each with one product more, where none can leave `i64`: a loop without tests, which is worked out in vectors.
-fn add_row_plain(sums: &mut [i64], left: i64, right: &[i64])
-    requires same { length sums.now ≡ length right.now }
-    requires small { (n : ℕ) → n < length right.now
-        → unsigned_abs (slice_index_or sums.now n (pos 0)) + unsigned_abs left * unsigned_abs (slice_index_or right.now n (pos 0)) < 2 ^
-        63 }
-    ensures { gather (length right.now) (one_more sums.old left right.now) ≡ Some sums.new }
+/// A row of sums that begins at column y of row x, with the products of so many z from a start on, each with a look. Refused
+/// exactly where a number leaves `i64`.
+fn add_each(
+    matrices: LentMatrices,
+    sums: &mut [i64],
+    x: usize,
+    y: usize,
+    start: usize,
+    count: usize,
+) -> Result<(), Refusal>
+    requires places { (x < matrices.order) × (y + length sums.now ≤ matrices.order) × (start + count ≤ matrices.order) }
+    ensures { MatchResult result
+        (λ _done. gather (length sums.old)
+        (row_entry matrices.entry.order matrices.entry.left.now matrices.entry.right.now x y start count sums.old)
+        ≡ Some sums.new)
+        (λ refusal. (refusal ≡ BodyFailed)
+        × (gather (length sums.old)
+        (row_entry matrices.entry.order matrices.entry.left.now matrices.entry.right.now x y start count sums.old)
+        ≡ None)) }
 {
-    for n in 0..right.len() {
-        sums[n] += left * right[n];
+    let side = sums.len();
+    for z in 0..count {
+        let left = entry(matrices.left, matrices.order, x, start + z);
+        let right = right_part(matrices, start + z, y, side);
+        add_row_checked(sums, left, right)?;
+    }
+    Ok(())
+}
+
+/// How far from 0 sums of row x may be that were no farther than a reach, with the products of the four z from a start on more;
+/// none where they may leave `i64`. No number of the right that is taken is farther from 0 than the largest.
+fn next_reach(
+    matrices: LentMatrices,
+    reach: u64,
+    x: usize,
+    start: usize,
+    largest: u64,
+) -> Option<u64>
+    requires places { (x < matrices.order) × (start + 4 ≤ matrices.order) }
+    ensures { IfSome result
+        (λ next. (reach
+        + (unsigned_abs (entry matrices.entry.order matrices.entry.left.now x start)
+        + unsigned_abs (entry matrices.entry.order matrices.entry.left.now x (start + 1))
+        + unsigned_abs (entry matrices.entry.order matrices.entry.left.now x (start + 2))
+        + unsigned_abs (entry matrices.entry.order matrices.entry.left.now x (start + 3)))
+        * largest
+        ≤ next)
+        × (next < 2 ^ 63)) }
+{
+    let first = entry(matrices.left, matrices.order, x, start).unsigned_abs();
+    let second = entry(matrices.left, matrices.order, x, start + 1).unsigned_abs();
+    let third = entry(matrices.left, matrices.order, x, start + 2).unsigned_abs();
+    let fourth = entry(matrices.left, matrices.order, x, start + 3).unsigned_abs();
+    let factors = first
+        .checked_add(second)?
+        .checked_add(third)?
+        .checked_add(fourth)?;
+    let products = factors.checked_mul(largest)?;
+    let next = reach.checked_add(products)?;
+    if next < 1 << 63 { Some(next) } else { None }
+}
+
+/// A row of sums, each with the products of the four z from a start on, where none can leave `i64`: a loop without tests.
+/// With four products for each sum it takes less than half the time of a loop for each product.
+fn add_four_plain(matrices: LentMatrices, sums: &mut [i64], x: usize, y: usize, start: usize)
+    requires places { (x < matrices.order) × (y + length sums.now ≤ matrices.order) × (start + 4 ≤ matrices.order) }
+    requires small { (n : ℕ) → n < length sums.now
+        → unsigned_abs (slice_index_or sums.now n (pos 0))
+        + unsigned_abs (term matrices.order matrices.left.now matrices.right.now x (y + n) start)
+        + unsigned_abs (term matrices.order matrices.left.now matrices.right.now x (y + n) (start + 1))
+        + unsigned_abs (term matrices.order matrices.left.now matrices.right.now x (y + n) (start + 2))
+        + unsigned_abs (term matrices.order matrices.left.now matrices.right.now x (y + n) (start + 3))
+        < 2 ^ 63 }
+    ensures { gather (length sums.old)
+        (row_entry matrices.entry.order matrices.entry.left.now matrices.entry.right.now x y start 4 sums.old)
+        ≡ Some sums.new }
+{
+    let count = sums.len();
+    let a = entry(matrices.left, matrices.order, x, start);
+    let b = entry(matrices.left, matrices.order, x, start + 1);
+    let c = entry(matrices.left, matrices.order, x, start + 2);
+    let d = entry(matrices.left, matrices.order, x, start + 3);
+    let first = right_part(matrices, start, y, count);
+    let second = right_part(matrices, start + 1, y, count);
+    let third = right_part(matrices, start + 2, y, count);
+    let fourth = right_part(matrices, start + 3, y, count);
+    for n in 0..count {
+        let (first, second, third, fourth) = (first[n], second[n], third[n], fourth[n]);
+        sums[n] = sums[n] + a * first + b * second + c * third + d * fourth;
     }
 }
 
-/// A row of sums, each with one product more: a number of the left times the number of the right at its place; and how far
-/// from 0 they may be then. The sums were no farther from 0 than a reach, and the numbers of the right no farther than the
-/// largest. Refused exactly where a number leaves `i64`.
-fn add_row(
+/// A row of sums that begins at column y of row x, with the products of the four z from a start on; and how far from 0 the sums
+/// may be then. They were no farther from 0 than a reach, and no number of the right that is taken is farther than the largest.
+/// Refused exactly where a number leaves `i64`.
+fn add_four(
+    matrices: LentMatrices,
     sums: &mut [i64],
     reach: u64,
-    left: i64,
-    right: &[i64],
+    x: usize,
+    y: usize,
+    start: usize,
     largest: u64,
 ) -> Result<u64, Refusal>
-    requires same { length sums.now ≡ length right.now }
+    requires places { (x < matrices.order) × (y + length sums.now ≤ matrices.order) × (start + 4 ≤ matrices.order) }
     requires sums_within { AreWithin reach sums.now }
-    requires right_within { AreWithin largest right.now }
+    requires right_within { (z n : ℕ) → z < 4 → n < length sums.now
+        → unsigned_abs (entry matrices.order matrices.right.now (start + z) (y + n)) ≤ largest }
     ensures { MatchResult result
-        (λ next. (gather (length right.now) (one_more sums.old left right.now) ≡ Some sums.new) × AreWithin next sums.new)
-        (λ refusal. (refusal ≡ BodyFailed) × (gather (length right.now) (one_more sums.old left right.now) ≡ None)) }
+        (λ next. (gather (length sums.old)
+        (row_entry matrices.entry.order matrices.entry.left.now matrices.entry.right.now x y start 4 sums.old)
+        ≡ Some sums.new)
+        × AreWithin next sums.new)
+        (λ refusal. (refusal ≡ BodyFailed)
+        × (gather (length sums.old)
+        (row_entry matrices.entry.order matrices.entry.left.now matrices.entry.right.now x y start 4 sums.old)
+        ≡ None)) }
 {
-    let Some(next) = next_reach(reach, left, largest) else {
-        add_row_checked(sums, left, right)?;
+    let Some(next) = next_reach(matrices, reach, x, start, largest) else {
+        add_each(matrices, sums, x, y, start, 4)?;
         return Ok(largest_of(sums));
     };
-    add_row_plain(sums, left, right);
+    add_four_plain(matrices, sums, x, y, start);
     Ok(next)
+}
+
+/// A row of sums that begins at column y of row x, with the products of so many fours of z from a start on. No number of the
+/// right that is taken is farther from 0 than the largest. Refused exactly where a number leaves `i64`.
+fn add_fours(
+    matrices: LentMatrices,
+    sums: &mut [i64],
+    x: usize,
+    y: usize,
+    start: usize,
+    fours: usize,
+    largest: u64,
+) -> Result<(), Refusal>
+    requires places { (x < matrices.order) × (y + length sums.now ≤ matrices.order) × (start + 4 * fours ≤ matrices.order) }
+    requires within { (z n : ℕ) → z < 4 * fours → n < length sums.now
+        → unsigned_abs (entry matrices.order matrices.right.now (start + z) (y + n)) ≤ largest }
+    ensures { MatchResult result
+        (λ _done. gather (length sums.old)
+        (row_entry matrices.entry.order matrices.entry.left.now matrices.entry.right.now x y start (4 * fours) sums.old)
+        ≡ Some sums.new)
+        (λ refusal. (refusal ≡ BodyFailed)
+        × (gather (length sums.old)
+        (row_entry matrices.entry.order matrices.entry.left.now matrices.entry.right.now x y start (4 * fours) sums.old)
+        ≡ None)) }
+{
+    let mut reach = largest_of(sums);
+    for k in 0..fours {
+        reach = add_four(matrices, sums, reach, x, y, start + 4 * k, largest)?;
+    }
+    Ok(())
 }
 
 /// A row of a tile that begins at column y of row x, with the products of as many z from a start on as it is long. No number
@@ -146,11 +255,7 @@ pub(crate) fn add_rows(
         ≡ None)) }
 {
     let side = sums.len();
-    let mut reach = largest_of(sums);
-    for z in 0..side {
-        let left = entry(matrices.left, matrices.order, x, start + z);
-        let right = right_part(matrices, start + z, y, side);
-        reach = add_row(sums, reach, left, right, largest)?;
-    }
-    Ok(())
+    let fours = side / 4;
+    add_fours(matrices, sums, x, y, start, fours, largest)?;
+    add_each(matrices, sums, x, y, start + 4 * fours, side % 4)
 }

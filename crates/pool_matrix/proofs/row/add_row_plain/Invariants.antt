@@ -1,6 +1,0 @@
-use Rattle.pool_matrix.specs.Rows.{one_more}
-use Rattle.pool_matrix.proofs.Added.{IsPartly}
-use Rattle.pool_matrix.proofs.row.add_row_plain.Given as goal
-
-abbrev pub invariant-loop-n : goal.invariant-loop-n
-invariant-loop-n l = IsPartly l.n (one_more l.initial.sums l.left l.right) l.initial.sums l.sums
