@@ -138,8 +138,8 @@ fn next_reach(
     if next < 1 << 63 { Some(next) } else { None }
 }
 
-/// A row of sums, each with the products of the four z from a start on, where none can leave `i64`: a loop without tests.
-/// With four products for each sum it takes less than half the time of a loop for each product.
+/// A row of sums, each with the products of the four z from a start on, where none can leave `i64`: a loop without tests. Four at
+/// a time, since the compiler puts a loop of one product each into vectors, which have no multiplication of 64 bits.
 fn add_four_plain(matrices: LentMatrices, sums: &mut [i64], x: usize, y: usize, start: usize)
     requires places { (x < matrices.order) × (y + length sums.now ≤ matrices.order) × (start + 4 ≤ matrices.order) }
     requires small { (n : ℕ) → n < length sums.now
