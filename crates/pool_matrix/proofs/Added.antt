@@ -70,6 +70,32 @@ pub all_partly : (count : ℕ) (f : ℕ → Option ℤ) (before now : List ℤ) 
     → gather count f ≡ Some now
 all_partly count f before now kept long = gather_from count f now (pos 0) long kept.done
 
+-- the last numbers of a row are worked out, and the earlier ones are as they were
+pub record IsPartlyDown (count : ℕ) (f : ℕ → Option ℤ) (before now : List ℤ) : Type 0 where
+  pub long : length now ≡ length before
+  pub done : (k : ℕ) → count ≤ k → k < length before → f k ≡ Some (get_or now k (pos 0))
+  pub earlier : (k : ℕ) → k < count → get_or now k (pos 0) ≡ get_or before k (pos 0)
+
+pub one_partly_down : (after count : ℕ) (f : ℕ → Option ℤ) (before now : List ℤ) (next : ℤ) → after ≡ count + 1
+    → IsPartlyDown after f before now → count < length now → f count ≡ Some next →
+    IsPartlyDown count f before (set now count next)
+one_partly_down after count f before now next one kept inside is = record {
+  long = length-set now count next ∙ kept.long;
+  done = λ k h p.
+      ⊎_elim
+      (λ (same : k ≡ count). subst (λ n. f n ≡ Some (get_or (set now count next) n (pos 0))) (sym same) (is
+      ∙ ap Some (sym (get_or-set_same now count next (pos 0) inside))))
+      (λ (other : k ≢ count). kept.done k (omega (arith, other, one)) p ∙ ap Some (sym (get_or-set_other now count k next (pos 0) other)))
+      (cases_eq k count);
+  earlier = λ k h.
+      let other : k ≢ count = omega arith in get_or-set_other now count k next (pos 0) other ∙ kept.earlier k (omega (arith, one));
+}
+
+pub all_partly_down : (count : ℕ) (f : ℕ → Option ℤ) (before now : List ℤ) → IsPartlyDown 0 f before now → length before ≡ count
+    → gather count f ≡ Some now
+all_partly_down count f before now kept long =
+    gather_from count f now (pos 0) (kept.long ∙ long) (λ k h. kept.done k (omega arith) (omega (arith, long)))
+
 -- how far a sum may be from 0
 pub abs_sum : (x y : ℤ) → unsigned_abs (x +ℤ y) ≤ unsigned_abs x + unsigned_abs y
 abs_sum (pos a) (pos b) = omega arith

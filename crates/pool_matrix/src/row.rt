@@ -138,8 +138,10 @@ fn next_reach(
     if next < 1 << 63 { Some(next) } else { None }
 }
 
-/// A row of sums, each with the products of the four z from a start on, where none can leave `i64`: a loop without tests. Four at
-/// a time, since the compiler puts a loop of one product each into vectors, which have no multiplication of 64 bits.
+/// A row of sums, each with the products of the four z from a start on, where none can leave `i64`: a loop without tests, which
+/// reads and writes each sum once for its four products. It is a function of its own, so that all that it counts with stays in
+/// the processor's registers.
+#[inline(never)]
 fn add_four_plain(matrices: LentMatrices, sums: &mut [i64], x: usize, y: usize, start: usize)
     requires places { (x < matrices.order) × (y + length sums.now ≤ matrices.order) × (start + 4 ≤ matrices.order) }
     requires small { (n : ℕ) → n < length sums.now
@@ -162,7 +164,8 @@ fn add_four_plain(matrices: LentMatrices, sums: &mut [i64], x: usize, y: usize, 
     let second = right_part(matrices, start + 1, y, count);
     let third = right_part(matrices, start + 2, y, count);
     let fourth = right_part(matrices, start + 3, y, count);
-    for n in 0..count {
+    // Downwards, since upwards it is worked out in vectors, in which numbers of 64 bits take longer to multiply than one by one.
+    for n in (0..count).rev() {
         let (first, second, third, fourth) = (first[n], second[n], third[n], fourth[n]);
         sums[n] = sums[n] + a * first + b * second + c * third + d * fourth;
     }
