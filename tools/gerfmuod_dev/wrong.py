@@ -29,6 +29,8 @@ from .rooms import rooms
 PART = re.compile(r""""(?:\\.|[^"\\])*"|'(?:\\[^'\n]+|[^'\\\n])'|(?<!\S)(?://|--)[^\n]*|[(){}\[\],;]|[^\s(){}\[\],;"]+""")
 # names that a text takes from one place
 IMPORT = re.compile(r"^ *(?:ghost )?use (\S+)\.\{([^{}]*)\};?$", re.M)
+# a declaration of a proof by hand
+DECLARED = re.compile(r"^(?:pub )?([\w-]+) : .*?(?=\n\n|\Z)", re.M | re.S)
 # what is said of a wrong body that no clause refuses
 NOTHING = re.compile(r"NOT REFUSED|NOT TRIED|BAD EDIT|\(only because|\(only by a limit")
 
@@ -81,17 +83,31 @@ def logic(version):
     return (version or "").partition("logic ")[2]
 
 
-def reason(said):
-    """Gives the function and the clause that a line of the prover tells, or what it says where it tells none."""
+def goals_with(step, answers):
+    """Gives the goals that a proof by hand proves with this step of it; a goal gives itself."""
+    parts = {it[1]: it[0] for it in DECLARED.finditer(answers)}
+    named = [step]
+    for name in named:
+        used = re.compile(rf"(?<![\w.-]){re.escape(name)}(?![\w-])")
+        named += [it for it, text in parts.items() if it not in named and used.search(text)]
+    return [it for it in parts if it in named and f" : goal.{it}\n" in parts[it]]
+
+
+def reason(crate, said):
+    """Gives the function and the clause that a line of the prover tells, or what it says where it tells none. Where it tells a step of
+    a proof by hand, gives the clauses that are proved with this step too."""
     proof = re.search(r"\./proofs/(\S+)/\w+\.antt:\d+:\d+: \w+: (?:.* depend on )?`([^`]+)`", said)
     # (the prover's line may be cut off)
     code = re.search(r"(src/\S+\.rt):\d+:\d+: .*\(`([^`]+)", said)
     found = proof or code
-    return f"{found[1]}, {found[2]}" if found else re.sub(r"^refused, as it must be:? ?", "", said)
+    if not found:
+        return re.sub(r"^refused, as it must be:? ?", "", said)
+    goals = goals_with(found[2], text_of(f"crates/{crate}/proofs/{found[1]}/Answers.antt", "")) if proof else []
+    return ", ".join([found[1], found[2]] + ([] if found[2] in goals else [f"for {it}" for it in goals]))
 
 
 def tell(crate, name, said):
-    print(f"{crate}/{name}: {said if NOTHING.search(said) else 'refused: ' + reason(said)}", flush=True)
+    print(f"{crate}/{name}: {said if NOTHING.search(said) else 'refused: ' + reason(crate, said)}", flush=True)
 
 
 def try_alone(crate, names, lanes, _, room):
@@ -167,12 +183,12 @@ def judge_all(crates, top, copies):
 
 def note(crate, told):
     """Writes the note of a crate whose wrong bodies were all refused by a clause; gives whether they were."""
-    is_well = len(told) == len(edits_of(crate.name)) and all(reason(it) and not NOTHING.search(it) for it in told.values())
+    is_well = len(told) == len(edits_of(crate.name)) and all(reason(crate.name, it) and not NOTHING.search(it) for it in told.values())
     if is_well:
         os.makedirs(f"wrong/{crate.name}", exist_ok=True)
         with open(f"wrong/{crate.name}/JUDGED", "w", encoding="utf-8") as text:
             text.write(f"of {digest(crate)}\nby {toolchain()}\non {datetime.date.today()}\n")
-            text.writelines(f"{name}: {reason(said)}\n" for name, said in sorted(told.items()))
+            text.writelines(f"{name}: {reason(crate.name, said)}\n" for name, said in sorted(told.items()))
     said = f"{len(told)} wrong bodies refused" if is_well else "NOT EACH of its wrong bodies was refused by a clause"
     print(f"{crate.name}: {said}", flush=True)
     return is_well
