@@ -1,6 +1,6 @@
 use std::alloc::Global;
 use std::test::Fail;
-use tp_base::{ActionId, MessageId, PoolId, Refusal, TaskId};
+use tp_base::{ActionId, MessageId, Refusal, TaskId};
 use tp_graph::{Feed, Value};
 use tp_local::Local;
 use tp_monitor::TaskpoolState;
@@ -107,7 +107,7 @@ fn done(alloc: Global, local: &mut Local, task: TaskId, number: i64) -> Result<R
 
 #[test]
 fn pending_falls_where_a_task_is_done(rt: HostRuntime) -> Result<(), Fail> {
-    let mut local = Local::new(rt.alloc(), PoolId(0));
+    let mut local = Local::new(rt.alloc());
     for (call, wanted) in [
         (Call::Pending, Reply::Pending(1)),
         (Call::State, Reply::State(TaskpoolState::NotReady)),
@@ -132,7 +132,7 @@ fn pending_falls_where_a_task_is_done(rt: HostRuntime) -> Result<(), Fail> {
 
 #[test]
 fn values_messages_and_actions_come_to_a_node(rt: HostRuntime) -> Result<(), Fail> {
-    let mut local = Local::new(rt.alloc(), PoolId(0));
+    let mut local = Local::new(rt.alloc());
     for (call, wanted) in [
         (Call::Receive(4), DONE),
         (
@@ -157,7 +157,7 @@ fn values_messages_and_actions_come_to_a_node(rt: HostRuntime) -> Result<(), Fai
 
 #[test]
 fn a_node_that_was_told_the_end_is_reopened(rt: HostRuntime) -> Result<(), Fail> {
-    let mut local = Local::new(rt.alloc(), PoolId(0));
+    let mut local = Local::new(rt.alloc());
     for (call, wanted) in [
         (Call::Reopen, Reply::HandedOut(None)),
         (Call::Insert(1), DONE),

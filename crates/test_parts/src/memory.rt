@@ -5,7 +5,7 @@ use std::alloc::{AllocError, Global};
 use std::mem;
 use std::test::Fail;
 use tp_base::{
-    ActionId, Generation, History, Inputs, MessageId, NodeId, PoolId, Refusal, Step, Table, TaskId,
+    ActionId, Generation, History, Inputs, MessageId, NodeId, Refusal, Step, Table, TaskId,
 };
 use tp_core::{Core, Reply};
 use tp_graph::{Feed, Value, ValueBuilder};
@@ -92,7 +92,7 @@ impl Parts {
             history: History::new(alloc),
             link: Link::new(alloc, NodeId(0), NodeId(2)),
             store: TaskStore::new(alloc),
-            local: Local::new(alloc, PoolId(0)),
+            local: Local::new(alloc),
             core: Core::new(alloc, 2),
             registry: Registry::new(alloc),
             builder: ValueBuilder::new(alloc),

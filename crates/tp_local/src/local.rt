@@ -22,7 +22,7 @@ use crate::tally::Tally;
 use std::alloc::Global;
 use std::marker::Model;
 use tp_base::{
-    ActionId, CLASSES, MAX_INPUTS, MAX_LIVE_TASKS, MAX_STEPS, MessageId, PoolId, Refusal, TaskId,
+    ActionId, CLASSES, MAX_INPUTS, MAX_LIVE_TASKS, MAX_STEPS, MessageId, Refusal, TaskId,
 };
 use tp_graph::{Feed, Value};
 use tp_monitor::{MAX_ACTIONS, TaskpoolState};
@@ -60,7 +60,7 @@ impl Model for Local {
 
 impl Local {
     /// Nothing is stored, and the opening action alone is open. It takes no memory.
-    pub fn new(alloc: Global, pool: PoolId) -> Self
+    pub fn new(alloc: Global) -> Self
         ensures first { result ≡ first_state }
         ensures counted { pending_here result ≡ 1 }
     {
@@ -69,7 +69,7 @@ impl Local {
                 value: TaskStore::new(alloc),
             },
             actions: OpenActions::new(alloc),
-            tally: Tally::new(pool),
+            tally: Tally::new(),
         }
     }
 

@@ -5,44 +5,45 @@ ghost use Rattle.tp_base.specs.Checks.{first_refusal};
 ghost use Rattle.tp_monitor.specs.Monitors.{IsWithinLimits, first_numbers, ready_numbers, sent_numbers, received_numbers};
 ghost use Rattle.tp_monitor.specs.Monitors.{message_ended_numbers, monitored_pending, standing, is_idle};
 ghost use Rattle.tp_monitor.specs.declared.TaskpoolState.TheVariants.{Terminated};
+ghost use Rattle.tp_local.specs.Tallies.{the_pool};
 
 use std::marker::Model;
 use tp_base::{MAX_LIVE_TASKS, MAX_STEPS, PoolId, Refusal};
 use tp_monitor::{MAX_ACTIONS, Monitor, MonitorNumbers, TaskpoolState};
 
+/// The number that a node's one pool has at its monitor. No call gives it out.
+const POOL: PoolId = PoolId(0);
+
 /// A monitor of one pool, from the pool's opening action on. What a node knows beforehand is a condition here, in place of a
 /// refusal.
 #[derive(Clone, Copy)]
 pub(crate) struct Tally {
-    pool: PoolId,
     monitor: Monitor,
 }
 
 impl Model for Tally {
     ghost use Rattle.tp_monitor.specs.Monitors.{Monitored};
-    ghost use Rattle.tp_local.specs.Tallies.{IsTally, pool_of, pool_of-monitored};
+    ghost use Rattle.tp_local.specs.Tallies.{IsTally};
 
     ghost Value = { Monitored };
 
     ghost view = { λ t. t.monitor };
 
-    ghost inverse = { λ m. record { pool = pool_of m; monitor = m } };
+    ghost inverse = { λ m. record { monitor = m } };
 
-    ghost inverse_ok = { λ t h i. record { pool = pool_of-monitored t.pool t.monitor h i; monitor = t.monitor } };
-
-    ghost invariant = { λ t. IsTally t.pool t.monitor };
+    ghost invariant = { λ t. IsTally t.monitor };
 }
 
 impl Tally {
     /// The pool's opening action is open.
-    pub(crate) fn new(pool: PoolId) -> Self
-        ensures { result ≡ record { pool = Some pool; numbers = first_numbers; announced = false } }
+    pub(crate) fn new() -> Self
+        ensures { result ≡ record { pool = Some the_pool; numbers = first_numbers; announced = false } }
     {
         let mut monitor = Monitor::new();
-        let Ok(()) = monitor.monitor_taskpool(pool) else {
+        let Ok(()) = monitor.monitor_taskpool(POOL) else {
             unreachable!()
         };
-        Tally { pool, monitor }
+        Tally { monitor }
     }
 
     /// One more task is not done.
@@ -51,7 +52,7 @@ impl Tally {
         requires room { self.old.numbers.tasks < MAX_LIVE_TASKS }
         ensures { self.new ≡ record self.old { numbers = record self.old.numbers { tasks = self.old.numbers.tasks + 1 } } }
     {
-        let Ok(()) = self.monitor.taskpool_addto_nb_tasks(self.pool, 1) else {
+        let Ok(()) = self.monitor.taskpool_addto_nb_tasks(POOL, 1) else {
             unreachable!()
         };
     }
@@ -61,7 +62,7 @@ impl Tally {
         requires { 0 < self.old.numbers.tasks }
         ensures { self.new ≡ record self.old { numbers = record self.old.numbers { tasks = self.old.numbers.tasks - 1 } } }
     {
-        let Ok(()) = self.monitor.taskpool_addto_nb_tasks(self.pool, -1) else {
+        let Ok(()) = self.monitor.taskpool_addto_nb_tasks(POOL, -1) else {
             unreachable!()
         };
     }
@@ -76,7 +77,7 @@ impl Tally {
             ≡ record self.old { numbers = record self.old.numbers { actions = self.old.numbers.actions + 1 } }) }
         ensures kept { OnErr result (self.new ≡ self.old) }
     {
-        self.monitor.taskpool_addto_runtime_actions(self.pool, 1)?;
+        self.monitor.taskpool_addto_runtime_actions(POOL, 1)?;
         Ok(())
     }
 
@@ -85,7 +86,7 @@ impl Tally {
         requires { self.old.numbers.opening < self.old.numbers.actions }
         ensures { self.new ≡ record self.old { numbers = record self.old.numbers { actions = self.old.numbers.actions - 1 } } }
     {
-        let Ok(()) = self.monitor.taskpool_addto_runtime_actions(self.pool, -1) else {
+        let Ok(()) = self.monitor.taskpool_addto_runtime_actions(POOL, -1) else {
             unreachable!()
         };
     }
@@ -95,7 +96,7 @@ impl Tally {
         requires { self.old.numbers.opening ≡ 1 }
         ensures { self.new ≡ record self.old { numbers = ready_numbers self.old.numbers } }
     {
-        let Ok(()) = self.monitor.taskpool_ready(self.pool) else {
+        let Ok(()) = self.monitor.taskpool_ready(POOL) else {
             unreachable!()
         };
     }
@@ -109,7 +110,7 @@ impl Tally {
         ensures sent { OnOk result (self.new ≡ record self.old { numbers = sent_numbers self.old.numbers }) }
         ensures kept { OnErr result (self.new ≡ self.old) }
     {
-        self.monitor.outgoing_message_start(self.pool)?;
+        self.monitor.outgoing_message_start(POOL)?;
         Ok(())
     }
 
@@ -124,7 +125,7 @@ impl Tally {
         ensures received { OnOk result (self.new ≡ record self.old { numbers = received_numbers self.old.numbers }) }
         ensures kept { OnErr result (self.new ≡ self.old) }
     {
-        self.monitor.incoming_message_start(self.pool)?;
+        self.monitor.incoming_message_start(POOL)?;
         Ok(())
     }
 
@@ -133,7 +134,7 @@ impl Tally {
         requires { self.old.numbers.opening < self.old.numbers.actions }
         ensures { self.new ≡ record self.old { numbers = message_ended_numbers self.old.numbers } }
     {
-        let Ok(()) = self.monitor.incoming_message_end(self.pool) else {
+        let Ok(()) = self.monitor.incoming_message_end(POOL) else {
             unreachable!()
         };
     }
@@ -146,7 +147,7 @@ impl Tally {
         ensures ended { OnOk result (self.new ≡ record self.old { announced = true }) }
         ensures kept { OnErr result (self.new ≡ self.old) }
     {
-        self.monitor.taskpool_end(self.pool)?;
+        self.monitor.taskpool_end(POOL)?;
         Ok(())
     }
 
@@ -155,7 +156,7 @@ impl Tally {
         requires { IsTrue self.old.announced }
         ensures { self.new ≡ record self.old { numbers = first_numbers; announced = false } }
     {
-        let Ok(()) = self.monitor.taskpool_reopen(self.pool) else {
+        let Ok(()) = self.monitor.taskpool_reopen(POOL) else {
             unreachable!()
         };
     }
@@ -165,7 +166,7 @@ impl Tally {
         ensures state { result ≡ standing self.now }
         ensures over { result ≡ Terminated → monitored_pending self.now.numbers ≡ 0 }
     {
-        self.monitor.taskpool_state(self.pool)
+        self.monitor.taskpool_state(POOL)
     }
 
     /// Whether the pool's end was announced.
@@ -180,7 +181,7 @@ impl Tally {
         ensures numbers { result ≡ self.now.numbers }
         ensures limits { IsWithinLimits result }
     {
-        let Some(numbers) = self.monitor.numbers(self.pool) else {
+        let Some(numbers) = self.monitor.numbers(POOL) else {
             unreachable!()
         };
         numbers

@@ -16,7 +16,7 @@ mod tasks;
 pub(crate) use bare::Bare;
 use std::alloc::Global;
 use std::marker::Model;
-use tp_base::{NodeId, PoolId, TaskId};
+use tp_base::{NodeId, TaskId};
 use tp_board::{Board, Ledgers, Shares};
 use tp_graph::{Graph, Value};
 use tp_local::Local;
@@ -65,7 +65,7 @@ impl<G: Graph, K: Ledgers> Node<G, K> {
             graph,
             nodes,
             next: 0,
-            local: Local::new(alloc, PoolId(0)),
+            local: Local::new(alloc),
             shares,
             alloc,
         }

@@ -81,8 +81,7 @@ const TRIES: u32 = 12;
 /// whoever holds the lock, and what lies beside it.
 const FIRST_SPINS: u32 = 32;
 
-/// How many spins a moment takes at most. No moment is longer than those before it together and one first moment more, so a lock
-/// that is free is seen before twice the wait is over.
+/// How many spins a moment takes at most. No moment takes more of them than all before it together and one first moment.
 const MOST_SPINS: u32 = 1024;
 
 /// Takes a lock. Where it is held, the thread tries it again for a moment, and then sleeps as std has it. It does not yield: one
