@@ -2,13 +2,16 @@
 other.
 
 A call can be refused memory where its description, its type or its contract says so (`NoMemory`, `AllocError`,
-`AllocFailed`, `TextFault`, `Fault`).
+`AllocFailed`, a type of faults as `TextFault`, `Fault` or `LineFault`).
 """
 import re
 
 from . import repository
 
-TELLS = re.compile(r"\b(NoMemory|AllocError|AllocFailed|TextFault|Fault>|no memory for)")
+TELLS = re.compile(r"\b(NoMemory|AllocError|AllocFailed|TextFault|\w*Fault>|no memory for)")
+
+# an impl for each type, whose calls are those of the trait
+OF_ANY = re.compile(r"impl<(\w+)\b.*> \w+ for \1\b")
 
 
 def owner_of(line):
@@ -27,7 +30,7 @@ def calls_of(path):
     owner, doc = "", []
     for place, line in enumerate(lines):
         if re.match(r"(?:pub )?(impl|trait)\b", line):
-            owner = owner_of(line)
+            owner = "" if OF_ANY.match(line) else owner_of(line)
         if line.startswith("}"):
             owner = ""
         if line.strip().startswith("///"):
