@@ -1,8 +1,8 @@
 -- Why there is no table of a grid.
-use Rattle.std.specs.Prelude.{◌≡◌, ◌<◌, ◌⊎◌, ℕ, ⊤}
+use Rattle.std.specs.Prelude.{◌≡◌, ◌<◌, ◌≤◌, ◌⊎◌, ℕ, ⊤}
 use Rattle.tp_base.specs.declared.limits.TheConstants.{MAX_STEPS}
 use Rattle.pool_patterns.specs.Events.{grid_events}
-use Rattle.pool_patterns.specs.Grids.{Relation, inputs}
+use Rattle.pool_patterns.specs.Grids.{IsNarrow, Relation, inputs}
 use Rattle.pool_patterns.specs.declared.fault.TableFault.{TableFault}
 use Rattle.pool_patterns.specs.declared.fault.TableFault.TheVariants.{Empty, TooManyInputs, TooManyEvents, NoMemory}
 
@@ -12,6 +12,12 @@ pub record IsWide (r : Relation) (w steps : ℕ) : Type 0 where
   pub column : ℕ
   pub known : (row < steps) × (column < w)
   pub many : 16 < inputs r w row column
+
+-- There is none of these faults: there is a task, none has more than 16 inputs, and the events are within the limit.
+pub record HasNoFault (r : Relation) (w steps : ℕ) : Type 0 where
+  pub some : (1 ≤ w) × (1 ≤ steps)
+  pub narrow : IsNarrow r w steps
+  pub few : grid_events r w steps ≤ MAX_STEPS
 
 -- There is no task, a task has more than 16 inputs, or the events are above the limit; or there was no memory.
 abbrev pub IsTableFault : Relation → ℕ → ℕ → TableFault → Type 0

@@ -1,5 +1,6 @@
-ghost use Rattle.std.specs.Prelude.{◌≡◌, ◌≤◌, ◌<◌, ◌+◌, ◌-◌, ◌*◌, ◌/◌, ◌%◌, ◌^◌, min, length, slice_index_or, IfOk, IfErr, ℕ};
+ghost use Rattle.std.specs.Prelude.{◌≡◌, ◌≤◌, ◌<◌, ◌+◌, ◌-◌, ◌*◌, ◌/◌, ◌%◌, ◌^◌, min, length, slice_index_or, IfOk, IfErr, OnOk, ℕ};
 ghost use Rattle.pool_events.specs.Events.{task_events};
+ghost use Rattle.pool_patterns.specs.Events.{grid_events};
 ghost use Rattle.pool_patterns.specs.Faults.{IsTableFault};
 ghost use Rattle.pool_patterns.specs.Grids.{AreSizes, Relation};
 ghost use Rattle.pool_patterns.specs.Kinds.{AreKinds};
@@ -28,6 +29,9 @@ pub(crate) fn spots_of(
     ensures made { IfOk result (λ spots. (r : Relation) →
         AreKinds r width steps period kinds.now.spans.items kinds.now.outputs.items kinds.now.arities.items →
         AreSpots r width steps (steps * width) spots.items kinds.now.outputs.items) }
+    ensures few { OnOk result ((r : Relation) →
+        AreKinds r width steps period kinds.now.spans.items kinds.now.outputs.items kinds.now.arities.items →
+        grid_events r width steps ≤ MAX_STEPS) }
     ensures refused { IfErr result (λ fault. (r : Relation) →
         AreKinds r width steps period kinds.now.spans.items kinds.now.outputs.items kinds.now.arities.items →
         IsTableFault r width steps fault) }

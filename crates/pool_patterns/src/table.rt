@@ -1,5 +1,7 @@
-ghost use Rattle.std.specs.Prelude.{◌≡◌, ◌≤◌, ◌<◌, ◌*◌, ◌/◌, ◌%◌, ◌^◌, suc, IfErr, IfOk};
-ghost use Rattle.pool_patterns.specs.Faults.{IsTableFault};
+ghost use Rattle.std.specs.Prelude.{◌≡◌, ◌≤◌, ◌<◌, ◌*◌, ◌/◌, ◌%◌, ◌^◌, suc, IfErr, IfOk, OnOk};
+ghost use Rattle.tp_base.specs.declared.limits.TheConstants.{MAX_STEPS};
+ghost use Rattle.pool_patterns.specs.Events.{grid_events};
+ghost use Rattle.pool_patterns.specs.Faults.{HasNoFault, IsTableFault};
 ghost use Rattle.pool_patterns.specs.Grids.{IsNarrow};
 ghost use Rattle.pool_patterns.specs.Tables.{AreSpots, IsOutput, IsSpot};
 
@@ -26,6 +28,7 @@ pub struct FeedTable<P: Relation> {
     ghost few_steps: { steps < 2 ^ 20 },
     ghost few_tasks: { steps * width < 2 ^ 20 },
     ghost narrow: { IsNarrow (P.relation pattern width) width steps },
+    ghost few_events: { grid_events (P.relation pattern width) width steps ≤ MAX_STEPS },
     ghost noted: { AreSpots (P.relation pattern width) width steps (steps * width) spots.items outputs.items },
 }
 
@@ -36,6 +39,7 @@ impl<P: Relation> FeedTable<P> {
     /// ([`Relation::period`]), and memory for each task and for each feed of those rows.
     pub fn new(alloc: Global, pattern: P, width: u32, steps: u32) -> Result<Self, TableFault>
         ensures made { IfOk result (λ table. (table.pattern ≡ pattern) × (table.width ≡ width) × (table.steps ≡ steps)) }
+        ensures no_fault { OnOk result (HasNoFault (P.relation pattern width) width steps) }
         ensures refused { IfErr result (IsTableFault (P.relation pattern width) width steps) }
     {
         if width == 0 || steps == 0 {

@@ -1,4 +1,4 @@
-use Rattle.std.proofs.Common.{◌≡◌, ◌<◌, ◌*◌, subst, arith, rules}
+use Rattle.std.proofs.Common.{◌≡◌, ◌≤◌, ◌<◌, ◌*◌, subst, arith, rules}
 use Rattle.pool_patterns.proofs.Events.{events_more}
 use Rattle.pool_patterns.proofs.Noted.{spots_more}
 use Rattle.pool_patterns.specs.Events.{events_below}
@@ -25,6 +25,11 @@ pub returns-then-events-gt-MAX_STEPS-clause-refused : goal.returns-then-events-g
 returns-then-events-gt-MAX_STEPS-clause-refused c = λ r kinds.
     let all : c.loop-task.task ≡ c.args.steps * c.args.width = omega arith in
     subst (λ n. 1048576 < events_below r c.args.width n) all (omega (arith, c.loop-task.invariant.counted r kinds))
+
+pub returns-clause-few : goal.returns-clause-few
+returns-clause-few c = λ r kinds.
+    let all : c.loop-task.task ≡ c.args.steps * c.args.width = omega arith in
+    subst (λ n. events_below r c.args.width n ≤ 1048576) all (omega (arith, c.loop-task.invariant.counted r kinds))
 
 pub returns-clause-made : goal.returns-clause-made
 returns-clause-made c = λ r kinds.

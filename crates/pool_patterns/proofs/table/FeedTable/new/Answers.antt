@@ -53,6 +53,17 @@ invariant_of-result-clause-narrow g c =
     (kinds_are r w steps c.period-period.result c.min.result k.spans.items k.outputs.items k.arities.items rows
     c.in_ok-kinds.ensures.spans c.in_ok-kinds.ensures.arities c.period-period.ensures.again)
 
+pub invariant_of-result-clause-few_events : goal.invariant_of-result-clause-few_events
+invariant_of-result-clause-few_events g c =
+    let w = c.args.width in
+    let steps = c.args.steps in
+    let r : Relation = g.P.Relation.relation c.args.pattern w in
+    let rows : c.min.result ≡ min c.period-period.result (steps - 1) = search rules in
+    let k = c.in_ok-kinds.kinds in
+    c.in_ok-spots.ensures.few r
+    (kinds_are r w steps c.period-period.result c.min.result k.spans.items k.outputs.items k.arities.items rows
+    c.in_ok-kinds.ensures.spans c.in_ok-kinds.ensures.arities c.period-period.ensures.again)
+
 pub invariant_of-result-clause-noted : goal.invariant_of-result-clause-noted
 invariant_of-result-clause-noted g c =
     let w = c.args.width in
