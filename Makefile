@@ -2,8 +2,8 @@
 #               bin/patterns (half an hour on four cores the first time)
 # make demo     two runs of the program, unproved (a minute)
 # make test     every test and every program, unproved (some minutes)
-# make gate     the gate: every proof from nothing, the wrong bodies, each test, each program (see docs/GATE.md)
-# make wrong    tries all wrong bodies of the crates that changed (ALL=1: of every crate; CRATE=tp_wave: of one)
+# make gate     the gate: every proof from nothing, its mutants, each test, each program (see docs/GATE.md)
+# make mutants  tries all mutants of the crates that changed (ALL=1: of every crate; CRATE=tp_wave: of one)
 # make times    the gate, and its processor seconds by crate
 # make soak     each sample pool 200 times at 8 nodes with 8 workers each, compares what they make and audits their traces;
 #               then the program with strange streams and texts, at a terminal, every stored text cut after each byte, and
@@ -13,7 +13,7 @@
 #               quick form of some minutes (FULL=1: all cases, kept as the numbers of docs/PERFORMANCE.md; see bench/README.md)
 # make docs     draws the pictures of docs/figures anew: of runs by bin/draw, of the crates and of a wave by tools/pictures.py
 # make install PREFIX=/usr/local     puts the proved programs and the library in place
-.PHONY: all lib demo test gate wrong times soak bench docs install clean
+.PHONY: all lib demo test gate mutants times soak bench docs install clean
 
 PREFIX ?= /usr/local
 
@@ -37,14 +37,14 @@ test:
 	@tools/dev capi
 	@tools/dev docs
 	@tools/dev bench --check
-	@tools/dev wrong --stale
+	@tools/dev mutants --stale
 
 # (one job a check: each further job of a check loads the libraries anew)
 gate:
 	RT_JOBS=$$(tools/dev lanes) rt ci
 
-wrong:
-	@tools/dev wrong $(if $(ALL),--all,$(CRATE))
+mutants:
+	@tools/dev mutants $(if $(ALL),--all,$(CRATE))
 
 times:
 	tools/dev gate-times

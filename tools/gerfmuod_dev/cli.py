@@ -5,7 +5,7 @@ status 2.
 """
 import argparse
 
-from . import bench, build, capi, demo, docs, drawn, gate_times, lanes, library, limits, new_pool, soak, tries, wrong
+from . import bench, build, capi, demo, docs, drawn, gate_times, lanes, library, limits, mutants, new_pool, soak, tries
 from .limits import cuts, generations, hostile_numbers, live, memory, pictures, progress, random_texts, reasons
 from .limits import refuse, refuse_tests, stacks, strange
 
@@ -15,7 +15,7 @@ COMMANDS = {
     "capi": capi,
     "demo": demo,
     "try": tries,
-    "wrong": wrong,
+    "mutants": mutants,
     "gate-times": gate_times,
     "lanes": lanes,
     "docs": docs,

@@ -1,6 +1,6 @@
 """Makes a folder with a pool of a user's own, which runs before anything in it is proved.
 
-FOLDER gets the crates of this repository that such a pool stands on, without their wrong bodies, and two more: NAME,
+FOLDER gets the crates of this repository that such a pool stands on, without their mutants, and two more: NAME,
 the graph, and NAME_run, a program that runs it by threads and prints what came. With `--like chain` these are copies of
 pool_chain and chain, a chain of tasks that add; with `--like rod` of pool_rod and of a program that runs it, cells of
 its caller in blocks. Both bear the new names. A NAME is lowercase letters, digits and _, and no crate of this
@@ -27,7 +27,7 @@ KEYWORDS = set(
     " ghost if impl in let loop macro match mod move mut override priv pub ref requires return self static struct super"
     " trait true try type typeof unsafe unsized use virtual where while yield".split()
 )
-NOT_COPIED = shutil.ignore_patterns("out", "must-fail")
+NOT_COPIED = shutil.ignore_patterns("out", "must-fail", "mutants")
 # the end of the name of a file that is none of the repository's own code until it is copied
 TEMPLATE = ".text"
 

@@ -19,7 +19,7 @@ def copy_to(room):
             old = f"{room}/crates/{crate}/{name}"
             if name != "out":
                 shutil.rmtree(old) if os.path.isdir(old) else os.remove(old)
-    shutil.copytree("crates", f"{room}/crates", ignore=shutil.ignore_patterns("out", "must-fail"), dirs_exist_ok=True)
+    shutil.copytree("crates", f"{room}/crates", ignore=shutil.ignore_patterns("out", "must-fail", "mutants"), dirs_exist_ok=True)
 
 
 @contextlib.contextmanager

@@ -1,0 +1,279 @@
+"""Tries mutants: small changes of a function's body, each of which the prover has to refuse.
+
+Without a name, tries those of the crates that changed since their mutants were last tried. The gate tries those of
+crates/NAME/must-fail; all others are in crates/NAME/mutants, which also has what killed each mutant of the crate. The
+verdicts are current as long as the crate's own files, its mutants and the definitions (specs/) of the crates directly
+below it say the same: comments and line breaks do not count. A verdict by another toolchain is no reason to try anew;
+--stale prints which crates have one. Mutants of different functions are tried in one check, and those that it does not
+kill each in a check of its own. Prints a line for each crate that is proved before, for each mutant, and for each crate.
+The status is 1 if a mutant survives, or, with --stale, if verdicts are not current or a mutant cannot be applied.
+"""
+import datetime
+import functools
+import hashlib
+import os
+import re
+import shutil
+import subprocess
+from concurrent.futures import ThreadPoolExecutor
+
+from . import mutant_files, repository, together
+from .build import prove_all, renew
+from .mutant_files import Fault, mutants_of
+from .repository import files_in, text_of
+from .rooms import rooms
+
+# a string, a character, a comment, a bracket or a mark, or a word
+PART = re.compile(r""""(?:\\.|[^"\\])*"|'(?:\\[^'\n]+|[^'\\\n])'|(?<!\S)(?://|--)[^\n]*|[(){}\[\],;]|[^\s(){}\[\],;"]+""")
+# names that a text takes from one place
+IMPORT = re.compile(r"^ *(?:ghost )?use (\S+)\.\{([^{}]*)\};?$", re.M)
+# a declaration of a hand-written proof
+DECLARED = re.compile(r"^(?:pub )?([\w-]+) : .*?(?=\n\n|\Z)", re.M | re.S)
+# how a message begins, or what it has, if no clause killed the mutant
+ALIVE = re.compile(r"NOT REFUSED|NOT TRIED|BAD EDIT|\(only because|\(only by a limit")
+
+
+@functools.cache
+def toolchain():
+    return subprocess.run(["rt", "version"], stdout=subprocess.PIPE, text=True, check=True).stdout.strip()
+
+
+@functools.cache
+def meaning_of(path):
+    """Returns the text of a file without its comments, blanks and line breaks."""
+    text = IMPORT.sub(lambda use: "".join(f"use {use[1]} {name}\n" for name in use[2].split(",")), text_of(path))
+    parts = " ".join(part for part in PART.findall(text) if not part.startswith(("//", "--")))
+    # (the layout adds a last comma or semicolon, and a first bar, if a list is on several lines)
+    return re.sub(r"[,;] (?=[)}\]])|(?<=\[ )\| ", "", parts)
+
+
+def digest(crate):
+    """Returns a hash of all that the verdicts on a crate's mutants depend on. Neither the verdicts themselves nor whether the gate
+    tries a mutant is part of it."""
+    result = hashlib.sha256()
+    folders = [f"crates/{crate.name}/{part}" for part in ("src", "specs", "proofs")] + [f"crates/{name}/specs" for name in crate.below]
+    for path in [path for folder in folders for path in files_in(folder)]:
+        result.update(f"{path}\n{meaning_of(path)}\n".encode())
+    for name, mutant in sorted(mutants_of(crate.name).items()):
+        result.update(f"{name}\n{mutant.text}\n".encode())
+    return result.hexdigest()
+
+
+def note_of(crate, word):
+    return mutant_files.file_of(crate.name).notes.get(word)
+
+
+def untried(crate):
+    """Returns the names of a crate's mutants of which its file does not say what killed them."""
+    killers = mutant_files.file_of(crate.name).killers
+    return [name for name in mutants_of(crate.name) if name not in killers]
+
+
+def is_current(crate):
+    return note_of(crate, "of") == digest(crate) and not untried(crate)
+
+
+def logic(version):
+    """Returns the part of a toolchain's version that names its prover."""
+    return (version or "").partition("logic ")[2]
+
+
+def goals_with(step, answers):
+    """Returns the goals that a hand-written proof proves with this step of it; for a goal, the goal itself."""
+    parts = {match[1]: match[0] for match in DECLARED.finditer(answers)}
+    named = [step]
+    for name in named:
+        used = re.compile(rf"(?<![\w.-]){re.escape(name)}(?![\w-])")
+        named += [other for other, text in parts.items() if other not in named and used.search(text)]
+    return [name for name in parts if name in named and f" : goal.{name}\n" in parts[name]]
+
+
+def killer_of(crate, message):
+    """Returns the function and the clause that a line of the prover names, or the line itself if it names none. If it names a step
+    of a hand-written proof, the clauses that are proved with this step come with it."""
+    proof = re.search(r"\./proofs/(\S+)/\w+\.antt:\d+:\d+: \w+: (?:.* depend on )?`([^`]+)`", message)
+    # (the prover's line may be cut off)
+    code = re.search(r"(src/\S+\.rt):\d+:\d+: .*\(`([^`]+)", message)
+    place = proof or code
+    if not place:
+        return re.sub(r"^refused, as it must be:? ?", "", message)
+    goals = goals_with(place[2], text_of(f"crates/{crate}/proofs/{place[1]}/Answers.antt", "")) if proof else []
+    return ", ".join([place[1], place[2]] + ([] if place[2] in goals else [f"for {goal}" for goal in goals]))
+
+
+def is_killed(crate, message):
+    return not ALIVE.search(message) and bool(killer_of(crate, message))
+
+
+def report(crate, name, message):
+    if is_killed(crate, message):
+        print(f"{crate}/{name}: killed: {killer_of(crate, message)}", flush=True)
+    else:
+        print(f"{crate}/{name}: {'SURVIVED' if 'NOT REFUSED' in message else 'NOT KILLED by a clause'}: {message}", flush=True)
+
+
+def try_alone(crate, names, lanes, _, room):
+    """Tries mutants of a crate each in a check of its own, so many of them in parallel, in a copy in which all crates below it are
+    proved; returns the prover's message by name."""
+    folder = f"{room}/crates/{crate.name}/must-fail"
+    os.makedirs(folder)
+    for name in names:
+        together.write(f"{folder}/{name}.edit", mutants_of(crate.name)[name].text)
+    messages = {}
+    streams = {"stdin": subprocess.DEVNULL, "stdout": subprocess.PIPE, "text": True}
+    with subprocess.Popen(["rt", "must-fail", crate.name], cwd=room, env={**os.environ, "RT_JOBS": str(lanes)}, **streams) as process:
+        for line in process.stdout:
+            match = re.match(r"rt: must-fail \w+/(\S+)\.edit: (.*)", line)
+            if match:
+                messages[match[1]] = match[2]
+                report(crate.name, match[1], match[2])
+    shutil.rmtree(folder)
+    return messages
+
+
+def try_together(crate, group, kept, room):
+    """Tries mutants of a crate in one check; returns the prover's message for each that it killed in the function that was changed."""
+    messages = together.try_group(crate.name, room, kept, group)
+    for name, message in messages.items():
+        report(crate.name, name, message)
+    return messages
+
+
+def in_copies(copies, jobs):
+    """Runs jobs in parallel, each in a copy of the repository; returns their results in order."""
+    free = [*copies]
+
+    def run_job(job):
+        room = free.pop()
+        try:
+            return job(room)
+        finally:
+            free.append(room)
+
+    with ThreadPoolExecutor(len(copies)) as lanes:
+        return [*lanes.map(run_job, jobs)]
+
+
+def groups_in(crate):
+    """Returns the mutants of a crate that can be tried together, as groups."""
+    placed = (together.place(mutant, crate.name) for mutant in mutants_of(crate.name).values())
+    return together.groups_of(filter(None, placed))
+
+
+def try_all(crates, top, copies):
+    """Tries the mutants of crates that are proved in these copies, the longest crate first; returns whether each was killed. Those of
+    different functions are tried in one check, and then those that survived it each in a check of its own."""
+    kept, messages = {crate.name: f"{top}/kept/{crate.name}" for crate in crates}, {crate.name: {} for crate in crates}
+    places = {(crate.name, room): f"{room}/crates/{crate.name}/out/incremental" for crate in crates for room in copies}
+    for name, place in kept.items():
+        found = [places[name, room] for room in copies if os.path.exists(places[name, room])]
+        renew(max(found, key=os.path.getmtime), place)
+
+    def run_jobs(jobs):
+        results = in_copies(copies, [functools.partial(action, crate, *rest, kept[crate.name]) for action, crate, *rest in jobs])
+        for (_, crate, *_), result in zip(jobs, results):
+            messages[crate.name].update(result)
+
+    run_jobs([(try_together, crate, group) for crate in sorted(crates, key=lambda crate: -crate.lines) for group in groups_in(crate)])
+    left = {crate: [name for name in mutants_of(crate.name) if name not in messages[crate.name]] for crate in crates}
+    for (name, _), place in places.items():
+        renew(kept[name], place)
+    lanes = max(1, len(copies) // max(1, sum(map(bool, left.values()))))
+    run_jobs([(try_alone, crate, names, lanes) for crate, names in left.items() if names])
+    return all([record(crate, messages[crate.name]) for crate in crates])
+
+
+def record(crate, messages):
+    """Writes what killed each mutant of a crate, if all of them were; returns whether they were."""
+    is_well = messages.keys() == mutants_of(crate.name).keys() and all(is_killed(crate.name, message) for message in messages.values())
+    if is_well:
+        killers = {name: killer_of(crate.name, message) for name, message in messages.items()}
+        notes = {"of": digest(crate), "by": toolchain(), "on": f"{datetime.date.today()}"}
+        mutant_files.write(crate.name, killers, notes)
+    result = f"{len(messages)} mutants killed" if is_well else "NOT EACH of its mutants was killed by a clause"
+    print(f"{crate.name}: {result}", flush=True)
+    return is_well
+
+
+def redigest(crate):
+    """Writes a crate's digest anew and keeps what killed its mutants; returns whether each of them had been tried and can be applied."""
+    faults = [f"{crate.name}/{name} was never tried: make mutants CRATE={crate.name}" for name in untried(crate)] + faults_of(crate.name)
+    if faults:
+        print("\n".join(faults))
+        return False
+    day = (note_of(crate, "on") or "").partition(",")[0]
+    notes = {"of": digest(crate), "by": note_of(crate, "by"), "on": f"{day}, carried over a change of names on {datetime.date.today()}"}
+    mutant_files.write(crate.name, mutant_files.file_of(crate.name).killers, notes)
+    print(f"{crate.name}: carried over {len(mutants_of(crate.name))} mutants")
+    return True
+
+
+def faults_of(name):
+    """Returns why mutants of a crate cannot be read or applied, a line each."""
+    faults = []
+    try:
+        for mutant in mutants_of(name).values():
+            try:
+                mutant_files.check(name, mutant)
+            except Fault as fault:
+                faults.append(str(fault))
+    except Fault as fault:
+        faults.append(str(fault))
+    return faults
+
+
+def print_stale(crates):
+    """Prints the mutants that cannot be applied, the crates whose mutants have to be tried anew, and how many mutants there are;
+    returns whether there is nothing to do."""
+    faults = {name: faults_of(name) for name in crates}
+    print("".join(f"{line}\n" for lines in faults.values() for line in lines), end="")
+    readable = {name: crate for name, crate in crates.items() if not faults[name] and mutants_of(name)}
+    stale = [name for name, crate in readable.items() if not is_current(crate)]
+    for name in stale:
+        print(f"{name} changed since its mutants were tried: make mutants")
+    others = [name for name, crate in readable.items() if logic(note_of(crate, "by")) != logic(toolchain())]
+    if others:
+        print(f"Tried with another prover than this one, which `make mutants ALL=1` would ask: {' '.join(others)}")
+    in_gate = [sum(mutant.in_gate for mutant in mutants_of(name).values()) for name in readable]
+    beside = sum(len(mutant_files.file_of(name).mutants) for name in readable)
+    print(f"The gate has {sum(in_gate)} mutants in {sum(map(bool, in_gate))} crates; {beside} more are in crates/*/mutants.")
+    return not stale and not any(faults.values())
+
+
+def arguments(parser):
+    which = parser.add_mutually_exclusive_group()
+    which.add_argument("--all", action="store_true", help="of every crate")
+    which.add_argument("--stale", action="store_true", help="try nothing: print the crates whose verdicts are not current, and faults")
+    redigest_help = (
+        "try nothing: write the digests of these crates anew and keep their verdicts. For changes of names or layout"
+        " alone, such as a move of files between crates; the crate's file then says so"
+    )
+    which.add_argument("--redigest", nargs="+", metavar="NAME", help=redigest_help)
+    which.add_argument("names", nargs="*", default=[], metavar="NAME", help="of these crates")
+
+
+def try_mutants(crates):
+    """Proves these crates and tries their mutants; returns whether each was killed by a clause."""
+    with rooms() as (top, copies):
+        return prove_all(repository.crates([crate.name for crate in crates]), [*copies]) and try_all(crates, top, copies)
+
+
+def run(options):
+    repository.go_to_top()
+    crates = repository.crates()
+    if options.stale:
+        return 0 if print_stale(crates) else 1
+    try:
+        having = {name: crate for name, crate in crates.items() if mutants_of(name)}
+        wanted = list(dict.fromkeys(options.redigest or options.names))
+        names = wanted or [name for name, crate in having.items() if options.all or not is_current(crate)]
+        unknown = [name for name in names if name not in having]
+        if unknown:
+            print(f"No mutants: {' '.join(unknown)}")
+            return 1
+        if options.redigest:
+            return 0 if all([redigest(having[name]) for name in names]) else 1
+        return 0 if try_mutants([having[name] for name in names]) else 1
+    except Fault as fault:
+        print(fault)
+        return 1
