@@ -29,7 +29,9 @@ PART = re.compile(r""""(?:\\.|[^"\\])*"|'(?:\\[^'\n]+|[^'\\\n])'|(?<!\S)(?://|--
 IMPORT = re.compile(r"^ *(?:ghost )?use (\S+)\.\{([^{}]*)\};?$", re.M)
 # a declaration of a hand-written proof
 DECLARED = re.compile(r"^(?:pub )?([\w-]+) : .*?(?=\n\n|\Z)", re.M | re.S)
-# how a message begins, or what it has, if no clause killed the mutant
+# how many mutants the gate has, and in how many crates: each of them costs a whole check more
+MOST_MUTANTS, MOST_CRATES = 60, 14
+# what a message has if no clause killed the mutant
 ALIVE = re.compile(r"NOT REFUSED|NOT TRIED|BAD EDIT|\(only because|\(only by a limit")
 
 
@@ -196,11 +198,14 @@ def record(crate, messages):
 
 
 def redigest(crate):
-    """Writes a crate's digest anew and keeps what killed its mutants; returns whether each of them had been tried and can be applied."""
-    faults = [f"{crate.name}/{name} was never tried: make mutants CRATE={crate.name}" for name in untried(crate)] + faults_of(crate.name)
-    if faults:
-        print("\n".join(faults))
+    """Writes a crate's digest anew and keeps what killed its mutants; returns whether each of them had been tried."""
+    untried_names = [f"{crate.name}/{name} was never tried: make mutants CRATE={crate.name}" for name in untried(crate)]
+    if untried_names:
+        print("\n".join(untried_names))
         return False
+    if is_current(crate):
+        print(f"{crate.name}: its verdicts are current")
+        return True
     day = (note_of(crate, "on") or "").partition(",")[0]
     notes = {"of": digest(crate), "by": note_of(crate, "by"), "on": f"{day}, carried over a change of names on {datetime.date.today()}"}
     mutant_files.write(crate.name, mutant_files.file_of(crate.name).killers, notes)
@@ -222,22 +227,31 @@ def faults_of(name):
     return faults
 
 
+def is_readable(name):
+    try:
+        return bool(mutants_of(name))
+    except Fault:
+        return False
+
+
 def print_stale(crates):
     """Prints the mutants that cannot be applied, the crates whose mutants have to be tried anew, and how many mutants there are;
     returns whether there is nothing to do."""
-    faults = {name: faults_of(name) for name in crates}
-    print("".join(f"{line}\n" for lines in faults.values() for line in lines), end="")
-    readable = {name: crate for name, crate in crates.items() if not faults[name] and mutants_of(name)}
-    stale = [name for name, crate in readable.items() if not is_current(crate)]
+    faults = [line for name in crates for line in faults_of(name)]
+    print("".join(f"{line}\n" for line in faults), end="")
+    having = {name: crate for name, crate in crates.items() if is_readable(name)}
+    stale = [name for name, crate in having.items() if not is_current(crate)]
     for name in stale:
         print(f"{name} changed since its mutants were tried: make mutants")
-    others = [name for name, crate in readable.items() if logic(note_of(crate, "by")) != logic(toolchain())]
+    others = [name for name, crate in having.items() if logic(note_of(crate, "by")) != logic(toolchain())]
     if others:
         print(f"Tried with another prover than this one, which `make mutants ALL=1` would ask: {' '.join(others)}")
-    in_gate = [sum(mutant.in_gate for mutant in mutants_of(name).values()) for name in readable]
-    beside = sum(len(mutant_files.file_of(name).mutants) for name in readable)
-    print(f"The gate has {sum(in_gate)} mutants in {sum(map(bool, in_gate))} crates; {beside} more are in crates/*/mutants.")
-    return not stale and not any(faults.values())
+    in_gate = [sum(mutant.in_gate for mutant in mutants_of(name).values()) for name in having]
+    mutants, in_crates = sum(in_gate), sum(map(bool, in_gate))
+    elsewhere = sum(len(mutant_files.file_of(name).mutants) for name in having)
+    most = "" if mutants <= MOST_MUTANTS and in_crates <= MOST_CRATES else f" (at most {MOST_MUTANTS} in {MOST_CRATES} is the rule)"
+    print(f"The gate has {mutants} mutants in {in_crates} crates{most}; {elsewhere} more are in crates/*/mutants.")
+    return not stale and not faults
 
 
 def arguments(parser):
@@ -270,6 +284,10 @@ def run(options):
         unknown = [name for name in names if name not in having]
         if unknown:
             print(f"No mutants: {' '.join(unknown)}")
+            return 1
+        faults = [line for name in names for line in faults_of(name)]
+        if faults:
+            print("\n".join(faults))
             return 1
         if options.redigest:
             return 0 if all([redigest(having[name]) for name in names]) else 1

@@ -136,6 +136,7 @@ def try_group(crate, room, kept, group):
     lines = result.stdout.splitlines()
     if result.returncode != 1 or not any(line.startswith("logic=not-proved") for line in lines):
         return {}
-    errors = [line for line in lines if PLACE.match(line) and (": error" in line or line.startswith("note: ")) and not NAMES_ONLY.match(line)]
+    placed = [line for line in lines if PLACE.match(line) and not NAMES_ONLY.match(line)]
+    errors = [line for line in placed if ": error" in line or line.startswith("note: ")]
     first = {mutant.name: next((error for error in errors if is_in(error, mutant)), None) for mutant in group}
     return {name: f"refused, as it must be: {error[:160]}" for name, error in first.items() if error}
