@@ -1,7 +1,8 @@
-# make          proves all that the programs stand on, and builds them: bin/tp, bin/draw, bin/heat, bin/product, bin/relax and
-#               bin/patterns (half an hour on four cores the first time)
+# make          proves all that the programs stand on, and builds them: bin/tp and bin/samples (half an hour on four cores
+#               the first time); what tp stands on comes first, and `make bin/tp` builds nothing else
 # make demo     two runs of the program, unproved (a minute)
 # make test     every test and every program, unproved (some minutes)
+# make mpi      tree search over Open MPI with the detector for distributed programs, up to 16 processes (a few minutes)
 # make gate     the gate: every proof from nothing, its mutants, each test, each program (see docs/GATE.md)
 # make mutants  tries all mutants of the crates that changed (ALL=1: of every crate; CRATE=tp_wave: of one)
 # make times    the gate, and its processor seconds by crate
@@ -11,22 +12,26 @@
 # make lib      proves the detector for other languages, and builds it: lib/libgerfmuod.a, its header and its pkg-config file
 # make bench    what a step costs that a program in C tells the library, and all programs beside others that do the same, in a
 #               quick form of some minutes (FULL=1: all cases, kept as the numbers of docs/PERFORMANCE.md; see bench/README.md)
-# make docs     draws the pictures of docs/figures anew: of runs by bin/draw, of the crates and of a wave by tools/pictures.py
+# make docs     draws the pictures of docs/figures anew: of runs by bin/samples, of the crates and of a wave by tools/pictures.py
 # make install PREFIX=/usr/local     puts the proved programs and the library in place
-.PHONY: all lib demo test gate mutants times soak bench docs install clean
+.PHONY: all lib demo test mpi gate mutants times soak bench docs install clean
 
 PREFIX ?= /usr/local
 
-all: bin/tp
+all: bin/samples
 
 SOURCES := $(shell find crates -name out -prune -o \( -name '*.rt' -o -name '*.antt' \) -print)
 
 bin/tp: $(SOURCES) crates.txt
+	@tools/dev build tp
+
+# (it builds bin/tp, too)
+bin/samples: $(SOURCES) crates.txt
 	@tools/dev build
 
 lib: lib/libgerfmuod.a
 
-lib/libgerfmuod.a: $(SOURCES) crates.txt capi/gerfmuod.h capi/gerfmuod.pc.in
+lib/libgerfmuod.a: $(SOURCES) crates.txt capi/gerfmuod.h capi/gerfmuod_process.h capi/gerfmuod.pc.in
 	@tools/dev lib
 
 demo:
@@ -39,6 +44,9 @@ test:
 	@tools/dev bench --check
 	@tools/dev mutants --stale
 
+mpi: lib/libgerfmuod.a
+	@tools/dev mpi
+
 # (one job a check: each further job of a check loads the libraries anew)
 gate:
 	RT_JOBS=$$(tools/dev lanes) rt ci
@@ -49,7 +57,7 @@ mutants:
 times:
 	tools/dev gate-times
 
-soak: bin/tp
+soak: bin/samples
 	tools/dev soak bin/tp --runs 200
 	tools/dev limits strange bin/tp
 	tools/dev limits reasons bin/tp
@@ -57,23 +65,20 @@ soak: bin/tp
 	tools/dev limits random bin/tp
 	tools/dev limits progress
 
-bench: bin/tp lib/libgerfmuod.a
+bench: bin/samples lib/libgerfmuod.a
 	@tools/dev capi --bench
 	@tools/dev bench $(if $(FULL),--full --write,--quick)
 
-docs: bin/tp
+docs: bin/samples
 	@tools/dev draw
 	@tools/pictures.py
 
-install: bin/tp lib/libgerfmuod.a
+install: bin/samples lib/libgerfmuod.a
 	install -D -m 755 bin/tp $(DESTDIR)$(PREFIX)/bin/tp
-	install -D -m 755 bin/draw $(DESTDIR)$(PREFIX)/bin/draw
-	install -D -m 755 bin/heat $(DESTDIR)$(PREFIX)/bin/heat
-	install -D -m 755 bin/product $(DESTDIR)$(PREFIX)/bin/product
-	install -D -m 755 bin/relax $(DESTDIR)$(PREFIX)/bin/relax
-	install -D -m 755 bin/patterns $(DESTDIR)$(PREFIX)/bin/patterns
+	install -D -m 755 bin/samples $(DESTDIR)$(PREFIX)/bin/samples
 	install -D -m 644 lib/libgerfmuod.a $(DESTDIR)$(PREFIX)/lib/libgerfmuod.a
 	install -D -m 644 capi/gerfmuod.h $(DESTDIR)$(PREFIX)/include/gerfmuod.h
+	install -D -m 644 capi/gerfmuod_process.h $(DESTDIR)$(PREFIX)/include/gerfmuod_process.h
 	install -d $(DESTDIR)$(PREFIX)/lib/pkgconfig
 	sed 's|@LIBRARIES@|$(PREFIX)/lib|; s|@HEADERS@|$(PREFIX)/include|' capi/gerfmuod.pc.in > $(DESTDIR)$(PREFIX)/lib/pkgconfig/gerfmuod.pc
 

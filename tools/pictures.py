@@ -4,7 +4,9 @@ docs/ARCHITECTURE.md, and a message that overtakes a wave (docs/figures/message-
 the stored script.
 
     tools/pictures.py            writes both
-    tools/pictures.py --check    writes nothing; the status is 1 where one of them is not today's
+    tools/pictures.py --check    writes nothing; the status is 1 if one of them is not today's
+
+It draws nothing, and the status is 1, if the table does not have one line for each crate.
 """
 import os
 import re
@@ -16,6 +18,9 @@ SCRIPT = "crates/tp_examples/data/a-message-overtakes-the-wave"
 FONT = 'font-family="Helvetica, Arial, sans-serif"'
 # a colour for each group of crates, in the order in which the table has them
 FILLS = ["#e8e8e8", "#fde2b8", "#cfe3f7", "#d8efd0", "#e6dbf3", "#fbd5d5", "#f2f0c8"]
+
+# a crate of the second tier: how the table calls it, and how its frame is drawn
+SECOND_TIER, DASHED = "safe", ' stroke-dasharray="4 3"'
 
 
 def read(path):
@@ -47,12 +52,12 @@ def crates():
     return {name.split()[0]: [it for it in below.split() if it in names] for name, below in rows}
 
 
-def groups():
-    """Gives for each crate its group, by the table of docs/ARCHITECTURE.md."""
+def table():
+    """Gives for each crate its group and its tier, by the table of docs/ARCHITECTURE.md, which has a line for each."""
     found, group = {}, ""
-    for row in re.findall(r"^\|([^|]*)\|([^|]*)\|[^|]*\|$", read("docs/ARCHITECTURE.md"), re.M):
+    for row in re.findall(r"^\|([^|]*)\|([^|]*)\|([^|]*)\|[^|]*\|$", read("docs/ARCHITECTURE.md"), re.M):
         group = row[0].strip() or group
-        found.update({name.strip(): group for name in row[1].split(",")})
+        found[row[1].strip()] = group, row[2].strip()
     return found
 
 
@@ -162,15 +167,20 @@ def ordered(rows, lines):
 
 def picture_of_crates():
     below = crates()
-    group = groups()
-    missing = [name for name in below if name not in group]
+    rows_of_table = table()
+    missing = [name for name in below if name not in rows_of_table]
     if missing:
         sys.exit(f"docs/ARCHITECTURE.md has no row for {' '.join(missing)}")
+    unknown = [name for name in rows_of_table if re.match(r"[a-z]", name) and name not in below]
+    if unknown:
+        sys.exit(f"docs/ARCHITECTURE.md has a row for {' '.join(unknown)}, which crates.txt does not name")
+    group = {name: rows_of_table[name][0] for name in below}
+    is_second = {name: rows_of_table[name][1] == SECOND_TIER for name in below}
     rows, lines = rows_of(direct(below), layers_of(below))
     rows, at = ordered(rows, lines)
     left = min(x - width_of(place) / 2 for place, x in at.items())
     right = max(x + width_of(place) / 2 for place, x in at.items())
-    names = [it for it in dict.fromkeys(group.values()) if it in {group[name] for name in below}]
+    names = [it for it in dict.fromkeys(it[0] for it in rows_of_table.values()) if it in group.values()]
     fills = dict(zip(names, FILLS))
     step, tall, top = 74, 26, 52
     width, height = right - left + 32, top + step * (len(rows) - 1) + tall + 22
@@ -181,6 +191,9 @@ def picture_of_crates():
         parts.append(f'<rect x="{x:.1f}" y="14" width="14" height="14" rx="3" fill="{fills[name]}" stroke="#555"/>')
         parts.append(text(x + 19, 25.5, name, 'font-size="13"'))
         x += 38 + 6.6 * len(name)
+    parts.append(f'<rect x="{x:.1f}" y="14" width="14" height="14" rx="3" fill="white" stroke="#555"{DASHED}/>')
+    parts.append(text(x + 19, 25.5, "second tier", 'font-size="13"'))
+    x += 38 + 6.6 * len("second tier")
     for low, high in lines:
         a, b = x_of[low], x_of[high]
         y, to_y = y_of[low], y_of[high] + tall
@@ -191,8 +204,9 @@ def picture_of_crates():
     for row in rows:
         for name in row:
             if isinstance(name, str):
+                dashed = DASHED if is_second[name] else ""
                 parts.append(f'<rect x="{x_of[name] - 46:.1f}" y="{y_of[name]}" width="92" height="{tall}" rx="5" '
-                             f'fill="{fills[group[name]]}" stroke="#444"/>')
+                             f'fill="{fills[group[name]]}" stroke="#444"{dashed}/>')
                 middle = 'font-size="12.5" text-anchor="middle"'
                 parts.append(text(x_of[name], y_of[name] + 17.5, name, middle))
     return page(max(width, x + 8), height, parts)

@@ -1,11 +1,10 @@
-"""Proves all that the programs stand on, and builds them: bin/tp, bin/draw, bin/heat, bin/product, bin/relax and
-bin/patterns.
+"""Proves all that the programs stand on, and builds them: bin/tp and bin/samples, or one of them alone.
 
 Crates are proved beside each other, in as many copies of the repository as there are processors: a command of the
 prover locks all crates below its own. The library that is proved in one copy is given to the others, with the stamp by
-which the prover knows the text that it was made from. Of the crates that can begin, the one that the most lines wait for
-goes first, and takes what processors the others leave, as far as its lines are worth them. Prints a line for each crate
-as it ends; where one is not proved, all that its check said, and the status is 1.
+which the prover knows the text that it was made from. What tp stands on goes first, and of the crates that can begin
+the one that the most lines wait for; it takes what processors the others leave, as far as its lines are worth them.
+Prints a line for each crate as it ends; where one is not proved, all that its check said, and the status is 1.
 """
 import itertools
 import os
@@ -18,7 +17,7 @@ from concurrent.futures import FIRST_COMPLETED, ThreadPoolExecutor, wait
 from . import repository
 from .rooms import rooms
 
-PROGRAMS = ["tp", "draw", "heat", "product", "relax", "patterns"]
+PROGRAMS = ["tp", "samples"]
 # the crates that are built for programs in other languages, into lib/
 LIBRARIES = ["gerfmuod"]
 # a further job of a check loads all libraries anew, which fewer lines do not repay
@@ -49,7 +48,8 @@ def prove(crate, room, jobs):
     )
     if crate.name in PROGRAMS and not ran.returncode:
         os.makedirs("bin", exist_ok=True)
-        shutil.copy2(f"{room}/crates/{crate.name}/out/{crate.name}", f"bin/{crate.name}")
+        # (the copy is newer than the sources, for make)
+        shutil.copy(f"{room}/crates/{crate.name}/out/{crate.name}", f"bin/{crate.name}")
     if crate.name in LIBRARIES and not ran.returncode:
         os.makedirs("lib", exist_ok=True)
         shutil.copy2(f"{room}/crates/{crate.name}/out/lib{crate.name}.a", f"lib/lib{crate.name}.a")
@@ -85,12 +85,13 @@ def shares(free, ready):
 def prove_all(every, rooms_of_it):
     """Proves these crates in these copies; gives whether all were proved."""
     longest, began, all_rooms = waiting_for(every), time.time(), [*rooms_of_it]
+    first = repository.crates(PROGRAMS[:1])
     done, running, free, is_well = set(), {}, len(rooms_of_it), True
     with ThreadPoolExecutor(len(rooms_of_it)) as lanes:
         while is_well and len(done) < len(every) or running:
             begun = {crate.name for crate, *_ in running.values()}
             ready = [it for it in every.values() if it.name not in done | begun and done.issuperset(it.below)] if is_well else []
-            for crate, jobs in list(shares(free, sorted(ready, key=lambda it: -longest[it.name]))):
+            for crate, jobs in list(shares(free, sorted(ready, key=lambda it: (it.name not in first, -longest[it.name])))):
                 room = rooms_of_it.pop()
                 running[lanes.submit(prove, crate, room, jobs)] = crate, room, jobs, time.time()
                 free -= jobs
@@ -119,17 +120,17 @@ def tell(crate, proved, said, at, seconds):
 
 
 def arguments(parser):
-    del parser
+    parser.add_argument("program", nargs="?", choices=PROGRAMS, help="both programs where none is named")
 
 
 def run(words):
-    del words
     repository.go_to_top()
-    every = repository.crates(PROGRAMS)
+    programs = [words.program] if words.program else PROGRAMS
+    every = repository.crates(programs)
     lanes = repository.lanes(repository.MEMORY_OF_A_CHECK)
     print(
-        f"Proves {len(every)} crates on {lanes} processors, and builds bin/tp, bin/draw, bin/heat, bin/product, bin/relax and "
-        "bin/patterns: on four half an hour the first time, and later what changed.",
+        f"Proves {len(every)} crates on {lanes} processors, and builds {' and '.join(f'bin/{it}' for it in programs)}: "
+        "on four half an hour the first time, and later what changed.",
         flush=True,
     )
     with rooms() as (_, copies):

@@ -1,9 +1,9 @@
 """Compiles the programs of capi/ and runs them with the proved library.
 
-First the header is read as C99, C11 and C++17, with all warnings on, by each compiler that is here. Then, where
+First the headers are read as C99, C11 and C++17, with all warnings on, by each compiler that is here. Then, where
 lib/libgerfmuod.a is there and of these sources (`make lib` builds it), each program is linked with it and run: those in
-C and C++ once more under valgrind, where that is here. What is not here is told and skipped. The last line is `N
-passed, M failed`; the status is 1 where one failed.
+C and C++ once more under valgrind, where that is here. The programs of capi/mpi are run if mpicc and mpirun are here. What
+is not here is told and skipped. The last line is `N passed, M failed`; the status is 1 where one failed.
 
 With --bench the programs are not run; what a step costs is measured and printed: instructions, which valgrind counts at
 two numbers of steps, memory, nanoseconds, and the depth of the stack.
@@ -16,7 +16,7 @@ import sys
 import tempfile
 from typing import NamedTuple
 
-from . import library, repository
+from . import library, mpi, repository
 from .running import Tally, short
 
 WARNINGS = ["-Wall", "-Wextra", "-pedantic", "-Werror"]
@@ -28,7 +28,7 @@ STEPS = 999_999
 
 
 class Run(NamedTuple):
-    """Words, the exit status that has to come, and what has to stand in what was written."""
+    """Arguments, the exit status that has to come (-1: any but 0), and a text that has to be in what was written."""
 
     words: list
     status: int
@@ -56,24 +56,76 @@ PROGRAMS = [
         ],
         True,
     ),
+    Program(
+        "layout.c",
+        ["gcc", "-std=c99", *WARNINGS, "-O2"],
+        [Run([], 0, ", 0 failed"), Run(["swapped"], 98, "or another struct")],
+        True,
+    ),
+    Program(
+        "storm.c",
+        ["gcc", "-std=c11", *WARNINGS, "-O2"],
+        [
+            Run(["8", "20"], 0, " 0 EARLY"),
+            Run(["1", "200"], 0, " 0 EARLY"),
+            Run(["2", "1000"], 0, " 0 EARLY"),
+            Run(["3", "1000"], 0, " 0 EARLY"),
+            Run(["64", "100"], 0, " 0 SILENT"),
+            Run(["64", "100", "fifo"], 0, " 0 SILENT"),
+            Run(["1000", "3"], 0, " 0 SILENT"),
+            Run(["8", "300", "lossy"], 0, " 0 EARLY"),
+            Run(["2", "200", "late"], 1, "late: "),
+            Run(["2", "200", "early"], 1, "early: "),
+            Run(["8", "20", "uncounted"], 2, "20 SILENT"),
+            Run(["8", "50", "twice"], 2, "twice: "),
+        ],
+        True,
+    ),
+    Program(
+        "epochs.c",
+        ["gcc", "-std=c11", *WARNINGS, "-O2"],
+        [
+            Run(["3", "4", "20"], 0, " 0 EARLY"),
+            Run(["1", "8", "100"], 0, " 0 EARLY"),
+            Run(["2", "8", "300"], 0, " 0 EARLY"),
+            Run(["8", "8", "100"], 0, " 0 SILENT"),
+            Run(["64", "4", "5"], 0, " 0 SILENT"),
+            Run(["8", "8", "5", "unmarked"], 1, "unmarked: "),
+            Run(["8", "8", "5", "dropped"], 2, " 0 EARLY"),
+        ],
+        True,
+    ),
+    Program(
+        "threads.c",
+        ["gcc", "-std=c11", *WARNINGS, "-O2", "-pthread"],
+        [
+            Run([], 0, "64 threads, 3 epochs: right"),
+            Run(["1", "3"], 0, "right"),
+            Run(["2", "64"], 0, "right"),
+            Run(["8", "2", "early"], -1, ""),
+            Run(["64", "1", "uncounted"], 2, ""),
+        ],
+        False,
+    ),
     Program("ring.rs", ["rustc", "--edition", "2024", "-O"], [Run([], 0, "ended: 1608 messages, none was left")], False),
     Program("two_waves.f90", ["gfortran", "-std=f2018", "-Wall", "-Wextra", "-O2"], [Run([], 0, "ended with wave 1")], False),
 ]
 
 
 def read_header(tally):
-    """Each program in C and C++ that includes the header, read by each compiler, with no code made."""
+    """The headers, and each program in C and C++ that includes one, read by each compiler, with no code made."""
     for compiler, standards, kind in COMPILERS:
         if not shutil.which(compiler):
             print(f"{compiler} is not here: skipped")
             continue
         for standard in standards:
             for name in sorted(os.listdir("capi")):
-                if name.endswith({"c": ".c", "c++": ".cpp"}[kind]):
-                    words = [compiler, "-x", kind, f"-std={standard}", *WARNINGS, "-fsyntax-only", f"capi/{name}"]
+                if name.endswith((".h", {"c": ".c", "c++": ".cpp"}[kind])):
+                    read = ["-include", f"capi/{name}", "/dev/null"] if name.endswith(".h") else [f"capi/{name}"]
+                    words = [compiler, "-x", kind, f"-std={standard}", *WARNINGS, "-fsyntax-only", *read]
                     ran = subprocess.run(words, capture_output=True)
                     tally.judge(not ran.returncode, f"{' '.join(words)}: {short(ran.stderr, 2000)}")
-    print("capi/gerfmuod.h: read as C99, C11 and C++17")
+    print("the headers of capi/: read as C99, C11 and C++17")
 
 
 def compiled(program, folder):
@@ -97,7 +149,8 @@ def judge(tally, words, wanted):
     except subprocess.TimeoutExpired:
         tally.fails(f"{' '.join(words)}: did not end")
         return
-    is_well = ran.returncode == wanted.status and wanted.says in ran.stdout.decode(errors="replace")
+    has_status = ran.returncode != 0 if wanted.status == -1 else ran.returncode == wanted.status
+    is_well = has_status and wanted.says in ran.stdout.decode(errors="replace")
     tally.judge(is_well, f"{' '.join(words)}: status {ran.returncode}, wanted {wanted.status}: {short(ran.stdout, 2000)}")
 
 
@@ -166,4 +219,5 @@ def run(words):
     else:
         with tempfile.TemporaryDirectory() as folder:
             run_programs(tally, folder)
+            mpi.run_quick(tally, folder)
     return tally.end()

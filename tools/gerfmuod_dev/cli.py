@@ -5,7 +5,7 @@ status 2.
 """
 import argparse
 
-from . import bench, build, capi, demo, docs, drawn, gate_times, lanes, library, limits, mutants, new_pool, soak, tries
+from . import bench, build, capi, demo, docs, drawn, gate_times, lanes, library, limits, mpi, mutants, new_pool, soak, tries
 from .limits import cuts, generations, hostile_numbers, live, memory, pictures, progress, random_texts, reasons
 from .limits import refuse, refuse_tests, stacks, strange
 
@@ -13,6 +13,7 @@ COMMANDS = {
     "build": build,
     "lib": library,
     "capi": capi,
+    "mpi": mpi,
     "demo": demo,
     "try": tries,
     "mutants": mutants,

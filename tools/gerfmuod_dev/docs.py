@@ -1,7 +1,7 @@
 """Compares the documents with the code and with each other.
 
 - the table of docs/MEMORY.md: each public call that can be refused memory stands in it, and no other
-- each block of code in docs/WRITING-A-POOL.md stands, as it is, in the file that the line above it names
+- each block of code in docs/RUNNING-A-POOL.md and docs/PROVING-A-POOL.md is part of the file that the line above it names
 - each relative link of README.md, CONTRIBUTING.md, bench/README.md and docs/*.md leads to a file, and to a heading where it names one
 - README.md has at most 150 lines, none of them over 120 columns: warnings, unless --strict is given
 - the pictures are those that tools/pictures.py makes, where there is such a file (its --check)
@@ -20,7 +20,7 @@ from . import memory_table, repository
 from .repository import text_of
 from .running import Tally
 
-GUIDE = "docs/WRITING-A-POOL.md"
+GUIDE = "docs/RUNNING-A-POOL.md", "docs/PROVING-A-POOL.md"
 BLOCK = re.compile(r"(?:`(crates/[^`\n]+)`:\n\n)?```(\w+)\n(.*?\n)```\n", re.S)
 CODE = re.compile(r"^ *```.*?^ *```[^\n]*$|`[^`\n]*`", re.S | re.M)
 LINK = re.compile(r'\]\(<?([^()\s>]+)>?(?:\s+"[^"]*")?\)|^ *\[[^\]\n]+\]: *(\S+)|\b(?:src|srcset|href)="([^"]+)"', re.M)
@@ -29,16 +29,17 @@ PICTURES = "tools/pictures.py"
 MOST_COLUMNS, MOST_LINES = 120, 150
 
 
-def check_guide(tally):
-    blocks = [block.groups() for block in BLOCK.finditer(text_of(GUIDE))]
+def check_page(page, tally):
+    """Compares the blocks of a page of the guide with the files that it names."""
+    blocks = [block.groups() for block in BLOCK.finditer(text_of(page))]
     strange = 0
     for path, kind, code in blocks:
         if not path and kind == "text" or path and code in text_of(path, ""):
             tally.passes()
         else:
             strange += 1
-            tally.fails(f"{GUIDE}: not in {path or 'any file'}: {code.splitlines()[0]}")
-    print(f"{GUIDE}: {len(blocks)} blocks, {strange} of them strange")
+            tally.fails(f"{page}: not in {path or 'any file'}: {code.splitlines()[0]}")
+    print(f"{page}: {len(blocks)} blocks, {strange} of them strange")
 
 
 def headings_of(text):
@@ -111,7 +112,8 @@ def run(words):
         return 0
     tally = Tally()
     memory_table.check(tally)
-    check_guide(tally)
+    for page in GUIDE:
+        check_page(page, tally)
     check_links(tally)
     check_readme(tally, words.strict)
     check_pictures(tally)

@@ -1,6 +1,6 @@
-"""Draws the pictures of runs that stand in docs/figures, from stored traces, with bin/draw.
+"""Draws the pictures of runs that stand in docs/figures, from stored traces, with bin/samples.
 
-`tools/dev try draw` compares them with what the program draws unproved. Prints a line for each. The status is 1 where
+`tools/dev try samples` compares them with what the program draws unproved. Prints a line for each. The status is 1 where
 one could not be drawn.
 """
 import subprocess
@@ -8,7 +8,7 @@ import subprocess
 from . import repository
 from .repository import text_of
 
-# each picture: the trace, the words of `draw`, and the status with which it ends
+# each picture: the trace, the arguments of `samples draw`, and the status with which it ends
 EXAMPLES = "crates/tp_examples/data"
 UNTIL_FAULT = ["run", "--until-fault"]
 PICTURES = {
@@ -25,14 +25,14 @@ def place_of(name):
 
 
 def arguments(parser):
-    parser.add_argument("draw", nargs="?", default="bin/draw", metavar="DRAW", help="the built program")
+    parser.add_argument("samples", nargs="?", default="bin/samples", metavar="SAMPLES", help="the built program")
 
 
 def run(words):
     repository.go_to_top()
     is_well = True
     for name, (trace, asked, status) in PICTURES.items():
-        ran = subprocess.run([words.draw, *asked], input=text_of(trace), stdout=subprocess.PIPE, text=True, check=False)
+        ran = subprocess.run([words.samples, "draw", *asked], input=text_of(trace), stdout=subprocess.PIPE, text=True, check=False)
         if ran.returncode == status:
             with open(place_of(name), "w", encoding="utf-8") as picture:
                 picture.write(ran.stdout)

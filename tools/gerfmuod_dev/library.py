@@ -1,8 +1,8 @@
 """Proves all that the library for other languages stands on, and builds it: lib/libgerfmuod.a.
 
-Beside the archive, which has all that it links but the C library, lie the header `gerfmuod.h` and `gerfmuod.pc` for
-pkg-config, and `SOURCES`, a digest of what it was built from. Prints a line for each crate as it ends; the status is 1
-where one is not proved.
+The archive has all that it links except the C library. Next to it are the headers `gerfmuod.h` and `gerfmuod_process.h`,
+`gerfmuod.pc` for pkg-config, and `SOURCES`, a digest of what it was built from. Prints a line for each crate as it ends;
+the status is 1 if one is not proved.
 """
 import hashlib
 import os
@@ -15,20 +15,21 @@ from .repository import text_of
 from .rooms import rooms
 
 ARCHIVE = "lib/libgerfmuod.a"
-HEADER = "capi/gerfmuod.h"
+HEADERS = ["capi/gerfmuod.h", "capi/gerfmuod_process.h"]
 PACKAGE = "capi/gerfmuod.pc.in"
 DIGEST = "lib/SOURCES"
 
 
 def digest():
-    """Of the sources of the library and of the crates below it, and of the header."""
+    """Of the sources of the library and of the crates below it, and of the headers."""
     told = hashlib.sha256()
     for crate in repository.crates(build.LIBRARIES):
         for path in repository.files_in(f"crates/{crate}"):
             parts = path.split("/")
             if not set(parts) & set(repository.NO_SOURCES) and path.endswith((".rt", ".antt")):
                 told.update(f"{path}\n{text_of(path)}".encode())
-    told.update(text_of(HEADER).encode())
+    for header in HEADERS:
+        told.update(text_of(header).encode())
     return told.hexdigest()
 
 
@@ -71,7 +72,8 @@ def run(words):
         is_well = build.prove_all(every, copies)
     if is_well:
         add_heap()
-        shutil.copy2(HEADER, "lib/gerfmuod.h")
+        for header in HEADERS:
+            shutil.copy2(header, "lib")
         write_package()
         with open(DIGEST, "w", encoding="utf-8") as it:
             it.write(built_of)

@@ -53,13 +53,13 @@ def calls_of(path):
 
 
 def calls():
-    """Every public call of the repository that can be refused memory, as crate: Type::name."""
+    """Every public call of the libraries of this repository that can be refused memory, as crate: Type::name."""
     found = set()
-    for crate in repository.crates():
-        if crate.startswith("test_") or crate in ("tp", "tp_examples"):
+    for crate in repository.crates().values():
+        if crate.name.startswith("test_") or crate.is_program:
             continue
-        for path in repository.files_in(f"crates/{crate}/src"):
-            found.update(f"{crate}: {call}" for call in calls_of(path))
+        for path in repository.files_in(f"crates/{crate.name}/src"):
+            found.update(f"{crate.name}: {call}" for call in calls_of(path))
     return found
 
 

@@ -1,13 +1,12 @@
 """Makes a folder with a pool of a user's own, which runs before anything in it is proved.
 
-FOLDER gets the crates of this repository that such a pool stands on, without their mutants, and two more: NAME,
-the graph, and NAME_run, a program that runs it by threads and prints what came. With `--like chain` these are copies of
-pool_chain and chain, a chain of tasks that add; with `--like rod` of pool_rod and of a program that runs it, cells of
-its caller in blocks. Both bear the new names. A NAME is lowercase letters, digits and _, and no crate of this
-repository or of the toolchain has it, nor its NAME_run. docs/WRITING-A-POOL.md tells what comes next.
+FOLDER gets the crate NAME, a program with a graph in it that runs this graph by threads and prints the results, and the
+crates of this repository that NAME is built on, without their mutants. With `--like chain` NAME is a copy of the crate
+chain, a chain of tasks that add; with `--like rod` it is a copy of the rod of pool_stencil, cells in blocks, with the
+program of tools/data/rod_run. A NAME is lowercase letters, digits and _, and no crate of this repository or of the
+toolchain has it. docs/RUNNING-A-POOL.md describes the next steps.
 
-Prints what to type next. The status is 1 where nothing was made: the folder has something in it, or the name can't be
-taken.
+Prints what to type next. The status is 1 if nothing was made, because the folder is not empty or the name is not free.
 """
 import os
 import re
@@ -17,11 +16,18 @@ import subprocess
 from . import repository
 from .repository import text_of
 
-# for each kind: its graph, its program with that one's line in crates.txt where it has none there
+# for each kind: the crate that it copies, and the crate's parts that it takes (all if there is no list)
 KINDS = {
-    "chain": ("crates/pool_chain", "crates/chain", ""),
-    "rod": ("crates/pool_rod", "tools/data/rod_run", "rod_run may_wait=2: pool_rod pool_block_runs tp_work"),
+    "chain": ("chain", None),
+    "rod": ("pool_stencil", [
+        "src/heat.rt", "src/rod_mix.rt", "src/rod_result.rt", "specs/Heats.antt", "specs/HeatLaws.antt",
+        "proofs/Sweeps.antt", "proofs/RodCuts.antt", "proofs/heat", "proofs/rod_mix",
+    ]),
 }
+# what a copy of a part gets besides: the program and the lists of its modules
+PROGRAM = {"rod": "tools/data/rod_run"}
+# the line of crates.txt, if it is not the copied crate's
+BELOW = {"rod": " may_wait=2: tp_base tp_graph pool_blocks tp_work"}
 KEYWORDS = set(
     "abstract as async await become box break const continue crate do dyn else ensures enum extern false final fn for"
     " ghost if impl in let loop macro match mod move mut override priv pub ref requires return self static struct super"
@@ -50,7 +56,7 @@ def is_empty(folder):
 
 
 def fault_of(folder, name):
-    """Why no such pool can be made; nothing where it can."""
+    """Why no such pool can be made; an empty text if it can."""
     if not shutil.which("rt"):
         return "rt is not on the path"
     if os.path.lexists(folder) and not is_empty(folder):
@@ -58,63 +64,66 @@ def fault_of(folder, name):
     if not re.fullmatch(r"[a-z][a-z0-9_]*", name) or name in KEYWORDS:
         return f"{name} is no name of a crate: lowercase letters, digits and _, a letter first, no word of the language"
     for taken, owner in (lines_of_crates(), "this repository"), (libraries(), "the toolchain"):
-        for it in (name, f"{name}_run"):
-            if it in taken:
-                return f"{it} is the name of a crate of {owner}"
+        if name in taken:
+            return f"{name} is the name of a crate of {owner}"
     return ""
 
 
-def renamed(text, names):
-    """The text with other names, each a pattern and what stands in its place."""
-    for old, new in names:
-        text = re.sub(old, new, text)
-    return text
+def rename(folder, old, new):
+    """Gives the crate in this folder its new name, in each file that names it, and templates the names of their copies."""
+    for path in repository.files_in(folder):
+        text = text_of(path)
+        # only as a crate: the chain's own name is a plain word elsewhere
+        renamed = re.sub(rf"\bRattle\.{old}\b", f"Rattle.{new}", text)
+        target = path[: -len(TEMPLATE)] if path.endswith(TEMPLATE) else path
+        if target != path:
+            os.remove(path)
+        if target != path or renamed != text:
+            with open(target, "w", encoding="utf-8") as out:
+                out.write(renamed)
 
 
-def copy(source, target, names):
-    """Copies a crate's folder, with other names in each of its files."""
-    shutil.copytree(source, target, ignore=NOT_COPIED)
-    for path in repository.files_in(target):
-        if path.endswith(TEMPLATE):
-            os.rename(path, path[: -len(TEMPLATE)])
-    for path in repository.files_in(target):
-        told = text_of(path)
-        if told != renamed(told, names):
-            with open(path, "w", encoding="utf-8") as it:
-                it.write(renamed(told, names))
+def copy(kind, target):
+    """Copies the crate of this kind, or its parts and the program."""
+    source, parts = KINDS[kind]
+    if parts is None:
+        shutil.copytree(f"crates/{source}", target, ignore=NOT_COPIED)
+        return
+    shutil.copytree(PROGRAM[kind], target)
+    for part in parts:
+        path = f"crates/{source}/{part}"
+        if os.path.isdir(path):
+            shutil.copytree(path, f"{target}/{part}", ignore=NOT_COPIED)
+        else:
+            shutil.copy2(path, f"{target}/{part}")
 
 
-def make(folder, name, like):
-    """Makes the folder; answers how many crates came along."""
-    graph, program, line = KINDS[like]
+def make(folder, name, kind):
+    """Makes the folder; returns the number of crates that NAME is built on."""
+    source = KINDS[kind][0]
     lines = lines_of_crates()
-    old, ran = os.path.basename(graph), os.path.basename(program)
-    line = line or lines[ran]
-    # a program's own name is a plain word elsewhere
-    names = [(rf"\b{old}\b", name), (rf"\bRattle\.{ran}\b", f"Rattle.{name}_run"), (rf"^{ran}\b", f"{name}_run")]
+    line = name + BELOW.get(kind, lines[source][len(source):])
     below = [it for it in line.split(":")[1].split() if it in lines]
-    along = [it for it in repository.crates(below) if it != old]
+    along = repository.crates(below)
     os.makedirs(f"{folder}/crates")
     for crate in along:
         shutil.copytree(f"crates/{crate}", f"{folder}/crates/{crate}", ignore=NOT_COPIED)
-    copy(graph, f"{folder}/crates/{name}", names)
-    copy(program, f"{folder}/crates/{name}_run", names[:2])
-    with open(f"{folder}/crates.txt", "w", encoding="utf-8") as it:
-        it.write("# NAME: what it stands on\n")
-        for told in (*(lines[crate] for crate in along), "", lines[old], line):
-            it.write(renamed(told, names) + "\n")
+    copy(kind, f"{folder}/crates/{name}")
+    rename(f"{folder}/crates/{name}", source, name)
+    with open(f"{folder}/crates.txt", "w", encoding="utf-8") as out:
+        out.write("# NAME: the crates that it is built on\n")
+        out.writelines(row + "\n" for row in (*(lines[crate] for crate in along), "", line))
     for file in "HANDLES", ".gitignore":
         shutil.copy2(file, f"{folder}/{file}")
-    for crate in (name, f"{name}_run"):
-        subprocess.run(["rt", "fmt"], cwd=f"{folder}/crates/{crate}", stdout=subprocess.DEVNULL, check=True)
+    subprocess.run(["rt", "fmt"], cwd=f"{folder}/crates/{name}", stdout=subprocess.DEVNULL, check=True)
     return len(along)
 
 
 def arguments(parser):
     parser.add_argument("folder", metavar="FOLDER", help="the folder to make; it is not there yet, or empty")
-    parser.add_argument("name", metavar="NAME", help="the name of the new graph's crate")
-    told = "what to begin from; chain where nothing is said"
-    parser.add_argument("--like", choices=sorted(KINDS), default="chain", help=told)
+    parser.add_argument("name", metavar="NAME", help="the name of the new crate")
+    explained = "what the crate is a copy of (chain by default)"
+    parser.add_argument("--like", choices=sorted(KINDS), default="chain", help=explained)
 
 
 def run(words):
@@ -125,8 +134,8 @@ def run(words):
         print(f"{fault}: nothing was made")
         return 1
     along = make(folder, words.name, words.like)
-    print(f"Made {folder}: the crates {words.name} and {words.name}_run, and {along} below them.")
+    print(f"Made {folder}: the crate {words.name}, and {along} crates that it is built on.")
     print("To run it, unproved:")
-    print(f"  cd {folder}/crates/{words.name}_run && rt try")
-    print(f"What comes next: {os.path.abspath('docs/WRITING-A-POOL.md')}, from section 3 on.")
+    print(f"  cd {folder}/crates/{words.name} && rt try")
+    print(f"What comes next: {os.path.abspath('docs/RUNNING-A-POOL.md')}, from \"Run it\" on.")
     return 0

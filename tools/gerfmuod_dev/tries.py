@@ -1,10 +1,13 @@
 """Runs every test and every program unproved.
 
 They are runs of `rt try`; what a program writes is compared with its stored answer. It proves nothing: `make gate`
-does. Prints a line for the tests of a crate, one for a program, one for the exit statuses of a program that has cases
-of them, and one for the pictures of docs/figures that `draw` draws; where something failed, what was said too. The last
+does. Prints a line for the tests of a crate, one for a program, one for its cases, of which the exit statuses are
+compared and the outputs that are stored, and one for the pictures of docs/figures that `samples draw` draws; where
+something failed, what was said too. With --write what the cases print is stored, in place of being compared. The last
 line is `N passed, M failed`, each test, program and case counted; the status is 1 where one failed.
 """
+import functools
+import hashlib
 import os
 import re
 import shutil
@@ -18,6 +21,10 @@ from .repository import text_of
 
 # a folder for each program, of cases whose names begin with the status that has to come
 STATUSES = "tools/data/statuses"
+# a file for each program whose cases have stored outputs: what each prints on standard output, and then on standard error
+OUTPUTS = "tools/data/outputs"
+# how many bytes of a case are stored as they are; of more, as of a picture, their number and a digest
+MOST_STORED = 4_000
 
 
 def has_tests(crate):
@@ -64,14 +71,37 @@ def try_program(crate):
     return f"{crate}: the program {'wrote what is stored' if is_well else 'FAILED'}", int(is_well), int(not is_well), why
 
 
-def try_statuses(crate):
-    """Runs the program on each case of the exit statuses."""
-    cases = f"{STATUSES}/{crate}"
+def stored(text):
+    """What is stored of a text."""
+    if len(text) <= MOST_STORED:
+        return text
+    return f"({len(text)} bytes of SHA-256 {hashlib.sha256(text.encode()).hexdigest()})\n"
+
+
+def printed_in(said):
+    """What each case printed, as it is stored, by its name."""
+    return {name: stored(text) for name, text in re.findall(r"^== (\S+)\n(.*?)^case=\1 ", said, re.M | re.S)}
+
+
+def stored_outputs(path):
+    """The same, from the file that keeps it."""
+    return dict(re.findall(r"^== (\S+)\n(.*?)(?=^== |\Z)", text_of(path), re.M | re.S))
+
+
+def try_cases(crate, writes=False):
+    """Runs the program on each of its cases, and compares the exit statuses; the outputs too, where there are stored ones."""
+    cases, path = f"{STATUSES}/{crate}", f"{OUTPUTS}/{crate}"
     said, _ = tried(crate, "--seconds", "900", "--cases", f"../../{cases}")
     names = {it for it in os.listdir(cases) if not it.endswith(".args")}
-    came = dict(re.findall(r"^case=(\S+) .*?\bstatus=(\d+)", said, re.M))
-    well = sum(came.get(it) == it[0] for it in names)
-    return f"{crate}: {well} of {len(names)} exit statuses came as they should", well, len(names) - well, said
+    came, printed = dict(re.findall(r"^case=(\S+) .*?\bstatus=(\d+)", said, re.M)), printed_in(said)
+    if writes:
+        with open(path, "w", encoding="utf-8") as out:
+            out.write("".join(f"== {name}\n{printed[name]}" for name in sorted(printed)))
+    wanted = stored_outputs(path) if os.path.exists(path) else printed
+    ill = {it for it in names if came.get(it) != it[0] or it not in printed or printed[it] != wanted.get(it)}
+    differ = "".join(f"{it}: wanted\n{wanted.get(it)}and not\n{printed.get(it)}" for it in sorted(ill))
+    line = f"{crate}: {len(names) - len(ill)} of {len(names)} cases ended{' and printed' if wanted is not printed else ''} as they should"
+    return line, len(names) - len(ill), len(ill), said + differ
 
 
 def try_pictures(crate):
@@ -81,27 +111,28 @@ def try_pictures(crate):
             shutil.copy(trace, f"{cases}/{name}")
             shutil.copy(place_of(name), f"{cases}/{name}.stdout")
             with open(f"{cases}/{name}.args", "w", encoding="utf-8") as words:
-                words.write("\n".join(asked) + "\n")
+                words.write("\n".join(["draw", *asked]) + "\n")
         said, _ = tried(crate, "--seconds", "900", "--cases", cases)
     ended = dict(re.findall(r"^case=(\S+) (.*)$", said, re.M))
     well = sum(f"status={it[2]}" in ended.get(name, "") and "output=expected" in ended[name] for name, it in PICTURES.items())
     return f"{crate}: {well} of {len(PICTURES)} pictures are as in docs/figures", well, len(PICTURES) - well, said
 
 
-def work_of(crates):
+def work_of(crates, writes):
     for crate in crates:
         if has_tests(crate):
             yield try_tests, crate
         if os.path.exists(f"crates/{crate}/src/main.rt"):
             yield try_program, crate
         if os.path.isdir(f"{STATUSES}/{crate}"):
-            yield try_statuses, crate
-        if crate == "draw":
+            yield functools.partial(try_cases, writes=writes), crate
+        if crate == "samples":
             yield try_pictures, crate
 
 
 def arguments(parser):
     parser.add_argument("crates", nargs="*", metavar="CRATE", help="all crates of crates.txt where none is named")
+    parser.add_argument("--write", action="store_true", help="store what the cases of the named crates print")
 
 
 def run(words):
@@ -110,7 +141,9 @@ def run(words):
     unknown = [it for it in words.crates if it not in every]
     if unknown:
         words.parser.error(f"no crate of crates.txt: {' '.join(unknown)}")
-    work = list(work_of(words.crates or every))
+    if words.write and not words.crates:
+        words.parser.error("--write is for named crates")
+    work = list(work_of(words.crates or every, words.write))
     print(f"Runs the tests and programs of {len(work)} crates unproved: some minutes.", flush=True)
     passed = failed = 0
     # the crates at the top take longest

@@ -3,11 +3,13 @@
 
 ghost use Rattle.std.specs.Prelude.{IfErr, IfOk};
 ghost use Rattle.tp_graph.specs.Serial.{AreValues};
-ghost use Rattle.pool_chain.specs.Chains.{chain_graph};
-ghost use Rattle.pool_chain.specs.Sums.{AreSums};
+ghost use Rattle.chain.specs.Chains.{chain_graph};
+ghost use Rattle.chain.specs.Sums.{AreSums};
 ghost use Rattle.tp_work.specs.Outcomes.{IsFault, IsWithinLimits};
 
-use pool_chain::Chain;
+mod graph;
+
+use crate::graph::Chain;
 use std::alloc::Global;
 use std::io;
 use std::sync::Wait;

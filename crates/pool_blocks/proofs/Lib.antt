@@ -1,3 +1,7 @@
+pub mod Planned
+pub mod Refused
+pub mod LentFaults
+pub mod Outcomes
 pub mod Lists
 pub mod Sums
 pub mod Fits
@@ -6,4 +10,4 @@ pub mod Lacking
 pub mod Valued
 pub mod Cuts
 pub mod Crossings
-pub mod Events
+pub mod EventSums

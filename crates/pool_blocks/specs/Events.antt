@@ -3,7 +3,7 @@ use Rattle.std.specs.Prelude.{ℕ, ◌≡◌, ◌+◌, ◌-◌, ◌*◌, ◌≤�
 use Rattle.tp_base.specs.declared.Step.{Step}
 use Rattle.tp_wave.specs.Steps.{count}
 use Rattle.pool_blocks.specs.Stencils.{BlockStep, block_graph}
-use Rattle.pool_events.specs.Events.{WorkOut, events_of, is_work, messages_of}
+use Rattle.tp_graph.specs.Events.{WorkOut, events_of, is_work, messages_of}
 
 -- the inputs of a step: of each block the one before, itself and the one behind, as far as they are there
 abbrev pub step_inputs : ℕ → ℕ

@@ -2,13 +2,25 @@
 //! what a block becomes at a step, from itself and its neighbours.
 #![tactic(auto)]
 
+mod counted;
+mod events;
+mod fault;
 mod inputs;
 mod laws;
+mod parts;
 mod result;
+mod run;
+mod run_laws;
 mod stencil;
 mod steps;
 
+pub use counted::run_in_parts_counted;
+pub use events::steps_at_once;
+pub use fault::LentFault;
 pub use laws::block_events_are_counted;
+pub use parts::run_in_parts;
 pub use result::{cells_by_one, cells_of};
+pub use run::run_steps;
+pub use run_laws::run_events_are_counted;
 pub use stencil::Stencil;
 pub use steps::Steps;

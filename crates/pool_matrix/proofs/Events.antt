@@ -6,9 +6,9 @@ use Rattle.std.proofs.lemmas.Bool.Decides.{nat_tests}
 use Rattle.std.proofs.lemmas.Nat.{div-add-mod', div-mul-add, mod-mul-add, mul-le}
 use Rattle.tp_wave.proofs.Totals.{total-equal, total_more}
 use Rattle.tp_wave.specs.Sums.{total}
-use Rattle.pool_events.proofs.Counted.{events_counted}
-use Rattle.pool_events.proofs.Totals.{total-add, total-const}
-use Rattle.pool_events.specs.Events.{crossing, messages_from, messages_of, task_events}
+use Rattle.tp_graph.proofs.Counted.{events_counted}
+use Rattle.tp_graph.proofs.Totals.{total-add, total-const}
+use Rattle.tp_graph.specs.Events.{crossing, messages_from, messages_of, task_events}
 use Rattle.pool_matrix.specs.Events.{ProductEventsLaw, ProductStepsLaw, events_of_messages, events_of_tasks}
 use Rattle.pool_matrix.specs.Matrices.{matrix_graph}
 

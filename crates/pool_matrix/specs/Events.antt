@@ -2,7 +2,7 @@
 use Rattle.std.specs.Prelude.{ℕ, ◌≡◌, ◌+◌, ◌-◌, ◌*◌, ◌≤◌, ℤ, List, nat_lt, if◌then◌else◌}
 use Rattle.tp_base.specs.declared.Step.{Step}
 use Rattle.tp_wave.specs.Steps.{count}
-use Rattle.pool_events.specs.Events.{WorkOut, events_of, is_work}
+use Rattle.tp_graph.specs.Events.{WorkOut, events_of, is_work}
 use Rattle.pool_matrix.specs.Matrices.{matrix_graph}
 
 -- For each tile of the product there are as many tasks as tiles along a side. Each takes 3 events: the first has no input, and

@@ -2,3 +2,5 @@ pub mod Matrices
 pub mod Rows
 pub mod MatrixLaws
 pub mod Events
+pub mod Faults
+pub mod Outcomes

@@ -2,7 +2,7 @@
 use Rattle.std.proofs.Common.{◌≡◌, ◌<◌, ◌≤◌, ◌+◌, ◌*◌, ◌/◌, ◌%◌, ◌^◌, ℕ, zero, suc, ap, sym, ◌∙◌, subst, arith}
 use Rattle.std.proofs.lemmas.Bool.Decides.{nat_tests}
 use Rattle.std.proofs.lemmas.Nat.{mul-le}
-use Rattle.pool_events.specs.Events.{task_events}
+use Rattle.tp_graph.specs.Events.{task_events}
 use Rattle.pool_patterns.specs.Events.{events_below, grid_events}
 use Rattle.pool_patterns.specs.Faults.{IsTableFault}
 use Rattle.pool_patterns.specs.Grids.{Relation, inputs}

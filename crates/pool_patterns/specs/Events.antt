@@ -2,7 +2,7 @@
 use Rattle.std.specs.Prelude.{◌≡◌, ◌+◌, ◌*◌, ◌/◌, ◌%◌, ℕ, zero, suc, ℤ, List, Option}
 use Rattle.tp_base.specs.declared.Step.{Step}
 use Rattle.tp_wave.specs.Steps.{count}
-use Rattle.pool_events.specs.Events.{WorkOut, events_of, is_work, messages_of, task_events}
+use Rattle.tp_graph.specs.Events.{WorkOut, events_of, is_work, messages_of, task_events}
 use Rattle.pool_patterns.specs.Grids.{Relation, grid_graph, inputs}
 
 -- the events of the tasks below a number

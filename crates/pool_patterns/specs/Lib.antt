@@ -1,3 +1,4 @@
+pub mod RunFaults
 pub mod Ranks
 pub mod Grids
 pub mod Kernels

@@ -14,6 +14,8 @@ mod pattern;
 mod relating;
 mod relation;
 mod row;
+mod run;
+mod run_fault;
 mod spots;
 mod table;
 
@@ -23,4 +25,6 @@ pub use laws::grid_events_are_counted;
 pub use pattern::Pattern;
 pub use relation::Relation;
 pub use row::{checksum, last_row};
+pub use run::{PatternRun, run_pattern};
+pub use run_fault::PatternFault;
 pub use table::FeedTable;

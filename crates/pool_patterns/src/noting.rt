@@ -1,5 +1,5 @@
 ghost use Rattle.std.specs.Prelude.{◌≡◌, ◌≤◌, ◌<◌, ◌+◌, ◌-◌, ◌*◌, ◌/◌, ◌%◌, ◌^◌, min, length, slice_index_or, IfOk, IfErr, OnOk, ℕ};
-ghost use Rattle.pool_events.specs.Events.{task_events};
+ghost use Rattle.tp_graph.specs.Events.{task_events};
 ghost use Rattle.pool_patterns.specs.Events.{grid_events};
 ghost use Rattle.pool_patterns.specs.Faults.{IsTableFault};
 ghost use Rattle.pool_patterns.specs.Grids.{AreSizes, Relation};

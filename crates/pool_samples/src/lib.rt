@@ -6,6 +6,7 @@
 mod any;
 mod entries;
 mod laws;
+mod printing;
 mod product;
 mod reduce;
 mod result_table;
@@ -15,6 +16,7 @@ mod words;
 
 pub use any::AnyGraph;
 pub use laws::each_task_has_a_value;
+pub use printing::print_table;
 pub use product::Product;
 pub use reduce::Reduce;
 pub use result_table::ResultTable;

@@ -1,6 +1,9 @@
-use crate::link::Letter;
-use crate::slots::{BODIES, run};
-use crate::table::table;
+//! Each call of a pool's parts that can be refused memory, once with ample memory. Each of its growths is refused in turn by
+//! tools/dev limits refuse-tests; docs/MEMORY.md has the table.
+
+ghost use Rattle.std.specs.Prelude.{◌≡◌};
+
+use pool_samples::{checked, print_table};
 use std::alloc::{AllocError, Global};
 use std::mem;
 use std::test::Fail;
@@ -8,25 +11,46 @@ use tp_base::{
     ActionId, Generation, History, Inputs, MessageId, NodeId, Refusal, Step, Table, TaskId,
 };
 use tp_core::{Core, Reply};
-use tp_graph::{Feed, Value, ValueBuilder};
-use tp_link::Link;
-use tp_local::Local;
-use tp_pools::Registry;
-use tp_raw::RawSlots;
-use tp_slots::Command;
+use tp_graph::{ValueBuilder, serial};
+use tp_link::{Link, Routed};
+use tp_slots::{Command, RawSlots, SlabSlots, run_slots};
 use tp_store::{Counts, Life, TaskItem, TaskStore};
 
-/// One of each part that takes memory. Each growth of each of its calls is refused in turn by tools/dev limits refuse; docs/MEMORY.md has
-/// the table.
+/// A letter that carries one value from node 0 to node 2.
+#[derive(Clone, Copy, Debug, PartialEq, Eq)]
+struct Letter {
+    number: u32,
+    value: i64,
+}
+
+impl Routed for Letter {
+    ghost sender = { λ _. 0 };
+
+    ghost receiver = { λ _. 2 };
+
+    ghost message = { λ l. l.number };
+
+    fn from(&self) -> NodeId {
+        NodeId(0)
+    }
+
+    fn to(&self) -> NodeId {
+        NodeId(2)
+    }
+
+    fn number(&self) -> MessageId {
+        MessageId(self.number)
+    }
+}
+
+/// One of each part that takes memory.
 #[derive(Drop)]
 struct Parts {
     table: Table<u32>,
     history: History,
     link: Link<Letter>,
     store: TaskStore<RawSlots<TaskItem<u64>>, u64>,
-    local: Local,
     core: Core,
-    registry: Registry,
     builder: ValueBuilder,
 }
 
@@ -38,16 +62,11 @@ enum Call {
     LinkPut(u32),
     StoreInsert(u32),
     StoreDeliver(u32, u64),
-    LocalInsert(u32),
-    LocalDeliver(i64),
-    LocalReceive(u32),
-    LocalOpen(u32),
     CoreStep(Step),
     CoreRun(Step),
     CoreSettle,
     /// Takes the core to its end, which fills a piece of the list of its steps.
     CoreToEnd,
-    Register(&'static str),
     BuilderMake(usize),
     BuilderPush(i64),
     BuilderExtend(&'static [i64]),
@@ -92,16 +111,14 @@ impl Parts {
             history: History::new(alloc),
             link: Link::new(alloc, NodeId(0), NodeId(2)),
             store: TaskStore::new(alloc),
-            local: Local::new(alloc),
             core: Core::new(alloc, 2),
-            registry: Registry::new(alloc),
             builder: ValueBuilder::new(alloc),
         }
     }
 }
 
 impl Parts {
-    /// The answer to a call. A moved value that does not come back as it was is told as `Missing`.
+    /// The result of a call: `Missing` if a moved value does not come back as it was.
     fn answer(&mut self, alloc: Global, call: Call) -> Result<u32, Refusal> {
         match call {
             Call::TableInsert(number) => done(self.table.insert(number, number)),
@@ -109,25 +126,17 @@ impl Parts {
             Call::LinkPut(number) => put(&mut self.link, number),
             Call::StoreInsert(task) => self.store.insert(TaskId(task), 1).map(|()| 0),
             Call::StoreDeliver(task, value) => deliver(&mut self.store, TaskId(task), value),
-            Call::LocalInsert(task) => self.local.insert(TaskId(task), 0).map(|()| 0),
-            Call::LocalDeliver(number) => deliver_here(alloc, &mut self.local, number),
-            Call::LocalReceive(message) => self.local.receive(MessageId(message), FEED).map(|()| 0),
-            Call::LocalOpen(action) => self.local.open(ActionId(action)).map(|()| 0),
             _ => self.answer_of_all(alloc, call),
         }
     }
 
-    /// The answer to a call that is not of a node's parts.
+    /// The result of one of the other calls.
     fn answer_of_all(&mut self, alloc: Global, call: Call) -> Result<u32, Refusal> {
         match call {
             Call::CoreStep(step) => taken(self.core.step(step)),
             Call::CoreRun(step) => run_one(alloc, &mut self.core, step),
             Call::CoreSettle => self.core.settle().map(|(wave, _)| wave),
             Call::CoreToEnd => to_end(&mut self.core),
-            Call::Register(name) => self
-                .registry
-                .register(name, "reduce:4:0")
-                .map(|pool| pool.0),
             Call::BuilderMake(count) => {
                 self.builder = ValueBuilder::with_capacity(alloc, count)?;
                 DONE
@@ -135,13 +144,13 @@ impl Parts {
             Call::BuilderPush(number) => done(self.builder.push(number)),
             Call::BuilderExtend(numbers) => done(self.builder.extend_from_slice(numbers)),
             Call::BuilderEnd(wanted) => self.end_of_builder(alloc, wanted),
-            Call::RunSlots => run_slots_of_all(alloc),
-            Call::PrintTable(word) => Ok(count_of(table(alloc, word)?.len())),
+            Call::RunSlots => run_slots_of_both(alloc),
+            Call::PrintTable(word) => Ok(count_of(text_of_table(alloc, word)?.len())),
             _ => Err(Refusal::BadSpec),
         }
     }
 
-    /// Makes the value, and tells whether it has these numbers. Where it is refused, the builder comes back.
+    /// Makes the value: `Missing` if it has not these numbers. When it is refused, the builder comes back.
     fn end_of_builder(&mut self, alloc: Global, wanted: &[i64]) -> Result<u32, Refusal> {
         match mem::replace(&mut self.builder, ValueBuilder::new(alloc)).into_value() {
             Ok(value) if value.as_slice() == wanted => DONE,
@@ -166,24 +175,12 @@ impl Parts {
         folded = folded.with(self.store.results().len() as u64);
         for task in [0, 1, 4, 6, 9, 300, 700] {
             folded = folded.with(life_code(self.store.life(TaskId(task))));
-            folded = folded.with(life_code(self.local.life(TaskId(task))));
-            folded = folded.with(u64::from(self.local.has_named(ActionId(task))));
-            folded = folded.with(u64::from(self.local.has_message(MessageId(task))));
         }
         self.fold_rest(folded)
     }
 
     fn fold_rest(&self, folded: Folded) -> Folded {
-        let mut folded = of_counts(folded, self.local.counts());
-        for number in [
-            self.local.pending(),
-            self.local.sent(),
-            self.local.received(),
-            u32::from(self.core.quiet()),
-        ] {
-            folded = folded.with(u64::from(number));
-        }
-        folded = folded.with(self.registry.list().len() as u64);
+        let mut folded = folded.with(u64::from(self.core.quiet()));
         folded = folded.with(self.core.steps().len() as u64);
         for number in self.builder.as_slice() {
             folded = folded.with(number.cast_unsigned());
@@ -196,7 +193,7 @@ impl Parts {
         folded
     }
 
-    /// The answer to a call, which is made again where memory was refused and nothing was changed.
+    /// The result of a call, which is made again if memory was refused and nothing was changed.
     fn tried<R: Eprint>(
         &mut self,
         rt: &R,
@@ -216,13 +213,6 @@ impl Parts {
         self.answer(alloc, call)
     }
 }
-
-/// What a message brings: the first input of task 1.
-const FEED: Feed = Feed {
-    producer: TaskId(0),
-    target: TaskId(1),
-    slot: 0,
-};
 
 /// Makes room in a history, in which these tests record nothing.
 fn reserve(history: &mut History, room: u32) -> Result<u32, Refusal> {
@@ -262,16 +252,6 @@ fn deliver(
     }
 }
 
-/// Delivers a value to slot 0 of task 1, which waits for two.
-fn deliver_here(alloc: Global, local: &mut Local, number: i64) -> Result<u32, Refusal> {
-    let value = Value::one(alloc, number)?;
-    match local.deliver(TaskId(1), 2, 0, 0, value) {
-        Ok(_) => DONE,
-        Err((refusal, back)) if back.lone() == Ok(number) => Err(refusal),
-        Err(_) => Err(Refusal::Missing),
-    }
-}
-
 fn taken(answer: Result<Reply, Refusal>) -> Result<u32, Refusal> {
     match answer? {
         Reply::Plain => DONE,
@@ -306,18 +286,23 @@ fn run_one(alloc: Global, core: &mut Core, step: Step) -> Result<u32, Refusal> {
     }
 }
 
-/// How many replies both bodies of the slots give together.
-fn run_slots_of_all(alloc: Global) -> Result<u32, Refusal> {
+/// How many replies both kinds of slots give together.
+fn run_slots_of_both(alloc: Global) -> Result<u32, Refusal> {
     let commands = [
         Command::Take(7),
         Command::PushReady(0, 1),
         Command::PopReady,
     ];
-    let mut replies = 0u32;
-    for body in BODIES {
-        replies = replies.saturating_add(count_of(run(alloc, body, &commands)?.len()));
-    }
-    Ok(replies)
+    let in_slab = run_slots::<SlabSlots<u64>>(alloc, &commands)?;
+    let in_raw = run_slots::<RawSlots<u64>>(alloc, &commands)?;
+    Ok(count_of(in_slab.len()).saturating_add(count_of(in_raw.len())))
+}
+
+/// What is printed of the values of a pool, each worked out on one thread.
+fn text_of_table(alloc: Global, word: &str) -> Result<Vec<u8>, Refusal> {
+    let graph = checked(word)?;
+    let results = serial(alloc, graph)?;
+    print_table(alloc, graph, &results)
 }
 
 fn count_of(length: usize) -> u32 {
@@ -347,11 +332,29 @@ fn of_counts(folded: Folded, counts: Counts) -> Folded {
     folded.with(u64::from(counts.running))
 }
 
+/// A call with its name, and the result that it must have.
+type Row = (&'static str, Call, Result<u32, Refusal>);
+
+/// The first call whose result differs from its row, with the result.
+fn first_wrong<R: Eprint>(
+    rt: &R,
+    alloc: Global,
+    parts: &mut Parts,
+    rows: &[Row],
+) -> Option<(&'static str, Result<u32, Refusal>)> {
+    for (name, call, wanted) in rows {
+        let answer = parts.tried(rt, alloc, name, *call);
+        if answer != *wanted {
+            return Some((*name, answer));
+        }
+    }
+    None
+}
+
 #[test]
 fn memory_that_is_refused_changes_nothing(rt: HostRuntime) -> Result<(), Fail> {
     let one = Inputs::new(1).ok_or("one input")?;
-    let mut parts = Parts::new(rt.alloc());
-    for (name, call, wanted) in [
+    let rows: [Row; 35] = [
         ("Table::insert of a near number", Call::TableInsert(7), DONE),
         ("Table::insert into its page", Call::TableInsert(8), DONE),
         (
@@ -379,10 +382,6 @@ fn memory_that_is_refused_changes_nothing(rt: HostRuntime) -> Result<(), Fail> {
             Call::StoreDeliver(700, 31),
             DONE,
         ),
-        ("Local::receive", Call::LocalReceive(4), DONE),
-        ("Local::deliver", Call::LocalDeliver(-5), DONE),
-        ("Local::insert", Call::LocalInsert(300), DONE),
-        ("Local::open", Call::LocalOpen(6), DONE),
         (
             "Core::step of insert",
             Call::CoreStep(Step::Insert(NodeId(1), TaskId(3), one)),
@@ -448,8 +447,6 @@ fn memory_that_is_refused_changes_nothing(rt: HostRuntime) -> Result<(), Fail> {
             Call::CoreStep(Step::Reopen),
             Ok(3),
         ),
-        ("Registry::register", Call::Register("a"), DONE),
-        ("Registry::register again", Call::Register("b"), Ok(1)),
         ("ValueBuilder::push", Call::BuilderPush(8), DONE),
         // the room that is made is of no number yet
         ("ValueBuilder::with_capacity", Call::BuilderMake(1), DONE),
@@ -486,8 +483,9 @@ fn memory_that_is_refused_changes_nothing(rt: HostRuntime) -> Result<(), Fail> {
             Call::PrintTable("product:2:2:0"),
             Ok(14),
         ),
-    ] {
-        assert_eq!(rt; parts.tried(&rt, rt.alloc(), name, call), wanted, "{name}");
-    }
+    ];
+    let mut parts = Parts::new(rt.alloc());
+    let wrong = first_wrong(&rt, rt.alloc(), &mut parts, rows.as_slice());
+    assert_eq!(rt; wrong, None);
     Ok(())
 }

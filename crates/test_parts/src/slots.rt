@@ -1,151 +1,118 @@
+//! Slots in a slab and in raw memory: each takes 65,536 items, drops each item once, and loses none where memory is refused.
+
 use std::alloc::Global;
+use std::cell::Cell;
+use std::rc::Rc;
 use std::test::Fail;
 use tp_base::Refusal;
-use tp_raw::RawSlots;
-use tp_slots::{Command, Reply, SlabSlots, Slots, run_slots};
+use tp_slots::{Command, RawSlots, Reply, SlabSlots, Slots, run_slots};
 
-/// A kind of slots.
-#[derive(Clone, Copy, Debug)]
-pub(crate) enum Body {
-    Slab,
-    Raw,
-}
-
-pub(crate) const BODIES: [Body; 2] = [Body::Slab, Body::Raw];
-
-/// The replies of this kind of slots.
-pub(crate) fn run(alloc: Global, body: Body, commands: &[Command]) -> Result<Vec<Reply>, Refusal> {
-    match body {
-        Body::Slab => run_slots::<SlabSlots<u64>>(alloc, commands),
-        Body::Raw => run_slots::<RawSlots<u64>>(alloc, commands),
-    }
-}
-
-/// What slots answer of an item that is taken in, changed, listed and given back.
-#[derive(Drop)]
-struct Visit {
-    /// Whether it reads as it was left.
-    kept: bool,
-    /// Whether it comes out of its list.
-    next: bool,
-    returned: Vec<u64>,
-}
-
-/// Takes an item in and gives it back.
-#[tactic(auto, using(tp_slots::proofs::Sound::taken_with_item, tp_slots::proofs::Sound::idle_with_item))]
-fn take_and_return<S: Slots<Vec<u64>>>(alloc: Global, slots: &mut S) -> Result<Visit, Refusal> {
-    let item = vec![in alloc; 7u64]?;
-    slots.reserve()?;
-    let place = slots.take_reserved(item);
-    slots.get_mut(place).push(8)?;
-    let kept = slots.get(place).as_slice() == [7, 8].as_slice();
-    slots.push_ready(place, 2);
-    let Some(next) = slots.pop_ready() else {
-        return Err(Refusal::NoTask);
-    };
-    Ok(Visit {
-        kept,
-        next: next == place,
-        returned: slots.give_back(next),
-    })
-}
-
-#[test]
-fn an_item_comes_back_as_it_was_left(rt: HostRuntime) -> Result<(), Fail> {
-    let mut slab = SlabSlots::new(rt.alloc());
-    let mut raw = RawSlots::new(rt.alloc());
-    let visits = [
-        take_and_return(rt.alloc(), &mut slab)?,
-        take_and_return(rt.alloc(), &mut raw)?,
-    ];
-    for visit in visits {
-        assert!(rt; visit.kept && visit.next);
-        assert_eq!(rt; visit.returned.as_slice(), [7, 8].as_slice());
-    }
-    Ok(())
-}
-
-/// The replies to so many takes, of the items 0, 1 and so on, and then to some commands.
-fn replies(alloc: Global, body: Body, takes: u64, last: &[Command]) -> Result<Vec<Reply>, Refusal> {
+/// The replies to the takes of the items 0, 1 and so on, of one more than there is room for.
+fn replies_to_takes<S: Slots<u64> + Drop>(alloc: Global) -> Result<Vec<Reply>, Refusal> {
     let mut commands = Vec::new(alloc);
-    for value in 0..takes {
+    for value in 0..65_537 {
         commands.push(Command::Take(value))?;
     }
-    commands.extend_from_slice(last)?;
-    run(alloc, body, commands.as_slice())
-}
-
-#[test]
-fn the_lower_class_comes_first(rt: HostRuntime) -> Result<(), Fail> {
-    let commands = [
-        Command::Take(5),
-        Command::Take(6),
-        Command::PushReady(1, 1),
-        Command::PushReady(0, 0),
-        Command::PopReady,
-        Command::PopReady,
-        Command::PopReady,
-    ];
-    let want = [
-        Reply::Taken(0),
-        Reply::Taken(1),
-        Reply::Plain,
-        Reply::Plain,
-        Reply::Next(Some(0)),
-        Reply::Next(Some(1)),
-        Reply::Next(None),
-    ];
-    for body in BODIES {
-        let got = replies(rt.alloc(), body, 0, commands.as_slice())?;
-        assert_eq!(rt; got.as_slice(), want.as_slice(), "by {body:?}");
-    }
-    Ok(())
-}
-
-#[test]
-fn a_number_is_never_given_twice(rt: HostRuntime) -> Result<(), Fail> {
-    let last = [
-        Command::PushReady(256, 3),
-        Command::PushReady(0, 0),
-        Command::PopReady,
-        Command::GiveBack(0),
-        Command::Take(900),
-        Command::PopReady,
-        Command::PopReady,
-        Command::Get(0),
-        Command::Get(257),
-    ];
-    let want = [
-        Reply::Taken(256),
-        Reply::Plain,
-        Reply::Plain,
-        Reply::Next(Some(0)),
-        Reply::Item(0),
-        Reply::Taken(257),
-        Reply::Next(Some(256)),
-        Reply::Next(None),
-        Reply::Refused(Refusal::NoTask),
-        Reply::Item(900),
-    ];
-    for body in BODIES {
-        let got = replies(rt.alloc(), body, 257, last.as_slice())?;
-        assert_eq!(rt; got.get(256..), Some(want.as_slice()), "by {body:?}");
-    }
-    Ok(())
+    run_slots::<S>(alloc, &commands)
 }
 
 #[test]
 fn the_65_537th_item_is_refused(rt: HostRuntime) -> Result<(), Fail> {
-    let last = [Command::Get(65_536), Command::Get(65_535)];
-    let want = [
-        Reply::Taken(65_535),
-        Reply::Refused(Refusal::StoreFull),
-        Reply::Refused(Refusal::NoTask),
-        Reply::Item(65_535),
-    ];
-    for body in BODIES {
-        let got = replies(rt.alloc(), body, 65_537, last.as_slice())?;
-        assert_eq!(rt; got.get(65_535..), Some(want.as_slice()), "by {body:?}");
+    let in_slab = replies_to_takes::<SlabSlots<u64>>(rt.alloc())?;
+    let in_raw = replies_to_takes::<RawSlots<u64>>(rt.alloc())?;
+    let wanted = [Reply::Taken(65_535), Reply::Refused(Refusal::StoreFull)];
+    assert_eq!(rt; in_slab.get(65_535..), Some(wanted.as_slice()));
+    assert_eq!(rt; in_raw.get(65_535..), Some(wanted.as_slice()));
+    Ok(())
+}
+
+/// An item that counts how often it is dropped.
+struct Counted {
+    drops: Rc<Cell<u32>>,
+}
+
+impl Drop for Counted {
+    fn drop(self) {
+        let Counted { drops } = self;
+        drops.set(drops.get().saturating_add(1));
     }
+}
+
+/// A list of counters, all zero.
+fn counters(alloc: Global, count: usize) -> Result<Vec<Rc<Cell<u32>>>, Refusal> {
+    let mut counters = Vec::new(alloc);
+    for _ in 0..count {
+        counters.push(Rc::new(alloc, Cell::new(0))?)?;
+    }
+    Ok(counters)
+}
+
+/// Takes an item in for each counter, of which a third is listed and a third given back.
+fn fill<S: Slots<Counted>>(slots: &mut S, counters: &[Rc<Cell<u32>>]) -> Result<(), Refusal> {
+    for (index, drops) in counters.iter().enumerate() {
+        slots.reserve()?;
+        let place = slots.take_reserved(Counted {
+            drops: drops.clone()?,
+        });
+        match index % 3 {
+            0 => slots.push_ready(place, 1),
+            1 => drop(slots.give_back(place)),
+            _ => {}
+        }
+    }
+    let _place = slots.pop_ready();
+    Ok(())
+}
+
+/// Whether each of a thousand items is dropped once that fill slots, which are dropped then.
+fn drop_each_once<S: Slots<Counted> + Drop>(alloc: Global) -> Result<bool, Refusal> {
+    let counters = counters(alloc, 1000)?;
+    let mut slots = S::new(alloc);
+    fill(&mut slots, &counters)?;
+    drop(slots);
+    Ok(counters.iter().all(|drops| drops.get() == 1))
+}
+
+#[test]
+fn each_item_is_dropped_once(rt: HostRuntime) -> Result<(), Fail> {
+    assert_eq!(rt; drop_each_once::<SlabSlots<Counted>>(rt.alloc()), Ok(true));
+    assert_eq!(rt; drop_each_once::<RawSlots<Counted>>(rt.alloc()), Ok(true));
+    Ok(())
+}
+
+/// Takes the items 0, 1 and so on in and lists them, each again if it was refused; true if each refused one came
+/// back and all of them come out in order.
+fn take_again<S: Slots<u64>>(slots: &mut S, count: u64) -> Result<bool, Refusal> {
+    for value in 0..count {
+        let taken = match slots.take(value) {
+            Ok(place) => Ok(place),
+            Err((_, back)) => slots.take(back),
+        };
+        match taken {
+            Ok(place) => slots.push_ready(place, 0),
+            Err((refusal, _)) => return Err(refusal),
+        }
+    }
+    for value in 0..count {
+        let Some(place) = slots.pop_ready() else {
+            return Ok(false);
+        };
+        if slots.give_back(place) != value {
+            return Ok(false);
+        }
+    }
+    Ok(slots.pop_ready() == None)
+}
+
+fn all_come_back<S: Slots<u64> + Drop>(alloc: Global) -> Result<bool, Refusal> {
+    let mut slots = S::new(alloc);
+    take_again(&mut slots, 600)
+}
+
+/// Where memory is refused once, as `rt try --test --fail-alloc N` does, nothing is lost.
+#[test]
+fn a_refused_growth_loses_nothing(rt: HostRuntime) -> Result<(), Fail> {
+    assert_eq!(rt; all_come_back::<SlabSlots<u64>>(rt.alloc()), Ok(true));
+    assert_eq!(rt; all_come_back::<RawSlots<u64>>(rt.alloc()), Ok(true));
     Ok(())
 }

@@ -1,28 +1,43 @@
+//! Bodies on worker threads: they run under no lock, not behind a gate that bars them, and are waited for while they take long.
+
 ghost use Rattle.pool_samples.specs.TreeLaws.{reduce_lawful};
 ghost use Rattle.pool_samples.specs.Trees.{reduce_graph};
+ghost use Rattle.std.specs.Prelude.{◌≤◌};
+ghost use Rattle.tp_work.specs.Outcomes.{IsWithinLimits};
 
 use crate::gates::Meeting;
 use pool_samples::Reduce;
 use std::alloc::Global;
+use std::sync::Wait;
 use std::sync::atomic::{AtomicBool, Ordering};
 use std::test::Fail;
+use std::thread;
+use std::thread::Threads;
+use std::time::Duration;
 use tp_base::{NodeId, Refusal, TaskId};
 use tp_graph::{Graph, Value};
 use tp_work::{Config, Gate, OpenGate, run_pool};
 
-/// A tree of two leaves at one node, whose bodies wait for each other.
+/// A tree whose bodies do something else first.
 #[derive(Clone, Copy)]
-struct Pair<'a> {
+struct Slow<'a> {
     tree: Reduce,
-    meeting: &'a Meeting,
-    /// Whether one of them has waited in vain.
-    have_missed: &'a AtomicBool,
+    first: First<'a>,
 }
 
-impl<'a> Graph for Pair<'a> {
-    ghost meaning = { λ p. reduce_graph p.tree.leaves p.tree.seed };
+/// What a body does first.
+#[derive(Clone, Copy)]
+enum First<'a> {
+    /// The bodies of tasks 0 and 1 wait for each other; where one waits in vain the flag is set.
+    Meet(&'a Meeting, &'a AtomicBool),
+    /// It sleeps for two seconds.
+    Sleep(&'a HostRuntime),
+}
 
-    ghost lawful = { λ p. reduce_lawful p.tree.leaves p.tree.seed p.tree.in_rules };
+impl<'a> Graph for Slow<'a> {
+    ghost meaning = { λ s. reduce_graph s.tree.leaves s.tree.seed };
+
+    ghost lawful = { λ s. reduce_lawful s.tree.leaves s.tree.seed s.tree.in_rules };
 
     fn tasks(&self) -> u32 {
         self.tree.tasks()
@@ -53,35 +68,66 @@ impl<'a> Graph for Pair<'a> {
     }
 
     fn body(&self, alloc: Global, task: TaskId, inputs: &[Value]) -> Result<Value, Refusal> {
-        if !self.meeting.arrive(task.0) {
-            self.have_missed.store(true, Ordering::SeqCst);
-        }
+        self.first.act(task);
         self.tree.body(alloc, task, inputs)
     }
+}
+
+impl<'a> First<'a> {
+    fn act(&self, task: TaskId) {
+        match self {
+            First::Meet(meeting, have_missed) => {
+                if !meeting.arrive(task.0) {
+                    have_missed.store(true, Ordering::SeqCst);
+                }
+            }
+            First::Sleep(clock) => thread::sleep(*clock, Duration::from_secs(2)),
+        }
+    }
+}
+
+/// Why the pool of a tree ends before, if it does.
+fn fault_of<A: Gate, R: Threads + Wait + Sync>(
+    rt: &R,
+    alloc: Global,
+    slow: Slow,
+    config: Config,
+    gate: &A,
+) -> Option<Refusal>
+    requires { IsWithinLimits config }
+{
+    match run_pool(rt, alloc, slow, config, gate) {
+        Ok(_) => None,
+        Err(fault) => Some(fault.refusal),
+    }
+}
+
+/// The same of a tree of two leaves, whose bodies wait for each other; and whether one waits in vain.
+fn meet_behind<A: Gate, R: Threads + Wait + Sync>(
+    rt: &R,
+    alloc: Global,
+    workers: u32,
+    gate: &A,
+) -> (Option<Refusal>, bool)
+    requires { (1 ≤ workers) × (workers ≤ 8) }
+{
+    let (meeting, have_missed) = (Meeting::new(), AtomicBool::new(false));
+    let slow = Slow {
+        tree: Reduce { leaves: 2, seed: 0 },
+        first: First::Meet(&meeting, &have_missed),
+    };
+    let fault = fault_of(rt, alloc, slow, Config::new(1, workers), gate);
+    (fault, have_missed.load(Ordering::SeqCst))
 }
 
 // A body that ran under its node's lock would keep the other worker from beginning the other task.
 #[test]
 fn two_bodies_of_a_node_run_under_no_lock(rt: HostRuntime) -> Result<(), Fail> {
-    let (meeting, have_missed) = (Meeting::new(), AtomicBool::new(false));
-    let pair = Pair {
-        tree: Reduce { leaves: 2, seed: 0 },
-        meeting: &meeting,
-        have_missed: &have_missed,
-    };
-    let config = Config {
-        nodes: 1,
-        workers: 2,
-        idle_turns: 100_000_000,
-    };
-    let ended = run_pool(&rt, rt.alloc(), pair, config, &OpenGate).is_ok();
-    let have_missed = have_missed.load(Ordering::SeqCst);
-    assert_eq!(rt; (ended, have_missed), (true, false));
+    assert_eq!(rt; meet_behind(&rt, rt.alloc(), 2, &OpenGate), (None, false));
     Ok(())
 }
 
 /// Lets no body run.
-#[derive(Clone, Copy, Debug)]
 struct Barred;
 
 impl Gate for Barred {
@@ -97,17 +143,24 @@ impl Gate for Barred {
 // A body that ran would wait for the other one in vain.
 #[test]
 fn a_barred_body_does_not_run(rt: HostRuntime) -> Result<(), Fail> {
-    let (meeting, have_missed) = (Meeting::new(), AtomicBool::new(false));
-    let pair = Pair {
-        tree: Reduce { leaves: 2, seed: 0 },
-        meeting: &meeting,
-        have_missed: &have_missed,
+    let wanted = (Some(Refusal::Stalled(0)), false);
+    assert_eq!(rt; meet_behind(&rt, rt.alloc(), 1, &Barred), wanted);
+    Ok(())
+}
+
+// One leaf, and so one task. Seven workers are idle for two seconds; one that only yielded between two turns would
+// reach the limit before.
+#[test]
+fn a_long_body_is_waited_for(rt: HostRuntime) -> Result<(), Fail> {
+    let slow = Slow {
+        tree: Reduce { leaves: 1, seed: 7 },
+        first: First::Sleep(&rt),
     };
-    let refusal = match run_pool(&rt, rt.alloc(), pair, Config::new(1, 1), &Barred) {
-        Ok(_) => None,
-        Err(fault) => Some(fault.refusal),
+    let config = Config {
+        nodes: 1,
+        workers: 8,
+        idle_turns: 10_000,
     };
-    let have_missed = have_missed.load(Ordering::SeqCst);
-    assert_eq!(rt; (refusal, have_missed), (Some(Refusal::Stalled(0)), false));
+    assert_eq!(rt; fault_of(&rt, rt.alloc(), slow, config, &OpenGate), None);
     Ok(())
 }

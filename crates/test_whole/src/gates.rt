@@ -1,4 +1,6 @@
-ghost use Rattle.std.specs.Prelude.{◌≤◌};
+//! Gates between the threads of a pool: bodies and nodes that wait for each other, bodies that are barred, turns that are refused.
+
+ghost use Rattle.std.specs.Prelude.{◌≡◌, ◌≤◌};
 ghost use Rattle.tp_work.specs.Outcomes.{IsWithinLimits};
 
 use crossbeam_utils::Backoff;
@@ -9,9 +11,9 @@ use std::sync::atomic::{AtomicBool, AtomicU64, Ordering};
 use std::test::Fail;
 use std::thread::Threads;
 use tp_base::{NodeId, Refusal, TaskId};
-use tp_work::{Config, Fault, Gate, Outcome, run_pool};
+use tp_work::{Config, Fault, Gate, run_pool};
 
-/// How long a gate waits before it answers false.
+/// How long a gate waits before it returns false.
 const TURNS: u32 = 10_000_000;
 
 /// A tree of four leaves: 0, 11, 22 and 33.
@@ -98,7 +100,7 @@ impl Meeting {
     }
 }
 
-/// Counts the turns of a node, or bodies, from 0, and refuses one of them. A body waits until so many were taken.
+/// Counts the turns of a node, or bodies, from 0, and refuses one of them. A body waits until `awaited` were taken.
 #[derive(Drop)]
 struct Turns {
     taken: AtomicU64,
@@ -131,7 +133,7 @@ impl Turns {
     }
 }
 
-/// The turns of node 0, which waits at the first one for so many turns of node 1, and those of the other nodes.
+/// The turns of node 0, which waits at the first one for turns of node 1, and those of the other nodes.
 #[derive(Drop)]
 struct Late {
     own: Turns,
@@ -148,17 +150,8 @@ impl Late {
     }
 }
 
-/// What a pool came to.
-#[derive(Clone, Copy)]
-enum End {
-    /// The value of the last task of the tree.
-    Root(Option<i64>),
-    /// Why it ended before, and what was left.
-    Stop(Refusal, Option<Left>),
-}
-
 /// What was left of a pool that ended before.
-#[derive(Clone, Copy)]
+#[derive(Clone, Copy, Debug, PartialEq, Eq)]
 struct Left {
     pending: u32,
     received: u32,
@@ -167,26 +160,23 @@ struct Left {
     fault: Option<Refusal>,
 }
 
-/// Runs the pool of a tree behind a gate.
-fn run_tree<R: Threads + Wait + Sync>(
+/// Why a pool ended before, and what was left.
+type Stop = (Refusal, Option<Left>);
+
+/// Runs the pool of a tree behind a gate. An outcome has its results, which is proved; it is none here.
+fn stop_of<R: Threads + Wait + Sync>(
     rt: &R,
     alloc: Global,
     tree: Reduce,
     config: Config,
     gate: &TestGate,
-) -> End
+) -> Option<Stop>
     requires { IsWithinLimits config }
 {
     match run_pool(rt, alloc, tree, config, gate) {
-        Ok(outcome) => End::Root(root(&outcome)),
-        Err(fault) => End::Stop(fault.refusal, left_by(&fault)),
+        Ok(_) => None,
+        Err(fault) => Some((fault.refusal, left_by(&fault))),
     }
-}
-
-/// The value of the last task of the tree of four leaves.
-fn root(outcome: &Outcome) -> Option<i64> {
-    let (_, value) = outcome.results.iter().find(|made| made.0 == TaskId(6))?;
-    value.as_slice().first().copied()
 }
 
 fn left_by(fault: &Fault) -> Option<Left> {
@@ -200,46 +190,24 @@ fn left_by(fault: &Fault) -> Option<Left> {
     })
 }
 
-/// Runs the tree of four leaves on two nodes, and answers the value of its root.
-fn root_behind<R: Threads + Wait + Sync>(rt: &R, alloc: Global, gate: &TestGate) -> Option<i64> {
-    let config = Config {
-        nodes: 2,
-        workers: 1,
-        idle_turns: 100_000_000,
-    };
-    match run_tree(rt, alloc, TREE, config, gate) {
-        End::Root(value) => value,
-        End::Stop(..) => None,
-    }
-}
-
 #[test]
 fn two_bodies_run_at_once(rt: HostRuntime) -> Result<(), Fail> {
     let gate = TestGate::BodiesMeet(Meeting::new());
-    assert_eq!(rt; root_behind(&rt, rt.alloc(), &gate), Some(66));
+    assert_eq!(rt;
+        stop_of(&rt, rt.alloc(), TREE, Config::new(2, 1), &gate),
+        None
+    );
     Ok(())
 }
 
 #[test]
 fn two_nodes_are_held_at_once(rt: HostRuntime) -> Result<(), Fail> {
     let gate = TestGate::NodesMeet(Meeting::new());
-    assert_eq!(rt; root_behind(&rt, rt.alloc(), &gate), Some(66));
+    assert_eq!(rt;
+        stop_of(&rt, rt.alloc(), TREE, Config::new(2, 1), &gate),
+        None
+    );
     Ok(())
-}
-
-/// Runs the wide tree on one node behind a gate, and answers how many tasks were done, and by how many workers.
-fn done_behind<R: Threads + Wait + Sync>(
-    rt: &R,
-    alloc: Global,
-    workers: u32,
-    gate: &TestGate,
-) -> (u32, u32)
-    requires { (1 ≤ workers) × (workers ≤ 8) }
-{
-    match run_pool(rt, alloc, WIDE, Config::new(1, workers), gate) {
-        Ok(outcome) => (outcome.tasks, outcome.workers),
-        Err(_) => (0, 0),
-    }
 }
 
 // Eight of the 64 ready tasks begin at once, 0 and 1 among them: one worker that kept them all would wait in vain.
@@ -247,10 +215,8 @@ fn done_behind<R: Threads + Wait + Sync>(
 fn two_that_begin_together_wait_for_each_other(rt: HostRuntime) -> Result<(), Fail> {
     for workers in [2, 8] {
         let gate = TestGate::BodiesMeet(Meeting::new());
-        assert_eq!(rt;
-            done_behind(&rt, rt.alloc(), workers, &gate),
-            (127, workers)
-        );
+        let stop = stop_of(&rt, rt.alloc(), WIDE, Config::new(1, workers), &gate);
+        assert_eq!(rt; stop, None, "{workers}");
     }
     Ok(())
 }
@@ -259,7 +225,10 @@ fn two_that_begin_together_wait_for_each_other(rt: HostRuntime) -> Result<(), Fa
 #[test]
 fn eight_bodies_of_a_node_wait_for_each_other(rt: HostRuntime) -> Result<(), Fail> {
     let gate = TestGate::BodiesGather(Turns::new(8, u64::MAX));
-    assert_eq!(rt; done_behind(&rt, rt.alloc(), 8, &gate), (127, 8));
+    assert_eq!(rt;
+        stop_of(&rt, rt.alloc(), WIDE, Config::new(1, 8), &gate),
+        None
+    );
     Ok(())
 }
 
@@ -272,49 +241,49 @@ fn the_gate_is_asked_before_each_message(rt: HostRuntime) -> Result<(), Fail> {
         own: Turns::new(0, 4),
         others: Turns::new(40, u64::MAX),
     });
-    let End::Stop(refusal, Some(left)) = run_tree(&rt, rt.alloc(), WIDE, Config::new(2, 1), &gate)
-    else {
-        return Err(Fail::new("the pool ended"));
+    let stop = stop_of(&rt, rt.alloc(), WIDE, Config::new(2, 1), &gate);
+    let seen = match stop {
+        Some((refusal, Some(left))) => Some((refusal, left.received, left.ended)),
+        _ => None,
     };
-    assert_eq!(rt; refusal, Refusal::Stalled(0));
-    assert_eq!(rt; (left.received, left.ended), (3, false));
+    assert_eq!(rt; seen, Some((Refusal::Stalled(0), 3, false)));
     Ok(())
-}
-
-/// Runs a pool of one node that a gate ends, and answers why it ended and what was left.
-fn stop_behind<R: Threads + Wait + Sync>(
-    rt: &R,
-    alloc: Global,
-    tree: Reduce,
-    workers: u32,
-    idle_turns: u32,
-    gate: &TestGate,
-) -> Result<(Refusal, Option<Left>), Fail>
-    requires workers { (1 ≤ workers) × (workers ≤ 8) }
-    requires idle_turns { (1 ≤ idle_turns) × (idle_turns ≤ 1000000000) }
-{
-    let config = Config {
-        nodes: 1,
-        workers,
-        idle_turns,
-    };
-    match run_tree(rt, alloc, tree, config, gate) {
-        End::Root(_) => Err(Fail::new("the pool ended")),
-        End::Stop(refusal, left) => Ok((refusal, left)),
-    }
 }
 
 #[test]
 fn a_body_that_may_not_run_ends_the_pool(rt: HostRuntime) -> Result<(), Fail> {
     let gate = TestGate::AllBut(TaskId(6));
-    let (refusal, left) = stop_behind(&rt, rt.alloc(), TREE, 1, 100_000_000, &gate)?;
-    assert_eq!(rt; refusal, Refusal::Stalled(0));
-    let Some(left) = left else {
-        return Err(Fail::new("there is no report"));
+    let left = Left {
+        pending: 1,
+        received: 0,
+        done: 6,
+        ended: false,
+        fault: Some(Refusal::Stalled(0)),
     };
-    assert_eq!(rt; (left.pending, left.done, left.ended), (1, 6, false));
-    assert_eq!(rt; left.fault, Some(Refusal::Stalled(0)));
+    assert_eq!(rt;
+        stop_of(&rt, rt.alloc(), TREE, Config::new(1, 1), &gate),
+        Some((Refusal::Stalled(0), Some(left)))
+    );
     Ok(())
+}
+
+/// Why a pool of one node ended whose workers have few idle turns, or many.
+fn refusal_behind<R: Threads + Wait + Sync>(
+    rt: &R,
+    alloc: Global,
+    tree: Reduce,
+    idle_turns: u32,
+    gate: &TestGate,
+) -> Option<Refusal>
+    requires { (1 ≤ idle_turns) × (idle_turns ≤ 1000000000) }
+{
+    let config = Config {
+        nodes: 1,
+        workers: 2,
+        idle_turns,
+    };
+    let (refusal, _) = stop_of(rt, alloc, tree, config, gate)?;
+    Some(refusal)
 }
 
 // The other worker would have a thousand million idle turns before it ended by itself. How many idle turns the one
@@ -322,8 +291,8 @@ fn a_body_that_may_not_run_ends_the_pool(rt: HostRuntime) -> Result<(), Fail> {
 #[test]
 fn a_fault_stops_the_other_worker(rt: HostRuntime) -> Result<(), Fail> {
     let gate = TestGate::AllBut(TaskId(0));
-    let (refusal, _) = stop_behind(&rt, rt.alloc(), TREE, 2, 1_000_000_000, &gate)?;
-    assert_eq!(rt; refusal.number(), 21);
+    let refusal = refusal_behind(&rt, rt.alloc(), TREE, 1_000_000_000, &gate);
+    assert_eq!(rt; refusal.map(|refusal| refusal.number()), Some(21));
     Ok(())
 }
 
@@ -332,15 +301,15 @@ fn a_fault_stops_the_other_worker(rt: HostRuntime) -> Result<(), Fail> {
 #[test]
 fn idle_turns_in_a_row_are_counted(rt: HostRuntime) -> Result<(), Fail> {
     let gate = TestGate::Turns(Turns::new(7, u64::MAX));
-    let (refusal, _) = stop_behind(&rt, rt.alloc(), LEAF, 2, 5, &gate)?;
-    assert_eq!(rt; refusal, Refusal::Stalled(5));
+    let refusal = refusal_behind(&rt, rt.alloc(), LEAF, 5, &gate);
+    assert_eq!(rt; refusal, Some(Refusal::Stalled(5)));
     Ok(())
 }
 
 #[test]
 fn a_gate_tells_how_many_turns_were_idle(rt: HostRuntime) -> Result<(), Fail> {
     let gate = TestGate::Turns(Turns::new(8, 7));
-    let (refusal, _) = stop_behind(&rt, rt.alloc(), LEAF, 2, 1_000, &gate)?;
-    assert_eq!(rt; refusal, Refusal::Stalled(5));
+    let refusal = refusal_behind(&rt, rt.alloc(), LEAF, 1_000, &gate);
+    assert_eq!(rt; refusal, Some(Refusal::Stalled(5)));
     Ok(())
 }

@@ -1,49 +1,8 @@
+//! Readers and writers that are interrupted, slow, or fail.
+
 use std::io::{self, ErrorKind, Read, Write};
 
-/// Is interrupted so often, then gives its bytes; where they are all read it fails, or tells its end.
-#[derive(Drop)]
-pub(crate) struct Hindered {
-    pub(crate) interruptions: u32,
-    pub(crate) bytes: &'static [u8],
-    pub(crate) fails: bool,
-}
-
-impl Read for Hindered {
-    fn read(&mut self, buf: &mut [u8]) -> io::Result<usize> {
-        if self.interruptions > 0 {
-            self.interruptions -= 1;
-            return Err(ErrorKind::Interrupted.into());
-        }
-        if self.bytes.is_empty() && self.fails {
-            return Err(ErrorKind::Other.into());
-        }
-        self.bytes.read(buf)
-    }
-}
-
-/// Takes so many bytes, and then fails.
-#[derive(Drop)]
-pub(crate) struct Narrow {
-    pub(crate) room: usize,
-    pub(crate) fault: ErrorKind,
-}
-
-impl Write for Narrow {
-    fn write(&mut self, buf: &[u8]) -> io::Result<usize> {
-        if self.room == 0 {
-            return Err(self.fault.into());
-        }
-        let count = self.room.min(buf.len());
-        self.room -= count;
-        Ok(count)
-    }
-
-    fn flush(&mut self) -> io::Result<()> {
-        Ok(())
-    }
-}
-
-/// Takes every byte, and fails where it is told to hand them on.
+/// Takes every byte, and fails when it is flushed.
 #[derive(Drop)]
 pub(crate) struct Unflushed;
 
@@ -116,12 +75,13 @@ impl Read for Stumbling {
 pub(crate) struct Failing {
     pub(crate) writes: u32,
     pub(crate) fails_at: u32,
+    pub(crate) fault: ErrorKind,
 }
 
 impl Write for Failing {
     fn write(&mut self, buf: &[u8]) -> io::Result<usize> {
         if self.writes == self.fails_at {
-            return Err(ErrorKind::BrokenPipe.into());
+            return Err(self.fault.into());
         }
         self.writes = self.writes.saturating_add(1);
         Ok(buf.len().min(1))
@@ -132,7 +92,7 @@ impl Write for Failing {
     }
 }
 
-/// Gives one byte a read, and is interrupted so often before each byte, and before it tells its end.
+/// Gives one byte a read, and is interrupted `each_time` times before each byte and before its end.
 #[derive(Drop)]
 pub(crate) struct Interrupted {
     pub(crate) text: &'static [u8],

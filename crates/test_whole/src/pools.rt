@@ -1,89 +1,79 @@
+//! The sample pools on worker threads, in one run and in a series. What an outcome has is proved, the results of one thread among
+//! it; that there is one is tested.
+
 ghost use Rattle.std.specs.Prelude.{◌≤◌};
 
 use pool_samples::{AnyGraph, checked};
 use std::alloc::Global;
-use std::process::Abort;
 use std::sync::Wait;
 use std::test::Fail;
 use std::thread::Threads;
-use tp_base::{Refusal, TaskId};
-use tp_graph::{Value, serial};
-use tp_work::{Config, OpenGate, run_pool};
+use tp_base::Refusal;
+use tp_work::{Config, OpenGate, run_generations, run_pool};
 
-/// The word of each pool, and how many tasks it has.
-pub(crate) const POOLS: [(&str, u32); 6] = [
-    ("product:2:1:0", 8),
-    ("product:6:2:7", 27),
-    ("wavefront:2:3:0", 6),
-    ("wavefront:7:9:3", 63),
-    ("reduce:4:0", 7),
-    ("reduce:32:5", 63),
+/// The word of each pool.
+const POOLS: [&str; 6] = [
+    "product:2:1:0",
+    "product:6:2:7",
+    "wavefront:2:3:0",
+    "wavefront:7:9:3",
+    "reduce:4:0",
+    "reduce:32:5",
 ];
 
-/// What a pool comes to on so many nodes, with so many workers at each: how many tasks were done, how many workers have
-/// answered, and whether its results are the plain ones, and no others.
-fn told<R: Threads + Wait + Sync>(
+/// Why one of the runs on 1, 2, 4 and 8 nodes by 1, 2, 4 and 8 workers at each has no outcome, if one has none.
+fn fault_of<R: Threads + Wait + Sync>(rt: &R, alloc: Global, graph: AnyGraph) -> Option<Refusal> {
+    for nodes in [1, 2, 4, 8] {
+        for workers in [1, 2, 4, 8] {
+            let fault = fault_at(rt, alloc, graph, nodes, workers);
+            if fault.is_some() {
+                return fault;
+            }
+        }
+    }
+    None
+}
+
+fn fault_at<R: Threads + Wait + Sync>(
     rt: &R,
     alloc: Global,
     graph: AnyGraph,
-    plain: &[(TaskId, Value)],
     nodes: u32,
     workers: u32,
-) -> Result<(u32, u32, bool), Refusal>
+) -> Option<Refusal>
     requires nodes { (1 ≤ nodes) × (nodes ≤ 8) }
     requires workers { (1 ≤ workers) × (workers ≤ 8) }
 {
-    let config = Config {
-        nodes,
-        workers,
-        idle_turns: 100_000_000,
-    };
-    match run_pool(rt, alloc, graph, config, &OpenGate) {
-        Ok(outcome) => Ok((
-            outcome.tasks,
-            outcome.workers,
-            are_plain(plain, &outcome.results),
-        )),
-        Err(fault) => Err(fault.refusal),
-    }
-}
-
-/// Whether these are the plain results, in any order.
-pub(crate) fn are_plain(plain: &[(TaskId, Value)], results: &[(TaskId, Value)]) -> bool {
-    plain.len() == results.len()
-        && results
-            .iter()
-            .all(|made| plain.get(made.0.0 as usize) == Some(made))
-}
-
-/// Runs a pool on each pair of 1, 2, 4 and 8 nodes and workers.
-fn each_pair<R: Threads + Wait + Sync + Abort>(
-    rt: &R,
-    alloc: Global,
-    graph: AnyGraph,
-    plain: &[(TaskId, Value)],
-    word: &str,
-    tasks: u32,
-) {
-    for nodes in [1, 2, 4, 8] {
-        for workers in [1, 2, 4, 8] {
-            let made = told(rt, alloc, graph, plain, nodes, workers);
-            let all = nodes.saturating_mul(workers);
-            assert_eq!(rt;
-                made,
-                Ok((tasks, all, true)),
-                "{word} at {nodes} by {workers}"
-            );
-        }
+    match run_pool(rt, alloc, graph, Config::new(nodes, workers), &OpenGate) {
+        Ok(_) => None,
+        Err(fault) => Some(fault.refusal),
     }
 }
 
 #[test]
 fn each_pool_is_the_plain_one(rt: HostRuntime) -> Result<(), Fail> {
-    for (word, tasks) in POOLS {
-        let graph = checked(word)?;
-        let plain = serial(rt.alloc(), graph)?;
-        each_pair(&rt, rt.alloc(), graph, &plain, word, tasks);
+    for word in POOLS {
+        assert_eq!(rt; fault_of(&rt, rt.alloc(), checked(word)?), None, "{word}");
+    }
+    Ok(())
+}
+
+/// How many rounds of nine a pool has at eight nodes with eight workers.
+fn rounds_of<R: Threads + Wait + Sync>(
+    rt: &R,
+    alloc: Global,
+    graph: AnyGraph,
+) -> Result<usize, Refusal> {
+    match run_generations(rt, alloc, graph, Config::new(8, 8), &OpenGate, 9) {
+        Ok(series) => Ok(series.rounds.len()),
+        Err(fault) => Err(fault.refusal),
+    }
+}
+
+#[test]
+fn each_of_nine_rounds_is_the_plain_one(rt: HostRuntime) -> Result<(), Fail> {
+    for word in POOLS {
+        assert_eq!(rt; rounds_of(&rt, rt.alloc(), checked(word)?), Ok(9), "{word}");
     }
     Ok(())
 }

@@ -1,12 +1,14 @@
-use crate::hindered::{Hindered, Narrow, Unflushed};
+//! The program at streams that fail.
+
+use crate::hindered::{Failing, Stumbling, Unflushed};
 use std::alloc::Global;
 use std::io::{self, ErrorKind, Read, Write};
 use std::sync::Wait;
 use std::thread::Threads;
 use tp_cli::main_with;
 
-/// Whether the answer to a script that is read so is this complaint alone, with status 1.
-fn is_told<R: Threads + Wait + Sync, I: Read>(
+/// Whether a script from this reader gives this complaint alone, with status 1.
+fn reports<R: Threads + Wait + Sync, I: Read>(
     rt: &R,
     alloc: Global,
     reader: &mut I,
@@ -19,8 +21,8 @@ fn is_told<R: Threads + Wait + Sync, I: Read>(
     status == 1 && out.is_empty() && err.as_slice() == complaint
 }
 
-/// Whether it is told, with status 1, that the answer to these words and a script of one line could not be written.
-fn is_told_unwritten<R: Threads + Wait + Sync, W: Write>(
+/// Whether the program reports, with status 1, that it could not write what these arguments and a script of one line give.
+fn reports_unwritten<R: Threads + Wait + Sync, W: Write>(
     rt: &R,
     alloc: Global,
     words: &[&str],
@@ -34,14 +36,15 @@ fn is_told_unwritten<R: Threads + Wait + Sync, W: Write>(
 
 #[test]
 fn faults_of_reading(rt: HostRuntime) {
-    let mut broken = Hindered {
-        interruptions: 0,
-        bytes: b"",
-        fails: true,
+    let mut broken = Stumbling {
+        text: b"",
+        reads: 0,
+        stumbles_at: 0,
+        fault: ErrorKind::Other,
     };
     let mut endless = io::repeat(b' ');
-    assert!(rt; is_told(&rt, rt.alloc(), &mut broken, b"fault read\n"));
-    assert!(rt; is_told(&rt, rt.alloc(), &mut endless, b"fault too long\n"));
+    assert!(rt; reports(&rt, rt.alloc(), &mut broken, b"fault read\n"));
+    assert!(rt; reports(&rt, rt.alloc(), &mut endless, b"fault too long\n"));
 }
 
 #[test]
@@ -51,11 +54,12 @@ fn faults_of_writing(rt: HostRuntime) {
         &["tp", "run", "reduce:4:0"],
         &["tp", "--help"],
     ] {
-        let mut full = Narrow {
-            room: 0,
+        let mut full = Failing {
+            writes: 0,
+            fails_at: 0,
             fault: ErrorKind::StorageFull,
         };
-        assert!(rt; is_told_unwritten(&rt, rt.alloc(), words, &mut full));
-        assert!(rt; is_told_unwritten(&rt, rt.alloc(), words, &mut Unflushed));
+        assert!(rt; reports_unwritten(&rt, rt.alloc(), words, &mut full));
+        assert!(rt; reports_unwritten(&rt, rt.alloc(), words, &mut Unflushed));
     }
 }

@@ -1,10 +1,12 @@
-use crate::hindered::{Failing, Interrupted, Stumbling};
+//! Scripts and traces from readers that fail, are interrupted, slow or endless, and to writers that fail.
+
+use crate::hindered::{Dripping, Failing, Interrupted, Stumbling, Unflushed};
 use std::alloc::Global;
 use std::io::{self, ErrorKind, Read, Write};
 use tp_text::{TextFault, Verdict, audit, sim};
 
-/// What is answered to a text.
-type Told = Result<Verdict, TextFault>;
+/// The verdict on a text, or its fault.
+type Answer = Result<Verdict, TextFault>;
 
 /// A kind of texts.
 #[derive(Clone, Copy, Debug)]
@@ -13,7 +15,7 @@ enum Kind {
     Trace,
 }
 
-/// A text of each kind, in how many reads it is read and its end is told, and how many bytes are answered to it.
+/// A text of each kind, in how many reads it is read and its end is reported, and how many bytes are written then.
 const TEXTS: [(Kind, &[u8], u32, u32); 2] = [
     // node 0 pending 0 sent 0 received 0, the total, and quiet yes, after one ok
     (Kind::Script, b"nodes 1\nready 0\n", 17, 90),
@@ -22,28 +24,28 @@ const TEXTS: [(Kind, &[u8], u32, u32); 2] = [
 ];
 
 impl Kind {
-    fn answer<R: Read, W: Write>(self, alloc: Global, reader: &mut R, writer: &mut W) -> Told {
+    fn answer<R: Read, W: Write>(self, alloc: Global, reader: &mut R, writer: &mut W) -> Answer {
         match self {
             Kind::Script => sim(alloc, reader, writer),
             Kind::Trace => audit(alloc, reader, writer),
         }
     }
 
-    /// What is answered, and how many bytes were written.
-    fn answer_to<R: Read>(self, alloc: Global, reader: &mut R) -> (Told, usize) {
+    /// The verdict, and how many bytes were written.
+    fn answer_to<R: Read>(self, alloc: Global, reader: &mut R) -> (Answer, usize) {
         let mut written = Vec::new(alloc);
-        let told = self.answer(alloc, reader, &mut written);
-        (told, written.len())
+        let result = self.answer(alloc, reader, &mut written);
+        (result, written.len())
     }
 
-    /// What is answered where the reader fails once, at this read.
+    /// The same when the reader fails once, at this read.
     fn stumble(
         self,
         alloc: Global,
         text: &'static [u8],
         read: u32,
         fault: ErrorKind,
-    ) -> (Told, usize) {
+    ) -> (Answer, usize) {
         let mut reader = Stumbling {
             text,
             reads: 0,
@@ -53,37 +55,38 @@ impl Kind {
         self.answer_to(alloc, &mut reader)
     }
 
-    /// What is answered where the reader is interrupted so often before each byte, and before it tells its end, and
+    /// The verdict when the reader is interrupted `each_time` times before each byte and before its end, and
     /// what is written.
-    fn interrupt(self, alloc: Global, text: &'static [u8], each_time: u32) -> (Told, Vec<u8>) {
+    fn interrupt(self, alloc: Global, text: &'static [u8], each_time: u32) -> (Answer, Vec<u8>) {
         let mut reader = Interrupted {
             text,
             each_time,
             left: each_time,
         };
         let mut written = Vec::new(alloc);
-        let told = self.answer(alloc, &mut reader, &mut written);
-        (told, written)
+        let result = self.answer(alloc, &mut reader, &mut written);
+        (result, written)
     }
 
-    /// What is answered where the writer fails at this write of one byte.
-    fn fail(self, alloc: Global, text: &'static [u8], write: u32) -> Told {
+    /// The verdict when the writer fails at this write of one byte.
+    fn fail(self, alloc: Global, text: &'static [u8], write: u32) -> Answer {
         let mut reader = text;
         let mut writer = Failing {
             writes: 0,
             fails_at: write,
+            fault: ErrorKind::BrokenPipe,
         };
         self.answer(alloc, &mut reader, &mut writer)
     }
 }
 
-// The last read of all, one after the last byte, tells the end.
+// The last read of all, one after the last byte, finds the end.
 #[test]
 fn a_read_that_fails_is_told_and_nothing_is_written(rt: HostRuntime) {
     for (kind, text, reads, _) in TEXTS {
         for read in 0..reads {
-            let told = kind.stumble(rt.alloc(), text, read, ErrorKind::Other);
-            assert_eq!(rt; told, (Err(TextFault::Read), 0), "{kind:?}, read {read}");
+            let result = kind.stumble(rt.alloc(), text, read, ErrorKind::Other);
+            assert_eq!(rt; result, (Err(TextFault::Read), 0), "{kind:?}, read {read}");
         }
     }
 }
@@ -92,9 +95,9 @@ fn a_read_that_fails_is_told_and_nothing_is_written(rt: HostRuntime) {
 fn an_interrupted_read_changes_nothing(rt: HostRuntime) {
     for (kind, text, reads, bytes) in TEXTS {
         for read in 0..reads {
-            let told = kind.stumble(rt.alloc(), text, read, ErrorKind::Interrupted);
+            let result = kind.stumble(rt.alloc(), text, read, ErrorKind::Interrupted);
             assert_eq!(rt;
-                told,
+                result,
                 (Ok(Verdict::Sound), bytes as usize),
                 "{kind:?}, read {read}"
             );
@@ -106,10 +109,10 @@ fn an_interrupted_read_changes_nothing(rt: HostRuntime) {
 #[test]
 fn a_hundred_thousand_interruptions_change_nothing(rt: HostRuntime) {
     for (kind, text, _, bytes) in TEXTS {
-        let (told, written) = kind.interrupt(rt.alloc(), text, 6_250);
+        let (result, written) = kind.interrupt(rt.alloc(), text, 6_250);
         let (plain_told, plain) = kind.interrupt(rt.alloc(), text, 0);
         assert_eq!(rt;
-            (told, plain_told),
+            (result, plain_told),
             (Ok(Verdict::Sound), Ok(Verdict::Sound)),
             "{kind:?}"
         );
@@ -118,11 +121,30 @@ fn a_hundred_thousand_interruptions_change_nothing(rt: HostRuntime) {
     }
 }
 
+// `syntax line 1` and the end of its line.
 #[test]
-fn a_text_of_one_byte_more_is_too_long(rt: HostRuntime) {
+fn a_text_may_have_so_many_bytes_and_no_more(rt: HostRuntime) {
     for kind in [Kind::Script, Kind::Trace] {
-        let told = kind.answer_to(rt.alloc(), &mut io::repeat(b' ').take(33_554_433));
-        assert_eq!(rt; told, (Err(TextFault::TooLong), 0), "{kind:?}");
+        let result = kind.answer_to(rt.alloc(), &mut io::repeat(b' ').take(33_554_432));
+        assert_eq!(rt; result, (Ok(Verdict::Refused), 14), "{kind:?}");
+        let result = kind.answer_to(rt.alloc(), &mut io::repeat(b' ').take(33_554_433));
+        assert_eq!(rt; result, (Err(TextFault::TooLong), 0), "{kind:?}");
+    }
+}
+
+// One line `ok`, 12,498 lines `refused 8 NoAction`, and 87 bytes of closing lines.
+#[test]
+fn a_text_may_come_in_a_hundred_thousand_reads(rt: HostRuntime) {
+    let result = Kind::Script.answer_to(rt.alloc(), &mut Dripping { given: 0 });
+    assert_eq!(rt; result, (Ok(Verdict::Sound), 3 + 12_498 * 19 + 87));
+}
+
+#[test]
+fn a_flush_that_fails_is_told(rt: HostRuntime) {
+    for (kind, text, _, _) in TEXTS {
+        let mut reader = text;
+        let result = kind.answer(rt.alloc(), &mut reader, &mut Unflushed);
+        assert_eq!(rt; result, Err(TextFault::Write), "{kind:?}");
     }
 }
 
@@ -130,8 +152,8 @@ fn a_text_of_one_byte_more_is_too_long(rt: HostRuntime) {
 fn each_write_that_fails_is_told(rt: HostRuntime) {
     for (kind, text, _, bytes) in TEXTS {
         for write in 0..bytes {
-            let told = kind.fail(rt.alloc(), text, write);
-            assert_eq!(rt; told, Err(TextFault::Write), "{kind:?}, write {write}");
+            let result = kind.fail(rt.alloc(), text, write);
+            assert_eq!(rt; result, Err(TextFault::Write), "{kind:?}, write {write}");
         }
         assert_eq!(rt; kind.fail(rt.alloc(), text, bytes), Ok(Verdict::Sound));
     }

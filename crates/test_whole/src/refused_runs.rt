@@ -1,11 +1,12 @@
+//! Runs, texts and the program that are refused memory, and succeed when they are tried again.
+
 ghost use Rattle.std.specs.Prelude.{◌≡◌, ◌≤◌};
 ghost use Rattle.tp_wave.specs.Generations.{InEach};
 ghost use Rattle.tp_wave.specs.Machine.{IsRun};
 ghost use Rattle.tp_work.specs.Outcomes.{IsWithinLimits};
 
-use crate::memory::say;
-use crate::one_hand::TREE;
-use crate::reopened::last_of;
+use crate::calls::say;
+use crate::two_nodes::TREE;
 use std::alloc::Global;
 use std::io::{self, Write};
 use std::sync::Wait;
@@ -13,57 +14,31 @@ use std::test::Fail;
 use std::thread::Threads;
 use tp_base::{History, Refusal};
 use tp_cli::main_with;
-use tp_pools::{Registry, Standing};
-use tp_several::run_pools;
+use tp_pools::{Registry, Standing, run_pools};
 use tp_text::{TextFault, Verdict, audit, print_trace, sim};
-use tp_work::{Config, OpenGate, Report, Round, run_generations, run_pool};
+use tp_work::{Config, OpenGate, run_generations, run_pool};
 
-/// What a run of the tree of four leaves came to.
-#[derive(Clone, Copy, Debug, PartialEq, Eq)]
-enum End {
-    /// The value of the last task, and whether the trace was printed.
-    Root(Option<i64>, bool),
-    /// Why there is no outcome, and whether the report, where there is one, keeps the law of the messages under way
-    /// and has seven tasks done at most.
-    Stop(Refusal, bool),
-}
+/// Whether the trace of a run was printed, or why there is no outcome.
+type End = Result<bool, Refusal>;
 
 #[tactic(auto, using(tp_text::proofs::Present::run_in_each))]
 fn run_tree<R: Threads + Wait + Sync + Eprint>(rt: &R, alloc: Global, config: Config) -> End
     requires { IsWithinLimits config }
 {
     match run_pool(rt, alloc, TREE, config, &OpenGate) {
-        Ok(outcome) => End::Root(
-            last_of(&outcome.results),
-            is_traced(rt, alloc, &outcome.history, config.nodes),
-        ),
-        Err(fault) => End::Stop(fault.refusal, fault.report.as_ref().is_none_or(is_lawful)),
+        Ok(outcome) => Ok(is_traced(rt, alloc, &outcome.history, config.nodes)),
+        Err(fault) => Err(fault.refusal),
     }
 }
 
-/// Runs the tree in two generations, whose last tasks have the same value.
+/// Runs the tree in two generations.
 #[tactic(auto, using(tp_wave::proofs::Generations::generations_law))]
 fn run_series<R: Threads + Wait + Sync + Eprint>(rt: &R, alloc: Global, config: Config) -> End
     requires { IsWithinLimits config }
 {
     match run_generations(rt, alloc, TREE, config, &OpenGate, 2) {
-        Ok(series) => End::Root(
-            last_of_both(&series.rounds),
-            is_traced(rt, alloc, &series.history, config.nodes),
-        ),
-        Err(fault) => End::Stop(fault.refusal, fault.report.as_ref().is_none_or(is_lawful)),
-    }
-}
-
-fn last_of_both(rounds: &[Round]) -> Option<i64> {
-    let [first, second] = rounds else {
-        return None;
-    };
-    let last = last_of(&first.results);
-    if last_of(&second.results) == last {
-        last
-    } else {
-        None
+        Ok(series) => Ok(is_traced(rt, alloc, &series.history, config.nodes)),
+        Err(fault) => Err(fault.refusal),
     }
 }
 
@@ -81,21 +56,13 @@ fn is_traced<R: Eprint>(rt: &R, alloc: Global, history: &History, nodes: u32) ->
     }
 }
 
-fn is_lawful(report: &Report) -> bool {
-    report.sent.checked_sub(report.received) == Some(report.under) && report.done <= 7
-}
-
-/// A run at so many nodes with as many workers each, and another one where memory was refused.
+/// A run at some nodes with the same number of workers each, and another one if memory was refused.
 fn run_again<R: Threads + Wait + Sync + Eprint>(rt: &R, alloc: Global, nodes: u32) -> End
     requires { (1 ≤ nodes) × (nodes ≤ 8) }
 {
-    let config = Config {
-        nodes,
-        workers: nodes,
-        idle_turns: 100_000_000,
-    };
+    let config = Config::new(nodes, nodes);
     match run_tree(rt, alloc, config) {
-        End::Stop(Refusal::NoMemory, true) => {
+        Err(Refusal::NoMemory) => {
             say(rt, "run_pool");
             run_tree(rt, alloc, config)
         }
@@ -105,25 +72,24 @@ fn run_again<R: Threads + Wait + Sync + Eprint>(rt: &R, alloc: Global, nodes: u3
 
 #[test]
 fn a_run_at_one_node_is_refused_memory_and_runs_again(rt: HostRuntime) {
-    assert_eq!(rt; run_again(&rt, rt.alloc(), 1), End::Root(Some(66), true));
+    assert_eq!(rt; run_again(&rt, rt.alloc(), 1), Ok(true));
 }
 
 #[test]
 fn a_run_at_two_nodes_is_refused_memory_and_runs_again(rt: HostRuntime) {
-    assert_eq!(rt; run_again(&rt, rt.alloc(), 2), End::Root(Some(66), true));
+    assert_eq!(rt; run_again(&rt, rt.alloc(), 2), Ok(true));
 }
 
 #[test]
 fn a_series_is_refused_memory_and_runs_again(rt: HostRuntime) {
-    let config = Config::new(1, 1);
-    let end = match run_series(&rt, rt.alloc(), config) {
-        End::Stop(Refusal::NoMemory, true) => {
+    let end = match run_series(&rt, rt.alloc(), Config::new(1, 1)) {
+        Err(Refusal::NoMemory) => {
             say(&rt, "run_generations");
-            run_series(&rt, rt.alloc(), config)
+            run_series(&rt, rt.alloc(), Config::new(1, 1))
         }
         end => end,
     };
-    assert_eq!(rt; end, End::Root(Some(66), true));
+    assert_eq!(rt; end, Ok(true));
 }
 
 /// How many tasks the pool of a fresh registry has done, and how it stands then.
@@ -131,21 +97,17 @@ type Run = (Result<u32, Refusal>, Result<Standing, Refusal>);
 
 /// Runs the pools of a fresh registry of one. Where there was no room the pool stands as before.
 fn run_registered<R: Threads + Wait + Sync>(rt: &R, alloc: Global) -> Result<Run, Refusal> {
-    let config = Config {
-        nodes: 1,
-        workers: 1,
-        idle_turns: 100_000_000,
-    };
+    let config = Config::new(1, 1);
     let mut registry = Registry::new(alloc);
     let pool = registry.register("tree", "reduce:4:0")?;
     match run_pools(rt, alloc, &mut registry, config, &OpenGate) {
         Ok(answers) => {
-            let told = match answers.first() {
+            let written = match answers.first() {
                 Some(Ok(outcome)) => Ok(outcome.tasks),
                 Some(Err(fault)) => Err(fault.refusal),
                 None => Err(Refusal::Missing),
             };
-            Ok((told, registry.state(pool)))
+            Ok((written, registry.state(pool)))
         }
         Err(refusal) if registry.state(pool) == Ok(Standing::Registered) => Err(refusal),
         Err(_) => Err(Refusal::Missing),
@@ -189,16 +151,16 @@ const SCRIPT: &[u8] =
 const TRACE: &[u8] =
     b"trace 1\nnodes 2\ninsert 0 1 1\nsupply 1\nbegin 1\ndone 1\nopen 0 4\nsend 0 1 3\nrecv 1 3\nend 1 3\n";
 
-/// What is answered to a text, and how many bytes were written.
-type Told = (Result<Verdict, TextFault>, usize);
+/// The verdict on a text, and how many bytes were written.
+type Written = (Result<Verdict, TextFault>, usize);
 
-fn answer_to_script(alloc: Global) -> Told {
+fn answer_to_script(alloc: Global) -> Written {
     let mut reader = SCRIPT;
     let mut writer = Counting { bytes: 0 };
     (sim(alloc, &mut reader, &mut writer), writer.bytes)
 }
 
-fn answer_to_trace(alloc: Global) -> Told {
+fn answer_to_trace(alloc: Global) -> Written {
     let mut reader = TRACE;
     let mut writer = Counting { bytes: 0 };
     (audit(alloc, &mut reader, &mut writer), writer.bytes)
@@ -216,19 +178,19 @@ fn status<R: Threads + Wait + Sync>(rt: &R, alloc: Global) -> (u8, usize, usize)
 // Eight times `ok`, a node's line of 35 bytes each, the total of 42 and 9 for `quiet no`.
 #[test]
 fn texts_are_refused_memory_and_answered_again(rt: HostRuntime) {
-    let mut told = answer_to_script(rt.alloc());
-    if told == (Err(TextFault::Memory), 0) {
+    let mut written = answer_to_script(rt.alloc());
+    if written == (Err(TextFault::Memory), 0) {
         say(&rt, "sim");
-        told = answer_to_script(rt.alloc());
+        written = answer_to_script(rt.alloc());
     }
-    assert_eq!(rt; told, (Ok(Verdict::Sound), 145));
-    let mut told = answer_to_trace(rt.alloc());
-    if told == (Err(TextFault::Memory), 0) {
+    assert_eq!(rt; written, (Ok(Verdict::Sound), 145));
+    let mut written = answer_to_trace(rt.alloc());
+    if written == (Err(TextFault::Memory), 0) {
         say(&rt, "audit");
-        told = answer_to_trace(rt.alloc());
+        written = answer_to_trace(rt.alloc());
     }
     // steps 8, tasks 1 done 1, messages 1 received 1, not ended
-    assert_eq!(rt; told, (Ok(Verdict::Sound), 55));
+    assert_eq!(rt; written, (Ok(Verdict::Sound), 55));
 }
 
 #[test]

@@ -1,10 +1,11 @@
+//! Several pools of one registry, one of which may fail.
+
 use std::alloc::Global;
 use std::sync::Wait;
 use std::test::Fail;
 use std::thread::Threads;
 use tp_base::{NodeId, PoolId, Refusal, TaskId};
-use tp_pools::{Registry, Standing};
-use tp_several::run_pools;
+use tp_pools::{Registry, Standing, run_pools};
 use tp_work::{Config, Gate};
 
 const TWO_NODES: Config = Config {
@@ -36,10 +37,10 @@ fn three_pools(alloc: Global) -> Result<Registry, Refusal> {
     Ok(registry)
 }
 
-/// What is answered for each pool that was run, the numbers of its tasks and workers or of its refusal, and how all pools
+/// Of each pool that was run the numbers of its tasks and workers, or of its refusal; and how all pools
 /// stand. (Which turns were idle before a refusal is a matter of the schedule.)
 #[derive(Debug, PartialEq, Eq, Drop)]
-struct Told {
+struct Summary {
     answers: Vec<Result<(u32, u32), u8>>,
     standings: [Result<Standing, Refusal>; 3],
 }
@@ -48,7 +49,7 @@ fn run_behind<A: Gate, R: Threads + Wait + Sync>(
     rt: &R,
     alloc: Global,
     gate: &A,
-) -> Result<Told, Refusal> {
+) -> Result<Summary, Refusal> {
     let mut registry = three_pools(alloc)?;
     let ran = run_pools(rt, alloc, &mut registry, TWO_NODES, gate)?;
     let mut answers = Vec::new(alloc);
@@ -59,7 +60,7 @@ fn run_behind<A: Gate, R: Threads + Wait + Sync>(
         })?;
     }
     let standings = [PoolId(0), PoolId(1), PoolId(2)].map(|pool| registry.state(pool));
-    Ok(Told { answers, standings })
+    Ok(Summary { answers, standings })
 }
 
 #[test]

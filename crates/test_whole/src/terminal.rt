@@ -1,18 +1,20 @@
+//! What the program writes at a terminal and without one.
+
 use std::alloc::Global;
 use std::io::Sink;
 use std::sync::Wait;
 use std::thread::Threads;
 use tp_cli::{main_at_terminal, main_with};
-use tp_progress::Screen;
+use tp_work::Screen;
 
 /// How the program ends.
 #[derive(Drop)]
 struct Ending<'a> {
     status: u8,
     output: &'a str,
-    /// What is told without a terminal.
+    /// What is written to standard error without a terminal.
     line: &'a str,
-    /// What is told behind it at a terminal.
+    /// What is written behind it at a terminal.
     reason: &'a str,
 }
 

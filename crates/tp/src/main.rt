@@ -4,8 +4,8 @@
 use std::io::{ErrorKind, Write};
 use std::process::ExitCode;
 use tp_cli::{main_at_terminal, main_with, without_words};
-use tp_progress::Screen;
 use tp_shell::{arguments, words_of};
+use tp_work::Screen;
 
 /// The exit status is that of `main_with`, or of `main_at_terminal` where standard error is a terminal. Where there is no memory for
 /// the words, or one of them is not UTF-8, a line says so.

@@ -17,7 +17,7 @@ use Rattle.tp_wave.proofs.Generations.{steps-present}
 use Rattle.tp_wave.specs.Wave.{Stands}
 use Rattle.tp_wave.specs.declared.wave.Wave.{Wave}
 use Rattle.tp_board.specs.States.{AnswersBy, BoardState, full_check}
-use Rattle.tp_ledgers.specs.Books.{BookTotals}
+use Rattle.tp_board.specs.Books.{BookTotals}
 use Rattle.tp_board.specs.Boards.{IsBoardOf}
 
 -- where a check of the first call holds
@@ -53,14 +53,14 @@ stands_now : (n nodes : ℕ) (h : List Event) (t : BookTotals) (w : Wave) → Is
 stands_now n nodes h t w board = subst (λ steps. Stands n (is_ended n steps) steps w) (steps-present h) board.now.follows.stands
 
 -- where the wave refuses a step
-pub refused : {A : Type 0} (n nodes : ℕ) (log now : BoardState) (t : BookTotals) (w : Wave) (s : Step) (ds : List Check) (e : Refusal)
+pub refused : {A : Type 0} (n nodes : ℕ) (event_log now : BoardState) (t : BookTotals) (w : Wave) (s : Step) (ds : List Check) (e : Refusal)
     (err : Option Refusal) (result : Result A Refusal)
-    → IsBoardOf n nodes log.history t w → log ≡ now
+    → IsBoardOf n nodes event_log.history t w → event_log ≡ now
     → ((k : ℕ) (ended : Bool) (steps : List Step) → Stands k ended steps w → err ≡ first_refusal (wave_checks k ended steps s))
     → err ≡ Some e → result ≡ Err e → AnswersBy (control_checks n (present (steps_of now.history)) s ++ ds) 1 now result
-refused n nodes log now t w s ds e err result board is exact some answer =
-    let first = exact n _ _ (stands_now n nodes log.history t w board) in
-    rw (← is) (answers_refused (control_checks n (present (steps_of log.history)) s) ds 1 log result e (sym first ∙ some) answer)
+refused n nodes event_log now t w s ds e err result board is exact some answer =
+    let first = exact n _ _ (stands_now n nodes event_log.history t w board) in
+    rw (← is) (answers_refused (control_checks n (present (steps_of event_log.history)) s) ds 1 event_log result e (sym first ∙ some) answer)
 
 same_answer-to : {A B : Type 0} (o : Option Refusal) (want : Type 0) (r : Result A Refusal) (q : Result B Refusal)
     → result_err r ≡ result_err q
@@ -80,29 +80,29 @@ pub same_answer : {A B : Type 0} (cs : List Check) (more : ℕ) (b : BoardState)
 same_answer cs more b r q same answer = same_answer-to (first_refusal cs) (b.reserved < more) r q same answer
 
 -- where it does not, and the event is added or refused
-pub passed : {A B : Type 0} (n nodes : ℕ) (log now : BoardState) (t : BookTotals) (w : Wave) (s : Step) (ds : BoardState
+pub passed : {A B : Type 0} (n nodes : ℕ) (event_log now : BoardState) (t : BookTotals) (w : Wave) (s : Step) (ds : BoardState
     → List Check) (err : Option Refusal) (added : Result B Refusal) (result : Result A Refusal)
-    → IsBoardOf n nodes log.history t w → log ≡ now
+    → IsBoardOf n nodes event_log.history t w → event_log ≡ now
     → ((k : ℕ) (ended : Bool) (steps : List Step) → Stands k ended steps w → err ≡ first_refusal (wave_checks k ended steps s))
-    → err ≡ None → AnswersBy (ds log) 1 log added → result_err added ≡ result_err result
+    → err ≡ None → AnswersBy (ds event_log) 1 event_log added → result_err added ≡ result_err result
     → AnswersBy (control_checks n (present (steps_of now.history)) s ++ ds now) 1 now result
-passed n nodes log now t w s ds err added result board is exact none answer same =
-    let first = exact n _ _ (stands_now n nodes log.history t w board) in
-    rw (← is) (answers_passed (control_checks n (present (steps_of log.history)) s) (ds log) 1 log result (sym first
-    ∙ none) (same_answer (ds log) 1 log added result same answer))
+passed n nodes event_log now t w s ds err added result board is exact none answer same =
+    let first = exact n _ _ (stands_now n nodes event_log.history t w board) in
+    rw (← is) (answers_passed (control_checks n (present (steps_of event_log.history)) s) (ds event_log) 1 event_log result (sym first
+    ∙ none) (same_answer (ds event_log) 1 event_log added result same answer))
 
 abbrev answered : {A : Type 0} → A → Result A Refusal
 answered x = Ok x
 
 -- the same, where the event is added
-pub passed_ok : {A B : Type 0} (n nodes : ℕ) (log now : BoardState) (t : BookTotals) (w : Wave) (s : Step) (ds : BoardState
+pub passed_ok : {A B : Type 0} (n nodes : ℕ) (event_log now : BoardState) (t : BookTotals) (w : Wave) (s : Step) (ds : BoardState
     → List Check) (err : Option Refusal) (added : Result B Refusal) (x : A)
-    → IsBoardOf n nodes log.history t w → log ≡ now
+    → IsBoardOf n nodes event_log.history t w → event_log ≡ now
     → ((k : ℕ) (ended : Bool) (steps : List Step) → Stands k ended steps w → err ≡ first_refusal (wave_checks k ended steps s))
-    → err ≡ None → AnswersBy (ds log) 1 log added → result_err added ≡ None
+    → err ≡ None → AnswersBy (ds event_log) 1 event_log added → result_err added ≡ None
     → AnswersBy (control_checks n (present (steps_of now.history)) s ++ ds now) 1 now (answered x)
-passed_ok {A} n nodes log now t w s ds err added x board is exact none answer same =
-    passed n nodes log now t w s ds err added (answered x) board is exact none answer same
+passed_ok {A} n nodes event_log now t w s ds err added x board is exact none answer same =
+    passed n nodes event_log now t w s ds err added (answered x) board is exact none answer same
 
 -- the checks of a visit that come after the wave's
 abbrev pub visit_rest : ℕ → BoardState → List Check

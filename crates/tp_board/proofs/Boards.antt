@@ -18,9 +18,9 @@ use Rattle.tp_wave.specs.Machine.{node_beside, step_of, steps_of, pending_at, pe
 use Rattle.tp_wave.specs.Machine.{is_send_numbered, is_send_to}
 use Rattle.tp_wave.proofs.Given.{pool_step}
 use Rattle.tp_wave.specs.declared.wave.Wave.{Wave}
-use Rattle.tp_ledgers.specs.Numbers.{AreWithin, ShareNumbers, ending, event, is_done, is_plain, is_recv, is_send, numbers_after, plus_if}
-use Rattle.tp_ledgers.specs.Numbers.{receiving, sending}
-use Rattle.tp_ledgers.specs.Books.{BookTotals, IsBooked, totals_after, with_under}
+use Rattle.tp_board.specs.Numbers.{AreWithin, ShareNumbers, ending, event, is_done, is_plain, is_recv, is_send, numbers_after, plus_if}
+use Rattle.tp_board.specs.Numbers.{receiving, sending}
+use Rattle.tp_board.specs.Books.{BookTotals, IsBooked, totals_after, with_under}
 use Rattle.tp_board.specs.Boards.{IsBoard}
 use Rattle.tp_board.proofs.Counting.{count-le, pending_at-le}
 

@@ -11,7 +11,7 @@ use Rattle.tp_wave.specs.Steps.{count, is_send_of, is_recv_at}
 use Rattle.tp_wave.specs.Generations.{present, present_events}
 use Rattle.tp_wave.specs.Machine.{node_beside, step_of, steps_of, pending_at, pending_after, under_way, under_way_after, IsOf}
 use Rattle.tp_wave.proofs.Generations.{length-present, steps-present}
-use Rattle.tp_ledgers.specs.Numbers.{event, is_done, is_recv, is_send, plus_if}
+use Rattle.tp_board.specs.Numbers.{event, is_done, is_recv, is_send, plus_if}
 use Rattle.tp_board.specs.Counts.{counts_at, counts_after, AreCountsOf, AreFew}
 use Rattle.tp_board.specs.declared.counts.NodeCounts.{NodeCounts}
 use Rattle.tp_board.specs.declared.counts.Counts.{Counts}

@@ -19,10 +19,10 @@ use Rattle.tp_wave.specs.Machine.{is_send_to}
 use Rattle.tp_wave.specs.declared.wave.Wave.{Wave}
 use Rattle.tp_wave.proofs.Generations.{few_law, length-present, present-goes_on, steps-present}
 use Rattle.tp_wave.proofs.Judged.{judged_law}
-use Rattle.tp_ledgers.specs.Books.{BookTotals, IsBooked, totals_after, with_judged, with_under}
-use Rattle.tp_ledgers.specs.Numbers.{AreWithin, ShareNumbers, ending, event, is_done, is_plain, is_recv, is_send, numbers_after, receiving}
-use Rattle.tp_ledgers.specs.Numbers.{sending}
-use Rattle.tp_ledgers.specs.Reopening.{AreFirst}
+use Rattle.tp_board.specs.Books.{BookTotals, IsBooked, totals_after, with_judged, with_under}
+use Rattle.tp_board.specs.Numbers.{AreWithin, ShareNumbers, ending, event, is_done, is_plain, is_recv, is_send, numbers_after, receiving}
+use Rattle.tp_board.specs.Numbers.{sending}
+use Rattle.tp_board.specs.Reopening.{AreFirst}
 use Rattle.tp_board.specs.Boards.{IsBoard, IsBoardOf, ended_number}
 use Rattle.tp_board.proofs.Boards.{balance, end_next, plain_next, recv_next, send_next, within, within_next}
 use Rattle.tp_board.proofs.Naming.{plain_kind}

@@ -1,3 +1,6 @@
+pub mod Turns
+pub mod Links
+pub mod Again
 pub mod Counting
 pub mod Naming
 pub mod Routing

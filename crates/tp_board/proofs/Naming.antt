@@ -5,10 +5,10 @@ use Rattle.tp_base.specs.History.{NamesSmall}
 use Rattle.tp_base.specs.declared.step.Step.{Step}
 use Rattle.tp_base.specs.declared.step.Step.TheVariants.{Insert, ActionOpen, ActionClose, Ready, Send, Recv, MessageEnd, Down, Give, Up}
 use Rattle.tp_base.specs.declared.step.Step.TheVariants.{Reopen}
-use Rattle.tp_ledgers.specs.Numbers.{is_plain, is_send}
+use Rattle.tp_board.specs.Numbers.{is_plain, is_send}
 use Rattle.tp_wave.specs.Steps.{is_reopen}
 use Rattle.tp_wave.specs.Machine.{IsOf}
-use Rattle.tp_board.specs.Logs.{HasFew}
+use Rattle.tp_board.specs.EventLogs.{HasFew}
 
 -- What a step of a node names is small, where it sends nothing.
 pub names_small : (i : ℕ) (s : Step) → i < 8 → IsOf i s → HasFew s → IsFalse (is_send s) → NamesSmall s

@@ -15,10 +15,10 @@ use Rattle.tp_wave.specs.Steps.{any, count, is_reopen}
 use Rattle.tp_wave.specs.Machine.{steps_of, is_send_numbered, is_send_to}
 use Rattle.tp_wave.proofs.Generations.{present-goes_on}
 use Rattle.tp_board.proofs.Counting.{count-le, count_present-le}
-use Rattle.tp_ledgers.specs.Numbers.{is_send}
+use Rattle.tp_board.specs.Numbers.{is_send}
 use Rattle.tp_board.specs.Routes.{IsNumbered, Route, RouteTable, is_route, is_send_between, routes_of}
 use Rattle.tp_board.specs.Counts.{AreCountsOf}
-use Rattle.tp_board.specs.Logs.{IsLog}
+use Rattle.tp_board.specs.EventLogs.{IsEventLog}
 use Rattle.tp_board.specs.States.{left_of_piece}
 use Rattle.tp_board.specs.declared.counts.Counts.{Counts}
 
@@ -92,13 +92,13 @@ gave_by i j m (Send a b k g ∷ past) are =
 gave_by i j m (_ ∷ past) are = gave_by i j m past are
 
 -- the table's length is the number of the next message
-pub log_sends : (history : Recorded) (limit reserved k : ℕ) (counts : Counts) (routes : RouteTable)
-    → IsLog history limit reserved k counts routes
+pub event_log_sends : (history : Recorded) (limit reserved k : ℕ) (counts : Counts) (routes : RouteTable)
+    → IsEventLog history limit reserved k counts routes
     → (length routes.routes ≡ count is_send (present (steps_of history.events))) × (length routes.routes ≤ 1048576)
-log_sends history limit reserved k counts routes log =
+event_log_sends history limit reserved k counts routes event_log =
     let same : length routes.routes ≡ count is_send (present (steps_of history.events)) =
-    ap length log.routed ∙ length-routes_of (present (steps_of history.events)) in
-    (same, omega (arith, log.places, log.limited, count_present-le is_send history.events))
+    ap length event_log.routed ∙ length-routes_of (present (steps_of history.events)) in
+    (same, omega (arith, event_log.places, event_log.limited, count_present-le is_send history.events))
 
 -- Where all are whole pieces, there is room at least for what is left of the one that was begun.
 left_least : (n room : ℕ) → (n + room) % 1024 ≡ 0 → left_of_piece n ≤ room
@@ -106,31 +106,31 @@ left_least n room whole = omega (arith, whole)
 
 -- Routes without room for so many more are past their piece.
 pub past_messages : (history : Recorded) (limit reserved k : ℕ) (counts : Counts) (routes : RouteTable) (more all : ℕ)
-    → IsLog history limit reserved k counts routes → all ≡ max reserved more → routes.room < all
+    → IsEventLog history limit reserved k counts routes → all ≡ max reserved more → routes.room < all
     → (length routes.routes + routes.room) % 1024 ≡ 0 → left_of_piece (count is_send (present (steps_of history.events))) < more
-past_messages history limit reserved k counts routes more all log is grows whole =
+past_messages history limit reserved k counts routes more all event_log is grows whole =
     let left = left_least (length routes.routes) routes.room whole in
-    let short : left_of_piece (length routes.routes) < more = omega (arith, left, is, grows, log.routes_room) in
-    rw (← (log_sends _ _ _ _ _ _ log).0) short
+    let short : left_of_piece (length routes.routes) < more = omega (arith, left, is, grows, event_log.routes_room) in
+    rw (← (event_log_sends _ _ _ _ _ _ event_log).0) short
 
 -- the log after the next message was sent
-pub log_send : (old new : Recorded) (limit reserved k : ℕ) (counts now : Counts) (routes kept : RouteTable) (from to : NodeId) (m : ℕ)
-    → IsLog old limit reserved k counts routes → 0 < reserved
+pub event_log_send : (old new : Recorded) (limit reserved k : ℕ) (counts now : Counts) (routes kept : RouteTable) (from to : NodeId) (m : ℕ)
+    → IsEventLog old limit reserved k counts routes → 0 < reserved
     → m ≡ length routes.routes → new.events ≡ (from, Send from to (record { 0 = m }) (record { 0 = k })) ∷ old.events
     → new.room + 1 ≡ old.room
     → kept.routes ≡ (from, to) ∷ routes.routes → kept.room + 1 ≡ routes.room
     → AreCountsOf ((from, Send from to (record { 0 = m }) (record { 0 = k })) ∷ present_events old.events) now
-    → IsLog new limit (reserved - 1) k now kept
-log_send old new limit reserved k counts now routes kept from to m log some number events room sent more are =
+    → IsEventLog new limit (reserved - 1) k now kept
+event_log_send old new limit reserved k counts now routes kept from to m event_log some number events room sent more are =
     record {
       counted = rw events are;
-      numbered = rw events (number ∙ (log_sends _ _ _ _ _ _ log).0, log.numbered);
-      routed = rw events (sent ∙ ap (λ rs. (from, to) ∷ rs) log.routed);
-      generation_is = rw events log.generation_is;
-      places = omega (arith, ap length events, log.places);
-      limited = log.limited;
-      room = omega (arith, log.room);
-      routes_room = omega (arith, log.routes_room);
+      numbered = rw events (number ∙ (event_log_sends _ _ _ _ _ _ event_log).0, event_log.numbered);
+      routed = rw events (sent ∙ ap (λ rs. (from, to) ∷ rs) event_log.routed);
+      generation_is = rw events event_log.generation_is;
+      places = omega (arith, ap length events, event_log.places);
+      limited = event_log.limited;
+      room = omega (arith, event_log.room);
+      routes_room = omega (arith, event_log.routes_room);
     }
 
 numbered_other : (s : Step) (past : List Step) → IsFalse (is_send s) → IsNumbered past → IsNumbered (s ∷ past)
@@ -146,41 +146,41 @@ present-more : (s : Step) (past : List Step) → IsFalse (is_reopen s) → prese
 present-more s past on = rw on refl
 
 -- the log after an event that sends nothing and reopens nothing
-pub log_add : (old new : Recorded) (limit reserved k : ℕ) (counts now : Counts) (routes : RouteTable) (node : NodeId) (s : Step)
-    → IsLog old limit reserved k counts routes → length old.events < limit
+pub event_log_add : (old new : Recorded) (limit reserved k : ℕ) (counts now : Counts) (routes : RouteTable) (node : NodeId) (s : Step)
+    → IsEventLog old limit reserved k counts routes → length old.events < limit
     → IsFalse (is_send s) × IsFalse (is_reopen s) → new.events ≡ (node, s) ∷ old.events → reserved ≤ new.room + 1
     → AreCountsOf ((node, s) ∷ present_events old.events) now
-    → IsLog new limit (reserved - 1) k now routes
-log_add old new limit reserved k counts now routes node s log place other events room are =
+    → IsEventLog new limit (reserved - 1) k now routes
+event_log_add old new limit reserved k counts now routes node s event_log place other events room are =
     let past = steps_of old.events in
     let more = present-more s past other.1 in
     record {
       counted = rw (events, present-goes_on (node, s) old.events other.1) are;
-      numbered = rw (events, more) (numbered_other s (present past) other.0 log.numbered);
-      routed = rw (events, more) (log.routed ∙ sym (routes_other s (present past) other.0));
-      generation_is = rw (events, other.1) log.generation_is;
-      places = omega (arith, ap length events, log.places);
-      limited = log.limited;
+      numbered = rw (events, more) (numbered_other s (present past) other.0 event_log.numbered);
+      routed = rw (events, more) (event_log.routed ∙ sym (routes_other s (present past) other.0));
+      generation_is = rw (events, other.1) event_log.generation_is;
+      places = omega (arith, ap length events, event_log.places);
+      limited = event_log.limited;
       room = omega arith;
-      routes_room = omega (arith, log.routes_room);
+      routes_room = omega (arith, event_log.routes_room);
     }
 
 -- the log after the reopening
-pub log_reopened : (old new : Recorded) (limit reserved k : ℕ) (counts now : Counts) (routes kept : RouteTable)
-    → IsLog old limit reserved k counts routes → 0 < reserved
+pub event_log_reopened : (old new : Recorded) (limit reserved k : ℕ) (counts now : Counts) (routes kept : RouteTable)
+    → IsEventLog old limit reserved k counts routes → 0 < reserved
     → new.events ≡ (record { 0 = 0 }, Reopen) ∷ old.events → new.room + 1 ≡ old.room → kept.routes ≡ [] → routes.room ≤ kept.room
     → AreCountsOf [] now
-    → IsLog new limit (reserved - 1) (k + 1) now kept
-log_reopened old new limit reserved k counts now routes kept log some events room none more are =
+    → IsEventLog new limit (reserved - 1) (k + 1) now kept
+event_log_reopened old new limit reserved k counts now routes kept event_log some events room none more are =
     record {
       counted = rw events are;
       numbered = rw events tt;
       routed = rw events none;
-      generation_is = rw events (ap (λ n. n + 1) log.generation_is);
-      places = omega (arith, ap length events, log.places);
-      limited = log.limited;
-      room = omega (arith, log.room);
-      routes_room = omega (arith, log.routes_room);
+      generation_is = rw events (ap (λ n. n + 1) event_log.generation_is);
+      places = omega (arith, ap length events, event_log.places);
+      limited = event_log.limited;
+      room = omega (arith, event_log.room);
+      routes_room = omega (arith, event_log.routes_room);
     }
 
 and_right : (a b : Bool) → (a && b) ≡ true → b ≡ true

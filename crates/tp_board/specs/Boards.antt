@@ -8,8 +8,8 @@ use Rattle.tp_wave.specs.Machine.{steps_of, pending_at, under_way, IsRun}
 use Rattle.tp_wave.specs.Generations.{present_events, AreRuns}
 use Rattle.tp_wave.specs.Wave.{Follows}
 use Rattle.tp_wave.specs.declared.wave.Wave.{Wave}
-use Rattle.tp_ledgers.specs.Books.{BookTotals}
-use Rattle.tp_ledgers.specs.Numbers.{is_done, is_recv, is_send}
+use Rattle.tp_board.specs.Books.{BookTotals}
+use Rattle.tp_board.specs.Numbers.{is_done, is_recv, is_send}
 
 -- how many tokens of the end are out: one, once the end was judged
 abbrev pub ended_number : ℕ → List Step → ℕ

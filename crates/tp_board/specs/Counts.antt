@@ -4,7 +4,7 @@ use Rattle.tp_base.specs.History.{Event}
 use Rattle.tp_base.specs.declared.step.Step.{Step}
 use Rattle.tp_wave.specs.Steps.{count, is_send_of, is_recv_at}
 use Rattle.tp_wave.specs.Machine.{steps_of, pending_at, pending_after}
-use Rattle.tp_ledgers.specs.Numbers.{is_done, is_recv, is_send, plus_if}
+use Rattle.tp_board.specs.Numbers.{is_done, is_recv, is_send, plus_if}
 use Rattle.tp_board.specs.declared.counts.NodeCounts.{NodeCounts}
 use Rattle.tp_board.specs.declared.counts.Counts.{Counts}
 

@@ -4,7 +4,7 @@ use Rattle.tp_base.specs.declared.ids.NodeId.{NodeId}
 use Rattle.tp_base.specs.declared.step.Step.{Step}
 use Rattle.tp_base.specs.declared.step.Step.TheVariants.{Send}
 use Rattle.tp_wave.specs.Steps.{count}
-use Rattle.tp_ledgers.specs.Numbers.{is_send}
+use Rattle.tp_board.specs.Numbers.{is_send}
 
 -- node i sends message m to node j
 abbrev pub is_send_between : ℕ → ℕ → ℕ → Step → Bool

@@ -13,7 +13,7 @@ use Rattle.tp_wave.specs.ControlChecks.{control_checks}
 use Rattle.tp_wave.specs.Generations.{present, present_events}
 use Rattle.tp_wave.specs.Machine.{pending_at, steps_of}
 use Rattle.tp_wave.specs.Steps.{count}
-use Rattle.tp_ledgers.specs.Numbers.{is_send}
+use Rattle.tp_board.specs.Numbers.{is_send}
 
 -- A board has its events, the newest first, how many there may be, how many more are sure of a place and of memory, and
 -- the first fault that was set.

@@ -1,9 +1,9 @@
 ghost use Rattle.std.specs.Prelude.{◌≡◌, ◌==◌, ◌≤◌, ◌<◌, ◌+◌, ◌-◌, ◌∷◌, ℕ, [], length, max, slice_index, IsTrue, IfErr, IfOk, IsOk, OnErr};
 ghost use Rattle.std.specs.Prelude.{OnOk, None};
-ghost use Rattle.tp_ledgers.specs.Books.{first_totals};
-ghost use Rattle.tp_ledgers.specs.Names.{under_parts};
-ghost use Rattle.tp_ledgers.specs.Numbers.{AreWithin, ending, event, is_done, is_plain, is_recv, is_send, numbers_after, receiving};
-ghost use Rattle.tp_ledgers.specs.Numbers.{sending};
+ghost use Rattle.tp_board.specs.Books.{first_totals};
+ghost use Rattle.tp_board.specs.Names.{under_parts};
+ghost use Rattle.tp_board.specs.Numbers.{AreWithin, ending, event, is_done, is_plain, is_recv, is_send, numbers_after, receiving};
+ghost use Rattle.tp_board.specs.Numbers.{sending};
 ghost use Rattle.tp_board.specs.Routes.{is_send_between};
 ghost use Rattle.tp_board.specs.States.{AnswersBy, IsAtPiece, IsPastPiece, full_check, with_event, with_fault, with_reserved};
 ghost use Rattle.tp_wave.specs.Generations.{AreRuns, generation, present, present_events};
@@ -13,12 +13,12 @@ ghost use Rattle.tp_wave.specs.Steps.{any, count};
 ghost use Rattle.tp_wave.specs.Sums.{is_ended};
 
 use crate::books::Totals;
-use crate::log::Log;
+use crate::event_log::EventLog;
+use crate::{Accounts, Ledgers, LinkShare, Parts, Shares, Under};
 use std::alloc::Global;
 use std::marker::Model;
 use std::sync::ledger::Share;
 use tp_base::{Generation, History, MessageId, NodeId, Refusal, Step};
-use tp_ledgers::{Accounts, Ledgers, LinkShare, Parts, Shares, Under};
 use tp_wave::Wave;
 
 /// What lies under a pool's board lock: its history, the books of its ledgers, its wave and its first fault.
@@ -29,7 +29,7 @@ use tp_wave::Wave;
 #[derive(Drop)]
 pub struct Board<K: Ledgers> {
     pub(crate) nodes: u32,
-    pub(crate) log: Log,
+    pub(crate) event_log: EventLog,
     pub(crate) accounts: Accounts<K>,
     pub(crate) wave: Wave,
 }
@@ -40,9 +40,9 @@ impl<K: Ledgers> Model for Board<K> {
 
     ghost Value = { BoardState };
 
-    ghost view = { λ b. b.log };
+    ghost view = { λ b. b.event_log };
 
-    ghost invariant = { λ b. IsBoardOf K.names.nodes b.nodes b.log.history b.accounts b.wave };
+    ghost invariant = { λ b. IsBoardOf K.names.nodes b.nodes b.event_log.history b.accounts b.wave };
 }
 
 impl<K: Ledgers> Board<K> {
@@ -55,7 +55,7 @@ impl<K: Ledgers> Board<K> {
     {
         Board {
             nodes,
-            log: Log::new(alloc, limit),
+            event_log: EventLog::new(alloc, limit),
             accounts,
             wave: Wave::new(nodes),
         }
@@ -74,14 +74,14 @@ impl<K: Ledgers> Board<K> {
         ensures number { result.0 ≡ generation (steps_of self.now.history) }
         ensures small { result.0 < 1048576 }
     {
-        self.log.generation()
+        self.event_log.generation()
     }
 
     /// How many events there may be, over all generations.
     pub fn limit(&self) -> u32
         ensures { result ≡ self.now.limit }
     {
-        self.log.limit()
+        self.event_log.limit()
     }
 
     /// How many events there are, over all generations.
@@ -89,14 +89,14 @@ impl<K: Ledgers> Board<K> {
         ensures number { result ≡ length self.now.history }
         ensures small { result ≤ 1048576 }
     {
-        self.log.len()
+        self.event_log.len()
     }
 
     /// Whether nothing has happened.
     pub fn is_empty(&self) -> bool
         ensures { result ≡ (length self.now.history == 0) }
     {
-        self.log.history().is_empty()
+        self.event_log.history().is_empty()
     }
 
     /// The events of all generations.
@@ -104,7 +104,7 @@ impl<K: Ledgers> Board<K> {
         ensures events { result.now.events ≡ self.now.history }
         ensures run { AreRuns K.names.nodes self.now.history }
     {
-        self.log.history()
+        self.event_log.history()
     }
 
     /// The events alone.
@@ -114,32 +114,32 @@ impl<K: Ledgers> Board<K> {
     {
         let Board {
             nodes: _,
-            log,
+            event_log,
             accounts: _,
             wave: _,
         } = self;
-        log.into_history()
+        event_log.into_history()
     }
 
     /// The first fault that was set.
     pub fn fault(&self) -> Option<Refusal>
         ensures { result ≡ self.now.fault }
     {
-        self.log.fault()
+        self.event_log.fault()
     }
 
     /// Keeps a fault, where it is the first.
     pub fn set_fault(&mut self, fault: Refusal)
         ensures { self.new ≡ with_fault fault self.old }
     {
-        self.log.set_fault(fault);
+        self.event_log.set_fault(fault);
     }
 
     /// The number of the next message: how many were sent before it in the present generation.
     pub fn next_message(&self) -> MessageId
         ensures { result.0 ≡ count is_send (present (steps_of self.now.history)) }
     {
-        MessageId(self.log.totals().0)
+        MessageId(self.event_log.totals().0)
     }
 
     /// Whether a message was sent from one node to another in the present generation. It looks once into a table.
@@ -147,7 +147,7 @@ impl<K: Ledgers> Board<K> {
         ensures sent { result ≡ any (is_send_between from.0 to.0 message.0) (present (steps_of self.now.history)) }
         ensures to { IsTrue result → IsTrue (any (is_send_to to.0 message.0) (present (steps_of self.now.history))) }
     {
-        self.log.gave(from, to, message)
+        self.event_log.gave(from, to, message)
     }
 
     /// Makes sure of a place and of memory for so many more events: the next ones are then not refused for either.
@@ -162,7 +162,7 @@ impl<K: Ledgers> Board<K> {
         ensures reserved { more ≤ self.old.reserved → IsOk result }
         ensures refused { OnErr result (self.new ≡ self.old) }
     {
-        self.log.reserve(more)
+        self.event_log.reserve(more)
     }
 
     /// Changes nothing, and tells how a node's numbers stand to the present generation.
@@ -175,7 +175,7 @@ impl<K: Ledgers> Board<K> {
         ensures run { AreRuns K.names.nodes self.old.history }
     {
         // The places are known by a call of the log alone. Its answer is not used, so it costs no instruction.
-        let _count = self.log.len();
+        let _count = self.event_log.len();
         self.accounts.audit(shares);
     }
 
@@ -196,7 +196,7 @@ impl<K: Ledgers> Board<K> {
         ensures small { shares.old.pending ≤ 1048577 }
     {
         self.accounts.audit(shares);
-        self.log.counts(shares.node()).pending
+        self.event_log.counts(shares.node()).pending
     }
 
     /// A share of no link.
@@ -225,12 +225,12 @@ impl<K: Ledgers> Board<K> {
         ensures run { AreRuns K.names.nodes self.history }
         ensures few { length self.history ≤ 1048576 }
     {
-        let (sent, received, done) = self.log.totals();
+        let (sent, received, done) = self.event_log.totals();
         let ended = self.accounts.is_ended();
-        let fault = self.log.fault();
+        let fault = self.event_log.fault();
         let Board {
             nodes: _,
-            log,
+            event_log,
             accounts,
             wave: _,
         } = self;
@@ -243,7 +243,7 @@ impl<K: Ledgers> Board<K> {
             done,
             ended,
             fault,
-            history: log.into_history(),
+            history: event_log.into_history(),
         }
     }
 
@@ -262,7 +262,7 @@ impl<K: Ledgers> Board<K> {
         ensures reserved { 0 < self.old.reserved → IsOk result }
         ensures refused { OnErr result ((self.new ≡ self.old) × (shares.new ≡ shares.old)) }
     {
-        self.log.add(shares.node(), step)?;
+        self.event_log.add(shares.node(), step)?;
         self.accounts.follow(&step, shares);
         Ok(())
     }
@@ -294,8 +294,8 @@ impl<K: Ledgers> Board<K> {
     {
         let node = shares.node();
         let to = link.to();
-        let generation = self.log.generation();
-        let message = self.log.add_send(node, to)?;
+        let generation = self.event_log.generation();
+        let message = self.event_log.add_send(node, to)?;
         let step = Step::Send(node, to, message, generation);
         self.accounts.follow(&step, shares);
         self.accounts.follow_link(&step, link);
@@ -328,8 +328,8 @@ impl<K: Ledgers> Board<K> {
         ensures refused { OnErr result ((self.new ≡ self.old) × (shares.new ≡ shares.old) × (link.new ≡ link.old)) }
     {
         let node = shares.node();
-        let step = Step::Recv(node, message, self.log.generation());
-        self.log.add(node, step)?;
+        let step = Step::Recv(node, message, self.event_log.generation());
+        self.event_log.add(node, step)?;
         self.accounts.follow(&step, shares);
         self.accounts.follow_link(&step, link);
         Ok(())
@@ -352,8 +352,8 @@ impl<K: Ledgers> Board<K> {
         ensures refused { OnErr result ((self.new ≡ self.old) × (shares.new ≡ shares.old)) }
     {
         let node = shares.node();
-        let step = Step::MessageEnd(node, message, self.log.generation());
-        self.log.add(node, step)?;
+        let step = Step::MessageEnd(node, message, self.event_log.generation());
+        self.event_log.add(node, step)?;
         self.accounts.follow(&step, shares);
         Ok(())
     }

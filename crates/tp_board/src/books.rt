@@ -1,7 +1,7 @@
 ghost use Rattle.std.specs.Prelude.{◌≡◌, ◌≤◌, ◌<◌, ◌+◌, ◌-◌, ◌*◌, [], IfErr, IfOk, IsTrue, None, length, sum_by, vec_len};
 ghost use Rattle.std.specs.List.{All};
 ghost use Rattle.tp_base.specs.declared.refusal.Refusal.TheVariants as refusals;
-ghost use Rattle.tp_ledgers.specs.Numbers.{first_links, first_numbers, first_shares, is_done, is_recv, is_send};
+ghost use Rattle.tp_board.specs.Numbers.{first_links, first_numbers, first_shares, is_done, is_recv, is_send};
 ghost use Rattle.tp_wave.specs.Cut.{IsQuietHistory};
 ghost use Rattle.tp_wave.specs.Generations.{AreRuns, present, present_events};
 ghost use Rattle.tp_wave.specs.Machine.{pending_at, steps_of, under_way};
@@ -9,10 +9,10 @@ ghost use Rattle.tp_wave.specs.Steps.{count};
 ghost use Rattle.tp_wave.specs.Sums.{is_ended};
 
 use crate::board::Board;
+use crate::{Blanks, Ledgers, LinkShare, Opened, Parts, Shares, Under};
 use std::alloc::Global;
 use std::sync::ledger::Share;
 use tp_base::{History, Refusal};
-use tp_ledgers::{Blanks, Ledgers, LinkShare, Opened, Parts, Shares, Under};
 
 /// A pool's board, with all shares of its ledgers.
 #[derive(Drop)]

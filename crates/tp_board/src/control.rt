@@ -2,7 +2,7 @@ ghost use Rattle.std.specs.Prelude.{◌≡◌, ◌==◌, ◌≤◌, ◌<◌, ◌
 ghost use Rattle.std.specs.Prelude.{is_some, if◌then◌else◌};
 ghost use Rattle.tp_base.specs.declared.step.Step.TheVariants as steps;
 ghost use Rattle.tp_board.specs.Judgements.{is_over};
-ghost use Rattle.tp_ledgers.specs.Numbers.{event, node_at};
+ghost use Rattle.tp_board.specs.Numbers.{event, node_at};
 ghost use Rattle.tp_board.specs.States.{AnswersBy, IsAtPiece, step_checks, visit_checks, with_event};
 ghost use Rattle.tp_wave.specs.Control.{parent};
 ghost use Rattle.tp_wave.specs.Cut.{IsQuietHistory};
@@ -12,8 +12,8 @@ ghost use Rattle.tp_wave.specs.Sums.{is_ended, judgement, sums_of};
 
 use crate::board::Board;
 use crate::judgement::Judgement;
+use crate::{Ended, Ledgers, Shares};
 use tp_base::{NodeId, Refusal, Step, Sums};
-use tp_ledgers::{Ended, Ledgers, Shares};
 
 // The steps of the control waves. Each is tried on a copy of the wave, before a place and memory are asked for.
 impl<K: Ledgers> Board<K> {
@@ -31,7 +31,7 @@ impl<K: Ledgers> Board<K> {
         let root = shares.node();
         let mut wave = self.wave;
         wave.start()?;
-        self.log.add(root, Step::Start)?;
+        self.event_log.add(root, Step::Start)?;
         self.wave = wave;
         Ok(())
     }
@@ -49,7 +49,7 @@ impl<K: Ledgers> Board<K> {
         let node = shares.node();
         let mut wave = self.wave;
         wave.down(node)?;
-        self.log.add(node, Step::Down(node))?;
+        self.event_log.add(node, Step::Down(node))?;
         self.wave = wave;
         Ok(())
     }
@@ -68,7 +68,7 @@ impl<K: Ledgers> Board<K> {
     {
         let mut wave = self.wave;
         wave.up(child)?;
-        self.log.add(child, Step::Up(child))?;
+        self.event_log.add(child, Step::Up(child))?;
         self.wave = wave;
         Ok(())
     }
@@ -87,13 +87,13 @@ impl<K: Ledgers> Board<K> {
         ensures refused { OnErr result (self.new ≡ self.old) }
     {
         let node = shares.node();
-        let counts = self.log.counts(node);
+        let counts = self.event_log.counts(node);
         let mut wave = self.wave;
         let sums = wave.give(node, counts.sent, counts.received)?;
         if counts.pending > 0 {
             return Err(Refusal::NotIdle);
         }
-        self.log.add(node, Step::Give(node))?;
+        self.event_log.add(node, Step::Give(node))?;
         self.wave = wave;
         Ok(sums)
     }
@@ -115,7 +115,7 @@ impl<K: Ledgers> Board<K> {
     {
         let mut wave = self.wave;
         let ended_with = wave.judge()?;
-        self.log.add(NodeId(0), Step::Judge)?;
+        self.event_log.add(NodeId(0), Step::Judge)?;
         self.wave = wave;
         match ended_with {
             Some(_) => Ok(Judgement::Over(self.accounts.hand_out())),

@@ -1,4 +1,4 @@
-use tp_ledgers::{Ended, Ledgers};
+use crate::{Ended, Ledgers};
 
 /// What a wave was judged to show.
 #[derive(Drop)]

@@ -2,16 +2,16 @@ ghost use Rattle.std.specs.Prelude.{◌≡◌, ◌<◌, IsTrue, map, vec_len};
 ghost use Rattle.std.specs.List.{All};
 ghost use Rattle.tp_base.specs.declared.step.Step.TheVariants as steps;
 ghost use Rattle.tp_board.specs.States.{with_event};
-ghost use Rattle.tp_ledgers.specs.Fresh.{HasRoom};
-ghost use Rattle.tp_ledgers.specs.Numbers.{event, first_numbers};
-ghost use Rattle.tp_ledgers.specs.Reopening.{begun_anew};
+ghost use Rattle.tp_board.specs.Fresh.{HasRoom};
+ghost use Rattle.tp_board.specs.Numbers.{event, first_numbers};
+ghost use Rattle.tp_board.specs.Reopening.{begun_anew};
 ghost use Rattle.tp_wave.specs.Cut.{IsQuietHistory};
 ghost use Rattle.tp_wave.specs.Generations.{present, present_events};
 ghost use Rattle.tp_wave.specs.Machine.{steps_of};
 ghost use Rattle.tp_wave.specs.Sums.{is_ended};
 
 use crate::board::Board;
-use tp_ledgers::{Ended, Fresh, Ledgers, Shares};
+use crate::{Ended, Fresh, Ledgers, Shares};
 use tp_wave::Wave;
 
 // The one event that changes all nodes.
@@ -40,9 +40,9 @@ impl<K: Ledgers> Board<K> {
         self.audit_ended(&mut ended);
         let mut shares = shares;
         self.audit_each(&mut shares);
-        let totals = self.log.totals();
+        let totals = self.event_log.totals();
         let anew = self.accounts.reopen(shares, fresh, totals, ended);
-        self.log.reopen();
+        self.event_log.reopen();
         self.wave = Wave::new(self.nodes);
         anew
     }

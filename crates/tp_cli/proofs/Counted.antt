@@ -1,7 +1,7 @@
 -- An outcome has as many tasks as the graph.
 use Rattle.std.proofs.Common.{◌≡◌, ◌∙◌, ℕ}
 use Rattle.tp_graph.specs.Graphs.{TaskGraph}
-use Rattle.tp_work.proofs.Counted.{length-once}
+use Rattle.tp_work.proofs.CountedTotals.{length-once}
 use Rattle.tp_work.specs.Outcomes.{IsOutcome}
 use Rattle.tp_work.specs.declared.config.Outcome.{Outcome}
 

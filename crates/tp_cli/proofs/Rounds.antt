@@ -6,7 +6,7 @@ use Rattle.std.proofs.lemmas.Slice.Zip.{AllZip-right}
 use Rattle.std.proofs.Math.Seq.{drop-cons}
 use Rattle.std.specs.List.{All, AllZip}
 use Rattle.std.specs.Prelude.{get_or, reverse, slice_get, Option, None, IsSomeAnd, MatchOption}
-use Rattle.tp_work.proofs.Counted.{length-once}
+use Rattle.tp_work.proofs.CountedTotals.{length-once}
 use Rattle.tp_base.specs.declared.refusal.Refusal.{Refusal}
 use Rattle.tp_cli.specs.Runs.{IsPrintOfSeries, IsRoundOf, IsUnprintedSeries, IsUntoldRound, round_text, rounds_text, run_text}
 use Rattle.tp_cli.specs.declared.run.Form.{Form}

@@ -22,7 +22,7 @@ use Rattle.tp_pools.specs.Pools.{Entered, IsUnregistered, Pools, is_named, regis
 use Rattle.tp_pools.specs.Runs.{is_waiting, rank}
 use Rattle.pool_samples.specs.Words.{word_of}
 use Rattle.pool_samples.specs.declared.any.AnyGraph.{AnyGraph}
-use Rattle.tp_several.specs.Answers.{AreRun, AreRunAnswers}
+use Rattle.tp_pools.specs.Answers.{AreRun, AreRunAnswers}
 use Rattle.tp_work.specs.declared.config.Fault as ended
 use Rattle.tp_work.specs.declared.config.Outcome.{Outcome}
 use Rattle.tp_cli.specs.Pools.{AreInVain, AreNamed, AreTakenTo, IsPoolsFault, IsWordsFault, MayNamePools, Word, is_among, lines_from}

@@ -14,7 +14,7 @@ use Rattle.tp_cli.specs.declared.fault.Fault.TheVariants as faults
 use Rattle.tp_pools.specs.Pools.{Pools, registered}
 use Rattle.pool_samples.specs.Words.{word_of}
 use Rattle.pool_samples.specs.declared.any.AnyGraph.{AnyGraph}
-use Rattle.tp_several.specs.Answers.{AreRunAnswers}
+use Rattle.tp_pools.specs.Answers.{AreRunAnswers}
 use Rattle.tp_shell.specs.declared.status.Status.{Status}
 use Rattle.tp_shell.specs.declared.status.Status.TheVariants.{Done, Failed}
 use Rattle.tp_work.specs.declared.config.Fault as ended

@@ -11,7 +11,9 @@ ghost use Rattle.tp_shell.specs.Streams.{HasShown};
 ghost use Rattle.tp_shell.specs.declared.status.Status.TheVariants.{Done};
 
 use crate::fault::Fault;
+use crate::kept::answer_kept;
 use crate::pools::run_several;
+use crate::reasons::Subject;
 use crate::request::{Request, requested};
 use crate::run::run;
 use crate::text::TextKind;
@@ -22,6 +24,7 @@ use std::sync::Wait;
 use std::thread::Threads;
 use tp_shell::{Diagnostics, Status, WordsFault, complain, show};
 use tp_text::{TextFault, Verdict};
+use tp_work::Screen;
 
 /// Runs the program on the words of its command line, its own name first. It reads from `reader`, writes its output to
 /// `out` and its complaints to `err`, and answers the exit status: 0 where it is done, or help or the version was asked
@@ -58,12 +61,12 @@ pub fn main_with<R: Threads + Wait + Sync, I: Read, O: Write, E: Diagnostics>(
     // A script or a trace alone is read.
     ensures unread { ReadsAText (map (λ w. w.now) words.now) ⊎ (reader.new ≡ reader.old) }
 {
-    let ended = answer_words(rt, alloc, words, reader, out);
+    let (ended, _) = answer_words(rt, alloc, words, reader, out, None::<Screen<Sink>>, false);
     told(ended, err).code()
 }
 
 /// The status with which the program ended, or that of its fault, which is told.
-pub(crate) fn told<E: Diagnostics>(ended: Result<Status, Fault>, err: &mut E) -> Status
+fn told<E: Diagnostics>(ended: Result<Status, Fault>, err: &mut E) -> Status
     ensures done { IfOk ended (λ status. (result ≡ status) × (err.new ≡ err.old)) }
     ensures faulty { IfErr ended (λ fault. (result ≡ status_of fault) × E.tells err.old (line_of fault) err.new) }
 {
@@ -73,49 +76,64 @@ pub(crate) fn told<E: Diagnostics>(ended: Result<Status, Fault>, err: &mut E) ->
     }
 }
 
-/// Writes what the words ask for, or shows help or the version where they ask for that.
-fn answer_words<R: Threads + Wait + Sync, I: Read, O: Write>(
+/// Writes what the words ask for, or shows help or the version where they ask for that; and answers what the reason of a refusal is
+/// about. A script or a trace is kept for that if `keeps` says so. While a pool is run, a screen is told how far the run is.
+pub(crate) fn answer_words<'a, R: Threads + Wait + Sync, I: Read, O: Write, W: Write + Send + Drop>(
     rt: &R,
     alloc: Global,
-    words: &[&str],
+    words: &'a [&'a str],
     reader: &mut I,
     out: &mut O,
-) -> Result<Status, Fault>
-    ensures answered { IfOk result (HasAnswered (map (λ w. w.now) words.now)
+    screen: Option<Screen<W>>,
+    keeps: bool,
+) -> (Result<Status, Fault>, Subject<'a>)
+    ensures answered { IfOk result.0 (HasAnswered (map (λ w. w.now) words.entry.now)
         (I.remaining reader.old) (I.remaining reader.new) (O.contents out.old) (O.contents out.new)) }
-    ensures why { IfErr result (λ fault. CouldNotWrite (map (λ w. w.now) words.now) (I.remaining reader.old) (I.remaining reader.new) fault
-        ⊎ ((out.new ≡ out.old) × HasNothing (map (λ w. w.now) words.now) (I.remaining reader.old) (I.remaining reader.new) fault)) }
-    ensures unread { ReadsAText (map (λ w. w.now) words.now) ⊎ (reader.new ≡ reader.old) }
+    ensures why { IfErr result.0 (λ fault.
+        CouldNotWrite (map (λ w. w.now) words.entry.now) (I.remaining reader.old) (I.remaining reader.new) fault
+        ⊎ ((out.new ≡ out.old)
+        × HasNothing (map (λ w. w.now) words.entry.now) (I.remaining reader.old) (I.remaining reader.new) fault)) }
+    ensures unread { ReadsAText (map (λ w. w.now) words.entry.now) ⊎ (reader.new ≡ reader.old) }
 {
     match requested(alloc, words) {
-        Ok(Request::Answer(kind)) => answer_text(alloc, kind, reader, out),
-        Ok(Request::Run(spec, plan)) => run::<O, R, Sink>(rt, alloc, spec, plan, out, None),
-        Ok(Request::Pools(specs, config)) => run_several(rt, alloc, &specs, config, out),
-        Err(error) => show_asked(alloc, &error, out),
+        Ok(Request::Answer(kind)) => answer_text(alloc, kind, keeps, reader, out),
+        Ok(Request::Run(spec, plan)) => (
+            run(rt, alloc, spec, plan, out, screen),
+            Subject::Word(spec),
+        ),
+        Ok(Request::Pools(specs, config)) => (
+            run_several(rt, alloc, &specs, config, out),
+            Subject::Words(specs),
+        ),
+        Err(error) => (show_asked(alloc, &error, out), Subject::Nothing),
     }
 }
 
-/// Answers a text of a kind.
-fn answer_text<I: Read, O: Write>(
+/// Answers a text of a kind, which is kept for its reason if `keeps` says so.
+fn answer_text<'a, I: Read, O: Write>(
     alloc: Global,
     kind: TextKind,
+    keeps: bool,
     reader: &mut I,
     out: &mut O,
-) -> Result<Status, Fault>
-    ensures answered { IfOk result (λ status. (verdict : Verdict) × (text : List ℕ) × (status ≡ status_of_verdict verdict)
+) -> (Result<Status, Fault>, Subject<'a>)
+    ensures answered { IfOk result.0 (λ status. (verdict : Verdict) × (text : List ℕ) × (status ≡ status_of_verdict verdict)
         × IsAnswerTo kind (I.remaining reader.old) (I.remaining reader.new) verdict text
         × Appends (O.contents out.old) (O.contents out.new) text) }
-    ensures why { IfErr result (λ fault. (met : TextFault) × (fault ≡ Fault.Text met)
+    ensures why { IfErr result.0 (λ fault. (met : TextFault) × (fault ≡ Fault.Text met)
         × IsUnansweredText kind (I.remaining reader.old) (I.remaining reader.new) met × (met ≢ TextFault.Write → out.new ≡ out.old)) }
 {
+    if keeps {
+        return answer_kept(alloc, kind, reader, out);
+    }
     match kind.answer(alloc, reader, out) {
-        Ok(verdict) => Ok(status_of_verdict(verdict)),
-        Err(fault) => Err(Fault::Text(fault)),
+        Ok(verdict) => (Ok(status_of_verdict(verdict)), Subject::Nothing),
+        Err(fault) => (Err(Fault::Text(fault)), Subject::Nothing),
     }
 }
 
 /// The status of a text that was answered.
-fn status_of_verdict(verdict: Verdict) -> Status
+pub(crate) fn status_of_verdict(verdict: Verdict) -> Status
     ensures { result ≡ status_of_verdict verdict }
 {
     match verdict {
@@ -125,11 +143,7 @@ fn status_of_verdict(verdict: Verdict) -> Status
 }
 
 /// Shows help or the version where the words asked for it.
-pub(crate) fn show_asked<O: Write>(
-    alloc: Global,
-    error: &Error,
-    out: &mut O,
-) -> Result<Status, Fault>
+fn show_asked<O: Write>(alloc: Global, error: &Error, out: &mut O) -> Result<Status, Fault>
     ensures shown { IfOk result (λ status. (status ≡ Done) × IsToBeShown (kind_of error.now)
         × HasShown (O.contents out.old) (O.contents out.new)) }
     ensures why { IfErr result (λ fault. (met : WordsFault) × (fault ≡ Fault.Words met)

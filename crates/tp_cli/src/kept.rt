@@ -1,16 +1,16 @@
 ghost use Rattle.std.specs.Prelude.{◌≡◌, ◌≢◌, ◌+◌, ◌≤◌, List, ℕ, length, IfErr, IfOk, IsErrOf};
-ghost use Rattle.std.specs.Io.KnownBytes.{Consumes};
-ghost use Rattle.tp_cli.specs.Reasons.{IsTextEnd, IsTextExplained, IsVerdictExplained, grammar_of};
-ghost use Rattle.tp_cli.specs.Texts.{IsTextTo, IsUnansweredText, status_of_verdict};
+ghost use Rattle.std.specs.Io.KnownBytes.{Appends, Consumes};
+ghost use Rattle.tp_cli.specs.Texts.{IsAnswerTo, IsTextTo, IsUnansweredText, status_of_verdict};
 ghost use Rattle.tp_text.specs.Input.{ReadsAll};
 ghost use Rattle.tp_text.specs.declared.input.TheConstants.{MAX_TEXT};
 
+use crate::cli::status_of_verdict;
 use crate::fault::Fault;
+use crate::reasons::Subject;
 use crate::text::TextKind;
 use std::alloc::Global;
 use std::io::{ErrorKind, Read, Write};
-use tp_reasons::{Grammar, line_told, text_reason};
-use tp_shell::{Diagnostics, Status, complain, write_text};
+use tp_shell::{Status, write_text};
 use tp_text::{MAX_READS, MAX_TEXT, TextFault, Verdict};
 
 /// How many bytes are asked for at once. They lie on the stack.
@@ -18,49 +18,44 @@ const PIECE: usize = 4_096;
 
 /// A text that was read, and what is answered to it.
 #[derive(Drop)]
-struct Answered {
-    text: Vec<u8>,
-    verdict: Verdict,
-    answer: Vec<u8>,
+pub(crate) struct AnsweredText {
+    pub(crate) text: Vec<u8>,
+    pub(crate) verdict: Verdict,
+    pub(crate) answer: Vec<u8>,
 }
 
-/// Answers a text of a kind, and tells at a terminal what is wrong with its first line that is not of the grammar.
-pub(crate) fn answer_at_terminal<I: Read, O: Write, E: Diagnostics>(
+/// Answers a text of a kind, and keeps it for its reason.
+pub(crate) fn answer_kept<'a, I: Read, O: Write>(
     alloc: Global,
     kind: TextKind,
     reader: &mut I,
     out: &mut O,
-    err: &mut E,
-) -> Status
-    ensures { IsTextEnd E.tells kind (I.remaining reader.old) (I.remaining reader.new)
-        (O.contents out.old) (O.contents out.new) (out.new ≡ out.old) result err.old err.new }
+) -> (Result<Status, Fault>, Subject<'a>)
+    ensures answered { IfOk result.0 (λ status. (verdict : Verdict) × (text : List ℕ) × (status ≡ status_of_verdict verdict)
+        × IsAnswerTo kind (I.remaining reader.old) (I.remaining reader.new) verdict text
+        × Appends (O.contents out.old) (O.contents out.new) text) }
+    ensures why { IfErr result.0 (λ fault. (met : TextFault) × (fault ≡ Fault.Text met)
+        × IsUnansweredText kind (I.remaining reader.old) (I.remaining reader.new) met × (met ≢ TextFault.Write → out.new ≡ out.old)) }
 {
     let answered = match answer_of(alloc, kind, reader) {
         Ok(answered) => answered,
-        Err(fault) => return complain(&Fault::Text(fault), err),
+        Err(fault) => return (Err(Fault::Text(fault)), Subject::Nothing),
     };
     match write_text(out, &answered.answer) {
-        Ok(()) => explained(kind, &answered, err),
-        Err(_) => complain(&Fault::Text(TextFault::Write), err),
-    }
-}
-
-/// Tells why a text that was answered is refused, where it is for a line that is not of the grammar, and gives the status.
-fn explained<E: Diagnostics>(kind: TextKind, answered: &Answered, err: &mut E) -> Status
-    ensures status { result ≡ status_of_verdict answered.now.verdict }
-    ensures told { IsVerdictExplained E.tells kind answered.now.text.items answered.now.verdict answered.now.answer.items err.old err.new }
-{
-    match answered.verdict {
-        Verdict::Sound => Status::Done,
-        Verdict::Refused => {
-            explain_text(kind, &answered.text, &answered.answer, err);
-            Status::Refused
+        Ok(()) => {
+            let status = status_of_verdict(answered.verdict);
+            (Ok(status), Subject::Text(kind, answered))
         }
+        Err(_) => (Err(Fault::Text(TextFault::Write)), Subject::Nothing),
     }
 }
 
 /// Reads a text of a kind, and finds what is answered to it.
-fn answer_of<I: Read>(alloc: Global, kind: TextKind, reader: &mut I) -> Result<Answered, TextFault>
+fn answer_of<I: Read>(
+    alloc: Global,
+    kind: TextKind,
+    reader: &mut I,
+) -> Result<AnsweredText, TextFault>
     ensures ok { IfOk result (λ it. ReadsAll (I.remaining reader.old) (I.remaining reader.new) it.text.items
         × IsTextTo kind it.text.items it.verdict it.answer.items) }
     ensures why { IfErr result (IsUnansweredText kind (I.remaining reader.old) (I.remaining reader.new)) }
@@ -73,7 +68,7 @@ fn answer_of<I: Read>(alloc: Global, kind: TextKind, reader: &mut I) -> Result<A
     let mut rest = text.as_slice();
     let mut answer = Vec::new(alloc);
     match kind.answer(alloc, &mut rest, &mut answer) {
-        Ok(verdict) => Ok(Answered {
+        Ok(verdict) => Ok(AnsweredText {
             text,
             verdict,
             answer,
@@ -110,24 +105,4 @@ fn read_text<R: Read>(alloc: Global, reader: &mut R) -> Result<Vec<u8>, TextFaul
         }
     }
     Err(TextFault::Read)
-}
-
-/// Tells what is wrong with the line that the answer to a text names as not of the grammar.
-fn explain_text<E: Diagnostics>(kind: TextKind, text: &[u8], answer: &[u8], err: &mut E)
-    ensures { IsTextExplained E.tells kind text.now answer.now err.old err.new }
-{
-    if let Some(line) = line_told(answer) {
-        let reason = text_reason(grammar_of(kind), text, line);
-        err.tell(format_args!("{reason}\n"));
-    }
-}
-
-/// The grammar of the texts of a kind.
-fn grammar_of(kind: TextKind) -> Grammar
-    ensures { result ≡ grammar_of kind }
-{
-    match kind {
-        TextKind::Script => Grammar::Script,
-        TextKind::Trace => Grammar::Trace,
-    }
 }

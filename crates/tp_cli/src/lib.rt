@@ -6,6 +6,7 @@ mod command;
 mod fault;
 mod kept;
 mod pools;
+mod reasons;
 mod request;
 mod run;
 mod series;

@@ -11,18 +11,16 @@ ghost use Rattle.tp_work.specs.Outcomes.{IsOutcome, IsWithinLimits};
 
 use crate::fault::{Fault, RunFault};
 use crate::series::text_of_generations;
-use pool_samples::{AnyGraph, checked};
+use pool_samples::{AnyGraph, checked, print_table};
 use std::alloc::{AllocError, Global};
 use std::io::Write;
 use std::sync::Wait;
 use std::thread::Threads;
 use tp_base::{Refusal, TaskId};
 use tp_graph::Value;
-use tp_progress::{Progress, Screen, run_pool_counted, watched};
 use tp_shell::{Status, write_text};
-use tp_table::print_table;
 use tp_text::print_trace;
-use tp_work::{Config, Outcome};
+use tp_work::{Config, Outcome, Progress, Screen, run_pool_counted, watched};
 
 /// What is printed of a run.
 #[derive(Clone, Copy, Debug, PartialEq, Eq)]

@@ -14,9 +14,8 @@ use std::sync::Wait;
 use std::thread::Threads;
 use tp_base::Refusal;
 use tp_graph::Graph;
-use tp_progress::{Counted, Progress};
 use tp_text::print_trace;
-use tp_work::{Fault, OpenGate, Round, Series, run_generations};
+use tp_work::{Counted, Fault, OpenGate, Progress, Round, Series, run_generations};
 
 /// Runs a pool of a graph in so many generations: what is printed of them. The tasks are counted where there is a progress.
 pub(crate) fn text_of_generations<R: Threads + Wait + Sync>(
@@ -72,7 +71,7 @@ fn series_counted<R: Threads + Wait + Sync>(
     ensures fault { IfErr result (IsSeriesFault plan.config.nodes (any_graph graph) plan.generations) }
 {
     let tasks = u64::from(graph.tasks()).saturating_mul(u64::from(plan.generations));
-    progress.begin(tp_progress::Plan::of_tasks(tasks));
+    progress.begin(tp_work::Plan::of_tasks(tasks));
     let counted = Counted::new(graph, progress);
     run_generations(rt, alloc, counted, plan.config, &OpenGate, plan.generations)
 }

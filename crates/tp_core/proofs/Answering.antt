@@ -1,16 +1,8 @@
 -- What the answers to steps tell.
-use Rattle.std.proofs.Common.{ℕ, Result, take, get_or, ◌+◌, ◌≡◌, ◌<◌, List, [], ◌∷◌, ◌++◌, true, false, Option, Some, None, length, refl}
-use Rattle.std.proofs.Common.{ap, subst, ◌∙◌, arith}
-use Rattle.std.proofs.lemmas.List.{take_more}
-use Rattle.std.specs.Prelude.{IsOk, Ok, Err, ◌≢◌, ◌↔◌}
-use Rattle.std.specs.List.{list_any}
-use Rattle.tp_base.specs.declared.Step.{Step}
-use Rattle.tp_base.specs.declared.Step.TheVariants.{Insert}
-use Rattle.tp_base.specs.declared.Refusal.{Refusal}
-use Rattle.tp_base.specs.declared.Refusal.TheVariants.{NoMemory}
-use Rattle.tp_core.specs.declared.reply.Reply.{Reply}
-use Rattle.tp_core.specs.Accepted.{Accepted, refusal, answer, answers, next, after_all, is_no_memory, Answers, AnswersAll, IsAcceptable}
-use Rattle.tp_core.specs.Accepted.{IsRefusedFor, asks_memory}
+use Rattle.tp_core.proofs.Words.{ℕ, Result, take, get_or, ◌+◌, ◌≡◌, ◌<◌, List, [], ◌∷◌, ◌++◌, true, false, Option, Some, None, length, refl}
+use Rattle.tp_core.proofs.Words.{ap, subst, ◌∙◌, arith, take_more, IsOk, Ok, Err, ◌≢◌, ◌↔◌, list_any, Step, Insert, Refusal, NoMemory}
+use Rattle.tp_core.proofs.Words.{Reply, Accepted, refusal, answer, answers, next, after_all, is_no_memory, Answers, AnswersAll}
+use Rattle.tp_core.proofs.Words.{IsAcceptable, IsRefusedFor, asks_memory}
 use Rattle.tp_core.proofs.Exact.{lawful_where_none, none_where_lawful}
 
 -- ---- answers to several steps

@@ -1,31 +1,16 @@
 -- No counter of a core leaves its type.
-use Rattle.std.proofs.Common.{ℕ, zero, suc, ◌+◌, ◌≡◌, ◌<◌, ◌≤◌, List, [], ◌∷◌, Bool, true, Some, length, refl, ap, ◌∙◌, arith, zero-le}
-use Rattle.std.proofs.lemmas.Bool.Decides.{nat_tests}
-use Rattle.std.specs.Prelude.{not}
-use Rattle.std.specs.List.{slice_index_or}
-use Rattle.tp_base.specs.declared.Step.{Step}
-use Rattle.tp_base.specs.declared.limits.TheConstants.{MAX_STEPS, MAX_NODES}
-use Rattle.tp_wave.specs.Steps.{count, is_send_of, is_recv_at}
-use Rattle.tp_core.specs.declared.accepting.Core.TheInside.{Inside}
-use Rattle.tp_base.specs.declared.NodeId.{NodeId}
-use Rattle.tp_core.specs.declared.posted.Stage.TheVariants as stage
-use Rattle.tp_core.specs.declared.held.Held.{Held}
-use Rattle.tp_core.specs.declared.life.Life.{Life}
-use Rattle.tp_core.specs.declared.life.Life.TheVariants as life
-use Rattle.tp_core.specs.declared.numbers.NodeNumbers.{NodeNumbers}
-use Rattle.tp_wave.specs.Generations.{present}
-use Rattle.tp_core.specs.World.{World, Task, Action, Kind, OfMessage, is_under_way, is_action, is_message, is_open, is_done, is_at}
-use Rattle.tp_core.specs.World.{is_unfinished_at, how_many, openings, pending}
-use Rattle.tp_core.specs.Pool.{with_life, without, after}
-use Rattle.tp_core.specs.Run.{world}
-use Rattle.tp_core.specs.Accepted.{world_of}
-use Rattle.tp_core.specs.Kept.{accepted, IsKept, all_left, is_kept_open}
-use Rattle.tp_base.specs.Table.{lookup}
+use Rattle.tp_core.proofs.Words.{ℕ, zero, suc, ◌+◌, ◌≡◌, ◌<◌, ◌≤◌, List, [], ◌∷◌, Bool, true, Some, length, refl, ap, ◌∙◌, arith, zero-le}
+use Rattle.tp_core.proofs.Words.{nat_tests, not, slice_index_or, Step, MAX_STEPS, MAX_NODES, count, is_send_of, is_recv_at, Inside, NodeId}
+use Rattle.tp_core.proofs.Words.{Held, Life, NodeNumbers, present, World, Task, Action, Kind, OfMessage, is_under_way, is_action}
+use Rattle.tp_core.proofs.Words.{is_message, is_open, is_done, is_at, is_unfinished_at, how_many, openings, pending, with_life, without}
+use Rattle.tp_core.proofs.Words.{after, world, world_of, accepted, IsKept, all_left, is_kept_open, lookup}
 use Rattle.tp_core.proofs.Counting.{active_home, active_open, some_message}
 use Rattle.tp_core.proofs.Sets.{lists_are_sets}
 use Rattle.tp_core.proofs.Keeping.{zeros}
 use Rattle.tp_core.proofs.Reading.{Lives}
 use Rattle.tp_core.proofs.Generations.{length-present}
+use Rattle.tp_core.specs.declared.posted.Stage.TheVariants as stage
+use Rattle.tp_core.specs.declared.life.Life.TheVariants as life
 
 pub length-openings : (n : ℕ) → length (openings n) ≡ n
 length-openings zero = refl

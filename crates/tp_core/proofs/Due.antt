@@ -1,34 +1,15 @@
 -- A control step that is due can be taken where nothing is left, and the core goes on as it was.
-use Rattle.std.proofs.Common.{ℕ, ◌+◌, ◌*◌, ◌≡◌, ◌<◌, ◌≤◌, List, [], ◌∷◌, ◌++◌, Bool, false, Option, Some, None, length, reverse, refl, ap}
-use Rattle.std.proofs.Common.{sym, subst, ◌∙◌, arith, IsTrue, IsFalse, length-append}
-use Rattle.std.proofs.lemmas.List.{reverse-append, length-reverse}
-use Rattle.std.specs.Prelude.{Result, IsOk, Ok, Err}
-use Rattle.std.specs.Result.{result_err}
-use Rattle.std.specs.List.{slice_index_or, list_all}
-use Rattle.tp_base.specs.declared.Refusal.{Refusal}
-use Rattle.tp_base.specs.declared.Step.{Step}
-use Rattle.tp_base.specs.declared.Step.TheVariants.{Start, Down, Give, Up, Judge}
-use Rattle.tp_base.specs.declared.limits.TheConstants.{MAX_STEPS}
-use Rattle.tp_wave.specs.Steps.{is_send_of, is_recv_at}
-use Rattle.tp_wave.specs.Sums.{is_ended, judgement}
-use Rattle.tp_wave.specs.Control.{is_control, IsDue}
-use Rattle.tp_wave.specs.Generations.{present}
-use Rattle.tp_wave.specs.Wave.{Follows, Stands}
-use Rattle.tp_wave.specs.ControlChecks.{control_refusal}
-use Rattle.tp_wave.specs.declared.Wave.{Wave}
-use Rattle.tp_wave.proofs.Exact.{checks_exact}
-use Rattle.tp_core.specs.declared.numbers.NodeNumbers.{NodeNumbers}
-use Rattle.tp_core.specs.World.{World, IsQuiet}
-use Rattle.tp_core.specs.Pool.{after}
-use Rattle.tp_core.specs.Run.{world, IsLawful, IsLawfulRun}
-use Rattle.tp_core.specs.Accepted.{numbers_in}
-use Rattle.tp_core.specs.ToTheEnd.{MaySettle, IsTold, IsTaken, GoesOn, AreTaken}
+use Rattle.tp_core.proofs.Words.{ℕ, ◌+◌, ◌*◌, ◌≡◌, ◌<◌, ◌≤◌, List, [], ◌∷◌, ◌++◌, Bool, false, Option, Some, None, length, reverse, refl}
+use Rattle.tp_core.proofs.Words.{ap, sym, subst, ◌∙◌, arith, IsTrue, IsFalse, length-append, reverse-append, length-reverse, Result, IsOk}
+use Rattle.tp_core.proofs.Words.{Ok, Err, result_err, slice_index_or, list_all, Refusal, Step, Start, Down, Give, Up, Judge, MAX_STEPS}
+use Rattle.tp_core.proofs.Words.{is_send_of, is_recv_at, is_ended, judgement, is_control, IsDue, present, Follows, Stands, control_refusal}
+use Rattle.tp_core.proofs.Words.{Wave, checks_exact, NodeNumbers, World, IsQuiet, after, world, IsLawful, IsLawfulRun, numbers_in}
+use Rattle.tp_core.proofs.Words.{MaySettle, IsTold, IsTaken, GoesOn, AreTaken, HasNumbers}
 use Rattle.tp_core.proofs.Bounds.{count_bound}
 use Rattle.tp_core.proofs.Keeping.{zeros, moved, numbers_stay}
 use Rattle.tp_core.proofs.Quiet.{nothing_pending_when_quiet}
 use Rattle.tp_core.proofs.Settling.{judged_soon}
 use Rattle.tp_core.proofs.Generations.{length-present, no_reopening, present-control, present-goes_on}
-use Rattle.tp_core.specs.Kept.{HasNumbers}
 
 -- ---- what the step that is due needs
 pub stands : {n : ℕ} {numbers : List NodeNumbers} {steps : List Step} {w : Wave} → MaySettle n numbers steps w

@@ -1,27 +1,14 @@
 -- The detector is never early: from the end of the wave that it names on, nothing was left.
-use Rattle.std.proofs.Common.{ℕ, suc, ◌+◌, ◌≡◌, ◌<◌, ◌≤◌, List, [], ◌∷◌, ◌++◌, Bool, true, false, Option, Some, None, length, refl, ap, sym}
-use Rattle.std.proofs.Common.{◌∙◌, inl, inr, arith, append_assoc}
-use Rattle.std.proofs.lemmas.Bool.{cases_lt}
-use Rattle.std.specs.Prelude.{not}
-use Rattle.std.specs.List.{list_any}
-use Rattle.tp_base.specs.declared.Step.{Step}
-use Rattle.tp_base.specs.declared.Step.TheVariants.{Insert, Give, Judge}
-use Rattle.tp_wave.specs.Steps.{before, any, count, is_give}
-use Rattle.tp_wave.specs.Sums.{judgement, visited_at}
-use Rattle.tp_wave.specs.Control.{in_wave, has_ended}
-use Rattle.tp_wave.specs.Machine.{History, steps_of}
-use Rattle.tp_wave.specs.Machine as machine
-use Rattle.tp_wave.proofs.Positions.{before-all, before-past}
-use Rattle.tp_wave.proofs.Judged.{ended_law}
-use Rattle.tp_core.specs.declared.life.Life.{Life}
-use Rattle.tp_core.specs.declared.life.Life.TheVariants as life
-use Rattle.tp_core.specs.World.{Task, is_done, life_of, IsQuiet}
-use Rattle.tp_core.specs.Run.{world, history, node_of, IsLawfulRun}
-use Rattle.tp_core.specs.NeverEarly.{is_insert_of}
-use Rattle.tp_core.specs.NeverEarly.{HasRunOnce, IsOverFrom, IsNeverEarly}
+use Rattle.tp_core.proofs.Words.{ℕ, suc, ◌+◌, ◌≡◌, ◌<◌, ◌≤◌, List, [], ◌∷◌, ◌++◌, Bool, true, false, Option, Some, None, length, refl, ap}
+use Rattle.tp_core.proofs.Words.{sym, ◌∙◌, inl, inr, arith, append_assoc, cases_lt, not, list_any, Step, Insert, Give, Judge, before, any}
+use Rattle.tp_core.proofs.Words.{count, is_give, judgement, visited_at, in_wave, has_ended, History, before-all, before-past}
+use Rattle.tp_core.proofs.Words.{ended_law, Life, Task, is_done, life_of, IsQuiet, world, history, node_of, IsLawfulRun, is_insert_of}
+use Rattle.tp_core.proofs.Words.{HasRunOnce, IsOverFrom, IsNeverEarly}
 use Rattle.tp_core.proofs.Counting.{life_in, steps_of-history, is_run}
 use Rattle.tp_core.proofs.Quiet.{quiet_seen, nothing_pending_when_quiet}
 use Rattle.tp_core.proofs.Once.{tasks_run_once}
+use Rattle.tp_wave.specs.Machine as machine
+use Rattle.tp_core.specs.declared.life.Life.TheVariants as life
 
 -- ---- positions in a list and in its history
 pub length-history : (n : ℕ) (steps : List Step) → length (history n steps) ≡ length steps

@@ -1,33 +1,12 @@
 -- What a core answers that takes control steps to the end, and what it is then.
-use Rattle.std.proofs.Common.{Global, ℕ, ◌+◌, ◌*◌, ◌≡◌, ◌≤◌, ◌↔◌, List, [], ◌∷◌, ◌++◌, Bool, true, false, None, length}
-use Rattle.std.proofs.Common.{reverse, refl, ap, sym, subst, ◌∙◌, inl, inr, arith, IsTrue, IsFalse, length-append}
-use Rattle.std.proofs.lemmas.Bool.{cases_Bool, both_ways, and_parts}
-use Rattle.std.proofs.lemmas.Bool.Decides.{nat_tests}
-use Rattle.std.proofs.lemmas.List.{length-reverse}
-use Rattle.std.specs.declared.vec.Vec.{Vec}
-use Rattle.std.specs.Prelude.{vec_capacity}
-use Rattle.std.specs.List.{list_all}
-use Rattle.tp_base.specs.declared.Refusal.{Refusal}
-use Rattle.tp_base.specs.declared.Refusal.TheVariants.{Ended, NotIdle}
-use Rattle.tp_base.specs.declared.Step.{Step}
-use Rattle.tp_base.specs.declared.Step.TheVariants.{Start, Down, Give, Up, Judge}
-use Rattle.tp_base.specs.declared.limits.TheConstants.{MAX_STEPS}
-use Rattle.tp_base.specs.Checks.{first_refusal}
-use Rattle.tp_wave.specs.Sums.{waves, is_ended}
-use Rattle.tp_wave.specs.Control.{is_control}
-use Rattle.tp_wave.specs.Wave.{nodes_of, Follows}
-use Rattle.tp_wave.specs.declared.Wave.{Wave}
-use Rattle.tp_core.specs.declared.accepting.Core.TheInside.{Inside}
-use Rattle.tp_core.specs.declared.numbers.NodeNumbers.{NodeNumbers}
-use Rattle.tp_core.specs.World.{World, IsQuiet, is_quiet}
-use Rattle.tp_wave.specs.Generations.{present, generation}
-use Rattle.tp_core.specs.Run.{world, IsLawful, IsLawfulRun}
-use Rattle.tp_core.specs.Generations.{MayCome, AreRuns}
-use Rattle.tp_core.specs.Accepted.{Accepted, IsRefusedFor, world_of}
-use Rattle.tp_core.specs.Kept.{accepted, Agree, IsKept, HasActions, HasMessages, HasNumbers, HasPieces, HasPlaces, HasTasks, IsFrugal}
-use Rattle.tp_core.specs.Kept.{all_left}
-use Rattle.tp_core.specs.Settled.{settle_checks, rooms_check, ends_before, IsSettled}
-use Rattle.tp_core.specs.ToTheEnd.{AreTaken, MaySettle}
+use Rattle.tp_core.proofs.Words.{Global, ℕ, ◌+◌, ◌*◌, ◌≡◌, ◌≤◌, ◌↔◌, List, [], ◌∷◌, ◌++◌, Bool, true, false, None, length, reverse, refl}
+use Rattle.tp_core.proofs.Words.{ap, sym, subst, ◌∙◌, inl, inr, arith, IsTrue, IsFalse, length-append, cases_Bool, both_ways, and_parts}
+use Rattle.tp_core.proofs.Words.{nat_tests, length-reverse, Vec, vec_capacity, list_all, Refusal, Ended, NotIdle, Step, Start, Down, Give}
+use Rattle.tp_core.proofs.Words.{Up, Judge, MAX_STEPS, first_refusal, waves, is_ended, is_control, nodes_of, Follows, Wave, Inside}
+use Rattle.tp_core.proofs.Words.{NodeNumbers, World, IsQuiet, is_quiet, present, generation, world, IsLawful, IsLawfulRun, MayCome, AreRuns}
+use Rattle.tp_core.proofs.Words.{Accepted, IsRefusedFor, world_of, accepted, Agree, IsKept, HasActions, HasMessages, HasNumbers, HasPieces}
+use Rattle.tp_core.proofs.Words.{HasPlaces, HasTasks, IsFrugal, all_left, settle_checks, rooms_check, ends_before, IsSettled, AreTaken}
+use Rattle.tp_core.proofs.Words.{MaySettle}
 use Rattle.tp_core.proofs.Keeping.{numbers_stay}
 use Rattle.tp_core.proofs.Places.{control_places}
 use Rattle.tp_core.proofs.Quiet.{none_from_length}

@@ -1,22 +1,12 @@
 -- What holds of a run of one generation holds in each.
-use Rattle.std.proofs.Common.{ℕ, suc, ◌≡◌, ◌<◌, ◌≤◌, List, [], ◌∷◌, ◌++◌, true, false, cond, length, refl, ap, ◌∙◌, inl, inr, arith, IsTrue}
-use Rattle.std.proofs.Common.{IsFalse}
-use Rattle.std.proofs.lemmas.Bool.{cases_Bool, and_parts}
-use Rattle.std.specs.List.{list_all}
-use Rattle.tp_base.specs.declared.Step.{Step}
-use Rattle.tp_base.specs.declared.Step.TheVariants.{Reopen}
-use Rattle.tp_wave.specs.Steps.{is_reopen}
-use Rattle.tp_wave.specs.Control.{is_control}
-use Rattle.tp_wave.specs.Machine.{steps_of, pending_at}
-use Rattle.tp_wave.specs.Generations.{present, present_events, generation, IsOfGeneration}
-use Rattle.tp_wave.specs.Generations as generations
-use Rattle.tp_core.specs.World.{World}
-use Rattle.tp_core.specs.Run.{world, history, node_of, IsLawfulRun}
-use Rattle.tp_core.specs.Generations.{history_after, AreRuns}
-use Rattle.tp_core.specs.Laws.{RunsAreCounted, QuietIsSeen, GenerationsAreRuns, NeverEarlyInEach}
+use Rattle.tp_core.proofs.Words.{ℕ, suc, ◌≡◌, ◌<◌, ◌≤◌, List, [], ◌∷◌, ◌++◌, true, false, cond, length, refl, ap, ◌∙◌, inl, inr, arith}
+use Rattle.tp_core.proofs.Words.{IsTrue, IsFalse, cases_Bool, and_parts, list_all, Step, Reopen, is_reopen, is_control, steps_of}
+use Rattle.tp_core.proofs.Words.{pending_at, present, present_events, World, world, history, node_of}
+use Rattle.tp_core.proofs.Words.{IsLawfulRun, history_after, AreRuns, RunsAreCounted, QuietIsSeen, GenerationsAreRuns, NeverEarlyInEach}
 use Rattle.tp_core.proofs.Counting.{steps_of-history, pending_is, under_way_is, is_run}
 use Rattle.tp_core.proofs.Quiet.{quiet_seen}
 use Rattle.tp_core.proofs.Early.{never_early}
+use Rattle.tp_wave.specs.Generations as generations
 
 pub present-goes_on : (s : Step) (past : List Step) → IsFalse (is_reopen s) → present (s ∷ past) ≡ s ∷ present past
 present-goes_on s past on = rw on

@@ -1,35 +1,17 @@
 -- What a core keeps goes on to be what its steps say.
-use Rattle.std.proofs.Common.{Global, ℕ, ◌+◌, ◌-◌, ◌≡◌, ◌<◌, ◌≤◌, List, [], ◌∷◌, ◌++◌, Bool, true, false, IsFalse, Some, length, refl, ap}
-use Rattle.std.proofs.Common.{sym, subst, ◌∙◌, arith, set, length-set, eqb-true}
-use Rattle.std.proofs.lemmas.Bool.Decides.{nat_tests}
-use Rattle.std.proofs.lemmas.List.{reverse-append, length-reverse, length-append}
-use Rattle.std.specs.declared.vec.Vec.{Vec}
-use Rattle.std.specs.Prelude.{◌==◌, not, vec_capacity, if◌then◌else◌}
-use Rattle.std.specs.List.{slice_index_or}
-use Rattle.tp_base.specs.declared.Step.{Step}
-use Rattle.tp_base.specs.declared.Step.TheVariants.{Insert, Supply, Begin, Done, ActionOpen, ActionClose, Ready, Send, Recv, MessageEnd}
-use Rattle.tp_base.specs.declared.limits.TheConstants.{MAX_STEPS, MAX_NODES}
-use Rattle.tp_wave.specs.Steps.{count, is_send_of, is_recv_at}
-use Rattle.tp_wave.specs.Machine.{pending_after, under_way_after}
-use Rattle.tp_wave.specs.Control.{is_control}
-use Rattle.tp_wave.specs.Wave.{Follows}
-use Rattle.tp_wave.proofs.Given.{pool_step}
-use Rattle.tp_core.specs.declared.accepting.Core.TheInside.{Inside}
-use Rattle.tp_core.specs.declared.life.Life.{Life}
-use Rattle.tp_core.specs.declared.life.Life.TheVariants as life
-use Rattle.tp_core.specs.declared.numbers.NodeNumbers.{NodeNumbers}
-use Rattle.tp_core.specs.World.{World, Task, Opening, Named, OfMessage, is_action, is_message, is_done, how_many}
-use Rattle.tp_core.specs.Pool.{with_life, supplied, after}
-use Rattle.tp_wave.specs.Steps.{is_reopen}
-use Rattle.tp_wave.specs.Generations.{present, generation}
-use Rattle.tp_core.specs.Run.{world, node_of, IsLawful, IsLawfulRun}
-use Rattle.tp_core.specs.Generations.{MayCome}
-use Rattle.tp_core.specs.Accepted.{Accepted, with_step, numbers_in, now_of}
-use Rattle.tp_core.specs.Kept.{accepted, Agree, IsKept, HasTasks, HasActions, HasMessages, HasNumbers, HasPieces, HasPlaces, IsFrugal}
-use Rattle.tp_core.specs.Kept.{all_left}
+use Rattle.tp_core.proofs.Words.{Global, ℕ, ◌+◌, ◌-◌, ◌≡◌, ◌<◌, ◌≤◌, List, [], ◌∷◌, ◌++◌, Bool, true, false, IsFalse, Some, length, refl}
+use Rattle.tp_core.proofs.Words.{ap, sym, subst, ◌∙◌, arith, set, length-set, eqb-true, nat_tests, reverse-append, length-reverse}
+use Rattle.tp_core.proofs.Words.{length-append, Vec, ◌==◌, not, vec_capacity, if◌then◌else◌, slice_index_or, Step, Insert, Supply, Begin}
+use Rattle.tp_core.proofs.Words.{Done, ActionOpen, ActionClose, Ready, Send, Recv, MessageEnd, MAX_STEPS, MAX_NODES, count, is_send_of}
+use Rattle.tp_core.proofs.Words.{is_recv_at, pending_after, under_way_after, is_control, Follows, pool_step, Inside, Life, NodeNumbers}
+use Rattle.tp_core.proofs.Words.{World, Task, Opening, Named, OfMessage, is_action, is_message, is_done, how_many, with_life, supplied}
+use Rattle.tp_core.proofs.Words.{after, is_reopen, present, generation, world, node_of, IsLawful, IsLawfulRun, MayCome, Accepted, with_step}
+use Rattle.tp_core.proofs.Words.{numbers_in, now_of, accepted, Agree, IsKept, HasTasks, HasActions, HasMessages, HasNumbers, HasPieces}
+use Rattle.tp_core.proofs.Words.{HasPlaces, IsFrugal, all_left}
 use Rattle.tp_core.proofs.Counting.{life_in, one_if, node_inside, open_at-openings, pending_step, not_done-lacking, length-without}
 use Rattle.tp_core.proofs.Written.{written}
 use Rattle.tp_core.proofs.Generations.{present-goes_on}
+use Rattle.tp_core.specs.declared.life.Life.TheVariants as life
 
 -- ---- the numbers of the nodes
 abbrev sent_after : Step → ℕ → ℕ

@@ -1,19 +1,7 @@
 -- The places of numbers in the tables of a core, as the steps go on.
-use Rattle.std.proofs.Common.{ℕ, ◌≡◌, List, [], ◌∷◌, ◌++◌, Bool, true, false, refl, IsTrue}
-use Rattle.std.proofs.lemmas.Bool.{and_parts}
-use Rattle.std.specs.Prelude.{◌||◌, not}
-use Rattle.std.specs.List.{list_all}
-use Rattle.tp_base.specs.declared.Step.{Step}
-use Rattle.tp_base.specs.declared.Step.TheVariants.{Start, Down, Give, Up, Judge}
-use Rattle.tp_base.specs.declared.Table.{Table}
-use Rattle.tp_base.specs.Table.{has_place}
-use Rattle.tp_wave.specs.Control.{is_control}
-use Rattle.tp_wave.specs.Steps.{any}
-use Rattle.tp_core.specs.declared.held.Held.{Held}
-use Rattle.tp_core.specs.declared.node_set.NodeSet.{NodeSet}
-use Rattle.tp_core.specs.declared.posted.Posted.{Posted}
-use Rattle.tp_core.specs.Accepted.{is_action_beside, is_message_beside, is_task_beside}
-use Rattle.tp_core.specs.Kept.{HasPlaces}
+use Rattle.tp_core.proofs.Words.{ℕ, ◌≡◌, List, [], ◌∷◌, ◌++◌, Bool, true, false, refl, IsTrue, and_parts, ◌||◌, not, list_all, Step, Start}
+use Rattle.tp_core.proofs.Words.{Down, Give, Up, Judge, Table, has_place, is_control, any, Held, NodeSet, Posted, is_action_beside}
+use Rattle.tp_core.proofs.Words.{is_message_beside, is_task_beside, HasPlaces}
 
 -- No place is lost from the one table to the other.
 abbrev pub Keeps : {V : Type 0} → Table V → Table V → Type 0

@@ -1,11 +1,6 @@
 -- What is accepted is a run.
-use Rattle.std.proofs.Common.{ℕ, ◌≡◌, List, [], ◌∷◌, Option, None, Some, refl, subst}
-use Rattle.std.specs.Prelude.{is_some, if◌then◌else◌}
-use Rattle.tp_base.specs.declared.Step.{Step}
-use Rattle.tp_base.specs.declared.Refusal.{Refusal}
-use Rattle.tp_core.specs.Accepted.{Accepted, refusal, next, with_step, after_all}
-use Rattle.tp_core.specs.Reached.{AcceptedIsNeverEarly}
-use Rattle.tp_core.specs.Generations.{MayCome, AreRuns}
+use Rattle.tp_core.proofs.Words.{ℕ, ◌≡◌, List, [], ◌∷◌, Option, None, Some, refl, subst, is_some, if◌then◌else◌, Step, Refusal, Accepted}
+use Rattle.tp_core.proofs.Words.{refusal, next, with_step, after_all, AcceptedIsNeverEarly, MayCome, AreRuns}
 use Rattle.tp_core.proofs.Exact.{lawful_where_none}
 use Rattle.tp_core.proofs.Generations.{never_early_in_each}
 

@@ -1,16 +1,6 @@
 -- What the tables of a core tell of its world.
-use Rattle.std.proofs.Common.{ℕ, ◌≡◌, ◌<◌, Option, Some, None, ap, ◌∙◌, arith, is_some}
-use Rattle.std.specs.Prelude.{◌==◌, unwrap_or}
-use Rattle.std.specs.List.{find}
-use Rattle.std.specs.Option.{option_map}
-use Rattle.tp_base.specs.declared.limits.TheConstants.{MAX_NODES}
-use Rattle.tp_core.specs.declared.accepting.Core.TheInside.{Inside}
-use Rattle.tp_core.specs.declared.held.Held.{Held}
-use Rattle.tp_core.specs.World.{Task, life_of, home_of}
-use Rattle.tp_base.specs.Table.{lookup}
-use Rattle.tp_wave.specs.Generations.{present}
-use Rattle.tp_core.specs.Accepted.{world_of}
-use Rattle.tp_core.specs.Kept.{accepted, held, IsKept}
+use Rattle.tp_core.proofs.Words.{ℕ, ◌≡◌, ◌<◌, Option, Some, None, ap, ◌∙◌, arith, is_some, ◌==◌, unwrap_or, find, option_map, MAX_NODES}
+use Rattle.tp_core.proofs.Words.{Inside, Held, Task, life_of, home_of, lookup, present, world_of, accepted, held, IsKept}
 use Rattle.tp_core.proofs.Counting.{home_inside}
 
 -- a task that the table has

@@ -1,21 +1,12 @@
 -- From a quiet core control steps lead to the end.
-use Rattle.std.proofs.Common.{ℕ, ◌≡◌, List, ◌++◌, refl, ap, sym, ◌∙◌, arith, IsTrue}
-use Rattle.tp_base.specs.History.{Event}
-use Rattle.tp_base.specs.declared.NodeId.{NodeId}
-use Rattle.tp_base.specs.declared.Step.{Step}
-use Rattle.tp_base.specs.declared.Step.TheVariants.{Start, Down, Give, Up, Judge}
-use Rattle.tp_wave.specs.Control.{is_control, IsControlStep}
-use Rattle.tp_wave.specs.Machine.{History, steps_of, pending_at}
-use Rattle.tp_wave.specs.Machine as machine
-use Rattle.tp_wave.specs.Cut as cut
-use Rattle.tp_wave.specs.Settling.{ComesNext}
-use Rattle.tp_wave.proofs.Runs.{quiet_law}
-use Rattle.tp_wave.proofs.Settling.{soon_law, goes_on_law}
-use Rattle.tp_core.specs.Run.{history, IsLawful, IsLawfulRun}
-use Rattle.tp_core.specs.Laws.{JudgedSoon}
+use Rattle.tp_core.proofs.Words.{ℕ, ◌≡◌, List, ◌++◌, refl, ap, sym, ◌∙◌, arith, IsTrue, Event, NodeId, Step, Start, Down, Give, Up, Judge}
+use Rattle.tp_core.proofs.Words.{is_control, IsControlStep, History, steps_of, pending_at, ComesNext, quiet_law, soon_law, goes_on_law}
+use Rattle.tp_core.proofs.Words.{history, IsLawful, IsLawfulRun, JudgedSoon}
 use Rattle.tp_core.proofs.Counting.{steps_of-history, pending_is, is_run}
 use Rattle.tp_core.proofs.Quiet.{quiet_seen}
 use Rattle.tp_core.proofs.Early.{events_after, history-append, length-after, IsLawfulRun-past}
+use Rattle.tp_wave.specs.Machine as machine
+use Rattle.tp_wave.specs.Cut as cut
 
 -- a control step of the machine is lawful for the core
 lawful_control : (n : ℕ) (past : List Step) (node : NodeId) (s : Step) → IsLawfulRun n past → IsTrue (is_control s)

@@ -1,25 +1,10 @@
 -- What a new core keeps, and where what is kept is quiet.
-use Rattle.std.proofs.Common.{ℕ, zero, suc, ◌+◌, ◌≡◌, ◌<◌, ◌≤◌, List, [], ◌∷◌, ◌++◌, Bool, true, false, None, length, refl, ap, sym, ◌∙◌}
-use Rattle.std.proofs.Common.{arith, zero-le, set, length-set, subst}
-use Rattle.std.proofs.lemmas.Bool.Decides.{nat_tests}
-use Rattle.std.specs.Prelude.{◌==◌, ◌&&◌, vec_capacity, nat_lt, if◌then◌else◌}
-use Rattle.std.specs.List.{list_any, slice_index_or}
-use Rattle.tp_base.specs.declared.limits.TheConstants.{MAX_NODES, MAX_STEPS}
-use Rattle.tp_base.specs.declared.Step.{Step}
-use Rattle.tp_base.specs.declared.Step.TheVariants.{Reopen}
-use Rattle.tp_core.specs.Generations.{MayCome}
-use Rattle.std.proofs.lemmas.List.{length-reverse, length-append}
-use Rattle.tp_wave.specs.Wave.{Follows}
-use Rattle.tp_core.specs.declared.accepting.Core.TheInside.{Inside}
-use Rattle.tp_core.specs.declared.node_set.NodeSet.{NodeSet}
-use Rattle.tp_core.specs.declared.numbers.NodeNumbers.{NodeNumbers}
-use Rattle.tp_core.specs.declared.posted.Posted.{Posted}
-use Rattle.tp_base.specs.declared.Table.{Table}
-use Rattle.tp_base.specs.Table.{lookup}
-use Rattle.tp_core.specs.NodeSet.{has}
-use Rattle.tp_core.specs.World.{Kind, Opening, Named, OfMessage, is_action, how_many, openings, IsQuiet}
-use Rattle.tp_core.specs.Accepted.{Accepted, world_of, numbers_in}
-use Rattle.tp_core.specs.Kept.{accepted, Agree, IsKept, HasActions, HasPieces, IsFrugal, AreOpened, opened_below, is_kept_open}
+use Rattle.tp_core.proofs.Words.{ℕ, zero, suc, ◌+◌, ◌≡◌, ◌<◌, ◌≤◌, List, [], ◌∷◌, ◌++◌, Bool, true, false, None, length, refl, ap, sym, ◌∙◌}
+use Rattle.tp_core.proofs.Words.{arith, zero-le, set, length-set, subst, nat_tests, ◌==◌, ◌&&◌, vec_capacity, nat_lt, if◌then◌else◌}
+use Rattle.tp_core.proofs.Words.{list_any, slice_index_or, MAX_NODES, MAX_STEPS, Step, Reopen, MayCome, length-reverse, length-append}
+use Rattle.tp_core.proofs.Words.{Follows, Inside, NodeSet, NodeNumbers, Posted, Table, lookup, has, Kind, Opening, Named, OfMessage}
+use Rattle.tp_core.proofs.Words.{is_action, how_many, openings, IsQuiet, Accepted, world_of, numbers_in, accepted, Agree, IsKept}
+use Rattle.tp_core.proofs.Words.{HasActions, HasPieces, IsFrugal, AreOpened, opened_below, is_kept_open}
 use Rattle.tp_core.proofs.Counting.{open_at-openings}
 use Rattle.tp_core.proofs.Quiet.{none_from_length}
 use Rattle.tp_core.proofs.Places.{no_places}

@@ -1,22 +1,11 @@
 -- What the tables of a core say of the world after a change.
-use Rattle.std.proofs.Common.{ℕ, ◌≡◌, ◌≤◌, List, [], ◌∷◌, Bool, true, false, Option, Some, None, refl, sym, ◌∙◌, arith, eqb-true}
-use Rattle.std.proofs.lemmas.Bool.Decides.{nat_tests}
-use Rattle.std.specs.Prelude.{◌==◌, ◌&&◌, if◌then◌else◌}
-use Rattle.std.specs.List.{find, list_any}
-use Rattle.std.specs.Option.{option_map}
-use Rattle.tp_base.specs.declared.NodeId.{NodeId}
-use Rattle.tp_core.specs.declared.held.Held.{Held}
-use Rattle.tp_core.specs.declared.life.Life.{Life}
-use Rattle.tp_core.specs.declared.node_set.NodeSet.{NodeSet}
-use Rattle.tp_core.specs.declared.posted.Posted.{Posted}
-use Rattle.tp_core.specs.declared.posted.Stage.TheVariants as stage
-use Rattle.tp_base.specs.declared.Table.{Table}
-use Rattle.tp_base.specs.Table.{lookup, Puts}
-use Rattle.tp_core.specs.NodeSet.{has}
-use Rattle.tp_core.specs.World.{Task, Action, Message, Kind, Opening, Named, OfMessage, same_kind, is_action, is_message, how_many}
-use Rattle.tp_core.specs.Pool.{with_life, without, opened, closed}
+use Rattle.tp_core.proofs.Words.{ℕ, ◌≡◌, ◌≤◌, List, [], ◌∷◌, Bool, true, false, Option, Some, None, refl, sym, ◌∙◌, arith, eqb-true}
+use Rattle.tp_core.proofs.Words.{nat_tests, ◌==◌, ◌&&◌, if◌then◌else◌, find, list_any, option_map, NodeId, Held, Life, NodeSet, Posted}
+use Rattle.tp_core.proofs.Words.{Table, lookup, Puts, has, Task, Action, Message, Kind, Opening, Named, OfMessage, same_kind, is_action}
+use Rattle.tp_core.proofs.Words.{is_message, how_many, with_life, without, opened, closed, held, HasTasks, HasActions, HasMessages, has_in}
+use Rattle.tp_core.proofs.Words.{is_posted, is_under_way_stage, is_kept_open}
 use Rattle.tp_core.proofs.Sets.{same_kind_equal}
-use Rattle.tp_core.specs.Kept.{held, HasTasks, HasActions, HasMessages, has_in, is_posted, is_under_way_stage, is_kept_open}
+use Rattle.tp_core.specs.declared.posted.Stage.TheVariants as stage
 
 -- ---- tasks
 pub task_added : {table : Table Held} {tasks : List Task} → HasTasks table tasks → (new : Table Held) (x : Task)

@@ -1,19 +1,8 @@
 -- A lawful step for which there is room is answered by what it replies, and is taken.
-use Rattle.std.proofs.Common.{Option, Some, sym, ◌≡◌, ◌<◌, Bool, true, false, List, [], ◌∷◌, ◌++◌, None, length, reverse, refl, subst}
-use Rattle.std.specs.Prelude.{◌||◌}
-use Rattle.std.proofs.lemmas.List.{reverse-append, length-reverse}
-use Rattle.tp_base.specs.declared.Step.{Step}
-use Rattle.tp_base.specs.declared.Refusal.{Refusal}
-use Rattle.tp_base.specs.declared.Refusal.TheVariants.{NoMemory}
-use Rattle.tp_base.specs.declared.limits.TheConstants.{MAX_STEPS}
-use Rattle.tp_base.specs.Checks.{first_refusal}
-use Rattle.tp_core.specs.declared.accepting.Core.TheInside.{Inside}
-use Rattle.tp_core.specs.declared.reply.Reply.{Reply}
-use Rattle.tp_wave.specs.Generations.{present}
-use Rattle.tp_core.specs.StepChecks.{refusal_of}
-use Rattle.tp_core.specs.Generations.{MayCome}
-use Rattle.tp_core.specs.Accepted.{Accepted, IsRefusedFor, asks_memory, begins_piece, keeps_more, refusal, reply_to, room_check, with_step}
-use Rattle.tp_core.specs.Kept.{accepted, IsKept}
+use Rattle.tp_core.proofs.Words.{Option, Some, sym, ◌≡◌, ◌<◌, Bool, true, false, List, [], ◌∷◌, ◌++◌, None, length, reverse, refl, subst}
+use Rattle.tp_core.proofs.Words.{◌||◌, reverse-append, length-reverse, Step, Refusal, NoMemory, MAX_STEPS, first_refusal, Inside, Reply}
+use Rattle.tp_core.proofs.Words.{present, refusal_of, MayCome, Accepted, IsRefusedFor, asks_memory, begins_piece, keeps_more, refusal}
+use Rattle.tp_core.proofs.Words.{reply_to, room_check, with_step, accepted, IsKept}
 use Rattle.tp_core.proofs.Exact.{none_where_lawful, refused_first, refused_for_room}
 
 -- what is told where the steps are mid and then new, and the answer is reply

@@ -1,13 +1,6 @@
 -- What two numbers tell of the runs of a core.
-use Rattle.std.proofs.Common.{ℕ, ◌+◌, ◌≡◌, ◌<◌, ◌≤◌, List, IsTrue, sym, subst}
-use Rattle.std.specs.Prelude.{◌↔◌}
-use Rattle.tp_base.specs.declared.Step.{Step}
-use Rattle.tp_wave.specs.Control.{IsEndedWave}
-use Rattle.tp_wave.specs.Generations.{present}
-use Rattle.tp_wave.specs.Sums.{until, sent_sum, received_sum, four_equal}
-use Rattle.tp_wave.proofs.Each.{two_sums_law}
-use Rattle.tp_core.specs.Laws.{TwoNumbersTell}
-use Rattle.tp_core.specs.Run.{history, IsLawfulRun}
+use Rattle.tp_core.proofs.Words.{ℕ, ◌+◌, ◌≡◌, ◌<◌, ◌≤◌, List, IsTrue, sym, subst, ◌↔◌, Step, IsEndedWave, present, until, sent_sum}
+use Rattle.tp_core.proofs.Words.{received_sum, four_equal, two_sums_law, TwoNumbersTell, history, IsLawfulRun}
 use Rattle.tp_core.proofs.Counting.{is_run, steps_of-history, two_told}
 use Rattle.tp_core.proofs.Generations.{generations_are_runs}
 

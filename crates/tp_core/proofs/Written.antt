@@ -1,8 +1,6 @@
 -- A list after a write at one place.
-use Rattle.std.proofs.Common.{ℕ, zero, suc, ◌≡◌, ◌<◌, List, [], ◌∷◌, length, refl, arith, set, get_or-set_same, get_or-set_other}
-use Rattle.std.proofs.lemmas.Bool.Decides.{nat_tests}
-use Rattle.std.specs.Prelude.{◌==◌, if◌then◌else◌}
-use Rattle.std.specs.List.{slice_index_or}
+use Rattle.tp_core.proofs.Words.{ℕ, zero, suc, ◌≡◌, ◌<◌, List, [], ◌∷◌, length, refl, arith, set, get_or-set_same, get_or-set_other}
+use Rattle.tp_core.proofs.Words.{nat_tests, ◌==◌, if◌then◌else◌, slice_index_or}
 
 pub written : {A : Type 0} (xs : List A) (i k : ℕ) (v d : A) → i < length xs
     → slice_index_or (set xs i v) k d ≡ (if i == k then v else slice_index_or xs k d)

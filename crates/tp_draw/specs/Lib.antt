@@ -1,10 +1,2 @@
-pub mod Parts
-pub mod Layers
-pub mod Chart
-pub mod GraphMarks
-pub mod GraphPage
-pub mod Dot
-pub mod Scaled
-pub mod Command
-pub mod Faults
 pub mod Ends
+pub mod Faults

@@ -1,18 +1,13 @@
-ghost use Rattle.std.specs.Prelude.{◌≡◌, IfOk, codes, false};
-ghost use Rattle.clap.specs.Words.{app_of, rule_of};
-ghost use Rattle.clap.specs.declared.builder.command.Command.TheViews.{out-Command};
-ghost use Rattle.tp_draw.specs.Command.{draw_app, flag_rule, graph_app, run_app, spec_rule, width_rule};
+//! The command line: its options and help texts.
 
-use crate::scaled::{MAX_PIXELS, MIN_PIXELS};
+use crate::picture::{MAX_PIXELS, MIN_PIXELS};
 use clap::{Arg, ArgAction, Command, value_parser};
 use std::alloc::{AllocError, Global};
 use tp_base::MAX_NODES;
 use tp_shell::{VERSION, count_option};
 
 /// The command line: one level of subcommands.
-pub(crate) fn draw_command<'a>(alloc: Global) -> Result<Command<'a>, AllocError>
-    ensures { IfOk result (λ command. app_of command ≡ draw_app) }
-{
+pub(crate) fn draw_command<'a>(alloc: Global) -> Result<Command<'a>, AllocError> {
     Command::new(alloc, "draw")
         .version(VERSION)
         .about("Pictures of runs of pools, and of their graphs, as SVG")
@@ -22,10 +17,7 @@ pub(crate) fn draw_command<'a>(alloc: Global) -> Result<Command<'a>, AllocError>
         .subcommand(graph_command(alloc)?)
 }
 
-fn run_command<'a>(alloc: Global) -> Result<Command<'a>, AllocError>
-    ensures app { IfOk result (λ command. app_of command ≡ run_app) }
-    ensures local { IfOk result (λ command. (out-Command command).has_globals ≡ false) }
-{
+fn run_command<'a>(alloc: Global) -> Result<Command<'a>, AllocError> {
     Command::new(alloc, "run")
         .about("Draws the run that a trace tells")
         .after_help(RUN_HELP)
@@ -33,10 +25,7 @@ fn run_command<'a>(alloc: Global) -> Result<Command<'a>, AllocError>
         .arg(until_flag(alloc))
 }
 
-fn graph_command<'a>(alloc: Global) -> Result<Command<'a>, AllocError>
-    ensures app { IfOk result (λ command. app_of command ≡ graph_app) }
-    ensures local { IfOk result (λ command. (out-Command command).has_globals ≡ false) }
-{
+fn graph_command<'a>(alloc: Global) -> Result<Command<'a>, AllocError> {
     let nodes = count_option(alloc, "nodes", "1-8", MAX_NODES).help("N, how many nodes there are");
     Command::new(alloc, "graph")
         .about("Draws the graph of a pool, each task in its node's colour")
@@ -47,19 +36,13 @@ fn graph_command<'a>(alloc: Global) -> Result<Command<'a>, AllocError>
         .arg(dot_flag(alloc))
 }
 
-fn spec_argument<'a>(alloc: Global) -> Arg<'a>
-    ensures rule { rule_of result ≡ spec_rule }
-    ensures local { result.global ≡ false }
-{
+fn spec_argument<'a>(alloc: Global) -> Arg<'a> {
     Arg::new(alloc, "SPEC").required(true).help(
         "The pool, as product:4:2:0, wavefront:8:8:0 or reduce:16:0",
     )
 }
 
-fn width_option<'a>(alloc: Global) -> Arg<'a>
-    ensures rule { rule_of result ≡ width_rule }
-    ensures local { result.global ≡ false }
-{
+fn width_option<'a>(alloc: Global) -> Arg<'a> {
     Arg::new(alloc, "width")
         .long("width")
         .value_name("PIXELS")
@@ -67,25 +50,16 @@ fn width_option<'a>(alloc: Global) -> Arg<'a>
         .help("How wide the picture is shown, 100 to 20000")
 }
 
-fn until_flag<'a>(alloc: Global) -> Arg<'a>
-    ensures rule { rule_of result ≡ flag_rule (codes "until-fault") }
-    ensures local { result.global ≡ false }
-{
+fn until_flag<'a>(alloc: Global) -> Arg<'a> {
     flag(alloc, "until-fault").help("Draws what stands before the first mistake of a trace, too")
 }
 
-fn dot_flag<'a>(alloc: Global) -> Arg<'a>
-    ensures rule { rule_of result ≡ flag_rule (codes "dot") }
-    ensures local { result.global ≡ false }
-{
+fn dot_flag<'a>(alloc: Global) -> Arg<'a> {
     flag(alloc, "dot").help("Writes the graph as text for graphviz, and draws nothing")
 }
 
 /// An option without a value.
-fn flag<'a>(alloc: Global, name: &'a str) -> Arg<'a>
-    ensures rule { rule_of result ≡ flag_rule name.entry.now }
-    ensures local { result.global ≡ false }
-{
+fn flag<'a>(alloc: Global, name: &'a str) -> Arg<'a> {
     Arg::new(alloc, name).long(name).action(ArgAction::SetTrue)
 }
 

@@ -1,6 +1,9 @@
+//! Why nothing was drawn, or not all of it: the line on standard error, and the exit status.
+
 ghost use Rattle.std.specs.Prelude.{◌≡◌, ◌≢◌, codes};
 ghost use Rattle.tp_draw.specs.Faults.{line_of, status_of, text_line, words_line};
 
+use std::alloc::AllocError;
 use std::io::ErrorKind;
 use tp_shell::{Diagnostics, Status, Told, WordsFault};
 use tp_text::TextFault;
@@ -22,6 +25,16 @@ pub enum Fault {
     Memory,
     /// The picture could not be written; how much of it was is not known.
     Write,
+}
+
+impl From<AllocError> for Fault {
+    ghost use Rattle.tp_draw.specs.declared.fault.Fault.TheVariants.{Memory};
+
+    ghost from_gives = { λ _ fault. fault ≡ Memory };
+
+    fn from(_: AllocError) -> Fault {
+        Fault::Memory
+    }
 }
 
 impl Told for Fault {

@@ -1,21 +1,41 @@
-//! The program `draw` as a call over its words, its input and its output: pictures of runs and of graphs.
+//! Pictures of runs and of graphs, as SVG or for graphviz, and the program `draw` as a call over its arguments, its input and its output.
+//!
+//! The pictures are tested: they are compared with stored ones. Proved are that every call is safe and ends, and what the clauses of
+//! [`draw_with`] and [`draw_run`] say: the exit status, and that nothing is drawn of a trace that is not sound.
 #![tactic(auto)]
 
 mod chart;
 mod cli;
+mod columns;
 mod command;
+mod cuts;
 mod fault;
-mod graph_marks;
+mod graph_picture;
 mod graphviz;
 mod layers;
-mod page;
-mod parts;
+mod layout;
+mod lengths;
+mod marks;
+mod messages;
+mod pauses;
 mod picture;
 mod request;
+mod ribbons;
 mod run;
-mod scaled;
+mod run_page;
+mod run_style;
+mod scene;
+mod sketch;
+mod sums;
+mod tracks;
+mod waves;
 
 pub use cli::draw_with;
-pub use fault::without_words;
+pub use fault::{Fault, without_words};
+pub use graph_picture::graph_page;
 pub use graphviz::dot;
-pub use page::{MAX_TASKS, graph_page};
+pub use picture::Picture;
+pub use run::{View, draw_run};
+pub use run_page::svg;
+pub use scene::Scene;
+pub use sketch::scene_of;

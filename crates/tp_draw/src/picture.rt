@@ -1,25 +1,34 @@
-ghost use Rattle.std.specs.Prelude.{◌≡◌, IfErr, OnOk};
-ghost use Rattle.std.specs.Io.KnownBytes.{Appends};
+//! A picture, in its own size or scaled.
 
-use crate::fault::Fault;
-use std::io::Write;
-use tp_shell::write_text;
+use crate::lengths::Tenths;
+use std::alloc::{AllocError, Global};
 
-/// A picture, and its size in tenths of a pixel.
+/// A picture is shown at least so many pixels wide.
+pub(crate) const MIN_PIXELS: u32 = 100;
+
+/// And at most so many.
+pub(crate) const MAX_PIXELS: u32 = 20_000;
+
+/// An SVG, and its size in tenths of a pixel.
 #[derive(Drop)]
 pub struct Picture {
     pub width: u64,
     pub height: u64,
-    pub text: Vec<u8>,
+    pub text: String,
 }
 
-/// Writes the text of a picture and nothing else.
-pub(crate) fn write_picture<O: Write>(out: &mut O, text: &[u8]) -> Result<(), Fault>
-    ensures written { OnOk result (Appends (O.contents out.old) (O.contents out.new) text.now) }
-    ensures why { IfErr result (λ fault. fault ≡ Fault.Write) }
-{
-    match write_text(out, text) {
-        Ok(()) => Ok(()),
-        Err(_) => Err(Fault::Write),
+impl Picture {
+    /// The text of the picture so many pixels wide, and as high as that makes it; or in its own size.
+    pub(crate) fn shown(self, alloc: Global, pixels: Option<u32>) -> Result<String, AllocError> {
+        let Some(pixels) = pixels else {
+            return Ok(self.text);
+        };
+        let height = u64::from(pixels).saturating_mul(self.height) / self.width.max(1);
+        format!(in alloc;
+            "<svg xmlns=\"http://www.w3.org/2000/svg\" width=\"{pixels}\" height=\"{height}\" viewBox=\"0 0 {} {}\">\n{}</svg>\n",
+            Tenths(self.width),
+            Tenths(self.height),
+            self.text,
+        )
     }
 }

@@ -1,4 +1,6 @@
-use crate::rows::Told;
+//! What the program answers to the words of a row with an input, as it is printed.
+
+use crate::rows::Shown;
 use std::alloc::Global;
 use std::io::{self, ErrorKind, Write};
 use std::sync::Wait;
@@ -38,31 +40,33 @@ fn text_of(bytes: Vec<u8>) -> io::Result<String> {
     String::from_utf8(bytes).map_err(|_| ErrorKind::InvalidData.into())
 }
 
-/// Prints what is answered to words with an input: what was written, after `! ` each line of what was complained of, and the
-/// exit status.
+/// Prints under the name of a row what is answered to words with an input: what was written, after `! ` each line of what was complained
+/// of, and the exit status.
 pub(crate) fn print_answer<R: Threads + Wait + Sync, W: Write>(
     rt: &R,
     alloc: Global,
     printer: &mut W,
-    words: &[&str],
+    (name, words): (&str, &[&str]),
     input: &str,
-    told: Told,
+    shown: Shown,
 ) -> io::Result<()> {
     let answer = ProgramAnswer::to(rt, alloc, words, input.as_bytes())?;
-    print_output(printer, &answer.out, told)?;
-    print_complaints(printer, &answer.err, told)?;
+    writeln!(printer, "== {name}")?;
+    print_output(printer, &answer.out, shown)?;
+    print_complaints(printer, &answer.err, shown)?;
     writeln!(printer, "status {}", answer.status)
 }
 
-/// Has the trace of a run judged, and prints of the judgement what does not depend on the order of the events: how many tasks
+/// Has the trace of a run judged, and prints under the name of its row, of the judgement, what does not depend on the order of the events: how many tasks
 /// and messages there are, how it ends, and the exit statuses of both.
 pub(crate) fn print_judgement<R: Threads + Wait + Sync, W: Write>(
     rt: &R,
     alloc: Global,
     printer: &mut W,
-    words: &[&str],
+    (name, words): (&str, &[&str]),
 ) -> io::Result<()> {
     let trace = ProgramAnswer::to(rt, alloc, words, b"")?;
+    writeln!(printer, "== {name}")?;
     let judgement = ProgramAnswer::to(rt, alloc, &AUDIT, trace.out.as_bytes())?;
     for line in judgement.out.lines() {
         if line.starts_with("ended ") {
@@ -93,15 +97,15 @@ pub(crate) fn print_judgements_of_parts<R: Threads + Wait + Sync, W: Write>(
     Ok(())
 }
 
-fn print_output<W: Write>(printer: &mut W, text: &str, told: Told) -> io::Result<()> {
-    match told {
-        Told::Help(word) if text.contains(word) => writeln!(printer, "(a text with \"{word}\")"),
+fn print_output<W: Write>(printer: &mut W, text: &str, shown: Shown) -> io::Result<()> {
+    match shown {
+        Shown::Help(word) if text.contains(word) => writeln!(printer, "(a text with \"{word}\")"),
         _ => write!(printer, "{text}"),
     }
 }
 
-fn print_complaints<W: Write>(printer: &mut W, text: &str, told: Told) -> io::Result<()> {
-    if matches!(told, Told::WrongWords) && text.contains("--help") && !text.contains("refused") {
+fn print_complaints<W: Write>(printer: &mut W, text: &str, shown: Shown) -> io::Result<()> {
+    if matches!(shown, Shown::WrongWords) && text.contains("--help") && !text.contains("refused") {
         return writeln!(printer, "! (a text with \"--help\")");
     }
     for line in text.lines() {

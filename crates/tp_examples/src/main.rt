@@ -5,7 +5,7 @@ mod answer;
 mod rows;
 
 use crate::answer::{print_answer, print_judgement, print_judgements_of_parts};
-use crate::rows::{COMMANDS, ONE_THREAD, RUNS, SCRIPTS, TEXTS, TRACE_TEXTS, TRACES, Told};
+use crate::rows::{COMMANDS, ONE_THREAD, RUNS, SCRIPTS, Shown, TEXTS, TRACE_TEXTS, TRACES};
 use std::fs;
 use std::io::{self, Write};
 
@@ -17,29 +17,44 @@ fn main(rt: HostRuntime) -> io::Result<()> {
     let mut out = rt.stdout();
     for name in &SCRIPTS {
         let script = fs::read_to_string(&rt, *name)?;
-        writeln!(out, "== {name}")?;
-        print_answer(&rt, rt.alloc(), &mut out, &SIM, &script, Told::Whole)?;
+        print_answer(
+            &rt,
+            rt.alloc(),
+            &mut out,
+            (*name, &SIM),
+            &script,
+            Shown::Whole,
+        )?;
     }
     for (name, text) in &TEXTS {
-        writeln!(out, "== {name}")?;
-        print_answer(&rt, rt.alloc(), &mut out, &SIM, text, Told::Whole)?;
+        print_answer(&rt, rt.alloc(), &mut out, (*name, &SIM), text, Shown::Whole)?;
     }
     for name in &TRACES {
         let trace = fs::read_to_string(&rt, *name)?;
-        writeln!(out, "== {name}")?;
-        print_answer(&rt, rt.alloc(), &mut out, &AUDIT, &trace, Told::Whole)?;
+        print_answer(
+            &rt,
+            rt.alloc(),
+            &mut out,
+            (*name, &AUDIT),
+            &trace,
+            Shown::Whole,
+        )?;
     }
     for (name, text) in &TRACE_TEXTS {
-        writeln!(out, "== {name}")?;
-        print_answer(&rt, rt.alloc(), &mut out, &AUDIT, text, Told::Whole)?;
+        print_answer(
+            &rt,
+            rt.alloc(),
+            &mut out,
+            (*name, &AUDIT),
+            text,
+            Shown::Whole,
+        )?;
     }
-    for (name, words, told) in &COMMANDS {
-        writeln!(out, "== {name}")?;
-        print_answer(&rt, rt.alloc(), &mut out, words, "", *told)?;
+    for (name, words, shown) in &COMMANDS {
+        print_answer(&rt, rt.alloc(), &mut out, (*name, *words), "", *shown)?;
     }
     for (name, words) in &RUNS {
-        writeln!(out, "== {name}")?;
-        print_judgement(&rt, rt.alloc(), &mut out, words)?;
+        print_judgement(&rt, rt.alloc(), &mut out, (*name, *words))?;
     }
     writeln!(out, "== each-part-of-a-trace-that-ends-with-a-line")?;
     print_judgements_of_parts(&rt, rt.alloc(), &mut out, &ONE_THREAD)

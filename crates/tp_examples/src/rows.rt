@@ -108,9 +108,9 @@ pub(crate) static TRACE_TEXTS: [(&str, &str); 12] = [
     ("a-trace-of-no-version", "trace 3\nnodes 1\n"),
 ];
 
-/// How much of an answer is told.
+/// How much of an answer is printed.
 #[derive(Clone, Copy)]
-pub(crate) enum Told {
+pub(crate) enum Shown {
     /// All of it.
     Whole,
     /// Of the parser's own text, which says what is wrong with the words, that it speaks of help and of no refusal.
@@ -121,7 +121,7 @@ pub(crate) enum Told {
 
 /// Words of command lines: runs of pools, words that name no pool, words that are of no command line, and words that ask for
 /// help.
-pub(crate) static COMMANDS: [(&str, &[&str], Told); 52] = [
+pub(crate) static COMMANDS: [(&str, &[&str], Shown); 52] = [
     (
         "a-product-in-tiles",
         &[
@@ -133,42 +133,42 @@ pub(crate) static COMMANDS: [(&str, &[&str], Told); 52] = [
             "--workers",
             "2",
         ],
-        Told::Whole,
+        Shown::Whole,
     ),
     (
         "a-product-in-one-tile",
         &["tp", "run", "product:2:2:0", "--nodes", "2"],
-        Told::Whole,
+        Shown::Whole,
     ),
     (
         "a-wavefront",
         &["tp", "run", "wavefront:2:3:0", "--nodes", "2"],
-        Told::Whole,
+        Shown::Whole,
     ),
     (
         "a-tree-of-sums",
         &["tp", "run", "reduce:4:0", "--nodes", "2", "--workers", "3"],
-        Told::Whole,
+        Shown::Whole,
     ),
     (
         "a-tree-of-sums-at-one-node",
         &["tp", "run", "reduce:4:0"],
-        Told::Whole,
+        Shown::Whole,
     ),
     (
         "a-product-of-one-task",
         &["tp", "run", "product:1:1:9999"],
-        Told::Whole,
+        Shown::Whole,
     ),
     (
         "a-wavefront-of-one-task",
         &["tp", "run", "wavefront:1:1:9999"],
-        Told::Whole,
+        Shown::Whole,
     ),
     (
         "a-tree-of-one-task",
         &["tp", "run", "reduce:1:9999"],
-        Told::Whole,
+        Shown::Whole,
     ),
     (
         "eight-nodes-with-eight-workers-make-the-same-product-in-tiles",
@@ -181,7 +181,7 @@ pub(crate) static COMMANDS: [(&str, &[&str], Told); 52] = [
             "--workers",
             "8",
         ],
-        Told::Whole,
+        Shown::Whole,
     ),
     (
         "eight-nodes-with-eight-workers-make-the-same-product-in-one-tile",
@@ -194,7 +194,7 @@ pub(crate) static COMMANDS: [(&str, &[&str], Told); 52] = [
             "--workers",
             "8",
         ],
-        Told::Whole,
+        Shown::Whole,
     ),
     (
         "eight-nodes-with-eight-workers-make-the-same-wavefront",
@@ -207,42 +207,42 @@ pub(crate) static COMMANDS: [(&str, &[&str], Told); 52] = [
             "--workers",
             "8",
         ],
-        Told::Whole,
+        Shown::Whole,
     ),
     (
         "eight-nodes-with-eight-workers-make-the-same-sum",
         &["tp", "run", "reduce:4:0", "--nodes", "8", "--workers", "8"],
-        Told::Whole,
+        Shown::Whole,
     ),
     (
         "a-side-that-does-not-divide-the-order",
         &["tp", "run", "product:6:4:0"],
-        Told::Whole,
+        Shown::Whole,
     ),
     (
         "leaves-that-are-no-power-of-two",
         &["tp", "run", "reduce:3:0"],
-        Told::Whole,
+        Shown::Whole,
     ),
     (
         "a-wavefront-without-rows",
         &["tp", "run", "wavefront:0:1:0"],
-        Told::Whole,
+        Shown::Whole,
     ),
     (
         "an-order-with-a-leading-zero",
         &["tp", "run", "product:02:1:0"],
-        Told::Whole,
+        Shown::Whole,
     ),
     (
         "a-trace-of-one-task",
         &["tp", "run", "reduce:1:9999", "--trace"],
-        Told::Whole,
+        Shown::Whole,
     ),
     (
         "a-trace-of-no-pool",
         &["tp", "run", "reduce:3:0", "--trace"],
-        Told::Whole,
+        Shown::Whole,
     ),
     (
         "two-pools-at-once",
@@ -254,12 +254,12 @@ pub(crate) static COMMANDS: [(&str, &[&str], Told); 52] = [
             "--nodes",
             "2",
         ],
-        Told::Whole,
+        Shown::Whole,
     ),
     (
         "one-pool-under-a-registry",
         &["tp", "pools", "product:2:2:0"],
-        Told::Whole,
+        Shown::Whole,
     ),
     (
         "eight-pools-at-once-in-the-order-of-their-words",
@@ -275,22 +275,22 @@ pub(crate) static COMMANDS: [(&str, &[&str], Told); 52] = [
             "product:1:1:0",
             "reduce:4:0",
         ],
-        Told::Whole,
+        Shown::Whole,
     ),
     (
         "a-word-that-stands-twice",
         &["tp", "pools", "reduce:4:0", "reduce:4:0"],
-        Told::Whole,
+        Shown::Whole,
     ),
     (
         "a-word-of-no-pool-among-pools",
         &["tp", "pools", "reduce:4:0", "reduce:3:0"],
-        Told::Whole,
+        Shown::Whole,
     ),
     (
         "a-word-that-stands-twice-before-one-of-no-pool",
         &["tp", "pools", "reduce:4:0", "reduce:4:0", "reduce:3:0"],
-        Told::Whole,
+        Shown::Whole,
     ),
     (
         "nine-words-are-too-many-before-any-is-looked-at",
@@ -307,7 +307,7 @@ pub(crate) static COMMANDS: [(&str, &[&str], Told); 52] = [
             "reduce:3:0",
             "reduce:3:0",
         ],
-        Told::Whole,
+        Shown::Whole,
     ),
     (
         "a-tree-of-sums-in-two-generations",
@@ -320,7 +320,7 @@ pub(crate) static COMMANDS: [(&str, &[&str], Told); 52] = [
             "--generations",
             "2",
         ],
-        Told::Whole,
+        Shown::Whole,
     ),
     (
         "one-generation-is-told-as-a-run-is",
@@ -333,7 +333,7 @@ pub(crate) static COMMANDS: [(&str, &[&str], Told); 52] = [
             "--generations",
             "1",
         ],
-        Told::Whole,
+        Shown::Whole,
     ),
     (
         "three-generations-of-a-wavefront-with-eight-workers-at-eight-nodes",
@@ -348,12 +348,12 @@ pub(crate) static COMMANDS: [(&str, &[&str], Told); 52] = [
             "--generations",
             "3",
         ],
-        Told::Whole,
+        Shown::Whole,
     ),
     (
         "nine-generations-of-one-task",
         &["tp", "run", "reduce:1:9999", "--generations", "9"],
-        Told::Whole,
+        Shown::Whole,
     ),
     (
         "the-one-trace-of-two-generations-of-one-task",
@@ -365,101 +365,101 @@ pub(crate) static COMMANDS: [(&str, &[&str], Told); 52] = [
             "2",
             "--trace",
         ],
-        Told::Whole,
+        Shown::Whole,
     ),
     (
         "two-generations-of-no-pool",
         &["tp", "run", "reduce:3:0", "--generations", "2"],
-        Told::Whole,
+        Shown::Whole,
     ),
     (
         "a-run-in-no-generation",
         &["tp", "run", "reduce:4:0", "--generations", "0"],
-        Told::WrongWords,
+        Shown::WrongWords,
     ),
     (
         "a-run-in-ten-generations",
         &["tp", "run", "reduce:4:0", "--generations", "10"],
-        Told::WrongWords,
+        Shown::WrongWords,
     ),
     (
         "a-run-with-generations-in-letters",
         &["tp", "run", "reduce:4:0", "--generations", "two"],
-        Told::WrongWords,
+        Shown::WrongWords,
     ),
     (
         "several-pools-in-two-generations-are-not-to-be-had",
         &["tp", "pools", "reduce:4:0", "--generations", "2"],
-        Told::WrongWords,
+        Shown::WrongWords,
     ),
-    ("no-subcommand", &["tp"], Told::WrongWords),
+    ("no-subcommand", &["tp"], Shown::WrongWords),
     (
         "an-unknown-subcommand",
         &["tp", "simulate"],
-        Told::WrongWords,
+        Shown::WrongWords,
     ),
-    ("a-word-too-many", &["tp", "sim", "more"], Told::WrongWords),
+    ("a-word-too-many", &["tp", "sim", "more"], Shown::WrongWords),
     (
         "a-word-too-many-for-an-audit",
         &["tp", "audit", "more"],
-        Told::WrongWords,
+        Shown::WrongWords,
     ),
-    ("a-run-of-nothing", &["tp", "run"], Told::WrongWords),
+    ("a-run-of-nothing", &["tp", "run"], Shown::WrongWords),
     (
         "a-run-at-nine-nodes",
         &["tp", "run", "reduce:4:0", "--nodes", "9"],
-        Told::WrongWords,
+        Shown::WrongWords,
     ),
     (
         "a-run-at-no-nodes",
         &["tp", "run", "reduce:4:0", "--nodes", "0"],
-        Told::WrongWords,
+        Shown::WrongWords,
     ),
     (
         "a-run-with-workers-in-letters",
         &["tp", "run", "reduce:4:0", "--workers", "two"],
-        Told::WrongWords,
+        Shown::WrongWords,
     ),
     (
         "a-run-of-no-pool-at-nine-nodes",
         &["tp", "run", "product:6:4:0", "--nodes", "9"],
-        Told::WrongWords,
+        Shown::WrongWords,
     ),
-    ("pools-of-no-words", &["tp", "pools"], Told::WrongWords),
+    ("pools-of-no-words", &["tp", "pools"], Shown::WrongWords),
     (
         "pools-at-nine-nodes",
         &["tp", "pools", "reduce:4:0", "--nodes", "9"],
-        Told::WrongWords,
+        Shown::WrongWords,
     ),
     (
         "a-trace-of-several-pools-is-not-to-be-had",
         &["tp", "pools", "reduce:4:0", "--trace"],
-        Told::WrongWords,
+        Shown::WrongWords,
     ),
     (
         "help-goes-to-the-output",
         &["tp", "--help"],
-        Told::Help("sim"),
+        Shown::Help("sim"),
     ),
     (
         "help-of-sim-goes-to-the-output",
         &["tp", "sim", "--help"],
-        Told::Help("insert I T K"),
+        Shown::Help("insert I T K"),
     ),
     (
         "help-of-audit-goes-to-the-output",
         &["tp", "audit", "--help"],
-        Told::Help("judge ended W"),
+        Shown::Help("judge ended W"),
     ),
     (
         "help-of-run-goes-to-the-output",
         &["tp", "run", "--help"],
-        Told::Help("wavefront:ROWS:COLUMNS:SEED"),
+        Shown::Help("wavefront:ROWS:COLUMNS:SEED"),
     ),
     (
         "help-of-pools-goes-to-the-output",
         &["tp", "pools", "--help"],
-        Told::Help("pool P SPEC ended tasks T messages M"),
+        Shown::Help("pool P SPEC ended tasks T messages M"),
     ),
 ];
 

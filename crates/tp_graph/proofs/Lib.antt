@@ -1,3 +1,5 @@
+pub mod Counted
+pub mod Totals
 pub mod Fits
 pub mod Left
 pub mod Made

@@ -1,3 +1,4 @@
+pub mod Events
 pub mod Blocks
 pub mod Building
 pub mod Carried

@@ -8,6 +8,7 @@
 mod blocks;
 mod body;
 mod builder;
+mod event_laws;
 mod feed;
 mod found;
 mod graph;
@@ -21,6 +22,7 @@ mod value;
 pub use blocks::Blocks;
 pub use body::run_body;
 pub use builder::ValueBuilder;
+pub use event_laws::steps_are_counted_on_the_graph;
 pub use feed::{Feed, feed_of};
 pub use found::{in_order, places, value_at};
 pub use graph::{Comparable, Graph, is_same};

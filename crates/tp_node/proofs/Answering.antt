@@ -18,12 +18,12 @@ use Rattle.std.specs.FinMap as finite
 use Rattle.std.specs.List.{All}
 use Rattle.std.proofs.lemmas.Cmp.{nat_cmp_total, eq_by_cmp_equiv}
 use Rattle.tp_base.specs.declared.ids.MessageId.{MessageId}
-use Rattle.tp_local.specs.Locals.{LocalState}
+use Rattle.tp_node.specs.Locals.{LocalState}
 use Rattle.tp_node.specs.Nodes.{HasBrought, NodeState, with_received}
-use Rattle.tp_node.specs.Wires.{IsOnWay, IsWire}
+use Rattle.tp_node.specs.PoolLinks.{IsOnWay, IsPoolLink}
 use Rattle.tp_board.specs.Numbers.{LinkNumbers}
 use Rattle.tp_link.specs.Link.{Line}
-use Rattle.tp_local.specs.Locals.{Numbers}
+use Rattle.tp_node.specs.Locals.{Numbers}
 use Rattle.tp_base.specs.Checks.{Check, first_refusal}
 
 -- the same refusal, with what comes back
@@ -45,7 +45,7 @@ module _ (A : Type 0) {B : Type 0} (checks : List Check) (e : Refusal) (back : B
   pub refused_with : AnswersFirst checks (first_of e) → AnswersWith checks back (second_of e)
   refused_with answers = as_before (first_refusal checks) answers
 
--- no message is first on an empty wire
+-- no message is first on an empty link
 pub none_first : {M : Type 0} (messages : List M) → None ≡ slice_get messages 0 → messages ≡ []
 none_first [] e = refl
 none_first (m ∷ messages) e = cc
@@ -84,22 +84,22 @@ brings {G} meaning pool from to messages rest first taken p l n m f is split sam
           ∙ ap (λ k. (meaning first.graph).home first.feed.target.0 k) nodes ∙ here ∙ place;
     })
 
--- what a wire keeps where its first message was taken
-pub wire_without : {G : Type 0} (meaning : G
+-- what a link keeps where its first message was taken
+pub pool_link_without : {G : Type 0} (meaning : G
     → TaskGraph) (pool : ℕ) (link rest : Line (Carried G)) (share left : LinkNumbers) (m : Carried G)
-    → IsWire meaning pool link share → link.messages ≡ m ∷ rest.messages → (rest.from ≡ link.from) × (rest.to ≡ link.to)
-    → left ≡ record share { under = share.under - 1 } → IsWire meaning pool rest left
-wire_without {G} meaning pool link rest share left m kept split ends is =
+    → IsPoolLink meaning pool link share → link.messages ≡ m ∷ rest.messages → (rest.from ≡ link.from) × (rest.to ≡ link.to)
+    → left ≡ record share { under = share.under - 1 } → IsPoolLink meaning pool rest left
+pool_link_without {G} meaning pool link rest share left m kept split ends is =
     let each : All (λ (z : Carried G). IsOnWay (meaning z.graph) pool share.from share.to z) (m ∷ rest.messages) =
     subst (All (λ (z : Carried G). IsOnWay (meaning z.graph) pool share.from share.to z)) split kept.each in
     let long : length link.messages ≡ suc (length rest.messages) = ap (λ (z : List (Carried G)). length z) split in
     let less : share.under - 1 ≡ length rest.messages = omega (arith, long, kept.under) in
-    subst (λ (z : LinkNumbers). IsWire meaning pool rest z) (sym is)
+    subst (λ (z : LinkNumbers). IsPoolLink meaning pool rest z) (sym is)
     (record { from = ends.0 ∙ kept.from; to = ends.1 ∙ kept.to; under = less; each = λ k d l. each (suc k) d (omega arith) })
 
--- what a wire keeps where a message came in the place of its first
+-- what a link keeps where a message came in the place of its first
 module _ {G : Type 0} (meaning : G → TaskGraph) (pool : ℕ) (link new : Line (Carried G)) (share : LinkNumbers) (m : Carried G) where
-  -- a message that is on its way over the wire
+  -- a message that is on its way over the link
   abbrev IsOver : Carried G → Type 0
   IsOver z = IsOnWay (meaning z.graph) pool share.from share.to z
 
@@ -110,10 +110,10 @@ module _ {G : Type 0} (meaning : G → TaskGraph) (pool : ℕ) (link new : Line 
       subst (All IsOver) (sym is) (All-cons IsOver m (drop 1 link.messages) way (All-drop IsOver 1 link.messages each))
   each_over (Err back) each way _ is = subst (All IsOver) (sym is) each
 
-  pub wire_with_front : (r : Result (Carried G) (Carried G)) → IsWire meaning pool link share → (new.from ≡ link.from) × (new.to ≡ link.to)
+  pub pool_link_with_front : (r : Result (Carried G) (Carried G)) → IsPoolLink meaning pool link share → (new.from ≡ link.from) × (new.to ≡ link.to)
       → OnOk r (new.messages ≡ m ∷ drop 1 link.messages) → OnErr r (new.messages ≡ link.messages)
-      → length new.messages ≡ length link.messages → IsOver m → IsWire meaning pool new share
-  wire_with_front r kept ends replaced same number way =
+      → length new.messages ≡ length link.messages → IsOver m → IsPoolLink meaning pool new share
+  pool_link_with_front r kept ends replaced same number way =
       record {
         from = ends.0 ∙ kept.from;
         to = ends.1 ∙ kept.to;

@@ -4,8 +4,8 @@ use Rattle.std.specs.FinMap as finite
 use Rattle.std.specs.FinSet as set
 use Rattle.tp_graph.specs.Carried.{Carried}
 use Rattle.tp_graph.specs.Graphs.{TaskGraph}
-use Rattle.tp_local.proofs.FiniteMaps.{feeds_some}
-use Rattle.tp_local.specs.Actions.{has_message, opening_count}
+use Rattle.tp_node.proofs.FiniteMaps.{feeds_some}
+use Rattle.tp_node.specs.Actions.{has_message, opening_count}
 use Rattle.tp_node.specs.Nodes.{NodeState, HasBrought, IsNode}
 use Rattle.tp_store.specs.Content.{unfinished}
 

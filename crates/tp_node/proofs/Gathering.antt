@@ -10,9 +10,9 @@ use Rattle.tp_graph.specs.Graphs.{TaskGraph}
 use Rattle.tp_graph.specs.Left.{AreResults, result_of}
 use Rattle.tp_graph.specs.Serial.{Results}
 use Rattle.tp_board.specs.Numbers.{ShareNumbers}
-use Rattle.tp_ledgers.specs.Reopening.{begun_anew}
+use Rattle.tp_board.specs.Reopening.{begun_anew}
 use Rattle.tp_node.specs.Nodes.{NodeState, anew}
-use Rattle.tp_local.specs.Locals.{Numbers}
+use Rattle.tp_node.specs.Locals.{Numbers}
 
 -- what is made of each of some things, and of one more
 pub mapped-more : {X Y : Type 0} (f : X → Y) (xs : List X) (x : X) (made new : List Y) (last : Y)

@@ -14,9 +14,9 @@ use Rattle.tp_board.specs.Numbers.{ShareNumbers, numbers_after}
 use Rattle.tp_graph.specs.Graphs.{TaskGraph}
 use Rattle.tp_graph.specs.Left.{result_of}
 use Rattle.tp_graph.specs.Values.{IsInput}
-use Rattle.tp_local.specs.Locals.{LocalState, pending_here}
+use Rattle.tp_node.specs.Locals.{LocalState, pending_here}
 use Rattle.tp_node.specs.Nodes.{NodeState, AreHere, IsNode, IsCountedBy, AreRightValues, inserting, task_at, with_store}
-use Rattle.tp_local.specs.Locals.{Numbers}
+use Rattle.tp_node.specs.Locals.{Numbers}
 use Rattle.tp_node.proofs.Right.{here, there, right-inserted, right-delivered, right-begun, right-done}
 use Rattle.tp_store.specs.Content.{Task, Content, nothing_stored, task_of, begun, done, fresh, with_value, with_task, with_inserted}
 use Rattle.tp_store.specs.Content.{with_delivered, with_begun, with_done, inserted_by}

@@ -1,3 +1,7 @@
+pub mod FiniteSets
+pub mod FiniteMaps
+pub mod Refusals
+pub mod Idle
 pub mod Right
 pub mod Putting
 pub mod Kept

@@ -14,7 +14,7 @@ use Rattle.tp_graph.specs.Graphs.{TaskGraph}
 use Rattle.tp_graph.specs.Left.{result_of}
 use Rattle.tp_graph.specs.Values.{IsInput, AreInputs}
 use Rattle.tp_node.specs.Nodes.{IsRightTask, AreRightValues}
-use Rattle.tp_local.specs.Locals.{Numbers}
+use Rattle.tp_node.specs.Locals.{Numbers}
 use Rattle.tp_slots.proofs.Sound.{get_inserted}
 use Rattle.tp_store.specs.Content.{Task, Content, has_begun, task_of, life_of, values_of, fresh, with_value, begun, done, with_task}
 use Rattle.tp_store.specs.Content.{with_inserted, with_delivered, with_begun, with_done}

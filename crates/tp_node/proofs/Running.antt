@@ -5,7 +5,7 @@ use Rattle.std.specs.Option.{option_map}
 use Rattle.tp_base.specs.declared.ids.TaskId.{TaskId}
 use Rattle.tp_base.specs.declared.refusal.Refusal.{Refusal}
 use Rattle.tp_base.specs.declared.refusal.Refusal.TheVariants.{WrongLife}
-use Rattle.tp_local.specs.Locals.{Numbers}
+use Rattle.tp_node.specs.Locals.{Numbers}
 use Rattle.tp_node.specs.Refused.{runs}
 use Rattle.tp_store.specs.Content.{Task, Content, task_of, life_of, is_running, refusal_of_done}
 use Rattle.tp_store.specs.declared.life.Life.{Life}

@@ -8,10 +8,10 @@ use Rattle.tp_base.specs.declared.step.Step.{Step}
 use Rattle.tp_board.specs.States.{AnswersBy, BoardState, IsAtPiece, full_check, with_event}
 use Rattle.tp_board.specs.Calls.{Appends}
 use Rattle.tp_node.specs.Turns.{turn_of}
-use Rattle.tp_turns.specs.Turns.{IsMade, MakesFirst, control_event, ends, may_make, turn_steps}
+use Rattle.tp_board.specs.Turns.{IsMade, MakesFirst, control_event, ends, may_make, turn_steps}
 use Rattle.tp_node.specs.Nodes.{NodeState}
-use Rattle.tp_turns.specs.declared.turn.Turn.{Turn}
-use Rattle.tp_turns.specs.declared.turn.Turn.TheVariants.{Idle}
+use Rattle.tp_board.specs.declared.turn.Turn.{Turn}
+use Rattle.tp_board.specs.declared.turn.Turn.TheVariants.{Idle}
 
 -- ---- the turn of a node
 nothing : (old new : BoardState) → new ≡ old → Appends [] old new

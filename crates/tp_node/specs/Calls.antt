@@ -10,7 +10,7 @@ use Rattle.tp_board.specs.States.{BoardState}
 use Rattle.tp_graph.specs.Carried.{Begun, Carried}
 use Rattle.tp_graph.specs.Graphs.{TaskGraph}
 use Rattle.tp_node.specs.Nodes.{HasNoSeed, IsNextSeed, NodeState, after, begun_with, event_of, seeded, seeding, with_received}
-use Rattle.tp_node.specs.Wires.{WireState, generation_of}
+use Rattle.tp_node.specs.PoolLinks.{PoolLinkState, generation_of}
 use Rattle.tp_slots.specs.Content.{front}
 use Rattle.tp_store.specs.Content.{values_of}
 
@@ -44,12 +44,12 @@ module _ {G : Type 0} (old new : NodeState G) (before later : BoardState) where
     pub event : Appends (event_of old (steps.Begin work.task) ∷ []) before later
     pub begun : new ≡ begun_with work.task old
 
-  -- The node receives the oldest message of a wire, which is of the present generation and leaves the others.
-  pub record Receives (wire rest : WireState G) (message : Carried G) : Type 0 where
+  -- The node receives the oldest message of a link, which is of the present generation and leaves the others.
+  pub record Receives (pool_link rest : PoolLinkState G) (message : Carried G) : Type 0 where
     pub graph : message.graph ≡ old.graph
     pub generation : message.generation.0 ≡ generation_of before
-    pub first : wire.messages ≡ message ∷ rest.messages
-    pub ends : (rest.from ≡ wire.from) × (rest.to ≡ wire.to)
+    pub first : pool_link.messages ≡ message ∷ rest.messages
+    pub ends : (rest.from ≡ pool_link.from) × (rest.to ≡ pool_link.to)
     pub event : Appends (event_of old (receiving (generation_of before) old.numbers.node message.number.0) ∷ []) before later
     pub received : new
         ≡ after (receiving (generation_of before) old.numbers.node message.number.0)

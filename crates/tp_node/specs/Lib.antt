@@ -1,4 +1,7 @@
-pub mod Wires
+pub mod Actions
+pub mod Locals
+pub mod NodeMonitors
+pub mod PoolLinks
 pub mod Feeds
 pub mod Nodes
 pub mod Refused

@@ -12,8 +12,8 @@ use Rattle.tp_graph.specs.Graphs.{TaskGraph}
 use Rattle.tp_graph.specs.Left.{AreResults}
 use Rattle.tp_graph.specs.Values.{value_of}
 use Rattle.tp_graph.specs.declared.feed.Feed.{Feed}
-use Rattle.tp_local.specs.Actions.{Actions, without_opening, with_named, without_named, with_message, without_message, Brought}
-use Rattle.tp_local.specs.Locals.{LocalState, Numbers, first_state, pending_here, state_code}
+use Rattle.tp_node.specs.Actions.{Actions, without_opening, with_named, without_named, with_message, without_message, Brought}
+use Rattle.tp_node.specs.Locals.{LocalState, Numbers, first_state, pending_here, state_code}
 use Rattle.tp_wave.specs.Machine.{pending_at}
 use Rattle.tp_store.specs.Content.{Task, Content, task_of, with_inserted, with_delivered, with_begun, with_done}
 

@@ -10,10 +10,10 @@ use Rattle.tp_board.specs.Routes.{is_send_between}
 use Rattle.tp_graph.specs.Carried.{Carried}
 use Rattle.tp_graph.specs.Graphs.{TaskGraph}
 use Rattle.tp_graph.specs.declared.feed.Feed.{Feed}
-use Rattle.tp_local.specs.Actions.{has_message}
-use Rattle.tp_local.specs.Locals.{LocalState, is_inactive}
+use Rattle.tp_node.specs.Actions.{has_message}
+use Rattle.tp_node.specs.Locals.{LocalState, is_inactive}
 use Rattle.tp_node.specs.Nodes.{NodeState}
-use Rattle.tp_node.specs.Wires.{WireState, generation_of}
+use Rattle.tp_node.specs.PoolLinks.{PoolLinkState, generation_of}
 use Rattle.tp_store.specs.Content.{Content, task_of, is_running, has_begun, unfinished}
 use Rattle.tp_store.specs.Sound.{passes}
 use Rattle.tp_base.specs.Checks.{Check}
@@ -43,7 +43,7 @@ module _ {V : Type 0} where
   has_named l a = set.contains l.actions.named a
 
 -- the board gave the number of the message to this pair, in the present generation
-abbrev pub was_given : BoardState → {G : Type 0} → WireState G → Carried G → Bool
+abbrev pub was_given : BoardState → {G : Type 0} → PoolLinkState G → Carried G → Bool
 was_given b w m = any (is_send_between w.from w.to m.number.0) (present (steps_of b.history))
 
 -- the message is of another generation than the present one
@@ -82,14 +82,14 @@ module _ {G : Type 0} where
 
   -- A message is a stranger's where it is of another graph or of another generation, where the board never gave its number
   -- to this pair in the present one, and where the action of that number is open.
-  abbrev pub is_stranger : NodeState G → BoardState → WireState G → Bool → Carried G → Bool
+  abbrev pub is_stranger : NodeState G → BoardState → PoolLinkState G → Bool → Carried G → Bool
   is_stranger n b w is_same m = not is_same || (is_of_another b m || (not (was_given b w m) || has_message n.state.actions m.number.0))
 
   -- what a message is refused for, room apart
-  abbrev pub message_checks : NodeState G → BoardState → WireState G → Bool → Carried G → List Check
+  abbrev pub message_checks : NodeState G → BoardState → PoolLinkState G → Bool → Carried G → List Check
   message_checks n b w is_same m = (n.state.ended, WrongLife) ∷ (is_stranger n b w is_same m, Stranger) ∷ []
 
-  abbrev pub receive_checks : NodeState G → BoardState → WireState G → Bool → Carried G → List Check
+  abbrev pub receive_checks : NodeState G → BoardState → PoolLinkState G → Bool → Carried G → List Check
   receive_checks n b w is_same m = (n.state.ended, WrongLife) ∷ (is_stranger n b w is_same m, Stranger) ∷ full_check 1 b ∷ []
 
   abbrev pub deliver_checks : TaskGraph → NodeState G → BoardState → Feed → List Check

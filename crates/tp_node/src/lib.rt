@@ -5,15 +5,22 @@
 //! passes each of its feeds on before it is done. A pool whose end was judged can be reopened, and run again.
 #![tactic(auto)]
 
+mod actions;
+mod feeds;
+mod holder;
+mod local;
 mod node;
+mod node_monitor;
+mod numbers;
 mod pool;
+mod pool_link;
 mod reopening;
-mod wire;
 mod work;
 
+pub use local::Local;
 pub use node::Node;
 pub use pool::{Pool, open_pool};
+pub use pool_link::PoolLink;
 pub use reopening::{Reopened, count_results};
-pub use tp_turns::Turn;
-pub use wire::Wire;
+pub use tp_board::Turn;
 pub use work::{Finished, Work};

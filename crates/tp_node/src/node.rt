@@ -1,27 +1,27 @@
 ghost use Rattle.std.specs.Prelude.{◌≡◌, ◌≤◌, ◌<◌, length, IsTrue};
 ghost use Rattle.tp_board.specs.Numbers.{first_numbers};
 ghost use Rattle.tp_graph.specs.Left.{AreResults};
-ghost use Rattle.tp_local.specs.Locals.{pending_here, standing};
+ghost use Rattle.tp_node.specs.Locals.{pending_here, standing};
 ghost use Rattle.tp_node.specs.Nodes.{AgreesWith, counted_of, first_node};
 ghost use Rattle.tp_store.specs.Content.{counts_of};
 ghost use Rattle.tp_wave.specs.Generations.{AreRuns, present_events};
 
 mod actions;
-mod bare;
 mod begins;
 mod control;
 mod messages;
 mod tasks;
+mod unshared;
 
-pub(crate) use bare::Bare;
+use crate::Local;
 use std::alloc::Global;
 use std::marker::Model;
 use tp_base::{NodeId, TaskId};
 use tp_board::{Board, Ledgers, Shares};
 use tp_graph::{Graph, Value};
-use tp_local::Local;
 use tp_monitor::TaskpoolState;
 use tp_store::Counts;
+pub(crate) use unshared::UnsharedNode;
 
 /// A node of a pool: what lies under its lock.
 ///

@@ -3,11 +3,11 @@ ghost use Rattle.std.specs.List.{All};
 ghost use Rattle.tp_base.specs.declared.refusal.Refusal.TheVariants.{NoMemory};
 ghost use Rattle.tp_board.specs.Numbers.{first_links, first_numbers};
 ghost use Rattle.tp_node.specs.Nodes.{first_node};
-ghost use Rattle.tp_node.specs.Pools.{first_nodes, first_wires};
-ghost use Rattle.tp_node.specs.Wires.{empty_wire};
+ghost use Rattle.tp_node.specs.Pools.{first_nodes, first_pool_links};
+ghost use Rattle.tp_node.specs.PoolLinks.{empty_pool_link};
 
 use crate::node::Node;
-use crate::wire::Wire;
+use crate::pool_link::PoolLink;
 use std::alloc::{AllocError, Global};
 use tp_base::Refusal;
 use tp_board::{Blanks, Board, Books, Ledgers, LinkShare, Shares, open_books};
@@ -19,7 +19,7 @@ pub struct Pool<G: Graph, K: Ledgers> {
     /// The nodes, in rising order.
     pub nodes: Vec<Node<G, K>>,
     /// The links, by sender and then by receiver.
-    pub links: Vec<Wire<G, K>>,
+    pub links: Vec<PoolLink<G, K>>,
     /// What lies under the board's lock.
     pub board: Board<K>,
 }
@@ -39,7 +39,7 @@ pub fn open_pool<G: Graph, K: Ledgers>(
     requires nodes { (blanks.nodes ≡ nodes) × (1 ≤ nodes) × (nodes ≤ 8) }
     requires limit { limit ≤ 1048576 }
     ensures nodes { IfOk result (λ p. p.nodes.items ≡ first_nodes graph nodes) }
-    ensures links { IfOk result (λ p. p.links.items ≡ first_wires nodes) }
+    ensures links { IfOk result (λ p. p.links.items ≡ first_pool_links nodes) }
     ensures board { IfOk result (λ p. p.board ≡ record { history = []; limit = limit; reserved = 0; fault = None }) }
     ensures refusal { IfErr result (λ e. e ≡ NoMemory) }
 {
@@ -56,22 +56,22 @@ pub fn open_pool<G: Graph, K: Ledgers>(
     })
 }
 
-/// The nodes of first shares, and the wires of empty links.
+/// The nodes of first shares, and the links of empty links.
 fn open_parts<G: Graph, K: Ledgers>(
     alloc: Global,
     graph: G,
     count: u32,
     shares: Vec<Shares<K>>,
     links: Vec<LinkShare<K>>,
-) -> Result<(Vec<Node<G, K>>, Vec<Wire<G, K>>), AllocError>
+) -> Result<(Vec<Node<G, K>>, Vec<PoolLink<G, K>>), AllocError>
     requires pool { (count ≡ K.names.nodes) × (1 ≤ count) × (count ≤ 8) }
     requires first { All (λ s. s ≡ first_numbers s.node) shares.items }
     requires empty { All (λ l. l.under ≡ 0) links.items }
     ensures nodes { IfOk result (λ parts. parts.0.items ≡ map (λ s. first_node graph count s.node) shares.items) }
-    ensures links { IfOk result (λ parts. parts.1.items ≡ map empty_wire links.items) }
+    ensures links { IfOk result (λ parts. parts.1.items ≡ map empty_pool_link links.items) }
 {
     let nodes = open_nodes(alloc, graph, count, shares)?;
-    Ok((nodes, open_wires(alloc, links)?))
+    Ok((nodes, open_pool_links(alloc, links)?))
 }
 
 /// The nodes of first shares.
@@ -92,17 +92,17 @@ fn open_nodes<G: Graph, K: Ledgers>(
     Ok(nodes)
 }
 
-/// The wires of empty links.
-fn open_wires<G: Graph, K: Ledgers>(
+/// The links of empty links.
+fn open_pool_links<G: Graph, K: Ledgers>(
     alloc: Global,
     links: Vec<LinkShare<K>>,
-) -> Result<Vec<Wire<G, K>>, AllocError>
+) -> Result<Vec<PoolLink<G, K>>, AllocError>
     requires empty { All (λ l. l.under ≡ 0) links.items }
-    ensures { IfOk result (λ wires. wires.items ≡ map empty_wire links.items) }
+    ensures { IfOk result (λ pool_links. pool_links.items ≡ map empty_pool_link links.items) }
 {
-    let mut wires = Vec::new(alloc);
+    let mut pool_links = Vec::new(alloc);
     for share in links {
-        wires.push(Wire::new(alloc, share))?;
+        pool_links.push(PoolLink::new(alloc, share))?;
     }
-    Ok(wires)
+    Ok(pool_links)
 }

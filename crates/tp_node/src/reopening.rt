@@ -16,9 +16,9 @@ ghost use Rattle.tp_wave.specs.Generations.{present, present_events};
 ghost use Rattle.tp_wave.specs.Machine.{steps_of};
 ghost use Rattle.tp_wave.specs.Sums.{is_ended};
 
-use crate::node::{Bare, Node};
+use crate::node::{Node, UnsharedNode};
 use crate::pool::Pool;
-use crate::wire::Wire;
+use crate::pool_link::PoolLink;
 use std::alloc::{AllocError, Global};
 use tp_base::{Refusal, TaskId};
 use tp_board::{Board, Ended, Fresh, Ledgers, Shares};
@@ -70,7 +70,7 @@ impl<G: Graph, K: Ledgers> Pool<G, K> {
 struct ReopeningRoom<G: Graph, K: Ledgers> {
     fresh: Fresh<K>,
     shares: Vec<Shares<K>>,
-    bare: Vec<Bare<G>>,
+    unshared: Vec<UnsharedNode<G>>,
     nodes: Vec<Node<G, K>>,
     results: Vec<(TaskId, Value)>,
 }
@@ -83,7 +83,7 @@ fn room_for<G: Graph, K: Ledgers>(
 ) -> Result<ReopeningRoom<G, K>, Refusal>
     ensures fresh { IfOk result (λ r. HasRoom K.names.nodes r.fresh) }
     ensures shares { IfOk result (λ r. (r.shares.items ≡ []) × (K.names.nodes ≤ vec_capacity r.shares)) }
-    ensures bare { IfOk result (λ r. (r.bare.items ≡ []) × (K.names.nodes ≤ vec_capacity r.bare)) }
+    ensures unshared { IfOk result (λ r. (r.unshared.items ≡ []) × (K.names.nodes ≤ vec_capacity r.unshared)) }
     ensures anew { IfOk result (λ r. (r.nodes.items ≡ []) × (K.names.nodes ≤ vec_capacity r.nodes)) }
     ensures results { IfOk result (λ r. (r.results.items ≡ [])
         × (sum_by (λ n. length n.state.store.results) nodes.now.items ≤ vec_capacity r.results)) }
@@ -117,7 +117,7 @@ fn lists_for<G: Graph, K: Ledgers>(
 ) -> Result<ReopeningRoom<G, K>, AllocError>
     ensures fresh { IfOk result (λ r. HasRoom count r.fresh) }
     ensures shares { IfOk result (λ r. (r.shares.items ≡ []) × (count ≤ vec_capacity r.shares)) }
-    ensures bare { IfOk result (λ r. (r.bare.items ≡ []) × (count ≤ vec_capacity r.bare)) }
+    ensures unshared { IfOk result (λ r. (r.unshared.items ≡ []) × (count ≤ vec_capacity r.unshared)) }
     ensures anew { IfOk result (λ r. (r.nodes.items ≡ []) × (count ≤ vec_capacity r.nodes)) }
     ensures results { IfOk result (λ r. (r.results.items ≡ [])
         × (sum_by (λ n. length n.state.store.results) nodes.now.items ≤ vec_capacity r.results)) }
@@ -128,7 +128,7 @@ fn lists_for<G: Graph, K: Ledgers>(
     Ok(ReopeningRoom {
         fresh: Fresh::new(alloc, count)?,
         shares: Vec::with_capacity(alloc, count as usize)?,
-        bare: Vec::with_capacity(alloc, count as usize)?,
+        unshared: Vec::with_capacity(alloc, count as usize)?,
         nodes: Vec::with_capacity(alloc, count as usize)?,
         results: Vec::with_capacity(alloc, results)?,
     })
@@ -156,7 +156,7 @@ fn begin_anew<G: Graph, K: Ledgers>(
     requires reserved { 0 < pool.board.reserved }
     requires fresh { HasRoom K.names.nodes room.fresh }
     requires shares { (room.shares.items ≡ []) × (K.names.nodes ≤ vec_capacity room.shares) }
-    requires bare { (room.bare.items ≡ []) × (K.names.nodes ≤ vec_capacity room.bare) }
+    requires unshared { (room.unshared.items ≡ []) × (K.names.nodes ≤ vec_capacity room.unshared) }
     requires anew { (room.nodes.items ≡ []) × (K.names.nodes ≤ vec_capacity room.nodes) }
     requires room_for_results { (room.results.items ≡ [])
         × (sum_by (λ n. length n.state.store.results) pool.nodes.items ≤ vec_capacity room.results) }
@@ -197,7 +197,7 @@ fn reopen_nodes<G: Graph, K: Ledgers>(
     requires reserved { 0 < board.old.reserved }
     requires fresh { HasRoom K.names.nodes room.fresh }
     requires shares { (room.shares.items ≡ []) × (K.names.nodes ≤ vec_capacity room.shares) }
-    requires bare { (room.bare.items ≡ []) × (K.names.nodes ≤ vec_capacity room.bare) }
+    requires unshared { (room.unshared.items ≡ []) × (K.names.nodes ≤ vec_capacity room.unshared) }
     requires anew { (room.nodes.items ≡ []) × (K.names.nodes ≤ vec_capacity room.nodes) }
     requires room_for_results { (room.results.items ≡ [])
         × (sum_by (λ n. length n.state.store.results) nodes.items ≤ vec_capacity room.results) }
@@ -211,7 +211,7 @@ fn reopen_nodes<G: Graph, K: Ledgers>(
     let ReopeningRoom {
         fresh,
         mut shares,
-        mut bare,
+        mut unshared,
         nodes: mut anew,
         mut results,
     } = room;
@@ -221,11 +221,11 @@ fn reopen_nodes<G: Graph, K: Ledgers>(
         &mut ended,
         board,
         &mut shares,
-        &mut bare,
+        &mut unshared,
         &mut results,
     );
     let shares = board.reopen(shares, fresh, ended);
-    put_together(bare, shares, &mut anew);
+    put_together(unshared, shares, &mut anew);
     (anew, results)
 }
 
@@ -235,24 +235,24 @@ fn take_apart<G: Graph, K: Ledgers>(
     ended: &mut Ended<K>,
     board: &mut Board<K>,
     shares: &mut Vec<Shares<K>>,
-    bare: &mut Vec<Bare<G>>,
+    unshared: &mut Vec<UnsharedNode<G>>,
     results: &mut Vec<(TaskId, Value)>,
 )
-    requires empty { (shares.old.items ≡ []) × (bare.old.items ≡ []) × (results.old.items ≡ []) }
+    requires empty { (shares.old.items ≡ []) × (unshared.old.items ≡ []) × (results.old.items ≡ []) }
     requires shares { vec_len nodes ≤ vec_capacity shares.old }
-    requires bare { vec_len nodes ≤ vec_capacity bare.old }
+    requires unshared { vec_len nodes ≤ vec_capacity unshared.old }
     requires results { sum_by (λ n. length n.state.store.results) nodes.items ≤ vec_capacity results.old }
     ensures board { board.new ≡ board.old }
     ensures shares { shares.new.items ≡ map (λ n. n.numbers) nodes.items }
-    ensures bare { bare.new.items ≡ map anew nodes.items }
-    ensures pool { All (IsOfPool K.names.nodes) bare.new.items }
+    ensures unshared { unshared.new.items ≡ map anew nodes.items }
+    ensures pool { All (IsOfPool K.names.nodes) unshared.new.items }
     ensures results { results.new.items ≡ flat_map (λ n. n.state.store.results) nodes.items }
     ensures right { (g : G) → All (λ n. n.graph ≡ g) nodes.items → AreResults (G.meaning g) results.new.items }
 {
     for node in nodes {
         let (share, more, left) = node.apart(ended, board);
         shares.push_reserved(share);
-        bare.push_reserved(left);
+        unshared.push_reserved(left);
         put_behind(results, more);
     }
 }
@@ -272,17 +272,17 @@ fn put_behind(results: &mut Vec<(TaskId, Value)>, more: Vec<(TaskId, Value)>)
 
 /// The nodes with their first shares.
 fn put_together<G: Graph, K: Ledgers>(
-    bare: Vec<Bare<G>>,
+    unshared: Vec<UnsharedNode<G>>,
     shares: Vec<Shares<K>>,
     nodes: &mut Vec<Node<G, K>>,
 )
-    requires pool { All (IsOfPool K.names.nodes) bare.items }
-    requires first { shares.items ≡ map (λ n. n.numbers) bare.items }
-    requires room { (nodes.old.items ≡ []) × (vec_len bare ≤ vec_capacity nodes.old) }
-    ensures { nodes.new.items ≡ bare.items }
+    requires pool { All (IsOfPool K.names.nodes) unshared.items }
+    requires first { shares.items ≡ map (λ n. n.numbers) unshared.items }
+    requires room { (nodes.old.items ≡ []) × (vec_len unshared ≤ vec_capacity nodes.old) }
+    ensures { nodes.new.items ≡ unshared.items }
 {
     let mut shares = shares.into_iter();
-    for left in bare {
+    for left in unshared {
         let Some(share) = shares.next() else {
             unreachable!()
         };
@@ -291,12 +291,12 @@ fn put_together<G: Graph, K: Ledgers>(
 }
 
 /// Changes nothing, and tells that no message is on a link, where nothing has happened in the present generation.
-fn audit_links<G: Graph, K: Ledgers>(links: &mut [Wire<G, K>], board: &mut Board<K>)
+fn audit_links<G: Graph, K: Ledgers>(links: &mut [PoolLink<G, K>], board: &mut Board<K>)
     requires { present (steps_of board.old.history) ≡ [] }
     ensures same { (links.new ≡ links.old) × (board.new ≡ board.old) }
     ensures empty { All (λ w. w.messages ≡ []) links.old }
 {
-    for wire in links.iter_mut() {
-        wire.audit(board);
+    for pool_link in links.iter_mut() {
+        pool_link.audit(board);
     }
 }

@@ -3,7 +3,9 @@
 #![tactic(auto)]
 
 mod entry;
+mod pools;
 mod registry;
 
 pub use entry::{PoolEntry, Standing};
+pub use pools::run_pools;
 pub use registry::Registry;

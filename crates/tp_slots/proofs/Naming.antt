@@ -20,7 +20,7 @@ use Rattle.tp_slots.specs.declared.run.Reply.TheVariants.{Taken, Refused, Plain,
 use Rattle.tp_slots.specs.Names.{name_at, place_of, Agrees, Tells}
 use Rattle.tp_slots.specs.declared.run.Standing.{Standing}
 use Rattle.tp_slots.specs.declared.run.Standing.TheVariants.{Gone, Held}
-use Rattle.tp_slots.proofs.Lists.{each, same_each, front-each, front_none-each, without_front-each, with_last-each}
+use Rattle.tp_slots.proofs.PlaceLists.{each, same_each, front-each, front_none-each, without_front-each, with_last-each}
 use Rattle.tp_slots.proofs.Sound.{stands, stands-cons, times-with_last, times-front, length-without_front, without_front-empty}
 use Rattle.tp_slots.proofs.Sound.{get_inserted, get_removed}
 

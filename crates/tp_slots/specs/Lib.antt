@@ -1,3 +1,11 @@
+pub mod Lists
+pub mod Blocks
+pub mod RawSlots
+pub mod Cells
+pub mod CellsOwnership
+pub mod CellsLends
+pub mod Chains
+pub mod ChainLends
 pub mod Content
 pub mod SlabSlots
 pub mod Commands

@@ -1,10 +1,20 @@
 //! Items under places that stay where they are, and four lists of ready places.
 #![tactic(auto)]
 
+mod blocks;
+mod cells;
+mod chains;
+mod lists;
+mod raw_slots;
 mod run;
 mod slab_slots;
 mod slots;
 
+pub use cells::{At, Cells, Deed, allocate, deallocate};
+pub use chains::{
+    Chain, Link, Slot, append, item, item_mut, put_front, put_item, take_front, take_item,
+};
+pub use raw_slots::RawSlots;
 pub use run::{Command, Reply, run_slots};
 pub use slab_slots::SlabSlots;
 pub use slots::{Place, Slots};

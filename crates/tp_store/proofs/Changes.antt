@@ -20,7 +20,7 @@ use Rattle.tp_slots.specs.Content as slots
 use Rattle.tp_slots.proofs.Sound.{get_inserted, IsSound-nothing_held, IsSound-with_item, IsSound-without_item, IsSound-without_next}
 use Rattle.tp_slots.proofs.Sound.{IsIdle-front, idle_with_item, idle_when_taken}
 use Rattle.tp_slots.proofs.Sound.{without_front-empty}
-use Rattle.tp_slots.proofs.Lists.{front-each, front_none-each, without_front-each}
+use Rattle.tp_slots.proofs.PlaceLists.{front-each, front_none-each, without_front-each}
 use Rattle.tp_store.specs.Content.{Task, Content, fresh, with_value, begun, done, supplied, life_lacking, refusal_of_value}
 use Rattle.tp_store.specs.Content.{refusal_of_deliver, refusal_of_done, delivered_to, with_task}
 use Rattle.tp_store.specs.Content.{with_delivered, with_begun, with_done, changed_tasks, nothing_stored, task_of, life_of, values_of}

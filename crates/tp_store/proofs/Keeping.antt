@@ -13,7 +13,7 @@ use Rattle.std.proofs.lemmas.Bool.Decides.{nat_tests}
 use Rattle.tp_base.specs.Table.{lookup}
 use Rattle.tp_slots.specs.Content as slots
 use Rattle.tp_slots.proofs.Sound.{get_inserted, get_removed, IsSound-with_ready}
-use Rattle.tp_slots.proofs.Lists.{same_each, with_last-each}
+use Rattle.tp_slots.proofs.PlaceLists.{same_each, with_last-each}
 use Rattle.tp_store.specs.Content.{Task, with_value, Content, task_of, unfinished, refusal_of_new, refusal_of_insert, refusal_of_deliver}
 use Rattle.tp_store.specs.Content.{refusal_of_value, counts_of, NoneGoesBack}
 use Rattle.tp_store.specs.Items.{Item}

@@ -14,7 +14,7 @@ use Rattle.tp_graph.specs.Carried.{Begun}
 use Rattle.tp_node.specs.Begins.{next_task}
 use Rattle.tp_node.specs.Calls.{Begins, Rests}
 use Rattle.tp_node.specs.Nodes.{NodeState}
-use Rattle.tp_work.specs.Desks.{BeginsEach, DeskState, IsDesk}
+use Rattle.tp_work.specs.RunQueues.{BeginsEach, RunQueueState, IsRunQueue}
 
 -- no event, and then some
 nothing_then : (es : List Event) (a b c : BoardState) → Appends [] a b → Appends es b c → Appends es a c
@@ -89,32 +89,32 @@ module _ {G : Type 0} where
       All-cons (λ (x : Begun G). x.graph ≡ new.graph) w ws (each.2.graph ∙ sym (same_graph (w ∷ ws) old new b l each))
       (of_graph ws each.0 new each.1 l each.3)
 
-  -- ---- the desk
-  abbrev desk : NodeState G → List (Begun G) → DeskState G
-  desk n ws = record { node = n; begun = ws }
+  -- ---- the run queue
+  abbrev run_queue : NodeState G → List (Begun G) → RunQueueState G
+  run_queue n ws = record { node = n; begun = ws }
 
-  pub desk_after : (ws : List (Begun G)) (old new : NodeState G) (b l : BoardState) → BeginsEach ws old new b l → length ws ≤ 7
-      → IsDesk (desk new ws)
-  desk_after ws old new b l each few = record { few = few; graph = of_graph ws old new b l each }
+  pub run_queue_after : (ws : List (Begun G)) (old new : NodeState G) (b l : BoardState) → BeginsEach ws old new b l → length ws ≤ 7
+      → IsRunQueue (run_queue new ws)
+  run_queue_after ws old new b l each few = record { few = few; graph = of_graph ws old new b l each }
 
   -- the works were added in order, and the list was turned round
-  pub desk_turned : (ws us : List (Begun G)) (old new : NodeState G) (b l : BoardState) → us ≡ reverse ws → BeginsEach ws old new b l
-      → length ws ≤ 7 → IsDesk (desk new (reverse us))
-  desk_turned ws us old new b l e each few =
-      subst (λ (vs : List (Begun G)). IsDesk (desk new vs)) (sym (ap reverse e ∙ reverse-reverse ws)) (desk_after ws old new b l each few)
+  pub run_queue_turned : (ws us : List (Begun G)) (old new : NodeState G) (b l : BoardState) → us ≡ reverse ws → BeginsEach ws old new b l
+      → length ws ≤ 7 → IsRunQueue (run_queue new (reverse us))
+  run_queue_turned ws us old new b l e each few =
+      subst (λ (vs : List (Begun G)). IsRunQueue (run_queue new vs)) (sym (ap reverse e ∙ reverse-reverse ws)) (run_queue_after ws old new b l each few)
 
-  pub desk_stays : (old new : NodeState G) (ws : List (Begun G)) → IsDesk (desk old ws) → new.graph ≡ old.graph → IsDesk (desk new ws)
-  desk_stays old new ws is same = record {
+  pub run_queue_stays : (old new : NodeState G) (ws : List (Begun G)) → IsRunQueue (run_queue old ws) → new.graph ≡ old.graph → IsRunQueue (run_queue new ws)
+  run_queue_stays old new ws is same = record {
     few = is.few;
     graph = subst (λ g. All (λ (w : Begun G). w.graph ≡ g) ws) (sym same) is.graph;
   }
 
   -- one work fewer waits
-  pub desk_fewer : (n : NodeState G) (o : Option (Begun G)) (all rest : List (Begun G)) → all ≡ option_to_list o ++ rest
-      → IsDesk (desk n all) → IsDesk (desk n rest)
-  desk_fewer n None all rest e is = subst (λ (ws : List (Begun G)). IsDesk (desk n ws)) e is
-  desk_fewer n (Some w) all rest e is =
-      let it : IsDesk (desk n (w ∷ rest)) = subst (λ (ws : List (Begun G)). IsDesk (desk n ws)) e is in
+  pub run_queue_fewer : (n : NodeState G) (o : Option (Begun G)) (all rest : List (Begun G)) → all ≡ option_to_list o ++ rest
+      → IsRunQueue (run_queue n all) → IsRunQueue (run_queue n rest)
+  run_queue_fewer n None all rest e is = subst (λ (ws : List (Begun G)). IsRunQueue (run_queue n ws)) e is
+  run_queue_fewer n (Some w) all rest e is =
+      let it : IsRunQueue (run_queue n (w ∷ rest)) = subst (λ (ws : List (Begun G)). IsRunQueue (run_queue n ws)) e is in
       let few = it.few in
       record { few = omega (arith, few); graph = All-tail (λ (x : Begun G). x.graph ≡ n.graph) w rest it.graph }
 

@@ -1,6 +1,6 @@
 mod Alone
 mod Beginning
-pub mod Counted
+pub mod CountedTotals
 pub mod Gathering
 pub mod Living
 pub mod Marking

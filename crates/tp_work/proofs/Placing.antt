@@ -7,8 +7,8 @@ use Rattle.std.proofs.lemmas.Grind.{flat_map-append, take_at_read}
 use Rattle.std.proofs.lemmas.List.{map-append}
 use Rattle.std.proofs.lemmas.List.FromFn.{length-map-range_with_len}
 use Rattle.std.proofs.lemmas.List.Sums.{sum_by-append, sum_by-cons}
-use Rattle.tp_ledgers.proofs.Links.{length-links_of}
-use Rattle.tp_ledgers.specs.Numbers.{first_links, first_numbers, first_shares, links_of}
+use Rattle.tp_board.proofs.Links.{length-links_of}
+use Rattle.tp_board.specs.Numbers.{first_links, first_numbers, first_shares, links_of}
 use Rattle.tp_wave.specs.Sums.{total}
 
 -- ---- numbers in a row

@@ -10,9 +10,9 @@ use Rattle.tp_board.specs.Numbers.{is_done, is_send}
 use Rattle.tp_board.specs.States.{BoardState, with_fault}
 use Rattle.tp_graph.specs.Graphs.{TaskGraph}
 use Rattle.tp_graph.specs.Left.{AreResults}
-use Rattle.tp_local.specs.Locals.{pending_here}
+use Rattle.tp_node.specs.Locals.{pending_here}
 use Rattle.tp_node.specs.Nodes.{NodeState}
-use Rattle.tp_node.specs.Wires.{WireState}
+use Rattle.tp_node.specs.PoolLinks.{PoolLinkState}
 use Rattle.tp_wave.proofs.Generations.{present-goes_on, present_run, steps-present}
 use Rattle.tp_wave.specs.Generations.{present, present_events}
 use Rattle.tp_wave.specs.Machine.{History, IsRun, pending_at, steps_of}
@@ -41,7 +41,7 @@ module _ {G : Type 0} where
       ∙ total-range now n
 
   pub is_report : (n : ℕ) (meaning : G
-      → TaskGraph) (graph : G) (nodes : List (NodeState G)) (links : List (WireState G)) (board : BoardState) (r : Report)
+      → TaskGraph) (graph : G) (nodes : List (NodeState G)) (links : List (PoolLinkState G)) (board : BoardState) (r : Report)
       → IsGathered nodes links board r → IsOfItsRun n r → AreOfTheRun nodes r → IsWhole n graph nodes links
       → ((g : G) → AreOf g nodes → AreResults (meaning g) r.results.items) → IsReport n (meaning graph) r
   is_report n meaning graph nodes links board r gathered run agree whole right =

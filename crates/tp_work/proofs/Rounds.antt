@@ -16,12 +16,12 @@ use Rattle.tp_board.specs.States.{BoardState, full_check}
 use Rattle.tp_graph.specs.Graphs.{TaskGraph}
 use Rattle.tp_node.specs.Calls.{AnswersWithBoth}
 use Rattle.tp_node.specs.Nodes.{NodeState, anew}
-use Rattle.tp_node.specs.Wires.{WireState}
+use Rattle.tp_node.specs.PoolLinks.{PoolLinkState}
 use Rattle.tp_wave.proofs.Generations.{ended_generations_law, steps-present}
 use Rattle.tp_wave.specs.Generations.{AreRuns, ended_generations, present, present_events}
 use Rattle.tp_wave.specs.Machine.{History, steps_of}
 use Rattle.tp_wave.specs.Sums.{is_ended}
-use Rattle.tp_work.proofs.Counted.{count-done, length-once}
+use Rattle.tp_work.proofs.CountedTotals.{count-done, length-once}
 use Rattle.tp_work.proofs.Walking.{reverse-cons}
 use Rattle.tp_work.specs.Lives.{LivesInEach, LivesOnce, generations, sent_in}
 use Rattle.tp_work.specs.Outcomes.{IsAnswer, IsUngathered}
@@ -218,11 +218,11 @@ module _ {G : Type 0} where
 -- ---- a pool that was reopened
 module _ {G : Type 0} where
   -- Each of its parts is at its place.
-  pub whole-reopened : (n : ℕ) (graph : G) (nodes new : List (NodeState G)) (links same : List (WireState G))
+  pub whole-reopened : (n : ℕ) (graph : G) (nodes new : List (NodeState G)) (links same : List (PoolLinkState G))
       → IsWhole n graph nodes links → new ≡ map anew nodes → same ≡ links
       → IsWhole n graph new same
   whole-reopened n graph nodes new links same whole began kept =
-      subst (λ (ls : List (WireState G)). IsWhole n graph new ls) (sym kept)
+      subst (λ (ls : List (PoolLinkState G)). IsWhole n graph new ls) (sym kept)
       (subst (λ (ns : List (NodeState G)). IsWhole n graph ns links) (sym began)
       (record {
         nodes_are = length-map nodes anew ∙ whole.nodes_are;

@@ -1,5 +1,5 @@
 pub mod Feeds
-pub mod Desks
+pub mod RunQueues
 pub mod Lives
 pub mod Places
 pub mod Reports

@@ -2,7 +2,7 @@
 use Rattle.std.specs.Prelude.{ℕ, ◌+◌, ◌-◌, ◌*◌, ◌≡◌, List, length, map, nat_lt, if◌then◌else◌}
 use Rattle.std.specs.List.{All, range_with_len}
 use Rattle.tp_node.specs.Nodes.{NodeState}
-use Rattle.tp_node.specs.Wires.{WireState}
+use Rattle.tp_node.specs.PoolLinks.{PoolLinkState}
 
 -- the place of the link from one node to another of n, by sender and then by receiver
 abbrev pub link_place : ℕ → ℕ → ℕ → ℕ
@@ -18,11 +18,11 @@ module _ {G : Type 0} where
   AreOf graph nodes = All (λ s. s.graph ≡ graph) nodes
 
   -- Each link among n nodes is at its place.
-  abbrev pub AreLinksInOrder : ℕ → List (WireState G) → Type 0
+  abbrev pub AreLinksInOrder : ℕ → List (PoolLinkState G) → Type 0
   AreLinksInOrder n links = map (λ w. link_place n w.from w.to) links ≡ range_with_len 0 (length links)
 
   -- All nodes and links of a pool of n nodes, where each node is at its place and of the graph.
-  pub record IsWhole (n : ℕ) (graph : G) (nodes : List (NodeState G)) (links : List (WireState G)) : Type 0 where
+  pub record IsWhole (n : ℕ) (graph : G) (nodes : List (NodeState G)) (links : List (PoolLinkState G)) : Type 0 where
     pub nodes_are : length nodes ≡ n
     pub links_are : length links ≡ n * (n - 1)
     pub order : AreInOrder nodes

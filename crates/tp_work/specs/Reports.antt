@@ -6,9 +6,9 @@ use Rattle.tp_board.specs.Numbers.{is_done, is_recv, is_send}
 use Rattle.tp_board.specs.States.{BoardState}
 use Rattle.tp_graph.specs.Graphs.{TaskGraph}
 use Rattle.tp_graph.specs.Left.{AreResults}
-use Rattle.tp_local.specs.Locals.{pending_here}
+use Rattle.tp_node.specs.Locals.{pending_here}
 use Rattle.tp_node.specs.Nodes.{NodeState}
-use Rattle.tp_node.specs.Wires.{WireState}
+use Rattle.tp_node.specs.PoolLinks.{PoolLinkState}
 use Rattle.tp_wave.specs.Cut.{IsQuietHistory}
 use Rattle.tp_wave.specs.Generations.{AreRuns, present, present_events}
 use Rattle.tp_wave.specs.Machine.{pending_at, steps_of, under_way}
@@ -22,7 +22,7 @@ told_of_end nodes = count_by (λ n. n.state.ended) nodes
 
 -- The report has the sums over the nodes and the links, each counted over its own state, how many nodes were told of the end,
 -- and the results of all nodes. Fault and events are the board's.
-pub record IsGathered {G : Type 0} (nodes : List (NodeState G)) (links : List (WireState G)) (board : BoardState) (r : Report) : Type 0
+pub record IsGathered {G : Type 0} (nodes : List (NodeState G)) (links : List (PoolLinkState G)) (board : BoardState) (r : Report) : Type 0
   where
     pub pending : r.pending ≡ sum_by (λ n. pending_here n.state) nodes
     pub sent : r.sent ≡ sum_by (λ n. n.state.sent) nodes

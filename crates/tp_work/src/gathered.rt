@@ -3,7 +3,7 @@ ghost use Rattle.std.specs.List.{All, flat_map};
 ghost use Rattle.tp_base.specs.declared.refusal.Refusal.TheVariants.{NoMemory};
 ghost use Rattle.tp_graph.specs.Left.{AreResults};
 ghost use Rattle.tp_node.specs.Nodes.{counted_of};
-ghost use Rattle.tp_node.specs.Wires.{link_of};
+ghost use Rattle.tp_node.specs.PoolLinks.{link_of};
 ghost use Rattle.tp_work.specs.Reports.{AreOfTheRun, IsGathered, IsOfItsRun, told_of_end};
 
 use std::alloc::{AllocError, Global};
@@ -11,7 +11,7 @@ use tp_base::{History, Refusal, TaskId};
 use tp_board::{Books, Ledgers, LinkShare, Shares, close_books};
 use tp_graph::{Graph, Value};
 use tp_monitor::TaskpoolState;
-use tp_node::{Node, Pool, Wire, count_results};
+use tp_node::{Node, Pool, PoolLink, count_results};
 
 /// What was gathered of a pool.
 #[derive(Drop)]
@@ -70,7 +70,7 @@ struct ReportRoom<K: Ledgers> {
 fn room_for<G: Graph, K: Ledgers>(
     alloc: Global,
     nodes: &Vec<Node<G, K>>,
-    links: &Vec<Wire<G, K>>,
+    links: &Vec<PoolLink<G, K>>,
 ) -> Result<ReportRoom<K>, AllocError>
     ensures shares { IfOk result (λ r. (r.shares.items ≡ []) × (vec_len nodes.now ≤ vec_capacity r.shares)) }
     ensures links { IfOk result (λ r. (r.links.items ≡ []) × (vec_len links.now ≤ vec_capacity r.links)) }
@@ -101,7 +101,7 @@ fn gather<G: Graph, K: Ledgers>(pool: Pool<G, K>, room: ReportRoom<K>) -> Report
 {
     let Pool {
         nodes,
-        links: wires,
+        links: pool_links,
         board,
     } = pool;
     let ReportRoom {
@@ -113,7 +113,7 @@ fn gather<G: Graph, K: Ledgers>(pool: Pool<G, K>, room: ReportRoom<K>) -> Report
     let _nodes = board.nodes();
     let announced = count_told(&nodes);
     take_nodes(nodes, &mut shares, &mut results);
-    take_wires(wires, &mut links);
+    take_pool_links(pool_links, &mut links);
     let totals = close_books(Books {
         board,
         shares,
@@ -186,12 +186,15 @@ fn take_node<G: Graph, K: Ledgers>(
 }
 
 /// The shares of all links, in their order.
-fn take_wires<G: Graph, K: Ledgers>(wires: Vec<Wire<G, K>>, links: &mut Vec<LinkShare<K>>)
+fn take_pool_links<G: Graph, K: Ledgers>(
+    pool_links: Vec<PoolLink<G, K>>,
+    links: &mut Vec<LinkShare<K>>,
+)
     requires empty { links.old.items ≡ [] }
-    requires room { vec_len wires ≤ vec_capacity links.old }
-    ensures { links.new.items ≡ map link_of wires.items }
+    requires room { vec_len pool_links ≤ vec_capacity links.old }
+    ensures { links.new.items ≡ map link_of pool_links.items }
 {
-    for wire in wires {
-        links.push_reserved(wire.into_share());
+    for pool_link in pool_links {
+        links.push_reserved(pool_link.into_share());
     }
 }

@@ -4,8 +4,8 @@ ghost use Rattle.tp_work.specs.Places as places;
 ghost use Rattle.tp_work.specs.Places.{AreInOrder, AreLinksInOrder, AreOf};
 ghost use Rattle.tp_work.specs.Outcomes.{IsMisplaced};
 
-use crate::desk::Desk;
-use crate::doorbell::Doorbell;
+use crate::parker::Parker;
+use crate::run_queue::RunQueue;
 use std::alloc::{AllocError, Global};
 use std::hint::spin_loop;
 use std::sync::atomic::{AtomicBool, AtomicU64, Ordering};
@@ -13,16 +13,16 @@ use std::sync::{Mutex, MutexGuard, Wait};
 use tp_base::{NodeId, Refusal};
 use tp_board::{Board, Ended, Ledgers};
 use tp_graph::{Comparable, Graph, is_same};
-use tp_node::{Node, Pool, Wire};
+use tp_node::{Node, Pool, PoolLink};
 
 /// The locks of a pool. They are taken in this order: a node's, a link's, the board's; the token's is taken alone. The words
 /// beside them are hints, which save a look under a lock; no contract rests on them.
 #[derive(Drop)]
 pub(crate) struct Locks<G: Graph, K: Ledgers> {
     /// The nodes, in rising order.
-    pub sites: Vec<Site<Desk<G, K>>>,
+    pub node_slots: Vec<NodeSlot<RunQueue<G, K>>>,
     /// The links, by sender and then by receiver.
-    pub lines: Vec<Line<G, K>>,
+    pub link_slots: Vec<LinkSlot<G, K>>,
     /// The board.
     pub board: Mutex<Board<K>>,
     /// The token of the end, once each node was told of it.
@@ -35,18 +35,18 @@ pub(crate) struct Locks<G: Graph, K: Ledgers> {
 
 /// A node's lock.
 #[derive(Drop)]
-pub(crate) struct Site<D> {
+pub(crate) struct NodeSlot<D> {
     /// The node, and the works that wait there.
-    pub desk: Mutex<D>,
+    pub run_queue: Mutex<D>,
     /// How many tasks wait there for a worker: those that are ready, and those that have begun.
     pub waiting: AtomicU64,
     /// How many messages are on the links to it.
     pub mail: AtomicU64,
     /// Where its idle workers sleep.
-    pub bell: Doorbell,
+    pub parker: Parker,
 }
 
-impl<D> Site<D> {
+impl<D> NodeSlot<D> {
     /// Tells how many tasks wait for a worker. Most turns leave as many as before, and write nothing.
     #[inline(always)]
     pub fn tell_waiting(&self, waiting: u64) {
@@ -59,16 +59,16 @@ impl<D> Site<D> {
     #[inline(always)]
     pub fn call_for_waiting(&self) {
         if self.waiting.load(Ordering::SeqCst) > 0 {
-            self.bell.ring();
+            self.parker.ring();
         }
     }
 }
 
 /// A link's lock.
 #[derive(Drop)]
-pub(crate) struct Line<G: Graph, K: Ledgers> {
+pub(crate) struct LinkSlot<G: Graph, K: Ledgers> {
     /// The link.
-    pub wire: Mutex<Wire<G, K>>,
+    pub pool_link: Mutex<PoolLink<G, K>>,
     /// How many messages are on it.
     pub length: AtomicU64,
 }
@@ -134,11 +134,15 @@ impl<N: Drop, W: Drop> Room<N, W> {
 
 impl<G: Graph, K: Ledgers> Locks<G, K> {
     /// Puts the parts of a pool under locks, into the room that was made for them.
-    pub fn new(alloc: Global, pool: Pool<G, K>, room: Room<Site<Desk<G, K>>, Line<G, K>>) -> Self
+    pub fn new(
+        alloc: Global,
+        pool: Pool<G, K>,
+        room: Room<NodeSlot<RunQueue<G, K>>, LinkSlot<G, K>>,
+    ) -> Self
         requires nodes { (room.nodes.items ≡ []) × (vec_len pool.nodes ≤ vec_capacity room.nodes) }
         requires links { (room.links.items ≡ []) × (vec_len pool.links ≤ vec_capacity room.links) }
-        ensures nodes { vec_len result.sites ≡ vec_len pool.nodes }
-        ensures links { vec_len result.lines ≡ vec_len pool.links }
+        ensures nodes { vec_len result.node_slots ≡ vec_len pool.nodes }
+        ensures links { vec_len result.link_slots ≡ vec_len pool.links }
     {
         let Pool {
             nodes,
@@ -146,14 +150,14 @@ impl<G: Graph, K: Ledgers> Locks<G, K> {
             board,
         } = pool;
         let Room {
-            nodes: mut sites,
-            links: mut lines,
+            nodes: mut node_slots,
+            links: mut link_slots,
         } = room;
-        lock_nodes(alloc, nodes, &mut sites);
-        lock_links(links, &mut lines);
+        lock_nodes(alloc, nodes, &mut node_slots);
+        lock_links(links, &mut link_slots);
         Locks {
-            sites,
-            lines,
+            node_slots,
+            link_slots,
             board: Mutex::new(board),
             token: Mutex::new(None),
             control_steps: AtomicU64::new(0),
@@ -164,8 +168,8 @@ impl<G: Graph, K: Ledgers> Locks<G, K> {
     /// Stops all workers, also those that sleep.
     pub fn stop(&self) {
         self.is_stopped.store(true, Ordering::SeqCst);
-        for site in &self.sites {
-            site.bell.ring_all();
+        for node_slot in &self.node_slots {
+            node_slot.parker.ring_all();
         }
     }
 
@@ -175,24 +179,24 @@ impl<G: Graph, K: Ledgers> Locks<G, K> {
         let place = node.0 as usize;
         for beside in [place.saturating_sub(1) / 2, 2 * place + 1, 2 * place + 2] {
             if beside != place
-                && let Some(site) = self.sites.get(beside)
+                && let Some(node_slot) = self.node_slots.get(beside)
             {
-                site.bell.ring();
+                node_slot.parker.ring();
             }
         }
     }
 
     /// Takes the parts out of their locks, into the room that was made for them, and the token of the end, where it lies
     /// there.
-    pub fn into_pool(self, room: Room<Node<G, K>, Wire<G, K>>) -> (Pool<G, K>, Option<Ended<K>>)
-        requires nodes { (room.nodes.items ≡ []) × (vec_len self.sites ≤ vec_capacity room.nodes) }
-        requires links { (room.links.items ≡ []) × (vec_len self.lines ≤ vec_capacity room.links) }
-        ensures nodes { vec_len result.0.nodes ≡ vec_len self.sites }
-        ensures links { vec_len result.0.links ≡ vec_len self.lines }
+    pub fn into_pool(self, room: Room<Node<G, K>, PoolLink<G, K>>) -> (Pool<G, K>, Option<Ended<K>>)
+        requires nodes { (room.nodes.items ≡ []) × (vec_len self.node_slots ≤ vec_capacity room.nodes) }
+        requires links { (room.links.items ≡ []) × (vec_len self.link_slots ≤ vec_capacity room.links) }
+        ensures nodes { vec_len result.0.nodes ≡ vec_len self.node_slots }
+        ensures links { vec_len result.0.links ≡ vec_len self.link_slots }
     {
         let Locks {
-            sites,
-            lines,
+            node_slots,
+            link_slots,
             board,
             token,
             control_steps: _,
@@ -202,8 +206,8 @@ impl<G: Graph, K: Ledgers> Locks<G, K> {
             mut nodes,
             mut links,
         } = room;
-        unlock_nodes(sites, &mut nodes);
-        unlock_links(lines, &mut links);
+        unlock_nodes(node_slots, &mut nodes);
+        unlock_links(link_slots, &mut links);
         let pool = Pool {
             nodes,
             links,
@@ -217,11 +221,11 @@ impl<G: Graph, K: Ledgers> Locks<G, K> {
 pub(crate) fn lock_pool<G: Graph, K: Ledgers>(
     alloc: Global,
     pool: Pool<G, K>,
-) -> Result<(Locks<G, K>, Room<Node<G, K>, Wire<G, K>>), Refusal>
-    ensures nodes { IfOk result (λ r. (vec_len r.0.sites ≡ vec_len pool.nodes) × (r.1.nodes.items ≡ [])
-        × (vec_len r.0.sites ≤ vec_capacity r.1.nodes)) }
-    ensures links { IfOk result (λ r. (vec_len r.0.lines ≡ vec_len pool.links) × (r.1.links.items ≡ [])
-        × (vec_len r.0.lines ≤ vec_capacity r.1.links)) }
+) -> Result<(Locks<G, K>, Room<Node<G, K>, PoolLink<G, K>>), Refusal>
+    ensures nodes { IfOk result (λ r. (vec_len r.0.node_slots ≡ vec_len pool.nodes) × (r.1.nodes.items ≡ [])
+        × (vec_len r.0.node_slots ≤ vec_capacity r.1.nodes)) }
+    ensures links { IfOk result (λ r. (vec_len r.0.link_slots ≡ vec_len pool.links) × (r.1.links.items ≡ [])
+        × (vec_len r.0.link_slots ≤ vec_capacity r.1.links)) }
     ensures refusal { IfErr result (λ e. e ≡ NoMemory) }
 {
     let (locked, room) = two_rooms(alloc, pool.nodes.len(), pool.links.len())?;
@@ -248,48 +252,57 @@ fn two_rooms<S: Drop, L: Drop, N: Drop, W: Drop>(
 fn lock_nodes<G: Graph, K: Ledgers>(
     alloc: Global,
     nodes: Vec<Node<G, K>>,
-    sites: &mut Vec<Site<Desk<G, K>>>,
+    node_slots: &mut Vec<NodeSlot<RunQueue<G, K>>>,
 )
-    requires { (sites.old.items ≡ []) × (vec_len nodes ≤ vec_capacity sites.old) }
-    ensures { vec_len sites.new ≡ vec_len nodes }
+    requires { (node_slots.old.items ≡ []) × (vec_len nodes ≤ vec_capacity node_slots.old) }
+    ensures { vec_len node_slots.new ≡ vec_len nodes }
 {
     for node in nodes {
-        sites.push_reserved(Site {
-            desk: Mutex::new(Desk::new(alloc, node)),
+        node_slots.push_reserved(NodeSlot {
+            run_queue: Mutex::new(RunQueue::new(alloc, node)),
             waiting: AtomicU64::new(0),
             mail: AtomicU64::new(0),
-            bell: Doorbell::new(),
+            parker: Parker::new(),
         });
     }
 }
 
-fn lock_links<G: Graph, K: Ledgers>(links: Vec<Wire<G, K>>, lines: &mut Vec<Line<G, K>>)
-    requires { (lines.old.items ≡ []) × (vec_len links ≤ vec_capacity lines.old) }
-    ensures { vec_len lines.new ≡ vec_len links }
+fn lock_links<G: Graph, K: Ledgers>(
+    links: Vec<PoolLink<G, K>>,
+    link_slots: &mut Vec<LinkSlot<G, K>>,
+)
+    requires { (link_slots.old.items ≡ []) × (vec_len links ≤ vec_capacity link_slots.old) }
+    ensures { vec_len link_slots.new ≡ vec_len links }
 {
-    for wire in links {
-        lines.push_reserved(Line {
-            wire: Mutex::new(wire),
+    for pool_link in links {
+        link_slots.push_reserved(LinkSlot {
+            pool_link: Mutex::new(pool_link),
             length: AtomicU64::new(0),
         });
     }
 }
 
-fn unlock_nodes<G: Graph, K: Ledgers>(sites: Vec<Site<Desk<G, K>>>, nodes: &mut Vec<Node<G, K>>)
-    requires { (nodes.old.items ≡ []) × (vec_len sites ≤ vec_capacity nodes.old) }
-    ensures { vec_len nodes.new ≡ vec_len sites }
+fn unlock_nodes<G: Graph, K: Ledgers>(
+    node_slots: Vec<NodeSlot<RunQueue<G, K>>>,
+    nodes: &mut Vec<Node<G, K>>,
+)
+    requires { (nodes.old.items ≡ []) × (vec_len node_slots ≤ vec_capacity nodes.old) }
+    ensures { vec_len nodes.new ≡ vec_len node_slots }
 {
-    for site in sites {
-        nodes.push_reserved(site.desk.into_inner().into_node());
+    for node_slot in node_slots {
+        nodes.push_reserved(node_slot.run_queue.into_inner().into_node());
     }
 }
 
-fn unlock_links<G: Graph, K: Ledgers>(lines: Vec<Line<G, K>>, links: &mut Vec<Wire<G, K>>)
-    requires { (links.old.items ≡ []) × (vec_len lines ≤ vec_capacity links.old) }
-    ensures { vec_len links.new ≡ vec_len lines }
+fn unlock_links<G: Graph, K: Ledgers>(
+    link_slots: Vec<LinkSlot<G, K>>,
+    links: &mut Vec<PoolLink<G, K>>,
+)
+    requires { (links.old.items ≡ []) × (vec_len link_slots ≤ vec_capacity links.old) }
+    ensures { vec_len links.new ≡ vec_len link_slots }
 {
-    for line in lines {
-        links.push_reserved(line.wire.into_inner());
+    for link_slot in link_slots {
+        links.push_reserved(link_slot.pool_link.into_inner());
     }
 }
 
@@ -325,13 +338,13 @@ fn check_nodes<G: Comparable, K: Ledgers>(nodes: &[Node<G, K>], graph: &G) -> Re
     Ok(())
 }
 
-fn check_links<G: Graph, K: Ledgers>(links: &[Wire<G, K>], nodes: u32) -> Result<(), Refusal>
+fn check_links<G: Graph, K: Ledgers>(links: &[PoolLink<G, K>], nodes: u32) -> Result<(), Refusal>
     requires { (nodes ≡ K.names.nodes) × (1 ≤ nodes) × (nodes ≤ 8) }
     ensures order { OnOk result (AreLinksInOrder nodes links.now) }
     ensures refusal { IfErr result (λ e. e ≡ NoNode) }
 {
-    for (place, wire) in links.iter().enumerate() {
-        let (from, to) = (wire.from(), wire.to());
+    for (place, pool_link) in links.iter().enumerate() {
+        let (from, to) = (pool_link.from(), pool_link.to());
         if from == to || link_place(from.0, to.0, nodes) != place {
             return Err(Refusal::NoNode);
         }
@@ -349,19 +362,19 @@ pub(crate) fn link_place(from: u32, to: u32, nodes: u32) -> usize
     from as usize * (nodes as usize - 1) + before as usize
 }
 
-/// Whether a wire goes from a node to another.
-pub(crate) fn check_wire<G: Graph, K: Ledgers>(
-    wire: &Wire<G, K>,
+/// Whether a link goes from a node to another.
+pub(crate) fn check_pool_link<G: Graph, K: Ledgers>(
+    pool_link: &PoolLink<G, K>,
     from: NodeId,
     to: NodeId,
 ) -> Result<(), Refusal>
-    ensures from { OnOk result (wire.now.from ≡ from.0) }
-    ensures to { OnOk result (wire.now.to ≡ to.0) }
+    ensures from { OnOk result (pool_link.now.from ≡ from.0) }
+    ensures to { OnOk result (pool_link.now.to ≡ to.0) }
 {
-    if wire.from() != from {
+    if pool_link.from() != from {
         return Err(Refusal::NoNode);
     }
-    if wire.to() != to {
+    if pool_link.to() != to {
         return Err(Refusal::NoNode);
     }
     Ok(())

@@ -8,10 +8,10 @@ ghost use Rattle.tp_work.specs.Places.{IsWhole};
 ghost use Rattle.tp_work.specs.Reports.{IsReportOf};
 
 use crate::config::{Config, Fault};
-use crate::desk::Share;
 use crate::gate::Gate;
 use crate::gathered::{Report, finish};
 use crate::locks::{Locks, check_places, lock_pool};
+use crate::run_queue::Share;
 use crate::worker::{Worker, set_fault};
 use std::alloc::{AllocError, Global};
 use std::sync::Wait;

@@ -3,9 +3,9 @@ ghost use Rattle.std.specs.Prelude.{◌≡◌, IfOk, None, OnOk, Some, if◌then
 mod passing;
 mod receiving;
 
-use crate::desk::{Desk, Share};
 use crate::gate::Gate;
-use crate::locks::{Locks, Site, lock_soon};
+use crate::locks::{Locks, NodeSlot, lock_soon};
+use crate::run_queue::{RunQueue, Share};
 use std::alloc::{AllocError, Global};
 use std::hint::spin_loop;
 use std::sync::Wait;
@@ -46,7 +46,7 @@ pub(crate) struct Worker<'a, G: Graph, K: Ledgers, A: Gate, R: Wait> {
 /// What a worker has in its hands between two holds of its node's lock. It lends them to each turn, so that a task, which is
 /// large, is put where it stays until it has run.
 #[derive(Drop)]
-struct Hands<G: Graph> {
+struct InFlight<G: Graph> {
     /// A task that has begun.
     begun: Option<Work<G>>,
     /// A task that has run, whose feeds are not passed on.
@@ -102,33 +102,37 @@ impl<'a, G: Comparable, K: Ledgers, A: Gate, R: Wait> Worker<'a, G, K, A, R> {
     }
 
     fn take_turns(&self) -> Result<(), Refusal> {
-        let Some(site) = self.locks.sites.get(self.place.0 as usize) else {
+        let Some(node_slot) = self.locks.node_slots.get(self.place.0 as usize) else {
             return Err(Refusal::NoNode);
         };
-        let mut hands = Hands {
+        let mut in_flight = InFlight {
             begun: None,
             finished: None,
         };
-        self.work_at(site, &mut hands)
+        self.work_at(node_slot, &mut in_flight)
     }
 
     /// Takes turns until the pool has ended. The hands are lent, so that no way out of it has to drop what they hold.
-    fn work_at(&self, site: &Site<Desk<G, K>>, hands: &mut Hands<G>) -> Result<(), Refusal> {
+    fn work_at(
+        &self,
+        node_slot: &NodeSlot<RunQueue<G, K>>,
+        in_flight: &mut InFlight<G>,
+    ) -> Result<(), Refusal> {
         let mut idle = 0u32;
         let mut seen = None;
         for _ in self.rt.forever() {
-            match self.turn(site, hands, idle, &mut seen)? {
+            match self.turn(node_slot, in_flight, idle, &mut seen)? {
                 WorkerTurn::Idle => {
                     idle = idle.saturating_add(1);
                     if idle >= self.idle_turns {
                         return Err(Refusal::Stalled(idle));
                     }
-                    self.rest(site, seen, idle);
+                    self.rest(node_slot, seen, idle);
                 }
                 WorkerTurn::Moved => idle = 0,
                 WorkerTurn::Begun => {
-                    site.call_for_waiting();
-                    self.perform(hands, idle)?;
+                    node_slot.call_for_waiting();
+                    self.perform(in_flight, idle)?;
                     idle = 0;
                 }
                 WorkerTurn::Over(ended) => return self.announce(ended),
@@ -142,30 +146,32 @@ impl<'a, G: Comparable, K: Ledgers, A: Gate, R: Wait> Worker<'a, G, K, A, R> {
     /// tell of nothing that a turn may find to do.
     #[cold]
     #[inline(never)]
-    fn rest(&self, site: &Site<Desk<G, K>>, seen: Option<Seen>, idle: u32) {
+    fn rest(&self, node_slot: &NodeSlot<RunQueue<G, K>>, seen: Option<Seen>, idle: u32) {
         if idle == 1 {
-            self.look_around(site, seen);
+            self.look_around(node_slot, seen);
             return;
         }
-        let heard = site.bell.listen();
-        if !self.is_wanted(site, seen) {
-            site.bell.sleep(self.rt, heard, idle);
+        let heard = node_slot.parker.listen();
+        if !self.is_wanted(node_slot, seen) {
+            node_slot.parker.sleep(self.rt, heard, idle);
         }
-        site.bell.get_up();
+        node_slot.parker.get_up();
     }
 
-    fn look_around(&self, site: &Site<Desk<G, K>>, seen: Option<Seen>) {
+    fn look_around(&self, node_slot: &NodeSlot<RunQueue<G, K>>, seen: Option<Seen>) {
         for _ in 0..LOOKS {
             spin();
-            if self.is_wanted(site, seen) {
+            if self.is_wanted(node_slot, seen) {
                 return;
             }
         }
     }
 
     /// Whether the hints tell of a stop, a task that waits, a message, or a control step since the worker last asked for one.
-    fn is_wanted(&self, site: &Site<Desk<G, K>>, seen: Option<Seen>) -> bool {
-        if site.waiting.load(Ordering::SeqCst) > 0 || site.mail.load(Ordering::SeqCst) > 0 {
+    fn is_wanted(&self, node_slot: &NodeSlot<RunQueue<G, K>>, seen: Option<Seen>) -> bool {
+        if node_slot.waiting.load(Ordering::SeqCst) > 0
+            || node_slot.mail.load(Ordering::SeqCst) > 0
+        {
             return true;
         }
         let control_steps = self.locks.control_steps.load(Ordering::SeqCst);
@@ -177,15 +183,15 @@ impl<'a, G: Comparable, K: Ledgers, A: Gate, R: Wait> Worker<'a, G, K, A, R> {
     #[inline(always)]
     fn turn(
         &self,
-        site: &Site<Desk<G, K>>,
-        hands: &mut Hands<G>,
+        node_slot: &NodeSlot<RunQueue<G, K>>,
+        in_flight: &mut InFlight<G>,
         idle: u32,
         seen: &mut Option<Seen>,
     ) -> Result<WorkerTurn<K>, Refusal> {
         // It is dropped after the lock, which comes later: its numbers may be many.
         let mut spent = None;
-        let mut desk = lock_soon(self.rt, &site.desk);
-        self.turn_at(&mut desk, site, hands, idle, seen, &mut spent)
+        let mut run_queue = lock_soon(self.rt, &node_slot.run_queue);
+        self.turn_at(&mut run_queue, node_slot, in_flight, idle, seen, &mut spent)
     }
 
     /// Passes on what the worker's last task has made, and takes a turn of the node. A copy of what the graph does not keep is
@@ -193,17 +199,17 @@ impl<'a, G: Comparable, K: Ledgers, A: Gate, R: Wait> Worker<'a, G, K, A, R> {
     #[inline(always)]
     fn turn_at(
         &self,
-        desk: &mut Desk<G, K>,
-        site: &Site<Desk<G, K>>,
-        hands: &mut Hands<G>,
+        run_queue: &mut RunQueue<G, K>,
+        node_slot: &NodeSlot<RunQueue<G, K>>,
+        in_flight: &mut InFlight<G>,
         idle: u32,
         seen: &mut Option<Seen>,
         spent: &mut Option<Value>,
     ) -> Result<WorkerTurn<K>, Refusal> {
-        check_node(&desk.node, self.place, &self.graph)?;
-        if let Some(finished) = &hands.finished {
+        check_node(&run_queue.node, self.place, &self.graph)?;
+        if let Some(finished) = &in_flight.finished {
             *spent = unkept(finished)?;
-            self.pass_on(&mut desk.node, &mut hands.finished)?;
+            self.pass_on(&mut run_queue.node, &mut in_flight.finished)?;
         }
         if self.locks.is_stopped.load(Ordering::SeqCst) {
             return Ok(WorkerTurn::Stop);
@@ -211,21 +217,25 @@ impl<'a, G: Comparable, K: Ledgers, A: Gate, R: Wait> Worker<'a, G, K, A, R> {
         if !self.gate.inside(self.place) {
             return Err(Refusal::Stalled(idle));
         }
-        match desk.node.state() {
+        match run_queue.node.state() {
             TaskpoolState::Terminated => Ok(WorkerTurn::Stop),
-            TaskpoolState::NotReady => self.open(&mut desk.node, site),
-            _ => self.go_on(desk, site, hands, seen),
+            TaskpoolState::NotReady => self.open(&mut run_queue.node, node_slot),
+            _ => self.go_on(run_queue, node_slot, in_flight, seen),
         }
     }
 
     /// Inserts input-free tasks, and closes the opening action after the last.
-    fn open(&self, here: &mut Node<G, K>, site: &Site<Desk<G, K>>) -> Result<WorkerTurn<K>, Refusal>
+    fn open(
+        &self,
+        here: &mut Node<G, K>,
+        node_slot: &NodeSlot<RunQueue<G, K>>,
+    ) -> Result<WorkerTurn<K>, Refusal>
         ensures { here.new.graph ≡ here.old.graph }
     {
         let mut board = lock_soon(self.rt, &self.locks.board);
         let opened = open_tasks(here, &mut board);
         drop(board);
-        site.tell_waiting(here.counts().ready as u64);
+        node_slot.tell_waiting(here.counts().ready as u64);
         opened?;
         Ok(WorkerTurn::Moved)
     }
@@ -235,36 +245,41 @@ impl<'a, G: Comparable, K: Ledgers, A: Gate, R: Wait> Worker<'a, G, K, A, R> {
     #[inline(always)]
     fn go_on(
         &self,
-        desk: &mut Desk<G, K>,
-        site: &Site<Desk<G, K>>,
-        hands: &mut Hands<G>,
+        run_queue: &mut RunQueue<G, K>,
+        node_slot: &NodeSlot<RunQueue<G, K>>,
+        in_flight: &mut InFlight<G>,
         seen: &mut Option<Seen>,
     ) -> Result<WorkerTurn<K>, Refusal> {
-        let took = site.mail.load(Ordering::SeqCst) > 0 && self.receive_some(&mut desk.node, site)?;
-        let waiting = desk.waiting();
+        let took = node_slot.mail.load(Ordering::SeqCst) > 0
+            && self.receive_some(&mut run_queue.node, node_slot)?;
+        let waiting = run_queue.waiting();
         if took && (waiting == 0 || !self.may_go_on()?) {
-            site.tell_waiting(waiting);
+            node_slot.tell_waiting(waiting);
             return Ok(WorkerTurn::Moved);
         }
-        site.tell_waiting(waiting.saturating_sub(1));
+        node_slot.tell_waiting(waiting.saturating_sub(1));
         if waiting > 0 {
-            self.next_work(desk, &mut hands.begun)?;
-            if hands.begun.is_some() {
+            self.next_work(run_queue, &mut in_flight.begun)?;
+            if in_flight.begun.is_some() {
                 return Ok(WorkerTurn::Begun);
             }
         }
-        self.control(&mut desk.node, seen)
+        self.control(&mut run_queue.node, seen)
     }
 
-    /// Puts the next work of the desk into the worker's hands. Where none waits there, the worker's share of the ready tasks
+    /// Puts the next work of the run queue into the worker's hands. Where none waits there, the worker's share of the ready tasks
     /// begins.
     #[inline(always)]
-    fn next_work(&self, desk: &mut Desk<G, K>, begun: &mut Option<Work<G>>) -> Result<(), Refusal> {
-        if desk.take(begun) {
+    fn next_work(
+        &self,
+        run_queue: &mut RunQueue<G, K>,
+        begun: &mut Option<Work<G>>,
+    ) -> Result<(), Refusal> {
+        if run_queue.take(begun) {
             return Ok(());
         }
         let mut board = lock_soon(self.rt, &self.locks.board);
-        desk.begin(&mut board, self.share, begun)
+        run_queue.begin(&mut board, self.share, begun)
     }
 
     /// Makes a control step, where the node can make one.
@@ -306,14 +321,14 @@ impl<'a, G: Comparable, K: Ledgers, A: Gate, R: Wait> Worker<'a, G, K, A, R> {
 
     /// Runs the body of the task in the worker's hands, under no lock.
     #[inline(always)]
-    fn perform(&self, hands: &mut Hands<G>, idle: u32) -> Result<(), Refusal> {
-        if let Some(work) = &hands.begun {
+    fn perform(&self, in_flight: &mut InFlight<G>, idle: u32) -> Result<(), Refusal> {
+        if let Some(work) = &in_flight.begun {
             if !self.gate.before(work.task()) {
                 return Err(Refusal::Stalled(idle));
             }
-            hands.finished = Some(work.run(self.alloc)?);
+            in_flight.finished = Some(work.run(self.alloc)?);
         }
-        hands.begun = None;
+        in_flight.begun = None;
         Ok(())
     }
 
@@ -321,10 +336,10 @@ impl<'a, G: Comparable, K: Ledgers, A: Gate, R: Wait> Worker<'a, G, K, A, R> {
     fn announce(&self, ended: Ended<K>) -> Result<(), Refusal> {
         let mut ended = ended;
         for place in 0..MAX_NODES {
-            let Some(site) = self.locks.sites.get(place as usize) else {
+            let Some(node_slot) = self.locks.node_slots.get(place as usize) else {
                 break;
             };
-            self.announce_at(site, NodeId(place), &mut ended)?;
+            self.announce_at(node_slot, NodeId(place), &mut ended)?;
         }
         *lock_soon(self.rt, &self.locks.token) = Some(ended);
         self.locks.stop();
@@ -333,27 +348,27 @@ impl<'a, G: Comparable, K: Ledgers, A: Gate, R: Wait> Worker<'a, G, K, A, R> {
 
     fn announce_at(
         &self,
-        site: &Site<Desk<G, K>>,
+        node_slot: &NodeSlot<RunQueue<G, K>>,
         place: NodeId,
         ended: &mut Ended<K>,
     ) -> Result<(), Refusal> {
-        let mut desk = lock_soon(self.rt, &site.desk);
-        let checked = check_node(&desk.node, place, &self.graph);
+        let mut run_queue = lock_soon(self.rt, &node_slot.run_queue);
+        let checked = check_node(&run_queue.node, place, &self.graph);
         if checked.is_ok() {
             let mut board = lock_soon(self.rt, &self.locks.board);
-            tell_end(&mut desk, ended, &mut board);
+            tell_end(&mut run_queue, ended, &mut board);
         }
         checked
     }
 }
 
-/// Announces the end to the node of a desk.
+/// Announces the end to the node of a run queue.
 fn tell_end<G: Graph, K: Ledgers>(
-    desk: &mut Desk<G, K>,
+    run_queue: &mut RunQueue<G, K>,
     ended: &mut Ended<K>,
     board: &mut Board<K>,
 ) {
-    desk.node.quiet_under(ended, board);
+    run_queue.node.quiet_under(ended, board);
 }
 
 /// Lets a moment pass, and keeps the processor.

@@ -3,11 +3,12 @@ from ..repository import TOP
 from . import inputs, patterns
 from .measuring import Candidate, Case, by_workers, measure
 
-TP, HEAT, PRODUCT, PATTERNS = (f"{TOP}/bin/{name}" for name in ("tp", "heat", "product", "patterns"))
+TP, SAMPLES = f"{TOP}/bin/tp", f"{TOP}/bin/samples"
+HEAT, PRODUCT, PATTERNS = ([SAMPLES, it] for it in ("heat", "product", "patterns"))
 ARCHIVE = f"{TOP}/lib/libgerfmuod.a"
 # what each measurement measures
 PROGRAMS = {
-    "sim": TP, "audit": TP, "run": TP, "patterns": PATTERNS, "rod": HEAT, "body": HEAT, "product": PRODUCT,
+    "sim": TP, "audit": TP, "run": TP, "patterns": SAMPLES, "rod": SAMPLES, "body": SAMPLES, "product": SAMPLES,
     "library": ARCHIVE,
 }
 
@@ -96,7 +97,7 @@ def run(bench):
 def grid_programs(bench, words, places):
     peers, shared = bench.peers, [it for it in places if it[0] == 1]
     return there(
-        *by_workers("patterns", [PATTERNS, *words], places),
+        *by_workers("patterns", [*PATTERNS, *words], places),
         *by_workers("runtime by hand", [peers.rust("runtime", "runtime/main.rs"), *words], places),
         *by_workers("oneTBB flow graph", [peers.flow_graph("flow_graph_patterns"), *words], shared),
         *by_workers("OpenMP tasks", [peers.depend("depend_patterns"), *words], shared),
@@ -150,7 +151,7 @@ def rod(bench):
         path = bench.file(f"cells-{cells}", lambda out, cells=cells: inputs.write_cells(out, cells))
         words = [str(steps), str(block)]
         places = ROD_PLACES if steps else ROD_PLACES[:1]
-        candidates = [*by_workers("heat", [HEAT, *words], places), Candidate("plain loop", [loop, *words])]
+        candidates = [*by_workers("heat", [*HEAT, *words], places), Candidate("plain loop", [loop, *words])]
         if steps:
             candidates += by_workers("threads and a barrier", [loop, *words, "--threads"], places)
         candidates += rod_peers(bench, words, places)
@@ -165,7 +166,7 @@ def body(bench):
             words = [str(count), str(block)]
             name = f"blocks of {block:,}, {count} steps"
             if chosen(bench, name):
-                candidates = by_workers("heat", [HEAT, *words], [(1, 1), (1, 4), (2, 2), (4, 1)])
+                candidates = by_workers("heat", [*HEAT, *words], [(1, 1), (1, 4), (2, 2), (4, 1)])
                 candidates += rod_peers(bench, words, [(1, 1), (1, 4)])
                 case = Case("body", name, "body", -(-BODY_CELLS // block) * count, path)
                 yield from measure(bench._replace(counts=False), case, there(*candidates))
@@ -177,7 +178,7 @@ def product(bench):
         name = f"order {order}, tiles of {side}"
         if chosen(bench, name):
             path = bench.file(f"matrices-{order}", lambda out, order=order: inputs.write_matrices(out, order))
-            candidates = by_workers("product", [PRODUCT, str(side)], PRODUCT_PLACES)
+            candidates = by_workers("product", [*PRODUCT, str(side)], PRODUCT_PLACES)
             case = Case("product", name, "multiplication", order**3, path)
             yield from measure(bench, case, there(*candidates, Candidate("three loops", [loops])))
 

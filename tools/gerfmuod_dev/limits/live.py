@@ -1,10 +1,11 @@
 """Counts the memory that a stencil has at a time, by its steps.
 
-Runs `heat` on the same cells for 1 to 1,000 steps, and `relax` likewise, at one node with one worker and at two with
+Runs `samples heat` on the same cells for 1 to 1,000 steps, and `samples relax` likewise, at one node with one worker and at two with
 two. A run of more steps has to have no more memory at a time than one of a single step and some rows beside it: a value
 lives until its last reader has run. Prints a line for each run. The last line is `N passed, M failed`; the status is 1
 where one failed. Needs a C compiler.
 """
+import functools
 import os
 import sys
 import tempfile
@@ -20,8 +21,12 @@ PLACES = [("1", "1"), ("2", "2")]
 
 
 def arguments(parser):
-    running.program_argument(parser, "heat")
-    parser.add_argument("relax", nargs="?", metavar="RELAX", type=os.path.abspath, default=f"{running.TOP}/bin/relax")
+    running.program_argument(parser, "samples")
+
+
+def command(samples, sample, size, at, steps):
+    """The words of a run of so many steps."""
+    return [samples, sample, steps, size, *at]
 
 
 def most_of(words, stdin, loaded, told):
@@ -46,10 +51,10 @@ def write_cells(path):
     return path
 
 
-def try_steps(tally, name, words, stdin, loaded, told):
+def try_steps(tally, name, words_of, stdin, loaded, told):
     first = None
     for steps in STEPS:
-        most = most_of([words[0], str(steps), *words[1:]], stdin, loaded, told)
+        most = most_of(words_of(str(steps)), stdin, loaded, told)
         first = most if first is None else first
         print(f"{name}, {steps} steps: {'failed' if most is None else f'{most / 1e6:.1f} MB at a time'}", flush=True)
         if most is None or first is None:
@@ -60,7 +65,7 @@ def try_steps(tally, name, words, stdin, loaded, told):
 
 
 def run(words):
-    running.want(words.heat, words.relax)
+    running.want(words.samples)
     tally = running.Tally()
     with tempfile.TemporaryDirectory() as folder:
         loaded, told = running.library("live", folder), f"{folder}/told"
@@ -69,7 +74,7 @@ def run(words):
         cells, grid = write_cells(f"{folder}/cells"), write_grid(f"{folder}/grid")
         for nodes, workers in PLACES:
             at, place = ["--nodes", nodes, "--workers", workers], f"{nodes} by {workers}"
-            heat, relax = [words.heat, "8000", *at], [words.relax, "8", *at]
-            try_steps(tally, f"heat at {place}", heat, cells, loaded, told)
-            try_steps(tally, f"relax at {place}", relax, grid, loaded, told)
+            for sample, size, stdin in (("heat", "8000", cells), ("relax", "8", grid)):
+                words_of = functools.partial(command, words.samples, sample, size, at)
+                try_steps(tally, f"{sample} at {place}", words_of, stdin, loaded, told)
     return tally.end()

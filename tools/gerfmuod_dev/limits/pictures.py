@@ -2,7 +2,7 @@
 
 The traces have a million lines, or as many as are asked for, and are made here: all kinds of steps over eight nodes, each
 node sending to each; waves without work; messages that are never received; pools reopened again and again; messages
-that are on their way for long; nodes that rest in turn. Draws each with `bin/draw run`, reads the picture with a parser of XML,
+that are on their way for long; nodes that rest in turn. Draws each with `bin/samples draw run`, reads the picture with a parser of XML,
 and prints its bytes and seconds, and of the first trace the instructions of `draw run` as a multiple of those of `tp audit`,
 by `valgrind --tool=cachegrind`. The status is 1 where a picture is no XML or has more than 250,000 bytes, or where the trace of all
 kinds of steps takes more than twice the instructions.
@@ -116,33 +116,33 @@ KINDS = {
 
 def arguments(parser):
     running.program_argument(parser)
-    parser.add_argument("draw", nargs="?", default="bin/draw", metavar="DRAW", help="the built program `draw`")
+    running.program_argument(parser, "samples")
     parser.add_argument("--lines", type=int, default=990_000, metavar="N", help="lines of a trace (990,000)")
     parser.add_argument("--bytes-alone", action="store_true", help="count no instructions")
 
 
-def drawn(draw, lines):
+def drawn(samples, lines):
     """The bytes of a picture, which a parser has read, and the seconds that it took."""
     text = "".join(f"{it}\n" for it in lines)
     began = time.time()
-    ran = subprocess.run([draw, "run"], input=text, capture_output=True, text=True, check=True)
+    ran = subprocess.run([samples, "draw", "run"], input=text, capture_output=True, text=True, check=True)
     took = time.time() - began
     xml.etree.ElementTree.fromstring(ran.stdout)
     return len(ran.stdout.encode()), took
 
 
 def run(words):
-    running.want(words.tp)
+    running.want(words.tp, words.samples)
     is_well = True
     with tempfile.TemporaryDirectory() as folder:
         for name, made in KINDS.items():
             lines = made(words.lines)
-            size, took = drawn(words.draw, lines)
+            size, took = drawn(words.samples, lines)
             told, times = f"{name}, {len(lines):,} lines: {size:,} bytes, {took:.1f} s", 0
             # (counting takes fifty times as long)
             if made is all_steps and not words.bytes_alone:
                 text = [f"{it}\n" for it in lines]
-                of_draw, of_audit = (instructions(*it, text, folder) for it in ((words.draw, "run"), (words.tp, "audit")))
+                of_draw, of_audit = (instructions(*it, text, folder) for it in ((words.samples, "draw", "run"), (words.tp, "audit")))
                 times = of_draw / of_audit
                 told += f"; {of_draw / len(lines):,.0f} instructions a line, {times:.2f} times `tp audit`"
             print(told, flush=True)

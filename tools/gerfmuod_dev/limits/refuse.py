@@ -2,27 +2,28 @@
 
 Each program runs again and again, with its first growth refused, then the second, until there is none left; and then
 with all growths from there on refused. Each time it has to give its whole answer, or else `refused 17 NoMemory`, of
-`heat`, `product`, `relax` and `patterns` `there is no memory`, on standard error, nothing on standard output, and status 3; of
-`pools` it may be a line for each pool. Prints for each command how many growths it had, and how many runs were refused. The last
-line is `N passed, M failed`; the status is 1 where one failed, or where a command was never refused. It needs a C
-compiler.
+`samples` `there is no memory` (of `samples draw` either), on standard error, nothing on standard output, and status 3;
+of `pools` it may be a line for each pool. Prints for each command how many growths it had, and how many runs were
+refused. The last line is `N passed, M failed`; the status is 1 where one failed, or where a command was never refused.
+It needs a C compiler.
 """
 import os
 import tempfile
 from typing import NamedTuple
 
 from .. import running
-from .want_of_memory import OF_THE_OTHERS, OF_TP, is_refused, is_whole
+from .want_of_memory import OF_SAMPLES, OF_TP, is_refused, is_whole
 
 
-PROGRAMS = ("tp", "heat", "product", "relax", "draw", "patterns")
+PROGRAMS = ("tp", "samples")
+TWO_BY_TWO = ["--nodes", "2", "--workers", "2"]
 
 
 class Command(NamedTuple):
     name: str
     words: list
     stdin: str = os.devnull
-    complaint: bytes = OF_TP
+    complaints: tuple = (OF_TP,)
 
 
 class Refusing:
@@ -51,7 +52,7 @@ def try_command(tally, refusing, command):
         growths = refused = answered = 0
         for growth, came in refusing.answers(command.words, command.stdin, also_later):
             growths = growth - 1
-            if is_refused(came, command.complaint):
+            if is_refused(came, command.complaints):
                 refused += 1
             elif is_whole(came, whole):
                 answered += 1
@@ -98,37 +99,33 @@ def matrix(m):
     return [" ".join(str(i * 3 - j * m - 5) for j in range(8)) for i in range(8)]
 
 
-def commands_of_the_others(heat, product, relax, folder):
+def commands_of_samples(samples, folder):
+    def command(name, words, stdin=os.devnull):
+        # `draw` has a line of its own, once its arguments are there
+        complaints = (OF_SAMPLES, OF_TP) if words[0] == "draw" else (OF_SAMPLES,)
+        return Command(name, [samples, *words], stdin, complaints)
+
     rod = running.write(f"{folder}/rod", range(0, 401, 7))
     long_rod = running.write(f"{folder}/long_rod", range(1, 4001))
     matrices = running.write(f"{folder}/matrices", [*matrix(0), "", *matrix(1)])
-    two_by_two = ["--nodes", "2", "--workers", "2"]
-    yield Command("heat 40 8, one node", [heat, "40", "8"], rod, OF_THE_OTHERS)
-    yield Command("heat 2 500, an input of several reads", [heat, "2", "500"], long_rod, OF_THE_OTHERS)
-    yield Command("heat 3 5, two nodes by two workers", [heat, "3", "5", *two_by_two], rod, OF_THE_OTHERS)
-    yield Command("heat --help", [heat, "--help"], complaint=OF_THE_OTHERS)
-    yield Command("product 2, one node", [product, "2"], matrices, OF_THE_OTHERS)
-    yield Command("product 4, two nodes by two workers", [product, "4", *two_by_two], matrices, OF_THE_OTHERS)
-    yield Command("product --help", [product, "--help"], complaint=OF_THE_OTHERS)
     grid = running.write(f"{folder}/grid", matrix(2))
-    yield Command("relax 5 3, one node", [relax, "5", "3"], grid, OF_THE_OTHERS)
-    yield Command("relax 3 1, two nodes by two workers", [relax, "3", "1", *two_by_two], grid, OF_THE_OTHERS)
-    yield Command("relax --help", [relax, "--help"], complaint=OF_THE_OTHERS)
-
-
-def commands_of_draw(draw, folder):
+    yield command("heat 40 8, one node", ["heat", "40", "8"], rod)
+    yield command("heat 2 500, an input of several reads", ["heat", "2", "500"], long_rod)
+    yield command("heat 3 5, two nodes by two workers", ["heat", "3", "5", *TWO_BY_TWO], rod)
+    yield command("product 2, one node", ["product", "2"], matrices)
+    yield command("product 4, two nodes by two workers", ["product", "4", *TWO_BY_TWO], matrices)
+    yield command("relax 5 3, one node", ["relax", "5", "3"], grid)
+    yield command("relax 3 1, two nodes by two workers", ["relax", "3", "1", *TWO_BY_TWO], grid)
+    yield command("patterns stencil 4 3 1, one node", ["patterns", "stencil", "4", "3", "1"])
+    yield command("patterns fft 8 4 1, two nodes by two workers", ["patterns", "fft", "8", "4", "1", *TWO_BY_TWO])
+    yield command("patterns --list", ["patterns", "--list"])
+    yield command("samples --help", ["--help"])
+    yield command("heat --help", ["heat", "--help"])
     trace = running.write(f"{folder}/drawn", ["trace 1", "nodes 8", *list(steps())[:80]])
-    yield Command("draw run", [draw, "run"], trace)
-    yield Command("draw graph wavefront:6:5:0", [draw, "graph", "wavefront:6:5:0", "--nodes", "3"])
-    yield Command("draw graph product:4:2:0 --dot", [draw, "graph", "product:4:2:0", "--dot"])
-    yield Command("draw --help", [draw, "--help"])
-
-
-def commands_of_patterns(patterns):
-    two_by_two = ["--nodes", "2", "--workers", "2"]
-    yield Command("patterns stencil 4 3 1, one node", [patterns, "stencil", "4", "3", "1"], complaint=OF_THE_OTHERS)
-    yield Command("patterns fft 8 4 1, two nodes by two workers", [patterns, "fft", "8", "4", "1", *two_by_two], complaint=OF_THE_OTHERS)
-    yield Command("patterns --help", [patterns, "--help"], complaint=OF_THE_OTHERS)
+    yield command("draw run", ["draw", "run"], trace)
+    yield command("draw graph wavefront:6:5:0", ["draw", "graph", "wavefront:6:5:0", "--nodes", "3"])
+    yield command("draw graph product:4:2:0 --dot", ["draw", "graph", "product:4:2:0", "--dot"])
+    yield command("draw --help", ["draw", "--help"])
 
 
 def arguments(parser):
@@ -144,10 +141,6 @@ def run(words):
         if not library:
             return 1
         refusing = Refusing(folder, library)
-        for command in commands_of_tp(words.tp, folder):
-            try_command(tally, refusing, command)
-        for command in commands_of_the_others(words.heat, words.product, words.relax, folder):
-            try_command(tally, refusing, command)
-        for command in (*commands_of_draw(words.draw, folder), *commands_of_patterns(words.patterns)):
+        for command in (*commands_of_tp(words.tp, folder), *commands_of_samples(words.samples, folder)):
             try_command(tally, refusing, command)
     return tally.end()

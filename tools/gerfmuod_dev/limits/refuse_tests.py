@@ -15,20 +15,14 @@ import tempfile
 from .. import repository, running
 from .refuse import Refusing
 
-CRATES = ["test_parts", "test_board", "test_whole"]
+CRATES = ["test_parts", "test_whole"]
 TESTS = [
     "memory::memory_that_is_refused_changes_nothing",
-    "raw::a_refused_growth_loses_nothing",
-    "tables::a_full_history_refuses_a_turn_alone",
-    "tables::a_full_history_refuses_the_visit",
-    "tables::a_reopened_board_begins_anew",
-    "tables::messages_are_counted_at_both_ends",
-    "tables::the_turns_of_two_waves_judge_the_end",
-    "tables::two_equal_waves_judge_the_end",
-    "memory::a_node_refused_memory_is_as_before",
+    "slots::a_refused_growth_loses_nothing",
+    "two_nodes::a_node_refused_memory_is_as_before",
+    "two_nodes::a_pool_is_reopened_and_runs_again",
     "refused_runs::a_run_at_one_node_is_refused_memory_and_runs_again",
     "refused_runs::a_run_at_two_nodes_is_refused_memory_and_runs_again",
-    "reopened::a_pool_is_reopened_and_runs_again",
     "refused_runs::a_series_is_refused_memory_and_runs_again",
     "refused_runs::a_registry_is_refused_memory_and_runs_again",
     "refused_runs::texts_are_refused_memory_and_answered_again",

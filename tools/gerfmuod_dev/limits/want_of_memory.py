@@ -3,7 +3,7 @@ import re
 
 OF_A_POOL = re.compile(rb"pool [0-7] [^ ]+ (ended tasks [0-9]+ messages [0-9]+|refused 17 NoMemory)")
 OF_TP = b"refused 17 NoMemory\n"
-OF_THE_OTHERS = b"there is no memory\n"
+OF_SAMPLES = b"there is no memory\n"
 
 
 def are_lines_of_pools(out):
@@ -13,11 +13,11 @@ def are_lines_of_pools(out):
     return any(it.endswith(b" refused 17 NoMemory") for it in lines) and all(OF_A_POOL.fullmatch(it) for it in lines)
 
 
-def is_refused(answer, complaint=OF_TP):
-    """Whether the run was refused as it should be: status 3, and the complaint with nothing beside it, or a line for each pool."""
+def is_refused(answer, complaints=(OF_TP,)):
+    """Whether the run was refused as it should be: status 3, and a complaint with nothing beside it, or a line for each pool."""
     if answer.status != 3:
         return False
-    return (answer.out, answer.err) == (b"", complaint) or not answer.err and are_lines_of_pools(answer.out)
+    return not answer.out and answer.err in complaints or not answer.err and are_lines_of_pools(answer.out)
 
 
 def is_whole(answer, whole):

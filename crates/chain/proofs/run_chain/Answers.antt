@@ -1,7 +1,7 @@
 use Rattle.std.proofs.Common.{refl}
 use Rattle.tp_graph.proofs.Left.{results_right}
-use Rattle.pool_chain.specs.Chains.{chain_graph}
-use Rattle.pool_chain.proofs.ChainSums.{sums_are}
+use Rattle.chain.specs.Chains.{chain_graph}
+use Rattle.chain.proofs.ChainSums.{sums_are}
 use Rattle.chain.proofs.run_chain.Goals as goal
 
 pub returns-clause-values : goal.returns-clause-values

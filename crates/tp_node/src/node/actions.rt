@@ -2,9 +2,9 @@ ghost use Rattle.std.specs.Prelude.{◌≡◌, [], ◌∷◌, IfErr, OnErr, OnOk
 ghost use Rattle.tp_monitor.specs.declared.state.TaskpoolState.TheVariants.{Terminated};
 ghost use Rattle.tp_board.specs.Calls.{AnswersFirst, Appends};
 ghost use Rattle.tp_board.specs.States.{AnswersBy, IsAtPiece};
-ghost use Rattle.tp_local.specs.Locals.{pending_here, standing};
+ghost use Rattle.tp_node.specs.Locals.{pending_here, standing};
 ghost use Rattle.tp_node.specs.Nodes.{HasNoSeed, closed_with, closing, closing_of, event_of, made_ready, opened_with, opening_of, over};
-ghost use Rattle.tp_local.specs.Locals.{EachOnce};
+ghost use Rattle.tp_node.specs.Locals.{EachOnce};
 ghost use Rattle.tp_node.specs.Refused.{close_checks, open_checks, ready_checks};
 ghost use Rattle.tp_store.specs.Content.{unfinished};
 

@@ -2,13 +2,12 @@ ghost use Rattle.std.specs.Prelude.{◌≡◌, [], ◌∷◌, IfErr, IfNone, IfO
 ghost use Rattle.tp_board.specs.States.{AnswersBy, IsAtPiece, full_check};
 ghost use Rattle.tp_board.specs.Calls.{Appends};
 ghost use Rattle.tp_node.specs.Turns.{turn_of};
-ghost use Rattle.tp_turns.specs.Turns.{IsMade, control_event, ends};
+ghost use Rattle.tp_board.specs.Turns.{IsMade, control_event, ends};
 
 use crate::node::Node;
 use tp_base::Refusal;
-use tp_board::{Board, Ledgers};
+use tp_board::{Board, Ledgers, Turn, make_first};
 use tp_graph::Graph;
-use tp_turns::{Turn, make_first};
 
 impl<G: Graph, K: Ledgers> Node<G, K> {
     /// Makes the first step of the control waves that is lawful for this node, in the order judge, start, down, up of the

@@ -1,14 +1,14 @@
 ghost use Rattle.std.specs.Prelude.{◌≡◌, ◌≤◌, ◌<◌, ◌+◌, [], ◌∷◌, false, Some, None, slice_get, IfOk, IsTrue, MatchOption, OnErr, OnOk};
 ghost use Rattle.tp_board.specs.Numbers.{is_send, receiving, sending};
 ghost use Rattle.tp_graph.specs.Carried.{IsFeed};
-ghost use Rattle.tp_local.specs.Actions.{has_message, without_message};
+ghost use Rattle.tp_node.specs.Actions.{has_message, without_message};
 ghost use Rattle.tp_store.specs.Content.{refusal_of_deliver};
 ghost use Rattle.tp_board.specs.Calls.{AnswersFirst, AnswersWith, Appends};
 ghost use Rattle.tp_node.specs.Calls.{Receives, Rests};
 ghost use Rattle.tp_node.specs.Feeds.{HasFeed, next_feed_of, next_home, passed_on};
 ghost use Rattle.tp_node.specs.Nodes.{HasBrought, after, delivered_with, ending_of, event_of, putting_at, with_actions, with_sent};
 ghost use Rattle.tp_node.specs.Refused.{deliver_checks, message_checks, receive_checks, send_checks};
-ghost use Rattle.tp_node.specs.Wires.{generation_of, message_on, with_message};
+ghost use Rattle.tp_node.specs.PoolLinks.{generation_of, message_on, with_message};
 ghost use Rattle.tp_wave.specs.Generations.{present};
 ghost use Rattle.tp_wave.specs.Machine.{is_send_to, steps_of};
 ghost use Rattle.tp_wave.specs.Steps.{any, count};
@@ -16,41 +16,41 @@ ghost use Rattle.tp_base.specs.Checks.{first_refusal};
 
 use crate::node::Node;
 use crate::node::tasks::make_room;
-use crate::wire::Wire;
+use crate::pool_link::PoolLink;
 use crate::work::Finished;
 use tp_base::{MessageId, Refusal};
 use tp_board::{Board, Ledgers};
 use tp_graph::{Comparable, Feed, Graph, Message, Parcel};
 
 impl<G: Graph, K: Ledgers> Node<G, K> {
-    /// Passes the next feed of a task that runs here on to the node at the end of a wire. The number of the message is
+    /// Passes the next feed of a task that runs here on to the node at the end of a link. The number of the message is
     /// answered: how many messages were sent before it in the present generation, which the message carries.
     ///
     /// Refused: `WrongLife` where the finished task does not run here; `HistoryFull` where the history has reached its
     /// limit; `NoMemory`.
     pub fn send(
         &mut self,
-        wire: &mut Wire<G, K>,
+        pool_link: &mut PoolLink<G, K>,
         board: &mut Board<K>,
         finished: &mut Finished<G>,
     ) -> Result<MessageId, Refusal>
         requires graph { finished.old.graph ≡ self.old.graph }
         requires next { HasFeed (G.meaning self.old.graph) finished.old }
-        requires from_here { wire.old.from ≡ self.old.numbers.node }
-        requires there { next_home (G.meaning self.old.graph) finished.old self.old.nodes ≡ wire.old.to }
+        requires from_here { pool_link.old.from ≡ self.old.numbers.node }
+        requires there { next_home (G.meaning self.old.graph) finished.old self.old.nodes ≡ pool_link.old.to }
         ensures number { IfOk result (λ m. m.0 ≡ count is_send (present (steps_of board.old.history))) }
         ensures event { IfOk result (λ m.
-            Appends (event_of self.old (sending (generation_of board.old) self.old.numbers.node wire.old.to m.0)
+            Appends (event_of self.old (sending (generation_of board.old) self.old.numbers.node pool_link.old.to m.0)
             ∷ []) board.old board.new) }
         ensures sent { IfOk result (λ m. self.new
-            ≡ after (sending (generation_of board.old) self.old.numbers.node wire.old.to m.0) (with_sent self.old.state) self.old) }
-        ensures last { IfOk result (λ m. wire.new
+            ≡ after (sending (generation_of board.old) self.old.numbers.node pool_link.old.to m.0) (with_sent self.old.state) self.old) }
+        ensures last { IfOk result (λ m. pool_link.new
             ≡ with_message
-            (message_on wire.old self.old.graph (generation_of board.old) m.0 (next_feed_of (G.meaning self.old.graph) finished.old)
-            finished.old.value) wire.old) }
+            (message_on pool_link.old self.old.graph (generation_of board.old) m.0 (next_feed_of (G.meaning self.old.graph) finished.old)
+            finished.old.value) pool_link.old) }
         ensures passed { OnOk result (finished.new ≡ passed_on finished.old) }
         ensures refusal { AnswersFirst (send_checks self.old board.old finished.old.task) result }
-        ensures refused { OnErr result (Appends [] board.old board.new × (self.new ≡ self.old) × (wire.new ≡ wire.old)
+        ensures refused { OnErr result (Appends [] board.old board.new × (self.new ≡ self.old) × (pool_link.new ≡ pool_link.old)
             × (finished.new ≡ finished.old)) }
     {
         self.check_runs(finished.task())?;
@@ -58,7 +58,7 @@ impl<G: Graph, K: Ledgers> Node<G, K> {
         let value = finished.value().clone()?;
         board.audit(&mut self.shares);
         let feed = finished.next_feed();
-        let number = wire.put(board, &mut self.shares, self.graph, feed, value)?;
+        let number = pool_link.put(board, &mut self.shares, self.graph, feed, value)?;
         let Ok(()) = self.local.send() else {
             unreachable!()
         };
@@ -109,8 +109,8 @@ impl<G: Graph, K: Ledgers> Node<G, K> {
 }
 
 impl<G: Comparable, K: Ledgers> Node<G, K> {
-    /// Receives the oldest message of a wire to this node: it is counted, and its action opens, with the feed that it brings.
-    /// It answers `None` where the wire is empty.
+    /// Receives the oldest message of a link to this node: it is counted, and its action opens, with the feed that it brings.
+    /// It answers `None` where the link is empty.
     ///
     /// Refused, where there is a message, which stays: `WrongLife` where the end was announced; `Stranger` where the message
     /// is of another graph or of another generation, where the board never gave its number to this pair of nodes in the
@@ -118,45 +118,45 @@ impl<G: Comparable, K: Ledgers> Node<G, K> {
     /// limit; `NoMemory`.
     pub fn receive(
         &mut self,
-        wire: &mut Wire<G, K>,
+        pool_link: &mut PoolLink<G, K>,
         board: &mut Board<K>,
     ) -> Result<Option<Parcel<G>>, Refusal>
-        requires to_here { wire.old.to ≡ self.old.numbers.node }
-        ensures none { wire.old.messages ≡ [] → result ≡ Ok None }
+        requires to_here { pool_link.old.to ≡ self.old.numbers.node }
+        ensures none { pool_link.old.messages ≡ [] → result ≡ Ok None }
         ensures received { IfOk result (λ parcel.
-            MatchOption parcel ((wire.old.messages ≡ []) × Rests self.old self.new board.old board.new
-            × (wire.new ≡ wire.old)) (Receives self.old self.new board.old board.new wire.old wire.new)) }
+            MatchOption parcel ((pool_link.old.messages ≡ []) × Rests self.old self.new board.old board.new
+            × (pool_link.new ≡ pool_link.old)) (Receives self.old self.new board.old board.new pool_link.old pool_link.new)) }
         ensures brought { IfOk result (λ parcel. MatchOption parcel (Unit {0}) (HasBrought (G.meaning self.new.graph) self.new)) }
-        ensures refusal { MatchOption (slice_get wire.old.messages 0) (Unit {0}) (λ m.
-            AnswersFirst (receive_checks self.old board.old wire.old (G.eq m.graph self.old.graph) m) result) }
-        ensures refused { OnErr result (Appends [] board.old board.new × (self.new ≡ self.old) × (wire.new ≡ wire.old)) }
+        ensures refusal { MatchOption (slice_get pool_link.old.messages 0) (Unit {0}) (λ m.
+            AnswersFirst (receive_checks self.old board.old pool_link.old (G.eq m.graph self.old.graph) m) result) }
+        ensures refused { OnErr result (Appends [] board.old board.new × (self.new ≡ self.old) × (pool_link.new ≡ pool_link.old)) }
     {
-        let Some(message) = wire.front() else {
+        let Some(message) = pool_link.front() else {
             return Ok(None);
         };
         let number = message.number();
         let feed = message.feed();
-        self.check_message(wire, board, message)?;
+        self.check_message(pool_link, board, message)?;
         board.reserve(1)?;
         board.audit(&mut self.shares);
         self.local.receive(number, feed)?;
-        let message = wire.take(board, &mut self.shares);
+        let message = pool_link.take(board, &mut self.shares);
         Ok(Some(message.receive()))
     }
 
-    /// Whether a message of a wire can be received, places and memory apart.
+    /// Whether a message of a link can be received, places and memory apart.
     fn check_message(
         &self,
-        wire: &Wire<G, K>,
+        pool_link: &PoolLink<G, K>,
         board: &Board<K>,
         message: &Message<G>,
     ) -> Result<(), Refusal>
         ensures refusal { MatchOption
-            (first_refusal (message_checks self.now board.now wire.now (G.eq message.now.graph self.now.graph) message.now))
+            (first_refusal (message_checks self.now board.now pool_link.now (G.eq message.now.graph self.now.graph) message.now))
             (result ≡ Ok tt) (λ e. result ≡ Err e) }
         ensures graph { OnOk result (message.now.graph ≡ self.now.graph) }
         ensures generation { OnOk result (message.now.generation.0 ≡ generation_of board.now) }
-        ensures sent { OnOk result (IsTrue (any (is_send_to wire.now.to message.now.number.0) (present (steps_of board.now.history)))) }
+        ensures sent { OnOk result (IsTrue (any (is_send_to pool_link.now.to message.now.number.0) (present (steps_of board.now.history)))) }
         ensures closed { OnOk result ((self.now.state.ended ≡ false) × (has_message self.now.state.actions message.now.number.0 ≡ false)) }
     {
         if self.local.is_over() {
@@ -165,7 +165,7 @@ impl<G: Comparable, K: Ledgers> Node<G, K> {
         let number = message.number();
         let is_same = message.graph() == self.graph;
         let is_present = message.generation() == board.generation();
-        let was_given = board.gave(wire.from(), wire.to(), number);
+        let was_given = board.gave(pool_link.from(), pool_link.to(), number);
         if !is_same || !is_present || !was_given || self.local.has_message(number) {
             return Err(Refusal::Stranger);
         }

@@ -16,12 +16,12 @@ ghost use Rattle.tp_store.specs.Content.{refusal_of_deliver, task_of};
 ghost use Rattle.tp_base.specs.declared.step.Step.TheVariants as steps;
 ghost use Rattle.tp_base.specs.Checks.{first_refusal};
 
+use crate::Local;
 use crate::node::Node;
 use crate::work::{Finished, Work};
 use tp_base::{Inputs, NodeId, Refusal, Step, TaskId};
 use tp_board::{Board, Ledgers};
 use tp_graph::{Feed, Graph, Value};
-use tp_local::Local;
 use tp_store::Life;
 
 impl<G: Graph, K: Ledgers> Node<G, K> {

@@ -3,22 +3,22 @@ ghost use Rattle.tp_node.specs.Feeds as feeds;
 ghost use Rattle.tp_node.specs.Feeds.{HasFeed};
 ghost use Rattle.tp_work.specs.Feeds.{GoesTo, IsFarther, IsSameNode};
 
-use crate::desk::Desk;
 use crate::gate::Gate;
-use crate::locks::{Site, check_wire, link_place, lock_soon};
+use crate::locks::{NodeSlot, check_pool_link, link_place, lock_soon};
+use crate::run_queue::RunQueue;
 use crate::worker::Worker;
 use std::sync::atomic::Ordering;
 use std::sync::{MutexGuard, Wait};
 use tp_base::{NodeId, Refusal};
 use tp_board::{Board, Ledgers};
 use tp_graph::{Comparable, Graph, is_same};
-use tp_node::{Finished, Node, Wire};
+use tp_node::{Finished, Node, PoolLink};
 
 /// What passing on a task's feeds leaves: the board's lock, and the node to be rung once it is free.
 #[derive(Drop)]
 struct Passed<'a, G: Graph, K: Ledgers> {
     board: MutexGuard<'a, Board<K>>,
-    told: Option<&'a Site<Desk<G, K>>>,
+    told: Option<&'a NodeSlot<RunQueue<G, K>>>,
 }
 
 impl<'a, G: Comparable, K: Ledgers, A: Gate, R: Wait> Worker<'a, G, K, A, R> {
@@ -28,25 +28,25 @@ impl<'a, G: Comparable, K: Ledgers, A: Gate, R: Wait> Worker<'a, G, K, A, R> {
     pub fn pass_on(
         &self,
         here: &mut Node<G, K>,
-        hands: &mut Option<Finished<G>>,
+        in_flight: &mut Option<Finished<G>>,
     ) -> Result<(), Refusal>
         requires { here.old.graph ≡ self.now.graph }
         ensures { here.new.graph ≡ here.old.graph }
     {
-        let Some(finished) = hands else {
+        let Some(finished) = in_flight else {
             return Ok(());
         };
         if !is_same(&finished.graph(), &self.graph) {
             return Err(Refusal::Stranger);
         }
         let Passed { mut board, told } = self.pass_feeds(here, finished)?;
-        let Some(finished) = hands.take() else {
+        let Some(finished) = in_flight.take() else {
             return Ok(());
         };
         let done = record_done(here, &mut board, finished);
         drop(board);
-        if let Some(site) = told {
-            site.bell.ring();
+        if let Some(node_slot) = told {
+            node_slot.parker.ring();
         }
         done
     }
@@ -72,7 +72,7 @@ impl<'a, G: Comparable, K: Ledgers, A: Gate, R: Wait> Worker<'a, G, K, A, R> {
                 }
                 continue;
             }
-            let Some(there) = self.locks.sites.get(home.0 as usize) else {
+            let Some(there) = self.locks.node_slots.get(home.0 as usize) else {
                 return Err(Refusal::NoNode);
             };
             let mut board = self.send(here, there, home, finished)?;
@@ -84,7 +84,7 @@ impl<'a, G: Comparable, K: Ledgers, A: Gate, R: Wait> Worker<'a, G, K, A, R> {
                 });
             }
             drop(board);
-            there.bell.ring();
+            there.parker.ring();
         }
         Ok(Passed {
             board: lock_soon(self.rt, &self.locks.board),
@@ -97,7 +97,7 @@ impl<'a, G: Comparable, K: Ledgers, A: Gate, R: Wait> Worker<'a, G, K, A, R> {
     fn send(
         &self,
         here: &mut Node<G, K>,
-        there: &Site<Desk<G, K>>,
+        there: &NodeSlot<RunQueue<G, K>>,
         to: NodeId,
         finished: &mut Finished<G>,
     ) -> Result<MutexGuard<'a, Board<K>>, Refusal>
@@ -109,14 +109,16 @@ impl<'a, G: Comparable, K: Ledgers, A: Gate, R: Wait> Worker<'a, G, K, A, R> {
         ensures passed { OnOk result (IsFarther finished.old finished.new) }
     {
         let (number, nodes) = (here.number(), here.nodes());
-        let Some(line) = self.locks.lines.get(link_place(number.0, to.0, nodes)) else {
+        let Some(link_slot) = self.locks.link_slots.get(link_place(number.0, to.0, nodes)) else {
             return Err(Refusal::NoNode);
         };
-        let mut wire = lock_soon(self.rt, &line.wire);
+        let mut pool_link = lock_soon(self.rt, &link_slot.pool_link);
         let mut board = lock_soon(self.rt, &self.locks.board);
         let before = finished.fed();
-        send_row(here, &mut wire, &mut board, to, finished)?;
-        line.length.store(wire.len() as u64, Ordering::SeqCst);
+        send_row(here, &mut pool_link, &mut board, to, finished)?;
+        link_slot
+            .length
+            .store(pool_link.len() as u64, Ordering::SeqCst);
         there
             .mail
             .fetch_add((finished.fed() - before) as u64, Ordering::SeqCst);
@@ -124,10 +126,10 @@ impl<'a, G: Comparable, K: Ledgers, A: Gate, R: Wait> Worker<'a, G, K, A, R> {
     }
 }
 
-/// Passes the next feed on over a wire, where that goes from the node to another.
+/// Passes the next feed on over a link, where that goes from the node to another.
 fn send_next<G: Graph, K: Ledgers>(
     here: &mut Node<G, K>,
-    wire: &mut Wire<G, K>,
+    pool_link: &mut PoolLink<G, K>,
     board: &mut Board<K>,
     to: NodeId,
     finished: &mut Finished<G>,
@@ -138,15 +140,15 @@ fn send_next<G: Graph, K: Ledgers>(
     ensures node { IsSameNode here.old here.new }
     ensures passed { OnOk result (IsFarther finished.old finished.new) }
 {
-    check_wire(wire, here.number(), to)?;
-    here.send(wire, board, finished)?;
+    check_pool_link(pool_link, here.number(), to)?;
+    here.send(pool_link, board, finished)?;
     Ok(())
 }
 
-/// Passes the next feed on over a wire, and those after it, as long as they go to the same node.
+/// Passes the next feed on over a link, and those after it, as long as they go to the same node.
 fn send_row<G: Graph, K: Ledgers>(
     here: &mut Node<G, K>,
-    wire: &mut Wire<G, K>,
+    pool_link: &mut PoolLink<G, K>,
     board: &mut Board<K>,
     to: NodeId,
     finished: &mut Finished<G>,
@@ -158,12 +160,12 @@ fn send_row<G: Graph, K: Ledgers>(
     ensures passed { OnOk result (IsFarther finished.old finished.new) }
 {
     let nodes = here.nodes();
-    send_next(here, wire, board, to, finished)?;
+    send_next(here, pool_link, board, to, finished)?;
     while let Some(home) = next_home(finished, nodes) {
         if home != to {
             break;
         }
-        send_next(here, wire, board, to, finished)?;
+        send_next(here, pool_link, board, to, finished)?;
     }
     Ok(())
 }

@@ -1,15 +1,15 @@
 ghost use Rattle.std.specs.Prelude.{◌≡◌, ◌+◌, length, IfOk, IsFalse, IsTrue};
 
-use crate::desk::Desk;
 use crate::gate::Gate;
-use crate::locks::{Line, Site, check_wire, link_place, lock_soon};
+use crate::locks::{LinkSlot, NodeSlot, check_pool_link, link_place, lock_soon};
+use crate::run_queue::RunQueue;
 use crate::worker::{MESSAGES_IN_A_HOLD, Worker};
 use std::sync::Wait;
 use std::sync::atomic::Ordering;
 use tp_base::{NodeId, Refusal};
 use tp_board::{Board, Ledgers};
 use tp_graph::Comparable;
-use tp_node::{Node, Wire};
+use tp_node::{Node, PoolLink};
 
 impl<'a, G: Comparable, K: Ledgers, A: Gate, R: Wait> Worker<'a, G, K, A, R> {
     /// Receives messages, as long as there are any, each in a turn of its own: so whether the pool was stopped, and the gate, is
@@ -18,17 +18,17 @@ impl<'a, G: Comparable, K: Ledgers, A: Gate, R: Wait> Worker<'a, G, K, A, R> {
     pub fn receive_some(
         &self,
         here: &mut Node<G, K>,
-        site: &Site<Desk<G, K>>,
+        node_slot: &NodeSlot<RunQueue<G, K>>,
     ) -> Result<bool, Refusal>
         ensures { here.new.graph ≡ here.old.graph }
     {
-        if !self.receive(here, site)? {
+        if !self.receive(here, node_slot)? {
             return Ok(false);
         }
         for _ in 1..MESSAGES_IN_A_HOLD {
-            if site.mail.load(Ordering::SeqCst) == 0
+            if node_slot.mail.load(Ordering::SeqCst) == 0
                 || !self.may_go_on()?
-                || !self.receive(here, site)?
+                || !self.receive(here, node_slot)?
             {
                 break;
             }
@@ -48,7 +48,11 @@ impl<'a, G: Comparable, K: Ledgers, A: Gate, R: Wait> Worker<'a, G, K, A, R> {
     }
 
     /// Receives a message and delivers its value, where there is one.
-    fn receive(&self, here: &mut Node<G, K>, site: &Site<Desk<G, K>>) -> Result<bool, Refusal>
+    fn receive(
+        &self,
+        here: &mut Node<G, K>,
+        node_slot: &NodeSlot<RunQueue<G, K>>,
+    ) -> Result<bool, Refusal>
         ensures { here.new.graph ≡ here.old.graph }
     {
         let (number, nodes) = (here.number(), here.nodes());
@@ -56,11 +60,12 @@ impl<'a, G: Comparable, K: Ledgers, A: Gate, R: Wait> Worker<'a, G, K, A, R> {
             if from == number.0 {
                 continue;
             }
-            let Some(line) = self.locks.lines.get(link_place(from, number.0, nodes)) else {
+            let Some(link_slot) = self.locks.link_slots.get(link_place(from, number.0, nodes))
+            else {
                 return Err(Refusal::NoNode);
             };
-            if line.length.load(Ordering::SeqCst) > 0 {
-                return self.receive_from(here, site, line, NodeId(from));
+            if link_slot.length.load(Ordering::SeqCst) > 0 {
+                return self.receive_from(here, node_slot, link_slot, NodeId(from));
             }
         }
         Ok(false)
@@ -69,28 +74,30 @@ impl<'a, G: Comparable, K: Ledgers, A: Gate, R: Wait> Worker<'a, G, K, A, R> {
     fn receive_from(
         &self,
         here: &mut Node<G, K>,
-        site: &Site<Desk<G, K>>,
-        line: &Line<G, K>,
+        node_slot: &NodeSlot<RunQueue<G, K>>,
+        link_slot: &LinkSlot<G, K>,
         from: NodeId,
     ) -> Result<bool, Refusal>
         ensures { here.new.graph ≡ here.old.graph }
     {
-        let mut wire = lock_soon(self.rt, &line.wire);
+        let mut pool_link = lock_soon(self.rt, &link_slot.pool_link);
         let mut board = lock_soon(self.rt, &self.locks.board);
-        let received = receive_next(here, &mut wire, &mut board, from);
-        line.length.store(wire.len() as u64, Ordering::SeqCst);
+        let received = receive_next(here, &mut pool_link, &mut board, from);
+        link_slot
+            .length
+            .store(pool_link.len() as u64, Ordering::SeqCst);
         if matches!(received, Ok(true)) {
-            site.mail.fetch_sub(1, Ordering::SeqCst);
+            node_slot.mail.fetch_sub(1, Ordering::SeqCst);
         }
         received
     }
 }
 
-/// Receives the next message of a wire from a node, and delivers its value, where there is one. That takes three events: the
+/// Receives the next message of a link from a node, and delivers its value, where there is one. That takes three events: the
 /// receipt, the value that is put, and the end of the message's action.
 fn receive_next<G: Comparable, K: Ledgers>(
     here: &mut Node<G, K>,
-    wire: &mut Wire<G, K>,
+    pool_link: &mut PoolLink<G, K>,
     board: &mut Board<K>,
     from: NodeId,
 ) -> Result<bool, Refusal>
@@ -98,8 +105,8 @@ fn receive_next<G: Comparable, K: Ledgers>(
     ensures delivered { IfOk result (λ took. IsTrue took → length board.new.history ≡ length board.old.history + 3) }
     ensures none { IfOk result (λ took. IsFalse took → board.new.history ≡ board.old.history) }
 {
-    check_wire(wire, from, here.number())?;
-    let Some(parcel) = here.receive(wire, board)? else {
+    check_pool_link(pool_link, from, here.number())?;
+    let Some(parcel) = here.receive(pool_link, board)? else {
         return Ok(false);
     };
     match here.deliver(board, parcel) {

@@ -2,7 +2,7 @@ use Rattle.std.specs.Prelude.{◌≡◌, ◌+◌, ◌*◌, ◌≤◌, vec_len, s
 use Rattle.std.specs.List.{All}
 use Rattle.tp_wave.specs.Generations.{present_events}
 use Rattle.tp_wave.specs.Machine.{pending_at}
-use Rattle.tp_ledgers.specs.Numbers.{ShareNumbers}
+use Rattle.tp_board.specs.Numbers.{ShareNumbers}
 use Rattle.tp_board.proofs.books.gather.Given as goal
 
 abbrev pub invariant-loop-next : goal.invariant-loop-next

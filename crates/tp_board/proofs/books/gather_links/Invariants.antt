@@ -1,5 +1,5 @@
 use Rattle.std.specs.Prelude.{◌≡◌, ◌+◌, vec_len, sum_by}
-use Rattle.tp_ledgers.specs.Numbers.{LinkNumbers}
+use Rattle.tp_board.specs.Numbers.{LinkNumbers}
 use Rattle.tp_board.proofs.books.gather_links.Given as goal
 
 abbrev pub invariant-loop-next : goal.invariant-loop-next

@@ -8,14 +8,14 @@ use Rattle.tp_cli.proofs.cli.answer_words.Goals as goal
 pub returns-in-Ok-Answer-clause-answered : goal.returns-in-Ok-Answer-clause-answered
 returns-in-Ok-Answer-clause-answered g c =
     let asked = rw c.in-Ok-Answer.field-0-is at c.in-Ok-Answer.ensures.asked in
-    IfOk-weaker c.answer_text.result _ _
+    IfOk-weaker c.answer_text.result.0 _ _
     (λ status did. answered_text (map (λ w. w.now) c.args.words.now) _ _ _ _ c.in-Ok-Answer.kind status did.0 did.1 asked did.2 did.3 did.4)
     c.answer_text.ensures.answered
 
 pub returns-in-Ok-Answer-clause-why : goal.returns-in-Ok-Answer-clause-why
 returns-in-Ok-Answer-clause-why g c =
     let asked = rw c.in-Ok-Answer.field-0-is at c.in-Ok-Answer.ensures.asked in
-    IfErr-weaker c.answer_text.result _ _
+    IfErr-weaker c.answer_text.result.0 _ _
     (λ fault met. text_met (map (λ w. w.now) c.args.words.now) _ _ c.in-Ok-Answer.kind _ fault met.0 asked met.1 met.2 met.3)
     c.answer_text.ensures.why
 

@@ -1,9 +1,5 @@
-use Rattle.std.proofs.Common.{arith, refl, ◌∙◌, subst, ◌≡◌}
-use Rattle.std.proofs.lemmas.Bool.Decides.{nat_tests}
-use Rattle.tp_core.specs.Kept.{AreOpened}
-use Rattle.tp_core.proofs.Keeping.{zeros}
-use Rattle.tp_core.proofs.Starting.{opened_more}
-use Rattle.tp_core.proofs.Written.{eight_all}
+use Rattle.tp_core.proofs.Words.{arith, refl, ◌∙◌, subst, ◌≡◌, nat_tests, AreOpened}
+use Rattle.tp_core.proofs.Lemmas.{zeros, opened_more, eight_all}
 use Rattle.tp_core.proofs.accepting.opened.Goals as goal
 
 pub loop-i-init : goal.loop-i-init

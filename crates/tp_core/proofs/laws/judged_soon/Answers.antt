@@ -1,4 +1,4 @@
-use Rattle.tp_core.proofs.Settling.{judged_soon}
+use Rattle.tp_core.proofs.Lemmas.{judged_soon}
 use Rattle.tp_core.proofs.laws.judged_soon.Goals as goal
 
 pub returns : goal.returns

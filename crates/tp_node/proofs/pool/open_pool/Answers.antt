@@ -1,7 +1,7 @@
 use Rattle.std.proofs.Common.{◌∙◌, ap, map}
 use Rattle.tp_board.specs.Numbers.{LinkNumbers, ShareNumbers}
 use Rattle.tp_node.specs.Nodes.{first_node}
-use Rattle.tp_node.specs.Wires.{empty_wire}
+use Rattle.tp_node.specs.PoolLinks.{empty_pool_link}
 use Rattle.tp_node.proofs.pool.open_pool.Goals as goal
 
 pub open_parts-requires-clause-first : goal.open_parts-requires-clause-first
@@ -15,7 +15,7 @@ returns-clause-nodes g c =
     c.in_ok-nodes.ensures.nodes ∙ ap (map (λ (s : ShareNumbers). first_node c.args.graph c.args.nodes s.node)) c.in_ok-board.ensures.shares
 
 pub returns-clause-links : goal.returns-clause-links
-returns-clause-links g c = c.in_ok-nodes.ensures.links ∙ ap (map (λ (l : LinkNumbers). empty_wire l)) c.in_ok-board.ensures.links
+returns-clause-links g c = c.in_ok-nodes.ensures.links ∙ ap (map (λ (l : LinkNumbers). empty_pool_link l)) c.in_ok-board.ensures.links
 
 pub returns-clause-board : goal.returns-clause-board
 returns-clause-board g c = c.in_ok-board.ensures.board

@@ -1,5 +1,5 @@
 use Rattle.std.proofs.Common.{◌∙◌, ap, sym, map}
-use Rattle.tp_ledgers.specs.Reopening.{begun_anew}
+use Rattle.tp_board.specs.Reopening.{begun_anew}
 use Rattle.tp_node.specs.Nodes.{NodeState}
 use Rattle.tp_node.proofs.Gathering.{numbers_anew}
 use Rattle.tp_node.proofs.reopening.reopen_nodes.Goals as goal
@@ -7,4 +7,4 @@ use Rattle.tp_node.proofs.reopening.reopen_nodes.Goals as goal
 pub put_together-requires-clause-first : goal.put_together-requires-clause-first
 put_together-requires-clause-first g c κs within =
     c.reopen-shares.ensures.shares ∙ ap (map begun_anew) c.take_apart.ensures.shares ∙ numbers_anew c.args.nodes.items
-    ∙ sym (ap (map (λ (n : NodeState g.row.G.Denot). n.numbers)) c.take_apart.ensures.bare)
+    ∙ sym (ap (map (λ (n : NodeState g.row.G.Denot). n.numbers)) c.take_apart.ensures.unshared)

@@ -49,11 +49,11 @@ loop-node-preserved g c =
       board = c.apart-share.ensures.board ∙ kept.board;
       shares = mapped-more (λ (n : NodeState g.row.G.Denot). n.numbers) yielded node c.loop-node.shares.items _ _ kept.shares
           c.apart-share.ensures.shares c.push_reserved.ensures.items;
-      bare = mapped-more (anew {G = g.row.G.Denot}) yielded node c.loop-node.bare.items _ _ kept.bare c.apart-share.ensures.bare
+      unshared = mapped-more (anew {G = g.row.G.Denot}) yielded node c.loop-node.unshared.items _ _ kept.unshared c.apart-share.ensures.unshared
           c.push_reserved-in-loop-node.ensures.items;
       pool =
           subst (All P) (sym c.push_reserved-in-loop-node.ensures.items)
-          (All-append P c.loop-node.bare.items (c.apart-share.result.2
+          (All-append P c.loop-node.unshared.items (c.apart-share.result.2
           ∷ []) kept.pool (All-cons P c.apart-share.result.2 [] c.apart-share.ensures.pool (All-nil P)));
       results = results-more yielded node c.loop-node.results.items _ _ kept.results c.apart-share.ensures.results
           c.put_behind.ensures.items;
@@ -63,10 +63,10 @@ loop-node-preserved g c =
           c.apart-share.ensures.right all in
           rw (c.put_behind.ensures.items, c.apart-share.ensures.results) both;
       shares_room = omega (arith, fewer, kept.shares_room, c.push_reserved.ensures.len, c.push_reserved.ensures.capacity);
-      bare_room = omega (
+      unshared_room = omega (
         arith,
         fewer,
-        kept.bare_room,
+        kept.unshared_room,
         c.push_reserved-in-loop-node.ensures.len,
         c.push_reserved-in-loop-node.ensures.capacity,
       );

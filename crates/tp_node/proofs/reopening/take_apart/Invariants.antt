@@ -10,12 +10,12 @@ invariant-loop-node g l =
     record {
       board : l.board ≡ l.initial.board;
       shares : l.shares.items ≡ map (λ n. n.numbers) l.yielded;
-      bare : l.bare.items ≡ map anew l.yielded;
-      pool : All (IsOfPool g.K.Ledgers.names.nodes) l.bare.items;
+      unshared : l.unshared.items ≡ map anew l.yielded;
+      pool : All (IsOfPool g.K.Ledgers.names.nodes) l.unshared.items;
       results : l.results.items ≡ flat_map (λ n. n.state.store.results) l.yielded;
       right : (graph : _) → All (λ n. n.graph ≡ graph) l.yielded → AreResults (g.G.Graph.meaning graph) l.results.items;
       shares_room : vec_len l.shares + length (into_iter_items l.node-iterator) ≤ vec_capacity l.shares;
-      bare_room : vec_len l.bare + length (into_iter_items l.node-iterator) ≤ vec_capacity l.bare;
+      unshared_room : vec_len l.unshared + length (into_iter_items l.node-iterator) ≤ vec_capacity l.unshared;
       results_room : vec_len l.results + sum_by (λ n.
           length n.state.store.results) (into_iter_items l.node-iterator) ≤ vec_capacity l.results;
     }

@@ -3,7 +3,7 @@ use Rattle.std.specs.Prelude.{sum_by}
 use Rattle.std.specs.List.{All, count_by}
 use Rattle.tp_board.specs.Numbers.{LinkNumbers, ShareNumbers}
 use Rattle.tp_node.specs.Nodes.{NodeState, counted_of}
-use Rattle.tp_node.specs.Wires.{link_of}
+use Rattle.tp_node.specs.PoolLinks.{link_of}
 use Rattle.tp_wave.specs.Generations.{present_events}
 use Rattle.tp_wave.specs.Machine.{pending_at}
 use Rattle.tp_work.proofs.Gathering.{All-of_map, done_by, sum_by-map}
@@ -19,7 +19,7 @@ returns-clause-gathered g c =
           ∙ sum_by-map (λ (s : ShareNumbers). s.sent) counted_of c.args.pool.nodes.items;
       received = c.close_books-totals.ensures.received.0 ∙ ap (sum_by (λ (s : ShareNumbers). s.received)) c.take_nodes.ensures.shares
           ∙ sum_by-map (λ (s : ShareNumbers). s.received) counted_of c.args.pool.nodes.items;
-      under = c.close_books-totals.ensures.under.0 ∙ ap (sum_by (λ (l : LinkNumbers). l.under)) c.take_wires.ensures
+      under = c.close_books-totals.ensures.under.0 ∙ ap (sum_by (λ (l : LinkNumbers). l.under)) c.take_pool_links.ensures
           ∙ sum_by-map (λ (l : LinkNumbers). l.under) link_of c.args.pool.links.items;
       balance = c.close_books-totals.ensures.balance;
       announced = c.count_told-announced.ensures ∙ ap (count_by (λ (n : NodeState g.row.G.Denot). n.state.ended)) all;

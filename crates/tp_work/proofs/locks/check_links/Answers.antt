@@ -1,5 +1,5 @@
 use Rattle.std.proofs.Common.{rules, ◌≡◌, ◌∙◌, sym, ap}
-use Rattle.tp_node.specs.Wires.{WireState}
+use Rattle.tp_node.specs.PoolLinks.{PoolLinkState}
 use Rattle.tp_work.specs.Places.{link_place}
 use Rattle.tp_work.proofs.Placing.{in_order-more}
 use Rattle.tp_work.proofs.locks.check_links.Goals as goal
@@ -7,6 +7,6 @@ use Rattle.tp_work.proofs.locks.check_links.Goals as goal
 pub loop-place-preserved : goal.loop-place-preserved
 loop-place-preserved g c =
     let place : link_place c.args.nodes c.index-links-place.result.from c.index-links-place.result.to ≡ c.loop-place.place = search rules in
-    in_order-more (λ (w : WireState _). link_place c.args.nodes w.from w.to) c.args.links.now c.loop-place.place
+    in_order-more (λ (w : PoolLinkState _). link_place c.args.nodes w.from w.to) c.args.links.now c.loop-place.place
     c.index-links-place.result c.loop-place-test.true
-    (ap (λ (w : WireState _). link_place c.args.nodes w.from w.to) (sym c.index-links-place.is) ∙ place) c.loop-place.invariant
+    (ap (λ (w : PoolLinkState _). link_place c.args.nodes w.from w.to) (sym c.index-links-place.is) ∙ place) c.loop-place.invariant

@@ -1,7 +1,7 @@
 use Rattle.std.proofs.Common.{◌∙◌, sym, ap, subst}
 use Rattle.std.specs.Prelude.{IfErr, IfOk}
 use Rattle.tp_graph.specs.Graphs.{TaskGraph}
-use Rattle.tp_ledgers.specs.Names.{PoolNames}
+use Rattle.tp_board.specs.Names.{PoolNames}
 use Rattle.tp_work.specs.Outcomes.{IsFault, IsOutcome}
 use Rattle.tp_work.proofs.run.run_only.Goals as goal
 

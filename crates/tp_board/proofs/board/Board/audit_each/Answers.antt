@@ -1,7 +1,7 @@
 use Rattle.std.proofs.Common.{◌≡◌, ◌∙◌, ap, get_or, set, arith}
 use Rattle.std.proofs.lemmas.List.{set-get_or, take_all}
 use Rattle.std.proofs.lemmas.List.Elements.{All-more}
-use Rattle.tp_ledgers.specs.Numbers.{ShareNumbers}
+use Rattle.tp_board.specs.Numbers.{ShareNumbers}
 use Rattle.tp_board.specs.States.{BoardState}
 use Rattle.tp_wave.specs.Generations.{present_events}
 use Rattle.tp_wave.specs.Machine.{pending_at}

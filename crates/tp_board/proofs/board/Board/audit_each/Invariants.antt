@@ -1,6 +1,6 @@
 use Rattle.std.proofs.Common.{◌≡◌, take}
 use Rattle.std.specs.List.{All}
-use Rattle.tp_ledgers.specs.Numbers.{ShareNumbers}
+use Rattle.tp_board.specs.Numbers.{ShareNumbers}
 use Rattle.tp_board.proofs.board.Board.audit_each.Given as goal
 
 abbrev pub invariant-loop-next : goal.invariant-loop-next

@@ -13,6 +13,6 @@ returns-clause-small g c =
       arith,
       c.audit_link.ensures.told,
       c.self.invariant.now.under,
-      under_way-le (present_events c.self.inside.log.history),
+      under_way-le (present_events c.self.inside.event_log.history),
       c.self.invariant.now.short,
     )

@@ -39,5 +39,5 @@ returns-clause-received g c =
 pub returns-clause-ended : goal.returns-clause-ended
 returns-clause-ended g c =
     rw (← c.self.view_is)
-    (ended_told g.K.Ledgers.names.nodes (present (steps_of c.self.inside.log.history)) _ c.is_ended-ended.ensures.out
+    (ended_told g.K.Ledgers.names.nodes (present (steps_of c.self.inside.event_log.history)) _ c.is_ended-ended.ensures.out
     (told _ _ _ _ _ c.self.invariant).judged)

@@ -30,7 +30,7 @@ returns-in_err-add-clause-refusal g c =
 pub invariant_of-self-in-Some : goal.invariant_of-self-in-Some
 invariant_of-self-in-Some g c =
     let n = g.K.Ledgers.names.nodes in
-    let past = steps_of (present_events c.self.inside.log.history) in
+    let past = steps_of (present_events c.self.inside.event_log.history) in
     let history = ap (λ (b : BoardState). b.history) c.in_ok-add.ensures.ok in
     let tell = two_tell_law n _ c.self.invariant.now.run in
     let goes = c.in_ok-ended_with.ensures.follows n past c.self.invariant.now.follows tell in
@@ -41,7 +41,7 @@ invariant_of-self-in-Some g c =
 pub invariant_of-self-in-None : goal.invariant_of-self-in-None
 invariant_of-self-in-None g c =
     let n = g.K.Ledgers.names.nodes in
-    let past = steps_of (present_events c.self.inside.log.history) in
+    let past = steps_of (present_events c.self.inside.event_log.history) in
     let history = ap (λ (b : BoardState). b.history) c.in_ok-add.ensures.ok in
     let tell = two_tell_law n _ c.self.invariant.now.run in
     let goes = c.in_ok-ended_with.ensures.follows n past c.self.invariant.now.follows tell in
@@ -53,57 +53,57 @@ invariant_of-self-in-None g c =
 pub returns-in-Some-clause-first : goal.returns-in-Some-clause-first
 returns-in-Some-clause-first g c =
     let n = g.K.Ledgers.names.nodes in
-    let past = steps_of (present_events c.self.inside.log.history) in
+    let past = steps_of (present_events c.self.inside.event_log.history) in
     let goes = c.in_ok-ended_with.ensures.follows n past c.self.invariant.now.follows (two_tell_law n _ c.self.invariant.now.run) in
-    rw (← c.self.view_is, ← steps-present c.self.inside.log.history) (not_ended n past _ goes)
+    rw (← c.self.view_is, ← steps-present c.self.inside.event_log.history) (not_ended n past _ goes)
 
 pub returns-in-None-clause-first : goal.returns-in-None-clause-first
 returns-in-None-clause-first g c =
     let n = g.K.Ledgers.names.nodes in
-    let past = steps_of (present_events c.self.inside.log.history) in
+    let past = steps_of (present_events c.self.inside.event_log.history) in
     let goes = c.in_ok-ended_with.ensures.follows n past c.self.invariant.now.follows (two_tell_law n _ c.self.invariant.now.run) in
-    rw (← c.self.view_is, ← steps-present c.self.inside.log.history) (not_ended n past _ goes)
+    rw (← c.self.view_is, ← steps-present c.self.inside.event_log.history) (not_ended n past _ goes)
 
 pub returns-in-Some-clause-over : goal.returns-in-Some-clause-over
 returns-in-Some-clause-over g c =
     let n = g.K.Ledgers.names.nodes in
-    let past = steps_of (present_events c.self.inside.log.history) in
+    let past = steps_of (present_events c.self.inside.event_log.history) in
     let word = sym (c.in_ok-ended_with.ensures.judged n past c.self.invariant.now.follows (two_tell_law n _ c.self.invariant.now.run))
     ∙ c.in-Some.is in
-    rw (← c.self.view_is) (judged_over n c.self.inside.log.history _ word)
+    rw (← c.self.view_is) (judged_over n c.self.inside.event_log.history _ word)
 
 pub returns-in-None-clause-over : goal.returns-in-None-clause-over
 returns-in-None-clause-over g c =
     let n = g.K.Ledgers.names.nodes in
-    let past = steps_of (present_events c.self.inside.log.history) in
+    let past = steps_of (present_events c.self.inside.event_log.history) in
     let word = sym (c.in_ok-ended_with.ensures.judged n past c.self.invariant.now.follows (two_tell_law n _ c.self.invariant.now.run))
     ∙ c.in-None.is in
-    rw (← c.self.view_is) (judged_over n c.self.inside.log.history _ word)
+    rw (← c.self.view_is) (judged_over n c.self.inside.event_log.history _ word)
 
 pub returns-in-Some-clause-ended : goal.returns-in-Some-clause-ended
 returns-in-Some-clause-ended g c =
     let n = g.K.Ledgers.names.nodes in
-    let past = steps_of (present_events c.self.inside.log.history) in
+    let past = steps_of (present_events c.self.inside.event_log.history) in
     let history = ap (λ (b : BoardState). b.history) c.in_ok-add.ensures.ok in
     let tell = two_tell_law n _ c.self.invariant.now.run in
     let goes = c.in_ok-ended_with.ensures.follows n past c.self.invariant.now.follows tell in
     let word = sym (c.in_ok-ended_with.ensures.judged n past c.self.invariant.now.follows tell) ∙ c.in-Some.is in
-    judged_ended n c.self.inside.log.history _ _ _ history goes word
+    judged_ended n c.self.inside.event_log.history _ _ _ history goes word
 
 pub returns-in-None-clause-ended : goal.returns-in-None-clause-ended
 returns-in-None-clause-ended g c =
     let n = g.K.Ledgers.names.nodes in
-    let past = steps_of (present_events c.self.inside.log.history) in
+    let past = steps_of (present_events c.self.inside.event_log.history) in
     let history = ap (λ (b : BoardState). b.history) c.in_ok-add.ensures.ok in
     let tell = two_tell_law n _ c.self.invariant.now.run in
     let goes = c.in_ok-ended_with.ensures.follows n past c.self.invariant.now.follows tell in
     let word = sym (c.in_ok-ended_with.ensures.judged n past c.self.invariant.now.follows tell) ∙ c.in-None.is in
-    judged_ended n c.self.inside.log.history _ _ _ history goes word
+    judged_ended n c.self.inside.event_log.history _ _ _ history goes word
 
 pub returns-in-Some-clause-quiet : goal.returns-in-Some-clause-quiet
 returns-in-Some-clause-quiet g c =
     let n = g.K.Ledgers.names.nodes in
-    let past = steps_of (present_events c.self.inside.log.history) in
+    let past = steps_of (present_events c.self.inside.event_log.history) in
     let history = ap (λ (b : BoardState). b.history) c.in_ok-add.ensures.ok in
     let tell = two_tell_law n _ c.self.invariant.now.run in
     let goes = c.in_ok-ended_with.ensures.follows n past c.self.invariant.now.follows tell in

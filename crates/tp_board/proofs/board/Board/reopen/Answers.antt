@@ -2,8 +2,8 @@ use Rattle.std.proofs.Common.{ℕ, ◌≡◌, List, [], ◌∷◌, ◌++◌, ap,
 use Rattle.std.proofs.Math.Seq.{take-append_seam}
 use Rattle.std.proofs.lemmas.List.Elements.{All-cons, All-nil, All-same}
 use Rattle.std.specs.List.{All}
-use Rattle.tp_ledgers.specs.Numbers.{ShareNumbers, first_numbers}
-use Rattle.tp_ledgers.specs.Reopening.{begun_anew}
+use Rattle.tp_board.specs.Numbers.{ShareNumbers, first_numbers}
+use Rattle.tp_board.specs.Reopening.{begun_anew}
 use Rattle.tp_board.specs.States.{BoardState}
 use Rattle.tp_board.proofs.Further.{reopened, told}
 use Rattle.tp_wave.specs.Generations.{present}
@@ -33,7 +33,7 @@ pub invariant_of-self : goal.invariant_of-self
 invariant_of-self g c =
     let n = g.K.Ledgers.names.nodes in
     let same = ap (λ (b : BoardState). b.history) (c.self.view_is ∙ c.audit_each.ensures.same.0 ∙ c.audit_ended.ensures.same) in
-    let ended : IsTrue (is_ended n (present (steps_of c.self.inside.log.history))) = rw same c.audit_ended.ensures.ended in
+    let ended : IsTrue (is_ended n (present (steps_of c.self.inside.event_log.history))) = rw same c.audit_ended.ensures.ended in
     let follows = subst (λ k. Follows k [] c.new-self-inside.result) c.self.invariant.now.nodes_are c.new-self-inside.ensures.follows in
     reopened _ _ _ _ _ _ _ _ c.self.invariant (ap (λ (b : BoardState). b.history) c.reopen.ensures.ok) c.reopen.ensures.places ended
     c.reopen-anew.ensures.books c.reopen-anew.ensures.under follows

@@ -1,19 +1,8 @@
-use Rattle.std.proofs.Common.{◌≡◌, Some, arith, refl}
-use Rattle.std.proofs.lemmas.Grind.{common_steps}
-use Rattle.std.proofs.lemmas.Result.{err_from_is_err_and}
-use Rattle.tp_base.specs.declared.Step.TheVariants.{MessageEnd}
+use Rattle.tp_core.proofs.Words.{◌≡◌, Some, arith, refl, common_steps, err_from_is_err_and, MessageEnd, lookup, OfMessage, present}
+use Rattle.tp_core.proofs.Words.{generation, MayCome, IsLawful, accepted}
+use Rattle.tp_core.proofs.Lemmas.{places_next, agree_next, numbers_written, MayClose, may_end_message, message_closed, message_ended, taken}
+use Rattle.tp_core.proofs.Lemmas.{no_room}
 use Rattle.tp_core.specs.declared.posted.Stage.TheVariants as stage
-use Rattle.tp_base.specs.Table.{lookup}
-use Rattle.tp_core.specs.World.{OfMessage}
-use Rattle.tp_wave.specs.Generations.{present, generation}
-use Rattle.tp_core.specs.Generations.{MayCome}
-use Rattle.tp_core.specs.Run.{IsLawful}
-use Rattle.tp_core.specs.Kept.{accepted}
-use Rattle.tp_core.proofs.Places.{places_next}
-use Rattle.tp_core.proofs.Keeping.{agree_next, numbers_written}
-use Rattle.tp_core.proofs.Bounds.{MayClose, may_end_message}
-use Rattle.tp_core.proofs.Tables.{message_closed, message_ended}
-use Rattle.tp_core.proofs.Taking.{taken, no_room}
 use Rattle.tp_core.proofs.accepting.Core.end.Goals as goal
 use Rattle.tp_core.proofs.accepting.Core.end.Goals.{After-make_room}
 

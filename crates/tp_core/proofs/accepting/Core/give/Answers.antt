@@ -1,25 +1,7 @@
-use Rattle.std.proofs.Common.{◌≡◌, Bool, true, false, Option, Some, None, refl, sym, subst, ap, arith, ◌∷◌, []}
-use Rattle.std.proofs.lemmas.Grind.{common_steps}
-use Rattle.std.proofs.lemmas.Result.{err_from_is_err_and}
-use Rattle.tp_base.specs.declared.Step.TheVariants.{Give}
-use Rattle.tp_base.specs.declared.Refusal.TheVariants.{NotIdle}
-use Rattle.tp_wave.proofs.Exact.{checks_exact}
-use Rattle.tp_core.specs.declared.numbers.NodeNumbers.{NodeNumbers}
-use Rattle.std.specs.Prelude.{◌==◌, if◌then◌else◌}
-use Rattle.tp_base.specs.declared.Sums.{Sums}
-use Rattle.tp_core.specs.declared.reply.Reply.TheVariants.{WaveSums, Plain}
-use Rattle.tp_core.specs.World.{pending}
-use Rattle.tp_wave.specs.Generations.{present}
-use Rattle.tp_core.specs.Generations.{MayCome}
-use Rattle.tp_core.specs.Run.{IsLawful}
-use Rattle.tp_core.specs.Accepted.{Accepted, refusal, numbers_at, world_of}
-use Rattle.tp_core.specs.Kept.{accepted}
-use Rattle.tp_core.proofs.Exact.{give_refused, give_active}
-use Rattle.tp_core.proofs.Bounds.{small}
-use Rattle.tp_core.proofs.Places.{control_places}
-use Rattle.tp_core.proofs.Keeping.{agree_after, numbers_stay, zeros}
-use Rattle.tp_core.proofs.Taking.{taken, no_room}
-use Rattle.std.specs.List.{slice_index_or}
+use Rattle.tp_core.proofs.Words.{◌≡◌, Bool, true, false, Option, Some, None, refl, sym, subst, ap, arith, ◌∷◌, [], common_steps}
+use Rattle.tp_core.proofs.Words.{err_from_is_err_and, Give, NotIdle, checks_exact, NodeNumbers, ◌==◌, if◌then◌else◌, Sums, WaveSums, Plain}
+use Rattle.tp_core.proofs.Words.{pending, present, MayCome, IsLawful, Accepted, refusal, numbers_at, world_of, accepted, slice_index_or}
+use Rattle.tp_core.proofs.Lemmas.{give_refused, give_active, small, control_places, agree_after, numbers_stay, zeros, taken, no_room}
 use Rattle.tp_core.proofs.accepting.Core.give.Goals as goal
 use Rattle.tp_core.proofs.accepting.Core.give.Goals.{After-give, After-make_room, in-Some, in-None}
 

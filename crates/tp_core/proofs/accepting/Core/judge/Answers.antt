@@ -1,19 +1,6 @@
-use Rattle.std.proofs.Common.{ap, ◌∙◌, refl, sym, arith, ◌∷◌, []}
-use Rattle.std.proofs.lemmas.Grind.{common_steps}
-use Rattle.std.proofs.lemmas.Result.{err_from_is_err_and}
-use Rattle.tp_base.specs.declared.Step.TheVariants.{Judge}
-use Rattle.tp_wave.proofs.Exact.{checks_exact}
-use Rattle.tp_wave.specs.Generations.{present}
-use Rattle.tp_core.specs.Generations.{MayCome}
-use Rattle.tp_core.specs.Run.{IsLawful}
-use Rattle.tp_wave.specs.Cut.{DoTwoTell}
-use Rattle.tp_core.specs.Accepted.{Accepted, judged}
-use Rattle.tp_core.specs.Kept.{accepted, Agree}
-use Rattle.tp_core.specs.declared.accepting.Core.TheInside.{Inside}
-use Rattle.tp_core.proofs.Counting.{two_told}
-use Rattle.tp_core.proofs.Places.{control_places}
-use Rattle.tp_core.proofs.Keeping.{agree_after, numbers_stay}
-use Rattle.tp_core.proofs.Taking.{taken, no_room, by_wave}
+use Rattle.tp_core.proofs.Words.{ap, ◌∙◌, refl, sym, arith, ◌∷◌, [], common_steps, err_from_is_err_and, Judge, checks_exact, present}
+use Rattle.tp_core.proofs.Words.{MayCome, IsLawful, DoTwoTell, Accepted, judged, accepted, Agree, Inside}
+use Rattle.tp_core.proofs.Lemmas.{two_told, control_places, agree_after, numbers_stay, taken, no_room, by_wave}
 use Rattle.tp_core.proofs.accepting.Core.judge.Goals as goal
 use Rattle.tp_core.proofs.accepting.Core.judge.Goals.{After-make_room, in-Some, in-None}
 

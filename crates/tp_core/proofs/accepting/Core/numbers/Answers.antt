@@ -1,9 +1,5 @@
-use Rattle.std.proofs.Common.{◌≡◌, ◌≤◌, ◌<◌, ◌∙◌, subst, sym, arith}
-use Rattle.std.specs.List.{slice_index_or}
-use Rattle.tp_core.specs.Accepted.{Accepted, numbers_at}
-use Rattle.tp_wave.specs.Generations.{present}
-use Rattle.tp_core.specs.Kept.{accepted}
-use Rattle.tp_core.proofs.Keeping.{outside}
+use Rattle.tp_core.proofs.Words.{◌≡◌, ◌≤◌, ◌<◌, ◌∙◌, subst, sym, arith, slice_index_or, Accepted, numbers_at, present, accepted}
+use Rattle.tp_core.proofs.Lemmas.{outside}
 use Rattle.tp_core.proofs.accepting.Core.numbers.Goals as goal
 
 pub returns-clause-nodes : goal.returns-clause-nodes

@@ -1,20 +1,6 @@
-use Rattle.std.proofs.Common.{◌<◌, arith, refl, ◌∙◌}
-use Rattle.std.proofs.lemmas.Bool.Decides.{nat_tests}
-use Rattle.std.proofs.lemmas.Result.{err_from_is_err_and}
-use Rattle.tp_base.specs.declared.Step.TheVariants.{ActionOpen}
-use Rattle.tp_base.specs.declared.limits.TheConstants.{MAX_NODES}
-use Rattle.tp_core.specs.World.{Named}
-use Rattle.tp_wave.specs.Steps.{any}
-use Rattle.tp_core.specs.Accepted.{is_action_beside}
-use Rattle.tp_wave.specs.Generations.{present}
-use Rattle.tp_core.specs.Generations.{MayCome}
-use Rattle.tp_core.specs.Run.{IsLawful}
-use Rattle.tp_core.specs.Kept.{accepted}
-use Rattle.tp_core.proofs.Places.{asks, places_next}
-use Rattle.tp_core.proofs.Keeping.{agree_next, numbers_written, zeros}
-use Rattle.tp_core.proofs.Bounds.{small}
-use Rattle.tp_core.proofs.Tables.{named_opened}
-use Rattle.tp_core.proofs.Taking.{no_memory, no_room, taken}
+use Rattle.tp_core.proofs.Words.{◌<◌, arith, refl, ◌∙◌, nat_tests, err_from_is_err_and, ActionOpen, MAX_NODES, Named, any, is_action_beside}
+use Rattle.tp_core.proofs.Words.{present, MayCome, IsLawful, accepted}
+use Rattle.tp_core.proofs.Lemmas.{asks, places_next, agree_next, numbers_written, zeros, small, named_opened, no_memory, no_room, taken}
 use Rattle.tp_core.proofs.accepting.Core.open.Goals as goal
 use Rattle.tp_core.proofs.accepting.Core.open.Goals.{After-make_room}
 

@@ -1,16 +1,5 @@
-use Rattle.std.proofs.Common.{arith, refl}
-use Rattle.std.proofs.lemmas.Result.{err_from_is_err_and}
-use Rattle.tp_base.specs.declared.Step.TheVariants.{Ready}
-use Rattle.tp_core.specs.World.{Opening}
-use Rattle.tp_wave.specs.Generations.{present}
-use Rattle.tp_core.specs.Generations.{MayCome}
-use Rattle.tp_core.specs.Run.{IsLawful}
-use Rattle.tp_core.specs.Kept.{accepted}
-use Rattle.tp_core.proofs.Places.{places_next}
-use Rattle.tp_core.proofs.Keeping.{agree_next, numbers_written}
-use Rattle.tp_core.proofs.Bounds.{MayClose, may_close}
-use Rattle.tp_core.proofs.Tables.{opening_closed}
-use Rattle.tp_core.proofs.Taking.{taken, no_room}
+use Rattle.tp_core.proofs.Words.{arith, refl, err_from_is_err_and, Ready, Opening, present, MayCome, IsLawful, accepted}
+use Rattle.tp_core.proofs.Lemmas.{places_next, agree_next, numbers_written, MayClose, may_close, opening_closed, taken, no_room}
 use Rattle.tp_core.proofs.accepting.Core.ready.Goals as goal
 use Rattle.tp_core.proofs.accepting.Core.ready.Goals.{After-make_room}
 

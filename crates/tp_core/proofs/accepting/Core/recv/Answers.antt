@@ -1,19 +1,8 @@
-use Rattle.std.proofs.Common.{◌≡◌, Some, arith, refl}
-use Rattle.std.proofs.lemmas.Grind.{common_steps}
-use Rattle.std.proofs.lemmas.Result.{err_from_is_err_and}
-use Rattle.tp_base.specs.declared.Step.TheVariants.{Recv}
+use Rattle.tp_core.proofs.Words.{◌≡◌, Some, arith, refl, common_steps, err_from_is_err_and, Recv, lookup, present, generation, MayCome}
+use Rattle.tp_core.proofs.Words.{IsLawful, accepted}
+use Rattle.tp_core.proofs.Lemmas.{lists_are_sets, places_next, agree_next, numbers_written, MayReceive, may_receive, small, received}
+use Rattle.tp_core.proofs.Lemmas.{message_received, taken, no_room}
 use Rattle.tp_core.specs.declared.posted.Stage.TheVariants as stage
-use Rattle.tp_base.specs.Table.{lookup}
-use Rattle.tp_wave.specs.Generations.{present, generation}
-use Rattle.tp_core.specs.Generations.{MayCome}
-use Rattle.tp_core.specs.Run.{IsLawful}
-use Rattle.tp_core.specs.Kept.{accepted}
-use Rattle.tp_core.proofs.Sets.{lists_are_sets}
-use Rattle.tp_core.proofs.Places.{places_next}
-use Rattle.tp_core.proofs.Keeping.{agree_next, numbers_written}
-use Rattle.tp_core.proofs.Bounds.{MayReceive, may_receive, small}
-use Rattle.tp_core.proofs.Tables.{received, message_received}
-use Rattle.tp_core.proofs.Taking.{taken, no_room}
 use Rattle.tp_core.proofs.accepting.Core.recv.Goals as goal
 use Rattle.tp_core.proofs.accepting.Core.recv.Goals.{After-make_room}
 

@@ -1,16 +1,6 @@
-use Rattle.std.proofs.Common.{◌≡◌, true, refl, ap, sym, ◌+◌, ◌∙◌, arith, IsTrue}
-use Rattle.std.proofs.lemmas.Bool.Decides.{nat_tests}
-use Rattle.std.proofs.lemmas.Result.{err_from_is_err_and}
-use Rattle.tp_base.specs.declared.Step.TheVariants.{Reopen}
-use Rattle.tp_wave.specs.Steps.{is_reopen}
-use Rattle.tp_wave.specs.Sums.{is_ended}
-use Rattle.tp_wave.specs.Generations.{present}
-use Rattle.tp_core.specs.Generations.{MayCome}
-use Rattle.tp_core.specs.Kept.{accepted}
-use Rattle.tp_core.specs.declared.reply.Reply.TheVariants.{Opened}
-use Rattle.tp_core.proofs.Bounds.{count_bound}
-use Rattle.tp_core.proofs.Starting.{reopened_kept}
-use Rattle.tp_core.proofs.Taking.{taken, no_room}
+use Rattle.tp_core.proofs.Words.{◌≡◌, true, refl, ap, sym, ◌+◌, ◌∙◌, arith, IsTrue, nat_tests, err_from_is_err_and, Reopen, is_reopen}
+use Rattle.tp_core.proofs.Words.{is_ended, present, MayCome, accepted, Opened}
+use Rattle.tp_core.proofs.Lemmas.{count_bound, reopened_kept, taken, no_room}
 use Rattle.tp_core.proofs.accepting.Core.reopen.Goals as goal
 use Rattle.tp_core.proofs.accepting.Core.reopen.Goals.{After-make_room}
 

@@ -1,21 +1,7 @@
-use Rattle.std.proofs.Common.{Bool, false, Option, Some, sym, ◌≡◌, ◌<◌, None, arith, refl}
-use Rattle.std.proofs.lemmas.Bool.Decides.{nat_tests}
-use Rattle.std.proofs.lemmas.Result.{err_from_is_err_and}
-use Rattle.std.specs.Prelude.{is_some}
-use Rattle.tp_base.specs.declared.Step.TheVariants.{Send}
-use Rattle.tp_base.specs.declared.limits.TheConstants.{MAX_NODES}
-use Rattle.tp_base.specs.Table.{lookup}
-use Rattle.tp_wave.specs.Steps.{any}
-use Rattle.tp_core.specs.Accepted.{is_message_beside}
-use Rattle.tp_wave.specs.Generations.{present, generation}
-use Rattle.tp_core.specs.Generations.{MayCome}
-use Rattle.tp_core.specs.Run.{IsLawful}
-use Rattle.tp_core.specs.Kept.{accepted}
-use Rattle.tp_core.proofs.Places.{asks, places_next}
-use Rattle.tp_core.proofs.Keeping.{agree_next, numbers_written, zeros}
-use Rattle.tp_core.proofs.Bounds.{small}
-use Rattle.tp_core.proofs.Tables.{posted, message_sent}
-use Rattle.tp_core.proofs.Taking.{no_memory, no_room, taken}
+use Rattle.tp_core.proofs.Words.{Bool, false, Option, Some, sym, ◌≡◌, ◌<◌, None, arith, refl, nat_tests, err_from_is_err_and, is_some, Send}
+use Rattle.tp_core.proofs.Words.{MAX_NODES, lookup, any, is_message_beside, present, generation, MayCome, IsLawful, accepted}
+use Rattle.tp_core.proofs.Lemmas.{asks, places_next, agree_next, numbers_written, zeros, small, posted, message_sent, no_memory, no_room}
+use Rattle.tp_core.proofs.Lemmas.{taken}
 use Rattle.tp_core.proofs.accepting.Core.send.Goals as goal
 use Rattle.tp_core.proofs.accepting.Core.send.Goals.{After-make_room}
 

@@ -1,9 +1,5 @@
-use Rattle.std.proofs.Common.{subst}
-use Rattle.tp_core.specs.Accepted.{Accepted}
-use Rattle.tp_core.specs.NeverEarly.{IsNeverEarly}
-use Rattle.tp_core.specs.Kept.{accepted}
-use Rattle.tp_core.specs.Generations.{InEach}
-use Rattle.tp_core.proofs.Generations.{never_early_in_each}
+use Rattle.tp_core.proofs.Words.{subst, Accepted, IsNeverEarly, accepted, InEach}
+use Rattle.tp_core.proofs.Lemmas.{never_early_in_each}
 use Rattle.tp_core.proofs.accepting.Core.settle.Goals as goal
 
 pub returns-clause-answers : goal.returns-clause-answers

@@ -1,16 +1,7 @@
-use Rattle.std.proofs.Common.{◌≡◌, true, false, None, reverse, refl, sym, subst, ◌∙◌, arith, IsTrue, IsFalse}
-use Rattle.std.proofs.lemmas.Bool.Decides.{nat_tests}
-use Rattle.std.proofs.lemmas.List.{length-reverse}
-use Rattle.std.proofs.lemmas.Result.{err_from_is_err_and}
-use Rattle.tp_wave.specs.Sums.{is_ended}
-use Rattle.tp_core.specs.World.{is_quiet}
-use Rattle.tp_core.specs.Accepted.{Accepted, world_of}
-use Rattle.tp_wave.specs.Generations.{present}
-use Rattle.tp_core.specs.Kept.{accepted}
-use Rattle.tp_base.specs.Checks.{first_refusal}
-use Rattle.tp_core.specs.Settled.{IsSettled, settle_checks}
-use Rattle.tp_core.specs.ToTheEnd.{AreTaken}
-use Rattle.tp_core.proofs.Ending.{same_quiet, by_quiet, by_none, no_rooms, ready_there, agree_settled, settled}
+use Rattle.tp_core.proofs.Words.{◌≡◌, true, false, None, reverse, refl, sym, subst, ◌∙◌, arith, IsTrue, IsFalse, nat_tests, length-reverse}
+use Rattle.tp_core.proofs.Words.{err_from_is_err_and, is_ended, is_quiet, Accepted, world_of, present, accepted, first_refusal, IsSettled}
+use Rattle.tp_core.proofs.Words.{settle_checks, AreTaken}
+use Rattle.tp_core.proofs.Lemmas.{same_quiet, by_quiet, by_none, no_rooms, ready_there, agree_settled, settled}
 use Rattle.tp_core.proofs.accepting.Core.take_steps.Goals as goal
 use Rattle.tp_core.proofs.accepting.Core.take_steps.Goals.{After-make_rooms, After-take_to_end}
 

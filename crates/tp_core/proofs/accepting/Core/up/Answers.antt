@@ -1,15 +1,6 @@
-use Rattle.std.proofs.Common.{refl, sym, arith, ◌∷◌, []}
-use Rattle.std.proofs.lemmas.Grind.{common_steps}
-use Rattle.std.proofs.lemmas.Result.{err_from_is_err_and}
-use Rattle.tp_base.specs.declared.Step.TheVariants.{Up}
-use Rattle.tp_wave.proofs.Exact.{checks_exact}
-use Rattle.tp_wave.specs.Generations.{present}
-use Rattle.tp_core.specs.Generations.{MayCome}
-use Rattle.tp_core.specs.Run.{IsLawful}
-use Rattle.tp_core.specs.Kept.{accepted}
-use Rattle.tp_core.proofs.Places.{control_places}
-use Rattle.tp_core.proofs.Keeping.{agree_after, numbers_stay}
-use Rattle.tp_core.proofs.Taking.{taken, no_room, by_wave}
+use Rattle.tp_core.proofs.Words.{refl, sym, arith, ◌∷◌, [], common_steps, err_from_is_err_and, Up, checks_exact, present, MayCome, IsLawful}
+use Rattle.tp_core.proofs.Words.{accepted}
+use Rattle.tp_core.proofs.Lemmas.{control_places, agree_after, numbers_stay, taken, no_room, by_wave}
 use Rattle.tp_core.proofs.accepting.Core.up.Goals as goal
 use Rattle.tp_core.proofs.accepting.Core.up.Goals.{After-make_room}
 

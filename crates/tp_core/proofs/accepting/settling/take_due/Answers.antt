@@ -1,14 +1,7 @@
-use Rattle.std.proofs.Common.{ℕ, List, reverse, refl, ap, ◌∙◌, arith}
-use Rattle.tp_base.specs.declared.Step.{Step}
-use Rattle.tp_base.specs.declared.Step.TheVariants.{Give, Judge}
-use Rattle.tp_wave.specs.Control.{IsDue}
-use Rattle.tp_wave.specs.Wave.{nodes_of}
-use Rattle.tp_wave.proofs.Given.{started_law}
-use Rattle.tp_core.specs.declared.numbers.NodeNumbers.{NodeNumbers}
-use Rattle.tp_wave.specs.Generations.{present}
-use Rattle.tp_core.proofs.Counting.{two_told}
-use Rattle.tp_core.proofs.Generations.{length-present}
-use Rattle.tp_core.proofs.Due.{passes, stands, own_numbers, few_sent, few_received, ok_there, one_taken, told_judge}
+use Rattle.tp_core.proofs.Words.{ℕ, List, reverse, refl, ap, ◌∙◌, arith, Step, Give, Judge, IsDue, nodes_of, started_law, NodeNumbers}
+use Rattle.tp_core.proofs.Words.{present}
+use Rattle.tp_core.proofs.Lemmas.{two_told, length-present, passes, stands, own_numbers, few_sent, few_received, ok_there, one_taken}
+use Rattle.tp_core.proofs.Lemmas.{told_judge}
 use Rattle.tp_core.proofs.accepting.settling.take_due.Goals as goal
 use Rattle.tp_core.proofs.accepting.settling.take_due.Goals.{After-next_step-step}
 

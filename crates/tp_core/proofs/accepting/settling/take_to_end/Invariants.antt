@@ -1,6 +1,4 @@
-use Rattle.std.proofs.Common.{◌≡◌, ◌-◌, ◌*◌, reverse, vec_capacity}
-use Rattle.tp_wave.specs.Wave.{nodes_of}
-use Rattle.tp_core.specs.ToTheEnd.{GoesOn}
+use Rattle.tp_core.proofs.Words.{◌≡◌, ◌-◌, ◌*◌, reverse, vec_capacity, nodes_of, GoesOn}
 use Rattle.tp_core.proofs.accepting.settling.take_to_end.Given as goal
 
 -- the steps so far, and the room that was there

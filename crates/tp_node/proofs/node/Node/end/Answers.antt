@@ -1,6 +1,6 @@
 use Rattle.std.proofs.Common.{subst, sym}
 use Rattle.std.specs.Prelude.{IsTrue}
-use Rattle.tp_local.specs.Actions.{has_message}
+use Rattle.tp_node.specs.Actions.{has_message}
 use Rattle.tp_node.specs.Nodes.{NodeState}
 use Rattle.tp_node.proofs.Brought.{open_counts}
 use Rattle.tp_node.proofs.node.Node.end.Goals as goal

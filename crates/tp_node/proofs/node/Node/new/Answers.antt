@@ -1,7 +1,7 @@
 use Rattle.std.proofs.Common.{arith, sym, ap, subst, ◌∙◌, length}
-use Rattle.tp_local.specs.Locals.{LocalState}
+use Rattle.tp_node.specs.Locals.{LocalState}
 use Rattle.tp_node.specs.Nodes.{AreHere, AreRightValues}
-use Rattle.tp_local.specs.Locals.{Numbers}
+use Rattle.tp_node.specs.Locals.{Numbers}
 use Rattle.tp_node.proofs.Kept.{here_at_first, right_at_first}
 use Rattle.tp_node.proofs.node.Node.new.Goals as goal
 

@@ -1,7 +1,7 @@
 use Rattle.std.proofs.Common.{◌≡◌, ap, subst, ◌∙◌, arith, rules}
 use Rattle.tp_node.specs.Nodes.{NodeState}
-use Rattle.tp_local.specs.Locals.{EachOnce}
-use Rattle.tp_local.proofs.Idle.{each_once}
+use Rattle.tp_node.specs.Locals.{EachOnce}
+use Rattle.tp_node.proofs.Idle.{each_once}
 use Rattle.tp_node.proofs.node.Node.quiet_under.Goals as goal
 use Rattle.tp_store.specs.Content.{unfinished}
 use Rattle.tp_wave.specs.Generations.{present_events}

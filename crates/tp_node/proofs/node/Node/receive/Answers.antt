@@ -24,7 +24,7 @@ returns-clause-brought g c =
     } in
     let graph : c.in-Some.message.now.graph ≡ c.self.inside.graph =
     c.in_ok-check_message.ensures.graph ∙ sym (ap (λ (n : NodeState g.row.G.Denot). n.graph) c.self.view_is) in
-    let place : c.args.wire.now.to ≡ c.take-message.new.shares.node =
+    let place : c.args.pool_link.now.to ≡ c.take-message.new.shares.node =
     c.requires.to_here ∙ sym (ap (λ (n : NodeState g.row.G.Denot). n.numbers.node) c.self.view_is)
     ∙ sym (ap (λ (s : ShareNumbers). s.node) c.audit.ensures.same.1)
     ∙ sym (ap (λ (s : ShareNumbers). s.node) c.take-message.ensures.shares) in

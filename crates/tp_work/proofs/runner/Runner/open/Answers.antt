@@ -4,10 +4,10 @@ use Rattle.std.proofs.lemmas.Result.{IfOk-weaker}
 use Rattle.tp_base.specs.declared.limits.TheConstants.{MAX_STEPS}
 use Rattle.tp_board.specs.Numbers.{ShareNumbers, first_links, first_shares}
 use Rattle.tp_board.specs.States.{BoardState}
-use Rattle.tp_ledgers.specs.Names.{PoolNames}
+use Rattle.tp_board.specs.Names.{PoolNames}
 use Rattle.tp_node.specs.Nodes.{first_node}
-use Rattle.tp_node.specs.Pools.{first_nodes, first_wires}
-use Rattle.tp_node.specs.Wires.{empty_wire}
+use Rattle.tp_node.specs.Pools.{first_nodes, first_pool_links}
+use Rattle.tp_node.specs.PoolLinks.{empty_pool_link}
 use Rattle.tp_node.specs.declared.pool.Pool.{Pool}
 use Rattle.tp_work.proofs.Placing.{length-first_links, length-first_shares}
 use Rattle.tp_work.proofs.runner.Runner.open.Goals as goal
@@ -25,9 +25,9 @@ pub returns-clause-links : goal.returns-clause-links
 returns-clause-links g c =
     let n = c.args.self.now.config.nodes in
     let same : g.K.Ledgers.names.nodes ≡ n = sym (ap (λ (names : PoolNames). names.nodes) c.requires.names) ∙ c.requires.nodes in
-    IfOk-weaker c.open_pool.result (λ (p : Pool g.row.G.Denot g.row.K.Denot). p.links.items ≡ first_wires n) (λ p. vec_len p.links
+    IfOk-weaker c.open_pool.result (λ (p : Pool g.row.G.Denot g.row.K.Denot). p.links.items ≡ first_pool_links n) (λ p. vec_len p.links
     ≡ g.K.Ledgers.names.nodes * (g.K.Ledgers.names.nodes - 1))
-    (λ p is. p.links.ok.0 ∙ ap length is ∙ length-map (first_links n) empty_wire ∙ length-first_links n
+    (λ p is. p.links.ok.0 ∙ ap length is ∙ length-map (first_links n) empty_pool_link ∙ length-first_links n
     ∙ ap (λ (k : ℕ). k * (k - 1)) (sym same)) c.open_pool.ensures.links
 
 pub returns-clause-limit : goal.returns-clause-limit

@@ -1,3 +1,0 @@
-pub mod Planned
-pub mod Refused
-pub mod Outcomes

@@ -1,4 +1,0 @@
-pub mod Events
-pub mod Faults
-pub mod Outcomes
-pub mod Runs

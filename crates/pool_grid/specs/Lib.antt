@@ -1,3 +1,0 @@
-pub mod Grids
-pub mod Windows
-pub mod GridLaws

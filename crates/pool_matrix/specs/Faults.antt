@@ -1,0 +1,11 @@
+-- Why a run of a product gives nothing, by cases of the fault that is returned.
+use Rattle.std.specs.Prelude.{ℕ, ℤ, ◌/◌, List, length}
+use Rattle.pool_blocks.specs.Faults.{IsLentFault}
+use Rattle.pool_blocks.specs.declared.fault.LentFault.{LentFault}
+use Rattle.pool_matrix.specs.Matrices.{AreNoMatrices, matrix_graph}
+
+-- the lists are no such matrices, or their pool gave no product
+abbrev pub IsProductFault : ℕ → ℕ → List ℤ → List ℤ → ℕ → ℕ → LentFault → Type 0
+IsProductFault n workers left right order side =
+    IsLentFault n workers (AreNoMatrices order side (length left) (length right))
+    (matrix_graph left right (order / side) side)

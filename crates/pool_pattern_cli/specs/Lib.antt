@@ -1,4 +1,0 @@
-pub mod Names
-pub mod Command
-pub mod Faults
-pub mod Runs

@@ -1,6 +1,0 @@
-use Rattle.std.proofs.Common.{◌≡◌}
-use Rattle.pool_rows.specs.Matrices.{first_rows_text}
-use Rattle.pool_rows.proofs.write.text_of_rows.Given as goal
-
-abbrev pub invariant-loop-row : goal.invariant-loop-row
-invariant-loop-row l = l.text.items ≡ first_rows_text l.row l.order l.numbers

@@ -1,3 +1,0 @@
-pub mod Matrices
-pub mod Faults
-pub mod Reading

@@ -1,0 +1,66 @@
+ghost use Rattle.std.specs.Prelude.{◌≡◌, ◌<◌, ◌⊎◌, ◌↔◌, ◌++◌, ◌∷◌, [], if◌then◌else◌, IfOk, OnOk, IfErr};
+ghost use Rattle.std.specs.Fmt.{signed_decimal};
+ghost use Rattle.tp_base.specs.declared.Refusal.TheVariants.{Missing, NoMemory};
+ghost use Rattle.tp_graph.specs.Serial.{AreRight};
+ghost use Rattle.pool_samples.specs.Any.{any_graph};
+ghost use Rattle.pool_samples.specs.Tables.{LacksCell, table_of, texts, cell_text, table_text};
+
+use crate::{AnyGraph, ResultTable};
+use std::alloc::{AllocError, Global};
+use tp_base::{Refusal, TaskId};
+use tp_graph::Value;
+
+/// The table of a graph, from results each of which has to be its task's value: row by row, the numbers of a row
+/// separated by single spaces and ended by a line feed. Refused with `Missing` exactly where a task that the table needs
+/// has no result, and then with `NoMemory`.
+pub fn print_table(
+    alloc: Global,
+    graph: AnyGraph,
+    results: &[(TaskId, Value)],
+) -> Result<Vec<u8>, Refusal>
+    requires { AreRight (any_graph graph) results.now }
+    ensures printed { IfOk result (λ text. text.items ≡ table_text (table_of graph)) }
+    ensures missing { (result ≡ Err Missing) ↔ LacksCell graph results.now }
+    ensures refused { IfErr result (λ refusal. (refusal ≡ Missing) ⊎ (refusal ≡ NoMemory)) }
+{
+    let table = ResultTable::new(alloc, graph, results)?;
+    let mut text = Vec::new(alloc);
+    for i in 0..table.rows() {
+        print_row(alloc, &mut text, &table, i)?;
+    }
+    Ok(text)
+}
+
+/// Writes a row of a table.
+#[tactic(auto, using(crate::proofs::Printed::texts_more))]
+fn print_row(
+    alloc: Global,
+    text: &mut Vec<u8>,
+    table: &ResultTable,
+    i: u32,
+) -> Result<(), AllocError>
+    requires { i < (table_of table.now).rows }
+    ensures { OnOk result (text.new.items ≡ text.old.items
+        ++ texts (table_of table.now).columns (λ j. cell_text (table_of table.now).columns j ((table_of table.now).at i j))) }
+{
+    let columns = table.columns();
+    for j in 0..columns {
+        print_number(alloc, text, table.number(i, j), j + 1 == columns)?;
+    }
+    Ok(())
+}
+
+/// Writes a number and what follows it.
+fn print_number(
+    alloc: Global,
+    text: &mut Vec<u8>,
+    number: i64,
+    last: bool,
+) -> Result<(), AllocError>
+    ensures { OnOk result (text.new.items ≡ text.old.items ++ (signed_decimal number ++ (if last then 10 else 32) ∷ [])) }
+{
+    let digits = number.to_string(alloc)?;
+    text.extend_from_slice(digits.as_bytes())?;
+    text.push(if last { b'\n' } else { b' ' })?;
+    Ok(())
+}

@@ -1,0 +1,5 @@
+pub mod RodRefused
+pub mod GridRefused
+pub mod GridCuts
+pub mod Sweeps
+pub mod RodCuts

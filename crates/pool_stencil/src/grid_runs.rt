@@ -1,0 +1,60 @@
+ghost use Rattle.std.specs.Prelude.{◌≡◌, ◌*◌, MatchResult, length};
+ghost use Rattle.pool_blocks.specs.Runs.{HasRun, HasRunInParts};
+ghost use Rattle.pool_stencil.specs.Grids.{block_relaxed, blocks_of, evolve, grid_graph, relaxed};
+ghost use Rattle.pool_stencil.specs.GridFaults.{IsGridFault, IsGridPartFault};
+ghost use Rattle.tp_work.specs.Outcomes.{IsWithinLimits};
+
+use crate::{grid_in_blocks, row_blocks};
+use pool_blocks::{LentFault, run_in_parts, run_steps};
+use std::alloc::Global;
+use std::sync::Wait;
+use std::thread::Threads;
+use tp_work::Config;
+
+/// A grid of some cells, row by row, in rows of so many, after so many steps, worked out by a pool of threads in blocks of so many
+/// rows. `BadInput` where the cells give no such grid ([`grid_in_blocks`]), and else what [`run_steps`] answered.
+pub fn run_grid<R: Threads + Wait + Sync>(
+    rt: &R,
+    alloc: Global,
+    cells: &[i64],
+    width: u32,
+    rows: u32,
+    steps: u32,
+    config: Config,
+) -> Result<Vec<i64>, LentFault>
+    requires { IsWithinLimits config }
+    ensures { MatchResult result
+        (λ grid. (grid.items ≡ evolve width steps cells.now)
+        × HasRun config.nodes config.workers
+        (grid_graph width cells.now (blocks_of (length cells.now) (rows * width)) (rows * width) steps))
+        (IsGridFault config.nodes config.workers cells.now width rows steps) }
+{
+    let Some(grid) = grid_in_blocks(cells, width, rows, steps) else {
+        return Err(LentFault::BadInput);
+    };
+    run_steps(rt, alloc, grid, config)
+}
+
+/// A grid of some cells, row by row, in rows of so many, after any number of steps, worked out by pools of threads one after the
+/// other, each over the grid that the one before gave, in blocks of so many rows. `BadInput` where the cells give no such
+/// grid or take no step ([`steps_at_once`](pool_blocks::steps_at_once)), and else what [`run_in_parts`] answered.
+pub fn run_grid_in_parts<R: Threads + Wait + Sync>(
+    rt: &R,
+    alloc: Global,
+    cells: Vec<i64>,
+    width: u32,
+    rows: u32,
+    steps: u64,
+    config: Config,
+) -> Result<Vec<i64>, LentFault>
+    requires { IsWithinLimits config }
+    ensures { MatchResult result
+        (λ grid. (grid.items ≡ evolve width steps cells.items)
+        × HasRunInParts config.nodes config.workers (relaxed width) (block_relaxed width) cells.items (rows * width) steps)
+        (IsGridPartFault config.nodes config.workers cells.items width rows steps) }
+{
+    let Some(blocks) = row_blocks(width, rows) else {
+        return Err(LentFault::BadInput);
+    };
+    run_in_parts(rt, alloc, blocks.points, cells, blocks.size, steps, config)
+}

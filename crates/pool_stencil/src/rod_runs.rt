@@ -1,0 +1,55 @@
+ghost use Rattle.std.specs.Prelude.{◌≡◌, MatchResult, length};
+ghost use Rattle.pool_blocks.specs.Runs.{HasRun, HasRunInParts};
+ghost use Rattle.pool_stencil.specs.Heats.{block_heated, blocks_of, evolve, heat_graph, heated};
+ghost use Rattle.pool_stencil.specs.RodFaults.{IsHeatFault, IsPartFault};
+ghost use Rattle.tp_work.specs.Outcomes.{IsWithinLimits};
+
+use crate::{ThreePoints, heat_of};
+use pool_blocks::{LentFault, run_in_parts, run_steps};
+use std::alloc::Global;
+use std::sync::Wait;
+use std::thread::Threads;
+use tp_work::Config;
+
+/// Heat in a rod of some cells, after so many steps, worked out by a pool of threads in blocks of so many cells. `BadInput` where
+/// the cells give no rod ([`heat_of`]), `Run` with what [`run_pool`](tp_work::run_pool) answered where it was refused, and
+/// `Unmade` with its outcome where there was no memory for the rod.
+pub fn run_heat<R: Threads + Wait + Sync>(
+    rt: &R,
+    alloc: Global,
+    cells: &[i64],
+    size: u32,
+    steps: u32,
+    config: Config,
+) -> Result<Vec<i64>, LentFault>
+    requires { IsWithinLimits config }
+    ensures { MatchResult result
+        (λ rod. (rod.items ≡ evolve steps cells.now)
+        × HasRun config.nodes config.workers (heat_graph cells.now (blocks_of (length cells.now) size) size steps))
+        (IsHeatFault config.nodes config.workers cells.now size steps) }
+{
+    let Some(heat) = heat_of(cells, size, steps) else {
+        return Err(LentFault::BadInput);
+    };
+    run_steps(rt, alloc, heat, config)
+}
+
+/// Heat in a rod of some cells, after any number of steps, worked out by pools of threads one after the other, each over the
+/// rod that the one before gave. `BadInput` where the cells give no rod or the events of a single step are above the limit
+/// ([`steps_at_once`](pool_blocks::steps_at_once)), and else what [`run_heat`] answers for the part at which it ended.
+pub fn run_heat_in_parts<R: Threads + Wait + Sync>(
+    rt: &R,
+    alloc: Global,
+    cells: Vec<i64>,
+    size: u32,
+    steps: u64,
+    config: Config,
+) -> Result<Vec<i64>, LentFault>
+    requires { IsWithinLimits config }
+    ensures { MatchResult result
+        (λ rod. (rod.items ≡ evolve steps cells.items)
+        × HasRunInParts config.nodes config.workers heated block_heated cells.items size steps)
+        (IsPartFault config.nodes config.workers cells.items size steps) }
+{
+    run_in_parts(rt, alloc, ThreePoints, cells, size, steps, config)
+}

@@ -1,0 +1,168 @@
+//! Why the program prints nothing, or not all of it: a line on standard error, and the exit status.
+
+ghost use Rattle.std.specs.Prelude.{◌≡◌, ◌≤◌, MatchResult};
+
+use pool_blocks::LentFault;
+use pool_patterns::{PatternFault, TableFault};
+use std::alloc::AllocError;
+use std::io::Write;
+use thiserror::Error;
+use tp_base::Refusal;
+use tp_shell::{ReadFault, WordsFault};
+
+/// Why the program prints nothing, or not all of it.
+#[derive(Debug, Drop, Error)]
+pub(crate) enum Fault {
+    #[error("{0}")]
+    Arguments(String),
+    #[error("the words are not UTF-8")]
+    NotUtf8,
+    #[error("PATTERN is none of those that `samples patterns --list` names")]
+    NoPattern,
+    #[error("the input cannot be read as text")]
+    Unreadable,
+    #[error("the output cannot be written")]
+    Unwritten,
+    #[error(transparent)]
+    Input(#[from] InputFault),
+    #[error("a number of the product leaves 64 bits")]
+    Overflow,
+    #[error("a run may have 1,048,576 events, and this one takes more")]
+    LongRun,
+    #[error("refused {} {}", .0.number(), .0.name())]
+    Refused(Refusal),
+    #[error("there is no memory")]
+    Memory(#[from(alloc)] AllocError),
+}
+
+/// Why there is no run over what was read, or over the grid that the arguments describe. Lines are counted from 1.
+#[derive(Clone, Copy, Debug, PartialEq, Eq, Error)]
+pub(crate) enum InputFault {
+    #[error("the input has no number")]
+    NoNumber,
+    #[error("the input has no line")]
+    NoLine,
+    #[error("line {0} is no whole number of 64 bits")]
+    BadNumber(u64),
+    #[error("line {0} is not whole numbers of 64 bits by single spaces")]
+    BadRow(u64),
+    #[error("line {line} has {has} {numbers} where {due} {are} due", numbers = noun(*has), are = verb(*due))]
+    Uneven { line: u64, has: usize, due: usize },
+    #[error("line {0} is not empty: an empty line is due between the matrices")]
+    NotEmpty(u64),
+    #[error("line {0} is one too many: the matrices are complete")]
+    Extra(u64),
+    #[error("line {line} is missing: the matrices are {order} by {order}")]
+    Missing { line: u64, order: usize },
+    #[error("a run may have 1,048,576 events, and one step takes more: make the blocks larger")]
+    LongStep,
+    #[error("a block has 4,294,967,296 cells or more: make the blocks smaller")]
+    LargeBlocks,
+    #[error("the matrices have 32,768 rows or more")]
+    LargeMatrices,
+    #[error("tiles of SIDE rows and columns do not fill the matrices")]
+    Unfilled,
+    #[error("a run may have 1,048,576 events, and the product takes more: make SIDE larger")]
+    LongProduct,
+    #[error("there is no task")]
+    NoTask,
+    #[error("a task may have 16 inputs, and some of these have more")]
+    ManyInputs,
+    #[error("a run may have 1,048,576 events, and these tasks take more")]
+    LongGrid,
+}
+
+fn noun(count: usize) -> &'static str {
+    if count == 1 { "number" } else { "numbers" }
+}
+
+fn verb(count: usize) -> &'static str {
+    if count == 1 { "is" } else { "are" }
+}
+
+impl Fault {
+    /// The exit status: 1 for the arguments, the reading and the writing, 2 for an input without a run, 3 for a refused run
+    /// and for allocation failure.
+    fn status(&self) -> u8
+        ensures { (1 ≤ result) × (result ≤ 3) }
+    {
+        match self {
+            Fault::Arguments(_) | Fault::NotUtf8 | Fault::NoPattern => 1,
+            Fault::Unreadable | Fault::Unwritten => 1,
+            Fault::Input(_) => 2,
+            Fault::Overflow | Fault::LongRun | Fault::Refused(_) | Fault::Memory(_) => 3,
+        }
+    }
+}
+
+/// The exit status of an outcome. A fault is printed as a line.
+pub(crate) fn status_of<E: Write>(outcome: Result<(), Fault>, err: &mut E) -> u8
+    // The status is 0 only if all was printed.
+    ensures { MatchResult outcome (λ _. result ≡ 0) (λ _. (1 ≤ result) × (result ≤ 3)) }
+{
+    match outcome {
+        Ok(()) => 0,
+        Err(fault) => {
+            let _ = writeln!(err, "{fault}");
+            fault.status()
+        }
+    }
+}
+
+impl From<WordsFault> for Fault {
+    fn from(fault: WordsFault) -> Self {
+        match fault {
+            WordsFault::Words(text) => Fault::Arguments(text),
+            WordsFault::Memory => Fault::Memory(AllocError),
+            WordsFault::Write => Fault::Unwritten,
+        }
+    }
+}
+
+impl From<ReadFault> for Fault {
+    fn from(fault: ReadFault) -> Self {
+        match fault {
+            ReadFault::Failed => Fault::Unreadable,
+            ReadFault::Memory => Fault::Memory(AllocError),
+        }
+    }
+}
+
+impl From<Refusal> for Fault {
+    fn from(refusal: Refusal) -> Self {
+        match refusal {
+            Refusal::NoMemory => Fault::Memory(AllocError),
+            _ => Fault::Refused(refusal),
+        }
+    }
+}
+
+impl From<LentFault> for Fault {
+    fn from(fault: LentFault) -> Self {
+        match fault {
+            // There are cells, in whole rows, and a block is of some: only the events of a step are left.
+            LentFault::BadInput => Fault::Input(InputFault::LongStep),
+            _ => Fault::from(fault.refusal()),
+        }
+    }
+}
+
+impl From<PatternFault> for Fault {
+    fn from(fault: PatternFault) -> Self {
+        match fault.refusal() {
+            Refusal::HistoryFull(_) => Fault::LongRun,
+            refusal => Fault::from(refusal),
+        }
+    }
+}
+
+impl From<TableFault> for Fault {
+    fn from(fault: TableFault) -> Self {
+        match fault {
+            TableFault::Empty => Fault::Input(InputFault::NoTask),
+            TableFault::TooManyInputs => Fault::Input(InputFault::ManyInputs),
+            TableFault::TooManyEvents => Fault::Input(InputFault::LongGrid),
+            TableFault::NoMemory => Fault::Memory(AllocError),
+        }
+    }
+}

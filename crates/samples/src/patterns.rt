@@ -1,0 +1,66 @@
+//! The patterns by their names, and the text of a run of one.
+
+ghost use Rattle.tp_work.specs.Outcomes.{IsWithinLimits};
+
+use crate::fault::Fault;
+use crate::request::PatternGrid;
+use pool_patterns::{FeedTable, Grid, Pattern, checksum, run_pattern};
+use std::alloc::Global;
+use std::sync::Wait;
+use std::thread::Threads;
+use tp_work::Config;
+
+/// The lines of a run of a grid.
+pub(crate) fn pattern_text<R: Threads + Wait + Sync>(
+    rt: &R,
+    alloc: Global,
+    asked: PatternGrid,
+    config: Config,
+) -> Result<String, Fault>
+    requires { IsWithinLimits config }
+{
+    let Some(pattern) = asked.pattern() else {
+        return Err(Fault::NoPattern);
+    };
+    let table = FeedTable::new(alloc, pattern, asked.width, asked.steps)?;
+    let grid = Grid::new(&table, asked.iterations);
+    let run = run_pattern(rt, alloc, &grid, config)?;
+    let sum = checksum(&run.row);
+    let (tasks, messages) = (run.outcome.tasks, run.outcome.messages);
+    Ok(format!(in alloc; "checksum {sum}\ntasks {tasks}\nmessages {messages}\nended\n")?)
+}
+
+impl PatternGrid<'_> {
+    /// The pattern of the name, with its radius and its seed.
+    fn pattern(&self) -> Option<Pattern> {
+        let (radius, seed) = (self.radius, self.seed);
+        match self.name {
+            "trivial" => Some(Pattern::Trivial),
+            "no_comm" => Some(Pattern::NoComm),
+            "stencil" => Some(Pattern::Stencil),
+            "stencil_periodic" => Some(Pattern::StencilPeriodic),
+            "dom" => Some(Pattern::Dom),
+            "tree" => Some(Pattern::Tree),
+            "fft" => Some(Pattern::Fft),
+            "all_to_all" => Some(Pattern::AllToAll),
+            "nearest" => Some(Pattern::Nearest { radius }),
+            "spread" => Some(Pattern::Spread { seed }),
+            "random_nearest" => Some(Pattern::RandomNearest { radius, seed }),
+            _ => None,
+        }
+    }
+}
+
+/// The names of the patterns, each with the columns that feed a column.
+pub(crate) static NAMES: &str = "trivial           nobody: a task has no inputs
+no_comm           itself: chains that know nothing of each other
+stencil           itself and its two neighbours
+stencil_periodic  the same, and the first and the last column are neighbours
+dom               itself and its left neighbour
+tree              the column of half its number, rounded down
+fft               itself and a partner on either side, whose distance doubles from row to row
+all_to_all        all columns
+nearest           itself and K columns to each side
+spread            itself and four others, a fifth of WIDTH apart, which move by one from row to row
+random_nearest    itself, and by chance some of K columns to each side
+";

@@ -1,0 +1,113 @@
+//! The runs over numbers: rod, product and grid. What each returns is, by contract, the plain result, computed by a pool of the
+//! nodes and workers that were asked for.
+
+ghost use Rattle.std.specs.Prelude.{◌≡◌, ◌*◌, ◌/◌, IfOk};
+ghost use Rattle.pool_blocks.specs.Runs.{HasRun, HasRunInParts};
+ghost use Rattle.pool_stencil.specs.Grids.{block_relaxed, relaxed};
+ghost use Rattle.pool_stencil.specs.Grids as grids;
+ghost use Rattle.pool_matrix.specs.Matrices.{matrix_graph, product_of};
+ghost use Rattle.pool_stencil.specs.Heats.{block_heated, heated};
+ghost use Rattle.pool_stencil.specs.Heats as rods;
+ghost use Rattle.tp_work.specs.Outcomes.{IsWithinLimits};
+
+use crate::fault::{Fault, InputFault};
+use pool_blocks::run_in_parts_counted;
+use pool_matrix::{Product, matrix_of};
+use pool_stencil::{ThreePoints, row_blocks};
+use std::alloc::Global;
+use std::sync::Wait;
+use std::thread::Threads;
+use tp_base::Refusal;
+use tp_work::{Config, Progress, run_pool_counted};
+
+/// The rod after `steps` steps, in blocks of `block` cells.
+pub(crate) fn heat<R: Threads + Wait + Sync>(
+    rt: &R,
+    alloc: Global,
+    cells: Vec<i64>,
+    block: u32,
+    steps: u64,
+    config: Config,
+    progress: Option<&Progress>,
+) -> Result<Vec<i64>, Fault>
+    requires { IsWithinLimits config }
+    ensures { IfOk result (λ rod. (rod.items ≡ rods.evolve steps cells.items)
+        × HasRunInParts config.nodes config.workers heated block_heated cells.items block steps) }
+{
+    let rod = run_in_parts_counted(
+        rt,
+        alloc,
+        ThreePoints,
+        cells,
+        block,
+        steps,
+        config,
+        progress,
+    )?;
+    Ok(rod)
+}
+
+/// The grid after `steps` steps, in blocks of `rows` rows.
+pub(crate) fn relax<R: Threads + Wait + Sync>(
+    rt: &R,
+    alloc: Global,
+    cells: Vec<i64>,
+    width: u32,
+    rows: u32,
+    steps: u64,
+    config: Config,
+    progress: Option<&Progress>,
+) -> Result<Vec<i64>, Fault>
+    requires { IsWithinLimits config }
+    ensures { IfOk result (λ grid. (grid.items ≡ grids.evolve width steps cells.items)
+        × HasRunInParts config.nodes config.workers (relaxed width) (block_relaxed width) cells.items (rows * width) steps) }
+{
+    let Some(blocks) = row_blocks(width, rows) else {
+        return Err(Fault::Input(InputFault::LargeBlocks));
+    };
+    let grid = run_in_parts_counted(
+        rt,
+        alloc,
+        blocks.points,
+        cells,
+        blocks.size,
+        steps,
+        config,
+        progress,
+    )?;
+    Ok(grid)
+}
+
+/// The product of two matrices of `order` rows and columns, in tiles of `side`.
+pub(crate) fn product<R: Threads + Wait + Sync>(
+    rt: &R,
+    alloc: Global,
+    left: &[i64],
+    right: &[i64],
+    order: u32,
+    side: u32,
+    config: Config,
+    progress: Option<&Progress>,
+) -> Result<Vec<i64>, Fault>
+    requires { IsWithinLimits config }
+    ensures { IfOk result (λ made. (made.items ≡ product_of order left.now right.now)
+        × HasRun config.nodes config.workers (matrix_graph left.now right.now (order / side) side)) }
+{
+    let Some(product) = Product::new(left, right, order, side) else {
+        return Err(Fault::Refused(Refusal::BadSpec));
+    };
+    let outcome = match run_pool_counted(rt, alloc, product, config, progress) {
+        Ok(outcome) => outcome,
+        Err(fault) => return Err(product_fault(fault.refusal)),
+    };
+    let made = matrix_of(alloc, &product, &outcome.results)?;
+    Ok(made)
+}
+
+/// A body of a product fails only if a number leaves 64 bits.
+fn product_fault(refusal: Refusal) -> Fault {
+    match refusal {
+        Refusal::BodyFailed => Fault::Overflow,
+        _ => Fault::from(refusal),
+    }
+}

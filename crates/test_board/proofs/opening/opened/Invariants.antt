@@ -1,4 +1,0 @@
-use Rattle.test_board.proofs.opening.opened.Given as goal
-
-abbrev pub ghosts-opened_with : goal.ghosts-opened_with
-ghosts-opened_with a = record { names = a.blanks }

@@ -1,4 +1,0 @@
-use Rattle.test_whole.proofs.reopened.replayed.Given as goal
-
-abbrev pub ghosts-replayed_by : goal.ghosts-replayed_by
-ghosts-replayed_by g a = record { names = a.blanks }

@@ -1,0 +1,472 @@
+//! A pool of two nodes in one hand, from its first call to its second end: forged messages that are refused and stay where they are; each
+//! call of a node that can be refused memory; and the reopening. tools/dev limits refuse-tests refuses each growth in turn;
+//! docs/MEMORY.md has the table.
+
+ghost use Rattle.std.specs.Prelude.{◌≡◌, vec_len, IsTrue};
+
+use crate::calls::{act, receive_one, run_one, say, seed_all, turn_of};
+use pool_samples::Reduce;
+use std::alloc::Global;
+use std::test::Fail;
+use tp_base::{Generation, MAX_STEPS, MessageId, Refusal, TaskId};
+use tp_board::{Blanks, Board, Brand, Ended, Ledgers};
+use tp_graph::{Graph, Message, Value};
+use tp_node::{Node, Pool, PoolLink, Reopened, open_pool};
+use tp_work::{Report, finish};
+
+/// A tree of four leaves: 0, 11, 22 and 33.
+pub(crate) const TREE: Reduce = Reduce { leaves: 4, seed: 0 };
+
+/// A copy of the oldest message of a link under another number, in another generation.
+fn forged<K: Ledgers>(
+    pool_link: &PoolLink<Reduce, K>,
+    number: MessageId,
+    generation: Generation,
+) -> Result<Message<Reduce>, Refusal> {
+    let Some(front) = pool_link.front() else {
+        return Err(Refusal::NoMessage);
+    };
+    if number.0 >= MAX_STEPS || generation.0 >= MAX_STEPS {
+        return Err(Refusal::BadSpec);
+    }
+    let value = front.value().clone()?;
+    Ok(Message::new(
+        front.graph(),
+        number,
+        generation,
+        front.from(),
+        front.to(),
+        front.feed(),
+        value,
+    ))
+}
+
+/// Puts a message in the place of the oldest on a link, where it is of the link's two nodes. Returns the oldest.
+fn put_in_front<K: Ledgers>(
+    pool_link: &mut PoolLink<Reduce, K>,
+    board: &Board<K>,
+    message: Message<Reduce>,
+) -> Result<Message<Reduce>, Refusal> {
+    let home = message.graph().home(message.feed().target, board.nodes());
+    if message.from() != pool_link.from()
+        || message.to() != pool_link.to()
+        || home != pool_link.to()
+    {
+        return Err(Refusal::NoNode);
+    }
+    match pool_link.replace_front(message) {
+        Ok(oldest) => Ok(oldest),
+        Err(_) => Err(Refusal::NoMessage),
+    }
+}
+
+/// A node's pending number, what it has sent and received, how many messages are on the link to it, and how many
+/// events there were.
+type Stand = (u32, u32, u32, usize, usize);
+
+/// What a node does with a forged message that is first on the link to it.
+#[derive(Clone, Copy, Debug, PartialEq, Eq)]
+struct Met {
+    result: Result<(), Refusal>,
+    stand: Stand,
+    /// Whether the forged message was still the first one then.
+    stays: bool,
+}
+
+fn receive_alone<K: Ledgers>(
+    node: &mut Node<Reduce, K>,
+    pool_link: &mut PoolLink<Reduce, K>,
+    board: &mut Board<K>,
+) -> Result<(), Refusal> {
+    if pool_link.to() != node.number() {
+        return Err(Refusal::NoNode);
+    }
+    match node.receive(pool_link, board)? {
+        Some(_) => Ok(()),
+        None => Err(Refusal::NoMessage),
+    }
+}
+
+/// Has a node receive a forged message, whose place the true one takes again afterwards.
+fn meet<K: Ledgers>(
+    node: &mut Node<Reduce, K>,
+    pool_link: &mut PoolLink<Reduce, K>,
+    board: &mut Board<K>,
+    number: MessageId,
+    generation: Generation,
+) -> Result<Met, Refusal> {
+    let stranger = forged(pool_link, number, generation)?;
+    let own = put_in_front(pool_link, board, stranger)?;
+    let result = receive_alone(node, pool_link, board);
+    let stand = (
+        node.pending(),
+        node.sent(),
+        node.received(),
+        pool_link.len(),
+        board.len(),
+    );
+    let stranger = put_in_front(pool_link, board, own)?;
+    Ok(Met {
+        result,
+        stand,
+        stays: stranger.number() == number && stranger.generation() == generation,
+    })
+}
+
+/// What can be read of a pool: of each node what is pending, sent and received, and how many results it has; how many
+/// messages each link has; the number of events, of the next message and of the generation.
+#[derive(Clone, Copy, Debug, PartialEq, Eq)]
+struct Look {
+    nodes: [(u32, u32, u32, usize); 2],
+    links: [usize; 2],
+    events: usize,
+    next_message: u32,
+    generation: u32,
+}
+
+fn look_at<K: Ledgers>(pool: &Pool<Reduce, K>) -> Option<Look> {
+    let ([zero, one], [there, back]) = (pool.nodes.as_slice(), pool.links.as_slice()) else {
+        return None;
+    };
+    Some(Look {
+        nodes: [numbers_of(zero), numbers_of(one)],
+        links: [there.len(), back.len()],
+        events: pool.board.len(),
+        next_message: pool.board.next_message().0,
+        generation: pool.board.generation().0,
+    })
+}
+
+fn numbers_of<K: Ledgers>(node: &Node<Reduce, K>) -> (u32, u32, u32, usize) {
+    (
+        node.pending(),
+        node.sent(),
+        node.received(),
+        node.results().len(),
+    )
+}
+
+/// What came of it all.
+#[derive(Clone, Copy)]
+struct Findings {
+    /// What came of each forged message, and whether the true one was received then.
+    met: [Option<Met>; 2],
+    received: bool,
+    before: Option<Look>,
+    /// Why the reopening was refused at first, and what the pool was then.
+    refused: Option<(Refusal, Option<Look>)>,
+    /// How many results were handed out, and the value of the last task.
+    results: Option<(usize, Option<i64>)>,
+    after: Option<Look>,
+}
+
+const NOTHING: Findings = Findings {
+    met: [None; 2],
+    received: false,
+    before: None,
+    refused: None,
+    results: None,
+    after: None,
+};
+
+fn last_of(results: &[(TaskId, Value)]) -> Option<i64> {
+    match results.iter().find(|made| made.0 == TaskId(6)) {
+        Some((_, value)) => value.lone().ok(),
+        None => None,
+    }
+}
+
+/// Whether the pool has all its nodes.
+fn is_whole<K: Ledgers>(pool: &Pool<Reduce, K>) -> bool
+    ensures { IsTrue result → vec_len pool.now.nodes ≡ K.names.nodes }
+{
+    pool.nodes.len() == pool.board.nodes() as usize
+}
+
+/// Reopens a pool with the token of its end.
+fn reopen<K: Ledgers, R: Eprint>(
+    rt: &R,
+    alloc: Global,
+    pool: Pool<Reduce, K>,
+    ended: Ended<K>,
+    findings: &mut Findings,
+) -> Pool<Reduce, K> {
+    findings.before = look_at(&pool);
+    if !is_whole(&pool) {
+        return pool;
+    }
+    match pool.reopen(alloc, ended) {
+        Ok(Reopened { pool, results }) => {
+            findings.results = Some((results.len(), last_of(&results)));
+            pool
+        }
+        Err((refusal, pool, ended)) => {
+            findings.refused = Some((refusal, look_at(&pool)));
+            say(rt, "Pool::reopen");
+            reopen_again(alloc, pool, ended, findings)
+        }
+    }
+}
+
+fn reopen_again<K: Ledgers>(
+    alloc: Global,
+    pool: Pool<Reduce, K>,
+    ended: Ended<K>,
+    findings: &mut Findings,
+) -> Pool<Reduce, K> {
+    if !is_whole(&pool) {
+        return pool;
+    }
+    match pool.reopen(alloc, ended) {
+        Ok(Reopened { pool, results }) => {
+            findings.results = Some((results.len(), last_of(&results)));
+            pool
+        }
+        Err((_, pool, _)) => pool,
+    }
+}
+
+/// What a pool of two nodes adds up to: what is pending, sent, received and under way, how many tasks are done, whether the end was
+/// judged, and how many nodes were informed of it.
+type Summary = ((u32, u32, u32, u32), u32, bool, u32);
+
+/// Gathers a pool of two nodes, and once more where it comes back.
+fn gathered<K: Ledgers>(alloc: Global, pool: Pool<Reduce, K>) -> Result<Report, Refusal>
+    requires names { K.names.nodes ≡ 2 }
+    requires nodes { vec_len pool.nodes ≡ 2 }
+    requires links { vec_len pool.links ≡ 2 }
+{
+    match finish(alloc, pool) {
+        Ok(report) => Ok(report),
+        Err((_, pool)) => match finish(alloc, pool) {
+            Ok(report) => Ok(report),
+            Err((refusal, _)) => Err(refusal),
+        },
+    }
+}
+
+fn summed_up<K: Ledgers>(alloc: Global, pool: Pool<Reduce, K>) -> Result<Summary, Refusal>
+    requires { K.names.nodes ≡ 2 }
+{
+    if pool.nodes.len() != 2 || pool.links.len() != 2 {
+        return Err(Refusal::NoNode);
+    }
+    let report = gathered(alloc, pool)?;
+    Ok((
+        (report.pending, report.sent, report.received, report.under),
+        report.done,
+        report.ended,
+        report.announced,
+    ))
+}
+
+/// The parts of a pool of two nodes.
+#[derive(Drop)]
+struct Pair<'a, K: Ledgers> {
+    zero: &'a mut Node<Reduce, K>,
+    one: &'a mut Node<Reduce, K>,
+    there: &'a mut PoolLink<Reduce, K>,
+    back: &'a mut PoolLink<Reduce, K>,
+    board: &'a mut Board<K>,
+}
+
+impl<'a, K: Ledgers> Pair<'a, K> {
+    fn of(
+        nodes: &'a mut [Node<Reduce, K>],
+        links: &'a mut [PoolLink<Reduce, K>],
+        board: &'a mut Board<K>,
+    ) -> Result<Self, Refusal> {
+        let ([zero, one], [there, back]) = (nodes, links) else {
+            return Err(Refusal::NoNode);
+        };
+        Ok(Pair {
+            zero,
+            one,
+            there,
+            back,
+            board,
+        })
+    }
+
+    fn seed<R: Eprint>(&mut self, rt: &R) -> Result<(), Refusal> {
+        seed_all(rt, self.zero, self.board)?;
+        seed_all(rt, self.one, self.board)
+    }
+
+    /// Node 1 sends a message, before which node 0 meets one that the board has not given, and one of another generation.
+    fn meet_strangers<R: Eprint>(
+        &mut self,
+        rt: &R,
+        alloc: Global,
+        findings: &mut Findings,
+    ) -> Result<(), Refusal> {
+        run_one(rt, alloc, self.one, self.back, self.board)?;
+        let unknown = meet(
+            self.zero,
+            self.back,
+            self.board,
+            MessageId(1),
+            Generation(1),
+        )?;
+        let later = meet(
+            self.zero,
+            self.back,
+            self.board,
+            MessageId(0),
+            Generation(2),
+        )?;
+        findings.met = [Some(unknown), Some(later)];
+        findings.received = receive_one(rt, self.zero, self.back, self.board)?;
+        Ok(())
+    }
+
+    fn act<R: Eprint>(&mut self, rt: &R) -> Result<(), Refusal> {
+        act(rt, self.zero, self.board)
+    }
+
+    /// A turn of each node. Where the end was judged its token is returned.
+    fn turn<R: Eprint>(&mut self, rt: &R, alloc: Global) -> Result<Option<Ended<K>>, Refusal> {
+        let ended = turn_of(rt, alloc, self.zero, self.back, self.there, self.board)?;
+        if ended.is_some() {
+            return Ok(ended);
+        }
+        turn_of(rt, alloc, self.one, self.there, self.back, self.board)
+    }
+
+    /// Both nodes take turns until the end is judged.
+    fn end<R: Eprint>(&mut self, rt: &R, alloc: Global) -> Result<Ended<K>, Refusal> {
+        for _ in 0..100 {
+            if let Some(ended) = self.turn(rt, alloc)? {
+                return Ok(ended);
+            }
+        }
+        Err(Refusal::Missing)
+    }
+}
+
+/// Both nodes insert their tasks, node 0 meets forged messages and opens a named action, and both run to the end.
+fn first_generation<K: Ledgers, R: Eprint>(
+    rt: &R,
+    alloc: Global,
+    nodes: &mut [Node<Reduce, K>],
+    links: &mut [PoolLink<Reduce, K>],
+    board: &mut Board<K>,
+    findings: &mut Findings,
+) -> Result<Ended<K>, Refusal> {
+    let mut pair = Pair::of(nodes, links, board)?;
+    pair.seed(rt)?;
+    pair.meet_strangers(rt, alloc, findings)?;
+    pair.act(rt)?;
+    pair.end(rt, alloc)
+}
+
+fn next_generation<K: Ledgers, R: Eprint>(
+    rt: &R,
+    alloc: Global,
+    nodes: &mut [Node<Reduce, K>],
+    links: &mut [PoolLink<Reduce, K>],
+    board: &mut Board<K>,
+) -> Result<Ended<K>, Refusal> {
+    let mut pair = Pair::of(nodes, links, board)?;
+    pair.seed(rt)?;
+    pair.end(rt, alloc)
+}
+
+/// What a pool of two nodes adds up to once it was run to its end, reopened and run again.
+fn replayed_by<K: Ledgers, R: Eprint>(
+    rt: &R,
+    alloc: Global,
+    blanks: Blanks,
+    findings: &mut Findings,
+) -> Result<Summary, Refusal>
+    requires { (blanks ≡ K.names) × (blanks.nodes ≡ 2) }
+{
+    let mut pool = open_pool::<Reduce, K>(alloc, blanks, TREE, 2, 1_048_576)?;
+    let ended = first_generation(
+        rt,
+        alloc,
+        &mut pool.nodes,
+        &mut pool.links,
+        &mut pool.board,
+        findings,
+    )?;
+    let mut pool = reopen(rt, alloc, pool, ended, findings);
+    findings.after = look_at(&pool);
+    next_generation(rt, alloc, &mut pool.nodes, &mut pool.links, &mut pool.board)?;
+    summed_up(alloc, pool)
+}
+
+fn replayed<R: Eprint>(rt: &R, alloc: Global) -> Result<(Findings, Summary), Refusal> {
+    let mut findings = NOTHING;
+    let made = replayed_by::<Brand, R>(rt, alloc, Blanks::new(2), &mut findings)?;
+    Ok((findings, made))
+}
+
+/// The same, from the beginning where a pool that is refused memory is lost.
+fn replayed_again<R: Eprint>(rt: &R, alloc: Global) -> Result<(Findings, Summary), Refusal> {
+    match replayed(rt, alloc) {
+        Err(Refusal::NoMemory) => {
+            say(rt, "open_pool, Node::deliver or finish");
+            replayed(rt, alloc)
+        }
+        made => made,
+    }
+}
+
+/// How many events the first generation has: six of the beginning; two of each of seven tasks; one for each of three feeds within
+/// a node; four for each of three messages; two of a named action; six for each of two waves.
+const EVENTS: usize = 49;
+
+/// The pool at its end: node 0 has done four tasks, and node 1 three; node 1 sent two messages, and node 0 one.
+const AT_THE_END: Look = Look {
+    nodes: [(0, 1, 2, 4), (0, 2, 1, 3)],
+    links: [0, 0],
+    events: EVENTS,
+    next_message: 3,
+    generation: 1,
+};
+
+/// The pool once it was reopened.
+const ANEW: Look = Look {
+    nodes: [(1, 0, 0, 0), (1, 0, 0, 0)],
+    links: [0, 0],
+    events: EVENTS + 1,
+    next_message: 0,
+    generation: 2,
+};
+
+// Where memory was refused a node was as before, and the same call succeeded then.
+#[test]
+fn a_node_refused_memory_is_as_before(rt: HostRuntime) -> Result<(), Fail> {
+    let (findings, made) = replayed_again(&rt, rt.alloc())?;
+    assert_eq!(rt; findings.before, Some(AT_THE_END));
+    assert_eq!(rt; made, ((0, 3, 3, 0), 7, true, 0));
+    Ok(())
+}
+
+// The same of the pool that is reopened.
+#[test]
+fn a_pool_is_reopened_and_runs_again(rt: HostRuntime) -> Result<(), Fail> {
+    let (findings, _) = replayed_again(&rt, rt.alloc())?;
+    if let Some(refused) = findings.refused {
+        assert_eq!(rt; refused, (Refusal::NoMemory, Some(AT_THE_END)));
+    }
+    assert_eq!(rt; findings.results, Some((7, Some(66))));
+    assert_eq!(rt; findings.after, Some(ANEW));
+    Ok(())
+}
+
+// Six events of the beginning, and begin, send and done of task 1. Tasks 0 and 2 are pending at node 0.
+#[test]
+fn a_stranger_stays_where_it_is(rt: HostRuntime) -> Result<(), Fail> {
+    let (findings, _) = replayed_again(&rt, rt.alloc())?;
+    let wanted = Some(Met {
+        result: Err(Refusal::Stranger),
+        stand: (2, 0, 0, 1, 9),
+        stays: true,
+    });
+    let met = findings.met;
+    assert_eq!(rt; met, [wanted; 2]);
+    assert_eq!(rt; findings.received, true);
+    Ok(())
+}

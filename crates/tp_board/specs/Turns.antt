@@ -1,0 +1,86 @@
+-- A node's control turn: which step of the waves it makes, and what it answers.
+use Rattle.std.specs.Prelude.{ℕ, ◌+◌, ◌*◌, ◌≡◌, ◌==◌, ◌&&◌, List, [], ◌∷◌, ◌++◌, Bool, true, false, IsTrue, IsFalse, Some, None, is_some}
+use Rattle.std.specs.Prelude.{is_none, if◌then◌else◌, Result, Ok, Err, IfErr, IfOk, IsOkAnd, OnErr, OnOk, nat_lt}
+use Rattle.std.specs.List.{find}
+use Rattle.tp_base.specs.Checks.{Check, first_refusal}
+use Rattle.tp_base.specs.History.{Event}
+use Rattle.tp_base.specs.declared.refusal.Refusal.{Refusal}
+use Rattle.tp_base.specs.declared.refusal.Refusal.TheVariants.{HistoryFull, NoMemory, NotIdle}
+use Rattle.tp_base.specs.declared.step.Step.{Step}
+use Rattle.tp_base.specs.declared.step.Step.TheVariants.{Start, Down, Give, Up, Judge}
+use Rattle.tp_board.specs.Numbers.{event, node_at}
+use Rattle.tp_board.specs.States.{AnswersBy, BoardState, IsAtPiece, full_check, with_event}
+use Rattle.tp_board.specs.declared.turn.Turn.{Turn}
+use Rattle.tp_board.specs.declared.turn.Turn.TheVariants.{Idle, Moved, Over}
+use Rattle.tp_wave.specs.ControlChecks.{control_checks}
+use Rattle.tp_wave.specs.Generations.{present, present_events}
+use Rattle.tp_wave.specs.Machine.{pending_at, steps_of}
+use Rattle.tp_wave.specs.Steps.{is_judge}
+use Rattle.tp_wave.specs.Sums.{judgement}
+
+-- ---- which step
+-- what any node does in a wave: it takes its token, then the sums of its lower and of its higher child, and then gives
+abbrev pub wave_steps : ℕ → List Step
+wave_steps i = Down (node_at i) ∷ Up (node_at (2 * i + 1)) ∷ Up (node_at (2 * i + 2)) ∷ Give (node_at i) ∷ []
+
+-- the control steps of node i, in the order in which it tries them; the root alone judges and starts the waves
+abbrev pub turn_steps : ℕ → List Step
+turn_steps i = if i == 0 then Judge ∷ Start ∷ wave_steps i else wave_steps i
+
+-- An active node starts no wave, and gives nothing.
+abbrev pub needs_idle : Step → Bool
+needs_idle Start = true
+needs_idle (Give i) = true
+needs_idle _ = false
+
+-- what node i, of n, may be refused a control step for after these events
+abbrev pub turn_checks : ℕ → ℕ → List Event → Step → List Check
+turn_checks n i h s =
+    control_checks n (present (steps_of h)) s ++ (needs_idle s && nat_lt 0 (pending_at i (present_events h)), NotIdle) ∷ []
+
+-- the node may make the step
+abbrev pub may_make : ℕ → ℕ → List Event → Step → Bool
+may_make n i h s = is_none (first_refusal (turn_checks n i h s))
+
+-- ---- what it leads to
+-- a control step beside the node that it names, or beside the root
+abbrev pub control_event : Step → Event
+control_event (Down i) = (i, Down i)
+control_event (Give i) = (i, Give i)
+control_event (Up i) = (i, Up i)
+control_event s = event 0 s
+
+-- The step judges that the pool has ended.
+abbrev pub ends : ℕ → List Event → Step → Bool
+ends n h s = is_judge s && is_some (judgement n (present (steps_of h)))
+
+-- what a turn answers that made a step, where it is known whether the step ended the pool
+abbrev pub IsMade : {K : Type 0} → Bool → Turn K → Type 0
+IsMade ended Idle = ⊥
+IsMade ended Moved = IsFalse ended
+IsMade ended (Over e) = IsTrue ended
+
+-- ---- a turn among some of the control steps
+-- the step was made
+pub record Makes {K : Type 0} (n : ℕ) (s : Step) (old new : BoardState) (result : Result (Turn K) Refusal) : Type 0 where
+  pub event : OnOk result (new ≡ with_event (control_event s) old)
+  pub answer : IfOk result (IsMade (ends n old.history s))
+  pub refusal : AnswersBy (full_check 1 old ∷ []) 1 old result
+  pub piece : IfErr result (IsAtPiece old)
+  pub refused : OnErr result (new ≡ old)
+
+-- The first of these steps that node i may make was made, or there is none.
+pub record MakesFirst {K : Type 0} (n i : ℕ) (ss : List Step) (old new : BoardState) (result : Result (Turn K) Refusal) : Type 0 where
+  pub none : find (may_make n i old.history) ss ≡ None → (result ≡ Ok Idle) × (new ≡ old)
+  pub some : (s : Step) → find (may_make n i old.history) ss ≡ Some s → Makes n s old new result
+
+-- the refusals that come after all others
+abbrev pub is_for_room : Refusal → Bool
+is_for_room (HistoryFull length) = true
+is_for_room NoMemory = true
+is_for_room _ = false
+
+-- what trying a step comes to, where its answer tells whether it ended the pool: a step that may not be made now is none
+abbrev pub ComesTo : {A K : Type 0} → (A → Bool) → Result A Refusal → Result (Turn K) Refusal → Type 0
+ComesTo ended (Ok x) result = IsOkAnd result (IsMade (ended x))
+ComesTo ended (Err e) result = result ≡ (if is_for_room e then Err e else Ok Idle)

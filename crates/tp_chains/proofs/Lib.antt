@@ -1,9 +1,0 @@
-pub mod Standing
-pub mod CellsSharing
-pub mod CellsMemory
-pub mod CellsLeases
-pub mod ChainLemmas
-pub mod CellsCrossing
-pub mod CellWords
-pub mod CellSteps
-pub mod CellCalls

@@ -1,8 +1,0 @@
-use denote.RattleType.{RattleType}
-use denote.Param.Send.{IsSync}
-use Rattle.std.specs.declared.alloc.Allocator.{Ghosts}
-use Rattle.tp_chains.proofs.CellsCrossing.{Deed-sync}
-use Rattle.tp_chains.specs.contracts.cells.Deed.{the_row}
-
-pub sync : (R A : RattleType) (g : Ghosts A.Denot) → IsSync (the_row R A g)
-sync = Deed-sync

@@ -1,5 +1,0 @@
-pub mod Cells
-pub mod CellsOwnership
-pub mod CellsLends
-pub mod Chains
-pub mod ChainLends

@@ -1,0 +1,193 @@
+//! What is wrong with the first line of a script or a trace that is not of the grammar.
+ghost use Rattle.tp_cli.specs.Reasons.{MayExplain};
+
+use crate::reasons::number::{cut, number_of, short_number_of};
+use crate::text::TextKind;
+use tp_base::MAX_INPUTS;
+use tp_shell::Diagnostics;
+
+/// The numbers behind a keyword.
+#[derive(Clone, Copy)]
+struct Numbers {
+    count: usize,
+    last: u32,
+}
+
+/// Writes what is wrong with the line of a text that the answer names as not of the grammar, if it names one.
+pub(crate) fn explain_text<E: Diagnostics>(kind: TextKind, text: &[u8], answer: &[u8], err: &mut E)
+    ensures { MayExplain E.tells err.old err.new }
+{
+    if let Some(line) = line_named(answer) {
+        explain_line(kind, text, line, err);
+    }
+}
+
+/// The L of the answer `syntax line L`. A text that is read has fewer than 1,000,000,000 lines.
+fn line_named(answer: &[u8]) -> Option<u32> {
+    number_of(answer.strip_prefix(b"syntax line ")?.strip_suffix(b"\n")?)
+}
+
+/// Writes what is wrong with a line. Of several reasons it is the first, in this order.
+fn explain_line<E: Diagnostics>(kind: TextKind, text: &[u8], line: u32, err: &mut E)
+    ensures { MayExplain E.tells err.old err.new }
+{
+    let is_second = is_second(kind, text);
+    let (words, is_ended) = find_line(text, line);
+    if !is_ended && words.is_empty() {
+        err.tell(format_args!("line {line} is missing\n"))
+    } else if !is_ended {
+        err.tell(format_args!("line {line} has no end\n"))
+    } else if kind == TextKind::Trace && line <= 1 {
+        err.tell(format_args!("line {line} is neither `trace 1` nor `trace 2`\n"))
+    } else if line <= nodes_at(kind, is_second) {
+        err.tell(format_args!("line {line} is not `nodes N`, N from 1 to 8\n"))
+    } else {
+        explain_step(kind, is_second, line, words, err)
+    }
+}
+
+/// Whether a text says that it is of version 2.
+fn is_second(kind: TextKind, text: &[u8]) -> bool {
+    let head: &[u8] = match kind {
+        TextKind::Script => b"script 2\n",
+        TextKind::Trace => b"trace 2\n",
+    };
+    text.strip_prefix(head).is_some()
+}
+
+/// The line of a text, and whether a line feed ends it.
+fn find_line(text: &[u8], line: u32) -> (&[u8], bool) {
+    let mut rest = text;
+    for _ in 1..line {
+        match cut(rest, b'\n') {
+            (_, Some(behind)) => rest = behind,
+            (_, None) => return (&[], false),
+        }
+    }
+    let (words, behind) = cut(rest, b'\n');
+    (words, behind.is_some())
+}
+
+/// The line in which the number of nodes is.
+fn nodes_at(kind: TextKind, is_second: bool) -> u32 {
+    match kind {
+        TextKind::Script if !is_second => 1,
+        _ => 2,
+    }
+}
+
+/// Writes why a line is no step.
+fn explain_step<E: Diagnostics>(
+    kind: TextKind,
+    is_second: bool,
+    line: u32,
+    words: &[u8],
+    err: &mut E,
+)
+    ensures { MayExplain E.tells err.old err.new }
+{
+    let (word, rest) = cut(words, b' ');
+    let Some(due) = numbers_due(is_second, word) else {
+        return explain_unknown(line, word, err);
+    };
+    match word {
+        b"reopen" if !is_second => err.tell(format_args!(
+            "line {line}: no step `reopen` in version 1\n"
+        )),
+        b"judge" if kind == TextKind::Trace => err.tell(format_args!(
+            "line {line}: behind `judge` stands `not` or `ended W`, W from 1 on\n"
+        )),
+        _ => explain_numbers(line, word, rest, due, err),
+    }
+}
+
+/// How many numbers are behind a keyword, if the word is one. In version 2 a message has the number of its generation too.
+fn numbers_due(is_second: bool, word: &[u8]) -> Option<usize> {
+    match word {
+        b"start" | b"judge" | b"reopen" => Some(0),
+        b"supply" | b"begin" | b"done" | b"ready" | b"down" | b"give" | b"up" => Some(1),
+        b"open" | b"close" => Some(2),
+        b"recv" | b"end" => Some(if is_second { 3 } else { 2 }),
+        b"insert" => Some(3),
+        b"send" => Some(if is_second { 4 } else { 3 }),
+        _ => None,
+    }
+}
+
+/// Writes that a line begins with no step.
+fn explain_unknown<E: Diagnostics>(line: u32, word: &[u8], err: &mut E)
+    ensures { MayExplain E.tells err.old err.new }
+{
+    match shown(word) {
+        Some(word) => err.tell(format_args!("line {line}: no step `{word}`\n")),
+        None => err.tell(format_args!("line {line}: no step\n")),
+    }
+}
+
+/// Writes why what is behind a keyword, of which so many numbers are due, is not these.
+fn explain_numbers<E: Diagnostics>(
+    line: u32,
+    word: &[u8],
+    rest: Option<&[u8]>,
+    due: usize,
+    err: &mut E,
+)
+    ensures { MayExplain E.tells err.old err.new }
+{
+    let Numbers { count, last } = match numbers_in(rest) {
+        Ok(numbers) => numbers,
+        Err(other) => return explain_other(line, other, err),
+    };
+    if count != due {
+        return err.tell(format_args!("line {line}: the step has {due} numbers, and not {count}\n"));
+    }
+    match word {
+        b"insert" if last > u32::from(MAX_INPUTS) => {
+            err.tell(format_args!("line {line}: a task has at most 16 inputs\n"))
+        }
+        _ => err.tell(format_args!("line {line} is not of the grammar\n")),
+    }
+}
+
+/// Writes that a word behind a keyword is no number.
+fn explain_other<E: Diagnostics>(line: u32, word: &[u8], err: &mut E)
+    ensures { MayExplain E.tells err.old err.new }
+{
+    match shown(word) {
+        Some(word) => err.tell(format_args!(
+            "line {line}: no number `{word}` of at most six digits without leading zeros\n"
+        )),
+        None => err.tell(format_args!(
+            "line {line}: no number of at most six digits without leading zeros\n"
+        )),
+    }
+}
+
+/// The numbers behind a keyword, or the first word that is none.
+fn numbers_in(behind: Option<&[u8]>) -> Result<Numbers, &[u8]> {
+    let mut rest = behind;
+    let mut last = 0;
+    for count in 0..usize::MAX {
+        let Some(left) = rest else {
+            return Ok(Numbers { count, last });
+        };
+        let (word, behind) = cut(left, b' ');
+        match short_number_of(word) {
+            Some(number) => last = number,
+            None => return Err(word),
+        }
+        rest = behind;
+    }
+    let count = usize::MAX;
+    Ok(Numbers { count, last })
+}
+
+/// The text of a word of 1 to 32 bytes, each a visible character of ASCII. Others could garble a terminal.
+fn shown(word: &[u8]) -> Option<&str> {
+    let is_shown = matches!(word.len(), 1..=32) && word.iter().all(|byte| byte.is_ascii_graphic());
+    if is_shown {
+        std::str::from_utf8(word).ok()
+    } else {
+        None
+    }
+}

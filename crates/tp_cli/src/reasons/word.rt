@@ -1,0 +1,188 @@
+//! Why a word names no pool, and why several words may not be registered.
+ghost use Rattle.tp_cli.specs.Reasons.{MayExplain};
+
+use crate::reasons::number::short_number_of;
+use tp_base::{MAX_ORDER, MAX_POOLS, MAX_SEED, MAX_SIDE};
+use tp_shell::Diagnostics;
+
+/// How a message names the word of each place.
+const SPECS: [&str; MAX_POOLS as usize] = [
+    "SPEC 1", "SPEC 2", "SPEC 3", "SPEC 4", "SPEC 5", "SPEC 6", "SPEC 7", "SPEC 8",
+];
+
+/// The numbers of a word that names a pool.
+#[derive(Clone, Copy)]
+enum Field {
+    /// The order of a product's matrices: 1 to 64.
+    Order,
+    /// The side of a product's tiles: 1 to 64, and it divides the order.
+    Side,
+    /// The rows of a wavefront: 1 to 64.
+    Rows,
+    /// The columns of a wavefront: 1 to 64.
+    Columns,
+    /// The leaves of a tree: a power of two from 1 to 1,024.
+    Leaves,
+    /// What a pool's numbers start from: 0 to 9,999.
+    Seed,
+}
+
+/// Why a word names no pool.
+#[derive(Clone, Copy)]
+enum WordReason {
+    /// It begins with none of the kinds.
+    UnknownKind,
+    /// It has more or fewer numbers than its kind, whose words are of this form.
+    Form(&'static str),
+    /// This is the first of its numbers that is not right: it is no number of at most six digits without leading zeros.
+    NoNumber(Field),
+    /// This is the first of its numbers that is not right: it is this one, which is out of range.
+    OutOfRange(Field, u32),
+    /// The side of its tiles, the first, does not divide its order.
+    Undivided(u32, u32),
+    /// It names a pool, and so does the same word before it.
+    Repeated,
+}
+
+/// Writes why a word names no pool, if it names none.
+pub(crate) fn explain_word<E: Diagnostics>(word: &str, err: &mut E)
+    ensures { MayExplain E.tells err.old err.new }
+{
+    if let Some(reason) = word_reason(word) {
+        write_reason(word, reason, err);
+    }
+}
+
+/// Writes why several words may not be registered, if they may not: they are too many, or for the first that names no pool or
+/// repeats one.
+pub(crate) fn explain_words<E: Diagnostics>(words: &[&str], err: &mut E)
+    ensures { MayExplain E.tells err.old err.new }
+{
+    if words.len() > SPECS.len() {
+        return err.tell("more than 8 pools\n");
+    }
+    if let Some((spec, reason)) = words_reason(words) {
+        write_reason(spec, reason, err);
+    }
+}
+
+/// How a message names the first of several words that may not be registered, and why that is, if there is one.
+fn words_reason(words: &[&str]) -> Option<(&'static str, WordReason)> {
+    for (before, (word, spec)) in words.iter().zip(SPECS).enumerate() {
+        if let Some(reason) = word_reason(word) {
+            return Some((spec, reason));
+        }
+        if words.iter().take(before).any(|other| other == word) {
+            return Some((spec, WordReason::Repeated));
+        }
+    }
+    None
+}
+
+/// Why a word names no pool, if it names none.
+fn word_reason(word: &str) -> Option<WordReason> {
+    let mut parts = word.split(':');
+    let kind = parts.next();
+    match (kind, parts.next(), parts.next(), parts.next(), parts.next()) {
+        (Some("product"), Some(order), Some(side), Some(seed), None) => {
+            product_reason(order, side, seed)
+        }
+        (Some("product"), _, _, _, _) => Some(WordReason::Form("product:ORDER:SIDE:SEED")),
+        (Some("wavefront"), Some(rows), Some(columns), Some(seed), None) => {
+            field_reason(Field::Rows, rows)
+                .or(field_reason(Field::Columns, columns))
+                .or(field_reason(Field::Seed, seed))
+        }
+        (Some("wavefront"), _, _, _, _) => Some(WordReason::Form("wavefront:ROWS:COLUMNS:SEED")),
+        (Some("reduce"), Some(leaves), Some(seed), None, _) => {
+            field_reason(Field::Leaves, leaves).or(field_reason(Field::Seed, seed))
+        }
+        (Some("reduce"), _, _, _, _) => Some(WordReason::Form("reduce:LEAVES:SEED")),
+        _ => Some(WordReason::UnknownKind),
+    }
+}
+
+/// Why these numbers are not those of a product, if they are not.
+fn product_reason(order: &str, side: &str, seed: &str) -> Option<WordReason> {
+    let wrong = field_reason(Field::Order, order)
+        .or(field_reason(Field::Side, side))
+        .or(field_reason(Field::Seed, seed));
+    if wrong.is_some() {
+        return wrong;
+    }
+    let order = short_number_of(order.as_bytes())?;
+    let side = short_number_of(side.as_bytes())?;
+    match order.checked_rem(side) {
+        Some(0) => None,
+        _ => Some(WordReason::Undivided(side, order)),
+    }
+}
+
+/// Why a text may not be this number of a word, if it may not.
+fn field_reason(field: Field, text: &str) -> Option<WordReason> {
+    match short_number_of(text.as_bytes()) {
+        None => Some(WordReason::NoNumber(field)),
+        Some(number) if field.allows(number) => None,
+        Some(number) => Some(WordReason::OutOfRange(field, number)),
+    }
+}
+
+/// Writes the reason behind what names the word.
+fn write_reason<E: Diagnostics>(word: &str, reason: WordReason, err: &mut E)
+    ensures { MayExplain E.tells err.old err.new }
+{
+    match reason {
+        WordReason::UnknownKind => err.tell(format_args!(
+            "{word}: its kind is none of product, wavefront and reduce\n"
+        )),
+        WordReason::Form(form) => err.tell(format_args!("{word}: its form is {form}\n")),
+        WordReason::NoNumber(field) => {
+            let name = field.name();
+            err.tell(format_args!(
+                "{word}: {name} is no number of at most six digits without leading zeros\n"
+            ))
+        }
+        WordReason::OutOfRange(field, number) => {
+            let name = field.name();
+            let range = field.range();
+            err.tell(format_args!("{word}: {name} {number} is {range}\n"))
+        }
+        WordReason::Repeated => err.tell(format_args!("{word} stands before\n")),
+        WordReason::Undivided(side, order) => err.tell(format_args!(
+            "{word}: SIDE {side} does not divide ORDER {order}\n"
+        )),
+    }
+}
+
+impl Field {
+    /// As the help of `tp run` names it.
+    fn name(self) -> &'static str {
+        match self {
+            Field::Order => "ORDER",
+            Field::Side => "SIDE",
+            Field::Rows => "ROWS",
+            Field::Columns => "COLUMNS",
+            Field::Leaves => "LEAVES",
+            Field::Seed => "SEED",
+        }
+    }
+
+    /// How a message describes a number that is out of its range.
+    fn range(self) -> &'static str {
+        match self {
+            Field::Order | Field::Side | Field::Rows | Field::Columns => "not from 1 to 64",
+            Field::Leaves => "no power of two from 1 to 1024",
+            Field::Seed => "not from 0 to 9999",
+        }
+    }
+
+    /// Whether a number is in its range.
+    fn allows(self, n: u32) -> bool {
+        match self {
+            Field::Order | Field::Side => 1 <= n && n <= MAX_ORDER,
+            Field::Rows | Field::Columns => 1 <= n && n <= MAX_SIDE,
+            Field::Leaves => matches!(n, 1 | 2 | 4 | 8 | 16 | 32 | 64 | 128 | 256 | 512 | 1024),
+            Field::Seed => n <= MAX_SEED,
+        }
+    }
+}

@@ -1,7 +1,0 @@
-use Rattle.std.proofs.Common.{◌∙◌, codes}
-use Rattle.clap.proofs.WalkLemmas.{one_text-rows}
-use Rattle.clap.specs.Words.{found_of}
-use Rattle.tp_draw.proofs.request.plan_of.Goals as goal
-
-pub returns-clause-nodes : goal.returns-clause-nodes
-returns-clause-nodes c = λ t e. c.count_of.ensures.asked t (one_text-rows (found_of c.args.arguments.now) (codes "nodes") ∙ e)

@@ -1,4 +1,0 @@
-pub mod FiniteSets
-pub mod FiniteMaps
-pub mod Refusals
-pub mod Idle

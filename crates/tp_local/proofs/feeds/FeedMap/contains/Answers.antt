@@ -1,6 +1,0 @@
-use Rattle.std.proofs.Common.{ap, is_some, sym, ◌∙◌}
-use Rattle.tp_local.proofs.FiniteMaps.{get-feeds}
-use Rattle.tp_local.proofs.feeds.FeedMap.contains.Goals as goal
-
-pub returns : goal.returns
-returns c = rw (← c.self.view_is) (c.contains_key.ensures ∙ ap is_some (sym (get-feeds c.self.inside.feeds.entries c.args.number)))

@@ -1,6 +1,0 @@
-use Rattle.tp_local.proofs.FiniteMaps.{feeds-remove}
-use Rattle.tp_local.proofs.feeds.FeedMap.remove.Goals as goal
-
-pub returns : goal.returns
-returns c = rw (← c.self.view_is)
-    (feeds-remove c.self.inside.feeds.entries c.remove.new.self.entries c.args.number c.remove.ensures.updates.0)

@@ -1,6 +1,0 @@
-use Rattle.tp_local.proofs.FiniteSets.{numbers-remove}
-use Rattle.tp_local.proofs.numbers.NumberSet.remove.Goals as goal
-
-pub returns : goal.returns
-returns c = rw (← c.self.view_is)
-    (numbers-remove c.self.inside.numbers.keys c.remove.new.self.keys c.args.number c.remove.ensures.updates.0)

@@ -1,0 +1,6 @@
+use Rattle.std.proofs.Common.{ap, is_some, sym, ◌∙◌}
+use Rattle.tp_node.proofs.FiniteMaps.{get-feeds}
+use Rattle.tp_node.proofs.feeds.FeedMap.contains.Goals as goal
+
+pub returns : goal.returns
+returns c = rw (← c.self.view_is) (c.contains_key.ensures ∙ ap is_some (sym (get-feeds c.self.inside.feeds.entries c.args.number)))

@@ -1,0 +1,7 @@
+use Rattle.tp_node.proofs.FiniteMaps.{feeds-insert}
+use Rattle.tp_node.proofs.feeds.FeedMap.insert.Goals as goal
+
+pub returns-clause-put : goal.returns-clause-put
+returns-clause-put c =
+    rw (← c.self.view_is)
+    (feeds-insert c.self.inside.feeds.entries c.insert.new.self.entries c.args.number c.args.feed c.in_ok-insert.ensures.updates.0)

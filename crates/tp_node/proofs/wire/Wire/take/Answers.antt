@@ -1,6 +1,0 @@
-use Rattle.tp_node.proofs.Answering.{wire_without}
-use Rattle.tp_node.proofs.wire.Wire.take.Goals as goal
-
-pub invariant_of-self : goal.invariant_of-self
-invariant_of-self g c =
-    wire_without _ _ _ _ _ _ c.in-Some.message c.self.invariant c.in-Some.ensures.first c.get.ensures.ends c.in-Ok.ensures.link

@@ -1,0 +1,13 @@
+-- What a node keeps of its monitor.
+use Rattle.std.specs.Prelude.{◌≡◌, Some}
+use Rattle.tp_base.specs.declared.PoolId.{PoolId}
+use Rattle.tp_monitor.specs.Monitors.{Monitored, IsMonitor}
+
+-- the number of the one pool that is monitored
+abbrev pub the_pool : PoolId
+the_pool = record { 0 = 0 }
+
+-- The monitor is at that pool.
+pub record IsNodeMonitor (m : Monitored) : Type 0 where
+  pub monitored : m.pool ≡ Some the_pool
+  pub kept : IsMonitor m

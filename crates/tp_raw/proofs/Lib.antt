@@ -1,4 +1,0 @@
-pub mod Chained
-pub mod Keeping
-pub mod Moves
-pub mod Housed

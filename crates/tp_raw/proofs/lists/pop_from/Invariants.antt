@@ -1,8 +1,0 @@
-use Rattle.std.proofs.Common.{◌≡◌, ℕ, ◌<◌, List, [], get_or}
-use Rattle.tp_raw.specs.Lists.{AreChains}
-use Rattle.tp_raw.proofs.lists.pop_from.Given as goal
-
-abbrev pub invariant-loop-chain : goal.invariant-loop-chain
-invariant-loop-chain g l =
-    (lists : List (List ℕ)) → AreChains l.cells.cells l.initial.ready lists → AreChains l.cells.cells l.ready lists
-    × ((k : ℕ) → k < l.chain-index → get_or lists k [] ≡ [])

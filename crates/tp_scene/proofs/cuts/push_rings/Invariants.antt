@@ -1,6 +1,0 @@
-use Rattle.std.proofs.Common.{◌≡◌, ◌++◌}
-use Rattle.tp_scene.specs.Cuts.{rings}
-use Rattle.tp_scene.proofs.cuts.push_rings.Given as goal
-
-abbrev pub invariant-loop-node : goal.invariant-loop-node
-invariant-loop-node l = l.out.items ≡ l.fn.out.items ++ rings l.scene l.cut l.node

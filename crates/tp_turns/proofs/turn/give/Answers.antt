@@ -1,5 +1,0 @@
-use Rattle.tp_turns.proofs.Turns.{give_tried}
-use Rattle.tp_turns.proofs.turn.give.Goals as goal
-
-pub returns : goal.returns
-returns g c = give_tried c.give.result c.give.ensures.ok c.give.ensures.refusal c.give.ensures.piece c.give.ensures.refused c.moved.ensures

@@ -1,8 +1,0 @@
-use Rattle.tp_board.specs.Judgements.{is_over}
-use Rattle.tp_turns.proofs.Turns.{judge_tried}
-use Rattle.tp_turns.proofs.turn.judge.Goals as goal
-
-pub returns : goal.returns
-returns g c =
-    judge_tried c.judge.result is_over c.judge.ensures.over c.judge.ensures.ok c.judge.ensures.refusal c.judge.ensures.piece
-    c.judge.ensures.refused c.judged.ensures

@@ -1,8 +1,0 @@
-use Rattle.std.specs.Prelude.{reverse}
-use Rattle.tp_work.proofs.Beginning.{desk_fewer, popped}
-use Rattle.tp_work.proofs.desk.Desk.take_last.Goals as goal
-
-pub invariant_of-self : goal.invariant_of-self
-invariant_of-self g c =
-    desk_fewer c.self.inside.node c.pop.result (reverse c.self.inside.begun.items) (reverse c.pop.new.self.items)
-    (popped c.pop.result c.self.inside.begun.items c.pop.new.self.items c.pop.ensures.items) c.self.invariant

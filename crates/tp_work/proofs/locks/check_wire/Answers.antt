@@ -1,5 +1,0 @@
-use Rattle.std.proofs.Common.{rules}
-use Rattle.tp_work.proofs.locks.check_wire.Goals as goal
-
-pub returns-clause-to : goal.returns-clause-to
-returns-clause-to g c = search rules

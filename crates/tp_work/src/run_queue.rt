@@ -1,0 +1,211 @@
+ghost use Rattle.std.specs.Prelude.{◌≡◌, ◌≢◌, ◌⊎◌, ◌+◌, ◌-◌, ◌++◌, ◌*◌, ◌/◌, ◌<◌, ◌≤◌, [], None, Some, IfErr, IfNone, IsFalse, IsOk, IsTrue};
+ghost use Rattle.std.specs.Prelude.{MatchOption, OnErr, OnOk, length, max, min, reverse, vec_capacity, vec_len};
+ghost use Rattle.std.specs.Option.{option_to_list};
+ghost use Rattle.tp_base.specs.declared.refusal.Refusal.TheVariants.{NoMemory};
+ghost use Rattle.tp_board.specs.Calls.{Appends};
+ghost use Rattle.tp_board.specs.States.{AnswersBy};
+ghost use Rattle.tp_node.specs.Begins.{next_task, ready_count};
+ghost use Rattle.tp_node.specs.Refused.{begin_checks};
+ghost use Rattle.tp_work.specs.RunQueues.{BeginsEach};
+
+use std::alloc::Global;
+use std::marker::Model;
+use tp_base::{MAX_STEPS, Refusal};
+use tp_board::{Board, Ledgers};
+use tp_graph::Graph;
+use tp_node::{Node, Work};
+
+/// How the ready tasks of a node are shared out among its workers.
+#[derive(Clone, Copy)]
+pub(crate) struct Share {
+    // How many work at the node.
+    workers: u32,
+    // How many tasks begin in one hold at most.
+    most: u32,
+    ghost some_workers: { 1 ≤ workers },
+    ghost few: { (1 ≤ most) × (most ≤ 8) },
+}
+
+impl Share {
+    /// Up to 8 tasks begin at a time, so that the board's lock is taken less often. A worker that is alone in its pool waits
+    /// for nobody, and begins one at a time.
+    pub fn new(nodes: u32, workers: u32) -> Self
+        requires { 1 ≤ workers }
+        ensures workers { result.workers ≡ workers }
+        ensures alone { (nodes ≡ 1) × (workers ≡ 1) → result.most ≡ 1 }
+        ensures several { (nodes ≢ 1) ⊎ (workers ≢ 1) → result.most ≡ 8 }
+    {
+        Share {
+            workers,
+            most: if nodes == 1 && workers == 1 { 1 } else { 8 },
+        }
+    }
+
+    /// A worker's share of so many ready tasks, at least 1, where the history has so many events. More than one are no more
+    /// than it has places left, so a history is full where it would be if one began at a time.
+    #[inline(always)]
+    fn of_ready(self, ready: u32, events: usize) -> u32
+        requires { events ≤ 1048576 }
+        ensures few { (1 ≤ result) × (result ≤ self.most) }
+        ensures share { 1 < result → result * self.workers ≤ ready }
+        ensures places { 1 < result → events + result ≤ 1048576 }
+        ensures same { result ≡ max (min (min (ready / self.workers) (1048576 - events)) self.most) 1 }
+    {
+        if self.most == 1 {
+            return 1;
+        }
+        let left = MAX_STEPS - events as u32;
+        (ready / self.workers).min(left).min(self.most).max(1)
+    }
+}
+
+/// What lies under a node's lock: the node, and the works that have begun and wait for a worker. Whoever is free takes the
+/// next one, whoever began it, so that none waits behind a long body while another worker of the node is idle. Its type keeps
+/// that at most seven wait, each of the node's graph. Contracts see the node and the works, the next one first.
+#[derive(Drop)]
+pub(crate) struct RunQueue<G: Graph, K: Ledgers> {
+    /// The node.
+    pub node: Node<G, K>,
+    // The next one last.
+    begun: Vec<Work<G>>,
+}
+
+impl<G: Graph, K: Ledgers> Model for RunQueue<G, K> {
+    ghost use Rattle.std.specs.Prelude.{reverse};
+    ghost use Rattle.tp_work.specs.RunQueues.{RunQueueState, IsRunQueue, run_queue_code};
+
+    ghost Value = { RunQueueState G };
+
+    ghost coded = { run_queue_code G.code };
+
+    ghost view = { λ d. record { node = d.node; begun = reverse d.begun.items } };
+
+    ghost invariant = { λ d. IsRunQueue (record { node = d.node; begun = reverse d.begun.items }) };
+}
+
+impl<G: Graph, K: Ledgers> RunQueue<G, K> {
+    /// A node at which no work waits. It takes no memory.
+    pub fn new(alloc: Global, node: Node<G, K>) -> Self
+        ensures node { result.node ≡ node }
+        ensures none { result.begun ≡ [] }
+    {
+        RunQueue {
+            node,
+            begun: Vec::new(alloc),
+        }
+    }
+
+    /// The node alone. Works that wait are dropped: there are some only where a fault has stopped the pool.
+    pub fn into_node(self) -> Node<G, K>
+        ensures { result ≡ self.node }
+    {
+        let RunQueue { node, begun: _ } = self;
+        node
+    }
+
+    /// Takes the next work that waits and puts it where the worker wants it, so that it is moved once. It answers whether there
+    /// was one; where none waits, nothing changes.
+    #[inline(always)]
+    pub fn take(&mut self, begun: &mut Option<Work<G>>) -> bool
+        ensures node { self.new.node ≡ self.old.node }
+        ensures next { IsTrue result → self.old.begun ≡ option_to_list begun.new ++ self.new.begun }
+        ensures taken { IsTrue result → begun.new ≢ None }
+        ensures none { IsFalse result → (self.old.begun ≡ []) × (self.new ≡ self.old) × (begun.new ≡ begun.old) }
+    {
+        if self.begun.is_empty() {
+            return false;
+        }
+        *begun = self.take_last();
+        true
+    }
+
+    /// Takes the next work that waits, where there is one. Apart from `take`, since mostly none does.
+    #[inline(never)]
+    fn take_last(&mut self) -> Option<Work<G>>
+        ensures node { self.new.node ≡ self.old.node }
+        ensures next { self.old.begun ≡ option_to_list result ++ self.new.begun }
+        ensures none { IfNone result (self.new.begun ≡ []) }
+    {
+        self.begun.pop()
+    }
+
+    /// How many tasks wait for a worker: those that are ready, and those that have begun.
+    #[inline(always)]
+    pub fn waiting(&self) -> u64
+        ensures { result ≡ ready_count self.now.node + length self.now.begun }
+    {
+        self.node.counts().ready as u64 + self.begun.len() as u64
+    }
+
+    /// Begins a worker's share of the node's ready tasks, and puts the first of them where the worker wants it, so that it is
+    /// moved once; `None` where no task is ready. No work may wait, so that works are taken in the order in which they began.
+    ///
+    /// Refused, where a task is ready: `HistoryFull` where the history has reached its limit; `NoMemory` where the board has
+    /// to ask for memory for the first event. Nothing changes then.
+    #[inline(always)]
+    pub(crate) fn begin(
+        &mut self,
+        board: &mut Board<K>,
+        share: Share,
+        begun: &mut Option<Work<G>>,
+    ) -> Result<(), Refusal>
+        requires empty { self.old.begun ≡ [] }
+        ensures none { next_task self.old.node ≡ None → IsOk result × (begun.new ≡ None) }
+        ensures first { OnOk result
+            (MatchOption begun.new (next_task self.old.node ≡ None) (λ first. next_task self.old.node ≡ Some first.task)) }
+        ensures begun { OnOk result
+            (BeginsEach (option_to_list begun.new ++ self.new.begun) self.old.node self.new.node board.old board.new) }
+        ensures refusal { MatchOption (next_task self.old.node) (Unit {0}) (λ t. AnswersBy (begin_checks board.old) 1 board.old result) }
+        ensures refused { OnErr result (Appends [] board.old board.new × (self.new ≡ self.old) × (begun.new ≡ begun.old)) }
+        ensures full { board.old.limit ≡ 1048576 → length board.old.history < 1048576 → IfErr result (λ e. e ≡ NoMemory) }
+    {
+        let share = share.of_ready(self.node.counts().ready, board.len());
+        *begun = self.node.begin(board)?;
+        if share > 1 {
+            self.begin_more(board, share - 1);
+        }
+        Ok(())
+    }
+
+    /// Begins as many more ready tasks, whose works then wait. A refusal ends it: whoever begins the next task is told.
+    fn begin_more(&mut self, board: &mut Board<K>, count: u32)
+        requires empty { self.old.begun ≡ [] }
+        requires few { count ≤ 7 }
+        ensures { BeginsEach self.new.begun self.old.node self.new.node board.old board.new }
+    {
+        if self.begun.reserve(count as usize).is_err() {
+            return;
+        }
+        begin_works(&mut self.node, board, count, &mut self.begun);
+        turn_round(&mut self.begun);
+    }
+}
+
+/// Begins so many ready tasks of a node, or fewer where a call is refused or no more are ready, and adds their works to a list
+/// in that order.
+fn begin_works<G: Graph, K: Ledgers>(
+    node: &mut Node<G, K>,
+    board: &mut Board<K>,
+    count: u32,
+    works: &mut Vec<Work<G>>,
+)
+    requires empty { works.old.items ≡ [] }
+    requires room { count ≤ vec_capacity works.old }
+    ensures few { vec_len works.new ≤ count }
+    ensures begun { BeginsEach works.new.items node.old node.new board.old board.new }
+{
+    for _ in 0..count {
+        match node.begin(board) {
+            Ok(Some(work)) => works.push_reserved(work),
+            Ok(None) => return,
+            Err(_) => return,
+        }
+    }
+}
+
+/// Turns a list round.
+fn turn_round<T>(items: &mut Vec<T>)
+    ensures { items.new.items ≡ reverse items.old.items }
+{
+    items.as_mut_slice().reverse();
+}
