@@ -12,7 +12,7 @@ use Rattle.tp_base.specs.declared.Step.TheVariants.{Send, Recv, MessageEnd, Reop
 use Rattle.tp_wave.specs.Steps.{any, is_reopen}
 use Rattle.tp_text.specs.Spelling.{generation_number, IsNumber, IsSpelled, TellsGeneration}
 use Rattle.tp_text.specs.TraceOf.{version_of, CanBeTraced}
-use Rattle.tp_text.proofs.Splits.{All-head, All-tail}
+use Rattle.std.proofs.lemmas.List.Elements.{All-head, All-tail}
 use Rattle.gerfmuod.specs.Homes.{IsSmall}
 
 All-reversed : {X : Type 0} (P : X → Type 0) (xs : List X) → All P (reverse xs) → All P xs

@@ -5,4 +5,5 @@ pub mod Meanings
 pub mod Opened
 pub mod Pool
 pub mod Told
+pub mod Wire
 pub mod Written

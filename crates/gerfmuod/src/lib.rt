@@ -9,4 +9,6 @@ mod exports;
 mod history;
 mod names;
 mod pool;
+mod process;
 mod text;
+mod wire;

@@ -1,31 +1,10 @@
 -- `gerfmuod_close` moves the core out of its memory.
-use Rattle.std.proofs.Common.{[], ◌∷◌, refl, ap}
-use Rattle.std.proofs.raw_atomic.Walks.{proved}
-use base.Fraction.{full_share}
-use base.Logic.{id⊢}
-use base.Fml.{ftrue, fat}
-use mir.Syntax.{Ty}
-use mir.Val.{Val, vunit}
-use prog.Wp.{WpFn}
-use contract.Running.{tables}
-use types.Kit.{‵, raw, ◌⊛◌, some, later, prop, ◌$◌, ◌∵◌, !, qed, done, move, drop, use1, use2, split, join, feq_i, feq_l, pick, await}
-use types.Kit.{regoal, suffices, group}
-use types.Run.{enter, of_opd, unit_lit, load, look, stop, no_more, and_then, returns}
-use types.ByLocal.{alloc_all, pass_all, free_all, look_at, get, through, sets, lands_as}
-use denote.Builtin.{unit}
-use denote.Exit.{yes}
-use denote.Laws.{Is, shows}
-use denote.Memory.{lone}
-use denote.RawPtr.{Ptr, RawPtr, block_ptr, lies_at, room_at, in_a_block, rawptr_vals, rawptr_Tells}
-use denote.Signature.{plain}
-use denote.Steps.{nothing, peeks, only}
-use denote.Triple.Call.{calls_at}
-use denote.Triple.Clauses.{lasts}
-use denote.Triple.Entry.{on_entry}
-use denote.Triple.Spec.{triple_of}
-use denote.Triple.Walked.{Stays, walk_of, stay_dropped, Goes-dropped, ends_at}
-use denote.Triple.Table.{framed}
-use borrow.Table.OneValue.{part_out}
+use Rattle.gerfmuod.proofs.Walks.{[], ◌∷◌, refl, ap, proved, full_share, id⊢, ftrue, fat, Ty, Val, vunit, WpFn, tables, ‵, raw, ◌⊛◌, some}
+use Rattle.gerfmuod.proofs.Walks.{later, prop, ◌$◌, ◌∵◌, !, qed, done, move, drop, use1, use2, split, join, feq_i, feq_l, pick, await}
+use Rattle.gerfmuod.proofs.Walks.{regoal, suffices, group, enter, of_opd, unit_lit, load, look, stop, no_more, and_then, returns, alloc_all}
+use Rattle.gerfmuod.proofs.Walks.{pass_all, free_all, look_at, get, through, sets, lands_as, unit, yes, Is, shows, lone, Ptr, RawPtr}
+use Rattle.gerfmuod.proofs.Walks.{block_ptr, lies_at, room_at, in_a_block, rawptr_vals, rawptr_Tells, plain, nothing, peeks, only, calls_at}
+use Rattle.gerfmuod.proofs.Walks.{lasts, on_entry, triple_of, Stays, walk_of, stay_dropped, Goes-dropped, ends_at, framed, part_out}
 use Rattle.gerfmuod.specs.contracts.pool.CoreRoom.{the_row as R}
 use Rattle.gerfmuod.proofs.pool.CoreRoom.TheLaws.{the_row_laws}
 use Rattle.gerfmuod.specs.contracts.exports.gerfmuod_close as f

@@ -1,36 +1,13 @@
 -- `gerfmuod_open` moves a new core into the memory.
-use Rattle.std.proofs.Common.{◌≡◌, [], ◌∷◌, ◌++◌, ℕ, refl, w32}
-use Rattle.std.proofs.raw_atomic.Walks.{proved}
-use base.Fraction.{full_share}
-use base.Logic.{id⊢}
-use base.Fml.{ftrue, froom}
-use mir.Syntax.{Ty}
-use mir.Val.{vint}
-use prog.Wp.{WpFn}
-use contract.Monad.{fact}
-use contract.Running.{tables}
-use types.Kit.{‵, raw, ◌⊛◌, some, later, prop, ◌$◌, ◌∵◌, !, qed, done, move, keep, drop, use1, use2, split, join, fsplit, pick, await}
-use types.Kit.{regoal, rewrite, suffices, frame, group}
-use types.Run.{enter, of_opd, init, stop, no_more, and_then, assigns, returns}
-use types.ByLocal.{alloc_all, pass_all, free_all, look_at, get, through, sets, lands_as}
-use denote.Builtin.{u32}
-use denote.Exit.{yes}
-use denote.Laws.{Is, shows}
-use denote.Memory.{lone}
-use denote.Plain.{uint_Makes, uint_vals, uint_Tells, uint_Lawful}
-use denote.RattleType.{owns}
-use denote.RawPtr.{Ptr, RawPtr, block_ptr, lies_at, room_at, in_a_block, rawptr_vals, rawptr_Tells}
-use denote.Signature.{plain}
-use denote.Steps.{nothing, owned, peeks, heard}
-use denote.Triple.Call.{calls_at}
-use denote.Triple.Clauses.{lasts}
-use denote.Triple.Spec.{triple_of}
-use denote.Triple.Walked.{Stays, walk_of, says, stay_dropped, Goes-dropped, ends_at}
-use denote.Triple.Table.{framed}
-use borrow.Table.OneValue.{part_in}
+use Rattle.gerfmuod.proofs.Walks.{◌≡◌, [], ◌∷◌, ◌++◌, ℕ, refl, w32, proved, full_share, id⊢, ftrue, froom, Ty, vint, WpFn, fact, tables, ‵}
+use Rattle.gerfmuod.proofs.Walks.{raw, ◌⊛◌, some, later, prop, ◌$◌, ◌∵◌, !, qed, done, move, keep, drop, use1, use2, split, join, fsplit}
+use Rattle.gerfmuod.proofs.Walks.{pick, await, regoal, rewrite, suffices, frame, group, enter, of_opd, init, stop, no_more, and_then}
+use Rattle.gerfmuod.proofs.Walks.{assigns, returns, alloc_all, pass_all, free_all, look_at, get, through, sets, lands_as, u32, yes, Is}
+use Rattle.gerfmuod.proofs.Walks.{shows, lone, uint_Makes, uint_vals, uint_Tells, uint_Lawful, owns, Ptr, RawPtr, block_ptr, lies_at}
+use Rattle.gerfmuod.proofs.Walks.{room_at, in_a_block, rawptr_vals, rawptr_Tells, plain, nothing, owned, peeks, heard, calls_at, lasts}
+use Rattle.gerfmuod.proofs.Walks.{triple_of, Stays, walk_of, says, stay_dropped, Goes-dropped, ends_at, framed, part_in, Accepted}
 use Rattle.std.specs.contracts.alloc.Global.{the_row as Z}
 use Rattle.std.proofs.alloc.Global.TheLaws as heap
-use Rattle.tp_core.specs.Accepted.{Accepted}
 use Rattle.gerfmuod.specs.contracts.pool.CoreRoom.{the_row as R}
 use Rattle.gerfmuod.proofs.pool.CoreRoom.TheLaws.{the_row_laws}
 use Rattle.gerfmuod.specs.Opened.{opened, opening}

@@ -1,41 +1,15 @@
 -- `gerfmuod_settle` lends the core for a lifetime that is made for the call.
-use Rattle.std.proofs.Common.{◌≡◌, [], ◌∷◌, refl, ap, MutBor}
-use Rattle.std.proofs.raw_atomic.Walks.{proved}
-use base.Fraction.{full_share}
-use base.Logic.{sep, ex, id⊢}
-use base.Fml.{GName, Lft, ftrue, flft, flent}
-use mir.Syntax.{named}
-use mir.Val.{vptr}
-use prog.Wp.{WpFn}
-use contract.Monad.{fact}
-use contract.Running.{tables}
-use types.Kit.{‵, raw, ◌⊛◌, some, later, prop, ◌$◌, ◌∵◌, !, qed, done, move, keep, drop, use1, use2, use3, split, join, fsplit, pick, await}
-use types.Kit.{regoal, suffices, group}
-use types.Tokens.{lft_new, lft_end}
-use types.SemTy.{Body}
-use types.Run.{enter, of_opd, addr, stop, no_more, and_then, returns}
-use types.ByLocal.{alloc_all, pass_all, free_all, look_at, get, through, sets, lands_as}
-use denote.Exit.{yes}
-use denote.Lend.{lends_ref, ref_back}
-use denote.Memory.{mem}
-use denote.RawPtr.{Ptr, RawPtr, block_ptr, lies_at, in_a_block, rawptr_vals, rawptr_Tells}
-use denote.Ref.{MutRef}
-use denote.Signature.{plain}
-use denote.Steps.{nothing, heard, only}
-use denote.Triple.Call.{calls_at}
-use denote.Triple.Clauses.{lasts}
-use denote.Triple.Entry.{on_entry}
-use denote.Triple.Spec.{triple_of}
-use denote.Triple.Walked.{Stays, walk_of, stay_dropped, Goes-dropped, ends_at}
-use denote.Triple.Table.{framed}
-use Rattle.tp_core.specs.Accepted.{Accepted}
-use Rattle.gerfmuod.specs.Asked.{IsSettled}
-use Rattle.gerfmuod.specs.Pool.{TellsNoEarlyEnd}
+use Rattle.gerfmuod.proofs.Walks.{◌≡◌, [], ◌∷◌, refl, ap, MutBor, proved, full_share, sep, ex, id⊢, GName, Lft, ftrue, flft, flent, named}
+use Rattle.gerfmuod.proofs.Walks.{vptr, WpFn, fact, tables, ‵, raw, ◌⊛◌, some, later, prop, ◌$◌, ◌∵◌, !, qed, done, move, keep, drop, use1}
+use Rattle.gerfmuod.proofs.Walks.{use2, use3, split, join, fsplit, pick, await, regoal, suffices, group, lft_new, lft_end, Body, enter}
+use Rattle.gerfmuod.proofs.Walks.{of_opd, addr, stop, no_more, and_then, returns, alloc_all, pass_all, free_all, look_at, get, through}
+use Rattle.gerfmuod.proofs.Walks.{sets, lands_as, yes, lends_ref, ref_back, mem, Ptr, RawPtr, block_ptr, lies_at, in_a_block, rawptr_vals}
+use Rattle.gerfmuod.proofs.Walks.{rawptr_Tells, MutRef, plain, nothing, heard, only, calls_at, lasts, on_entry, triple_of, Stays, walk_of}
+use Rattle.gerfmuod.proofs.Walks.{stay_dropped, Goes-dropped, ends_at, framed, Accepted, IsSettled, TellsNoEarlyEnd, tells, lies_so}
 use Rattle.gerfmuod.specs.contracts.pool.CoreRoom.{the_row as R}
 use Rattle.gerfmuod.specs.declared.answer.Settled.{Settled}
 use Rattle.gerfmuod.specs.contracts.answer.Settled.{the_row as A}
 use Rattle.gerfmuod.proofs.answer.Settled.TheLaws.{the_row_laws}
-use Rattle.gerfmuod.proofs.Walks.{tells, lies_so}
 use Rattle.gerfmuod.specs.contracts.exports.gerfmuod_settle as f
 use Rattle.gerfmuod.proofs.exports.gerfmuod_settle.Statement.{statement}
 use Rattle.gerfmuod.proofs.exports.gerfmuod_settle.Code as code

@@ -1,45 +1,15 @@
 -- `gerfmuod_supply` lends the core for a lifetime that is made for the call.
-use Rattle.std.proofs.Common.{◌≡◌, Some, [], ◌∷◌, ◌++◌, refl, ap, w32, MutBor}
-use Rattle.std.proofs.raw_atomic.Walks.{proved}
-use base.Fraction.{full_share}
-use base.Logic.{sep, ex, id⊢}
-use base.Fml.{GName, Lft, ftrue, flft, flent}
-use mir.Syntax.{named}
-use mir.Val.{vint, vptr}
-use prog.Wp.{WpFn}
-use contract.Monad.{fact}
-use contract.Running.{tables}
-use types.Kit.{‵, raw, ◌⊛◌, some, later, prop, ◌$◌, ◌∵◌, !, qed, done, move, keep, drop, use1, use2, use3, split, join, fsplit, pick, await}
-use types.Kit.{regoal, suffices, group}
-use types.Tokens.{lft_new, lft_end}
-use types.SemTy.{Body}
-use types.Run.{enter, of_opd, addr, stop, no_more, and_then, returns}
-use types.ByLocal.{alloc_all, pass_all, free_all, look_at, get, through, sets, lands_as}
-use denote.Builtin.{u32}
-use denote.Exit.{yes}
-use denote.Laws.{Is}
-use denote.Lend.{lends_ref, ref_back}
-use denote.Memory.{mem}
-use denote.Plain.{uint_Makes, uint_vals, uint_Tells}
-use denote.RawPtr.{Ptr, RawPtr, block_ptr, lies_at, in_a_block, rawptr_vals, rawptr_Tells}
-use denote.Ref.{MutRef}
-use denote.Signature.{plain}
-use denote.Steps.{nothing, owned, heard, only}
-use denote.Triple.Call.{calls_at}
-use denote.Triple.Clauses.{lasts}
-use denote.Triple.Entry.{on_entry}
-use denote.Triple.Spec.{triple_of}
-use denote.Triple.Walked.{Stays, walk_of, stay_dropped, Goes-dropped, ends_at}
-use denote.Triple.Table.{framed}
-use Rattle.tp_core.specs.Accepted.{Accepted}
-use Rattle.gerfmuod.specs.Events.{supply_of}
-use Rattle.gerfmuod.specs.Pool.{TellsNoEarlyEnd}
-use Rattle.gerfmuod.specs.Told.{IsTold}
+use Rattle.gerfmuod.proofs.Walks.{◌≡◌, Some, [], ◌∷◌, ◌++◌, refl, ap, w32, MutBor, proved, full_share, sep, ex, id⊢, GName, Lft, ftrue}
+use Rattle.gerfmuod.proofs.Walks.{flft, flent, named, vint, vptr, WpFn, fact, tables, ‵, raw, ◌⊛◌, some, later, prop, ◌$◌, ◌∵◌, !, qed}
+use Rattle.gerfmuod.proofs.Walks.{done, move, keep, drop, use1, use2, use3, split, join, fsplit, pick, await, regoal, suffices, group}
+use Rattle.gerfmuod.proofs.Walks.{lft_new, lft_end, Body, enter, of_opd, addr, stop, no_more, and_then, returns, alloc_all, pass_all}
+use Rattle.gerfmuod.proofs.Walks.{free_all, look_at, get, through, sets, lands_as, u32, yes, Is, lends_ref, ref_back, mem, uint_Makes}
+use Rattle.gerfmuod.proofs.Walks.{uint_vals, uint_Tells, Ptr, RawPtr, block_ptr, lies_at, in_a_block, rawptr_vals, rawptr_Tells, MutRef}
+use Rattle.gerfmuod.proofs.Walks.{plain, nothing, owned, heard, only, calls_at, lasts, on_entry, triple_of, Stays, walk_of, stay_dropped}
+use Rattle.gerfmuod.proofs.Walks.{Goes-dropped, ends_at, framed, Accepted, supply_of, TellsNoEarlyEnd, IsTold, Answer, tells, lies_so}
 use Rattle.gerfmuod.specs.contracts.pool.CoreRoom.{the_row as R}
-use Rattle.gerfmuod.specs.declared.answer.Answer.{Answer}
 use Rattle.gerfmuod.specs.contracts.answer.Answer.{the_row as A}
 use Rattle.gerfmuod.proofs.answer.Answer.TheLaws.{the_row_laws}
-use Rattle.gerfmuod.proofs.Walks.{tells, lies_so}
 use Rattle.gerfmuod.specs.contracts.exports.gerfmuod_supply as f
 use Rattle.gerfmuod.proofs.exports.gerfmuod_supply.Statement.{statement}
 use Rattle.gerfmuod.proofs.exports.gerfmuod_supply.Code as code

@@ -1,45 +1,21 @@
 -- `gerfmuod_trace` lends the core for a lifetime that is made for the call, and hands the room on.
-use Rattle.std.proofs.Common.{◌≡◌, ℕ, List, [], ◌∷◌, ◌++◌, refl, ap, MutBor}
-use Rattle.std.proofs.raw_atomic.Walks.{proved}
-use base.Fraction.{full_share}
-use base.Logic.{sep, ex, id⊢}
-use base.Fml.{GName, Lft, ftrue, flft, flent}
-use mir.Syntax.{named}
-use mir.Val.{vptr}
-use prog.Wp.{WpFn}
-use contract.Monad.{fact}
-use contract.Running.{tables}
-use types.Kit.{‵, raw, ◌⊛◌, some, later, prop, ◌$◌, ◌∵◌, !, qed, done, move, keep, drop, use1, use2, use3, split, join, fsplit, fjoin}
-use types.Kit.{feq_l, pick, await, regoal, suffices, group}
+use Rattle.gerfmuod.proofs.Walks.{◌≡◌, ℕ, List, [], ◌∷◌, ◌++◌, refl, ap, MutBor, proved, full_share, sep, ex, id⊢, GName, Lft, ftrue, flft}
+use Rattle.gerfmuod.proofs.Walks.{flent, named, vptr, WpFn, fact, tables, ‵, raw, ◌⊛◌, some, later, prop, ◌$◌, ◌∵◌, !, qed, done, move}
+use Rattle.gerfmuod.proofs.Walks.{keep, drop, use1, use2, use3, split, join, fsplit, fjoin, feq_l, pick, await, regoal, suffices, group}
+use Rattle.gerfmuod.proofs.Walks.{lft_new, lft_end, Body, enter, of_opd, addr, from, fld, hop, stop, no_more, and_then, returns, alloc_all}
+use Rattle.gerfmuod.proofs.Walks.{pass_all, free_all, look_at, look_in_at, get, get_in, through, sets, lands_as, u8, yes, lends_ref}
+use Rattle.gerfmuod.proofs.Walks.{ref_back, mem, owns, Ptr, RawPtr, block_ptr, lies_at, in_a_block, rawptr_vals, rawptr_Tells, MutRef}
+use Rattle.gerfmuod.proofs.Walks.{plain, nothing, heard, only, calls_at, lasts, triple_of, Stays, walk_of, stay_dropped, gave_slice}
+use Rattle.gerfmuod.proofs.Walks.{Goes-dropped, Goes-gave_slice, ends_at, framed, Accepted, tells, lies_so}
 use types.Part.{whole, sub, agg}
-use types.Tokens.{lft_new, lft_end}
-use types.SemTy.{Body}
-use types.Run.{enter, of_opd, addr, from, fld, hop, stop, no_more, and_then, returns}
-use types.ByLocal.{alloc_all, pass_all, free_all, look_at, look_in_at, get, get_in, through, sets, lands_as}
-use denote.Builtin.{u8}
-use denote.Exit.{yes}
-use denote.Lend.{lends_ref, ref_back}
-use denote.Memory.{mem}
-use denote.RattleType.{owns}
-use denote.RawPtr.{Ptr, RawPtr, block_ptr, lies_at, in_a_block, rawptr_vals, rawptr_Tells}
-use denote.Ref.{MutRef}
-use denote.Signature.{plain}
 use denote.Slice.{MutSlice, mut_slice_vals, mut_slice_Tells}
-use denote.Steps.{nothing, heard, only}
-use denote.Triple.Call.{calls_at}
-use denote.Triple.Clauses.{lasts}
-use denote.Triple.Spec.{triple_of}
-use denote.Triple.Walked.{Stays, walk_of, stay_dropped, gave_slice, Goes-dropped, Goes-gave_slice, ends_at}
-use denote.Triple.Table.{framed}
 use Rattle.std.specs.contracts.alloc.Global.{the_row as Z}
 use Rattle.std.proofs.alloc.Global.TheLaws as heap
-use Rattle.tp_core.specs.Accepted.{Accepted}
 use Rattle.gerfmuod.specs.Written.{IsTraced}
 use Rattle.gerfmuod.specs.contracts.pool.CoreRoom.{the_row as R}
 use Rattle.gerfmuod.specs.declared.answer.Written.{Written}
 use Rattle.gerfmuod.specs.contracts.answer.Written.{the_row as A}
 use Rattle.gerfmuod.proofs.answer.Written.TheLaws.{the_row_laws}
-use Rattle.gerfmuod.proofs.Walks.{tells, lies_so}
 use Rattle.gerfmuod.specs.contracts.exports.gerfmuod_trace as f
 use Rattle.gerfmuod.proofs.exports.gerfmuod_trace.Statement.{statement}
 use Rattle.gerfmuod.proofs.exports.gerfmuod_trace.Code as code

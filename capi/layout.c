@@ -1,0 +1,316 @@
+/* layout.c: that a gerfmuod_process in C is what the library reads and writes, field by field, and that whatever is not a
+ * process or not a control message is refused and changes nothing.
+ *
+ *   cc -O2 -Icapi capi/layout.c -Llib -lgerfmuod -o layout && ./layout
+ *
+ * Each check fills a struct in C, calls the library once, and compares what it returned, and each byte but the padding at the
+ * end, with a struct that C wrote. Each field is read by some call and written by some call. Exit status: how many checks
+ * failed. With the argument `swapped` the expected structs have two fields swapped: then checks have to fail. */
+#include "gerfmuod_process.h"
+#include <stdio.h>
+#include <stdlib.h>
+#include <string.h>
+
+enum { BYTES = offsetof(gerfmuod_process, over_right) + 1 };
+
+static int checks, failed, is_swapped;
+
+static void check(int line, uint32_t got, uint32_t wanted, const gerfmuod_process *p, const gerfmuod_process *as) {
+    gerfmuod_process expected = *as;
+    if (is_swapped) {
+        expected.taken_sent = as->taken_received;
+        expected.taken_received = as->taken_sent;
+    }
+    checks++;
+    if (got == wanted && !memcmp(p, &expected, BYTES)) return;
+    failed++;
+    printf("line %d: returned %u, not %u, or another struct\n", line, (unsigned)got, (unsigned)wanted);
+}
+
+static void check_control(int line, const gerfmuod_control_message *got, uint64_t epoch, uint64_t from, uint64_t to, uint64_t wave,
+                          uint64_t token, uint64_t sent, uint64_t received) {
+    gerfmuod_control_message wanted;
+    wanted.epoch = epoch;
+    wanted.from = from;
+    wanted.to = to;
+    wanted.wave = wave;
+    wanted.token = token;
+    wanted.sent = sent;
+    wanted.received = received;
+    checks++;
+    if (!memcmp(got, &wanted, sizeof wanted)) return;
+    failed++;
+    printf("line %d: another control message\n", line);
+}
+
+static void check_number(int line, uint64_t got, uint64_t wanted) {
+    checks++;
+    if (got == wanted) return;
+    failed++;
+    printf("line %d: %llx, not %llx\n", line, (unsigned long long)got, (unsigned long long)wanted);
+}
+
+static gerfmuod_control_message control_of(uint64_t epoch, uint64_t from, uint64_t to, uint64_t wave, uint64_t token, uint64_t sent,
+                                           uint64_t received) {
+    gerfmuod_control_message c;
+    c.epoch = epoch;
+    c.from = from;
+    c.to = to;
+    c.wave = wave;
+    c.token = token;
+    c.sent = sent;
+    c.received = received;
+    return c;
+}
+
+/* Process 5 of 13: its children are 11 and 12, its parent is 2. Each number has bytes of its own. */
+static gerfmuod_process known_bytes(uint64_t mark) {
+    gerfmuod_process p;
+    memset(&p, 0, sizeof p);
+    p.mark = mark;
+    p.epoch = 0x0102030405060708u;
+    p.number = 5;
+    p.processes = 13;
+    p.pending = 0x010213141516u;
+    p.sent = 0x010223242526u;
+    p.received = 0x010233343536u;
+    p.wave = 0x4142434445464748u;
+    p.taken_sent = 0x5152535455565758u;
+    p.taken_received = 0x6162636465666768u;
+    p.last_received = 0x7172737475767778u;
+    return p;
+}
+
+static void readers(uint64_t mark) {
+    gerfmuod_process p = known_bytes(mark);
+    check_number(__LINE__, gerfmuod_process_is_open(&p), 1);
+    check_number(__LINE__, gerfmuod_process_is_over(&p), 0);
+    check_number(__LINE__, gerfmuod_process_epoch(&p), p.epoch);
+    check_number(__LINE__, gerfmuod_process_pending(&p), p.pending);
+    check_number(__LINE__, gerfmuod_process_sent(&p), p.sent);
+    check_number(__LINE__, gerfmuod_process_received(&p), p.received);
+    check_number(__LINE__, gerfmuod_process_wave(&p), p.wave);
+    p.over = true;
+    check_number(__LINE__, gerfmuod_process_is_over(&p), 1);
+    p.mark ^= 1;
+    check_number(__LINE__, gerfmuod_process_is_over(&p), 0);
+    check_number(__LINE__, gerfmuod_process_is_open(&p), 0);
+}
+
+static void work_and_messages(uint64_t mark) {
+    gerfmuod_process p = known_bytes(mark), as = p;
+    as.pending++;
+    check(__LINE__, gerfmuod_process_add_work(&p), GERFMUOD_PROCESS_OK, &p, &as);
+    as.pending--;
+    check(__LINE__, gerfmuod_process_finish_work(&p), GERFMUOD_PROCESS_OK, &p, &as);
+    as.sent++;
+    check(__LINE__, gerfmuod_process_count_sent(&p), GERFMUOD_PROCESS_OK, &p, &as);
+    as.sent++;
+    check(__LINE__, gerfmuod_process_outgoing_message_start(&p), GERFMUOD_PROCESS_OK, &p, &as);
+    as.pending++;
+    as.received++;
+    check(__LINE__, gerfmuod_process_count_received(&p, p.epoch), GERFMUOD_PROCESS_OK, &p, &as);
+    as.pending++;
+    as.received++;
+    check(__LINE__, gerfmuod_process_incoming_message_start(&p, p.epoch), GERFMUOD_PROCESS_OK, &p, &as);
+    as.pending--;
+    check(__LINE__, gerfmuod_process_incoming_message_end(&p), GERFMUOD_PROCESS_OK, &p, &as);
+    check(__LINE__, gerfmuod_process_count_received(&p, p.epoch + 1), GERFMUOD_PROCESS_NOT_YET, &p, &as);
+    check(__LINE__, gerfmuod_process_count_received(&p, p.epoch - 1), GERFMUOD_PROCESS_LATE, &p, &as);
+    check(__LINE__, gerfmuod_process_reopen(&p), GERFMUOD_PROCESS_NOT_ENDED, &p, &as);
+    p.sent = as.sent = GERFMUOD_PROCESS_MAX_COUNT;
+    check(__LINE__, gerfmuod_process_count_sent(&p), GERFMUOD_PROCESS_FULL, &p, &as);
+    p.received = as.received = GERFMUOD_PROCESS_MAX_COUNT;
+    check(__LINE__, gerfmuod_process_count_received(&p, p.epoch), GERFMUOD_PROCESS_FULL, &p, &as);
+    p.pending = as.pending = GERFMUOD_PROCESS_MAX_COUNT;
+    check(__LINE__, gerfmuod_process_add_work(&p), GERFMUOD_PROCESS_FULL, &p, &as);
+    p.pending = as.pending = 0;
+    check(__LINE__, gerfmuod_process_add_work(&p), GERFMUOD_PROCESS_INACTIVE, &p, &as);
+    check(__LINE__, gerfmuod_process_finish_work(&p), GERFMUOD_PROCESS_INACTIVE, &p, &as);
+    check(__LINE__, gerfmuod_process_count_sent(&p), GERFMUOD_PROCESS_INACTIVE, &p, &as);
+}
+
+/* The wave comes from the parent, goes to both children, comes back from both, and goes up. */
+static void wave(uint64_t mark) {
+    gerfmuod_process p = known_bytes(mark), as;
+    gerfmuod_control_message c;
+    p.processes = 12;
+    c = control_of(p.epoch, 2, 5, p.wave + 1, GERFMUOD_PROCESS_TOKEN_DOWN, 0, 0);
+    as = p;
+    as.wave++;
+    as.here = as.down_left = as.up_left = true;
+    as.taken_sent = as.taken_received = 0;
+    check(__LINE__, gerfmuod_process_take(&p, &c), GERFMUOD_PROCESS_OK, &p, &as);
+    check(__LINE__, gerfmuod_process_take(&p, &c), GERFMUOD_PROCESS_NOT_DUE, &p, &as);
+    p = known_bytes(mark);
+    as.processes = 13;
+    as.down_right = as.up_right = true;
+    check(__LINE__, gerfmuod_process_take(&p, &c), GERFMUOD_PROCESS_OK, &p, &as);
+
+    as.down_left = false;
+    check(__LINE__, gerfmuod_process_next(&p, &c), GERFMUOD_PROCESS_SEND, &p, &as);
+    check_control(__LINE__, &c, p.epoch, 5, 11, p.wave, GERFMUOD_PROCESS_TOKEN_DOWN, 0, 0);
+    as.down_right = false;
+    check(__LINE__, gerfmuod_process_next(&p, &c), GERFMUOD_PROCESS_SEND, &p, &as);
+    check_control(__LINE__, &c, p.epoch, 5, 12, p.wave, GERFMUOD_PROCESS_TOKEN_DOWN, 0, 0);
+    p.pending = as.pending = 0;
+    check(__LINE__, gerfmuod_process_next(&p, &c), GERFMUOD_PROCESS_NOTHING, &p, &as);
+
+    p.taken_sent = as.taken_sent = 0x5152535455565758u;
+    p.taken_received = as.taken_received = 0x6162636465666768u;
+    c = control_of(p.epoch, 12, 5, p.wave, GERFMUOD_PROCESS_TOKEN_UP, 0x91929394, 0xa1a2a3a4);
+    as.up_right = false;
+    as.taken_sent += c.sent;
+    as.taken_received += c.received;
+    check(__LINE__, gerfmuod_process_take(&p, &c), GERFMUOD_PROCESS_OK, &p, &as);
+    check(__LINE__, gerfmuod_process_take(&p, &c), GERFMUOD_PROCESS_NOT_DUE, &p, &as);
+    check(__LINE__, gerfmuod_process_next(&p, &c), GERFMUOD_PROCESS_NOTHING, &p, &as);
+    c.from = 11;
+    as.up_left = false;
+    as.taken_sent += c.sent;
+    as.taken_received += c.received;
+    check(__LINE__, gerfmuod_process_take(&p, &c), GERFMUOD_PROCESS_OK, &p, &as);
+    p.pending = as.pending = 1;
+    check(__LINE__, gerfmuod_process_next(&p, &c), GERFMUOD_PROCESS_NOTHING, &p, &as);
+    p.pending = as.pending = 0;
+    as.here = false;
+    check(__LINE__, gerfmuod_process_next(&p, &c), GERFMUOD_PROCESS_SEND, &p, &as);
+    check_control(__LINE__, &c, p.epoch, 5, 2, p.wave, GERFMUOD_PROCESS_TOKEN_UP, p.taken_sent + p.sent, p.taken_received + p.received);
+    check(__LINE__, gerfmuod_process_next(&p, &c), GERFMUOD_PROCESS_NOTHING, &p, &as);
+}
+
+/* Process 0 judges a wave that is not the end, and one that is; and the end goes down to both children. */
+static void end(uint64_t mark) {
+    gerfmuod_process p = known_bytes(mark), as;
+    gerfmuod_control_message c = control_of(0, 0, 0, 0, 0, 0, 0);
+    p.number = 0;
+    p.pending = 0;
+    p.here = true;
+    as = p;
+    as.here = false;
+    as.known = true;
+    as.last_received = p.taken_received + p.received;
+    check(__LINE__, gerfmuod_process_next(&p, &c), GERFMUOD_PROCESS_AGAIN, &p, &as);
+    p.here = true;
+    p.last_received = p.taken_sent + p.sent;
+    p.known = false;
+    as.last_received = p.taken_received + p.received;
+    check(__LINE__, gerfmuod_process_next(&p, &c), GERFMUOD_PROCESS_AGAIN, &p, &as);
+    p.here = as.here = true;
+    p.last_received = as.last_received = p.taken_sent + p.sent;
+    as.over = as.over_left = as.over_right = true;
+    check(__LINE__, gerfmuod_process_next(&p, &c), GERFMUOD_PROCESS_AGAIN, &p, &as);
+    as.over_left = false;
+    check(__LINE__, gerfmuod_process_next(&p, &c), GERFMUOD_PROCESS_SEND, &p, &as);
+    check_control(__LINE__, &c, p.epoch, 0, 1, p.wave, GERFMUOD_PROCESS_TOKEN_OVER, 0, 0);
+    check(__LINE__, gerfmuod_process_reopen(&p), GERFMUOD_PROCESS_NOT_ENDED, &p, &as);
+    as.over_right = false;
+    check(__LINE__, gerfmuod_process_next(&p, &c), GERFMUOD_PROCESS_SEND, &p, &as);
+    check_control(__LINE__, &c, p.epoch, 0, 2, p.wave, GERFMUOD_PROCESS_TOKEN_OVER, 0, 0);
+    check(__LINE__, gerfmuod_process_next(&p, &c), GERFMUOD_PROCESS_ENDED, &p, &as);
+
+    p.number = as.number = 5;
+    p.over = false;
+    as.over_left = as.over_right = true;
+    c = control_of(p.epoch, 2, 5, 0, GERFMUOD_PROCESS_TOKEN_OVER, 0, 0);
+    check(__LINE__, gerfmuod_process_take(&p, &c), GERFMUOD_PROCESS_OK, &p, &as);
+    check(__LINE__, gerfmuod_process_take(&p, &c), GERFMUOD_PROCESS_NOT_DUE, &p, &as);
+    p.over_left = p.over_right = false;
+
+    memset(&as, 0, sizeof as);
+    as.mark = mark;
+    as.epoch = p.epoch + 1;
+    as.number = 5;
+    as.processes = 13;
+    as.pending = 1;
+    check(__LINE__, gerfmuod_process_reopen(&p), GERFMUOD_PROCESS_OK, &p, &as);
+    p.over = as.over = true;
+    p.epoch = as.epoch = UINT64_MAX;
+    check(__LINE__, gerfmuod_process_reopen(&p), GERFMUOD_PROCESS_FULL, &p, &as);
+}
+
+/* Every call refuses a struct whose mark has a bit wrong, and what is in it stays. */
+static void not_open(uint64_t mark) {
+    for (int bit = 0; bit < 64; bit++) {
+        gerfmuod_process p = known_bytes(mark ^ (uint64_t)1 << bit), as = p;
+        gerfmuod_control_message c = control_of(p.epoch, 2, 5, p.wave + 1, GERFMUOD_PROCESS_TOKEN_DOWN, 0, 0);
+        check(__LINE__, gerfmuod_process_add_work(&p), GERFMUOD_PROCESS_NOT_OPEN, &p, &as);
+        check(__LINE__, gerfmuod_process_finish_work(&p), GERFMUOD_PROCESS_NOT_OPEN, &p, &as);
+        check(__LINE__, gerfmuod_process_count_sent(&p), GERFMUOD_PROCESS_NOT_OPEN, &p, &as);
+        check(__LINE__, gerfmuod_process_count_received(&p, p.epoch), GERFMUOD_PROCESS_NOT_OPEN, &p, &as);
+        check(__LINE__, gerfmuod_process_outgoing_message_start(&p), GERFMUOD_PROCESS_NOT_OPEN, &p, &as);
+        check(__LINE__, gerfmuod_process_incoming_message_start(&p, 0), GERFMUOD_PROCESS_NOT_OPEN, &p, &as);
+        check(__LINE__, gerfmuod_process_incoming_message_end(&p), GERFMUOD_PROCESS_NOT_OPEN, &p, &as);
+        check(__LINE__, gerfmuod_process_take(&p, &c), GERFMUOD_PROCESS_NOT_OPEN, &p, &as);
+        check(__LINE__, gerfmuod_process_next(&p, &c), GERFMUOD_PROCESS_NOT_OPEN, &p, &as);
+        check_control(__LINE__, &c, p.epoch, 2, 5, p.wave + 1, GERFMUOD_PROCESS_TOKEN_DOWN, 0, 0);
+        check(__LINE__, gerfmuod_process_reopen(&p), GERFMUOD_PROCESS_NOT_OPEN, &p, &as);
+        c.token = 3;
+        check(__LINE__, gerfmuod_process_take(&p, &c), GERFMUOD_PROCESS_NOT_OPEN, &p, &as);
+    }
+}
+
+/* Any bytes as a control message are refused and change nothing. */
+static void any_bytes(uint64_t mark) {
+    uint64_t seed = 0x9e3779b97f4a7c15u;
+    for (int k = 0; k < 100000; k++) {
+        gerfmuod_process p = known_bytes(mark), as = p;
+        gerfmuod_control_message c;
+        unsigned char *bytes = (unsigned char *)&c;
+        for (size_t b = 0; b < sizeof c; b++) {
+            seed ^= seed << 13;
+            seed ^= seed >> 7;
+            seed ^= seed << 17;
+            bytes[b] = (unsigned char)(seed >> 32);
+        }
+        check(__LINE__, gerfmuod_process_take(&p, &c), GERFMUOD_PROCESS_MALFORMED, &p, &as);
+        c.token %= 3;
+        check(__LINE__, gerfmuod_process_take(&p, &c), c.epoch > p.epoch ? GERFMUOD_PROCESS_NOT_YET : GERFMUOD_PROCESS_LATE, &p, &as);
+        c.epoch = p.epoch;
+        check(__LINE__, gerfmuod_process_take(&p, &c), GERFMUOD_PROCESS_NOT_DUE, &p, &as);
+    }
+}
+
+static void beginnings(void) {
+    gerfmuod_process p, none, as;
+    memset(&none, 0, sizeof none);
+    none.pending = 1;
+    memset(&p, 0xff, sizeof p);
+    check(__LINE__, gerfmuod_process_init(&p, 0, 0), GERFMUOD_PROCESS_NO_PROCESS, &p, &none);
+    check(__LINE__, gerfmuod_process_init(&p, 7, 7), GERFMUOD_PROCESS_NO_PROCESS, &p, &none);
+    check_number(__LINE__, gerfmuod_process_is_open(&p), 0);
+    memset(&p, 0xff, sizeof p);
+    as = none;
+    as.mark = 0x676572666d756f64u;
+    as.number = 0x01020304;
+    as.processes = 0x81020304u;
+    check(__LINE__, gerfmuod_process_init(&p, as.number, as.processes), GERFMUOD_PROCESS_OK, &p, &as);
+}
+
+static void texts(void) {
+    char room[100];
+    for (uint32_t k = 0; k <= 10; k++) {
+        gerfmuod_process_text text = gerfmuod_process_meaning(k, room, sizeof room), none = gerfmuod_process_meaning(k, NULL, 0);
+        check_number(__LINE__, text.outcome, 0);
+        check_number(__LINE__, text.length > 10 && text.length < 100, 1);
+        check_number(__LINE__, none.outcome, 4);
+        check_number(__LINE__, none.length, text.length);
+        printf("%u: %.*s\n", (unsigned)k, (int)text.length, room);
+    }
+}
+
+int main(int argc, char **argv) {
+    gerfmuod_process first;
+    is_swapped = argc > 1 && !strcmp(argv[1], "swapped");
+    if (gerfmuod_process_init(&first, 0, 1)) return 99;
+    beginnings();
+    readers(first.mark);
+    work_and_messages(first.mark);
+    wave(first.mark);
+    end(first.mark);
+    not_open(first.mark);
+    any_bytes(first.mark);
+    texts();
+    printf("%d checks, %d failed\n", checks, failed);
+    return failed > 98 ? 98 : failed;
+}

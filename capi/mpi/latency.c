@@ -1,0 +1,66 @@
+/* latency.c: how long it takes until all processes know that nothing is left, over MPI, with nothing else to do.
+ *
+ *   mpicc -O2 -Icapi capi/mpi/latency.c -Llib -lgerfmuod -o latency
+ *   mpirun -n 4 ./latency proved|hand|safra ROUNDS
+ *
+ * Each round begins a detector, finishes its only piece of work at a barrier, and takes the time to the last process that
+ * knows the end. Prints the least time, the median, and the time that nine rounds of ten stay below, in microseconds. */
+#include "detectors.h"
+#include <inttypes.h>
+#include <mpi.h>
+#include <stdio.h>
+#include <stdlib.h>
+
+static int by_number(const void *a, const void *b) {
+    double x = *(const double *)a, y = *(const double *)b;
+    return x < y ? -1 : x > y;
+}
+
+static void receive(detector *d) {
+    control c;
+    int there;
+    MPI_Iprobe(MPI_ANY_SOURCE, 1, MPI_COMM_WORLD, &there, MPI_STATUS_IGNORE);
+    if (!there) return;
+    MPI_Recv(&c, sizeof c, MPI_BYTE, MPI_ANY_SOURCE, 1, MPI_COMM_WORLD, MPI_STATUS_IGNORE);
+    detector_take(d, &c);
+}
+
+/* The seconds of a round at this process. */
+static double run_round(detector *d) {
+    control c;
+    unsigned next;
+    MPI_Barrier(MPI_COMM_WORLD);
+    double begun = MPI_Wtime();
+    detector_finish_work(d);
+    for (;;) {
+        while ((next = detector_next(d, &c)) == GERFMUOD_PROCESS_SEND) MPI_Send(&c, sizeof c, MPI_BYTE, (int)c.to, 1, MPI_COMM_WORLD);
+        if (next == GERFMUOD_PROCESS_ENDED) return MPI_Wtime() - begun;
+        receive(d);
+    }
+}
+
+int main(int argc, char **argv) {
+    MPI_Init(&argc, &argv);
+    int me, n, rounds = argc > 2 ? atoi(argv[2]) : 1000;
+    const char *kind = argc > 1 ? argv[1] : "proved";
+    double *took = malloc((size_t)rounds * sizeof *took);
+    uint64_t controls = 0, all;
+    if (!took || rounds < 1) MPI_Abort(MPI_COMM_WORLD, 9);
+    MPI_Comm_rank(MPI_COMM_WORLD, &me);
+    MPI_Comm_size(MPI_COMM_WORLD, &n);
+    for (int r = 0; r < rounds; r++) {
+        detector d;
+        detector_new(&d, detector_named(kind), me, n);
+        double mine = run_round(&d);
+        controls += d.controls;
+        MPI_Allreduce(&mine, &took[r], 1, MPI_DOUBLE, MPI_MAX, MPI_COMM_WORLD);
+    }
+    MPI_Reduce(&controls, &all, 1, MPI_UINT64_T, MPI_SUM, 0, MPI_COMM_WORLD);
+    qsort(took, (size_t)rounds, sizeof *took, by_number);
+    if (me == 0)
+        printf("%s: %d processes, %d rounds, least %.1f us, median %.1f us, nine of ten below %.1f us, %.2f control messages a round\n", kind, n,
+               rounds, 1e6 * took[0], 1e6 * took[rounds / 2], 1e6 * took[rounds * 9 / 10], (double)all / rounds);
+    free(took);
+    MPI_Finalize();
+    return 0;
+}

@@ -1,0 +1,150 @@
+-- What holds at all times.
+use Rattle.std.proofs.Common.{◌≡◌, ℕ, ◌+◌, ◌-◌, ◌*◌, ◌/◌, ◌<◌, Some, ◌≤◌, ◌⊎◌, Bool, true, false, cond, List, [], ◌∷◌}
+use Rattle.tp_process.specs.declared.control_message.Token.{Token}
+use Rattle.tp_process.specs.declared.control_message.Token.TheVariants.{Down, Up, Over}
+use Rattle.tp_process.specs.declared.control_message.ControlMessage.{ControlMessage}
+use Rattle.tp_process.specs.declared.epoch_state.EpochState.{EpochState}
+use Rattle.tp_process.specs.declared.epoch_state.TheConstants.{LIMIT}
+use Rattle.tp_process.specs.World.{World, IsQuiet, control_at}
+use Rattle.tp_process.proofs.Totals.{total}
+
+-- what was counted as sent and received
+pub record Counts : Type 0 where
+  pub sent : ℕ
+  pub received : ℕ
+
+abbrev pub plus : Counts → Counts → Counts
+plus a b = record { sent = a.sent + b.sent; received = a.received + b.received }
+
+abbrev pub none : Counts
+none = record { sent = 0; received = 0 }
+
+-- what a process counted
+abbrev pub mine : EpochState → Counts
+mine p = record { sent = p.sent; received = p.received }
+
+-- what each process gave when a wave visited it last: its own, and with all below it
+pub record Gifts : Type 0 where
+  pub own : ℕ → Counts
+  pub all : ℕ → Counts
+
+-- The process has given in wave w.
+pub record HasGiven (w : ℕ) (p : EpochState) : Type 0 where
+  pub wave : p.wave ≡ w
+  pub gone : p.here ≡ false
+
+-- what is known of a process that has given in wave w
+pub record Visited (n w : ℕ) (g : Gifts) (at : ℕ → EpochState) (i : ℕ) (p : EpochState) : Type 0 where
+  pub sent : (g.own i).sent ≤ p.sent
+  pub received : (g.own i).received ≤ p.received
+  pub idle : 0 < w → (g.own i).received ≡ p.received → p.pending ≡ 0
+  pub left : 2 * i + 1 < n → HasGiven w (at (2 * i + 1))
+  pub right : 2 * i + 2 < n → HasGiven w (at (2 * i + 2))
+  pub sums : g.all i ≡ plus (g.own i) (plus (g.all (2 * i + 1)) (g.all (2 * i + 2)))
+
+-- what a child counts for that has given, or has not
+abbrev pub taken : Bool → ℕ → ℕ
+taken waits given = cond waits 0 given
+
+-- what is known of a process that wave w visits
+pub record Here (n w : ℕ) (g : Gifts) (at : ℕ → EpochState) (i : ℕ) (p : EpochState) : Type 0 where
+  pub begun : 0 < w
+  pub wave : p.wave ≡ w
+  pub left_there : p.up_left ≡ true → 2 * i + 1 < n
+  pub right_there : p.up_right ≡ true → 2 * i + 2 < n
+  pub left : p.up_left ≡ false → 2 * i + 1 < n → HasGiven w (at (2 * i + 1))
+  pub right : p.up_right ≡ false → 2 * i + 2 < n → HasGiven w (at (2 * i + 2))
+  pub sent : p.taken_sent ≡ taken p.up_left (g.all (2 * i + 1)).sent + taken p.up_right (g.all (2 * i + 2)).sent
+  pub received : p.taken_received ≡ taken p.up_left (g.all (2 * i + 1)).received + taken p.up_right (g.all (2 * i + 2)).received
+
+-- what is known of process i, where w is the newest wave and the wave before it ended after process i had sent so much
+pub record Holds (n w : ℕ) (low : ℕ → ℕ) (g : Gifts) (at : ℕ → EpochState) (i : ℕ) (p : EpochState) : Type 0 where
+  pub number : p.number ≡ i
+  pub processes : p.processes ≡ n
+  pub near : p.wave ≤ w
+  pub close : w ≤ p.wave + 1
+  pub floor : low i ≤ p.sent
+  pub given : HasGiven w p → Visited n w g at i p
+  pub here : p.here ≡ true → Here n w g at i p
+
+-- A control message with sums has what its sender gave.
+pub record Reported (w : ℕ) (g : Gifts) (at : ℕ → EpochState) (from s r : ℕ) : Type 0 where
+  pub given : HasGiven w (at from)
+  pub sent : s ≡ (g.all from).sent
+  pub received : r ≡ (g.all from).received
+
+-- The end was judged.
+pub record Finished (n : ℕ) (x : World) : Type 0 where
+  pub quiet : IsQuiet n x
+  pub over : (x.at 0).over ≡ true
+
+-- A control message was sent.
+pub record Has (ls : List ControlMessage) (l : ControlMessage) : Type 0 where
+  pub which : ℕ
+  pub there : control_at ls which ≡ Some l
+
+abbrev pub down_control : ℕ → ℕ → ℕ → ControlMessage
+down_control from to w = record { from = from; to = to; wave = w; token = Down }
+
+abbrev pub up_control : ℕ → ℕ → ℕ → ℕ → ControlMessage
+up_control from w s r = record { from = from; to = (from - 1) / 2; wave = w; token = Up s r }
+
+abbrev pub over_control : ℕ → ℕ → ℕ → ControlMessage
+over_control from to w = record { from = from; to = to; wave = w; token = Over }
+
+-- What process i does not owe any more it has sent.
+pub record Posts (n w : ℕ) (ls : List ControlMessage) (i : ℕ) (p : EpochState) : Type 0 where
+  pub down_left : p.here ≡ true → p.down_left ≡ false → 2 * i + 1 < n → Has ls (down_control i (2 * i + 1) w)
+  pub down_right : p.here ≡ true → p.down_right ≡ false → 2 * i + 2 < n → Has ls (down_control i (2 * i + 2) w)
+  pub up : 0 < i → 0 < w → HasGiven w p → (s : ℕ) × (r : ℕ) × Has ls (up_control i w s r)
+  pub over_left : p.over ≡ true → p.over_left ≡ false → 2 * i + 1 < n → (u : ℕ) × Has ls (over_control i (2 * i + 1) u)
+  pub over_right : p.over ≡ true → p.over_right ≡ false → 2 * i + 2 < n → (u : ℕ) × Has ls (over_control i (2 * i + 2) u)
+
+-- The numbers are within their limit.
+pub record IsSmall (p : EpochState) : Type 0 where
+  pub sent : p.sent ≤ LIMIT
+  pub received : p.received ≤ LIMIT
+
+-- what is known of a control message
+abbrev pub Told : ℕ → ℕ → Gifts → World → ℕ → ℕ → Token → Type 0
+Told n w g x from wave Down = wave ≤ w
+Told n w g x from wave (Up s r) = (wave ≤ w) × (wave ≡ w → Reported w g x.at from s r)
+Told n w g x from wave Over = Finished n x
+
+abbrev pub AllTold : ℕ → ℕ → Gifts → World → List ControlMessage → Type 0
+AllTold n w g x [] = Unit {0}
+AllTold n w g x (l ∷ ls) = Told n w g x l.from l.wave l.token × AllTold n w g x ls
+
+-- what is known of process 0
+pub record Root (n w : ℕ) (floor : ℕ → ℕ) (g : Gifts) (x : World) : Type 0 where
+  pub wave : (x.at 0).wave ≡ w
+  pub floors : (x.at 0).here ≡ true → (i : ℕ) → i < n → HasGiven w (x.at i) → floor i ≤ (g.own i).sent
+  pub last : (x.at 0).known ≡ true → ((x.at 0).last_received < total n floor) ⊎ IsQuiet n x
+
+-- How far the waves have come since the last message was sent or received, which was in wave q: what those added up that began since is all
+-- that was sent and received, and where no message is under way there are few of them.
+pub record Pace (n q w : ℕ) (g : Gifts) (x : World) : Type 0 where
+  pub past : q ≤ w
+  pub late : q < w → (i : ℕ) → i < n → HasGiven w (x.at i) → g.own i ≡ mine (x.at i)
+  pub during : (x.at 0).here ≡ true → q + 1 < w → ((x.at 0).known ≡ true) × ((x.at 0).last_received ≡ total n (λ i. (x.at i).received))
+  pub between : (x.at 0).here ≡ false → q < w → ((x.at 0).known ≡ true) × ((x.at 0).last_received ≡ total n (λ i. (x.at i).received))
+  pub few : total n x.under_way ≡ 0 → w ≤ q + 2
+  pub fewer : total n x.under_way ≡ 0 → (x.at 0).here ≡ false → w ≤ q + 1
+
+pub record Inv (n q w : ℕ) (floor : ℕ → ℕ) (g : Gifts) (x : World) : Type 0 where
+  pub balance : total n (λ i. (x.at i).sent) ≡ total n (λ i. (x.at i).received) + total n x.under_way
+  pub each : (i : ℕ) → i < n → Holds n w floor g x.at i (x.at i)
+  pub beyond : (c : ℕ) → n ≤ c → g.all c ≡ none
+  pub root : Root n w floor g x
+  pub over : (i : ℕ) → i < n → (x.at i).over ≡ true → Finished n x
+  pub controls : AllTold n w g x x.controls
+  pub pace : Pace n q w g x
+  pub posts : (i : ℕ) → i < n → Posts n w x.controls i (x.at i)
+  pub small : (i : ℕ) → i < n → IsSmall (x.at i)
+
+-- It holds for some of each.
+pub record Good (n q : ℕ) (x : World) : Type 0 where
+  pub wave : ℕ
+  pub floor : ℕ → ℕ
+  pub gifts : Gifts
+  pub inv : Inv n q wave floor gifts x

@@ -1,0 +1,7 @@
+-- The laws that `each_epoch` names.
+use Rattle.tp_process.proofs.Epochs.{epoch_law}
+use Rattle.tp_process.proofs.Ties.{calls}
+use Rattle.tp_process.proofs.laws.each_epoch.Goals as goal
+
+pub returns : goal.returns
+returns c = record { epochs = epoch_law; calls = calls }

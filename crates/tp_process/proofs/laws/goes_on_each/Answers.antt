@@ -1,0 +1,7 @@
+-- The laws that `goes_on_each` names.
+use Rattle.tp_process.proofs.Ahead.{goes_on_epoch, lags}
+use Rattle.tp_process.proofs.Few.{once_epoch, soon_epoch}
+use Rattle.tp_process.proofs.laws.goes_on_each.Goals as goal
+
+pub returns : goal.returns
+returns c = record { goes_on = goes_on_epoch; lags = lags; soon = soon_epoch; once = once_epoch }

@@ -1,0 +1,6 @@
+-- The laws that `never_early` names.
+use Rattle.tp_process.proofs.Early.{ended, never_early}
+use Rattle.tp_process.proofs.laws.never_early.Goals as goal
+
+pub returns : goal.returns
+returns c = record { known = never_early; ended = ended }

@@ -1,0 +1,8 @@
+-- The laws that `never_silent` names.
+use Rattle.tp_process.proofs.Goes.{goes_on}
+use Rattle.tp_process.proofs.Soon.{soon}
+use Rattle.tp_process.proofs.Once.{once}
+use Rattle.tp_process.proofs.laws.never_silent.Goals as goal
+
+pub returns : goal.returns
+returns c = record { soon = soon; goes_on = goes_on; once = once }

@@ -1,0 +1,5 @@
+-- The files of this folder.
+pub mod Calls
+pub mod World
+pub mod Epochs
+pub mod Opening

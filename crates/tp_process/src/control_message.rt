@@ -1,0 +1,22 @@
+//! What travels between processes next to the program's own messages.
+
+/// What a control message carries.
+#[derive(Clone, Copy, Debug, PartialEq, Eq)]
+pub enum Token {
+    /// The wave goes down the tree, to a child.
+    Down,
+    /// The wave comes back up, from a child: how many messages the child and all processes below it had sent and received.
+    Up(u64, u64),
+    /// Termination was detected.
+    Over,
+}
+
+/// A control message of a wave, from one process to another. The caller's transport carries it.
+#[derive(Clone, Copy, Debug, PartialEq, Eq)]
+pub struct ControlMessage {
+    pub from: u64,
+    pub to: u64,
+    /// The wave's number, from 1.
+    pub wave: u64,
+    pub token: Token,
+}

@@ -1,0 +1,79 @@
+//! The theorems of the detector, each on a public function: of one epoch, and of all epochs together.
+
+ghost use Rattle.tp_process.specs.World.{ControlMessagesLaw, EndedLaw, FewWavesLaw, GoesOnLaw, NeverEarlyLaw, OnceLaw, QuietLaw, SoonLaw};
+ghost use Rattle.tp_process.specs.Epochs.{AheadLaw, CallsLaw, ControlMessagesEpochLaw, EpochLaw, FewWavesEpochLaw, GoesOnEpochLaw, LagsLaw};
+ghost use Rattle.tp_process.specs.Epochs.{LeftEpochLaw, MessageLaw, NearLaw, NeverEarlyEpochLaw, NoneLateLaw, OnceEpochLaw, SoonEpochLaw};
+ghost use Rattle.tp_process.specs.Opening.{OpenCallsLaw, OpenLaw};
+
+/// Safety: if a process knows the end, or `next` returns `Ended`, no process has work and no message is under way, whatever the
+/// processes do and whichever control messages come, in whatever order.
+pub fn never_early()
+    ensures known { NeverEarlyLaw }
+    ensures ended { EndedLaw }
+{}
+
+/// Termination is stable: nothing begins again without a message or open work.
+#[tactic(auto, using(crate::proofs::Early::quiet_stays))]
+pub fn quiet_stays()
+    ensures { QuietLaw }
+{}
+
+/// After termination process 0 starts at most two more waves.
+#[tactic(auto, using(crate::proofs::Early::few_waves))]
+pub fn few_waves()
+    ensures { FewWavesLaw }
+{}
+
+/// Liveness: after termination at most 21 events a process are useful, one is possible until all processes know the end, and a
+/// control message that has come need not come again.
+pub fn never_silent()
+    ensures soon { SoonLaw }
+    ensures goes_on { GoesOnLaw }
+    ensures once { OnceLaw }
+{}
+
+/// A wave costs two control messages for each process except process 0, and the end costs one.
+#[tactic(auto, using(crate::proofs::ControlMessages::few_control_messages))]
+pub fn few_control_messages()
+    ensures { ControlMessagesLaw }
+{}
+
+/// Each epoch is a run of its own, whatever happens in the others; and the model's events are the calls of `Process`.
+pub fn each_epoch()
+    ensures epochs { EpochLaw }
+    ensures calls { CallsLaw }
+{}
+
+/// Every process that `new` returned stays open, so no call on it is refused as `NotOpen`.
+pub fn stays_open()
+    ensures marked { OpenLaw }
+    ensures calls { OpenCallsLaw }
+{}
+
+/// Safety in every epoch: if a process knows the end of an epoch, or has left the epoch, nothing of it is left.
+pub fn never_early_each()
+    ensures known { NeverEarlyEpochLaw }
+    ensures left { LeftEpochLaw }
+    ensures none_late { NoneLateLaw }
+{}
+
+/// The epochs of two processes differ by at most one, and what comes to a process is of its epoch or of the next.
+pub fn near_epochs()
+    ensures near { NearLaw }
+    ensures messages { MessageLaw }
+    ensures ahead { AheadLaw }
+{}
+
+/// Liveness in every epoch: after its termination, a useful event of it is possible until all processes in it can reopen.
+pub fn goes_on_each()
+    ensures goes_on { GoesOnEpochLaw }
+    ensures lags { LagsLaw }
+    ensures soon { SoonEpochLaw }
+    ensures once { OnceEpochLaw }
+{}
+
+/// An epoch has no more waves and control messages than a run of one epoch.
+pub fn few_each()
+    ensures waves { FewWavesEpochLaw }
+    ensures controls { ControlMessagesEpochLaw }
+{}

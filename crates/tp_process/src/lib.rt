@@ -1,0 +1,20 @@
+//! The four counter detector for one process of a distributed program: plain data of a fixed size, with no thread, no lock
+//! and no stream. The caller's own transport carries its control messages.
+#![tactic(auto)]
+
+mod control_message;
+mod epoch_state;
+mod laws;
+mod outcome;
+mod process;
+
+pub use control_message::{ControlMessage, Token};
+pub use laws::{
+    each_epoch, few_control_messages, few_each, few_waves, goes_on_each, near_epochs, never_early,
+    never_early_each, never_silent, quiet_stays, stays_open,
+};
+pub use outcome::{Next, Refusal};
+pub use process::Process;
+
+#[cfg(test)]
+mod tests;

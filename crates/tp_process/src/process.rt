@@ -1,0 +1,254 @@
+//! The process that a program holds: the detector's state in the present epoch, the epoch, and a mark that says it is open.
+
+ghost use Rattle.std.specs.Prelude.{◌≡◌, ◌&&◌, None, OnErr};
+ghost use Rattle.std.specs.Result.{result_err};
+ghost use Rattle.tp_process.specs.Calls.{close_refusal, closed, moved, open_refusal, opened};
+ghost use Rattle.tp_process.specs.Calls.{receive_refusal, send_refusal, sent, take_refusal};
+ghost use Rattle.tp_process.specs.Epochs.{becomes, of_epoch, received_in, reopen_refusal, reopened, took_in};
+ghost use Rattle.tp_process.specs.Opening.{checked, if_open, is_open, new_process, next_of, unopened};
+
+use crate::control_message::ControlMessage;
+use crate::epoch_state::EpochState;
+use crate::outcome::{Next, Refusal};
+
+/// What an open process has in `mark`: `gerfmuod` in ASCII.
+const MARK: u64 = 0x6765_7266_6d75_6f64;
+
+/// One process of a distributed program, as the detector sees it: 96 bytes of plain data.
+///
+/// It begins in epoch 0, with one piece of work open. After the end of an epoch, `reopen` begins the next one; a program that ends
+/// once never looks at the epoch. A message that `count_sent` counted and a control message that `next` returned belong to
+/// `epoch()`, and the transport carries that number with them.
+#[derive(Clone, Copy, Debug, PartialEq, Eq)]
+#[repr(C)]
+pub struct Process {
+    mark: u64,
+    epoch: u64,
+    state: EpochState,
+}
+
+impl Process {
+    /// Process `number` of `processes`: in epoch 0, with one piece of work open.
+    ///
+    /// Refused: `NoProcess` if `number` is not below `processes`, as for no process at all.
+    pub fn new(number: u32, processes: u32) -> Result<Process, Refusal>
+        ensures { result ≡ new_process number processes }
+    {
+        if number >= processes {
+            return Err(Refusal::NoProcess);
+        }
+        Ok(Process {
+            mark: MARK,
+            epoch: 0,
+            state: EpochState::new(number, processes),
+        })
+    }
+
+    /// A process that is not open: every call that changes a process refuses it. Storage holds it before `new`.
+    pub fn unopened() -> Process
+        ensures { result ≡ unopened }
+    {
+        Process {
+            mark: 0,
+            epoch: 0,
+            state: EpochState::new(0, 0),
+        }
+    }
+
+    /// The process is open: it comes from `new`.
+    pub fn is_open(&self) -> bool
+        ensures { result ≡ is_open self.now }
+    {
+        self.mark == MARK
+    }
+
+    /// The present epoch, from 0.
+    pub fn epoch(&self) -> u64
+        ensures { result ≡ self.now.epoch }
+    {
+        self.epoch
+    }
+
+    /// How many pieces of work are open here. The process is idle if there are none.
+    pub fn pending(&self) -> u64
+        ensures { result ≡ self.now.state.pending }
+    {
+        self.state.pending()
+    }
+
+    /// How many messages were counted as sent in this epoch.
+    pub fn sent(&self) -> u64
+        ensures { result ≡ self.now.state.sent }
+    {
+        self.state.sent()
+    }
+
+    /// How many messages were counted as received in this epoch.
+    pub fn received(&self) -> u64
+        ensures { result ≡ self.now.state.received }
+    {
+        self.state.received()
+    }
+
+    /// The number of the newest wave that came here in this epoch, from 1; 0 before the first.
+    pub fn wave(&self) -> u64
+        ensures { result ≡ self.now.state.wave }
+    {
+        self.state.wave()
+    }
+
+    /// The process knows that this epoch has terminated: no process has work, and no message is under way.
+    pub fn is_over(&self) -> bool
+        ensures { result ≡ is_open self.now && self.now.state.over }
+    {
+        self.mark == MARK && self.state.is_over()
+    }
+
+    /// Opens one more piece of work.
+    ///
+    /// Refused: `NotOpen`; `Inactive` if no work is open; `Full` if 2^43 pieces are.
+    pub fn add_work(&mut self) -> Result<(), Refusal>
+        ensures refused { result_err result ≡ checked self.old (open_refusal self.old.state) }
+        ensures state { self.new ≡ if_open self.old (becomes self.old (opened self.old.state)) }
+        ensures kept { OnErr result (self.new ≡ self.old) }
+    {
+        self.check_open()?;
+        self.state.add_work()
+    }
+
+    /// Closes a piece of work.
+    ///
+    /// Refused: `NotOpen`; `Inactive` if no work is open.
+    pub fn finish_work(&mut self) -> Result<(), Refusal>
+        ensures refused { result_err result ≡ checked self.old (close_refusal self.old.state) }
+        ensures state { self.new ≡ if_open self.old (becomes self.old (closed self.old.state)) }
+        ensures kept { OnErr result (self.new ≡ self.old) }
+    {
+        self.check_open()?;
+        self.state.finish_work()
+    }
+
+    /// Counts a message as sent. Call it before the transport gets the message, and send the message with `epoch()`.
+    ///
+    /// Refused: `NotOpen`; `Inactive` if no work is open; `Full` if 2^43 messages were sent.
+    pub fn count_sent(&mut self) -> Result<(), Refusal>
+        ensures refused { result_err result ≡ checked self.old (send_refusal self.old.state) }
+        ensures state { self.new ≡ if_open self.old (becomes self.old (sent self.old.state)) }
+        ensures kept { OnErr result (self.new ≡ self.old) }
+    {
+        self.check_open()?;
+        self.state.count_sent()
+    }
+
+    /// Counts a message of an epoch as received, and opens the piece of work that it makes. Call it before the message has any
+    /// effect, and `finish_work` after the last one.
+    ///
+    /// Refused: `NotOpen`; `NotYet` if its epoch is later: keep the message, and count it again after `reopen`; `Late` if its epoch is
+    /// older, which no counted message is; `Full` if 2^43 pieces of work are open, or 2^43 messages were received.
+    pub fn count_received(&mut self, epoch: u64) -> Result<(), Refusal>
+        ensures refused { result_err result ≡ checked self.old (of_epoch epoch self.old (receive_refusal self.old.state)) }
+        ensures state { self.new ≡ if_open self.old (received_in epoch self.old) }
+        ensures kept { OnErr result (self.new ≡ self.old) }
+    {
+        self.check_open()?;
+        self.check_epoch(epoch)?;
+        self.state.count_received()
+    }
+
+    /// `count_sent` by its name in the monitor.
+    pub fn outgoing_message_start(&mut self) -> Result<(), Refusal>
+        ensures refused { result_err result ≡ checked self.old (send_refusal self.old.state) }
+        ensures state { self.new ≡ if_open self.old (becomes self.old (sent self.old.state)) }
+        ensures kept { OnErr result (self.new ≡ self.old) }
+    {
+        self.count_sent()
+    }
+
+    /// `count_received` by its name in the monitor.
+    pub fn incoming_message_start(&mut self, epoch: u64) -> Result<(), Refusal>
+        ensures refused { result_err result ≡ checked self.old (of_epoch epoch self.old (receive_refusal self.old.state)) }
+        ensures state { self.new ≡ if_open self.old (received_in epoch self.old) }
+        ensures kept { OnErr result (self.new ≡ self.old) }
+    {
+        self.count_received(epoch)
+    }
+
+    /// `finish_work` by its name in the monitor: the piece of work that the message opened is done.
+    pub fn incoming_message_end(&mut self) -> Result<(), Refusal>
+        ensures refused { result_err result ≡ checked self.old (close_refusal self.old.state) }
+        ensures state { self.new ≡ if_open self.old (becomes self.old (closed self.old.state)) }
+        ensures kept { OnErr result (self.new ≡ self.old) }
+    {
+        self.finish_work()
+    }
+
+    /// Takes a control message of an epoch. It may come in any order, late, or more than once.
+    ///
+    /// Refused: `NotOpen`; `NotYet` if its epoch is later: keep it, and take it again after `reopen`; `Late` if its epoch is older;
+    /// `NotDue` if it is for another process or of another wave, or was taken before.
+    pub fn take(&mut self, epoch: u64, message: ControlMessage) -> Result<(), Refusal>
+        ensures refused { result_err result ≡ checked self.old (of_epoch epoch self.old (take_refusal message self.old.state)) }
+        ensures state { self.new ≡ if_open self.old (took_in epoch message self.old) }
+        ensures kept { OnErr result (self.new ≡ self.old) }
+    {
+        self.check_open()?;
+        self.check_epoch(epoch)?;
+        self.state.take(message)
+    }
+
+    /// What the process has to do next. Call it after every other call, until it returns `Ended` or `Nothing`. A control message
+    /// that it returns belongs to `epoch()`.
+    ///
+    /// Refused: `NotOpen`.
+    pub fn next(&mut self) -> Result<Next, Refusal>
+        ensures next { result ≡ next_of self.old }
+        ensures state { self.new ≡ if_open self.old (becomes self.old (moved self.old.state).state) }
+    {
+        self.check_open()?;
+        Ok(self.state.next())
+    }
+
+    /// Begins the next epoch here, with one piece of work open. It waits for no other process.
+    ///
+    /// Refused: `NotOpen`; `NotEnded` if `next` has not returned `Ended`; `Full` in epoch 2^64 - 1.
+    pub fn reopen(&mut self) -> Result<(), Refusal>
+        ensures refused { result_err result ≡ checked self.old (reopen_refusal self.old) }
+        ensures state { self.new ≡ if_open self.old (reopened self.old) }
+        ensures kept { OnErr result (self.new ≡ self.old) }
+    {
+        self.check_open()?;
+        if !self.state.has_notified() {
+            return Err(Refusal::NotEnded);
+        }
+        let Some(epoch) = self.epoch.checked_add(1) else {
+            return Err(Refusal::Full);
+        };
+        self.epoch = epoch;
+        self.state = self.state.again();
+        Ok(())
+    }
+
+    fn check_open(&self) -> Result<(), Refusal>
+        ensures { result_err result ≡ checked self.now None }
+    {
+        if self.mark == MARK {
+            Ok(())
+        } else {
+            Err(Refusal::NotOpen)
+        }
+    }
+
+    fn check_epoch(&self, epoch: u64) -> Result<(), Refusal>
+        ensures { result_err result ≡ of_epoch epoch self.now None }
+    {
+        if epoch == self.epoch {
+            Ok(())
+        } else if epoch > self.epoch {
+            Err(Refusal::NotYet)
+        } else {
+            Err(Refusal::Late)
+        }
+    }
+}
+
+const _: () = prove!(size_of::<Process>() == 96);
