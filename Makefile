@@ -9,7 +9,8 @@
 # make soak     each sample pool 200 times at 8 nodes with 8 workers each, compares what they make and audits their traces;
 #               then the program with strange streams and texts, at a terminal, every stored text cut after each byte, and
 #               texts by chance; the programs over lent data at a terminal
-# make lib      proves the detector for other languages, and builds it: lib/libgerfmuod.a, its header and its pkg-config file
+# make lib      proves the library for other languages, and builds it: lib/libgerfmuod.a, libgerfmuod.so.0, the headers for C
+#               and C++, the module for Fortran and a pkg-config file
 # make bench    what a step costs that a program in C tells the library, and all programs beside others that do the same, in a
 #               quick form of some minutes (FULL=1: all cases, kept as the numbers of docs/PERFORMANCE.md; see bench/README.md)
 # make docs     draws the pictures of docs/figures anew: of runs by bin/samples, of the crates and of a wave by tools/pictures.py
@@ -31,7 +32,9 @@ bin/samples: $(SOURCES) crates.txt
 
 lib: lib/libgerfmuod.a
 
-lib/libgerfmuod.a: $(SOURCES) crates.txt capi/gerfmuod.h capi/gerfmuod_process.h capi/gerfmuod.pc.in
+HEADERS := gerfmuod.h gerfmuod_process.h gerfmuod_dag.h gerfmuod_team.h gerfmuod.hpp gerfmuod.f90
+
+lib/libgerfmuod.a: $(SOURCES) crates.txt $(addprefix capi/,$(HEADERS) gerfmuod_team.c gerfmuod.map gerfmuod.pc.in)
 	@tools/dev lib
 
 demo:
@@ -40,6 +43,7 @@ demo:
 test:
 	@tools/dev try
 	@tools/dev capi
+	@tools/dev dag
 	@tools/dev docs
 	@tools/dev bench --check
 	@tools/dev mutants --stale
@@ -77,8 +81,10 @@ install: bin/samples lib/libgerfmuod.a
 	install -D -m 755 bin/tp $(DESTDIR)$(PREFIX)/bin/tp
 	install -D -m 755 bin/samples $(DESTDIR)$(PREFIX)/bin/samples
 	install -D -m 644 lib/libgerfmuod.a $(DESTDIR)$(PREFIX)/lib/libgerfmuod.a
-	install -D -m 644 capi/gerfmuod.h $(DESTDIR)$(PREFIX)/include/gerfmuod.h
-	install -D -m 644 capi/gerfmuod_process.h $(DESTDIR)$(PREFIX)/include/gerfmuod_process.h
+	install -D -m 755 lib/libgerfmuod.so.0 $(DESTDIR)$(PREFIX)/lib/libgerfmuod.so.0
+	ln -sf libgerfmuod.so.0 $(DESTDIR)$(PREFIX)/lib/libgerfmuod.so
+	install -d $(DESTDIR)$(PREFIX)/include
+	install -m 644 $(addprefix capi/,$(HEADERS)) $(DESTDIR)$(PREFIX)/include
 	install -d $(DESTDIR)$(PREFIX)/lib/pkgconfig
 	sed 's|@LIBRARIES@|$(PREFIX)/lib|; s|@HEADERS@|$(PREFIX)/include|' capi/gerfmuod.pc.in > $(DESTDIR)$(PREFIX)/lib/pkgconfig/gerfmuod.pc
 

@@ -204,20 +204,30 @@ gerfmuod_written gerfmuod_refusal_name(uint32_t refused, char *room, size_t room
 /* Writes what a refusal says: at most 128 bytes. NO_TEXT likewise. */
 gerfmuod_written gerfmuod_refusal_meaning(uint32_t refused, char *room, size_t room_length);
 
-/* ---- each kind of step by its name, with what it is checked for, in that order */
+/* ---- each kind of step by its name, with what it is checked for, in that order. These are inline functions over
+ * gerfmuod_step, and no symbols of the library: a language that does not read this header calls gerfmuod_step with the
+ * number of the kind. */
 
 /* A fresh task waits at its home node for so many inputs, 0 to 16; it is ready where there are none.
  * BAD_SPEC, NO_NODE, TASK_KNOWN, INACTIVE. */
-gerfmuod_answer gerfmuod_insert(gerfmuod_core *core, uint32_t node, uint32_t task, uint32_t inputs);
+static inline gerfmuod_answer gerfmuod_insert(gerfmuod_core *core, uint32_t node, uint32_t task, uint32_t inputs) {
+    return gerfmuod_step(core, GERFMUOD_STEP_INSERT, node, task, inputs, 0);
+}
 
 /* A waiting task gets one input. NO_TASK, WRONG_LIFE. */
-gerfmuod_answer gerfmuod_supply(gerfmuod_core *core, uint32_t task);
+static inline gerfmuod_answer gerfmuod_supply(gerfmuod_core *core, uint32_t task) {
+    return gerfmuod_step(core, GERFMUOD_STEP_SUPPLY, task, 0, 0, 0);
+}
 
 /* A ready task begins to run. NO_TASK, WRONG_LIFE. */
-gerfmuod_answer gerfmuod_begin(gerfmuod_core *core, uint32_t task);
+static inline gerfmuod_answer gerfmuod_begin(gerfmuod_core *core, uint32_t task) {
+    return gerfmuod_step(core, GERFMUOD_STEP_BEGIN, task, 0, 0, 0);
+}
 
 /* A running task is done. NO_TASK, WRONG_LIFE. */
-gerfmuod_answer gerfmuod_done(gerfmuod_core *core, uint32_t task);
+static inline gerfmuod_answer gerfmuod_done(gerfmuod_core *core, uint32_t task) {
+    return gerfmuod_step(core, GERFMUOD_STEP_DONE, task, 0, 0, 0);
+}
 
 /* An action opens at a node that is active: it keeps the node so. NO_NODE, ACTION_KNOWN, INACTIVE. */
 static inline gerfmuod_answer gerfmuod_action_open(gerfmuod_core *core, uint32_t node, uint32_t action) {
@@ -236,13 +246,22 @@ static inline gerfmuod_answer gerfmuod_ready(gerfmuod_core *core, uint32_t node)
 
 /* A node that is active sends a message to another; a number is used once in a generation.
  * NO_NODE, STRANGER, SAME_NODE, MESSAGE_KNOWN, INACTIVE. */
-gerfmuod_answer gerfmuod_send(gerfmuod_core *core, uint32_t from, uint32_t to, uint32_t message, uint32_t generation);
+static inline gerfmuod_answer gerfmuod_send(gerfmuod_core *core, uint32_t from, uint32_t to, uint32_t message,
+                                            uint32_t generation) {
+    return gerfmuod_step(core, GERFMUOD_STEP_SEND, from, to, message, generation);
+}
 
 /* A node receives it, which opens an action there. NO_NODE, STRANGER, NO_MESSAGE. */
-gerfmuod_answer gerfmuod_receive(gerfmuod_core *core, uint32_t node, uint32_t message, uint32_t generation);
+static inline gerfmuod_answer gerfmuod_receive(gerfmuod_core *core, uint32_t node, uint32_t message,
+                                               uint32_t generation) {
+    return gerfmuod_step(core, GERFMUOD_STEP_RECEIVE, node, message, 0, generation);
+}
 
 /* The message was acted on: its action closes. NO_NODE, STRANGER, NO_ACTION. */
-gerfmuod_answer gerfmuod_message_end(gerfmuod_core *core, uint32_t node, uint32_t message, uint32_t generation);
+static inline gerfmuod_answer gerfmuod_message_end(gerfmuod_core *core, uint32_t node, uint32_t message,
+                                                   uint32_t generation) {
+    return gerfmuod_step(core, GERFMUOD_STEP_MESSAGE_END, node, message, 0, generation);
+}
 
 /* The next wave opens at node 0. Nodes make a tree: node i above 0 lies below node (i - 1) / 2. ENDED, WAVE_OPEN. */
 static inline gerfmuod_answer gerfmuod_start(gerfmuod_core *core) {

@@ -27,9 +27,9 @@
  *   - once that is so, process 0 starts at most two more waves, and at most 21n more events do anything;
  *   - at most (2 waves + 1)(n - 1) control messages are sent in an epoch;
  *   - if n <= 2^20, then until ENDED is returned everywhere, a call of gerfmuod_process_next or a control message that was
- *     sent does something; and one that has come need not come again. So over a transport that brings each control message
- *     once, in any order, all processes that keep calling gerfmuod_process_next learn of the end (this last step is argued
- *     in docs/DISTRIBUTED.md, and not one theorem).
+ *     sent does something; and one that has come need not come again;
+ *   - if n <= 2^20, over a network that brings each control message once, in any order: where nothing is left to do, all
+ *     processes have come to the last epoch and know its end, and no control message is refused as LATE.
  *
  * What the caller owes, and nothing checks:
  *   - hand a message to the transport after gerfmuod_process_count_sent, and only if that returned 0;
@@ -40,8 +40,8 @@
  *   - no control message is forged or altered. No message goes with another epoch than its sender's at the time of
  *     gerfmuod_process_count_sent, no control message with another than gerfmuod_process_next wrote into it;
  *   - one call on a process at a time. The struct may be copied as bytes between two calls; use one of the copies;
- *   - no pointer is NULL, pointers to structs are multiples of 8, and two arguments do not overlap. A struct has zeros, or
- *     what the library wrote: other bytes may hold a bool that is neither 0 nor 1.
+ *   - no pointer is NULL, pointers to structs are multiples of 8, and two arguments do not overlap. Any bytes may be in a
+ *     struct: without the mark of an open process, every call refuses it.
  * A lost control message, or a lost message, delays the end for ever; it never makes it early.
  *
  * Link with -lgerfmuod.
@@ -61,21 +61,22 @@ extern "C" {
 #define GERFMUOD_PROCESS_MAX_COUNT ((uint64_t)1 << 43)
 
 /* Why a call was refused. A refused call changes nothing; gerfmuod_process_init alone leaves a process that is not open.
- * A call that is refused for two reasons returns the one that stands first behind its name below. */
+ * A call that is refused for two reasons returns the one that stands first behind its name below. Each refusal is above
+ * 100, so it is no result of gerfmuod_process_next, and no refusal of gerfmuod.h. */
 enum {
     GERFMUOD_PROCESS_OK = 0,
-    GERFMUOD_PROCESS_INACTIVE = 1,   /* no piece of work is open at the process */
-    GERFMUOD_PROCESS_FULL = 2,       /* a number is at its limit */
-    GERFMUOD_PROCESS_NOT_DUE = 3,    /* the control message is for another process, not due now, or was taken before */
-    GERFMUOD_PROCESS_NOT_YET = 4,    /* it is of a later epoch, the next one: keep it until the process has reopened */
-    GERFMUOD_PROCESS_LATE = 5,       /* it is of an older epoch */
-    GERFMUOD_PROCESS_NOT_ENDED = 6,  /* the end of this epoch is not known here, or a child is still to be notified */
-    GERFMUOD_PROCESS_NOT_OPEN = 7,   /* the struct is not a process that gerfmuod_process_init opened */
-    GERFMUOD_PROCESS_NO_PROCESS = 8, /* number is not below processes */
-    GERFMUOD_PROCESS_MALFORMED = 9   /* there is no such control message */
+    GERFMUOD_PROCESS_INACTIVE = 101,   /* no piece of work is open at the process */
+    GERFMUOD_PROCESS_FULL = 102,       /* a number is at its limit */
+    GERFMUOD_PROCESS_NOT_DUE = 103,    /* the control message is for another process, not due now, or was taken before */
+    GERFMUOD_PROCESS_NOT_YET = 104,    /* it is of a later epoch, the next one: keep it until the process has reopened */
+    GERFMUOD_PROCESS_LATE = 105,       /* it is of an older epoch */
+    GERFMUOD_PROCESS_NOT_ENDED = 106,  /* the end of this epoch is not known here, or a child is still to be notified */
+    GERFMUOD_PROCESS_NOT_OPEN = 107,   /* the struct is not a process that gerfmuod_process_init opened */
+    GERFMUOD_PROCESS_NO_PROCESS = 108, /* number is not below processes */
+    GERFMUOD_PROCESS_MALFORMED = 109   /* there is no such control message */
 };
 
-/* What gerfmuod_process_next returns, if it does not return GERFMUOD_PROCESS_NOT_OPEN. */
+/* What gerfmuod_process_next returns, if it is not refused: only as GERFMUOD_PROCESS_NOT_OPEN, which is above 100. */
 enum {
     GERFMUOD_PROCESS_NOTHING = 0, /* wait for a message, for a control message, or until the process is idle */
     GERFMUOD_PROCESS_SEND = 1,    /* send the control message that was written, to process message.to */
@@ -96,15 +97,15 @@ typedef struct gerfmuod_process {
     uint64_t taken_sent;
     uint64_t taken_received;
     uint64_t last_received;
-    bool known;
-    bool here;
-    bool down_left;
-    bool down_right;
-    bool up_left;
-    bool up_right;
-    bool over; /* the process knows that the epoch has terminated */
-    bool over_left;
-    bool over_right;
+    uint8_t known; /* a byte that is not 0 says yes, here and below */
+    uint8_t here;
+    uint8_t down_left;
+    uint8_t down_right;
+    uint8_t up_left;
+    uint8_t up_right;
+    uint8_t over; /* the process knows that the epoch has terminated */
+    uint8_t over_left;
+    uint8_t over_right;
 } gerfmuod_process;
 
 /* What a control message carries. */
@@ -218,7 +219,7 @@ typedef struct gerfmuod_process_text {
     size_t length;
 } gerfmuod_process_text;
 
-/* Writes a sentence that explains a refusal into `room`. 100 bytes hold each of them. */
+/* Writes into `room` what a refusal says; of OK and of a number that is no refusal it says that. 100 bytes hold each. */
 gerfmuod_process_text gerfmuod_process_meaning(uint32_t refused, char *room, size_t room_length);
 
 #ifdef __cplusplus

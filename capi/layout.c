@@ -250,6 +250,29 @@ static void not_open(uint64_t mark) {
     }
 }
 
+static uint8_t *flags_of(gerfmuod_process *p) { return &p->known; }
+
+/* A flag is set by any byte but 0: a process whose flags have other bytes returns and becomes the same. */
+static void any_flags(uint64_t mark) {
+    enum { FLAGS = BYTES - offsetof(gerfmuod_process, known) };
+    for (uint32_t k = 0; k < 1u << FLAGS; k++) {
+        gerfmuod_process p = known_bytes(mark), q;
+        gerfmuod_control_message c, d;
+        memset(&c, 0, sizeof c);
+        p.pending = k % 3 ? 0 : 1;
+        q = p;
+        for (int f = 0; f < FLAGS; f++) flags_of(&p)[f] = k >> f & 1;
+        for (int f = 0; f < FLAGS; f++) flags_of(&q)[f] = (uint8_t)((k >> f & 1) * (2 + (k * 31 + (uint32_t)f * 7) % 254));
+        d = c;
+        check_number(__LINE__, gerfmuod_process_is_over(&q), gerfmuod_process_is_over(&p));
+        uint32_t next = gerfmuod_process_next(&p, &c);
+        check_number(__LINE__, gerfmuod_process_next(&q, &d), next);
+        check_number(__LINE__, memcmp(&c, &d, sizeof c) != 0, 0);
+        for (int f = 0; f < FLAGS; f++) flags_of(&q)[f] = flags_of(&q)[f] != 0;
+        check(__LINE__, next, next, &q, &p);
+    }
+}
+
 /* Any bytes as a control message are refused and change nothing. */
 static void any_bytes(uint64_t mark) {
     uint64_t seed = 0x9e3779b97f4a7c15u;
@@ -287,15 +310,23 @@ static void beginnings(void) {
     check(__LINE__, gerfmuod_process_init(&p, as.number, as.processes), GERFMUOD_PROCESS_OK, &p, &as);
 }
 
+/* Each refusal has a text of its own, and so have "not refused" and "no refusal". */
 static void texts(void) {
-    char room[100];
-    for (uint32_t k = 0; k <= 10; k++) {
-        gerfmuod_process_text text = gerfmuod_process_meaning(k, room, sizeof room), none = gerfmuod_process_meaning(k, NULL, 0);
+    char rooms[12][100];
+    for (uint32_t k = 0; k < 12; k++) {
+        uint32_t number = k ? GERFMUOD_PROCESS_INACTIVE - 2 + k : GERFMUOD_PROCESS_OK;
+        gerfmuod_process_text text = gerfmuod_process_meaning(number, rooms[k], sizeof rooms[k] - 1);
+        gerfmuod_process_text none = gerfmuod_process_meaning(number, NULL, 0);
         check_number(__LINE__, text.outcome, 0);
         check_number(__LINE__, text.length > 10 && text.length < 100, 1);
         check_number(__LINE__, none.outcome, 4);
         check_number(__LINE__, none.length, text.length);
-        printf("%u: %.*s\n", (unsigned)k, (int)text.length, room);
+        rooms[k][text.length] = 0;
+        printf("%u: %s\n", (unsigned)number, rooms[k]);
+        for (uint32_t j = 0; j < k; j++) {
+            int are_none = j == 1 && k == 11; /* the numbers next to the refusals */
+            check_number(__LINE__, strcmp(rooms[j], rooms[k]) == 0, (uint64_t)are_none);
+        }
     }
 }
 
@@ -309,6 +340,7 @@ int main(int argc, char **argv) {
     wave(first.mark);
     end(first.mark);
     not_open(first.mark);
+    any_flags(first.mark);
     any_bytes(first.mark);
     texts();
     printf("%d checks, %d failed\n", checks, failed);

@@ -1,11 +1,12 @@
-/* detectors.h: three detectors with one interface: the proved one, a hand-written one with the same four counters, and S.
- * Safra's ring (E. W. Dijkstra, EWD 998), hand-written. Control messages are gerfmuod_control_message for all three. */
+/* detectors.h: detectors with one interface: the proved one, a hand-written one with the same four counters, S. Safra's
+ * ring (E. W. Dijkstra, W. H. J. Feijen and A. J. M. van Gasteren; EWD 998), hand-written, and, if mpi.h is included
+ * before this file, repeated reductions of the four counters. The first three send gerfmuod_control_message. */
 #ifndef DETECTORS_H
 #define DETECTORS_H
 #include "gerfmuod_process.h"
 #include <string.h>
 
-enum { PROVED = 0, BY_HAND = 1, SAFRA = 2 };
+enum { PROVED = 0, BY_HAND = 1, SAFRA = 2, REDUCTIONS = 3 };
 
 typedef gerfmuod_control_message control;
 
@@ -119,15 +120,53 @@ static void safra_take(safra *p, const control *c) {
     p->token_black = (int)c->received;
 }
 
+#ifdef MPI_VERSION
+/* MPI_Iallreduce again and again, of how many messages were sent and received: the end is known once two reductions that
+ * follow each other give the same four equal numbers. A process joins the next reduction when it is idle. */
+typedef struct reductions {
+    int over, known, is_open;
+    uint64_t pending, own[2], sums[2], last[2], count;
+    MPI_Request request;
+} reductions;
+
+static int reductions_next(reductions *p) {
+    int is_done;
+    if (p->over) return GERFMUOD_PROCESS_ENDED;
+    if (!p->is_open) {
+        if (p->pending) return GERFMUOD_PROCESS_NOTHING;
+        p->sums[0] = p->own[0];
+        p->sums[1] = p->own[1];
+        MPI_Iallreduce(MPI_IN_PLACE, p->sums, 2, MPI_UINT64_T, MPI_SUM, MPI_COMM_WORLD, &p->request);
+        p->is_open = 1;
+        p->count++;
+    }
+    MPI_Test(&p->request, &is_done, MPI_STATUS_IGNORE);
+    if (!is_done) return GERFMUOD_PROCESS_NOTHING;
+    p->is_open = 0;
+    p->over = p->known && p->sums[0] == p->sums[1] && p->last[0] == p->sums[0] && p->last[1] == p->sums[1];
+    p->known = 1;
+    memcpy(p->last, p->sums, sizeof p->last);
+    return GERFMUOD_PROCESS_AGAIN;
+}
+#endif
+
 typedef struct detector {
     int kind;
     gerfmuod_process proved;
     by_hand hand;
     safra ring;
+#ifdef MPI_VERSION
+    reductions reduced;
+#endif
     uint64_t controls;
 } detector;
 
-static inline int detector_named(const char *name) { return !strcmp(name, "hand") ? BY_HAND : !strcmp(name, "safra") ? SAFRA : PROVED; }
+static inline int detector_named(const char *name) {
+    static const char *const names[] = {"proved", "hand", "safra", "reductions"};
+    int kind = PROVED;
+    while (kind < REDUCTIONS && strcmp(name, names[kind])) kind++;
+    return kind;
+}
 
 static void detector_new(detector *d, int kind, int me, int n) {
     memset(d, 0, sizeof *d);
@@ -139,28 +178,44 @@ static void detector_new(detector *d, int kind, int me, int n) {
     d->hand.pending = d->ring.pending = 1;
     d->ring.has_token = me == 0;
     d->ring.black = 1;
+#ifdef MPI_VERSION
+    d->reduced.pending = 1;
+#endif
 }
 
 static inline unsigned detector_finish_work(detector *d) {
     if (d->kind == PROVED) return gerfmuod_process_finish_work(&d->proved);
+#ifdef MPI_VERSION
+    if (d->kind == REDUCTIONS) d->reduced.pending--;
+#endif
     if (d->kind == BY_HAND) d->hand.pending--;
-    else d->ring.pending--;
+    if (d->kind == SAFRA) d->ring.pending--;
     return 0;
 }
 
 static inline unsigned detector_sent(detector *d) {
     if (d->kind == PROVED) return gerfmuod_process_count_sent(&d->proved);
+#ifdef MPI_VERSION
+    if (d->kind == REDUCTIONS) d->reduced.own[0]++;
+#endif
     if (d->kind == BY_HAND) d->hand.sent++;
-    else d->ring.count++;
+    if (d->kind == SAFRA) d->ring.count++;
     return 0;
 }
 
 static inline unsigned detector_received(detector *d) {
     if (d->kind == PROVED) return gerfmuod_process_count_received(&d->proved, d->proved.epoch);
+#ifdef MPI_VERSION
+    if (d->kind == REDUCTIONS) {
+        d->reduced.own[1]++;
+        d->reduced.pending++;
+    }
+#endif
     if (d->kind == BY_HAND) {
         d->hand.received++;
         d->hand.pending++;
-    } else {
+    }
+    if (d->kind == SAFRA) {
         d->ring.count--;
         d->ring.black = 1;
         d->ring.pending++;
@@ -171,19 +226,29 @@ static inline unsigned detector_received(detector *d) {
 static inline unsigned detector_take(detector *d, const control *c) {
     if (d->kind == PROVED) return gerfmuod_process_take(&d->proved, c);
     if (d->kind == BY_HAND) hand_take(&d->hand, c);
-    else safra_take(&d->ring, c);
+    if (d->kind == SAFRA) safra_take(&d->ring, c);
     return 0;
 }
 
 static inline unsigned detector_next(detector *d, control *c) {
-    unsigned next = d->kind == PROVED    ? gerfmuod_process_next(&d->proved, c)
-                    : d->kind == BY_HAND ? (unsigned)hand_next(&d->hand, c)
-                                         : (unsigned)safra_next(&d->ring, c);
+    unsigned next;
+    switch (d->kind) {
+#ifdef MPI_VERSION
+    case REDUCTIONS: return (unsigned)reductions_next(&d->reduced);
+#endif
+    case BY_HAND: next = (unsigned)hand_next(&d->hand, c); break;
+    case SAFRA: next = (unsigned)safra_next(&d->ring, c); break;
+    default: next = gerfmuod_process_next(&d->proved, c);
+    }
     d->controls += next == GERFMUOD_PROCESS_SEND;
     return next;
 }
 
+/* The waves, rounds of the token, or reductions that this process knows of. */
 static inline uint64_t detector_waves(const detector *d) {
+#ifdef MPI_VERSION
+    if (d->kind == REDUCTIONS) return d->reduced.count;
+#endif
     return d->kind == PROVED ? d->proved.wave : d->kind == BY_HAND ? d->hand.wave : d->ring.waves;
 }
 #endif

@@ -1,13 +1,14 @@
 /* latency.c: how long it takes until all processes know that nothing is left, over MPI, with nothing else to do.
  *
  *   mpicc -O2 -Icapi capi/mpi/latency.c -Llib -lgerfmuod -o latency
- *   mpirun -n 4 ./latency proved|hand|safra ROUNDS
+ *   mpirun -n 4 ./latency proved|hand|safra|reductions ROUNDS
  *
  * Each round begins a detector, finishes its only piece of work at a barrier, and takes the time to the last process that
- * knows the end. Prints the least time, the median, and the time that nine rounds of ten stay below, in microseconds. */
+ * knows the end. Prints the median of the times, their quartiles and what nine rounds of ten stay below, in microseconds,
+ * and how many control messages were sent, and how many waves, rounds of the token or reductions there were, in a round. */
+#include <mpi.h>
 #include "detectors.h"
 #include <inttypes.h>
-#include <mpi.h>
 #include <stdio.h>
 #include <stdlib.h>
 
@@ -44,7 +45,7 @@ int main(int argc, char **argv) {
     int me, n, rounds = argc > 2 ? atoi(argv[2]) : 1000;
     const char *kind = argc > 1 ? argv[1] : "proved";
     double *took = malloc((size_t)rounds * sizeof *took);
-    uint64_t controls = 0, all;
+    uint64_t counts[2] = {0, 0}, all[2];
     if (!took || rounds < 1) MPI_Abort(MPI_COMM_WORLD, 9);
     MPI_Comm_rank(MPI_COMM_WORLD, &me);
     MPI_Comm_size(MPI_COMM_WORLD, &n);
@@ -52,14 +53,17 @@ int main(int argc, char **argv) {
         detector d;
         detector_new(&d, detector_named(kind), me, n);
         double mine = run_round(&d);
-        controls += d.controls;
+        counts[0] += d.controls;
+        counts[1] += me == 0 ? detector_waves(&d) : 0;
         MPI_Allreduce(&mine, &took[r], 1, MPI_DOUBLE, MPI_MAX, MPI_COMM_WORLD);
     }
-    MPI_Reduce(&controls, &all, 1, MPI_UINT64_T, MPI_SUM, 0, MPI_COMM_WORLD);
+    MPI_Reduce(counts, all, 2, MPI_UINT64_T, MPI_SUM, 0, MPI_COMM_WORLD);
     qsort(took, (size_t)rounds, sizeof *took, by_number);
     if (me == 0)
-        printf("%s: %d processes, %d rounds, least %.1f us, median %.1f us, nine of ten below %.1f us, %.2f control messages a round\n", kind, n,
-               rounds, 1e6 * took[0], 1e6 * took[rounds / 2], 1e6 * took[rounds * 9 / 10], (double)all / rounds);
+        printf("%s: %d processes, %d rounds, median %.2f us, quartiles %.2f to %.2f us, nine of ten below %.2f us, "
+               "%.2f control messages and %.2f waves a round\n",
+               kind, n, rounds, 1e6 * took[rounds / 2], 1e6 * took[rounds / 4], 1e6 * took[rounds * 3 / 4], 1e6 * took[rounds * 9 / 10],
+               (double)all[0] / rounds, (double)all[1] / rounds);
     free(took);
     MPI_Finalize();
     return 0;

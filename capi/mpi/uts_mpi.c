@@ -2,16 +2,16 @@
  * another one, drawn at random, for some of its nodes. A detector says when the whole tree is searched.
  *
  *   mpicc -O2 -Icapi capi/mpi/uts_mpi.c -Llib -lgerfmuod -lm -o uts_mpi
- *   mpirun -n 4 ./uts_mpi T1|T3|T0 [proved|hand|safra] [right|late|late_kept|early|uncounted] [seed]
+ *   mpirun -n 4 ./uts_mpi T1|T3|T0 [proved|hand|safra|reductions] [right|late|late_kept|early|uncounted] [seed]
  *
  * Messages with nodes are counted. Requests and refusals of requests make no work, so they need not be.
  * The third argument chooses a wrong program, to show that the check can fail. late: counts a receipt after its work, and
  * sends although the detector refuses. late_kept: the same, but keeps to the refusals. early: closes the work of a message
  * when it comes. uncounted: does not count what it sends; it never ends. The exit status is 1 if nodes are missing. */
+#include <mpi.h>
 #include "detectors.h"
 #include "uts.h"
 #include <inttypes.h>
-#include <mpi.h>
 #include <stdio.h>
 #include <stdlib.h>
 

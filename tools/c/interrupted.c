@@ -1,4 +1,4 @@
-// Loaded before a program (LD_PRELOAD), it has each read of standard input interrupted, for ever.
+// Loaded before a program (LD_PRELOAD), it interrupts each read of standard input, forever.
 #define _GNU_SOURCE
 #include <errno.h>
 #include <sys/syscall.h>

@@ -1,5 +1,5 @@
-// Loaded before a program (LD_PRELOAD), it counts the bytes that the program's memory has at a time, and keeps the most
-// that there were in the file that LIVE_TOLD names, as a number of 64 bits.
+// Loaded before a program (LD_PRELOAD), it counts the bytes that the program has allocated at a time, and stores the maximum
+// in the file that LIVE_REPORT names, as a number of 64 bits.
 #define _GNU_SOURCE
 #include <fcntl.h>
 #include <malloc.h>
@@ -41,10 +41,10 @@ void *calloc(size_t count, size_t size) {
 
 void *realloc(void *at, size_t size) {
     long before = at ? (long)malloc_usable_size(at) : 0;
-    void *made = __libc_realloc(at, size);
-    if (made)
-        add((long)malloc_usable_size(made) - before);
-    return made;
+    void *result = __libc_realloc(at, size);
+    if (result)
+        add((long)malloc_usable_size(result) - before);
+    return result;
 }
 
 void *memalign(size_t alignment, size_t size) {
@@ -56,10 +56,10 @@ void *aligned_alloc(size_t alignment, size_t size) {
 }
 
 int posix_memalign(void **at, size_t alignment, size_t size) {
-    void *made = added(__libc_memalign(alignment, size));
-    if (!made)
+    void *result = added(__libc_memalign(alignment, size));
+    if (!result)
         return 12;
-    *at = made;
+    *at = result;
     return 0;
 }
 
@@ -70,8 +70,8 @@ void free(void *at) {
 }
 
 __attribute__((constructor)) static void begin(void) {
-    const char *told = getenv("LIVE_TOLD");
-    int file = told ? open(told, O_CREAT | O_TRUNC | O_RDWR | O_CLOEXEC, 0600) : -1;
+    const char *report = getenv("LIVE_REPORT");
+    int file = report ? open(report, O_CREAT | O_TRUNC | O_RDWR | O_CLOEXEC, 0600) : -1;
     if (file < 0)
         return;
     if (ftruncate(file, sizeof *most) == 0) {

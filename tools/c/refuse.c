@@ -1,5 +1,5 @@
-// Loaded before a program (LD_PRELOAD), it refuses one growth of the program's memory: the REFUSE-th, counted from 1, or, where
-// REFUSE_ON is set, that one and all after it. Where one was refused it makes the file that REFUSE_TOLD names.
+// Loaded before a program (LD_PRELOAD), it fails one allocation of the program: the REFUSE-th, counted from 1, or, if REFUSE_ON
+// is set, that one and all after it. If one failed, it creates the file that REFUSE_REPORT names.
 #define _GNU_SOURCE
 #include <errno.h>
 #include <fcntl.h>
@@ -14,24 +14,24 @@ extern void *__libc_realloc(void *, size_t);
 extern void *__libc_memalign(size_t, size_t);
 
 static unsigned long refused, all_on;
-static const char *told;
-static atomic_ulong growths;
+static const char *report;
+static atomic_ulong allocations;
 
 __attribute__((constructor)) static void begin(void) {
     const char *number = getenv("REFUSE");
     all_on = getenv("REFUSE_ON") != NULL;
-    told = getenv("REFUSE_TOLD");
+    report = getenv("REFUSE_REPORT");
     refused = number ? strtoul(number, NULL, 10) : 0;
 }
 
 static int is_refused(void) {
     if (!refused)
         return 0;
-    unsigned long growth = atomic_fetch_add(&growths, 1) + 1;
-    if (growth < refused || (growth > refused && !all_on))
+    unsigned long allocation = atomic_fetch_add(&allocations, 1) + 1;
+    if (allocation < refused || (allocation > refused && !all_on))
         return 0;
-    if (growth == refused && told)
-        close(open(told, O_CREAT | O_WRONLY | O_CLOEXEC, 0600));
+    if (allocation == refused && report)
+        close(open(report, O_CREAT | O_WRONLY | O_CLOEXEC, 0600));
     errno = ENOMEM;
     return 1;
 }
@@ -57,9 +57,9 @@ void *aligned_alloc(size_t alignment, size_t size) {
 }
 
 int posix_memalign(void **at, size_t alignment, size_t size) {
-    void *made = is_refused() ? NULL : __libc_memalign(alignment, size);
-    if (!made)
+    void *result = is_refused() ? NULL : __libc_memalign(alignment, size);
+    if (!result)
         return ENOMEM;
-    *at = made;
+    *at = result;
     return 0;
 }

@@ -1,1 +1,1 @@
-"""What `tools/dev` does: a module for each subcommand, with `arguments(parser)` and `run(words)`, which gives the exit status."""
+"""What `tools/dev` does: a module for each subcommand, with `arguments(parser)` and `run(options)`, which returns the exit status."""

@@ -1,10 +1,10 @@
-"""Proves all that the programs stand on, and builds them: bin/tp and bin/samples, or one of them alone.
+"""Proves the crates of the programs, and builds them: bin/tp and bin/samples, or one of them.
 
-Crates are proved beside each other, in as many copies of the repository as there are processors: a command of the
-prover locks all crates below its own. The library that is proved in one copy is given to the others, with the stamp by
-which the prover knows the text that it was made from. What tp stands on goes first, and of the crates that can begin
-the one that the most lines wait for; it takes what processors the others leave, as far as its lines are worth them.
-Prints a line for each crate as it ends; where one is not proved, all that its check said, and the status is 1.
+Crates are proved at the same time, in as many copies of the repository as there are processors: a command of the prover
+locks all crates below its own. A library that is proved in one copy is passed to the others, with the stamp by which the
+prover recognizes the text that it was proved from. The crates of tp come first, and of the crates that can begin the one
+with the most lines on the chains above it; it gets the processors that the others leave, if its lines justify them.
+Prints a line for each crate as it ends; if one is not proved, prints the output of its check, and the status is 1.
 """
 import itertools
 import os
@@ -13,6 +13,7 @@ import shutil
 import subprocess
 import time
 from concurrent.futures import FIRST_COMPLETED, ThreadPoolExecutor, wait
+from dataclasses import dataclass
 
 from . import repository
 from .rooms import rooms
@@ -20,120 +21,140 @@ from .rooms import rooms
 PROGRAMS = ["tp", "samples"]
 # the crates that are built for programs in other languages, into lib/
 LIBRARIES = ["gerfmuod"]
-# a further job of a check loads all libraries anew, which fewer lines do not repay
+# a further job of a check loads all libraries again, which does not pay off for fewer lines
 LINES_OF_A_JOB = 500
 QUIET = re.compile(r"(== |logic|statements|library|crate|by-macro|only=|so far:|empty contracts|rt: chose)|.*: proved$")
 
 
-def waiting_for(every):
-    """Gives, for each crate, the lines of the longest chain of crates that begins with it and goes up."""
+@dataclass(frozen=True)
+class Job:
+    """A check that runs: its crate, its copy of the repository, its number of processors, and when it began."""
+
+    crate: repository.Crate
+    room: str
+    processors: int
+    began: float
+
+
+def longest_chains(crates):
+    """Returns for each crate the lines of the longest chain of crates that begins with it and goes up."""
     longest = {}
-    for name in reversed(every):
-        above = [longest[it] for it in longest if name in every[it].below]
-        longest[name] = every[name].lines + max(above, default=0)
+    for name in reversed(crates):
+        above = [longest[upper] for upper in longest if name in crates[upper].below]
+        longest[name] = crates[name].lines + max(above, default=0)
     return longest
 
 
 def prove(crate, room, jobs):
-    """Proves a crate in a copy and builds it; gives whether that went well, and what was said."""
+    """Proves a crate in a copy and builds it; returns whether that succeeded, and the output."""
     verb = "run" if crate.name in PROGRAMS else "check" if crate.is_program else "lib"
-    words = ["rt", verb, f"--jobs={jobs}", *(["--", "--help"] if verb == "run" else [])]
-    ran = subprocess.run(
-        words,
+    result = subprocess.run(
+        ["rt", verb, f"--jobs={jobs}", *(["--", "--help"] if verb == "run" else [])],
         cwd=f"{room}/crates/{crate.name}",
         stdin=subprocess.DEVNULL,
         stdout=subprocess.PIPE,
         stderr=subprocess.STDOUT,
         text=True,
     )
-    if crate.name in PROGRAMS and not ran.returncode:
+    if crate.name in PROGRAMS and not result.returncode:
         os.makedirs("bin", exist_ok=True)
         # (the copy is newer than the sources, for make)
         shutil.copy(f"{room}/crates/{crate.name}/out/{crate.name}", f"bin/{crate.name}")
-    if crate.name in LIBRARIES and not ran.returncode:
+    if crate.name in LIBRARIES and not result.returncode:
         os.makedirs("lib", exist_ok=True)
         shutil.copy2(f"{room}/crates/{crate.name}/out/lib{crate.name}.a", f"lib/lib{crate.name}.a")
-    return not ran.returncode, ran.stdout
+    return not result.returncode, result.stdout
 
 
-def renew(kept, place):
-    """Puts what was proved where another check finds it: by links, where the prover replaces a file and never changes it."""
-    is_library = os.path.basename(place) == "rlib"
-    shutil.rmtree(place, ignore_errors=True)
-    shutil.copytree(kept, place, copy_function=lambda one, to: (os.link if is_library or one.endswith(".oantt") else shutil.copy2)(one, to))
+def renew(source, target):
+    """Copies what was proved to where another check finds it; files that the prover replaces and never changes are linked."""
+    is_library = os.path.basename(target) == "rlib"
+
+    def copy(old, new):
+        (os.link if is_library or old.endswith(".oantt") else shutil.copy2)(old, new)
+
+    shutil.rmtree(target, ignore_errors=True)
+    shutil.copytree(source, target, copy_function=copy)
 
 
-def give(name, room, others):
-    """Gives what was proved of a crate in one copy to the other copies, and its library; there is none of a program."""
+def pass_on(name, room, others):
+    """Copies what was proved of a crate in one copy to the other copies, and its library; a program has none."""
     for part, other in itertools.product(("rlib", "incremental"), others):
-        proved, made = (f"{it}/crates/{name}/out/{part}" for it in (room, other))
-        if os.path.exists(proved):
-            renew(proved, made)
+        source, target = (f"{folder}/crates/{name}/out/{part}" for folder in (room, other))
+        if os.path.exists(source):
+            renew(source, target)
 
 
 def shares(free, ready):
-    """Gives how many of the free processors each crate gets that can begin, the first in line what the others leave."""
-    for at, crate in enumerate(ready):
+    """Yields how many of the free processors each crate gets that can begin; the first one gets what the others leave."""
+    for place, crate in enumerate(ready):
         if not free:
             return
-        left = len(ready) - at - 1
+        left = len(ready) - place - 1
         jobs = max(1, min(free - left, crate.lines // LINES_OF_A_JOB))
         free -= jobs
         yield crate, jobs
 
 
-def prove_all(every, rooms_of_it):
-    """Proves these crates in these copies; gives whether all were proved."""
-    longest, began, all_rooms = waiting_for(every), time.time(), [*rooms_of_it]
-    first = repository.crates(PROGRAMS[:1])
-    done, running, free, is_well = set(), {}, len(rooms_of_it), True
-    with ThreadPoolExecutor(len(rooms_of_it)) as lanes:
-        while is_well and len(done) < len(every) or running:
-            begun = {crate.name for crate, *_ in running.values()}
-            ready = [it for it in every.values() if it.name not in done | begun and done.issuperset(it.below)] if is_well else []
-            for crate, jobs in list(shares(free, sorted(ready, key=lambda it: (it.name not in first, -longest[it.name])))):
-                room = rooms_of_it.pop()
-                running[lanes.submit(prove, crate, room, jobs)] = crate, room, jobs, time.time()
+def ready_crates(crates, done, running):
+    """Returns the crates that can begin, in the order in which they should."""
+    longest, first = longest_chains(crates), repository.crates(PROGRAMS[:1])
+    begun = done | {job.crate.name for job in running.values()}
+    ready = [crate for crate in crates.values() if crate.name not in begun and done.issuperset(crate.below)]
+    return sorted(ready, key=lambda crate: (crate.name not in first, -longest[crate.name]))
+
+
+def prove_all(crates, copies):
+    """Proves these crates in these copies; returns whether all were proved."""
+    began, free_copies, free = time.time(), [*copies], len(copies)
+    done, running, is_well = set(), {}, True
+    with ThreadPoolExecutor(len(copies)) as lanes:
+        while is_well and len(done) < len(crates) or running:
+            ready = ready_crates(crates, done, running) if is_well else []
+            for crate, jobs in list(shares(free, ready)):
+                job = Job(crate, free_copies.pop(), jobs, time.time())
+                running[lanes.submit(prove, crate, job.room, jobs)] = job
                 free -= jobs
             for ended in wait(running, return_when=FIRST_COMPLETED).done:
-                crate, room, jobs, since = running.pop(ended)
-                rooms_of_it.append(room)
-                free += jobs
-                proved, said = ended.result()
-                is_well = is_well and proved
-                if proved:
-                    give(crate.name, room, [it for it in all_rooms if it != room])
-                done.add(crate.name)
-                tell(crate, proved, said, f"[{len(done)}/{len(every)}]", time.time() - since)
+                job = running.pop(ended)
+                free_copies.append(job.room)
+                free += job.processors
+                is_proved, output = ended.result()
+                is_well = is_well and is_proved
+                if is_proved:
+                    pass_on(job.crate.name, job.room, [copy for copy in copies if copy != job.room])
+                done.add(job.crate.name)
+                report(job, is_proved, output, f"[{len(done)}/{len(crates)}]")
     print(f"{(time.time() - began) / 60:.0f} minutes.")
     return is_well
 
 
-def tell(crate, proved, said, at, seconds):
-    if proved:
-        functions = re.search(r"^logic=proved functions=(\d+)", said, re.M)
-        what = f", bin/{crate.name} is built" if crate.name in PROGRAMS else f", {functions[1]} functions" if functions else ""
-        print(f"{at} {crate.name}: proved{what} ({seconds:.0f} s)", flush=True)
+def report(job, is_proved, output, place):
+    name = job.crate.name
+    if is_proved:
+        functions = re.search(r"^logic=proved functions=(\d+)", output, re.M)
+        what = f", bin/{name} is built" if name in PROGRAMS else f", {functions[1]} functions" if functions else ""
+        print(f"{place} {name}: proved{what} ({time.time() - job.began:.0f} s)", flush=True)
     else:
-        print(f"{at} {crate.name}: NOT PROVED")
-        print("\n".join(it for it in said.splitlines() if not QUIET.match(it)), flush=True)
+        print(f"{place} {name}: NOT PROVED")
+        print("\n".join(line for line in output.splitlines() if not QUIET.match(line)), flush=True)
 
 
 def arguments(parser):
-    parser.add_argument("program", nargs="?", choices=PROGRAMS, help="both programs where none is named")
+    parser.add_argument("program", nargs="?", choices=PROGRAMS, help="both programs by default")
 
 
-def run(words):
+def run(options):
     repository.go_to_top()
-    programs = [words.program] if words.program else PROGRAMS
-    every = repository.crates(programs)
+    programs = [options.program] if options.program else PROGRAMS
+    crates = repository.crates(programs)
     lanes = repository.lanes(repository.MEMORY_OF_A_CHECK)
     print(
-        f"Proves {len(every)} crates on {lanes} processors, and builds {' and '.join(f'bin/{it}' for it in programs)}: "
-        "on four half an hour the first time, and later what changed.",
+        f"Proves {len(crates)} crates on {lanes} processors, and builds {' and '.join(f'bin/{name}' for name in programs)}: "
+        "half an hour on four the first time, and later what changed.",
         flush=True,
     )
     with rooms() as (_, copies):
-        is_well = prove_all(every, copies)
-    print(f"{'Proved and built' if is_well else 'NOT PROVED'}.")
+        is_well = prove_all(crates, copies)
+    print("Proved and built." if is_well else "NOT PROVED.")
     return 0 if is_well else 1

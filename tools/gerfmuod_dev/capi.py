@@ -1,12 +1,12 @@
 """Compiles the programs of capi/ and runs them with the proved library.
 
-First the headers are read as C99, C11 and C++17, with all warnings on, by each compiler that is here. Then, where
-lib/libgerfmuod.a is there and of these sources (`make lib` builds it), each program is linked with it and run: those in
-C and C++ once more under valgrind, where that is here. The programs of capi/mpi are run if mpicc and mpirun are here. What
-is not here is told and skipped. The last line is `N passed, M failed`; the status is 1 where one failed.
+First each compiler on this machine checks the headers and programs as C99, C11 and C++17, with all warnings on. If
+lib/libgerfmuod.a is there and was built from these sources (`make lib` builds it), each program is linked with it and run,
+and those in C and C++ run once more under valgrind. The programs of capi/mpi run if mpicc and mpirun are installed. It
+names what is not installed, and skips it. The last line is `N passed, M failed`; the status is 1 if one failed.
 
-With --bench the programs are not run; what a step costs is measured and printed: instructions, which valgrind counts at
-two numbers of steps, memory, nanoseconds, and the depth of the stack.
+With --bench it runs no program, but measures and prints what a step costs: instructions, which valgrind counts at two
+numbers of steps, memory, nanoseconds, and the depth of the stack.
 """
 import os
 import re
@@ -14,30 +14,24 @@ import shutil
 import subprocess
 import sys
 import tempfile
-from typing import NamedTuple
+from dataclasses import dataclass
 
 from . import library, mpi, repository
-from .running import Tally, short
+from .c_programs import FAILURE, VALGRIND, WARNINGS, Run, check_sources, judge, output_of
+from .running import Tally
 
-WARNINGS = ["-Wall", "-Wextra", "-pedantic", "-Werror"]
 LINK = ["-Llib", "-lgerfmuod"]
-# a compiler, the standards that it is asked for, and the kind of file
-COMPILERS = [("gcc", ["c99", "c11"], "c"), ("clang", ["c99", "c11"], "c"), ("g++", ["c++17"], "c++"), ("clang++", ["c++17"], "c++")]
-VALGRIND = ["valgrind", "-q", "--error-exitcode=99", "--leak-check=full", "--errors-for-leak-kinds=all"]
+# the ending of a program in each language
+ENDINGS = {"c": ".c", "c++": ".cpp"}
 STEPS = 999_999
 
 
-class Run(NamedTuple):
-    """Arguments, the exit status that has to come (-1: any but 0), and a text that has to be in what was written."""
+@dataclass(frozen=True)
+class Program:
+    """A source of capi/, the command that compiles it, its runs, and whether the first of them is repeated under valgrind."""
 
-    words: list
-    status: int
-    says: str
-
-
-class Program(NamedTuple):
     name: str
-    compile: list
+    compiler: list
     runs: list
     is_checked: bool
 
@@ -102,7 +96,7 @@ PROGRAMS = [
             Run([], 0, "64 threads, 3 epochs: right"),
             Run(["1", "3"], 0, "right"),
             Run(["2", "64"], 0, "right"),
-            Run(["8", "2", "early"], -1, ""),
+            Run(["8", "2", "early"], FAILURE, ""),
             Run(["64", "1", "uncounted"], 2, ""),
         ],
         False,
@@ -112,88 +106,72 @@ PROGRAMS = [
 ]
 
 
-def read_header(tally):
-    """The headers, and each program in C and C++ that includes one, read by each compiler, with no code made."""
-    for compiler, standards, kind in COMPILERS:
-        if not shutil.which(compiler):
-            print(f"{compiler} is not here: skipped")
-            continue
-        for standard in standards:
-            for name in sorted(os.listdir("capi")):
-                if name.endswith((".h", {"c": ".c", "c++": ".cpp"}[kind])):
-                    read = ["-include", f"capi/{name}", "/dev/null"] if name.endswith(".h") else [f"capi/{name}"]
-                    words = [compiler, "-x", kind, f"-std={standard}", *WARNINGS, "-fsyntax-only", *read]
-                    ran = subprocess.run(words, capture_output=True)
-                    tally.judge(not ran.returncode, f"{' '.join(words)}: {short(ran.stderr, 2000)}")
-    print("the headers of capi/: read as C99, C11 and C++17")
+def sources(language, _):
+    """Returns the paths of the headers of capi/, and of its programs in this language."""
+    return [f"capi/{name}" for name in sorted(os.listdir("capi")) if name.endswith((".h", ENDINGS[language]))]
 
 
-def compiled(program, folder):
-    """The program, linked with the library."""
-    made = f"{folder}/{program.name.replace('.', '_')}"
+def compile_program(program, folder):
+    """Links a program with the library; returns its path in the folder."""
+    path = f"{folder}/{program.name.replace('.', '_')}"
+    command = [*program.compiler, f"capi/{program.name}", "-o", path]
     if program.name.endswith(".rs"):
-        words = [*program.compile, f"capi/{program.name}", "-o", made, "-L", "native=lib", "-l", "static=gerfmuod"]
+        command += ["-L", "native=lib", "-l", "static=gerfmuod"]
     elif program.name.endswith(".f90"):
-        words = [*program.compile, "-J", folder, f"capi/{program.name}", "-o", made, *LINK]
+        command += ["-J", folder, *LINK]
     else:
-        words = [*program.compile, "-Icapi", f"capi/{program.name}", "-o", made, *LINK]
-    ran = subprocess.run(words, stdout=subprocess.PIPE, stderr=subprocess.STDOUT)
-    if ran.returncode:
-        raise SystemExit(f"{' '.join(words)}: {ran.stdout.decode(errors='replace')}")
-    return made
+        command += ["-Icapi", *LINK]
+    output_of(command)
+    return path
 
 
-def judge(tally, words, wanted):
-    try:
-        ran = subprocess.run(words, stdout=subprocess.PIPE, stderr=subprocess.STDOUT, timeout=300)
-    except subprocess.TimeoutExpired:
-        tally.fails(f"{' '.join(words)}: did not end")
-        return
-    has_status = ran.returncode != 0 if wanted.status == -1 else ran.returncode == wanted.status
-    is_well = has_status and wanted.says in ran.stdout.decode(errors="replace")
-    tally.judge(is_well, f"{' '.join(words)}: status {ran.returncode}, wanted {wanted.status}: {short(ran.stdout, 2000)}")
+def run_program(tally, program, folder, has_valgrind):
+    """Compiles a program and does its runs; prints how many there were."""
+    before, path = tally.failed, compile_program(program, folder)
+    for expected in program.runs:
+        judge(tally, [path, *expected.arguments], expected)
+    is_checked = program.is_checked and has_valgrind
+    if is_checked:
+        judge(tally, [*VALGRIND, path], program.runs[0])
+    count = f"{len(program.runs)} run{'s' * (len(program.runs) != 1)}"
+    print(f"capi/{program.name}: {count}{', one more under valgrind' * is_checked}{', FAILED' * (tally.failed > before)}", flush=True)
 
 
 def run_programs(tally, folder):
     has_valgrind = bool(shutil.which("valgrind"))
     if not has_valgrind:
-        print("valgrind is not here: no program runs under it")
+        print("valgrind is not installed: no program runs under it")
     for program in PROGRAMS:
-        if not shutil.which(program.compile[0]):
-            print(f"{program.compile[0]} is not here: capi/{program.name} is skipped")
-            continue
-        made, before = compiled(program, folder), tally.failed
-        for wanted in program.runs:
-            judge(tally, [made, *wanted.words], wanted)
-        under = program.is_checked and has_valgrind
-        if under:
-            judge(tally, [*VALGRIND, made], program.runs[0])
-        ran = f"{len(program.runs)} runs" + (", one more under valgrind" if under else "")
-        print(f"capi/{program.name}: {ran}{', FAILED' if tally.failed > before else ''}", flush=True)
+        if shutil.which(program.compiler[0]):
+            run_program(tally, program, folder, has_valgrind)
+        else:
+            print(f"{program.compiler[0]} is not installed: capi/{program.name} is skipped")
 
 
 def instructions(program, kind, steps):
-    words = ["valgrind", "--tool=cachegrind", "--cache-sim=no", "--cachegrind-out-file=/dev/null", program, "count", kind, str(steps)]
-    told = subprocess.run(words, capture_output=True, text=True, check=True).stderr
-    return int(re.search(r"I +refs: +([\d,]+)", told)[1].replace(",", ""))
+    """Returns the instructions of a process that does this number of steps."""
+    command = ["valgrind", "--tool=cachegrind", "--cache-sim=no", "--cachegrind-out-file=/dev/null", program, "count", kind, str(steps)]
+    report = subprocess.run(command, capture_output=True, text=True, check=True).stderr
+    return int(re.search(r"I +refs: +([\d,]+)", report)[1].replace(",", ""))
 
 
 def memory(program, kind, steps):
-    """The bytes that the process has after so many steps."""
+    """Returns the bytes that a process has after this number of steps."""
     return int(subprocess.run([program, "count", kind, str(steps)], capture_output=True, text=True, check=True).stdout)
 
 
 def bench(folder):
-    program = compiled(Program("bench.c", ["gcc", "-std=c11", *WARNINGS, "-O2", "-pthread"], [], False), folder)
+    """Measures what a step costs, and prints it."""
+    program = compile_program(Program("bench.c", ["gcc", "-std=c11", *WARNINGS, "-O2", "-pthread"], [], False), folder)
     print(f"{STEPS:,} steps at 8 nodes, called from C:")
     for kind in ("tasks", "messages"):
         if shutil.which("valgrind"):
-            none, all_of_them = (instructions(program, kind, steps) for steps in (0, STEPS))
-            print(f"{kind}: {(all_of_them - none) / STEPS:.1f} instructions a step, the loop and the close in them")
-        grown = memory(program, kind, STEPS) - memory(program, kind, 0)
-        print(f"{kind}: {grown / STEPS:.1f} bytes a step")
+            counted = instructions(program, kind, STEPS) - instructions(program, kind, 0)
+            print(f"{kind}: {counted / STEPS:.1f} instructions a step, including the loop and the close")
+        size = memory(program, kind, STEPS) - memory(program, kind, 0)
+        print(f"{kind}: {size / STEPS:.1f} bytes a step")
     if not shutil.which("valgrind"):
-        print("valgrind is not here: no instructions are counted")
+        print("valgrind is not installed: no instructions are counted")
     sys.stdout.flush()
     subprocess.run([program, "time", str(STEPS)], check=True)
     subprocess.run([program, "stack"], check=True)
@@ -203,19 +181,20 @@ def arguments(parser):
     parser.add_argument("--bench", action="store_true", help="measure what a step costs")
 
 
-def run(words):
+def run(options):
     repository.go_to_top()
-    wrong = library.is_built()
-    if words.bench:
-        if wrong:
-            sys.exit(f"{wrong}: make lib builds it")
+    reason = library.reason_not_built()
+    if options.bench:
+        if reason:
+            sys.exit(f"{reason}: make lib builds it")
         with tempfile.TemporaryDirectory() as folder:
             bench(folder)
         return 0
     tally = Tally()
-    read_header(tally)
-    if wrong:
-        print(f"{wrong}: no program of capi/ was linked and run. make lib builds it")
+    check_sources(tally, sources)
+    print("the headers and programs of capi/: checked as C99, C11 and C++17")
+    if reason:
+        print(f"{reason}: no program of capi/ was linked and run. make lib builds it")
     else:
         with tempfile.TemporaryDirectory() as folder:
             run_programs(tally, folder)

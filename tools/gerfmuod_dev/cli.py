@@ -1,11 +1,11 @@
-"""The tools of this repository. `tools/dev SUBCOMMAND --help` tells what a subcommand prints, and its exit status.
+"""The tools of this repository. `tools/dev SUBCOMMAND --help` says what a subcommand prints, and its exit status.
 
-They work on the repository that they stand in, wherever they are called from. Words that are not known end with
-status 2.
+They work on the repository that they are in, from whatever folder they are called. Unknown arguments end with status 2.
 """
 import argparse
 
-from . import bench, build, capi, demo, docs, drawn, gate_times, lanes, library, limits, mpi, mutants, new_pool, soak, tries
+from . import bench, build, capi, dag_programs, demo, docs, drawn, gate_times, lanes, library, limits, lines
+from . import mpi, mutants, new_pool, proved, soak, tries, words
 from .limits import cuts, generations, hostile_numbers, live, memory, pictures, progress, random_texts, reasons
 from .limits import refuse, refuse_tests, stacks, strange
 
@@ -13,13 +13,17 @@ COMMANDS = {
     "build": build,
     "lib": library,
     "capi": capi,
+    "dag": dag_programs,
     "mpi": mpi,
     "demo": demo,
     "try": tries,
     "mutants": mutants,
     "gate-times": gate_times,
     "lanes": lanes,
+    "lines": lines,
     "docs": docs,
+    "proved": proved,
+    "words": words,
     "draw": drawn,
     "new-pool": new_pool,
     "soak": soak,
@@ -42,9 +46,9 @@ LIMITS = {
 }
 
 
-def described(told):
-    """How a parser shows a module's description: as it is written."""
-    return {"description": told, "formatter_class": argparse.RawDescriptionHelpFormatter, "allow_abbrev": False}
+def described(text):
+    """Returns the options of a parser that shows a module's description as it is written."""
+    return {"description": text, "formatter_class": argparse.RawDescriptionHelpFormatter, "allow_abbrev": False}
 
 
 def add(parsers, name, module):
@@ -59,14 +63,14 @@ def parser_of_all():
     for name, module in COMMANDS.items():
         add(parsers, name, module)
     group = parsers.add_parser("limits", help=limits.__doc__.splitlines()[0], **described(limits.__doc__))
-    of_limits = group.add_subparsers(dest="limit", metavar="NAME", required=True)
+    limit_parsers = group.add_subparsers(dest="limit", metavar="NAME", required=True)
     for name, module in LIMITS.items():
-        add(of_limits, name, module)
+        add(limit_parsers, name, module)
     return parser
 
 
-def main(given=None):
-    words, unknown = parser_of_all().parse_known_args(given)
+def main(arguments=None):
+    options, unknown = parser_of_all().parse_known_args(arguments)
     if unknown:
-        words.parser.error(f"unknown: {' '.join(unknown)}")
-    return words.run(words)
+        options.parser.error(f"unknown: {' '.join(unknown)}")
+    return options.run(options)

@@ -1,13 +1,15 @@
 """Compares the documents with the code and with each other.
 
-- the table of docs/MEMORY.md: each public call that can be refused memory stands in it, and no other
+- the table of docs/MEMORY.md has each public call that can run out of memory, and no other
 - each block of code in docs/RUNNING-A-POOL.md and docs/PROVING-A-POOL.md is part of the file that the line above it names
-- each relative link of README.md, CONTRIBUTING.md, bench/README.md and docs/*.md leads to a file, and to a heading where it names one
-- README.md has at most 150 lines, none of them over 120 columns: warnings, unless --strict is given
-- the pictures are those that tools/pictures.py makes, where there is such a file (its --check)
+- each relative link of README.md, CONTRIBUTING.md, bench/README.md, docs/*.md and docs/guarantees leads to a file, and to a
+  heading if it names one
+- README.md has at most 150 lines, and none of over 120 columns: only warnings, unless --strict is given
+- the pictures are those that tools/pictures.py draws (its --check)
+- docs/guarantees is what tools/dev proved writes from the contracts, and docs/PROVED.md names only calls and clauses that exist
 
-Prints what is not so and a line for each kind of check. The last line is `N passed, M failed`; the status is 1 where
-one failed.
+Prints each difference, and a line for each kind of check. The last line is `N passed, M failed`; the status is 1 if one
+failed.
 """
 import glob
 import os
@@ -16,7 +18,7 @@ import subprocess
 import sys
 from urllib.parse import unquote
 
-from . import memory_table, repository
+from . import memory_table, proved, repository
 from .repository import text_of
 from .running import Tally
 
@@ -32,33 +34,34 @@ MOST_COLUMNS, MOST_LINES = 120, 150
 def check_page(page, tally):
     """Compares the blocks of a page of the guide with the files that it names."""
     blocks = [block.groups() for block in BLOCK.finditer(text_of(page))]
-    strange = 0
+    unknown = 0
     for path, kind, code in blocks:
         if not path and kind == "text" or path and code in text_of(path, ""):
             tally.passes()
         else:
-            strange += 1
+            unknown += 1
             tally.fails(f"{page}: not in {path or 'any file'}: {code.splitlines()[0]}")
-    print(f"{page}: {len(blocks)} blocks, {strange} of them strange")
+    print(f"{page}: {len(blocks)} blocks, {unknown} of them not in the code")
 
 
 def headings_of(text):
-    """The names by which links call the headings of a document; one that comes again has a number behind."""
-    found = []
-    for head in re.findall(r"^#+ +(.*?)[ #]*$", re.sub(r"^```.*?^```", "", text, flags=re.S | re.M), re.M):
-        plain = re.sub(r"\[([^\]]*)\]\([^)]*\)", r"\1", head).lower()
-        found.append(re.sub(r"[^\w\- ]", "", plain).replace(" ", "-"))
-    return {f"{name}-{before}" if before else name for place, name in enumerate(found) for before in [found[:place].count(name)]}
+    """Returns the names of a document's headings in links; a repeated one has a number appended."""
+    names = []
+    for heading in re.findall(r"^#+ +(.*?)[ #]*$", re.sub(r"^```.*?^```", "", text, flags=re.S | re.M), re.M):
+        plain = re.sub(r"\[([^\]]*)\]\([^)]*\)", r"\1", heading).lower()
+        names.append(re.sub(r"[^\w\- ]", "", plain).replace(" ", "-"))
+    counts = [names[:place].count(name) for place, name in enumerate(names)]
+    return {f"{name}-{count}" if count else name for name, count in zip(names, counts)}
 
 
 def links_of(path):
-    """The relative links of a document, each once."""
-    found = ["".join(it) for it in LINK.findall(CODE.sub("``", text_of(path)))]
-    return [it for it in dict.fromkeys(found) if not ELSEWHERE.match(it)]
+    """Returns the relative links of a document, each once."""
+    links = ["".join(groups) for groups in LINK.findall(CODE.sub("``", text_of(path)))]
+    return [link for link in dict.fromkeys(links) if not ELSEWHERE.match(link)]
 
 
-def leads(path, link):
-    """Whether a link of the document leads to something."""
+def exists(path, link):
+    """Whether the target of a document's link exists."""
     file, _, heading = unquote(link).partition("#")
     target = os.path.join(os.path.dirname(path), file) if file else path
     if not os.path.exists(target):
@@ -67,14 +70,14 @@ def leads(path, link):
 
 
 def check_links(tally):
-    documents = [it for it in ("README.md", "CONTRIBUTING.md", "bench/README.md", *sorted(glob.glob("docs/*.md"))) if os.path.exists(it)]
+    pages = sorted(glob.glob("docs/*.md") + glob.glob("docs/guarantees/*.md"))
+    documents = [path for path in ("README.md", "CONTRIBUTING.md", "bench/README.md", *pages) if os.path.exists(path)]
     links = [(path, link) for path in documents for link in links_of(path)]
-    dead = 0
-    for path, link in links:
-        is_well = leads(path, link)
-        dead += not is_well
-        tally.judge(is_well, f"{path}: {link} leads nowhere")
-    print(f"{len(documents)} documents: {len(links)} links to places of the repository, {dead} of them dead")
+    dead = [(path, link) for path, link in links if not exists(path, link)]
+    tally.passes(len(links) - len(dead))
+    for path, link in dead:
+        tally.fails(f"{path}: there is no {link}")
+    print(f"{len(documents)} documents: {len(links)} links to places of the repository, {len(dead)} of them dead")
 
 
 def check_readme(tally, is_strict):
@@ -82,7 +85,7 @@ def check_readme(tally, is_strict):
     wide = [number for number, line in enumerate(lines, 1) if len(line) > MOST_COLUMNS]
     faults = [
         wide and f"{len(wide)} lines over {MOST_COLUMNS} columns, the first is line {wide[0]}",
-        len(lines) > MOST_LINES and f"{len(lines)} lines, where {MOST_LINES} are the most",
+        len(lines) > MOST_LINES and f"{len(lines)} lines, of at most {MOST_LINES}",
     ]
     for fault in faults:
         if not fault or is_strict:
@@ -94,20 +97,20 @@ def check_readme(tally, is_strict):
 def check_pictures(tally):
     if not os.path.exists(PICTURES):
         return
-    ran = subprocess.run([sys.executable, PICTURES, "--check"], stdout=subprocess.PIPE, stderr=subprocess.STDOUT, text=True)
-    if ran.returncode:
-        print(ran.stdout, end="")
-    tally.judge(ran.returncode == 0, f"{PICTURES} --check")
+    result = subprocess.run([sys.executable, PICTURES, "--check"], stdout=subprocess.PIPE, stderr=subprocess.STDOUT, text=True)
+    if result.returncode:
+        print(result.stdout, end="")
+    tally.judge(result.returncode == 0, f"{PICTURES} --check")
 
 
 def arguments(parser):
     parser.add_argument("--strict", action="store_true", help="the warnings about README.md are faults")
-    parser.add_argument("--calls", action="store_true", help="print the public calls that can be refused memory, and check nothing")
+    parser.add_argument("--calls", action="store_true", help="print the public calls that can run out of memory, and check nothing")
 
 
-def run(words):
+def run(options):
     repository.go_to_top()
-    if words.calls:
+    if options.calls:
         print("\n".join(sorted(memory_table.calls())))
         return 0
     tally = Tally()
@@ -115,6 +118,7 @@ def run(words):
     for page in GUIDE:
         check_page(page, tally)
     check_links(tally)
-    check_readme(tally, words.strict)
+    check_readme(tally, options.strict)
     check_pictures(tally)
+    proved.check(tally)
     return tally.end()

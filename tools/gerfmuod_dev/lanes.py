@@ -1,6 +1,6 @@
-"""Tells how many checks of the prover may run beside each other.
+"""Prints how many checks of the prover may run at the same time.
 
-One a processor, as long as each has 4 GB of memory. Prints the number alone; the status is 0.
+One for each processor, if each has 4 GB of memory. Prints the number alone; the status is 0.
 """
 from . import repository
 
@@ -9,7 +9,7 @@ def arguments(parser):
     del parser
 
 
-def run(words):
-    del words
+def run(options):
+    del options
     print(repository.lanes(repository.MEMORY_OF_A_CHECK))
     return 0

@@ -1,8 +1,9 @@
-"""Proves all that the library for other languages stands on, and builds it: lib/libgerfmuod.a.
+"""Proves all that the library for other languages is built on, and builds it: lib/libgerfmuod.a and libgerfmuod.so.0.
 
-The archive has all that it links except the C library. Next to it are the headers `gerfmuod.h` and `gerfmuod_process.h`,
-`gerfmuod.pc` for pkg-config, and `SOURCES`, a digest of what it was built from. Prints a line for each crate as it ends;
-the status is 1 if one is not proved.
+The archive has all that it links except the C library and POSIX threads; the team of threads, capi/gerfmuod_team.c, is the
+only part that is not proved. Next to it are the headers for C and C++, the module for Fortran, `gerfmuod.pc` for
+pkg-config, and `SOURCES`, a digest of what it was built from. Prints a line for each crate as it ends; the status is 1 if
+one is not proved.
 """
 import hashlib
 import os
@@ -10,35 +11,36 @@ import shutil
 import subprocess
 import tempfile
 
-from . import build, repository
+from . import build, repository, shared_object
 from .repository import text_of
 from .rooms import rooms
 
 ARCHIVE = "lib/libgerfmuod.a"
-HEADERS = ["capi/gerfmuod.h", "capi/gerfmuod_process.h"]
+SHARED = f"lib/{shared_object.SONAME}"
+HEADERS = ["capi/gerfmuod.h", "capi/gerfmuod_process.h", *shared_object.HEADERS]
 PACKAGE = "capi/gerfmuod.pc.in"
 DIGEST = "lib/SOURCES"
 
 
 def digest():
-    """Of the sources of the library and of the crates below it, and of the headers."""
-    told = hashlib.sha256()
+    """Returns a hash of the sources of the library, of the crates below it, of the headers and of the team."""
+    result = hashlib.sha256()
     for crate in repository.crates(build.LIBRARIES):
         for path in repository.files_in(f"crates/{crate}"):
             parts = path.split("/")
             if not set(parts) & set(repository.NO_SOURCES) and path.endswith((".rt", ".antt")):
-                told.update(f"{path}\n{text_of(path)}".encode())
-    for header in HEADERS:
-        told.update(text_of(header).encode())
-    return told.hexdigest()
+                result.update(f"{path}\n{text_of(path)}".encode())
+    for path in [*HEADERS, shared_object.TEAM, shared_object.VISIBLE]:
+        result.update(text_of(path).encode())
+    return result.hexdigest()
 
 
-def is_built():
-    """Whether the library is there, and of these sources: what is wrong else."""
+def reason_not_built():
+    """Returns an empty text if the library is there and was built from these sources, and else why it cannot be used."""
     if not os.path.exists(ARCHIVE):
         return f"{ARCHIVE} is not there"
     if text_of(DIGEST, "") != digest():
-        return f"{ARCHIVE} is of other sources"
+        return f"{ARCHIVE} was built from other sources"
     return ""
 
 
@@ -47,35 +49,37 @@ def add_heap():
     guide = subprocess.run(["rt", "doc"], capture_output=True, text=True, check=True).stdout.strip()
     heap = os.path.join(os.path.dirname(guide), "c", "liblibc_c.a")
     archive = os.path.abspath(ARCHIVE)
-    with tempfile.TemporaryDirectory() as at:
-        subprocess.run(["ar", "x", heap], cwd=at, check=True)
-        subprocess.run(["ar", "rs", archive, *sorted(os.listdir(at))], cwd=at, check=True, capture_output=True)
+    with tempfile.TemporaryDirectory() as folder:
+        subprocess.run(["ar", "x", heap], cwd=folder, check=True)
+        subprocess.run(["ar", "rs", archive, *sorted(os.listdir(folder))], cwd=folder, check=True, capture_output=True)
 
 
 def write_package():
     """Writes the description for pkg-config, of this folder."""
-    with open("lib/gerfmuod.pc", "w", encoding="utf-8") as it:
-        it.write(text_of(PACKAGE).replace("@LIBRARIES@", "${pcfiledir}").replace("@HEADERS@", "${pcfiledir}"))
+    with open("lib/gerfmuod.pc", "w", encoding="utf-8") as file:
+        file.write(text_of(PACKAGE).replace("@LIBRARIES@", "${pcfiledir}").replace("@HEADERS@", "${pcfiledir}"))
 
 
 def arguments(parser):
     del parser
 
 
-def run(words):
-    del words
+def run(options):
+    del options
     repository.go_to_top()
-    every = repository.crates(build.LIBRARIES)
-    print(f"Proves {len(every)} crates, and builds {ARCHIVE}.", flush=True)
+    crates = repository.crates(build.LIBRARIES)
+    print(f"Proves {len(crates)} crates, and builds {ARCHIVE} and {SHARED}.", flush=True)
     built_of = digest()
     with rooms() as (_, copies):
-        is_well = build.prove_all(every, copies)
-    if is_well:
+        is_proved = build.prove_all(crates, copies)
+    if is_proved:
         add_heap()
+        shared_object.add_team(ARCHIVE)
+        shared_object.link(ARCHIVE, SHARED)
         for header in HEADERS:
             shutil.copy2(header, "lib")
         write_package()
-        with open(DIGEST, "w", encoding="utf-8") as it:
-            it.write(built_of)
-    print(f"{'Proved and built' if is_well else 'NOT PROVED'}.")
-    return 0 if is_well else 1
+        with open(DIGEST, "w", encoding="utf-8") as file:
+            file.write(built_of)
+    print(f"{'Proved and built' if is_proved else 'NOT PROVED'}.")
+    return 0 if is_proved else 1

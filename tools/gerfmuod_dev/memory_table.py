@@ -1,78 +1,44 @@
-"""The table of docs/MEMORY.md beside the code: each public call that can be refused memory has to stand in it, and no
-other.
+"""Compares the list of docs/measurements/out-of-memory.md with the code.
 
-A call can be refused memory where its description, its type or its contract says so (`NoMemory`, `AllocError`,
-`AllocFailed`, a type of faults as `TextFault`, `Fault` or `LineFault`).
+It has to have each public call that can run out of memory, and no other.
+
+A call can run out of memory if its docstring, its type or its contract says so (`NoMemory`, `AllocError`, `AllocFailed`,
+or an error type such as `TextFault`, `Fault` and `LineFault`), and it returns a `Result` or a refusal.
 """
 import re
 
 from . import repository
+from .contracts import contracts_of
 
-TELLS = re.compile(r"\b(NoMemory|AllocError|AllocFailed|TextFault|\w*Fault>|no memory for)")
-
-# an impl for each type, whose calls are those of the trait
-OF_ANY = re.compile(r"impl<(\w+)\b.*> \w+ for \1\b")
-
-
-def owner_of(line):
-    """The type of an `impl`, or the name of a trait."""
-    plain, depth = "", 0
-    for letter in line.replace("->", "  "):
-        depth += (letter == "<") - (letter == ">")
-        plain += letter if depth == 0 and letter != ">" else ""
-    words = re.split(r"\bwhere\b|\{|:", plain)[0].replace("pub ", "").split()
-    return words[-1] if len(words) > 1 else ""
+SIGN = re.compile(r"\b(NoMemory|AllocError|AllocFailed|TextFault|\w*Fault>|no memory for)")
+# calls of traits of the standard library are not looked for, but this one has a row
+OF_STANDARD_TRAITS = {"tp_graph: Only::clone"}
+FALLIBLE = re.compile(r"->[^{]*(Result|Option<Refusal>)")
 
 
-def calls_of(path):
-    """The public calls of a file that can be refused memory, as Type::name."""
-    lines = repository.text_of(path).split("\n")
-    owner, doc = "", []
-    for place, line in enumerate(lines):
-        if re.match(r"(?:pub )?(impl|trait)\b", line):
-            owner = "" if OF_ANY.match(line) else owner_of(line)
-        if line.startswith("}"):
-            owner = ""
-        if line.strip().startswith("///"):
-            doc.append(line)
-            continue
-        found = re.match(r"( *)(pub )?fn (\w+)", line)
-        in_trait = found and found[1] and not found[2] and any(re.match(r"pub trait", it) for it in lines[:place]) and owner
-        if found and (found[2] or in_trait):
-            head = []
-            for it in lines[place:]:
-                if it == found[1] + "{" or it.endswith(";") or it.rstrip().endswith(") {"):
-                    head.append(it)
-                    break
-                head.append(it)
-            told = "\n".join(doc + head)
-            if TELLS.search(told) and re.search(r"->[^{]*(Result|Option<Refusal>)", "\n".join(head)):
-                yield (f"{owner}::" if owner and found[1] else "") + found[3]
-        if not line.strip().startswith("#["):
-            doc = []
+def can_run_out(function):
+    return bool(SIGN.search(f"{function.docstring}\n{function.head}") and FALLIBLE.search(function.head))
 
 
 def calls():
-    """Every public call of the libraries of this repository that can be refused memory, as crate: Type::name."""
-    found = set()
-    for crate in repository.crates().values():
-        if crate.name.startswith("test_") or crate.is_program:
-            continue
-        for path in repository.files_in(f"crates/{crate.name}/src"):
-            found.update(f"{crate.name}: {call}" for call in calls_of(path))
-    return found
+    """Returns every public call of the libraries of this repository that can run out of memory, as crate: Type::name."""
+    libraries = [crate.name for crate in repository.crates().values() if not crate.name.startswith("test_") and not crate.is_program]
+    functions = [(name, function) for name in libraries for function in contracts_of(name).functions.values()]
+    found = {f"{name}: {function.path}" for name, function in functions if function.is_declared_public and can_run_out(function)}
+    return found | OF_STANDARD_TRAITS
 
 
 def listed():
-    rows = re.findall(r"^\| ((?:tp|pool)_\w+) \| `([\w:]+)` \|", repository.text_of("docs/MEMORY.md"), re.M)
-    return {f"{crate}: {call}" for crate, call in rows}
+    """The calls that the last section of the page lists, as crate: Type::name."""
+    section = repository.text_of("docs/measurements/out-of-memory.md").partition("\n## Which test covers which call\n")[2]
+    return {f"{crate}: {call}" for crate, call in re.findall(r"`((?:tp|pool)_\w+?)::([\w:]+)`", section)}
 
 
 def check(tally):
-    there, table = calls(), listed()
-    tally.passes(len(there & table))
-    for it in sorted(there - table):
-        tally.fails(f"docs/MEMORY.md forgets {it}")
-    for it in sorted(table - there):
-        tally.fails(f"docs/MEMORY.md has {it}, which cannot be refused memory")
-    print(f"docs/MEMORY.md: {len(there & table)} rows as in the code, {len(there ^ table)} otherwise")
+    expected, table = calls(), listed()
+    tally.passes(len(expected & table))
+    for call in sorted(expected - table):
+        tally.fails(f"docs/measurements/out-of-memory.md lacks {call}")
+    for call in sorted(table - expected):
+        tally.fails(f"docs/measurements/out-of-memory.md has {call}, which cannot run out of memory")
+    print(f"docs/measurements/out-of-memory.md: {len(expected & table)} calls as in the code, {len(expected ^ table)} different")

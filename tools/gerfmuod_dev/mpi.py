@@ -1,9 +1,10 @@
 """Runs the programs of capi/mpi over MPI, linked with the proved library.
 
 uts_mpi.c searches two trees whose numbers of nodes and leaves are known, T1 and T3, with 1, 2, 4, 8 and 16 processes on
-this machine. Then its wrong programs have to end too early, or not at all, so that the check can fail. With --quick the
-tree is a small one. Needs mpicc and mpirun of Open MPI (`tools/mpi-packages` prints the packages); if one is missing,
-says so, and with --quick that is no failure. The last line is `N passed, M failed`; the status is 1 if one failed.
+this machine. Then it searches a small tree with each hand-written detector, and with each of three faults: with a fault it
+has to miss nodes or not to end, which shows that the check can fail. With --quick all trees are small. Needs mpicc and
+mpirun of Open MPI (`tools/mpi-packages` prints the packages); if one is missing, says so, and with --quick that is no
+failure. The last line is `N passed, M failed`; the status is 1 if one failed.
 """
 import os
 import shutil
@@ -11,56 +12,72 @@ import subprocess
 import sys
 import tempfile
 
-from . import library, repository
-from .running import Tally, short
+from . import library, repository, running
+from .c_programs import output_of
+from .repository import TOP
+from .running import Tally
 
-COMPILE = ["mpicc", "-std=c11", "-Wall", "-Wextra", "-Werror", "-Wno-unused-function", "-O2", "-Icapi"]
+COMPILER = ["mpicc", "-std=c11", "-Wall", "-Wextra", "-Werror", "-Wno-unused-function", "-O2", "-Icapi"]
 LINK = ["-Llib", "-lgerfmuod", "-lm"]
-RUN = ["mpirun", "--oversubscribe", "--mca", "mpi_yield_when_idle", "1"]
+MPIRUN = ["mpirun", "--oversubscribe", "--mca", "mpi_yield_when_idle", "1"]
 ROOT = {"OMPI_ALLOW_RUN_AS_ROOT": "1", "OMPI_ALLOW_RUN_AS_ROOT_CONFIRM": "1"}
-WRONG = ["late", "early", "uncounted"]
+# the faults that uts_mpi.c has as an argument
+FAULTS = ["late", "early", "uncounted"]
+# the hand-written detectors, with which `tools/dev bench processes` compares the proved one
+PEERS = ["hand", "safra", "reductions"]
 SEEDS = 5
 
 
 def missing():
-    """The commands that are not on this machine."""
+    """Returns the commands that are not installed, as a text."""
     return " and ".join(name for name in ("mpicc", "mpirun") if not shutil.which(name))
 
 
-def search(program, processes, words, seconds):
-    """Runs a search; mpirun ends it after so many seconds."""
-    command = [*RUN, "--timeout", str(seconds), "-n", str(processes), program, *words]
-    return subprocess.run(command, stdout=subprocess.PIPE, stderr=subprocess.STDOUT, env={**os.environ, **ROOT})
+def command_of(program, processes, arguments, seconds):
+    """Returns the command that runs a program with this number of processes; mpirun ends it after these seconds."""
+    return [*MPIRUN, "--timeout", str(seconds), "-n", str(processes), program, *arguments]
 
 
-def is_found_out(program, wrong):
-    """The wrong program misses nodes, or does not end, with one of a few seeds."""
-    return any(search(program, 4, ["T0", "proved", wrong, str(seed)], 5).returncode for seed in range(1, SEEDS + 1))
+def environment():
+    return {**os.environ, **ROOT}
 
 
-def compiled(name, folder):
-    command = [*COMPILE, f"capi/mpi/{name}.c", "-o", f"{folder}/{name}", *LINK]
-    made = subprocess.run(command, stdout=subprocess.PIPE, stderr=subprocess.STDOUT)
-    if made.returncode:
-        raise SystemExit(f"{' '.join(command)}: {short(made.stdout, 2000)}")
+def search(program, processes, arguments, seconds):
+    """Runs a search, with its standard error in its output."""
+    command = command_of(program, processes, arguments, seconds)
+    return running.run(command, stderr=subprocess.STDOUT, env=environment())
+
+
+def is_detected(program, fault):
+    """Whether the program with this fault misses nodes, or does not end, with one of a few seeds."""
+    return any(search(program, 4, ["T0", "proved", fault, str(seed)], 5).status for seed in range(1, SEEDS + 1))
+
+
+def compile_program(name, folder):
+    """Links capi/mpi/NAME.c with the library; returns its path in the folder."""
+    output_of([*COMPILER, f"capi/mpi/{name}.c", "-o", f"{folder}/{name}", *LINK], cwd=TOP)
     return f"{folder}/{name}"
 
 
 def run_programs(tally, folder, trees, counts):
-    program = compiled("uts_mpi", folder)
-    compiled("latency", folder)
+    """Searches these trees with each number of processes, and a small tree with each detector and each fault."""
+    program = compile_program("uts_mpi", folder)
+    compile_program("latency", folder)
     for tree in trees:
         for processes in counts:
-            ran = search(program, processes, [tree], 300)
-            print(ran.stdout.decode(errors="replace").strip(), flush=True)
-            tally.judge(not ran.returncode, f"{tree} with {processes} processes: status {ran.returncode}")
-    for wrong in WRONG:
-        tally.judge(is_found_out(program, wrong), f"the wrong program {wrong} passed with each of {SEEDS} seeds")
+            result = search(program, processes, [tree], 300)
+            print(result.out.decode(errors="replace").strip(), flush=True)
+            tally.judge(not result.status, f"{tree} with {processes} processes: status {result.status}")
+    for peer in PEERS:
+        result = search(program, 4, ["T0", peer], 60)
+        tally.judge(not result.status, f"T0 with the detector {peer}: status {result.status}")
+    for fault in FAULTS:
+        tally.judge(is_detected(program, fault), f"the program with the fault {fault} passed with each of {SEEDS} seeds")
 
 
 def run_quick(tally, folder):
     if missing():
-        print(f"{missing()}: not here, so no program of capi/mpi was run. tools/mpi-packages prints the packages")
+        print(f"{missing()}: not installed, so no program of capi/mpi was run. tools/mpi-packages prints the packages")
         return
     run_programs(tally, folder, ["T0"], [1, 2, 4])
 
@@ -69,14 +86,14 @@ def arguments(parser):
     parser.add_argument("--quick", action="store_true", help="a small tree, with 1, 2 and 4 processes")
 
 
-def run(words):
+def run(options):
     repository.go_to_top()
-    wrong = library.is_built() or (missing() and f"{missing()}: not here")
-    if wrong and not (words.quick and missing()):
-        sys.exit(f"{wrong}: make lib builds the library, tools/mpi-packages prints the packages")
+    reason = library.reason_not_built() or (missing() and f"{missing()}: not installed")
+    if reason and not (options.quick and missing()):
+        sys.exit(f"{reason}: make lib builds the library, tools/mpi-packages prints the packages")
     tally = Tally()
     with tempfile.TemporaryDirectory() as folder:
-        if words.quick:
+        if options.quick:
             run_quick(tally, folder)
         else:
             run_programs(tally, folder, ["T1", "T3"], [1, 2, 4, 8, 16])

@@ -155,13 +155,13 @@ def parse(path, text):
     return MutantFile(tuple(parser.mutants), parser.killers, parser.notes)
 
 
-@functools.cache
+@functools.lru_cache(maxsize=None)
 def file_of(crate):
     """Returns a crate's file `mutants`; an empty one if it has none."""
     return parse(path_of(crate), text_of(path_of(crate), ""))
 
 
-@functools.cache
+@functools.lru_cache(maxsize=None)
 def mutants_of(crate):
     """Returns all mutants of a crate by name: first those of the gate, then the others in the order of their file."""
     folder = f"crates/{crate}/must-fail"
@@ -175,7 +175,7 @@ def mutants_of(crate):
     return dict(zip(names, mutants))
 
 
-@functools.cache
+@functools.lru_cache(maxsize=None)
 def source(path):
     return text_of(path, "")
 

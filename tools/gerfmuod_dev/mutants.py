@@ -2,10 +2,10 @@
 
 Without a name, tries those of the crates that changed since their mutants were last tried. The gate tries those of
 crates/NAME/must-fail; all others are in crates/NAME/mutants, which also has what killed each mutant of the crate. The
-verdicts are current as long as the crate's own files, its mutants and the definitions (specs/) of the crates directly
-below it say the same: comments and line breaks do not count. A verdict by another toolchain is no reason to try anew;
---stale prints which crates have one. Mutants of different functions are tried in one check, and those that it does not
-kill each in a check of its own. Prints a line for each crate that is proved before, for each mutant, and for each crate.
+verdicts are current as long as the crate's own files, its mutants, and the definitions of lower crates that it can see
+by its imports say the same: comments and line breaks do not count. A verdict by another toolchain is no reason to try
+anew; --stale prints which crates have one. Mutants of different functions are tried in one check, and those that it does
+not kill each in a check of its own. Prints a line for each crate that is proved before, for each mutant, and for each crate.
 The status is 1 if a mutant survives, or, with --stale, if verdicts are not current or a mutant cannot be applied.
 """
 import datetime
@@ -17,7 +17,7 @@ import shutil
 import subprocess
 from concurrent.futures import ThreadPoolExecutor
 
-from . import mutant_files, repository, together
+from . import mutant_files, repository, together, visible
 from .build import prove_all, renew
 from .mutant_files import Fault, mutants_of
 from .repository import files_in, text_of
@@ -35,30 +35,47 @@ MOST_MUTANTS, MOST_CRATES = 60, 14
 ALIVE = re.compile(r"NOT REFUSED|NOT TRIED|BAD EDIT|\(only because|\(only by a limit")
 
 
-@functools.cache
+@functools.lru_cache(maxsize=None)
 def toolchain():
     return subprocess.run(["rt", "version"], stdout=subprocess.PIPE, text=True, check=True).stdout.strip()
 
 
-@functools.cache
-def meaning_of(path):
-    """Returns the text of a file without its comments, blanks and line breaks."""
-    text = IMPORT.sub(lambda use: "".join(f"use {use[1]} {name}\n" for name in use[2].split(",")), text_of(path))
+def meaning(text):
+    """Returns a text without its comments, blanks and line breaks."""
+    text = IMPORT.sub(lambda use: "".join(f"use {use[1]} {name}\n" for name in use[2].split(",")), text)
     parts = " ".join(part for part in PART.findall(text) if not part.startswith(("//", "--")))
     # (the layout adds a last comma or semicolon, and a first bar, if a list is on several lines)
     return re.sub(r"[,;] (?=[)}\]])|(?<=\[ )\| ", "", parts)
 
 
-def digest(crate):
-    """Returns a hash of all that the verdicts on a crate's mutants depend on. Neither the verdicts themselves nor whether the gate
-    tries a mutant is part of it."""
+@functools.lru_cache(maxsize=None)
+def meaning_of(path):
+    return meaning(text_of(path))
+
+
+@functools.lru_cache(maxsize=None)
+def meaning_seen(part):
+    return meaning(visible.text_of_part(part))
+
+
+def own_files(crate):
+    return [path for part in ("src", "specs", "proofs") for path in files_in(f"crates/{crate.name}/{part}")]
+
+
+def hash_of(crate, texts):
+    """Returns a hash of texts, given as pairs of a name and a text, and of a crate's mutants."""
     result = hashlib.sha256()
-    folders = [f"crates/{crate.name}/{part}" for part in ("src", "specs", "proofs")] + [f"crates/{name}/specs" for name in crate.below]
-    for path in [path for folder in folders for path in files_in(folder)]:
-        result.update(f"{path}\n{meaning_of(path)}\n".encode())
-    for name, mutant in sorted(mutants_of(crate.name).items()):
-        result.update(f"{name}\n{mutant.text}\n".encode())
+    for name, text in [*texts, *((name, mutant.text) for name, mutant in sorted(mutants_of(crate.name).items()))]:
+        result.update(f"{name}\n{text}\n".encode())
     return result.hexdigest()
+
+
+def digest(crate):
+    """Returns a hash of all that the verdicts on a crate's mutants depend on: its own files, its mutants, and the definitions of lower
+    crates that it can see. Neither the verdicts themselves nor whether the gate tries a mutant is part of it."""
+    own = [(path, meaning_of(path)) for path in own_files(crate)]
+    seen = [(f"{part.kind} {part.path} {part.name}", meaning_seen(part)) for part in visible.definitions_seen(crate.name)]
+    return hash_of(crate, own + seen)
 
 
 def note_of(crate, word):
@@ -133,9 +150,9 @@ def try_alone(crate, names, lanes, _, room):
     return messages
 
 
-def try_together(crate, group, kept, room):
+def try_together(crate, group, proved, room):
     """Tries mutants of a crate in one check; returns the prover's message for each that it killed in the function that was changed."""
-    messages = together.try_group(crate.name, room, kept, group)
+    messages = together.try_group(crate.name, room, proved, group)
     for name, message in messages.items():
         report(crate.name, name, message)
     return messages
@@ -165,21 +182,21 @@ def groups_in(crate):
 def try_all(crates, top, copies):
     """Tries the mutants of crates that are proved in these copies, the longest crate first; returns whether each was killed. Those of
     different functions are tried in one check, and then those that survived it each in a check of its own."""
-    kept, messages = {crate.name: f"{top}/kept/{crate.name}" for crate in crates}, {crate.name: {} for crate in crates}
+    proved, messages = {crate.name: f"{top}/kept/{crate.name}" for crate in crates}, {crate.name: {} for crate in crates}
     places = {(crate.name, room): f"{room}/crates/{crate.name}/out/incremental" for crate in crates for room in copies}
-    for name, place in kept.items():
+    for name, place in proved.items():
         found = [places[name, room] for room in copies if os.path.exists(places[name, room])]
         renew(max(found, key=os.path.getmtime), place)
 
     def run_jobs(jobs):
-        results = in_copies(copies, [functools.partial(action, crate, *rest, kept[crate.name]) for action, crate, *rest in jobs])
+        results = in_copies(copies, [functools.partial(action, crate, *rest, proved[crate.name]) for action, crate, *rest in jobs])
         for (_, crate, *_), result in zip(jobs, results):
             messages[crate.name].update(result)
 
     run_jobs([(try_together, crate, group) for crate in sorted(crates, key=lambda crate: -crate.lines) for group in groups_in(crate)])
     left = {crate: [name for name in mutants_of(crate.name) if name not in messages[crate.name]] for crate in crates}
     for (name, _), place in places.items():
-        renew(kept[name], place)
+        renew(proved[name], place)
     lanes = max(1, len(copies) // max(1, sum(map(bool, left.values()))))
     run_jobs([(try_alone, crate, names, lanes) for crate, names in left.items() if names])
     return all([record(crate, messages[crate.name]) for crate in crates])
@@ -275,9 +292,9 @@ def try_mutants(crates):
 def run(options):
     repository.go_to_top()
     crates = repository.crates()
-    if options.stale:
-        return 0 if print_stale(crates) else 1
     try:
+        if options.stale:
+            return 0 if print_stale(crates) else 1
         having = {name: crate for name, crate in crates.items() if mutants_of(name)}
         wanted = list(dict.fromkeys(options.redigest or options.names))
         names = wanted or [name for name, crate in having.items() if options.all or not is_current(crate)]

@@ -1,4 +1,4 @@
-"""Makes a folder with a pool of a user's own, which runs before anything in it is proved.
+"""Creates a folder with a pool of your own, which runs before anything in it is proved.
 
 FOLDER gets the crate NAME, a program with a graph in it that runs this graph by threads and prints the results, and the
 crates of this repository that NAME is built on, without their mutants. With `--like chain` NAME is a copy of the crate
@@ -6,7 +6,7 @@ chain, a chain of tasks that add; with `--like rod` it is a copy of the rod of p
 program of tools/data/rod_run. A NAME is lowercase letters, digits and _, and no crate of this repository or of the
 toolchain has it. docs/RUNNING-A-POOL.md describes the next steps.
 
-Prints what to type next. The status is 1 if nothing was made, because the folder is not empty or the name is not free.
+Prints what to type next. The status is 1 if nothing was created, because the folder is not empty or the name is not free.
 """
 import os
 import re
@@ -39,32 +39,32 @@ TEMPLATE = ".text"
 
 
 def libraries():
-    """The names of the toolchain's libraries."""
+    """Returns the names of the toolchain's libraries."""
     toolchain = os.path.dirname(os.path.dirname(os.path.realpath(shutil.which("rt"))))
-    return {it.split(".")[0] for it in os.listdir(f"{toolchain}/rlibs")}
+    return {name.split(".")[0] for name in os.listdir(f"{toolchain}/rlibs")}
 
 
 def lines_of_crates():
-    """The lines of crates.txt, by the name of the crate."""
+    """Returns the lines of crates.txt, by the name of the crate."""
     rows = [re.match(r"([a-z]\w*)[^:]*:.*", line) for line in text_of("crates.txt").splitlines()]
     return {row[1]: row[0] for row in rows if row}
 
 
 def is_empty(folder):
-    """Whether it is a folder with nothing in it."""
+    """Whether this is a folder with nothing in it."""
     return os.path.isdir(folder) and not os.listdir(folder)
 
 
 def fault_of(folder, name):
-    """Why no such pool can be made; an empty text if it can."""
+    """Returns why such a pool cannot be created; an empty text if it can."""
     if not shutil.which("rt"):
         return "rt is not on the path"
     if os.path.lexists(folder) and not is_empty(folder):
-        return f"{folder} is there already, and is no empty folder"
+        return f"{folder} exists, and is not an empty folder"
     if not re.fullmatch(r"[a-z][a-z0-9_]*", name) or name in KEYWORDS:
-        return f"{name} is no name of a crate: lowercase letters, digits and _, a letter first, no word of the language"
-    for taken, owner in (lines_of_crates(), "this repository"), (libraries(), "the toolchain"):
-        if name in taken:
+        return f"{name} is no name of a crate: lowercase letters, digits and _, a letter first, no keyword"
+    for names, owner in (lines_of_crates(), "this repository"), (libraries(), "the toolchain"):
+        if name in names:
             return f"{name} is the name of a crate of {owner}"
     return ""
 
@@ -98,44 +98,42 @@ def copy(kind, target):
             shutil.copy2(path, f"{target}/{part}")
 
 
-def make(folder, name, kind):
-    """Makes the folder; returns the number of crates that NAME is built on."""
+def create(folder, name, kind):
+    """Creates the folder; returns the number of crates that NAME is built on."""
     source = KINDS[kind][0]
     lines = lines_of_crates()
     line = name + BELOW.get(kind, lines[source][len(source):])
-    below = [it for it in line.split(":")[1].split() if it in lines]
-    along = repository.crates(below)
+    lower = repository.crates([crate for crate in line.split(":")[1].split() if crate in lines])
     os.makedirs(f"{folder}/crates")
-    for crate in along:
+    for crate in lower:
         shutil.copytree(f"crates/{crate}", f"{folder}/crates/{crate}", ignore=NOT_COPIED)
     copy(kind, f"{folder}/crates/{name}")
     rename(f"{folder}/crates/{name}", source, name)
     with open(f"{folder}/crates.txt", "w", encoding="utf-8") as out:
         out.write("# NAME: the crates that it is built on\n")
-        out.writelines(row + "\n" for row in (*(lines[crate] for crate in along), "", line))
+        out.writelines(row + "\n" for row in (*(lines[crate] for crate in lower), "", line))
     for file in "HANDLES", ".gitignore":
         shutil.copy2(file, f"{folder}/{file}")
     subprocess.run(["rt", "fmt"], cwd=f"{folder}/crates/{name}", stdout=subprocess.DEVNULL, check=True)
-    return len(along)
+    return len(lower)
 
 
 def arguments(parser):
-    parser.add_argument("folder", metavar="FOLDER", help="the folder to make; it is not there yet, or empty")
+    parser.add_argument("folder", metavar="FOLDER", help="the folder to create; it does not exist yet, or is empty")
     parser.add_argument("name", metavar="NAME", help="the name of the new crate")
-    explained = "what the crate is a copy of (chain by default)"
-    parser.add_argument("--like", choices=sorted(KINDS), default="chain", help=explained)
+    parser.add_argument("--like", choices=sorted(KINDS), default="chain", help="what the crate is a copy of (chain by default)")
 
 
-def run(words):
-    folder = os.path.abspath(words.folder)
+def run(options):
+    folder = os.path.abspath(options.folder)
     repository.go_to_top()
-    fault = fault_of(folder, words.name)
+    fault = fault_of(folder, options.name)
     if fault:
-        print(f"{fault}: nothing was made")
+        print(f"{fault}: nothing was created")
         return 1
-    along = make(folder, words.name, words.like)
-    print(f"Made {folder}: the crate {words.name}, and {along} crates that it is built on.")
+    count = create(folder, options.name, options.like)
+    print(f"Created {folder}: the crate {options.name}, and {count} crates that it is built on.")
     print("To run it, unproved:")
-    print(f"  cd {folder}/crates/{words.name} && rt try")
+    print(f"  cd {folder}/crates/{options.name} && rt try")
     print(f"What comes next: {os.path.abspath('docs/RUNNING-A-POOL.md')}, from \"Run it\" on.")
     return 0

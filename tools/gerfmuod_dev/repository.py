@@ -1,13 +1,13 @@
-"""The repository: where it stands, what its crates.txt says, and how many checks may run beside each other."""
+"""The repository: its folder, the crates of crates.txt, and how many processes may run at the same time."""
 import functools
 import os
 import re
 
 TOP = os.path.dirname(os.path.dirname(os.path.dirname(os.path.realpath(__file__))))
-# KB that a check of the prover takes, and what building the whole program unproved takes, with room to spare
+# KB that a check of the prover needs, and that an unproved build of the whole program needs, with a margin
 MEMORY_OF_A_CHECK = 4_000_000
 MEMORY_OF_A_TRIAL = 2_500_000
-# beside what a crate is written in: what is made, what must not be proved, what a program reads
+# the folders of a crate that have no source: what is built, mutants, and what a program reads
 NO_SOURCES = ("out", "must-fail", "data")
 
 
@@ -16,7 +16,7 @@ def go_to_top():
 
 
 def text_of(path, otherwise=None):
-    """The text of a file; where there is none, the other text, if one is given."""
+    """Returns the text of a file; if it does not exist, the other text, if one is given."""
     try:
         with open(path, encoding="utf-8") as text:
             return text.read()
@@ -27,7 +27,7 @@ def text_of(path, otherwise=None):
 
 
 def files_in(folder):
-    return sorted(f"{at}/{name}" for at, _, names in os.walk(folder) for name in names)
+    return sorted(f"{path}/{name}" for path, _, names in os.walk(folder) for name in names)
 
 
 class Crate:
@@ -38,11 +38,11 @@ class Crate:
 
     @functools.cached_property
     def lines(self):
-        """How many lines of code, definitions and proofs it has."""
+        """The number of its lines of code, definitions and proofs."""
         count = 0
-        for at, folders, files in os.walk(f"{TOP}/crates/{self.name}"):
-            folders[:] = [it for it in folders if it not in NO_SOURCES]
-            count += sum(text_of(f"{at}/{it}").count("\n") for it in files if it.endswith((".rt", ".antt")))
+        for path, folders, files in os.walk(f"{TOP}/crates/{self.name}"):
+            folders[:] = [name for name in folders if name not in NO_SOURCES]
+            count += sum(text_of(f"{path}/{name}").count("\n") for name in files if name.endswith((".rt", ".antt")))
         return count
 
     @property
@@ -51,17 +51,23 @@ class Crate:
 
 
 def crates(names=None):
-    """These crates, or all where no names are given, and each crate below them by its name, the lowest first."""
+    """Returns these crates, or all by default, and each crate below them, by name and the lowest first."""
     rows = [re.match(r"([a-z]\w*)[^:]*:(.*)", line) for line in text_of(f"{TOP}/crates.txt").splitlines()]
     below = {row[1]: row[2].split() for row in rows if row}
-    below = {name: [it for it in needs if it in below] for name, needs in below.items()}
-    wanted, left = set(), list(below if names is None else names)
+    below = {name: [lower for lower in needs if lower in below] for name, needs in below.items()}
+    found, left = set(), list(below if names is None else names)
     while left:
         name = left.pop()
-        if name not in wanted:
-            wanted.add(name)
+        if name not in found:
+            found.add(name)
             left += below[name]
-    return {name: Crate(name, needs) for name, needs in below.items() if name in wanted}
+    return {name: Crate(name, needs) for name, needs in below.items() if name in found}
+
+
+def groups():
+    """Returns the groups of crates.txt in order: the comment above each, and the names of its crates."""
+    parts = re.findall(r"^# (.*)\n((?:[a-z]\w*[^:\n]*:.*\n?)+)", text_of(f"{TOP}/crates.txt"), re.M)
+    return [(title, re.findall(r"^(\w+)", rows, re.M)) for title, rows in parts]
 
 
 def processors():
@@ -69,6 +75,6 @@ def processors():
 
 
 def lanes(memory):
-    """How many processes may run beside each other: one a processor, as long as each has so many KB of memory."""
+    """Returns how many processes may run at the same time: one for each processor, if each has this many KB of memory."""
     free = int(re.search(r"MemAvailable:\s+(\d+)", text_of("/proc/meminfo"))[1])
     return max(1, min(processors(), free // memory))

@@ -1,4 +1,4 @@
-"""Copies of the repository in which crates are proved beside each other. What was proved there stays for the next time."""
+"""Copies of the repository in which crates are proved at the same time. What was proved there is kept for the next time."""
 import contextlib
 import fcntl
 import hashlib
@@ -9,8 +9,8 @@ import tempfile
 from . import repository
 
 
-def copy_to(room):
-    """Brings the copy's sources up to date; what was proved there stays."""
+def update(room):
+    """Brings the sources of a copy up to date, and keeps what was proved there."""
     os.makedirs(f"{room}/crates", exist_ok=True)
     for name in ("crates.txt", "HANDLES"):
         shutil.copy2(name, f"{room}/{name}")
@@ -24,12 +24,12 @@ def copy_to(room):
 
 @contextlib.contextmanager
 def rooms():
-    """Gives the folder of this checkout's copies, and a copy for each processor. One command at a time works in them."""
+    """Yields the folder of this checkout's copies, and a copy for each processor. One command at a time may use them."""
     top = f"{tempfile.gettempdir()}/gerfmuod-{os.getuid()}-{hashlib.sha256(os.getcwd().encode()).hexdigest()[:12]}"
     os.makedirs(top, mode=0o700, exist_ok=True)
     with open(f"{top}/lock", "w", encoding="utf-8") as lock:
         fcntl.flock(lock, fcntl.LOCK_EX)
-        found = [f"{top}/{at}" for at in range(repository.lanes(repository.MEMORY_OF_A_CHECK))]
-        for room in found:
-            copy_to(room)
-        yield top, found
+        copies = [f"{top}/{number}" for number in range(repository.lanes(repository.MEMORY_OF_A_CHECK))]
+        for copy in copies:
+            update(copy)
+        yield top, copies

@@ -33,27 +33,37 @@ class Body:
     text: str
 
 
+@dataclass(frozen=True, order=True)
+class Edit:
+    """A change of a text: where the old text begins, the old text, and the new one."""
+
+    start: int
+    old: str
+    new: str
+
+
 @dataclass(frozen=True)
 class PlacedMutant:
-    """A mutant of one function. Each change is where the old text begins, the old text, and the new one."""
+    """A mutant of one function: its name, the function, and its edits."""
 
     name: str
     body: Body
-    changes: tuple
+    edits: tuple
 
 
 def bodies_in(file, text):
     """Returns the bodies of the functions of a file that has the layout of `rt fmt`."""
     lines, found = text.split("\n"), []
-    for at, line in enumerate(lines):
+    for number, line in enumerate(lines):
         head = HEAD.match(line)
         if not head or line.endswith(("}", ";")):
             continue
-        last = next((row for row in range(at, len(lines)) if lines[row] == f"{head[1]}}}"), None)
+        last = next((row for row in range(number, len(lines)) if lines[row] == f"{head[1]}}}"), None)
         if last is None:
             continue
-        first = next((row for row in range(at, last) if lines[row] == f"{head[1]}{{"), at if line.endswith("{") else last)
-        found.append(Body(file, head[2], at, first + 1, last - 1, "\n".join(lines[at + 1 : last])))
+        opening = number if line.endswith("{") else last
+        first = next((row for row in range(number, last) if lines[row] == f"{head[1]}{{"), opening)
+        found.append(Body(file, head[2], number, first + 1, last - 1, "\n".join(lines[number + 1 : last])))
     return found
 
 
@@ -65,10 +75,10 @@ def place(mutant, crate):
     text = text_of(f"crates/{crate}/{file}", "")
     if not all(text.count(change.old) == 1 for change in mutant.changes):
         return None
-    changes = tuple((text.index(change.old), change.old, change.new) for change in mutant.changes)
-    lines = [text.count("\n", 0, at) for at, *_ in changes]
+    edits = tuple(Edit(text.index(change.old), change.old, change.new) for change in mutant.changes)
+    lines = [text.count("\n", 0, edit.start) for edit in edits]
     inside = [body for body in bodies_in(file, text) if all(body.first <= line <= body.last for line in lines)]
-    return PlacedMutant(mutant.name, inside[-1], changes) if inside else None
+    return PlacedMutant(mutant.name, inside[-1], edits) if inside else None
 
 
 def are_apart(one, other):
@@ -90,10 +100,10 @@ def groups_of(mutants):
     return groups
 
 
-def edited(text, changes):
-    """Returns a text with its changes."""
-    for at, old, new in sorted(changes, reverse=True):
-        text = text[:at] + new + text[at + len(old) :]
+def edited(text, edits):
+    """Returns a text with these edits."""
+    for edit in sorted(edits, reverse=True):
+        text = text[: edit.start] + edit.new + text[edit.start + len(edit.old) :]
     return text
 
 
@@ -103,8 +113,8 @@ def changed(folder, group):
     originals = {file: text_of(f"{folder}/{file}") for file in {mutant.body.file for mutant in group}}
     try:
         for file, text in originals.items():
-            changes = [change for mutant in group if mutant.body.file == file for change in mutant.changes]
-            write(f"{folder}/{file}", edited(text, changes))
+            edits = [edit for mutant in group if mutant.body.file == file for edit in mutant.edits]
+            write(f"{folder}/{file}", edited(text, edits))
         yield
     finally:
         for file, text in originals.items():
@@ -125,11 +135,11 @@ def is_in(error, mutant):
     return file.startswith("proofs/") and file.split("/")[-2] == mutant.body.name
 
 
-def try_group(crate, room, kept, group):
-    """Checks a crate with all mutants of a group, in a copy in which it was proved; returns, for each mutant that the prover refuses
-    in its own function, the first error there."""
+def try_group(crate, room, proved, group):
+    """Checks a crate with all mutants of a group, in a copy; returns, for each mutant that the prover refuses in its own function, the
+    first error there. `proved` is what the check of the crate without mutants left."""
     folder = f"{room}/crates/{crate}"
-    renew(kept, f"{folder}/out/incremental")
+    renew(proved, f"{folder}/out/incremental")
     with changed(folder, group):
         streams = {"stdin": subprocess.DEVNULL, "stdout": subprocess.PIPE, "stderr": subprocess.STDOUT}
         result = subprocess.run(["rt", "check", "--jobs", "1"], cwd=folder, text=True, errors="replace", **streams)

@@ -1,4 +1,4 @@
--- The tasks of the chain make the sums.
+-- The tasks of the chain compute the sums.
 use Rattle.std.proofs.Common.{◌≡◌, ◌<◌, ◌+◌, ◌-◌, ℕ, zero, suc, ℤ, pos, List, [], ◌∷◌, length, get_or, Some, refl, sym, ap, ◌∙◌, false}
 use Rattle.std.proofs.Common.{nat_eq, arith}
 use Rattle.std.proofs.lemmas.Bool.Decides.{nat_tests}
@@ -8,7 +8,7 @@ use Rattle.tp_graph.specs.Values.{value_of}
 use Rattle.chain.specs.Chains.{chain_graph, chain_lawful, number_and_input}
 use Rattle.chain.specs.Sums.{AreSums, sum_to}
 
--- what the rule makes of no input, and of one
+-- the result of the rule on no input, and on one
 of_none : (t : ℕ) (inputs : List (List ℤ)) (value : List ℤ) → length inputs ≡ 0 → number_and_input t inputs ≡ Some value
     → value ≡ pos t ∷ []
 of_none t [] value h e = sym (some_same e)
@@ -20,7 +20,7 @@ of_one t n [] value h i e = absurd (omega arith)
 of_one t n (a ∷ []) value h i e = some_same (sym e ∙ ap (λ x. number_and_input t (x ∷ [])) i)
 of_one t n (a ∷ (b ∷ rest)) value h i e = absurd (omega arith)
 
--- the value of a task, where it has one, is its sum: by induction on the task
+-- the value of a task, if it has one, is its sum: by induction on the task
 sum_is : (count t : ℕ) (value : List ℤ) → t < count → value_of (chain_graph count) t ≡ Some value → value ≡ pos (sum_to t) ∷ []
 sum_is count zero value h e =
     let made = inputs_of (chain_graph count) zero value (chain_lawful count) h e in

@@ -1,4 +1,4 @@
-//! A pool of a user's own: a chain of tasks, each of which adds its number to what it is handed.
+//! A pool of a user's own: a chain of tasks, each of which adds its number to its input.
 ghost use Rattle.std.specs.Prelude.{◌≡◌};
 ghost use Rattle.chain.specs.Chains.{chain_graph, chain_lawful};
 
@@ -6,10 +6,10 @@ use std::alloc::Global;
 use tp_base::{NodeId, Refusal, TaskId};
 use tp_graph::{Graph, Value};
 
-/// A chain of so many tasks. The value of a task is the sum of the numbers up to its own.
+/// A chain of `length` tasks. The value of a task is the sum of the numbers up to its own.
 #[derive(Clone, Copy)]
 pub struct Chain {
-    /// How many tasks there are.
+    /// The number of tasks.
     pub length: u32,
 }
 

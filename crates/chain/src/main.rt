@@ -34,8 +34,8 @@ fn main(rt: HostRuntime) -> io::Result<()> {
     }
 }
 
-/// The value of each task of a chain of so many, in rising order, worked out by a pool of threads: the sum of the numbers up to
-/// its own. Refused for what [`run_pool`] is refused for.
+/// Returns the value of each task of a chain of `length` tasks, in rising order, computed by a pool of threads: the sum
+/// of the numbers up to its own. Refused as [`run_pool`] is.
 fn run_chain<R: Threads + Wait + Sync>(
     rt: &R,
     alloc: Global,

@@ -1,3 +1,4 @@
+pub mod DagAnswers
 pub mod Ended
 pub mod Kept
 pub mod Recording

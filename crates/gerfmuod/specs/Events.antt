@@ -29,39 +29,25 @@ age g = record { 0 = g }
 abbrev pub insert_asked : ℕ → ℕ → ℕ → Option Step
 insert_asked i t k = if nat_le k 16 then Some (Insert (node i) (task t) (record { count = k })) else None
 
--- the steps of tasks and messages
-abbrev pub supply_of : ℕ → Step
-supply_of t = Supply (task t)
-
-abbrev pub begin_of : ℕ → Step
-begin_of t = Begin (task t)
-
-abbrev pub done_of : ℕ → Step
-done_of t = Done (task t)
-
-abbrev pub send_of : ℕ → ℕ → ℕ → ℕ → Step
-send_of i j m g = Send (node i) (node j) (message m) (age g)
-
-abbrev pub receive_of : ℕ → ℕ → ℕ → Step
-receive_of j m g = Recv (node j) (message m) (age g)
-
-abbrev pub message_end_of : ℕ → ℕ → ℕ → Step
-message_end_of j m g = MessageEnd (node j) (message m) (age g)
-
--- the steps that nodes make
-abbrev pub pool_step : Event → Option Step
-pool_step e =
+-- the steps of tasks, of a kind up to 3
+abbrev pub task_step : Event → Option Step
+task_step e =
     if e.kind == 0 then insert_asked e.first e.second e.third
-    else (if e.kind == 1 then Some (supply_of e.first)
-    else (if e.kind == 2 then Some (begin_of e.first)
-    else (if e.kind == 3 then Some (done_of e.first)
-    else (if e.kind == 4 then Some (ActionOpen (node e.first) (action e.second))
+    else (if e.kind == 1 then Some (Supply (task e.first))
+    else (if e.kind == 2 then Some (Begin (task e.first))
+    else (if e.kind == 3 then Some (Done (task e.first))
+    else None)))
+
+-- the other steps that nodes make
+abbrev pub node_step : Event → Option Step
+node_step e =
+    if e.kind == 4 then Some (ActionOpen (node e.first) (action e.second))
     else (if e.kind == 5 then Some (ActionClose (node e.first) (action e.second))
     else (if e.kind == 6 then Some (Ready (node e.first))
-    else (if e.kind == 7 then Some (send_of e.first e.second e.third e.generation)
-    else (if e.kind == 8 then Some (receive_of e.first e.second e.generation)
-    else (if e.kind == 9 then Some (message_end_of e.first e.second e.generation)
-    else None)))))))))
+    else (if e.kind == 7 then Some (Send (node e.first) (node e.second) (message e.third) (age e.generation))
+    else (if e.kind == 8 then Some (Recv (node e.first) (message e.second) (age e.generation))
+    else (if e.kind == 9 then Some (MessageEnd (node e.first) (message e.second) (age e.generation))
+    else None)))))
 
 -- the steps of the control waves, and the reopening
 abbrev pub control_step : Event → Option Step
@@ -74,9 +60,13 @@ control_step e =
     else (if e.kind == 15 then Some Reopen
     else None)))))
 
+-- the step of a kind above 3
+abbrev pub other_step : Event → Option Step
+other_step e = if nat_le e.kind 9 then node_step e else control_step e
+
 -- the step that C asks for
 abbrev pub step_asked : Event → Option Step
-step_asked e = if nat_le e.kind 9 then pool_step e else control_step e
+step_asked e = if nat_le e.kind 3 then task_step e else other_step e
 
 abbrev pub event_of : ℕ → ℕ → ℕ → ℕ → ℕ → Event
 event_of kind first second third generation =

@@ -1,4 +1,6 @@
 pub mod Asked
+pub mod Dag
+pub mod DagSlot
 pub mod Events
 pub mod Homes
 pub mod Meanings

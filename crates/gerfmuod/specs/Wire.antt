@@ -1,7 +1,7 @@
 -- Control messages, refusals and what to do next, as numbers.
-use Rattle.std.specs.Prelude.{ℕ, ◌==◌, if◌then◌else◌, List, codes, Option, Some, None, Result, Ok, Err}
-use Rattle.tp_process.specs.Calls.{take_refusal}
-use Rattle.tp_process.specs.Epochs.{of_epoch, took_in}
+use Rattle.std.specs.Prelude.{ℕ, ◌≡◌, ◌⊎◌, ◌==◌, if◌then◌else◌, List, codes, Option, Some, None, Result, Ok, Err}
+use Rattle.tp_process.specs.Calls.{receive_refusal, take_refusal}
+use Rattle.tp_process.specs.Epochs.{of_epoch, took_in, with_state}
 use Rattle.tp_process.specs.Opening.{checked, if_open, is_open, unopened}
 use Rattle.tp_process.specs.declared.control_message.Token.{Token}
 use Rattle.tp_process.specs.declared.control_message.Token.TheVariants.{Down, Up, Over}
@@ -10,6 +10,7 @@ use Rattle.tp_process.specs.declared.outcome.Next.{Next}
 use Rattle.tp_process.specs.declared.outcome.Next.TheVariants.{Send, Again, Ended, Nothing}
 use Rattle.tp_process.specs.declared.outcome.Refusal.{Refusal}
 use Rattle.tp_process.specs.declared.outcome.Refusal.TheVariants.{Inactive, Full, NotDue, NotYet, Late, NotEnded, NotOpen, NoProcess}
+use Rattle.tp_process.specs.State.{EpochState, ProcessState}
 use Rattle.tp_process.specs.declared.process.Process.{Process}
 use Rattle.gerfmuod.specs.declared.wire.WireMessage.{WireMessage}
 
@@ -32,44 +33,60 @@ message_of m =
     else (if m.token == 1 then Some (message_with m (Up m.sent m.received))
     else (if m.token == 2 then Some (message_with m Over) else None))
 
--- a refusal, or 0
+-- A refusal, or 0. Each is above 100: no result of `next` is one, and neither is a refusal of a core.
 abbrev pub refused_as : Option Refusal → ℕ
 refused_as None = 0
-refused_as (Some Inactive) = 1
-refused_as (Some Full) = 2
-refused_as (Some NotDue) = 3
-refused_as (Some NotYet) = 4
-refused_as (Some Late) = 5
-refused_as (Some NotEnded) = 6
-refused_as (Some NotOpen) = 7
-refused_as (Some NoProcess) = 8
+refused_as (Some Inactive) = 101
+refused_as (Some Full) = 102
+refused_as (Some NotDue) = 103
+refused_as (Some NotYet) = 104
+refused_as (Some Late) = 105
+refused_as (Some NotEnded) = 106
+refused_as (Some NotOpen) = 107
+refused_as (Some NoProcess) = 108
+
+-- the refusal by which a process that is not open, or whose state does not pass this test, refuses a call
+abbrev pub refused_by : (EpochState → Option Refusal) → ProcessState → ℕ
+refused_by test p = refused_as (checked p (test p.state))
+
+-- the refusal of a message of epoch e that is to be counted as received
+abbrev pub receipt_refused : ℕ → ProcessState → ℕ
+receipt_refused e p = refused_as (checked p (of_epoch e p (receive_refusal p.state)))
+
+-- what an event makes of a process, if it is open
+abbrev pub after_event : (EpochState → EpochState) → ProcessState → ProcessState
+after_event event p = if_open p (with_state p (event p.state))
 
 -- what a refusal of this number says
 abbrev pub process_meaning : ℕ → List ℕ
 process_meaning number =
     if number == 0 then codes "the call was not refused"
-    else (if number == 1 then codes "no piece of work is open at the process"
-    else (if number == 2 then codes "a number is at its limit"
-    else (if number == 3 then codes "the control message is for another process, of another wave, or was taken before"
-    else (if number == 4 then codes "it is of the next epoch: keep it until the process has reopened"
-    else (if number == 5 then codes "it is of an older epoch"
-    else (if number == 6 then codes "the end of this epoch is not known here"
-    else (if number == 7 then codes "the process is not open"
-    else (if number == 8 then codes "there is no process of this number"
-    else (if number == 9 then codes "there is no such control message"
+    else (if number == 101 then codes "no piece of work is open at the process"
+    else (if number == 102 then codes "a number is at its limit"
+    else (if number == 103 then codes "the control message is for another process, of another wave, or was taken before"
+    else (if number == 104 then codes "it is of a later epoch: keep it until the process has reopened"
+    else (if number == 105 then codes "it is of an older epoch"
+    else (if number == 106 then codes "the process has not learned of the end of this epoch, or has not notified all its children"
+    else (if number == 107 then codes "the process is not open"
+    else (if number == 108 then codes "the number of the process is not below the number of processes"
+    else (if number == 109 then codes "no control message has such a token"
     else codes "no call refuses with this number")))))))))
 
 -- what is in the storage after `new`
-abbrev pub stored : Result Process Refusal → Process
-stored (Ok p) = p
-stored (Err e) = unopened
+abbrev pub after_init : Result Process Refusal → Process
+after_init (Ok p) = p
+after_init (Err e) = unopened
 
--- No control message has such numbers: 9, behind the refusal of a process that is not open.
-abbrev pub taken_as : ℕ → Option ControlMessage → Process → ℕ
-taken_as e None p = if is_open p then 9 else 7
+-- a call that does not return 0 was refused, and left every byte as it was
+abbrev pub IsKept : ℕ → Process → Process → Type 0
+IsKept number old new = (number ≡ 0) ⊎ (new ≡ old)
+
+-- No control message has such numbers: 109, behind the refusal of a process that is not open.
+abbrev pub taken_as : ℕ → Option ControlMessage → ProcessState → ℕ
+taken_as e None p = if is_open p then 109 else 107
 taken_as e (Some l) p = refused_as (checked p (of_epoch e p (take_refusal l p.state)))
 
-abbrev pub after_taking : ℕ → Option ControlMessage → Process → Process
+abbrev pub after_taking : ℕ → Option ControlMessage → ProcessState → ProcessState
 after_taking e None p = p
 after_taking e (Some l) p = if_open p (took_in e l p)
 

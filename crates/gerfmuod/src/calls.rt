@@ -1,15 +1,15 @@
-ghost use Rattle.std.specs.Prelude.{◌≡◌, Some};
+ghost use Rattle.std.specs.Prelude.{◌≡◌};
 ghost use Rattle.gerfmuod.specs.Asked.{counters_at, unsettled, IsSettled, IsWhole};
-ghost use Rattle.gerfmuod.specs.Events.{begin_of, done_of, event_of, insert_asked, message_end_of, receive_of, send_of, supply_of};
+ghost use Rattle.gerfmuod.specs.Events.{event_of};
 ghost use Rattle.gerfmuod.specs.Opened.{can_be, opened, opening};
 ghost use Rattle.gerfmuod.specs.Pool.{TellsNoEarlyEnd};
 ghost use Rattle.gerfmuod.specs.Told.{reply_told, refusal_told, IsTold, IsToldOf};
 
 use crate::answer::{Answer, Counters, Settled, Whole};
-use crate::event::{Event, insert_step, step_of};
+use crate::event::{Event, step_of};
 use crate::pool::CoreRoom;
 use std::alloc::Global;
-use tp_base::{Generation, MAX_NODES, MAX_STEPS, MessageId, NodeId, Refusal, Step, TaskId};
+use tp_base::{MAX_NODES, MAX_STEPS, Refusal, Step};
 use tp_core::Reply;
 
 /// Whether there can be so many nodes.
@@ -126,83 +126,6 @@ pub(crate) fn answered(
         generation,
     };
     told(pool, step_of(event))
-}
-
-/// A fresh task waits at its home node for so many inputs.
-#[inline(always)]
-pub(crate) fn insert(pool: &mut CoreRoom, node: u32, task: u32, inputs: u32) -> Answer
-    ensures { IsTold pool.old (insert_asked node task inputs) result pool.new
-        × TellsNoEarlyEnd (result.told ≡ 3) result.number pool.new }
-{
-    told(pool, insert_step(node, task, inputs))
-}
-
-/// A waiting task gets one input.
-#[inline(always)]
-pub(crate) fn supply(pool: &mut CoreRoom, task: u32) -> Answer
-    ensures { IsTold pool.old (Some (supply_of task)) result pool.new
-        × TellsNoEarlyEnd (result.told ≡ 3) result.number pool.new }
-{
-    told(pool, Some(Step::Supply(TaskId(task))))
-}
-
-/// A ready task begins to run.
-#[inline(always)]
-pub(crate) fn begin(pool: &mut CoreRoom, task: u32) -> Answer
-    ensures { IsTold pool.old (Some (begin_of task)) result pool.new
-        × TellsNoEarlyEnd (result.told ≡ 3) result.number pool.new }
-{
-    told(pool, Some(Step::Begin(TaskId(task))))
-}
-
-/// A running task is done.
-#[inline(always)]
-pub(crate) fn done(pool: &mut CoreRoom, task: u32) -> Answer
-    ensures { IsTold pool.old (Some (done_of task)) result pool.new
-        × TellsNoEarlyEnd (result.told ≡ 3) result.number pool.new }
-{
-    told(pool, Some(Step::Done(TaskId(task))))
-}
-
-/// A node sends a message to another.
-#[inline(always)]
-pub(crate) fn send(pool: &mut CoreRoom, from: u32, to: u32, message: u32, generation: u32) -> Answer
-    ensures { IsTold pool.old (Some (send_of from to message generation)) result pool.new
-        × TellsNoEarlyEnd (result.told ≡ 3) result.number pool.new }
-{
-    told(
-        pool,
-        Some(Step::Send(
-            NodeId(from),
-            NodeId(to),
-            MessageId(message),
-            Generation(generation),
-        )),
-    )
-}
-
-/// A node receives a message, whose action opens.
-#[inline(always)]
-pub(crate) fn receive(pool: &mut CoreRoom, node: u32, message: u32, generation: u32) -> Answer
-    ensures { IsTold pool.old (Some (receive_of node message generation)) result pool.new
-        × TellsNoEarlyEnd (result.told ≡ 3) result.number pool.new }
-{
-    told(
-        pool,
-        Some(Step::Recv(NodeId(node), MessageId(message), Generation(generation))),
-    )
-}
-
-/// The action of a message closes.
-#[inline(always)]
-pub(crate) fn message_end(pool: &mut CoreRoom, node: u32, message: u32, generation: u32) -> Answer
-    ensures { IsTold pool.old (Some (message_end_of node message generation)) result pool.new
-        × TellsNoEarlyEnd (result.told ≡ 3) result.number pool.new }
-{
-    told(
-        pool,
-        Some(Step::MessageEnd(NodeId(node), MessageId(message), Generation(generation))),
-    )
 }
 
 /// The counters of a node.

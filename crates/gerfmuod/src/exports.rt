@@ -1,20 +1,17 @@
-ghost use Rattle.std.specs.Prelude.{◌≡◌, ◌≤◌, Some};
+ghost use Rattle.std.specs.Prelude.{◌≡◌, ◌≤◌};
 ghost use Rattle.std.specs.Borrow.{full_share, sem};
 ghost use Rattle.std.specs.Ptr.{lies_at, room_at};
 ghost use Rattle.tp_core.specs.Accepted.{Accepted};
 ghost use Rattle.gerfmuod.specs.contracts.pool.CoreRoom.{the_row as core_row};
 ghost use Rattle.gerfmuod.specs.Asked.{counters_at, IsSettled, IsWhole};
-ghost use Rattle.gerfmuod.specs.Events.{begin_of, done_of, event_of, insert_asked, message_end_of, receive_of, send_of, supply_of};
+ghost use Rattle.gerfmuod.specs.Events.{event_of};
 ghost use Rattle.gerfmuod.specs.Opened.{opened, opening};
 ghost use Rattle.gerfmuod.specs.Pool.{TellsNoEarlyEnd};
-ghost use Rattle.gerfmuod.specs.Told.{IsTold, IsToldOf};
+ghost use Rattle.gerfmuod.specs.Told.{IsToldOf};
 ghost use Rattle.gerfmuod.specs.Written.{IsTraced};
 
 use crate::answer::{Answer, Counters, Settled, Whole, Written};
-use crate::calls::{
-    answered, begin, counted, done, insert, made, message_end, opening, receive, seen, send,
-    settled, supply,
-};
+use crate::calls::{answered, counted, made, opening, seen, settled};
 use crate::history::traced;
 use crate::pool::CoreRoom;
 use std::alloc::Global;
@@ -76,110 +73,6 @@ pub unsafe extern "C" fn gerfmuod_step(
         third,
         generation,
     )
-}
-
-/// A fresh task waits at its home node for so many inputs, 0 to 16; it is ready where there are none. Refused for the first
-/// that holds: `BadSpec`, `NoNode`, `TaskKnown`, `Inactive`, `HistoryFull`, `NoMemory`.
-#[unsafe(no_mangle)]
-pub unsafe extern "C" fn gerfmuod_insert(core: *mut u8, node: u32, task: u32, inputs: u32) -> Answer
-    ghost old: { Accepted }
-    requires* { sem 𝓛 (lies_at core_row full_share core old) }
-    ensures* { ∃ₛ (λ (new : Accepted). sem 𝓛 (lies_at core_row full_share core new)
-        ∗ ⌜ IsTold old (insert_asked node task inputs) result new
-        × TellsNoEarlyEnd (result.told ≡ 3) result.number new ⌝) }
-{
-    insert(&mut *(core as *mut CoreRoom), node, task, inputs)
-}
-
-/// A waiting task gets one input. Refused for the first that holds: `NoTask`, `WrongLife`, `HistoryFull`, `NoMemory`.
-#[unsafe(no_mangle)]
-pub unsafe extern "C" fn gerfmuod_supply(core: *mut u8, task: u32) -> Answer
-    ghost old: { Accepted }
-    requires* { sem 𝓛 (lies_at core_row full_share core old) }
-    ensures* { ∃ₛ (λ (new : Accepted). sem 𝓛 (lies_at core_row full_share core new)
-        ∗ ⌜ IsTold old (Some (supply_of task)) result new
-        × TellsNoEarlyEnd (result.told ≡ 3) result.number new ⌝) }
-{
-    supply(&mut *(core as *mut CoreRoom), task)
-}
-
-/// A ready task begins to run. Refused for the first that holds: `NoTask`, `WrongLife`, `HistoryFull`, `NoMemory`.
-#[unsafe(no_mangle)]
-pub unsafe extern "C" fn gerfmuod_begin(core: *mut u8, task: u32) -> Answer
-    ghost old: { Accepted }
-    requires* { sem 𝓛 (lies_at core_row full_share core old) }
-    ensures* { ∃ₛ (λ (new : Accepted). sem 𝓛 (lies_at core_row full_share core new)
-        ∗ ⌜ IsTold old (Some (begin_of task)) result new
-        × TellsNoEarlyEnd (result.told ≡ 3) result.number new ⌝) }
-{
-    begin(&mut *(core as *mut CoreRoom), task)
-}
-
-/// A running task is done. Refused for the first that holds: `NoTask`, `WrongLife`, `HistoryFull`, `NoMemory`.
-#[unsafe(no_mangle)]
-pub unsafe extern "C" fn gerfmuod_done(core: *mut u8, task: u32) -> Answer
-    ghost old: { Accepted }
-    requires* { sem 𝓛 (lies_at core_row full_share core old) }
-    ensures* { ∃ₛ (λ (new : Accepted). sem 𝓛 (lies_at core_row full_share core new)
-        ∗ ⌜ IsTold old (Some (done_of task)) result new
-        × TellsNoEarlyEnd (result.told ≡ 3) result.number new ⌝) }
-{
-    done(&mut *(core as *mut CoreRoom), task)
-}
-
-/// A node that is active sends a message to another. Refused for the first that holds: `NoNode`, `Stranger`, `SameNode`,
-/// `MessageKnown`, `Inactive`, `HistoryFull`, `NoMemory`.
-#[unsafe(no_mangle)]
-pub unsafe extern "C" fn gerfmuod_send(
-    core: *mut u8,
-    from: u32,
-    to: u32,
-    message: u32,
-    generation: u32,
-) -> Answer
-    ghost old: { Accepted }
-    requires* { sem 𝓛 (lies_at core_row full_share core old) }
-    ensures* { ∃ₛ (λ (new : Accepted). sem 𝓛 (lies_at core_row full_share core new)
-        ∗ ⌜ IsTold old (Some (send_of from to message generation)) result new
-        × TellsNoEarlyEnd (result.told ≡ 3) result.number new ⌝) }
-{
-    send(&mut *(core as *mut CoreRoom), from, to, message, generation)
-}
-
-/// A node receives a message, whose action opens. Refused for the first that holds: `NoNode`, `Stranger`, `NoMessage`,
-/// `HistoryFull`, `NoMemory`.
-#[unsafe(no_mangle)]
-pub unsafe extern "C" fn gerfmuod_receive(
-    core: *mut u8,
-    node: u32,
-    message: u32,
-    generation: u32,
-) -> Answer
-    ghost old: { Accepted }
-    requires* { sem 𝓛 (lies_at core_row full_share core old) }
-    ensures* { ∃ₛ (λ (new : Accepted). sem 𝓛 (lies_at core_row full_share core new)
-        ∗ ⌜ IsTold old (Some (receive_of node message generation)) result new
-        × TellsNoEarlyEnd (result.told ≡ 3) result.number new ⌝) }
-{
-    receive(&mut *(core as *mut CoreRoom), node, message, generation)
-}
-
-/// The action of a received message closes. Refused for the first that holds: `NoNode`, `Stranger`, `NoAction`,
-/// `HistoryFull`, `NoMemory`.
-#[unsafe(no_mangle)]
-pub unsafe extern "C" fn gerfmuod_message_end(
-    core: *mut u8,
-    node: u32,
-    message: u32,
-    generation: u32,
-) -> Answer
-    ghost old: { Accepted }
-    requires* { sem 𝓛 (lies_at core_row full_share core old) }
-    ensures* { ∃ₛ (λ (new : Accepted). sem 𝓛 (lies_at core_row full_share core new)
-        ∗ ⌜ IsTold old (Some (message_end_of node message generation)) result new
-        × TellsNoEarlyEnd (result.told ≡ 3) result.number new ⌝) }
-{
-    message_end(&mut *(core as *mut CoreRoom), node, message, generation)
 }
 
 /// The counters of a node, or 1, `NoNode`, where there is no such node.

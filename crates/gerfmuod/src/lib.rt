@@ -4,6 +4,7 @@
 
 mod answer;
 mod calls;
+mod dag;
 mod event;
 mod exports;
 mod history;

@@ -1,30 +1,33 @@
 //! The detector for distributed programs, for programs in C: one process's part, plain data by pointer. The header
 //! `capi/gerfmuod_process.h` says what a caller owes.
 
-ghost use Rattle.std.specs.Prelude.{◌≡◌, ◌&&◌, Some};
+ghost use Rattle.std.specs.Prelude.{◌≡◌, ◌⊎◌, ◌&&◌, true, Some};
 ghost use Rattle.std.specs.Result.{result_err};
-ghost use Rattle.gerfmuod.specs.Wire.{after_taking, message_of, next_as, process_meaning, refused_as, stored, taken_as, wire_after};
+ghost use Rattle.gerfmuod.specs.Wire.{after_event, after_init, after_taking, message_of, next_as, process_meaning, receipt_refused};
+ghost use Rattle.gerfmuod.specs.Wire.{IsKept, refused_as, refused_by, taken_as, wire_after};
 ghost use Rattle.gerfmuod.specs.Written.{IsPut};
-ghost use Rattle.tp_process.specs.Calls.{close_refusal, closed, moved, open_refusal, opened, receive_refusal, send_refusal, sent};
-ghost use Rattle.tp_process.specs.Epochs.{becomes, of_epoch, received_in, reopen_refusal, reopened};
+ghost use Rattle.tp_process.specs.Calls.{close_refusal, closed, moved, open_refusal, opened, send_refusal, sent};
+ghost use Rattle.tp_process.specs.Epochs.{received_in, reopen_refusal, reopened};
 ghost use Rattle.tp_process.specs.Opening.{checked, if_open, is_open, new_process, next_of};
+ghost use Rattle.tp_process.specs.State.{read};
 
 use crate::answer::Written;
 use crate::text::{WRITTEN, put};
 use crate::wire::{WireMessage, message_of, wire_of};
 use tp_process::{Next, Process, Refusal};
 
-/// The refusals of calls that have numbers in place of a control message: first that the process is not open.
-const NOT_OPEN: u32 = 7;
+/// The refusals of a call that takes numbers as a control message, in their order. All refusals are above 100: no result of
+/// `gerfmuod_process_next` is one, and neither is a refusal of a core.
+const NOT_OPEN: u32 = 107;
 
-const MALFORMED: u32 = 9;
+const MALFORMED: u32 = 109;
 
-/// Opens process `number` of `processes`, in epoch 0 and with one piece of work open. 0, or why it is refused: then the process is
-/// not open.
+/// Opens process `number` of `processes`, in epoch 0 and with one piece of work open. 0, or why it is refused: then the
+/// process is not open.
 #[unsafe(no_mangle)]
 pub extern "C" fn gerfmuod_process_init(process: &mut Process, number: u32, processes: u32) -> u32
     ensures refused { result ≡ refused_as (result_err (new_process number processes)) }
-    ensures state { process.new ≡ stored (new_process number processes) }
+    ensures state { process.new ≡ after_init (new_process number processes) }
 {
     match Process::new(number, processes) {
         Ok(new) => {
@@ -41,87 +44,123 @@ pub extern "C" fn gerfmuod_process_init(process: &mut Process, number: u32, proc
 /// Opens one more piece of work. 0, or why it is refused.
 #[unsafe(no_mangle)]
 pub extern "C" fn gerfmuod_process_add_work(process: &mut Process) -> u32
-    ensures refused { result ≡ refused_as (checked process.old (open_refusal process.old.state)) }
-    ensures state { process.new ≡ if_open process.old (becomes process.old (opened process.old.state)) }
+    ensures refused { result ≡ refused_by open_refusal (read process.old) }
+    ensures state { read process.new ≡ after_event opened (read process.old) }
+    ensures kept { IsKept result process.old process.new }
 {
-    refused(process.add_work())
+    match process.add_work() {
+        Ok(()) => 0,
+        Err(refusal) => number_of(refusal),
+    }
 }
 
 /// Closes a piece of work. 0, or why it is refused.
 #[unsafe(no_mangle)]
 pub extern "C" fn gerfmuod_process_finish_work(process: &mut Process) -> u32
-    ensures refused { result ≡ refused_as (checked process.old (close_refusal process.old.state)) }
-    ensures state { process.new ≡ if_open process.old (becomes process.old (closed process.old.state)) }
+    ensures refused { result ≡ refused_by close_refusal (read process.old) }
+    ensures state { read process.new ≡ after_event closed (read process.old) }
+    ensures kept { IsKept result process.old process.new }
 {
-    refused(process.finish_work())
+    match process.finish_work() {
+        Ok(()) => 0,
+        Err(refusal) => number_of(refusal),
+    }
 }
 
 /// Counts a message as sent. 0, or why it is refused.
 #[unsafe(no_mangle)]
 pub extern "C" fn gerfmuod_process_count_sent(process: &mut Process) -> u32
-    ensures refused { result ≡ refused_as (checked process.old (send_refusal process.old.state)) }
-    ensures state { process.new ≡ if_open process.old (becomes process.old (sent process.old.state)) }
+    ensures refused { result ≡ refused_by send_refusal (read process.old) }
+    ensures state { read process.new ≡ after_event sent (read process.old) }
+    ensures kept { IsKept result process.old process.new }
 {
-    refused(process.count_sent())
+    match process.count_sent() {
+        Ok(()) => 0,
+        Err(refusal) => number_of(refusal),
+    }
 }
 
 /// Counts a message of an epoch as received. 0, or why it is refused.
 #[unsafe(no_mangle)]
 pub extern "C" fn gerfmuod_process_count_received(process: &mut Process, epoch: u64) -> u32
-    ensures refused { result ≡ refused_as (checked process.old (of_epoch epoch process.old (receive_refusal process.old.state))) }
-    ensures state { process.new ≡ if_open process.old (received_in epoch process.old) }
+    ensures refused { result ≡ receipt_refused epoch (read process.old) }
+    ensures state { read process.new ≡ if_open (read process.old) (received_in epoch (read process.old)) }
+    ensures kept { IsKept result process.old process.new }
 {
-    refused(process.count_received(epoch))
+    match process.count_received(epoch) {
+        Ok(()) => 0,
+        Err(refusal) => number_of(refusal),
+    }
 }
 
 /// `gerfmuod_process_count_sent` by its name in the monitor.
 #[unsafe(no_mangle)]
 pub extern "C" fn gerfmuod_process_outgoing_message_start(process: &mut Process) -> u32
-    ensures refused { result ≡ refused_as (checked process.old (send_refusal process.old.state)) }
-    ensures state { process.new ≡ if_open process.old (becomes process.old (sent process.old.state)) }
+    ensures refused { result ≡ refused_by send_refusal (read process.old) }
+    ensures state { read process.new ≡ after_event sent (read process.old) }
+    ensures kept { IsKept result process.old process.new }
 {
-    refused(process.outgoing_message_start())
+    match process.outgoing_message_start() {
+        Ok(()) => 0,
+        Err(refusal) => number_of(refusal),
+    }
 }
 
 /// `gerfmuod_process_count_received` by its name in the monitor.
 #[unsafe(no_mangle)]
 pub extern "C" fn gerfmuod_process_incoming_message_start(process: &mut Process, epoch: u64) -> u32
-    ensures refused { result ≡ refused_as (checked process.old (of_epoch epoch process.old (receive_refusal process.old.state))) }
-    ensures state { process.new ≡ if_open process.old (received_in epoch process.old) }
+    ensures refused { result ≡ receipt_refused epoch (read process.old) }
+    ensures state { read process.new ≡ if_open (read process.old) (received_in epoch (read process.old)) }
+    ensures kept { IsKept result process.old process.new }
 {
-    refused(process.incoming_message_start(epoch))
+    match process.incoming_message_start(epoch) {
+        Ok(()) => 0,
+        Err(refusal) => number_of(refusal),
+    }
 }
 
 /// `gerfmuod_process_finish_work` by its name in the monitor.
 #[unsafe(no_mangle)]
 pub extern "C" fn gerfmuod_process_incoming_message_end(process: &mut Process) -> u32
-    ensures refused { result ≡ refused_as (checked process.old (close_refusal process.old.state)) }
-    ensures state { process.new ≡ if_open process.old (becomes process.old (closed process.old.state)) }
+    ensures refused { result ≡ refused_by close_refusal (read process.old) }
+    ensures state { read process.new ≡ after_event closed (read process.old) }
+    ensures kept { IsKept result process.old process.new }
 {
-    refused(process.incoming_message_end())
+    match process.incoming_message_end() {
+        Ok(()) => 0,
+        Err(refusal) => number_of(refusal),
+    }
 }
 
 /// Takes a control message. 0, or why it is refused.
 #[unsafe(no_mangle)]
 pub extern "C" fn gerfmuod_process_take(process: &mut Process, message: &WireMessage) -> u32
-    ensures refused { result ≡ taken_as message.now.epoch (message_of message.now) process.old }
-    ensures state { process.new ≡ after_taking message.now.epoch (message_of message.now) process.old }
+    ensures refused { result ≡ taken_as message.now.epoch (message_of message.now) (read process.old) }
+    ensures state { read process.new ≡ after_taking message.now.epoch (message_of message.now) (read process.old) }
+    ensures kept { IsKept result process.old process.new }
 {
     match message_of(*message) {
-        Some(taken) => refused(process.take(message.epoch, taken)),
+        Some(taken) => match process.take(message.epoch, taken) {
+            Ok(()) => 0,
+            Err(refusal) => number_of(refusal),
+        },
         None if process.is_open() => MALFORMED,
         None => NOT_OPEN,
     }
 }
 
-/// What the process has to do next: 0, nothing; 1, to send the control message that is written; 2, to ask again; 3, nothing, for
-/// termination was detected. Else why it is refused.
+/// What the process has to do next: 0, nothing; 1, to send the control message that is written; 2, to ask again; 3, nothing,
+/// for termination was detected. A number above 100 says why it is refused.
 #[unsafe(no_mangle)]
 pub extern "C" fn gerfmuod_process_next(process: &mut Process, message_out: &mut WireMessage) -> u32
-    ensures next { result ≡ next_as (next_of process.old) }
-    ensures state { process.new ≡ if_open process.old (becomes process.old (moved process.old.state).state) }
-    ensures message { message_out.new ≡ wire_after process.old.epoch (next_of process.old) message_out.old }
+    ensures next { result ≡ next_as (next_of (read process.old)) }
+    ensures state { read process.new ≡ after_event (λ p. (moved p).state) (read process.old) }
+    ensures message { message_out.new ≡ wire_after (read process.old).epoch (next_of (read process.old)) message_out.old }
+    ensures kept { (is_open (read process.old) ≡ true) ⊎ (process.new ≡ process.old) }
 {
+    if !process.is_open() {
+        return NOT_OPEN;
+    }
     match process.next() {
         Ok(Next::Nothing) => 0,
         Ok(Next::Send(message)) => {
@@ -137,16 +176,20 @@ pub extern "C" fn gerfmuod_process_next(process: &mut Process, message_out: &mut
 /// Begins the next epoch at the process, with one piece of work open. 0, or why it is refused.
 #[unsafe(no_mangle)]
 pub extern "C" fn gerfmuod_process_reopen(process: &mut Process) -> u32
-    ensures refused { result ≡ refused_as (checked process.old (reopen_refusal process.old)) }
-    ensures state { process.new ≡ if_open process.old (reopened process.old) }
+    ensures refused { result ≡ refused_as (checked (read process.old) (reopen_refusal (read process.old))) }
+    ensures state { read process.new ≡ if_open (read process.old) (reopened (read process.old)) }
+    ensures kept { IsKept result process.old process.new }
 {
-    refused(process.reopen())
+    match process.reopen() {
+        Ok(()) => 0,
+        Err(refusal) => number_of(refusal),
+    }
 }
 
 /// The process is open.
 #[unsafe(no_mangle)]
 pub extern "C" fn gerfmuod_process_is_open(process: &Process) -> bool
-    ensures { result ≡ is_open process.now }
+    ensures { result ≡ is_open (read process.now) }
 {
     process.is_open()
 }
@@ -154,7 +197,7 @@ pub extern "C" fn gerfmuod_process_is_open(process: &Process) -> bool
 /// The process is open, and knows that its epoch has terminated.
 #[unsafe(no_mangle)]
 pub extern "C" fn gerfmuod_process_is_over(process: &Process) -> bool
-    ensures { result ≡ is_open process.now && process.now.state.over }
+    ensures { result ≡ is_open (read process.now) && (read process.now).state.over }
 {
     process.is_over()
 }
@@ -162,7 +205,7 @@ pub extern "C" fn gerfmuod_process_is_over(process: &Process) -> bool
 /// The present epoch, from 0.
 #[unsafe(no_mangle)]
 pub extern "C" fn gerfmuod_process_epoch(process: &Process) -> u64
-    ensures { result ≡ process.now.epoch }
+    ensures { result ≡ (read process.now).epoch }
 {
     process.epoch()
 }
@@ -170,7 +213,7 @@ pub extern "C" fn gerfmuod_process_epoch(process: &Process) -> u64
 /// How many pieces of work are open.
 #[unsafe(no_mangle)]
 pub extern "C" fn gerfmuod_process_pending(process: &Process) -> u64
-    ensures { result ≡ process.now.state.pending }
+    ensures { result ≡ (read process.now).state.pending }
 {
     process.pending()
 }
@@ -178,7 +221,7 @@ pub extern "C" fn gerfmuod_process_pending(process: &Process) -> u64
 /// How many messages were counted as sent in this epoch.
 #[unsafe(no_mangle)]
 pub extern "C" fn gerfmuod_process_sent(process: &Process) -> u64
-    ensures { result ≡ process.now.state.sent }
+    ensures { result ≡ (read process.now).state.sent }
 {
     process.sent()
 }
@@ -186,7 +229,7 @@ pub extern "C" fn gerfmuod_process_sent(process: &Process) -> u64
 /// And as received.
 #[unsafe(no_mangle)]
 pub extern "C" fn gerfmuod_process_received(process: &Process) -> u64
-    ensures { result ≡ process.now.state.received }
+    ensures { result ≡ (read process.now).state.received }
 {
     process.received()
 }
@@ -194,7 +237,7 @@ pub extern "C" fn gerfmuod_process_received(process: &Process) -> u64
 /// The number of the newest wave that came to the process in this epoch, or 0.
 #[unsafe(no_mangle)]
 pub extern "C" fn gerfmuod_process_wave(process: &Process) -> u64
-    ensures { result ≡ process.now.state.wave }
+    ensures { result ≡ (read process.now).state.wave }
 {
     process.wave()
 }
@@ -212,40 +255,32 @@ fn meaning(number: u32) -> &'static str
 {
     match number {
         0 => "the call was not refused",
-        1 => "no piece of work is open at the process",
-        2 => "a number is at its limit",
-        3 => "the control message is for another process, of another wave, or was taken before",
-        4 => "it is of the next epoch: keep it until the process has reopened",
-        5 => "it is of an older epoch",
-        6 => "the end of this epoch is not known here",
-        7 => "the process is not open",
-        8 => "there is no process of this number",
-        9 => "there is no such control message",
+        101 => "no piece of work is open at the process",
+        102 => "a number is at its limit",
+        103 => "the control message is for another process, of another wave, or was taken before",
+        104 => "it is of a later epoch: keep it until the process has reopened",
+        105 => "it is of an older epoch",
+        106 =>
+            "the process has not learned of the end of this epoch, or has not notified all its children",
+        107 => "the process is not open",
+        108 => "the number of the process is not below the number of processes",
+        109 => "no control message has such a token",
         _ => "no call refuses with this number",
     }
 }
 
-/// The number of a refusal, or 0.
-fn refused(outcome: Result<(), Refusal>) -> u32
-    ensures { result ≡ refused_as (result_err outcome) }
-{
-    match outcome {
-        Ok(()) => 0,
-        Err(refusal) => number_of(refusal),
-    }
-}
-
+/// The number of a refusal.
 fn number_of(refusal: Refusal) -> u32
     ensures { result ≡ refused_as (Some refusal) }
 {
     match refusal {
-        Refusal::Inactive => 1,
-        Refusal::Full => 2,
-        Refusal::NotDue => 3,
-        Refusal::NotYet => 4,
-        Refusal::Late => 5,
-        Refusal::NotEnded => 6,
+        Refusal::Inactive => 101,
+        Refusal::Full => 102,
+        Refusal::NotDue => 103,
+        Refusal::NotYet => 104,
+        Refusal::Late => 105,
+        Refusal::NotEnded => 106,
         Refusal::NotOpen => NOT_OPEN,
-        Refusal::NoProcess => 8,
+        Refusal::NoProcess => 108,
     }
 }

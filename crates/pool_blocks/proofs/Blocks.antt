@@ -1,4 +1,4 @@
--- The values of the tasks are the blocks of the cells after so many steps.
+-- The values of the tasks are the blocks of the cells after each number of steps.
 use Rattle.std.proofs.Common.{◌≡◌, ◌<◌, ◌≤◌, ◌+◌, ◌-◌, ◌*◌, ◌%◌, ℕ, zero, suc, ℤ, Bool, List, [], ◌++◌, length, get_or, take, true, false}
 use Rattle.std.proofs.Common.{if◌then◌else◌, nat_lt, refl, ap, sym, ◌∙◌, ⊎_elim, IsTrue, Some, arith}
 use Rattle.std.proofs.Math.Seq.{take-add}
@@ -19,14 +19,14 @@ pub after-length : (step : Step) (steps : ℕ) (cells : List ℤ) → KeepsLengt
 after-length step zero cells long = refl
 after-length step (suc steps) cells long = long (after step steps cells) ∙ after-length step steps cells long
 
--- so many steps, and then so many more
+-- this many steps, and then this many more
 pub after-on : (step : Step) (a b : ℕ) (cells : List ℤ) → after step b (after step a cells) ≡ after step (a + b) cells
 after-on step a zero cells = let e : a ≡ a + 0 = omega arith in ap (λ k. after step k cells) e
 after-on step a (suc b) cells =
     let e : suc (a + b) ≡ a + suc b = omega arith in
     ap step (after-on step a b cells) ∙ ap (λ k. after step k cells) e
 
--- 1 where a block has one before it, behind it
+-- 1 if a block has one before it, after it
 abbrev to_before : ℕ → ℕ
 to_before b = if nat_lt 0 b then 1 else 0
 
@@ -83,7 +83,7 @@ module _ (takes : ℕ → ℕ → Bool) (step : Step) (next : BlockStep) (cells 
       omega (arith, same, cut.none_empty, mul-le b size (blocks - 1) size (omega (arith, p)) (omega arith)) in
       by (after step r cells) size b cut.some_cells (ap (λ n. takes n size) same ∙ taken) begins
 
-  -- the value of a block after so many steps, where it has one, is that block of the cells after those steps
+  -- the value of a block after this many steps, if it has one, is that block of the cells after those steps
   pub block_after : (r b : ℕ) (value : List ℤ) → r ≤ steps → b < blocks
       → value_of (block_graph next cells blocks size steps) (r * blocks + b) ≡ Some value → value ≡ block_of size b (after step r cells)
   unfolding block_graph

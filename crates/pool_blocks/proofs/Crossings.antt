@@ -1,20 +1,20 @@
--- How many boundaries between nodes there are, where each node has a range of blocks.
+-- The number of boundaries between nodes, if each node has a range of blocks.
 use Rattle.std.proofs.Common.{◌≡◌, ◌≢◌, ◌<◌, ◌≤◌, ◌+◌, ◌-◌, ◌*◌, ◌/◌, ◌%◌, ◌==◌, ℕ, zero, suc, if◌then◌else◌, refl, sym, ap, ◌∙◌, ◌⊎◌}
 use Rattle.std.proofs.Common.{⊎_elim, inl, inr, arith}
 use Rattle.std.proofs.lemmas.Bool.{cases_lt, eq-eqb, ne_eqb}
 use Rattle.std.proofs.lemmas.Nat.{div-add-mod', div-mul-add}
-use Rattle.tp_wave.specs.Sums.{total}
+use Rattle.tp_base.specs.Totals.{total}
 use Rattle.pool_blocks.specs.Events.{step_messages}
 
 -- the node of a block
 abbrev pub home_of : ℕ → ℕ → ℕ → ℕ
 home_of blocks nodes b = b * nodes / blocks
 
--- 1 where two blocks are at different nodes
+-- 1 if two blocks are at different nodes
 abbrev pub apart : ℕ → ℕ → ℕ → ℕ → ℕ
 apart blocks nodes a b = if home_of blocks nodes a == home_of blocks nodes b then 0 else 1
 
--- how many of the blocks behind the first, so many, are at another node than the block before
+-- how many of the blocks after the first, up to this count, are at another node than the block before
 abbrev crossings : ℕ → ℕ → ℕ → ℕ
 crossings blocks nodes b = total b (λ c. apart blocks nodes c (suc c))
 
@@ -25,7 +25,7 @@ module _ (blocks nodes : ℕ) (some : 1 ≤ blocks) where
   apart-other : (a b : ℕ) → home_of blocks nodes a ≢ home_of blocks nodes b → apart blocks nodes a b ≡ 1
   apart-other a b d = rw (ne_eqb (home_of blocks nodes a) (home_of blocks nodes b) d) refl
 
-  -- where there are no more nodes than blocks, a block's node is that of the block before it, or the next
+  -- if there are no more nodes than blocks, a block's node is that of the block before it, or the next
   next-home : (b : ℕ) → nodes ≤ blocks → (home_of blocks nodes (suc b) ≡ home_of blocks nodes b)
       ⊎ (home_of blocks nodes (suc b) ≡ suc (home_of blocks nodes b))
   next-home b few =
@@ -42,7 +42,7 @@ module _ (blocks nodes : ℕ) (some : 1 ≤ blocks) where
       inr (ap (λ m. m / blocks) e ∙ div-mul-add (suc q) blocks (r + nodes - blocks) (omega (arith, t, rest, few))))
       (cases_lt (r + nodes) blocks)
 
-  -- where there are as many nodes as blocks or more, it is another
+  -- if there are as many nodes as blocks or more, it is another
   other-home : (b : ℕ) → blocks ≤ nodes → home_of blocks nodes b ≢ home_of blocks nodes (suc b)
   other-home b many same =
       let q : ℕ = b * nodes / blocks in
@@ -83,7 +83,7 @@ module _ (blocks nodes : ℕ) (some : 1 ≤ blocks) where
       let e : p * nodes ≡ q * blocks + (p - q) = omega (arith, product, whole, less) in
       ap (λ m. m / blocks) e ∙ div-mul-add q blocks (p - q) (omega (arith, as-blocks))
 
--- two messages cross each boundary between two nodes at each step, and there are as many boundaries as are counted
+-- two messages cross each boundary between two nodes at each step, and the number of boundaries is the counted one
 pub messages_counted : (blocks nodes : ℕ) → 1 ≤ blocks → 1 ≤ nodes
     → 2 * total (blocks - 1) (λ b. apart blocks nodes b (suc b)) ≡ step_messages blocks nodes
 messages_counted blocks nodes some one =

@@ -1,4 +1,4 @@
--- What follows where there is no value.
+-- What follows if there is no value.
 use Rattle.std.proofs.Common.{Option, Some, None, IfNone}
 
 pub none_then : {T : Type 0} (r : Option T) (P Q : Type 0) → IfNone r P → (P → Q) → IfNone r Q

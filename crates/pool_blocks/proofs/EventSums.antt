@@ -5,8 +5,8 @@ use Rattle.std.proofs.lemmas.Bool.{eq-eqb}
 use Rattle.std.proofs.lemmas.Bool.Decides.{nat_tests}
 use Rattle.std.proofs.lemmas.Nat.{mod-mul-add, mul-add-lt}
 use Rattle.tp_graph.proofs.Rows.{column-down}
-use Rattle.tp_wave.proofs.Totals.{total-equal}
-use Rattle.tp_wave.specs.Sums.{total}
+use Rattle.tp_base.proofs.Totals.{total-equal}
+use Rattle.tp_base.specs.Totals.{total}
 use Rattle.tp_graph.proofs.Counted.{events_counted}
 use Rattle.tp_graph.proofs.Totals.{total-add, total-const, total-plus}
 use Rattle.tp_graph.specs.Events.{crossing, messages_from, messages_of, task_events}
@@ -15,14 +15,14 @@ use Rattle.pool_blocks.proofs.Lists.{lt-tells}
 use Rattle.pool_blocks.specs.Events.{BlockEventsLaw, BlockMessagesLaw, BlockStepsLaw, step_inputs, step_messages}
 use Rattle.pool_blocks.specs.Stencils.{BlockStep, befores, block_graph, target}
 
--- 1 where a column has one before it, behind it
+-- 1 if a column has one before it, after it
 abbrev left : ℕ → ℕ
 left b = if nat_lt 0 b then 1 else 0
 
 abbrev right : ℕ → ℕ → ℕ
 right blocks b = if nat_lt (b + 1) blocks then 1 else 0
 
--- a number where a column has one before it, behind it
+-- a number if a column has one before it, after it
 abbrev at_left : ℕ → ℕ → ℕ
 at_left b k = if nat_lt 0 b then k else 0
 
@@ -41,7 +41,7 @@ right-last blocks b k le =
     ⊎_elim (λ (t : (nat_lt (b + 1) blocks ≡ true) × (b + 1 < blocks)). absurd (omega (arith, t.1, le))) (λ t. rw t.0 refl)
     (lt-tells (b + 1) blocks)
 
--- of the columns behind the first
+-- for the columns after the first
 rights : (blocks : ℕ) (f : ℕ → ℕ) → 1 ≤ blocks → total blocks (λ b. at_right blocks b (f b)) ≡ total (blocks - 1) f
 rights zero f some = absurd (omega (arith, some))
 rights (suc n) f some =
@@ -61,7 +61,7 @@ lefts : (blocks : ℕ) (f : ℕ → ℕ) → 1 ≤ blocks → total blocks (λ b
 lefts zero f some = absurd (omega (arith, some))
 lefts (suc n) f some = let less : suc n - 1 ≡ n = omega arith in rw less (lefts-more n f)
 
--- the feeds of a block: as many as it has neighbours, and one
+-- the feeds of a block: one for each neighbour, and one
 feeds-cases : (x y : Bool) (f : ℕ → ℕ) → total ((if x then 1 else 0) + 1 + (if y then 1 else 0)) f
     ≡ (if x then f 0 else 0) + f (if x then 1 else 0) + (if y then f ((if x then 1 else 0) + 1) else 0)
 feeds-cases true true f = omega arith
@@ -81,7 +81,7 @@ module _ (blocks nodes : ℕ) (some : 1 ≤ blocks) where
   apart-turned : (a b : ℕ) → apart blocks nodes a b ≡ apart blocks nodes b a
   apart-turned a b = grind (arith, nat_tests)
 
-  -- what a block sends: to the block before, to itself and to the block behind, as far as they are there
+  -- what a block sends: to the block before, to itself and to the block after, as far as they exist
   sends : (b : ℕ) → total (left b + 1 + right blocks b) (λ k. apart blocks nodes b (b + k - left b))
       ≡ at_left b (apart blocks nodes b (b - 1)) + at_right blocks b (apart blocks nodes b (suc b))
   sends b =

@@ -53,7 +53,7 @@ all_there next cells blocks size steps results values lack =
     let d : TaskId × List ℤ = (record { 0 = 0 }, []) in
     lack.none t d (omega (arith, values.long, known)) (values.rise t d known)
 
--- where no block lacks a result, only memory can be refused
+-- if no block lacks a result, only an allocation can fail
 pub only_memory : (blocks steps : ℕ) (results : Results) (refusal : Refusal) → (LacksBlock blocks steps results → ⊥)
     → IsCellsRefusal blocks steps results refusal → refusal ≡ NoMemory
 only_memory blocks steps results refusal whole why = ⊎_elim (λ e. e) (λ t. absurd (whole t.1)) why

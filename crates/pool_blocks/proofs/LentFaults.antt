@@ -1,4 +1,4 @@
--- The fault of a pool over lent data, whatever else may be at fault.
+-- The fault of a pool over borrowed data, whatever else may be at fault.
 use Rattle.std.proofs.Common.{◌≡◌, ℕ, subst}
 use Rattle.tp_graph.specs.Graphs.{TaskGraph}
 use Rattle.pool_blocks.specs.declared.fault.LentFault.{LentFault}

@@ -23,7 +23,7 @@ list-more (suc count) f =
     let e : suc count + 1 ≡ suc (count + 1) = omega arith in
     ap (λ n. list_of n f) e ∙ ap (λ l. f 0 ∷ l) (list-more count (λ e. f (suc e)))
 
--- what a test of two numbers tells
+-- what follows from a test of two numbers
 pub lt-tells : (a b : ℕ) → ((nat_lt a b ≡ true) × (a < b)) ⊎ ((nat_lt a b ≡ false) × (b ≤ a))
 lt-tells a b =
     ⊎_elim (λ (t : (nat_lt a b ≡ true) × (suc a ≤ b)). inl (t.0, t.1))
@@ -40,7 +40,7 @@ lt-same a b c d to from =
     ∙ sym u.0) (lt-tells c d))
     (lt-tells a b)
 
--- how long a block is, its numbers, and that there is none where the list has ended
+-- the length of a block, its numbers, and that it is empty after the end of the list
 pub block-long : (size b : ℕ) (xs : List ℤ) → length (block_of size b xs) ≡ min size (length xs - b * size)
 block-long size b xs = length-take size (drop (b * size) xs) ∙ ap (min size) (length-drop (b * size) xs)
 

@@ -19,7 +19,7 @@ use Rattle.pool_blocks.specs.Outcomes.{LeastEventsLaw, OutcomeLaw, RunEventsLaw}
 use Rattle.tp_graph.proofs.Counted.{least_steps}
 use Rattle.tp_graph.specs.Events.{below, is_begin_of, is_done_of, is_insert_of}
 
--- how many of the moments are of this kind
+-- how many of the stages are of this kind
 abbrev among : ℕ → List ℕ → ℕ
 among k [] = 0
 among k (m ∷ rest) = if m == k then among k rest + 1 else among k rest
@@ -36,7 +36,7 @@ among-other t u k m past differs = elim (cases_eq u t) [
   | inr other ↦ rw (ne_eqb u t other) refl
 ]
 
--- the moments of a task are its steps of three kinds
+-- the stages of a task are its steps of three kinds
 inserts : (t : ℕ) (steps : List Step) → among 0 (moments t steps) ≡ count (is_insert_of t) steps
 inserts t [] = refl
 inserts t (Insert i u k ∷ past) = among-own t u.0 0 (moments t past) ∙ ap (λ c. if u.0 == t then c + 1 else c) (inserts t past)
@@ -64,14 +64,14 @@ one-of (suc zero) few = refl
 one-of (suc (suc zero)) few = refl
 one-of (suc (suc (suc k))) few = absurd (omega (arith, few))
 
--- a life has each of its three moments once
+-- a life has each of its three stages once
 life-once : (tasks t k : ℕ) → k < 3 → among k (life tasks t) ≡ below tasks (λ u. 1) t
 life-once tasks t k few = elim (cases_lt t tasks) [
   | inl lt ↦ let passes : nat_lt t tasks ≡ true = lt-ltb t tasks lt in rw passes (one-of k few)
   | inr le ↦ let fails : nat_lt t tasks ≡ false = grind (arith, nat_tests) in rw fails refl
 ]
 
--- what was received and what is under way was sent
+-- what was received and what is in flight was sent
 flow : (n : ℕ) (h : History) → IsRun n h → under_way (steps_of h) + count is_recv (steps_of h) ≡ count is_send (steps_of h)
 flow n [] r = refl
 flow n ((i, Send j k m g) ∷ past) r = omega (arith, flow n past r.1)
@@ -91,7 +91,7 @@ module _ (n workers : ℕ) (g : TaskGraph) (o : Outcome) (is : IsOutcome n worke
   done : (t : ℕ) → count (is_done_of t) steps ≡ below g.tasks (λ u. 1) t
   done t = sym (dones t steps) ∙ ap (among 2) (is.lives.each t) ∙ life-once g.tasks t 2 (omega arith)
 
-  -- as many messages were received as are told
+  -- the number of messages received is the one that the outcome has
   received : count is_recv steps ≡ o.messages
   received =
       let none : under_way steps ≡ 0 = (judged_law n o.history.events is.run is.ended).none_under_way in

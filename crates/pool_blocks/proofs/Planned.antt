@@ -1,10 +1,9 @@
 -- Steps taken in parts.
 use Rattle.std.proofs.lemmas.Nat.{div-add-mod', mul-le}
-use Rattle.std.proofs.Common.{◌≡◌, ◌+◌, ◌*◌, ◌/◌, ◌%◌, ◌<◌, ◌≤◌, ◌-◌, ℕ, ℤ, List, max, ap, ◌∙◌, ⊎_elim, arith, div-le_self}
+use Rattle.std.proofs.Common.{◌≡◌, ◌+◌, ◌*◌, ◌/◌, ◌%◌, ◌<◌, ◌≤◌, ◌-◌, ℕ, ℤ, List, max, ap, ◌∙◌, ⊎_elim, arith}
 use Rattle.std.proofs.lemmas.Bool.{cases_lt}
 use Rattle.pool_blocks.proofs.Blocks.{after-on}
 use Rattle.pool_blocks.specs.Stencils.{Step, after}
-use Rattle.pool_blocks.specs.RunEvents.{planned, step_events}
 
 -- the next part of the steps, of which some are left
 pub part_more : (step : Step) (steps left part : ℕ) (made next cells : List ℤ) → part ≤ left → left ≤ steps
@@ -26,7 +25,3 @@ planned_fit first row some one =
     let least : 1 * row ≤ (1000000 - first) / row * row = mul-le 1 row _ row h (omega arith) in
     rw is (omega (arith, whole, least, some)))
     (cases_lt ((1000000 - first) / row) 1)
-
--- there are no more than the events that are planned for
-pub planned_few : (blocks nodes : ℕ) → planned blocks nodes ≤ 1000000
-planned_few blocks nodes = omega (arith, div-le_self (1000000 - 3 * blocks) (step_events blocks nodes))

@@ -1,4 +1,4 @@
--- Why a run over lent cells gives nothing.
+-- Why a run over borrowed cells has no result.
 use Rattle.std.proofs.Common.{◌≡◌, ◌≢◌, ◌<◌, ◌≤◌, ◌+◌, ◌-◌, ◌*◌, ℕ, suc, ℤ, Bool, true, Result, Ok, Err, List, [], ◌∷◌, length, cond}
 use Rattle.std.proofs.Common.{refl, sym, ap, subst, ◌∙◌, ⊎_elim, inl, inr, arith}
 use Rattle.std.specs.Prelude.{◌==◌, MatchResult}
@@ -22,7 +22,7 @@ use Rattle.pool_blocks.specs.declared.fault.LentFault.TheVariants.{BadInput, Run
 use Rattle.tp_work.specs.Outcomes.{IsFault, IsOutcome}
 use Rattle.tp_graph.specs.Found.{HasEachOnce, times}
 
--- what follows from what is known of an answer
+-- what follows from a result
 pub match_weaker : {T E : Type 0} (r : Result T E) (P P2 : T → Type 0) (Q Q2 : E → Type 0) → ((x : T) → P x → P2 x)
     → ((e : E) → Q e → Q2 e) → MatchResult r P Q → MatchResult r P2 Q2
 match_weaker (Ok x) P P2 Q Q2 f h m = f x m
@@ -35,7 +35,7 @@ times-none t (x ∷ xs) h =
     let rest : 0 + times t xs ≡ 0 = omega (arith, times-none t xs (λ i d p. h (suc i) d (omega arith))) in
     sum_by-cons (λ r. cond (r.0.0 == t) 1 0) x xs ∙ ap (λ b. cond b 1 0 + times t xs) (ne_eqb x.0.0 t (h 0 x (omega arith))) ∙ rest
 
--- where each task has one result, none lacks one
+-- if each task has one result, none lacks one
 pub has_one : (tasks t : ℕ) (results : Results) → HasEachOnce tasks results → t < tasks → All (λ r. r.0.0 ≢ t) results → ⊥
 has_one tasks t results once h none =
     let one : times t results ≡ 1 = grind (arith, nat_tests, once t) in
@@ -54,7 +54,7 @@ cells_refused next cells blocks size steps results refusal once why =
     absurd (has_one ((steps + 1) * blocks) (steps * blocks + lack.block) results once (omega (arith, lack.within)) lack.none))
     why
 
--- what takes so many steps in one run takes any part of them
+-- what takes this many steps in one run takes any part of them
 pub are_steps : (takes : ℕ → ℕ → Bool) (cells size n most part : ℕ) → takes cells size ≡ true → TakeSteps cells size n most → part ≤ most
     → AreSteps takes cells size part
 are_steps takes cells size n most part taken all few =
@@ -85,14 +85,14 @@ part-graph step next cells made size done part long is =
     ap (λ count. block_graph next made (blocks_of count size) size part) same
     ∙ ap (λ xs. block_graph next xs (blocks_of (length cells) size) size part) is
 
--- what holds of the pool of the next part holds of that of a part
+-- what holds for the pool of the next part holds for that of a part
 next_part : (step : Step) (next : BlockStep) (cells made : List ℤ) (size steps left part : ℕ) (Holds : TaskGraph → Type 0)
     → KeepsLength step → made ≡ after step (steps - left) cells → left ≤ steps → part ≤ left → 1 ≤ part →
     Holds (block_graph next made (blocks_of (length made) size) size part) → IsOfPart step next cells size steps Holds
 next_part step next cells made size steps left part Holds long is h k some holds =
     (steps - left, part, some, omega (arith, h, k), subst Holds (part-graph step next cells made size (steps - left) part long is) holds)
 
--- where the pool of the next part ended, that of the last of the steps taken did
+-- if the pool of the next part ended, that of the last of the steps taken did
 pub part_run : (n workers : ℕ) (step : Step) (next : BlockStep) (cells made : List ℤ) (size steps left part : ℕ) → KeepsLength step
     → made ≡ after step (steps - left) cells → left ≤ steps → part ≤ left → 1 ≤ part →
     HasRun n workers (block_graph next made (blocks_of (length made) size) size part)

@@ -1,4 +1,4 @@
--- Sums of whole numbers, as calls are passed them, and how large they are.
+-- Sums of whole numbers, as arguments of calls, and how large they are.
 use Rattle.std.proofs.Common.{◌≡◌, ◌≤◌, ◌<◌, ◌+◌, ◌^◌, ℕ, zero, suc, ℤ, pos, negsuc, neg_ℤ, ◌+ℤ◌, ◌*ℤ◌, true, refl, ap, ◌∙◌, arith}
 use Rattle.std.proofs.Common.{FitsSigned, w64, to_z, of_z}
 use Rattle.std.specs.Int.{w128}

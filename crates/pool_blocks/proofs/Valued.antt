@@ -1,35 +1,19 @@
--- Each task has a value: no cell leaves 64 bits.
-use Rattle.std.proofs.Common.{◌≡◌, ◌<◌, ◌≤◌, ◌+◌, ◌*◌, inl, inr, ℕ, zero, suc, ℤ, List, [], ◌∷◌, length, get_or, drop, true, false}
+-- Each task has a value: every cell fits 64 bits.
+use Rattle.std.proofs.Common.{◌≡◌, ◌<◌, ◌≤◌, ◌+◌, ◌*◌, inl, inr, ℕ, zero, suc, ℤ, List, [], ◌∷◌, length, get_or, drop, true}
 use Rattle.std.proofs.Common.{if◌then◌else◌, nat_lt, Some, None, refl, ap, sym, ◌∙◌, arith}
-use Rattle.std.proofs.lemmas.Bool.Decides.{nat_tests}
 use Rattle.tp_base.specs.declared.Refusal.{Refusal}
 use Rattle.tp_base.specs.declared.Refusal.TheVariants.{NoMemory}
 use Rattle.tp_graph.proofs.Valued.{value_made}
 use Rattle.tp_graph.specs.Blocks.{block_of}
 use Rattle.tp_graph.specs.Graphs.{TaskGraph}
 use Rattle.tp_graph.specs.Serial.{IsSerialRefusal}
-use Rattle.tp_graph.specs.Values.{all_fit, fitting, outcome, value_of}
+use Rattle.tp_graph.specs.Values.{all_fit, fitting, value_of}
 use Rattle.pool_blocks.proofs.Fits.{drop-fits, one-list-fits, take-fits}
 use Rattle.pool_blocks.specs.StencilLaws.{block_lawful}
 use Rattle.pool_blocks.specs.Stencils.{BlockStep, KeepsFit, befores, block_graph, next_of}
 
 fitting-all : (xs : List ℤ) → all_fit xs ≡ true → fitting xs ≡ Some xs
 fitting-all xs h = rw h refl
-
--- what a body makes of a block and its neighbours is what its task makes of the inputs
-pub outcome-is : (next : BlockStep) (cells : List ℤ) (blocks size steps t : ℕ) (inputs : List (List ℤ)) (before own behind made : List ℤ)
-    → blocks ≤ t →
-    before ≡ (if nat_lt 0 (befores blocks t) then get_or inputs 0 [] else []) → own ≡ get_or inputs (befores blocks t) []
-    → behind ≡ get_or inputs (befores blocks t + 1) [] →
-    made ≡ next before own behind → all_fit made ≡ true → outcome (block_graph next cells blocks size steps) t inputs ≡ Some made
-unfolding block_graph
-outcome-is next cells blocks size steps t inputs before own behind made h b o e is fit =
-    let no : nat_lt t blocks ≡ false = grind (arith, nat_tests) in
-    let same : made ≡ next_of next (befores blocks t) inputs =
-    is ∙ ap (λ z. next z own behind) b ∙ ap (λ z. next (if nat_lt 0 (befores blocks t) then get_or inputs 0 [] else []) z behind) o
-    ∙ ap (next (if nat_lt 0 (befores blocks t) then get_or inputs 0 [] else []) (get_or inputs (befores blocks t) [])) e in
-    ap (λ c. fitting (if c then block_of size t cells else next_of next (befores blocks t) inputs)) no ∙ ap fitting (sym same)
-    ∙ fitting-all made fit
 
 -- a task has a value, whose numbers fit
 abbrev HasValue : TaskGraph → ℕ → Type 0

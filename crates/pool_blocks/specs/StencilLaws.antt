@@ -14,7 +14,7 @@ home_below blocks t m some q =
     div_below ((t % blocks) * m) blocks m some few
 
 module _ (next : BlockStep) (cells : List ℤ) (blocks size steps : ℕ) (some : 0 < blocks) where
-  -- the slot that a feed goes to is not below 0
+  -- the slot of a feed is not below 0
   pub turn_small : (p k : ℕ) → p < (steps + 1) * blocks → k < (block_graph next cells blocks size steps).feeds p
       → k ≤ befores blocks (target blocks p k) + befores blocks p
   unfolding block_graph

@@ -1,4 +1,4 @@
--- Steps of a stencil over some cells in blocks: what a block becomes is made of itself and of its neighbours.
+-- Steps of a stencil over some cells in blocks: a block becomes a function of itself and its neighbours.
 use Rattle.std.specs.Prelude.{◌≡◌, ◌≢◌, ◌<◌, ◌≤◌, ◌+◌, ◌-◌, ◌*◌, ◌/◌, ◌%◌, ◌^◌, ◌⊎◌, All, ℕ, zero, suc, ℤ, Bool, true, false, List, []}
 use Rattle.std.specs.Prelude.{length, slice_index_or, Some, if◌then◌else◌, nat_lt, nat_le}
 use Rattle.tp_base.specs.declared.Refusal.{Refusal}
@@ -9,14 +9,14 @@ use Rattle.tp_graph.specs.Serial.{Results}
 use Rattle.tp_graph.specs.Values.{all_fit}
 use Rattle.pool_blocks.specs.Lists.{block_before, block_behind}
 
--- what cells become at a step, and what a block becomes, from the block before it, itself and the block behind it
+-- what cells become at a step, and what a block becomes, from the block before it, itself and the block after it
 abbrev pub Step : Type 0
 Step = List ℤ → List ℤ
 
 abbrev pub BlockStep : Type 0
 BlockStep = List ℤ → List ℤ → List ℤ → List ℤ
 
--- cells after so many steps
+-- cells after this many steps
 abbrev pub after : Step → ℕ → List ℤ → List ℤ
 after step zero cells = cells
 after step (suc steps) cells = step (after step steps cells)
@@ -25,22 +25,22 @@ after step (suc steps) cells = step (after step steps cells)
 abbrev pub KeepsLength : Step → Type 0
 KeepsLength step = (cells : List ℤ) → length (step cells) ≡ length cells
 
--- For counts of cells and sizes of blocks that are taken, each block of the cells after a step is what the block becomes.
+-- For numbers of cells and sizes of blocks that are taken, each block of the cells after a step is what the block becomes.
 abbrev pub IsByBlocks : (ℕ → ℕ → Bool) → Step → BlockStep → Type 0
 IsByBlocks takes step next = (cells : List ℤ) (size b : ℕ) → 1 ≤ size → takes (length cells) size ≡ true → b * size < length cells →
     block_of size b (step cells) ≡ next (block_before size b cells) (block_of size b cells) (block_behind size b cells)
 
--- no number leaves 64 bits
+-- every number fits 64 bits
 abbrev pub KeepsFit : BlockStep → Type 0
 KeepsFit next =
     (before own behind : List ℤ) → all_fit before ≡ true → all_fit own ≡ true → all_fit behind ≡ true
     → all_fit (next before own behind) ≡ true
 
--- how many blocks of so many cells there are, the last of which may be shorter
+-- how many blocks of this size there are, the last of which may be shorter
 abbrev pub blocks_of : ℕ → ℕ → ℕ
 blocks_of count size = (count - 1) / size + 1
 
--- what steps of a stencil take: a cell, blocks that have some, a count and a size that the stencil takes, and fewer than
+-- what steps of a stencil require: a cell, blocks that have some, a count and a size that the stencil takes, and fewer than
 -- 1,048,576 tasks, one for each block after each step
 pub record AreSteps (takes : ℕ → ℕ → Bool) (count size steps : ℕ) : Type 0 where
   pub some_cells : 1 ≤ count
@@ -48,12 +48,12 @@ pub record AreSteps (takes : ℕ → ℕ → Bool) (count size steps : ℕ) : Ty
   pub taken : takes count size ≡ true
   pub few_tasks : (steps + 1) * blocks_of count size < 2 ^ 20
 
--- why there are no such steps of so many cells, in blocks of so many
+-- why there are no such steps of this many cells, in blocks of this size
 abbrev pub AreNoSteps : (ℕ → ℕ → Bool) → ℕ → ℕ → ℕ → Type 0
 AreNoSteps takes count size steps =
     (count ≡ 0) ⊎ ((size ≡ 0) ⊎ ((takes count size ≡ false) ⊎ (2 ^ 20 ≤ (steps + 1) * blocks_of count size)))
 
--- so many blocks, of so many cells each but the last, which may be shorter
+-- this many blocks, all of the same size except the last, which may be shorter
 pub record IsCut (blocks : ℕ) (size : ℕ) (steps : ℕ) (count : ℕ) : Type 0 where
   pub some_blocks : 1 ≤ blocks
   pub some_cells : 1 ≤ size
@@ -61,16 +61,15 @@ pub record IsCut (blocks : ℕ) (size : ℕ) (steps : ℕ) (count : ℕ) : Type 
   pub whole : count ≤ blocks * size
   pub few_tasks : (steps + 1) * blocks < 2 ^ 20
 
--- Tasks are the blocks after each step, numbered step by step: task t is block t % blocks after t / blocks steps. One has a
--- block before it unless it is the first of its step, and one behind it unless it is the last: 1, or else 0.
+-- Tasks are the blocks after each step, numbered step by step: task t is block t % blocks after t / blocks steps. There is a
+-- block before it unless it is the first of its step, and one after it unless it is the last: 1, or else 0.
 abbrev pub befores : ℕ → ℕ → ℕ
 befores blocks t = if nat_lt 0 (t % blocks) then 1 else 0
 
 abbrev pub behinds : ℕ → ℕ → ℕ
 behinds blocks t = if nat_lt (t % blocks + 1) blocks then 1 else 0
 
--- the producer that fills slot s of task t: the block before, itself and the block behind, as far as they are there, one
--- step earlier
+-- the producer that fills slot s of task t: the block before, itself and the block after, as far as they exist, one step earlier
 abbrev pub source : ℕ → ℕ → ℕ → ℕ
 source blocks t s = t + s - (blocks + befores blocks t)
 
@@ -84,8 +83,8 @@ next_of next befores inputs =
     next (if nat_lt 0 befores then slice_index_or inputs 0 [] else []) (slice_index_or inputs befores [])
     (slice_index_or inputs (befores + 1) [])
 
--- The graph of so many steps. Blocks that lie together run at one node: each node has a range of them. Those after the
--- last step are kept.
+-- The graph of this many steps. Neighbouring blocks run at the same node: each node has a range of them. Those after the last
+-- step are kept.
 unfoldable pub block_graph : BlockStep → List ℤ → ℕ → ℕ → ℕ → TaskGraph
 block_graph next cells blocks size steps = record {
   tasks = (steps + 1) * blocks;
@@ -107,6 +106,6 @@ pub record LacksBlock (blocks steps : ℕ) (results : Results) : Type 0 where
   pub within : block < blocks
   pub none : All (λ r. r.0.0 ≢ steps * blocks + block) results
 
--- why there are no cells at the end: a block of the last step is not there, or there was no memory
+-- why there are no cells at the end: a block of the last step is missing, or an allocation failed
 abbrev pub IsCellsRefusal : ℕ → ℕ → Results → Refusal → Type 0
 IsCellsRefusal blocks steps results refusal = (refusal ≡ NoMemory) ⊎ ((refusal ≡ Missing) × LacksBlock blocks steps results)

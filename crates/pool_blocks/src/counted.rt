@@ -32,7 +32,7 @@ impl<'a, S: Stencil> Stencil for Counted<'a, S> {
         self.inner.takes(cells, size)
     }
 
-    /// What the stencil's own step makes. A block after a step is a task, which is counted then.
+    /// Computes the stencil's own step, and then counts the block as a task.
     #[inline]
     fn next(
         &self,
@@ -47,7 +47,7 @@ impl<'a, S: Stencil> Stencil for Counted<'a, S> {
     }
 }
 
-/// [`run_in_parts`]. A block after a step is counted as a task where there is a progress.
+/// Runs a stencil like [`run_in_parts`], and counts each block after a step as a task if there is a progress.
 pub fn run_in_parts_counted<S: Stencil, R: Threads + Wait + Sync>(
     rt: &R,
     alloc: Global,
@@ -73,7 +73,7 @@ pub fn run_in_parts_counted<S: Stencil, R: Threads + Wait + Sync>(
     }
 }
 
-/// The same, with its tasks counted.
+/// Runs the stencil with its tasks counted.
 fn run_in_parts_told<S: Stencil, R: Threads + Wait + Sync>(
     rt: &R,
     alloc: Global,
@@ -96,8 +96,8 @@ fn run_in_parts_told<S: Stencil, R: Threads + Wait + Sync>(
     run_in_parts(rt, alloc, counted, cells, size, steps, config)
 }
 
-/// Says that there are so many steps to do of so many cells, in blocks of so many, in parts of as many as one run takes at so many
-/// nodes.
+/// Sets the plan: this many steps of `cells` cells in blocks of `size`, in parts of as many steps as one run takes at
+/// `nodes` nodes.
 fn begin_steps(progress: &Progress, cells: usize, size: u32, steps: u64, nodes: u32) {
     let Some(part) = steps_at_once(cells as u64, size, nodes) else {
         return;

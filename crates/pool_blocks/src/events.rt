@@ -1,14 +1,15 @@
+//! How many events a run of steps takes, and so how many steps fit in one run.
 ghost use Rattle.std.specs.Prelude.{◌≡◌, ◌≤◌, ◌+◌, ◌-◌, ◌*◌, ◌/◌, max, MatchOption};
 ghost use Rattle.tp_base.specs.declared.limits.TheConstants.{MAX_STEPS};
 ghost use Rattle.pool_blocks.specs.RunEvents.{TakeNoStep, TakeSteps, step_events};
 
 use tp_base::MAX_STEPS;
 
-/// How many events are planned for a run of several steps: some are left for the waves that detect its end.
+/// The most events that are planned for a run of several steps. The rest is left for the waves that detect its end.
 const MOST_PLANNED: u64 = 1_000_000;
 
-/// How many steps of so many cells, in blocks of so many, one run takes at so many nodes: as many as the limit of events lets.
-/// None where there is no cell, a block is of none, or the events of a single step are above the limit.
+/// Returns how many steps of `cells` cells, in blocks of `size` cells, fit in one run at `nodes` nodes within the limit
+/// of events. `None` if there is no cell, `size` is 0, or the events of a single step exceed the limit.
 pub fn steps_at_once(cells: u64, size: u32, nodes: u32) -> Option<u64>
     ensures { MatchOption result (TakeNoStep cells size nodes) (TakeSteps cells size nodes) }
 {
@@ -26,7 +27,7 @@ pub fn steps_at_once(cells: u64, size: u32, nodes: u32) -> Option<u64>
     Some(planned_steps(3 * blocks, row))
 }
 
-/// The events of one step.
+/// Returns the number of events of one step.
 fn row_events(blocks: u64, nodes: u32) -> u64
     requires { (1 ≤ blocks) × (blocks ≤ MAX_STEPS) }
     ensures same { result ≡ step_events blocks nodes }
@@ -36,7 +37,8 @@ fn row_events(blocks: u64, nodes: u32) -> u64
     (3 * blocks - 2) + 2 * blocks + 3 * (2 * boundaries)
 }
 
-/// As many steps as are planned for a run whose first row takes so many events, and each step so many: one at least.
+/// Returns how many steps are planned for a run whose first row takes `first` events, and each step `row`: at least
+/// one.
 #[tactic(auto, using(crate::proofs::Planned::planned_fit))]
 fn planned_steps(first: u64, row: u64) -> u64
     requires { (1 ≤ row) × (first + row ≤ MAX_STEPS) }

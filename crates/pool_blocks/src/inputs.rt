@@ -1,8 +1,9 @@
+//! The inputs of a block's task.
 ghost use Rattle.std.specs.Prelude.{◌≡◌, slice_index_or, if◌then◌else◌, nat_lt, []};
 
 use tp_graph::Value;
 
-/// The cells of an input, or none where there is no such input.
+/// Returns the cells of an input, or no cells if there is no such input.
 pub(crate) fn cells_at(inputs: &[Value], slot: usize) -> &[i64]
     ensures { result.now ≡ slice_index_or inputs.now slot [] }
 {
@@ -12,7 +13,7 @@ pub(crate) fn cells_at(inputs: &[Value], slot: usize) -> &[i64]
     }
 }
 
-/// The cells of the block before, where there is one.
+/// Returns the cells of the block before, if there is one.
 pub(crate) fn cells_before(inputs: &[Value], befores: usize) -> &[i64]
     ensures { result.now ≡ (if nat_lt 0 befores then slice_index_or inputs.now 0 [] else []) }
 {

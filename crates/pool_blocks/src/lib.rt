@@ -1,5 +1,6 @@
-//! Pools over cells that their caller lends, worked on in blocks, step by step: generic over the [`Stencil`], which says
-//! what a block becomes at a step, from itself and its neighbours.
+//! Pools over cells that are borrowed from the caller and computed in blocks, step by step. They are generic over the
+//! [`Stencil`], which says what a block becomes at a step, from itself and its neighbours. Stencils themselves are in
+//! other crates.
 #![tactic(auto)]
 
 mod counted;

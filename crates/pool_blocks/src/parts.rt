@@ -1,3 +1,4 @@
+//! Runs of any number of steps, as several pools one after the other.
 ghost use Rattle.std.specs.Prelude.{◌≡◌, MatchResult, length};
 ghost use Rattle.pool_blocks.specs.Stencils.{AreSteps, after, block_graph, blocks_of};
 ghost use Rattle.pool_blocks.specs.Faults.{IsLentFault, IsPartFault};
@@ -13,9 +14,10 @@ use std::sync::Wait;
 use std::thread::Threads;
 use tp_work::Config;
 
-/// Cells after any number of steps of a stencil, worked out by pools of threads one after the other, each over the cells that
-/// the one before gave. `BadInput` where the stencil does not take so many cells in blocks of so many, or they take no step
-/// ([`steps_at_once`]), and else what [`run_steps`] answered for the part at which it ended.
+/// Returns the cells after any number of steps of a stencil, computed by pools of threads one after the other, each
+/// over the cells that the one before returned. Refused with `BadInput` if the stencil does not take this number of
+/// cells in blocks of this size, or they take no step ([`steps_at_once`]), and else as [`run_steps`] refuses the first
+/// part that has no result.
 pub fn run_in_parts<S: Stencil, R: Threads + Wait + Sync>(
     rt: &R,
     alloc: Global,
@@ -48,7 +50,7 @@ pub fn run_in_parts<S: Stencil, R: Threads + Wait + Sync>(
     Ok(made)
 }
 
-/// Cells after a part of the steps, which is known to be taken.
+/// Returns the cells after a part of the steps, which is known to be taken.
 fn run_part<S: Stencil, R: Threads + Wait + Sync>(
     rt: &R,
     alloc: Global,

@@ -1,3 +1,4 @@
+//! The cells after the last step, from a pool's results or from one thread.
 ghost use Rattle.std.specs.Prelude.{◌≡◌, IfOk, IfErr};
 ghost use Rattle.tp_base.specs.declared.Refusal.TheVariants.{NoMemory};
 ghost use Rattle.tp_graph.specs.Left.{AreKept};
@@ -9,8 +10,8 @@ use std::alloc::Global;
 use tp_base::{Refusal, TaskId};
 use tp_graph::{Value, places, serial, value_at};
 
-/// The cells after the last step, from the results of the tasks. Refused with `Missing` where a block of the last step has no
-/// result, and with `NoMemory` where memory is refused first.
+/// Returns the cells after the last step, from the results of the tasks. Refused with `Missing` if a block of the last
+/// step has no result, and with `NoMemory` if an allocation fails first.
 pub fn cells_of<S: Stencil>(
     alloc: Global,
     work: &Steps<S>,
@@ -34,8 +35,8 @@ pub fn cells_of<S: Stencil>(
     Ok(cells)
 }
 
-/// The cells after the last step, worked out on one thread. Refused only with `NoMemory`: no cell leaves 64 bits, so each
-/// task has a value.
+/// Returns the cells after the last step, computed on one thread. Refused only with `NoMemory`: every cell fits 64
+/// bits, so each task has a value.
 pub fn cells_by_one<S: Stencil>(alloc: Global, work: Steps<S>) -> Result<Vec<i64>, Refusal>
     ensures made { IfOk result (λ cells. cells.items ≡ after (S.step work.entry.stencil) work.entry.steps work.entry.cells.now) }
     ensures refused { IfErr result (λ refusal. refusal ≡ NoMemory) }
@@ -43,7 +44,7 @@ pub fn cells_by_one<S: Stencil>(alloc: Global, work: Steps<S>) -> Result<Vec<i64
     let results = match serial(alloc, work.copied()) {
         Ok(results) => results,
         Err(refusal) => {
-            // No body fails, since no cell leaves 64 bits: those that were lent fit, as reading them shows.
+            // No body fails, since every cell fits 64 bits. That the borrowed ones fit is known from reading them.
             work.read_cells();
             return Err(refusal);
         }

@@ -1,3 +1,4 @@
+//! Running the steps that fit in one pool.
 ghost use Rattle.std.specs.Prelude.{◌≡◌, MatchResult};
 ghost use Rattle.pool_blocks.specs.Stencils.{after, block_graph};
 ghost use Rattle.pool_blocks.specs.Faults.{IsLentFault};
@@ -12,8 +13,9 @@ use std::thread::Threads;
 use tp_base::Refusal;
 use tp_work::{Config, OpenGate, run_pool};
 
-/// Cells after so many steps of a stencil, worked out by a pool of threads, which ended. Refused: `Run` with what
-/// [`run_pool`] answered where it was refused, and `Unmade` with its outcome where there was no memory for the cells.
+/// Returns the cells after the given steps of a stencil, computed by one pool of threads. Refused with `Run` and the
+/// fault of [`run_pool`] if the pool was refused, and with `Unmade` and its outcome if the allocation of the cells
+/// failed.
 pub fn run_steps<S: Stencil, R: Threads + Wait + Sync>(
     rt: &R,
     alloc: Global,
@@ -35,7 +37,7 @@ pub fn run_steps<S: Stencil, R: Threads + Wait + Sync>(
             Ok(made) => Ok(made),
             Err(refusal) => match refusal {
                 Refusal::NoMemory => Err(LentFault::Unmade(outcome)),
-                // Of a pool that ended each task has a result, so that no block is missing.
+                // In a pool that ended each task has a result, so no block is missing.
                 _ => unreachable!(),
             },
         },

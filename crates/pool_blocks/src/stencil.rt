@@ -1,10 +1,12 @@
+//! The trait of stencils, with its laws.
 ghost use Rattle.std.specs.Prelude.{◌≡◌, ℕ, Bool, true, IfOk};
 ghost use Rattle.tp_graph.specs.Values.{all_fit};
 ghost use Rattle.pool_blocks.specs.Stencils.{BlockStep, IsByBlocks, KeepsFit, KeepsLength, Step};
 
 use std::alloc::{AllocError, Global};
 
-/// What cells become at a step. It is said twice, of all cells and of a block with its neighbours, and the two agree.
+/// A stencil: what cells become at a step. It is defined twice, for all cells and for a block with its neighbours, and
+/// the two agree.
 pub trait Stencil: Copy + Send + Sync {
     ghost step: { Self → Step };
 
@@ -12,12 +14,12 @@ pub trait Stencil: Copy + Send + Sync {
 
     ghost takes: { Self → ℕ → ℕ → Bool };
 
-    /// Whether so many cells can be worked on in blocks of so many.
+    /// Returns whether `cells` cells can be computed in blocks of `size`.
     fn takes(&self, cells: usize, size: u32) -> bool
         ensures { result ≡ takes self.now cells size };
 
-    /// A block after a step, from the block before it, itself and the block behind it; a neighbour that is not there has no
-    /// cells.
+    /// Returns a block after a step, from the block before it, itself and the block after it. A neighbour that does not
+    /// exist has no cells.
     fn next(
         &self,
         alloc: Global,
@@ -33,6 +35,6 @@ pub trait Stencil: Copy + Send + Sync {
     /// A block of the cells after a step is what the block becomes.
     ghost by_blocks: { (stencil : Self) → IsByBlocks (takes stencil) (step stencil) (next stencil) };
 
-    /// No cell leaves 64 bits.
+    /// Every cell fits 64 bits.
     ghost fit: { (stencil : Self) → KeepsFit (next stencil) };
 }

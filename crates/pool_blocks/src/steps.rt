@@ -1,3 +1,4 @@
+//! Steps of a stencil in blocks, as a graph.
 ghost use Rattle.std.specs.Prelude.{◌≡◌, ◌<◌, ◌≤◌, ◌+◌, ◌-◌, ◌*◌, ◌^◌, ⊤, pos, true, length, slice_index_or, IfNone, IfSome};
 ghost use Rattle.tp_graph.specs.Blocks.{block_of};
 ghost use Rattle.tp_graph.specs.Values.{all_fit, fits};
@@ -10,7 +11,7 @@ use std::alloc::{AllocError, Global};
 use tp_base::{NodeId, Refusal, TaskId};
 use tp_graph::{Graph, Value};
 
-/// Steps of a stencil over some cells, which are worked on in blocks: a task is a block after so many steps.
+/// Steps of a stencil over some cells in blocks, as a graph: a task is a block after a number of steps.
 pub struct Steps<'a, S: Stencil> {
     stencil: S,
     cells: &'a [i64],
@@ -22,9 +23,9 @@ pub struct Steps<'a, S: Stencil> {
 }
 
 impl<'a, S: Stencil> Steps<'a, S> {
-    /// So many steps of a stencil over some cells, which are lent, in blocks of so many. None where there is no cell, a
-    /// block is of none, the stencil does not take so many cells in blocks of so many, or the tasks, one for each block
-    /// after each step, would be 1,048,576 or more.
+    /// Returns `steps` steps of a stencil over borrowed cells in blocks of `size`. `None` if there is no cell, `size`
+    /// is 0, the stencil does not take this number of cells in blocks of this size, or the number of tasks, one for
+    /// each block after each step, would be 1,048,576 or more.
     pub fn new(stencil: S, cells: &'a [i64], size: u32, steps: u32) -> Option<Self>
         ensures made { IfSome result
             (λ work. (work.stencil ≡ stencil) × (work.cells.now ≡ cells.now) × (work.blocks ≡ blocks_of (length cells.now) size)
@@ -52,7 +53,7 @@ impl<'a, S: Stencil> Steps<'a, S> {
         })
     }
 
-    /// The same steps again: they have the same graph.
+    /// Returns the same steps again, which have the same graph.
     pub fn copied(&self) -> Self
         ensures { block_graph (S.next result.stencil) result.cells.now result.blocks result.size result.steps
             ≡ block_graph (S.next self.now.stencil) self.now.cells.now self.now.blocks self.now.size self.now.steps }
@@ -66,7 +67,7 @@ impl<'a, S: Stencil> Steps<'a, S> {
         }
     }
 
-    /// How many blocks there are.
+    /// Returns the number of blocks.
     pub(crate) fn blocks(&self) -> u32
         ensures same { result ≡ self.now.blocks }
         ensures few { (self.now.steps + 1) * result < 2 ^ 20 }
@@ -74,14 +75,14 @@ impl<'a, S: Stencil> Steps<'a, S> {
         self.blocks
     }
 
-    /// How many steps there are.
+    /// Returns the number of steps.
     pub(crate) fn steps(&self) -> u32
         ensures { result ≡ self.now.steps }
     {
         self.steps
     }
 
-    /// Reads each cell as it was lent: what is read is known to fit 64 bits.
+    /// Reads each cell, which shows that it fits 64 bits.
     pub(crate) fn read_cells(&self)
         ensures { all_fit self.now.cells.now ≡ true }
     {
@@ -108,7 +109,7 @@ impl<'a, S: Stencil> Clone for Steps<'a, S> {
 
 impl<'a, S: Stencil> Copy for Steps<'a, S> {}
 
-/// A block of some cells, which are cut into so many of so many cells each but the last.
+/// Returns a block of some cells, which are cut into `blocks` blocks of `size` cells, except the last.
 fn block_at(cells: &[i64], blocks: u32, size: u32, block: u32) -> &[i64]
     requires known { block < blocks }
     requires none_empty { (blocks - 1) * size < length cells.now }
@@ -120,7 +121,7 @@ fn block_at(cells: &[i64], blocks: u32, size: u32, block: u32) -> &[i64]
     block
 }
 
-/// Whether a task's block has one before it: 1, or else 0.
+/// Returns 1 if there is a block before a task's block, and else 0.
 fn befores(blocks: u32, task: TaskId) -> u32
     requires { 1 ≤ blocks }
     ensures { result ≡ befores blocks task.0 }
@@ -128,7 +129,7 @@ fn befores(blocks: u32, task: TaskId) -> u32
     if 0 < task.0 % blocks { 1 } else { 0 }
 }
 
-/// Whether a task's block has one behind it: 1, or else 0.
+/// Returns 1 if there is a block after a task's block, and else 0.
 fn behinds(blocks: u32, task: TaskId) -> u32
     requires { 1 ≤ blocks }
     ensures { result ≡ behinds blocks task.0 }
@@ -136,7 +137,7 @@ fn behinds(blocks: u32, task: TaskId) -> u32
     if task.0 % blocks + 1 < blocks { 1 } else { 0 }
 }
 
-/// Reads each cell: what is read is known to fit 64 bits.
+/// Reads each cell, which shows that it fits 64 bits.
 fn read_all(cells: &[i64])
     ensures { all_fit cells.now ≡ true }
 {
@@ -145,7 +146,7 @@ fn read_all(cells: &[i64])
     }
 }
 
-/// The cell at a place.
+/// Returns the cell at a position.
 fn read(cells: &[i64], place: usize) -> i64
     requires { place < length cells.now }
     ensures same { result ≡ slice_index_or cells.now place (pos 0) }
@@ -194,7 +195,7 @@ impl<'a, S: Stencil> Graph for Steps<'a, S> {
         NodeId(task.0 % self.blocks * nodes / self.blocks)
     }
 
-    /// The blocks after the last step.
+    /// Keeps the blocks after the last step.
     fn keeps(&self, task: TaskId) -> bool {
         self.steps * self.blocks <= task.0
     }

@@ -1,4 +1,4 @@
--- Rows of sums, to which products are added place by place.
+-- Rows of sums, to which products are added position by position.
 use Rattle.std.proofs.Common.{◌≡◌, ◌≢◌, ◌<◌, ◌≤◌, ◌+◌, ◌^◌, ◌&&◌, ◌⊎◌, ℕ, zero, suc, ℤ, pos, negsuc, ◌+ℤ◌, List, [], ◌∷◌, length}
 use Rattle.std.proofs.Common.{get_or, set, Option, Some, None, Bool, true, false, if◌then◌else◌, inl, inr, refl, ap, sym, ◌∙◌, ⊎_elim}
 use Rattle.std.proofs.Common.{subst, arith, rules, get_or-set_same, get_or-set_other, length-set}
@@ -10,7 +10,7 @@ use Rattle.tp_graph.proofs.Fits.{fits-from}
 use Rattle.tp_graph.proofs.Made.{some_same}
 use Rattle.pool_matrix.specs.Matrices.{more}
 
--- a list that has f at each place is what is gathered
+-- a list that has f at each position is the gathered one
 pub gather_from : {A : Type 0} (n : ℕ) (f : ℕ → Option A) (xs : List A) (d : A) → length xs ≡ n
     → ((e : ℕ) → e < n → f e ≡ Some (get_or xs e d)) → gather n f ≡ Some xs
 gather_from zero f [] d long each = refl
@@ -29,7 +29,7 @@ then-fails (Some x) k e = inr (x, refl, e)
 some-is-none : {A : Type 0} (x : A) → Some x ≡ None → ⊥
 some-is-none x e = absurd (search rules)
 
--- where nothing is gathered, one number is none
+-- if nothing is gathered, one number is none
 pub gather_lacks : {A : Type 0} (n : ℕ) (f : ℕ → Option A) → gather n f ≡ None → (e : ℕ) × (e < n) × (f e ≡ None)
 gather_lacks {A} zero f h = absurd (some-is-none {A = List A} [] h)
 gather_lacks {A} (suc n) f h =
@@ -43,14 +43,11 @@ gather_lacks {A} (suc n) f h =
     (then-fails (gather n (λ s. f (suc s))) (λ rest. Some (some.0 ∷ rest)) some.2))
     (then-fails (f 0) (λ x. then_some (gather n (λ s. f (suc s))) (λ rest. Some (x ∷ rest))) h)
 
--- the first numbers of a row are worked out, and the later ones are as they were
+-- the first numbers of a row are computed, and the later ones are unchanged
 pub record IsPartly (count : ℕ) (f : ℕ → Option ℤ) (before now : List ℤ) : Type 0 where
   pub long : length now ≡ length before
   pub done : (k : ℕ) → k < count → f k ≡ Some (get_or now k (pos 0))
   pub later : (k : ℕ) → count ≤ k → get_or now k (pos 0) ≡ get_or before k (pos 0)
-
-pub none_partly : (f : ℕ → Option ℤ) (before : List ℤ) → IsPartly 0 f before before
-none_partly f before = record { long = refl; done = λ k h. absurd (omega arith); later = λ k h. refl }
 
 pub one_partly : (count : ℕ) (f : ℕ → Option ℤ) (before now : List ℤ) (next : ℤ) → IsPartly count f before now → count < length now
     → f count ≡ Some next →
@@ -70,7 +67,7 @@ pub all_partly : (count : ℕ) (f : ℕ → Option ℤ) (before now : List ℤ) 
     → gather count f ≡ Some now
 all_partly count f before now kept long = gather_from count f now (pos 0) long kept.done
 
--- the last numbers of a row are worked out, and the earlier ones are as they were
+-- the last numbers of a row are computed, and the earlier ones are unchanged
 pub record IsPartlyDown (count : ℕ) (f : ℕ → Option ℤ) (before now : List ℤ) : Type 0 where
   pub long : length now ≡ length before
   pub done : (k : ℕ) → count ≤ k → k < length before → f k ≡ Some (get_or now k (pos 0))
@@ -96,14 +93,14 @@ pub all_partly_down : (count : ℕ) (f : ℕ → Option ℤ) (before now : List 
 all_partly_down count f before now kept long =
     gather_from count f now (pos 0) (kept.long ∙ long) (λ k h. kept.done k (omega arith) (omega (arith, long)))
 
--- how far a sum may be from 0
+-- a bound on the absolute value of a sum
 pub abs_sum : (x y : ℤ) → unsigned_abs (x +ℤ y) ≤ unsigned_abs x + unsigned_abs y
 abs_sum (pos a) (pos b) = omega arith
 abs_sum (pos a) (negsuc b) = grind (arith, ints)
 abs_sum (negsuc a) (pos b) = grind (arith, ints)
 abs_sum (negsuc a) (negsuc b) = omega arith
 
--- where no number can leave 64 bits, a sum and one more is their sum
+-- if every number fits 64 bits, a sum and one more is their sum
 pub more_small : (sum number : ℤ) → unsigned_abs sum + unsigned_abs number < 2 ^ 63 → more sum number ≡ Some (sum +ℤ number)
 more_small sum number h =
     let one : fits number ≡ true = fits-from number (omega arith) in

@@ -4,15 +4,15 @@ use Rattle.std.proofs.Common.{if◌then◌else◌, refl, sym, ap, inl, inr, arit
 use Rattle.std.proofs.lemmas.Bool.{cases_lt, eq-eqb, ne_eqb}
 use Rattle.std.proofs.lemmas.Bool.Decides.{nat_tests}
 use Rattle.std.proofs.lemmas.Nat.{div-add-mod', div-mul-add, mod-mul-add, mul-le}
-use Rattle.tp_wave.proofs.Totals.{total-equal, total_more}
-use Rattle.tp_wave.specs.Sums.{total}
+use Rattle.tp_base.proofs.Totals.{total-equal, total_more}
+use Rattle.tp_base.specs.Totals.{total}
 use Rattle.tp_graph.proofs.Counted.{events_counted}
 use Rattle.tp_graph.proofs.Totals.{total-add, total-const}
 use Rattle.tp_graph.specs.Events.{crossing, messages_from, messages_of, task_events}
 use Rattle.pool_matrix.specs.Events.{ProductEventsLaw, ProductStepsLaw, events_of_messages, events_of_tasks}
 use Rattle.pool_matrix.specs.Matrices.{matrix_graph}
 
--- a number and the next lie at the same of one node, and at others of several
+-- a number and the next one are at the same of one node, and at different ones of several
 one-node : (x nodes : ℕ) → nodes ≡ 1 → x % nodes ≡ 0
 one-node x nodes is = rw is (omega arith)
 
@@ -27,11 +27,11 @@ next-node x nodes many same =
       | inr le ↦ absurd (omega (arith, parts, later, same, mul-le p nodes q nodes le (omega arith)))
     ]
 
--- 1 where there are several nodes
+-- 1 if there are several nodes
 abbrev several : ℕ → ℕ
 several nodes = if nat_lt 1 nodes then 1 else 0
 
--- whether two tasks in a row lie apart
+-- whether two consecutive tasks are at different nodes
 abbrev apart : ℕ → ℕ → ℕ
 apart x nodes = if x % nodes == (x + 1) % nodes then 0 else 1
 
@@ -94,7 +94,7 @@ module _ (left right : List ℤ) (tiles side nodes : ℕ) (one : 1 ≤ nodes) wh
       let fails : nat_lt (c + 1) tiles ≡ false = grind (arith, nat_tests) in
       rw (column, fails) refl
 
-  -- the columns of a row, so many of them
+  -- the columns of a row, up to this count
   columns : (q n : ℕ) → n + 1 ≡ tiles
       → total (n + 1) (λ c. messages_from nodes (matrix_graph left right tiles side) (q * tiles + c)) ≡ n * several nodes
   columns q n is =

@@ -1,4 +1,4 @@
--- A row of sums that is worked out part by part, and by four products at a time.
+-- A row of sums that is computed part by part, and by four products at a time.
 use Rattle.std.proofs.Common.{◌≡◌, ◌<◌, ◌≤◌, ◌+◌, ◌*◌, ◌^◌, ℕ, ℤ, pos, ◌+ℤ◌, ◌*ℤ◌, List, length, get_or, Option, Some, None}
 use Rattle.std.proofs.Common.{refl, ap, sym, ◌∙◌, subst, arith, w64, to_z, of_z, FitsSigned}
 use Rattle.std.specs.Prelude.{unsigned_abs}
@@ -33,7 +33,7 @@ module _ (order : ℕ) (lefts rights : List ℤ) (x y start side : ℕ) where
       gather-same side (row_entry order lefts rights x y start 1 sums) (one_more sums left right) each
       ∙ ap (λ n. gather n (one_more sums left right)) (sym long)
 
-  -- a row whose sums go on from where they were
+  -- a row whose sums continue from where they were
   pub rows_joined : (some later : ℕ) (before sums : List ℤ) → gather side (row_entry order lefts rights x y start some before) ≡ Some sums
       → gather side (row_entry order lefts rights x y start (some + later) before)
       ≡ gather side (row_entry order lefts rights x y (start + some) later sums)
@@ -62,7 +62,7 @@ module _ (order : ℕ) (lefts rights : List ℤ) (x y start side : ℕ) where
       gather_fails side lack.0 (row_entry order lefts rights x y start later before) lack.1
       (none_stays (get_or before lack.0 (pos 0)) start some later (term order lefts rights x (y + lack.0)) lack.2 h)
 
--- four numbers more, where no sum on the way can leave 64 bits
+-- four numbers more, if every sum on the way fits 64 bits
 pub running_four : (s : ℤ) (start : ℕ) (f : ℕ → ℤ)
     → unsigned_abs s + unsigned_abs (f start) + unsigned_abs (f (start + 1)) + unsigned_abs (f (start + 2))
     + unsigned_abs (f (start + 3)) < 2 ^ 63
@@ -89,7 +89,7 @@ product_within : (l r : ℤ) (largest : ℕ) → unsigned_abs r ≤ largest → 
 product_within l r largest h =
     omega (arith, unsigned_abs-mul l r, mul-le (unsigned_abs l) (unsigned_abs r) (unsigned_abs l) largest (omega arith) h)
 
--- no sum of a row leaves what was added up for it
+-- no sum of a row exceeds what was added up for it
 pub four_small : (order : ℕ) (lefts rights : List ℤ) (x y start largest reach next : ℕ) (s : ℤ) → unsigned_abs s ≤ reach
     → ((z : ℕ) → z < 4 → unsigned_abs (entry order rights (start + z) y) ≤ largest) →
     reach
@@ -113,7 +113,7 @@ four_small order lefts rights x y start largest reach next s sum_in right_in bou
       sum_in,
     )
 
--- nor do they leave it once they are worked out
+-- nor does it once it is computed
 pub four_within : (order : ℕ) (lefts rights : List ℤ) (x y start largest reach next : ℕ) (before now : List ℤ)
     → AreWithin reach before
     → ((z n : ℕ) → z < 4 → n < length before → unsigned_abs (entry order rights (start + z) (y + n)) ≤ largest) →

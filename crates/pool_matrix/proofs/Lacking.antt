@@ -60,7 +60,7 @@ lacking tiles side order b task tasks results places shown some o rows h is coun
       none = λ k d within e. missing tasks (subst (ArePlaces tasks results) (sym same) kept) inside k d within (e ∙ sym is);
     }
 
--- where each number is there, no tile lacks a result
+-- if each number is there, no tile lacks a result
 pub none_lacks : (tiles side order b : ℕ) (results : Results) → 1 ≤ side → order ≡ tiles * side → order * order ≤ b →
     ((place : ℕ) → place < b → HasOne results (last_task tiles side (place / (tiles * side)) (place % (tiles * side))))
     → LacksTile tiles results → ⊥
@@ -91,7 +91,7 @@ all_there left right tiles side results values lack =
     let d : TaskId × List ℤ = (record { 0 = 0 }, []) in
     lack.none t d (omega (arith, values.long, inside)) (values.rise t d inside)
 
--- where no tile lacks a result, only memory can be refused
+-- if no tile lacks a result, only an allocation can fail
 pub only_memory : (tiles : ℕ) (results : Results) (refusal : Refusal) → (LacksTile tiles results → ⊥)
     → IsMatrixRefusal tiles results refusal → refusal ≡ NoMemory
 only_memory tiles results refusal whole why = ⊎_elim (λ e. e) (λ t. absurd (whole t.1)) why

@@ -1,4 +1,4 @@
--- Why a run of a product gives nothing.
+-- Why a run of a product has no result.
 use Rattle.std.proofs.Common.{◌≡◌, ◌<◌, ◌≤◌, ◌+◌, ◌-◌, ◌*◌, ◌/◌, ℕ, ℤ, List, sym, ap, ◌∙◌, ⊎_elim}
 use Rattle.std.proofs.Common.{arith}
 use Rattle.std.proofs.lemmas.Nat.{div-mul-add, mul-add-lt}
@@ -35,7 +35,7 @@ pub product_kept : (n workers : ℕ) (left right : List ℤ) (tiles side : ℕ) 
     → IsOutcome n workers (matrix_graph left right tiles side) o → AreKept (matrix_graph left right tiles side) o.results.items
 product_kept n workers left right tiles side o is = results_kept (matrix_graph left right tiles side) o.results.items is.right
 
--- the graph of the product, by what was lent
+-- the graph of the product, by what was borrowed
 pub product-graph : (product_left product_right left right : List ℤ) (tiles product_side order side : ℕ) → 1 ≤ side →
     (product_left ≡ left) × (product_right ≡ right) × (tiles * product_side ≡ order) × (product_side ≡ side) →
     matrix_graph product_left product_right tiles product_side ≡ matrix_graph left right (order / side) side

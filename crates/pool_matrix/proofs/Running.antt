@@ -1,10 +1,10 @@
-use Rattle.std.proofs.Common.{◌≡◌, ◌≢◌, ◌<◌, ◌≤◌, ◌+◌, ◌*◌, ◌/◌, ◌%◌, ◌^◌, ℕ, zero, suc, ℤ, List, [], ◌∷◌, ◌++◌, Option, Some, None, true}
+-- Running sums, which fail if an intermediate number does not fit 64 bits.
+use Rattle.std.proofs.Common.{◌≡◌, ◌≢◌, ◌<◌, ◌≤◌, ◌+◌, ◌*◌, ◌/◌, ◌%◌, ◌^◌, ℕ, zero, suc, ℤ, List, [], ◌∷◌, ◌++◌, Option, Some, None}
 use Rattle.std.proofs.Common.{refl, ap, sym, ◌∙◌, ⊎_elim, add-one, add-zero, add-suc, arith, rules}
 use Rattle.std.proofs.lemmas.Bool.{cases_eq}
 use Rattle.std.proofs.lemmas.Nat.{mul-le, div_below}
-use Rattle.tp_graph.specs.Values.{then_some, gather, fits, all_fit}
+use Rattle.tp_graph.specs.Values.{then_some, gather}
 use Rattle.pool_matrix.specs.Matrices.{more, running}
-use Rattle.tp_graph.proofs.Fits.{fit-push}
 use Rattle.tp_graph.proofs.Made.{some_same, then_some-is}
 
 -- one number more
@@ -27,7 +27,7 @@ none_stays first start (suc count) (suc later) f e h =
     then_some o (λ s. more s (f (start + later)))) (none_stays first start (suc count) later f e (omega (arith, other))))
     (cases_eq count later)
 
--- a sum goes on from where it was
+-- a sum continues from where it was
 pub running_joined : (first : ℤ) (start some more_of : ℕ) (f : ℕ → ℤ) (sum : ℤ) → running first start some f ≡ Some sum
     → running first start (some + more_of) f ≡ running sum (start + some) more_of f
 running_joined first start some zero f sum e = rw (add-zero some) e
@@ -52,7 +52,7 @@ then-none : {A B : Type 0} (o : Option A) → then_some {B = B} o (λ x. None) �
 then-none None = refl
 then-none (Some x) = refl
 
--- where one number is none, nothing is gathered
+-- if one number is none, nothing is gathered
 pub gather_fails : {A : Type 0} (n e : ℕ) (f : ℕ → Option A) → e < n → f e ≡ None → gather n f ≡ None
 gather_fails zero e f h none = absurd (omega arith)
 gather_fails (suc n) zero f h none = ap (λ o. then_some o (λ x. then_some (gather n (λ s. f (suc s))) (λ rest. Some (x ∷ rest)))) none
@@ -60,13 +60,7 @@ gather_fails {A} (suc n) (suc e) f h none =
     ap (λ o. then_some (f 0) (λ x. then_some o (λ rest. Some (x ∷ rest)))) (gather_fails n e (λ s. f (suc s)) (omega arith) none)
     ∙ then-none (f 0)
 
--- one more number of a tile
-pub tile_more : (n : ℕ) (f : ℕ → Option ℤ) (made : List ℤ) (next : ℤ) → gather n f ≡ Some made → all_fit made ≡ true → f n ≡ Some next
-    → fits next ≡ true →
-    (gather (n + 1) f ≡ Some (made ++ next ∷ [])) × (all_fit (made ++ next ∷ []) ≡ true)
-tile_more n f made next e fit h small = (ap (λ m. gather m f) (add-one n) ∙ gather_more n f made next e h, fit-push made next fit small)
-
--- the tiles of a task lie within the matrices
+-- the tiles of a task are within the matrices
 pub places_within : (t tiles side : ℕ) → 1 ≤ tiles → t < tiles * tiles * tiles →
     (t / tiles / tiles * side + side ≤ tiles * side) × (t / tiles % tiles * side + side ≤ tiles * side)
     × (t % tiles * side + side ≤ tiles * side)
@@ -79,7 +73,7 @@ places_within t tiles side some h =
       within (t % tiles) (omega arith),
     )
 
--- 102 tiles along a side make too many tasks
+-- 102 tiles along a side give too many tasks
 pub too_many : (tiles : ℕ) → 101 < tiles → 2 ^ 20 ≤ tiles * tiles * tiles
 too_many tiles h =
     let square : 102 * 102 ≤ tiles * tiles = mul-le 102 102 tiles tiles (omega arith) (omega arith) in

@@ -1,4 +1,4 @@
--- A tile whose rows are worked out one after another.
+-- A tile whose rows are computed one after another.
 use Rattle.std.proofs.Common.{◌≡◌, ◌<◌, ◌≤◌, ◌+◌, ◌-◌, ◌*◌, ◌/◌, ◌%◌, ℕ, zero, suc, ℤ, pos, List, [], ◌∷◌, length, get_or, take, drop}
 use Rattle.std.proofs.Common.{Option, Some, None, true, refl, ap, sym, ◌∙◌, ⊎_elim, subst, arith, rules}
 use Rattle.std.proofs.lemmas.Bool.{cases_lt, and_from}
@@ -44,7 +44,7 @@ put_above : (tile now : List ℤ) (a w k : ℕ) → a + w ≤ length tile → le
     → get_or (put_mid a w tile now) k (pos 0) ≡ get_or tile k (pos 0)
 put_above tile now a w k h e p = search (rules, places)
 
--- the last row ends where the tile does
+-- the last row ends at the end of the tile
 pub row_inside : (row side : ℕ) → row < side → row * side + side ≤ side * side
 row_inside row side h = omega (arith, mul-le (row + 1) side side side (omega arith) (omega arith))
 
@@ -110,7 +110,7 @@ module _ (order side : ℕ) (lefts rights : List ℤ) (i j k : ℕ) (before begu
           later = λ e h. put_above tile now (row * side) w e room wide (omega (arith, w_is)) ∙ kept.later e (omega arith);
         }
 
-    -- where a row fails, so does the tile
+    -- if a row fails, so does the tile
     pub tile_fails : gather (length part) (row_entry order lefts rights (i * side + row) (j * side) (k * side) (length part) part) ≡ None
         → gather (side * side) f ≡ None
     tile_fails failed =

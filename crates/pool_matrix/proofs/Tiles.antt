@@ -1,3 +1,4 @@
+-- The values of the tasks are the tiles of partial sums.
 use Rattle.std.proofs.Common.{◌≡◌, ◌<◌, ◌≤◌, ◌+◌, ◌-◌, ◌*◌, ◌/◌, ◌%◌, ◌++◌, ℕ, zero, suc, ℤ, pos, ◌+ℤ◌, List, [], ◌∷◌, length, get_or, Some}
 use Rattle.std.proofs.Common.{None, Bool, true, false, IsTrue, if◌then◌else◌, nat_eq, refl, ap, sym, ◌∙◌, add-one, subst, arith}
 use Rattle.std.proofs.lemmas.Bool.{eq-eqb}
@@ -45,7 +46,7 @@ module _ (left right : List ℤ) (tiles side : ℕ) (kept : IsProduct tiles side
   abbrev part : ℕ → ℕ → ℕ → ℕ → ℤ
   part i j e = term (tiles * side) left right (i * side + e / side) (j * side + e % side)
 
-  -- a tile has the sums over so many z
+  -- a tile has the sums over this many z
   abbrev pub IsTile : ℕ → ℕ → ℕ → List ℤ → Type 0
   IsTile i j upto value = (e : ℕ) → e < side * side → get_or value e (pos 0) ≡ sum_to upto (part i j e)
 
@@ -62,7 +63,7 @@ module _ (left right : List ℤ) (tiles side : ℕ) (kept : IsProduct tiles side
       let upper : i * tiles + j < tiles * tiles = omega (arith, mul-add-lt i tiles j tiles p q) in
       omega (arith, mul-add-lt (i * tiles + j) tiles k (tiles * tiles) upper r)
 
-  -- the value of task (i, j, k), where it has one, is tile (i, j) of the sums over the z of the first k + 1 tiles
+  -- the value of task (i, j, k), if it has one, is tile (i, j) of the sums over the z of the first k + 1 tiles
   pub tile_after : (i j k : ℕ) (value : List ℤ) → i < tiles → j < tiles → k < tiles
       → value_of (matrix_graph left right tiles side) ((i * tiles + j) * tiles + k) ≡ Some value → IsTile i j ((k + 1) * side) value
   unfolding matrix_graph

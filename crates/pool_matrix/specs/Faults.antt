@@ -1,10 +1,10 @@
--- Why a run of a product gives nothing, by cases of the fault that is returned.
+-- Why a run of a product has no result, by cases of the returned fault.
 use Rattle.std.specs.Prelude.{ℕ, ℤ, ◌/◌, List, length}
 use Rattle.pool_blocks.specs.Faults.{IsLentFault}
 use Rattle.pool_blocks.specs.declared.fault.LentFault.{LentFault}
 use Rattle.pool_matrix.specs.Matrices.{AreNoMatrices, matrix_graph}
 
--- the lists are no such matrices, or their pool gave no product
+-- the lists are no such matrices, or their pool has no product
 abbrev pub IsProductFault : ℕ → ℕ → List ℤ → List ℤ → ℕ → ℕ → LentFault → Type 0
 IsProductFault n workers left right order side =
     IsLentFault n workers (AreNoMatrices order side (length left) (length right))

@@ -1,4 +1,4 @@
--- How many events a run of a product that ended has taken, as far as its outcome tells.
+-- How many events a finished run of a product took, as far as its outcome shows.
 use Rattle.std.specs.Prelude.{ℕ, ◌≡◌, ◌≤◌, ℤ, List}
 use Rattle.tp_wave.specs.Machine.{steps_of}
 use Rattle.tp_wave.specs.Steps.{count}
@@ -9,7 +9,7 @@ use Rattle.tp_graph.specs.Events.{is_work}
 use Rattle.pool_matrix.specs.Events.{product_events}
 use Rattle.pool_matrix.specs.Matrices.{matrix_graph}
 
--- Where each task got its inputs and each feed to another node was a message, a product in tiles took exactly the events that are
+-- If each task got its inputs and each feed to another node was a message, a product in tiles took exactly the events that are
 -- counted beforehand.
 abbrev pub ProductRunLaw : Type 0
 ProductRunLaw = (left right : List ℤ) (tiles side n workers : ℕ) (o : Outcome) → 1 ≤ n

@@ -1,15 +1,15 @@
--- How a row of a tile is worked out, sum by sum.
+-- How a row of a tile is computed, sum by sum.
 use Rattle.std.specs.Prelude.{◌<◌, ◌≤◌, ◌+◌, ◌*ℤ◌, ℕ, ℤ, pos, List, length, unsigned_abs, slice_index_or, Option}
 use Rattle.pool_matrix.specs.Matrices.{term, more, running}
 
--- no number of a list is farther from 0 than a bound
+-- no number of a list has an absolute value above this bound
 abbrev pub AreWithin : ℕ → List ℤ → Type 0
 AreWithin bound numbers = (n : ℕ) → n < length numbers → unsigned_abs (slice_index_or numbers n (pos 0)) ≤ bound
 
--- sum n of a row and one product more: a number of the left times number n of the right
+-- sum n of a row plus one product: a number of the left times number n of the right
 abbrev pub one_more : List ℤ → ℤ → List ℤ → ℕ → Option ℤ
 one_more sums left right n = more (slice_index_or sums n (pos 0)) (left *ℤ slice_index_or right n (pos 0))
 
--- sum n of a row that begins at column y of row x, with the products of so many z from a start on more
+-- sum n of a row that begins at column y of row x, plus the products of this many z from a start on
 abbrev pub row_entry : ℕ → List ℤ → List ℤ → ℕ → ℕ → ℕ → ℕ → List ℤ → ℕ → Option ℤ
 row_entry order left right x y start count sums n = running (slice_index_or sums n (pos 0)) start count (term order left right x (y + n))

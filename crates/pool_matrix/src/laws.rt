@@ -1,7 +1,8 @@
+//! How many events a product takes, as a law: a call whose postcondition is the theorem.
 ghost use Rattle.pool_matrix.specs.Events.{ProductEventsLaw, ProductStepsLaw};
 
-/// The events of a product in tiles are those that are counted on its graph, and there are as many steps of tasks and messages in a
-/// list that works the graph out.
+/// States that the number of events of a product in tiles is the number counted on its graph. Any list of steps that
+/// computes the graph has that number of steps of tasks and messages.
 #[tactic(auto, using(crate::proofs::Events::events_law, crate::proofs::Events::steps_law))]
 pub fn product_events_are_counted()
     ensures events { ProductEventsLaw }

@@ -1,3 +1,4 @@
+//! The product of two borrowed matrices in tiles, as a graph.
 ghost use Rattle.std.specs.Prelude.{◌≡◌, ◌<◌, ◌≤◌, ◌+◌, ◌-◌, ◌*◌, ◌/◌, ◌%◌, ◌^◌, length, IfNone, IfSome};
 ghost use Rattle.pool_matrix.specs.Matrices.{AreMatrices, AreNoMatrices, IsProduct, matrix_graph};
 ghost use Rattle.pool_matrix.specs.MatrixLaws.{matrix_lawful};
@@ -19,9 +20,9 @@ pub struct Product<'a> {
 }
 
 impl<'a> Product<'a> {
-    /// Two matrices of so many rows and columns, which are lent row by row, in tiles of so many. None where the tiles
-    /// do not fill them, where they are of no or of 32,768 or more rows, where a list is not full, or where the tasks
-    /// would be 1,048,576 or more.
+    /// Returns the product of two matrices of `order` rows and columns, which are borrowed row by row, in tiles of
+    /// `side` rows and columns. `None` if the tiles do not fill the matrices, `order` is 0 or 32,768 or more, a list
+    /// has another length than `order * order`, or the number of tasks would be 1,048,576 or more.
     #[tactic(auto, using(crate::proofs::Running::too_many))]
     pub fn new(left: &'a [i64], right: &'a [i64], order: u32, side: u32) -> Option<Self>
         ensures made { IfSome result
@@ -45,7 +46,7 @@ impl<'a> Product<'a> {
         })
     }
 
-    /// How many rows and columns there are.
+    /// Returns the number of rows and columns.
     pub(crate) fn order(&self) -> u32
         ensures same { result ≡ self.now.tiles * self.now.side }
         ensures some { (1 ≤ result) × (result < 2 ^ 15) }
@@ -53,14 +54,14 @@ impl<'a> Product<'a> {
         self.tiles * self.side
     }
 
-    /// How many tasks there are.
+    /// Returns the number of tasks.
     pub(crate) fn count(&self) -> u32
         ensures { result ≡ self.now.tiles * self.now.tiles * self.now.tiles }
     {
         self.tiles * self.tiles * self.tiles
     }
 
-    /// The tile, along a side, that a row or a column is in.
+    /// Returns the tile, along a side, that has a row or a column.
     #[tactic(auto, using(crate::proofs::Tiles::tile_below))]
     fn tile_of(&self, x: u32) -> u32
         requires { x < self.now.tiles * self.now.side }
@@ -70,7 +71,7 @@ impl<'a> Product<'a> {
         x / self.side
     }
 
-    /// The last task that adds to a number of the product.
+    /// Returns the last task that adds to a number of the product.
     pub(crate) fn task_at(&self, x: u32, y: u32) -> u32
         requires { (x < self.now.tiles * self.now.side) × (y < self.now.tiles * self.now.side) }
         ensures { result ≡ (x / self.now.side * self.now.tiles + y / self.now.side) * self.now.tiles + (self.now.tiles - 1) }
@@ -79,7 +80,7 @@ impl<'a> Product<'a> {
         (row * self.tiles + column) * self.tiles + (self.tiles - 1)
     }
 
-    /// The place of a number in its tile.
+    /// Returns the position of a number in its tile.
     pub(crate) fn place_at(&self, x: u32, y: u32) -> usize
         ensures { result ≡ (x % self.now.side) * self.now.side + y % self.now.side }
     {
@@ -122,7 +123,7 @@ impl<'a> Graph for Product<'a> {
         NodeId((task.0 / self.tiles + task.0 % self.tiles) % nodes)
     }
 
-    /// The last that adds to each tile.
+    /// Keeps the last sum of each tile.
     fn keeps(&self, task: TaskId) -> bool {
         task.0 % self.tiles + 1 == self.tiles
     }

@@ -1,3 +1,4 @@
+//! The product of the matrices, from a pool's results or from one thread.
 ghost use Rattle.std.specs.Prelude.{◌≡◌, ◌*◌, IfErr, IfOk};
 ghost use Rattle.tp_graph.specs.Left.{AreKept};
 ghost use Rattle.tp_graph.specs.Serial.{IsSerialRefusal};
@@ -9,8 +10,8 @@ use std::alloc::Global;
 use tp_base::{Refusal, TaskId};
 use tp_graph::{Value, places, serial, value_at};
 
-/// The product of the matrices, from the results of its tasks. Refused with `Missing` where a tile of the product has
-/// no result, and with `NoMemory` where memory is refused first.
+/// Returns the product of the matrices, from the results of its tasks. Refused with `Missing` if a tile of the product
+/// has no result, and with `NoMemory` if an allocation fails first.
 pub fn matrix_of(
     alloc: Global,
     product: &Product,
@@ -37,8 +38,8 @@ pub fn matrix_of(
     Ok(made)
 }
 
-/// The product of the matrices, worked out on one thread. Refused with `BodyFailed` only where a task has no value, and
-/// else with `NoMemory`.
+/// Returns the product of the matrices, computed on one thread. Refused with `BodyFailed` only if a task has no value,
+/// and else with `NoMemory`.
 pub fn matrix_by_one(alloc: Global, product: Product) -> Result<Vec<i64>, Refusal>
     ensures made { IfOk result
         (λ made. made.items

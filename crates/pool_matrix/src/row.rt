@@ -1,3 +1,5 @@
+//! The inner loops of a product: rows of sums of products, with overflow checks only where a bound does not exclude
+//! overflow.
 ghost use Rattle.std.specs.Prelude.{◌≡◌, ◌<◌, ◌≤◌, ◌+◌, ◌*◌, ◌^◌, ◌*ℤ◌, ℕ, pos, length, unsigned_abs, slice_index_or, IfSome, MatchOption};
 ghost use Rattle.std.specs.Prelude.{MatchResult, Some, None};
 ghost use Rattle.tp_base.specs.declared.Refusal.TheVariants.{BodyFailed};
@@ -7,7 +9,7 @@ ghost use Rattle.pool_matrix.specs.Rows.{AreWithin, one_more, row_entry};
 
 use tp_base::Refusal;
 
-/// Two matrices of as many rows as columns, row by row.
+/// Two square matrices of the same order, row by row.
 #[derive(Clone, Copy)]
 pub(crate) struct LentMatrices<'a> {
     pub(crate) left: &'a [i64],
@@ -16,7 +18,7 @@ pub(crate) struct LentMatrices<'a> {
     pub(crate) ghost full: { (length left.now ≡ order * order) × (length right.now ≡ order * order) × (order < 2 ^ 15) },
 }
 
-/// A number of a matrix.
+/// Returns a number of a matrix.
 fn entry(numbers: &[i64], order: usize, x: usize, y: usize) -> i64
     requires full { (length numbers.now ≡ order * order) × (order < 2 ^ 15) }
     requires places { (x < order) × (y < order) }
@@ -25,7 +27,7 @@ fn entry(numbers: &[i64], order: usize, x: usize, y: usize) -> i64
     numbers[x * order + y]
 }
 
-/// So many numbers of row z of the right, from column y on.
+/// Returns `count` numbers of row z of the right matrix, from column y on.
 pub(crate) fn right_part<'a>(
     matrices: LentMatrices<'a>,
     z: usize,
@@ -41,7 +43,7 @@ pub(crate) fn right_part<'a>(
     &matrices.right[from..from + count]
 }
 
-/// How far from 0 the farthest of some numbers is; 0 of none.
+/// Returns the largest absolute value of some numbers; 0 if there are none.
 pub(crate) fn largest_of(numbers: &[i64]) -> u64
     ensures { AreWithin result numbers.now }
 {
@@ -52,7 +54,7 @@ pub(crate) fn largest_of(numbers: &[i64]) -> u64
     largest
 }
 
-/// A sum and a product more, unless one of them leaves `i64`.
+/// Returns a sum plus a product, or `None` if one of them does not fit `i64`.
 fn add_product(sum: i64, left: i64, right: i64) -> Option<i64>
     ensures { MatchOption result (more sum (left *ℤ right) ≡ None) (λ next. more sum (left *ℤ right) ≡ Some next) }
 {
@@ -60,7 +62,7 @@ fn add_product(sum: i64, left: i64, right: i64) -> Option<i64>
     sum.checked_add(product)
 }
 
-/// A row of sums, each with one product more, with a look at each number. Refused exactly where one leaves `i64`.
+/// Adds one product to each sum of a row, and checks each. Refused exactly if a number does not fit `i64`.
 fn add_row_checked(sums: &mut [i64], left: i64, right: &[i64]) -> Result<(), Refusal>
     requires { length sums.now ≡ length right.now }
     ensures { MatchResult result
@@ -76,8 +78,8 @@ fn add_row_checked(sums: &mut [i64], left: i64, right: &[i64]) -> Result<(), Ref
     Ok(())
 }
 
-/// A row of sums that begins at column y of row x, with the products of so many z from a start on, each with a look. Refused
-/// exactly where a number leaves `i64`.
+/// Adds the products of `count` values of z, from `start` on, to a row of sums that begins at column y of row x, and
+/// checks each. Refused exactly if a number does not fit `i64`.
 fn add_each(
     matrices: LentMatrices,
     sums: &mut [i64],
@@ -105,8 +107,9 @@ fn add_each(
     Ok(())
 }
 
-/// How far from 0 sums of row x may be that were no farther than a reach, with the products of the four z from a start on more;
-/// none where they may leave `i64`. No number of the right that is taken is farther from 0 than the largest.
+/// Returns a bound on the absolute value of the sums of row x after the products of the four z from `start` on are
+/// added, given the bound `reach` before, or `None` if they may not fit `i64`. No number of the right matrix that is
+/// used has an absolute value above `largest`.
 fn next_reach(
     matrices: LentMatrices,
     reach: u64,
@@ -138,9 +141,9 @@ fn next_reach(
     if next < 1 << 63 { Some(next) } else { None }
 }
 
-/// A row of sums, each with the products of the four z from a start on, where none can leave `i64`: a loop without tests, which
-/// reads and writes each sum once for its four products. It is a function of its own, so that all that it counts with stays in
-/// the processor's registers.
+/// Adds the products of the four z from `start` on to each sum of a row, if none can overflow: a loop without tests,
+/// which reads and writes each sum once for its four products. It is a function of its own so that all its variables
+/// stay in registers.
 #[inline(never)]
 fn add_four_plain(matrices: LentMatrices, sums: &mut [i64], x: usize, y: usize, start: usize)
     requires places { (x < matrices.order) × (y + length sums.now ≤ matrices.order) × (start + 4 ≤ matrices.order) }
@@ -164,16 +167,17 @@ fn add_four_plain(matrices: LentMatrices, sums: &mut [i64], x: usize, y: usize, 
     let second = right_part(matrices, start + 1, y, count);
     let third = right_part(matrices, start + 2, y, count);
     let fourth = right_part(matrices, start + 3, y, count);
-    // Downwards, since upwards it is worked out in vectors, in which numbers of 64 bits take longer to multiply than one by one.
+    // Downwards: an upward loop is vectorized, and vector multiplications of 64-bit numbers are slower than scalar
+    // ones.
     for n in (0..count).rev() {
         let (first, second, third, fourth) = (first[n], second[n], third[n], fourth[n]);
         sums[n] = sums[n] + a * first + b * second + c * third + d * fourth;
     }
 }
 
-/// A row of sums that begins at column y of row x, with the products of the four z from a start on; and how far from 0 the sums
-/// may be then. They were no farther from 0 than a reach, and no number of the right that is taken is farther than the largest.
-/// Refused exactly where a number leaves `i64`.
+/// Adds the products of the four z from `start` on to a row of sums that begins at column y of row x, and returns the
+/// new bound on their absolute values. `reach` is the bound before, and `largest` bounds the numbers of the right
+/// matrix that are used. Refused exactly if a number does not fit `i64`.
 fn add_four(
     matrices: LentMatrices,
     sums: &mut [i64],
@@ -205,8 +209,9 @@ fn add_four(
     Ok(next)
 }
 
-/// A row of sums that begins at column y of row x, with the products of so many fours of z from a start on. No number of the
-/// right that is taken is farther from 0 than the largest. Refused exactly where a number leaves `i64`.
+/// Adds the products of `fours` groups of four z, from `start` on, to a row of sums that begins at column y of row x.
+/// `largest` bounds the absolute values of the right matrix that are used. Refused exactly if a number does not fit
+/// `i64`.
 fn add_fours(
     matrices: LentMatrices,
     sums: &mut [i64],
@@ -235,8 +240,9 @@ fn add_fours(
     Ok(())
 }
 
-/// A row of a tile that begins at column y of row x, with the products of as many z from a start on as it is long. No number
-/// of the right that it takes is farther from 0 than the largest. Refused exactly where a number leaves `i64`.
+/// Adds the products of as many z as the row is long, from `start` on, to a row of a tile that begins at column y of
+/// row x. `largest` bounds the absolute values of the right matrix that are used. Refused exactly if a number does not
+/// fit `i64`.
 pub(crate) fn add_rows(
     matrices: LentMatrices,
     sums: &mut [i64],

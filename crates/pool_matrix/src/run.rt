@@ -1,3 +1,4 @@
+//! Running a product on threads.
 ghost use Rattle.std.specs.Prelude.{◌≡◌, ◌/◌, MatchResult};
 ghost use Rattle.pool_blocks.specs.Runs.{HasRun};
 ghost use Rattle.pool_matrix.specs.Faults.{IsProductFault};
@@ -13,10 +14,12 @@ use std::thread::Threads;
 use tp_base::Refusal;
 use tp_work::{Config, OpenGate, run_pool};
 
-/// The product of two matrices of so many rows and columns, row by row, worked out by a pool of threads in tiles of so many
-/// rows and columns. `BadInput` where the lists give no such matrices ([`Product::new`]), `Run` with what [`run_pool`] answered
-/// where it was refused (`BodyFailed` where a number leaves `i64` on the way), and `Unmade` with its outcome where there was
-/// no memory for the product.
+/// Returns the product of two matrices of `order` rows and columns, row by row, computed by a pool of threads in tiles
+/// of `side` rows and columns.
+///
+/// Refused with `BadInput` if the lists give no such matrices ([`Product::new`]). Refused with `Run` and the fault of
+/// [`run_pool`] if the pool was refused (`BodyFailed` if an intermediate number does not fit `i64`). Refused with
+/// `Unmade` and the pool's outcome if the allocation of the product failed.
 pub fn run_product<R: Threads + Wait + Sync>(
     rt: &R,
     alloc: Global,
@@ -40,7 +43,7 @@ pub fn run_product<R: Threads + Wait + Sync>(
             Ok(made) => Ok(made),
             Err(refusal) => match refusal {
                 Refusal::NoMemory => Err(LentFault::Unmade(outcome)),
-                // Of a pool that ended each task has a result, so that no tile is missing.
+                // In a pool that ended each task has a result, so no tile is missing.
                 _ => unreachable!(),
             },
         },

@@ -1,3 +1,4 @@
+//! One tile of a product.
 ghost use Rattle.std.specs.Prelude.{◌≡◌, ◌<◌, ◌≤◌, ◌+◌, ◌*◌, ◌^◌, ℕ, pos, true, unsigned_abs, slice_index_or, MatchResult, Some, None, ◌⊎◌};
 ghost use Rattle.tp_base.specs.declared.Refusal.TheVariants.{BodyFailed, NoMemory};
 ghost use Rattle.tp_graph.specs.Values.{all_fit, gather};
@@ -7,7 +8,7 @@ use crate::row::{LentMatrices, add_rows, largest_of, right_part};
 use std::alloc::Global;
 use tp_base::Refusal;
 
-/// The number at a place, or 0 where there is none.
+/// Returns the number at a position, or 0 if there is none.
 pub(crate) fn number_at(numbers: &[i64], place: usize) -> i64
     ensures { result ≡ slice_index_or numbers.now place (pos 0) }
 {
@@ -18,7 +19,7 @@ pub(crate) fn number_at(numbers: &[i64], place: usize) -> i64
     }
 }
 
-/// What a tile begins with: the numbers that it had before, and 0 where there is none.
+/// Returns the initial tile: the numbers that it had before, or 0 if there are none.
 fn begin_tile(alloc: Global, count: usize, before: &[i64]) -> Result<Vec<i64>, Refusal>
     requires { count < 2 ^ 30 }
     ensures { MatchResult result
@@ -32,7 +33,7 @@ fn begin_tile(alloc: Global, count: usize, before: &[i64]) -> Result<Vec<i64>, R
     Ok(made)
 }
 
-/// How far from 0 the farthest number is of a tile of the right, which begins at column y of a row.
+/// Returns the largest absolute value of a tile of the right matrix, which begins at column y of a row.
 fn largest_of_tile(matrices: LentMatrices, side: usize, row: usize, y: usize) -> u64
     requires { (row + side ≤ matrices.order) × (y + side ≤ matrices.order) }
     ensures { (z n : ℕ) → z < side → n < side
@@ -45,8 +46,8 @@ fn largest_of_tile(matrices: LentMatrices, side: usize, row: usize, y: usize) ->
     largest
 }
 
-/// A tile of the product with what column k of tiles on the left and row k on the right add to it. Refused with
-/// `BodyFailed` exactly where a number leaves `i64`, and with `NoMemory` where memory is refused first.
+/// Returns a tile of the product with the products of column k of tiles on the left and row k on the right added.
+/// Refused with `BodyFailed` exactly if a number does not fit `i64`, and with `NoMemory` if an allocation fails first.
 pub(crate) fn make_tile(
     alloc: Global,
     matrices: LentMatrices,

@@ -1,4 +1,4 @@
--- The outputs of rows, worked out column by column.
+-- The outputs of rows, computed column by column.
 use Rattle.std.proofs.Common.{◌≡◌, ◌<◌, ◌≤◌, ◌+◌, ◌-◌, ◌*◌, ◌/◌, ◌%◌, ℕ, zero, suc, true, false, List, [], ◌∷◌, ◌++◌, length, get_or, set}
 use Rattle.std.proofs.Common.{min, ap, sym, ◌∙◌, subst, arith, ⊎_elim, append_assoc, length-append}
 use Rattle.std.proofs.lemmas.Bool.{cases_lt, cases_eq}
@@ -16,22 +16,11 @@ use Rattle.pool_patterns.specs.declared.spots.Span.{Span}
 use Rattle.pool_patterns.proofs.More.{rank_alike, nth_alike, rank_grows, rank_more_suc, rank_same_suc}
 use Rattle.pool_patterns.proofs.Picked.{picked_at, picked_long, picked_more, picked_same}
 
--- the place of a column among the rows that were worked out
+-- the position of a column among the computed rows
 pub kind_within : (q period steps w c : ℕ) → 1 ≤ period → q + 1 < steps → c < w → q % period * w + c < min period (steps - 1) * w
 kind_within q period steps w c some h b =
     let low : q % period < min period (steps - 1) = grind (arith, nat_tests, mod_below q period some, mod-le q period) in
     omega (arith, mul-add-lt (q % period) w c (min period (steps - 1)) low b)
-
--- what was seen of the columns below one, of column j as well
-pub seen_next : (r : Relation) (w t j n : ℕ) (seen : List ℕ) → w ≤ n → AreSeen r w t j n seen → AreSeen r w t (j + 1) 0 seen
-seen_next r w t j n seen all h =
-    let s : j + 1 ≡ suc j = omega arith in
-    record {
-      long = h.long;
-      done = λ i e b. absurd (omega arith);
-      left = λ i e b. h.done i (omega arith) b ∙ ap (rank (λ c. r t c i)) (sym s);
-      few = h.few;
-    }
 
 pub seen_same : (r : Relation) (w t j n : ℕ) (seen : List ℕ) → n < w → r t j n ≡ false → AreSeen r w t j n seen
     → AreSeen r w t j (n + 1) seen
@@ -104,7 +93,7 @@ outputs_same r t j n old now fails e =
     let v : ℕ → Output = λ i. record { column = i; slot = rank (λ c. r t c i) j } in
     e ∙ ap (λ l. old ++ l) (sym (picked_same (λ i. r t j i) v n fails))
 
--- the outputs of a column stay where they are
+-- the outputs of a column stay at their positions
 pub outputs_stay : (r : Relation) (w t j : ℕ) (all more : List Output) (start count : ℕ) → AreOutputs r w t j all start count
     → AreOutputs r w t j (all ++ more) start count
 outputs_stay r w t j all more start count h = record {
@@ -113,7 +102,7 @@ outputs_stay r w t j all more start count h = record {
   each = λ k d few. subst (IsOutput r w t j k) (sym (get_or_append_left all more d (start + k) (omega (arith, h.inside)))) (h.each k d few);
 }
 
--- the outputs that were put behind all others
+-- the outputs that were appended to all others
 pub outputs_put : (r : Relation) (w t j : ℕ) (all : List Output) (count : ℕ) → count ≡ rank (λ i. r t j i) w
     → AreOutputs r w t j (all ++ outputs_to r t j w) (length all) count
 outputs_put r w t j all count is =
@@ -164,7 +153,7 @@ spans_more r w t j n spans next all more span b place h is start count put =
           (cases_lt p n);
     }
 
--- the inputs of a whole row, put behind those of the rows before
+-- the inputs of a whole row, appended to those of the rows before
 pub arities_more : (r : Relation) (w t : ℕ) (arities seen next : List ℕ) → AreArities r w (t * w) arities → AreSeen r w (t + 1) w 0 seen
     → next ≡ arities ++ seen →
     AreArities r w ((t + 1) * w) next

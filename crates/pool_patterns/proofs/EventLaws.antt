@@ -3,8 +3,8 @@ use Rattle.std.proofs.Common.{◌≡◌, ◌≤◌, ◌+◌, ◌*◌, ◌/◌, �
 use Rattle.std.proofs.Common.{refl, sym, ap, arith}
 use Rattle.std.proofs.lemmas.Bool.{eq-eqb}
 use Rattle.std.proofs.lemmas.Nat.{div-mul-add}
-use Rattle.tp_wave.proofs.Totals.{total-equal, total-zero}
-use Rattle.tp_wave.specs.Sums.{total}
+use Rattle.tp_base.proofs.Totals.{total-equal, total-zero}
+use Rattle.tp_base.specs.Totals.{total}
 use Rattle.tp_graph.proofs.Counted.{events_counted}
 use Rattle.tp_graph.specs.Events.{crossing, messages_from, task_events}
 use Rattle.pool_patterns.specs.Events.{GridEventsLaw, GridStepsLaw, NoMessageLaw, events_below, grid_events}

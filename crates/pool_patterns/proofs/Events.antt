@@ -19,7 +19,7 @@ events_many : (r : Relation) (w n : ℕ) → 2 * n ≤ events_below r w n
 events_many r w zero = omega arith
 events_many r w (suc n) = omega (arith, events_many r w n, two_each (inputs r w (n / w) (n % w)))
 
--- so many tasks take too many
+-- this many tasks take too many
 pub too_many : (r : Relation) (w steps : ℕ) → 2 ^ 20 ≤ steps * w → 1048576 < grid_events r w steps
 too_many r w steps h = omega (arith, h, events_many r w (steps * w))
 
@@ -37,7 +37,7 @@ events_more r w n before now count e is sum =
     let s : n + 1 ≡ suc n = omega arith in
     sum ∙ ap (λ x. x + task_events count) e ∙ ap (λ x. events_below r w n + task_events x) is ∙ ap (events_below r w) (sym s)
 
--- a row that has too many inputs is one of so many
+-- a row that has too many inputs is one of this many
 pub row_fault : (r : Relation) (w row rows : ℕ) (fault : TableFault) → row < rows → IsRowFault r w (row + 1) fault
     → IsRowsFault r w (rows + 1) fault
 row_fault r w row rows Empty h why = absurd why

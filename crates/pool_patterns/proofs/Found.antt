@@ -17,7 +17,7 @@ times-none t (x ∷ xs) h =
     sum_by-cons (λ r. cond (r.0.0 == t) 1 0) x xs
     ∙ ap (λ b. cond b 1 0 + count_by (λ r. r.0.0 == t) xs) (ne_eqb x.0.0 t (h 0 x (omega arith))) ∙ rest
 
--- where each task has one result, none lacks one
+-- if each task has one result, none lacks one
 pub has_one : (tasks t : ℕ) (results : Results) → HasEachOnce tasks results → t < tasks → All (λ r. r.0.0 ≢ t) results → ⊥
 has_one tasks t results once h none =
     let one : count_by (λ r. r.0.0 == t) results ≡ 1 = grind (arith, nat_tests, once t) in

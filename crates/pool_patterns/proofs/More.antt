@@ -48,10 +48,6 @@ rank_small : (b : Bool) (m n : ℕ) → m ≤ n → (if b then suc m else m) ≤
 rank_small true m n h = omega arith
 rank_small false m n h = omega arith
 
-pub rank_few : (f : ℕ → Bool) (n : ℕ) → rank f n ≤ n
-rank_few f zero = omega arith
-rank_few f (suc n) = rank_small (f n) (rank f n) n (rank_few f n)
-
 -- tests that agree below a number have one rank and one n-th there
 pub rank_alike : (f h : ℕ → Bool) (n : ℕ) → ((i : ℕ) → i < n → f i ≡ h i) → rank f n ≡ rank h n
 rank_alike f h zero e = refl

@@ -1,4 +1,4 @@
--- What is noted of each task.
+-- The entry of each task.
 use Rattle.std.proofs.Common.{◌≡◌, ◌<◌, ◌≤◌, ◌+◌, ◌-◌, ◌*◌, ◌/◌, ◌%◌, ℕ, zero, suc, true, false, List, [], ◌∷◌, ◌++◌, length, get_or, min}
 use Rattle.std.proofs.Common.{nat_lt, refl, ap, sym, ◌∙◌, subst, arith, ⊎_elim, length-append}
 use Rattle.std.proofs.lemmas.Bool.{cases_lt, lt-ltb, le-ltb}
@@ -15,7 +15,7 @@ use Rattle.pool_patterns.specs.declared.spots.Spot.{Spot}
 use Rattle.pool_patterns.proofs.Counted.{kind_within, outputs_alike, same_kind}
 use Rattle.pool_patterns.proofs.More.{rank_alike}
 
--- what was worked out of so many rows is what was worked out of the grid's relation
+-- what was computed of this many rows is what was computed of the grid's relation
 pub kinds_are : (r : Relation) (w steps period rows : ℕ) (spans : List Span) (all : List Output) (arities : List ℕ)
     → rows ≡ min period (steps - 1) → AreSpans r w (rows * w) spans all →
     AreArities r w (rows * w) arities → ComesAgain r w steps period → AreKinds r w steps period spans all arities
@@ -78,7 +78,7 @@ module _ (r : Relation) (w steps period : ℕ) (spans : List Span) (all : List O
       (rw test none.1, (omega (arith, none.0, none.1), λ k d few. absurd (omega (arith, few, none.1)))))
       (cases_lt (q + 1) steps)
 
-  -- the spot of a task, by the looks that it is made of
+  -- the entry of a task, by the look-ups that it is made of
   pub spot_is : (p q c arity : ℕ) (span : Span) (spot : Spot) → 0 < w → p < steps * w → q ≡ p / w → c ≡ p % w → (q ≡ 0 → arity ≡ 0)
       → (1 ≤ q → arity ≡ get_or arities ((q - 1) % period * w + c) 0) →
       (steps ≤ q + 1 → (span.start ≡ 0) × (span.count ≡ 0)) → ((d : Span) → q + 1 < steps → span ≡ get_or spans (q % period * w + c) d) →
@@ -125,7 +125,7 @@ spots_more r w steps n spots next all spot h new is = record {
       (cases_lt p n);
 }
 
--- what an output of a spot is, and that its column is one
+-- an output of an entry, and that its column is one
 pub output_there : (r : Relation) (w steps p k : ℕ) (all : List Output) (spot : Spot) (found d : Output) → IsSpot r w steps all p spot
     → k < spot.feeds → found ≡ get_or all (spot.start + k) d →
     IsOutput r w (suc (p / w)) (p % w) k found × (found.column < w)

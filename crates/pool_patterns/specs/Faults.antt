@@ -19,7 +19,7 @@ pub record HasNoFault (r : Relation) (w steps : ℕ) : Type 0 where
   pub narrow : IsNarrow r w steps
   pub few : grid_events r w steps ≤ MAX_STEPS
 
--- There is no task, a task has more than 16 inputs, or the events are above the limit; or there was no memory.
+-- There is no task, a task has more than 16 inputs, or the events exceed the limit; or an allocation failed.
 abbrev pub IsTableFault : Relation → ℕ → ℕ → TableFault → Type 0
 IsTableFault r w steps Empty = (w ≡ 0) ⊎ (steps ≡ 0)
 IsTableFault r w steps TooManyInputs = IsWide r w steps

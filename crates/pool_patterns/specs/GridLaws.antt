@@ -1,4 +1,5 @@
--- A grid is a task graph, whatever its relation: the s-th of those that feed a column and the rank among them are inverse to each other.
+-- The graph of a grid keeps the invariant of task graphs, whatever its relation: the s-th of those that feed a column and the
+-- rank among them are inverse to each other.
 use Rattle.std.proofs.Common.{◌≡◌, ◌<◌, ◌≤◌, ◌+◌, ◌*◌, ◌/◌, ◌%◌, ℕ, zero, suc, Bool, true, false, ℤ, List, Option, if◌then◌else◌, nat_lt}
 use Rattle.std.proofs.Common.{refl, ap, sym, ◌∙◌, subst, arith}
 use Rattle.std.proofs.lemmas.Bool.{lt-ltb, ltb-true}
@@ -16,14 +17,14 @@ if_true true n e = refl
 if_true false n e = absurd (cc)
 
 module _ (r : Relation) (w steps : ℕ) (rule : ℕ → List (List ℤ) → Option (List ℤ)) (some : 0 < w) where
-  -- the row and the column of a place
+  -- the row and the column of a position
   row : (q c : ℕ) → c < w → (q * w + c) / w ≡ q
   row q c h = div-mul-add q w c h
 
   column : (q c : ℕ) → c < w → (q * w + c) % w ≡ c
   column q c h = mod-mul-add q w c h
 
-  -- what a field says at a place
+  -- the value of a function of row and column at a position
   at : {A : Type 0} (f : ℕ → ℕ → A) (q c : ℕ) → c < w → f ((q * w + c) / w) ((q * w + c) % w) ≡ f q c
   at f q c h = ap (λ x. f x ((q * w + c) % w)) (row q c h) ∙ ap (λ y. f q y) (column q c h)
 

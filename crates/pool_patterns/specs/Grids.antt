@@ -8,11 +8,11 @@ use Rattle.pool_patterns.specs.Ranks.{rank, nth}
 abbrev pub Relation : Type 0
 Relation = ℕ → ℕ → ℕ → Bool
 
--- so many columns, and so many rows, are one or more and below 1,048,576
+-- this many columns, and this many rows, are one or more and below 1,048,576
 abbrev pub AreSizes : ℕ → ℕ → Type 0
 AreSizes w rows = (1 ≤ w) × (w < 2 ^ 20) × (1 ≤ rows) × (rows < 2 ^ 20)
 
--- The relation of rows of w columns comes again after so many rows, as long as there are rows.
+-- The relation of rows of w columns repeats after this many rows, as long as there are rows.
 abbrev pub ComesAgain : Relation → ℕ → ℕ → ℕ → Type 0
 ComesAgain r w steps period = (t j i : ℕ) → 1 ≤ t → t + period < steps → j < w → i < w → r (t + period) j i ≡ r t j i
 

@@ -1,4 +1,4 @@
--- What a task makes of its inputs: numbers below 2 ^ 31, stirred so many times.
+-- What a task computes from its inputs: numbers below 2 ^ 31, to which the kernel is applied this many times.
 use Rattle.std.specs.Prelude.{◌+◌, ◌*◌, ◌%◌, ℕ, zero, suc, ℤ, pos, List, [], ◌∷◌, Option, Some, None, if◌then◌else◌, nat_lt}
 use Rattle.tp_graph.specs.Graphs.{TaskGraph}
 use Rattle.tp_graph.specs.Values.{then_some}
@@ -8,12 +8,12 @@ use Rattle.pool_patterns.specs.Grids.{Relation, grid_graph}
 abbrev pub stirred : ℕ → ℕ
 stirred x = (x * (2 * x + 1) + 1013904223) % 2147483648
 
--- so many iterations
+-- this many iterations
 abbrev pub stir : ℕ → ℕ → ℕ
 stir zero x = x
 stir (suc n) x = stirred (stir n x)
 
--- what column i makes of the sum of its inputs
+-- what column i computes from the sum of its inputs
 abbrev pub made : ℕ → ℕ → ℕ → ℕ
 made iterations i total = stir iterations ((total + i + 1) % 2147483648)
 

@@ -1,4 +1,4 @@
--- The outputs of rows, worked out column by column.
+-- The outputs of rows, computed column by column.
 use Rattle.std.specs.Prelude.{◌≡◌, ◌<◌, ◌≤◌, ◌-◌, ◌*◌, ◌/◌, ◌%◌, ℕ, zero, suc, Bool, List, [], ◌∷◌, ◌++◌, length, slice_index_or}
 use Rattle.std.specs.Prelude.{if◌then◌else◌, min, ⊤}
 use Rattle.pool_patterns.specs.Grids.{Relation, ComesAgain}
@@ -26,7 +26,7 @@ pub record AreSeen (r : Relation) (w t j n : ℕ) (seen : List ℕ) : Type 0 whe
   pub left : (i : ℕ) → n ≤ i → i < w → slice_index_or seen i 0 ≡ rank (λ c. r t c i) j
   pub few : (i : ℕ) → i < w → slice_index_or seen i 0 ≤ 16
 
--- the outputs of the first columns of all rows, so many: those of column p % w of the row before row p / w + 1
+-- the outputs of the first n columns of all rows: those of column p % w of the row before row p / w + 1
 pub record AreSpans (r : Relation) (w n : ℕ) (spans : List Span) (all : List Output) : Type 0 where
   pub long : length spans ≡ n
   pub each : (p : ℕ) (d : Span) → p < n
@@ -38,19 +38,19 @@ pub record AreArities (r : Relation) (w n : ℕ) (arities : List ℕ) : Type 0 w
   pub each : (p : ℕ) → p < n → slice_index_or arities p 0 ≡ rank (λ j. r (suc (p / w)) j (p % w)) w
   pub few : (p : ℕ) → p < n → slice_index_or arities p 0 ≤ 16
 
--- why the outputs of a column, or of a row, are not worked out: a column of row t has more than 16 inputs, or there was no memory
+-- why the outputs of a column, or of a row, are not computed: a column of row t has more than 16 inputs, or an allocation failed
 abbrev pub IsRowFault : Relation → ℕ → ℕ → TableFault → Type 0
 IsRowFault r w t TooManyInputs = (i : ℕ) × (i < w) × (16 < rank (λ j. r t j i) w)
 IsRowFault r w t NoMemory = ⊤
 IsRowFault r w t _ = ⊥
 
--- the same of several rows: one of them has a column with more than 16 inputs, or there was no memory
+-- the same of several rows: one of them has a column with more than 16 inputs, or an allocation failed
 abbrev pub IsRowsFault : Relation → ℕ → ℕ → TableFault → Type 0
 IsRowsFault r w steps TooManyInputs = IsWide r w steps
 IsRowsFault r w steps NoMemory = ⊤
 IsRowsFault r w steps _ = ⊥
 
--- What was worked out of a grid's relation: the outputs and inputs of its rows up to where it comes again, or of all.
+-- What is computed of a grid's relation: the outputs and inputs of its rows for one period, or of all.
 pub record AreKinds (r : Relation) (w steps period : ℕ) (spans : List Span) (all : List Output) (arities : List ℕ) : Type 0 where
   pub spans_are : AreSpans r w (min period (steps - 1) * w) spans all
   pub arities_are : AreArities r w (min period (steps - 1) * w) arities

@@ -7,7 +7,7 @@ use Rattle.pool_patterns.specs.declared.pattern.Pattern.{Pattern}
 use Rattle.pool_patterns.specs.declared.pattern.Pattern.TheVariants.{Trivial, NoComm, Stencil, StencilPeriodic, Dom, Tree, Fft, AllToAll}
 use Rattle.pool_patterns.specs.declared.pattern.Pattern.TheVariants.{Nearest, Spread, RandomNearest}
 
--- how many of 2, 4, 8 and so on are at most w, but 1 at least
+-- how many of 2, 4, 8 and so on are at most w, but at least 1
 abbrev pub doublings : ℕ → ℕ
 doublings w = max (rank (λ k. nat_le (2 ^ (k + 1)) w) w) 1
 
@@ -15,7 +15,7 @@ doublings w = max (rank (λ k. nat_le (2 ^ (k + 1)) w) w) 1
 abbrev pub fifth : ℕ → ℕ → ℕ → ℕ → ℕ → ℕ
 fifth w t seed i k = (i + k * w / 5 + (t - 1) + seed) % w
 
--- one bit, by chance, of three numbers and a seed
+-- one pseudo-random bit from three numbers and a seed
 abbrev pub is_drawn : ℕ → ℕ → ℕ → ℕ → Bool
 is_drawn t seed j i = (stirred (stirred ((seed + 7919 * t + 104729 * j + 1299709 * i) % 2147483648)) / 1048576 % 2) == 0
 
@@ -34,7 +34,7 @@ relates (Spread seed) w t j i =
     (j == i) || ((j == fifth w t seed i 1) || ((j == fifth w t seed i 2) || ((j == fifth w t seed i 3) || (j == fifth w t seed i 4))))
 relates (RandomNearest radius seed) w t j i = (j == i) || (nat_le (abs_diff j i) radius && is_drawn t seed j i)
 
--- after how many rows the relation comes again: after all of them where chance draws each
+-- the period of the relation in rows: all rows if it is pseudo-random
 abbrev pub period_of : Pattern → ℕ → ℕ → ℕ
 period_of Fft w steps = doublings w
 period_of (Spread seed) w steps = w

@@ -1,15 +1,16 @@
+//! Why there is no table of a grid.
 use std::alloc::{AllocError, AllocFailed};
 
 /// Why there is no table of a grid.
 #[derive(Clone, Copy, Debug, PartialEq, Eq)]
 pub enum TableFault {
-    /// There is no column, or no row.
+    /// There are no columns, or no rows.
     Empty,
     /// A task has more than 16 inputs.
     TooManyInputs,
     /// The tasks take more events than a run may have: 1,048,576.
     TooManyEvents,
-    /// A growth of memory was refused.
+    /// An allocation failed.
     NoMemory,
 }
 

@@ -1,3 +1,4 @@
+//! A grid of tasks over a pattern, as a graph.
 ghost use Rattle.std.specs.Prelude.{◌≡◌, ◌<◌, ◌+◌, ◌-◌, ◌*◌};
 ghost use Rattle.pool_patterns.specs.GridLaws.{grid_lawful};
 ghost use Rattle.pool_patterns.specs.Kernels.{kernel_graph, kernel_rule};
@@ -9,8 +10,8 @@ use std::alloc::Global;
 use tp_base::{NodeId, Refusal, TaskId};
 use tp_graph::{Graph, Value};
 
-/// The tasks of a table as a graph: each sums the numbers of its inputs, adds its column and 1, and stirs the sum so many times.
-/// Each node has a range of the columns.
+/// The tasks of a table as a graph: each sums the numbers of its inputs, adds its column and 1, and applies the kernel
+/// to the sum `iterations` times. Each node has a range of the columns.
 #[derive(Clone, Copy)]
 pub struct Grid<'a, P: Relation> {
     table: &'a FeedTable<P>,
@@ -18,7 +19,7 @@ pub struct Grid<'a, P: Relation> {
 }
 
 impl<'a, P: Relation> Grid<'a, P> {
-    /// The tasks of a table, with so many iterations of the kernel in each.
+    /// Returns the tasks of a table, with `iterations` iterations of the kernel in each.
     pub fn new(table: &'a FeedTable<P>, iterations: u64) -> Self
         ensures table { result.table.now ≡ table.now }
         ensures iterations { result.iterations ≡ iterations }
@@ -26,14 +27,14 @@ impl<'a, P: Relation> Grid<'a, P> {
         Grid { table, iterations }
     }
 
-    /// The table.
+    /// Returns the table.
     pub(crate) fn table(&self) -> &'a FeedTable<P>
         ensures { result.now ≡ self.now.table.now }
     {
         self.table
     }
 
-    /// The task of a column of the last row.
+    /// Returns the task of a column of the last row.
     pub(crate) fn last(&self, column: u32) -> TaskId
         requires { column < self.now.table.now.width }
         ensures { result.0 ≡ (self.now.table.now.steps - 1) * self.now.table.now.width + column }
@@ -78,7 +79,7 @@ impl<'a, P: Relation + Send + Sync> Graph for Grid<'a, P> {
         NodeId(self.table.spot(task).column * nodes / self.table.width())
     }
 
-    /// The last row.
+    /// Keeps the last row.
     fn keeps(&self, task: TaskId) -> bool {
         (self.table.steps() - 1) * self.table.width() <= task.0
     }

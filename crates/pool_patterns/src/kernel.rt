@@ -1,3 +1,4 @@
+//! The kernel of a grid's tasks, which is arithmetic on numbers below 2^31.
 ghost use Rattle.std.specs.Prelude.{◌≡◌, ◌<◌, ◌≤◌, MatchResult, Some, None, length};
 ghost use Rattle.tp_base.specs.declared.Refusal.TheVariants.{BodyFailed};
 ghost use Rattle.pool_patterns.specs.Kernels.{made, number_of, stir, stirred, total_of};
@@ -5,7 +6,7 @@ ghost use Rattle.pool_patterns.specs.Kernels.{made, number_of, stir, stirred, to
 use tp_base::Refusal;
 use tp_graph::Value;
 
-/// One iteration of the kernel.
+/// Returns the result of one iteration of the kernel.
 pub(crate) fn stirred(x: u64) -> u64
     requires { x < 2147483648 }
     ensures same { result ≡ stirred x }
@@ -14,7 +15,7 @@ pub(crate) fn stirred(x: u64) -> u64
     (x * (2 * x + 1) + 1013904223) % 2147483648
 }
 
-/// So many iterations.
+/// Returns the result of `iterations` iterations.
 #[tactic(auto, using(crate::proofs::More::stir_more))]
 fn stir(x: u64, iterations: u64) -> u64
     requires { x < 2147483648 }
@@ -28,7 +29,7 @@ fn stir(x: u64, iterations: u64) -> u64
     y
 }
 
-/// What a column makes of the sum of its inputs.
+/// Returns what a column computes from the sum of its inputs.
 pub(crate) fn made(iterations: u64, column: u32, total: u64) -> u64
     requires { total < 1099511627776 }
     ensures same { result ≡ made iterations column total }
@@ -37,7 +38,7 @@ pub(crate) fn made(iterations: u64, column: u32, total: u64) -> u64
     stir((total + u64::from(column) + 1) % 2147483648, iterations)
 }
 
-/// The number of an input, which is below 2 ^ 31. Refused with `BodyFailed` where it is none.
+/// Returns the number of an input, which is below 2 ^ 31. Refused with `BodyFailed` if the input is no such number.
 pub(crate) fn number_of(value: &Value) -> Result<u64, Refusal>
     ensures { MatchResult result
         (λ n. (number_of value.now ≡ Some n) × (n < 2147483648))
@@ -51,7 +52,7 @@ pub(crate) fn number_of(value: &Value) -> Result<u64, Refusal>
     }
 }
 
-/// The sum of the numbers of some inputs. Refused with `BodyFailed` where one is none.
+/// Returns the sum of the numbers of some inputs. Refused with `BodyFailed` if one is no such number.
 pub(crate) fn total_of(values: &[Value]) -> Result<u64, Refusal>
     requires { length values.now ≤ 16 }
     ensures { MatchResult result

@@ -1,3 +1,4 @@
+//! The outputs and inputs of a grid's rows, up to the period of its relation.
 ghost use Rattle.std.specs.Prelude.{◌≡◌, ◌≤◌, ◌<◌, ◌+◌, ◌-◌, ◌*◌, ◌++◌, ◌^◌, IfOk, IfErr};
 ghost use Rattle.pool_patterns.specs.Grids.{AreSizes};
 ghost use Rattle.pool_patterns.specs.Kinds.{AreArities, AreSeen, AreSpans, IsRowFault, IsRowsFault, outputs_to};
@@ -9,18 +10,18 @@ use crate::spots::{Output, Span};
 use std::alloc::Global;
 use tp_base::MAX_INPUTS;
 
-/// The outputs and the inputs of a grid's rows, from row 1 on, up to where its relation comes again.
+/// The outputs and the inputs of a grid's rows, from row 1 on, for one period of its relation.
 #[derive(Drop)]
 pub(crate) struct Kinds {
-    /// Which outputs are those of a column of the row before.
+    /// The outputs of each column of the row before.
     pub(crate) spans: Vec<Span>,
     /// All outputs.
     pub(crate) outputs: Vec<Output>,
-    /// How many inputs a column has.
+    /// The number of inputs of each column.
     pub(crate) arities: Vec<u8>,
 }
 
-/// The outputs and inputs of so many rows, from row 1 on.
+/// Returns the outputs and inputs of `rows` rows, from row 1 on.
 pub(crate) fn kinds_of<P: Relation>(
     alloc: Global,
     pattern: &P,
@@ -45,7 +46,7 @@ pub(crate) fn kinds_of<P: Relation>(
     Ok(kinds)
 }
 
-/// Puts the outputs and inputs of the row after so many others behind theirs.
+/// Appends the outputs and inputs of the next row.
 fn add_row<P: Relation>(
     alloc: Global,
     pattern: &P,
@@ -79,7 +80,7 @@ fn add_row<P: Relation>(
     Ok(())
 }
 
-/// Puts the outputs of a column behind all others, and counts them at the columns that they go to: how many there are.
+/// Appends the outputs of a column, and counts them at the columns that they go to. Returns how many there are.
 fn add_column<P: Relation>(
     pattern: &P,
     width: u32,

@@ -1,7 +1,10 @@
-//! Task Bench's patterns as pools: grids of tasks in which a relation of columns says who feeds whom.
+//! Task Bench's patterns as pools (E. Slaughter and others, "Task Bench: A Parameterized Benchmark for Evaluating
+//! Parallel Runtime Performance", 2020): grids of tasks in which a relation says which columns of a row feed which of
+//! the next.
 //!
-//! A pattern is a [`Relation`]; [`Pattern`] has those of Task Bench. A [`FeedTable`] is made of it once, a [`Grid`] that borrows the
-//! table is the graph that a pool runs, and [`last_row`] reads the numbers of the last row off its results.
+//! A pattern is a [`Relation`]; [`Pattern`] has those of Task Bench. A [`FeedTable`] is computed from it once. A
+//! [`Grid`], which borrows the table, is the graph that a pool runs, and [`last_row`] reads the numbers of the last row
+//! from its results.
 #![tactic(auto)]
 
 mod fault;

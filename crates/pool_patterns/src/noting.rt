@@ -1,3 +1,4 @@
+//! Computes a table's entry for each task.
 ghost use Rattle.std.specs.Prelude.{◌≡◌, ◌≤◌, ◌<◌, ◌+◌, ◌-◌, ◌*◌, ◌/◌, ◌%◌, ◌^◌, min, length, slice_index_or, IfOk, IfErr, OnOk, ℕ};
 ghost use Rattle.tp_graph.specs.Events.{task_events};
 ghost use Rattle.pool_patterns.specs.Events.{grid_events};
@@ -13,7 +14,7 @@ use crate::spots::{Span, Spot};
 use std::alloc::Global;
 use tp_base::MAX_STEPS;
 
-/// What is noted of each task, from the outputs and inputs of the rows up to where their relation comes again.
+/// Returns the entry of each task, from the outputs and inputs of the rows of one period.
 pub(crate) fn spots_of(
     alloc: Global,
     kinds: &Kinds,
@@ -49,7 +50,7 @@ pub(crate) fn spots_of(
     Ok(spots)
 }
 
-/// How many events a task of so many inputs takes at one node.
+/// Returns the number of events that a task with this number of inputs takes at one node.
 fn task_events(inputs: u8) -> u32
     ensures same { result ≡ task_events inputs }
     ensures few { result ≤ 257 }
@@ -57,7 +58,7 @@ fn task_events(inputs: u8) -> u32
     if inputs > 0 { u32::from(inputs) + 2 } else { 3 }
 }
 
-/// What is noted of a task.
+/// Returns the entry of a task.
 fn spot_of(kinds: &Kinds, width: u32, steps: u32, period: u32, task: u32) -> Spot
     requires sizes { AreSizes width steps }
     requires some { 1 ≤ period }
@@ -78,7 +79,7 @@ fn spot_of(kinds: &Kinds, width: u32, steps: u32, period: u32, task: u32) -> Spo
     }
 }
 
-/// Which outputs are those of a column of a row: none in the last row.
+/// Returns which outputs are those of a column of a row: none in the last row.
 #[tactic(auto, using(crate::proofs::Counted::kind_within))]
 fn span_of(kinds: &Kinds, width: u32, steps: u32, period: u32, row: u32, column: u32) -> Span
     requires sizes { AreSizes width steps }
@@ -95,7 +96,7 @@ fn span_of(kinds: &Kinds, width: u32, steps: u32, period: u32, row: u32, column:
     }
 }
 
-/// How many inputs a column of a row has: none in the first row.
+/// Returns the number of inputs of a column of a row: none in the first row.
 #[tactic(auto, using(crate::proofs::Counted::kind_within))]
 fn arity_of(kinds: &Kinds, width: u32, period: u32, row: u32, column: u32) -> u8
     requires some { 1 ≤ period }

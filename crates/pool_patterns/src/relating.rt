@@ -1,3 +1,4 @@
+//! The relation of each of Task Bench's patterns, and its period.
 ghost use Rattle.std.specs.Prelude.{◌≡◌, ◌≤◌, ◌<◌, ◌^◌};
 ghost use Rattle.pool_patterns.specs.Grids.{AreSizes};
 ghost use Rattle.pool_patterns.specs.Relations.{doublings, fifth, is_drawn, period_of, relates};
@@ -40,7 +41,7 @@ impl Relation for Pattern {
     }
 }
 
-/// After how many rows a pattern comes again: after all of them where chance draws each.
+/// Returns the period of a pattern's relation in rows: all rows if it is pseudo-random.
 fn period_of(pattern: Pattern, width: u32, steps: u32) -> u32
     requires { AreSizes width steps }
     ensures same { result ≡ period_of pattern width steps }
@@ -54,7 +55,7 @@ fn period_of(pattern: Pattern, width: u32, steps: u32) -> u32
     }
 }
 
-/// How many of 2, 4, 8 and so on are at most a width, but 1 at least.
+/// Returns how many of 2, 4, 8 and so on are at most a width, but at least 1.
 fn doublings(width: u32) -> u32
     requires { (1 ≤ width) × (width < 2 ^ 20) }
     ensures same { result ≡ doublings width }
@@ -63,7 +64,7 @@ fn doublings(width: u32) -> u32
     width.ilog2().max(1)
 }
 
-/// The column so many fifths of a row to the right of a column, moved by one from row to row.
+/// Returns the column `fifths` fifths of a row to the right of a column, moved by one from row to row.
 fn fifth(width: u32, step: u32, seed: u32, to: u32, fifths: u32) -> u32
     requires sizes { AreSizes width step }
     requires within { (to < width) × (fifths ≤ 4) }
@@ -76,7 +77,7 @@ fn fifth(width: u32, step: u32, seed: u32, to: u32, fifths: u32) -> u32
     (moved % u64::from(width)) as u32
 }
 
-/// One bit, by chance, of three numbers and a seed.
+/// Returns one pseudo-random bit from three numbers and a seed.
 fn is_drawn(step: u32, seed: u32, from: u32, to: u32) -> bool
     requires { (step < 2 ^ 20) × (from < 2 ^ 20) × (to < 2 ^ 20) }
     ensures { result ≡ is_drawn step seed from to }

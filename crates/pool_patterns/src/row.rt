@@ -1,3 +1,4 @@
+//! The numbers of the last row, from a pool's results.
 ghost use Rattle.std.specs.Prelude.{◌≡◌, ◌<◌, ◌-◌, ◌*◌, IfOk};
 ghost use Rattle.tp_graph.specs.Found.{ArePlaces, HasEachOnce};
 ghost use Rattle.tp_graph.specs.Left.{AreKept};
@@ -11,8 +12,8 @@ use std::alloc::{AllocError, Global};
 use tp_base::TaskId;
 use tp_graph::{Value, places, value_at};
 
-/// The numbers of the last row, column by column, from one result of each task, in any order, of which those of the last
-/// row are their values: those of the plain method.
+/// Returns the numbers of the last row, column by column: those that the row-by-row method computes. There has to be
+/// one result of each task, in any order, and those of the last row have to be their values.
 pub fn last_row<P: Relation>(
     alloc: Global,
     grid: &Grid<P>,
@@ -35,7 +36,7 @@ pub fn last_row<P: Relation>(
     Ok(row)
 }
 
-/// The number of a column of the last row, by the places of the results.
+/// Returns the number of a column of the last row, by the index of the results.
 fn cell_at<P: Relation>(
     grid: &Grid<P>,
     results: &[(TaskId, Value)],
@@ -56,7 +57,7 @@ fn cell_at<P: Relation>(
     match value_at(results, places, task) {
         Some(value) => match number_of(value) {
             Ok(number) => number,
-            // What a task has made is a number.
+            // The value of a task is one number.
             Err(_) => unreachable!(),
         },
         // Each task has a result.
@@ -64,7 +65,7 @@ fn cell_at<P: Relation>(
     }
 }
 
-/// The checksum of a row: the sum of its numbers mod 2 ^ 31.
+/// Returns the checksum of a row: the sum of its numbers mod 2 ^ 31.
 pub fn checksum(row: &[u64]) -> u64
     ensures same { result ≡ checksum row.now }
     ensures small { result < 2147483648 }

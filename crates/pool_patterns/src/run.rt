@@ -1,3 +1,4 @@
+//! Running a pattern on threads.
 ghost use Rattle.std.specs.Prelude.{◌≡◌, ◌-◌, IfOk, IfErr};
 ghost use Rattle.pool_patterns.specs.RunFaults.{IsPatternFault};
 ghost use Rattle.pool_patterns.specs.Kernels.{kernel_graph};
@@ -11,17 +12,17 @@ use std::sync::Wait;
 use std::thread::Threads;
 use tp_work::{Config, OpenGate, Outcome, run_pool};
 
-/// What a run of a pattern has made.
+/// The result of a run of a pattern.
 #[derive(Drop)]
 pub struct PatternRun {
     /// The numbers of the last row, column by column.
     pub row: Vec<u64>,
-    /// What the pool has made: the values of the last row, its tasks and messages, and its events.
+    /// The outcome of the pool: the values of the last row, the numbers of tasks and messages, and the events.
     pub outcome: Outcome,
 }
 
-/// The last row of a grid, worked out by a pool of threads. `Run` with what [`run_pool`] answered where it was refused, and
-/// `Unmade` with its outcome where there was no memory for the row.
+/// Returns the last row of a grid and the outcome, computed by a pool of threads. Refused with `Run` and the fault of
+/// [`run_pool`] if the pool was refused, and with `Unmade` and its outcome if the allocation of the row failed.
 pub fn run_pattern<P: Relation + Send + Sync, R: Threads + Wait + Sync>(
     rt: &R,
     alloc: Global,

@@ -1,21 +1,22 @@
+//! Why a run of a pattern has no result.
 ghost use Rattle.std.specs.Prelude.{◌≡◌};
 ghost use Rattle.pool_patterns.specs.RunFaults.{refusal_of};
 
 use tp_base::Refusal;
 use tp_work::{Fault, Outcome};
 
-/// Why a run of a pattern gives no row.
+/// Why a run of a pattern has no row.
 #[derive(Drop)]
 pub enum PatternFault {
-    /// The pool was refused: this is the fault that its run answered, with what was gathered of it.
+    /// The pool was refused: this is the fault of its run, with its report.
     Run(Fault),
-    /// The pool ended with this outcome, and there was no memory for the row.
+    /// The pool ended with this outcome, and the allocation of the row failed.
     Unmade(Outcome),
 }
 
 impl PatternFault {
-    /// The refusal that the fault is told as: that of the pool's own fault where it was refused, and `NoMemory` where no row was
-    /// made of its results.
+    /// Returns the refusal of the fault: that of the pool's own fault if it was refused, and `NoMemory` if the
+    /// allocation of the row failed.
     pub fn refusal(&self) -> Refusal
         ensures { result ≡ refusal_of self.now }
     {

@@ -1,3 +1,4 @@
+//! The table of a grid, which makes each call of its graph a look-up.
 ghost use Rattle.std.specs.Prelude.{◌≡◌, ◌≤◌, ◌<◌, ◌*◌, ◌/◌, ◌%◌, ◌^◌, suc, IfErr, IfOk, OnOk};
 ghost use Rattle.tp_base.specs.declared.limits.TheConstants.{MAX_STEPS};
 ghost use Rattle.pool_patterns.specs.Events.{grid_events};
@@ -13,8 +14,8 @@ use crate::spots::{Output, Spot};
 use std::alloc::Global;
 use tp_base::TaskId;
 
-/// A grid of tasks over a pattern, so many rows of so many columns, with what each task waits for and feeds worked out once. A
-/// graph borrows it, so that each of its calls is a look.
+/// A grid of tasks over a pattern, with the inputs and feeds of each task computed once. A graph borrows it, so that
+/// each of its calls is a look-up.
 #[derive(Drop)]
 pub struct FeedTable<P: Relation> {
     pattern: P,
@@ -33,10 +34,10 @@ pub struct FeedTable<P: Relation> {
 }
 
 impl<P: Relation> FeedTable<P> {
-    /// So many rows of so many columns. Refused with `Empty` where there is no column or no row, with `TooManyInputs` where a
-    /// task has more than 16, with `TooManyEvents` where the tasks take more than 1,048,576 events at one node, and with
-    /// `NoMemory` where memory is refused first. It takes O(width * width) for each row up to where the relation comes again
-    /// ([`Relation::period`]), and memory for each task and for each feed of those rows.
+    /// Returns the table of a grid of `steps` rows of `width` columns. Refused with `Empty` if there are no columns or
+    /// no rows, with `TooManyInputs` if a task has more than 16, with `TooManyEvents` if the tasks take more than
+    /// 1,048,576 events at one node, and with `NoMemory` if an allocation fails first. Takes O(width * width) time for
+    /// each row of one period ([`Relation::period`]), and memory for each task and for each feed of those rows.
     pub fn new(alloc: Global, pattern: P, width: u32, steps: u32) -> Result<Self, TableFault>
         ensures made { IfOk result (λ table. (table.pattern ≡ pattern) × (table.width ≡ width) × (table.steps ≡ steps)) }
         ensures no_fault { OnOk result (HasNoFault (P.relation pattern width) width steps) }
@@ -61,14 +62,14 @@ impl<P: Relation> FeedTable<P> {
         })
     }
 
-    /// The pattern.
+    /// Returns the pattern.
     pub fn pattern(&self) -> P
         ensures { result ≡ self.now.pattern }
     {
         self.pattern
     }
 
-    /// How many columns a row has.
+    /// Returns the number of columns of a row.
     pub fn width(&self) -> u32
         ensures same { result ≡ self.now.width }
         ensures some { (1 ≤ result) × (result < 2 ^ 20) }
@@ -76,7 +77,7 @@ impl<P: Relation> FeedTable<P> {
         self.width
     }
 
-    /// How many rows there are.
+    /// Returns the number of rows.
     pub fn steps(&self) -> u32
         ensures same { result ≡ self.now.steps }
         ensures some { (1 ≤ result) × (result * self.now.width < 2 ^ 20) }
@@ -84,7 +85,7 @@ impl<P: Relation> FeedTable<P> {
         self.steps
     }
 
-    /// What is noted of a task.
+    /// Returns the entry of a task.
     pub(crate) fn spot(&self, task: TaskId) -> Spot
         requires { task.0 < self.now.steps * self.now.width }
         ensures { IsSpot (P.relation self.now.pattern self.now.width) self.now.width self.now.steps
@@ -93,7 +94,7 @@ impl<P: Relation> FeedTable<P> {
         self.spots[task.0 as usize]
     }
 
-    /// An output of a task: a column of the next row, and the slot there.
+    /// Returns an output of a task: a column of the next row, and the slot there.
     #[tactic(auto, using(crate::proofs::Noted::output_there))]
     pub(crate) fn output(&self, task: TaskId, spot: Spot, turn: u32) -> Output
         requires known { task.0 < self.now.steps * self.now.width }

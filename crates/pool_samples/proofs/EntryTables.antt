@@ -1,4 +1,4 @@
--- The tables of entries, held against the definition at each place by computing.
+-- The tables of entries, compared with the definition at each position by computation.
 use Rattle.std.proofs.Common.{◌≡◌, ◌<◌, ◌≤◌, ◌+◌, ◌*◌, ◌*ℤ◌, ◌/◌, ◌%◌, ℕ, zero, suc, ℤ, pos, ◌-ℤ◌, unsigned_abs, List, length, get_or, Bool}
 use Rattle.std.proofs.Common.{true, ◌&&◌, refl, ap, ◌∙◌, arith}
 use Rattle.std.specs.Ordering.{int_eq}

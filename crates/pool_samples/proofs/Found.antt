@@ -1,3 +1,4 @@
+-- Finding the numbers of a table among results.
 use Rattle.std.proofs.Common.{◌≡◌, ◌≢◌, ◌<◌, ◌≤◌, ◌+◌, ◌-◌, ◌*◌, ◌/◌, ◌%◌, ◌++◌, ℕ, ℤ, pos, IsSome, rules, List, [], ◌∷◌}
 use Rattle.std.proofs.Common.{Option, Some, None, zero, suc, refl, replicate, length, get_or, set, take, sym, ap, ◌∙◌, subst, arith, ⊎_elim}
 use Rattle.std.proofs.Common.{length-append}
@@ -24,7 +25,7 @@ needed_few (pool.Product p) = mul-le p.tiles p.tiles 64 64 p.in_rules.few_tiles 
 needed_few (pool.Wavefront w) = mul-le w.rows w.columns 64 64 w.in_rules.few_rows w.in_rules.few_columns
 needed_few (pool.Reduce r) = omega arith
 
--- what holds of each of a list holds of each of its front
+-- what holds for each element of a list holds for each of its beginning
 pub front : {A : Type 0} (P : A → Type 0) (xs ys : List A) → All P (xs ++ ys) → All P xs
 front P xs ys h = λ i d p. subst P (get_or_append_left xs ys d i p) (h i d (omega (arith, length-append xs ys)))
 
@@ -128,7 +129,7 @@ any_cell (pool.Product p) i j h q = (_, _, product_cell p i j h q)
 any_cell (pool.Wavefront w) i j h q = (_, _, wavefront_cell w i j h q)
 any_cell (pool.Reduce r) i j h q = (_, _, reduce_cell r i j)
 
--- where a needed task was not found, a cell is lacking
+-- if a needed task was not found, a cell is missing
 pub lacks : (graph : AnyGraph) (results : Results) (values : List (Option (Bor (List ℤ)))) (rank : ℕ) → IsIndex graph results values
     → rank < needed graph → get_or values rank None ≡ None → LacksCell graph results
 lacks graph results values rank index h e = let P : Option (Bor (List ℤ)) → Type 0 =
@@ -139,7 +140,7 @@ is_there : (graph : AnyGraph) (results : Results) (rank : ℕ) (o : Option (Bor 
 is_there graph results rank None found some none = absurd (search rules)
 is_there graph results rank (Some v) found some none = found.1 none
 
--- where each was found, none is
+-- if each was found, none is
 pub lacks_none : (graph : AnyGraph) (results : Results) (values : List (Option (Bor (List ℤ)))) → IsIndex graph results values
     → ((rank : ℕ) → rank < needed graph → IsSome (get_or values rank None)) → LacksCell graph results → ⊥
 lacks_none graph results values index each lack =

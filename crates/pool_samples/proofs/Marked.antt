@@ -51,7 +51,7 @@ module _ (graph : AnyGraph) (results : Results) (k : ℕ) (r : TaskId
       (known_more other (get_or known other false) (λ e. ne (only other h (sym e))) (marked other h)))
       (cases_eq other rank)
 
--- where a needed task has no result, a cell is lacking
+-- if a needed task has no result, a cell is missing
 pub unmarked : (graph : AnyGraph) (results : Results) (known : List Bool) (rank : ℕ) → IsMarked graph results known → rank < needed graph
     → get_or known rank false ≡ false → LacksCell graph results
 unmarked graph results known rank marked h e = let P : Bool → Type 0 =
@@ -62,7 +62,7 @@ is_known : (graph : AnyGraph) (results : Results) (rank : ℕ) (b : Bool) → Is
 is_known graph results rank false found some = absurd (search rules)
 is_known graph results rank true found some = found
 
--- where each has one, none is
+-- if each has one, none is
 pub all_marked : (graph : AnyGraph) (results : Results) (known : List Bool) → IsMarked graph results known
     → ((rank : ℕ) → rank < needed graph → IsTrue (get_or known rank false)) → ¬ LacksCell graph results
 all_marked graph results known marked each = λ lack.

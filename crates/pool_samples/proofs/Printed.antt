@@ -1,3 +1,4 @@
+-- The text of a table, row by row and number by number.
 use Rattle.std.proofs.Common.{◌≡◌, ◌+◌, ◌++◌, ℕ, List, refl, add-one}
 use Rattle.pool_samples.specs.Tables.{texts}
 

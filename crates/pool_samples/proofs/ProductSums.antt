@@ -1,3 +1,4 @@
+-- The numbers of a product are small, so its tasks have values.
 use Rattle.std.proofs.Common.{◌≡◌, ◌<◌, ◌≤◌, ◌+◌, ◌-◌, ◌*◌, ◌/◌, ◌%◌, ◌^◌, ℕ, zero, suc, ℤ, pos, negsuc, ◌+ℤ◌, unsigned_abs, List, [], ◌∷◌}
 use Rattle.std.proofs.Common.{length, Option, Some, true, nat_eq, if◌then◌else◌, refl, sym, ap, ◌∙◌, subst, IsSome, rules, arith}
 use Rattle.std.specs.Int.Signed.{mag}

@@ -1,3 +1,4 @@
+-- The decimal spelling of numbers, and how specifications are parsed.
 use Rattle.std.proofs.Common.{◌≡◌, ◌≢◌, ◌<◌, ◌≤◌, ◌+◌, ◌*◌, ◌/◌, ◌%◌, ◌^◌, IsTrue, ◌++◌, ℕ, zero, suc, List, [], ◌∷◌, length, get_or}
 use Rattle.std.proofs.Common.{decimal, Some, Result, Ok, Err, IfSome, true, refl, sym, ap, ◌∙◌, arith, length-append}
 use Rattle.std.proofs.Math.Seq.{get_or-append_seam}
@@ -44,7 +45,7 @@ pub read_decimal : {E : Type 0} (bs : List ℕ) (n : ℕ) (r : Result ℕ E) →
     → result_ok r ≡ Some n
 read_decimal bs n r h small e = let wide : n < 2 ^ 64 = omega arith in ap result_ok (parse-decimal 32 n bs r small wide e h)
 
--- what stands before and after the first colon
+-- the text before and after the first colon
 split_same : (xs ys a b : List ℕ) → ((i : ℕ) → i < length xs → get_or xs i 0 ≢ 58) → ((i : ℕ) → i < length ys → get_or ys i 0 ≢ 58) → xs
     ++ 58 ∷ a ≡ ys ++ 58 ∷ b → (xs ≡ ys) × (a ≡ b)
 split_same [] [] a b p q e = (refl, cc)
@@ -57,7 +58,7 @@ split_same (x ∷ xs) (y ∷ ys) a b p q e =
     let first = rest.0 in
     (cc, rest.1)
 
--- a number and a rest are what stands before and after the first colon
+-- a number and a rest are the text before and after the first colon
 pub split_number : (text first rest : List ℕ) (n : ℕ) (after : List ℕ) → text ≡ first ++ 58 ∷ rest
     → ((i : ℕ) → i < length first → get_or first i 0 ≢ 58) →
     n < 2 ^ 32 → text ≡ joined (decimal n) after → (first ≡ decimal n) × (rest ≡ after)
@@ -94,7 +95,7 @@ order_is tiles side seed rule =
       parts = ap (λ n. n / side) plain ∙ div-mul-add tiles side 0 positive;
     }
 
--- what is told of a triple is told of its parts
+-- what holds for a triple follows from its parts
 pub each_of_three : (a b d x y z : ℕ) → (let left : ℕ × ℕ × ℕ = (a, b, d) in let right : ℕ × ℕ × ℕ = (x, y, z) in Some left ≡ Some right)
     → (a ≡ x) × (b ≡ y) × (d ≡ z)
 each_of_three a b d x y z e =

@@ -1,3 +1,4 @@
+-- Sums and lists, extended by one element.
 use Rattle.std.proofs.Common.{◌≡◌, ◌<◌, ◌≤◌, ◌+◌, ◌*◌, ℕ, zero, suc, ◌^◌, ℤ, pos, negsuc, ◌+ℤ◌, List, [], ◌∷◌, ◌++◌, length}
 use Rattle.std.proofs.Common.{get_or, set, take, ◌/◌, ◌%◌, nat_eq, subst, Some, None, true, false, refl, sym, ap, ◌∙◌, append_assoc}
 use Rattle.std.proofs.Common.{append-nil, add-one, arith}
@@ -18,7 +19,7 @@ next_sum n f sum next before is =
     let place : 0 + n ≡ n = omega arith in
     is ∙ ap (λ s. s +ℤ f n) before ∙ ap (λ k. sum_from 0 n f +ℤ f k) (sym place) ∙ sym (sum_more 0 n f)
 
--- two sums of as many numbers, the same ones
+-- two sums of the same numbers
 pub sum_same : (start count : ℕ) (f g : ℕ → ℤ) → ((n : ℕ) → n < count → f n ≡ g (start + n)) → sum_from 0 count f ≡ sum_from start count g
 sum_same start zero f g h = refl
 sum_same start (suc count) f g h =
@@ -31,11 +32,11 @@ list_last : {A : Type 0} (count : ℕ) (f : ℕ → A) → list_of (suc count) f
 list_last zero f = refl
 list_last (suc count) f = ap (λ l. f 0 ∷ l) (list_last count (λ e. f (suc e)))
 
--- one more behind a list
+-- one more element after a list
 pub list_more : {A : Type 0} (xs : List A) (count : ℕ) (f : ℕ → A) → xs ++ list_of (count + 1) f ≡ (xs ++ list_of count f) ++ f count ∷ []
 list_more xs count f = rw add-one (ap (λ l. xs ++ l) (list_last count f) ∙ sym (append_assoc xs (list_of count f) (f count ∷ [])))
 
--- one more number behind a list
+-- one more number after a list
 pub pushed : {A : Type 0} (xs before now : List A) (count : ℕ) (f : ℕ → A) (next : A) → before ≡ xs ++ list_of count f → now ≡ before
     ++ next ∷ [] → next ≡ f count → now ≡ xs ++ list_of (count + 1) f
 pushed xs before now count f next same is here =
@@ -110,7 +111,7 @@ add-step a b sums k sum long h same fit is fits_too =
       fit_push sums sum fit (subst P is fits_too),
     )
 
--- where a place of b is as it was, its sum is the one with b
+-- if a position of b is unchanged, its sum is the one with b
 same_place : (a b now : List ℤ) (k : ℕ) → get_or now k (pos 0) ≡ get_or b k (pos 0) → place_sum a now k ≡ place_sum a b k
 same_place a b now k e = ap (λ y. get_or a k (pos 0) +ℤ y) e
 
@@ -152,7 +153,7 @@ add_ends a b sums k long as_long h same fit =
 pub add_unlike : (a b : List ℤ) → (length a ≡ length b → ⊥) → added a b ≡ None
 add_unlike a b h = let no : nat_eq (length a) (length b) ≡ false = grind (arith, nat_tests) in rw no refl
 
--- what the rule of a product makes of one input
+-- the result of the rule of a product on one input
 pub tile_added : (side seed i j k : ℕ) (input made : List ℤ) → made ≡ tile side seed i j k
     → then_some (tile_and_input (side * side) (tile side seed i j k) (input ∷ [])) fitting ≡ added input made
 tile_added side seed i j k input made e =

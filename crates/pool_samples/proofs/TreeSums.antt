@@ -1,3 +1,4 @@
+-- The sums of a tree, and their bound.
 use Rattle.std.proofs.Common.{◌≡◌, ◌≢◌, ◌<◌, ◌≤◌, ◌+◌, ◌-◌, ◌*◌, ◌^◌, ℕ, zero, suc, ℤ, pos, List, [], ◌∷◌, Option, Some, true, false, ltb}
 use Rattle.std.proofs.Common.{refl, sym, ap, ◌∙◌, subst, IsSome, arith, rules, ⊎_elim}
 use Rattle.std.proofs.lemmas.Bool.{cases_eq}
@@ -11,7 +12,7 @@ abbrev num_of : Option (List ℤ) → ℕ
 num_of (Some (pos n ∷ [])) = n
 num_of _ = 0
 
--- f at the numbers from a start on, so many, added up
+-- the sum of f over this many numbers from a start on
 abbrev span : ℕ → ℕ → (ℕ → ℕ) → ℕ
 span start zero f = 0
 span start (suc count) f = f start + span (suc start) count f

@@ -1,3 +1,4 @@
+-- Each task of a sample pool has a value.
 use Rattle.std.proofs.Common.{◌<◌, ℕ, IsSome}
 use Rattle.tp_graph.specs.Values.{value_of}
 use Rattle.pool_samples.specs.Any.{any_graph}

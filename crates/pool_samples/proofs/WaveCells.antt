@@ -1,3 +1,4 @@
+-- The cells of a wavefront.
 use Rattle.std.proofs.Common.{◌≡◌, ◌<◌, ◌≤◌, ◌+◌, ◌*◌, ◌/◌, ◌%◌, ◌^◌, ℕ, zero, suc, min, ℤ, pos, List, [], ◌∷◌, Option, Some, sym, ap, ◌∙◌}
 use Rattle.std.proofs.Common.{subst, IsSome, arith, rules}
 use Rattle.std.proofs.lemmas.Bool.Decides.{nat_tests}

@@ -1,3 +1,4 @@
+-- The graphs of the three sample pools.
 use Rattle.std.specs.Prelude.{◌≡◌}
 use Rattle.tp_graph.specs.Graphs.{TaskGraph, IsLawful}
 use Rattle.pool_samples.specs.Products.{IsProduct, IsProduct-prop, product_graph}

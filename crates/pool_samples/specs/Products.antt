@@ -1,3 +1,4 @@
+-- The product of two matrices in tiles: its entries, and its graph.
 use Rattle.std.specs.Prelude.{◌≤◌, ◌+◌, ◌-◌, ◌*◌, ◌/◌, ◌%◌, ℕ, zero, suc, ℤ, pos, ◌+ℤ◌, ◌-ℤ◌, ◌*ℤ◌, List, [], ◌∷◌, length, slice_index_or}
 use Rattle.std.specs.Prelude.{true}
 use Rattle.std.specs.Prelude.{Option, Some, None, if◌then◌else◌, nat_lt, nat_eq}
@@ -5,7 +6,7 @@ use Rattle.std.proofs.Props.{props}
 use Rattle.tp_graph.specs.Values.{then_some, fitting}
 use Rattle.tp_graph.specs.Graphs.{TaskGraph}
 
--- matrices of so many tiles a side, each tile of so many numbers a side
+-- matrices of this many tiles a side, each tile of this many numbers a side
 pub record IsProduct (tiles : ℕ) (side : ℕ) (seed : ℕ) : Type 0 where
   pub some_tiles : 1 ≤ tiles
   pub some_side : 1 ≤ side
@@ -26,12 +27,12 @@ right_entry seed z y = pos ((5 * z + 2 * y + seed) % 21) -ℤ pos 10
 abbrev pub term : ℕ → ℕ → ℕ → ℕ → ℤ
 term seed x y z = left_entry seed x z *ℤ right_entry seed z y
 
--- f at the first numbers from a start on, so many, added up
+-- the sum of f over this many numbers from a start on
 abbrev pub sum_from : ℕ → ℕ → (ℕ → ℤ) → ℤ
 sum_from start zero f = pos 0
 sum_from start (suc count) f = sum_from start count f +ℤ f (start + count)
 
--- f 0, f 1 and so on, so many of them
+-- f 0, f 1 and so on, up to this count
 abbrev pub list_of : {A : Type 0} → ℕ → (ℕ → A) → List A
 list_of zero f = []
 list_of (suc count) f = f 0 ∷ list_of count (λ e. f (suc e))
@@ -40,23 +41,23 @@ list_of (suc count) f = f 0 ∷ list_of count (λ e. f (suc e))
 abbrev pub tile : ℕ → ℕ → ℕ → ℕ → ℕ → List ℤ
 tile side seed i j k = list_of (side * side) (λ e. sum_from (k * side) side (term seed (i * side + e / side) (j * side + e % side)))
 
--- the sum of the numbers at a place of two lists
+-- the sum of the numbers at a position of two lists
 abbrev pub place_sum : List ℤ → List ℤ → ℕ → ℤ
 place_sum a b e = slice_index_or a e (pos 0) +ℤ slice_index_or b e (pos 0)
 
--- two lists added place by place
+-- two lists added position by position
 abbrev pub add_lists : List ℤ → List ℤ → List ℤ
 add_lists [] ys = []
 add_lists (x ∷ xs) [] = []
 add_lists (x ∷ xs) (y ∷ ys) = (x +ℤ y) ∷ add_lists xs ys
 
--- a tile, and the input, if there is one, added to it place by place
+-- a tile, and the input, if there is one, added to it position by position
 abbrev pub tile_and_input : ℕ → List ℤ → List (List ℤ) → Option (List ℤ)
 tile_and_input size made [] = Some made
 tile_and_input size made (input ∷ []) = if nat_eq (length input) size then Some (add_lists input made) else None
 tile_and_input size made _ = None
 
--- two lists of as many numbers, added place by place; none where a sum leaves 64 bits
+-- two lists of the same length, added position by position; none if a sum does not fit 64 bits
 abbrev pub added : List ℤ → List ℤ → Option (List ℤ)
 added a b = then_some (tile_and_input (length b) b (a ∷ [])) fitting
 

@@ -1,3 +1,4 @@
+-- When two sample pools are the same: lemmas on two and three numbers.
 use Rattle.std.proofs.Common.{◌≡◌, ℕ, true, ◌&&◌, eqb, arith}
 use Rattle.std.proofs.lemmas.Bool.Decides.{nat_tests}
 use mathlib.Core.Path.{PathP}
@@ -10,7 +11,7 @@ both_same a b c d h = (grind (arith, nat_tests), grind (arith, nat_tests))
 pub three_same : (a b c d e f : ℕ) → (eqb a b && (eqb c d && eqb e f)) ≡ true → (a ≡ b) × (c ≡ d) × (e ≡ f)
 three_same a b c d e f h = (grind (arith, nat_tests), grind (arith, nat_tests), grind (arith, nat_tests))
 
--- two proofs of a rule on two or three numbers are equal, where the numbers are
+-- two proofs of a rule on two or three numbers are equal if the numbers are
 pub rule_of_two : (P : ℕ → ℕ → Type 0) → ((x y : ℕ) → IsProp (P x y)) → {a b c d : ℕ} (e : (a ≡ b) × (c ≡ d)) (p : P a c) (q : P b d) →
     PathP (λ i. P (e.0 i) (e.1 i)) p q
 rule_of_two P prop e p q = is_prop→PathP (λ i. P (e.0 i) (e.1 i)) (λ i. prop (e.0 i) (e.1 i)) p q

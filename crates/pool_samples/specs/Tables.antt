@@ -1,3 +1,4 @@
+-- The table that a sample pool computes, as numbers and as text.
 use Rattle.std.specs.Prelude.{◌≢◌, ◌<◌, ◌+◌, ◌-◌, ◌*◌, ◌/◌, ◌++◌, ℕ, zero, suc, ℤ, pos, List, [], ◌∷◌, if◌then◌else◌, nat_eq, All}
 use Rattle.std.specs.Fmt.{signed_decimal}
 use Rattle.pool_samples.specs.Products.{entry}
@@ -20,18 +21,18 @@ table_of (pool.Product p) = record { rows = p.tiles * p.side; columns = p.tiles 
 table_of (pool.Wavefront w) = record { rows = w.rows; columns = w.columns; at = λ i j. pos (cell w.seed i j) }
 table_of (pool.Reduce r) = record { rows = 1; columns = 1; at = λ i j. pos (sum_of_leaves r.seed r.leaves) }
 
--- The task whose value has a cell of the table: the last that adds to the cell's tile; the cell's own; the root.
+-- The task whose value has a cell of the table: the last task that adds to the cell's tile; the cell's own task; the root.
 abbrev pub task_at : AnyGraph → ℕ → ℕ → ℕ
 task_at (pool.Product p) x y = ((x / p.side) * p.tiles + y / p.side) * p.tiles + (p.tiles - 1)
 task_at (pool.Wavefront w) i j = i * w.columns + j
 task_at (pool.Reduce r) i j = 2 * r.leaves - 2
 
--- the texts of 0, 1 and so on, so many, one after another
+-- the texts of 0, 1 and so on, up to this count, concatenated
 abbrev pub texts : ℕ → (ℕ → List ℕ) → List ℕ
 texts zero text = []
 texts (suc count) text = texts count text ++ text count
 
--- a number and what follows it: a line feed after the last of a row, a space after any other
+-- a number and the character after it: a line feed after the last of a row, a space after any other
 abbrev pub cell_text : ℕ → ℕ → ℤ → List ℕ
 cell_text columns j number = signed_decimal number ++ (if nat_eq (j + 1) columns then 10 else 32) ∷ []
 

@@ -1,3 +1,4 @@
+//! The three sample pools as one type.
 use crate::product::Product;
 use crate::reduce::Reduce;
 use crate::wavefront::Wavefront;
@@ -5,7 +6,7 @@ use std::alloc::Global;
 use tp_base::{NodeId, Refusal, TaskId};
 use tp_graph::{Comparable, Graph, Value};
 
-/// One of the three pools.
+/// One of the three sample pools.
 #[derive(Clone, Copy, Debug, PartialEq, Eq)]
 pub enum AnyGraph {
     /// The product of two matrices.

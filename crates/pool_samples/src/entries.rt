@@ -1,5 +1,5 @@
-//! The entries of the two matrices, read off tables: an entry depends on a residue of 21 alone, so those of a row of the left
-//! matrix, and of a column of the right one, are a slice.
+//! The entries of the two matrices of a product, from tables. An entry depends only on a residue mod 21, so the entries
+//! of a row of the left matrix, and of a column of the right one, are a slice of a table.
 ghost use Rattle.std.specs.Prelude.{◌≡◌, ◌<◌, ◌≤◌, ◌+◌, ◌*◌, ◌%◌, ℕ, ℤ, pos, ◌-ℤ◌, length, slice_index_or, unsigned_abs};
 ghost use Rattle.pool_samples.specs.Products.{left_entry};
 
@@ -23,7 +23,7 @@ static RIGHT: [i32; 84] = [
     7, -9, -4, 1, 6,
 ];
 
-/// So many entries of a table, from a place on.
+/// Returns `count` entries of a table, from a position on.
 fn part(table: &'static [i32], from: usize, count: usize) -> &'static [i32]
     requires inside { from + count ≤ length table.now }
     ensures long { length result.now ≡ count }
@@ -32,7 +32,7 @@ fn part(table: &'static [i32], from: usize, count: usize) -> &'static [i32]
     &table[from..from + count]
 }
 
-/// So many entries of row x of the left matrix, from column z on.
+/// Returns `count` entries of row x of the left matrix, from column z on.
 pub(crate) fn left_entries(seed: u32, x: u32, z: u32, count: usize) -> &'static [i32]
     requires places { (x < 64) × (z + count ≤ 64) }
     requires seed_small { seed ≤ 9999 }
@@ -44,7 +44,7 @@ pub(crate) fn left_entries(seed: u32, x: u32, z: u32, count: usize) -> &'static 
     part(&LEFT, from as usize, count)
 }
 
-/// The place in the table of the right matrix's entry in row z of column y.
+/// Returns the position in the table of the right matrix's entry in row z of column y.
 pub(crate) fn right_place(seed: u32, z: u32, y: u32) -> usize
     requires places { (z ≤ 64) × (y ≤ 64) }
     requires seed_small { seed ≤ 9999 }
@@ -54,7 +54,7 @@ pub(crate) fn right_place(seed: u32, z: u32, y: u32) -> usize
     ((z + 13 * y + 17 * seed) % 21) as usize
 }
 
-/// The place of the entry in the same row of the next column.
+/// Returns the position of the entry in the same row of the next column.
 pub(crate) fn next_place(place: usize) -> usize
     requires inside { place < 21 }
     ensures inside { result < 21 }
@@ -64,7 +64,7 @@ pub(crate) fn next_place(place: usize) -> usize
     if next < 21 { next } else { next - 21 }
 }
 
-/// So many entries of a column of the right matrix, from a place on.
+/// Returns `count` entries of a column of the right matrix, from a position on.
 pub(crate) fn right_entries(place: usize, count: usize) -> &'static [i32]
     requires places { (place < 21) × (count ≤ 64) }
     ensures long { length result.now ≡ count }

@@ -1,6 +1,8 @@
-//! The sample pools: the product of two matrices, a wavefront over a table, and a tree of sums.
+//! The sample pools: the product of two matrices, a wavefront over a table, and a tree of sums. How a pool runs is not
+//! here.
 //!
-//! [`checked`] reads the word of a pool. What [`AnyGraph`] says of its table tells a printer where each number stands.
+//! [`checked`] parses the specification of a pool. The table of an [`AnyGraph`] shows a printer which task has which
+//! number.
 #![tactic(auto)]
 
 mod any;

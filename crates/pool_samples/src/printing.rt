@@ -1,3 +1,4 @@
+//! Printing the table of a pool's result.
 ghost use Rattle.std.specs.Prelude.{◌≡◌, ◌<◌, ◌⊎◌, ◌↔◌, ◌++◌, ◌∷◌, [], if◌then◌else◌, IfOk, OnOk, IfErr};
 ghost use Rattle.std.specs.Fmt.{signed_decimal};
 ghost use Rattle.tp_base.specs.declared.Refusal.TheVariants.{Missing, NoMemory};
@@ -10,9 +11,9 @@ use std::alloc::{AllocError, Global};
 use tp_base::{Refusal, TaskId};
 use tp_graph::Value;
 
-/// The table of a graph, from results each of which has to be its task's value: row by row, the numbers of a row
-/// separated by single spaces and ended by a line feed. Refused with `Missing` exactly where a task that the table needs
-/// has no result, and then with `NoMemory`.
+/// Returns the text of a graph's table, from results that have to be their tasks' values. Each row is a line, with its
+/// numbers separated by single spaces. Refused with `Missing` exactly if a task that the table needs has no result, and
+/// then with `NoMemory` if an allocation fails.
 pub fn print_table(
     alloc: Global,
     graph: AnyGraph,
@@ -31,7 +32,7 @@ pub fn print_table(
     Ok(text)
 }
 
-/// Writes a row of a table.
+/// Appends a row of a table.
 #[tactic(auto, using(crate::proofs::Printed::texts_more))]
 fn print_row(
     alloc: Global,
@@ -50,7 +51,7 @@ fn print_row(
     Ok(())
 }
 
-/// Writes a number and what follows it.
+/// Appends a number and the character after it.
 fn print_number(
     alloc: Global,
     text: &mut Vec<u8>,

@@ -1,3 +1,4 @@
+//! The product of two matrices in tiles, as a graph.
 ghost use Rattle.std.specs.Prelude.{◌≡◌, ◌<◌, ◌≤◌, ◌+◌, ◌-◌, ◌*◌, ◌/◌, ◌%◌, ℕ, pos, ◌+ℤ◌, ◌-ℤ◌, ◌∷◌, ◌++◌, [], ◌*ℤ◌, unsigned_abs, true};
 ghost use Rattle.std.specs.Prelude.{false, length, slice_index_or, vec_len, vec_capacity, IfOk, MatchResult, Some, None};
 ghost use Rattle.pool_samples.specs.Products.{IsProduct, IsProduct-prop, product_graph, term, sum_from, list_of, tile, tile_and_input};
@@ -15,16 +16,16 @@ use tp_graph::{Comparable, Graph, Value};
 /// The product of two matrices, in tiles.
 #[derive(Clone, Copy, Debug, PartialEq, Eq)]
 pub struct Product {
-    /// How many tiles a matrix has on a side: 1 to 64.
+    /// The number of tiles on a side of a matrix: 1 to 64.
     pub tiles: u32,
-    /// How many numbers a tile has on a side: 1 to 64. The order of the matrices, tiles times side, is at most 64.
+    /// The number of rows and columns of a tile: 1 to 64. The order of the matrices, tiles times side, is at most 64.
     pub side: u32,
-    /// What the matrices' entries start from: 0 to 9,999.
+    /// The seed of the matrices' entries: 0 to 9,999.
     pub seed: u32,
     pub ghost in_rules: { IsProduct tiles side seed },
 }
 
-/// A product of two small numbers.
+/// Returns the product of two small numbers.
 fn multiply(a: i32, b: i32) -> i64
     requires left { unsigned_abs a ≤ 10 }
     requires right { unsigned_abs b ≤ 10 }
@@ -34,7 +35,7 @@ fn multiply(a: i32, b: i32) -> i64
     i64::from(a) * i64::from(b)
 }
 
-/// The sum of a small number and a product of two.
+/// Returns the sum of a small number and a product of two.
 fn plus(sum: i64, product: i64) -> i64
     requires left { unsigned_abs sum ≤ 6400 }
     requires right { unsigned_abs product ≤ 100 }
@@ -44,7 +45,7 @@ fn plus(sum: i64, product: i64) -> i64
     sum + product
 }
 
-/// The sum of the products of two lists of small numbers, place by place.
+/// Returns the sum of the products of two lists of small numbers, position by position.
 fn sum_at(left: &[i32], right: &[i32]) -> i64
     requires long { (length left.now ≡ length right.now) × (length left.now ≤ 64) }
     requires small_left { (n : ℕ) → n < length left.now → unsigned_abs (slice_index_or left.now n (pos 0)) ≤ 10 }
@@ -127,7 +128,7 @@ impl Graph for Product {
     }
 }
 
-/// The number of a tile of one.
+/// Returns the number of a tile with one entry.
 fn lone_product(seed: u32, i: u32, j: u32, k: u32) -> i64
     requires places { (i < 64) × (j < 64) × (k < 64) }
     requires seed_small { seed ≤ 9999 }
@@ -138,8 +139,8 @@ fn lone_product(seed: u32, i: u32, j: u32, k: u32) -> i64
     multiply(left[0], right[0])
 }
 
-/// What a task makes of the number of a tile of one: that number, or its sum with the lone number of the input. Refused with
-/// `BodyFailed` exactly where the rule fails or the sum leaves `i64`. It takes no memory.
+/// Returns the value of a task whose tile has one entry: that number, or its sum with the one number of the input.
+/// Refused with `BodyFailed` exactly if the rule fails or the sum does not fit `i64`. It allocates nothing.
 fn lone_value(alloc: Global, product: i64, inputs: &[Value]) -> Result<Value, Refusal>
     ensures { MatchResult result (λ value. then_some (tile_and_input 1 (product ∷ []) inputs.now) fitting
         ≡ Some value) (λ refusal. (refusal ≡ BodyFailed) × (then_some (tile_and_input 1 (product ∷ []) inputs.now) fitting ≡ None)) }
@@ -151,7 +152,7 @@ fn lone_value(alloc: Global, product: i64, inputs: &[Value]) -> Result<Value, Re
     }
 }
 
-/// A tile of products.
+/// Returns a tile of products.
 fn make_tile(
     alloc: Global,
     side: u32,
@@ -171,7 +172,7 @@ fn make_tile(
     Ok(made)
 }
 
-/// Appends a row of a tile of products: row x, at as many columns from y on.
+/// Appends a row of a tile of products: row x, from column y on.
 fn push_row(made: &mut Vec<i64>, side: u32, seed: u32, x: u32, y: u32, start: u32)
     requires places { (x < 64) × (y + side ≤ 64) × (start + side ≤ 64) }
     requires seed_small { seed ≤ 9999 }
@@ -191,9 +192,9 @@ fn push_row(made: &mut Vec<i64>, side: u32, seed: u32, x: u32, y: u32, start: u3
     }
 }
 
-/// Adds the numbers of a list to those of another of the same length, in place. Refused with `BodyFailed` exactly
-/// where the lengths differ or a sum leaves `i64`; some places may be added to by then. The sums that leave it are counted,
-/// since a loop without a way out is worked out in vectors.
+/// Adds the numbers of a list to those of another of the same length, in place. Refused with `BodyFailed` exactly if
+/// the lengths differ or a sum does not fit `i64`; some sums may be changed by then. Overflows are counted, since only
+/// a loop without an early exit is vectorized.
 #[tactic(auto, using(crate::proofs::Sums::add_unlike))]
 fn add_to(sums: &mut [i64], input: &[i64]) -> Result<(), Refusal>
     ensures { MatchResult result (λ _. added input.now sums.old ≡ Some sums.new) (λ refusal. (refusal ≡ BodyFailed)
@@ -215,7 +216,7 @@ fn add_to(sums: &mut [i64], input: &[i64]) -> Result<(), Refusal>
     }
 }
 
-/// The sum of the numbers at a place of two lists and 0, or some number and 1 where the sum leaves `i64`.
+/// Returns the sum of the numbers at a position of two lists and 0, or some number and 1 if the sum does not fit `i64`.
 fn sum_of_places(a: &[i64], b: &[i64], e: usize) -> (i64, u64)
     requires left { e < length a.now }
     requires right { e < length b.now }

@@ -1,3 +1,4 @@
+//! A tree of sums, as a graph.
 ghost use Rattle.std.specs.Prelude.{◌≡◌, ◌<◌, ◌≤◌, ◌-◌, ◌*◌};
 ghost use Rattle.pool_samples.specs.Trees.{IsReduce, IsReduce-prop, reduce_graph};
 ghost use Rattle.pool_samples.specs.TreeLaws.{reduce_lawful};
@@ -10,9 +11,9 @@ use tp_graph::{Comparable, Graph, Value};
 /// A tree that adds up its leaves.
 #[derive(Clone, Copy, Debug, PartialEq, Eq)]
 pub struct Reduce {
-    /// How many leaves there are: a power of two from 1 to 1,024.
+    /// The number of leaves: a power of two from 1 to 1,024.
     pub leaves: u32,
-    /// What the leaves' values start from: 0 to 9,999.
+    /// The seed of the leaves' values: 0 to 9,999.
     pub seed: u32,
     pub ghost in_rules: { IsReduce leaves seed },
 }

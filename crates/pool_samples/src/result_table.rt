@@ -1,3 +1,4 @@
+//! The table of a pool's result: where its numbers are among the results of the tasks.
 ghost use Rattle.std.specs.Prelude.{◌≡◌, ◌<◌, ◌≤◌, ◌↔◌, ◌⊎◌, ℕ, IfErr, IfOk, IsSome, IsTrue, MatchOption, slice_index_or, Err, None, false};
 ghost use Rattle.std.specs.Prelude.{length};
 ghost use Rattle.tp_base.specs.declared.Refusal.TheVariants.{Missing, NoMemory};
@@ -15,7 +16,7 @@ use tp_graph::Value;
 /// The most tasks whose values a table needs: one for each cell of 64 rows and columns.
 const MAX_NEEDED: usize = 4_096;
 
-/// The table of a pool, whose numbers stand among the pool's results. Contracts see its graph.
+/// The table of a pool, with the positions of its numbers among the pool's results. Contracts see its graph.
 #[derive(Drop)]
 pub struct ResultTable<'a> {
     graph: AnyGraph,
@@ -34,8 +35,8 @@ impl<'a> Model for ResultTable<'a> {
 }
 
 impl<'a> ResultTable<'a> {
-    /// Finds the numbers of a graph's table among results, each of which has to be its task's value. Refused with
-    /// `Missing` exactly where a task that the table needs has no result, and then with `NoMemory`.
+    /// Returns the table of a graph, from results that have to be their tasks' values. Refused with `Missing` exactly
+    /// if a task that the table needs has no result, and then with `NoMemory` if an allocation fails.
     pub fn new(
         alloc: Global,
         graph: AnyGraph,
@@ -55,21 +56,21 @@ impl<'a> ResultTable<'a> {
         }
     }
 
-    /// How many rows there are.
+    /// Returns the number of rows.
     pub fn rows(&self) -> u32
         ensures { result ≡ (table_of self.now).rows }
     {
         self.graph.rows()
     }
 
-    /// How many columns there are.
+    /// Returns the number of columns.
     pub fn columns(&self) -> u32
         ensures { result ≡ (table_of self.now).columns }
     {
         self.graph.columns()
     }
 
-    /// The number in a row and a column, counted from 0.
+    /// Returns the number in a row and a column, counted from 0.
     pub fn number(&self, i: u32, j: u32) -> i64
         requires row { i < (table_of self.now).rows }
         requires column { j < (table_of self.now).columns }
@@ -83,7 +84,8 @@ impl<'a> ResultTable<'a> {
     }
 }
 
-/// The values that a table needs, by the ranks of their tasks. They lie on the heap: a thread's stack may be small.
+/// Returns the values that a table needs, by the ranks of their tasks. They are on the heap, since a thread's stack may
+/// be small.
 fn index<'a>(
     alloc: Global,
     graph: AnyGraph,
@@ -115,7 +117,7 @@ fn find<'a>(graph: AnyGraph, results: &'a [(TaskId, Value)], values: &mut [Optio
     }
 }
 
-/// The lowest rank at which the value was not found.
+/// Returns the lowest rank whose value was not found.
 fn missing(graph: AnyGraph, values: &[Option<&Value>]) -> Option<u32>
     requires { needed graph ≤ length values.now }
     ensures { MatchOption result ((rank : ℕ) → rank < needed graph
@@ -129,7 +131,7 @@ fn missing(graph: AnyGraph, values: &[Option<&Value>]) -> Option<u32>
     None
 }
 
-/// Why there is no table, where there was no memory for it: a value that is missing is told first.
+/// Returns why there is no table after an allocation failed: a missing value takes precedence.
 fn without_memory(graph: AnyGraph, results: &[(TaskId, Value)]) -> Refusal
     ensures missing { (result ≡ Missing) ↔ LacksCell graph results.now }
     ensures refused { (result ≡ Missing) ⊎ (result ≡ NoMemory) }
@@ -156,7 +158,7 @@ fn mark(graph: AnyGraph, results: &[(TaskId, Value)], known: &mut [bool; MAX_NEE
     }
 }
 
-/// The lowest rank that is not marked.
+/// Returns the lowest rank that is not marked.
 fn unknown(graph: AnyGraph, known: &[bool]) -> Option<u32>
     requires { needed graph ≤ length known.now }
     ensures { MatchOption result ((rank : ℕ) → rank < needed graph

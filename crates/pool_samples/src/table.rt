@@ -1,3 +1,4 @@
+//! The shape of each pool's table, and which task has which of its numbers.
 ghost use Rattle.std.specs.Prelude.{◌≡◌, ◌<◌, ◌≤◌, ◌*◌, ℕ, IfSome};
 ghost use Rattle.pool_samples.specs.declared.any.AnyGraph.{AnyGraph};
 ghost use Rattle.pool_samples.specs.Needed.{needed, needed_task, HasCell};
@@ -10,7 +11,7 @@ use crate::wavefront::Wavefront;
 use tp_base::TaskId;
 
 impl AnyGraph {
-    /// How many rows its table has.
+    /// Returns the number of rows of the table.
     pub(crate) fn rows(&self) -> u32
         ensures { result ≡ (table_of self.now).rows }
     {
@@ -21,7 +22,7 @@ impl AnyGraph {
         }
     }
 
-    /// How many columns its table has.
+    /// Returns the number of columns of the table.
     pub(crate) fn columns(&self) -> u32
         ensures { result ≡ (table_of self.now).columns }
     {
@@ -32,7 +33,7 @@ impl AnyGraph {
         }
     }
 
-    /// How many tasks have a value that the table needs: at most 4,096.
+    /// Returns the number of tasks whose value the table needs: at most 4,096.
     pub(crate) fn needed(&self) -> u32
         ensures same { result ≡ needed self.now }
         ensures few { result ≤ 4096 }
@@ -44,7 +45,7 @@ impl AnyGraph {
         }
     }
 
-    /// The rank of a task among those whose values the table needs, counted from 0 for the lowest.
+    /// Returns the rank of a task among those whose values the table needs, counted from 0 for the lowest.
     pub(crate) fn rank(&self, task: TaskId) -> Option<u32>
         ensures each { (rank : ℕ) → rank < needed self.now → needed_task self.now rank ≡ task.0 → result ≡ Some rank }
         ensures only { IfSome result (λ rank. (rank < needed self.now) × (needed_task self.now rank ≡ task.0)) }
@@ -56,7 +57,7 @@ impl AnyGraph {
         }
     }
 
-    /// Where a cell of the table stands: the rank of the task whose value has it, and its place there.
+    /// Returns where a cell of the table is: the rank of the task whose value has it, and its position there.
     pub(crate) fn cell(&self, i: u32, j: u32) -> (u32, usize)
         requires row { i < (table_of self.now).rows }
         requires column { j < (table_of self.now).columns }

@@ -1,3 +1,4 @@
+//! A wavefront over a table of cells, as a graph.
 ghost use Rattle.std.specs.Prelude.{◌≡◌, ◌<◌, ◌≤◌, ◌+◌, ◌*◌, ◌/◌, ◌%◌};
 ghost use Rattle.pool_samples.specs.Waves.{IsWavefront, IsWavefront-prop, cost, wavefront_graph};
 ghost use Rattle.pool_samples.specs.WaveLaws.{wavefront_lawful};
@@ -10,17 +11,17 @@ use tp_graph::{Comparable, Graph, Value};
 /// A table of cells, each of which adds its cost to the lesser of the cells above it and to its left.
 #[derive(Clone, Copy, Debug, PartialEq, Eq)]
 pub struct Wavefront {
-    /// How many rows there are: 1 to 64.
+    /// The number of rows: 1 to 64.
     pub rows: u32,
-    /// How many columns there are: 1 to 64.
+    /// The number of columns: 1 to 64.
     pub columns: u32,
-    /// What the costs start from: 0 to 9,999.
+    /// The seed of the costs: 0 to 9,999.
     pub seed: u32,
     pub ghost in_rules: { IsWavefront rows columns seed },
 }
 
 impl Wavefront {
-    /// The cost of a task's cell.
+    /// Returns the cost of a task's cell.
     fn cost(&self, task: TaskId) -> u32
         requires { task.0 < self.now.rows * self.now.columns }
         ensures { result ≡ cost self.now.seed (task.0 / self.now.columns) (task.0 % self.now.columns) }

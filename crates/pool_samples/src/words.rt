@@ -1,3 +1,4 @@
+//! The specifications of sample pools, and their parser.
 ghost use Rattle.std.specs.Prelude.{◌≡◌, ◌<◌, ◌↔◌, ◌^◌, ◌*◌, IsTrue, ℕ, List, decimal, IfOk, IfErr, IfSome, IsSomeAnd};
 ghost use Rattle.tp_base.specs.declared.Refusal.TheVariants.{BadSpec};
 ghost use Rattle.pool_samples.specs.Trees.{is_leaf_count};
@@ -13,8 +14,9 @@ use crate::reduce::Reduce;
 use crate::wavefront::Wavefront;
 use tp_base::{MAX_ORDER, MAX_SEED, MAX_SIDE, Refusal};
 
-/// The graph that a word names: `product:ORDER:SIDE:SEED`, `wavefront:ROWS:COLUMNS:SEED` or `reduce:LEAVES:SEED`, in
-/// decimal numbers without leading zeros. Refused with `BadSpec` exactly where it names none. It takes no memory.
+/// Returns the graph that a specification names: `product:ORDER:SIDE:SEED`, `wavefront:ROWS:COLUMNS:SEED` or
+/// `reduce:LEAVES:SEED`, in decimal numbers without leading zeros. Refused with `BadSpec` exactly if it names none. It
+/// allocates nothing.
 pub fn checked(word: &str) -> Result<AnyGraph, Refusal>
     ensures named { (graph : AnyGraph) → word.now ≡ word_of graph → result ≡ Ok graph }
     ensures only { IfOk result (λ graph. word.now ≡ word_of graph) }
@@ -26,7 +28,7 @@ pub fn checked(word: &str) -> Result<AnyGraph, Refusal>
     }
 }
 
-/// The graph that a word names.
+/// Returns the graph that a specification names.
 fn named(word: &str) -> Option<AnyGraph>
     ensures named { (graph : AnyGraph) → word.now ≡ word_of graph → result ≡ Some graph }
     ensures only { IfSome result (λ graph. word.now ≡ word_of graph) }
@@ -40,7 +42,7 @@ fn named(word: &str) -> Option<AnyGraph>
     }
 }
 
-/// The product that the numbers of a word name.
+/// Returns the product that the numbers of a specification name.
 fn product_named(text: &str) -> Option<Product>
     ensures named { (p : Product) → text.now ≡ three_numbers (p.tiles * p.side) p.side p.seed → result ≡ Some p }
     ensures only { IfSome result (λ p. text.now ≡ three_numbers (p.tiles * p.side) p.side p.seed) }
@@ -59,7 +61,7 @@ fn product_named(text: &str) -> Option<Product>
     })
 }
 
-/// The table of cells that the numbers of a word name.
+/// Returns the wavefront that the numbers of a specification name.
 fn wavefront_named(text: &str) -> Option<Wavefront>
     ensures named { (w : Wavefront) → text.now ≡ three_numbers w.rows w.columns w.seed → result ≡ Some w }
     ensures only { IfSome result (λ w. text.now ≡ three_numbers w.rows w.columns w.seed) }
@@ -75,7 +77,7 @@ fn wavefront_named(text: &str) -> Option<Wavefront>
     })
 }
 
-/// The tree of sums that the numbers of a word name.
+/// Returns the tree of sums that the numbers of a specification name.
 fn reduce_named(text: &str) -> Option<Reduce>
     ensures named { (r : Reduce) → text.now ≡ two_numbers r.leaves r.seed → result ≡ Some r }
     ensures only { IfSome result (λ r. text.now ≡ two_numbers r.leaves r.seed) }
@@ -88,14 +90,14 @@ fn reduce_named(text: &str) -> Option<Reduce>
     Some(Reduce { leaves, seed })
 }
 
-/// Whether a number is a power of two from 1 to 1,024.
+/// Returns whether a number is a power of two from 1 to 1,024.
 fn is_power(n: u32) -> bool
     ensures { result ≡ is_leaf_count n }
 {
     matches!(n, 1 | 2 | 4 | 8 | 16 | 32 | 64 | 128 | 256 | 512 | 1024)
 }
 
-/// Three numbers, joined by colons.
+/// Parses three numbers, joined by colons.
 fn triple(text: &str) -> Option<(u32, u32, u32)>
     ensures spelt { (a b d : ℕ) → a < 2 ^ 32 → b < 2 ^ 32 → d < 2 ^ 32 → text.now ≡ three_numbers a b d → result ≡ Some (a, b, d) }
     ensures only { IfSome result (λ n. text.now ≡ three_numbers n.0 n.1 n.2) }
@@ -105,7 +107,7 @@ fn triple(text: &str) -> Option<(u32, u32, u32)>
     Some((first, second, number(last)?))
 }
 
-/// A number and the text after its colon.
+/// Parses a number, and returns it with the text after its colon.
 fn number_and_rest(text: &str) -> Option<(u32, &str)>
     ensures spelt { (n : ℕ) (rest : List ℕ) → n < 2 ^ 32 → text.now ≡ joined (decimal n) rest
         → IsSomeAnd result (λ parts. (parts.0 ≡ n) × (parts.1.now ≡ rest)) }
@@ -115,7 +117,7 @@ fn number_and_rest(text: &str) -> Option<(u32, &str)>
     Some((number(first)?, rest))
 }
 
-/// The number that a text spells in decimal, without leading zeros.
+/// Parses a decimal number without leading zeros.
 fn number(text: &str) -> Option<u32>
     ensures spelt { (n : ℕ) → n < 2 ^ 32 → text.now ≡ decimal n → result ≡ Some n }
     ensures only { IfSome result (λ n. text.now ≡ decimal n) }
@@ -126,7 +128,7 @@ fn number(text: &str) -> Option<u32>
     text.parse().ok()
 }
 
-/// Whether digits have neither a sign nor zeros in front, which `parse` takes too.
+/// Returns whether digits have neither a sign nor leading zeros, both of which `parse` accepts.
 fn is_plain(digits: &[u8]) -> bool
     ensures { IsTrue result ↔ IsPlain digits.now }
 {

@@ -1,4 +1,4 @@
--- What a grid takes, in its own words.
+-- What a grid requires, in its own terms.
 use Rattle.std.proofs.Common.{◌≡◌, ◌≢◌, ◌<◌, ◌≤◌, ◌+◌, ◌*◌, ◌%◌, ◌^◌, ℕ, Bool, true, false, sym, ap, ◌∙◌, ◌⊎◌, ⊎_elim, inl, inr, arith}
 use Rattle.std.proofs.Common.{rules}
 use Rattle.std.specs.Prelude.{◌==◌}
@@ -8,7 +8,7 @@ use Rattle.std.proofs.lemmas.Bool.{and_from, and_parts, cases_lt, eq-eqb, eqb-tr
 use Rattle.pool_blocks.specs.Stencils.{AreNoSteps, AreSteps}
 use Rattle.pool_stencil.specs.Grids.{IsGrid, IsNoGrid, are_whole_rows, blocks_of}
 
--- where rows and blocks do not go with the cells, the last row is not whole
+-- if rows and blocks do not fit the cells, the last row is not whole
 pub no_row : (width rows count : ℕ) → are_whole_rows width count (rows * width) ≡ false → count % width ≢ 0
 no_row width rows count none whole =
     let yes : are_whole_rows width count (rows * width) ≡ true =

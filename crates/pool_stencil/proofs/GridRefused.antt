@@ -1,4 +1,4 @@
--- Why a run over a grid gives nothing.
+-- Why a run over a grid has no result.
 use Rattle.std.proofs.Common.{◌≡◌, ◌≤◌, ◌*◌, ◌^◌, ◌⊎◌, ℕ, ℤ, List, length, ap, subst, ◌∙◌, inl, inr}
 use Rattle.tp_graph.specs.Graphs.{TaskGraph}
 use Rattle.pool_stencil.proofs.GridCuts.{no_row}
@@ -17,7 +17,7 @@ lent_fault n workers P g h BadInput is why = absurd why
 lent_fault n workers P g h (Run fault) is why = subst (λ g. IsFault n g fault) is why
 lent_fault n workers P g h (Unmade outcome) is why = subst (λ g. IsOutcome n workers g outcome) is why
 
--- the graph of a grid, by what was lent
+-- the graph of a grid, by what was borrowed
 pub grid-is : (grid_width width blocks size rows steps grid_steps : ℕ) (grid_cells cells : List ℤ) →
     (grid_cells ≡ cells) × (blocks ≡ blocks_of (length cells) (rows * width)) × (grid_width ≡ width) × (size ≡ rows * width)
     × (grid_steps ≡ steps) →
@@ -44,7 +44,7 @@ pub takes_none : (n count width rows : ℕ) → (width ≡ 0) ⊎ (2 ^ 32 ≤ ro
 takes_none n count width rows (inl none) = inl none
 takes_none n count width rows (inr large) = inr (inl large)
 
--- the run in parts of a grid that was lent
+-- the run in parts of a borrowed grid
 pub grid_ran : (n workers : ℕ) (cells : List ℤ) (grid_width width size rows steps : ℕ) → grid_width ≡ width → size ≡ rows * width →
     HasRunInParts n workers (relaxed grid_width) (block_relaxed grid_width) cells size steps
     → HasRunInParts n workers (relaxed width) (block_relaxed width) cells (rows * width) steps

@@ -1,4 +1,4 @@
--- What a rod takes, in its own words.
+-- What a rod requires, in its own terms.
 use Rattle.std.proofs.Common.{◌≡◌, ◌≤◌, ℕ, true, false, sym, inl, inr}
 use Rattle.std.proofs.lemmas.Bool.{false≢true}
 use Rattle.pool_blocks.specs.Stencils.{AreNoSteps}

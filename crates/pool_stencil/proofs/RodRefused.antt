@@ -1,4 +1,4 @@
--- Why a run of a rod gives nothing.
+-- Why a run of a rod has no result.
 use Rattle.std.proofs.Common.{◌≡◌, ◌-◌, ℕ, ℤ, true, List, length, sym, ap, ◌∙◌, inl, inr}
 use Rattle.std.proofs.lemmas.Bool.{false≢true}
 use Rattle.pool_blocks.specs.Faults as any
@@ -7,7 +7,7 @@ use Rattle.pool_blocks.specs.declared.fault.LentFault.TheVariants.{BadInput, Run
 use Rattle.pool_stencil.specs.Heats.{block_heated, blocks_of, heat_graph, heated}
 use Rattle.pool_stencil.specs.RodFaults.{IsPartFault}
 
--- the graph of a rod, by what was lent
+-- the graph of a rod, by what was borrowed
 pub heat-is : (blocks size_now size steps_now steps : ℕ) (cells_now cells : List ℤ) →
     (cells_now ≡ cells) × (blocks ≡ blocks_of (length cells) size) × (size_now ≡ size) × (steps_now ≡ steps) →
     heat_graph cells_now blocks size_now steps_now ≡ heat_graph cells (blocks_of (length cells) size) size steps

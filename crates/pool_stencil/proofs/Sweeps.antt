@@ -1,7 +1,7 @@
+-- A sweep over a block, cell by cell.
 use Rattle.std.proofs.Common.{◌≡◌, ◌<◌, ◌≤◌, ◌+◌, ◌-◌, ◌^◌, ℕ, zero, suc, ℤ, pos, List, [], ◌∷◌, ◌++◌, length, get_or, drop, true, refl, ap}
-use Rattle.std.proofs.Common.{sym, ◌∙◌, append_assoc, append-nil, add-one, arith}
+use Rattle.std.proofs.Common.{sym, ◌∙◌, append_assoc, add-one, arith}
 use Rattle.std.specs.Prelude.{unsigned_abs}
-use Rattle.std.proofs.lemmas.List.{drop_all}
 use Rattle.tp_graph.proofs.Fits.{fits-from, fit-push}
 use Rattle.tp_graph.specs.Values.{all_fit}
 use Rattle.pool_stencil.specs.Heats.{mixed, first_or, last_or, sweep}
@@ -16,7 +16,7 @@ last_is [] e h = absurd (omega arith)
 last_is (x ∷ xs) e h = let n : length (x ∷ xs) - 1 ≡ length xs =
     omega arith in last-from (pos 0) e x xs ∙ ap (λ m. get_or (x ∷ xs) m e) (sym n)
 
--- what is swept behind a place, with the cell that it begins with
+-- the sweep from a position on, with the cell that it begins with
 swept-on : (left right : ℤ) (own : List ℤ) (i : ℕ) (e : ℤ) → i < length own →
     sweep left (drop i own) right ≡ mixed left (get_or own i e) (first_or right (drop (suc i) own))
     ∷ sweep (get_or own i e) (drop (suc i) own) right
@@ -24,13 +24,13 @@ swept-on left right [] i e h = absurd (omega arith)
 swept-on left right (x ∷ xs) zero e h = refl
 swept-on left right (x ∷ xs) (suc i) e h = swept-on left right xs i e (omega arith)
 
--- the first of what lies behind a place
+-- the first cell from a position on
 pub first_behind : (right : ℤ) (own : List ℤ) (i : ℕ) (e : ℤ) → i < length own → first_or right (drop i own) ≡ get_or own i e
 first_behind right [] i e h = absurd (omega arith)
 first_behind right (x ∷ xs) zero e h = refl
 first_behind right (x ∷ xs) (suc i) e h = first_behind right xs i e (omega arith)
 
--- one more cell behind those that are made
+-- one more cell after those that are computed
 pub swept_more : (before right : ℤ) (own : List ℤ) (i : ℕ) (cell next after : ℤ) (made all : List ℤ) → i < length own →
     made ++ sweep before (drop i own) right ≡ all → all_fit made ≡ true → cell ≡ first_or (pos 0) (drop i own) →
     after ≡ first_or right (drop (i + 1) own) → next ≡ mixed before cell after → unsigned_abs next < 2 ^ 63 →
@@ -47,13 +47,6 @@ swept_more before right own i cell next after made all h same fit is behind new 
       append_assoc made (next ∷ []) (sweep cell (drop (i + 1) own) right) ∙ ap (λ l. made ++ l) (sym cells) ∙ same,
       fit-push made next fit (fits-from next small),
     )
-
--- nothing is left to sweep behind the last place
-pub swept_all : (before right : ℤ) (own : List ℤ) (i : ℕ) (made all : List ℤ) → length own ≤ i → made
-    ++ sweep before (drop i own) right ≡ all → made ≡ all
-swept_all before right own i made all h same =
-    let none : drop i own ≡ [] = drop_all i own h in
-    sym (append-nil made) ∙ ap (λ l. made ++ sweep before l right) (sym none) ∙ same
 
 pub first_past : (right : ℤ) (own : List ℤ) (i : ℕ) → length own ≤ i → first_or right (drop i own) ≡ right
 first_past right [] zero h = refl

@@ -1,4 +1,4 @@
--- A step of a grid is one of its blocks of rows, and no cell leaves 64 bits.
+-- A step of a grid is one of its blocks of rows, and every cell fits 64 bits.
 use Rattle.std.proofs.Common.{◌≡◌, ◌<◌, ◌≤◌, ◌+◌, ◌-◌, ◌*◌, ◌/◌, ◌%◌, ◌^◌, ℕ, zero, suc, ℤ, pos, negsuc, ◌+ℤ◌, ◌*ℤ◌, ◌<ℤ◌, ◌≤ℤ◌, Bool, List}
 use Rattle.std.proofs.Common.{[], ◌∷◌, ◌++◌, length, take, drop, min, true, false, if◌then◌else◌, nat_lt, length-take, length-drop, refl}
 use Rattle.std.proofs.Common.{ap, sym, subst, ◌∙◌, ⊎_elim, inl, inr, arith, FitsSigned, w64}
@@ -23,7 +23,7 @@ use Rattle.pool_stencil.specs.Windows.{IsAbove, IsBelow, swept-at}
 pub relaxed-long : (width : ℕ) → KeepsLength (relaxed width)
 relaxed-long width cells = list-length (length cells) (cell_after width cells)
 
--- of whole rows there is one more where there is more
+-- if there is more than some whole rows, there is one more whole row
 one-row : (q n w : ℕ) → q * w < n * w → q * w + w ≤ n * w
 one-row q n w h =
     ⊎_elim
@@ -103,7 +103,7 @@ module _ (width rows : ℕ) (xs : List ℤ) (some_width : 1 ≤ width) (some_row
       (record { places = λ k q. absurd (omega (arith, q)); row = inr (refl, end) }))
       (cases_lt ((b + 1) * (rows * width)) (length xs))
 
-  -- a block of the grid after a step is worked out from the block and the rows above and below it
+  -- a block of the grid after a step is computed from the block and the rows above and below it
   block-swept : (b : ℕ) (above below : List ℤ) → b * (rows * width) < length xs → IsAbove width (b * rows * width) xs above →
       IsBelow width (b * rows * width + length (block_of (rows * width) b xs)) xs below
       → block_of (rows * width) b (relaxed width xs) ≡ swept_between width above (block_of (rows * width) b xs) below

@@ -11,21 +11,21 @@ pub use Rattle.pool_blocks.specs.Stencils.{blocks_of}
 abbrev pub mixed : ℤ → ℤ → ℤ → ℤ → ℤ → ℤ
 mixed up left own right down = int_div_euclid (((up +ℤ left) +ℤ (pos 4 *ℤ own)) +ℤ (right +ℤ down)) (pos 8)
 
--- whether place i of so many cells, in rows of so many, is not on the edge
+-- whether cell i of this many, in rows of this width, is not on the edge
 abbrev pub inner : ℕ → ℕ → ℕ → Bool
 inner width count i = nat_lt width (i + 1) && (nat_lt (i + width) count && (nat_lt 0 (i % width) && nat_lt (i % width + 1) width))
 
--- the cell at a place after a step: one on the edge stays
+-- the cell at a position after a step: one on the edge stays
 abbrev pub cell_after : ℕ → List ℤ → ℕ → ℤ
 cell_after width cells i =
     if inner width (length cells) i then mixed (at cells (i - width)) (at cells (i - 1)) (at cells i) (at cells (i + 1))
     (at cells (i + width)) else at cells i
 
--- a grid in rows of so many cells after a step
+-- a grid in rows of this width after a step
 abbrev pub relaxed : ℕ → Step
 relaxed width cells = list_of (length cells) (cell_after width cells)
 
--- a grid after so many steps
+-- a grid after this many steps
 abbrev pub evolve : ℕ → ℕ → List ℤ → List ℤ
 evolve width steps cells = after (relaxed width) steps cells
 
@@ -41,11 +41,11 @@ swept_between width above own below = list_of (length own) (λ e. cell_after wid
 abbrev pub block_relaxed : ℕ → BlockStep
 block_relaxed width above own below = swept_between width (last_row width above) own (take width below)
 
--- whether so many cells, and a block of so many, are whole rows
+-- whether this many cells, and a block of this many, are whole rows
 abbrev pub are_whole_rows : ℕ → ℕ → ℕ → Bool
 are_whole_rows width count size = (count % width == 0) && (size % width == 0)
 
--- what a grid takes: a cell, rows that have some and are whole, blocks of some rows and fewer than 2 ^ 32 cells, and fewer
+-- what a grid requires: a cell, rows that have some and are whole, blocks of some rows and fewer than 2 ^ 32 cells, and fewer
 -- than 1,048,576 tasks, one for each block after each step
 pub record IsGrid (count width rows steps : ℕ) : Type 0 where
   pub some_cells : 1 ≤ count
@@ -55,12 +55,12 @@ pub record IsGrid (count width rows steps : ℕ) : Type 0 where
   pub whole_rows : count % width ≡ 0
   pub few_tasks : (steps + 1) * blocks_of count (rows * width) < 2 ^ 20
 
--- why so many cells, in rows of so many and blocks of so many rows, are no grid for so many steps
+-- why this many cells, in rows of this width and blocks of this many rows, are no grid for this many steps
 abbrev pub IsNoGrid : ℕ → ℕ → ℕ → ℕ → Type 0
 IsNoGrid count width rows steps =
     (count ≡ 0) ⊎ ((width ≡ 0)
     ⊎ ((rows ≡ 0) ⊎ ((2 ^ 32 ≤ rows * width) ⊎ ((count % width ≢ 0) ⊎ (2 ^ 20 ≤ (steps + 1) * blocks_of count (rows * width))))))
 
--- the graph of a grid in rows of so many cells, in so many blocks of so many cells, and so many steps
+-- the graph of a grid: the width of a row, the cells, the number and size of the blocks, and the number of steps
 abbrev pub grid_graph : ℕ → List ℤ → ℕ → ℕ → ℕ → TaskGraph
 grid_graph width cells blocks size steps = block_graph (block_relaxed width) cells blocks size steps

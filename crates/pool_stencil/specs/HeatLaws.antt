@@ -1,4 +1,4 @@
--- A step of a rod is one of its blocks, and no cell leaves 64 bits.
+-- A step of a rod is one of its blocks, and every cell fits 64 bits.
 use Rattle.std.proofs.Common.{◌≡◌, ◌<◌, ◌≤◌, ◌+◌, ◌-◌, ◌*◌, ◌/◌, ◌^◌, ℕ, zero, suc, ℤ, pos, negsuc, neg_ℤ, ◌+ℤ◌, Bool, List, [], ◌∷◌, ◌++◌}
 use Rattle.std.proofs.Common.{length, take, drop, true, false, if◌then◌else◌, nat_lt, length-take, length-drop, refl, ap, sym, ◌∙◌, ⊎_elim}
 use Rattle.std.proofs.Common.{arith}
@@ -41,7 +41,7 @@ drop-swept zero l xs r = refl
 drop-swept (suc n) l [] r = refl
 drop-swept (suc n) l (x ∷ xs) r = drop-swept n x xs r
 
--- the last of some cells and of those behind them
+-- the last of some cells and of those after them
 last-joined : (d : ℤ) (xs ys : List ℤ) → last_or d (xs ++ ys) ≡ last_or (last_or d xs) ys
 last-joined d [] ys = refl
 last-joined d (x ∷ xs) ys = last-joined x xs ys
@@ -55,7 +55,7 @@ first-any d zero xs h = absurd (omega arith)
 first-any d (suc n) [] h = refl
 first-any d (suc n) (x ∷ xs) h = refl
 
--- the number to the left of a block
+-- the number on the left of a block
 left-is : (size : ℕ) (xs : List ℤ) (b : ℕ) → 1 ≤ size → b * size < length xs
     → last_or (pos 0) (take (b * size) xs) ≡ last_or (pos 0) (block_before size b xs)
 left-is size xs zero some h =
@@ -73,7 +73,7 @@ left-is size xs (suc b) some h =
     ∙ ap (λ m. last_or (pos 0) (block_of size m xs)) (sym back)
     ∙ ap (λ t. last_or (pos 0) (if t then block_of size (suc b - 1) xs else [])) (sym yes)
 
--- the number to its right
+-- the number on its right
 right-is : (size : ℕ) (xs : List ℤ) (b : ℕ) → 1 ≤ size
     → first_or (pos 0) (drop size (drop (b * size) xs)) ≡ first_or (pos 0) (block_behind size b xs)
 right-is size xs b some =

@@ -1,4 +1,4 @@
--- How many events a pool of a rod takes: as many as any pool over cells in blocks.
+-- How many events a pool of a rod takes: the same number as any pool over cells in blocks.
 use Rattle.std.specs.Prelude.{ℕ}
 use Rattle.pool_blocks.specs.RunEvents.{all_events}
 pub use Rattle.pool_blocks.specs.RunEvents.{TakeNoStep, TakeSteps, step_events}

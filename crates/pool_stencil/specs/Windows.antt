@@ -1,4 +1,4 @@
--- A block and what lies above and below it is a window of the grid.
+-- A block with the rows above and below it is a window of the grid.
 use Rattle.std.proofs.Common.{◌≡◌, ◌<◌, ◌≤◌, ◌+◌, ◌-◌, ◌*◌, ◌%◌, ◌&&◌, ℕ, ℤ, pos, Bool, List, [], ◌∷◌, ◌++◌, length, get_or, true, false}
 use Rattle.std.proofs.Common.{if◌then◌else◌, nat_lt, refl, ap, sym, ◌∙◌, ◌⊎◌, ⊎_elim, inl, inr, arith}
 use Rattle.std.proofs.lemmas.List.{get_or_append_left, get_or-append_right, length-append}
@@ -9,7 +9,7 @@ use Rattle.pool_blocks.proofs.Lists.{lt-same}
 use Rattle.pool_blocks.specs.Lists.{at}
 use Rattle.pool_stencil.specs.Grids.{mixed, inner, cell_after}
 
--- what an inner place has around it
+-- the bounds of an inner position
 inner-within : (w count i : ℕ) → inner w count i ≡ true → (w ≤ i) × (i + w < count)
 inner-within w count i h = (grind (arith, nat_tests), grind (arith, nat_tests))
 
@@ -26,7 +26,7 @@ pick-false : (b : Bool) (x y : ℤ) → b ≡ false → (if b then x else y) ≡
 pick-false true x y h = absurd (cc)
 pick-false false x y h = refl
 
--- the same cells, so many places further, with the same edges
+-- the same cells, this many positions further, with the same edges
 shifted : (w : ℕ) (xs window : List ℤ) (from i j : ℕ) → 0 < w → j ≡ from + i → i < length window
     → ((k : ℕ) → k < length window → at window k ≡ at xs (from + k)) →
     inner w (length window) i ≡ inner w (length xs) j → cell_after w xs j ≡ cell_after w window i
@@ -50,13 +50,13 @@ shifted w xs window from i j some place within same edge =
     pick-false (inner w (length xs) j) _ _ u ∙ here ∙ sym (pick-false (inner w (length window) i) _ _ t))
     (cases_Bool (inner w (length window) i))
 
--- what lies above a block that begins at a place: a row, or nothing where the block is the first
+-- the cells above a block that begins at a position: a row, or nothing if the block is the first
 pub record IsAbove (w start : ℕ) (xs above : List ℤ) : Type 0 where
   pub long : length above ≤ start
   pub places : (k : ℕ) → k < length above → at above k ≡ at xs (start - length above + k)
   pub row : (length above ≡ w) ⊎ ((length above ≡ 0) × (start ≡ 0))
 
--- what lies below a block that ends at a place: a row, or nothing where the block is the last
+-- the cells below a block that ends at a position: a row, or nothing if the block is the last
 pub record IsBelow (w end : ℕ) (xs below : List ℤ) : Type 0 where
   pub places : (k : ℕ) → k < length below → at below k ≡ at xs (end + k)
   pub row : ((length below ≡ w) × (end + w ≤ length xs)) ⊎ ((length below ≡ 0) × (end ≡ length xs))

@@ -1,3 +1,4 @@
+//! The five-point stencil over a grid of whole numbers.
 ghost use Rattle.std.specs.Prelude.{◌≡◌, ◌≤◌, ◌<◌, ◌*◌, ◌^◌, ◌⊎◌, IfNone, IfSome, length};
 ghost use Rattle.pool_stencil.specs.Grids.{IsGrid, IsNoGrid, are_whole_rows, block_relaxed, blocks_of, relaxed};
 ghost use Rattle.pool_stencil.specs.GridLaws.{relaxed-by-blocks, relaxed-fit, relaxed-long};
@@ -6,8 +7,8 @@ use crate::grid_mix::sweep_block;
 use pool_blocks::{Stencil, Steps};
 use std::alloc::{AllocError, Global};
 
-/// The five-point stencil over a grid, row by row: a cell becomes an eighth of its four neighbours and four times itself,
-/// rounded down. A cell on the edge stays.
+/// The five-point stencil over a grid, row by row: a cell becomes an eighth of the sum of its four neighbours and four
+/// times itself, rounded down. A cell on the edge stays.
 #[derive(Clone, Copy)]
 pub struct FivePoints {
     width: u32,
@@ -42,17 +43,17 @@ impl Stencil for FivePoints {
     }
 }
 
-/// A grid of cells, row by row, worked on in blocks of rows: a task is a block after so many steps.
+/// A grid of cells, row by row, computed in blocks of rows: a task is a block after a number of steps.
 pub type Grid<'a> = Steps<'a, FivePoints>;
 
-/// The stencil over a grid in rows of so many cells, and how many cells a block of so many rows has.
+/// The stencil over a grid with rows of a given width, and the number of cells of a block of a given number of rows.
 #[derive(Clone, Copy)]
 pub struct RowBlocks {
     pub points: FivePoints,
     pub size: u32,
 }
 
-/// Blocks of so many rows of so many cells. None where a row is of none, or a block has 2^32 cells or more.
+/// Returns blocks of `rows` rows of `width` cells. `None` if either is 0, or a block has 2^32 cells or more.
 pub fn row_blocks(width: u32, rows: u32) -> Option<RowBlocks>
     ensures made { IfSome result (λ blocks. (blocks.points.width ≡ width) × (blocks.size ≡ rows * width)) }
     ensures small { IfSome result (λ blocks. (1 ≤ width) × (rows * width < 2 ^ 32)) }
@@ -68,9 +69,9 @@ pub fn row_blocks(width: u32, rows: u32) -> Option<RowBlocks>
     })
 }
 
-/// A grid of some cells, which are lent, in rows of so many and blocks of so many rows, that takes so many steps. None where
-/// there is no cell, a row or a block is of none, the last row is not whole, a block has 2^32 cells or more, or the tasks, one
-/// for each block after each step, would be 1,048,576 or more.
+/// Returns a grid of borrowed cells, in rows of `width` and blocks of `rows` rows, for `steps` steps. `None` if there
+/// is no cell, `width` or `rows` is 0, the last row is not whole, a block has 2^32 cells or more, or the number of
+/// tasks, one for each block after each step, would be 1,048,576 or more.
 pub fn grid_in_blocks<'a>(cells: &'a [i64], width: u32, rows: u32, steps: u32) -> Option<Grid<'a>>
     ensures made { IfSome result
         (λ grid. (grid.cells.now ≡ cells.now) × (grid.blocks ≡ blocks_of (length cells.now) (rows * width))

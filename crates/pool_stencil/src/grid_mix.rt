@@ -1,3 +1,4 @@
+//! The arithmetic of the five-point stencil.
 ghost use Rattle.std.specs.Prelude.{◌≡◌, ◌≤◌, ◌<◌, ◌+◌, ◌-◌, ◌^◌, ◌+ℤ◌, ◌*ℤ◌, pos, true, IfOk, unsigned_abs, length, take, FitsSigned};
 ghost use Rattle.std.specs.Int.{int_div_euclid, w64};
 ghost use Rattle.tp_graph.specs.Values.{fits, all_fit};
@@ -6,7 +7,7 @@ ghost use Rattle.pool_stencil.specs.Grids.{block_relaxed, cell_after, last_row, 
 
 use std::alloc::{AllocError, Global};
 
-/// A number in twice as many bits.
+/// Returns a number with twice as many bits.
 fn wide(number: i64) -> i128
     ensures same { result ≡ number }
     ensures small { unsigned_abs result ≤ 2 ^ 63 }
@@ -14,7 +15,7 @@ fn wide(number: i64) -> i128
     i128::from(number)
 }
 
-/// The sum of two numbers.
+/// Returns the sum of two numbers.
 fn plus(a: i128, b: i128) -> i128
     requires { (unsigned_abs a ≤ 2 ^ 66) × (unsigned_abs b ≤ 2 ^ 66) }
     ensures same { result ≡ a +ℤ b }
@@ -23,7 +24,7 @@ fn plus(a: i128, b: i128) -> i128
     a + b
 }
 
-/// Four times a number.
+/// Returns four times a number.
 fn four_times(a: i128) -> i128
     requires { unsigned_abs a ≤ 2 ^ 63 }
     ensures same { result ≡ pos 4 *ℤ a }
@@ -32,7 +33,7 @@ fn four_times(a: i128) -> i128
     4 * a
 }
 
-/// An eighth of a number, rounded down.
+/// Returns an eighth of a number, rounded down.
 fn eighth(a: i128) -> i64
     requires { FitsSigned w64 (int_div_euclid a (pos 8)) }
     ensures { result ≡ int_div_euclid a (pos 8) }
@@ -40,7 +41,7 @@ fn eighth(a: i128) -> i64
     a.div_euclid(8) as i64
 }
 
-/// A cell after a step, from its neighbours and itself.
+/// Returns a cell after a step, from its neighbours and itself.
 fn mixed(up: i64, left: i64, own: i64, right: i64, down: i64) -> i64
     ensures { result ≡ mixed up left own right down }
 {
@@ -49,7 +50,7 @@ fn mixed(up: i64, left: i64, own: i64, right: i64, down: i64) -> i64
     eighth(sum)
 }
 
-/// The cell at a place of a grid in rows of so many after a step: one on the edge stays.
+/// Returns the cell at a position of a grid of this width after a step: one on the edge stays.
 fn cell_after(cells: &[i64], width: usize, place: usize) -> i64
     requires some { 1 ≤ width }
     requires within { place < length cells.now }
@@ -73,7 +74,7 @@ fn cell_after(cells: &[i64], width: usize, place: usize) -> i64
     }
 }
 
-/// The last row of some cells.
+/// Returns the last row of some cells.
 fn last_row(cells: &[i64], width: usize) -> &[i64]
     ensures { result.now ≡ last_row width cells.now }
 {
@@ -81,7 +82,7 @@ fn last_row(cells: &[i64], width: usize) -> &[i64]
     row
 }
 
-/// The first row of some cells.
+/// Returns the first row of some cells.
 fn first_row(cells: &[i64], width: usize) -> &[i64]
     ensures { result.now ≡ take width cells.now }
 {
@@ -89,7 +90,7 @@ fn first_row(cells: &[i64], width: usize) -> &[i64]
     row
 }
 
-/// A block of rows of so many cells after a step, from the block above, itself and the block below.
+/// Returns a block of rows of this width after a step, from the block above, itself and the block below.
 pub(crate) fn sweep_block(
     alloc: Global,
     width: usize,
@@ -109,7 +110,7 @@ pub(crate) fn sweep_block(
     sweep(alloc, window.as_slice(), width, above.len(), own.len())
 }
 
-/// So many cells of a grid after a step, from a place on.
+/// Returns `count` cells of a grid after a step, from a position on.
 fn sweep(
     alloc: Global,
     cells: &[i64],

@@ -1,3 +1,4 @@
+//! The grid after the last step, from a pool's results or from one thread.
 ghost use Rattle.std.specs.Prelude.{◌≡◌, IfOk, IfErr};
 ghost use Rattle.tp_base.specs.declared.Refusal.TheVariants.{NoMemory};
 ghost use Rattle.tp_graph.specs.Left.{AreKept};
@@ -10,8 +11,8 @@ use std::alloc::Global;
 use tp_base::{Refusal, TaskId};
 use tp_graph::Value;
 
-/// The grid at its end, row by row, from the results of its tasks. Refused with `Missing` where a block of the last step has no
-/// result, and with `NoMemory` where memory is refused first.
+/// Returns the grid after the last step, row by row, from the results of its tasks. Refused with `Missing` if a block
+/// of the last step has no result, and with `NoMemory` if an allocation fails first.
 pub fn grid_of(alloc: Global, grid: &Grid, results: &[(TaskId, Value)]) -> Result<Vec<i64>, Refusal>
     requires { AreKept (grid_graph grid.now.stencil.width grid.now.cells.now grid.now.blocks grid.now.size grid.now.steps) results.now }
     ensures made { IfOk result (λ made. made.items ≡ evolve grid.now.stencil.width grid.now.steps grid.now.cells.now) }
@@ -21,8 +22,8 @@ pub fn grid_of(alloc: Global, grid: &Grid, results: &[(TaskId, Value)]) -> Resul
     cells_of(alloc, grid, results)
 }
 
-/// The grid at its end, row by row, worked out on one thread. Refused only with `NoMemory`: no cell leaves 64 bits, so each task
-/// has a value.
+/// Returns the grid after the last step, row by row, computed on one thread. Refused only with `NoMemory`: every cell
+/// fits 64 bits, so each task has a value.
 pub fn grid_by_one(alloc: Global, grid: Grid) -> Result<Vec<i64>, Refusal>
     ensures made { IfOk result (λ made. made.items ≡ evolve grid.entry.stencil.width grid.entry.steps grid.entry.cells.now) }
     ensures refused { IfErr result (λ refusal. refusal ≡ NoMemory) }

@@ -1,3 +1,4 @@
+//! Running a grid on threads.
 ghost use Rattle.std.specs.Prelude.{◌≡◌, ◌*◌, MatchResult, length};
 ghost use Rattle.pool_blocks.specs.Runs.{HasRun, HasRunInParts};
 ghost use Rattle.pool_stencil.specs.Grids.{block_relaxed, blocks_of, evolve, grid_graph, relaxed};
@@ -11,8 +12,9 @@ use std::sync::Wait;
 use std::thread::Threads;
 use tp_work::Config;
 
-/// A grid of some cells, row by row, in rows of so many, after so many steps, worked out by a pool of threads in blocks of so many
-/// rows. `BadInput` where the cells give no such grid ([`grid_in_blocks`]), and else what [`run_steps`] answered.
+/// Returns a grid after `steps` steps, row by row, computed by a pool of threads from `cells`, in rows of `width` and
+/// blocks of `rows` rows. Refused with `BadInput` if the cells give no such grid ([`grid_in_blocks`]), and else as
+/// [`run_steps`] is.
 pub fn run_grid<R: Threads + Wait + Sync>(
     rt: &R,
     alloc: Global,
@@ -35,9 +37,10 @@ pub fn run_grid<R: Threads + Wait + Sync>(
     run_steps(rt, alloc, grid, config)
 }
 
-/// A grid of some cells, row by row, in rows of so many, after any number of steps, worked out by pools of threads one after the
-/// other, each over the grid that the one before gave, in blocks of so many rows. `BadInput` where the cells give no such
-/// grid or take no step ([`steps_at_once`](pool_blocks::steps_at_once)), and else what [`run_in_parts`] answered.
+/// Returns a grid after any number of steps, row by row, in rows of `width` and blocks of `rows` rows. Pools of threads
+/// compute it one after the other, each over the grid that the one before returned. Refused with `BadInput` if the
+/// cells give no such grid or take no step ([`steps_at_once`](pool_blocks::steps_at_once)), and else as
+/// [`run_in_parts`] is.
 pub fn run_grid_in_parts<R: Threads + Wait + Sync>(
     rt: &R,
     alloc: Global,

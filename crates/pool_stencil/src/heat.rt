@@ -1,3 +1,4 @@
+//! The three-point stencil over a rod: heat conduction in whole numbers.
 ghost use Rattle.std.specs.Prelude.{◌≡◌, true, IfNone, IfSome, length};
 ghost use Rattle.pool_stencil.specs.Heats.{IsNoRod, IsRod, block_heated, blocks_of, heated};
 ghost use Rattle.pool_stencil.specs.HeatLaws.{heated-long, heated-by-blocks, heated-fit};
@@ -6,7 +7,8 @@ use crate::rod_mix::{first_of, last_of, sweep};
 use pool_blocks::{Stencil, Steps};
 use std::alloc::{AllocError, Global};
 
-/// Heat in a rod: a cell becomes the mean of itself and its two neighbours, by thirds. Both ends lie at 0.
+/// The three-point stencil, heat in a rod: a cell becomes the sum of the thirds of itself and of its two neighbours.
+/// Beyond both ends the value is 0.
 #[derive(Clone, Copy)]
 pub struct ThreePoints;
 
@@ -38,11 +40,11 @@ impl Stencil for ThreePoints {
     }
 }
 
-/// A rod of cells, worked on in blocks: a task is a block after so many steps.
+/// A rod of cells, computed in blocks: a task is a block after a number of steps.
 pub type Heat<'a> = Steps<'a, ThreePoints>;
 
-/// A rod of some cells, which are lent, in blocks of so many, that takes so many steps. None where there is no cell, a block
-/// is of none, or the tasks, one for each block after each step, would be 1,048,576 or more.
+/// Returns a rod of borrowed cells, in blocks of `size`, for `steps` steps. `None` if there is no cell, `size` is 0, or
+/// the number of tasks, one for each block after each step, would be 1,048,576 or more.
 pub fn heat_of<'a>(cells: &'a [i64], size: u32, steps: u32) -> Option<Heat<'a>>
     ensures made { IfSome result
         (λ heat. (heat.cells.now ≡ cells.now) × (heat.blocks ≡ blocks_of (length cells.now) size)

@@ -1,4 +1,5 @@
-//! Stencils over cells that their caller lends, run by threads in blocks: heat in a rod, and a grid of whole numbers.
+//! Two stencils over cells that are borrowed from the caller, run by threads in blocks: heat in a rod, and a grid of
+//! whole numbers. The blocks and their graph are in another crate.
 #![tactic(auto)]
 
 mod grid;

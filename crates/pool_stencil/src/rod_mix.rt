@@ -1,10 +1,11 @@
+//! The arithmetic of the three-point stencil.
 ghost use Rattle.std.specs.Prelude.{◌≡◌, ◌≤◌, ◌<◌, ◌+◌, ◌^◌, ◌+ℤ◌, ℤ, pos, true, IfOk, unsigned_abs, length, drop};
 ghost use Rattle.tp_graph.specs.Values.{fits, all_fit};
 ghost use Rattle.pool_stencil.specs.Heats.{third, mixed, sweep, last_or, first_or};
 
 use std::alloc::{AllocError, Global};
 
-/// A third of a number.
+/// Returns a third of a number.
 fn third(number: i64) -> i64
     ensures same { result ≡ third number }
     ensures small { unsigned_abs result ≤ 3074457345618258602 }
@@ -12,7 +13,7 @@ fn third(number: i64) -> i64
     number / 3
 }
 
-/// The sum of two numbers.
+/// Returns the sum of two numbers.
 fn plus(a: i64, b: i64) -> i64
     requires left { unsigned_abs a ≤ 6148914691236517204 }
     requires right { unsigned_abs b ≤ 3074457345618258602 }
@@ -22,7 +23,7 @@ fn plus(a: i64, b: i64) -> i64
     a + b
 }
 
-/// A cell after a step.
+/// Returns a cell after a step.
 fn mixed(left: i64, own: i64, right: i64) -> i64
     ensures same { result ≡ mixed left own right }
     ensures small { unsigned_abs result < 2 ^ 63 }
@@ -30,7 +31,7 @@ fn mixed(left: i64, own: i64, right: i64) -> i64
     plus(plus(third(left), third(own)), third(right))
 }
 
-/// The last of some cells, or 0 where there is none.
+/// Returns the last of some cells, or 0 if there is none.
 #[tactic(auto, using(crate::proofs::Sweeps::last_is))]
 pub(crate) fn last_of(cells: &[i64]) -> i64
     ensures { result ≡ last_or (pos 0) cells.now }
@@ -42,7 +43,7 @@ pub(crate) fn last_of(cells: &[i64]) -> i64
     }
 }
 
-/// The first of some cells, or 0 where there is none.
+/// Returns the first of some cells, or 0 if there is none.
 pub(crate) fn first_of(cells: &[i64]) -> i64
     ensures { result ≡ first_or (pos 0) cells.now }
 {
@@ -52,7 +53,7 @@ pub(crate) fn first_of(cells: &[i64]) -> i64
     }
 }
 
-/// The cell at a place, or a number where the cells end there.
+/// Returns the cell at a position, or `end` if there is none.
 #[tactic(auto, using(crate::proofs::Sweeps::first_behind, crate::proofs::Sweeps::first_past))]
 fn cell_or(cells: &[i64], place: usize, end: i64) -> i64
     requires { place ≤ length cells.now }
@@ -66,7 +67,7 @@ fn cell_or(cells: &[i64], place: usize, end: i64) -> i64
     }
 }
 
-/// Cells after a step, between a number on the left and one on the right.
+/// Returns cells after a step, between a number on the left and one on the right.
 pub(crate) fn sweep(
     alloc: Global,
     left: i64,

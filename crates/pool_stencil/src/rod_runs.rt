@@ -1,3 +1,4 @@
+//! Running a rod on threads.
 ghost use Rattle.std.specs.Prelude.{◌≡◌, MatchResult, length};
 ghost use Rattle.pool_blocks.specs.Runs.{HasRun, HasRunInParts};
 ghost use Rattle.pool_stencil.specs.Heats.{block_heated, blocks_of, evolve, heat_graph, heated};
@@ -11,9 +12,9 @@ use std::sync::Wait;
 use std::thread::Threads;
 use tp_work::Config;
 
-/// Heat in a rod of some cells, after so many steps, worked out by a pool of threads in blocks of so many cells. `BadInput` where
-/// the cells give no rod ([`heat_of`]), `Run` with what [`run_pool`](tp_work::run_pool) answered where it was refused, and
-/// `Unmade` with its outcome where there was no memory for the rod.
+/// Returns a rod after `steps` steps, computed by a pool of threads from `cells` in blocks of `size` cells. Refused
+/// with `BadInput` if the cells give no rod ([`heat_of`]), with `Run` and the fault of [`run_pool`](tp_work::run_pool)
+/// if the pool was refused, and with `Unmade` and its outcome if the allocation of the rod failed.
 pub fn run_heat<R: Threads + Wait + Sync>(
     rt: &R,
     alloc: Global,
@@ -34,9 +35,10 @@ pub fn run_heat<R: Threads + Wait + Sync>(
     run_steps(rt, alloc, heat, config)
 }
 
-/// Heat in a rod of some cells, after any number of steps, worked out by pools of threads one after the other, each over the
-/// rod that the one before gave. `BadInput` where the cells give no rod or the events of a single step are above the limit
-/// ([`steps_at_once`](pool_blocks::steps_at_once)), and else what [`run_heat`] answers for the part at which it ended.
+/// Returns a rod after any number of steps, computed by pools of threads one after the other, each over the rod that
+/// the one before returned. Refused with `BadInput` if the cells give no rod or the events of a single step exceed the
+/// limit ([`steps_at_once`](pool_blocks::steps_at_once)), and else as [`run_heat`] refuses the first part that has no
+/// result.
 pub fn run_heat_in_parts<R: Threads + Wait + Sync>(
     rt: &R,
     alloc: Global,

@@ -13,7 +13,7 @@ pub(crate) struct Matrices {
     pub(crate) right: Vec<i64>,
 }
 
-/// The matrices of a text: the rows of the one as lines, an empty line, the rows of the other.
+/// The matrices of a text: the rows of the first as lines, an empty line, the rows of the second.
 pub(crate) fn matrices_of(alloc: Global, text: &str) -> Result<Matrices, Fault> {
     let mut matrices = Matrices {
         order: 0,

@@ -1,4 +1,5 @@
-//! Bodies on worker threads: they run under no lock, not behind a gate that bars them, and are waited for while they take long.
+//! Bodies on worker threads: they run while no lock is held, not behind a gate that bars them, and workers wait for a
+//! long one.
 
 ghost use Rattle.pool_samples.specs.TreeLaws.{reduce_lawful};
 ghost use Rattle.pool_samples.specs.Trees.{reduce_graph};
@@ -25,10 +26,10 @@ struct Slow<'a> {
     first: First<'a>,
 }
 
-/// What a body does first.
+/// What a body does before its own work.
 #[derive(Clone, Copy)]
 enum First<'a> {
-    /// The bodies of tasks 0 and 1 wait for each other; where one waits in vain the flag is set.
+    /// The bodies of tasks 0 and 1 wait for each other; if one waits in vain the flag is set.
     Meet(&'a Meeting, &'a AtomicBool),
     /// It sleeps for two seconds.
     Sleep(&'a HostRuntime),
@@ -86,7 +87,7 @@ impl<'a> First<'a> {
     }
 }
 
-/// Why the pool of a tree ends before, if it does.
+/// Why the pool of a tree ends early, if it does.
 fn fault_of<A: Gate, R: Threads + Wait + Sync>(
     rt: &R,
     alloc: Global,
@@ -102,7 +103,7 @@ fn fault_of<A: Gate, R: Threads + Wait + Sync>(
     }
 }
 
-/// The same of a tree of two leaves, whose bodies wait for each other; and whether one waits in vain.
+/// The same for a tree of two leaves, whose bodies wait for each other; and whether one waits in vain.
 fn meet_behind<A: Gate, R: Threads + Wait + Sync>(
     rt: &R,
     alloc: Global,
@@ -120,7 +121,7 @@ fn meet_behind<A: Gate, R: Threads + Wait + Sync>(
     (fault, have_missed.load(Ordering::SeqCst))
 }
 
-// A body that ran under its node's lock would keep the other worker from beginning the other task.
+// A body that held its node's lock would keep the other worker from beginning the other task.
 #[test]
 fn two_bodies_of_a_node_run_under_no_lock(rt: HostRuntime) -> Result<(), Fail> {
     assert_eq!(rt; meet_behind(&rt, rt.alloc(), 2, &OpenGate), (None, false));
@@ -140,7 +141,7 @@ impl Gate for Barred {
     }
 }
 
-// A body that ran would wait for the other one in vain.
+// A body that ran would wait in vain for the other one.
 #[test]
 fn a_barred_body_does_not_run(rt: HostRuntime) -> Result<(), Fail> {
     let wanted = (Some(Refusal::Stalled(0)), false);
@@ -148,7 +149,7 @@ fn a_barred_body_does_not_run(rt: HostRuntime) -> Result<(), Fail> {
     Ok(())
 }
 
-// One leaf, and so one task. Seven workers are idle for two seconds; one that only yielded between two turns would
+// One leaf, and so one task. Seven workers are idle for two seconds; a worker that only yielded between two turns would
 // reach the limit before.
 #[test]
 fn a_long_body_is_waited_for(rt: HostRuntime) -> Result<(), Fail> {

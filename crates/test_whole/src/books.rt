@@ -7,7 +7,7 @@ use std::test::Fail;
 use tp_base::Refusal;
 use tp_board::{Blanks, Brand, Ledgers, close_books, open_books};
 
-/// How many shares of nodes and of links a pool's books have, and what they add up to.
+/// The number of shares of nodes and of links of a pool's books, and their sums.
 #[derive(Clone, Copy, Debug, PartialEq, Eq)]
 struct Opening {
     shares: usize,

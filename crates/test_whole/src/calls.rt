@@ -1,4 +1,4 @@
-//! The calls of a node that can be refused memory: where one is, it changed nothing, and the same call succeeds then.
+//! The calls of a node that allocate: one whose allocation fails changes nothing, and succeeds when it is repeated.
 
 ghost use Rattle.std.specs.Prelude.{◌≡◌, IfOk, MatchOption};
 ghost use Rattle.tp_node.specs.Nodes.{HasBrought};
@@ -10,7 +10,7 @@ use tp_board::{Board, Ended, Ledgers};
 use tp_graph::{Comparable, Graph, Parcel, is_same};
 use tp_node::{Finished, Node, PoolLink, Turn, Work};
 
-/// What a node and the board hold, folded into one number, another one for other content but by chance.
+/// The content of a node and the board, hashed into one number.
 fn held<G: Graph, K: Ledgers>(node: &Node<G, K>, board: &Board<K>) -> u64 {
     let counts = node.counts();
     let folded = fold(1, u64::from(node.pending()));
@@ -28,7 +28,7 @@ fn fold(folded: u64, number: u64) -> u64 {
     (folded ^ number).wrapping_mul(1_099_511_628_211)
 }
 
-/// Makes a call of a node, and makes it again where memory was refused and nothing was changed.
+/// Makes a call of a node, and makes it again if an allocation failed and nothing was changed.
 macro_rules! again {
     ($rt:expr, $name:expr, $node:expr, $board:expr, $call:expr) => {{
         let before = held($node, $board);
@@ -49,7 +49,7 @@ pub(crate) fn say<R: Eprint>(rt: &R, name: &str) {
     let _ = eprintln!(rt; "refused: {name}");
 }
 
-/// Inserts all input-free tasks of a node, and closes its opening action.
+/// Inserts all tasks of a node without inputs, and closes its opening action.
 pub(crate) fn seed_all<K: Ledgers, R: Eprint>(
     rt: &R,
     node: &mut Node<Reduce, K>,
@@ -87,7 +87,8 @@ pub(crate) fn act<K: Ledgers, R: Eprint>(
     Ok(())
 }
 
-/// A node's turn: it receives a message, or runs a task, or makes a control step. Returns the token of the end once it is judged.
+/// A node's turn: it receives a message, runs a task, or makes a control step. Returns the termination token once
+/// termination is detected.
 pub(crate) fn turn_of<K: Ledgers, R: Eprint>(
     rt: &R,
     alloc: Global,
@@ -131,7 +132,8 @@ pub(crate) fn receive_one<K: Ledgers, R: Eprint>(
     deliver(node, board, parcel)
 }
 
-/// Delivers the value of a parcel. Where memory was refused and nothing was changed the pool is played again.
+/// Delivers the value of a parcel. If an allocation failed and nothing was changed, the pool is run again from its
+/// beginning.
 fn deliver<G: Graph, K: Ledgers>(
     node: &mut Node<G, K>,
     board: &mut Board<K>,
@@ -186,7 +188,7 @@ pub(crate) fn run_one<K: Ledgers, R: Eprint>(
     record_again(rt, node, board, finished)
 }
 
-/// Runs the body of a task, and again where memory was refused.
+/// Runs the body of a task, and again if an allocation failed.
 fn perform<R: Eprint>(
     rt: &R,
     alloc: Global,
@@ -203,7 +205,7 @@ fn perform<R: Eprint>(
     }
 }
 
-/// The call that passes the next feed of a task on.
+/// The name of the call that passes on the next feed of a task.
 fn way_of<K: Ledgers>(node: &Node<Reduce, K>, finished: &Finished<Reduce>) -> &'static str {
     if finished.all_fed() {
         return "no feed";
@@ -218,7 +220,7 @@ fn way_of<K: Ledgers>(node: &Node<Reduce, K>, finished: &Finished<Reduce>) -> &'
     }
 }
 
-/// Records a finished task as done, and again where memory was refused and nothing was changed.
+/// Records a finished task as done, and again if an allocation failed and nothing was changed.
 fn record_again<K: Ledgers, R: Eprint>(
     rt: &R,
     node: &mut Node<Reduce, K>,
@@ -266,7 +268,7 @@ fn pass_on<G: Comparable, K: Ledgers>(
     Ok(())
 }
 
-/// Records a task as done whose feeds were all passed on.
+/// Records a task as done after all its feeds were passed on.
 fn record<G: Comparable, K: Ledgers>(
     node: &mut Node<G, K>,
     board: &mut Board<K>,

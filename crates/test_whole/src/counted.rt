@@ -26,7 +26,7 @@ impl IsTerminal for Unread {
     }
 }
 
-// Five cells in blocks of two are three blocks. A step takes 19 events at two nodes, and the first row 9, so that 52,631
+// Five cells in blocks of two are three blocks. A step takes 19 events at two nodes, and the first row 9, so 52,631
 // steps are planned for a run.
 #[test]
 fn each_block_after_a_step_is_counted_once(rt: HostRuntime) -> Result<(), Fail> {

@@ -1,4 +1,4 @@
-//! A body that fails is the fault of its pool, whose end is not judged.
+//! A body that fails is the fault of its pool, whose termination is not detected.
 
 ghost use Rattle.std.specs.Prelude.{◌≡◌, ◌≤◌};
 
@@ -9,7 +9,8 @@ use std::thread::Threads;
 use tp_base::Refusal;
 use tp_work::{Config, OpenGate, run_pool};
 
-/// Why the pool of a product whose numbers leave 64 bits ended, whether something is pending then, and whether the end was judged.
+/// Why the pool of a product with an overflow ended, whether something is pending then, and whether termination was
+/// detected.
 fn left_by<R: Threads + Wait + Sync>(
     rt: &R,
     alloc: Global,

@@ -1,4 +1,5 @@
-//! Gates between the threads of a pool: bodies and nodes that wait for each other, bodies that are barred, turns that are refused.
+//! Gates between the threads of a pool: bodies and nodes that wait for each other, bodies that are barred, turns that
+//! are refused.
 
 ghost use Rattle.std.specs.Prelude.{◌≡◌, ◌≤◌};
 ghost use Rattle.tp_work.specs.Outcomes.{IsWithinLimits};
@@ -28,14 +29,14 @@ const WIDE: Reduce = Reduce {
 /// One leaf, and so one task.
 const LEAF: Reduce = Reduce { leaves: 1, seed: 0 };
 
-/// What a gate lets through.
+/// What a gate allows.
 #[derive(Drop)]
 enum TestGate {
     /// The bodies of tasks 0 and 1 wait for each other.
     BodiesMeet(Meeting),
-    /// Nodes 0 and 1, under their locks, wait for each other.
+    /// Nodes 0 and 1 wait for each other while their locks are held.
     NodesMeet(Meeting),
-    /// So many bodies wait for each other.
+    /// This many bodies wait for each other.
     BodiesGather(Turns),
     /// All bodies but one may run.
     AllBut(TaskId),
@@ -66,7 +67,7 @@ impl Gate for TestGate {
     }
 }
 
-/// Two that wait for each other.
+/// A meeting of two threads that wait for each other.
 #[derive(Drop)]
 pub(crate) struct Meeting {
     zero: AtomicBool,
@@ -81,7 +82,7 @@ impl Meeting {
         }
     }
 
-    /// Waits until the other one of 0 and 1 has come. Others pass.
+    /// Waits until the other one of 0 and 1 has arrived. Others pass.
     pub fn arrive(&self, who: u32) -> bool {
         let (mine, other) = match who {
             0 => (&self.zero, &self.one),
@@ -150,7 +151,7 @@ impl Late {
     }
 }
 
-/// What was left of a pool that ended before.
+/// What was left of a pool that ended early.
 #[derive(Clone, Copy, Debug, PartialEq, Eq)]
 struct Left {
     pending: u32,
@@ -160,10 +161,10 @@ struct Left {
     fault: Option<Refusal>,
 }
 
-/// Why a pool ended before, and what was left.
+/// Why a pool ended early, and what was left.
 type Stop = (Refusal, Option<Left>);
 
-/// Runs the pool of a tree behind a gate. An outcome has its results, which is proved; it is none here.
+/// Runs the pool of a tree behind a gate. An outcome is no stop; that it has its results is proved.
 fn stop_of<R: Threads + Wait + Sync>(
     rt: &R,
     alloc: Global,
@@ -210,7 +211,7 @@ fn two_nodes_are_held_at_once(rt: HostRuntime) -> Result<(), Fail> {
     Ok(())
 }
 
-// Eight of the 64 ready tasks begin at once, 0 and 1 among them: one worker that kept them all would wait in vain.
+// Eight of the 64 ready tasks begin at once, 0 and 1 among them: if one worker kept them all, it would wait in vain.
 #[test]
 fn two_that_begin_together_wait_for_each_other(rt: HostRuntime) -> Result<(), Fail> {
     for workers in [2, 8] {
@@ -221,7 +222,7 @@ fn two_that_begin_together_wait_for_each_other(rt: HostRuntime) -> Result<(), Fa
     Ok(())
 }
 
-// The first eight of the 64 ready tasks: fewer threads that run bodies of the node would wait in vain.
+// The first eight of the 64 ready tasks: with fewer threads that run bodies of the node, they would wait in vain.
 #[test]
 fn eight_bodies_of_a_node_wait_for_each_other(rt: HostRuntime) -> Result<(), Fail> {
     let gate = TestGate::BodiesGather(Turns::new(8, u64::MAX));
@@ -232,9 +233,9 @@ fn eight_bodies_of_a_node_wait_for_each_other(rt: HostRuntime) -> Result<(), Fai
     Ok(())
 }
 
-// Node 1 has 32 leaves, and half of their sums go to node 0: when node 1 has taken 40 turns, these 16 messages wait. Then node 0
-// opens, receives a message in each of its next three turns, and its fourth is refused: however many messages a worker receives
-// in one hold of its node's lock, the gate is asked before each.
+// Node 1 has 32 leaves, and half of their sums go to node 0: when node 1 has taken 40 turns, these 16 messages wait.
+// Then node 0 opens, receives a message in each of its next three turns, and its fourth is refused: the gate is asked
+// before each message, however many a worker receives in one critical section of its node's lock.
 #[test]
 fn the_gate_is_asked_before_each_message(rt: HostRuntime) -> Result<(), Fail> {
     let gate = TestGate::Late(Late {
@@ -267,7 +268,7 @@ fn a_body_that_may_not_run_ends_the_pool(rt: HostRuntime) -> Result<(), Fail> {
     Ok(())
 }
 
-/// Why a pool of one node ended whose workers have few idle turns, or many.
+/// Why a pool of one node ended whose workers have a low limit of idle turns, or a high one.
 fn refusal_behind<R: Threads + Wait + Sync>(
     rt: &R,
     alloc: Global,
@@ -286,8 +287,8 @@ fn refusal_behind<R: Threads + Wait + Sync>(
     Some(refusal)
 }
 
-// The other worker would have a thousand million idle turns before it ended by itself. How many idle turns the one
-// that stops it had before, `Stalled` (21) says, and the schedule decides.
+// The other worker would take a thousand million idle turns before it ended by itself. `Stalled` (21) has the number of
+// idle turns of the worker that stops it, which depends on the schedule.
 #[test]
 fn a_fault_stops_the_other_worker(rt: HostRuntime) -> Result<(), Fail> {
     let gate = TestGate::AllBut(TaskId(0));

@@ -35,7 +35,7 @@ fn one_thread_makes_the_plain_grid(rt: HostRuntime) -> Result<(), Fail> {
     Ok(())
 }
 
-/// Whether a pool of these nodes makes the grid of two steps, in one run and in parts.
+/// Whether a pool of these nodes computes the grid after two steps, in one run and in parts.
 fn is_made<R: Threads + Wait + Sync>(
     rt: &R,
     alloc: Global,

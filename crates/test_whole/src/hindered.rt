@@ -19,7 +19,7 @@ impl Write for Unflushed {
 /// How many bytes a `Dripping` reader has.
 const DRIPS: usize = 100_000;
 
-/// Gives one byte a read: the line `nodes 1`, and then `ready 0` again and again, 12,500 lines in all.
+/// Gives one byte a read: the line `nodes 1`, and then `ready 0` repeatedly, 12,500 lines in all.
 #[derive(Drop)]
 pub(crate) struct Dripping {
     pub(crate) given: usize,
@@ -43,7 +43,7 @@ impl Read for Dripping {
     }
 }
 
-/// Gives one byte a read; at one of its reads, counted from 0, it fails in a way, and goes on where it is asked again.
+/// Gives one byte a read; one of its reads, counted from 0, fails with a kind of error; later reads continue.
 #[derive(Drop)]
 pub(crate) struct Stumbling {
     pub(crate) text: &'static [u8],

@@ -1,4 +1,4 @@
-//! Rods and products on worker threads.
+//! Rods and products over borrowed data on worker threads.
 
 ghost use Rattle.std.specs.Prelude.{◌≤◌};
 
@@ -16,7 +16,7 @@ const ROD: [i64; 3] = [9000, 300, -60];
 
 const AFTER: [i64; 3] = [3100, 3080, 80];
 
-/// Whether a run gave these numbers.
+/// Whether a run returned these numbers.
 fn gave(made: Result<Vec<i64>, LentFault>, numbers: &[i64]) -> bool {
     match made {
         Ok(made) => made.as_slice() == numbers,
@@ -24,7 +24,7 @@ fn gave(made: Result<Vec<i64>, LentFault>, numbers: &[i64]) -> bool {
     }
 }
 
-/// Whether a pool of these nodes makes the rod of one step in blocks of two, in one run and in parts.
+/// Whether a pool of these nodes computes the rod after one step in blocks of two, in one run and in parts.
 fn make_the_rod<R: Threads + Wait + Sync>(
     rt: &R,
     alloc: Global,
@@ -40,7 +40,7 @@ fn make_the_rod<R: Threads + Wait + Sync>(
     Ok(whole && parts)
 }
 
-/// Whether a pool of these nodes makes the product of two matrices in tiles of one.
+/// Whether a pool of these nodes computes the product of two matrices in tiles of one.
 fn make_the_product<R: Threads + Wait + Sync>(rt: &R, alloc: Global, nodes: u32) -> bool
     requires { (1 ≤ nodes) × (nodes ≤ 8) }
 {
@@ -49,7 +49,7 @@ fn make_the_product<R: Threads + Wait + Sync>(rt: &R, alloc: Global, nodes: u32)
     gave(made, &[19, 22, 43, 50])
 }
 
-/// How many results a pool of these nodes has: one for each of the rod's tasks.
+/// The number of results of a pool of these nodes: one for each of the rod's tasks.
 fn results_by<R: Threads + Wait + Sync>(rt: &R, alloc: Global, nodes: u32) -> usize
     requires { (1 ≤ nodes) × (nodes ≤ 8) }
 {

@@ -1,7 +1,7 @@
-//! Tests of the whole: readers and writers that fail; a pool in one hand, with forged messages and with memory that is refused; pools
-//! on worker threads, and with gates between the threads; patterns; the texts for a terminal. They are apart from the crates that
-//! they test, whose functions would else be proved once more with them, and together, since each program of tests loads all that it
-//! tests.
+//! Tests of the whole: readers and writers that fail; a pool on one thread, with forged messages and with failing
+//! allocations; pools on worker threads, and with gates between the threads; patterns; the texts for a terminal. They
+//! are not in the crates that they test, whose functions would be proved once more with them. They are in one crate,
+//! since each program of tests loads all that it tests.
 #![tactic(auto)]
 
 #[cfg(test)]

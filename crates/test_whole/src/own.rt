@@ -1,4 +1,4 @@
-//! A pattern of one's own, as docs/A-PATTERN.md writes it.
+//! A pattern of one's own, as docs/RUNNING-A-POOL.md writes it.
 
 ghost use Rattle.std.specs.Prelude.{◌+◌, ◌==◌, ◌||◌};
 

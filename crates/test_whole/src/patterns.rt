@@ -1,4 +1,4 @@
-//! Task Bench's patterns: who feeds whom in six columns, and the numbers of three rows, written out by hand.
+//! Task Bench's patterns: who feeds whom in six columns, and the numbers of three rows, computed independently.
 
 ghost use Rattle.std.specs.Prelude.{◌≡◌, ◌<◌};
 ghost use Rattle.pool_patterns.specs.Grids.{AreSizes};
@@ -25,7 +25,7 @@ fn push_marks(text: &mut Vec<u8>, pattern: Pattern, step: u32, to: u32) -> Resul
     Ok(())
 }
 
-/// The same for each of six columns of a row.
+/// The marks of each of six columns of a row.
 fn marks(alloc: Global, pattern: Pattern, step: u32) -> Result<Vec<u8>, AllocError>
     requires { AreSizes 6 step }
 {
@@ -93,7 +93,7 @@ fn who_feeds_whom_in_six_columns(rt: HostRuntime) -> Result<(), Fail> {
         ),
         (Pattern::Spread { seed: 0 }, 2, moved),
         (Pattern::Spread { seed: 1 }, 1, moved),
-        // Drawn by a program of its own.
+        // These pseudo-random bits were computed by a separate program.
         (
             Pattern::RandomNearest { radius: 2, seed: 0 },
             1,
@@ -120,7 +120,7 @@ fn who_feeds_whom_in_six_columns(rt: HostRuntime) -> Result<(), Fail> {
     Ok(())
 }
 
-/// The number of each task of a graph, worked out on one thread.
+/// The number of each task of a graph, computed on one thread.
 pub(crate) fn numbers<G: Graph>(alloc: Global, graph: G) -> Result<Vec<i64>, Refusal> {
     let values = serial(alloc, graph)?;
     let mut numbers = Vec::new(alloc);
@@ -135,7 +135,8 @@ fn three_rows_of_three_columns(rt: HostRuntime) -> Result<(), Fail> {
     let table = FeedTable::new(rt.alloc(), Pattern::Stencil, 3, 3)?;
     // With no iteration a task has the sum of its inputs, its column and 1.
     let plain = numbers(rt.alloc(), Grid::new(&table, 0))?;
-    // The first row with one: 1 * 3, 2 * 5 and 3 * 7, each with 1,013,904,223. The others are by a program of its own.
+    // The first row with one iteration: 1 * 3, 2 * 5 and 3 * 7, each with 1,013,904,223. A separate program computed
+    // the others.
     let stirred = numbers(rt.alloc(), Grid::new(&table, 1))?;
     let wanted = [
         1013904226, 1013904233, 1013904244, 1306738507, 1729189538, 322658879, 476142549,

@@ -1,5 +1,5 @@
-//! The sample pools on worker threads, in one run and in a series. What an outcome has is proved, the results of one thread among
-//! it; that there is one is tested.
+//! The sample pools on worker threads, in one run and in a series. The contents of an outcome are proved, including
+//! that they are the results of one thread; that there is an outcome is tested.
 
 ghost use Rattle.std.specs.Prelude.{◌≤◌};
 
@@ -11,7 +11,7 @@ use std::thread::Threads;
 use tp_base::Refusal;
 use tp_work::{Config, OpenGate, run_generations, run_pool};
 
-/// The word of each pool.
+/// The specification of each pool.
 const POOLS: [&str; 6] = [
     "product:2:1:0",
     "product:6:2:7",
@@ -21,7 +21,7 @@ const POOLS: [&str; 6] = [
     "reduce:32:5",
 ];
 
-/// Why one of the runs on 1, 2, 4 and 8 nodes by 1, 2, 4 and 8 workers at each has no outcome, if one has none.
+/// Why one of the runs on 1, 2, 4 and 8 nodes with 1, 2, 4 and 8 workers each has no outcome, if one has none.
 fn fault_of<R: Threads + Wait + Sync>(rt: &R, alloc: Global, graph: AnyGraph) -> Option<Refusal> {
     for nodes in [1, 2, 4, 8] {
         for workers in [1, 2, 4, 8] {
@@ -58,7 +58,7 @@ fn each_pool_is_the_plain_one(rt: HostRuntime) -> Result<(), Fail> {
     Ok(())
 }
 
-/// How many rounds of nine a pool has at eight nodes with eight workers.
+/// The number of rounds, out of nine, of a pool at eight nodes with eight workers.
 fn rounds_of<R: Threads + Wait + Sync>(
     rt: &R,
     alloc: Global,

@@ -1,4 +1,4 @@
-//! The program at streams that fail.
+//! The program with streams that fail.
 
 use crate::hindered::{Failing, Stumbling, Unflushed};
 use std::alloc::Global;
@@ -7,7 +7,7 @@ use std::sync::Wait;
 use std::thread::Threads;
 use tp_cli::main_with;
 
-/// Whether a script from this reader gives this complaint alone, with status 1.
+/// Whether a script from this reader gives exactly this error line, with status 1.
 fn reports<R: Threads + Wait + Sync, I: Read>(
     rt: &R,
     alloc: Global,

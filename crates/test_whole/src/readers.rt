@@ -15,7 +15,7 @@ enum Kind {
     Trace,
 }
 
-/// A text of each kind, in how many reads it is read and its end is reported, and how many bytes are written then.
+/// A text of each kind, the number of reads until its end is reported, and the number of bytes written then.
 const TEXTS: [(Kind, &[u8], u32, u32); 2] = [
     // node 0 pending 0 sent 0 received 0, the total, and quiet yes, after one ok
     (Kind::Script, b"nodes 1\nready 0\n", 17, 90),
@@ -31,7 +31,7 @@ impl Kind {
         }
     }
 
-    /// The verdict, and how many bytes were written.
+    /// The verdict, and the number of bytes written.
     fn answer_to<R: Read>(self, alloc: Global, reader: &mut R) -> (Answer, usize) {
         let mut written = Vec::new(alloc);
         let result = self.answer(alloc, reader, &mut written);
@@ -55,8 +55,8 @@ impl Kind {
         self.answer_to(alloc, &mut reader)
     }
 
-    /// The verdict when the reader is interrupted `each_time` times before each byte and before its end, and
-    /// what is written.
+    /// The verdict if the reader is interrupted `each_time` times before each byte and before its end, and what is
+    /// written.
     fn interrupt(self, alloc: Global, text: &'static [u8], each_time: u32) -> (Answer, Vec<u8>) {
         let mut reader = Interrupted {
             text,
@@ -68,7 +68,7 @@ impl Kind {
         (result, written)
     }
 
-    /// The verdict when the writer fails at this write of one byte.
+    /// The verdict if the writer fails at this write of one byte.
     fn fail(self, alloc: Global, text: &'static [u8], write: u32) -> Answer {
         let mut reader = text;
         let mut writer = Failing {
@@ -80,7 +80,7 @@ impl Kind {
     }
 }
 
-// The last read of all, one after the last byte, finds the end.
+// The last read, after the last byte, finds the end.
 #[test]
 fn a_read_that_fails_is_told_and_nothing_is_written(rt: HostRuntime) {
     for (kind, text, reads, _) in TEXTS {

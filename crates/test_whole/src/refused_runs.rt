@@ -1,4 +1,4 @@
-//! Runs, texts and the program that are refused memory, and succeed when they are tried again.
+//! Runs, texts and the program whose allocations fail, and that succeed when they are repeated.
 
 ghost use Rattle.std.specs.Prelude.{◌≡◌, ◌≤◌};
 ghost use Rattle.tp_wave.specs.Generations.{InEach};
@@ -42,7 +42,7 @@ fn run_series<R: Threads + Wait + Sync + Eprint>(rt: &R, alloc: Global, config: 
     }
 }
 
-/// Whether the trace of a history is printed, where memory was refused at the second time.
+/// Whether the trace of a history is printed, at the second try if an allocation failed.
 fn is_traced<R: Eprint>(rt: &R, alloc: Global, history: &History, nodes: u32) -> bool
     requires nodes { (1 ≤ nodes) × (nodes ≤ 8) }
     requires run { InEach (IsRun nodes) history.now.events }
@@ -56,7 +56,7 @@ fn is_traced<R: Eprint>(rt: &R, alloc: Global, history: &History, nodes: u32) ->
     }
 }
 
-/// A run at some nodes with the same number of workers each, and another one if memory was refused.
+/// A run at some nodes with the same number of workers each, and another one if an allocation failed.
 fn run_again<R: Threads + Wait + Sync + Eprint>(rt: &R, alloc: Global, nodes: u32) -> End
     requires { (1 ≤ nodes) × (nodes ≤ 8) }
 {
@@ -92,10 +92,10 @@ fn a_series_is_refused_memory_and_runs_again(rt: HostRuntime) {
     assert_eq!(rt; end, Ok(true));
 }
 
-/// How many tasks the pool of a fresh registry has done, and how it stands then.
+/// The number of tasks that the pool of a fresh registry has done, and its state then.
 type Run = (Result<u32, Refusal>, Result<Standing, Refusal>);
 
-/// Runs the pools of a fresh registry of one. Where there was no room the pool stands as before.
+/// Runs the pools of a fresh registry with one pool. If an allocation failed before, the pool's state is unchanged.
 fn run_registered<R: Threads + Wait + Sync>(rt: &R, alloc: Global) -> Result<Run, Refusal> {
     let config = Config::new(1, 1);
     let mut registry = Registry::new(alloc);
@@ -127,7 +127,7 @@ fn a_registry_is_refused_memory_and_runs_again(rt: HostRuntime) -> Result<(), Fa
     Ok(())
 }
 
-/// Counts what is written, and takes no memory.
+/// Counts what is written, and allocates nothing.
 #[derive(Drop)]
 struct Counting {
     bytes: usize,
@@ -151,7 +151,7 @@ const SCRIPT: &[u8] =
 const TRACE: &[u8] =
     b"trace 1\nnodes 2\ninsert 0 1 1\nsupply 1\nbegin 1\ndone 1\nopen 0 4\nsend 0 1 3\nrecv 1 3\nend 1 3\n";
 
-/// The verdict on a text, and how many bytes were written.
+/// The verdict on a text, and the number of bytes written.
 type Written = (Result<Verdict, TextFault>, usize);
 
 fn answer_to_script(alloc: Global) -> Written {
@@ -166,7 +166,7 @@ fn answer_to_trace(alloc: Global) -> Written {
     (audit(alloc, &mut reader, &mut writer), writer.bytes)
 }
 
-/// The status of the program on a script, and how many bytes it wrote and complained.
+/// The status of the program on a script, and the numbers of bytes of its output and its error lines.
 fn status<R: Threads + Wait + Sync>(rt: &R, alloc: Global) -> (u8, usize, usize) {
     let mut reader = SCRIPT;
     let mut out = Counting { bytes: 0 };
@@ -175,7 +175,7 @@ fn status<R: Threads + Wait + Sync>(rt: &R, alloc: Global) -> (u8, usize, usize)
     (status, out.bytes, err.bytes)
 }
 
-// Eight times `ok`, a node's line of 35 bytes each, the total of 42 and 9 for `quiet no`.
+// Eight times `ok`, a line of 35 bytes for each node, the total of 42 and 9 for `quiet no`.
 #[test]
 fn texts_are_refused_memory_and_answered_again(rt: HostRuntime) {
     let mut written = answer_to_script(rt.alloc());

@@ -37,8 +37,8 @@ fn three_pools(alloc: Global) -> Result<Registry, Refusal> {
     Ok(registry)
 }
 
-/// Of each pool that was run the numbers of its tasks and workers, or of its refusal; and how all pools
-/// stand. (Which turns were idle before a refusal is a matter of the schedule.)
+/// For each pool that was run, the numbers of its tasks and workers, or of its refusal; and the states of all pools.
+/// (Which turns were idle before a refusal depends on the schedule.)
 #[derive(Debug, PartialEq, Eq, Drop)]
 struct Summary {
     answers: Vec<Result<(u32, u32), u8>>,

@@ -1,4 +1,4 @@
-//! What the program writes at a terminal and without one.
+//! What the program writes on a terminal and without one.
 
 use std::alloc::Global;
 use std::io::Sink;
@@ -14,11 +14,11 @@ struct Ending<'a> {
     output: &'a str,
     /// What is written to standard error without a terminal.
     line: &'a str,
-    /// What is written behind it at a terminal.
+    /// What is written after it on a terminal.
     reason: &'a str,
 }
 
-/// Whether it ends so on these words, without a terminal and at one.
+/// Whether the program ends so with these arguments, without a terminal and on one.
 fn ends_so<R: Threads + Wait + Sync>(
     rt: &R,
     alloc: Global,

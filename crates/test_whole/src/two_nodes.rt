@@ -1,6 +1,6 @@
-//! A pool of two nodes in one hand, from its first call to its second end: forged messages that are refused and stay where they are; each
-//! call of a node that can be refused memory; and the reopening. tools/dev limits refuse-tests refuses each growth in turn;
-//! docs/MEMORY.md has the table.
+//! A pool of two nodes on one thread, from its first call to its second end: forged messages that are refused and stay
+//! on their link; each call of a node that can fail to allocate; and the reopening. tools/dev limits refuse-tests makes
+//! each allocation fail in turn; docs/MEMORY.md has the results.
 
 ghost use Rattle.std.specs.Prelude.{◌≡◌, vec_len, IsTrue};
 
@@ -17,7 +17,7 @@ use tp_work::{Report, finish};
 /// A tree of four leaves: 0, 11, 22 and 33.
 pub(crate) const TREE: Reduce = Reduce { leaves: 4, seed: 0 };
 
-/// A copy of the oldest message of a link under another number, in another generation.
+/// A copy of the oldest message of a link with another number, in another generation.
 fn forged<K: Ledgers>(
     pool_link: &PoolLink<Reduce, K>,
     number: MessageId,
@@ -41,7 +41,7 @@ fn forged<K: Ledgers>(
     ))
 }
 
-/// Puts a message in the place of the oldest on a link, where it is of the link's two nodes. Returns the oldest.
+/// Replaces the oldest message on a link, if the message is of the link's two nodes. Returns the oldest.
 fn put_in_front<K: Ledgers>(
     pool_link: &mut PoolLink<Reduce, K>,
     board: &Board<K>,
@@ -60,8 +60,8 @@ fn put_in_front<K: Ledgers>(
     }
 }
 
-/// A node's pending number, what it has sent and received, how many messages are on the link to it, and how many
-/// events there were.
+/// A node's pending number, the number of messages it has sent and received, the number on the link to it, and the
+/// number of events.
 type Stand = (u32, u32, u32, usize, usize);
 
 /// What a node does with a forged message that is first on the link to it.
@@ -69,7 +69,7 @@ type Stand = (u32, u32, u32, usize, usize);
 struct Met {
     result: Result<(), Refusal>,
     stand: Stand,
-    /// Whether the forged message was still the first one then.
+    /// Whether the forged message was still the first one afterwards.
     stays: bool,
 }
 
@@ -87,7 +87,7 @@ fn receive_alone<K: Ledgers>(
     }
 }
 
-/// Has a node receive a forged message, whose place the true one takes again afterwards.
+/// Makes a node receive a forged message, which the true one replaces again afterwards.
 fn meet<K: Ledgers>(
     node: &mut Node<Reduce, K>,
     pool_link: &mut PoolLink<Reduce, K>,
@@ -113,8 +113,8 @@ fn meet<K: Ledgers>(
     })
 }
 
-/// What can be read of a pool: of each node what is pending, sent and received, and how many results it has; how many
-/// messages each link has; the number of events, of the next message and of the generation.
+/// What can be read of a pool: for each node what is pending, sent and received, and the number of its results; the
+/// number of messages on each link; the numbers of events, of the next message and of the generation.
 #[derive(Clone, Copy, Debug, PartialEq, Eq)]
 struct Look {
     nodes: [(u32, u32, u32, usize); 2],
@@ -146,16 +146,16 @@ fn numbers_of<K: Ledgers>(node: &Node<Reduce, K>) -> (u32, u32, u32, usize) {
     )
 }
 
-/// What came of it all.
+/// The findings of a run.
 #[derive(Clone, Copy)]
 struct Findings {
-    /// What came of each forged message, and whether the true one was received then.
+    /// What happened to each forged message, and whether the true one was received then.
     met: [Option<Met>; 2],
     received: bool,
     before: Option<Look>,
-    /// Why the reopening was refused at first, and what the pool was then.
+    /// Why the reopening was refused at first, and the state of the pool then.
     refused: Option<(Refusal, Option<Look>)>,
-    /// How many results were handed out, and the value of the last task.
+    /// The number of returned results, and the value of the last task.
     results: Option<(usize, Option<i64>)>,
     after: Option<Look>,
 }
@@ -183,7 +183,7 @@ fn is_whole<K: Ledgers>(pool: &Pool<Reduce, K>) -> bool
     pool.nodes.len() == pool.board.nodes() as usize
 }
 
-/// Reopens a pool with the token of its end.
+/// Reopens a pool with its termination token.
 fn reopen<K: Ledgers, R: Eprint>(
     rt: &R,
     alloc: Global,
@@ -226,11 +226,11 @@ fn reopen_again<K: Ledgers>(
     }
 }
 
-/// What a pool of two nodes adds up to: what is pending, sent, received and under way, how many tasks are done, whether the end was
-/// judged, and how many nodes were informed of it.
+/// The totals of a pool of two nodes: what is pending, sent, received and in flight, the number of tasks done, whether
+/// termination was detected, and to how many nodes it was announced.
 type Summary = ((u32, u32, u32, u32), u32, bool, u32);
 
-/// Gathers a pool of two nodes, and once more where it comes back.
+/// Gathers a pool of two nodes, and once more if it is returned.
 fn gathered<K: Ledgers>(alloc: Global, pool: Pool<Reduce, K>) -> Result<Report, Refusal>
     requires names { K.names.nodes ≡ 2 }
     requires nodes { vec_len pool.nodes ≡ 2 }
@@ -293,7 +293,8 @@ impl<'a, K: Ledgers> Pair<'a, K> {
         seed_all(rt, self.one, self.board)
     }
 
-    /// Node 1 sends a message, before which node 0 meets one that the board has not given, and one of another generation.
+    /// Node 1 sends a message; before it arrives, node 0 meets one whose number the board has not given, and one of
+    /// another generation.
     fn meet_strangers<R: Eprint>(
         &mut self,
         rt: &R,
@@ -324,7 +325,7 @@ impl<'a, K: Ledgers> Pair<'a, K> {
         act(rt, self.zero, self.board)
     }
 
-    /// A turn of each node. Where the end was judged its token is returned.
+    /// A turn of each node. If termination was detected, its token is returned.
     fn turn<R: Eprint>(&mut self, rt: &R, alloc: Global) -> Result<Option<Ended<K>>, Refusal> {
         let ended = turn_of(rt, alloc, self.zero, self.back, self.there, self.board)?;
         if ended.is_some() {
@@ -333,7 +334,7 @@ impl<'a, K: Ledgers> Pair<'a, K> {
         turn_of(rt, alloc, self.one, self.there, self.back, self.board)
     }
 
-    /// Both nodes take turns until the end is judged.
+    /// Both nodes take turns until termination is detected.
     fn end<R: Eprint>(&mut self, rt: &R, alloc: Global) -> Result<Ended<K>, Refusal> {
         for _ in 0..100 {
             if let Some(ended) = self.turn(rt, alloc)? {
@@ -372,7 +373,7 @@ fn next_generation<K: Ledgers, R: Eprint>(
     pair.end(rt, alloc)
 }
 
-/// What a pool of two nodes adds up to once it was run to its end, reopened and run again.
+/// The totals of a pool of two nodes that was run to its end, reopened and run again.
 fn replayed_by<K: Ledgers, R: Eprint>(
     rt: &R,
     alloc: Global,
@@ -402,7 +403,7 @@ fn replayed<R: Eprint>(rt: &R, alloc: Global) -> Result<(Findings, Summary), Ref
     Ok((findings, made))
 }
 
-/// The same, from the beginning where a pool that is refused memory is lost.
+/// The same, from the beginning if a pool is lost to a failed allocation.
 fn replayed_again<R: Eprint>(rt: &R, alloc: Global) -> Result<(Findings, Summary), Refusal> {
     match replayed(rt, alloc) {
         Err(Refusal::NoMemory) => {
@@ -413,8 +414,8 @@ fn replayed_again<R: Eprint>(rt: &R, alloc: Global) -> Result<(Findings, Summary
     }
 }
 
-/// How many events the first generation has: six of the beginning; two of each of seven tasks; one for each of three feeds within
-/// a node; four for each of three messages; two of a named action; six for each of two waves.
+/// The number of events of the first generation: six of the beginning; two of each of seven tasks; one for each of
+/// three feeds within a node; four for each of three messages; two of a named action; six for each of two waves.
 const EVENTS: usize = 49;
 
 /// The pool at its end: node 0 has done four tasks, and node 1 three; node 1 sent two messages, and node 0 one.
@@ -426,7 +427,7 @@ const AT_THE_END: Look = Look {
     generation: 1,
 };
 
-/// The pool once it was reopened.
+/// The pool after it was reopened.
 const ANEW: Look = Look {
     nodes: [(1, 0, 0, 0), (1, 0, 0, 0)],
     links: [0, 0],
@@ -435,7 +436,7 @@ const ANEW: Look = Look {
     generation: 2,
 };
 
-// Where memory was refused a node was as before, and the same call succeeded then.
+// If an allocation failed, the node was unchanged, and the same call then succeeded.
 #[test]
 fn a_node_refused_memory_is_as_before(rt: HostRuntime) -> Result<(), Fail> {
     let (findings, made) = replayed_again(&rt, rt.alloc())?;
@@ -444,7 +445,7 @@ fn a_node_refused_memory_is_as_before(rt: HostRuntime) -> Result<(), Fail> {
     Ok(())
 }
 
-// The same of the pool that is reopened.
+// The same for the pool that is reopened.
 #[test]
 fn a_pool_is_reopened_and_runs_again(rt: HostRuntime) -> Result<(), Fail> {
     let (findings, _) = replayed_again(&rt, rt.alloc())?;

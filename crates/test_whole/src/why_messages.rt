@@ -1,5 +1,5 @@
-//! Why-messages of `tp` as they read at a terminal: why a word names no pool, why several words may not be registered, and what is
-//! wrong with the first line of a script or a trace that is not of the grammar. No proof says their texts.
+//! The reasons that `tp` prints on a terminal: why a specification names no pool, why several may not be registered,
+//! and what is wrong with the first line of a script or a trace that is not of the grammar. Their texts are not proved.
 
 use std::alloc::Global;
 use std::io::Sink;
@@ -8,7 +8,7 @@ use std::thread::Threads;
 use tp_cli::main_at_terminal;
 use tp_work::Screen;
 
-/// Whether this is all that is written on standard error at a terminal.
+/// Whether exactly this is written to standard error on a terminal.
 fn is_written<R: Threads + Wait + Sync>(
     rt: &R,
     alloc: Global,
@@ -24,7 +24,7 @@ fn is_written<R: Threads + Wait + Sync>(
     err.as_slice() == message.as_bytes()
 }
 
-/// Whether the word names no pool for this reason.
+/// Whether the specification names no pool for this reason.
 fn is_no_pool<R: Threads + Wait + Sync>(rt: &R, alloc: Global, word: &str, reason: &str) -> bool {
     match format!(in alloc; "refused 26 BadSpec\n{word}: {reason}\n") {
         Ok(message) => is_written(rt, alloc, &["tp", "run", word], b"", &message),
@@ -92,7 +92,7 @@ fn words_that_name_no_pool(rt: HostRuntime) {
     }
 }
 
-/// Whether several words may not be registered: this is all that is written.
+/// Whether several specifications may not be registered: exactly this is written.
 fn are_no_pools<R: Threads + Wait + Sync>(
     rt: &R,
     alloc: Global,
@@ -183,7 +183,7 @@ fn words_that_may_not_be_registered(rt: HostRuntime) {
     );
 }
 
-/// Whether what is behind the number of this line is all that is written of a text that is not of the grammar.
+/// Whether exactly this is written, after the number of this line, for a text that is not of the grammar.
 fn is_wrong<R: Threads + Wait + Sync>(
     rt: &R,
     alloc: Global,
@@ -272,7 +272,7 @@ fn traces_that_are_not_of_the_grammar(rt: HostRuntime) {
     assert!(rt; is_written(&rt, rt.alloc(), &["tp", "audit"], refused, ""));
 }
 
-/// Whether a word behind a step is no number, which a message quotes so.
+/// Whether a word after a step is no number, which a message quotes.
 fn is_no_number<R: Threads + Wait + Sync>(
     rt: &R,
     alloc: Global,
@@ -299,7 +299,7 @@ fn words_that_are_no_numbers(rt: HostRuntime) {
     }
 }
 
-/// Whether the line of a step with five numbers is said to have another count, in a script with this head.
+/// Whether the line of a step with five numbers is reported to have another count, in a script with this head.
 fn has_count<R: Threads + Wait + Sync>(
     rt: &R,
     alloc: Global,

@@ -1,4 +1,4 @@
-//! The program `tp`.
+//! The program `tp`: it connects the command line to the process, its standard streams and the terminal.
 #![tactic(auto)]
 
 use std::io::{ErrorKind, Write};
@@ -7,8 +7,8 @@ use tp_cli::{main_at_terminal, main_with, without_words};
 use tp_shell::{arguments, words_of};
 use tp_work::Screen;
 
-/// The exit status is that of `main_with`, or of `main_at_terminal` where standard error is a terminal. Where there is no memory for
-/// the words, or one of them is not UTF-8, a line says so.
+/// The exit status is that of `main_with`, or of `main_at_terminal` if standard error is a terminal. If the arguments
+/// cannot be read because an allocation fails or one of them is not UTF-8, an error line says so.
 fn main(rt: HostRuntime) -> ExitCode {
     let arguments = match arguments(&rt) {
         Ok(arguments) => arguments,
@@ -43,15 +43,15 @@ fn main(rt: HostRuntime) -> ExitCode {
     ExitCode::from(status)
 }
 
-/// Says why the words could not be had.
+/// Prints why the arguments could not be read.
 fn complain<R: Eprint>(rt: &R, fault: ErrorKind) -> ExitCode {
     let (complaint, status) = without_words(fault);
     let _ = eprint!(rt; "{complaint}");
     ExitCode::from(status)
 }
 
-/// Says that a script or a trace is read from standard input where it is typed, where the words ask for one and for nothing else
-/// such as help.
+/// Prints that a script or a trace is read from standard input, if it is typed there and the arguments are those of
+/// `sim` or `audit` alone.
 fn tell_what_is_read<W: Write>(screen: &mut Screen<W>, words: &[&str]) {
     match words {
         [_, "sim"] => screen.invite("reads standard input: tp sim < FILE\n"),

@@ -4,8 +4,8 @@ use Rattle.std.proofs.Common.{length, inl, inr, arith}
 use Rattle.std.proofs.lemmas.Bool.{cases_eq}
 use Rattle.std.proofs.lemmas.List.{get_or-set_same, get_or-set_other}
 use Rattle.std.specs.Prelude.{slice_index, slice_set, MatchOption}
-use Rattle.tp_wave.specs.Sums.{total}
-use Rattle.tp_wave.proofs.Totals.{total-equal, total-zero, total_same, total_one-changes}
+use Rattle.tp_base.specs.Totals.{total}
+use Rattle.tp_base.proofs.Totals.{total-equal, total-zero, total_same, total_one-changes}
 use Rattle.tp_board.specs.Numbers.{PartNumbers, ShareNumbers, PendingNumber}
 use Rattle.tp_board.specs.Reopening.{AllAre, opened_again, with_numbers, begun_anew}
 
@@ -35,7 +35,7 @@ pub parts-joined : (all : Option PartNumbers) (result part : PartNumbers) (k : �
 parts-joined None result part k j m one = omega (arith, ap (λ (p : PartNumbers). p.parts) j, m, one)
 parts-joined (Some a) result part k j m one = omega (arith, j, m, one)
 
--- Where each of n numbers is at most 1 and their sum is n, each is 1.
+-- If each of n numbers is at most 1 and their sum is n, each is 1.
 pub all_one : (n : ℕ) (books : List ℕ) → ((i : ℕ) → i < n → slice_index books i ≤ 1) → total n (λ i. slice_index books i) ≡ n
     → AllAre n 1 books
 all_one n books few sum = total_same n (λ i. slice_index books i) (λ i. 1) few (omega (arith, sum, total_ones n))

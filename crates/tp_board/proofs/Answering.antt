@@ -1,4 +1,4 @@
--- What a call answers whose checks are made by two calls in turn.
+-- The result of a call whose checks are made by two calls in turn.
 use Rattle.std.proofs.Common.{ℕ, ◌≡◌, List, [], ◌∷◌, ◌++◌, Bool, true, false, Some, None, Option, Result, Ok, Err, ◌<◌, length, ◌+◌, refl}
 use Rattle.std.proofs.Common.{sym, ap, subst, ◌∙◌, arith}
 use Rattle.std.proofs.lemmas.Bool.Decides.{nat_tests}
@@ -20,7 +20,7 @@ use Rattle.tp_board.specs.States.{AnswersBy, BoardState, full_check}
 use Rattle.tp_board.specs.Books.{BookTotals}
 use Rattle.tp_board.specs.Boards.{IsBoardOf}
 
--- where a check of the first call holds
+-- if a check of the first call fails
 first_refused : (cs ds : List Check) (e : Refusal) → first_refusal cs ≡ Some e → first_refusal (cs ++ ds) ≡ Some e
 first_refused [] ds e is = absurd cc
 first_refused (c ∷ cs) ds e is =
@@ -29,7 +29,7 @@ first_refused (c ∷ cs) ds e is =
       | false ↦ λ h. first_refused cs ds e h
     ] is
 
--- where none does
+-- if none does
 first_passed : (cs ds : List Check) → first_refusal cs ≡ None → first_refusal (cs ++ ds) ≡ first_refusal ds
 first_passed [] ds is = refl
 first_passed (c ∷ cs) ds is =
@@ -47,12 +47,12 @@ pub answers_passed : {A : Type 0} (cs ds : List Check) (more : ℕ) (b : BoardSt
     → AnswersBy ds more b result → AnswersBy (cs ++ ds) more b result
 answers_passed cs ds more b result is answer = rw (first_passed cs ds is) answer
 
--- the wave stands where the present steps led it
+-- the wave is in the state to which the present steps led
 stands_now : (n nodes : ℕ) (h : List Event) (t : BookTotals) (w : Wave) → IsBoardOf n nodes h t w
     → Stands n (is_ended n (present (steps_of h))) (present (steps_of h)) w
 stands_now n nodes h t w board = subst (λ steps. Stands n (is_ended n steps) steps w) (steps-present h) board.now.follows.stands
 
--- where the wave refuses a step
+-- if the wave refuses a step
 pub refused : {A : Type 0} (n nodes : ℕ) (event_log now : BoardState) (t : BookTotals) (w : Wave) (s : Step) (ds : List Check) (e : Refusal)
     (err : Option Refusal) (result : Result A Refusal)
     → IsBoardOf n nodes event_log.history t w → event_log ≡ now
@@ -74,12 +74,12 @@ same_answer-to (Some g) want (Ok x) q same answer = absurd cc
 same_answer-to (Some g) want (Err e) (Ok y) same answer = absurd cc
 same_answer-to (Some g) want (Err e) (Err f) same answer = let first : f ≡ g = cc in ap Err first
 
--- What a call answers that returns another's error.
+-- The result of a call that returns another's error.
 pub same_answer : {A B : Type 0} (cs : List Check) (more : ℕ) (b : BoardState) (r : Result A Refusal) (q : Result B Refusal)
     → result_err r ≡ result_err q → AnswersBy cs more b r → AnswersBy cs more b q
 same_answer cs more b r q same answer = same_answer-to (first_refusal cs) (b.reserved < more) r q same answer
 
--- where it does not, and the event is added or refused
+-- if it does not, and the event is added or refused
 pub passed : {A B : Type 0} (n nodes : ℕ) (event_log now : BoardState) (t : BookTotals) (w : Wave) (s : Step) (ds : BoardState
     → List Check) (err : Option Refusal) (added : Result B Refusal) (result : Result A Refusal)
     → IsBoardOf n nodes event_log.history t w → event_log ≡ now
@@ -94,7 +94,7 @@ passed n nodes event_log now t w s ds err added result board is exact none answe
 abbrev answered : {A : Type 0} → A → Result A Refusal
 answered x = Ok x
 
--- the same, where the event is added
+-- the same, if the event is added
 pub passed_ok : {A B : Type 0} (n nodes : ℕ) (event_log now : BoardState) (t : BookTotals) (w : Wave) (s : Step) (ds : BoardState
     → List Check) (err : Option Refusal) (added : Result B Refusal) (x : A)
     → IsBoardOf n nodes event_log.history t w → event_log ≡ now
@@ -122,13 +122,13 @@ when_active i b result active answer = rw (active_test _ active) answer
 full_test : (limit count more : ℕ) → limit < count + more → nat_lt limit (count + more) ≡ true
 full_test limit count more less = grind (arith, nat_tests)
 
--- where no place is free for so many events
+-- if no place is free for this many events
 pub full : {A : Type 0} (b : BoardState) (more count : ℕ) (result : Result A Refusal)
     → count ≡ length b.history → b.limit < length b.history + more → result ≡ Err (HistoryFull count)
     → AnswersBy (full_check more b ∷ []) more b result
 full b more count result is less answer = rw (full_test b.limit (length b.history) more less) (answer ∙ ap (λ n. Err (HistoryFull n)) is)
 
--- what holds of each error
+-- what holds for each error
 pub each_error : {A : Type 0} (r : Result A Refusal) {P : Refusal → Type 0} → ((e : Refusal) → P e) → IfErr r P
 each_error (Ok x) all = tt
 each_error (Err e) all = all e

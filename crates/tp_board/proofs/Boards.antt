@@ -203,7 +203,7 @@ balanced_step n past i (Send a b m g) needs before = omega arith
 balanced_step n past i (Recv a m g) needs before = omega (arith, needs.0)
 balanced_step n past i _ needs before = before
 
--- in a run what was sent was received or is under way
+-- in a run each sent message was received or is in flight
 balanced : (n : ℕ) (h : List Event) → IsRun n h → count is_send (steps_of h) ≡ count is_recv (steps_of h) + under_way (steps_of h)
 balanced n [] run = refl
 balanced n (e ∷ past) run = balanced_step n past (node_beside e) (step_of e) run.0.needed (balanced n past run.1)

@@ -115,7 +115,7 @@ count-le test (e ∷ h) =
       | false ↦ omega (arith, count-le test h)
     ]
 
--- where the history is short, its counts are small
+-- if the history is short, its counts are small
 pub few_at : (i : ℕ) (h : List Event) → length h ≤ 1048576 → AreFew (counts_at i h)
 few_at i h short =
     record {
@@ -134,7 +134,7 @@ under_step : (s : Step) (u m : ℕ) → u ≤ m → under_way_after s u ≤ m + 
 under_step (Send i j m g) u most less = omega arith
 under_step _ u most less = omega arith
 
--- nor are more messages under way
+-- so is the number of messages in flight
 pub under_way-le : (h : List Event) → under_way (steps_of h) ≤ length h
 under_way-le [] = omega arith
 under_way-le (e ∷ h) =
@@ -145,6 +145,6 @@ under_way-le (e ∷ h) =
 pub count_present-le : (test : Step → Bool) (h : List Event) → count test (present (steps_of h)) ≤ length h
 count_present-le test h = rw (← steps-present h) (omega (arith, count-le test (present_events h), length-present h))
 
--- the counts of the present generation are small where the history is short
+-- the counts of the present generation are small if the history is short
 pub few_now : (i : ℕ) (h : List Event) → length h ≤ 1048576 → AreFew (counts_at i (present_events h))
 few_now i h short = few_at i (present_events h) (omega (arith, length-present h))

@@ -1,4 +1,4 @@
--- A board of all generations, one event further: what is known of one generation is used of the present one.
+-- A board of all generations, one event further: what is known of one generation is used for the present one.
 use Rattle.std.proofs.Common.{ℕ, ◌+◌, ◌≡◌, ◌≢◌, ◌<◌, List, [], ◌∷◌, length, Bool, true, false, cond, nat_eq, IsTrue, refl, sym, ap, subst}
 use Rattle.std.proofs.Common.{◌∙◌, arith, Option, Some, None, ◌||◌, ◌==◌}
 use Rattle.std.specs.Prelude.{IsFalse, ◌↔◌, if◌then◌else◌, is_some}
@@ -27,7 +27,7 @@ use Rattle.tp_board.specs.Boards.{IsBoard, IsBoardOf, ended_number}
 use Rattle.tp_board.proofs.Boards.{balance, end_next, plain_next, recv_next, send_next, within, within_next}
 use Rattle.tp_board.proofs.Naming.{plain_kind}
 
--- ---- what the board tells of the present steps
+-- ---- what the board shows of the present steps
 pub record IsTold (n : ℕ) (steps : List Step) (t : BookTotals) : Type 0 where
   pub sent : t.sent ≡ count is_send steps
   pub received : t.received ≡ count is_recv steps
@@ -53,7 +53,7 @@ told n nodes h t w board =
 ended_out : (n out : ℕ) (past : List Step) → out ≡ ended_number n past → 0 < out → IsTrue (is_ended n past)
 ended_out n out past is some = grind (arith, nat_tests)
 
--- where the token is out, the end of the present generation was judged
+-- if the token was issued, termination of the present generation was detected
 pub ended_now : (n nodes : ℕ) (h : List Event) (t : BookTotals) (w : Wave) → IsBoardOf n nodes h t w → 0 < t.judged
     → IsTrue (is_ended n (present (steps_of h)))
 ended_now n nodes h t w board some = ended_out n t.judged (present (steps_of h)) (told n nodes h t w board).judged some
@@ -70,7 +70,7 @@ same_by true false judged out is = absurd (omega (arith, out.0 refl, is))
 same_by false true judged out is = out.1 is
 same_by false false judged out is = refl
 
--- whether the token is out tells whether the end was judged
+-- the token was issued exactly if termination was detected
 pub ended_told : (n : ℕ) (steps : List Step) (out : Bool) {judged : ℕ} → (IsTrue out ↔ (judged ≡ 1)) → judged ≡ ended_number n steps
     → out ≡ is_ended n steps
 ended_told n steps out {judged} is number = same_by out (is_ended n steps) judged is number
@@ -180,7 +180,7 @@ end_follows n nodes a m k h now t after w x is is_k is_a is_after board places b
     goes_on n nodes h now t after w w (event a (ending k a m)) board is places refl is_k next
 
 -- ---- the steps of the waves
--- A control step reopens nothing, moves no message, ends no task, and leaves what is pending and under way.
+-- A control step reopens nothing, moves no message, ends no task, and leaves what is pending and in flight.
 record MovesNothing (s : Step) : Type 0 where
   on : IsFalse (is_reopen s)
   sends : IsFalse (is_send s)
@@ -210,7 +210,7 @@ kept_cond false p q is = refl
 count_kept : (test : Step → Bool) (s : Step) (past : List Step) → IsFalse (test s) → count test (s ∷ past) ≡ count test past
 count_kept test s past other = rw other refl
 
--- after a control step, where so many tokens of the end are out
+-- after a control step, given the number of issued termination tokens
 pub wave_follows : (n nodes i out : ℕ) (h now : List Event) (t after : BookTotals) (before w : Wave) (s : Step)
     → IsBoardOf n nodes h t before → now ≡ event i s ∷ h → length h < 1048576
     → i < n → IsOf i s → IsTrue (is_control s) → Needs n (present_events h) i s → Follows n (s ∷ steps_of (present_events h)) w
@@ -237,11 +237,11 @@ wave_follows n nodes i out h now t after before w s board is places below own co
     }) in
     goes_on n nodes h now t after before w (event i s) board is places moves.on (moves.carries (generation (steps_of h))) next
 
--- A wave is judged where the end was not.
+-- A wave is judged only if termination was not detected.
 pub not_ended : (n : ℕ) (past : List Step) (w : Wave) → Follows n (Judge ∷ past) w → IsFalse (is_ended n past)
 not_ended n past w follows = (follows.lawful.0 refl).0
 
--- what a judgement tells of the present steps before it
+-- what follows from a judgement for the present steps before it
 pub judged_over : (n : ℕ) (h : List Event) (o : Option ℕ) → judgement n (steps_of (present_events h)) ≡ o
     → is_some o ≡ is_some (judgement n (present (steps_of h)))
 judged_over n h o is = rw (← steps-present h, is) refl
@@ -257,7 +257,7 @@ pub judged_ended : (n : ℕ) (h now : List Event) (o : Option ℕ) (w : Wave) �
 judged_ended n h now o w is follows word =
     rw (is, ← steps-present h, word, not_ended n (steps_of (present_events h)) w follows) (ended_by o)
 
--- how many tokens are out then
+-- the number of issued tokens afterwards
 pub judged_number : (n : ℕ) (past : List Step) (o : Option ℕ) (w : Wave) → Follows n (Judge ∷ past) w → judgement n past ≡ o
     → ended_number n (Judge ∷ past) ≡ (if is_some o then 1 else 0)
 judged_number n past o w follows word = rw (word, not_ended n past w follows) (ap (λ b. if b then 1 else 0) (sym (ended_by o)))
@@ -268,7 +268,7 @@ pub sums_now : (n : ℕ) (h now : List Event) (i : NodeId) (k : ℕ) (sums : Opt
     → sums ≡ (if k == 0 then Some (sums_of n (present (steps_of now))) else None)
 sums_now n h now i k sums is at given = rw (is, ← at, ← steps-present h) given
 
--- where the judgement is that the pool has ended, nothing is left
+-- if the judgement is that the pool has ended, nothing is left
 pub quiet_judged : (n nodes w : ℕ) (h now : List Event) (t : BookTotals) (before after : Wave) → IsBoardOf n nodes h t before
     → now ≡ event 0 Judge ∷ h
     → Follows n (Judge ∷ steps_of (present_events h)) after → judgement n (steps_of (present_events h)) ≡ Some w

@@ -10,7 +10,7 @@ use Rattle.tp_wave.specs.Steps.{is_reopen}
 use Rattle.tp_wave.specs.Machine.{IsOf}
 use Rattle.tp_board.specs.EventLogs.{HasFew}
 
--- What a step of a node names is small, where it sends nothing.
+-- The numbers that a step of a node names are small, if it sends nothing.
 pub names_small : (i : ℕ) (s : Step) → i < 8 → IsOf i s → HasFew s → IsFalse (is_send s) → NamesSmall s
 names_small i (Insert j t k) low of few other = omega (arith, of)
 names_small i (ActionOpen j a) low of few other = omega (arith, of)
@@ -24,7 +24,7 @@ names_small i (Give j) low of few other = omega (arith, of)
 names_small i (Up j) low of few other = omega (arith, of)
 names_small i _ low of few other = tt
 
--- A step that names no message has nothing that has to be small.
+-- A step that names no message has no number that has to be small.
 pub plain_few : (s : Step) → IsTrue (is_plain s) → HasFew s
 plain_few (Recv j m g) plain = absurd cc
 plain_few (MessageEnd j m g) plain = absurd cc

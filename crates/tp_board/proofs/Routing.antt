@@ -6,15 +6,14 @@ use Rattle.std.specs.Prelude.{slice_get, IsFalse}
 use Rattle.std.proofs.lemmas.Bool.{eq-eqb, ne_eqb, cases_eq, cases_lt}
 use Rattle.std.proofs.lemmas.Grind.{reverse_onto}
 use Rattle.std.proofs.lemmas.List.{length-reverse}
-use Rattle.tp_base.specs.History.{Event, Recorded}
+use Rattle.tp_base.specs.History.{Recorded}
 use Rattle.tp_base.specs.declared.ids.NodeId.{NodeId}
 use Rattle.tp_base.specs.declared.step.Step.{Step}
-use Rattle.tp_base.specs.declared.step.Step.TheVariants.{Send, Reopen}
+use Rattle.tp_base.specs.declared.step.Step.TheVariants.{Send}
 use Rattle.tp_wave.specs.Generations.{present, present_events}
 use Rattle.tp_wave.specs.Steps.{any, count, is_reopen}
 use Rattle.tp_wave.specs.Machine.{steps_of, is_send_numbered, is_send_to}
-use Rattle.tp_wave.proofs.Generations.{present-goes_on}
-use Rattle.tp_board.proofs.Counting.{count-le, count_present-le}
+use Rattle.tp_board.proofs.Counting.{count_present-le}
 use Rattle.tp_board.specs.Numbers.{is_send}
 use Rattle.tp_board.specs.Routes.{IsNumbered, Route, RouteTable, is_route, is_send_between, routes_of}
 use Rattle.tp_board.specs.Counts.{AreCountsOf}
@@ -27,9 +26,6 @@ pub length-routes_of : (steps : List Step) → length (routes_of steps) ≡ coun
 length-routes_of [] = refl
 length-routes_of (Send a b m g ∷ past) = omega (arith, length-routes_of past)
 length-routes_of (_ ∷ past) = length-routes_of past
-
-pub length-routes_of-le : (h : List Event) → length (routes_of (steps_of h)) ≤ length h
-length-routes_of-le h = omega (arith, length-routes_of (steps_of h), count-le is_send h)
 
 -- no message has a number that is not below the number of messages
 pub fresh : (m : ℕ) (steps : List Step) → IsNumbered steps → count is_send steps ≤ m → IsFalse (any (is_send_numbered m) steps)
@@ -82,7 +78,7 @@ gave_send i j m a b k rs past number before =
           ∙ rw (ne_eqb k m (λ e. other (sym e))) (sym (other_test _ _ _))
     ]
 
--- the table answers for the history
+-- the table agrees with the history
 pub gave_by : (i j m : ℕ) (steps : List Step) → IsNumbered steps
     → is_route i j (slice_get (reverse (routes_of steps)) m) ≡ any (is_send_between i j m) steps
 gave_by i j m [] are = refl
@@ -100,11 +96,11 @@ event_log_sends history limit reserved k counts routes event_log =
     ap length event_log.routed ∙ length-routes_of (present (steps_of history.events)) in
     (same, omega (arith, event_log.places, event_log.limited, count_present-le is_send history.events))
 
--- Where all are whole pieces, there is room at least for what is left of the one that was begun.
+-- If all are whole pieces, there is at least room for what is left of the last one.
 left_least : (n room : ℕ) → (n + room) % 1024 ≡ 0 → left_of_piece n ≤ room
 left_least n room whole = omega (arith, whole)
 
--- Routes without room for so many more are past their piece.
+-- Routes without room for this many more are past their piece.
 pub past_messages : (history : Recorded) (limit reserved k : ℕ) (counts : Counts) (routes : RouteTable) (more all : ℕ)
     → IsEventLog history limit reserved k counts routes → all ≡ max reserved more → routes.room < all
     → (length routes.routes + routes.room) % 1024 ≡ 0 → left_of_piece (count is_send (present (steps_of history.events))) < more
@@ -145,44 +141,6 @@ routes_other _ past other = refl
 present-more : (s : Step) (past : List Step) → IsFalse (is_reopen s) → present (s ∷ past) ≡ s ∷ present past
 present-more s past on = rw on refl
 
--- the log after an event that sends nothing and reopens nothing
-pub event_log_add : (old new : Recorded) (limit reserved k : ℕ) (counts now : Counts) (routes : RouteTable) (node : NodeId) (s : Step)
-    → IsEventLog old limit reserved k counts routes → length old.events < limit
-    → IsFalse (is_send s) × IsFalse (is_reopen s) → new.events ≡ (node, s) ∷ old.events → reserved ≤ new.room + 1
-    → AreCountsOf ((node, s) ∷ present_events old.events) now
-    → IsEventLog new limit (reserved - 1) k now routes
-event_log_add old new limit reserved k counts now routes node s event_log place other events room are =
-    let past = steps_of old.events in
-    let more = present-more s past other.1 in
-    record {
-      counted = rw (events, present-goes_on (node, s) old.events other.1) are;
-      numbered = rw (events, more) (numbered_other s (present past) other.0 event_log.numbered);
-      routed = rw (events, more) (event_log.routed ∙ sym (routes_other s (present past) other.0));
-      generation_is = rw (events, other.1) event_log.generation_is;
-      places = omega (arith, ap length events, event_log.places);
-      limited = event_log.limited;
-      room = omega arith;
-      routes_room = omega (arith, event_log.routes_room);
-    }
-
--- the log after the reopening
-pub event_log_reopened : (old new : Recorded) (limit reserved k : ℕ) (counts now : Counts) (routes kept : RouteTable)
-    → IsEventLog old limit reserved k counts routes → 0 < reserved
-    → new.events ≡ (record { 0 = 0 }, Reopen) ∷ old.events → new.room + 1 ≡ old.room → kept.routes ≡ [] → routes.room ≤ kept.room
-    → AreCountsOf [] now
-    → IsEventLog new limit (reserved - 1) (k + 1) now kept
-event_log_reopened old new limit reserved k counts now routes kept event_log some events room none more are =
-    record {
-      counted = rw events are;
-      numbered = rw events tt;
-      routed = rw events none;
-      generation_is = rw events (ap (λ n. n + 1) event_log.generation_is);
-      places = omega (arith, ap length events, event_log.places);
-      limited = event_log.limited;
-      room = omega (arith, event_log.room);
-      routes_room = omega (arith, event_log.routes_room);
-    }
-
 and_right : (a b : Bool) → (a && b) ≡ true → b ≡ true
 and_right true b is = is
 and_right false b is = absurd cc
@@ -199,7 +157,7 @@ between_to : (i j m : ℕ) (s : Step) → is_send_between i j m s ≡ true → i
 between_to i j m (Send a b k g) is = and_right (a.0 == i) _ is
 between_to i j m _ is = absurd cc
 
--- what was sent from one node to another was sent to the other
+-- what was sent from one node to another was sent to that node
 pub any_to : (i j m : ℕ) (past : List Step) → any (is_send_between i j m) past ≡ true → any (is_send_to j m) past ≡ true
 any_to i j m [] is = absurd cc
 any_to i j m (s ∷ past) is =

@@ -1,4 +1,4 @@
--- What a turn comes to that tries control steps in a row.
+-- The result of a turn that tries control steps in order.
 use Rattle.std.proofs.Common.{ℕ, ◌≡◌, List, [], ◌∷◌, ◌++◌, Bool, true, false, Option, Some, None, Result, Ok, Err, refl, sym, ap, subst}
 use Rattle.std.proofs.Common.{◌∙◌, cond, arith}
 use Rattle.std.specs.Prelude.{MatchOption, IfErr, IfOk, OnErr, OnOk, if◌then◌else◌, ◌<◌, ◌≤◌, is_none, is_some, nat_lt, ◌+◌, length}
@@ -22,12 +22,12 @@ use Rattle.tp_wave.specs.Generations.{present, present_events}
 use Rattle.tp_wave.specs.Machine.{pending_at, steps_of}
 use Rattle.tp_wave.specs.Sums.{judgement}
 
--- None of these checks is for want of room.
+-- None of these checks is for lack of room.
 abbrev AreOfWaves : List Check → Type 0
 AreOfWaves [] = Unit {0}
 AreOfWaves (c ∷ cs) = (is_for_room c.1 ≡ false) × AreOfWaves cs
 
--- What a call is refused for that makes these checks and then asks for a place: one of them, or the place.
+-- The refusal of a call that makes these checks and then reserves a place: one of them, or for the place.
 split : {A : Type 0} (cs : List Check) (b : BoardState) (r : Result A Refusal) → AreOfWaves cs → AnswersBy (cs ++ full_check 1 b ∷ []) 1 b r
     → MatchOption (first_refusal cs) (AnswersBy (full_check 1 b ∷ []) 1 b r) (λ e. (r ≡ Err e) × (is_for_room e ≡ false))
 split [] b r all answer = answer
@@ -42,7 +42,7 @@ split (c ∷ cs) b r all answer =
     ] answer
 
 -- ---- room for the event
--- Where a place is asked for, want of room is the one refusal.
+-- If a place is reserved, lack of room is the only refusal.
 room : {A : Type 0} (b : BoardState) (e : Refusal) (r : Result A Refusal) → r ≡ Err e → AnswersBy (full_check 1 b ∷ []) 1 b r
     → is_for_room e ≡ true
 room {A} b e r is answer =
@@ -58,8 +58,8 @@ room {A} b e r is answer =
 abbrev only : Step → Option Refusal → Option Step
 only s o = cond (is_none o) (Some s) None
 
--- what is known of a step that was tried, among n nodes: a call answers r and leads from old to new, its answer tells
--- whether the step ended the pool, and the turn answers q
+-- what is known of a step that was tried, among n nodes: a call returns r and leads from old to new, its result shows whether the
+-- step detected termination, and the turn returns q
 pub record IsTried {A K : Type 0} (n : ℕ) (s : Step) (old new : BoardState) (ended : A
     → Bool) (r : Result A Refusal) (q : Result (Turn K) Refusal) : Type 0 where
   pub event : OnOk r (new ≡ with_event (control_event s) old)
@@ -69,11 +69,11 @@ pub record IsTried {A K : Type 0} (n : ℕ) (s : Step) (old new : BoardState) (e
   pub answer : ComesTo ended r q
 
 module _ {A K : Type 0} (n : ℕ) (s : Step) (old new : BoardState) (ended : A → Bool) where
-  -- what a turn answers where the call is refused
+  -- the result of a turn if the call is refused
   abbrev refused_with : Refusal → Bool → Result (Turn K) Refusal
   refused_with e for_room = if for_room then Err e else Ok Idle
 
-  -- where its checks are passed
+  -- if its checks pass
   made : (r : Result A Refusal) (q : Result (Turn K) Refusal) → IsTried n s old new ended r q → AnswersBy (full_check 1 old ∷ []) 1 old r
       → Makes n s old new q
   made (Ok x) (Ok turn) h answer =
@@ -101,7 +101,7 @@ module _ {A K : Type 0} (n : ℕ) (s : Step) (old new : BoardState) (ended : A �
         refused = h.same;
       }
 
-  -- where one of its checks holds
+  -- if one of its checks fails
   none : (r : Result A Refusal) (q : Result (Turn K) Refusal) (e : Refusal) → IsTried n s old new ended r q → r ≡ Err e
       → is_for_room e ≡ false → (q ≡ Ok Idle) × (new ≡ old)
   none (Ok x) q e h is no_room = absurd cc
@@ -127,7 +127,7 @@ module _ {A K : Type 0} (n : ℕ) (s : Step) (old new : BoardState) (ended : A �
         some = λ t some. (let both : None ≡ Some t = ap (only s) is ∙ some in absurd cc);
       }
 
-  -- a call that makes these checks of the step and then asks for a place
+  -- a call that makes these checks of the step and then reserves a place
   tried : (i : ℕ) (cs : List Check) (r : Result A Refusal) (q : Result (Turn K) Refusal) → IsTried n s old new ended r q
       → first_refusal cs ≡ first_refusal (turn_checks n i old.history s) → AreOfWaves cs
       → AnswersBy (cs ++ full_check 1 old ∷ []) 1 old r → MakesFirst n i (s ∷ []) old new q
@@ -145,7 +145,7 @@ known : {A K : Type 0} (n : ℕ) (old new : BoardState) (r : Result A Refusal) (
 known n old new r q s is ok piece refused comes =
     record { event = ok; same = refused; piece = piece; over = subst (λ b. IfOk r (λ x. false ≡ b)) is (never r); answer = comes }
 
--- the answer of a call of the board, and what a turn makes of it, by their clauses
+-- the result of a call of the board, and of the turn, by their clauses
 module _ {A K : Type 0} {n i : ℕ} {old new : BoardState} {q : Result (Turn K) Refusal} (r : Result A Refusal) where
   pub down_tried : OnOk r (new ≡ with_event (control_event (Down (node_at i))) old)
       → AnswersBy (step_checks n old (Down (node_at i))) 1 old r → IfErr r (IsAtPiece old) → OnErr r (new ≡ old) → ComesTo (λ _. false) r q
@@ -279,12 +279,3 @@ at_root {K} {n} {i} {old} {new} {r} is made = subst (λ k. MakesFirst n k (wave_
 pub turn_of_root : {K : Type 0} {n i : ℕ} {old new : BoardState} {r : Result (Turn K) Refusal} → i ≡ 0
     → MakesFirst n 0 (turn_steps 0) old new r → MakesFirst n i (turn_steps i) old new r
 turn_of_root {K} {n} {i} {old} {new} {r} is made = subst (λ k. MakesFirst n k (turn_steps k) old new r) (sym is) made
-
--- A turn is refused memory only where the next event is the first of a piece.
-pub piece_of : {K : Type 0} {n i : ℕ} {ss : List Step} {old new : BoardState} {r : Result (Turn K) Refusal} → MakesFirst n i ss old new r
-    → IfErr r (IsAtPiece old)
-piece_of {K} {n} {i} {ss} {old} {new} {r} made =
-    elim (find (may_make n i old.history) ss) as (λ o. find (may_make n i old.history) ss ≡ o → IfErr r (IsAtPiece old)) [
-      | None ↦ λ is. rw (made.none is).0 tt
-      | Some s ↦ λ is. (made.some s is).piece
-    ] refl

@@ -1,4 +1,4 @@
--- What a board keeps.
+-- The invariant of a board.
 use Rattle.std.specs.Prelude.{ℕ, ◌≡◌, ◌<◌, ◌≤◌, List, length, slice_index, if◌then◌else◌}
 use Rattle.tp_base.specs.History.{Event}
 use Rattle.tp_base.specs.declared.step.Step.{Step}
@@ -11,12 +11,12 @@ use Rattle.tp_wave.specs.declared.wave.Wave.{Wave}
 use Rattle.tp_board.specs.Books.{BookTotals}
 use Rattle.tp_board.specs.Numbers.{is_done, is_recv, is_send}
 
--- how many tokens of the end are out: one, once the end was judged
+-- how many termination tokens are issued: one, once termination was detected
 abbrev pub ended_number : ℕ → List Step → ℕ
 ended_number n steps = if is_ended n steps then 1 else 0
 
--- What a board keeps of one generation: its events are a run on n nodes, the books have that run's numbers, and the wave
--- stands where the run led it.
+-- The invariant of a board within one generation: its events are a run on n nodes, the books have that run's numbers, and the
+-- wave is in the state to which the run led.
 pub record IsBoard (n nodes : ℕ) (h : List Event) (t : BookTotals) (wave : Wave) : Type 0 where
   pub nodes_are : nodes ≡ n
   pub some : 1 ≤ n
@@ -31,8 +31,8 @@ pub record IsBoard (n nodes : ℕ) (h : List Event) (t : BookTotals) (wave : Wav
   pub judged : t.judged ≡ ended_number n (steps_of h)
   pub follows : Follows n (steps_of h) wave
 
--- What a board keeps: its history is runs on n nodes through all generations, no longer than any may be, and all else is of
--- the present generation.
+-- Each generation of its history is a run on n nodes, within the limit, and its books and its wave are those of the present
+-- generation.
 pub record IsBoardOf (n nodes : ℕ) (h : List Event) (t : BookTotals) (wave : Wave) : Type 0 where
   pub now : IsBoard n nodes (present_events h) t wave
   pub runs : AreRuns n h

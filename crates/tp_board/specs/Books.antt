@@ -17,7 +17,7 @@ pub record BookTotals : Type 0 where
 abbrev pub first_totals : BookTotals
 first_totals = record { pending = replicate 8 1; sent = 0; received = 0; done = 0; under = 0; judged = 0 }
 
--- the totals after a step of node i, those of the messages under way apart
+-- the totals after a step of node i, apart from those of the messages in flight
 abbrev pub totals_after : ℕ → Step → BookTotals → BookTotals
 totals_after i s t =
     record {
@@ -35,7 +35,7 @@ with_under under t = record { pending = t.pending; sent = t.sent; received = t.r
 abbrev pub with_judged : ℕ → BookTotals → BookTotals
 with_judged judged t = record { pending = t.pending; sent = t.sent; received = t.received; done = t.done; under = t.under; judged = judged }
 
--- A node's pending number is the book's, and no other number of its is above the book's.
+-- A node's pending number is the book's, and each other number is at most the book's.
 pub record IsBooked (n : ShareNumbers) (t : BookTotals) : Type 0 where
   pub known : n.node < length t.pending
   pub pending : n.pending ≡ slice_index t.pending n.node

@@ -1,4 +1,4 @@
--- What a board counts along with its history.
+-- The numbers that a board counts along with its history.
 use Rattle.std.specs.Prelude.{ℕ, ◌≡◌, ◌<◌, ◌≤◌, List, Some, slice_get}
 use Rattle.tp_base.specs.History.{Event}
 use Rattle.tp_base.specs.declared.step.Step.{Step}
@@ -8,7 +8,7 @@ use Rattle.tp_board.specs.Numbers.{is_done, is_recv, is_send, plus_if}
 use Rattle.tp_board.specs.declared.counts.NodeCounts.{NodeCounts}
 use Rattle.tp_board.specs.declared.counts.Counts.{Counts}
 
--- what the history gives for node i
+-- the numbers of node i in the history
 abbrev pub counts_at : ℕ → List Event → NodeCounts
 counts_at i h =
     record {
@@ -22,7 +22,7 @@ abbrev pub counts_after : Step → NodeCounts → NodeCounts
 counts_after s c =
     record { pending = pending_after s c.pending; sent = plus_if (is_send s) c.sent; received = plus_if (is_recv s) c.received }
 
--- One more of each fits.
+-- One more of each is within the limits.
 pub record AreFew (c : NodeCounts) : Type 0 where
   pub pending : c.pending ≤ 1048577
   pub sent : c.sent ≤ 1048576

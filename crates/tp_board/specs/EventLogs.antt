@@ -1,4 +1,4 @@
--- What a log keeps.
+-- The invariant of an event log.
 use Rattle.std.specs.Prelude.{ℕ, ◌+◌, ◌≡◌, ◌≤◌, ◌<◌, length}
 use Rattle.tp_base.specs.declared.step.Step.{Step}
 use Rattle.tp_base.specs.declared.step.Step.TheVariants.{Recv, MessageEnd}
@@ -9,14 +9,13 @@ use Rattle.tp_board.specs.Counts.{AreCountsOf}
 use Rattle.tp_board.specs.Routes.{IsNumbered, RouteTable, routes_of}
 use Rattle.tp_board.specs.declared.counts.Counts.{Counts}
 
--- What a step says of a message has a place in the history. (A sending is numbered by the log.)
+-- The numbers of a step's message and of its generation fit into an event. (A sent message is numbered by the log.)
 abbrev pub HasFew : Step → Type 0
 HasFew (Recv j m g) = (m.0 < 1048576) × (g.0 < 1048576)
 HasFew (MessageEnd j m g) = (m.0 < 1048576) × (g.0 < 1048576)
 HasFew _ = Unit {0}
 
--- The counts and the routes are those of the present generation, whose number is kept, and what is reserved has a place and
--- memory.
+-- The counts and the routes are those of the present generation, whose number is kept; what is reserved has a place and memory.
 pub record IsEventLog (history : Recorded) (limit reserved number : ℕ) (counts : Counts) (routes : RouteTable) : Type 0 where
   pub counted : AreCountsOf (present_events history.events) counts
   pub numbered : IsNumbered (present (steps_of history.events))

@@ -1,4 +1,4 @@
--- Room for shares.
+-- Memory for the shares of a reopening.
 use Rattle.std.specs.Prelude.{ℕ, ◌≡◌, ◌≤◌, [], vec_capacity}
 use Rattle.tp_board.specs.declared.reopened_ledgers.Fresh.{Fresh}
 

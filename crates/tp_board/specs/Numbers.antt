@@ -1,4 +1,4 @@
--- The numbers that a node's and a link's shares carry, and how steps move them.
+-- The numbers of a node's and a link's shares, and how steps change them.
 use Rattle.std.specs.Prelude.{ℕ, ◌+◌, ◌≤◌, ◌==◌, Bool, true, false, not, List, map, filter, if◌then◌else◌}
 use Rattle.std.specs.List.{range_with_len, flat_map}
 use Rattle.tp_base.specs.History.{Event}
@@ -24,7 +24,7 @@ is_plain _ = false
 abbrev pub node_at : ℕ → NodeId
 node_at i = record { 0 = i }
 
--- a step beside node i
+-- a step made by node i
 abbrev pub event : ℕ → Step → Event
 event i step = (node_at i, step)
 
@@ -53,14 +53,14 @@ pub record PendingNumber : Type 0 where
   pub node : ℕ
   pub amount : ℕ
 
--- What the shares of so many nodes add up to.
+-- The sums of the shares of `parts` nodes.
 pub record PartNumbers : Type 0 where
   pub parts : ℕ
   pub sent : ℕ
   pub received : ℕ
   pub done : ℕ
 
--- A link by its two nodes, and how many messages are under way on it.
+-- A link by its two nodes, and the number of messages in flight on it.
 pub record LinkNumbers : Type 0 where
   pub from : ℕ
   pub to : ℕ
@@ -106,7 +106,7 @@ links_of n i = map (empty_link i) (filter (λ j. not (i == j)) (range_with_len 0
 abbrev pub first_links : ℕ → List LinkNumbers
 first_links n = flat_map (links_of n) (range_with_len 0 n)
 
--- No number is above so many, the opening action apart.
+-- No number is above this one, not counting the opening action.
 pub record AreWithin (most : ℕ) (n : ShareNumbers) : Type 0 where
   pub pending : n.pending ≤ most + 1
   pub sent : n.sent ≤ most

@@ -1,4 +1,4 @@
--- What contracts see of the shares of pending ledgers.
+-- What contracts see of the shares of the pending ledgers.
 use Rattle.std.specs.Prelude.{◌≡◌}
 use Rattle.tp_board.specs.Numbers.{PendingNumber}
 use Rattle.tp_board.specs.declared.pending.PendingShare.{PendingShare}

@@ -1,4 +1,4 @@
--- Who sent which message to whom.
+-- The routes of messages: who sent which message to whom.
 use Rattle.std.specs.Prelude.{ℕ, ◌≡◌, ◌==◌, ◌&&◌, List, [], ◌∷◌, Bool, false, Option, Some, None}
 use Rattle.tp_base.specs.declared.ids.NodeId.{NodeId}
 use Rattle.tp_base.specs.declared.step.Step.{Step}
@@ -11,7 +11,7 @@ abbrev pub is_send_between : ℕ → ℕ → ℕ → Step → Bool
 is_send_between i j m (Send a b k g) = (a.0 == i) && ((b.0 == j) && (k.0 == m))
 is_send_between i j m _ = false
 
--- Each message has the number of the messages that were sent before it.
+-- Each message is numbered by how many messages were sent before it.
 abbrev pub IsNumbered : List Step → Type 0
 IsNumbered [] = Unit {0}
 IsNumbered (Send i j m g ∷ past) = (m.0 ≡ count is_send past) × IsNumbered past
@@ -21,7 +21,7 @@ IsNumbered (_ ∷ past) = IsNumbered past
 abbrev pub Route : Type 0
 Route = NodeId × NodeId
 
--- The routes of messages, the newest first. So many more can be kept before memory has to grow.
+-- The routes of messages, newest first; `room` more can be added before memory has to grow.
 pub record RouteTable : Type 0 where
   pub routes : List Route
   pub room : ℕ

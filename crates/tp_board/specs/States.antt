@@ -1,4 +1,4 @@
--- What contracts see of a board, and what its calls are refused for.
+-- What contracts see of a board, and the checks of its calls.
 use Rattle.std.specs.Prelude.{ℕ, ◌+◌, ◌-◌, ◌%◌, ◌≡◌, ◌<◌, ◌⊎◌, List, [], ◌∷◌, ◌++◌, length, Option, Some}
 use Rattle.std.specs.Prelude.{Result, Err, MatchOption, IfErr, nat_lt}
 use Rattle.std.specs.Option.{option_or}
@@ -15,8 +15,8 @@ use Rattle.tp_wave.specs.Machine.{pending_at, steps_of}
 use Rattle.tp_wave.specs.Steps.{count}
 use Rattle.tp_board.specs.Numbers.{is_send}
 
--- A board has its events, the newest first, how many there may be, how many more are sure of a place and of memory, and
--- the first fault that was set.
+-- What contracts see of a board: its events, newest first, their limit, how many more have a reserved place and memory, and the
+-- first fault that was set.
 pub record BoardState : Type 0 where
   pub history : List Event
   pub limit : ℕ
@@ -27,41 +27,41 @@ pub record BoardState : Type 0 where
 abbrev pub with_event : Event → BoardState → BoardState
 with_event e b = record { history = e ∷ b.history; limit = b.limit; reserved = b.reserved - 1; fault = b.fault }
 
--- the board where so many more events were made sure of
+-- the board after a place and memory for this many events were reserved
 abbrev pub with_reserved : ℕ → BoardState → BoardState
 with_reserved more b = record { history = b.history; limit = b.limit; reserved = more; fault = b.fault }
 
--- the board after a fault, of which it keeps the first
+-- the board after a fault, of which it keeps only the first
 abbrev pub with_fault : Refusal → BoardState → BoardState
 with_fault f b = record { history = b.history; limit = b.limit; reserved = b.reserved; fault = option_or b.fault (Some f) }
 
--- Fewer than so many places are free.
+-- Fewer than this many places are free.
 abbrev pub full_check : ℕ → BoardState → Check
 full_check more b = (nat_lt b.limit (length b.history + more), HistoryFull (length b.history))
 
--- A call that wants so many events and makes these checks answers the first of them that holds. Otherwise it succeeds, or
--- finds no memory where it had to ask for some.
+-- A call that needs this many events and makes these checks returns the first refusal that applies. If none does, it succeeds, or
+-- an allocation fails that it had to make.
 abbrev pub AnswersBy : {A : Type 0} → List Check → ℕ → BoardState → Result A Refusal → Type 0
 AnswersBy checks more b result =
     MatchOption (first_refusal checks) (IfErr result (λ e. (e ≡ NoMemory) × (b.reserved < more))) (λ e. result ≡ Err e)
 
--- A call is refused memory only where the next event is the first of a piece of 1,024, in which a history lies.
+-- A call fails to allocate only if the next event is the first of a piece of 1,024, in which a history is stored.
 abbrev pub IsAtPiece : BoardState → Refusal → Type 0
 IsAtPiece b e = e ≡ NoMemory → length b.history % 1024 ≡ 0
 
--- how many more fit into the last piece of 1,024, where there are n
+-- how many more events fit into the last piece of 1,024, if there are n
 abbrev pub left_of_piece : ℕ → ℕ
 left_of_piece n = (1024 - n % 1024) % 1024
 
--- A call that wants so many events is refused memory only where fewer are left of the piece of 1,024 events that was
--- begun, or of the piece of 1,024 messages of the present generation.
+-- A call that needs this many events fails to allocate only if fewer are left of the last piece of 1,024 events, or of the last
+-- piece of 1,024 messages of the present generation.
 abbrev pub IsPastPiece : ℕ → BoardState → Refusal → Type 0
 IsPastPiece more b e =
     e ≡ NoMemory
     → (left_of_piece (length b.history) < more)
     ⊎ (left_of_piece (count is_send (present (steps_of b.history))) < more)
 
--- the checks of a control step that no node has to be idle for
+-- the checks of a control step for which no node has to be idle
 abbrev pub step_checks : ℕ → BoardState → Step → List Check
 step_checks n b s = control_checks n (present (steps_of b.history)) s ++ full_check 1 b ∷ []
 

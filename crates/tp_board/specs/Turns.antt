@@ -1,4 +1,4 @@
--- A node's control turn: which step of the waves it makes, and what it answers.
+-- A node's control turn: which step it makes, and its result.
 use Rattle.std.specs.Prelude.{ℕ, ◌+◌, ◌*◌, ◌≡◌, ◌==◌, ◌&&◌, List, [], ◌∷◌, ◌++◌, Bool, true, false, IsTrue, IsFalse, Some, None, is_some}
 use Rattle.std.specs.Prelude.{is_none, if◌then◌else◌, Result, Ok, Err, IfErr, IfOk, IsOkAnd, OnErr, OnOk, nat_lt}
 use Rattle.std.specs.List.{find}
@@ -19,7 +19,7 @@ use Rattle.tp_wave.specs.Steps.{is_judge}
 use Rattle.tp_wave.specs.Sums.{judgement}
 
 -- ---- which step
--- what any node does in a wave: it takes its token, then the sums of its lower and of its higher child, and then gives
+-- the part of any node in a wave: it takes its token, then the sums of its lower and of its higher child, and then gives
 abbrev pub wave_steps : ℕ → List Step
 wave_steps i = Down (node_at i) ∷ Up (node_at (2 * i + 1)) ∷ Up (node_at (2 * i + 2)) ∷ Give (node_at i) ∷ []
 
@@ -33,7 +33,7 @@ needs_idle Start = true
 needs_idle (Give i) = true
 needs_idle _ = false
 
--- what node i, of n, may be refused a control step for after these events
+-- why node i, of n, may be refused a control step after these events
 abbrev pub turn_checks : ℕ → ℕ → List Event → Step → List Check
 turn_checks n i h s =
     control_checks n (present (steps_of h)) s ++ (needs_idle s && nat_lt 0 (pending_at i (present_events h)), NotIdle) ∷ []
@@ -42,19 +42,19 @@ turn_checks n i h s =
 abbrev pub may_make : ℕ → ℕ → List Event → Step → Bool
 may_make n i h s = is_none (first_refusal (turn_checks n i h s))
 
--- ---- what it leads to
--- a control step beside the node that it names, or beside the root
+-- ---- the effect of the step
+-- a control step, recorded for the node that it names, or for the root
 abbrev pub control_event : Step → Event
 control_event (Down i) = (i, Down i)
 control_event (Give i) = (i, Give i)
 control_event (Up i) = (i, Up i)
 control_event s = event 0 s
 
--- The step judges that the pool has ended.
+-- The step judges, and detects termination.
 abbrev pub ends : ℕ → List Event → Step → Bool
 ends n h s = is_judge s && is_some (judgement n (present (steps_of h)))
 
--- what a turn answers that made a step, where it is known whether the step ended the pool
+-- the result of a turn that made a step, given whether the step detected termination
 abbrev pub IsMade : {K : Type 0} → Bool → Turn K → Type 0
 IsMade ended Idle = ⊥
 IsMade ended Moved = IsFalse ended
@@ -74,13 +74,13 @@ pub record MakesFirst {K : Type 0} (n i : ℕ) (ss : List Step) (old new : Board
   pub none : find (may_make n i old.history) ss ≡ None → (result ≡ Ok Idle) × (new ≡ old)
   pub some : (s : Step) → find (may_make n i old.history) ss ≡ Some s → Makes n s old new result
 
--- the refusals that come after all others
+-- the refusals for lack of room, which come after all others
 abbrev pub is_for_room : Refusal → Bool
 is_for_room (HistoryFull length) = true
 is_for_room NoMemory = true
 is_for_room _ = false
 
--- what trying a step comes to, where its answer tells whether it ended the pool: a step that may not be made now is none
+-- the result of trying a step, if its result shows whether it detected termination: a step that may not be made now is none
 abbrev pub ComesTo : {A K : Type 0} → (A → Bool) → Result A Refusal → Result (Turn K) Refusal → Type 0
 ComesTo ended (Ok x) result = IsOkAnd result (IsMade (ended x))
 ComesTo ended (Err e) result = result ≡ (if is_for_room e then Err e else Ok Idle)

@@ -1,3 +1,4 @@
+//! The books of a pool's ledgers, which are ghost state: the sums that the shares of nodes and links add up to.
 ghost use Rattle.std.specs.Prelude.{◌≡◌, ◌≤◌, ◌<◌, ◌+◌, ◌↔◌, IsFalse, IsTrue, map, vec_len};
 ghost use Rattle.std.specs.List.{All};
 ghost use Rattle.tp_board.specs.Fresh.{HasRoom};
@@ -16,7 +17,7 @@ use std::marker::Model;
 use std::sync::ledger::{Book, Ledger, Share};
 use tp_base::Step;
 
-/// The books of a pool's ledgers, with the share that stays with them. Contracts see their totals.
+/// The books of a pool's ledgers, with the one share that stays with them. Contracts see their totals.
 #[derive(Drop)]
 pub struct Accounts<K: Ledgers> {
     pending: PendingBooks<K>,
@@ -47,7 +48,7 @@ impl<K: Ledgers> Model for Accounts<K> {
 }
 
 impl<K: Ledgers> Accounts<K> {
-    /// The books of new ledgers.
+    /// Returns the books of new ledgers.
     pub(crate) fn new(
         pending: PendingBooks<K>,
         sent: Book<Sent<K>>,
@@ -79,7 +80,7 @@ impl<K: Ledgers> Accounts<K> {
         }
     }
 
-    /// Changes nothing, and tells how a node's numbers stand to the books.
+    /// Shows that a node's numbers agree with the books. Changes nothing.
     pub fn audit(&mut self, shares: &mut Shares<K>)
         ensures same { (self.new ≡ self.old) × (shares.new ≡ shares.old) }
         ensures told { IsBooked shares.old self.old }
@@ -91,7 +92,7 @@ impl<K: Ledgers> Accounts<K> {
         self.done.audit(&mut shares.done);
     }
 
-    /// Changes nothing, and tells that no link has more messages under way than all have.
+    /// Shows that a link has no more messages in flight than all links together. Changes nothing.
     pub fn audit_link(&mut self, link: &mut LinkShare<K>)
         ensures same { (self.new ≡ self.old) × (link.new ≡ link.old) }
         ensures told { link.old.under ≤ self.old.under }
@@ -99,7 +100,7 @@ impl<K: Ledgers> Accounts<K> {
         self.under.audit(&mut link.under);
     }
 
-    /// Changes nothing, and tells that a token of the end is out.
+    /// Shows that a termination token was issued. Changes nothing.
     pub fn audit_ended(&mut self, ended: &mut Ended<K>)
         ensures same { self.new ≡ self.old }
         ensures told { 0 < self.old.judged }
@@ -107,7 +108,7 @@ impl<K: Ledgers> Accounts<K> {
         self.keeper.audit(ended);
     }
 
-    /// Moves a node's numbers and their books as a step of the node does.
+    /// Changes a node's numbers and their books by the effect of a step of the node.
     pub fn follow(&mut self, step: &Step, shares: &mut Shares<K>)
         requires { IsFalse (is_recv step.now) → 0 < shares.old.pending }
         ensures told { IsBooked shares.old self.old }
@@ -122,7 +123,7 @@ impl<K: Ledgers> Accounts<K> {
         add_if(&mut self.done, &mut shares.done, ends_task(step));
     }
 
-    /// Moves a link's number and its book as a step does that sends or receives over it.
+    /// Changes a link's number and its book by the effect of a step that sends or receives over the link.
     pub fn follow_link(&mut self, step: &Step, link: &mut LinkShare<K>)
         requires { IsTrue (is_recv step.now) → 0 < link.old.under }
         ensures told { link.old.under ≤ self.old.under }
@@ -137,7 +138,7 @@ impl<K: Ledgers> Accounts<K> {
         }
     }
 
-    /// Hands out the token of the end.
+    /// Issues the termination token.
     pub fn hand_out(&mut self) -> Ended<K>
         requires { self.old.judged ≡ 0 }
         ensures { self.new ≡ with_judged 1 self.old }
@@ -145,7 +146,7 @@ impl<K: Ledgers> Accounts<K> {
         self.keeper.hand_out()
     }
 
-    /// Whether the token of the end was handed out.
+    /// Returns whether the termination token was issued.
     pub fn is_ended(&self) -> bool
         ensures out { IsTrue result ↔ (self.now.judged ≡ 1) }
         ensures one { self.now.judged ≤ 1 }
@@ -153,7 +154,7 @@ impl<K: Ledgers> Accounts<K> {
         self.keeper.is_out()
     }
 
-    /// A share of no link.
+    /// Returns the share of no link.
     pub fn no_links(&mut self) -> Share<Under<K>>
         ensures same { self.new ≡ self.old }
         ensures none { (result.parts ≡ 0) × (result.amount ≡ 0) }
@@ -161,8 +162,8 @@ impl<K: Ledgers> Accounts<K> {
         self.kept.empty()
     }
 
-    /// Reopens the books where nothing is pending, with all shares of the nodes in one hand: they are as at first, and the
-    /// token of the end is taken back.
+    /// Resets the books to those of new ledgers, if nothing is pending and the caller has the shares of all nodes.
+    /// Takes the termination token back.
     pub fn reopen(
         &mut self,
         shares: Vec<Shares<K>>,
@@ -194,7 +195,7 @@ impl<K: Ledgers> Accounts<K> {
         anew
     }
 
-    /// Tells that all shares add up to the books.
+    /// Shows that all shares add up to the books.
     pub fn close(self, parts: Parts<K>, under: Share<Under<K>>)
         requires nodes { parts.parts ≡ K.names.nodes }
         requires links { under.parts + 1 ≡ under_parts K.names.nodes }
@@ -226,7 +227,7 @@ impl<K: Ledgers> Accounts<K> {
     }
 }
 
-/// One more in a share and its book, or none.
+/// Adds one to a share and its book, or nothing.
 fn add_if<L: Ledger>(book: &mut Book<L>, share: &mut Share<L>, more: bool)
     requires { 0 < share.old.parts }
     ensures book { book.new.total ≡ plus_if more book.old.total }

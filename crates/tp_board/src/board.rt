@@ -1,3 +1,4 @@
+//! The board: what a pool keeps under its board lock, and the calls that record an event.
 ghost use Rattle.std.specs.Prelude.{◌≡◌, ◌==◌, ◌≤◌, ◌<◌, ◌+◌, ◌-◌, ◌∷◌, ℕ, [], length, max, slice_index, IsTrue, IfErr, IfOk, IsOk, OnErr};
 ghost use Rattle.std.specs.Prelude.{OnOk, None};
 ghost use Rattle.tp_board.specs.Books.{first_totals};
@@ -21,11 +22,11 @@ use std::sync::ledger::Share;
 use tp_base::{Generation, History, MessageId, NodeId, Refusal, Step};
 use tp_wave::Wave;
 
-/// What lies under a pool's board lock: its history, the books of its ledgers, its wave and its first fault.
+/// What the lock of a pool's board protects: the history, the books of the ledgers, the wave and the first fault.
 ///
-/// Its type keeps that the history is runs of the counting machine, one for each generation, that each book has the number
-/// of the present one, and that the wave stands where that run led it. Contracts see the events of all generations, the
-/// newest first, how many there may be, for how many more a place and memory are reserved, and the fault.
+/// Its invariant: for each generation the history is a run of the counting machine, each book has the number of the
+/// present generation, and the wave is in the state to which that run led. Contracts see the events of all generations,
+/// newest first, the limit of events, for how many more events a place and memory are reserved, and the fault.
 #[derive(Drop)]
 pub struct Board<K: Ledgers> {
     pub(crate) nodes: u32,
@@ -46,7 +47,7 @@ impl<K: Ledgers> Model for Board<K> {
 }
 
 impl<K: Ledgers> Board<K> {
-    /// A board with an empty history.
+    /// Returns a board with an empty history.
     pub(crate) fn new(alloc: Global, nodes: u32, limit: u32, accounts: Accounts<K>) -> Board<K>
         requires nodes { (nodes ≡ K.names.nodes) × (1 ≤ nodes) × (nodes ≤ 8) }
         requires limit { limit ≤ 1048576 }
@@ -61,7 +62,7 @@ impl<K: Ledgers> Board<K> {
         }
     }
 
-    /// How many nodes the pool has.
+    /// Returns the number of nodes of the pool.
     pub fn nodes(&self) -> u32
         ensures number { result ≡ K.names.nodes }
         ensures few { (1 ≤ result) × (result ≤ 8) }
@@ -69,7 +70,7 @@ impl<K: Ledgers> Board<K> {
         self.nodes
     }
 
-    /// The number of the present generation: the first is 1, and each reopening adds one.
+    /// Returns the number of the present generation: the first is 1, and each reopening adds one.
     pub fn generation(&self) -> Generation
         ensures number { result.0 ≡ generation (steps_of self.now.history) }
         ensures small { result.0 < 1048576 }
@@ -77,14 +78,14 @@ impl<K: Ledgers> Board<K> {
         self.event_log.generation()
     }
 
-    /// How many events there may be, over all generations.
+    /// Returns the most events that the history can have, over all generations.
     pub fn limit(&self) -> u32
         ensures { result ≡ self.now.limit }
     {
         self.event_log.limit()
     }
 
-    /// How many events there are, over all generations.
+    /// Returns the number of events, over all generations.
     pub fn len(&self) -> usize
         ensures number { result ≡ length self.now.history }
         ensures small { result ≤ 1048576 }
@@ -92,14 +93,14 @@ impl<K: Ledgers> Board<K> {
         self.event_log.len()
     }
 
-    /// Whether nothing has happened.
+    /// Returns whether there are no events.
     pub fn is_empty(&self) -> bool
         ensures { result ≡ (length self.now.history == 0) }
     {
         self.event_log.history().is_empty()
     }
 
-    /// The events of all generations.
+    /// Returns the events of all generations, each of which is a run.
     pub fn history(&self) -> &History
         ensures events { result.now.events ≡ self.now.history }
         ensures run { AreRuns K.names.nodes self.now.history }
@@ -107,7 +108,7 @@ impl<K: Ledgers> Board<K> {
         self.event_log.history()
     }
 
-    /// The events alone.
+    /// Returns the events of all generations, each of which is a run, and drops the rest.
     pub fn into_history(self) -> History
         ensures events { result.events ≡ self.history }
         ensures run { AreRuns K.names.nodes self.history }
@@ -121,28 +122,28 @@ impl<K: Ledgers> Board<K> {
         event_log.into_history()
     }
 
-    /// The first fault that was set.
+    /// Returns the first fault that was set.
     pub fn fault(&self) -> Option<Refusal>
         ensures { result ≡ self.now.fault }
     {
         self.event_log.fault()
     }
 
-    /// Keeps a fault, where it is the first.
+    /// Sets the fault, unless one was set before.
     pub fn set_fault(&mut self, fault: Refusal)
         ensures { self.new ≡ with_fault fault self.old }
     {
         self.event_log.set_fault(fault);
     }
 
-    /// The number of the next message: how many were sent before it in the present generation.
+    /// Returns the number of the next message: how many were sent before it in the present generation.
     pub fn next_message(&self) -> MessageId
         ensures { result.0 ≡ count is_send (present (steps_of self.now.history)) }
     {
         MessageId(self.event_log.totals().0)
     }
 
-    /// Whether a message was sent from one node to another in the present generation. It looks once into a table.
+    /// Returns whether this message was sent from the one node to the other in the present generation. Takes O(1) time.
     pub fn gave(&self, from: NodeId, to: NodeId, message: MessageId) -> bool
         ensures sent { result ≡ any (is_send_between from.0 to.0 message.0) (present (steps_of self.now.history)) }
         ensures to { IsTrue result → IsTrue (any (is_send_to to.0 message.0) (present (steps_of self.now.history))) }
@@ -150,10 +151,11 @@ impl<K: Ledgers> Board<K> {
         self.event_log.gave(from, to, message)
     }
 
-    /// Makes sure of a place and of memory for so many more events: the next ones are then not refused for either.
+    /// Reserves a place and memory for `more` events, so that the next ones are not refused for lack of either.
     ///
-    /// Refused: `HistoryFull` where fewer places are free; `NoMemory` where memory has to grow and does not, as it may have to
-    /// where fewer are left of the piece of 1,024 events that was begun, or of the piece of 1,024 messages.
+    /// Refused with `HistoryFull` if fewer places are free; `NoMemory` if memory has to grow and the allocation fails.
+    /// It may have to grow if fewer than `more` places are left in the last piece of 1,024 events, or in the last piece
+    /// of 1,024 messages.
     pub fn reserve(&mut self, more: u32) -> Result<(), Refusal>
         ensures ok { OnOk result (self.new ≡ with_reserved (max self.old.reserved more) self.old) }
         ensures places { OnOk result (length self.old.history + more ≤ self.old.limit) }
@@ -165,7 +167,7 @@ impl<K: Ledgers> Board<K> {
         self.event_log.reserve(more)
     }
 
-    /// Changes nothing, and tells how a node's numbers stand to the present generation.
+    /// Shows that a node's numbers agree with the present generation. Changes nothing.
     pub fn audit(&mut self, shares: &mut Shares<K>)
         ensures same { (self.new ≡ self.old) × (shares.new ≡ shares.old) }
         ensures node { shares.old.node < K.names.nodes }
@@ -174,12 +176,12 @@ impl<K: Ledgers> Board<K> {
         ensures places { (length self.old.history + self.old.reserved ≤ self.old.limit) × (self.old.limit ≤ 1048576) }
         ensures run { AreRuns K.names.nodes self.old.history }
     {
-        // The places are known by a call of the log alone. Its answer is not used, so it costs no instruction.
+        // Only this call shows how many places there are. Its result is not used, so it costs no instruction.
         let _count = self.event_log.len();
         self.accounts.audit(shares);
     }
 
-    /// Changes nothing, and tells that no link has more messages under way than the present generation gives.
+    /// Shows that a link has no more messages in flight than the present generation. Changes nothing.
     pub fn audit_link(&mut self, link: &mut LinkShare<K>)
         ensures same { (self.new ≡ self.old) × (link.new ≡ link.old) }
         ensures under { link.old.under ≤ under_way (present (steps_of self.old.history)) }
@@ -188,7 +190,7 @@ impl<K: Ledgers> Board<K> {
         self.accounts.audit_link(link);
     }
 
-    /// A node's pending number.
+    /// Returns a node's pending number.
     pub(crate) fn pending(&mut self, shares: &mut Shares<K>) -> u32
         ensures same { (self.new ≡ self.old) × (shares.new ≡ shares.old) }
         ensures number { result ≡ shares.old.pending }
@@ -199,7 +201,7 @@ impl<K: Ledgers> Board<K> {
         self.event_log.counts(shares.node()).pending
     }
 
-    /// A share of no link.
+    /// Returns the share of no link.
     pub(crate) fn no_links(&mut self) -> Share<Under<K>>
         ensures same { self.new ≡ self.old }
         ensures none { (result.parts ≡ 0) × (result.amount ≡ 0) }
@@ -208,7 +210,7 @@ impl<K: Ledgers> Board<K> {
         self.accounts.no_links()
     }
 
-    /// The totals of the present generation, where all shares are gathered.
+    /// Returns the totals of the present generation, given all shares.
     pub(crate) fn close(self, pending: u32, parts: Parts<K>, under: Share<Under<K>>) -> Totals
         requires nodes { parts.parts ≡ K.names.nodes }
         requires links { under.parts + 1 ≡ under_parts K.names.nodes }
@@ -247,10 +249,10 @@ impl<K: Ledgers> Board<K> {
         }
     }
 
-    /// Adds a step of a node that names no message.
+    /// Records a step of a node that names no message.
     ///
-    /// Refused: `HistoryFull` where the history has reached its limit; `NoMemory` where memory has to grow and does not, as it
-    /// may have to at each 1,024th event.
+    /// Refused with `HistoryFull` if the history has reached its limit; `NoMemory` if memory has to grow, as it may at
+    /// each 1,024th event, and the allocation fails.
     #[inline(always)]
     pub fn append(&mut self, step: Step, shares: &mut Shares<K>) -> Result<(), Refusal>
         requires lawful { IsTrue (is_plain step) × IsOf shares.old.node step × (0 < shares.old.pending) }
@@ -267,11 +269,11 @@ impl<K: Ledgers> Board<K> {
         Ok(())
     }
 
-    /// Adds the sending of the next message, over a link of the node's, in the present generation. Its number is answered:
-    /// how many messages were sent before it.
+    /// Records the sending of the next message of the present generation over a link of the node, and returns its
+    /// number: how many messages were sent before it.
     ///
-    /// Refused: `HistoryFull` where the history has reached its limit; `NoMemory` where memory has to grow and does not, as it
-    /// may have to at each 1,024th event or message.
+    /// Refused with `HistoryFull` if the history has reached its limit; `NoMemory` if memory has to grow, as it may at
+    /// each 1,024th event or message, and the allocation fails.
     pub fn append_send(
         &mut self,
         shares: &mut Shares<K>,
@@ -302,10 +304,11 @@ impl<K: Ledgers> Board<K> {
         Ok(message)
     }
 
-    /// Adds the receipt of a message that was sent to the node in the present generation and is under way on the link.
+    /// Records the receipt of a message that was sent to the node in the present generation and is in flight on the
+    /// link.
     ///
-    /// Refused: `HistoryFull` where the history has reached its limit; `NoMemory` where memory has to grow and does not, as it
-    /// may have to at each 1,024th event.
+    /// Refused with `HistoryFull` if the history has reached its limit; `NoMemory` if memory has to grow, as it may at
+    /// each 1,024th event, and the allocation fails.
     pub fn append_recv(
         &mut self,
         message: MessageId,
@@ -335,10 +338,10 @@ impl<K: Ledgers> Board<K> {
         Ok(())
     }
 
-    /// Adds the end of a message's action, in the present generation.
+    /// Records the end of a message's action in the present generation.
     ///
-    /// Refused: `HistoryFull` where the history has reached its limit; `NoMemory` where memory has to grow and does not, as it
-    /// may have to at each 1,024th event.
+    /// Refused with `HistoryFull` if the history has reached its limit; `NoMemory` if memory has to grow, as it may at
+    /// each 1,024th event, and the allocation fails.
     pub fn append_end(&mut self, message: MessageId, shares: &mut Shares<K>) -> Result<(), Refusal>
         requires few { message.0 < 1048576 }
         requires active { 0 < shares.old.pending }

@@ -1,3 +1,4 @@
+//! Opening a pool's board with all its shares, and adding all shares up at the end.
 ghost use Rattle.std.specs.Prelude.{◌≡◌, ◌≤◌, ◌<◌, ◌+◌, ◌-◌, ◌*◌, [], IfErr, IfOk, IsTrue, None, length, sum_by, vec_len};
 ghost use Rattle.std.specs.List.{All};
 ghost use Rattle.tp_base.specs.declared.refusal.Refusal.TheVariants as refusals;
@@ -17,17 +18,17 @@ use tp_base::{History, Refusal};
 /// A pool's board, with all shares of its ledgers.
 #[derive(Drop)]
 pub struct Books<K: Ledgers> {
-    /// What lies under the board's lock.
+    /// What the board's lock protects.
     pub board: Board<K>,
-    /// The shares of the nodes, in rising order.
+    /// The shares of the nodes, in rising order of nodes.
     pub shares: Vec<Shares<K>>,
     /// The shares of the links, by sender and then by receiver.
     pub links: Vec<LinkShare<K>>,
 }
 
-/// Opens the ledgers of a pool of so many nodes, with an empty history of at most so many events.
+/// Opens the ledgers of a pool of `nodes` nodes, with an empty history of at most `limit` events.
 ///
-/// Refused: `NoMemory` where memory has to grow and does not. The ledgers are lost then.
+/// Refused with `NoMemory` if an allocation fails. The ledgers are lost then.
 pub fn open_books<K: Ledgers>(
     alloc: Global,
     blanks: Blanks,
@@ -58,7 +59,7 @@ pub fn open_books<K: Ledgers>(
     })
 }
 
-/// What all shares of a pool add up to, and what its board has kept. The numbers are those of the present generation.
+/// The sums of all shares of a pool, and what its board kept. The numbers are those of the present generation.
 #[derive(Drop)]
 pub struct Totals {
     /// Unfinished tasks and open actions, over all nodes.
@@ -67,11 +68,11 @@ pub struct Totals {
     pub sent: u32,
     /// Messages received, over all nodes.
     pub received: u32,
-    /// Messages under way, over all links.
+    /// Messages in flight, over all links.
     pub under: u32,
     /// Tasks done, over all nodes.
     pub done: u32,
-    /// Whether the end was judged in the present generation.
+    /// Whether termination was detected in the present generation.
     pub ended: bool,
     /// The first fault.
     pub fault: Option<Refusal>,
@@ -79,7 +80,7 @@ pub struct Totals {
     pub history: History,
 }
 
-/// Adds up all shares of a pool. It takes no memory.
+/// Adds up all shares of a pool, and returns the totals. It allocates nothing.
 pub fn close_books<K: Ledgers>(books: Books<K>) -> Totals
     requires shares { vec_len books.shares ≡ K.names.nodes }
     requires links { vec_len books.links ≡ K.names.nodes * (K.names.nodes - 1) }
@@ -115,7 +116,7 @@ pub fn close_books<K: Ledgers>(books: Books<K>) -> Totals
     board.close(pending, parts, under)
 }
 
-/// The sum of the pending numbers of the nodes, and their other shares.
+/// Returns the sum of the nodes' pending numbers, and their other shares.
 fn gather<K: Ledgers>(
     board: &mut Board<K>,
     first: Shares<K>,
@@ -142,7 +143,7 @@ fn gather<K: Ledgers>(
     (pending, parts)
 }
 
-/// All shares of the links.
+/// Returns all shares of the links, joined.
 fn gather_links<K: Ledgers>(none: Share<Under<K>>, links: Vec<LinkShare<K>>) -> Share<Under<K>>
     requires none { (none.parts ≡ 0) × (none.amount ≡ 0) }
     ensures parts { result.parts ≡ vec_len links }

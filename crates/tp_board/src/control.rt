@@ -1,10 +1,11 @@
+//! The control steps of the board: the five steps of a wave.
 ghost use Rattle.std.specs.Prelude.{◌≡◌, ◌==◌, ◌≤◌, ◌<◌, ◌∷◌, IsFalse, IsTrue, IfErr, IfOk, IsOk, OnErr, OnOk, None, Some};
 ghost use Rattle.std.specs.Prelude.{is_some, if◌then◌else◌};
 ghost use Rattle.tp_base.specs.declared.step.Step.TheVariants as steps;
 ghost use Rattle.tp_board.specs.Judgements.{is_over};
 ghost use Rattle.tp_board.specs.Numbers.{event, node_at};
 ghost use Rattle.tp_board.specs.States.{AnswersBy, IsAtPiece, step_checks, visit_checks, with_event};
-ghost use Rattle.tp_wave.specs.Control.{parent};
+ghost use Rattle.tp_base.specs.Tree.{parent};
 ghost use Rattle.tp_wave.specs.Cut.{IsQuietHistory};
 ghost use Rattle.tp_wave.specs.Generations.{present, present_events};
 ghost use Rattle.tp_wave.specs.Machine.{steps_of};
@@ -15,12 +16,13 @@ use crate::judgement::Judgement;
 use crate::{Ended, Ledgers, Shares};
 use tp_base::{NodeId, Refusal, Step, Sums};
 
-// The steps of the control waves. Each is tried on a copy of the wave, before a place and memory are asked for.
+// The control steps. Each is first tried on a copy of the wave; a place and memory for its event are reserved after
+// that.
 impl<K: Ledgers> Board<K> {
-    /// Opens the next wave, at node 0.
+    /// Starts the next wave, at node 0.
     ///
-    /// Refused: `Ended` where the end was judged; `WaveOpen` where the newest wave was not judged yet; `HistoryFull`;
-    /// `NoMemory`, as it may be at each 1,024th event.
+    /// Refused with `Ended` if termination was detected; `WaveOpen` if the newest wave was not judged yet;
+    /// `HistoryFull`; `NoMemory`, which is possible at each 1,024th event.
     pub fn start(&mut self, shares: &Shares<K>) -> Result<(), Refusal>
         requires root { shares.now.node ≡ 0 }
         ensures ok { OnOk result (self.new ≡ with_event (event 0 steps.Start) self.old) }
@@ -36,10 +38,10 @@ impl<K: Ledgers> Board<K> {
         Ok(())
     }
 
-    /// The node takes its token.
+    /// Takes the token of the newest wave, at the node of the shares.
     ///
-    /// Refused: `Ended` where the end was judged; `NoToken` where no token lies on the edge to the node; `HistoryFull`;
-    /// `NoMemory`, as it may be at each 1,024th event.
+    /// Refused with `Ended` if termination was detected; `NoToken` if there is no token on the edge to the node;
+    /// `HistoryFull`; `NoMemory`, which is possible at each 1,024th event.
     pub fn down(&mut self, shares: &Shares<K>) -> Result<(), Refusal>
         ensures ok { OnOk result (self.new ≡ with_event (event shares.now.node (steps.Down (node_at shares.now.node))) self.old) }
         ensures refusal { AnswersBy (step_checks K.names.nodes self.old (steps.Down (node_at shares.now.node))) 1 self.old result }
@@ -54,10 +56,10 @@ impl<K: Ledgers> Board<K> {
         Ok(())
     }
 
-    /// A parent takes the sums that its child gave.
+    /// Takes the sums that a child gave, at its parent.
     ///
-    /// Refused: `Ended` where the end was judged; `NoToken` where the child has not given in the newest wave, and where its
-    /// sums were taken; `HistoryFull`; `NoMemory`, as it may be at each 1,024th event.
+    /// Refused with `Ended` if termination was detected; `NoToken` if the child has not given in the newest wave, or
+    /// its sums were taken; `HistoryFull`; `NoMemory`, which is possible at each 1,024th event.
     pub fn up(&mut self, child: NodeId, shares: &Shares<K>) -> Result<(), Refusal>
         requires child { (1 ≤ child.0) × (child.0 < K.names.nodes) }
         requires parent { shares.now.node ≡ parent child.0 }
@@ -73,11 +75,12 @@ impl<K: Ledgers> Board<K> {
         Ok(())
     }
 
-    /// The node, idle, gives what it has sent and received. At node 0 the wave ends, and its sums are answered.
+    /// Gives the numbers of messages that the idle node has sent and received to the newest wave. At node 0 this ends
+    /// the wave, and the sums are returned.
     ///
-    /// Refused: `Ended` where the end was judged; `NoToken` where the newest wave has not come to the node, where the node
-    /// gave in it, and where the sums of a child were not taken; `NotIdle` where the node is active; `HistoryFull`;
-    /// `NoMemory`, as it may be at each 1,024th event.
+    /// Refused with `Ended` if termination was detected; `NoToken` if the newest wave has not reached the node, the
+    /// node gave in it, or the sums of a child were not taken; `NotIdle` if the node is active; `HistoryFull`;
+    /// `NoMemory`, which is possible at each 1,024th event.
     pub fn give(&mut self, shares: &Shares<K>) -> Result<Option<Sums>, Refusal>
         ensures ok { OnOk result (self.new ≡ with_event (event shares.now.node (steps.Give (node_at shares.now.node))) self.old) }
         ensures sums { IfOk result (λ sums. sums
@@ -98,11 +101,11 @@ impl<K: Ledgers> Board<K> {
         Ok(sums)
     }
 
-    /// Judges the newest wave: `Over` exactly where its sums and those of the wave before it are all equal. Then nothing is
-    /// left, and the one token of the end is handed out: a generation has at most one.
+    /// Judges the newest wave: returns `Over` exactly if its sums and those of the wave before it are all equal.
+    /// Nothing is left then, and the one termination token of the generation is issued.
     ///
-    /// Refused: `Ended` where the end was judged; `WaveNotEnded` where no ended wave waits for judgement; `HistoryFull`;
-    /// `NoMemory`, as it may be at each 1,024th event.
+    /// Refused with `Ended` if termination was detected; `WaveNotEnded` if no ended wave waits for judgement;
+    /// `HistoryFull`; `NoMemory`, which is possible at each 1,024th event.
     pub fn judge(&mut self) -> Result<Judgement<K>, Refusal>
         ensures ok { OnOk result (self.new ≡ with_event (event 0 steps.Judge) self.old) }
         ensures first { OnOk result (IsFalse (is_ended K.names.nodes (present (steps_of self.old.history)))) }
@@ -123,8 +126,8 @@ impl<K: Ledgers> Board<K> {
         }
     }
 
-    /// Changes nothing, and tells that the end of the present generation was judged and nothing of it is left: the token of
-    /// an earlier one was given back.
+    /// Shows that termination of the present generation was detected and nothing of it is left: the token of an earlier
+    /// generation was given back. Changes nothing.
     pub fn audit_ended(&mut self, ended: &mut Ended<K>)
         ensures same { self.new ≡ self.old }
         ensures ended { IsTrue (is_ended K.names.nodes (present (steps_of self.old.history))) }

@@ -1,3 +1,4 @@
+//! The numbers that are counted along with a history, so that nothing has to scan it.
 ghost use Rattle.std.specs.Prelude.{◌≡◌, ◌≤◌, ◌<◌, ◌^◌, ◌∷◌, List, [], length};
 ghost use Rattle.tp_base.specs.History.{Event};
 ghost use Rattle.tp_board.specs.Counts.{AreCountsOf, counts_after, counts_at, AreFew};
@@ -6,19 +7,19 @@ ghost use Rattle.tp_wave.specs.Machine.{IsOf};
 
 use tp_base::{NodeId, Step};
 
-/// What is counted of one node.
+/// The numbers of one node.
 #[derive(Clone, Copy)]
 pub struct NodeCounts {
     /// Its unfinished tasks and open actions.
     pub pending: u32,
-    /// The messages that it has sent.
+    /// The messages it has sent.
     pub sent: u32,
-    /// The messages that it has received.
+    /// The messages it has received.
     pub received: u32,
 }
 
 impl NodeCounts {
-    /// After one more step of the node.
+    /// Returns the numbers after one more step of the node.
     #[inline(always)]
     fn after(self, step: &Step) -> NodeCounts
         requires few { AreFew self }
@@ -48,19 +49,19 @@ impl NodeCounts {
     }
 }
 
-/// What is counted along with a history.
+/// The numbers counted along with a history.
 #[derive(Drop)]
 pub struct Counts {
-    /// Of each node.
+    /// The numbers of each node.
     pub nodes: [NodeCounts; 8],
-    /// The messages that were received.
+    /// The number of messages received.
     pub received: u32,
-    /// The tasks that were done.
+    /// The number of tasks done.
     pub done: u32,
 }
 
 impl Counts {
-    /// Of the empty history: each node's opening action is open.
+    /// Returns the numbers of the empty history, in which each node's opening action is open.
     pub fn new() -> Counts
         ensures { AreCountsOf [] result }
     {
@@ -75,7 +76,7 @@ impl Counts {
         }
     }
 
-    /// What is counted of a node.
+    /// Returns the numbers of a node.
     pub fn of(&self, node: NodeId) -> NodeCounts
         requires { node.0 < 8 }
         ensures { (h : List Event) → AreCountsOf h self.now → result ≡ counts_at node.0 h }
@@ -97,7 +98,7 @@ impl Counts {
     }
 }
 
-/// One more where the step receives a message.
+/// Adds one if the step receives a message.
 #[inline(always)]
 fn count_received(step: &Step, received: u32) -> u32
     requires { received ≤ 1048576 }
@@ -109,7 +110,7 @@ fn count_received(step: &Step, received: u32) -> u32
     }
 }
 
-/// One more where the step ends a task.
+/// Adds one if the step ends a task.
 #[inline(always)]
 fn count_done(step: &Step, done: u32) -> u32
     requires { done ≤ 1048576 }

@@ -1,18 +1,19 @@
+//! The termination token, of which each generation has at most one, and its keeper.
 ghost use Rattle.std.specs.Prelude.{◌≡◌, ◌≤◌, ◌<◌, ◌↔◌, IsTrue};
 
 use crate::names::{Judged, Ledgers};
 use std::marker::Model;
 use std::sync::ledger::{Blank, Book, Share};
 
-/// The end of the pool's present generation was judged. A board hands out one in each generation, and it has no clone: it
-/// is given back where the pool is reopened.
+/// The termination token: evidence that the end of the pool's present generation was detected. A board issues one in
+/// each generation. It cannot be cloned, and it is given back when the pool is reopened.
 #[derive(Drop)]
 pub struct Ended<K: Ledgers> {
     share: Share<Judged<K>>,
     ghost one: { (share.parts ≡ 1) × (share.amount ≡ 1) },
 }
 
-/// The one token of the end, while it is not out. Contracts see how many are out.
+/// The keeper of the one termination token. Contracts see how many are issued.
 #[derive(Drop)]
 pub(crate) struct Keeper<K: Ledgers> {
     book: Book<Judged<K>>,
@@ -30,7 +31,7 @@ impl<K: Ledgers> Model for Keeper<K> {
 }
 
 impl<K: Ledgers> Keeper<K> {
-    /// Nothing was handed out.
+    /// Returns the keeper of a token that was not issued.
     pub fn open(blank: Blank) -> Keeper<K>
         requires { (blank.name ≡ K.names.judged) × (blank.parts ≡ 1) }
         ensures { result ≡ 0 }
@@ -42,7 +43,7 @@ impl<K: Ledgers> Keeper<K> {
         }
     }
 
-    /// Whether the token was handed out.
+    /// Returns whether the token was issued.
     pub fn is_out(&self) -> bool
         ensures out { IsTrue result ↔ (self.now ≡ 1) }
         ensures one { self.now ≤ 1 }
@@ -50,7 +51,7 @@ impl<K: Ledgers> Keeper<K> {
         self.token.is_none()
     }
 
-    /// Hands out the token.
+    /// Issues the token.
     pub fn hand_out(&mut self) -> Ended<K>
         requires { self.old ≡ 0 }
         ensures { self.new ≡ 1 }
@@ -72,7 +73,7 @@ impl<K: Ledgers> Keeper<K> {
         self.token = Some(share);
     }
 
-    /// Changes nothing, and tells that the token was handed out.
+    /// Shows that the token was issued. Changes nothing.
     pub fn audit(&mut self, ended: &mut Ended<K>)
         ensures same { self.new ≡ self.old }
         ensures told { 0 < self.old }

@@ -1,3 +1,5 @@
+//! The event log of a board: the history with its limit, its counts and the routes of its messages. Ledgers and waves
+//! are not here.
 ghost use Rattle.std.specs.Prelude.{◌≡◌, ◌∷◌, ◌+◌, ◌≤◌, ◌<◌, [], length, max, IsTrue, IsFalse, IfErr, IfOk, IsOk, OnErr, OnOk};
 ghost use Rattle.std.specs.Prelude.{None};
 ghost use Rattle.tp_base.specs.declared.step.Step.TheVariants as steps;
@@ -16,8 +18,8 @@ use std::alloc::Global;
 use std::marker::Model;
 use tp_base::{Generation, History, MessageId, NodeId, Refusal, Step};
 
-/// A history within its limit, the first fault, and what is counted along with the events of the present generation.
-/// Contracts see what they see of a board.
+/// A history within its limit, the first fault, and the counts and routes of the present generation. Contracts see the
+/// same as of a board.
 #[derive(Drop)]
 pub struct EventLog {
     history: History,
@@ -41,7 +43,7 @@ impl Model for EventLog {
 }
 
 impl EventLog {
-    /// Nothing has happened.
+    /// Returns a log without events.
     pub fn new(alloc: Global, limit: u32) -> EventLog
         requires { limit ≤ 1048576 }
         ensures { result ≡ record { history = []; limit = limit; reserved = 0; fault = None } }
@@ -57,7 +59,7 @@ impl EventLog {
         }
     }
 
-    /// Makes sure of a place and of memory for so many more events.
+    /// Reserves a place and memory for `more` events.
     pub fn reserve(&mut self, more: u32) -> Result<(), Refusal>
         ensures ok { OnOk result (self.new ≡ with_reserved (max self.old.reserved more) self.old) }
         ensures places { OnOk result (length self.old.history + more ≤ self.old.limit) }
@@ -77,7 +79,7 @@ impl EventLog {
         Ok(())
     }
 
-    /// Adds an event that sends no message and reopens nothing.
+    /// Records an event that sends no message and reopens nothing.
     #[tactic(auto, using(crate::proofs::Naming::names_small))]
     #[inline(always)]
     pub fn add(&mut self, node: NodeId, step: Step) -> Result<(), Refusal>
@@ -103,7 +105,7 @@ impl EventLog {
         Ok(())
     }
 
-    /// Adds the sending of the present generation's next message.
+    /// Records the sending of the present generation's next message, and returns its number.
     pub fn add_send(&mut self, from: NodeId, to: NodeId) -> Result<MessageId, Refusal>
         requires from { from.0 < 8 }
         requires to { to.0 < 8 }
@@ -129,7 +131,7 @@ impl EventLog {
         Ok(message)
     }
 
-    /// Adds the reopening, in the place that was reserved for it: the next generation begins, of which nothing has happened.
+    /// Records the reopening, in the place that was reserved for it. The next generation begins, without events.
     pub fn reopen(&mut self)
         requires { 0 < self.old.reserved }
         ensures ok { self.new ≡ with_event (event 0 steps.Reopen) self.old }
@@ -142,21 +144,21 @@ impl EventLog {
         self.reserved -= 1;
     }
 
-    /// The number of the present generation.
+    /// Returns the number of the present generation.
     pub fn generation(&self) -> Generation
         ensures { result.0 ≡ generation (steps_of self.now.history) }
     {
         Generation(self.generation)
     }
 
-    /// How many events there may be.
+    /// Returns the most events that the history can have.
     pub fn limit(&self) -> u32
         ensures { result ≡ self.now.limit }
     {
         self.limit
     }
 
-    /// How many events there are.
+    /// Returns the number of events.
     pub fn len(&self) -> usize
         ensures number { result ≡ length self.now.history }
         ensures places { length self.now.history + self.now.reserved ≤ self.now.limit }
@@ -165,7 +167,7 @@ impl EventLog {
         self.history.len()
     }
 
-    /// What is counted of a node in the present generation.
+    /// Returns the counts of a node in the present generation.
     pub fn counts(&self, node: NodeId) -> NodeCounts
         requires { node.0 < 8 }
         ensures counts { result ≡ counts_at node.0 (present_events self.now.history) }
@@ -174,7 +176,7 @@ impl EventLog {
         self.counts.of(node)
     }
 
-    /// The messages that were sent in the present generation, those that were received, and the tasks that were done.
+    /// Returns the numbers of messages sent, messages received and tasks done in the present generation.
     pub fn totals(&self) -> (u32, u32, u32)
         ensures sent { result.0 ≡ count is_send (present (steps_of self.now.history)) }
         ensures received { result.1 ≡ count is_recv (present (steps_of self.now.history)) }
@@ -187,14 +189,14 @@ impl EventLog {
         )
     }
 
-    /// Whether a message was sent from one node to another in the present generation.
+    /// Returns whether this message was sent from the one node to the other in the present generation.
     pub fn gave(&self, from: NodeId, to: NodeId, message: MessageId) -> bool
         ensures { result ≡ any (is_send_between from.0 to.0 message.0) (present (steps_of self.now.history)) }
     {
         self.routes.has(from, to, message)
     }
 
-    /// Keeps a fault, where it is the first.
+    /// Sets the fault, unless one was set before.
     pub fn set_fault(&mut self, fault: Refusal)
         ensures { self.new ≡ with_fault fault self.old }
     {
@@ -203,21 +205,21 @@ impl EventLog {
         }
     }
 
-    /// The first fault.
+    /// Returns the first fault.
     pub fn fault(&self) -> Option<Refusal>
         ensures { result ≡ self.now.fault }
     {
         self.fault
     }
 
-    /// The events.
+    /// Returns the events.
     pub fn history(&self) -> &History
         ensures { result.now.events ≡ self.now.history }
     {
         &self.history
     }
 
-    /// The events alone.
+    /// Returns the events, and drops the rest.
     pub fn into_history(self) -> History
         ensures { result.events ≡ self.history }
     {

@@ -1,10 +1,11 @@
+//! The result of a judgement.
 use crate::{Ended, Ledgers};
 
-/// What a wave was judged to show.
+/// The result of judging a wave.
 #[derive(Drop)]
 pub enum Judgement<K: Ledgers> {
-    /// The pool may go on.
+    /// Termination was not detected.
     Not,
-    /// The pool has ended.
+    /// Termination was detected.
     Over(Ended<K>),
 }

@@ -1,4 +1,5 @@
-//! The board of a pool: its history, the books of its ledgers, and its wave.
+//! The board of a pool: its history, the books of its ledgers, and its wave, which one lock protects. The lock itself
+//! is in another crate.
 #![tactic(auto)]
 
 mod accounts;

@@ -1,15 +1,16 @@
+//! The names of a pool's ledgers, which are types.
 ghost use Rattle.std.specs.Prelude.{[]};
 ghost use Rattle.tp_board.specs.Names.{PoolNames, pending_name, under_parts};
 
 use std::marker::PhantomData;
 use std::sync::ledger::Ledger;
 
-/// Names the ledgers of one pool, and its number of nodes. Whoever opens a pool picks them.
+/// Names the ledgers of one pool, and its number of nodes. The caller that opens a pool chooses them.
 pub trait Ledgers {
     ghost names: { PoolNames };
 }
 
-/// Stands for the ledgers of a pool in the call that opens it.
+/// Names the ledgers of a pool in the call that opens it.
 pub type Brand = std::marker::Brand;
 
 impl Ledgers for Brand {
@@ -28,10 +29,10 @@ pub struct Received<K: Ledgers>(PhantomData<K>);
 /// The ledger of the tasks that were done: a part for each node.
 pub struct Done<K: Ledgers>(PhantomData<K>);
 
-/// The ledger of the messages under way: a part for each link, and one for the board.
+/// The ledger of the messages in flight: a part for each link, and one for the board.
 pub struct Under<K: Ledgers>(PhantomData<K>);
 
-/// The ledger of the judged end: one part.
+/// The ledger of the detected termination: one part.
 pub struct Judged<K: Ledgers>(PhantomData<K>);
 
 impl<K: Ledgers, const NODE: u32> Ledger for Pending<K, NODE> {

@@ -1,3 +1,4 @@
+//! New ledgers, with the first shares of the nodes and links.
 ghost use Rattle.std.specs.Prelude.{◌≡◌, ◌≤◌, ◌<◌, ◌+◌, ◌-◌, ◌*◌, ◌++◌, [], IfErr, IfOk, min, vec_capacity, vec_len};
 ghost use Rattle.std.specs.List.{All};
 ghost use Rattle.tp_base.specs.declared.refusal.Refusal.TheVariants as refusals;
@@ -15,7 +16,7 @@ use std::marker::Model;
 use std::sync::ledger::{Blank, Share};
 use tp_base::{NodeId, Refusal};
 
-/// New ledgers for a pool, which no type names yet. Contracts see the names that they will have.
+/// New ledgers of a pool, which no type names yet. Contracts see the names that they will have.
 #[derive(Drop)]
 pub struct Blanks {
     pending: PendingBlanks,
@@ -47,7 +48,7 @@ impl Model for Blanks {
 }
 
 impl Blanks {
-    /// New ledgers for a pool of so many nodes. They take no memory.
+    /// Returns new ledgers for a pool of `nodes` nodes. It allocates nothing.
     pub fn new(nodes: u32) -> Blanks
         requires { (1 ≤ nodes) × (nodes ≤ 8) }
         ensures { result.nodes ≡ nodes }
@@ -63,9 +64,9 @@ impl Blanks {
         }
     }
 
-    /// Opens the ledgers, where each node's opening action is pending.
+    /// Opens the ledgers, with each node's opening action pending.
     ///
-    /// Refused: `NoMemory` where memory has to grow and does not. The ledgers are lost then.
+    /// Refused with `NoMemory` if an allocation fails. The ledgers are lost then.
     pub fn open<K: Ledgers>(self, alloc: Global, nodes: u32) -> Result<Opened<K>, Refusal>
         requires names { self ≡ K.names }
         requires nodes { (self.nodes ≡ nodes) × (1 ≤ nodes) × (nodes ≤ 8) }
@@ -114,7 +115,7 @@ impl Blanks {
 pub struct Opened<K: Ledgers> {
     /// The books.
     pub accounts: Accounts<K>,
-    /// The shares of the nodes, in rising order.
+    /// The shares of the nodes, in rising order of nodes.
     pub shares: Vec<Shares<K>>,
     /// The shares of the links, by sender and then by receiver.
     pub links: Vec<LinkShare<K>>,
@@ -145,7 +146,7 @@ fn open_shares<K: Ledgers>(
     add_shares(shares, &mut parts, pending.node_7, nodes);
 }
 
-/// Adds the first shares of the next node, where there is one.
+/// Adds the first shares of the next node, if there is one.
 fn add_shares<K: Ledgers>(
     shares: &mut Vec<Shares<K>>,
     parts: &mut Parts<K>,

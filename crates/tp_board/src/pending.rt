@@ -1,3 +1,4 @@
+//! The ledgers of the pending numbers, one for each node.
 ghost use Rattle.std.specs.Prelude.{◌≡◌, ◌≤◌, ℕ, ◌+◌, ◌-◌, ◌*◌, ◌<◌, IsFalse, [], ◌∷◌, slice_index, slice_set, length};
 ghost use Rattle.tp_board.specs.Names.{pending_name};
 ghost use Rattle.tp_board.specs.Numbers.{first_pending, is_recv};
@@ -62,7 +63,7 @@ impl<K: Ledgers> Model for PendingOf<K> {
 }
 
 impl<K: Ledgers> PendingOf<K> {
-    /// The number of the node.
+    /// Returns the number of the node.
     pub fn node(&self) -> u32
         ensures { result ≡ self.now.node }
     {
@@ -78,7 +79,7 @@ impl<K: Ledgers> PendingOf<K> {
         }
     }
 
-    /// Changes nothing, and tells that the book has the amount.
+    /// Shows that the share and its book have the same amount. Changes nothing.
     pub fn audit(&mut self, books: &mut PendingBooks<K>)
         ensures same { (self.new ≡ self.old) × (books.new ≡ books.old) }
         ensures known { self.old.node < length books.old }
@@ -96,7 +97,7 @@ impl<K: Ledgers> PendingOf<K> {
         }
     }
 
-    /// The node's opening action opens again, where nothing was pending.
+    /// Opens the node's opening action again, if nothing was pending.
     pub fn open_again(&mut self, books: &mut PendingBooks<K>)
         ensures share { self.new ≡ record { node = self.old.node; amount = self.old.amount + 1 } }
         ensures known { self.old.node < length books.old }
@@ -116,7 +117,7 @@ impl<K: Ledgers> PendingOf<K> {
         }
     }
 
-    /// Moves the share and its book as a step of the node does.
+    /// Changes the share and its book by the effect of a step of the node.
     pub fn follow(&mut self, books: &mut PendingBooks<K>, step: &Step)
         requires active { IsFalse (is_recv step.now) → 0 < self.old.amount }
         ensures share { self.new ≡ record { node = self.old.node; amount = pending_after step.now self.old.amount } }
@@ -135,7 +136,7 @@ impl<K: Ledgers> PendingOf<K> {
     }
 }
 
-/// Moves a share that is the whole of its ledger, and its book, as a step moves a pending number.
+/// Changes a share that is its whole ledger, and its book, by the effect of a step on a pending number.
 fn follow_one<L: Ledger>(book: &mut Book<L>, share: &mut Share<L>, step: &Step)
     requires whole { (share.old.parts ≡ 1) × (L.parts ≡ 1) }
     requires active { IsFalse (is_recv step.now) → 0 < share.old.amount }
@@ -193,6 +194,7 @@ impl Model for PendingBlanks {
 }
 
 impl PendingBlanks {
+    /// Returns new ledgers of pending numbers, one for each of eight nodes.
     pub fn new() -> PendingBlanks {
         PendingBlanks {
             blank_0: Blank::new(1),
@@ -206,7 +208,7 @@ impl PendingBlanks {
         }
     }
 
-    /// Opens the pending ledgers. Each node's opening action is pending.
+    /// Opens the pending ledgers, with each node's opening action pending.
     pub fn open<K: Ledgers>(self) -> (PendingBooks<K>, FirstPending<K>)
         requires { self ≡ K.names.pending }
         ensures { result.0 ≡ 1 ∷ 1 ∷ 1 ∷ 1 ∷ 1 ∷ 1 ∷ 1 ∷ 1 ∷ [] }
@@ -269,7 +271,7 @@ impl PendingBlanks {
     }
 }
 
-/// Opens one node's pending ledger. Its opening action is pending.
+/// Opens one node's pending ledger, with its opening action pending.
 fn open_one<K: Ledgers, const NODE: u32>(
     blank: Blank,
 ) -> (Book<Pending<K, NODE>>, Share<Pending<K, NODE>>)

@@ -1,9 +1,10 @@
+//! The ledgers of a pool that is reopened: all shares are gathered, cleared and split again.
 ghost use Rattle.std.specs.Prelude.{◌≡◌, ◌≤◌, ◌<◌, ◌+◌, ℕ, IfOk, MatchOption, [], map, length, slice_index, vec_capacity, vec_len};
 ghost use Rattle.std.specs.List.{All};
 ghost use Rattle.tp_board.specs.Numbers.{empty_parts};
 ghost use Rattle.tp_board.specs.Fresh.{HasRoom};
 ghost use Rattle.tp_board.specs.Reopening.{AllAre, AreFirst, begun_anew, opened_again, with_numbers};
-ghost use Rattle.tp_wave.specs.Sums.{total};
+ghost use Rattle.tp_base.specs.Totals.{total};
 
 use crate::names::Ledgers;
 use crate::pending::{PendingBooks, PendingOf};
@@ -11,7 +12,7 @@ use crate::shares::{Parts, Shares};
 use std::alloc::{AllocError, Global};
 use std::sync::ledger::{Book, Ledger, Share};
 
-/// Room for the shares of a pool's nodes while it is reopened.
+/// Memory for the shares of a pool's nodes while it is reopened.
 #[derive(Drop)]
 pub struct Fresh<K: Ledgers> {
     pub(crate) pendings: Vec<PendingOf<K>>,
@@ -19,7 +20,7 @@ pub struct Fresh<K: Ledgers> {
 }
 
 impl<K: Ledgers> Fresh<K> {
-    /// Room for so many nodes.
+    /// Reserves memory for `nodes` nodes. Refused if an allocation fails.
     pub fn new(alloc: Global, nodes: u32) -> Result<Fresh<K>, AllocError>
         ensures { IfOk result (HasRoom nodes) }
     {
@@ -30,7 +31,7 @@ impl<K: Ledgers> Fresh<K> {
     }
 }
 
-/// Opens each node's opening action again, and gathers its other shares.
+/// Opens each node's opening action again, and joins its other shares.
 pub(crate) fn open_each<K: Ledgers>(
     books: &mut PendingBooks<K>,
     shares: Vec<Shares<K>>,
@@ -65,7 +66,7 @@ pub(crate) fn open_each<K: Ledgers>(
     all
 }
 
-/// The shares of some nodes with those of one more.
+/// Joins the shares of some nodes with those of one more.
 fn joined<K: Ledgers>(all: Option<Parts<K>>, part: Parts<K>) -> Parts<K>
     ensures { MatchOption all (result ≡ part) (λ a. result.parts ≡ a.parts + part.parts) }
 {
@@ -95,7 +96,7 @@ pub(crate) fn share_out<K: Ledgers>(
     }
 }
 
-/// Takes the whole total out of a book and its shares, which are all in one hand.
+/// Takes the whole total out of a book and its joined shares.
 pub(crate) fn clear<L: Ledger>(book: &mut Book<L>, share: &mut Share<L>, all: u32)
     requires whole { share.old.parts ≡ L.parts }
     requires total { all ≡ book.old.total }

@@ -1,3 +1,4 @@
+//! The reopening of a board: the one event that changes all nodes.
 ghost use Rattle.std.specs.Prelude.{◌≡◌, ◌<◌, IsTrue, map, vec_len};
 ghost use Rattle.std.specs.List.{All};
 ghost use Rattle.tp_base.specs.declared.step.Step.TheVariants as steps;
@@ -14,11 +15,11 @@ use crate::board::Board;
 use crate::{Ended, Fresh, Ledgers, Shares};
 use tp_wave::Wave;
 
-// The one event that changes all nodes.
+// The one event that changes all nodes, so it takes all their shares at once.
 impl<K: Ledgers> Board<K> {
-    /// Reopens the pool, with the shares of all its nodes in one hand, and takes back the token of the end: the next
-    /// generation begins, of which nothing has happened. Each node gets its first shares, in the order of those that were
-    /// handed in, which had nothing pending. The history and its limit go on, and a fault that was set stays.
+    /// Begins the next generation, without events. The caller gives the shares of all nodes, none of which has anything
+    /// pending, and the termination token. Each node's first shares are returned, in the order of the given ones. The
+    /// history and its limit continue, and a fault that was set stays.
     pub fn reopen(
         &mut self,
         shares: Vec<Shares<K>>,
@@ -47,7 +48,7 @@ impl<K: Ledgers> Board<K> {
         anew
     }
 
-    /// Changes nothing, and tells that the nodes have nothing pending where nothing is left.
+    /// Shows that no node has anything pending if nothing is left. Changes nothing.
     fn audit_each(&mut self, shares: &mut [Shares<K>])
         requires { IsQuietHistory K.names.nodes (present_events self.old.history) }
         ensures same { (self.new ≡ self.old) × (shares.new ≡ shares.old) }

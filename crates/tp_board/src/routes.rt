@@ -1,3 +1,4 @@
+//! The routes of messages: who sent which message to whom, for the checks of received messages.
 ghost use Rattle.std.specs.Prelude.{◌≡◌, ◌∷◌, ◌+◌, ◌%◌, ◌^◌, ◌≤◌, ◌<◌, [], length, max, reverse, slice_get, OnErr, OnOk};
 ghost use Rattle.tp_board.specs.Routes.{is_route};
 
@@ -5,15 +6,15 @@ use std::alloc::{AllocError, Global};
 use std::marker::Model;
 use tp_base::{MessageId, NodeId};
 
-/// How many places are made at a time, as a history's are.
+/// How many places are allocated at a time, the same as in a history.
 const PIECE: usize = 1_024;
 
-/// The sender and the receiver of each message, by its number. Contracts see them with the newest first, and for how
-/// many more there is room. Routes and room are whole pieces of 1,024, whatever memory the list has beside.
+/// The sender and the receiver of each message, by message number. Contracts see them newest first, and the room: how
+/// many more fit. The number of routes and the room add up to whole pieces of 1,024, even if the list has more memory.
 #[derive(Drop)]
 pub struct Routes {
     ends: Vec<(NodeId, NodeId)>,
-    /// How many places there are, taken and free. It changes only where memory grows.
+    /// The number of places, used and free. It changes only when memory grows.
     places: usize,
 }
 
@@ -30,7 +31,7 @@ impl Model for Routes {
 }
 
 impl Routes {
-    /// Of no message. It takes no memory.
+    /// Returns the routes of no message. It allocates nothing.
     pub fn new(alloc: Global) -> Routes
         ensures { result.routes ≡ [] }
     {
@@ -40,8 +41,8 @@ impl Routes {
         }
     }
 
-    /// Makes room for so many more, and for fewer than 1,024 beside them. No room is lost. Routes and room are whole pieces
-    /// of 1,024, so there is room for one more wherever the routes are not.
+    /// Reserves room for `additional` more routes, rounded up to whole pieces of 1,024. The room never shrinks. So
+    /// there is room for one more unless the number of routes is a multiple of 1,024.
     #[inline(always)]
     pub fn reserve(&mut self, additional: usize) -> Result<(), AllocError>
         requires countable { length self.old.routes + additional < 2 ^ 63 }
@@ -59,7 +60,7 @@ impl Routes {
         self.grow(additional)
     }
 
-    /// Makes the pieces that are missing for so many more.
+    /// Allocates the pieces that are missing for `additional` more routes.
     #[cold]
     #[inline(never)]
     fn grow(&mut self, additional: usize) -> Result<(), AllocError>
@@ -78,7 +79,7 @@ impl Routes {
         Ok(())
     }
 
-    /// Keeps the route of the next message, in the room that was made for it.
+    /// Adds the route of the next message. The caller has reserved room for it.
     pub fn push_reserved(&mut self, from: NodeId, to: NodeId)
         requires { 0 < self.old.room }
         ensures routes { self.new.routes ≡ (from, to) ∷ self.old.routes }
@@ -87,7 +88,7 @@ impl Routes {
         self.ends.push_reserved((from, to));
     }
 
-    /// Forgets all messages. No room is lost.
+    /// Removes all routes. The room that they had stays.
     pub fn clear(&mut self)
         ensures routes { self.new.routes ≡ [] }
         ensures room { self.old.room ≤ self.new.room }
@@ -95,14 +96,14 @@ impl Routes {
         self.ends.clear();
     }
 
-    /// How many messages there are.
+    /// Returns the number of messages.
     pub fn len(&self) -> usize
         ensures { result ≡ length self.now.routes }
     {
         self.ends.len()
     }
 
-    /// Whether a message goes from one node to another.
+    /// Returns whether this message goes from the one node to the other.
     pub fn has(&self, from: NodeId, to: NodeId, message: MessageId) -> bool
         ensures { result ≡ is_route from.0 to.0 (slice_get (reverse self.now.routes) message.0) }
     {

@@ -1,3 +1,4 @@
+//! The shares of nodes and links in a pool's ledgers.
 ghost use Rattle.std.specs.Prelude.{◌≡◌, ◌≢◌, ◌<◌, ◌+◌, ◌-◌};
 ghost use Rattle.tp_board.specs.Numbers.{empty_link, empty_parts, first_numbers};
 
@@ -7,7 +8,7 @@ use std::marker::Model;
 use std::sync::ledger::Share;
 use tp_base::NodeId;
 
-/// One node's shares of the pool's ledgers. Contracts see the node's number and its numbers.
+/// One node's shares of the pool's ledgers. Contracts see the node and its numbers.
 #[derive(Drop)]
 pub struct Shares<K: Ledgers> {
     pub(crate) pending: PendingOf<K>,
@@ -34,7 +35,7 @@ impl<K: Ledgers> Model for Shares<K> {
 }
 
 impl<K: Ledgers> Shares<K> {
-    /// A node's shares at first.
+    /// Returns a node's first shares.
     pub(crate) fn new(pending: PendingOf<K>, parts: Parts<K>) -> Shares<K>
         requires pending { (pending.node < K.names.nodes) × (pending.amount ≡ 1) }
         requires parts { parts ≡ empty_parts 1 }
@@ -53,7 +54,7 @@ impl<K: Ledgers> Shares<K> {
         }
     }
 
-    /// The shares alone, that of the pending number apart.
+    /// Returns the shares except the pending one, which is dropped.
     pub fn into_parts(self) -> Parts<K>
         ensures { result ≡ record { parts = 1; sent = self.sent; received = self.received; done = self.done } }
     {
@@ -70,7 +71,7 @@ impl<K: Ledgers> Shares<K> {
         }
     }
 
-    /// The node.
+    /// Returns the node.
     pub fn node(&self) -> NodeId
         ensures number { result.0 ≡ self.now.node }
         ensures below { self.now.node < K.names.nodes }
@@ -79,7 +80,7 @@ impl<K: Ledgers> Shares<K> {
     }
 }
 
-/// Shares of the ledgers of which each node has a part. Contracts see of how many nodes they are, and the numbers.
+/// Shares of the ledgers in which each node has a part. Contracts see how many nodes' parts they are, and the numbers.
 #[derive(Drop)]
 pub struct Parts<K: Ledgers> {
     pub(crate) sent: Share<Sent<K>>,
@@ -99,7 +100,7 @@ impl<K: Ledgers> Model for Parts<K> {
 }
 
 impl<K: Ledgers> Parts<K> {
-    /// Takes out one node's first shares.
+    /// Splits off one node's first shares.
     pub(crate) fn split_off(&mut self) -> Parts<K>
         requires { (0 < self.old.parts) × (self.old ≡ empty_parts self.old.parts) }
         ensures one { result ≡ empty_parts 1 }
@@ -112,7 +113,7 @@ impl<K: Ledgers> Parts<K> {
         }
     }
 
-    /// Adds the shares of other nodes.
+    /// Joins the shares of other nodes.
     pub fn merge(&mut self, other: Parts<K>)
         ensures { self.new
             ≡ record {
@@ -133,7 +134,7 @@ impl<K: Ledgers> Parts<K> {
     }
 }
 
-/// A link's share of the messages under way. Contracts see its two nodes and the number.
+/// A link's share of the messages in flight. Contracts see its two nodes and the number.
 #[derive(Drop)]
 pub struct LinkShare<K: Ledgers> {
     from: NodeId,
@@ -153,7 +154,7 @@ impl<K: Ledgers> Model for LinkShare<K> {
 }
 
 impl<K: Ledgers> LinkShare<K> {
-    /// The share of a link with no message.
+    /// Returns the share of an empty link.
     pub(crate) fn new(from: NodeId, to: NodeId, under: Share<Under<K>>) -> LinkShare<K>
         requires nodes { (from.0 < K.names.nodes) × (to.0 < K.names.nodes) × (from.0 ≢ to.0) }
         requires share { (under.parts ≡ 1) × (under.amount ≡ 0) }
@@ -162,7 +163,7 @@ impl<K: Ledgers> LinkShare<K> {
         LinkShare { from, to, under }
     }
 
-    /// The node that sends on the link.
+    /// Returns the node that sends on the link.
     pub fn from(&self) -> NodeId
         ensures number { result.0 ≡ self.now.from }
         ensures below { self.now.from < K.names.nodes }
@@ -170,7 +171,7 @@ impl<K: Ledgers> LinkShare<K> {
         self.from
     }
 
-    /// The node that receives from the link, another one.
+    /// Returns the node that receives from the link, which is another one.
     pub fn to(&self) -> NodeId
         ensures number { result.0 ≡ self.now.to }
         ensures below { self.now.to < K.names.nodes }
@@ -179,7 +180,7 @@ impl<K: Ledgers> LinkShare<K> {
         self.to
     }
 
-    /// Its share of the messages under way, alone.
+    /// Returns the share of the messages in flight, and drops the rest.
     pub fn into_share(self) -> Share<Under<K>>
         ensures { (result.parts ≡ 1) × (result.amount ≡ self.under) }
     {

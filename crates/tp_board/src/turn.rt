@@ -1,3 +1,4 @@
+//! A control turn of a node: it makes the first control step that the waves allow the node.
 ghost use Rattle.std.specs.Prelude.{◌≡◌, ◌≤◌, ◌+◌, ◌*◌, [], ◌∷◌, false, if◌then◌else◌};
 ghost use Rattle.tp_base.specs.declared.step.Step.TheVariants as steps;
 ghost use Rattle.tp_board.specs.Numbers.{node_at};
@@ -9,24 +10,27 @@ ghost use Rattle.tp_wave.specs.Machine.{pending_at};
 use crate::{Board, Ended, Judgement, Ledgers, Shares};
 use tp_base::{NodeId, Refusal};
 
-/// What a control turn did.
+/// The result of a control turn.
 #[derive(Drop)]
 pub enum Turn<K: Ledgers> {
-    /// Nothing: the waves allowed no control step of the node, or it makes none after a fault.
+    /// No control step: the waves allow the node none, or the board has a fault.
     Idle,
-    /// It made a control step.
+    /// The node made a control step.
     Moved,
-    /// It judged that the pool has ended.
+    /// The node judged the newest wave and detected termination.
     Over(Ended<K>),
 }
 
-/// Makes the first step of the control waves that is lawful for the node of the shares, whose pending number this is, in the
-/// order judge, start, down, up of the lower child, up of the higher child, give. The root alone judges and starts the waves.
+/// Makes the first control step that is enabled for the node of the shares, in the order judge, start, down, up of the
+/// lower child, up of the higher child, give. `pending` is that node's pending number. Only the root judges and starts
+/// waves.
 ///
-/// The waves are those of the four counter method of F. Mattern, "Algorithms for Distributed Termination Detection" (1987).
+/// The waves are those of the four counter method of F. Mattern, "Algorithms for Distributed Termination Detection"
+/// (1987).
 ///
-/// Refused, where a step is lawful: `HistoryFull` where the history has reached its limit; `NoMemory` where no event is sure
-/// of memory and it has to grow and does not, as it may have to at each 1,024th event. The board is then as it was.
+/// Refused, if a step is enabled: `HistoryFull` if the history has reached its limit; `NoMemory` if no memory is
+/// reserved for the event, it has to grow, as it may at each 1,024th event, and the allocation fails. The board is then
+/// unchanged.
 pub fn make_first<K: Ledgers>(
     board: &mut Board<K>,
     shares: &Shares<K>,
@@ -42,7 +46,7 @@ pub fn make_first<K: Ledgers>(
     }
 }
 
-// What the root does: it judges and starts the waves, and does what each node does.
+// The turn of the root: it judges and starts waves, and then does what each node does.
 fn lead<K: Ledgers>(
     board: &mut Board<K>,
     shares: &Shares<K>,
@@ -63,7 +67,7 @@ fn lead<K: Ledgers>(
     take_part(board, shares)
 }
 
-// What each node does in a wave: it takes its token, takes the sums of its children, and gives.
+// The part of each node in a wave: it takes its token, takes the sums of its children, and gives.
 fn take_part<K: Ledgers>(board: &mut Board<K>, shares: &Shares<K>) -> Result<Turn<K>, Refusal>
     ensures { MakesFirst K.names.nodes shares.now.node (wave_steps shares.now.node) board.old board.new result }
 {
@@ -89,7 +93,7 @@ fn judge<K: Ledgers>(board: &mut Board<K>) -> Result<Turn<K>, Refusal>
     judged(board.judge())
 }
 
-// The root, where it is idle, starts the next wave.
+// The root, if it is idle, starts the next wave.
 fn start<K: Ledgers>(
     board: &mut Board<K>,
     shares: &Shares<K>,
@@ -112,7 +116,7 @@ fn down<K: Ledgers>(board: &mut Board<K>, shares: &Shares<K>) -> Result<Turn<K>,
     moved(board.down(shares))
 }
 
-// The node takes the sums of its first or second child, where there is one.
+// The node takes the sums of its first or second child, if there is one.
 fn up<K: Ledgers>(board: &mut Board<K>, shares: &Shares<K>, which: u32) -> Result<Turn<K>, Refusal>
     requires { (1 ≤ which) × (which ≤ 2) }
     ensures { MakesFirst K.names.nodes shares.now.node (steps.Up (node_at (2 * shares.now.node + which)) ∷ []) board.old board.new result }
@@ -125,14 +129,14 @@ fn up<K: Ledgers>(board: &mut Board<K>, shares: &Shares<K>, which: u32) -> Resul
     moved(board.up(NodeId(child), shares))
 }
 
-// The node, where it is idle, gives what it has sent and received.
+// The node, if it is idle, gives the numbers of messages that it has sent and received.
 fn give<K: Ledgers>(board: &mut Board<K>, shares: &Shares<K>) -> Result<Turn<K>, Refusal>
     ensures { MakesFirst K.names.nodes shares.now.node (steps.Give (node_at shares.now.node) ∷ []) board.old board.new result }
 {
     moved(board.give(shares))
 }
 
-// What trying to judge comes to.
+// Converts the result of trying to judge into that of a turn.
 fn judged<K: Ledgers>(tried: Result<Judgement<K>, Refusal>) -> Result<Turn<K>, Refusal>
     ensures { ComesTo is_over tried result }
 {
@@ -143,7 +147,7 @@ fn judged<K: Ledgers>(tried: Result<Judgement<K>, Refusal>) -> Result<Turn<K>, R
     }
 }
 
-// What trying a step that judges nothing comes to.
+// Converts the result of trying any other step into that of a turn.
 fn moved<T: Drop, K: Ledgers>(tried: Result<T, Refusal>) -> Result<Turn<K>, Refusal>
     ensures { ComesTo (λ _. false) tried result }
 {
@@ -153,7 +157,7 @@ fn moved<T: Drop, K: Ledgers>(tried: Result<T, Refusal>) -> Result<Turn<K>, Refu
     }
 }
 
-// A step that the waves do not allow now is none. Only one that they allow is refused for want of room.
+// A step that the waves do not allow now is no step. Only a step that they allow can be refused for lack of room.
 fn refused<K: Ledgers>(refusal: Refusal) -> Result<Turn<K>, Refusal>
     ensures { result ≡ (if is_for_room refusal then Err refusal else Ok Turn.Idle) }
 {

@@ -34,7 +34,7 @@ same_found name other rows others e = (
   ap (λ (o : Option (Text × List Row)). (unwrap_or o (name, rows)).1) e,
 )
 
--- A subcommand makes no request where its name is not known, or its words are not there.
+-- A subcommand makes no request if its name is unknown, or its arguments are missing.
 pub unnamed : (name : Text) (rows : List Row) → ((kind : TextKind) → name ≢ reading_word kind)
     → (name ≡ codes "run" → first_of (codes "SPEC") rows ≡ None) → (name ≡ codes "pools" → all_of (codes "SPEC") rows ≡ None)
     → IsNeither (Some (name, rows))
@@ -75,7 +75,7 @@ unknown_name name rows not_sim not_audit not_run not_pools = unnamed name rows u
 pub none_neither : IsNeither None
 none_neither = (λ kind reads. let none = reads.1 in cc, λ spec run. let none = run.1 in cc, λ specs pools. let none = pools.1 in cc)
 
--- what was found is what the words ask for
+-- what was found is what the arguments ask for
 pub neither_asked : (app : App) (words : List Text) (m : ArgMatches) → app ≡ tp_app → HasMatchesOf app words m
     → IsNeither (subcommand_rows_of m) → AsksForNothing words
 neither_asked app words m is has neither =
@@ -87,7 +87,7 @@ pub asked_as : {X : Type 0} (o : Option X) (P P' : Type 0) (Q Q' : X → Type 0)
 asked_as None P P' Q Q' nothing something p = nothing p
 asked_as (Some x) P P' Q Q' nothing something p = something x p
 
--- what `?` passes up of nothing
+-- the result of `?` for nothing
 pub nothing_passed : {X : Type 0} (r : Option X) (P : Type 0) (Q : X → Type 0) → r ≡ None → P → MatchOption r P Q
 nothing_passed None P Q is p = p
 nothing_passed (Some x) P Q is p = cc

@@ -1,4 +1,4 @@
--- An outcome has as many tasks as the graph.
+-- The number of tasks of an outcome is that of the graph.
 use Rattle.std.proofs.Common.{◌≡◌, ◌∙◌, ℕ}
 use Rattle.tp_graph.specs.Graphs.{TaskGraph}
 use Rattle.tp_work.proofs.CountedTotals.{length-once}

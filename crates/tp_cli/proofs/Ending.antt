@@ -33,9 +33,9 @@ use Rattle.tp_text.specs.declared.TextFault.TheVariants as texts
 use Rattle.tp_text.specs.declared.Verdict.{Verdict}
 use Rattle.tp_text.specs.declared.Verdict.TheVariants as verdicts
 
--- ---- what is met on the way
+-- ---- faults on the way
 
--- what holds of an error, where it is the one
+-- what holds for an error, if it is the one
 pub IfErr-each : {X E : Type 0} (r : Result X E) (P : E → Type 0) → ((e : E) → r ≡ Err e → P e) → IfErr r P
 IfErr-each (Ok x) P all = tt
 IfErr-each (Err e) P all = all e refl
@@ -45,12 +45,12 @@ pub both : {X E : Type 0} (r : Result X E) (P Q R : E → Type 0) → ((e : E) �
 both (Ok x) P Q R all p q = tt
 both (Err e) P Q R all p q = all e p q
 
--- a word for which there was no graph names none
+-- a specification without a graph names none
 pub names_none : (word : Text) (found : Result AnyGraph Refusal) → ((g : AnyGraph) → found ≢ Ok g)
     → ((g : AnyGraph) → word ≡ word_of g → found ≡ Ok g) → NamesNoGraph word
 names_none word found none named g same = none g (named g same)
 
--- why a text was not answered, by its result
+-- why a text has no reply, by its result
 pub unanswered : (kind : TextKind) (old new : Option (List ℕ)) (r : Result Verdict TextFault)
     → (r ≡ Err texts.TooLong → IsUnansweredText kind old new texts.TooLong)
     → (r ≡ Err texts.Write → IsUnansweredText kind old new texts.Write)
@@ -62,7 +62,7 @@ unanswered kind old new (Err texts.Write) long unwritten = unwritten refl
 unanswered kind old new (Err texts.Memory) long unwritten = tt
 
 module _ (asking : List Text) (read_old read_new : Option (List ℕ)) where
-  -- ---- what was answered
+  -- ---- replies
 
   pub answered_text : (written_old written_new : Option (List ℕ)) (kind : TextKind) (status : Status) (verdict : Verdict) (text : List ℕ)
       → AsksForText kind asking → status ≡ status_of_verdict verdict → IsAnswerTo kind read_old read_new verdict text
@@ -85,7 +85,7 @@ module _ (asking : List Text) (read_old read_new : Option (List ℕ)) where
       subst (HasAnswered asking read_old read_new written_old written_new) (sym is)
       (inl (text, inr (inl (run_text spec plan text asked made)), wrote))
 
-  -- several pools, whose words were lent
+  -- several pools, whose specifications were borrowed
   module _ {S : Type 0} (word : S → Text) (specs lent : List S) (nodes workers : ℕ) (is : lent ≡ specs)
       (pools : AsksForPools asking (map word specs)) (at : IsAt (codes "pools") nodes workers (subcommand_of tp_app asking)) where
     pub pools_text : (each_ended : Bool) (text : List ℕ) → IsPoolsText (map word lent) nodes workers each_ended text
@@ -202,7 +202,7 @@ faulty (faults.Run met) = inr refl
 faulty faults.Memory = inr refl
 faulty faults.Write = inl refl
 
--- a fault that was told, by the status and the number that were answered
+-- a fault whose line was printed, by the status and the returned number
 module _ {D : Type 0} (tells : D → List ℕ → D → Type 0) (fault : Fault) (old met new : D) (s t : Status) (code : ℕ)
     (is : code ≡ code_of s) (same : s ≡ t) (status : t ≡ status_of fault) (err : new ≡ met) (told : tells old (line_of fault) met) where
   by_status : code ≡ code_of (status_of fault)
@@ -228,7 +228,7 @@ module _ {D : Type 0} (tells : D → List ℕ → D → Type 0) (fault : Fault) 
   fault_failed asking read_old read_new Same three (inr nothing) =
       (fault, by_status, subst (λ e. tells old (line_of fault) e) (sym err) told, nothing.0, nothing.1)
 
--- what was answered, by its status
+-- what was written, by its status
 module _ (asking : List Text) (read_old read_new written_old written_new : Option (List ℕ)) where
   pub if_done : (s : Status) → code_of s ≡ 0 → HasAnswered asking read_old read_new written_old written_new s
       → Succeeded asking read_old read_new written_old written_new
@@ -257,7 +257,7 @@ module _ (asking : List Text) (read_old read_new written_old written_new : Optio
   if_failed statuses.Refused is did = cc
   if_failed statuses.Failed is did = did
 
--- what was written and told of what was answered, by the number that was answered
+-- what was written and printed, by the returned number
 module _ {D : Type 0} (tells : D → List ℕ → D → Type 0) (asking : List Text) (read_old read_new written_old written_new : Option (List ℕ))
     (Same : Type 0) (old new : D) (s : Status) (code : ℕ) (is : code ≡ code_of s) where
   abbrev WasAnswered : Result Status Fault → Type 0

@@ -1,4 +1,4 @@
--- A text that is kept until it is answered.
+-- A text that is kept until its reply is written.
 use Rattle.std.proofs.Common.{◌≡◌, ◌≢◌, ◌++◌, ◌+◌, ◌∙◌, ℕ, List, [], Option, Some, length, ap, append-nil, refl, subst, sym}
 use Rattle.std.specs.Io.KnownBytes.{Appends, Consumes}
 use Rattle.tp_cli.specs.Texts.{IsAnswerTo, IsTextTo, IsUnansweredText}
@@ -8,7 +8,7 @@ use Rattle.tp_text.specs.declared.TextFault.TheVariants as texts
 use Rattle.tp_text.specs.declared.Verdict.{Verdict}
 use Rattle.tp_text.specs.declared.input.TheConstants.{MAX_TEXT}
 
--- what was answered to the bytes of a text is answered to the text
+-- the reply to the bytes of a text is the reply to the text
 pub kept_answer : (kind : TextKind) (text rest : List ℕ) (verdict : Verdict) (answer made : List ℕ)
     → IsAnswerTo kind (Some text) (Some rest) verdict made → Appends (Some []) (Some answer) made → IsTextTo kind text verdict answer
 kept_answer kind text rest verdict answer made is wrote =

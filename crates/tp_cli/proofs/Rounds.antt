@@ -52,13 +52,13 @@ each_of n workers g count s is = rounds_of n workers g (reverse (generations s.h
 pub in_each : (n workers : ℕ) (g : TaskGraph) (count : ℕ) (s : Series) → IsSeries n workers g count s → InEach (IsRun n) s.history.events
 in_each n workers g count s is = generations_law n s.history.events is.runs
 
--- a round has as many tasks as the graph
+-- the number of tasks of a round is that of the graph
 pub tasks-round : (g : AnyGraph) (r : Round) → IsRoundOf g r → r.tasks ≡ (any_graph g).tasks
 tasks-round g r is = is.tasks ∙ r.results.ok.0 ∙ length-once (any_graph g).tasks r.results.items is.each_once
 
 -- ---- their text
 
--- a round behind other text: its head, and then what is told of it
+-- a round after other text: its head, and then its table and totals
 pub round_written : (g : AnyGraph) (k : ℕ) (r : Round) (old begun new head told : List ℕ) → begun ≡ old ++ head → new ≡ begun ++ told
     → head ≡ line (codes "generation " ++ decimal k) → told ≡ run_text g r.messages → new ≡ old ++ round_text g k r
 round_written g k r old begun new head told begins goes_on is_head is_told =
@@ -85,7 +85,7 @@ unfolding rounds_text
 rounds_done g k rounds text whole past before =
     sym (append-nil text) ∙ ap (λ rs. text ++ rounds_text g (k + 1) rs) (sym (drop_of_length-le rounds past)) ∙ before
 
--- ---- what is printed of a series, whose rounds were lent
+-- ---- what is printed of a series, whose rounds were borrowed
 
 pub printed_rounds : (form : Form) (g : AnyGraph) (n : ℕ) (s : Series) (lent : List Round) (text : List ℕ) → form ≡ Table
     → lent ≡ s.rounds.items

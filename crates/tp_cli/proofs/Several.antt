@@ -1,4 +1,4 @@
--- Pools that are registered one after the other, each under its word, and what their runs answer.
+-- Pools that are registered one after the other, each under its specification, and the results of their runs.
 use Rattle.std.proofs.Common.{◌≡◌, ◌≢◌, ◌==◌, ◌∙◌, ◌+◌, ◌<◌, ◌≤◌, ◌⊎◌, ◌++◌, ◌||◌, ℕ, zero, suc, Bool, true, false, true≢false, cond, List}
 use Rattle.std.proofs.Common.{[], ◌∷◌, Some, refl, sym, ap, ap₂, subst, arith}
 use Rattle.std.proofs.Common.{Result, Ok, Err, IfErr, IfOk, MatchOption, inl, inr, length, map, drop, take, append-nil, append_assoc}
@@ -155,7 +155,7 @@ first_refused k words pools word told r h lt at few unregistered is =
       ),
     )
 
--- some pools may be named, where the word behind those that are registered names one
+-- some pools may be named, if the specification after the registered ones names one
 may_name : (k : ℕ) (words : List Word) (pools : Pools) (word : Word) → AreRegisteredTo k words pools → k < length words
     → word ≡ get_or words k word → length words ≤ MAX_POOLS → ¬ NamesNoGraph word → MayNamePools words
 may_name zero words pools word h lt at few named = (
@@ -200,7 +200,7 @@ words_in_vain words n workers faults.NoPool why = absurd why
 words_in_vain words n workers (faults.Run met) why = absurd why
 words_in_vain words n workers faults.Write why = absurd why
 
--- ---- answers
+-- ---- results
 
 all_wait : (graphs : List AnyGraph) → count_by is_waiting (pools_of graphs) ≡ length graphs
 all_wait [] = refl
@@ -209,7 +209,7 @@ all_wait (g ∷ graphs) = omega (arith, sum_by-cons (λ p. cond (is_waiting p) 1
 rank_waiting : (graphs : List AnyGraph) (i : ℕ) → i ≤ length graphs → rank (pools_of graphs) i ≡ i
 rank_waiting graphs i le = ap (count_by is_waiting) (take-map entered i graphs) ∙ all_wait (take i graphs) ∙ length-take-le i graphs le
 
--- each pool has the answer of its own place
+-- each pool has the result of its own position
 pub answers_in_order : (n workers : ℕ) (graphs : List AnyGraph) (answers : List (Result Outcome ended.Fault)) (old new : Pools)
     → old ≡ pools_of graphs
     → AreRun n workers answers old new → AreRunAnswers n workers graphs answers

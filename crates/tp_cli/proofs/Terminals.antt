@@ -1,4 +1,4 @@
--- How a run ends at a terminal.
+-- How a run ends on a terminal.
 use Rattle.std.proofs.Common.{◌≡◌, ◌∙◌, ◌⊎◌, ℕ, List, Option, Result, Ok, Err, IfErr, IfOk, ap, arith, inl, inr, refl, subst, sym}
 use Rattle.clap.specs.Words.{Text}
 use Rattle.tp_cli.proofs.Ending.{faulty, if_done, if_failed, if_fault, if_refused, written_status}
@@ -25,7 +25,7 @@ module _ {D : Type 0} (tells : D → List ℕ → D → Type 0) (asking : List T
   abbrev WasTold : Result Status Fault → Type 0
   WasTold r = IfErr r (λ f. (s ≡ status_of f) × ((met : D) × tells old (line_of f) met × IsExplained tells f met new))
 
-  -- with another status than that of a refused text nothing is told
+  -- with another status than that of a refused text no reason is printed
   quiet_done : (t : Status) → code_of t ≡ 0 → IsAnswerExplained tells t old new → new ≡ old
   quiet_done statuses.Done zero told = told
   quiet_done statuses.Fault zero told = told
@@ -44,7 +44,7 @@ module _ {D : Type 0} (tells : D → List ℕ → D → Type 0) (asking : List T
   may_explain statuses.Refused two told = told
   may_explain statuses.Failed two told = cc
 
-  -- behind the line of a fault with status 3 nothing is told
+  -- after the line of a fault with status 3 no reason is printed
   unexplained : (f : Fault) (met : D) → code_of (status_of f) ≡ 3 → IsExplained tells f met new → new ≡ met
   unexplained (faults.Words met) told three same = same
   unexplained (faults.Text met) told three same = same

@@ -1,4 +1,4 @@
--- A request and the words that make it.
+-- Requests, and the arguments that make them.
 use Rattle.std.specs.Prelude.{List, Option, codes, map}
 use Rattle.clap.specs.Words.{Row, Text, subcommand_of}
 use Rattle.tp_cli.specs.Command.{IsAt, IsPoolsNaming, IsReading, IsRunIn, IsRunNaming, IsRunOver, tp_app}
@@ -8,7 +8,7 @@ use Rattle.tp_cli.specs.declared.request.Request.TheVariants.{Answer, Run, Pools
 use Rattle.tp_cli.specs.declared.run.Plan.{Plan}
 use Rattle.tp_work.specs.Outcomes.{IsWithinLimits}
 
--- `run` was found, with this word and this plan
+-- `run` was found, with this specification and this plan
 abbrev pub IsRunOf : Option (Text × List Row) → Text → Plan → Type 0
 IsRunOf found spec plan =
     IsRunNaming spec found × IsPlan plan × IsAt (codes "run") plan.config.nodes plan.config.workers found

@@ -1,5 +1,5 @@
--- The command line as plain data, and what its words ask for. Of a parse clap says what it finds for each argument, and by
--- which faults it fails, as functions of the command and the words.
+-- The command line as plain data, and what its arguments ask for. What clap finds for each argument, and why a parse fails, are
+-- functions of the command and the arguments.
 use Rattle.std.specs.Prelude.{ℕ, ◌≡◌, List, Option, Some, true, codes}
 use Rattle.tp_cli.specs.declared.command.TheConstants.{MAX_GENERATIONS}
 use Rattle.tp_cli.specs.declared.run.Form.{Form}
@@ -14,7 +14,7 @@ use Rattle.tp_shell.specs.Command.{AreCountsIn, IsCount, count_rule, with_count_
 abbrev pub trace_rule : Rule
 trace_rule = record (new_rule (codes "trace")) { long = Some (codes "trace"); action = Some SetTrue }
 
--- the word that names a pool
+-- the specification of a pool
 abbrev pub spec_rule : Rule
 spec_rule = record (new_rule (codes "SPEC")) { required = true }
 
@@ -31,7 +31,7 @@ with_generations_rule a = with_rule a (count_rule (codes "generations") MAX_GENE
 abbrev pub run_app : App
 run_app = with_rule (with_generations_rule (with_count_rules (with_rule (new_app (codes "run")) spec_rule))) trace_rule
 
--- words that name pools, one or more
+-- specifications of pools, one or more
 abbrev pub specs_rule : Rule
 specs_rule = record spec_rule { action = Some Append }
 
@@ -60,19 +60,19 @@ reading_word Trace = codes "audit"
 abbrev pub IsReading : TextKind → Option (Text × List Row) → Type 0
 IsReading kind found = (rows : List Row) × (found ≡ Some (reading_word kind, rows))
 
--- it is `run`, with this word for SPEC
+-- it is `run`, with this argument for SPEC
 abbrev pub IsRunNaming : Text → Option (Text × List Row) → Type 0
 IsRunNaming spec found = (rows : List Row) × (found ≡ Some (codes "run", rows)) × (first_of (codes "SPEC") rows ≡ Some spec)
 
--- it is the one of this name, at so many nodes with so many workers
+-- it is the subcommand of this name, with this many nodes and this many workers
 abbrev pub IsAt : Text → ℕ → ℕ → Option (Text × List Row) → Type 0
 IsAt name nodes workers found = (rows : List Row) × (found ≡ Some (name, rows)) × AreCountsIn rows nodes workers
 
--- it is `run`, in so many generations
+-- it is `run`, with this many generations
 abbrev pub IsRunOver : ℕ → Option (Text × List Row) → Type 0
 IsRunOver count found = (rows : List Row) × (found ≡ Some (codes "run", rows)) × IsCount MAX_GENERATIONS (codes "generations") rows count
 
--- The trace is printed where the flag was given, and the table where it was not.
+-- The trace is printed if the flag was given, and the table if it was not.
 abbrev pub IsFormOf : List Row → Form → Type 0
 IsFormOf rows form = (one_of (codes "trace") rows ≡ Some (codes "true") → form ≡ forms.Trace)
     × (one_of (codes "trace") rows ≡ Some (codes "false") → form ≡ forms.Table)
@@ -81,34 +81,34 @@ IsFormOf rows form = (one_of (codes "trace") rows ≡ Some (codes "true") → fo
 abbrev pub IsRunIn : Form → Option (Text × List Row) → Type 0
 IsRunIn form found = (rows : List Row) × (found ≡ Some (codes "run", rows)) × IsFormOf rows form
 
--- it is `pools`, with these words for SPEC
+-- it is `pools`, with these arguments for SPEC
 abbrev pub IsPoolsNaming : List Text → Option (Text × List Row) → Type 0
 IsPoolsNaming specs found = (rows : List Row) × (found ≡ Some (codes "pools", rows)) × (all_of (codes "SPEC") rows ≡ Some specs)
 
--- it reads no text, and is neither `run` nor `pools` with their words
+-- it reads no text, and is neither `run` nor `pools` with their arguments
 abbrev pub IsNeither : Option (Text × List Row) → Type 0
 IsNeither found = ((kind : TextKind) → ¬ IsReading kind found)
     × ((spec : Text) → ¬ IsRunNaming spec found) × ((specs : List Text) → ¬ IsPoolsNaming specs found)
 
--- ---- what the words ask for
+-- ---- what the arguments ask for
 
--- the answer to a text of this kind, to a script or to a trace
+-- the reply to a text of this kind, to a script or to a trace
 abbrev pub AsksForText : TextKind → List Text → Type 0
 AsksForText kind words = IsReading kind (subcommand_of tp_app words)
 
--- the answer to a script or to a trace
+-- the reply to a script or to a trace
 abbrev pub ReadsAText : List Text → Type 0
 ReadsAText words = (kind : TextKind) × AsksForText kind words
 
--- a run of the pool that this one of them names
+-- a run of the pool that this argument specifies
 abbrev pub AsksForRun : List Text → Text → Type 0
 AsksForRun words spec = IsRunNaming spec (subcommand_of tp_app words)
 
--- a run at so many nodes, with so many workers
+-- a run with this many nodes and this many workers
 abbrev pub AsksForRunAt : List Text → ℕ → ℕ → Type 0
 AsksForRunAt words nodes workers = IsAt (codes "run") nodes workers (subcommand_of tp_app words)
 
--- a run in so many generations
+-- a run with this many generations
 abbrev pub AsksForGenerations : List Text → ℕ → Type 0
 AsksForGenerations words count = IsRunOver count (subcommand_of tp_app words)
 
@@ -116,11 +116,11 @@ AsksForGenerations words count = IsRunOver count (subcommand_of tp_app words)
 abbrev pub AsksForForm : List Text → Form → Type 0
 AsksForForm words form = IsRunIn form (subcommand_of tp_app words)
 
--- runs at once of the pools that these of them name
+-- runs at once of the pools that these arguments specify
 abbrev pub AsksForPools : List Text → List Text → Type 0
 AsksForPools words specs = IsPoolsNaming specs (subcommand_of tp_app words)
 
--- these at so many nodes each, with so many workers
+-- these with this many nodes each, and this many workers
 abbrev pub AsksForPoolsAt : List Text → ℕ → ℕ → Type 0
 AsksForPoolsAt words nodes workers = IsAt (codes "pools") nodes workers (subcommand_of tp_app words)
 

@@ -1,5 +1,5 @@
--- What each exit status says of the words, of what was read, and of what was written; and by which faults there is no answer. The
--- reader and the writer are seen by the bytes that they had before and have now.
+-- What each exit status says of the arguments, the input and the output, and for which faults there is no output. The reader and
+-- the writer are seen by their bytes before and after.
 use Rattle.std.specs.Prelude.{ℕ, ◌⊎◌, Bool, true, false, List, Option}
 use Rattle.std.specs.Io.KnownBytes.{Appends}
 use Rattle.clap.specs.Words.{Text}
@@ -24,52 +24,52 @@ use Rattle.tp_text.specs.declared.TextFault.TheVariants as texts
 use Rattle.tp_text.specs.declared.Verdict.{Verdict}
 use Rattle.tp_text.specs.declared.Verdict.TheVariants.{Sound, Refused}
 
--- The words ask for the answer to a script or to a trace, and all was read and this is answered to it, with this verdict.
+-- The arguments ask for the reply to a script or to a trace; all was read, and this is the reply to it, with this verdict.
 abbrev pub IsReadText : List Text → Option (List ℕ) → Option (List ℕ) → Verdict → List ℕ → Type 0
 IsReadText words read_old read_new verdict text =
     (kind : TextKind) × AsksForText kind words × IsAnswerTo kind read_old read_new verdict text
 
--- The words ask for a run of a pool, and this is the text of such a run, at as many nodes and with as many workers at each
--- as they ask for, each of its generations to its judged end, in the form that they ask for.
+-- The arguments ask for a run of a pool, and this is the text of such a run: with the numbers of nodes and workers that they ask
+-- for, each generation up to its detected termination, in the form that they ask for.
 abbrev pub IsRunText : List Text → List ℕ → Type 0
 IsRunText words text = (word : Text) × (nodes : ℕ) × (workers : ℕ) × (count : ℕ) × (form : Form)
     × AsksForRun words word × AsksForRunAt words nodes workers × AsksForGenerations words count × AsksForForm words form
     × IsTextFor form word nodes workers count text
 
--- The words ask for a run of a pool, and by this fault there is no text of it.
+-- The arguments ask for a run of a pool, and because of this fault there is no text of it.
 abbrev pub LacksRunText : List Text → RunFault → Type 0
 LacksRunText words fault = (word : Text) × (nodes : ℕ) × (workers : ℕ) × (count : ℕ) × (form : Form)
     × AsksForRun words word × AsksForRunAt words nodes workers × AsksForGenerations words count × AsksForForm words form
     × IsRefusedRun form word nodes workers count fault
 
--- The words ask for runs of several pools, which were run, each of them ended or not, and this is the text of what they answered.
+-- The arguments ask for runs of several pools, which were run; each ended without a fault, or not; and this is the text of their
+-- results.
 abbrev pub IsTextOfPools : List Text → Bool → List ℕ → Type 0
 IsTextOfPools words each_ended text = (specs : List Text) × (nodes : ℕ) × (workers : ℕ)
     × AsksForPools words specs × AsksForPoolsAt words nodes workers × IsPoolsText specs nodes workers each_ended text
 
--- This is what was asked for and came to its end: the answer to a sound text, or the text of a run, or of several.
+-- This was asked for and completed: the reply to a sound text, or the text of a run, or of several.
 abbrev pub IsTextAskedFor : List Text → Option (List ℕ) → Option (List ℕ) → List ℕ → Type 0
 IsTextAskedFor words read_old read_new text =
     IsReadText words read_old read_new Sound text ⊎ (IsRunText words text ⊎ IsTextOfPools words true text)
 
--- 0: the answer to a sound script or trace, or the text of a pool's run, or of the runs of several pools that all ended, was
--- written and nothing else; or help or the version was asked for and shown.
+-- 0: the reply to a sound script or trace, or the text of a pool's run, or of the runs of several pools that all ended without a
+-- fault, was written and nothing else; or help or the version was asked for and shown.
 abbrev pub Succeeded : List Text → Option (List ℕ) → Option (List ℕ) → Option (List ℕ) → Option (List ℕ) → Type 0
 Succeeded words read_old read_new written_old written_new =
     ((text : List ℕ) × IsTextAskedFor words read_old read_new text × Appends written_old written_new text)
     ⊎ (AsksToBeShown tp_app words × HasShown written_old written_new)
 
--- 2: the script is not of the grammar, or the trace is not sound, which was written and nothing else.
+-- 2: the script is not of the grammar, or the trace is not sound; this was written and nothing else.
 abbrev pub RefusedText : List Text → Option (List ℕ) → Option (List ℕ) → Option (List ℕ) → Option (List ℕ) → Type 0
 RefusedText words read_old read_new written_old written_new =
     (text : List ℕ) × IsReadText words read_old read_new Refused text × Appends written_old written_new text
 
--- 3, where something was written: of several pools one was refused, and the text of what they answered was written and nothing
--- else.
+-- 3, if something was written: of several pools one was refused, and the text of their results was written and nothing else.
 abbrev pub RefusedPool : List Text → Option (List ℕ) → Option (List ℕ) → Type 0
 RefusedPool words written_old written_new = (text : List ℕ) × IsTextOfPools words false text × Appends written_old written_new text
 
--- what was written where there was an answer, by its status
+-- what was written by a program that ended without a fault, by its status
 abbrev pub HasAnswered : List Text → Option (List ℕ) → Option (List ℕ) → Option (List ℕ) → Option (List ℕ) → Status → Type 0
 HasAnswered words read_old read_new written_old written_new statuses.Done = Succeeded words read_old read_new written_old written_new
 HasAnswered words read_old read_new written_old written_new statuses.Fault = ⊥
@@ -79,7 +79,7 @@ HasAnswered words read_old read_new written_old written_new statuses.Failed = Re
 
 -- ---- faults
 
--- By this fault something may have been written: what was asked for was made, and then the writing failed.
+-- With this fault something may have been written: the output was complete, and then writing failed.
 abbrev pub CouldNotWrite : List Text → Option (List ℕ) → Option (List ℕ) → Fault → Type 0
 CouldNotWrite words read_old read_new (faults.Words Write) = AsksToBeShown tp_app words
 CouldNotWrite words read_old read_new (faults.Text texts.Write) =
@@ -88,19 +88,19 @@ CouldNotWrite words read_old read_new faults.Write =
     ((text : List ℕ) × IsRunText words text) ⊎ ((each_ended : Bool) × (text : List ℕ) × IsTextOfPools words each_ended text)
 CouldNotWrite words read_old read_new fault = ⊥
 
--- The words ask for the answer to a text, and by this fault there is none.
+-- The arguments ask for the reply to a text, and because of this fault there is none.
 abbrev pub LacksAnswer : List Text → Option (List ℕ) → Option (List ℕ) → TextFault → Type 0
 LacksAnswer words read_old read_new fault = (kind : TextKind) × AsksForText kind words × IsUnansweredText kind read_old read_new fault
 
--- the words are those of several pools, and in vain, for this
+-- the arguments are those of several pools, and are refused with this
 abbrev pub NamesPoolsInVain : List Text → Refusal → Type 0
 NamesPoolsInVain words refusal = (specs : List Text) × AsksForPools words specs × AreInVain specs refusal
 
--- The words are those of several pools, and nothing is found against them by the first.
+-- The arguments are those of several pools: at most 8, of which the first is not refused.
 abbrev pub MayRunPools : List Text → Type 0
 MayRunPools words = (specs : List Text) × AsksForPools words specs × MayNamePools specs
 
--- By this fault nothing was written.
+-- With this fault nothing was written.
 abbrev pub HasNothing : List Text → Option (List ℕ) → Option (List ℕ) → Fault → Type 0
 HasNothing words read_old read_new (faults.Words fault) = IsWordsFault tp_app (AsksForNothing words) words fault
 HasNothing words read_old read_new (faults.Text fault) = LacksAnswer words read_old read_new fault

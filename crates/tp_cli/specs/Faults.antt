@@ -1,4 +1,4 @@
--- What is told of a fault on standard error, and the exit status that it gives.
+-- The error line of a fault, and its exit status.
 use Rattle.std.specs.Prelude.{ℕ, ◌++◌, List, codes, decimal}
 use Rattle.std.specs.String.{string_bytes}
 use Rattle.tp_base.specs.Refusals.{number_of, name_of}
@@ -19,25 +19,25 @@ use Rattle.tp_text.specs.declared.TextFault.TheVariants as texts
 abbrev pub refusal_line : Refusal → List ℕ
 refusal_line r = codes "refused " ++ (decimal (number_of r) ++ (codes " " ++ (name_of r ++ codes "\n")))
 
--- what a run is told to be refused for
+-- the refusal of a run that is printed
 abbrev pub refusal_of : RunFault → Refusal
 refusal_of (runs.Pool fault) = fault.refusal
 refusal_of (runs.Text refusal) = refusal
 
--- of a text that was not answered
+-- the line of a text without a reply
 abbrev pub text_line : TextFault → List ℕ
 text_line texts.Read = codes "fault read\n"
 text_line texts.TooLong = codes "fault too long\n"
 text_line texts.Write = codes "fault write\n"
 text_line texts.Memory = codes "refused 17 NoMemory\n"
 
--- of words that are at fault, the parser's own text
+-- for arguments that are at fault, the parser's own text
 abbrev pub words_line : WordsFault → List ℕ
 words_line (words.Words text) = string_bytes text ++ codes "\n"
 words_line words.Memory = text_line texts.Memory
 words_line words.Write = text_line texts.Write
 
--- what is told of a fault
+-- the error line of a fault
 abbrev pub line_of : Fault → List ℕ
 line_of (faults.Words fault) = words_line fault
 line_of (faults.Text fault) = text_line fault
@@ -47,7 +47,7 @@ line_of (faults.Run fault) = refusal_line (refusal_of fault)
 line_of faults.Memory = refusal_line NoMemory
 line_of faults.Write = text_line texts.Write
 
--- 1 where the words, the reading or the writing are at fault, 3 where a run was refused or memory was
+-- 1 if the arguments, the reading or the writing are at fault, 3 if a run was refused or an allocation failed
 abbrev pub status_of : Fault → Status
 status_of (faults.Words (words.Words text)) = statuses.Fault
 status_of (faults.Words words.Memory) = statuses.Failed

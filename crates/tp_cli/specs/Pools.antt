@@ -1,4 +1,4 @@
--- The words of several pools: which of them are refused, and the text of their runs.
+-- The specifications of several pools: which of them are refused, and the text of their runs.
 use Rattle.std.specs.Prelude.{ℕ, suc, ◌≡◌, ◌≤◌, ◌<◌, ◌⊎◌, ◌++◌, Bool, true, false, List, [], ◌∷◌, Some, Result, Ok, Err, codes, decimal}
 use Rattle.std.specs.Prelude.{length, map, slice_get, take}
 use Rattle.std.specs.List.{list_all, list_any}
@@ -23,79 +23,80 @@ use Rattle.tp_work.specs.declared.config.Outcome.{Outcome}
 abbrev pub Word : Type 0
 Word = List ℕ
 
--- ---- the words
+-- ---- the specifications
 
--- one of these words is this
+-- one of these specifications is this
 abbrev pub is_among : List Word → Word → Bool
 is_among words word = list_any (λ w. bytes_eq w word) words
 
--- why a word behind these is refused: it names no graph, or is one of them
+-- why a specification after these is refused: it names no graph, or is one of them
 abbrev pub IsRefusedBehind : List Word → Word → Refusal → Type 0
 IsRefusedBehind before word r = ((r ≡ BadSpec) × NamesNoGraph word) ⊎ ((r ≡ PoolKnown) × (is_among before word ≡ true))
 
--- None of the first k words is refused behind those before it.
+-- None of the first k specifications is refused after those before it.
 abbrev pub AreTakenTo : ℕ → List Word → Type 0
 AreTakenTo k words = (i : ℕ) (word : Word) (r : Refusal) → i < k → slice_get words i ≡ Some word → ¬ IsRefusedBehind (take i words) word r
 
--- The words may name pools: there are at most 8, and the first is not refused.
+-- The specifications may name pools: there are at most 8, and the first is not refused.
 abbrev pub MayNamePools : List Word → Type 0
 MayNamePools words = (length words ≤ MAX_POOLS) × AreTakenTo 1 words
 
--- These words are refused for this: there are more than 8 of them, or else for the first that is refused behind those before it.
+-- These specifications are refused with this: there are more than 8 of them, or else it is the refusal of the first that is
+-- refused after those before it.
 abbrev pub AreInVain : List Word → Refusal → Type 0
 AreInVain words r = ((MAX_POOLS < length words) × (r ≡ StoreFull))
     ⊎ ((length words ≤ MAX_POOLS)
     × ((i : ℕ) × (word : Word) × (slice_get words i ≡ Some word) × AreTakenTo i words × IsRefusedBehind (take i words) word r))
 
--- the fault of a word that was refused: want of memory is none of its own
+-- the fault of a specification that was refused: an allocation failure is not its own fault
 abbrev pub word_fault : Refusal → Fault
 word_fault NoMemory = faults.Memory
 word_fault r = faults.InVain r
 
--- why the words' pools are not registered: they are in vain, for this; or there was no memory, and they may name pools
+-- why the pools are not registered: the specifications are refused with this; or an allocation failed, and they may name pools
 abbrev pub IsWordsFault : List Word → Fault → Type 0
 IsWordsFault words (faults.InVain r) = AreInVain words r
 IsWordsFault words faults.Memory = MayNamePools words
 IsWordsFault words fault = ⊥
 
--- The words name these graphs, no two are the same, and there are at most 8.
+-- The specifications name these graphs, no two are the same, and there are at most 8.
 pub record AreNamed (words : List Word) (graphs : List AnyGraph) : Type 0 where
   pub few : length words ≤ MAX_POOLS
   pub named : words ≡ map word_of graphs
   pub taken : AreTakenTo (length words) words
 
--- the registry in which each of these graphs was registered under its word, in their order
+-- the registry in which each of these graphs was registered under its specification, in order
 abbrev pub pools_of : List AnyGraph → Pools
 pools_of graphs = map (λ g. registered (word_of g) g) graphs
 
 -- ---- the text
 
--- the line of the pool of this number and word: its tasks and messages where it ended, or what it was refused for
+-- the line of the pool of this number and specification: its tasks and messages if it ended without a fault, or its refusal
 abbrev pub pool_line : ℕ → Word → Result Outcome ended.Fault → List ℕ
 pool_line i word (Ok o) = codes "pool " ++ (decimal i ++ (codes " " ++ (word
     ++ (codes " ended tasks " ++ (decimal o.tasks ++ (codes " messages " ++ (decimal o.messages ++ codes "\n")))))))
 pool_line i word (Err f) = codes "pool " ++ (decimal i ++ (codes " " ++ (word
     ++ (codes " refused " ++ (decimal (number_of f.refusal) ++ (codes " " ++ (name_of f.refusal ++ codes "\n")))))))
 
--- the lines of these words' pools by their answers, in their order, the first being of this number
+-- the lines of the pools of these specifications by their results, in order, the first having this number
 unfoldable pub lines_from : ℕ → List Word → List (Result Outcome ended.Fault) → List ℕ
 lines_from i (word ∷ words) (answer ∷ answers) = pool_line i word answer ++ lines_from (suc i) words answers
 lines_from i _ _ = []
 
--- The words name pools, these were run on n nodes, with so many workers at each, each of them ended or not, and this is
--- the text of what they answered.
+-- The specifications name pools, these were run on n nodes with this many workers at each, each ended without a fault, or not,
+-- and this is the text of their results.
 abbrev pub IsPoolsText : List Word → ℕ → ℕ → Bool → List ℕ → Type 0
 IsPoolsText words n workers each_ended text = (graphs : List AnyGraph) × (answers : List (Result Outcome ended.Fault))
     × AreNamed words graphs × AreRunAnswers n workers graphs answers
     × (each_ended ≡ list_all is_ok answers) × (text ≡ lines_from 0 words answers)
 
--- why the words' pools were not run, or the text of what they answered was not written: the words are in vain; or there was no
--- memory, and they may name pools; or there is a text, and it could not be written
+-- why the pools were not run, or the text of their results was not written: the specifications are refused; or an allocation
+-- failed, and they may name pools; or there is a text, and it could not be written
 abbrev pub IsPoolsFault : List Word → ℕ → ℕ → Fault → Type 0
 IsPoolsFault words n workers faults.Write = (each_ended : Bool) × (text : List ℕ) × IsPoolsText words n workers each_ended text
 IsPoolsFault words n workers fault = IsWordsFault words fault
 
--- the status of several pools that were run, each of which ended or not
+-- the status of several pools that were run, by whether each ended without a fault
 abbrev pub status_of_pools : Bool → Status
 status_of_pools true = Done
 status_of_pools false = Failed

@@ -25,15 +25,15 @@ use Rattle.tp_work.specs.declared.config.Outcome.{Outcome}
 use Rattle.tp_work.specs.declared.series.Round.{Round}
 use Rattle.tp_work.specs.declared.series.Series.{Series}
 
--- how many tasks there were and how many messages were sent, and that the pool ended
+-- the numbers of tasks and of messages sent, and that the pool ended
 abbrev pub totals_text : ℕ → ℕ → List ℕ
 totals_text tasks messages = line (codes "tasks " ++ decimal tasks) ++ line (codes "messages " ++ decimal messages) ++ line (codes "ended")
 
--- the graph's plain result as a table, the number of its tasks, and so many messages
+-- the graph's plain result as a table, the number of its tasks, and this many messages
 abbrev pub run_text : AnyGraph → ℕ → List ℕ
 run_text g messages = table_text (table_of g) ++ totals_text (any_graph g).tasks messages
 
--- what is printed of a run of a graph on n nodes: its table with its totals, or the trace of its events alone
+-- what is printed of a run of a graph on n nodes: its table with its totals, or only the trace of its events
 abbrev pub IsPrintOf : Form → AnyGraph → ℕ → Outcome → List ℕ → Type 0
 IsPrintOf Table g n o text = text ≡ run_text g o.messages
 IsPrintOf Trace g n o text = IsTraceOf n (steps_of o.history.events) text
@@ -42,21 +42,21 @@ IsPrintOf Trace g n o text = IsTraceOf n (steps_of o.history.events) text
 abbrev pub round_text : AnyGraph → ℕ → Round → List ℕ
 round_text g k round = line (codes "generation " ++ decimal k) ++ run_text g round.messages
 
--- the rounds of a series in their order, each under the number of its generation, the first being of this number
+-- the rounds of a series in order, each under the number of its generation, the first having this number
 unfoldable pub rounds_text : AnyGraph → ℕ → List Round → List ℕ
 rounds_text g k [] = []
 rounds_text g k (round ∷ rounds) = round_text g k round ++ rounds_text g (suc k) rounds
 
--- what is printed of a series of a graph on n nodes: its rounds, or the trace of all its events alone
+-- what is printed of a series of a graph on n nodes: its rounds, or only the trace of all its events
 abbrev pub IsPrintOfSeries : Form → AnyGraph → ℕ → Series → List ℕ → Type 0
 IsPrintOfSeries Table g n s text = text ≡ rounds_text g 1 s.rounds.items
 IsPrintOfSeries Trace g n s text = IsTraceOf n (steps_of s.history.events) text
 
--- the text, in this form, of a run of a graph to its judged end on n nodes, with so many workers at each
+-- the text, in this form, of a run of a graph up to its detected termination on n nodes, with this many workers at each
 abbrev pub IsTextOfOne : Form → AnyGraph → ℕ → ℕ → List ℕ → Type 0
 IsTextOfOne form g n workers text = (o : Outcome) × IsOutcome n workers (any_graph g) o × IsPrintOf form g n o text
 
--- the text, in this form, of so many generations of a graph, each run to its judged end on n nodes, with so many
+-- the text, in this form, of this many generations of a graph, each run up to its detected termination on n nodes, with this many
 -- workers at each
 abbrev pub IsTextOfSeries : Form → AnyGraph → ℕ → ℕ → ℕ → List ℕ → Type 0
 IsTextOfSeries form g n workers count text =
@@ -67,18 +67,18 @@ abbrev pub IsTextOf : Form → AnyGraph → ℕ → ℕ → ℕ → List ℕ →
 IsTextOf form g n workers count text =
     ((count ≡ 1) × IsTextOfOne form g n workers text) ⊎ ((2 ≤ count) × IsTextOfSeries form g n workers count text)
 
--- The word names a graph, and this is the text, in this form, of so many generations of it on n nodes, with so many
+-- The specification names a graph, and this is the text, in this form, of this many generations of it on n nodes, with this many
 -- workers at each.
 abbrev pub IsTextFor : Form → List ℕ → ℕ → ℕ → ℕ → List ℕ → Type 0
 IsTextFor form word n workers count text = (g : AnyGraph) × (word ≡ word_of g) × IsTextOf form g n workers count text
 
--- what makes a round one of a graph: each task has one result, the value that the graph defines, and no other task has any
+-- a round of a graph: each task has one result, the value that the graph defines, and no other task has any
 pub record IsRoundOf (g : AnyGraph) (round : Round) : Type 0 where
   pub each_once : HasEachOnce (any_graph g).tasks round.results.items
   pub right : AreRight (any_graph g) round.results.items
   pub tasks : round.tasks ≡ vec_len round.results
 
--- Why there is no table of these results: it lacks a cell, or there is no memory.
+-- Why there is no table of these results: a cell is missing, or an allocation failed.
 abbrev pub IsUntold : AnyGraph → Results → Refusal → Type 0
 IsUntold g results r = ((r ≡ Missing) × LacksCell g results) ⊎ (r ≡ NoMemory)
 
@@ -86,7 +86,7 @@ IsUntold g results r = ((r ≡ Missing) × LacksCell g results) ⊎ (r ≡ NoMem
 abbrev pub IsUntoldRound : AnyGraph → List Round → Refusal → Type 0
 IsUntoldRound g rounds r = (k : ℕ) × (round : Round) × (slice_get rounds k ≡ Some round) × IsUntold g round.results.items r
 
--- Why these events are not printed: they have no trace, or there is no memory.
+-- Why these events are not printed: they have no trace, or an allocation failed.
 abbrev pub IsUntraced : History → Refusal → Type 0
 IsUntraced h r = ((r ≡ BadSpec) × ¬ CanBeTraced (steps_of h)) ⊎ (r ≡ NoMemory)
 
@@ -100,13 +100,13 @@ abbrev pub IsUnprintedSeries : Form → AnyGraph → Series → Refusal → Type
 IsUnprintedSeries Table g s r = IsUntoldRound g s.rounds.items r
 IsUnprintedSeries Trace g s r = IsUntraced s.history.events r
 
--- Why there is no text, in this form, of a run of a graph on n nodes, with so many workers at each: this is the fault
--- of its run, or its outcome is not printed, for this.
+-- Why there is no text, in this form, of a run of a graph on n nodes, with this many workers at each: this is the fault of its
+-- run, or its outcome is not printed, for this refusal.
 abbrev pub IsWithoutOne : Form → AnyGraph → ℕ → ℕ → RunFault → Type 0
 IsWithoutOne form g n workers (Pool fault) = IsFault n (any_graph g) fault
 IsWithoutOne form g n workers (Text r) = (o : Outcome) × IsOutcome n workers (any_graph g) o × IsUnprinted form g o r
 
--- and of so many generations
+-- and of this many generations
 abbrev pub IsWithoutSeries : Form → AnyGraph → ℕ → ℕ → ℕ → RunFault → Type 0
 IsWithoutSeries form g n workers count (Pool fault) = IsSeriesFault n (any_graph g) count fault
 IsWithoutSeries form g n workers count (Text r) =
@@ -117,8 +117,8 @@ abbrev pub IsWithoutText : Form → AnyGraph → ℕ → ℕ → ℕ → RunFaul
 IsWithoutText form g n workers count fault =
     ((count ≡ 1) × IsWithoutOne form g n workers fault) ⊎ ((2 ≤ count) × IsWithoutSeries form g n workers count fault)
 
--- The word names a graph, and by this fault there is no text, in this form, of so many generations of it on n nodes,
--- with so many workers at each.
+-- The specification names a graph, and because of this fault there is no text, in this form, of this many generations of it on n
+-- nodes, with this many workers at each.
 abbrev pub IsRefusedRun : Form → List ℕ → ℕ → ℕ → ℕ → RunFault → Type 0
 IsRefusedRun form word n workers count fault = (g : AnyGraph) × (word ≡ word_of g) × IsWithoutText form g n workers count fault
 
@@ -126,12 +126,12 @@ IsRefusedRun form word n workers count fault = (g : AnyGraph) × (word ≡ word_
 abbrev pub IsPlan : Plan → Type 0
 IsPlan p = IsWithinLimits p.config × (1 ≤ p.generations) × (p.generations ≤ MAX_GENERATIONS)
 
--- no graph has this word
+-- no graph has this specification
 abbrev pub NamesNoGraph : List ℕ → Type 0
 NamesNoGraph word = (g : AnyGraph) → word ≢ word_of g
 
--- Why a word's pool was not run by this plan, or its text not written: it names no graph; or by this fault there is no text; or
--- there is one, and it could not be written.
+-- Why the pool of a specification was not run by this plan, or its text not written: the specification names no graph; or because
+-- of this fault there is no text; or there is one, and it could not be written.
 abbrev pub IsRunFault : Plan → List ℕ → Fault → Type 0
 IsRunFault p word faults.NoPool = NamesNoGraph word
 IsRunFault p word (faults.Run fault) = IsRefusedRun p.form word p.config.nodes p.config.workers p.generations fault

@@ -1,3 +1,4 @@
+//! The program without a terminal: from its arguments to its output and exit status.
 ghost use Rattle.std.specs.Prelude.{◌≡◌, ◌≢◌, ◌≤◌, ◌⊎◌, List, ℕ, IfErr, IfOk, map};
 ghost use Rattle.std.specs.Io.KnownBytes.{Appends};
 ghost use Rattle.clap.specs.Values.{kind_of};
@@ -26,13 +27,13 @@ use tp_shell::{Diagnostics, Status, WordsFault, complain, show};
 use tp_text::{TextFault, Verdict};
 use tp_work::Screen;
 
-/// Runs the program on the words of its command line, its own name first. It reads from `reader`, writes its output to
-/// `out` and its complaints to `err`, and answers the exit status: 0 where it is done, or help or the version was asked
-/// for, 1 for a fault of the command line, a word that names no pool, the reading or the writing, 2 for a text that is
-/// refused, 3 for a run that was refused or want of memory.
+/// Runs the program with its arguments, beginning with its own name, and returns the exit status. It reads from
+/// `reader`, writes its output to `out` and its error lines to `err`. The status is 0 if it is done, or help or the
+/// version was asked for; 1 if the arguments are at fault, a specification names no pool, or reading or writing failed;
+/// 2 if the script or the trace is refused; 3 if a run was refused or an allocation failed.
 ///
-/// A pool runs in one generation, or in as many as `--generations` says, 1 to 9: it is reopened after each end but the last.
-/// Its first generation that is refused is its refusal, and nothing is written of those before.
+/// A pool runs in one generation, or in the number that `--generations` gives, 1 to 9: it is reopened after each but
+/// the last. The first generation that is refused is the refusal of the run, and nothing is written of those before.
 pub fn main_with<R: Threads + Wait + Sync, I: Read, O: Write, E: Diagnostics>(
     rt: &R,
     alloc: Global,
@@ -42,30 +43,32 @@ pub fn main_with<R: Threads + Wait + Sync, I: Read, O: Write, E: Diagnostics>(
     err: &mut E,
 ) -> u8
     ensures range { result ≤ 3 }
-    // 0: what was asked for was written and nothing else, and nothing is complained of.
+    // 0: the requested output was written and nothing else, and there is no error line.
     ensures succeeded { result ≡ 0 → (err.new ≡ err.old) × Succeeded (map (λ w. w.now) words.now)
         (I.remaining reader.old) (I.remaining reader.new) (O.contents out.old) (O.contents out.new) }
-    // 1: one fault was met, whose line is all that is complained of: the writing failed, of what was made in full; or nothing was
-    // written, for a fault of the words or of the reading.
+    // 1: there was one fault, whose line is the only error line: writing failed, after the whole output was made; or
+    // nothing was written, because the arguments or the reading are at fault.
     ensures complained { result ≡ 1 → (fault : Fault) × (result ≡ code_of (status_of fault)) × E.tells err.old (line_of fault) err.new
         × (CouldNotWrite (map (λ w. w.now) words.now) (I.remaining reader.old) (I.remaining reader.new) fault
         ⊎ ((out.new ≡ out.old) × HasNothing (map (λ w. w.now) words.now) (I.remaining reader.old) (I.remaining reader.new) fault)) }
-    // 2: the line of the first fault of the script or the trace was written and nothing else, and nothing is complained of.
+    // 2: the line of the first fault of the script or the trace was written and nothing else, and there is no error
+    // line.
     ensures refused { result ≡ 2 → (err.new ≡ err.old) × RefusedText (map (λ w. w.now) words.now)
         (I.remaining reader.old) (I.remaining reader.new) (O.contents out.old) (O.contents out.new) }
-    // 3: one fault was met, whose line is all that is complained of: a run was refused, or memory was, and nothing was written; or
-    // of several pools one was refused, and their text was written and nothing else, and nothing is complained of.
+    // 3: there was one fault, whose line is the only error line: a run was refused or an allocation failed, and nothing
+    // was written; or one of several pools was refused, their text was written and nothing else, and there is no error
+    // line.
     ensures failed { result ≡ 3 → ((fault : Fault) × (result ≡ code_of (status_of fault)) × E.tells err.old (line_of fault) err.new
         × (out.new ≡ out.old) × HasNothing (map (λ w. w.now) words.now) (I.remaining reader.old) (I.remaining reader.new) fault)
         ⊎ ((err.new ≡ err.old) × RefusedPool (map (λ w. w.now) words.now) (O.contents out.old) (O.contents out.new)) }
-    // A script or a trace alone is read.
+    // The input is read only for a script or a trace.
     ensures unread { ReadsAText (map (λ w. w.now) words.now) ⊎ (reader.new ≡ reader.old) }
 {
     let (ended, _) = answer_words(rt, alloc, words, reader, out, None::<Screen<Sink>>, false);
     told(ended, err).code()
 }
 
-/// The status with which the program ended, or that of its fault, which is told.
+/// Returns the status with which the program ended, or that of its fault, after printing its line.
 fn told<E: Diagnostics>(ended: Result<Status, Fault>, err: &mut E) -> Status
     ensures done { IfOk ended (λ status. (result ≡ status) × (err.new ≡ err.old)) }
     ensures faulty { IfErr ended (λ fault. (result ≡ status_of fault) × E.tells err.old (line_of fault) err.new) }
@@ -76,8 +79,9 @@ fn told<E: Diagnostics>(ended: Result<Status, Fault>, err: &mut E) -> Status
     }
 }
 
-/// Writes what the words ask for, or shows help or the version where they ask for that; and answers what the reason of a refusal is
-/// about. A script or a trace is kept for that if `keeps` says so. While a pool is run, a screen is told how far the run is.
+/// Writes the requested output, or shows help or the version if the arguments ask for that, and returns what the reason
+/// of a refusal is about. If `keeps` is set, a script or a trace is kept for that reason. While a pool runs, the screen
+/// shows its progress.
 pub(crate) fn answer_words<'a, R: Threads + Wait + Sync, I: Read, O: Write, W: Write + Send + Drop>(
     rt: &R,
     alloc: Global,
@@ -109,7 +113,7 @@ pub(crate) fn answer_words<'a, R: Threads + Wait + Sync, I: Read, O: Write, W: W
     }
 }
 
-/// Answers a text of a kind, which is kept for its reason if `keeps` says so.
+/// Replies to a script or a trace, and keeps it for the reason if `keeps` is set.
 fn answer_text<'a, I: Read, O: Write>(
     alloc: Global,
     kind: TextKind,
@@ -132,7 +136,7 @@ fn answer_text<'a, I: Read, O: Write>(
     }
 }
 
-/// The status of a text that was answered.
+/// Returns the status for the verdict on a text.
 pub(crate) fn status_of_verdict(verdict: Verdict) -> Status
     ensures { result ≡ status_of_verdict verdict }
 {
@@ -142,7 +146,7 @@ pub(crate) fn status_of_verdict(verdict: Verdict) -> Status
     }
 }
 
-/// Shows help or the version where the words asked for it.
+/// Shows help or the version if the arguments asked for it.
 fn show_asked<O: Write>(alloc: Global, error: &Error, out: &mut O) -> Result<Status, Fault>
     ensures shown { IfOk result (λ status. (status ≡ Done) × IsToBeShown (kind_of error.now)
         × HasShown (O.contents out.old) (O.contents out.new)) }

@@ -1,3 +1,4 @@
+//! The command line of the program.
 ghost use Rattle.std.specs.Prelude.{◌≡◌, IfOk, codes, false};
 ghost use Rattle.clap.specs.Words.{app_of, rule_of};
 ghost use Rattle.clap.specs.declared.builder.command.Command.TheViews.{out-Command};
@@ -8,10 +9,10 @@ use clap::{Arg, ArgAction, Command};
 use std::alloc::{AllocError, Global};
 use tp_shell::{VERSION, count_option, with_counts};
 
-/// The most generations that a pool is run in.
+/// The most generations of a pool.
 pub(crate) const MAX_GENERATIONS: u32 = 9;
 
-/// The command line: one level of subcommands.
+/// Returns the command line: one level of subcommands.
 pub(crate) fn tp_command<'a>(alloc: Global) -> Result<Command<'a>, AllocError>
     ensures { IfOk result (λ command. app_of command ≡ tp_app) }
 {
@@ -20,7 +21,7 @@ pub(crate) fn tp_command<'a>(alloc: Global) -> Result<Command<'a>, AllocError>
         .subcommand(pools_command(alloc)?)
 }
 
-/// The command line as far as it reads texts.
+/// Returns the part of the command line that reads texts.
 fn text_commands<'a>(alloc: Global) -> Result<Command<'a>, AllocError>
     ensures { IfOk result (λ command. app_of command ≡ texts_app) }
 {

@@ -1,3 +1,4 @@
+//! The faults of the program, with their error lines and exit statuses.
 ghost use Rattle.std.specs.Prelude.{◌≡◌, ◌≢◌, codes};
 ghost use Rattle.tp_cli.specs.Faults.{line_of, refusal_line, refusal_of, status_of, text_line, words_line};
 
@@ -6,22 +7,22 @@ use tp_base::Refusal;
 use tp_shell::{Diagnostics, Status, Told, WordsFault};
 use tp_text::TextFault;
 
-/// Why the program did not do what its words ask for.
+/// Why the program did not do what its arguments ask for.
 #[derive(Drop)]
 pub(crate) enum Fault {
-    /// The words make no request, and nothing was shown for them.
+    /// The arguments make no request, and nothing was shown for them.
     Words(WordsFault),
-    /// A script or a trace was not answered.
+    /// There is no reply to a script or a trace.
     Text(TextFault),
-    /// The word names no pool.
+    /// The specification names no pool.
     NoPool,
-    /// The words of several pools are in vain, for this.
+    /// The specifications of several pools are refused, with this.
     InVain(Refusal),
     /// There is no text of the run of a pool.
     Run(RunFault),
-    /// There was no memory for the runs of several pools, or for their text.
+    /// An allocation failed for the runs of several pools, or for their text.
     Memory,
-    /// The text could not be written; how much of it was is not known.
+    /// The text could not be written; an unknown part of it was.
     Write,
 }
 
@@ -30,12 +31,12 @@ pub(crate) enum Fault {
 pub(crate) enum RunFault {
     /// The run was refused: this is its own fault.
     Pool(tp_work::Fault),
-    /// It came to its end, and for this there is no text of it.
+    /// The run ended, but there is no text of it, for this refusal.
     Text(Refusal),
 }
 
 impl RunFault {
-    /// What is told of it.
+    /// Returns the refusal whose line is printed.
     fn refusal(&self) -> Refusal
         ensures { result ≡ refusal_of self.now }
     {
@@ -84,7 +85,7 @@ fn tell_words<E: Diagnostics>(fault: &WordsFault, err: &mut E)
     }
 }
 
-/// What is told of a text that was not answered.
+/// Returns the error line of a text without a reply.
 fn text_line(fault: TextFault) -> &'static str
     ensures { result.now ≡ text_line fault }
 {
@@ -102,8 +103,8 @@ fn tell_refusal<E: Diagnostics>(refusal: Refusal, err: &mut E)
     err.tell(format_args!("refused {} {}\n", refusal.number(), refusal.name()));
 }
 
-/// What is complained of, and the exit status, where the words of the command line could not be had: memory was refused, or
-/// one of them is not UTF-8.
+/// Returns the error line and the exit status for arguments that could not be read: an allocation failed, or one of
+/// them is not UTF-8.
 pub fn without_words(fault: ErrorKind) -> (&'static str, u8)
     ensures memory { fault ≡ ErrorKind.OutOfMemory → (result.0.now ≡ codes "refused 17 NoMemory\n") × (result.1 ≡ 3) }
     ensures words { fault ≢ ErrorKind.OutOfMemory → (result.0.now ≡ codes "fault words\n") × (result.1 ≡ 1) }

@@ -1,3 +1,4 @@
+//! Reading a script or a trace that is kept until its reply is written.
 ghost use Rattle.std.specs.Prelude.{◌≡◌, ◌≢◌, ◌+◌, ◌≤◌, List, ℕ, length, IfErr, IfOk, IsErrOf};
 ghost use Rattle.std.specs.Io.KnownBytes.{Appends, Consumes};
 ghost use Rattle.tp_cli.specs.Texts.{IsAnswerTo, IsTextTo, IsUnansweredText, status_of_verdict};
@@ -13,10 +14,10 @@ use std::io::{ErrorKind, Read, Write};
 use tp_shell::{Status, write_text};
 use tp_text::{MAX_READS, MAX_TEXT, TextFault, Verdict};
 
-/// How many bytes are asked for at once. They lie on the stack.
+/// How many bytes are read at once. The buffer is on the stack.
 const PIECE: usize = 4_096;
 
-/// A text that was read, and what is answered to it.
+/// A text that was read, and its reply.
 #[derive(Drop)]
 pub(crate) struct AnsweredText {
     pub(crate) text: Vec<u8>,
@@ -24,7 +25,7 @@ pub(crate) struct AnsweredText {
     pub(crate) answer: Vec<u8>,
 }
 
-/// Answers a text of a kind, and keeps it for its reason.
+/// Writes the reply to a script or a trace, and keeps the text for its reason.
 pub(crate) fn answer_kept<'a, I: Read, O: Write>(
     alloc: Global,
     kind: TextKind,
@@ -50,7 +51,7 @@ pub(crate) fn answer_kept<'a, I: Read, O: Write>(
     }
 }
 
-/// Reads a text of a kind, and finds what is answered to it.
+/// Reads a script or a trace, and computes its reply.
 fn answer_of<I: Read>(
     alloc: Global,
     kind: TextKind,
@@ -77,7 +78,8 @@ fn answer_of<I: Read>(
     }
 }
 
-/// Reads all there is, in pieces, as what answers a text does. A read that was interrupted is tried again.
+/// Reads the input to its end, in pieces. An interrupted read is retried. Refused with `TooLong` if the input is longer
+/// than a text may be, `Memory` if an allocation fails, and `Read` if the reader fails.
 fn read_text<R: Read>(alloc: Global, reader: &mut R) -> Result<Vec<u8>, TextFault>
     ensures whole { IfOk result (λ text. ReadsAll (R.remaining reader.old) (R.remaining reader.new) text.items) }
     ensures fits { IfOk result (λ text. length text.items ≤ MAX_TEXT) }

@@ -1,4 +1,5 @@
-//! The command line of `tp`: words to a run and its status.
+//! The command line of `tp`: from arguments to a run and its exit status. The process, its standard streams and the
+//! terminal are in the program itself.
 #![tactic(auto)]
 
 mod cli;

@@ -1,3 +1,4 @@
+//! The subcommand `pools`: runs several pools at once.
 ghost use Rattle.std.specs.Prelude.{◌≡◌, ◌≢◌, Bool, List, ℕ, IfErr, IfOk, MatchResult, length, map};
 ghost use Rattle.std.specs.Io.KnownBytes.{Appends};
 ghost use Rattle.std.specs.List.{list_all};
@@ -21,8 +22,8 @@ use tp_pools::{Registry, run_pools};
 use tp_shell::{Status, write_text};
 use tp_work::{Config, OpenGate, Outcome};
 
-/// Runs the pools that the words name, all at once, and writes a line for each, in the order of the words. Nothing is written
-/// before all of it is known. Answers the status by whether each pool ended.
+/// Runs the pools of the specifications all at once, and writes a line for each, in the order of the arguments. Nothing
+/// is written before all runs have ended. Returns the status by whether each pool ended without a fault.
 pub(crate) fn run_several<O: Write, R: Threads + Wait + Sync>(
     rt: &R,
     alloc: Global,
@@ -52,7 +53,7 @@ pub(crate) fn run_several<O: Write, R: Threads + Wait + Sync>(
     }
 }
 
-/// The status of several pools that were run, each of which ended or not.
+/// Returns the status of several pools that were run, by whether each ended without a fault.
 fn status_of_pools(each_ended: bool) -> Status
     ensures { result ≡ status_of_pools each_ended }
 {
@@ -63,16 +64,16 @@ fn status_of_pools(each_ended: bool) -> Status
     }
 }
 
-/// Whether each run ended.
+/// Returns whether each run ended without a fault.
 fn each_ended(answers: &[Result<Outcome, tp_work::Fault>]) -> bool
     ensures { result ≡ list_all is_ok answers.now }
 {
     answers.iter().all(|answer| answer.is_ok())
 }
 
-/// The registry in which the words' pools are registered, each under its word. Refused: `StoreFull` where there are more than 8
-/// words, and else for the first word in vain `BadSpec` where it names no pool, or `PoolKnown` where it stands before; and
-/// `Memory`, where the words before are not in vain.
+/// Returns the registry with the pools of the specifications, each registered under its specification. Refused with
+/// `StoreFull` if there are more than 8, and else for the first that is refused: `BadSpec` if it names no pool, or
+/// `PoolKnown` if it occurs before; with `Memory` if an allocation fails and those before are not refused.
 fn registry_of(alloc: Global, words: &[&str]) -> Result<Registry, Fault>
     ensures { MatchResult result
         (λ registry. (graphs : List AnyGraph) × AreNamed (map (λ w. w.now) words.now) graphs × (registry ≡ pools_of graphs))
@@ -90,7 +91,7 @@ fn registry_of(alloc: Global, words: &[&str]) -> Result<Registry, Fault>
     Ok(registry)
 }
 
-/// The fault of a word that was refused. Want of memory is none of its own.
+/// Returns the fault of a refused specification. An allocation failure is not its own fault.
 fn word_fault(refusal: Refusal) -> Fault
     ensures { result ≡ word_fault refusal }
 {
@@ -100,7 +101,7 @@ fn word_fault(refusal: Refusal) -> Fault
     }
 }
 
-/// What the runs of all pools answer, in the order of registration.
+/// Returns the results of the runs of all pools, in the order of registration.
 fn answers_of<R: Threads + Wait + Sync>(
     rt: &R,
     alloc: Global,
@@ -115,7 +116,7 @@ fn answers_of<R: Threads + Wait + Sync>(
     run_pools(rt, alloc, &mut registry, config, &OpenGate)
 }
 
-/// A line for each word's pool.
+/// Returns a line for the pool of each specification.
 fn text_of_pools(
     alloc: Global,
     words: &[&str],
@@ -132,7 +133,7 @@ fn text_of_pools(
     Ok(text)
 }
 
-/// The line of a pool.
+/// Returns the line of a pool.
 fn pool_line(
     alloc: Global,
     number: usize,

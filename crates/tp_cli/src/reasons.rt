@@ -1,5 +1,5 @@
-//! Why-messages: what is written at a terminal behind a fixed line. They are proved safe and total; their texts are tested. None of
-//! them takes memory.
+//! The reasons that are printed on a terminal after an error line. They are proved safe and total, and allocate
+//! nothing; their texts are tested.
 ghost use Rattle.tp_cli.specs.Reasons.{MayExplain};
 
 mod line;
@@ -17,15 +17,15 @@ use word::{explain_word, explain_words};
 pub(crate) enum Subject<'a> {
     /// Nothing that has a reason.
     Nothing,
-    /// The word of a run.
+    /// The specification of a run.
     Word(&'a str),
-    /// The words of several pools.
+    /// The specifications of several pools.
     Words(Vec<&'a str>),
     /// A script or a trace.
     Text(TextKind, AnsweredText),
 }
 
-/// Writes why this was refused, if it has a reason.
+/// Prints why this was refused, if it has a reason.
 pub(crate) fn explain<E: Diagnostics>(subject: &Subject, err: &mut E)
     ensures { MayExplain E.tells err.old err.new }
 {

@@ -1,3 +1,4 @@
+//! From arguments to a request.
 ghost use Rattle.std.specs.Prelude.{◌≡◌, Some, None, IfErr, IfOk, MatchOption, codes, map};
 ghost use Rattle.clap.specs.Values.{kind_of};
 ghost use Rattle.clap.specs.Words.{all_of, first_value, found_of, rows_of, subcommand_rows_of};
@@ -16,18 +17,18 @@ use std::alloc::{AllocError, Global};
 use tp_shell::{config_of, count_of};
 use tp_work::Config;
 
-/// What the words ask for.
+/// What the arguments ask for.
 #[derive(Drop)]
 pub(crate) enum Request<'a> {
-    /// The answer to a text that is read.
+    /// The reply to a script or a trace.
     Answer(TextKind),
-    /// A run of the pool that a word names.
+    /// A run of the pool that a specification names.
     Run(&'a str, Plan),
-    /// Runs at once of the pools that words name.
+    /// Runs, all at once, of the pools that specifications name.
     Pools(Vec<&'a str>, Config),
 }
 
-/// The request that the words make.
+/// Returns the request that the arguments make.
 pub(crate) fn requested<'a>(alloc: Global, words: &'a [&'a str]) -> Result<Request<'a>, Error>
     ensures asked { IfOk result (IsAskedBy (map (λ w. w.now) words.entry.now)) }
     ensures why { IfErr result (λ error.
@@ -42,7 +43,7 @@ pub(crate) fn requested<'a>(alloc: Global, words: &'a [&'a str]) -> Result<Reque
     }
 }
 
-/// The request that the matches make.
+/// Returns the request that the matches make.
 fn asked<'a>(alloc: Global, matches: &ArgMatches<'a>) -> Result<Option<Request<'a>>, AllocError>
     ensures { IfOk result (λ request.
         MatchOption request (IsNeither (subcommand_rows_of matches.now)) (IsMadeBy (subcommand_rows_of matches.now))) }
@@ -53,7 +54,7 @@ fn asked<'a>(alloc: Global, matches: &ArgMatches<'a>) -> Result<Option<Request<'
     }
 }
 
-/// The request that a subcommand makes with its arguments.
+/// Returns the request that a subcommand makes with its arguments.
 fn asked_of<'a>(
     alloc: Global,
     name: &str,
@@ -71,7 +72,7 @@ fn asked_of<'a>(
     }
 }
 
-/// The run that the arguments of `run` ask for.
+/// Returns the run that the arguments of `run` ask for.
 fn run_asked<'a>(arguments: &ArgMatches<'a>) -> Option<Request<'a>>
     ensures { MatchOption result (first_value (found_of arguments.now) (codes "SPEC") ≡ None)
         (IsMadeBy (Some (codes "run", rows_of (found_of arguments.now)))) }
@@ -80,7 +81,7 @@ fn run_asked<'a>(arguments: &ArgMatches<'a>) -> Option<Request<'a>>
     Some(Request::Run(spec, plan_of(arguments)))
 }
 
-/// The runs that the arguments of `pools` ask for.
+/// Returns the runs that the arguments of `pools` ask for.
 fn pools_asked<'a>(
     alloc: Global,
     arguments: &ArgMatches<'a>,
@@ -95,7 +96,7 @@ fn pools_asked<'a>(
     Ok(Some(Request::Pools(words, config_of(arguments))))
 }
 
-/// How the pool is run, and what is printed of it.
+/// Returns how the pool is run, and what is printed of it.
 fn plan_of(arguments: &ArgMatches) -> Plan
     ensures lawful { IsPlan result }
     ensures patient { result.config.idle_turns ≡ 100000000 }
@@ -110,7 +111,7 @@ fn plan_of(arguments: &ArgMatches) -> Plan
     }
 }
 
-/// What is printed of a run: its trace where the flag is there, and else its table.
+/// Returns what is printed of a run: its trace if the flag is set, and else its table.
 fn form_of(arguments: &ArgMatches) -> Form
     ensures { IsFormOf (rows_of (found_of arguments.now)) result }
 {

@@ -1,3 +1,4 @@
+//! The subcommand `run`: runs one pool, and prints its table or its trace.
 ghost use Rattle.std.specs.Prelude.{◌≡◌, ◌≢◌, ◌↔◌, ℕ, List, Err, IfErr, IfOk, MatchResult};
 ghost use Rattle.std.specs.Io.KnownBytes.{Appends};
 ghost use Rattle.std.specs.String.{string_bytes};
@@ -25,25 +26,25 @@ use tp_work::{Config, Outcome, Progress, Screen, run_pool_counted, watched};
 /// What is printed of a run.
 #[derive(Clone, Copy, Debug, PartialEq, Eq)]
 pub(crate) enum Form {
-    /// Its result as a table, and its totals, of each generation.
+    /// The result of each generation as a table, with its totals.
     Table,
-    /// The trace of its events, of all generations, alone.
+    /// Only the trace of its events, of all generations.
     Trace,
 }
 
 /// How a pool is run, and what is printed of it.
 #[derive(Clone, Copy, Debug, PartialEq, Eq)]
 pub(crate) struct Plan {
-    /// At how many nodes, and with how many workers.
+    /// The numbers of nodes and workers.
     pub(crate) config: Config,
-    /// In how many generations, 1 to 9: for each but the first the pool, whose end was judged, is reopened.
+    /// The number of generations, 1 to 9: for each but the first the pool is reopened.
     pub(crate) generations: u32,
     /// What is printed.
     pub(crate) form: Form,
 }
 
-/// Runs the pool that a word names, in so many generations, and writes their tables and totals or their one trace. Nothing is
-/// written before all of it is known. Meanwhile a screen is told how far the run is.
+/// Runs the pool that a specification names, in the given number of generations, and writes their tables and totals or
+/// their one trace. Nothing is written before the run has ended. Meanwhile the screen shows its progress.
 pub(crate) fn run<O: Write, R: Threads + Wait + Sync, W: Write + Send + Drop>(
     rt: &R,
     alloc: Global,
@@ -74,7 +75,7 @@ pub(crate) fn run<O: Write, R: Threads + Wait + Sync, W: Write + Send + Drop>(
     }
 }
 
-/// Runs a pool of a graph, in so many generations: what is printed of them. Meanwhile a screen is told how far the run is.
+/// Runs a pool of a graph, and returns what is printed of its generations. Meanwhile the screen shows its progress.
 fn text_watched<R: Threads + Wait + Sync, W: Write + Send + Drop>(
     rt: &R,
     alloc: Global,
@@ -106,7 +107,8 @@ fn text_watched<R: Threads + Wait + Sync, W: Write + Send + Drop>(
     )
 }
 
-/// Runs a pool of a graph, in so many generations: what is printed of them. The tasks are counted where there is a progress.
+/// Runs a pool of a graph, and returns what is printed of its generations. The tasks are counted if there is a
+/// progress.
 fn text_of_run<R: Threads + Wait + Sync>(
     rt: &R,
     alloc: Global,
@@ -127,7 +129,7 @@ fn text_of_run<R: Threads + Wait + Sync>(
     }
 }
 
-/// Runs a pool of a graph in one generation: what is printed of it.
+/// Runs a pool of a graph in one generation, and returns what is printed of it.
 fn text_of_one<R: Threads + Wait + Sync>(
     rt: &R,
     alloc: Global,
@@ -151,7 +153,7 @@ fn text_of_one<R: Threads + Wait + Sync>(
     }
 }
 
-/// What is printed of what a pool of a graph has made that was run so.
+/// Returns what is printed of an outcome.
 fn text_of_outcome(
     alloc: Global,
     graph: AnyGraph,
@@ -176,7 +178,7 @@ fn text_of_outcome(
     }
 }
 
-/// The table of a graph, from a result for each of its tasks, with the lines below it.
+/// Returns the table of a graph, from a result for each of its tasks, with the lines below it.
 pub(crate) fn text_of_results(
     alloc: Global,
     graph: AnyGraph,
@@ -195,7 +197,7 @@ pub(crate) fn text_of_results(
     Ok(text)
 }
 
-/// The lines below a pool's table.
+/// Returns the lines below a pool's table.
 fn totals(alloc: Global, tasks: u32, messages: u32) -> Result<String, AllocError>
     ensures { IfOk result (λ text. string_bytes text ≡ totals_text tasks messages) }
 {

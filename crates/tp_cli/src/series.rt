@@ -1,3 +1,4 @@
+//! Runs of a pool in several generations, and what is printed of them.
 ghost use Rattle.std.specs.Prelude.{◌≡◌, ◌⊎◌, ◌++◌, IfErr, IfOk, MatchResult, OnOk};
 ghost use Rattle.std.specs.List.{All};
 ghost use Rattle.tp_base.specs.declared.refusal.Refusal.TheVariants.{NoMemory};
@@ -17,7 +18,8 @@ use tp_graph::Graph;
 use tp_text::print_trace;
 use tp_work::{Counted, Fault, OpenGate, Progress, Round, Series, run_generations};
 
-/// Runs a pool of a graph in so many generations: what is printed of them. The tasks are counted where there is a progress.
+/// Runs a pool of a graph in several generations, and returns what is printed of them. The tasks are counted if there
+/// is a progress.
 pub(crate) fn text_of_generations<R: Threads + Wait + Sync>(
     rt: &R,
     alloc: Global,
@@ -40,7 +42,7 @@ pub(crate) fn text_of_generations<R: Threads + Wait + Sync>(
     }
 }
 
-/// Runs a pool of a graph in so many generations. The tasks are counted where there is a progress.
+/// Runs a pool of a graph in several generations. The tasks are counted if there is a progress.
 fn series_of<R: Threads + Wait + Sync>(
     rt: &R,
     alloc: Global,
@@ -58,7 +60,7 @@ fn series_of<R: Threads + Wait + Sync>(
     }
 }
 
-/// The same, with its tasks counted.
+/// Runs the pool with its tasks counted.
 fn series_counted<R: Threads + Wait + Sync>(
     rt: &R,
     alloc: Global,
@@ -76,7 +78,7 @@ fn series_counted<R: Threads + Wait + Sync>(
     run_generations(rt, alloc, counted, plan.config, &OpenGate, plan.generations)
 }
 
-/// What is printed of what a pool of a graph has made, in all its generations, that was run by this plan.
+/// Returns what is printed of a series.
 fn text_of_series(
     alloc: Global,
     graph: AnyGraph,
@@ -94,7 +96,7 @@ fn text_of_series(
     }
 }
 
-/// The rounds in their order, each under the number of its generation.
+/// Returns the text of the rounds in order, each under the number of its generation.
 fn text_of_rounds(alloc: Global, graph: AnyGraph, rounds: &[Round]) -> Result<Vec<u8>, Refusal>
     requires made { All (IsRoundOf graph) rounds.now }
     ensures text { IfOk result (λ text. text.items ≡ rounds_text graph 1 rounds.now) }
@@ -107,7 +109,7 @@ fn text_of_rounds(alloc: Global, graph: AnyGraph, rounds: &[Round]) -> Result<Ve
     Ok(text)
 }
 
-/// Adds a round under the number of its generation.
+/// Appends the text of a round under the number of its generation.
 fn push_round(
     alloc: Global,
     text: &mut Vec<u8>,

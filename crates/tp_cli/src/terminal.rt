@@ -1,3 +1,4 @@
+//! The program at a terminal, which also prints reasons and progress.
 ghost use Rattle.std.specs.Prelude.{◌≡◌, ◌≤◌, ◌⊎◌, IfErr, IfOk, map};
 ghost use Rattle.tp_cli.specs.Command.{ReadsAText};
 ghost use Rattle.tp_cli.specs.Ends.{CouldNotWrite, HasNothing, RefusedPool, RefusedText, Succeeded};
@@ -15,11 +16,12 @@ use std::thread::Threads;
 use tp_shell::{Diagnostics, Status, complain};
 use tp_work::Screen;
 
-/// Runs the program as [`crate::main_with`] does, for who reads the complaints at a terminal: where a word names no pool, or
-/// several words may not be registered, a second line says why; and where a line of a script or a trace is not of the grammar, a
-/// line says what is wrong with it. How these lines read is tested, and not proved. All else is the same: what is written to `out`,
-/// what is read, the first line, and the exit status. A script or a trace is kept until it is answered, so it takes its memory
-/// twice. While a pool is run a screen, where there is one, is told how far the run is.
+/// Runs the program as [`main_with`](crate::main_with) does, for a user who reads the error lines on a terminal. If a
+/// specification names no pool, or several may not be registered, a second line says why; if a line of a script or a
+/// trace is not of the grammar, a line says what is wrong with it. The texts of these lines are tested, not proved. All
+/// else is the same: what is written to `out`, what is read, the first line, and the exit status. A script or a trace
+/// is kept until the reply is written, so it needs twice its memory. While a pool runs, the screen, if there is one,
+/// shows its progress.
 pub fn main_at_terminal<
     R: Threads + Wait + Sync,
     I: Read,
@@ -36,15 +38,15 @@ pub fn main_at_terminal<
     screen: Option<Screen<W>>,
 ) -> u8
     ensures range { result ≤ 3 }
-    // 0: as without a terminal, and nothing is complained of.
+    // 0: as without a terminal, and there is no error line.
     ensures succeeded { result ≡ 0 → (err.new ≡ err.old) × Succeeded (map (λ w. w.now) words.now)
         (I.remaining reader.old) (I.remaining reader.new) (O.contents out.old) (O.contents out.new) }
-    // 1: as without a terminal, and behind the line of the fault its reason may be told, if it is one of the pools' words.
+    // 1: as without a terminal, and the reason may be printed after the error line, if it is about specifications.
     ensures complained { result ≡ 1 → (fault : Fault) × (told : E) × (result ≡ code_of (status_of fault))
         × E.tells err.old (line_of fault) told × IsExplained E.tells fault told err.new
         × (CouldNotWrite (map (λ w. w.now) words.now) (I.remaining reader.old) (I.remaining reader.new) fault
         ⊎ ((out.new ≡ out.old) × HasNothing (map (λ w. w.now) words.now) (I.remaining reader.old) (I.remaining reader.new) fault)) }
-    // 2: what is written is as without a terminal, and what is wrong with the text may be told.
+    // 2: the output is as without a terminal, and what is wrong with the text may be printed.
     ensures refused { result ≡ 2 → MayExplain E.tells err.old err.new × RefusedText (map (λ w. w.now) words.now)
         (I.remaining reader.old) (I.remaining reader.new) (O.contents out.old) (O.contents out.new) }
     // 3: as without a terminal.
@@ -57,7 +59,7 @@ pub fn main_at_terminal<
     told_explained(ended, &subject, err).code()
 }
 
-/// The status with which the program ended, or that of its fault, which is told, and behind it the reason.
+/// Returns the status with which the program ended, or that of its fault, after printing its line and then the reason.
 fn told_explained<E: Diagnostics>(
     ended: Result<Status, Fault>,
     subject: &Subject,
@@ -77,7 +79,7 @@ fn told_explained<E: Diagnostics>(
     }
 }
 
-/// Tells a fault, and behind it why the words name no pools where it is for that.
+/// Prints the line of a fault, and then why the specifications name no pools if that is the fault.
 fn fault_explained<E: Diagnostics>(fault: &Fault, subject: &Subject, err: &mut E) -> Status
     ensures status { result ≡ status_of fault.now }
     ensures told { (told : E) × E.tells err.old (line_of fault.now) told × IsExplained E.tells fault.now told err.new }

@@ -1,3 +1,4 @@
+//! The subcommands that read a text: `sim` for scripts, `audit` for traces.
 ghost use Rattle.std.specs.Prelude.{◌≡◌, ◌≢◌, List, ℕ, IfErr, IfOk};
 ghost use Rattle.std.specs.Io.KnownBytes.{Appends};
 ghost use Rattle.tp_cli.specs.Texts.{IsAnswerTo, IsUnansweredText};
@@ -9,14 +10,14 @@ use tp_text::{TextFault, Verdict, audit, sim};
 /// The kinds of texts that are read.
 #[derive(Clone, Copy, Debug, PartialEq, Eq)]
 pub(crate) enum TextKind {
-    /// A script, each of whose steps is answered.
+    /// A script: the reply has a line for each step.
     Script,
-    /// A trace, which is judged.
+    /// A trace: the reply is a judgement.
     Trace,
 }
 
 impl TextKind {
-    /// Reads a text of this kind to its end, and writes what is answered to it.
+    /// Reads a text of this kind to its end, and writes the reply.
     pub(crate) fn answer<I: Read, O: Write>(
         self,
         alloc: Global,

@@ -1,9 +1,9 @@
 -- What a core answers that takes control steps to the end, and what it is then.
 use Rattle.tp_core.proofs.Words.{Global, ℕ, ◌+◌, ◌*◌, ◌≡◌, ◌≤◌, ◌↔◌, List, [], ◌∷◌, ◌++◌, Bool, true, false, None, length, reverse, refl}
 use Rattle.tp_core.proofs.Words.{ap, sym, subst, ◌∙◌, inl, inr, arith, IsTrue, IsFalse, length-append, cases_Bool, both_ways, and_parts}
-use Rattle.tp_core.proofs.Words.{nat_tests, length-reverse, Vec, vec_capacity, list_all, Refusal, Ended, NotIdle, Step, Start, Down, Give}
-use Rattle.tp_core.proofs.Words.{Up, Judge, MAX_STEPS, first_refusal, waves, is_ended, is_control, nodes_of, Follows, Wave, Inside}
-use Rattle.tp_core.proofs.Words.{NodeNumbers, World, IsQuiet, is_quiet, present, generation, world, IsLawful, IsLawfulRun, MayCome, AreRuns}
+use Rattle.tp_core.proofs.Words.{nat_tests, length-reverse, Vec, vec_capacity, list_all, Refusal, NotIdle, Step}
+use Rattle.tp_core.proofs.Words.{Judge, MAX_STEPS, first_refusal, waves, is_ended, is_control, nodes_of, Follows, Wave, Inside}
+use Rattle.tp_core.proofs.Words.{NodeNumbers, World, IsQuiet, is_quiet, present, generation, world, IsLawful, IsLawfulRun, AreRuns}
 use Rattle.tp_core.proofs.Words.{Accepted, IsRefusedFor, world_of, accepted, Agree, IsKept, HasActions, HasMessages, HasNumbers, HasPieces}
 use Rattle.tp_core.proofs.Words.{HasPlaces, HasTasks, IsFrugal, all_left, settle_checks, rooms_check, ends_before, IsSettled, AreTaken}
 use Rattle.tp_core.proofs.Words.{MaySettle}
@@ -12,7 +12,7 @@ use Rattle.tp_core.proofs.Places.{control_places}
 use Rattle.tp_core.proofs.Quiet.{none_from_length}
 use Rattle.tp_core.proofs.Settling.{judged_soon}
 use Rattle.tp_core.proofs.Generations.{no_reopening, present-control}
-use Rattle.tp_core.proofs.Due.{world_stays, moved_stays}
+use Rattle.tp_core.proofs.Advancing.{control_comes, world_stays, moved_stays, waves_of}
 
 -- ---- the test of quiet
 quiet_shown : (w : World) → IsTrue (is_quiet w) → IsQuiet w
@@ -36,9 +36,6 @@ same_quiet false w h =
 -- ---- the refusals
 abbrev IsRefusal : Accepted → Refusal → Type 0
 IsRefusal a r = IsRefusedFor (first_refusal (settle_checks a)) (ends_before (length a.steps) (9 * a.nodes)) r
-
-pub by_end : (a : Accepted) → IsTrue (is_ended a.nodes (present a.steps)) → IsRefusal a Ended
-by_end a e = rw e refl
 
 pub by_quiet : (a : Accepted) → IsFalse (is_ended a.nodes (present a.steps)) → IsFalse (is_quiet (world_of a)) → IsRefusal a NotIdle
 by_quiet a e q = rw (e, q) refl
@@ -64,16 +61,7 @@ by_none a e q room = rw (e, q) (grind (arith, nat_tests, room))
 -- ---- before the steps are taken
 may_settle : {c : Inside} → IsKept c → IsFalse (is_ended c.nodes (present (accepted c).steps)) → IsTrue (is_quiet (world_of (accepted c)))
     → MaySettle c.nodes c.numbers (accepted c).steps c.wave
-may_settle {c} agree e q = record {
-  some_node = agree.some_node;
-  few_nodes = agree.few_nodes;
-  is_run = agree.is_run;
-  within = agree.within;
-  quiet = quiet_shown (world_of (accepted c)) q;
-  not_ended = e;
-  numbers_are = agree.numbers;
-  follows = agree.wave;
-}
+may_settle {c} agree e q = record { waves = waves_of agree; quiet = quiet_shown (world_of (accepted c)) q; not_ended = e }
 
 pub ready_there : (c : Inside) (mid : List Step) → IsKept c → IsFalse (is_ended c.nodes (present (accepted c).steps))
     → IsTrue (is_quiet (world_of (accepted c)))
@@ -86,36 +74,19 @@ ready_there c mid agree e q stay =
 same_world : (n : ℕ) (later old : List Step) → IsTrue (list_all is_control later) → world n (later ++ old) ≡ world n old
 same_world n [] old c = refl
 same_world n (s ∷ later) old c =
-    let parts : IsTrue (is_control s) × IsTrue (list_all is_control later) = both (is_control s) (list_all is_control later) c in
+    let parts : IsTrue (is_control s) × IsTrue (list_all is_control later) = and_parts (is_control s) (list_all is_control later) c in
     world_stays s (world n (later ++ old)) parts.0 ∙ same_world n later old parts.1
-  where
-    both : (a b : Bool) → IsTrue (Rattle.std.specs.Prelude.◌&&◌ a b) → IsTrue a × IsTrue b
-    both true b h = (refl, h)
-    both false b h = cc
 
 same_numbers : (n : ℕ) (xs : List NodeNumbers) (later old : List Step) → IsTrue (list_all is_control later) → IsLawfulRun n (later ++ old)
     → HasNumbers xs (record { nodes = n; steps = old }) → HasNumbers xs (record { nodes = n; steps = later ++ old })
 same_numbers n xs [] old c r h = h
 same_numbers n xs (s ∷ later) old c r h =
-    let parts : IsTrue (is_control s) × IsTrue (list_all is_control later) = both (is_control s) (list_all is_control later) c in
+    let parts : IsTrue (is_control s) × IsTrue (list_all is_control later) = and_parts (is_control s) (list_all is_control later) c in
     numbers_stay s (same_numbers n xs later old parts.1 r.1 h) r.0 (λ x. moved_stays s x parts.0)
-  where
-    both : (a b : Bool) → IsTrue (Rattle.std.specs.Prelude.◌&&◌ a b) → IsTrue a × IsTrue b
-    both true b h = (refl, h)
-    both false b h = cc
 
 -- fewer steps fit where more do
 pub fewer_pieces : (few many capacity : ℕ) → few ≤ many → HasPieces many capacity → HasPieces few capacity
 fewer_pieces few many capacity l h = omega (arith, l, h)
-
--- control steps that are a run of the generation go on with all of it
-control_comes : (n : ℕ) (past : List Step) (s : Step) → IsTrue (is_control s) → IsLawful n (present past) s → MayCome n past s
-control_comes n past Start c h = record { reopens = λ f. cc; goes_on = λ f. (h, tt) }
-control_comes n past (Down j) c h = record { reopens = λ f. cc; goes_on = λ f. (h, tt) }
-control_comes n past (Give j) c h = record { reopens = λ f. cc; goes_on = λ f. (h, tt) }
-control_comes n past (Up j) c h = record { reopens = λ f. cc; goes_on = λ f. (h, tt) }
-control_comes n past Judge c h = record { reopens = λ f. cc; goes_on = λ f. (h, tt) }
-control_comes n past (s) c h = cc
 
 runs_on : (n : ℕ) (later old : List Step) → IsTrue (list_all is_control later) → IsLawfulRun n (later ++ present old) → AreRuns n old
     → AreRuns n (later ++ old)

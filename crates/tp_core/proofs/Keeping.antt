@@ -1,7 +1,7 @@
 -- What a core keeps goes on to be what its steps say.
-use Rattle.tp_core.proofs.Words.{Global, ℕ, ◌+◌, ◌-◌, ◌≡◌, ◌<◌, ◌≤◌, List, [], ◌∷◌, ◌++◌, Bool, true, false, IsFalse, Some, length, refl}
+use Rattle.tp_core.proofs.Words.{ℕ, ◌+◌, ◌-◌, ◌≡◌, ◌<◌, ◌≤◌, List, [], ◌∷◌, ◌++◌, Bool, true, false, IsFalse, Some, length, refl}
 use Rattle.tp_core.proofs.Words.{ap, sym, subst, ◌∙◌, arith, set, length-set, eqb-true, nat_tests, reverse-append, length-reverse}
-use Rattle.tp_core.proofs.Words.{length-append, Vec, ◌==◌, not, vec_capacity, if◌then◌else◌, slice_index_or, Step, Insert, Supply, Begin}
+use Rattle.tp_core.proofs.Words.{length-append, ◌==◌, not, vec_capacity, if◌then◌else◌, slice_index_or, Step, Insert, Supply, Begin}
 use Rattle.tp_core.proofs.Words.{Done, ActionOpen, ActionClose, Ready, Send, Recv, MessageEnd, MAX_STEPS, MAX_NODES, count, is_send_of}
 use Rattle.tp_core.proofs.Words.{is_recv_at, pending_after, under_way_after, is_control, Follows, pool_step, Inside, Life, NodeNumbers}
 use Rattle.tp_core.proofs.Words.{World, Task, Opening, Named, OfMessage, is_action, is_message, is_done, how_many, with_life, supplied}
@@ -204,28 +204,3 @@ agree_next {c} {d} s agree comes on room pieces frugal pool nodes same_generatio
     agree_after s agree comes on room pieces frugal nodes same_generation stay pushed capacity numbers left under tasks actions messages
     places
     (rw wave (pool_step c.nodes (present (accepted c).steps) s c.wave pool agree.wave))
-
--- where a step was refused, after more room was made
-pub agree_room : {c : Inside} (steps : Vec Step Global) → IsKept c → steps.items ≡ c.steps.items
-    → HasPieces (length c.steps.items) (vec_capacity steps)
-    → IsFrugal (length c.steps.items) (vec_capacity steps) → IsKept (record c { steps = steps })
-agree_room {c} steps agree stay pieces frugal =
-    let same : accepted (record c { steps = steps }) ≡ accepted c = rw stay refl in
-    subst (λ a. Agree a (record c { steps = steps })) (sym same) record {
-      some_node = agree.some_node;
-      few_nodes = agree.few_nodes;
-      is_run = agree.is_run;
-      are_runs = agree.are_runs;
-      generation_is = agree.generation_is;
-      within = agree.within;
-      pieces = subst (λ (xs : List Step). HasPieces (length xs) (vec_capacity steps)) (sym stay) pieces;
-      frugal = subst (λ (xs : List Step). IsFrugal (length xs) (vec_capacity steps)) (sym stay) frugal;
-      numbers = agree.numbers;
-      left = agree.left;
-      under = agree.under;
-      tasks = agree.tasks;
-      actions = agree.actions;
-      messages = agree.messages;
-      places = agree.places;
-      wave = agree.wave;
-    }

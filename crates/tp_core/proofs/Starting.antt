@@ -1,39 +1,21 @@
 -- What a new core keeps, and where what is kept is quiet.
-use Rattle.tp_core.proofs.Words.{ℕ, zero, suc, ◌+◌, ◌≡◌, ◌<◌, ◌≤◌, List, [], ◌∷◌, ◌++◌, Bool, true, false, None, length, refl, ap, sym, ◌∙◌}
-use Rattle.tp_core.proofs.Words.{arith, zero-le, set, length-set, subst, nat_tests, ◌==◌, ◌&&◌, vec_capacity, nat_lt, if◌then◌else◌}
-use Rattle.tp_core.proofs.Words.{list_any, slice_index_or, MAX_NODES, MAX_STEPS, Step, Reopen, MayCome, length-reverse, length-append}
-use Rattle.tp_core.proofs.Words.{Follows, Inside, NodeSet, NodeNumbers, Posted, Table, lookup, has, Kind, Opening, Named, OfMessage}
+use Rattle.tp_core.proofs.Words.{ℕ, zero, suc, ◌+◌, ◌≡◌, ◌<◌, ◌≤◌, List, [], ◌∷◌, ◌++◌, Bool, false, None, length, refl, ap, sym, ◌∙◌}
+use Rattle.tp_core.proofs.Words.{arith, zero-le, subst, nat_tests, ◌&&◌, vec_capacity, nat_lt}
+use Rattle.tp_core.proofs.Words.{list_any, MAX_NODES, MAX_STEPS, Step, Reopen, MayCome, length-reverse, length-append}
+use Rattle.tp_core.proofs.Words.{Follows, Inside, NodeSet, Posted, Table, lookup, has, Kind, Opening, Named, OfMessage}
 use Rattle.tp_core.proofs.Words.{is_action, how_many, openings, IsQuiet, Accepted, world_of, numbers_in, accepted, Agree, IsKept}
 use Rattle.tp_core.proofs.Words.{HasActions, HasPieces, IsFrugal, AreOpened, opened_below, is_kept_open}
 use Rattle.tp_core.proofs.Counting.{open_at-openings}
 use Rattle.tp_core.proofs.Quiet.{none_from_length}
 use Rattle.tp_core.proofs.Places.{no_places}
-use Rattle.tp_core.proofs.Keeping.{zeros, accepted_next, frugal_next}
+use Rattle.tp_core.proofs.Keeping.{accepted_next, frugal_next}
 use Rattle.tp_core.proofs.Bounds.{length-openings}
-use Rattle.tp_core.proofs.Written.{written}
 
 -- ---- a new core
 any_opening : (i n : ℕ) (kind : Kind)
     → list_any (is_action i kind) (openings n) ≡ (nat_lt i n && list_any (is_action i kind) (record { node = i; kind = Opening } ∷ []))
 any_opening i zero kind = grind (arith, nat_tests)
 any_opening i (suc n) kind = grind (arith, nat_tests, any_opening i n kind)
-
-pub opened_more : {i : ℕ} {numbers : List NodeNumbers} {opening : NodeSet} → AreOpened i numbers opening → i < MAX_NODES → (new : NodeSet)
-    → ((k : ℕ) → has new k ≡ (if i == k then true else has opening k))
-    → AreOpened (i + 1)
-    (set numbers i
-    (record { pending = 1; sent = (slice_index_or numbers i zeros).sent; received = (slice_index_or numbers i zeros).received })) new
-opened_more {i} {numbers} {opening} before low new more = record {
-  size = length-set _ _ _ ∙ before.size;
-  each = λ k d h.
-      let at_i = before.each i zeros low in
-      let at_k = before.each k d h in
-      let size = before.size in
-      let sent = ap (λ (x : NodeNumbers). x.sent) at_i in
-      let received = ap (λ (x : NodeNumbers). x.received) at_i in
-      written numbers i k _ d (omega arith) ∙ rw (sent, received) (grind (arith, nat_tests, at_k));
-  opened = λ k. let one = more k in let old = before.opened k in grind (arith, nat_tests, one, old);
-}
 
 first_actions : (n : ℕ) (opening : NodeSet) (named : Table NodeSet) (messages : Table Posted) → ((k : ℕ) → has opening k ≡ nat_lt k n)
     → ((k : ℕ) → lookup named k ≡ None) → ((k : ℕ) → lookup messages k ≡ None) → HasActions opening named messages (openings n)

@@ -17,14 +17,3 @@ eight_same (suc (suc (suc (suc (suc zero))))) a = refl
 eight_same (suc (suc (suc (suc (suc (suc zero)))))) a = refl
 eight_same (suc (suc (suc (suc (suc (suc (suc zero))))))) a = refl
 eight_same (suc (suc (suc (suc (suc (suc (suc (suc i)))))))) a = refl
-
-pub eight_all : {A : Type 0} (i : ℕ) (a d : A) → i < 8 → slice_index_or (a ∷ a ∷ a ∷ a ∷ a ∷ a ∷ a ∷ a ∷ []) i d ≡ a
-eight_all zero a d h = refl
-eight_all (suc zero) a d h = refl
-eight_all (suc (suc zero)) a d h = refl
-eight_all (suc (suc (suc zero))) a d h = refl
-eight_all (suc (suc (suc (suc zero)))) a d h = refl
-eight_all (suc (suc (suc (suc (suc zero))))) a d h = refl
-eight_all (suc (suc (suc (suc (suc (suc zero)))))) a d h = refl
-eight_all (suc (suc (suc (suc (suc (suc (suc zero))))))) a d h = refl
-eight_all (suc (suc (suc (suc (suc (suc (suc (suc i)))))))) a d h = absurd (omega arith)

@@ -10,4 +10,5 @@ pub mod Accepted
 pub mod Kept
 pub mod Reached
 pub mod Settled
+pub mod Advancing
 pub mod ToTheEnd

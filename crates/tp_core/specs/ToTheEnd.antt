@@ -1,7 +1,6 @@
 -- What the code of a core keeps while control steps are taken until the end is judged.
-use Rattle.std.specs.Prelude.{ℕ, ◌+◌, ◌*◌, ◌≡◌, ◌<◌, ◌≤◌, List, ◌∷◌, ◌++◌, length, IsTrue, IsFalse, Option, Some, None}
+use Rattle.std.specs.Prelude.{ℕ, ◌+◌, ◌*◌, ◌≡◌, ◌≤◌, List, ◌∷◌, ◌++◌, length, IsTrue, IsFalse, Option, Some, None}
 use Rattle.std.specs.List.{list_all}
-use Rattle.tp_base.specs.declared.limits.TheConstants.{MAX_STEPS, MAX_NODES}
 use Rattle.tp_base.specs.declared.Step.{Step}
 use Rattle.tp_base.specs.declared.Step.TheVariants.{Judge}
 use Rattle.tp_wave.specs.Sums.{is_ended, judgement}
@@ -12,18 +11,13 @@ use Rattle.tp_wave.specs.declared.Wave.{Wave}
 use Rattle.tp_core.specs.declared.numbers.NodeNumbers.{NodeNumbers}
 use Rattle.tp_core.specs.World.{IsQuiet}
 use Rattle.tp_core.specs.Run.{world, IsLawful, IsLawfulRun}
-use Rattle.tp_core.specs.Kept.{HasNumbers}
+use Rattle.tp_core.specs.Advancing.{HasWaves}
 
 -- The steps on n nodes are a run after which nothing is left and the end was not judged; the numbers and the wave are what they say.
 pub record MaySettle (n : ℕ) (numbers : List NodeNumbers) (steps : List Step) (wave : Wave) : Type 0 where
-  pub some_node : 0 < n
-  pub few_nodes : n ≤ MAX_NODES
-  pub is_run : IsLawfulRun n (present steps)
-  pub within : length steps ≤ MAX_STEPS
+  pub waves : HasWaves n numbers steps wave
   pub quiet : IsQuiet (world n (present steps))
   pub not_ended : IsFalse (is_ended n (present steps))
-  pub numbers_are : HasNumbers numbers (record { nodes = n; steps = present steps })
-  pub follows : Follows n (present steps) wave
 
 -- A step is told to have judged that the pool had ended with a wave exactly where it did.
 abbrev pub IsTold : ℕ → List Step → Step → Option ℕ → Type 0

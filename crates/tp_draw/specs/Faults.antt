@@ -1,4 +1,4 @@
--- What is told of a fault on standard error, and the exit status that it gives.
+-- The error line of a fault, and its exit status.
 use Rattle.std.specs.Prelude.{ℕ, ◌++◌, List, codes}
 use Rattle.std.specs.String.{string_bytes}
 use Rattle.tp_draw.specs.declared.fault.Fault.{Fault}
@@ -10,20 +10,20 @@ use Rattle.tp_shell.specs.declared.words.WordsFault.TheVariants as words
 use Rattle.tp_text.specs.declared.fault.TextFault.{TextFault}
 use Rattle.tp_text.specs.declared.fault.TextFault.TheVariants as texts
 
--- of a trace that was not read
+-- the line of a trace that was not read
 abbrev pub text_line : TextFault → List ℕ
 text_line texts.Read = codes "fault read\n"
 text_line texts.TooLong = codes "fault too long\n"
 text_line texts.Write = codes "fault write\n"
 text_line texts.Memory = codes "refused 17 NoMemory\n"
 
--- of words that are at fault, the parser's own text
+-- for arguments that are at fault, the parser's own text
 abbrev pub words_line : WordsFault → List ℕ
 words_line (words.Words text) = string_bytes text ++ codes "\n"
 words_line words.Memory = text_line texts.Memory
 words_line words.Write = text_line texts.Write
 
--- what is told of a fault
+-- the error line of a fault
 abbrev pub line_of : Fault → List ℕ
 line_of (faults.Words fault) = words_line fault
 line_of (faults.Text fault) = text_line fault
@@ -33,7 +33,7 @@ line_of faults.TooLarge = codes "fault too large\n"
 line_of faults.Memory = text_line texts.Memory
 line_of faults.Write = text_line texts.Write
 
--- 1 where the words, the reading or the writing are at fault, 2 where the trace is not sound, 3 where memory was refused
+-- 1 if the arguments, the reading or the writing are at fault, 2 if the trace is not sound, 3 if an allocation failed
 abbrev pub status_of : Fault → Status
 status_of (faults.Words (words.Words text)) = statuses.Fault
 status_of (faults.Words words.Memory) = statuses.Failed

@@ -1,4 +1,4 @@
-//! The program `draw` as a call.
+//! The program `draw` as a call, from its arguments to its exit status.
 
 ghost use Rattle.std.specs.Prelude.{◌≡◌, ◌≤◌, ◌⊎◌, IfErr, OnOk};
 ghost use Rattle.tp_draw.specs.Ends.{HasReadTrace};
@@ -20,9 +20,10 @@ use tp_shell::{Diagnostics, complain, show};
 /// A graph that is drawn has at most this many tasks.
 const MAX_TASKS: u32 = 2_000;
 
-/// Runs the program on its arguments, its own name first. It reads from `reader`, writes its picture to `out` and a fault to `err`, and
-/// returns the exit status: 0 if the picture was written, or help or the version; 1 if the arguments, the reading or the
-/// writing are at fault; 2 if the trace is not sound; 3 if memory was refused.
+/// Runs the program with its arguments, beginning with its own name, and returns the exit status. It reads from
+/// `reader`, writes its picture to `out` and an error line to `err`. The status is 0 if the picture was written, or
+/// help or the version; 1 if the arguments, the reading or the writing are at fault; 2 if the trace is not sound; 3 if
+/// an allocation failed.
 pub fn draw_with<I: Read, O: Write, E: Diagnostics>(
     alloc: Global,
     words: &[&str],
@@ -34,7 +35,7 @@ pub fn draw_with<I: Read, O: Write, E: Diagnostics>(
     // 0: nothing is on standard error, and if something was read, it is a sound trace.
     ensures succeeded { result ≡ 0 → (err.new ≡ err.old)
         × (HasReadTrace (I.remaining reader.old) (I.remaining reader.new) ⊎ (reader.new ≡ reader.old)) }
-    // Else the status is that of a fault, whose line is all that is on standard error.
+    // Else the status is that of a fault, whose line is the only text on standard error.
     ensures complained { 1 ≤ result → (fault : Fault) × (result ≡ code_of (status_of fault))
         × E.tells err.old (line_of fault) err.new }
 {
@@ -63,7 +64,7 @@ fn answer<I: Read, O: Write>(
     }
 }
 
-/// Draws the graph of a pool specification. Nothing is written before the whole picture is there.
+/// Draws the graph of a pool specification. Nothing is written before the whole picture is made.
 fn draw_graph<O: Write>(
     alloc: Global,
     spec: &str,

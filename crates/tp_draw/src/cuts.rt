@@ -7,7 +7,7 @@ use std::alloc::AllocError;
 use std::fmt;
 use tp_base::Sums;
 
-/// The sums of a wave, as they are shown.
+/// The sums of a wave, as the picture shows them.
 #[derive(Clone, Copy)]
 struct Shown(Sums);
 
@@ -22,7 +22,7 @@ impl fmt::Display for Shown {
     }
 }
 
-/// How a wave is drawn: each of the two that prove an end is green.
+/// The style of a wave: the two whose equal sums detected termination are green.
 fn class_of(scene: &Scene, cut: &Cut) -> &'static str {
     let ended = cut.gives[0];
     for end in &scene.ends {
@@ -71,7 +71,7 @@ pub(crate) fn push_cut(out: &mut String, scene: &Scene, cut: &Cut) -> Result<(),
     Ok(())
 }
 
-/// The line at which an end was judged, and the ground since the wave before the last.
+/// The line at which termination was detected, and the ground since the wave before the last.
 pub(crate) fn push_end(out: &mut String, scene: &Scene, end: &End) -> Result<(), AllocError> {
     let from = scene.middle(end.since);
     let to = scene.middle(end.judged);
@@ -94,8 +94,8 @@ pub(crate) fn push_end(out: &mut String, scene: &Scene, end: &End) -> Result<(),
     )
 }
 
-/// The labels of waves over their lines at node 0, in two rows: to the left of the line, or to the right if there is no room on the
-/// left. One is left out if there is no room before the next of its row.
+/// The labels of waves over their lines at node 0, in two rows: to the left of the line, or to the right if there is no
+/// room on the left. A label is left out if there is no room before the next of its row.
 pub(crate) fn push_cut_labels(
     out: &mut String,
     scene: &Scene,

@@ -11,19 +11,19 @@ use tp_text::TextFault;
 /// Why nothing was drawn, or not all of it.
 #[derive(Drop)]
 pub enum Fault {
-    /// The words make no request, and nothing was shown for them.
+    /// The arguments make no request, and nothing was shown for them.
     Words(WordsFault),
     /// The trace was not read.
     Text(TextFault),
-    /// It is no sound trace: this is answered to it.
+    /// The trace is not sound: this is the complaint about it.
     Unsound(String),
-    /// The word names no graph.
+    /// The specification names no graph.
     NoPool,
     /// The graph has more tasks than are drawn.
     TooLarge,
-    /// There was no memory for the picture.
+    /// An allocation failed for the picture.
     Memory,
-    /// The picture could not be written; how much of it was is not known.
+    /// The picture could not be written; an unknown part of it was.
     Write,
 }
 
@@ -76,7 +76,7 @@ fn tell_words<E: Diagnostics>(fault: &WordsFault, err: &mut E)
     }
 }
 
-/// What is told of a trace that was not read.
+/// Returns the error line of a trace that was not read.
 fn text_line(fault: TextFault) -> &'static str
     ensures { result.now ≡ text_line fault }
 {
@@ -88,8 +88,8 @@ fn text_line(fault: TextFault) -> &'static str
     }
 }
 
-/// What is complained of, and the exit status, where the words of the command line could not be had: memory was refused, or
-/// one of them is not UTF-8.
+/// Returns the error line and the exit status for arguments that could not be read: an allocation failed, or one of
+/// them is not UTF-8.
 pub fn without_words(fault: ErrorKind) -> (&'static str, u8)
     ensures memory { fault ≡ ErrorKind.OutOfMemory → (result.0.now ≡ codes "refused 17 NoMemory\n") × (result.1 ≡ 3) }
     ensures words { fault ≢ ErrorKind.OutOfMemory → (result.0.now ≡ codes "fault words\n") × (result.1 ≡ 1) }

@@ -162,7 +162,8 @@ fn push_circles<G: Graph>(
     Ok(())
 }
 
-/// The picture of a graph on so many nodes, under a name. It takes memory for the text and for five numbers a task.
+/// Returns the picture of a graph on `nodes` nodes, under a name. It allocates the text and five numbers a task.
+/// Refused if an allocation fails.
 pub fn graph_page<G: Graph>(
     alloc: Global,
     name: &str,

@@ -7,7 +7,7 @@ use std::alloc::{AllocError, Global};
 use tp_base::TaskId;
 use tp_graph::Graph;
 
-/// How a text begins: eight colours are the nodes'.
+/// The beginning of a text: eight colours are the nodes'.
 static HEAD: &str =
     "digraph graph_of_tasks {\nnode [shape=circle, style=filled, fontcolor=white, colorscheme=dark28];\n";
 
@@ -33,7 +33,8 @@ fn push_cluster<G: Graph>(
     out.push_str("}\n")
 }
 
-/// A graph on so many nodes as text for graphviz: a cluster for each node, an edge for each feed. It takes memory for the text alone.
+/// Returns a graph on `nodes` nodes as text for graphviz: a cluster for each node, an edge for each feed. It allocates
+/// only the text. Refused if an allocation fails.
 pub fn dot<G: Graph>(alloc: Global, graph: G, nodes: u32) -> Result<String, AllocError>
     requires { (1 ≤ nodes) × (nodes ≤ MAX_NODES) }
 {

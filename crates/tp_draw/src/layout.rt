@@ -82,7 +82,7 @@ impl Scene {
         }
     }
 
-    /// Where a place is from the left that has `half` of all half events before it.
+    /// The distance from the left after `half` of all half events.
     fn across(&self, half: u64) -> u64 {
         let all = 2 * u64::from(self.events.max(1));
         (half.saturating_mul(self.span()) / all.max(1)).saturating_add(LEFT)
@@ -103,7 +103,7 @@ impl Scene {
         self.span().saturating_add(LEFT)
     }
 
-    /// Where something ends that lasts to the middle of an event, or to the end of the trace.
+    /// The right end of something that lasts to the middle of an event, or to the end of the trace.
     pub(crate) fn reach(&self, event: u32) -> u64 {
         self.middle(event).min(self.right())
     }
@@ -171,12 +171,12 @@ impl Scene {
             .saturating_add(distance)
     }
 
-    /// How wide the page is; its headline takes 640 pixels.
+    /// Returns the width of the page, in tenths of a pixel; its headline takes 640 pixels.
     pub fn width(&self) -> u64 {
         self.right().saturating_add(440).max(6_400)
     }
 
-    /// How high the page is.
+    /// Returns the height of the page, in tenths of a pixel.
     pub fn page_height(&self) -> u64 {
         self.below(700)
     }

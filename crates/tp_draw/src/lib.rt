@@ -1,7 +1,9 @@
-//! Pictures of runs and of graphs, as SVG or for graphviz, and the program `draw` as a call over its arguments, its input and its output.
+//! Pictures of runs and of graphs, as SVG or for graphviz, and the program `draw` as a call over its arguments, its
+//! input and its output.
 //!
-//! The pictures are tested: they are compared with stored ones. Proved are that every call is safe and ends, and what the clauses of
-//! [`draw_with`] and [`draw_run`] say: the exit status, and that nothing is drawn of a trace that is not sound.
+//! The pictures are tested: they are compared with stored ones. Contracts say that every call is safe and ends, and the
+//! clauses of [`draw_with`] and [`draw_run`] say which exit status is returned, and that no picture is drawn from a
+//! trace that is not sound.
 #![tactic(auto)]
 
 mod chart;

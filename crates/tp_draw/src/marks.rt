@@ -83,7 +83,7 @@ pub(crate) fn push_running(
     push_number(out, scene, run, area)
 }
 
-/// White ground where nothing was pending. Where sums are drawn, it has to be two pixels wide for each node that there is.
+/// White ground while nothing was pending. If sums are drawn, it has to be at least two pixels wide for each node.
 pub(crate) fn push_pause(out: &mut String, scene: &Scene, pause: &Pause) -> Result<(), AllocError> {
     let from = scene.middle(pause.from);
     let node = pause.node.0;
@@ -101,7 +101,7 @@ pub(crate) fn push_pause(out: &mut String, scene: &Scene, pause: &Pause) -> Resu
     write!(out, "<rect class=\"idle\"{area}/>\n")
 }
 
-/// From which edge of a lane to which of another a message goes.
+/// From which edge of one lane to which edge of another a message goes.
 pub(crate) fn ends_of(scene: &Scene, from: NodeId, to: NodeId) -> (u64, u64) {
     if from.0 < to.0 {
         (scene.foot(from.0), scene.top(to.0))

@@ -1,4 +1,4 @@
-//! The messages of a run: those that are under way, and those that were received.
+//! The messages of a run: those in flight, and those that were received.
 
 use crate::scene::{Arrow, Sending};
 use std::alloc::{AllocError, Global};

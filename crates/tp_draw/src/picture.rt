@@ -3,10 +3,10 @@
 use crate::lengths::Tenths;
 use std::alloc::{AllocError, Global};
 
-/// A picture is shown at least so many pixels wide.
+/// The least width of a picture, in pixels.
 pub(crate) const MIN_PIXELS: u32 = 100;
 
-/// And at most so many.
+/// The greatest width of a picture, in pixels.
 pub(crate) const MAX_PIXELS: u32 = 20_000;
 
 /// An SVG, and its size in tenths of a pixel.
@@ -18,7 +18,7 @@ pub struct Picture {
 }
 
 impl Picture {
-    /// The text of the picture so many pixels wide, and as high as that makes it; or in its own size.
+    /// The text of the picture, this many pixels wide and as high as that requires, or in its own size.
     pub(crate) fn shown(self, alloc: Global, pixels: Option<u32>) -> Result<String, AllocError> {
         let Some(pixels) = pixels else {
             return Ok(self.text);

@@ -11,7 +11,7 @@ use tp_shell::count_of;
 /// What is written of a graph.
 #[derive(Clone, Copy, Debug, PartialEq, Eq)]
 pub(crate) enum GraphForm {
-    /// Its picture, so many pixels wide, or in its own size.
+    /// Its picture, this many pixels wide, or in its own size.
     Picture(Option<u32>),
     /// Its text for graphviz.
     Dot,

@@ -22,7 +22,7 @@ pub struct View {
     pub until_fault: bool,
 }
 
-/// Reads a trace and writes the picture of its run. Nothing is written before the whole picture is there.
+/// Reads a trace and writes the picture of its run. Nothing is written before the whole picture is made.
 pub fn draw_run<I: Read, O: Write>(
     alloc: Global,
     view: View,
@@ -31,7 +31,7 @@ pub fn draw_run<I: Read, O: Write>(
 ) -> Result<(), Fault>
     // It succeeds only if all was read and it is a sound trace.
     ensures sound { OnOk result (HasReadTrace (I.remaining reader.old) (I.remaining reader.new)) }
-    // Of a trace that is not sound nothing is drawn, unless what is before its fault is asked for.
+    // No picture is drawn from a trace that is not sound, unless the part before its fault is asked for.
     ensures unwritten { view.until_fault ≡ false → IfErr result (λ fault. fault ≢ Fault.Write → out.new ≡ out.old) }
 {
     match read_trace(alloc, reader) {
@@ -57,7 +57,7 @@ fn text_of(alloc: Global, complaint: Vec<u8>) -> String {
     String::from_utf8(complaint).unwrap_or(String::new(alloc))
 }
 
-/// The picture of the steps of a trace, with the mark of the fault behind them if there is one.
+/// The picture of the steps of a trace, with the mark of the fault after them if there is one.
 fn picture_of(
     alloc: Global,
     trace: &Trace,

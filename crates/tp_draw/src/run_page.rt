@@ -26,7 +26,7 @@ fn push_head(out: &mut String, scene: &Scene) -> Result<(), AllocError> {
     Ok(())
 }
 
-/// What the run came to, whether its end was judged, and the legend.
+/// The numbers of the run, whether its termination was detected, and the legend.
 fn push_headline(out: &mut String, scene: &Scene) -> Result<(), AllocError> {
     let tasks = Counted(scene.bars.len() as u64, "task");
     let messages = Counted(scene.arrows.len() as u64, "message");
@@ -207,7 +207,8 @@ fn push_fault(out: &mut String, scene: &Scene, label: &str) -> Result<(), AllocE
     )
 }
 
-/// The picture of a scene, as an SVG of version 1.1. It takes memory for the text alone.
+/// Returns the picture of a scene, as an SVG of version 1.1. It allocates only the text. Refused if an allocation
+/// fails.
 pub fn svg(alloc: Global, scene: &Scene) -> Result<String, AllocError> {
     let mut out = String::new(alloc);
     push_picture(&mut out, scene)?;

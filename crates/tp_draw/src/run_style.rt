@@ -31,7 +31,7 @@ text.tells,.told,.seen{fill:#4fc47a}.over{fill:#4fc47a;fill-opacity:.12}
 <rect class=\"page\" width=\"100%\" height=\"100%\"/>
 ";
 
-/// In place of single tasks and messages.
+/// The style if sums are drawn instead of single tasks and messages.
 pub(crate) static STYLE_OF_SUMS: &str = "<style>
 .hill{fill-opacity:.85}.r{fill:none;stroke-opacity:.38}
 .r0{stroke:#2f6db5}.r1{stroke:#c4572a}.r2{stroke:#3f8f4f}.r3{stroke:#8a55a8}

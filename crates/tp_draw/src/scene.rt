@@ -18,7 +18,7 @@ pub struct Bar {
     pub to: u32,
 }
 
-/// A message that is under way: it was sent at this event.
+/// A message in flight: it was sent at this event.
 #[derive(Clone, Copy, Debug, PartialEq, Eq)]
 pub struct Sending {
     pub message: MessageId,
@@ -49,7 +49,8 @@ pub struct Pause {
     pub to: u32,
 }
 
-/// The end was judged: at an event, with the number of the wave before the last, which ended at the event `since`.
+/// Termination was detected: at an event, with the number of the wave before the last, which ended at the event
+/// `since`.
 #[derive(Clone, Copy, Debug, PartialEq, Eq)]
 pub struct End {
     pub wave: u32,
@@ -80,7 +81,7 @@ pub struct Ribbon {
     pub count: u32,
 }
 
-/// What is drawn of a run. Each list is in the order of time, but for the ribbons, the newest of which comes first.
+/// What is drawn of a run. Each list is in order of time, except the ribbons, the newest of which comes first.
 #[derive(Drop)]
 pub struct Scene {
     /// The number of nodes, 1 to 8.
@@ -109,8 +110,8 @@ pub struct Scene {
     pub pauses: Vec<Pause>,
     /// Where the pool was reopened.
     pub seams: Vec<Seam>,
-    /// Where the end was judged: at most once a generation.
+    /// Where termination was detected: at most once a generation.
     pub ends: Vec<End>,
-    /// The number of the wave with which the present generation was judged to have ended.
+    /// The number of the wave with which termination of the present generation was detected.
     pub ended: Option<u32>,
 }

@@ -55,7 +55,7 @@ impl Sketch {
         Ok(())
     }
 
-    /// What is drawn of the steps, which gave so many events.
+    /// What is drawn of the steps, which gave this many events.
     fn finish(self, alloc: Global, events: u32) -> Result<Scene, AllocError> {
         let Sketch {
             nodes,
@@ -88,9 +88,9 @@ impl Sketch {
     }
 }
 
-/// What is drawn of these steps of a run on `nodes` nodes. It takes the memory of a core of the steps, and of what is drawn.
+/// Returns what is drawn of these steps of a run on `nodes` nodes. It allocates a core of the steps, and the scene.
 ///
-/// A step is refused as a core refuses it; an allocation failure gives `NoMemory`.
+/// A step is refused as a core refuses it; `NoMemory` if an allocation fails.
 pub fn scene_of(alloc: Global, nodes: u32, steps: &[Step]) -> Result<Scene, Refusal>
     requires { (1 ≤ nodes) × (nodes ≤ 8) }
 {

@@ -1,4 +1,4 @@
-//! What is drawn of a long trace in place of its tasks and messages: hills of load, and ribbons.
+//! What is drawn of a long trace instead of its tasks and messages: hills of load, and ribbons.
 
 use crate::columns::COLUMNS;
 use crate::lengths::{Curve, Point, Tenths};
@@ -6,7 +6,8 @@ use crate::marks::ends_of;
 use crate::scene::{Ribbon, Scene};
 use std::alloc::AllocError;
 
-/// How high the hill of a node is in a column: 40 pixels if, all the time, as many tasks run as ever ran there at once.
+/// The height of the hill of a node in a column: 40 pixels if at every event of it as many tasks run as ever ran there
+/// at once.
 fn rise(scene: &Scene, node: u32, column: usize) -> u64 {
     let at = (node as usize)
         .saturating_mul(COLUMNS)
@@ -32,13 +33,13 @@ pub(crate) fn push_hill(out: &mut String, scene: &Scene, node: u32) -> Result<()
     )
 }
 
-/// The place from the left at so many tenths of a band's width.
+/// The place from the left at this many tenths of a band's width.
 fn in_band(wide: u32, band: u32, tenths: u64) -> u64 {
     let band = u128::from(band) * 10 + u128::from(tenths);
     (u128::from(wide) * band).saturating_add(740).min(15_740) as u64
 }
 
-/// The greatest number, of at most so many, whose square is at most this.
+/// The greatest number, at most `most`, whose square is at most this.
 fn root(most: u64, square: u64) -> u64 {
     for less in 0..most {
         let root = most - less;
@@ -49,7 +50,7 @@ fn root(most: u64, square: u64) -> u64 {
     0
 }
 
-/// How wide a ribbon of so many messages is: half a pixel, and 0.6 times their root, at most 9 pixels.
+/// The width of a ribbon of `count` messages: half a pixel, and 0.6 times the square root of `count`, at most 9 pixels.
 fn breadth(count: u32) -> u64 {
     let count = u64::from(count);
     root((count * 6).min(85), count * 36).saturating_add(5)

@@ -1,4 +1,4 @@
-//! The waves of a run: the cuts of those that ended, where the end was judged, and where the pool was reopened.
+//! The waves of a run: the cuts of those that ended, where termination was detected, and where the pool was reopened.
 
 use crate::scene::{Cut, End, Seam};
 use std::alloc::{AllocError, Global};

@@ -1,4 +1,4 @@
-//! What the program answers to the words of a row with an input, as it is printed.
+//! Runs the program with the arguments and the input of a row, and prints what it writes.
 
 use crate::rows::Shown;
 use std::alloc::Global;
@@ -9,7 +9,7 @@ use tp_cli::main_with;
 
 const AUDIT: [&str; 2] = ["tp", "audit"];
 
-/// What is answered to words with an input: what was written, what was complained of, and the exit status.
+/// What the program writes for some arguments and an input: its output, its error lines, and the exit status.
 #[derive(Drop)]
 struct ProgramAnswer {
     out: String,
@@ -40,8 +40,7 @@ fn text_of(bytes: Vec<u8>) -> io::Result<String> {
     String::from_utf8(bytes).map_err(|_| ErrorKind::InvalidData.into())
 }
 
-/// Prints under the name of a row what is answered to words with an input: what was written, after `! ` each line of what was complained
-/// of, and the exit status.
+/// Prints under the name of a row what the program writes: its output, each error line after `! `, and the exit status.
 pub(crate) fn print_answer<R: Threads + Wait + Sync, W: Write>(
     rt: &R,
     alloc: Global,
@@ -57,8 +56,8 @@ pub(crate) fn print_answer<R: Threads + Wait + Sync, W: Write>(
     writeln!(printer, "status {}", answer.status)
 }
 
-/// Has the trace of a run judged, and prints under the name of its row, of the judgement, what does not depend on the order of the events: how many tasks
-/// and messages there are, how it ends, and the exit statuses of both.
+/// Judges the trace of a run, and prints under the name of its row the part of the judgement that does not depend on
+/// the order of the events: the numbers of tasks and messages, the last line, and the exit statuses of both.
 pub(crate) fn print_judgement<R: Threads + Wait + Sync, W: Write>(
     rt: &R,
     alloc: Global,
@@ -78,7 +77,7 @@ pub(crate) fn print_judgement<R: Threads + Wait + Sync, W: Write>(
     writeln!(printer, "statuses {} {}", trace.status, judgement.status)
 }
 
-/// Has each part of a run's trace judged that ends with a line of it, and prints the last line of each judgement.
+/// Judges each prefix of a run's trace that ends with a line of it, and prints the last line of each judgement.
 pub(crate) fn print_judgements_of_parts<R: Threads + Wait + Sync, W: Write>(
     rt: &R,
     alloc: Global,

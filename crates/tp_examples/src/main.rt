@@ -1,4 +1,4 @@
-//! Runs the rows of the command line one after the other, and prints what is answered to each.
+//! Runs the stored command lines one after the other, and prints what the program writes for each.
 #![tactic(auto)]
 
 mod answer;

@@ -1,6 +1,6 @@
 //! The rows: what is run, each under a name that says what it shows.
 
-/// The scripts that lie in the data folder, each under its file's name.
+/// The scripts in the data folder, each under its file's name.
 pub(crate) static SCRIPTS: [&str; 26] = [
     "a-task",
     "a-refused-step",
@@ -30,7 +30,7 @@ pub(crate) static SCRIPTS: [&str; 26] = [
     "three-generations",
 ];
 
-/// Texts that are no scripts, for one fault each.
+/// Texts that are no scripts, one for each fault.
 pub(crate) static TEXTS: [(&str, &str); 21] = [
     ("an-empty-text", ""),
     ("a-script-of-no-nodes-is-refused", "nodes 0\n"),
@@ -58,7 +58,7 @@ pub(crate) static TEXTS: [(&str, &str); 21] = [
     ("a-reopening-in-version-one", "nodes 1\nready 0\nreopen\n"),
 ];
 
-/// The traces that lie in the data folder, each under its file's name.
+/// The traces in the data folder, each under its file's name.
 pub(crate) static TRACES: [&str; 8] = [
     "a-sound-trace",
     "a-trace-of-an-unknown-task",
@@ -70,7 +70,7 @@ pub(crate) static TRACES: [&str; 8] = [
     "a-trace-of-two-generations",
 ];
 
-/// Short traces, and texts that are no traces, for one fault each.
+/// Short traces, and texts that are no traces, one for each fault.
 pub(crate) static TRACE_TEXTS: [(&str, &str); 12] = [
     ("a-trace-of-nothing", "trace 1\nnodes 2\n"),
     (
@@ -108,19 +108,19 @@ pub(crate) static TRACE_TEXTS: [(&str, &str); 12] = [
     ("a-trace-of-no-version", "trace 3\nnodes 1\n"),
 ];
 
-/// How much of an answer is printed.
+/// How much of an output is printed.
 #[derive(Clone, Copy)]
 pub(crate) enum Shown {
     /// All of it.
     Whole,
-    /// Of the parser's own text, which says what is wrong with the words, that it speaks of help and of no refusal.
+    /// Of the parser's own text, which says what is wrong with the arguments: that it mentions help and no refusal.
     WrongWords,
-    /// Of the help, which is long, that this stands in it.
+    /// Of the help, which is long: that it contains this.
     Help(&'static str),
 }
 
-/// Words of command lines: runs of pools, words that name no pool, words that are of no command line, and words that ask for
-/// help.
+/// Command lines: runs of pools, specifications that name no pool, arguments that make no request, and arguments that
+/// ask for help.
 pub(crate) static COMMANDS: [(&str, &[&str], Shown); 52] = [
     (
         "a-product-in-tiles",

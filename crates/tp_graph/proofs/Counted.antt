@@ -1,4 +1,4 @@
--- The steps that work a graph out, counted kind by kind.
+-- The steps that compute a graph, counted kind by kind.
 use Rattle.std.proofs.Common.{◌≡◌, ◌∙◌, ◌+◌, ◌-◌, ◌*◌, ◌<◌, ◌≤◌, ◌==◌, ◌⊎◌, ℕ, zero, suc, Bool, true, false, List, [], ◌∷◌, refl, sym, ap}
 use Rattle.std.proofs.Common.{inl, inr, arith}
 use Rattle.std.proofs.lemmas.Bool.{cases_lt, eq-eqb, lt-ltb, ne_eqb}
@@ -6,14 +6,14 @@ use Rattle.std.proofs.lemmas.Bool.Decides.{nat_tests}
 use Rattle.std.specs.Prelude.{nat_lt}
 use Rattle.tp_base.specs.declared.Step.{Step}
 use Rattle.tp_base.specs.declared.Step.TheVariants.{Insert, Supply, Begin, Done, Send, Recv, MessageEnd}
-use Rattle.tp_wave.proofs.Totals.{total-equal, total-zero, total_one-changes}
+use Rattle.tp_base.proofs.Totals.{total-equal, total-zero, total_one-changes}
 use Rattle.tp_wave.specs.Steps.{count, is_recv, is_send}
-use Rattle.tp_wave.specs.Sums.{total}
+use Rattle.tp_base.specs.Totals.{total}
 use Rattle.tp_graph.proofs.Totals.{total-const}
 use Rattle.tp_graph.specs.Events.{EventsLaw, below, is_begin_of, is_done_of, is_insert_of, is_message_end, is_supply_of}
 use Rattle.tp_graph.specs.Events.{is_work, task_events}
 
--- what a task below a number has, and what one that is not
+-- the count of a task below a number, and that of one that is not
 below-some : (tasks : ℕ) (f : ℕ → ℕ) (t : ℕ) → t < tasks → below tasks f t ≡ f t
 below-some tasks f t lt = rw (lt-ltb t tasks lt) refl
 
@@ -64,14 +64,14 @@ count-yes test s past passes = rw passes refl
 count-no : (test : Step → Bool) (s : Step) (past : List Step) → test s ≡ false → count test (s ∷ past) ≡ count test past
 count-no test s past fails = rw fails refl
 
--- what no task from a number on has, it had not before
+-- a count that no task from a number on has now, it did not have before
 none-before : (test : Step → Bool) (s : Step) (past : List Step) (b : Bool) → test s ≡ b → count test (s ∷ past) ≡ 0
     → (b ≡ false) × (count test past ≡ 0)
 none-before test s past true is none = absurd (omega (arith, count-yes test s past is, none))
 none-before test s past false is none = (refl, omega (arith, count-no test s past is, none))
 
 module _ (of : ℕ → Step → Bool) (is : Step → Bool) (each : (s : Step) → IsOfOne of is s) (tasks : ℕ) where
-  -- where only tasks below a number have steps of a kind, these are all of the kind
+  -- if only tasks below a number have steps of a kind, these are all of the kind
   count_each : (steps : List Step) → ((t : ℕ) → tasks ≤ t → count (of t) steps ≡ 0) → total tasks (λ t. count (of t) steps) ≡ count is steps
   count_each [] none = total-zero tasks
   count_each (s ∷ past) none =
@@ -93,7 +93,7 @@ module _ (of : ℕ → Step → Bool) (is : Step → Bool) (each : (s : Step) �
             more ∙ ap (λ k. k + 1) rest ∙ sym (count-yes is s past one.1)
       ]
 
-  -- all steps of a kind, where each task below a number has so many, and no other task any
+  -- all steps of a kind, if each task below a number has this many, and no other task any
   kind : (f : ℕ → ℕ) (steps : List Step) → ((t : ℕ) → count (of t) steps ≡ below tasks f t) → count is steps ≡ total tasks f
   kind f steps has =
       sym (count_each steps (λ t le. has t ∙ below-none tasks f t le))
@@ -138,7 +138,8 @@ events_counted n g steps h =
       h.closed,
     )
 
--- Where each task is inserted, begins and is done once, there are 3 steps for each at least, beside the messages sent and received.
+-- If each task is inserted, begins and is done once, there are at least 3 steps for each, and those of the messages sent and
+-- received.
 pub least_steps : (tasks : ℕ) (steps : List Step) → ((t : ℕ) → count (is_insert_of t) steps ≡ below tasks (λ u. 1) t)
     → ((t : ℕ) → count (is_begin_of t) steps ≡ below tasks (λ u. 1) t)
     → ((t : ℕ) → count (is_done_of t) steps ≡ below tasks (λ u. 1) t)

@@ -1,4 +1,4 @@
--- What a run leaves is each task's value where the graph keeps it.
+-- What a run leaves is each task's value if the graph keeps it.
 use Rattle.std.proofs.Common.{◌≡◌, ℕ, ℤ, List, [], Option, Some, None, true, get_or, if◌then◌else◌, refl, sym, ap, ◌∙◌}
 use Rattle.tp_graph.specs.Graphs.{TaskGraph, KeepsAll}
 use Rattle.tp_graph.specs.Left.{AreKept, AreResults, left_of, result_of}
@@ -25,9 +25,6 @@ results_kept g results each = λ k d h kept. sym (result_kept g (get_or results 
 pub right_kept : (g : TaskGraph) (results : Results) → AreRight g results → AreKept g results
 right_kept g results each = λ k d h kept. each k d h
 
--- where all are kept, results are the values
+-- if all are kept, results are the values
 pub results_right : (g : TaskGraph) (results : Results) → KeepsAll g → AreResults g results → AreRight g results
 results_right g results all each = λ k d h. sym (result_kept g (get_or results k d).0.0 (all (get_or results k d).0.0)) ∙ each k d h
-
-pub right_results : (g : TaskGraph) (results : Results) → KeepsAll g → AreRight g results → AreResults g results
-right_results g results all each = λ k d h. result_kept g (get_or results k d).0.0 (all (get_or results k d).0.0) ∙ each k d h

@@ -37,7 +37,7 @@ none_below (x ∷ xs) t h =
     let other : t < x.0.0 = h 0 x (omega arith) in
     times-other x xs t (λ e. absurd (omega (arith, e, other))) ∙ none_below xs t (λ i d p. h (suc i) d (omega arith))
 
--- so many tasks from a number on have one result each, and no other task has any
+-- this many tasks from a number on have one result each, and no other task has any
 record AreFrom (a n : ℕ) (xs : Results) : Type 0 where
   below : (t : ℕ) → t < a → times t xs ≡ 0
   inside : (t : ℕ) → a ≤ t → t < a + n → times t xs ≡ 1

@@ -1,4 +1,4 @@
--- The places of results.
+-- The index of results by task.
 use Rattle.std.proofs.Common.{◌≡◌, ◌≢◌, ◌<◌, ◌≤◌, ◌+◌, ℕ, ℤ, List, length, get_or, set, sym, ap, ◌∙◌, ⊎_elim, arith, subst}
 use Rattle.std.specs.List.{All}
 use Rattle.std.proofs.lemmas.Bool.{cases_eq, cases_lt}
@@ -7,7 +7,7 @@ use Rattle.tp_base.specs.declared.TaskId.{TaskId}
 use Rattle.tp_graph.specs.Serial.{Results}
 use Rattle.tp_graph.specs.Found.{IsPlaceOf, ArePlaces}
 
--- places as far as the first results tell, so many
+-- the index after this many first results
 pub record ArePlacesTo (tasks : ℕ) (results : Results) (seen : ℕ) (places : List ℕ) : Type 0 where
   pub long : length places ≡ tasks
   pub each : (t k : ℕ) → t < tasks → k < seen → IsPlaceOf results t k → IsPlaceOf results t (get_or places t 0)

@@ -1,4 +1,4 @@
--- Tasks in rows of a table: task t stands in row t / w and column t % w, where a row has w tasks.
+-- Tasks in rows of a table: task t is in row t / w and column t % w, if a row has w tasks.
 use Rattle.std.proofs.Common.{◌≡◌, ◌<◌, ◌≤◌, ◌+◌, ◌-◌, ◌*◌, ◌/◌, ◌%◌, ℕ, zero, suc, ap, sym, ◌∙◌, arith}
 use Rattle.std.proofs.lemmas.Nat.{div-add-mod', mod-mul-add, div-mul-add, mul-add-lt, div_below}
 
@@ -28,7 +28,7 @@ mod_up w t p h =
     let e : t - w + w ≡ t = omega arith in
     sym (mod_down w (t - w) p) ∙ ap (λ m. m % w) e
 
--- the next place of a row is within the table of so many rows
+-- the next place of a row is within the table of this many rows
 pub right_within : (rows w t : ℕ) → 0 < w → t < rows * w → t % w + 1 < w → t + 1 < rows * w
 right_within rows w t p h q =
     let row : t / w < rows = div_below t w rows p h in
@@ -54,7 +54,7 @@ column-up w t u c h q e =
     let below : t % w < w = omega arith in
     column-up-from w (t / w) (t % w) u c h below (omega arith) (omega arith)
 
--- a place of the next row is one of the table, where the one right below is
+-- a place of the next row is one of the table if the one right below is
 pub row-within : (rows w t u c : ℕ) → c < w → t + w < rows * w → u + t % w ≡ t + w + c → u < rows * w
 row-within rows w t u c h p e =
     let some : 0 < w = omega arith in

@@ -1,6 +1,6 @@
 -- Sums over numbers in a row.
 use Rattle.std.proofs.Common.{◌≡◌, ◌+◌, ◌*◌, ℕ, zero, suc, refl, arith}
-use Rattle.tp_wave.specs.Sums.{total}
+use Rattle.tp_base.specs.Totals.{total}
 
 -- a sum is that of its beginning and that of the rest
 pub total-add : (a b : ℕ) (f : ℕ → ℕ) → total (a + b) f ≡ total a f + total b (λ i. f (a + i))
@@ -9,7 +9,7 @@ total-add a (suc b) f =
     let next : a + suc b ≡ suc (a + b) = omega arith in
     rw next (omega (arith, total-add a b f))
 
--- so many times the same
+-- the sum of equal numbers
 pub total-const : (n k : ℕ) → total n (λ i. k) ≡ n * k
 total-const zero k = omega arith
 total-const (suc n) k = omega (arith, total-const n k)

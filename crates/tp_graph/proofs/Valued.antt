@@ -1,10 +1,11 @@
+-- Values of tasks: how they follow from the values of lower tasks.
 use Rattle.std.proofs.Common.{◌≡◌, ◌≢◌, ◌<◌, ℕ, zero, suc, ◌^◌, ℤ, pos, List, [], ◌∷◌, length, get_or, Option, Some, refl, ap, ◌∙◌, true}
 use Rattle.std.proofs.Common.{false, eqb, arith, ⊎_elim}
 use Rattle.std.proofs.lemmas.Bool.Decides.{nat_tests, eqb_tells}
 use Rattle.tp_graph.specs.Graphs.{TaskGraph, IsLawful}
 use Rattle.tp_graph.specs.Values.{value_of, values_below, fitting, gather, then_some, outcome, AreInputs}
 
--- lists of answers that are alike below a number gather alike
+-- two lists that agree below a number gather to the same list
 pub gather-same : {A : Type 0} (n : ℕ) (f h : ℕ → Option A) → ((s : ℕ) → s < n → f s ≡ h s) → gather n f ≡ gather n h
 gather-same zero f h e = refl
 gather-same (suc n) f h e =
@@ -12,7 +13,7 @@ gather-same (suc n) f h e =
     (ap (λ m. then_some (h 0) (λ first. then_some m (λ rest. Some (first ∷ rest))))
     (gather-same n (λ s. f (suc s)) (λ s. h (suc s)) (λ s p. e (suc s) (omega arith))))
 
--- the value of a task stands in each later table
+-- the value of a task is the same in each later table
 pub below-is : (g : TaskGraph) (t p : ℕ) → p < t → values_below g t p ≡ value_of g p
 unfolding value_of
 below-is g zero p h = absurd (omega arith)
@@ -31,7 +32,7 @@ value-is g t lawful h =
     (gather-same (g.arity t) (λ s. values_below g t (g.source t s)) (λ s. value_of g (g.source t s))
     (λ s p. below-is g t (g.source t s) (lawful.slots_filled t s h p).lower))
 
--- what is gathered, place by place
+-- the gathered list, position by position
 pub gather-is : {A : Type 0} (n : ℕ) (f : ℕ → Option A) (xs : List A) (d : A) → length xs ≡ n
     → ((s : ℕ) → s < n → f s ≡ Some (get_or xs s d)) → gather n f ≡ Some xs
 gather-is zero f [] d e h = refl
@@ -44,7 +45,7 @@ gather-is (suc n) f (x ∷ xs) d e h =
     let rest : gather n (λ s. f (suc s)) ≡ Some xs = gather-is n (λ s. f (suc s)) xs d long later in
     rw first (ap (λ m. then_some m (λ rest. Some (x ∷ rest))) rest)
 
--- what a task makes of its inputs is its value
+-- the result of a task on its inputs is its value
 pub value_made : (g : TaskGraph) (t : ℕ) (inputs : List (List ℤ)) → IsLawful g → t < g.tasks → AreInputs g t inputs
     → value_of g t ≡ outcome g t inputs
 value_made g t inputs lawful h right =

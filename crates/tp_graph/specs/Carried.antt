@@ -33,7 +33,7 @@ pub record Ran (G : Type 0) : Type 0 where
   pub value : List ℤ
   pub fed : ℕ
 
--- a value on its way from a node to another, where a feed of its producer ends, and the generation that sent it
+-- a value in flight between two nodes, its feed, and the generation in which it was sent
 pub record Carried (G : Type 0) : Type 0 where
   pub graph : G
   pub number : MessageId
@@ -43,18 +43,18 @@ pub record Carried (G : Type 0) : Type 0 where
   pub feed : Feed
   pub value : List ℤ
 
--- what begun work keeps
+-- what begun work keeps: its inputs are the values of the task's producers, in slot order
 pub record IsBegun (g : TaskGraph) (t : ℕ) (inputs : List (List ℤ)) : Type 0 where
   pub known : t < g.tasks
   pub right : AreInputs g t inputs
 
--- what a finished task keeps: the value is the definition's
+-- what a finished task keeps: its value is the one that the graph defines for the task
 pub record HasRun (g : TaskGraph) (t : ℕ) (made : List ℤ) (fed : ℕ) : Type 0 where
   pub known : t < g.tasks
   pub right : value_of g t ≡ Some made
   pub few : fed ≤ g.feeds t
 
--- what a carried value keeps: it is the definition's of its producer, whose feed it is
+-- what a carried value keeps: it is the one that the graph defines for the feed's producer
 pub record IsCarried (g : TaskGraph) (number generation : ℕ) (feed : Feed) (made : List ℤ) : Type 0 where
   pub few : number < 1048576
   pub few_generations : generation < 1048576

@@ -1,34 +1,34 @@
--- How many events it takes to work a task graph out: those of its tasks and of its messages. Waves, the action with which a node
--- opens, named actions and the reopening of a pool are beside them.
+-- How many events a run of a task graph takes, counting those of its tasks and of its messages. Waves, opening actions, named
+-- actions and the reopening of a pool are not counted here.
 use Rattle.std.specs.Prelude.{ℕ, ◌+◌, ◌-◌, ◌*◌, ◌==◌, ◌≡◌, List, Bool, true, false, nat_lt, if◌then◌else◌}
 use Rattle.tp_base.specs.declared.Step.{Step}
 use Rattle.tp_base.specs.declared.Step.TheVariants.{Insert, Supply, Begin, Done, Send, Recv, MessageEnd}
 use Rattle.tp_graph.specs.Graphs.{TaskGraph}
 use Rattle.tp_wave.specs.Steps.{count, is_recv, is_send}
-use Rattle.tp_wave.specs.Sums.{total}
+use Rattle.tp_base.specs.Totals.{total}
 
 -- ---- counted on the graph
 
--- A task takes as many as it has inputs and 2 more, or 3 where it has none.
+-- A task takes 2 events and one for each input, or 3 if it has no inputs.
 abbrev pub task_events : ℕ → ℕ
 task_events inputs = if nat_lt 0 inputs then inputs + 2 else 3
 
--- 1 where feed k of task p goes to another of n nodes, and 0 where it stays
+-- 1 if feed k of task p goes to another of n nodes, and 0 if it stays
 abbrev pub crossing : ℕ → TaskGraph → ℕ → ℕ → ℕ
 crossing n g p k = if g.home p n == g.home (g.target p k) n then 0 else 1
 
--- A feed that goes to another node becomes a message: how many of one task, and of all.
+-- A feed to another node becomes a message: the number of messages of one task, and of all.
 abbrev pub messages_from : ℕ → TaskGraph → ℕ → ℕ
 messages_from n g p = total (g.feeds p) (crossing n g p)
 
 abbrev pub messages_of : ℕ → TaskGraph → ℕ
 messages_of n g = total g.tasks (messages_from n g)
 
--- A message takes 3.
+-- A message takes 3 events.
 abbrev pub events_of : ℕ → TaskGraph → ℕ
 events_of n g = total g.tasks (λ t. task_events (g.arity t)) + 3 * messages_of n g
 
--- ---- made as steps
+-- ---- counted on the steps
 
 abbrev pub is_insert_of : ℕ → Step → Bool
 is_insert_of t (Insert i u k) = u.0 == t
@@ -61,13 +61,13 @@ is_work (Recv j m g) = true
 is_work (MessageEnd j m g) = true
 is_work _ = false
 
--- so many of a task below a number, and none of any other
+-- for each task below a number its own count, and 0 for any other
 abbrev pub below : ℕ → (ℕ → ℕ) → ℕ → ℕ
 below tasks f t = if nat_lt t tasks then f t else 0
 
--- Steps that work a graph out on n nodes, in whatever order. Each task is inserted once, with its first input where it waits for
--- some; each other input is supplied; it begins once, and is done once. No other task is or does any of this. And there are as many
--- messages sent, received and closed as feeds that go to another node.
+-- Steps that compute a graph on n nodes, in any order. Each task is inserted once, with its first input if it waits for some;
+-- each other input is supplied; it begins once, and is done once. No other task takes part. The number of messages sent, received
+-- and closed is the number of feeds to another node.
 pub record WorkOut (n : ℕ) (g : TaskGraph) (steps : List Step) : Type 0 where
   pub inserted : (t : ℕ) → count (is_insert_of t) steps ≡ below g.tasks (λ u. 1) t
   pub supplied : (t : ℕ) → count (is_supply_of t) steps ≡ below g.tasks (λ u. g.arity u - 1) t
@@ -77,6 +77,6 @@ pub record WorkOut (n : ℕ) (g : TaskGraph) (steps : List Step) : Type 0 where
   pub received : count is_recv steps ≡ messages_of n g
   pub closed : count is_message_end steps ≡ messages_of n g
 
--- Such steps are as many, of tasks and messages, as are counted on the graph.
+-- The number of such steps, of tasks and messages, is the number counted on the graph.
 abbrev pub EventsLaw : Type 0
 EventsLaw = (n : ℕ) (g : TaskGraph) (steps : List Step) → WorkOut n g steps → count is_work steps ≡ events_of n g

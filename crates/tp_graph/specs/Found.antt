@@ -1,14 +1,14 @@
--- Results in any order: where those of tasks stand, and how many a task has.
+-- Results in any order: the positions of those of tasks, and how many a task has.
 use Rattle.std.specs.Prelude.{◌≡◌, ◌<◌, ◌==◌, ℕ, ℤ, List, length, slice_index_or, nat_lt, if◌then◌else◌}
 use Rattle.std.specs.List.{count_by}
 use Rattle.tp_base.specs.declared.TaskId.{TaskId}
 use Rattle.tp_graph.specs.Serial.{Results}
 
--- the result at a place is one of a task
+-- the result at a position is one of a task
 abbrev pub IsPlaceOf : Results → ℕ → ℕ → Type 0
 IsPlaceOf results t place = (place < length results) × ((d : TaskId × List ℤ) → (slice_index_or results place d).0.0 ≡ t)
 
--- where a task below a number has results, its place is that of one of them
+-- if a task below a number has results, its position is that of one of them
 pub record ArePlaces (tasks : ℕ) (results : Results) (places : List ℕ) : Type 0 where
   pub long : length places ≡ tasks
   pub each : (t k : ℕ) → t < tasks → IsPlaceOf results t k → IsPlaceOf results t (slice_index_or places t 0)

@@ -1,14 +1,14 @@
--- What a run leaves of the values of its tasks.
+-- The results of a run: the values that a graph keeps.
 use Rattle.std.specs.Prelude.{◌≡◌, ℕ, ℤ, IsTrue, List, [], Option, Some, All, if◌then◌else◌}
 use Rattle.tp_graph.specs.Graphs.{TaskGraph}
 use Rattle.tp_graph.specs.Serial.{Results}
 use Rattle.tp_graph.specs.Values.{then_some, value_of}
 
--- what is left of a value of task t: the value where the graph keeps it, and else no numbers
+-- what is left of a value of task t: the value if the graph keeps it, and else no numbers
 abbrev pub left_of : TaskGraph → ℕ → List ℤ → List ℤ
 left_of g t value = if g.keeps t then value else []
 
--- the result of task t: what is left of its value; none where it has no value
+-- the result of task t: what is left of its value, or none if it has no value
 abbrev pub result_of : TaskGraph → ℕ → Option (List ℤ)
 result_of g t = then_some (value_of g t) (λ value. Some (left_of g t value))
 
@@ -16,6 +16,6 @@ result_of g t = then_some (value_of g t) (λ value. Some (left_of g t value))
 abbrev pub AreResults : TaskGraph → Results → Type 0
 AreResults g results = All (λ r. result_of g r.0.0 ≡ Some r.1) results
 
--- beside each task that the graph keeps stands its value
+-- each task that the graph keeps has its value as its result
 abbrev pub AreKept : TaskGraph → Results → Type 0
 AreKept g results = All (λ r. IsTrue (g.keeps r.0.0) → value_of g r.0.0 ≡ Some r.1) results

@@ -9,7 +9,7 @@ use mathlib.Core.Path.{path_j, path_j', contract}
 pub same_name : {A : Type 0} → Coded A → (name : Option A) (value : A) → IsProp (name ≡ Some value)
 same_name c name value = Coded-set (coded_option c) name (Some value)
 
--- what a name tells of a value, at a name that is known
+-- what a name says of a value, if the name is known
 abbrev Kept : {A : Type 0} (x : A) (name : Option A) → Some x ≡ name → Type 0
 Kept x (Some y) p = ap Some (ap (λ o. unwrap_or o x) p) ≡ p
 Kept x None p = ⊤

@@ -1,3 +1,4 @@
+-- The value of each task, as the graph defines it.
 use Rattle.std.specs.Prelude.{◌≡◌, ◌<◌, ◌^◌, ◌&&◌, ◌⊎◌, ℕ, suc, zero, ℤ, pos, negsuc, Bool, true, List, [], ◌∷◌, Option, Some, None}
 use Rattle.std.specs.Prelude.{if◌then◌else◌, ◌==◌, nat_lt, length, slice_index_or}
 use Rattle.tp_base.specs.declared.Refusal.{Refusal}
@@ -17,20 +18,20 @@ abbrev pub then_some : {A B : Type 0} → Option A → (A → Option B) → Opti
 then_some None f = None
 then_some (Some x) f = f x
 
--- none where a number leaves 64 bits
+-- none if a number does not fit 64 bits
 abbrev pub fitting : List ℤ → Option (List ℤ)
 fitting numbers = if all_fit numbers then Some numbers else None
 
--- what task t makes of its inputs
+-- the result of task t on these inputs
 abbrev pub outcome : TaskGraph → ℕ → List (List ℤ) → Option (List ℤ)
 outcome g t inputs = then_some (g.rule t inputs) fitting
 
--- f 0, f 1 and so on, so many of them; none where one of them is
+-- f 0, f 1 and so on, up to this count; none if one of them is none
 abbrev pub gather : {A : Type 0} → ℕ → (ℕ → Option A) → Option (List A)
 gather zero f = Some []
 gather (suc count) f = then_some (f 0) (λ first. then_some (gather count (λ s. f (suc s))) (λ rest. Some (first ∷ rest)))
 
--- what task t makes of the values of its producers, in slot order
+-- the result of task t on the values of its producers, in slot order
 abbrev pub made_from : TaskGraph → (ℕ → Option (List ℤ)) → ℕ → Option (List ℤ)
 made_from g values t = then_some (gather (g.arity t) (λ s. values (g.source t s))) (outcome g t)
 
@@ -39,12 +40,12 @@ abbrev pub values_below : TaskGraph → ℕ → ℕ → Option (List ℤ)
 values_below g zero p = None
 values_below g (suc t) p = if p == t then made_from g (values_below g t) t else values_below g t p
 
--- The value of a task: its rule, applied to the values of its producers in slot order, which are lower. None where the
--- rule fails, a number leaves 64 bits, or a producer has none.
+-- The value of a task: its rule, applied to the values of its producers in slot order, which are lower. None if the rule fails, a
+-- number does not fit 64 bits, or a producer has none.
 unfoldable pub value_of : TaskGraph → ℕ → Option (List ℤ)
 value_of g t = made_from g (values_below g t) t
 
--- a value is what slot s of task t waits for: the value of the task that fills the slot
+-- slot s of task t waits for this value: that of the task that fills the slot
 pub record IsInput (g : TaskGraph) (t s : ℕ) (input : List ℤ) : Type 0 where
   pub known : t < g.tasks
   pub within : s < g.arity t
@@ -55,11 +56,11 @@ pub record AreInputs (g : TaskGraph) (t : ℕ) (inputs : List (List ℤ)) : Type
   pub long : length inputs ≡ g.arity t
   pub right : (s : ℕ) → s < g.arity t → value_of g (g.source t s) ≡ Some (slice_index_or inputs s [])
 
--- the number of a list of one
+-- the number of a list of one number
 abbrev pub lone_of : List ℤ → Option ℤ
 lone_of (x ∷ []) = Some x
 lone_of _ = None
 
--- why a body gives no value: it has none, or there was no memory
+-- why a body returns no value: it has none, or an allocation failed
 abbrev pub IsRefusal : Option (List ℤ) → Refusal → Type 0
 IsRefusal made refusal = (refusal ≡ NoMemory) ⊎ ((refusal ≡ BodyFailed) × (made ≡ None))

@@ -1,9 +1,10 @@
+//! A list in blocks, for graphs whose tasks work on ranges of items.
 ghost use Rattle.std.specs.Prelude.{◌≡◌, ◌≢◌, ◌<◌, ◌+◌, ◌*◌, length, min, IfNone, IfSome};
 ghost use Rattle.tp_graph.specs.Blocks.{AreBlocks, block_of};
 
 use std::ops::Range;
 
-/// The blocks of a list, all of one size but the last, which may be shorter. None is empty.
+/// The blocks of a list. All have the same size except the last, which may be shorter; none is empty.
 #[derive(Clone, Copy, Debug)]
 pub struct Blocks {
     items: usize,
@@ -13,7 +14,7 @@ pub struct Blocks {
 }
 
 impl Blocks {
-    /// The blocks of a list of so many items, each of so many but the last. None where a block would have no room.
+    /// Returns the blocks of a list of `items` items, each of `size` items but the last, or `None` if `size` is 0.
     pub fn new(items: usize, size: usize) -> Option<Self>
         ensures some { IfSome result (λ blocks. (blocks.items ≡ items) × (blocks.size ≡ size)) }
         ensures none { IfNone result (size ≡ 0) }
@@ -29,7 +30,7 @@ impl Blocks {
         Some(Blocks { items, size, count })
     }
 
-    /// How many blocks there are.
+    /// Returns the number of blocks.
     pub fn count(&self) -> usize
         ensures same { result ≡ self.now.count }
         ensures right { AreBlocks self.now.items self.now.size result }
@@ -37,7 +38,7 @@ impl Blocks {
         self.count
     }
 
-    /// The places of a block's items.
+    /// Returns the range of indices of a block's items.
     pub fn range(&self, block: usize) -> Range<usize>
         requires { block < self.now.count }
         ensures start { result.start ≡ block * self.now.size }
@@ -52,7 +53,7 @@ impl Blocks {
         start..end
     }
 
-    /// A block of a list that has as many items.
+    /// Returns a block of a list that has `items` items.
     pub fn of<'a, T>(&self, list: &'a [T], block: usize) -> &'a [T]
         requires long { length list.now ≡ self.now.items }
         requires known { block < self.now.count }

@@ -1,3 +1,4 @@
+//! Runs the body of one task.
 ghost use Rattle.std.specs.Prelude.{◌≡◌, ◌<◌, Some, MatchResult};
 ghost use Rattle.tp_graph.specs.Values.{value_of, AreInputs, IsRefusal};
 
@@ -6,9 +7,9 @@ use crate::value::Value;
 use std::alloc::Global;
 use tp_base::{Refusal, TaskId};
 
-/// What a task makes of its inputs, which have to be its producers' values in slot order: its value. Refused with
-/// `BodyFailed` exactly where the task has no value, since its rule fails or a number leaves `i64`, and with `NoMemory`
-/// where memory is refused first.
+/// Returns the value that a task computes from its inputs, which have to be its producers' values in slot order.
+/// Refused with `BodyFailed` exactly if the task has no value, because its rule fails or a number does not fit `i64`;
+/// refused with `NoMemory` if an allocation fails first.
 pub fn run_body<G: Graph>(
     alloc: Global,
     graph: &G,

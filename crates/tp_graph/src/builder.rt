@@ -1,3 +1,4 @@
+//! Builds a value number by number.
 ghost use Rattle.std.specs.Prelude.{◌≡◌, ◌<◌, ◌≤◌, ◌+◌, [], ◌∷◌, ◌++◌, length, true, IfOk, IfErr, OnOk, OnErr};
 ghost use Rattle.tp_graph.specs.Values.{all_fit};
 
@@ -5,8 +6,8 @@ use crate::value::Value;
 use std::alloc::{AllocError, AllocFailed, Global};
 use std::marker::Model;
 
-/// A value that is made number by number. Contracts see the list of its numbers, each of which fits 64 bits, and for how many
-/// more there is room.
+/// A value that is built number by number. Contracts see the list of its numbers, each of which fits 64 bits, and its
+/// room: how many more numbers can be pushed before memory has to grow.
 #[derive(Drop)]
 pub struct ValueBuilder {
     numbers: Vec<i64>,
@@ -25,7 +26,7 @@ impl Model for ValueBuilder {
 }
 
 impl ValueBuilder {
-    /// No numbers. It takes no memory.
+    /// Returns a builder without numbers. It allocates nothing.
     pub fn new(alloc: Global) -> Self
         ensures { result.numbers ≡ [] }
     {
@@ -34,7 +35,8 @@ impl ValueBuilder {
         }
     }
 
-    /// No numbers, and room for so many. Refused where there is no memory for them.
+    /// Returns a builder without numbers and with room for `count`. Refused if the allocation fails, which it can only
+    /// if `count` is above 0.
     pub fn with_capacity(alloc: Global, count: usize) -> Result<Self, AllocError>
         ensures empty { IfOk result (λ made. made.numbers ≡ []) }
         ensures room { IfOk result (λ made. made.room ≡ count) }
@@ -45,7 +47,8 @@ impl ValueBuilder {
         })
     }
 
-    /// Puts a number behind the others. Refused where there is no room and no memory for more; nothing changes then.
+    /// Appends a number, and allocates if there is no room. Refused if there is no room and the allocation fails; the
+    /// builder is then unchanged.
     pub fn push(&mut self, number: i64) -> Result<(), AllocError>
         ensures last { OnOk result (self.new.numbers ≡ self.old.numbers ++ number ∷ []) }
         ensures kept { OnErr result (self.new ≡ self.old) }
@@ -57,7 +60,7 @@ impl ValueBuilder {
         Ok(())
     }
 
-    /// Puts a number behind the others, in the room that was made for it.
+    /// Appends a number. The caller has reserved room for it, so nothing is allocated.
     pub fn push_reserved(&mut self, number: i64)
         requires room { 0 < self.old.room }
         ensures last { self.new.numbers ≡ self.old.numbers ++ number ∷ [] }
@@ -66,8 +69,8 @@ impl ValueBuilder {
         self.numbers.push_reserved(number);
     }
 
-    /// Puts copies of some numbers behind the others. Refused where there is not room for all of them and no memory for
-    /// more; nothing changes then.
+    /// Appends copies of the numbers, and allocates if there is not room for all. Refused if there is not room for all
+    /// and the allocation fails; the builder is then unchanged.
     pub fn extend_from_slice(&mut self, numbers: &[i64]) -> Result<(), AllocError>
         ensures last { OnOk result (self.new.numbers ≡ self.old.numbers ++ numbers.now) }
         ensures kept { OnErr result (self.new ≡ self.old) }
@@ -79,7 +82,7 @@ impl ValueBuilder {
         Ok(())
     }
 
-    // The same in the room that was made for them.
+    // Appends copies of the numbers. The caller has reserved room for them.
     fn extend_reserved(&mut self, numbers: &[i64])
         requires room { length numbers.now ≤ self.old.room }
         ensures last { self.new.numbers ≡ self.old.numbers ++ numbers.now }
@@ -90,7 +93,7 @@ impl ValueBuilder {
         }
     }
 
-    /// The numbers.
+    /// Returns the numbers so far.
     pub fn as_slice(&self) -> &[i64]
         ensures same { result.now ≡ self.now.numbers }
         ensures fit { all_fit result.now ≡ true }
@@ -98,8 +101,8 @@ impl ValueBuilder {
         self.numbers.as_slice()
     }
 
-    /// The value of the numbers, which are moved. Refused, with all that was moved in, where there are more than one and no
-    /// memory for the count of their owners.
+    /// Returns the value of the numbers, which are moved into it. Refused if there are two or more and the allocation
+    /// of their reference count fails; the builder is then returned in the error.
     pub fn into_value(self) -> Result<Value, AllocFailed<Self>>
         ensures value { IfOk result (λ value. value ≡ self.numbers) }
         ensures fit { IfOk result (λ value. all_fit value ≡ true) }

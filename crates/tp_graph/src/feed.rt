@@ -1,3 +1,4 @@
+//! Feeds: the edges of a task graph, with their two ends.
 ghost use Rattle.std.specs.Prelude.{◌≡◌, ◌<◌, ℤ, List, Some};
 ghost use Rattle.tp_graph.specs.Carried.{feed_at, IsFeed};
 ghost use Rattle.tp_graph.specs.Values.{value_of, IsInput};
@@ -5,10 +6,10 @@ ghost use Rattle.tp_graph.specs.Values.{value_of, IsInput};
 use crate::graph::Graph;
 use tp_base::TaskId;
 
-/// Where a value goes: from the task that made it to a slot of another.
+/// A feed: it passes the value of a producer to a slot of another task.
 #[derive(Clone, Copy, Debug, PartialEq, Eq)]
 pub struct Feed {
-    /// The task that made the value.
+    /// The task that computes the value.
     pub producer: TaskId,
     /// The task that waits for it.
     pub target: TaskId,
@@ -16,7 +17,7 @@ pub struct Feed {
     pub slot: u8,
 }
 
-/// A feed of a task: where it goes.
+/// Returns the feed number `turn` of a task: its producer, target and slot.
 pub fn feed_of<G: Graph>(graph: &G, task: TaskId, turn: u32) -> Feed
     requires known { task.0 < (G.meaning graph.now).tasks }
     requires within { turn < (G.meaning graph.now).feeds task.0 }

@@ -1,3 +1,4 @@
+//! Finds values in the results of a run, which are in the order in which tasks finished.
 ghost use Rattle.std.specs.Prelude.{◌≡◌, ◌≢◌, ◌<◌, ℕ, All, Contains, IfOk, IfNone, IfSome, IsTrue, Some};
 ghost use Rattle.std.specs.List.Sorted.{IsPermutation};
 ghost use Rattle.tp_graph.specs.Found.{ArePlaces, HasEachOnce};
@@ -10,8 +11,8 @@ use crate::value::Value;
 use std::alloc::{AllocError, Global};
 use tp_base::TaskId;
 
-/// Where the results of the tasks below a number stand, for [`value_at`]: for each task a place, which is that of one of its
-/// results where it has any. It takes O(tasks + results), and memory for a number a task.
+/// Returns an index of results by task, for [`value_at`]: for each task, the position of one of its results if it has
+/// any. Takes O(tasks + results) time and allocates one number a task. Refused if the allocation fails.
 pub fn places(
     alloc: Global,
     tasks: u32,
@@ -29,8 +30,8 @@ pub fn places(
     Ok(places)
 }
 
-/// The value of a task among results in any order, by the places that [`places`] has noted of them: what stands there, which
-/// for results of a run is the task's value where the graph keeps it. None where the task has no result. It takes O(1).
+/// Returns the value of a task among results in any order, or `None` if the task has no result. The index comes from
+/// [`places`]. For the results of a run, the returned value is the task's value if the graph keeps it. Takes O(1) time.
 pub fn value_at<'a>(
     results: &'a [(TaskId, Value)],
     places: &[usize],
@@ -54,7 +55,8 @@ pub fn value_at<'a>(
     if *found == task { Some(value) } else { None }
 }
 
-/// Results in the order of their tasks, as [`serial`](crate::serial) gives values. It takes no memory, and O(n log n) for n of them.
+/// Returns the results in the order of their tasks, as [`serial`](crate::serial) returns values. It allocates nothing
+/// and takes O(n log n) time for n results.
 pub fn in_order(results: Vec<(TaskId, Value)>) -> Vec<(TaskId, Value)>
     ensures same { IsPermutation results.items result.items }
     ensures order { (tasks : ℕ) → HasEachOnce tasks results.items → AreInTaskOrder tasks result.items }

@@ -1,3 +1,4 @@
+//! Laws of values and results: calls whose postcondition is a theorem.
 ghost use Rattle.std.specs.Prelude.{◌≡◌, ◌<◌, ◌↔◌, ℕ, ℤ, List};
 ghost use Rattle.tp_graph.specs.Graphs.{KeepsAll};
 ghost use Rattle.tp_graph.specs.Left.{AreKept, AreResults};
@@ -6,7 +7,7 @@ ghost use Rattle.tp_graph.specs.Values.{value_of, outcome, AreInputs};
 
 use crate::graph::Graph;
 
-/// The value of a task is what its rule makes of its inputs, which are the values of its producers.
+/// States that the value of a task is the result of its rule on its inputs, which are the values of its producers.
 pub fn value_is_what_the_rule_makes<G: Graph>(graph: &G)
     ensures { (t : ℕ) (inputs : List (List ℤ)) → t < (G.meaning graph.now).tasks → AreInputs (G.meaning graph.now) t inputs
         → value_of (G.meaning graph.now) t ≡ outcome (G.meaning graph.now) t inputs }
@@ -14,7 +15,7 @@ pub fn value_is_what_the_rule_makes<G: Graph>(graph: &G)
     let _ = graph;
 }
 
-/// What a run leaves of a graph that keeps all are the values of its tasks.
+/// States that the results of a run are the values of the tasks, if the graph keeps all values.
 pub fn all_results_are_values<G: Graph>(graph: &G)
     ensures { KeepsAll (G.meaning graph.now) → (results : Results)
         → (AreResults (G.meaning graph.now) results ↔ AreRight (G.meaning graph.now) results) }
@@ -22,7 +23,7 @@ pub fn all_results_are_values<G: Graph>(graph: &G)
     let _ = graph;
 }
 
-/// Among what a run leaves stands the value of each task that the graph keeps.
+/// States that the results of a run contain the value of each task that the graph keeps.
 pub fn results_have_what_is_kept<G: Graph>(graph: &G)
     ensures { (results : Results) → AreResults (G.meaning graph.now) results → AreKept (G.meaning graph.now) results }
 {

@@ -1,8 +1,9 @@
-//! Task graphs with their laws, and values that are the definition's by their type.
+//! Task graphs with their laws, and types whose values are the graph's by contract. Scheduling and termination are not
+//! here.
 //!
-//! A pool of tasks is a type that implements [`Graph`]. What a feed passes on to another node is a [`Message`], and a
-//! [`Parcel`] once it is received. Each of these types keeps that the value it carries is the one that the graph defines.
-//! [`run_body`] performs a task, and [`serial`] works a graph out on one thread.
+//! A pool is a type that implements [`Graph`]. A feed to another node is sent as a [`Message`], which becomes a
+//! [`Parcel`] when it is received. Each of these types has the invariant that the value it carries is the one that the
+//! graph defines. [`run_body`] runs one task, and [`serial`] computes a graph on one thread.
 #![tactic(auto)]
 
 mod blocks;

@@ -1,3 +1,4 @@
+//! Messages, which carry a value to a task at another node, and parcels, which are received messages.
 ghost use Rattle.std.specs.Prelude.{◌≡◌, ◌<◌, Some};
 ghost use Rattle.tp_graph.specs.Carried.{Carried, IsFeed};
 ghost use Rattle.tp_graph.specs.Values.{value_of, IsInput};
@@ -9,7 +10,7 @@ use std::marker::Model;
 use tp_base::{Generation, MessageId, NodeId};
 use tp_link::Routed;
 
-/// A value on its way to a task at another node.
+/// A value in flight to a task at another node.
 #[derive(Drop)]
 pub struct Message<G: Graph> {
     graph: G,
@@ -40,9 +41,9 @@ impl<G: Graph> Model for Message<G> {
 }
 
 impl<G: Graph> Message<G> {
-    /// A value on its way from a node to another, sent in a generation of its pool. It has to be the value of the feed's
-    /// producer, one of whose feeds has to go there. Its number and that of its generation have to be below 1,048,576. It
-    /// takes no memory.
+    /// Returns a message with a value of the graph, sent in a generation of its pool. The value has to be that of the
+    /// feed's producer, which has to have this feed. The numbers of the message and of the generation have to be below
+    /// 1,048,576. It allocates nothing.
     pub fn new(
         graph: G,
         number: MessageId,
@@ -70,14 +71,14 @@ impl<G: Graph> Message<G> {
         }
     }
 
-    /// The graph that the value is of.
+    /// Returns the graph that defines the value.
     pub fn graph(&self) -> G
         ensures { result ≡ self.now.graph }
     {
         self.graph
     }
 
-    /// Its number among the messages of its generation.
+    /// Returns the message's number among the messages of its generation.
     pub fn number(&self) -> MessageId
         ensures same { result ≡ self.now.number }
         ensures few { self.now.number.0 < 1048576 }
@@ -85,7 +86,7 @@ impl<G: Graph> Message<G> {
         self.number
     }
 
-    /// The generation of its pool that sent it.
+    /// Returns the generation of the pool in which it was sent.
     pub fn generation(&self) -> Generation
         ensures same { result ≡ self.now.generation }
         ensures few { self.now.generation.0 < 1048576 }
@@ -93,21 +94,21 @@ impl<G: Graph> Message<G> {
         self.generation
     }
 
-    /// The node that sent it.
+    /// Returns the node that sent it.
     pub fn from(&self) -> NodeId
         ensures { result ≡ self.now.from }
     {
         self.from
     }
 
-    /// The node that it is for.
+    /// Returns the node that receives it.
     pub fn to(&self) -> NodeId
         ensures { result ≡ self.now.to }
     {
         self.to
     }
 
-    /// The task that made the value, and the task and slot that it goes to.
+    /// Returns the feed: the producer of the value, and the task and slot that it goes to.
     pub fn feed(&self) -> Feed
         ensures same { result ≡ self.now.feed }
         ensures right { IsFeed (G.meaning self.now.graph) result }
@@ -116,7 +117,7 @@ impl<G: Graph> Message<G> {
         self.feed
     }
 
-    /// The value.
+    /// Returns the value, which is the one that the graph defines for the feed's producer.
     pub fn value(&self) -> &Value
         ensures same { result.now ≡ self.now.value }
         ensures right { value_of (G.meaning self.now.graph) self.now.feed.producer.0 ≡ Some result.now }
@@ -124,7 +125,7 @@ impl<G: Graph> Message<G> {
         &self.value
     }
 
-    /// The message as it was received. It takes no memory.
+    /// Returns the message as a received one. It allocates nothing.
     pub fn receive(self) -> Parcel<G>
         ensures { result ≡ self }
     {
@@ -152,7 +153,7 @@ impl<G: Graph> Routed for Message<G> {
     }
 }
 
-/// A message that was received.
+/// A received message.
 #[derive(Drop)]
 pub struct Parcel<G: Graph> {
     message: Message<G>,
@@ -167,7 +168,7 @@ impl<G: Graph> Model for Parcel<G> {
 }
 
 impl<G: Graph> Parcel<G> {
-    /// A received message, of what a message is made of. It asks for what [`Message::new`] does, and takes no memory.
+    /// Returns a received message made of its parts. It requires what [`Message::new`] requires, and allocates nothing.
     pub fn new(
         graph: G,
         number: MessageId,
@@ -189,14 +190,14 @@ impl<G: Graph> Parcel<G> {
         }
     }
 
-    /// The graph that the value is of.
+    /// Returns the graph that defines the value.
     pub fn graph(&self) -> G
         ensures { result ≡ self.now.graph }
     {
         self.message.graph()
     }
 
-    /// The number of the message.
+    /// Returns the number of the message.
     pub fn number(&self) -> MessageId
         ensures same { result ≡ self.now.number }
         ensures few { self.now.number.0 < 1048576 }
@@ -204,7 +205,7 @@ impl<G: Graph> Parcel<G> {
         self.message.number()
     }
 
-    /// The generation of the pool that sent the message.
+    /// Returns the generation of the pool in which the message was sent.
     pub fn generation(&self) -> Generation
         ensures same { result ≡ self.now.generation }
         ensures few { self.now.generation.0 < 1048576 }
@@ -212,21 +213,21 @@ impl<G: Graph> Parcel<G> {
         self.message.generation()
     }
 
-    /// The node that sent it.
+    /// Returns the node that sent it.
     pub fn from(&self) -> NodeId
         ensures { result ≡ self.now.from }
     {
         self.message.from()
     }
 
-    /// The node that it is for.
+    /// Returns the node that received it.
     pub fn to(&self) -> NodeId
         ensures { result ≡ self.now.to }
     {
         self.message.to()
     }
 
-    /// The task that made the value, and the task and slot that it goes to.
+    /// Returns the feed: the producer of the value, and the task and slot that it goes to.
     pub fn feed(&self) -> Feed
         ensures same { result ≡ self.now.feed }
         ensures right { IsFeed (G.meaning self.now.graph) result }
@@ -235,7 +236,7 @@ impl<G: Graph> Parcel<G> {
         self.message.feed()
     }
 
-    /// The value.
+    /// Returns the value, which is the one that the graph defines for the feed's producer.
     pub fn value(&self) -> &Value
         ensures same { result.now ≡ self.now.value }
         ensures right { value_of (G.meaning self.now.graph) self.now.feed.producer.0 ≡ Some result.now }
@@ -243,7 +244,7 @@ impl<G: Graph> Parcel<G> {
         self.message.value()
     }
 
-    /// The value, which is moved out.
+    /// Returns the value, moved out, which is the one that the graph defines for the feed's producer.
     pub fn into_value(self) -> Value
         ensures same { result ≡ self.value }
         ensures right { value_of (G.meaning self.graph) self.feed.producer.0 ≡ Some result }

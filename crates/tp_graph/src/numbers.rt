@@ -1,6 +1,7 @@
+//! How a value stores its numbers.
 use std::sync::Arc;
 
-/// The numbers of a value: a lone one lies in place, more lie in memory that all copies share.
+/// The numbers of a value. A single number is stored in place; more are in memory that all copies share.
 #[derive(Drop)]
 pub(crate) enum Numbers {
     Empty,

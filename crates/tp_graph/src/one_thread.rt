@@ -1,3 +1,4 @@
+//! Computes a graph on one thread, without a pool.
 ghost use Rattle.std.specs.Prelude.{◌≡◌, ◌<◌, Some, IfOk, MatchResult};
 ghost use Rattle.tp_graph.specs.Producers.{IsTable};
 ghost use Rattle.tp_graph.specs.Serial.{AreValues, IsSerialRefusal};
@@ -10,8 +11,8 @@ use smallvec::SmallVec;
 use std::alloc::{AllocError, Global};
 use tp_base::{Refusal, TaskId};
 
-/// The value of each task, in rising order. Refused with `BodyFailed` exactly where a task has no value, and with
-/// `NoMemory` where memory is refused first.
+/// Returns the value of each task, in rising order of tasks. Refused with `BodyFailed` exactly if a task has no value;
+/// refused with `NoMemory` if an allocation fails first.
 pub fn serial<G: Graph>(alloc: Global, graph: G) -> Result<Vec<(TaskId, Value)>, Refusal>
     ensures { MatchResult result (λ results.
         AreValues (G.meaning graph) (G.meaning graph).tasks results.items) (IsSerialRefusal (G.meaning graph)) }
@@ -25,7 +26,7 @@ pub fn serial<G: Graph>(alloc: Global, graph: G) -> Result<Vec<(TaskId, Value)>,
     Ok(results)
 }
 
-/// The producers of all slots.
+/// Returns the producers of all slots, 16 entries a task.
 fn producers<G: Graph>(alloc: Global, graph: G) -> Result<Vec<u32>, AllocError>
     ensures { IfOk result (λ table. IsTable (G.meaning graph) table.items) }
 {
@@ -40,7 +41,7 @@ fn producers<G: Graph>(alloc: Global, graph: G) -> Result<Vec<u32>, AllocError>
     Ok(table)
 }
 
-/// The value of a task, from those of all lower ones.
+/// Returns the value of a task, from the values of all lower tasks.
 fn value_after<G: Graph>(
     alloc: Global,
     graph: G,
@@ -57,7 +58,7 @@ fn value_after<G: Graph>(
     run_body(alloc, &graph, TaskId(task), inputs.as_slice())
 }
 
-/// The inputs of a task, from the values of all lower ones.
+/// Returns the inputs of a task, from the values of all lower tasks.
 fn inputs_after<G: Graph>(
     alloc: Global,
     graph: G,

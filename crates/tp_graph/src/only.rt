@@ -1,3 +1,4 @@
+//! Graphs that are identified by a type, so that comparing them costs nothing.
 ghost use Rattle.std.specs.Prelude.{◌≡◌, Option, Some, None, true, ⊤, refl};
 ghost use Rattle.tp_graph.specs.Named.{one_named, same_name};
 
@@ -7,7 +8,7 @@ use std::alloc::{AllocError, Global};
 use std::marker::{Brand, PhantomData};
 use tp_base::{NodeId, Refusal, TaskId};
 
-/// Names one value. Whoever calls what is generic over it picks the value.
+/// A type that names one value. The caller of a function that is generic over it chooses the value.
 pub trait Named<T> {
     ghost it: { Option T };
 }
@@ -16,8 +17,8 @@ impl<T> Named<T> for Brand {
     ghost it = { None };
 }
 
-/// The one graph that `D` names: any two are equal, at no cost. So a graph that borrows data can be compared, whose equal
-/// cells at another address would make another value.
+/// The one graph that `D` names: any two are equal, and comparing them costs nothing. With it, a graph that borrows
+/// data can be compared: equal cells at another address would be a different value.
 pub struct Only<G: Graph, D: Named<G>> {
     graph: G,
     of: PhantomData<D>,
@@ -25,7 +26,7 @@ pub struct Only<G: Graph, D: Named<G>> {
 }
 
 impl<G: Graph, D: Named<G>> Only<G, D> {
-    /// The graph that `D` names. It takes no memory.
+    /// Returns the graph that `D` names. It allocates nothing.
     pub fn new(graph: G) -> Self
         requires { D.it ≡ Some graph }
         ensures { result.graph ≡ graph }

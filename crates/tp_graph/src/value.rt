@@ -1,3 +1,4 @@
+//! Values of tasks: short lists of 64-bit numbers that are shared, not copied.
 ghost use Rattle.std.specs.Prelude.{◌≡◌, ◌<◌, ◌≤◌, ◌+ℤ◌, [], ◌∷◌, true, false, length, Some, None, IsOk, OnErr, IfOk, IfErr, MatchResult};
 ghost use Rattle.std.specs.Cmp.{int_eq_equiv, on_equiv, on_per, partial_equiv_from_equiv};
 ghost use Rattle.std.specs.Cmp.Lexicographic.{pointwise, lists_equiv};
@@ -15,8 +16,8 @@ use std::slice;
 use std::sync::Arc;
 use tp_base::Refusal;
 
-/// What a task makes: some numbers, of which contracts see the list. All copies of a value share them, so a copy takes
-/// no memory, and takes as long for many numbers as for one.
+/// The value of a task: a list of numbers, which contracts see. All copies of a value share its numbers, so a copy
+/// allocates nothing and takes the same time for any count.
 #[derive(Drop)]
 pub struct Value {
     numbers: Numbers,
@@ -34,7 +35,7 @@ impl Model for Value {
 }
 
 impl Value {
-    /// One number. It takes no memory.
+    /// Returns the value with one number. It allocates nothing.
     pub fn one(_alloc: Global, number: i64) -> Result<Self, AllocError>
         ensures value { IfOk result (λ value. value ≡ number ∷ []) }
         ensures made { IsOk result }
@@ -44,7 +45,8 @@ impl Value {
         })
     }
 
-    /// One number, the sum of two, which takes no memory. Refused with `BodyFailed` where it leaves `i64`.
+    /// Returns the value with one number, the sum of two. It allocates nothing. Refused with `BodyFailed` if the sum
+    /// does not fit `i64`.
     pub fn sum(alloc: Global, a: i64, b: i64) -> Result<Self, Refusal>
         ensures { MatchResult result (λ value. (value ≡ (a +ℤ b) ∷ []) × (fits (a +ℤ b) ≡ true)) (λ refusal. (refusal ≡ BodyFailed)
             × (fits (a +ℤ b) ≡ false)) }
@@ -55,7 +57,8 @@ impl Value {
         }
     }
 
-    /// The numbers of a list. Refused, with the list, where there are more than one and no memory for the count of its owners.
+    /// Returns the value of the numbers of a list, which is moved into it. Refused if there are two or more numbers and
+    /// the allocation of their reference count fails; the list is then returned in the error.
     pub fn from_vec(numbers: Vec<i64>) -> Result<Self, AllocFailed<Vec<i64>>>
         ensures value { IfOk result (λ value. value ≡ numbers.items) }
         ensures returned { IfErr result (λ failed. failed.value ≡ numbers) }
@@ -69,7 +72,8 @@ impl Value {
         Ok(Value { numbers })
     }
 
-    /// The numbers of a list, which are copied. Refused where there are more than one and no memory for them.
+    /// Returns the value of the numbers of a list, which are copied. Refused if there are two or more numbers and the
+    /// allocation fails.
     pub fn of(alloc: Global, numbers: &[i64]) -> Result<Self, AllocError>
         ensures value { IfOk result (λ value. value ≡ numbers.now) }
         ensures fit { IfOk result (λ value. all_fit value ≡ true) }
@@ -88,7 +92,8 @@ impl Value {
         }
     }
 
-    /// The number of a value that has just one. Refused with `BodyFailed` where it has another count.
+    /// Returns the number of a value that has exactly one. Refused with `BodyFailed` if it has another count of
+    /// numbers.
     pub fn lone(&self) -> Result<i64, Refusal>
         ensures { MatchResult result (λ number. lone_of self.now ≡ Some number) (λ refusal. (refusal ≡ BodyFailed)
             × (lone_of self.now ≡ None)) }
@@ -99,7 +104,7 @@ impl Value {
         }
     }
 
-    /// The numbers.
+    /// Returns the numbers.
     pub fn as_slice(&self) -> &[i64]
         ensures { result.now ≡ self.now }
     {
@@ -117,7 +122,8 @@ impl Debug for Value {
     }
 }
 
-/// It takes no memory, and is refused only where more than one number has as many owners as can be counted.
+/// A clone allocates nothing. It is refused only if the value has two or more numbers and their reference count is at
+/// its maximum.
 impl Clone for Value {
     ghost is_clone = { λ value copy. copy ≡ value };
 
@@ -133,7 +139,7 @@ impl Clone for Value {
     }
 }
 
-/// No numbers, as a blank place of a `SmallVec` holds. It takes no memory.
+/// Returns the value without numbers, which a free place of a `SmallVec` holds. It allocates nothing.
 impl MadeWith<Global> for Value {
     ghost is_made_with = { λ value. value ≡ [] };
 

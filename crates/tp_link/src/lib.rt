@@ -1,4 +1,4 @@
-//! The links of a pool: one for each ordered pair of its nodes, first in, first out.
+//! The links of a pool, which are FIFO queues: one for each ordered pair of its nodes. Locks and threads are not here.
 #![tactic(auto)]
 
 mod link;

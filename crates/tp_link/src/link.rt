@@ -1,3 +1,4 @@
+//! A link: the queue of the messages in flight from one node to another.
 ghost use Rattle.std.specs.Prelude.{◌≡◌, ◌==◌, ◌+◌, ◌<◌, ◌≤◌, ◌↔◌, ℕ, [], ◌∷◌, ◌++◌, length, option_to_list, option_copied, slice_get};
 ghost use Rattle.std.specs.Prelude.{drop, IsOk, IsSome, IfErr, IfOk, OnOk, OnErr};
 ghost use Rattle.tp_base.specs.declared.Refusal.TheVariants.{NoMemory};
@@ -9,8 +10,8 @@ use std::collections::VecDeque;
 use std::marker::Model;
 use tp_base::{NodeId, Refusal};
 
-/// The messages on their way from one node to another, first in, first out. Contracts see its two ends, the list of its
-/// messages, the oldest first, and how many more can be put before memory has to grow.
+/// The messages in flight from one node to another, first in, first out. Contracts see its two ends, the list of its
+/// messages, oldest first, and its room: how many more messages can be put before memory has to grow.
 #[derive(Drop)]
 pub struct Link<M: Routed> {
     from: NodeId,
@@ -34,7 +35,7 @@ impl<M: Routed> Model for Link<M> {
 }
 
 impl<M: Routed> Link<M> {
-    /// A link with no message. It takes no memory.
+    /// Returns a link without messages. It allocates nothing.
     pub fn new(alloc: Global, from: NodeId, to: NodeId) -> Self
         ensures from { result.from ≡ from.0 }
         ensures to { result.to ≡ to.0 }
@@ -47,35 +48,35 @@ impl<M: Routed> Link<M> {
         }
     }
 
-    /// The node that sends on it.
+    /// Returns the node that sends on the link.
     pub fn from(&self) -> NodeId
         ensures { result.0 ≡ self.now.from }
     {
         self.from
     }
 
-    /// The node that receives from it.
+    /// Returns the node that receives from the link.
     pub fn to(&self) -> NodeId
         ensures { result.0 ≡ self.now.to }
     {
         self.to
     }
 
-    /// How many messages are on it.
+    /// Returns the number of messages in flight.
     pub fn len(&self) -> usize
         ensures { result ≡ length self.now.messages }
     {
         self.messages.len()
     }
 
-    /// Whether no message is on it.
+    /// Returns whether no message is in flight.
     pub fn is_empty(&self) -> bool
         ensures { result ≡ (length self.now.messages == 0) }
     {
         self.messages.is_empty()
     }
 
-    /// Makes room for so many more messages. No room is lost, also where memory is refused.
+    /// Reserves room for `additional` more messages. The room never shrinks, even if the allocation fails.
     pub fn reserve(&mut self, additional: usize) -> Result<(), AllocError>
         ensures kept { IsUnchanged self.old self.new }
         ensures room { OnOk result (additional ≤ self.new.room) }
@@ -85,7 +86,7 @@ impl<M: Routed> Link<M> {
         self.messages.reserve(additional)
     }
 
-    /// Puts a message at the end, in the room that was made for it.
+    /// Puts a message at the end. The caller has reserved room for it, so nothing is allocated.
     pub fn put_reserved(&mut self, message: M)
         requires of_pair { (M.sender message ≡ self.old.from) × (M.receiver message ≡ self.old.to) }
         requires room { 0 < self.old.room }
@@ -96,7 +97,8 @@ impl<M: Routed> Link<M> {
         self.messages.push_back_reserved(message);
     }
 
-    /// Puts a message at the end. Refused with `NoMemory` where memory has to grow and does not; the message comes back.
+    /// Puts a message at the end, and allocates if there is no room. Refused with `NoMemory` if there is no room and
+    /// the allocation fails; the message is returned with the refusal.
     pub fn put(&mut self, message: M) -> Result<(), (Refusal, M)>
         requires of_pair { (M.sender message ≡ self.old.from) × (M.receiver message ≡ self.old.to) }
         ensures ends { (self.new.from ≡ self.old.from) × (self.new.to ≡ self.old.to) }
@@ -113,7 +115,7 @@ impl<M: Routed> Link<M> {
         Ok(())
     }
 
-    /// Takes the oldest message.
+    /// Removes and returns the oldest message, or returns `None` if there is none.
     pub fn get(&mut self) -> Option<M>
         ensures ends { (self.new.from ≡ self.old.from) × (self.new.to ≡ self.old.to) }
         ensures first { self.old.messages ≡ option_to_list result ++ self.new.messages }
@@ -123,8 +125,8 @@ impl<M: Routed> Link<M> {
         self.messages.pop_front()
     }
 
-    /// Puts a message in the place of the oldest, which comes back. On a link with no message it comes back itself, as the
-    /// error. It takes no memory, and the number of messages does not move.
+    /// Replaces the oldest message and returns it. If the link is empty, the new message is returned as the error. It
+    /// allocates nothing, and the number of messages stays the same.
     pub fn replace_front(&mut self, message: M) -> Result<M, M>
         requires of_pair { (M.sender message ≡ self.old.from) × (M.receiver message ≡ self.old.to) }
         ensures ends { (self.new.from ≡ self.old.from) × (self.new.to ≡ self.old.to) }
@@ -143,7 +145,7 @@ impl<M: Routed> Link<M> {
         Ok(oldest)
     }
 
-    /// The oldest message, which stays.
+    /// Returns the oldest message, which stays on the link, or `None` if there is none.
     pub fn front(&self) -> Option<&M>
         ensures { option_copied result ≡ slice_get self.now.messages 0 }
     {

@@ -1,8 +1,9 @@
+//! What a message has to provide so that a link can carry it.
 ghost use Rattle.std.specs.Prelude.{◌≡◌, ℕ};
 
 use tp_base::{MessageId, NodeId};
 
-/// What goes over a link: it has a number, and goes from one node to another.
+/// A message that a link can carry: it has a number, a sender and a receiver.
 pub trait Routed {
     ghost sender: { Self → ℕ };
 
@@ -10,15 +11,15 @@ pub trait Routed {
 
     ghost message: { Self → ℕ };
 
-    /// The node that sends it.
+    /// Returns the node that sends the message.
     fn from(&self) -> NodeId
         ensures { result.0 ≡ sender self.now };
 
-    /// The node that it is for.
+    /// Returns the node that receives the message.
     fn to(&self) -> NodeId
         ensures { result.0 ≡ receiver self.now };
 
-    /// Its number.
+    /// Returns the number of the message.
     fn number(&self) -> MessageId
         ensures { result.0 ≡ message self.now };
 }

@@ -1,4 +1,4 @@
--- What the first of some checks refuses, more checks after them don't change.
+-- The first refusal of some checks stays the same if more checks follow.
 use Rattle.std.proofs.Common.{◌≡◌, List, [], ◌∷◌, ◌++◌, true, false, Some}
 use Rattle.tp_base.specs.declared.Refusal.{Refusal}
 use Rattle.tp_base.specs.Checks.{Check, first_refusal}

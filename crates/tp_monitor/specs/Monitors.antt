@@ -1,5 +1,5 @@
--- A monitor: what contracts see of it, the state that this gives, the checks of each call in their order, and what a call
--- makes of the numbers.
+-- What contracts see of a monitor, the state that follows from it, the checks of each call in order, and how a call changes the
+-- counters.
 use Rattle.std.specs.Prelude.{ℕ, ℤ, pos, ◌+◌, ◌-◌, ◌+ℤ◌, ◌≡◌, ◌==◌, ◌&&◌, ◌≤◌, int_lt, unsigned_abs, List, [], ◌∷◌, ◌++◌, Bool, true, false}
 use Rattle.std.specs.Prelude.{not, IsTrue, Option, Some, None, is_some, if◌then◌else◌}
 use Rattle.tp_base.specs.declared.PoolId.{PoolId}
@@ -11,13 +11,13 @@ use Rattle.tp_monitor.specs.declared.state.TaskpoolState.{TaskpoolState}
 use Rattle.tp_monitor.specs.declared.state.TaskpoolState.TheVariants.{NotMonitored, NotReady, Busy, Idle, Terminated}
 use Rattle.tp_base.specs.Checks.{Check}
 
--- What contracts see of a monitor: the pool that it monitors, if any, its numbers, and whether the pool's end was announced.
+-- What contracts see of a monitor: the pool that it monitors, if any, its counters, and whether termination was announced.
 pub record Monitored : Type 0 where
   pub pool : Option PoolId
   pub numbers : MonitorNumbers
   pub announced : Bool
 
--- Each number is within its limit, and the opening action is one of the open ones.
+-- Each counter is within its limit, and the opening action is one of the open ones.
 pub record IsWithinLimits (n : MonitorNumbers) : Type 0 where
   pub tasks : n.tasks ≤ MAX_LIVE_TASKS
   pub actions : n.actions ≤ MAX_ACTIONS
@@ -30,12 +30,12 @@ pub record IsWithinLimits (n : MonitorNumbers) : Type 0 where
 abbrev pub monitored_pending : MonitorNumbers → ℕ
 monitored_pending n = n.tasks + n.actions
 
--- What each monitor keeps: nothing is pending once the end was announced.
+-- Each counter is within its limit, and nothing is pending once termination was announced.
 pub record IsMonitor (m : Monitored) : Type 0 where
   pub limits : IsWithinLimits m.numbers
   pub over : IsTrue m.announced → monitored_pending m.numbers ≡ 0
 
--- where a monitored pool stands
+-- the state of a monitored pool
 abbrev pub standing : Monitored → TaskpoolState
 standing m =
     if m.announced then Terminated
@@ -46,7 +46,7 @@ abbrev pub is_pool : PoolId → Option PoolId → Bool
 is_pool pool None = false
 is_pool pool (Some p) = p.0 == pool.0
 
--- where a pool stands at a monitor
+-- the state of a pool at a monitor
 abbrev pub state_of : Monitored → PoolId → TaskpoolState
 state_of m pool = if is_pool pool m.pool then standing m else NotMonitored
 
@@ -82,11 +82,11 @@ first_numbers = record { tasks = 0; actions = 1; opening = 1; sent = 0; received
 abbrev pub is_inactive : MonitorNumbers → Bool
 is_inactive n = monitored_pending n == 0
 
--- a number that changes by so much falls below 0
+-- the number would fall below 0
 abbrev pub falls_below : ℕ → ℤ → Bool
 falls_below n delta = int_lt (pos n +ℤ delta) (pos 0)
 
--- a number that changes by so much passes its limit
+-- the number would exceed its limit
 abbrev pub passes : ℕ → ℕ → ℤ → Bool
 passes limit n delta = int_lt (pos limit) (pos n +ℤ delta)
 
@@ -98,15 +98,15 @@ monitor_checks m = (is_some m.pool, PoolKnown) ∷ []
 abbrev pub pool_checks : Monitored → PoolId → List Check
 pool_checks m pool = (not (is_pool pool m.pool), NoPool) ∷ []
 
--- A pool is let go of once its end was announced.
+-- A pool is released once its termination was announced.
 abbrev pub unmonitor_checks : Monitored → PoolId → List Check
 unmonitor_checks m pool = pool_checks m pool ++ (not (is_terminated (standing m)), WrongLife) ∷ []
 
--- A pool is reopened once its end was announced.
+-- A pool is reopened once its termination was announced.
 abbrev pub reopen_checks : Monitored → PoolId → List Check
 reopen_checks m pool = pool_checks m pool ++ (not (is_terminated (standing m)), WrongLife) ∷ []
 
--- A call that counts begins with these.
+-- Each call that counts begins with these.
 abbrev pub running_checks : Monitored → PoolId → List Check
 running_checks m pool = pool_checks m pool ++ (m.announced, WrongLife) ∷ []
 
@@ -118,7 +118,7 @@ ready_checks m pool = running_checks m pool ++ (m.numbers.opening == 0, NoAction
 abbrev pub change_checks : Monitored → PoolId → ℤ → List Check
 change_checks m pool delta = running_checks m pool ++ (int_lt (pos 0) delta && is_inactive m.numbers, Inactive) ∷ []
 
--- Fewer tasks are there than a lowering takes, or there would be too many.
+-- There are fewer tasks than `delta` removes, or there would be too many.
 abbrev pub tasks_checks : Monitored → PoolId → ℤ → List Check
 tasks_checks m pool delta =
     change_checks m pool delta
@@ -126,7 +126,7 @@ tasks_checks m pool delta =
     ∷ (passes MAX_LIVE_TASKS m.numbers.tasks delta, StoreFull)
     ∷ []
 
--- The opening action is not among those that a lowering can take.
+-- A negative `delta` does not count the opening action.
 abbrev pub actions_checks : Monitored → PoolId → ℤ → List Check
 actions_checks m pool delta =
     change_checks m pool delta
@@ -142,7 +142,7 @@ send_checks m pool =
     ∷ (m.numbers.sent == MAX_STEPS, HistoryFull MAX_STEPS)
     ∷ []
 
--- A message is received at an inactive node too. Of two limits that would be passed, that of received messages is told.
+-- An inactive node receives too. If two limits would be passed, the refusal names that of received messages.
 abbrev pub receive_checks : Monitored → PoolId → List Check
 receive_checks m pool =
     running_checks m pool
@@ -150,17 +150,17 @@ receive_checks m pool =
     ∷ (m.numbers.actions == MAX_ACTIONS, HistoryFull MAX_ACTIONS)
     ∷ []
 
--- Only the opening action is open, or none.
+-- No action is open, or only the opening one.
 abbrev pub message_end_checks : Monitored → PoolId → List Check
 message_end_checks m pool = running_checks m pool ++ (m.numbers.actions == m.numbers.opening, NoAction) ∷ []
 
--- The end is announced to an idle node.
+-- Termination is announced to an idle node.
 abbrev pub end_checks : Monitored → PoolId → List Check
 end_checks m pool = pool_checks m pool ++ (not (is_idle (standing m)), WrongLife) ∷ []
 
--- ---- what a call that passes its checks makes of the numbers
+-- ---- how a call that passes its checks changes the counters
 
--- a number changed by so much
+-- the number changed by `delta`
 abbrev pub moved : ℕ → ℤ → ℕ
 moved n delta = unsigned_abs (pos n +ℤ delta)
 
@@ -168,11 +168,11 @@ moved n delta = unsigned_abs (pos n +ℤ delta)
 abbrev pub ready_numbers : MonitorNumbers → MonitorNumbers
 ready_numbers n = record n { actions = n.actions - 1; opening = 0 }
 
--- The tasks change by so much.
+-- The number of tasks changes by `delta`.
 abbrev pub with_tasks : ℤ → MonitorNumbers → MonitorNumbers
 with_tasks delta n = record n { tasks = moved n.tasks delta }
 
--- The open actions change by so much.
+-- The number of open actions changes by `delta`.
 abbrev pub with_actions : ℤ → MonitorNumbers → MonitorNumbers
 with_actions delta n = record n { actions = moved n.actions delta }
 

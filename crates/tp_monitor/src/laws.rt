@@ -1,8 +1,9 @@
+//! The limit of open actions, as a law: a call without arguments whose postcondition is the theorem.
 ghost use Rattle.std.specs.Prelude.{◌≡◌};
 
 use crate::numbers::MAX_ACTIONS;
 
-/// How many actions may be open at a node is this number.
+/// States that the limit of open actions at a node is this number.
 pub fn limit_of_actions_is_this()
     ensures { MAX_ACTIONS ≡ 1048577 }
 {}

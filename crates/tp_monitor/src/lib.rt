@@ -1,4 +1,5 @@
-//! The monitor of a node: five numbers that tell whether a pool can still change there.
+//! The monitor of a node: five counters that show whether a pool can still change there. What nodes send each other is
+//! not here.
 #![tactic(auto)]
 
 mod laws;

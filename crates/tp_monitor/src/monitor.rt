@@ -1,3 +1,4 @@
+//! The calls of a monitor, with their checks in order.
 ghost use Rattle.std.specs.Prelude.{◌≡◌, ◌+ℤ◌, pos, true, false, IfSome, OnOk, OnErr};
 ghost use Rattle.std.specs.Result.{result_err};
 ghost use Rattle.tp_base.specs.Checks.{first_refusal};
@@ -37,11 +38,11 @@ use crate::state::TaskpoolState;
 use std::marker::Model;
 use tp_base::{MAX_LIVE_TASKS, MAX_STEPS, PoolId, Refusal};
 
-/// One node's five numbers for at most one pool, and whether the pool's end was announced. No call takes memory.
+/// The five counters of one node for at most one pool, and whether termination was announced. No call allocates.
 ///
-/// Contracts see the pool, the numbers and the announced end; the state is a function of these. A refused call changes
-/// nothing. Its refusal is the first that holds of those that its call names, in their order. A layer above can try a call
-/// on a copy before its own last checks.
+/// Contracts see the pool, the counters and whether termination was announced; the state is a function of these. A
+/// refused call changes nothing. It returns the first refusal that applies, in the order in which the call lists them.
+/// A layer above can try a call on a copy before it makes its own last checks.
 #[derive(Clone, Copy, Debug)]
 pub struct Monitor {
     pool: Option<PoolId>,
@@ -62,7 +63,7 @@ impl Model for Monitor {
 }
 
 impl Monitor {
-    /// It monitors no pool.
+    /// Returns a monitor without a pool.
     pub fn new() -> Self
         ensures { result ≡ no_pool }
     {
@@ -79,9 +80,9 @@ impl Monitor {
         }
     }
 
-    /// Takes on a pool: it has no task, and its opening action is open.
+    /// Starts to monitor a pool, which has no tasks and an open opening action.
     ///
-    /// Refused `PoolKnown` (25) where a pool is monitored already.
+    /// Refused with `PoolKnown` (25) if a pool is monitored already.
     pub fn monitor_taskpool(&mut self, pool: PoolId) -> Result<(), Refusal>
         ensures refused { result_err result ≡ first_refusal (monitor_checks self.old) }
         ensures monitored { OnOk result (self.new ≡ record { pool = Some pool; numbers = first_numbers; announced = false }) }
@@ -102,9 +103,9 @@ impl Monitor {
         Ok(())
     }
 
-    /// Lets go of a pool whose end was announced, and forgets its numbers.
+    /// Stops monitoring a pool whose termination was announced, and forgets its counters.
     ///
-    /// Refused `NoPool` (24) where another pool or none is monitored; `WrongLife` (5) where it is not Terminated.
+    /// Refused with `NoPool` (24) if another pool or none is monitored; `WrongLife` (5) if the pool is not Terminated.
     pub fn unmonitor_taskpool(&mut self, pool: PoolId) -> Result<(), Refusal>
         ensures refused { result_err result ≡ first_refusal (unmonitor_checks self.old pool) }
         ensures forgotten { OnOk result (self.new ≡ no_pool) }
@@ -120,10 +121,10 @@ impl Monitor {
         Ok(())
     }
 
-    /// Reopens a pool whose end was announced. It is then as it was taken on: it has no task, its opening action is open, and
-    /// no message was sent or received.
+    /// Reopens a pool whose termination was announced. Its counters are then those of a new pool: no task, an open
+    /// opening action, and no message sent or received.
     ///
-    /// Refused `NoPool` (24) where another pool or none is monitored; `WrongLife` (5) where it is not Terminated.
+    /// Refused with `NoPool` (24) if another pool or none is monitored; `WrongLife` (5) if the pool is not Terminated.
     pub fn taskpool_reopen(&mut self, pool: PoolId) -> Result<(), Refusal>
         ensures refused { result_err result ≡ first_refusal (reopen_checks self.old pool) }
         ensures reopened { OnOk result (self.new ≡ record { pool = Some pool; numbers = first_numbers; announced = false }) }
@@ -135,7 +136,8 @@ impl Monitor {
 
     /// Closes the opening action.
     ///
-    /// Refused `NoPool` (24); `WrongLife` (5) where the pool is Terminated; `NoAction` (8) where it is closed already.
+    /// Refused with `NoPool` (24); `WrongLife` (5) if the pool is Terminated; `NoAction` (8) if the opening action is
+    /// closed already.
     pub fn taskpool_ready(&mut self, pool: PoolId) -> Result<(), Refusal>
         ensures refused { result_err result ≡ first_refusal (ready_checks self.old pool) }
         ensures closed { OnOk result (self.new ≡ record self.old { numbers = ready_numbers self.old.numbers }) }
@@ -152,8 +154,8 @@ impl Monitor {
 
     /// Changes the number of unfinished tasks by `delta`.
     ///
-    /// Refused `NoPool` (24); `WrongLife` (5) where the pool is Terminated; `Inactive` (6) where `delta` is above 0 and
-    /// nothing is pending; `NoTask` (4) below 0 tasks; `StoreFull` (23) above 65,536.
+    /// Refused with `NoPool` (24); `WrongLife` (5) if the pool is Terminated; `Inactive` (6) if `delta` is above 0 and
+    /// nothing is pending; `NoTask` (4) if the number would fall below 0; `StoreFull` (23) if it would exceed 65,536.
     pub fn taskpool_addto_nb_tasks(&mut self, pool: PoolId, delta: i32) -> Result<(), Refusal>
         ensures refused { result_err result ≡ first_refusal (tasks_checks self.old pool delta) }
         ensures changed { OnOk result (self.new ≡ record self.old { numbers = with_tasks delta self.old.numbers }) }
@@ -171,12 +173,12 @@ impl Monitor {
         Ok(())
     }
 
-    /// Changes the number of open actions by `delta`. A lowering never takes the opening action, which `taskpool_ready`
-    /// alone closes.
+    /// Changes the number of open actions by `delta`. A negative `delta` never closes the opening action, which only
+    /// `taskpool_ready` closes.
     ///
-    /// Refused `NoPool` (24); `WrongLife` (5) where the pool is Terminated; `Inactive` (6) where `delta` is above 0 and
-    /// nothing is pending; `NoAction` (8) where fewer actions are open, the opening one apart; `HistoryFull` (16) with
-    /// the limit 1,048,577 where there would be more.
+    /// Refused with `NoPool` (24); `WrongLife` (5) if the pool is Terminated; `Inactive` (6) if `delta` is above 0 and
+    /// nothing is pending; `NoAction` (8) if fewer actions are open, not counting the opening one; `HistoryFull` (16)
+    /// with the limit 1,048,577 if the number would exceed it.
     pub fn taskpool_addto_runtime_actions(
         &mut self,
         pool: PoolId,
@@ -200,8 +202,8 @@ impl Monitor {
 
     /// Counts a message that is sent.
     ///
-    /// Refused `NoPool` (24); `WrongLife` (5) where the pool is Terminated; `Inactive` (6) where nothing is pending;
-    /// `HistoryFull` (16) with the limit 1,048,576 where so many were sent.
+    /// Refused with `NoPool` (24); `WrongLife` (5) if the pool is Terminated; `Inactive` (6) if nothing is pending;
+    /// `HistoryFull` (16) with the limit 1,048,576 if that number of messages was sent already.
     pub fn outgoing_message_start(&mut self, pool: PoolId) -> Result<(), Refusal>
         ensures refused { result_err result ≡ first_refusal (send_checks self.old pool) }
         ensures sent { OnOk result (self.new ≡ record self.old { numbers = sent_numbers self.old.numbers }) }
@@ -218,10 +220,11 @@ impl Monitor {
         Ok(())
     }
 
-    /// Counts a message that is received, whose action opens.
+    /// Counts a message that is received, and opens its action.
     ///
-    /// Refused `NoPool` (24); `WrongLife` (5) where the pool is Terminated; `HistoryFull` (16) with the limit 1,048,576
-    /// where so many were received, then with the limit 1,048,577 where so many actions are open.
+    /// Refused with `NoPool` (24); `WrongLife` (5) if the pool is Terminated; `HistoryFull` (16) with the limit
+    /// 1,048,576 if that number of messages was received already, then with the limit 1,048,577 if that number of
+    /// actions is open.
     pub fn incoming_message_start(&mut self, pool: PoolId) -> Result<(), Refusal>
         ensures refused { result_err result ≡ first_refusal (receive_checks self.old pool) }
         ensures received { OnOk result (self.new ≡ record self.old { numbers = received_numbers self.old.numbers }) }
@@ -241,8 +244,8 @@ impl Monitor {
 
     /// Closes the action of a received message.
     ///
-    /// Refused `NoPool` (24); `WrongLife` (5) where the pool is Terminated; `NoAction` (8) where only the opening action
-    /// or none is open.
+    /// Refused with `NoPool` (24); `WrongLife` (5) if the pool is Terminated; `NoAction` (8) if no action is open, not
+    /// counting the opening one.
     pub fn incoming_message_end(&mut self, pool: PoolId) -> Result<(), Refusal>
         ensures refused { result_err result ≡ first_refusal (message_end_checks self.old pool) }
         ensures closed { OnOk result (self.new ≡ record self.old { numbers = message_ended_numbers self.old.numbers }) }
@@ -256,9 +259,9 @@ impl Monitor {
         Ok(())
     }
 
-    /// Announces the pool's end, which makes it Terminated.
+    /// Announces termination of the pool, whose state becomes Terminated.
     ///
-    /// Refused `NoPool` (24); `WrongLife` (5) where it is not Idle.
+    /// Refused with `NoPool` (24); `WrongLife` (5) if the pool is not Idle.
     pub fn taskpool_end(&mut self, pool: PoolId) -> Result<(), Refusal>
         ensures refused { result_err result ≡ first_refusal (end_checks self.old pool) }
         ensures announced { OnOk result (self.new ≡ record self.old { announced = true }) }
@@ -274,7 +277,7 @@ impl Monitor {
         Ok(())
     }
 
-    /// Where a pool stands here. Nothing is pending where it is Terminated.
+    /// Returns the state of a pool at this node. If it is Terminated, nothing is pending.
     pub fn taskpool_state(&self, pool: PoolId) -> TaskpoolState
         ensures state { result ≡ state_of self.now pool }
         ensures over { result ≡ Terminated → monitored_pending self.now.numbers ≡ 0 }
@@ -286,7 +289,7 @@ impl Monitor {
         }
     }
 
-    /// The numbers of a pool, or `None` where it is not monitored here. Each is within its limit.
+    /// Returns the counters of a pool, each within its limit, or `None` if the pool is not monitored here.
     pub fn numbers(&self, pool: PoolId) -> Option<MonitorNumbers>
         ensures numbers { result ≡ numbers_of self.now pool }
         ensures limits { IfSome result IsWithinLimits }
@@ -298,7 +301,7 @@ impl Monitor {
         }
     }
 
-    /// Where the monitored pool stands.
+    /// Returns the state of the monitored pool.
     fn standing(&self) -> TaskpoolState
         ensures state { result ≡ standing self.now }
         ensures over { result ≡ Terminated → monitored_pending self.now.numbers ≡ 0 }
@@ -314,21 +317,21 @@ impl Monitor {
         }
     }
 
-    /// Whether the pool is the one that is monitored.
+    /// Returns whether this is the monitored pool.
     fn monitors(&self, pool: PoolId) -> bool
         ensures { result ≡ is_pool pool self.now.pool }
     {
         self.pool == Some(pool)
     }
 
-    /// Whether nothing is pending.
+    /// Returns whether nothing is pending.
     fn is_inactive(&self) -> bool
         ensures { result ≡ is_inactive self.now.numbers }
     {
         self.numbers.tasks + self.numbers.actions == 0
     }
 
-    /// The checks with which a call of a running pool begins.
+    /// Makes the checks that begin each call on a pool that must not be Terminated.
     fn check_running(&self, pool: PoolId) -> Result<(), Refusal>
         ensures { result_err result ≡ first_refusal (running_checks self.now pool) }
     {
@@ -341,7 +344,7 @@ impl Monitor {
         }
     }
 
-    /// The checks with which a change of a number by `delta` begins: an inactive node gets nothing.
+    /// Makes the checks that begin a change of a counter by `delta`: an inactive node gets nothing new.
     fn check_change(&self, pool: PoolId, delta: i32) -> Result<(), Refusal>
         ensures { result_err result ≡ first_refusal (change_checks self.now pool delta) }
     {
@@ -353,7 +356,7 @@ impl Monitor {
     }
 }
 
-/// A number changed by `delta`, which may fall below 0.
+/// Returns the counter changed by `delta`, which may be below 0.
 fn moved(number: u32, delta: i32) -> i64
     ensures { result ≡ pos number +ℤ delta }
 {

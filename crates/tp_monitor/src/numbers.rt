@@ -1,9 +1,10 @@
+//! The five counters of a monitor, and the limit of open actions.
 use tp_base::MAX_STEPS;
 
-/// How many actions may be open at a node: one of each step of a pool, and the opening one.
+/// The most actions that can be open at a node: one for each step of a pool, and the opening action.
 pub const MAX_ACTIONS: u32 = MAX_STEPS + 1;
 
-/// What a monitor counts of one pool at one node.
+/// The counters of one pool at one node.
 #[derive(Clone, Copy, Debug, PartialEq, Eq)]
 pub struct MonitorNumbers {
     /// Unfinished tasks, at most 65,536.
@@ -12,8 +13,8 @@ pub struct MonitorNumbers {
     pub actions: u32,
     /// 1 while the opening action is open, then 0.
     pub opening: u32,
-    /// Messages sent so far, at most 1,048,576.
+    /// Messages sent, at most 1,048,576.
     pub sent: u32,
-    /// Messages received so far, at most 1,048,576.
+    /// Messages received, at most 1,048,576.
     pub received: u32,
 }

@@ -1,4 +1,6 @@
-/// Where a pool stands at a node.
+//! The state of a pool at a node.
+
+/// The state of a pool at a node.
 #[derive(Clone, Copy, Debug, PartialEq, Eq)]
 pub enum TaskpoolState {
     /// The pool is not monitored here.
@@ -9,6 +11,6 @@ pub enum TaskpoolState {
     Busy,
     /// No task is unfinished and no action is open.
     Idle,
-    /// The end was announced.
+    /// Termination was announced.
     Terminated,
 }

@@ -1,4 +1,4 @@
--- How the answers of calls in a row come together.
+-- How the results of consecutive calls combine.
 use Rattle.std.proofs.Common.{◌≡◌, ℕ, suc, ◌-◌, List, [], ◌∷◌, length, Option, Some, None, MatchOption, cond, refl, sym, ap, subst, ◌∙◌}
 use Rattle.std.proofs.Common.{arith}
 use Rattle.std.specs.Prelude.{Result, Ok, Err, OnErr, OnOk, drop, slice_get}
@@ -26,7 +26,7 @@ use Rattle.tp_link.specs.Link.{Line}
 use Rattle.tp_node.specs.Locals.{Numbers}
 use Rattle.tp_base.specs.Checks.{Check, first_refusal}
 
--- the same refusal, with what comes back
+-- the same refusal, with what is returned
 module _ (A : Type 0) {B : Type 0} (checks : List Check) (e : Refusal) (back : B) where
   abbrev pub first_of : Refusal → Result A Refusal
   first_of f = Err f
@@ -50,7 +50,7 @@ pub none_first : {M : Type 0} (messages : List M) → None ≡ slice_get message
 none_first [] e = refl
 none_first (m ∷ messages) e = cc
 
--- the first message is the one that was looked at
+-- the first message is the one that was checked
 pub sent_first : {G : Type 0} (messages : List (Carried G)) (first : Carried G) (to : ℕ) (h k : List Event)
     → Some first ≡ slice_get messages 0 → k ≡ h
     → IsTrue (any (is_send_to to first.number.0) (present (steps_of h))) → (m : Carried G) → slice_get messages 0 ≡ Some m
@@ -84,7 +84,7 @@ brings {G} meaning pool from to messages rest first taken p l n m f is split sam
           ∙ ap (λ k. (meaning first.graph).home first.feed.target.0 k) nodes ∙ here ∙ place;
     })
 
--- what a link keeps where its first message was taken
+-- the invariant of a link after its first message was taken
 pub pool_link_without : {G : Type 0} (meaning : G
     → TaskGraph) (pool : ℕ) (link rest : Line (Carried G)) (share left : LinkNumbers) (m : Carried G)
     → IsPoolLink meaning pool link share → link.messages ≡ m ∷ rest.messages → (rest.from ≡ link.from) × (rest.to ≡ link.to)
@@ -97,7 +97,7 @@ pool_link_without {G} meaning pool link rest share left m kept split ends is =
     subst (λ (z : LinkNumbers). IsPoolLink meaning pool rest z) (sym is)
     (record { from = ends.0 ∙ kept.from; to = ends.1 ∙ kept.to; under = less; each = λ k d l. each (suc k) d (omega arith) })
 
--- what a link keeps where a message came in the place of its first
+-- the invariant of a link after its first message was replaced
 module _ {G : Type 0} (meaning : G → TaskGraph) (pool : ℕ) (link new : Line (Carried G)) (share : LinkNumbers) (m : Carried G) where
   -- a message that is on its way over the link
   abbrev IsOver : Carried G → Type 0

@@ -1,4 +1,4 @@
--- What tasks that begin in a row come to.
+-- The result of beginning several tasks in a row.
 use Rattle.std.proofs.Common.{◌≡◌, ℕ, zero, suc, ◌+◌, ◌<◌, ◌≤◌, true, false, List, [], ◌∷◌, ◌++◌, map, take, drop, Option, Some, None}
 use Rattle.std.proofs.Common.{is_some, unwrap_or}
 use Rattle.std.proofs.Common.{refl, sym, ap, subst, ◌∙◌, inl, inr, arith, count_by, add-one}
@@ -47,7 +47,7 @@ taken (suc i) (y ∷ xs) ys x e = let rest = taken i xs ys x e in (ap (λ z. y �
 
 -- ---- a task begins in a store
 module _ {V : Type 0} (s : Content V) (u : TaskId) where
-  -- the tasks, where the one that begins may be unknown
+  -- the tasks, if the one that begins may be unknown
   abbrev with_task_begun : Option (Task V) → finite.FinMap nat_cmp (Task V)
   with_task_begun o = unwrap_or (option_map (λ x. finite.insert s.tasks u.0 (begun x)) o) s.tasks
 
@@ -76,7 +76,7 @@ module _ {V : Type 0} (s : Content V) (u : TaskId) where
       go None e = absurd (let no : None ≡ Some Ready = ap (option_map (λ x. x.life)) (sym e) ∙ ready in cc)
       go (Some x) e = let move = moves s u (begun x) s.ready s.results (Some Ready) ready is_ready in omega (arith, move)
 
--- where a task is ready, one is the next
+-- if a task is ready, one is the next
 some_next : {V : Type 0} (s : Content V) → IsSound s → 0 < count_lives is_ready s → front s.ready ≡ None → ⊥
 some_next s sound some none =
     let yes : nat_lt 0 (count_lives is_ready s) ≡ true = grind (arith, nat_tests) in
@@ -130,7 +130,7 @@ then_appends es e a b c first next = record {
 }
 
 module _ {G : Type 0} where
-  -- i tasks began one after another: what a loop over them keeps
+  -- i tasks began one after another: the invariant of a loop over them
   pub record HasBegun (old : NodeState G) (before : BoardState) (i : ℕ) (new : NodeState G) (later : BoardState)
       (places : List (Option (Begun G))) : Type 0 where
     pub some : BeginsSome old new before later i places
@@ -211,7 +211,7 @@ from_reserved es more a b c is appends = record {
   fault = appends.fault ∙ ap (λ (z : BoardState). z.fault) is;
 }
 
--- the same of the one that begins where room was made for it
+-- the same for the one that begins after room was reserved for it
 pub begins_reserved : {G : Type 0} (o : Option (Begun G)) (old new : NodeState G) (before mid later : BoardState) (more : ℕ)
     → mid ≡ with_reserved (max before.reserved more) before
     → MatchOption o ((front old.state.store.ready ≡ None) × (new ≡ old) × (later ≡ mid)) (Begins old new mid later)
@@ -232,7 +232,7 @@ begins_reserved (Some work) old new before mid later more is begins = record {
   begun = begins.begun;
 }
 
--- A call that goes on where room was made for so many answers as that did.
+-- A call that continues after room for this many events was reserved has the result of the reservation.
 pub room_answers : {A B : Type 0} (more k : ℕ) (b : BoardState) (x : A) (y : B) → more ≡ k
     → AnswersBy {A = A} (full_check more b ∷ []) more b (Ok x)
     → AnswersBy {A = B} (full_check k b ∷ []) k b (Ok y)

@@ -1,4 +1,4 @@
--- Where the action of a message is open at a node, something is pending there.
+-- If the action of a message is open at a node, something is pending there.
 use Rattle.std.proofs.Common.{ℕ, ◌+◌, ◌<◌, IsTrue, is_some, ap, arith}
 use Rattle.std.specs.FinMap as finite
 use Rattle.std.specs.FinSet as set

@@ -37,7 +37,7 @@ feeds-remove old new k each =
     get-feeds new q ∙ each q ∙ ap (λ b. cond b None (feed_at old q)) ((eq_by_cmp_equiv nat_cmp_total).symm k q)
     ∙ sym (finite.get-remove nat_cmp_total (feeds old) k q ∙ ap (cond (eq_by_cmp nat_cmp q k) None) (get-feeds old q)))
 
--- ---- how many feeds there are
+-- ---- the number of feeds
 
 pub feeds_empty : finite.len (finite.empty {X = Feed} {R = nat_cmp}) ≡ 0
 feeds_empty = finite.len-empty nat_cmp Feed

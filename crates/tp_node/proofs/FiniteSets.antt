@@ -44,7 +44,7 @@ numbers-remove old new k each =
     ∙ ap (λ b. not (eq_by_cmp nat_cmp q k) && b) (sym (contains-numbers old q))
     ∙ sym (set.contains-remove nat_cmp_total (numbers old) k q))
 
--- ---- how many numbers there are
+-- ---- the number of elements
 
 pub len_empty : set.len (set.empty {R = nat_cmp}) ≡ 0
 len_empty = set.len-empty nat_cmp

@@ -1,4 +1,4 @@
--- What nodes in a row add up to.
+-- The sums over consecutive nodes.
 use Rattle.std.proofs.Common.{◌≡◌, List, [], ◌∷◌, ◌++◌, length, map, refl, sym, ap, subst, ◌∙◌, arith}
 use Rattle.std.specs.Prelude.{Some}
 use Rattle.std.specs.List.{All, flat_map}
@@ -14,13 +14,13 @@ use Rattle.tp_board.specs.Reopening.{begun_anew}
 use Rattle.tp_node.specs.Nodes.{NodeState, anew}
 use Rattle.tp_node.specs.Locals.{Numbers}
 
--- what is made of each of some things, and of one more
+-- the images of a list, and of one more element
 pub mapped-more : {X Y : Type 0} (f : X → Y) (xs : List X) (x : X) (made new : List Y) (last : Y)
     → made ≡ map f xs → last ≡ f x → new ≡ made ++ last ∷ [] → new ≡ map f (xs ++ x ∷ [])
 mapped-more f xs x made new last before is pushed =
     pushed ∙ ap (λ y. made ++ y ∷ []) is ∙ ap (λ ys. ys ++ f x ∷ []) before ∙ sym (map-append f xs (x ∷ []))
 
--- what holds of each image holds of each element
+-- what holds for each image holds for each element
 pub All-of_map : {X Y : Type 0} (P : Y → Type 0) (f : X → Y) (xs : List X) → All P (map f xs) → All (λ x. P (f x)) xs
 All-of_map P f xs all = λ k d within. subst P (get_or-map f xs k d (f d) within) (all k (f d) (rw (length-map xs f) within))
 
@@ -41,7 +41,7 @@ module _ {G : Type 0} where
       joined ∙ ap (λ (rs : Results). results ++ rs) is ∙ ap (λ (rs : Results). rs ++ results_of n) before
       ∙ flat_map_more results_of [] nodes n
 
-  -- The results of one more node are right, where it is of the graph.
+  -- The results of one more node are right, if it is of the graph.
   pub right-more : (meaning : G → TaskGraph) (graph : G) (nodes : List (NodeState G)) (n : NodeState G) (results more : Results)
       → (All (λ s. s.graph ≡ graph) nodes → AreResults (meaning graph) results) → AreResults (meaning n.graph) more
       → All (λ s. s.graph ≡ graph) (nodes ++ n ∷ []) → AreResults (meaning graph) (results ++ more)

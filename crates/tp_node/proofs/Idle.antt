@@ -1,4 +1,4 @@
--- Where no task is unfinished.
+-- What holds if no task is unfinished.
 use Rattle.std.proofs.Common.{◌≡◌, ℕ, ◌+◌, ◌<◌, ◌==◌, Bool, true, false, cond, [], ◌∷◌, Option, Some, None, is_some, unwrap_or, count_by}
 use Rattle.std.proofs.Common.{refl, sym, ap, ◌∙◌, arith}
 use Rattle.std.specs.Prelude.{if◌then◌else◌, not, IsTrue, IfSome, OnSome}
@@ -76,7 +76,7 @@ announced false true idle a b c = cc
 announced false false true a b c = refl
 announced false false false a b c = cc
 
--- the end can be announced where nothing is pending
+-- termination can be announced if nothing is pending
 pub idle_finishes : {V : Type 0} (l : LocalState V) → l.ended ≡ false → pending_here l ≡ 0 → first_refusal (finish_checks l) ≡ None
 idle_finishes l going none =
     announced l.ended l.actions.opening (pending_here l == 0) going (closed l.actions.opening refl) (ap (λ n. n == 0) none)

@@ -1,4 +1,4 @@
--- What a node keeps over the changes of its store.
+-- How a node's invariant is kept when its store changes.
 use Rattle.std.proofs.Common.{◌≡◌, ℕ, ◌+◌, ◌-◌, ◌<◌, Bool, true, false, [], ◌∷◌, length, Option, Some, None, unwrap_or, refl, sym, ap}
 use Rattle.std.proofs.Common.{subst, ◌∙◌, inl, inr, arith}
 use Rattle.std.specs.Prelude.{if◌then◌else◌}
@@ -47,7 +47,7 @@ module _ (s : Content Numbers) (t : TaskId) where
   pub known-done : (value : Numbers) → KeepsKnown s (with_done s t value)
   known-done value u e = known-changed done (task_of s t) u e
 
--- where the tasks live
+-- the nodes of the tasks
 module _ (g : TaskGraph) (nodes node : ℕ) (s : Content Numbers) (t : TaskId) (all : AreHere g nodes node s) where
   pub here-put : (x : Task Numbers) → g.home t.0 nodes ≡ node → AreHere g nodes node (with_task s t x)
   here-put x lives u y e = elim (cases_eq u.0 t.0) [

@@ -1,5 +1,5 @@
 -- What the tests of a node say of its store.
-use Rattle.std.proofs.Common.{◌≡◌, ℕ, ◌==◌, Bool, true, false, [], ◌∷◌, get_or, Option, Some, None, is_some, unwrap_or, refl, sym, ap, ◌∙◌}
+use Rattle.std.proofs.Common.{◌≡◌, ℕ, ◌==◌, Bool, true, false, [], ◌∷◌, get_or, Option, Some, None, is_some, unwrap_or, refl, ap, ◌∙◌}
 use Rattle.std.specs.Prelude.{if◌then◌else◌, ◌||◌, not}
 use Rattle.std.specs.Option.{option_map}
 use Rattle.tp_base.specs.declared.ids.TaskId.{TaskId}
@@ -13,7 +13,7 @@ module _ {V : Type 0} (s : Content V) (t : TaskId) where
   abbrev pub put_test : ℕ → ℕ → Option Refusal
   put_test arity slot = first_refusal ((takes_nothing s t arity, TaskKnown) ∷ (is_taken s t slot, SlotTaken) ∷ [])
 
-  -- the same of what is known of a task
+  -- the same for the state of a task
   abbrev deliver_of : ℕ → ℕ → Option (Task V) → Option Refusal
   deliver_of arity slot o = unwrap_or (option_map (λ x. refusal_of_value x arity slot) o) (refusal_of_new s)
 
@@ -66,28 +66,3 @@ module _ {V : Type 0} (s : Content V) (t : TaskId) where
           old true b ea eb = refused TaskKnown (answer true b ea eb) (test_of (Some x) e true b ea eb) (λ no. cc)
           old false true ea eb = refused SlotTaken (answer false true ea eb) (test_of (Some x) e false true ea eb) (λ no. cc)
           old false false ea eb = free (answer false false ea eb) (test_of (Some x) e false false ea eb) lacks
-
--- what the answer of the store's check comes to
-pub says_refused : {V : Type 0} (s : Content V) (t : TaskId) (arity slot : ℕ) (e : Refusal) → refusal_of_deliver s t arity slot ≡ Some e
-    → (e ≡ StoreFull → ⊥) → put_test s t arity slot ≡ Some e
-says_refused s t arity slot e is other = elim (says s t arity slot) [
-  | refused f is_f test apart ↦ let same : f ≡ e = (let both : Some f ≡ Some e = sym is_f ∙ is in cc) in test ∙ ap Some same
-  | full is_full test lacks ↦ absurd (other (let both : Some StoreFull ≡ Some e = sym is_full ∙ is in cc))
-  | free is_free test lacks ↦ absurd (let both : None ≡ Some e = sym is_free ∙ is in cc)
-]
-
-pub says_full : {V : Type 0} (s : Content V) (t : TaskId) (arity slot : ℕ) → refusal_of_deliver s t arity slot ≡ Some StoreFull
-    → (put_test s t arity slot ≡ None) × (lacks_place s t ≡ true)
-says_full s t arity slot is = elim (says s t arity slot) [
-  | refused f is_f test apart ↦ absurd (apart (let both : Some f ≡ Some StoreFull = sym is_f ∙ is in cc))
-  | full is_full test lacks ↦ (test, lacks)
-  | free is_free test lacks ↦ absurd (let both : None ≡ Some StoreFull = sym is_free ∙ is in cc)
-]
-
-pub says_free : {V : Type 0} (s : Content V) (t : TaskId) (arity slot : ℕ) → refusal_of_deliver s t arity slot ≡ None
-    → (put_test s t arity slot ≡ None) × (lacks_place s t ≡ false)
-says_free s t arity slot is = elim (says s t arity slot) [
-  | refused f is_f test apart ↦ absurd (let both : Some f ≡ None = sym is_f ∙ is in cc)
-  | full is_full test lacks ↦ absurd (let both : Some StoreFull ≡ None = sym is_full ∙ is in cc)
-  | free is_free test lacks ↦ (test, lacks)
-]

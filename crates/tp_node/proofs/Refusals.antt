@@ -1,4 +1,4 @@
--- What a node refuses beside its store.
+-- What a node refuses in addition to its store.
 use Rattle.std.proofs.Common.{◌≡◌, ℕ, ◌<◌, Bool, true, false, Option, Some, None, is_some, unwrap_or, MatchOption, refl, ap, sym, ◌∙◌}
 use Rattle.std.proofs.Common.{arith, if◌then◌else◌, ◌==◌}
 use Rattle.std.specs.Option.{option_map}
@@ -33,7 +33,7 @@ chosen : {A : Type 0} (b : Bool) (x y : A) → b ≡ false → (if b then x else
 chosen true x y h = cc
 chosen false x y h = refl
 
--- l is the state of a node, s the content of its store, and t a task that is not known, where something is pending
+-- l is the state of a node, s the content of its store, and t an unknown task, if something is pending
 module _ {V : Type 0} (l : LocalState V) (s : Content V) (t : TaskId) (is : l.store ≡ s) (new : is_some (task_of l.store t)
     ≡ false) (m : ℕ) (counted : m ≡ pending_here l) (some : m ≡ 0 → ⊥) where
   new_there : is_some (task_of s t) ≡ false
@@ -66,7 +66,7 @@ module _ {V : Type 0} (l : LocalState V) (s : Content V) (t : TaskId) (is : l.st
       ap (λ c. refusal_of_deliver c t arity slot) (sym is)
       ∙ sym (taken (is_some (task_of l.store t)) (refusal_of_deliver l.store t arity slot) (refusal_of_new_task l) known)
 
--- an answer that is told by cases of its refusal
+-- a result by cases of its refusal
 pub refusal_is : (r : Result (Unit {0}) Refusal) (o : Option Refusal) → MatchOption o (r ≡ Ok tt) (λ e. r ≡ Err e) → result_err r ≡ o
 refusal_is r None h = ap result_err h
 refusal_is r (Some e) h = ap result_err h
@@ -85,7 +85,7 @@ delivery_free l t arity slot free some =
     (λ new. sym (unknown (task_of l.store t) (λ x. refusal_of_value x arity slot) (refusal_of_new l.store) new) ∙ free)
     (active (pending_here l) (pending_here l) refl (λ none. absurd (omega (arith, some, none))))
 
--- where something is pending, what a delivery is refused is the store's answer
+-- if something is pending, a delivery is refused for what the store says
 pub delivery_active : {V : Type 0} (l : LocalState V) (s : Content V) (t : TaskId) → l.store ≡ s → (m : ℕ) → m ≡ pending_here l → (m ≡ 0 → ⊥)
     → (arity slot : ℕ)
     → refusal_of_deliver s t arity slot ≡ refusal_of_delivery l t arity slot

@@ -11,7 +11,7 @@ use Rattle.tp_store.specs.Content.{Task, Content, task_of, life_of, is_running, 
 use Rattle.tp_store.specs.declared.life.Life.{Life}
 use Rattle.tp_store.specs.declared.life.Life.TheVariants.{Running}
 
--- where it was found that it runs
+-- if it was found that it runs
 pub it_runs : {A : Type 0} (b : Bool) (r : Result A Refusal) (x y : A) → MatchBool b (r ≡ Ok x) (r ≡ Err WrongLife) → r ≡ Ok y
     → IsTrue b
 it_runs true r x y found is = refl

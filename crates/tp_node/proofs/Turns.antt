@@ -1,4 +1,4 @@
--- What a node's turn comes to.
+-- The result of a node's turn.
 use Rattle.std.proofs.Common.{ℕ, ◌≡◌, [], ◌∷◌, false, Option, Some, None, Result, Ok, Err, refl, sym, ap, subst, ◌∙◌, arith}
 use Rattle.std.specs.Prelude.{IfErr, IfNone, IfOk, IfSome, OnErr, OnOk, if◌then◌else◌, is_some}
 use Rattle.std.specs.List.{find}
@@ -50,12 +50,12 @@ on_err : {A : Type 0} (r : Result A Refusal) (P Q : Type 0) → OnErr r P → (P
 on_err (Ok x) P Q p f = tt
 on_err (Err e) P Q p f = f p
 
--- where nothing was set, nothing is owed
+-- if no fault was set, nothing is owed
 pub unset : {X : Type 0} (o : Option X) (P : Type 0) → is_some o ≡ false → IfSome o (λ _. P)
 unset None P none = tt
 unset (Some x) P none = absurd cc
 
--- the node, of so many, stands beside a board that has no fault and leads from old to new, and the call answers r
+-- the node, one of this many, with a board that has no fault and goes from old to new, and the call returns r
 module _ {G K : Type 0} (node : NodeState G) {old new : BoardState} {r : Result (Turn K) Refusal} (sound : is_some old.fault ≡ false)
     (turn : MakesFirst node.nodes node.numbers.node (turn_steps node.numbers.node) old new r) where
   -- the first of its control steps that it may make
@@ -97,7 +97,7 @@ module _ {G K : Type 0} (node : NodeState G) {old new : BoardState} {r : Result 
   pub kept : OnErr r (Appends [] old new)
   kept = on_err r (new ≡ old) (Appends [] old new) (unchanged_by (turn_of node old) refl) (nothing old new)
 
--- What is known of the turn speaks of the node and of the board as they were.
+-- What is known of the turn is about the node and the board before it.
 pub turn_told : {G K : Type 0} {n i : ℕ} {start new : BoardState} {r : Result (Turn K) Refusal} (node : NodeState G) (old : BoardState)
     → n ≡ node.nodes → i ≡ node.numbers.node → start ≡ old → MakesFirst n i (turn_steps i) start new r
     → MakesFirst node.nodes node.numbers.node (turn_steps node.numbers.node) old new r

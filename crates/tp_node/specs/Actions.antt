@@ -6,14 +6,14 @@ use Rattle.std.specs.FinSet as set
 use Rattle.std.specs.Coded.{Coded, code_by, coded×, coded_ℕ, coded_bool}
 use Rattle.tp_graph.specs.declared.feed.Feed.{Feed}
 
--- Whether the opening action is open, the numbers of the named actions that are, and, by the numbers of the messages whose
--- actions are open, the feed that each of these messages brought.
+-- Whether the opening action is open; the numbers of the open named actions; and for each message whose action is open, by its
+-- number, the feed that the message brought.
 pub record Actions : Type 0 where
   pub opening : Bool
   pub named : set.FinSet nat_cmp
   pub messages : finite.FinMap nat_cmp Feed
 
--- how a proof tells feeds apart
+-- how proofs distinguish feeds
 abbrev pub feed_code : Coded Feed
 feed_code =
     code_by

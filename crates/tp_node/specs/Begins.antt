@@ -10,7 +10,7 @@ use Rattle.tp_node.specs.Nodes.{NodeState, begun_with, event_of}
 use Rattle.tp_slots.specs.Content.{front}
 use Rattle.tp_store.specs.Content.{counts_of, values_of}
 
--- some lists as one
+-- the concatenation of lists
 abbrev pub joined : {X : Type 0} → List (List X) → List X
 joined [] = []
 joined (xs ∷ rest) = xs ++ joined rest
@@ -20,11 +20,11 @@ module _ {G : Type 0} where
   abbrev pub ready_count : NodeState G → ℕ
   ready_count n = (counts_of n.state.store).ready
 
-  -- its next ready task, where there is one
+  -- its next ready task, if there is one
   abbrev pub next_task : NodeState G → Option TaskId
   next_task n = front n.state.store.ready
 
-  -- its next k ready tasks: by class, the lowest first, and in each class as its list has them
+  -- its next k ready tasks: by class, the lowest first, and in each class in the order of its queue
   abbrev pub next_ready : ℕ → NodeState G → List TaskId
   next_ready k n = take k (joined n.state.store.ready)
 
@@ -33,23 +33,23 @@ module _ {G : Type 0} where
   begun_with_each [] n = n
   begun_with_each (t ∷ ts) n = begun_with_each ts (begun_with t n)
 
-  -- the events of that, the newest first
+  -- the events of these, newest first
   abbrev pub begins_of : List TaskId → NodeState G → List Event
   begins_of ts n = reverse (map (λ t. event_of n (steps.Begin t)) ts)
 
-  -- The work of a task of the node has what is in the task's slots.
+  -- The work of a task of the node has the values of the task's slots.
   pub record IsWorkOf (n : NodeState G) (t : TaskId) (work : Begun G) : Type 0 where
     pub task : work.task ≡ t
     pub graph : work.graph ≡ n.graph
     pub inputs : map (λ v. Some v) work.inputs ≡ values_of n.state.store t
 
-  -- In these places are the works of these tasks, in that order.
+  -- In these places is the work of these tasks, in that order.
   abbrev pub AreWorksOf : NodeState G → List TaskId → List (Option (Begun G)) → Type 0
   AreWorksOf n [] [] = Unit {0}
   AreWorksOf n (t ∷ ts) (Some work ∷ places) = IsWorkOf n t work × AreWorksOf n ts places
   AreWorksOf n _ _ = ⊥
 
-  -- The node begins its next k ready tasks, whose works are in these places.
+  -- The node begins its next k ready tasks, whose work is in these places.
   pub record BeginsSome (old new : NodeState G) (before later : BoardState) (k : ℕ) (places : List (Option (Begun G))) : Type 0 where
     pub number : length places ≡ k
     pub works : AreWorksOf old (next_ready k old) places

@@ -1,4 +1,4 @@
--- What the calls of a node do that answer more than that they were made.
+-- The effects of those calls of a node that return more than success.
 use Rattle.std.specs.Prelude.{ℕ, ◌≡◌, List, [], ◌∷◌, Bool, MatchBool, MatchOption, Some, Result, Err, IfErr, map}
 use Rattle.tp_base.specs.Checks.{Check, first_refusal}
 use Rattle.tp_base.specs.declared.refusal.Refusal.{Refusal}
@@ -14,29 +14,29 @@ use Rattle.tp_node.specs.PoolLinks.{PoolLinkState, generation_of}
 use Rattle.tp_slots.specs.Content.{front}
 use Rattle.tp_store.specs.Content.{values_of}
 
--- A call that makes these checks answers the first of them that holds, and both that were moved in come back beside it.
--- Otherwise it succeeds, or finds no memory.
+-- A call that makes these checks returns the first refusal that applies, with both values that were moved in. If none does, it
+-- succeeds, or an allocation fails.
 abbrev pub AnswersWithBoth : {A B C : Type 0} → List Check → B → C → Result A (Refusal × B × C) → Type 0
 AnswersWithBoth checks b c result =
     MatchOption (first_refusal checks) (IfErr result (λ e. e ≡ (NoMemory, b, c))) (λ e. result ≡ Err (e, b, c))
 
 -- a node before and after a call, and the board
 module _ {G : Type 0} (old new : NodeState G) (before later : BoardState) where
-  -- Nothing happens at the node, and there is no event.
+  -- The node is unchanged, and there is no event.
   abbrev pub Rests : Type 0
   Rests = Appends [] before later × (new ≡ old)
 
-  -- The node inserts its lowest input-free task that was never inserted, t.
+  -- The node inserts its lowest task without inputs that was never inserted, t.
   pub record Seeds (g : TaskGraph) (t : ℕ) : Type 0 where
     pub next : IsNextSeed g old t
     pub event : Appends (event_of old (seeding old t) ∷ []) before later
     pub seeded : new ≡ seeded g t old
 
-  -- It inserts one, or none is left and nothing happens.
+  -- It inserts one, or none is left and nothing changes.
   abbrev pub SeedsIf : TaskGraph → Bool → Type 0
   SeedsIf g found = MatchBool found ((t : ℕ) × Seeds g t) (HasNoSeed g old × Rests)
 
-  -- The node begins its next ready task. The work has what was in the task's slots.
+  -- The node begins its next ready task. The work has the values of the task's slots.
   pub record Begins (work : Begun G) : Type 0 where
     pub first : front old.state.store.ready ≡ Some work.task
     pub graph : work.graph ≡ old.graph
@@ -44,7 +44,7 @@ module _ {G : Type 0} (old new : NodeState G) (before later : BoardState) where
     pub event : Appends (event_of old (steps.Begin work.task) ∷ []) before later
     pub begun : new ≡ begun_with work.task old
 
-  -- The node receives the oldest message of a link, which is of the present generation and leaves the others.
+  -- The node receives the oldest message of a link, which is of the present generation; the others stay.
   pub record Receives (pool_link rest : PoolLinkState G) (message : Carried G) : Type 0 where
     pub graph : message.graph ≡ old.graph
     pub generation : message.generation.0 ≡ generation_of before

@@ -13,7 +13,7 @@ module _ {G : Type 0} where
   abbrev pub next_feed_of : TaskGraph → Ran G → Feed
   next_feed_of g f = feed_at g f.task.0 f.fed
 
-  -- the node that it goes to, of so many
+  -- the node that it goes to, out of this many
   abbrev pub next_home : TaskGraph → Ran G → ℕ → ℕ
   next_home g f nodes = g.home (next_feed_of g f).target.0 nodes
 

@@ -1,5 +1,5 @@
--- A node's own state: its tasks, its open actions, what it sent and received, and whether the end was announced to it. What is
--- pending is counted over the tasks and the actions.
+-- A node's own state: its tasks, its open actions, the messages sent and received, and whether termination was announced to it.
+-- What is pending is counted over the tasks and the actions.
 use Rattle.std.specs.Prelude.{ℕ, ℤ, ◌+◌, ◌≡◌, ◌==◌, List, [], ◌∷◌, Bool, false, not, IsTrue, Option, Some, None, is_some, if◌then◌else◌}
 use Rattle.std.specs.Prelude.{refl}
 use Rattle.std.specs.FinSet as set
@@ -19,7 +19,7 @@ use Rattle.tp_store.specs.declared.life.Life.{Life}
 use Rattle.tp_store.specs.Codes.{content_code}
 use Rattle.tp_node.specs.Actions.{Actions, actions_code, first_actions, has_message, open_count}
 
--- what a store holds, the open actions, how many messages were sent and received, and whether the end was announced
+-- the content of the store, the open actions, the numbers of messages sent and received, and whether termination was announced
 pub record LocalState (V : Type 0) : Type 0 where
   pub store : Content V
   pub actions : Actions
@@ -27,7 +27,7 @@ pub record LocalState (V : Type 0) : Type 0 where
   pub received : ℕ
   pub ended : Bool
 
--- how a proof tells the states apart
+-- how proofs distinguish the states
 abbrev pub state_code : {V : Type 0} → Coded V → Coded (LocalState V)
 state_code {V} value_code =
     code_by
@@ -37,7 +37,7 @@ state_code {V} value_code =
     (λ p. record { store = p.0; actions = p.1.0; sent = p.1.1.0; received = p.1.1.1.0; ended = p.1.1.1.1 })
     (λ _. refl)
 
--- The monitor counts so many tasks that are not done and so many open actions, among them the opening one while it is open.
+-- The monitor counts these numbers of unfinished tasks and open actions, including the opening one while it is open.
 pub record IsCounted (m : Monitored) (unfinished opened opening : ℕ) : Type 0 where
   pub tasks : m.numbers.tasks ≡ unfinished
   pub actions : m.numbers.actions ≡ opened
@@ -49,7 +49,7 @@ is_live None = false
 is_live (Some life) = is_unfinished life
 
 module _ {V : Type 0} where
-  -- There is no task, and the opening action alone is open.
+  -- There are no tasks, and only the opening action is open.
   abbrev pub first_state : LocalState V
   first_state = record { store = nothing_stored; actions = first_actions; sent = 0; received = 0; ended = false }
 
@@ -57,16 +57,16 @@ module _ {V : Type 0} where
   abbrev pub pending_here : LocalState V → ℕ
   pending_here l = unfinished l.store + open_count l.actions
 
-  -- where the pool stands at the node
+  -- the state of the pool at the node
   abbrev pub standing : LocalState V → TaskpoolState
   standing l = if l.ended then Terminated else (if l.actions.opening then NotReady else (if pending_here l == 0 then Idle else Busy))
 
-  -- ---- the checks of each call, in their order
+  -- ---- the checks of each call, in order
   -- the node is inactive
   abbrev pub is_inactive : LocalState V → Bool
   is_inactive l = pending_here l == 0
 
-  -- A task is inserted at an active node, where its store takes one more.
+  -- A task is inserted at an active node, if its store has room for one more.
   abbrev pub refusal_of_new_task : LocalState V → Option Refusal
   refusal_of_new_task l = if is_inactive l then Some Inactive else refusal_of_new l.store
 
@@ -74,7 +74,7 @@ module _ {V : Type 0} where
   abbrev pub refusal_of_insertion : LocalState V → TaskId → Option Refusal
   refusal_of_insertion l t = if is_some (task_of l.store t) then Some TaskKnown else refusal_of_new_task l
 
-  -- What a known task is refused is the store's answer.
+  -- The store says what a known task is refused for.
   abbrev pub refusal_of_delivery : LocalState V → TaskId → ℕ → ℕ → Option Refusal
   refusal_of_delivery l t arity slot =
       if is_some (task_of l.store t) then refusal_of_deliver l.store t arity slot else refusal_of_new_task l
@@ -83,8 +83,8 @@ module _ {V : Type 0} where
   abbrev pub send_checks : LocalState V → List Check
   send_checks l = (is_inactive l, Inactive) ∷ (l.sent == MAX_STEPS, HistoryFull MAX_STEPS) ∷ []
 
-  -- A message is received at an inactive node too, and its action opens once. Of two limits that would be passed, that of
-  -- received messages is told.
+  -- An inactive node receives too, and a message's action opens once. If two limits would be passed, the refusal names that of
+  -- received messages.
   abbrev pub receive_checks : LocalState V → ℕ → List Check
   receive_checks l message =
       (l.ended, WrongLife)
@@ -97,7 +97,7 @@ module _ {V : Type 0} where
   abbrev pub end_checks : LocalState V → ℕ → List Check
   end_checks l message = (not (has_message l.actions message), NoAction) ∷ []
 
-  -- A named action opens at an active node, where it is not open.
+  -- A named action opens at an active node, if it is not open.
   abbrev pub open_checks : LocalState V → ℕ → List Check
   open_checks l action =
       (set.contains l.actions.named action, ActionKnown)
@@ -113,11 +113,11 @@ module _ {V : Type 0} where
   abbrev pub ready_checks : LocalState V → List Check
   ready_checks l = (not l.actions.opening, NoAction) ∷ []
 
-  -- The end is announced to an idle node.
+  -- Termination is announced to an idle node.
   abbrev pub finish_checks : LocalState V → List Check
   finish_checks l = (not (is_idle (standing l)), WrongLife) ∷ []
 
-  -- what a monitor, the content of a store and the open actions tell of a node
+  -- the state of a node, from its monitor, the content of its store and its open actions
   abbrev pub state_of : Monitored → Content V → Actions → LocalState V
   state_of m store actions =
       record { store = store; actions = actions; sent = m.numbers.sent; received = m.numbers.received; ended = m.announced }
@@ -126,6 +126,6 @@ module _ {V : Type 0} where
 abbrev pub Numbers : Type 0
 Numbers = List ℤ
 
--- Each task that was ever inserted is done, and has its one result.
+-- Each task that was ever inserted is done, and has exactly one result.
 abbrev pub EachOnce : Content Numbers → Type 0
 EachOnce c = (t : TaskId) → IsTrue (is_some (task_of c t)) → times_done c t ≡ 1

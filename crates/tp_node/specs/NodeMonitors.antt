@@ -1,4 +1,4 @@
--- What a node keeps of its monitor.
+-- The invariant of a node's monitor.
 use Rattle.std.specs.Prelude.{◌≡◌, Some}
 use Rattle.tp_base.specs.declared.PoolId.{PoolId}
 use Rattle.tp_monitor.specs.Monitors.{Monitored, IsMonitor}
@@ -7,7 +7,7 @@ use Rattle.tp_monitor.specs.Monitors.{Monitored, IsMonitor}
 abbrev pub the_pool : PoolId
 the_pool = record { 0 = 0 }
 
--- The monitor is at that pool.
+-- The monitor monitors that pool.
 pub record IsNodeMonitor (m : Monitored) : Type 0 where
   pub monitored : m.pool ≡ Some the_pool
   pub kept : IsMonitor m

@@ -17,15 +17,15 @@ use Rattle.tp_node.specs.Locals.{LocalState, Numbers, first_state, pending_here,
 use Rattle.tp_wave.specs.Machine.{pending_at}
 use Rattle.tp_store.specs.Content.{Task, Content, task_of, with_inserted, with_delivered, with_begun, with_done}
 
--- A node has the graph that its pool works out, on so many nodes; its own state; and its shares' numbers, with its own
--- number.
+-- A node has the graph that its pool computes, and the number of nodes; its own state; and its shares' numbers, which include its
+-- own number.
 pub record NodeState (G : Type 0) : Type 0 where
   pub graph : G
   pub nodes : ℕ
   pub state : LocalState Numbers
   pub numbers : ShareNumbers
 
--- how a proof tells nodes apart
+-- how proofs distinguish nodes
 abbrev pub numbers_code : Coded ShareNumbers
 numbers_code =
     code_by
@@ -49,7 +49,7 @@ node_code {G} code =
 abbrev pub task_at : ℕ → TaskId
 task_at t = record { 0 = t }
 
--- node i inserts a task that waits for so many inputs
+-- node i inserts a task that waits for this many inputs
 abbrev pub inserting : ℕ → TaskId → ℕ → Step
 inserting i t inputs = steps.Insert (node_at i) t (record { count = inputs })
 
@@ -58,12 +58,12 @@ abbrev pub putting : TaskGraph → ℕ → Content Numbers → TaskId → Step
 putting g i c t = if is_some (task_of c t) then steps.Supply t else inserting i t (g.arity t.0 - 1)
 
 -- ---- what is left to insert
--- the first number from one on that has a property, where there is one
+-- the first number from one on that has a property, if there is one
 abbrev pub IsFirst : (ℕ → Type 0) → ℕ → Option ℕ → Type 0
 IsFirst has from found =
     MatchOption found ((t : ℕ) → from ≤ t → has t → ⊥) (λ t. has t × (from ≤ t) × ((u : ℕ) → from ≤ u → u < t → has u → ⊥))
 
--- task t is an input-free one of this node, of so many, and was never inserted
+-- task t is one of this node without inputs, and was never inserted
 pub record IsSeed (g : TaskGraph) (nodes node : ℕ) (c : Content Numbers) (t : ℕ) : Type 0 where
   pub known : t < g.tasks
   pub free : g.arity t ≡ 0
@@ -102,12 +102,12 @@ module _ {V : Type 0} where
   abbrev pub with_end : LocalState V → LocalState V
   with_end l = record { store = l.store; actions = l.actions; sent = l.sent; received = l.received; ended = true }
 
--- the store with a value put to where a feed ends
+-- the store after a value was put at the end of a feed
 abbrev pub put_to : TaskGraph → Feed → Numbers → Content Numbers → Content Numbers
 put_to g f value c = with_delivered c f.target (g.arity f.target.0) (g.class f.target.0) f.slot value
 
 module _ {G : Type 0} where
-  -- a node at first
+  -- a new node
   abbrev pub first_node : G → ℕ → ℕ → NodeState G
   first_node graph nodes i = record { graph = graph; nodes = nodes; state = first_state; numbers = first_numbers i }
 
@@ -169,7 +169,7 @@ module _ {G : Type 0} where
   abbrev pub closed_with : ℕ → NodeState G → NodeState G
   closed_with a n = after (closing_of a n) (with_actions (without_named n.state.actions a) n.state) n
 
-  -- the end was announced
+  -- termination was announced
   abbrev pub over : NodeState G → NodeState G
   over n = record { graph = n.graph; nodes = n.nodes; state = with_end n.state; numbers = n.numbers }
 
@@ -177,12 +177,12 @@ module _ {G : Type 0} where
   abbrev pub anew : NodeState G → NodeState G
   anew n = first_node n.graph n.nodes (number_of n)
 
--- A message was received whose action is open at the node: it brought this feed, and the task that it goes to lives here.
+-- A message was received whose action is open at the node: it brought this feed, and its target belongs to this node.
 pub record HasBrought (g : TaskGraph) {G : Type 0} (n : NodeState G) (m : Carried G) : Type 0 where
   pub brought : Brought n.state.actions m.number.0 m.feed
   pub here : g.home m.feed.target.0 n.nodes ≡ n.numbers.node
 
--- ---- what a node keeps
+-- ---- the invariant of a node
 -- a value in a slot of task t is the one that the graph defines for it
 abbrev pub IsRightTask : TaskGraph → ℕ → Task Numbers → Type 0
 IsRightTask g t x =
@@ -194,7 +194,7 @@ pub record AreRightValues (g : TaskGraph) (c : Content Numbers) : Type 0 where
   pub tasks : (t : TaskId) (x : Task Numbers) → task_of c t ≡ Some x → IsRightTask g t.0 x
   pub results : AreResults g c.results
 
--- Each task of the store, done or not, lives at this node, of so many.
+-- Each task of the store, done or not, belongs to this node.
 abbrev pub AreHere : TaskGraph → ℕ → ℕ → Content Numbers → Type 0
 AreHere g nodes node c = (t : TaskId) (x : Task Numbers) → task_of c t ≡ Some x → g.home t.0 nodes ≡ node
 
@@ -205,7 +205,8 @@ pub record IsCountedBy (n : ShareNumbers) (l : LocalState Numbers) : Type 0 wher
   pub received : n.received ≡ l.received
   pub done : n.done ≡ length l.store.results
 
--- What a node keeps, in a pool of so many nodes: the input-free tasks of the node below a number were inserted.
+-- The node's numbers are counted over its state, each of its tasks belongs to it, and each value is the one that the graph
+-- defines. All tasks of the node without inputs below `next` were inserted.
 pub record IsNode (pool : ℕ) (g : TaskGraph) {G : Type 0} (n : NodeState G) (next : ℕ) : Type 0 where
   pub nodes : n.nodes ≡ pool
   pub some : 1 ≤ n.nodes
@@ -215,7 +216,7 @@ pub record IsNode (pool : ℕ) (g : TaskGraph) {G : Type 0} (n : NodeState G) (n
   pub here : AreHere g n.nodes n.numbers.node n.state.store
   pub seeded : (t : ℕ) → t < next → IsSeedOf g n t → ⊥
 
--- The node is of a pool of so many nodes.
+-- The node is of a pool of this many nodes.
 pub record IsOfPool (pool : ℕ) {G : Type 0} (n : NodeState G) : Type 0 where
   pub nodes : n.nodes ≡ pool
   pub some : 1 ≤ n.nodes
@@ -232,7 +233,7 @@ counted_of n =
       done = length n.state.store.results;
     }
 
--- The node stands as the events of its generation say: its pending number, which is counted over its state, is the run's.
+-- The node agrees with the events of its generation: its pending number, which is counted over its state, is the run's.
 pub record AgreesWith (h : List Event) {G : Type 0} (n : NodeState G) : Type 0 where
   pub counted : IsCountedBy n.numbers n.state
   pub pending : n.numbers.pending ≡ pending_at n.numbers.node h

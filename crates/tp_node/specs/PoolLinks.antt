@@ -1,4 +1,4 @@
--- What contracts see of a link: a link of messages with its share.
+-- What contracts see of a link of a pool: a queue of messages with its share.
 use Rattle.std.specs.Prelude.{ℕ, ◌≡◌, List, [], ◌∷◌, ◌++◌, length, All}
 use Rattle.tp_board.specs.Numbers.{LinkNumbers, node_at}
 use Rattle.tp_board.specs.States.{BoardState}
@@ -10,7 +10,7 @@ use Rattle.tp_wave.specs.Generations.{generation}
 use Rattle.tp_wave.specs.Machine.{steps_of}
 use Rattle.std.specs.Prelude.{ℤ}
 
--- A link goes from a node to another. Its messages have the oldest first.
+-- A link goes from one node to another. Its messages are listed oldest first.
 pub record PoolLinkState (G : Type 0) : Type 0 where
   pub from : ℕ
   pub to : ℕ
@@ -24,7 +24,7 @@ empty_pool_link l = record { from = l.from; to = l.to; messages = [] }
 abbrev pub with_message : {G : Type 0} → Carried G → PoolLinkState G → PoolLinkState G
 with_message m w = record { from = w.from; to = w.to; messages = w.messages ++ m ∷ [] }
 
--- message m of a generation on the link, which carries a value to where a feed ends
+-- message m of a generation on the link, with the value for the end of a feed
 abbrev pub message_on : {G : Type 0} → PoolLinkState G → G → ℕ → ℕ → Feed → List ℤ → Carried G
 message_on w graph k m feed value =
     record {
@@ -45,14 +45,14 @@ generation_of b = generation (steps_of b.history)
 abbrev pub link_of : {G : Type 0} → PoolLinkState G → LinkNumbers
 link_of w = record { from = w.from; to = w.to; under = length w.messages }
 
--- A message of this graph goes from one of so many nodes to another, where the task that its feed goes to lives.
+-- A message of this graph goes from one of these nodes to another, to which the target of its feed belongs.
 pub record IsOnWay {G : Type 0} (g : TaskGraph) (nodes from to : ℕ) (m : Carried G) : Type 0 where
   pub from_is : m.from.0 ≡ from
   pub to_is : m.to.0 ≡ to
   pub home_is : g.home m.feed.target.0 nodes ≡ to
 
--- What a link of a pool of so many nodes keeps: its share is of the link's two nodes, its number is the link's length, and
--- each message goes from the one node to the other, where its task lives.
+-- The share is of the link's two nodes and has the number of messages on the link, and each message goes from the one node to
+-- the other, to which its target belongs.
 pub record IsPoolLink {G : Type 0} (meaning : G → TaskGraph) (nodes : ℕ) (link : Line (Carried G)) (share : LinkNumbers) : Type 0 where
   pub from : link.from ≡ share.from
   pub to : link.to ≡ share.to

@@ -1,10 +1,10 @@
--- A pool at first.
+-- A new pool.
 use Rattle.std.specs.Prelude.{ℕ, List, map}
 use Rattle.tp_board.specs.Numbers.{first_links, first_shares}
 use Rattle.tp_node.specs.Nodes.{NodeState, first_node}
 use Rattle.tp_node.specs.PoolLinks.{PoolLinkState, empty_pool_link}
 
--- n nodes that have done nothing, in rising order
+-- n new nodes, in rising order
 abbrev pub first_nodes : {G : Type 0} → G → ℕ → List (NodeState G)
 first_nodes graph n = map (λ s. first_node graph n s.node) (first_shares n)
 

@@ -1,4 +1,4 @@
--- The checks of each call of a node, in their order.
+-- The checks of each call of a node, in order.
 use Rattle.std.specs.Prelude.{ℕ, ◌==◌, ◌&&◌, ◌||◌, List, [], ◌∷◌, Bool, not, is_some, is_none, slice_index_or, None}
 use Rattle.std.specs.FinSet as set
 use Rattle.tp_base.specs.declared.ids.TaskId.{TaskId}
@@ -35,7 +35,7 @@ module _ {V : Type 0} where
   abbrev pub is_taken : Content V → TaskId → ℕ → Bool
   is_taken c t slot = passes c t (λ x. is_some (slice_index_or x.values slot None))
 
-  -- the task is unknown, and no more may live
+  -- the task is unknown, and no more tasks can be inserted
   abbrev pub lacks_place : Content V → TaskId → Bool
   lacks_place c t = is_none (task_of c t) && (unfinished c == MAX_LIVE_TASKS)
 
@@ -51,7 +51,7 @@ abbrev pub is_of_another : BoardState → {G : Type 0} → Carried G → Bool
 is_of_another b m = not (m.generation.0 == generation_of b)
 
 -- ---- checks
--- what a value that is put to where a feed ends is refused for, room apart
+-- what a value at the end of a feed is refused for, apart from lack of room
 abbrev pub slot_checks : {V : Type 0} → TaskGraph → Content V → Feed → List Check
 slot_checks g c f = (takes_nothing c f.target (g.arity f.target.0), TaskKnown) ∷ (is_taken c f.target f.slot, SlotTaken) ∷ []
 
@@ -65,7 +65,7 @@ module _ {G : Type 0} where
   abbrev pub ready_checks : NodeState G → BoardState → List Check
   ready_checks n b = (not n.state.actions.opening, NoAction) ∷ full_check 1 b ∷ []
 
-  -- what a value that is put to where a feed ends is refused for, where it takes so many events
+  -- what a value at the end of a feed is refused for, if it needs this many events
   abbrev pub put_checks : TaskGraph → NodeState G → BoardState → Feed → ℕ → List Check
   put_checks g n b f events =
       (takes_nothing n.state.store f.target (g.arity f.target.0), TaskKnown)
@@ -80,12 +80,12 @@ module _ {G : Type 0} where
   abbrev pub send_checks : NodeState G → BoardState → TaskId → List Check
   send_checks n b t = (not (runs n.state.store t), WrongLife) ∷ full_check 1 b ∷ []
 
-  -- A message is a stranger's where it is of another graph or of another generation, where the board never gave its number
-  -- to this pair in the present one, and where the action of that number is open.
+  -- A message is a stranger if it is of another graph or of another generation, if the board never gave its number to this pair
+  -- in the present one, or if the action of that number is open.
   abbrev pub is_stranger : NodeState G → BoardState → PoolLinkState G → Bool → Carried G → Bool
   is_stranger n b w is_same m = not is_same || (is_of_another b m || (not (was_given b w m) || has_message n.state.actions m.number.0))
 
-  -- what a message is refused for, room apart
+  -- what a message is refused for, apart from lack of room
   abbrev pub message_checks : NodeState G → BoardState → PoolLinkState G → Bool → Carried G → List Check
   message_checks n b w is_same m = (n.state.ended, WrongLife) ∷ (is_stranger n b w is_same m, Stranger) ∷ []
 

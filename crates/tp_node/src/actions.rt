@@ -1,3 +1,4 @@
+//! The open actions of a node, which keep it from being idle.
 ghost use Rattle.std.specs.Prelude.{◌≡◌, ◌+◌, ◌<◌, ◌≤◌, if◌then◌else◌, false, IsTrue, OnOk, OnErr};
 ghost use Rattle.std.specs.FinSet as set;
 ghost use Rattle.tp_node.specs.Actions.{first_actions, open_count, opening_count, without_opening, with_named, without_named};
@@ -10,7 +11,7 @@ use std::marker::Model;
 use tp_base::{ActionId, MessageId};
 use tp_graph::Feed;
 
-/// The actions that are open at a node: its opening one, named ones, and those of received messages, each with the feed
+/// The actions that are open at a node: the opening one, named ones, and those of received messages, each with the feed
 /// that the message brought.
 #[derive(Drop)]
 pub(crate) struct OpenActions {
@@ -30,7 +31,7 @@ impl Model for OpenActions {
 }
 
 impl OpenActions {
-    /// The opening action alone is open. It takes no memory.
+    /// Returns the actions of a new node: only the opening one is open. It allocates nothing.
     #[tactic(auto, using(crate::proofs::FiniteSets::len_empty, crate::proofs::FiniteMaps::feeds_empty))]
     pub(crate) fn new(alloc: Global) -> Self
         ensures first { result ≡ first_actions }
@@ -44,7 +45,7 @@ impl OpenActions {
         }
     }
 
-    /// Whether the opening action is open.
+    /// Returns whether the opening action is open.
     pub(crate) fn is_opening(&self) -> bool
         ensures open { result ≡ self.now.opening }
         ensures counted { opening_count self.now ≡ (if result then 1 else 0) }
@@ -53,7 +54,7 @@ impl OpenActions {
         self.opening
     }
 
-    /// Whether a named action is open.
+    /// Returns whether a named action is open.
     #[tactic(auto, using(crate::proofs::FiniteSets::len_some))]
     pub(crate) fn has_named(&self, action: ActionId) -> bool
         ensures open { result ≡ set.contains self.now.named action.0 }
@@ -62,7 +63,7 @@ impl OpenActions {
         self.named.contains(action.0)
     }
 
-    /// Whether the action of a message is open.
+    /// Returns whether the action of a message is open.
     #[tactic(auto, using(crate::proofs::FiniteMaps::feeds_some))]
     pub(crate) fn has_message(&self, message: MessageId) -> bool
         ensures open { result ≡ has_message self.now message.0 }
@@ -81,7 +82,7 @@ impl OpenActions {
         self.opening = false;
     }
 
-    /// Opens a named action, which takes memory.
+    /// Opens a named action, which allocates.
     #[tactic(auto, using(crate::proofs::FiniteSets::len_with))]
     pub(crate) fn open_named(&mut self, action: ActionId) -> Result<(), AllocError>
         requires { set.contains self.old.named action.0 ≡ false }
@@ -104,7 +105,7 @@ impl OpenActions {
         self.named.remove(action.0);
     }
 
-    /// Opens the action of a message that brought a feed, which takes memory.
+    /// Opens the action of a message that brought a feed, which allocates.
     #[tactic(auto, using(crate::proofs::FiniteMaps::feeds_with))]
     pub(crate) fn open_message(&mut self, message: MessageId, feed: Feed) -> Result<(), AllocError>
         requires { has_message self.old message.0 ≡ false }

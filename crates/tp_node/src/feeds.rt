@@ -1,3 +1,4 @@
+//! A map from numbers to feeds.
 ghost use Rattle.std.specs.Prelude.{◌≡◌, Some, OnOk, OnErr};
 ghost use Rattle.std.specs.FinMap as finite;
 
@@ -6,7 +7,7 @@ use std::collections::BTreeMap;
 use std::marker::Model;
 use tp_graph::Feed;
 
-/// Feeds by number. Each call but `new` takes O(log n).
+/// Feeds by number. Each call but `new` takes O(log n) time.
 #[derive(Drop)]
 pub(crate) struct FeedMap {
     feeds: BTreeMap<u32, Feed>,
@@ -27,7 +28,7 @@ impl Model for FeedMap {
 }
 
 impl FeedMap {
-    /// The empty map, which takes no memory.
+    /// Returns the empty map. It allocates nothing.
     pub(crate) fn new(alloc: Global) -> Self
         ensures { result ≡ finite.empty }
     {
@@ -36,14 +37,14 @@ impl FeedMap {
         }
     }
 
-    /// Whether there is a feed of the number.
+    /// Returns whether there is a feed of the number.
     pub(crate) fn contains(&self, number: u32) -> bool
         ensures { result ≡ finite.contains_key self.now number }
     {
         self.feeds.contains_key(&number)
     }
 
-    /// Puts the feed of a number, which takes memory.
+    /// Inserts the feed of a number, which allocates.
     pub(crate) fn insert(&mut self, number: u32, feed: Feed) -> Result<(), AllocError>
         ensures put { OnOk result (self.new ≡ finite.insert self.old number feed) }
         ensures kept { OnErr result (self.new ≡ self.old) }
@@ -52,7 +53,7 @@ impl FeedMap {
         Ok(())
     }
 
-    /// Takes the feed of a number out.
+    /// Removes the feed of a number.
     pub(crate) fn remove(&mut self, number: u32)
         ensures { self.new ≡ finite.remove self.old number }
     {

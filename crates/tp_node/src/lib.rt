@@ -1,8 +1,10 @@
-//! A node of a pool: its tasks, its open actions and its results, beside its shares of the pool's ledgers.
+//! A node of a pool: its tasks, open actions and results, and its shares of the pool's ledgers. Locks, threads and the
+//! order of calls are not here.
 //!
-//! [`open_pool`] gives nodes, links and a board whose ledgers belong together. Each call of [`Node`] that changes it appends
-//! its events to the board's history. A begun task is [`Work`], which performs its body and is then [`Finished`]; the node
-//! passes each of its feeds on before it is done. A pool whose end was judged can be reopened, and run again.
+//! [`open_pool`] returns nodes, links and a board whose ledgers belong together. Each call of [`Node`] that changes the
+//! node appends its events to the board's history. A begun task is [`Work`]; running its body gives [`Finished`]; the
+//! node passes on each of its feeds before the task is done. A pool whose termination was detected can be reopened and
+//! run again.
 #![tactic(auto)]
 
 mod actions;

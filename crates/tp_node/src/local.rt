@@ -1,3 +1,4 @@
+//! A node without ledgers: its store, its open actions and its monitor.
 ghost use Rattle.std.specs.Prelude.{◌≡◌, ◌+◌, ◌≤◌, ◌<◌, true, None, Some, map, unwrap_or, is_some, OnOk, OnErr, IfOk, IfErr, IfSome};
 ghost use Rattle.std.specs.Prelude.{OnSome, IsTrue, MatchOption};
 ghost use Rattle.std.specs.FinSet as set;
@@ -29,12 +30,12 @@ use tp_monitor::{MAX_ACTIONS, TaskpoolState};
 use tp_slots::RawSlots;
 use tp_store::{Begun, Counts, Delivered, Life, TaskItem, TaskStore};
 
-/// A node's tasks and open actions for one pool, beside a monitor that counts them.
+/// A node's tasks and open actions for one pool, with a monitor that counts them.
 ///
-/// Contracts see the store's content, the open actions, the messages sent and received, and whether the end was announced;
-/// what is pending and where the pool stands are counted over these. The type keeps that the monitor's numbers are the same.
-/// A refused call changes nothing and hands back what was moved in. Its refusal is the first that holds of those that its
-/// call names, in their order.
+/// Contracts see the store's content, the open actions, the messages sent and received, and whether termination was
+/// announced. What is pending and the state of the pool are counted over these, and the invariant says that the
+/// monitor's numbers are the same. A refused call changes nothing and returns what was moved in. It returns the first
+/// refusal that applies, in the order in which the call lists them.
 #[derive(Drop)]
 pub struct Local {
     store: Holder<TaskStore<RawSlots<TaskItem<Value>>, Value>>,
@@ -59,7 +60,7 @@ impl Model for Local {
 }
 
 impl Local {
-    /// Nothing is stored, and the opening action alone is open. It takes no memory.
+    /// Returns a node without tasks, of which only the opening action is open. It allocates nothing.
     pub fn new(alloc: Global) -> Self
         ensures first { result ≡ first_state }
         ensures counted { pending_here result ≡ 1 }
@@ -73,10 +74,10 @@ impl Local {
         }
     }
 
-    /// Inserts a task that takes no input. It is ready at once, in the list of its class, 0 to 3.
+    /// Inserts a task without inputs. It is ready at once, in the queue of its class, 0 to 3.
     ///
-    /// Refused `TaskKnown` (3) where it was inserted before, `Inactive` (6) where nothing is pending, `StoreFull` (23) at
-    /// 65,536 unfinished tasks, `NoMemory` (17).
+    /// Refused with `TaskKnown` (3) if it was inserted before, `Inactive` (6) if nothing is pending, `StoreFull` (23)
+    /// at 65,536 unfinished tasks, `NoMemory` (17).
     pub fn insert(&mut self, task: TaskId, class: u8) -> Result<(), Refusal>
         requires { class < CLASSES }
         ensures checked { OnOk result (refusal_of_insertion self.old task ≡ None) }
@@ -96,13 +97,12 @@ impl Local {
         Ok(())
     }
 
-    /// Puts a value into an input slot of a task that takes 1 to 16 inputs. An unknown task is inserted by it, with one input
-    /// fewer missing. A task with no input missing is ready, in the list of its class, 0 to 3, which is the one that it was
-    /// inserted with.
+    /// Puts a value into an input slot of a task that takes 1 to 16 inputs. The first value inserts the task, in the
+    /// class given then; with the last one the task is ready, in the queue of its class, 0 to 3.
     ///
-    /// Refused, with the value, `TaskKnown` (3) where the task has begun or takes another number of inputs, `SlotTaken` (18)
-    /// where the slot has its value; for an unknown task `Inactive` (6) where nothing is pending, `StoreFull` (23) at 65,536
-    /// unfinished tasks; then `NoMemory` (17).
+    /// Refused, and the value returned, with `TaskKnown` (3) if the task has begun or takes another number of inputs,
+    /// `SlotTaken` (18) if the slot has its value; for an unknown task `Inactive` (6) if nothing is pending,
+    /// `StoreFull` (23) at 65,536 unfinished tasks; then `NoMemory` (17).
     pub fn deliver(
         &mut self,
         task: TaskId,
@@ -134,7 +134,7 @@ impl Local {
         Ok(delivered)
     }
 
-    /// Delivers where nothing is pending, and so to no unknown task.
+    /// Delivers a value if nothing is pending, and so to a known task only.
     fn deliver_to_known(
         &mut self,
         task: TaskId,
@@ -164,8 +164,8 @@ impl Local {
         Ok(filled)
     }
 
-    /// The next ready task, of the lowest class that has one, begins: its inputs are moved out in the order of the slots. `None`
-    /// where no task is ready.
+    /// Begins the next ready task, of the lowest class that has one, and returns it with its inputs in slot order, or
+    /// returns `None` if no task is ready.
     pub fn begin(&mut self) -> Option<Begun<Value>>
         ensures next { option_map (λ b. b.task) result ≡ front self.old.store.ready }
         ensures life { IfSome result (λ b. life_of self.old.store b.task ≡ Some lives.Ready) }
@@ -179,9 +179,10 @@ impl Local {
         self.store.value.begin()
     }
 
-    /// A running task is done, with this result.
+    /// Records that a running task is done, with its result.
     ///
-    /// Refused, with the value, `NoTask` (4) where there is no such task, `WrongLife` (5) where it is not running.
+    /// Refused, and the value returned, with `NoTask` (4) if there is no such task, `WrongLife` (5) if it is not
+    /// running.
     pub fn done(&mut self, task: TaskId, value: Value) -> Result<(), (Refusal, Value)>
         ensures checked { OnOk result (refusal_of_done (life_of self.old.store task) ≡ None) }
         ensures done { OnOk result (self.new ≡ record self.old { store = with_done self.old.store task value }) }
@@ -197,7 +198,8 @@ impl Local {
 
     /// Counts a message that is sent.
     ///
-    /// Refused `Inactive` (6) where nothing is pending; `HistoryFull` (16) with the limit 1,048,576 where so many were sent.
+    /// Refused with `Inactive` (6) if nothing is pending; `HistoryFull` (16) with the limit 1,048,576 if that number of
+    /// messages was sent already.
     pub fn send(&mut self) -> Result<(), Refusal>
         ensures refused { result_err result ≡ first_refusal (send_checks self.old) }
         ensures sent { OnOk result (self.new ≡ record self.old { sent = self.old.sent + 1 }) }
@@ -210,11 +212,11 @@ impl Local {
         Ok(())
     }
 
-    /// Counts a message that is received and brings a feed, and opens its action.
+    /// Counts a message that is received with a feed, and opens its action.
     ///
-    /// Refused `WrongLife` (5) where the pool is Terminated; `ActionKnown` (7) where the message's action is open;
-    /// `HistoryFull` (16) with the limit 1,048,576 where so many were received, then with the limit 1,048,577 where so many
-    /// actions are open; `NoMemory` (17).
+    /// Refused with `WrongLife` (5) if the pool is Terminated; `ActionKnown` (7) if the message's action is open;
+    /// `HistoryFull` (16) with the limit 1,048,576 if that number of messages was received already, then with the limit
+    /// 1,048,577 if that number of actions is open; `NoMemory` (17).
     pub fn receive(&mut self, message: MessageId, feed: Feed) -> Result<(), Refusal>
         ensures checked { OnOk result (first_refusal (receive_checks self.old message.0) ≡ None) }
         ensures received { OnOk result (self.new
@@ -238,7 +240,7 @@ impl Local {
 
     /// Closes the action of a received message.
     ///
-    /// Refused `NoAction` (8) where it is not open.
+    /// Refused with `NoAction` (8) if it is not open.
     pub fn end(&mut self, message: MessageId) -> Result<(), Refusal>
         ensures refused { result_err result ≡ first_refusal (end_checks self.old message.0) }
         ensures closed { OnOk result (self.new ≡ record self.old { actions = without_message self.old.actions message.0 }) }
@@ -255,8 +257,8 @@ impl Local {
 
     /// Opens a named action.
     ///
-    /// Refused `ActionKnown` (7) where it is open; `Inactive` (6) where nothing is pending; `HistoryFull` (16) with the limit
-    /// 1,048,577 where so many actions are open; `NoMemory` (17).
+    /// Refused with `ActionKnown` (7) if it is open; `Inactive` (6) if nothing is pending; `HistoryFull` (16) with the
+    /// limit 1,048,577 if that number of actions is open; `NoMemory` (17).
     pub fn open(&mut self, action: ActionId) -> Result<(), Refusal>
         ensures checked { OnOk result (first_refusal (open_checks self.old action.0) ≡ None) }
         ensures opened { OnOk result (self.new ≡ record self.old { actions = with_named self.old.actions action.0 }) }
@@ -279,7 +281,7 @@ impl Local {
 
     /// Closes a named action.
     ///
-    /// Refused `NoAction` (8) where it is not open.
+    /// Refused with `NoAction` (8) if it is not open.
     pub fn close(&mut self, action: ActionId) -> Result<(), Refusal>
         ensures refused { result_err result ≡ first_refusal (close_checks self.old action.0) }
         ensures closed { OnOk result (self.new ≡ record self.old { actions = without_named self.old.actions action.0 }) }
@@ -296,7 +298,7 @@ impl Local {
 
     /// Closes the opening action.
     ///
-    /// Refused `NoAction` (8) where it is closed already.
+    /// Refused with `NoAction` (8) if it is closed already.
     pub fn ready(&mut self) -> Result<(), Refusal>
         ensures refused { result_err result ≡ first_refusal (ready_checks self.old) }
         ensures closed { OnOk result (self.new ≡ record self.old { actions = without_opening self.old.actions }) }
@@ -311,9 +313,9 @@ impl Local {
         Ok(())
     }
 
-    /// Announces the pool's end here, which makes it Terminated.
+    /// Announces termination of the pool at this node, whose state becomes Terminated.
     ///
-    /// Refused `WrongLife` (5) where it is not Idle.
+    /// Refused with `WrongLife` (5) if the state is not Idle.
     pub fn finish(&mut self) -> Result<(), Refusal>
         ensures refused { result_err result ≡ first_refusal (finish_checks self.old) }
         ensures ended { OnOk result (self.new ≡ record self.old { ended = true }) }
@@ -323,7 +325,7 @@ impl Local {
         Ok(())
     }
 
-    /// Announces the pool's end, where nothing is pending. It may have been announced before.
+    /// Announces termination of the pool, if nothing is pending. It may have been announced before.
     pub fn announce(&mut self)
         requires { pending_here self.old ≡ 0 }
         ensures { self.new ≡ record self.old { ended = true } }
@@ -336,9 +338,9 @@ impl Local {
         };
     }
 
-    /// Reopens the pool here, whose end was announced, and hands out each task that was done with its result, in the order in
-    /// which they were done. Nothing is stored then, the opening action alone is open, and no message was sent or received.
-    /// It takes no memory, and gives back what the old tasks and actions held.
+    /// Reopens the pool at this node, after its termination was announced. Returns each done task with its result, in
+    /// the order in which they were done. Afterwards no task is stored, only the opening action is open, and no message
+    /// was sent or received. It allocates nothing, and frees what the old tasks and actions held.
     pub fn reopen(&mut self, alloc: Global) -> Vec<(TaskId, Value)>
         requires over { IsTrue self.old.ended }
         ensures results { result.items ≡ self.old.store.results }
@@ -350,7 +352,7 @@ impl Local {
         self.store.value.take_results()
     }
 
-    /// How many tasks are not done and how many actions are open, together.
+    /// Returns the pending number: unfinished tasks and open actions together.
     pub fn pending(&self) -> u32
         ensures pending { result ≡ pending_here self.now }
         ensures tasks { unfinished self.now.store ≤ MAX_LIVE_TASKS }
@@ -360,7 +362,7 @@ impl Local {
         numbers.tasks + numbers.actions
     }
 
-    /// How many messages were sent.
+    /// Returns the number of messages sent.
     pub fn sent(&self) -> u32
         ensures sent { result ≡ self.now.sent }
         ensures limit { result ≤ MAX_STEPS }
@@ -368,7 +370,7 @@ impl Local {
         self.node_monitor.numbers().sent
     }
 
-    /// How many messages were received.
+    /// Returns the number of messages received.
     pub fn received(&self) -> u32
         ensures received { result ≡ self.now.received }
         ensures limit { result ≤ MAX_STEPS }
@@ -376,7 +378,7 @@ impl Local {
         self.node_monitor.numbers().received
     }
 
-    /// Where the pool stands here. Nothing is pending where it is Terminated.
+    /// Returns the state of the pool at this node. If it is Terminated, nothing is pending.
     pub fn state(&self) -> TaskpoolState
         ensures state { result ≡ standing self.now }
         ensures over { result ≡ Terminated → pending_here self.now ≡ 0 }
@@ -384,14 +386,14 @@ impl Local {
         self.node_monitor.state()
     }
 
-    /// Whether the pool's end was announced here.
+    /// Returns whether termination was announced here.
     pub fn is_over(&self) -> bool
         ensures { result ≡ self.now.ended }
     {
         self.node_monitor.is_over()
     }
 
-    /// Whether the opening action is open.
+    /// Returns whether the opening action is open.
     pub fn is_opening(&self) -> bool
         ensures open { result ≡ self.now.actions.opening }
         ensures active { IsTrue result → 0 < pending_here self.now }
@@ -399,7 +401,7 @@ impl Local {
         self.actions.is_opening()
     }
 
-    /// Whether a named action is open.
+    /// Returns whether a named action is open.
     pub fn has_named(&self, action: ActionId) -> bool
         ensures open { result ≡ set.contains self.now.actions.named action.0 }
         ensures active { IsTrue result → 0 < pending_here self.now }
@@ -407,7 +409,7 @@ impl Local {
         self.actions.has_named(action)
     }
 
-    /// Whether the action of a message is open.
+    /// Returns whether the action of a message is open.
     pub fn has_message(&self, message: MessageId) -> bool
         ensures open { result ≡ has_message self.now.actions message.0 }
         ensures active { IsTrue result → 0 < pending_here self.now }
@@ -415,7 +417,7 @@ impl Local {
         self.actions.has_message(message)
     }
 
-    /// Whether a task was inserted.
+    /// Returns whether a task was inserted.
     #[inline(always)]
     pub fn is_known(&self, task: TaskId) -> bool
         ensures { result ≡ is_some (task_of self.now.store task) }
@@ -423,7 +425,7 @@ impl Local {
         self.store.value.knows(task)
     }
 
-    /// What a task has come to, or `None` where there is no such task.
+    /// Returns the life of a task, or `None` if there is no such task.
     #[inline(always)]
     pub fn life(&self, task: TaskId) -> Option<Life>
         ensures life { result ≡ life_of self.now.store task }
@@ -433,14 +435,14 @@ impl Local {
         self.store.value.life(task)
     }
 
-    /// Whether a task is ready, which `begin` would begin.
+    /// Returns whether a task is ready, which `begin` would begin.
     pub fn has_ready(&self) -> bool
         ensures { result ≡ is_some (front self.now.store.ready) }
     {
         self.store.value.has_ready()
     }
 
-    /// What `deliver` would answer, `NoMemory` apart.
+    /// Returns what `deliver` would, apart from `NoMemory`.
     #[inline(always)]
     pub fn check(&self, task: TaskId, arity: u8, slot: u8) -> Result<(), Refusal>
         ensures { result_err result ≡ refusal_of_delivery self.now task arity slot }
@@ -451,14 +453,14 @@ impl Local {
         self.store.value.check(task, arity, slot)
     }
 
-    /// How many tasks wait, are ready, and run.
+    /// Returns the numbers of tasks that wait, are ready, and run.
     pub fn counts(&self) -> Counts
         ensures { result ≡ counts_of self.now.store }
     {
         self.store.value.counts()
     }
 
-    /// Each task that is done with its result, in the order in which they were done.
+    /// Returns each done task with its result, in the order in which they were done.
     pub fn results(&self) -> &[(TaskId, Value)]
         ensures results { result.now ≡ self.now.store.results }
         ensures sound { IsSound self.now.store }
@@ -466,7 +468,7 @@ impl Local {
         self.store.value.results()
     }
 
-    /// The results alone. The rest is dropped.
+    /// Returns the results, and drops the rest.
     pub fn into_results(self) -> Vec<(TaskId, Value)>
         ensures { result.items ≡ self.store.results }
     {

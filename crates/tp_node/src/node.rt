@@ -1,3 +1,4 @@
+//! The node of a pool: its type with its invariant, and the calls that only read it.
 ghost use Rattle.std.specs.Prelude.{◌≡◌, ◌≤◌, ◌<◌, length, IsTrue};
 ghost use Rattle.tp_board.specs.Numbers.{first_numbers};
 ghost use Rattle.tp_graph.specs.Left.{AreResults};
@@ -23,17 +24,17 @@ use tp_monitor::TaskpoolState;
 use tp_store::Counts;
 pub(crate) use unshared::UnsharedNode;
 
-/// A node of a pool: what lies under its lock.
+/// A node of a pool: what the node's lock protects.
 ///
-/// Its type keeps that its pending number counts its unfinished tasks and its open actions, that what it has sent, received
-/// and done are the numbers of its shares, that each task in it lives there, and that each value in it is the one that
-/// the graph defines, or what is left of it. Contracts see its graph, how many nodes the pool has, its own state, and the
-/// numbers of its shares.
+/// Its invariant: its pending number is the number of its unfinished tasks and open actions; what it has sent, received
+/// and done are the numbers of its shares; each task in it belongs to this node; and each value in it is the one that
+/// the graph defines, or what is left of it. Contracts see its graph, the number of nodes of the pool, its own state,
+/// and the numbers of its shares.
 #[derive(Drop)]
 pub struct Node<G: Graph, K: Ledgers> {
     graph: G,
     nodes: u32,
-    // The input-free tasks of this node below this one were inserted.
+    // All tasks of this node without inputs and with a lower number were inserted.
     next: u32,
     local: Local,
     shares: Shares<K>,
@@ -55,7 +56,7 @@ impl<G: Graph, K: Ledgers> Model for Node<G, K> {
 }
 
 impl<G: Graph, K: Ledgers> Node<G, K> {
-    /// A node that has done nothing, of so many. Its opening action is open. It takes no memory.
+    /// Returns a new node of a pool of `nodes` nodes. Its opening action is open. It allocates nothing.
     pub fn new(alloc: Global, graph: G, nodes: u32, shares: Shares<K>) -> Self
         requires pool { (nodes ≡ K.names.nodes) × (1 ≤ nodes) × (nodes ≤ 8) }
         requires first { shares ≡ first_numbers shares.node }
@@ -71,7 +72,7 @@ impl<G: Graph, K: Ledgers> Node<G, K> {
         }
     }
 
-    /// Its number.
+    /// Returns the node's number.
     pub fn number(&self) -> NodeId
         ensures number { result.0 ≡ self.now.numbers.node }
         ensures below { self.now.numbers.node < self.now.nodes }
@@ -79,7 +80,7 @@ impl<G: Graph, K: Ledgers> Node<G, K> {
         self.shares.node()
     }
 
-    /// How many nodes its pool has.
+    /// Returns the number of nodes of its pool.
     pub fn nodes(&self) -> u32
         ensures number { result ≡ self.now.nodes }
         ensures pool { result ≡ K.names.nodes }
@@ -88,14 +89,14 @@ impl<G: Graph, K: Ledgers> Node<G, K> {
         self.nodes
     }
 
-    /// The graph that its pool works out.
+    /// Returns the graph that its pool computes.
     pub fn graph(&self) -> G
         ensures { result ≡ self.now.graph }
     {
         self.graph
     }
 
-    /// How many of its tasks are unfinished and how many of its actions are open, together.
+    /// Returns the pending number: unfinished tasks and open actions together.
     pub fn pending(&self) -> u32
         ensures counted { result ≡ pending_here self.now.state }
         ensures share { result ≡ self.now.numbers.pending }
@@ -103,7 +104,7 @@ impl<G: Graph, K: Ledgers> Node<G, K> {
         self.local.pending()
     }
 
-    /// How many messages it has sent.
+    /// Returns the number of messages the node has sent.
     pub fn sent(&self) -> u32
         ensures counted { result ≡ self.now.state.sent }
         ensures share { result ≡ self.now.numbers.sent }
@@ -111,7 +112,7 @@ impl<G: Graph, K: Ledgers> Node<G, K> {
         self.local.sent()
     }
 
-    /// How many messages it has received.
+    /// Returns the number of messages the node has received.
     pub fn received(&self) -> u32
         ensures counted { result ≡ self.now.state.received }
         ensures share { result ≡ self.now.numbers.received }
@@ -119,15 +120,15 @@ impl<G: Graph, K: Ledgers> Node<G, K> {
         self.local.received()
     }
 
-    /// How many of its tasks wait, are ready, and run.
+    /// Returns the numbers of its tasks that wait, are ready, and run.
     pub fn counts(&self) -> Counts
         ensures { result ≡ counts_of self.now.state.store }
     {
         self.local.counts()
     }
 
-    /// Its tasks that are done, each with its value where the graph keeps that, and else with no numbers, in the order in which
-    /// they were done.
+    /// Returns its done tasks in the order in which they were done, each with its value if the graph keeps it, and else
+    /// without numbers.
     pub fn results(&self) -> &[(TaskId, Value)]
         ensures same { result.now ≡ self.now.state.store.results }
         ensures share { length result.now ≡ self.now.numbers.done }
@@ -136,15 +137,15 @@ impl<G: Graph, K: Ledgers> Node<G, K> {
         self.local.results()
     }
 
-    /// Where the pool stands here.
+    /// Returns the state of the pool at this node.
     pub fn state(&self) -> TaskpoolState
         ensures { result ≡ standing self.now.state }
     {
         self.local.state()
     }
 
-    /// Changes nothing, and tells how the node stands to the history: its pending number is that of the present generation's
-    /// run.
+    /// Shows that the node agrees with the history: its pending number is that of the present generation's run. Changes
+    /// nothing.
     pub fn audit(&mut self, board: &mut Board<K>)
         ensures same { (self.new ≡ self.old) × (board.new ≡ board.old) }
         ensures agrees { AgreesWith (present_events board.old.history) self.old }
@@ -153,7 +154,7 @@ impl<G: Graph, K: Ledgers> Node<G, K> {
         board.audit(&mut self.shares);
     }
 
-    /// Its shares and its results alone. The rest is dropped.
+    /// Returns its shares and its results, and drops the rest.
     pub fn into_parts(self) -> (Shares<K>, Vec<(TaskId, Value)>)
         ensures shares { result.0 ≡ self.numbers }
         ensures results { result.1.items ≡ self.state.store.results }

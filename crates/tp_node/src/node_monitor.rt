@@ -1,3 +1,4 @@
+//! The monitor of a node's one pool, with preconditions instead of most refusals.
 ghost use Rattle.std.specs.Prelude.{◌≡◌, ◌+◌, ◌-◌, ◌<◌, ◌==◌, [], ◌∷◌, Some, true, false, not, IsTrue, OnOk, OnErr};
 ghost use Rattle.std.specs.Result.{result_err};
 ghost use Rattle.tp_base.specs.declared.Refusal.TheVariants.{WrongLife, HistoryFull};
@@ -11,11 +12,11 @@ use std::marker::Model;
 use tp_base::{MAX_LIVE_TASKS, MAX_STEPS, PoolId, Refusal};
 use tp_monitor::{MAX_ACTIONS, Monitor, MonitorNumbers, TaskpoolState};
 
-/// The number that a node's one pool has at its monitor. No call gives it out.
+/// The number of a node's one pool at its monitor. No call returns it.
 const POOL: PoolId = PoolId(0);
 
-/// A monitor of one pool, from the pool's opening action on. What a node knows beforehand is a condition here, in place of a
-/// refusal.
+/// A monitor of one pool, from the pool's opening action on. What a node knows beforehand is a precondition here,
+/// instead of a refusal.
 #[derive(Clone, Copy)]
 pub(crate) struct NodeMonitor {
     monitor: Monitor,
@@ -35,7 +36,7 @@ impl Model for NodeMonitor {
 }
 
 impl NodeMonitor {
-    /// The pool's opening action is open.
+    /// Returns the monitor of a pool whose opening action is open.
     pub(crate) fn new() -> Self
         ensures { result ≡ record { pool = Some the_pool; numbers = first_numbers; announced = false } }
     {
@@ -46,7 +47,7 @@ impl NodeMonitor {
         NodeMonitor { monitor }
     }
 
-    /// One more task is not done.
+    /// Counts one more unfinished task.
     pub(crate) fn add_task(&mut self)
         requires active { 0 < monitored_pending self.old.numbers }
         requires room { self.old.numbers.tasks < MAX_LIVE_TASKS }
@@ -57,7 +58,7 @@ impl NodeMonitor {
         };
     }
 
-    /// A task is done.
+    /// Counts a task that is done.
     pub(crate) fn remove_task(&mut self)
         requires { 0 < self.old.numbers.tasks }
         ensures { self.new ≡ record self.old { numbers = record self.old.numbers { tasks = self.old.numbers.tasks - 1 } } }
@@ -67,9 +68,9 @@ impl NodeMonitor {
         };
     }
 
-    /// One more action is open.
+    /// Counts one more open action.
     ///
-    /// Refused `HistoryFull` (16) where so many are open as may be.
+    /// Refused with `HistoryFull` (16) if the limit of open actions is reached.
     pub(crate) fn add_action(&mut self) -> Result<(), Refusal>
         requires { 0 < monitored_pending self.old.numbers }
         ensures refused { result_err result ≡ first_refusal ((self.old.numbers.actions == MAX_ACTIONS, HistoryFull MAX_ACTIONS) ∷ []) }
@@ -81,7 +82,7 @@ impl NodeMonitor {
         Ok(())
     }
 
-    /// An action other than the opening one is closed.
+    /// Counts an action, other than the opening one, that is closed.
     pub(crate) fn remove_action(&mut self)
         requires { self.old.numbers.opening < self.old.numbers.actions }
         ensures { self.new ≡ record self.old { numbers = record self.old.numbers { actions = self.old.numbers.actions - 1 } } }
@@ -91,7 +92,7 @@ impl NodeMonitor {
         };
     }
 
-    /// The opening action is closed.
+    /// Closes the opening action.
     pub(crate) fn ready(&mut self)
         requires { self.old.numbers.opening ≡ 1 }
         ensures { self.new ≡ record self.old { numbers = ready_numbers self.old.numbers } }
@@ -101,9 +102,9 @@ impl NodeMonitor {
         };
     }
 
-    /// A message is sent.
+    /// Counts a message that is sent.
     ///
-    /// Refused `HistoryFull` (16) where so many were sent as may be.
+    /// Refused with `HistoryFull` (16) if the limit of sent messages is reached.
     pub(crate) fn send(&mut self) -> Result<(), Refusal>
         requires { 0 < monitored_pending self.old.numbers }
         ensures refused { result_err result ≡ first_refusal ((self.old.numbers.sent == MAX_STEPS, HistoryFull MAX_STEPS) ∷ []) }
@@ -114,9 +115,9 @@ impl NodeMonitor {
         Ok(())
     }
 
-    /// A message is received, whose action opens.
+    /// Counts a message that is received, and opens its action.
     ///
-    /// Refused `HistoryFull` (16) where so many were received as may be, then where so many actions are open as may be.
+    /// Refused with `HistoryFull` (16) if the limit of received messages, and then of open actions, is reached.
     pub(crate) fn receive(&mut self) -> Result<(), Refusal>
         requires { self.old.announced ≡ false }
         ensures refused { result_err result
@@ -129,7 +130,7 @@ impl NodeMonitor {
         Ok(())
     }
 
-    /// The action of a received message is closed.
+    /// Closes the action of a received message.
     pub(crate) fn end_message(&mut self)
         requires { self.old.numbers.opening < self.old.numbers.actions }
         ensures { self.new ≡ record self.old { numbers = message_ended_numbers self.old.numbers } }
@@ -139,9 +140,9 @@ impl NodeMonitor {
         };
     }
 
-    /// The pool's end is announced.
+    /// Announces termination of the pool.
     ///
-    /// Refused `WrongLife` (5) where the pool is not Idle.
+    /// Refused with `WrongLife` (5) if the pool is not Idle.
     pub(crate) fn finish(&mut self) -> Result<(), Refusal>
         ensures refused { result_err result ≡ first_refusal ((not (is_idle (standing self.old)), WrongLife) ∷ []) }
         ensures ended { OnOk result (self.new ≡ record self.old { announced = true }) }
@@ -151,7 +152,7 @@ impl NodeMonitor {
         Ok(())
     }
 
-    /// The pool, whose end was announced, is reopened: its opening action is open.
+    /// Reopens the pool, whose termination was announced: its opening action is open.
     pub(crate) fn reopen(&mut self)
         requires { IsTrue self.old.announced }
         ensures { self.new ≡ record self.old { numbers = first_numbers; announced = false } }
@@ -161,7 +162,7 @@ impl NodeMonitor {
         };
     }
 
-    /// Where the pool stands.
+    /// Returns the state of the pool.
     pub(crate) fn state(&self) -> TaskpoolState
         ensures state { result ≡ standing self.now }
         ensures over { result ≡ Terminated → monitored_pending self.now.numbers ≡ 0 }
@@ -169,14 +170,14 @@ impl NodeMonitor {
         self.monitor.taskpool_state(POOL)
     }
 
-    /// Whether the pool's end was announced.
+    /// Returns whether termination was announced.
     pub(crate) fn is_over(&self) -> bool
         ensures { result ≡ self.now.announced }
     {
         self.state() == TaskpoolState::Terminated
     }
 
-    /// The numbers.
+    /// Returns the counters.
     pub(crate) fn numbers(&self) -> MonitorNumbers
         ensures numbers { result ≡ self.now.numbers }
         ensures limits { IsWithinLimits result }

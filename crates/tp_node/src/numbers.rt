@@ -1,3 +1,4 @@
+//! A set of numbers.
 ghost use Rattle.std.specs.Prelude.{◌≡◌, OnOk, OnErr};
 ghost use Rattle.std.specs.FinSet as set;
 
@@ -5,7 +6,7 @@ use std::alloc::{AllocError, Global};
 use std::collections::BTreeSet;
 use std::marker::Model;
 
-/// A set of numbers. Each call but `new` takes O(log n).
+/// A set of numbers. Each call but `new` takes O(log n) time.
 #[derive(Drop)]
 pub(crate) struct NumberSet {
     numbers: BTreeSet<u32>,
@@ -24,7 +25,7 @@ impl Model for NumberSet {
 }
 
 impl NumberSet {
-    /// The empty set, which takes no memory.
+    /// Returns the empty set. It allocates nothing.
     pub(crate) fn new(alloc: Global) -> Self
         ensures { result ≡ set.empty }
     {
@@ -33,14 +34,14 @@ impl NumberSet {
         }
     }
 
-    /// Whether it has the number.
+    /// Returns whether the set contains the number.
     pub(crate) fn contains(&self, number: u32) -> bool
         ensures { result ≡ set.contains self.now number }
     {
         self.numbers.contains(&number)
     }
 
-    /// Adds the number, which takes memory.
+    /// Adds the number, which allocates.
     pub(crate) fn insert(&mut self, number: u32) -> Result<(), AllocError>
         ensures added { OnOk result (self.new ≡ set.insert self.old number) }
         ensures kept { OnErr result (self.new ≡ self.old) }
@@ -49,7 +50,7 @@ impl NumberSet {
         Ok(())
     }
 
-    /// Takes the number out.
+    /// Removes the number.
     pub(crate) fn remove(&mut self, number: u32)
         ensures { self.new ≡ set.remove self.old number }
     {

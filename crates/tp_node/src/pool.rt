@@ -1,3 +1,4 @@
+//! Opening a pool: its nodes, its links and its board.
 ghost use Rattle.std.specs.Prelude.{◌≡◌, ◌≤◌, [], map, vec_len, IfErr, IfOk, None};
 ghost use Rattle.std.specs.List.{All};
 ghost use Rattle.tp_base.specs.declared.refusal.Refusal.TheVariants.{NoMemory};
@@ -13,21 +14,21 @@ use tp_base::Refusal;
 use tp_board::{Blanks, Board, Books, Ledgers, LinkShare, Shares, open_books};
 use tp_graph::Graph;
 
-/// A pool in one hand: its nodes, its links and its board.
+/// A pool owned by one thread: its nodes, its links and its board.
 #[derive(Drop)]
 pub struct Pool<G: Graph, K: Ledgers> {
     /// The nodes, in rising order.
     pub nodes: Vec<Node<G, K>>,
     /// The links, by sender and then by receiver.
     pub links: Vec<PoolLink<G, K>>,
-    /// What lies under the board's lock.
+    /// What the board's lock protects.
     pub board: Board<K>,
 }
 
-/// Opens a pool of 1 to 8 nodes that works a graph out, in a history of at most so many events, 1,048,576 or fewer. The
-/// ledgers of its parts belong together.
+/// Opens a pool of 1 to 8 nodes that computes a graph, with a history of at most `limit` events, 1,048,576 or fewer.
+/// The ledgers of its parts belong together.
 ///
-/// Refused: `NoMemory` where memory has to grow and does not. The blank ledgers are lost then.
+/// Refused with `NoMemory` if an allocation fails. The blank ledgers are lost then.
 pub fn open_pool<G: Graph, K: Ledgers>(
     alloc: Global,
     blanks: Blanks,
@@ -56,7 +57,7 @@ pub fn open_pool<G: Graph, K: Ledgers>(
     })
 }
 
-/// The nodes of first shares, and the links of empty links.
+/// Makes the nodes from first shares, and the links from the shares of empty links.
 fn open_parts<G: Graph, K: Ledgers>(
     alloc: Global,
     graph: G,
@@ -74,7 +75,7 @@ fn open_parts<G: Graph, K: Ledgers>(
     Ok((nodes, open_pool_links(alloc, links)?))
 }
 
-/// The nodes of first shares.
+/// Makes the nodes from first shares.
 fn open_nodes<G: Graph, K: Ledgers>(
     alloc: Global,
     graph: G,
@@ -92,7 +93,7 @@ fn open_nodes<G: Graph, K: Ledgers>(
     Ok(nodes)
 }
 
-/// The links of empty links.
+/// Makes the links from the shares of empty links.
 fn open_pool_links<G: Graph, K: Ledgers>(
     alloc: Global,
     links: Vec<LinkShare<K>>,

@@ -1,3 +1,4 @@
+//! A link of a pool: a queue of messages together with its share of the messages in flight.
 ghost use Rattle.std.specs.Prelude.{◌≡◌, ◌+◌, ◌<◌, ◌≤◌, ◌↔◌, [], ◌∷◌, ◌++◌, drop, length, option_copied, slice_get, IfErr, IfOk, IsOk};
 ghost use Rattle.std.specs.Prelude.{OnErr, OnOk, Some, IsTrue};
 ghost use Rattle.tp_board.specs.Numbers.{event, is_send, numbers_after, receiving, sending};
@@ -17,9 +18,9 @@ use tp_board::{Board, Ledgers, LinkShare, Shares};
 use tp_graph::{Feed, Graph, Message, Value};
 use tp_link::Link;
 
-/// A link of messages from one node to another, with its share of the messages under way: its type keeps that the share is
-/// the number of its messages, and that each goes from the one node to the other, where the task that its feed goes to
-/// lives. Contracts see its two nodes and its messages, the oldest first.
+/// A link of messages from one node to another, with its share of the messages in flight. Its invariant: the share is
+/// the number of its messages, and each message goes from the one node to the other, to which the target of its feed
+/// belongs. Contracts see its two nodes and its messages, oldest first.
 #[derive(Drop)]
 pub struct PoolLink<G: Graph, K: Ledgers> {
     link: Link<Message<G>>,
@@ -37,7 +38,7 @@ impl<G: Graph, K: Ledgers> Model for PoolLink<G, K> {
 }
 
 impl<G: Graph, K: Ledgers> PoolLink<G, K> {
-    /// A link with no message. It takes no memory.
+    /// Returns a link without messages. It allocates nothing.
     pub fn new(alloc: Global, share: LinkShare<K>) -> Self
         requires { share.under ≡ 0 }
         ensures { result ≡ empty_pool_link share }
@@ -46,7 +47,7 @@ impl<G: Graph, K: Ledgers> PoolLink<G, K> {
         PoolLink { link, share }
     }
 
-    /// The node that sends on it.
+    /// Returns the node that sends on the link.
     pub fn from(&self) -> NodeId
         ensures number { result.0 ≡ self.now.from }
         ensures below { self.now.from < K.names.nodes }
@@ -54,7 +55,7 @@ impl<G: Graph, K: Ledgers> PoolLink<G, K> {
         self.share.from()
     }
 
-    /// The node that receives from it.
+    /// Returns the node that receives from the link.
     pub fn to(&self) -> NodeId
         ensures number { result.0 ≡ self.now.to }
         ensures below { self.now.to < K.names.nodes }
@@ -62,22 +63,22 @@ impl<G: Graph, K: Ledgers> PoolLink<G, K> {
         self.share.to()
     }
 
-    /// How many messages are on it.
+    /// Returns the number of messages in flight on the link.
     pub fn len(&self) -> usize
         ensures { result ≡ length self.now.messages }
     {
         self.link.len()
     }
 
-    /// The oldest message, which stays.
+    /// Returns the oldest message, which stays on the link, or `None` if there is none.
     pub fn front(&self) -> Option<&Message<G>>
         ensures { option_copied result ≡ slice_get self.now.messages 0 }
     {
         self.link.front()
     }
 
-    /// Puts a message in the place of the oldest, which comes back. On a link with no message it comes back itself, as the
-    /// error. It takes no memory, and the number of messages does not move. The message may be of another graph or pool.
+    /// Replaces the oldest message and returns it. If the link is empty, the new message is returned as the error. It
+    /// allocates nothing, and the number of messages stays the same. The message may be of another graph or pool.
     pub fn replace_front(&mut self, message: Message<G>) -> Result<Message<G>, Message<G>>
         requires of_pair { (message.from.0 ≡ self.old.from) × (message.to.0 ≡ self.old.to) }
         requires home { (G.meaning message.graph).home message.feed.target.0 K.names.nodes ≡ self.old.to }
@@ -92,7 +93,7 @@ impl<G: Graph, K: Ledgers> PoolLink<G, K> {
         self.link.replace_front(message)
     }
 
-    /// Changes nothing, and tells that no more messages are on the link than the present generation has under way.
+    /// Shows that no more messages are in flight on the link than in the present generation. Changes nothing.
     pub(crate) fn audit(&mut self, board: &mut Board<K>)
         ensures same { (self.new ≡ self.old) × (board.new ≡ board.old) }
         ensures under { length self.old.messages ≤ under_way (present (steps_of board.old.history)) }
@@ -100,7 +101,7 @@ impl<G: Graph, K: Ledgers> PoolLink<G, K> {
         board.audit_link(&mut self.share);
     }
 
-    /// The share alone. What is on the link is dropped.
+    /// Returns the share, and drops the messages.
     pub fn into_share(self) -> LinkShare<K>
         ensures { result ≡ link_of self }
     {
@@ -110,7 +111,8 @@ impl<G: Graph, K: Ledgers> PoolLink<G, K> {
 
     /// Sends the value that a feed waits for. The message gets the next number of the present generation.
     ///
-    /// Refused: `HistoryFull` where the history has reached its limit; `NoMemory` where memory has to grow and does not.
+    /// Refused with `HistoryFull` if the history has reached its limit; `NoMemory` if memory has to grow and the
+    /// allocation fails.
     pub(crate) fn put(
         &mut self,
         board: &mut Board<K>,
@@ -145,8 +147,8 @@ impl<G: Graph, K: Ledgers> PoolLink<G, K> {
         Ok(number)
     }
 
-    /// Takes the oldest message, which was sent to the node in the present generation, in the place that was reserved for its
-    /// event.
+    /// Removes and returns the oldest message, which was sent to the node in the present generation, in the place that
+    /// was reserved for its event.
     pub(crate) fn take(&mut self, board: &mut Board<K>, shares: &mut Shares<K>) -> Message<G>
         requires reserved { 0 < board.old.reserved }
         requires to_node { self.old.to ≡ shares.old.node }

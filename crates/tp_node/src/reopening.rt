@@ -1,3 +1,4 @@
+//! Reopening a pool, which begins its next generation.
 ghost use Rattle.std.specs.Prelude.{◌≡◌, ◌≤◌, ◌<◌, ◌+◌, ◌^◌, [], ◌∷◌, ◌++◌, IfErr, IfOk, IsTrue, MatchOption, OnErr, OnOk, length, map};
 ghost use Rattle.std.specs.Prelude.{sum_by, vec_capacity, vec_len};
 ghost use Rattle.std.specs.List.{All, flat_map};
@@ -24,23 +25,23 @@ use tp_base::{Refusal, TaskId};
 use tp_board::{Board, Ended, Fresh, Ledgers, Shares};
 use tp_graph::{Graph, Value};
 
-/// A pool whose next generation has begun, and what the one that ended has left.
+/// A pool whose next generation has begun, and the results of the one that ended.
 #[derive(Drop)]
 pub struct Reopened<G: Graph, K: Ledgers> {
     /// The pool, in whose present generation nothing has happened.
     pub pool: Pool<G, K>,
-    /// The results of the generation that ended, node by node, each a task and what is left of its value.
+    /// The results of the generation that ended, node by node: each task with what is left of its value.
     pub results: Vec<(TaskId, Value)>,
 }
 
 impl<G: Graph, K: Ledgers> Pool<G, K> {
-    /// Reopens a pool whose end was judged, which the token of the present generation tells: the next generation begins. Each
-    /// node is as [`open_pool`](crate::open_pool) makes it, with its own graph; the links are as they were, and no message is
-    /// on any of them; the history goes on with the one event of the reopening, and a fault that was set stays. A node that
-    /// was not told of the end is told before. The results of the generation that ended are handed out.
+    /// Reopens a pool, given the termination token of the present generation: the next generation begins, and the
+    /// results of the one that ended are returned. Each node is as [`open_pool`](crate::open_pool) makes it, with its
+    /// own graph; the links are the same, without messages. The history continues with one event, the reopening, and a
+    /// fault that was set stays. Termination is first announced to each node to which it was not.
     ///
-    /// Refused: `HistoryFull` where the history has reached its limit; `NoMemory` where memory has to grow and does not. The
-    /// pool, unchanged, and the token come back then.
+    /// Refused, and the unchanged pool and the token returned, with `HistoryFull` if the history has reached its limit;
+    /// `NoMemory` if memory has to grow and the allocation fails.
     pub fn reopen(
         self,
         alloc: Global,
@@ -75,7 +76,7 @@ struct ReopeningRoom<G: Graph, K: Ledgers> {
     results: Vec<(TaskId, Value)>,
 }
 
-/// Room for the reopening of a pool, and a place for its event. A refused call leaves the board as it was.
+/// Reserves memory for the reopening of a pool, and a place for its event. A refused call leaves the board unchanged.
 fn room_for<G: Graph, K: Ledgers>(
     alloc: Global,
     nodes: &Vec<Node<G, K>>,
@@ -98,7 +99,7 @@ fn room_for<G: Graph, K: Ledgers>(
     Ok(room)
 }
 
-/// Whether one more event may be.
+/// Checks whether the history has room for one more event.
 fn check_full<K: Ledgers>(board: &Board<K>) -> Result<(), Refusal>
     ensures { result_err result ≡ first_refusal (full_check 1 board.now ∷ []) }
 {
@@ -109,7 +110,7 @@ fn check_full<K: Ledgers>(board: &Board<K>) -> Result<(), Refusal>
     Ok(())
 }
 
-/// Empty lists with room for the parts of the nodes, which are so many.
+/// Returns empty lists with room for the parts of `count` nodes.
 fn lists_for<G: Graph, K: Ledgers>(
     alloc: Global,
     nodes: &Vec<Node<G, K>>,
@@ -134,7 +135,7 @@ fn lists_for<G: Graph, K: Ledgers>(
     })
 }
 
-/// How many results all nodes have, or `None` where they are 2^64 or more.
+/// Returns the number of results of all nodes, or `None` if it is 2^64 or more.
 pub fn count_results<G: Graph, K: Ledgers>(nodes: &[Node<G, K>]) -> Option<usize>
     ensures { MatchOption result (2 ^ 64 ≤ sum_by (λ n. length n.state.store.results) nodes.now) (λ count. count
         ≡ sum_by (λ n. length n.state.store.results) nodes.now) }
@@ -146,7 +147,7 @@ pub fn count_results<G: Graph, K: Ledgers>(nodes: &[Node<G, K>]) -> Option<usize
     Some(count)
 }
 
-/// The reopening, in the room that was made for it.
+/// Reopens the pool, in the memory that was reserved.
 fn begin_anew<G: Graph, K: Ledgers>(
     pool: Pool<G, K>,
     ended: Ended<K>,
@@ -186,7 +187,7 @@ fn begin_anew<G: Graph, K: Ledgers>(
     }
 }
 
-/// Reopens the nodes of a pool, of which the board is lent.
+/// Reopens the nodes of a pool, whose board is borrowed.
 fn reopen_nodes<G: Graph, K: Ledgers>(
     nodes: Vec<Node<G, K>>,
     board: &mut Board<K>,
@@ -229,7 +230,7 @@ fn reopen_nodes<G: Graph, K: Ledgers>(
     (anew, results)
 }
 
-/// The parts of all nodes, in their order.
+/// Splits all nodes into their parts, in order.
 fn take_apart<G: Graph, K: Ledgers>(
     nodes: Vec<Node<G, K>>,
     ended: &mut Ended<K>,
@@ -257,7 +258,7 @@ fn take_apart<G: Graph, K: Ledgers>(
     }
 }
 
-/// Puts the results of a node behind others, in the room for them.
+/// Appends the results of a node to others, in the room for them.
 fn put_behind(results: &mut Vec<(TaskId, Value)>, more: Vec<(TaskId, Value)>)
     requires { vec_len results.old + vec_len more ≤ vec_capacity results.old }
     ensures items { results.new.items ≡ results.old.items ++ more.items }
@@ -270,7 +271,7 @@ fn put_behind(results: &mut Vec<(TaskId, Value)>, more: Vec<(TaskId, Value)>)
     };
 }
 
-/// The nodes with their first shares.
+/// Joins the nodes with their first shares.
 fn put_together<G: Graph, K: Ledgers>(
     unshared: Vec<UnsharedNode<G>>,
     shares: Vec<Shares<K>>,
@@ -290,7 +291,7 @@ fn put_together<G: Graph, K: Ledgers>(
     }
 }
 
-/// Changes nothing, and tells that no message is on a link, where nothing has happened in the present generation.
+/// Shows that no message is on any link, if nothing has happened in the present generation. Changes nothing.
 fn audit_links<G: Graph, K: Ledgers>(links: &mut [PoolLink<G, K>], board: &mut Board<K>)
     requires { present (steps_of board.old.history) ≡ [] }
     ensures same { (links.new ≡ links.old) × (board.new ≡ board.old) }

@@ -1,3 +1,4 @@
+//! Work, which is a begun task, and finished tasks. Contracts carry that each value is the one that the graph defines.
 ghost use Rattle.std.specs.Prelude.{◌≡◌, ◌<◌, ◌≤◌, ◌↔◌, IsTrue, Some, IfOk, IfErr, MatchResult};
 ghost use Rattle.tp_graph.specs.Carried.{IsFeed};
 ghost use Rattle.tp_graph.specs.Left.{left_of};
@@ -30,7 +31,7 @@ impl<G: Graph> Model for Work<G> {
 }
 
 impl<G: Graph> Work<G> {
-    /// A begun task. Its inputs have to be its producers' values, in slot order. It takes no memory.
+    /// Returns a begun task. Its inputs have to be its producers' values, in slot order. It allocates nothing.
     pub fn new(graph: G, task: TaskId, inputs: SmallVec<Value, 4>) -> Self
         requires known { task.0 < (G.meaning graph).tasks }
         requires right { AreInputs (G.meaning graph) task.0 inputs.items }
@@ -43,14 +44,14 @@ impl<G: Graph> Work<G> {
         }
     }
 
-    /// The graph that the task is of.
+    /// Returns the graph of the task.
     pub fn graph(&self) -> G
         ensures { result ≡ self.now.graph }
     {
         self.graph
     }
 
-    /// The task.
+    /// Returns the task.
     pub fn task(&self) -> TaskId
         ensures same { result ≡ self.now.task }
         ensures known { result.0 < (G.meaning self.now.graph).tasks }
@@ -58,7 +59,7 @@ impl<G: Graph> Work<G> {
         self.task
     }
 
-    /// The inputs, in slot order.
+    /// Returns the inputs, which are the values of the task's producers in slot order.
     pub fn inputs(&self) -> &[Value]
         ensures same { result.now ≡ self.now.inputs }
         ensures right { AreInputs (G.meaning self.now.graph) self.now.task.0 result.now }
@@ -66,8 +67,9 @@ impl<G: Graph> Work<G> {
         self.inputs.as_slice()
     }
 
-    /// Runs the body of the task, which stays where it is. Refused with `BodyFailed` exactly where the task has no value,
-    /// since its rule fails or a number leaves `i64`, and with `NoMemory` where memory is refused first.
+    /// Runs the body of the task and returns the finished task; the work stays. Refused with `BodyFailed` exactly if
+    /// the task has no value, because its rule fails or a number does not fit `i64`; refused with `NoMemory` if an
+    /// allocation fails first.
     #[inline(always)]
     pub fn run(&self, alloc: Global) -> Result<Finished<G>, Refusal>
         ensures done { IfOk result (λ finished. (finished.graph ≡ self.now.graph) × (finished.task ≡ self.now.task) × (finished.fed ≡ 0)) }
@@ -78,8 +80,8 @@ impl<G: Graph> Work<G> {
         Ok(Finished::new(self.graph, self.task, value))
     }
 
-    /// Runs the task's body, as [`Work::run`] does. Refused with `BodyFailed` and `NoMemory` where that is; the work comes
-    /// back.
+    /// Runs the body of the task, as [`Work::run`] does, and consumes the work. Refused with `BodyFailed` or `NoMemory`
+    /// if that is; the work is then returned.
     pub fn perform(self, alloc: Global) -> Result<Finished<G>, (Refusal, Work<G>)>
         ensures done { IfOk result (λ finished. (finished.graph ≡ self.graph) × (finished.task ≡ self.task) × (finished.fed ≡ 0)) }
         ensures right { IfOk result (λ finished. value_of (G.meaning self.graph) self.task.0 ≡ Some finished.value) }
@@ -93,17 +95,18 @@ impl<G: Graph> Work<G> {
     }
 }
 
-/// A task that has run, with its value, and how many of its feeds were passed on. Only [`Node::feed`](crate::Node::feed)
-/// and [`Node::send`](crate::Node::send) raise that number. It tells no generation: one that outlives its own passes for
-/// the task of a later one, once that runs. Its value is right then too, but the feeds that it counts as passed on were
-/// passed on in the earlier generation, so tasks of the later one may wait for them forever.
+/// A task that has run, with its value and the number of its feeds that were passed on. Only
+/// [`Node::feed`](crate::Node::feed) and [`Node::send`](crate::Node::send) raise that number. It does not record its
+/// generation: one that outlives its own is accepted for the task of a later one, once that runs. Its value is right
+/// then too, but the feeds that it counts as passed on were passed on in the earlier generation, so tasks of the later
+/// one may wait for them forever.
 #[derive(Drop)]
 pub struct Finished<G: Graph> {
     graph: G,
     task: TaskId,
     value: Value,
     fed: u32,
-    // How many feeds the task has: the graph is asked once.
+    // The number of feeds of the task, for which the graph is asked only once.
     feeds: u32,
 }
 
@@ -119,7 +122,7 @@ impl<G: Graph> Model for Finished<G> {
 }
 
 impl<G: Graph> Finished<G> {
-    /// A task that has run, with its value. No feed was passed on yet. It takes no memory.
+    /// Returns a task that has run, with its value and no feed passed on. It allocates nothing.
     pub fn new(graph: G, task: TaskId, value: Value) -> Self
         requires known { task.0 < (G.meaning graph).tasks }
         requires right { value_of (G.meaning graph) task.0 ≡ Some value }
@@ -134,14 +137,14 @@ impl<G: Graph> Finished<G> {
         }
     }
 
-    /// The graph that the task is of.
+    /// Returns the graph of the task.
     pub fn graph(&self) -> G
         ensures { result ≡ self.now.graph }
     {
         self.graph
     }
 
-    /// The task.
+    /// Returns the task.
     pub fn task(&self) -> TaskId
         ensures same { result ≡ self.now.task }
         ensures known { result.0 < (G.meaning self.now.graph).tasks }
@@ -149,7 +152,7 @@ impl<G: Graph> Finished<G> {
         self.task
     }
 
-    /// Its value.
+    /// Returns the task's value, which is the one that the graph defines.
     pub fn value(&self) -> &Value
         ensures same { result.now ≡ self.now.value }
         ensures right { value_of (G.meaning self.now.graph) self.now.task.0 ≡ Some result.now }
@@ -157,7 +160,7 @@ impl<G: Graph> Finished<G> {
         &self.value
     }
 
-    /// Its value, which is moved out.
+    /// Returns the task's value, moved out, which is the one that the graph defines.
     pub fn into_value(self) -> Value
         ensures same { result ≡ self.value }
         ensures right { value_of (G.meaning self.graph) self.task.0 ≡ Some result }
@@ -165,8 +168,7 @@ impl<G: Graph> Finished<G> {
         self.value
     }
 
-    /// What the pool hands out of its value at its end: the value where the graph keeps it, and else no numbers. What is not
-    /// handed out is dropped.
+    /// Returns what is left of its value at the end of the pool: the value if the graph keeps it, and else no numbers.
     pub(crate) fn into_left(self, alloc: Global) -> Value
         ensures left { result ≡ left_of (G.meaning self.graph) self.task.0 self.value }
         ensures right { value_of (G.meaning self.graph) self.task.0 ≡ Some self.value }
@@ -178,7 +180,7 @@ impl<G: Graph> Finished<G> {
         }
     }
 
-    /// How many of its feeds were passed on.
+    /// Returns how many of its feeds were passed on.
     pub fn fed(&self) -> u32
         ensures same { result ≡ self.now.fed }
         ensures few { result ≤ (G.meaning self.now.graph).feeds self.now.task.0 }
@@ -186,7 +188,7 @@ impl<G: Graph> Finished<G> {
         self.fed
     }
 
-    /// Whether each feed was passed on.
+    /// Returns whether all feeds were passed on.
     pub fn all_fed(&self) -> bool
         ensures all { IsTrue result ↔ (self.now.fed ≡ (G.meaning self.now.graph).feeds self.now.task.0) }
         ensures few { self.now.fed ≤ (G.meaning self.now.graph).feeds self.now.task.0 }
@@ -194,7 +196,7 @@ impl<G: Graph> Finished<G> {
         self.fed == self.feeds
     }
 
-    /// The next feed, which has to be passed on.
+    /// Returns the next feed to pass on. There has to be one.
     pub fn next_feed(&self) -> Feed
         requires { HasFeed (G.meaning self.now.graph) self.now }
         ensures same { result ≡ next_feed_of (G.meaning self.now.graph) self.now }
@@ -204,7 +206,7 @@ impl<G: Graph> Finished<G> {
         feed_of(&self.graph, self.task, self.fed)
     }
 
-    /// Counts the next feed as passed on. The node alone counts, as the last part of a call that passed the value on.
+    /// Counts the next feed as passed on. Only the node calls it, as the last part of a call that passed the value on.
     pub(crate) fn pass_on(&mut self)
         requires { HasFeed (G.meaning self.old.graph) self.old }
         ensures { self.new ≡ passed_on self.old }

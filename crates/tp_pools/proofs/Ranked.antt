@@ -1,4 +1,4 @@
--- The answer of a pool's rank is that of the pool's own graph.
+-- The result of a pool's rank is that of the pool's own graph.
 use Rattle.std.proofs.Common.{arith, ap, ap₂, sym, subst, refl, cond, true, ℕ, ◌≡◌, ◌∙◌, ◌+◌, ◌<◌, ◌++◌, ◌∷◌, [], Bool, List, Option, Some}
 use Rattle.std.proofs.Common.{Result, drop, length, map, slice_get, take}
 use Rattle.std.proofs.lemmas.List.{get_or_append_left, length-append, length-map, take-append-drop}
@@ -38,7 +38,7 @@ ranked pools i p at waits =
     ap₂ (λ (l : List Entered) (k : ℕ). slice_get l k) whole (sym number)
     ∙ slice_get-get_or ((before ++ p ∷ []) ++ rest) (length before) p short ∙ ap Some found
 
--- how many graphs are to be run
+-- the number of graphs to run
 pub length-graphs_to_run : (pools : Pools) → length (graphs_to_run pools) ≡ count_by is_waiting pools
 length-graphs_to_run pools = length-map (filter is_waiting pools) (λ (p : Entered). p.graph) ∙ length-filter is_waiting pools
 

@@ -1,4 +1,4 @@
--- Pools that are settled one after the other.
+-- Pools whose states are set one after the other.
 use Rattle.std.proofs.Common.{refl, arith, ap, ap₂, sym, inl, inr, cond, true, false, ℕ, suc, ◌≡◌, ◌≢◌, ◌∙◌, ◌+◌, ◌<◌, ◌≤◌, ◌∷◌, Bool, List}
 use Rattle.std.proofs.Common.{Option, Some, Result, drop, length, slice_get, slice_set, unwrap_or}
 use Rattle.std.proofs.lemmas.Bool.{cases_lt}
@@ -23,7 +23,7 @@ get-set_other xs i j y other = elim (cases_lt j (length xs)) [
   | inr ge ↦ slice_get_past (slice_set xs i y) j (omega (arith, length-set xs i y, ge)) ∙ sym (slice_get_past xs j ge)
 ]
 
--- what is left from a place on begins with what is there
+-- the rest of a list from a position on begins with the element there
 first_of_rest : {X : Type 0} (xs : List X) (k : ℕ) (x : X) (rest : List X) → x ∷ rest ≡ drop k xs
     → (slice_get xs k ≡ Some x) × (rest ≡ drop (suc k) xs)
 first_of_rest xs k x rest is =
@@ -32,11 +32,11 @@ first_of_rest xs k x rest is =
     (slice_get-get_or xs k x lt ∙ ap Some (sym (ap (λ (l : List _). get_or l 0 x) whole)), ap (λ (l : List _). drop 1 l) whole)
 
 module _ {X E : Type 0} where
-  -- what stands at this position of the pools once it is settled, where this one stood
+  -- the state of the pool at this position once it is set, given the one before
   abbrev pub settled : List (Result X E) → Pools → ℕ → Entered → Option Entered
   settled answers old i p = cond (is_waiting p) (option_map (after p) (slice_get answers (rank old i))) (Some p)
 
-  -- The pools before position n are settled, and their answers taken. The others stand as they stood.
+  -- The states of the pools before position n are set, and their results taken. The others are unchanged.
   pub record AreSettledBelow (answers rest : List (Result X E)) (old new : Pools) (n : ℕ) : Type 0 where
     pub left : rest ≡ drop (rank old n) answers
     pub pools : length new ≡ length old
@@ -82,7 +82,7 @@ module _ {X E : Type 0} where
       count_by_more_yes is_waiting old n e (omega (arith, lt, h.pools))
       (ap is_waiting (get_or_from_slice_get old n e e (stood answers rest old new n e h lt is)) ∙ will)
 
-  -- a pool that could be run stands by the next answer
+  -- a pool that could be run has the state of the next result
   pub ends : (answers rest rest' : List (Result X E)) (old new : Pools) (n : ℕ) (e : Entered) (a : Result X E)
       → AreSettledBelow answers rest old new n → n < length new → e ≡ get_or new n e → is_waiting e ≡ true → rest ≡ a ∷ rest'
       → AreSettledBelow answers rest' old (slice_set new n (after e a)) (n + 1)
@@ -96,7 +96,7 @@ module _ {X E : Type 0} where
       ∙ sym (ap₂ (λ (b : Bool) (o : Option (Result X E)). cond b (option_map (after e) o) (Some e)) will first.0))
       (λ i other. get-set_other new n i (after e a) other)
 
-  -- there is an answer for each pool that could be run
+  -- there is a result for each pool that could be run
   pub none_lacks : (answers rest : List (Result X E)) (old new : Pools) (n : ℕ) (e : Entered) → AreSettledBelow answers rest old new n
       → n < length new → e ≡ get_or new n e → is_waiting e ≡ true → length answers ≡ count_by is_waiting old → length rest ≡ 0 → ⊥
   none_lacks answers rest old new n e h lt is will each none =

@@ -13,7 +13,7 @@ use Rattle.pool_samples.specs.declared.any.AnyGraph.{AnyGraph}
 use Rattle.tp_pools.specs.declared.entry.Standing.{Standing}
 use Rattle.tp_pools.specs.declared.entry.Standing.TheVariants.{Registered, Active, Over, Failed}
 
--- a pool: its name, as the numbers of its letters in UTF-8, the graph that it works out, and where it stands
+-- a pool: its name, as the bytes of its UTF-8, the graph that it computes, and its state
 pub record Entered : Type 0 where
   pub name : List ℕ
   pub graph : AnyGraph
@@ -22,15 +22,15 @@ pub record Entered : Type 0 where
 abbrev pub Pools : Type 0
 Pools = List Entered
 
--- a pool that was registered just now
+-- a pool that was just registered
 abbrev pub registered : List ℕ → AnyGraph → Entered
 registered name graph = record { name = name; graph = graph; standing = Registered }
 
--- what stands at a pool's number
+-- the state of the pool of a number
 abbrev pub standing_of : Pools → ℕ → Option Standing
 standing_of pools i = option_map (λ p. p.standing) (slice_get pools i)
 
--- the pools with another standing for one of them
+-- the pools with another state for one of them
 abbrev pub with_standing : Pools → ℕ → Standing → Pools
 with_standing pools i standing =
     unwrap_or (option_map (λ p. slice_set pools i (record p { standing = standing })) (slice_get pools i)) pools
@@ -46,12 +46,12 @@ is_same Over Over = true
 is_same Failed Failed = true
 is_same _ _ = false
 
--- there is a pool of this number, and it stands so
+-- there is a pool of this number, and it is in this state
 abbrev pub stands : Pools → ℕ → Standing → Bool
 stands pools i standing = unwrap_or (option_map (λ s. is_same s standing) (standing_of pools i)) false
 
 -- ---- checks
--- A name is registered once, and there are no more than so many pools. (A word that names no graph is refused before.)
+-- A name is registered once, and there is a limit of pools. (A specification that names no graph is refused before.)
 abbrev pub register_checks : Pools → List ℕ → List Check
 register_checks pools name = (is_named pools name, PoolKnown) ∷ (length pools == MAX_POOLS, StoreFull) ∷ []
 
@@ -63,6 +63,6 @@ IsUnregistered pools name spec StoreFull = length pools ≡ MAX_POOLS
 IsUnregistered pools name spec NoMemory = ⊤
 IsUnregistered pools name spec _ = ⊥
 
--- A call that moves a pool on wants it to stand so, and is refused with this else.
+-- A call that moves a pool on requires this state, and is otherwise refused with this.
 abbrev pub standing_checks : Pools → ℕ → Standing → Refusal → List Check
 standing_checks pools i standing refusal = (is_none (standing_of pools i), NoPool) ∷ (not (stands pools i standing), refusal) ∷ []

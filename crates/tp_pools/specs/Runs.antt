@@ -1,4 +1,4 @@
--- A run of all pools that are registered: one answer for each, in their order, and how the pools stand by these afterwards.
+-- A run of all registered pools: one result for each, in order, and the states of the pools after these.
 use Rattle.std.specs.Prelude.{ℕ, ◌≡◌, Bool, true, false, List, Some, Result, Ok, Err, length, map, slice_get, take}
 use Rattle.std.specs.List.{count_by, filter}
 use Rattle.std.specs.Option.{option_map}
@@ -15,22 +15,22 @@ is_waiting p = is_same p.standing Registered
 abbrev pub graphs_to_run : Pools → List AnyGraph
 graphs_to_run pools = map (λ p. p.graph) (filter is_waiting pools)
 
--- how many of the pools before this position can be run: so many answers stand before that of the pool there
+-- how many of the pools before this position can be run, which is the position of this pool's result
 abbrev pub rank : Pools → ℕ → ℕ
 rank pools i = count_by is_waiting (take i pools)
 
 module _ {X E : Type 0} where
-  -- where a pool stands after this answer
+  -- the state of a pool after this result
   abbrev pub standing_after : Result X E → Standing
   standing_after (Ok outcome) = Over
   standing_after (Err fault) = Failed
 
-  -- the pool with the standing that this answer tells
+  -- the pool in the state after this result
   abbrev pub after : Entered → Result X E → Entered
   after p answer = record p { standing = standing_after answer }
 
-  -- There is an answer for each pool that could be run. Each of those pools stands as its answer tells, and each other as it
-  -- stood. Names and graphs are as they were.
+  -- There is a result for each pool that could be run. Each of those pools is in the state after its result, and each other is
+  -- unchanged. Names and graphs are unchanged.
   pub record AreSettled (answers : List (Result X E)) (old new : Pools) : Type 0 where
     pub each : length answers ≡ count_by is_waiting old
     pub pools : length new ≡ length old

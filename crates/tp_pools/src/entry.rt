@@ -1,3 +1,4 @@
+//! A pool of a registry, and its state.
 ghost use Rattle.std.specs.Prelude.{◌≡◌, string_bytes};
 ghost use Rattle.tp_pools.specs.Pools.{registered};
 ghost use Rattle.tp_pools.specs.Runs.{is_waiting, standing_after};
@@ -5,21 +6,21 @@ ghost use Rattle.tp_pools.specs.Runs.{is_waiting, standing_after};
 use pool_samples::AnyGraph;
 use std::marker::Model;
 
-/// Where a pool stands.
+/// The state of a pool.
 #[derive(Clone, Copy, Debug, PartialEq, Eq)]
 pub enum Standing {
-    /// It can be run.
+    /// The pool can be run.
     Registered,
-    /// It runs.
+    /// The pool runs.
     Active,
-    /// It has ended, and has its results.
+    /// The pool has ended, and has its results.
     Over,
-    /// It has ended with a fault.
+    /// The pool has ended with a fault.
     Failed,
 }
 
 impl Standing {
-    /// Where a pool stands after an answer.
+    /// Returns the state of a pool after a run with this result.
     pub(crate) fn after<T, E>(answer: &Result<T, E>) -> Self
         ensures { result ≡ standing_after answer.now }
     {
@@ -30,7 +31,7 @@ impl Standing {
     }
 }
 
-/// A pool of a registry: its name, the graph that it works out, and where it stands.
+/// A pool of a registry: its name, the graph that it computes, and its state.
 #[derive(Drop)]
 pub struct PoolEntry {
     name: String,
@@ -48,7 +49,7 @@ impl Model for PoolEntry {
 }
 
 impl PoolEntry {
-    /// A pool that was registered just now. It takes no memory.
+    /// Returns a pool that was just registered. It allocates nothing.
     pub(crate) fn new(name: String, graph: AnyGraph) -> Self
         ensures { result ≡ registered (string_bytes name) graph }
     {
@@ -59,28 +60,28 @@ impl PoolEntry {
         }
     }
 
-    /// Its name.
+    /// Returns the pool's name.
     pub fn name(&self) -> &str
         ensures { result.now ≡ self.now.name }
     {
         self.name.as_str()
     }
 
-    /// The graph that it works out.
+    /// Returns the graph that the pool computes.
     pub fn graph(&self) -> AnyGraph
         ensures { result ≡ self.now.graph }
     {
         self.graph
     }
 
-    /// Where it stands.
+    /// Returns the pool's state.
     pub fn standing(&self) -> Standing
         ensures { result ≡ self.now.standing }
     {
         self.standing
     }
 
-    /// Whether it can be run.
+    /// Returns whether the pool can be run.
     pub(crate) fn is_waiting(&self) -> bool
         ensures { result ≡ is_waiting self.now }
     {

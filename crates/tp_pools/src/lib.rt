@@ -1,5 +1,5 @@
-//! Several pools under one registry, in the order of registration: each has its name, the graph that it works out, and
-//! where it stands.
+//! A registry of several pools, which can be run all at once. Its pools are in the order of registration; each has a
+//! name, a graph and a state.
 #![tactic(auto)]
 
 mod entry;

@@ -1,3 +1,4 @@
+//! Running all registered pools at once.
 ghost use Rattle.std.specs.Prelude.{◌≡◌, IfErr, IfOk, OnErr};
 ghost use Rattle.tp_base.specs.declared.refusal.Refusal.TheVariants.{NoMemory};
 ghost use Rattle.tp_pools.specs.Answers.{AreRun, AreRunAnswers, IsRunAnswer};
@@ -11,12 +12,12 @@ use std::thread::{self, Threads};
 use tp_base::Refusal;
 use tp_work::{Config, Fault, Gate, Outcome, run_pool};
 
-/// Runs each registered pool of a registry, all at once, each by threads of its own, and waits for all. The answers are those
-/// of `run_pool`, in the order of registration; the fault of one pool stops no other. Afterwards a pool that was run stands
-/// `Over` where its answer is `Ok`, and else `Failed`; the others stand as they stood.
+/// Runs all registered pools at once, each with threads of its own, waits for all, and returns their results in the
+/// order of registration. Each result is that of `run_pool`; the fault of one pool stops no other. Afterwards a pool
+/// that was run is `Over` if its result is `Ok`, and else `Failed`; the states of the others are unchanged.
 ///
-/// Refused: `NoMemory` where there is no room for the graphs or the answers. The answers are dropped then, and the registry is
-/// as before.
+/// Refused with `NoMemory` if the allocation of the graphs or the results fails. The results are dropped then, and the
+/// registry is unchanged.
 pub fn run_pools<A: Gate, R: Threads + Wait + Sync>(
     rt: &R,
     alloc: Global,

@@ -1,3 +1,4 @@
+//! The registry, with its calls.
 ghost use Rattle.std.specs.Prelude.{◌≡◌, ◌≤◌, ◌++◌, ◌∷◌, [], IfErr, IfOk, MatchOption, OnErr, OnOk, length};
 ghost use Rattle.std.specs.List.{count_by};
 ghost use Rattle.std.specs.Result.{result_err};
@@ -36,7 +37,7 @@ impl Model for Registry {
 }
 
 impl Registry {
-    /// No pool. It takes no memory.
+    /// Returns an empty registry. It allocates nothing.
     pub fn new(alloc: Global) -> Self
         ensures { result ≡ [] }
     {
@@ -46,10 +47,11 @@ impl Registry {
         }
     }
 
-    /// Registers a pool under a name, the last. Its specification is the word of a sample pool.
+    /// Registers a pool under a name, after the others, and returns its number. `spec` is the specification of a sample
+    /// pool.
     ///
-    /// Refused: `BadSpec` where the word names no pool; `PoolKnown` where a pool has the name; `StoreFull` where there are 8
-    /// pools; `NoMemory`.
+    /// Refused with `BadSpec` if the specification names no pool; `PoolKnown` if a pool has the name; `StoreFull` if
+    /// there are 8 pools; `NoMemory`.
     pub fn register(&mut self, name: &str, spec: &str) -> Result<PoolId, Refusal>
         ensures registered { IfOk result (λ pool. (graph : AnyGraph) × (spec.now ≡ word_of graph) × (pool.0 ≡ length self.old)
             × (self.new ≡ self.old ++ registered name.now graph ∷ [])) }
@@ -74,7 +76,7 @@ impl Registry {
 
     /// Makes a registered pool active.
     ///
-    /// Refused: `NoPool` where there is none; `PoolKnown` where it is not registered.
+    /// Refused with `NoPool` if there is no such pool; `PoolKnown` if it is not registered.
     pub fn monitor(&mut self, pool: PoolId) -> Result<(), Refusal>
         ensures moved { OnOk result (self.new ≡ with_standing self.old pool.0 stand.Active) }
         ensures refusal { result_err result ≡ first_refusal (standing_checks self.old pool.0 stand.Registered PoolKnown) }
@@ -90,7 +92,7 @@ impl Registry {
 
     /// Makes a pool that is over registered again.
     ///
-    /// Refused: `NoPool` where there is none; `WrongLife` where it is not over.
+    /// Refused with `NoPool` if there is no such pool; `WrongLife` if it is not over.
     pub fn unmonitor(&mut self, pool: PoolId) -> Result<(), Refusal>
         ensures moved { OnOk result (self.new ≡ with_standing self.old pool.0 stand.Registered) }
         ensures refusal { result_err result ≡ first_refusal (standing_checks self.old pool.0 stand.Over WrongLife) }
@@ -106,7 +108,7 @@ impl Registry {
 
     /// Makes a pool that is over active again.
     ///
-    /// Refused: `NoPool` where there is none; `WrongLife` where it is not over.
+    /// Refused with `NoPool` if there is no such pool; `WrongLife` if it is not over.
     pub fn reopen(&mut self, pool: PoolId) -> Result<(), Refusal>
         ensures moved { OnOk result (self.new ≡ with_standing self.old pool.0 stand.Active) }
         ensures refusal { result_err result ≡ first_refusal (standing_checks self.old pool.0 stand.Over WrongLife) }
@@ -117,7 +119,7 @@ impl Registry {
 
     /// Makes an active pool over.
     ///
-    /// Refused: `NoPool` where there is none; `WrongLife` where it is not active.
+    /// Refused with `NoPool` if there is no such pool; `WrongLife` if it is not active.
     pub fn set_over(&mut self, pool: PoolId) -> Result<(), Refusal>
         ensures moved { OnOk result (self.new ≡ with_standing self.old pool.0 stand.Over) }
         ensures refusal { result_err result ≡ first_refusal (standing_checks self.old pool.0 stand.Active WrongLife) }
@@ -128,7 +130,7 @@ impl Registry {
 
     /// Makes an active pool failed.
     ///
-    /// Refused: `NoPool` where there is none; `WrongLife` where it is not active.
+    /// Refused with `NoPool` if there is no such pool; `WrongLife` if it is not active.
     pub fn set_failed(&mut self, pool: PoolId) -> Result<(), Refusal>
         ensures moved { OnOk result (self.new ≡ with_standing self.old pool.0 stand.Failed) }
         ensures refusal { result_err result ≡ first_refusal (standing_checks self.old pool.0 stand.Active WrongLife) }
@@ -137,7 +139,7 @@ impl Registry {
         self.move_on(pool, Standing::Active, Standing::Failed, Refusal::WrongLife)
     }
 
-    /// Where a pool stands. Refused with `NoPool` where there is none.
+    /// Returns the state of a pool. Refused with `NoPool` if there is no such pool.
     pub fn state(&self, pool: PoolId) -> Result<Standing, Refusal>
         ensures { MatchOption (standing_of self.now pool.0) (result ≡ Err NoPool) (λ s. result ≡ Ok s) }
     {
@@ -147,7 +149,7 @@ impl Registry {
         }
     }
 
-    /// All pools, in the order of registration.
+    /// Returns all pools, in the order of registration.
     pub fn list(&self) -> &[PoolEntry]
         ensures same { result.now ≡ self.now }
         ensures few { length result.now ≤ MAX_POOLS }
@@ -156,9 +158,9 @@ impl Registry {
     }
 }
 
-// A run of all registered pools.
+// The parts of a run of all registered pools.
 impl Registry {
-    /// The graphs of the registered pools, in the order of registration.
+    /// Returns the graphs of the registered pools, in the order of registration. Refused if an allocation fails.
     pub fn graphs_to_run(&self) -> Result<Vec<AnyGraph>, AllocError>
         ensures { IfOk result (λ graphs. graphs.items ≡ graphs_to_run self.now) }
     {
@@ -169,8 +171,8 @@ impl Registry {
             .collect(self.alloc)
     }
 
-    /// Tells how the registered pools ended: each has an answer, in the order of registration. It is over where that is `Ok`,
-    /// and else failed. The other pools stay as they are. It takes no memory.
+    /// Sets the state of each registered pool by the result of its run; the results are in the order of registration. A
+    /// pool is over if its result is `Ok`, and else failed. The other pools are unchanged. It allocates nothing.
     pub fn settle<T, E>(&mut self, answers: &[Result<T, E>])
         requires { length answers.now ≡ count_by is_waiting self.old }
         ensures { AreSettled answers.now self.old self.new }
@@ -179,7 +181,7 @@ impl Registry {
     }
 }
 
-/// Tells how each registered pool ended, by the answer of its rank.
+/// Sets the state of each registered pool by the result of its rank.
 fn settle_each<T, E>(pools: &mut [PoolEntry], answers: &[Result<T, E>])
     requires { length answers.now ≡ count_by is_waiting pools.old }
     ensures { AreSettled answers.now pools.old pools.new }
@@ -196,14 +198,14 @@ fn settle_each<T, E>(pools: &mut [PoolEntry], answers: &[Result<T, E>])
 
 // The parts of these calls.
 impl Registry {
-    /// Whether a pool has the name.
+    /// Returns whether a pool has the name.
     fn is_named(&self, name: &str) -> bool
         ensures { result ≡ is_named self.now name.now }
     {
         self.pools.iter().any(|entry| entry.name() == name)
     }
 
-    /// Moves a pool from one standing to another; where it does not stand so, that is refused as is said.
+    /// Moves a pool from the state `from` to another. If it is in a third state, that is refused with `refusal`.
     fn move_on(
         &mut self,
         pool: PoolId,

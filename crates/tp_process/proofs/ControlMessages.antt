@@ -9,20 +9,21 @@ use Rattle.tp_process.specs.declared.control_message.Token.{Token}
 use Rattle.tp_process.specs.declared.control_message.Token.TheVariants.{Down, Up, Over}
 use Rattle.tp_process.specs.declared.outcome.Next.{Next}
 use Rattle.tp_process.specs.declared.outcome.Next.TheVariants.{Send}
-use Rattle.tp_process.specs.declared.epoch_state.EpochState.{EpochState}
+use Rattle.tp_process.specs.State.{EpochState}
 use Rattle.tp_process.specs.declared.epoch_state.TheConstants.{LIMIT}
 use Rattle.tp_process.specs.Calls.{blank, opens, Move, acts, ends, is_end, can_give, ready, can_start, moved, do_fit, left_of}
 use Rattle.tp_process.specs.Calls.{right_of, has, took, takes, is_down_due, is_up_due, is_left, is_right, takes_left, takes_right}
 use Rattle.tp_process.specs.Calls.{closed, sent, can_send, received, can_receive}
 use Rattle.tp_process.specs.World.{World, put, posted, does, came, happens, after, control_at, Act, Event, Opens, Closes, Sends}
 use Rattle.tp_process.specs.World.{Receives, Moves, Does, Comes, ControlMessagesLaw}
-use Rattle.tp_process.proofs.Totals.{total, total-equal}
+use Rattle.tp_base.specs.Totals.{total}
+use Rattle.tp_base.proofs.Totals.{total-equal}
 use Rattle.tp_process.proofs.Tree.{tree_sum}
 use Rattle.tp_process.proofs.Size.{size, size_at, size_past, size_all}
 use Rattle.tp_process.proofs.Put.{put_here, put_put, put_holds}
-use Rattle.tp_process.proofs.Inv.{Gifts, HasGiven, Holds, Told, Good}
+use Rattle.tp_process.proofs.Inv.{Gifts, HasGiven, Holds, Known, Good}
 use Rattle.tp_process.proofs.Judge.{given_before}
-use Rattle.tp_process.proofs.Early.{good_after, good_ready, IsTold, told_at}
+use Rattle.tp_process.proofs.Early.{good_after, good_ready, IsKnown, known_at}
 use Rattle.tp_process.proofs.Soon.{bit, total_put, root_stays, newest, acts_wave, takes_wave}
 
 -- how many children a process has
@@ -67,7 +68,7 @@ acts_debt w p e =
     (λ t. omega arith))))
     (λ h. omega arith))
 
-takes_debt : (n w : ℕ) (g : Gifts) (x : World) (from u : ℕ) (c : Token) (p : EpochState) → Told n w g x from u c → w ≤ p.wave + 1
+takes_debt : (n w : ℕ) (g : Gifts) (x : World) (from u : ℕ) (c : Token) (p : EpochState) → Known n w g x from u c → w ≤ p.wave + 1
     → debt w (takes from u c p) ≡ debt w p
 takes_debt n w g x from u Down p t close =
     cond_both (is_down_due u p) (opens u p) p (λ z. debt w z ≡ debt w p)
@@ -100,7 +101,7 @@ paid_put n i d x new under ls l same more less v =
     subst P (sym same) (omega (arith, sum, more, less, v))
 
 -- sums over the processes
-total_add : (n : ℕ) (f g : ℕ → ℕ) → total n (λ j. f j + g j) ≡ total n f + total n g
+pub total_add : (n : ℕ) (f g : ℕ → ℕ) → total n (λ j. f j + g j) ≡ total n f + total n g
 total_add zero f g = refl
 total_add (suc n) f g = omega (arith, total_add n f g)
 
@@ -197,7 +198,7 @@ module _ (n q : ℕ) (x : World) (v : Good n q x) (paid : Paid n x) where
           → before ≡ cond p.over (bit p.over_left + bit p.over_right) (kids p) → debt (w + 1) (opens (w + 1) p) ≡ before + cost
       opened_debt w p before cost mine was = rw (eq-eqb (w + 1) (w + 1) refl) (omega (arith, mine, was))
 
-  came_paid : (o : Option ControlMessage) → IsTold n v.wave v.gifts x o → Paid n (came n x o)
+  came_paid : (o : Option ControlMessage) → IsKnown n v.wave v.gifts x o → Paid n (came n x o)
   came_paid None t = paid
   came_paid (Some a) t =
       let p : EpochState = x.at a.to in
@@ -205,15 +206,15 @@ module _ (n q : ℕ) (x : World) (v : Good n q x) (paid : Paid n x) where
       (λ m.
       let l : a.to < n = ltb-true a.to n m in
       let hold : Holds n v.wave v.floor v.gifts x.at a.to p = v.inv.each a.to l in
-      let told : Told n (x.at 0).wave v.gifts x a.from a.wave a.token
-      = subst (λ w. Told n w v.gifts x a.from a.wave a.token) (sym v.inv.root.wave) t in
+      let known_of : Known n (x.at 0).wave v.gifts x a.from a.wave a.token
+      = subst (λ w. Known n w v.gifts x a.from a.wave a.token) (sym v.inv.root.wave) t in
       cond_both (eqb a.to p.number) (takes a.from a.wave a.token p) p (λ z. Paid n (record x { at = put a.to z x.at }))
       (λ e.
       paid_put n a.to 0 x (takes a.from a.wave a.token p) x.under_way x.controls l
       (root_stays n q x v a.to (takes a.from a.wave a.token p)
       (λ e. takes_wave n v.wave v.gifts x a.from a.wave a.token p t (subst (λ z. (x.at z).wave ≡ v.wave) (sym e) v.inv.root.wave) ∙ rw e))
       (omega arith)
-      (omega (arith, takes_debt n (x.at 0).wave v.gifts x a.from a.wave a.token p told (omega (arith, v.inv.root.wave, hold.close))))
+      (omega (arith, takes_debt n (x.at 0).wave v.gifts x a.from a.wave a.token p known_of (omega (arith, v.inv.root.wave, hold.close))))
       paid)
       (λ e. same_paid a.to p x.under_way l refl refl))
       (λ m. paid)
@@ -265,7 +266,7 @@ happens_paid : (n q : ℕ) (x : World) (e : Event) → Good n q x → Paid n x �
 happens_paid n q x (Does i a) v paid =
     cond_both (ltb i n) (does n x i a) x (Paid n) (λ t. does_paid n q x i a (ltb-true i n t) v paid) (λ t. paid)
 happens_paid n q x (Comes k) v paid = came_paid n q x v paid (control_at x.controls k)
-    (told_at n v.wave v.gifts x x.controls k v.inv.controls)
+    (known_at n v.wave v.gifts x x.controls k v.inv.controls)
 
 paid_after : (n : ℕ) (events : List Event) → Paid n (after n events)
 paid_after n [] =

@@ -2,13 +2,14 @@
 use Rattle.std.proofs.Common.{◌≡◌, ℕ, ◌+◌, ◌-◌, ◌<◌, ◌≤◌, Bool, true, eqb, ltb, not, ◌&&◌, List, refl, sym, ◌∙◌, ap, subst, inl, inr, arith}
 use Rattle.std.proofs.lemmas.Bool.{ltb-true, eqb-false, not-true, and_parts, cond_both, eq-eqb, ne_eqb}
 use Rattle.tp_process.specs.declared.control_message.ControlMessage.{ControlMessage}
-use Rattle.tp_process.specs.declared.epoch_state.EpochState.{EpochState}
+use Rattle.tp_process.specs.State.{EpochState}
 use Rattle.tp_process.specs.declared.epoch_state.TheConstants.{LIMIT}
 use Rattle.tp_process.specs.Calls.{opened, closed, sent, received, can_send, can_receive}
 use Rattle.tp_process.specs.World.{World, IsQuiet, put}
-use Rattle.tp_process.proofs.Totals.{total, total_one-changes}
+use Rattle.tp_base.specs.Totals.{total}
+use Rattle.tp_base.proofs.Totals.{total_one-changes}
 use Rattle.tp_process.proofs.Put.{put_holds, put_keeps, put_same, total_same-put, total_more-put}
-use Rattle.tp_process.proofs.Inv.{Gifts, HasGiven, Visited, Here, Holds, AllTold, Inv, Good, Pace, Finished, Has, Posts, IsSmall}
+use Rattle.tp_process.proofs.Inv.{Gifts, HasGiven, Visited, Here, Holds, AllKnown, Inv, Good, Pace, Finished, Has, Posts, IsSmall}
 use Rattle.tp_process.proofs.Update.{Keeps, holds_kept, controls_kept, posts_more}
 use Rattle.tp_process.proofs.Pace.{changed, pace_kept}
 
@@ -108,13 +109,13 @@ module _ (n q w i : ℕ) (low : ℕ → ℕ) (g : Gifts) (x : World) (l : i < n)
       → (IsQuiet n x → IsQuiet n (changed i (plain (x.at i) a s r dl dr o ol or) under ls x))
       → ((x.at i).over ≡ true → o ≡ true)
       → (o ≡ true → Finished n (changed i (plain (x.at i) a s r dl dr o ol or) under ls x))
-      → AllTold n w g (changed i (plain (x.at i) a s r dl dr o ol or) under ls x) ls
+      → AllKnown n w g (changed i (plain (x.at i) a s r dl dr o ol or) under ls x) ls
       → Pace n c w g (changed i (plain (x.at i) a s r dl dr o ol or) under ls x)
       → ((l : ControlMessage) → Has x.controls l → Has ls l)
       → Posts n w ls i (plain (x.at i) a s r dl dr o ol or)
       → s ≤ LIMIT → r ≤ LIMIT
       → Inv n c w low g (changed i (plain (x.at i) a s r dl dr o ol or) under ls x)
-  plain_step c under ls more_sent more_received idle balance quiet grow over told pace more posts small_sent small_received =
+  plain_step c under ls more_sent more_received idle balance quiet grow over known_of pace more posts small_sent small_received =
       let new : EpochState = plain (x.at i) a s r dl dr o ol or in
       let own : Holds n w low g x.at i new = plain_own more_sent more_received idle in
       record {
@@ -139,7 +140,7 @@ module _ (n q w i : ℕ) (low : ℕ → ℕ) (g : Gifts) (x : World) (l : i < n)
         over = λ j m.
             put_holds (λ j z. z.over ≡ true → Finished n (changed i new under ls x)) i j new x.at (λ e. over)
             (λ off k. plain_ended under ls quiet grow (v.over j m k));
-        controls = told;
+        controls = known_of;
         pace = pace;
         posts = λ j m.
             put_holds (λ j z. Posts n w ls j z) i j new x.at (λ e. rw e posts)
@@ -152,19 +153,19 @@ module _ (n q w i : ℕ) (low : ℕ → ℕ) (g : Gifts) (x : World) (l : i < n)
   pub plain_move : (ls : List ControlMessage) → s ≡ (x.at i).sent → r ≡ (x.at i).received → a ≤ (x.at i).pending
       → ((x.at i).over ≡ true → o ≡ true)
       → (o ≡ true → Finished n (changed i (plain (x.at i) a s r dl dr o ol or) x.under_way ls x))
-      → (AllTold n w g (changed i (plain (x.at i) a s r dl dr o ol or) x.under_way ls x) x.controls
-      → AllTold n w g (changed i (plain (x.at i) a s r dl dr o ol or) x.under_way ls x) ls)
+      → (AllKnown n w g (changed i (plain (x.at i) a s r dl dr o ol or) x.under_way ls x) x.controls
+      → AllKnown n w g (changed i (plain (x.at i) a s r dl dr o ol or) x.under_way ls x) ls)
       → ((l : ControlMessage) → Has x.controls l → Has ls l)
       → Posts n w ls i (plain (x.at i) a s r dl dr o ol or)
       → Inv n q w low g (changed i (plain (x.at i) a s r dl dr o ol or) x.under_way ls x)
-  plain_move ls same_sent same_received less grow over told more posts =
+  plain_move ls same_sent same_received less grow over known_of more posts =
       let new : EpochState = plain (x.at i) a s r dl dr o ol or in
       let quiet : IsQuiet n x → IsQuiet n (changed i new x.under_way ls x) = plain_quiet x.under_way ls less (λ j. omega arith) in
       plain_step q x.under_way ls (omega arith) (omega arith) (λ e f. omega arith)
       (total_same-put n i new x.at (λ z. z.sent) same_sent ∙ v.balance
       ∙ ap (λ z. z + total n x.under_way) (sym (total_same-put n i new x.at (λ z. z.received) same_received)))
       quiet grow over
-      (told (controls_kept n w i g g x (changed i new x.under_way ls x) new plain_keeps refl
+      (known_of (controls_kept n w i g g x (changed i new x.under_way ls x) new plain_keeps refl
       (plain_ended x.under_way ls quiet grow) x.controls v.controls))
       (pace_kept n q w i g g x new ls l v.pace same_received refl refl (λ e. refl) (λ j off. refl)
       (λ m y. rw (same_sent, same_received) (v.pace.late m i l (record { wave = y.wave; gone = y.gone }))))
@@ -219,10 +220,12 @@ module _ (n q i : ℕ) (x : World) (l : i < n) (v : Good n q x) where
         floor = v.floor;
         gifts = v.gifts;
         inv =
-            plain_step n q v.wave i v.floor v.gifts x l v.inv a s r new.down_left new.down_right new.over new.over_left new.over_right c under x.controls
+            plain_step n q v.wave i v.floor v.gifts x l v.inv a s r new.down_left new.down_right new.over
+            new.over_left new.over_right c under x.controls
             more_sent more_received (λ e f. absurd (active e f)) balance quiet (λ e. e) (λ k. absurd (busy (v.inv.over i l k).quiet))
             (controls_kept n v.wave i v.gifts v.gifts x y new
-            (plain_keeps n q v.wave i v.floor v.gifts x l v.inv a s r new.down_left new.down_right new.over new.over_left new.over_right) refl
+            (plain_keeps n q v.wave i v.floor v.gifts x l v.inv a s r new.down_left new.down_right new.over
+            new.over_left new.over_right) refl
             (λ f. absurd (busy f.quiet)) x.controls v.inv.controls)
             pace (λ k h. h)
             (plain_posts n q v.wave i v.floor v.gifts x l v.inv a s r new.down_left new.down_right new.over new.over_left new.over_right

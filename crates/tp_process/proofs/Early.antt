@@ -6,7 +6,7 @@ use std.Path.{fun_ext}
 use Rattle.tp_process.specs.declared.control_message.ControlMessage.{ControlMessage}
 use Rattle.tp_process.specs.declared.control_message.Token.{Token}
 use Rattle.tp_process.specs.declared.control_message.Token.TheVariants.{Down, Up, Over}
-use Rattle.tp_process.specs.declared.epoch_state.EpochState.{EpochState}
+use Rattle.tp_process.specs.State.{EpochState}
 use Rattle.tp_process.specs.Calls.{opens, control, Move, acts, notifies, gives, judges, is_end, can_give, ready, can_start, moved}
 use Rattle.tp_process.specs.Calls.{do_fit, left_of, right_of, has, ends, can_send, can_receive, sent, received, opened, closed}
 use Rattle.tp_process.specs.declared.epoch_state.TheConstants.{LIMIT}
@@ -15,9 +15,10 @@ use Rattle.tp_process.specs.declared.outcome.Next.TheVariants.{Send, Ended}
 use Rattle.tp_process.specs.World.{World, IsQuiet, put, posted, does, came, happens, after, beginning, control_at, Act, Event}
 use Rattle.tp_process.specs.World.{Opens, Closes, Sends, Receives, Moves, Does, Comes}
 use Rattle.tp_process.specs.World.{NeverEarlyLaw, EndedLaw, QuietLaw, FewWavesLaw}
-use Rattle.tp_process.proofs.Totals.{total, total-zero, total-equal}
+use Rattle.tp_base.specs.Totals.{total}
+use Rattle.tp_base.proofs.Totals.{total-zero, total-equal}
 use Rattle.tp_process.proofs.Put.{put_here, put_put, put_keeps}
-use Rattle.tp_process.proofs.Inv.{Gifts, Holds, Reported, Told, AllTold, Good, none, Finished, Has, Posts}
+use Rattle.tp_process.proofs.Inv.{Gifts, Holds, Reported, Known, AllKnown, Good, none, Finished, Has, Posts}
 use Rattle.tp_process.proofs.Data.{plain, plain_ended, plain_move, plain_quiet, good_same, good_opens, good_closes, good_sends}
 use Rattle.tp_process.proofs.Data.{good_receives}
 use Rattle.tp_process.proofs.Update.{has_more}
@@ -87,7 +88,7 @@ pub record CanGive (p : EpochState) : Type 0 where
   pub no_right : p.up_right ≡ false
   pub idle : p.pending ≡ 0
 
-can_give_parts : (p : EpochState) → p.here ≡ true → can_give p ≡ true → CanGive p
+pub can_give_parts : (p : EpochState) → p.here ≡ true → can_give p ≡ true → CanGive p
 can_give_parts p here t =
     let a = and_parts _ (do_fit p.taken_received p.received) t in
     let b = and_parts _ (do_fit p.taken_sent p.sent) a.0 in
@@ -115,21 +116,21 @@ module _ (n q i : ℕ) (x : World) (l : i < n) (v : Good n q x) where
   -- a process owes other control messages, or knows the end
   good_owes : (dl dr o ol or : Bool) (ls : List ControlMessage) → ((x.at i).over ≡ true → o ≡ true)
       → (o ≡ true → Finished n (changed i (plain (x.at i) (x.at i).pending (x.at i).sent (x.at i).received dl dr o ol or) x.under_way ls x))
-      → (AllTold n v.wave v.gifts (changed i (plain (x.at i) (x.at i).pending (x.at i).sent
+      → (AllKnown n v.wave v.gifts (changed i (plain (x.at i) (x.at i).pending (x.at i).sent
       (x.at i).received dl dr o ol or) x.under_way ls x) x.controls
-      → AllTold n v.wave v.gifts (changed i (plain (x.at i) (x.at i).pending (x.at i).sent
+      → AllKnown n v.wave v.gifts (changed i (plain (x.at i) (x.at i).pending (x.at i).sent
       (x.at i).received dl dr o ol or) x.under_way ls x) ls)
       → ((a : ControlMessage) → Has x.controls a → Has ls a)
       → Posts n v.wave ls i (plain (x.at i) (x.at i).pending (x.at i).sent (x.at i).received dl dr o ol or)
       → Good n q (changed i (plain (x.at i) (x.at i).pending (x.at i).sent (x.at i).received dl dr o ol or) x.under_way ls x)
-  good_owes dl dr o ol or ls grow over told more posts =
+  good_owes dl dr o ol or ls grow over known_of more posts =
       record {
         wave = v.wave;
         floor = v.floor;
         gifts = v.gifts;
         inv =
             plain_move n q v.wave i v.floor v.gifts x l v.inv (x.at i).pending (x.at i).sent (x.at i).received dl dr o ol or ls refl refl
-            (omega arith) grow over told more posts;
+            (omega arith) grow over known_of more posts;
       }
 
   good_tells : (x.at i).over ≡ true → IsGoodMove n q i x (notifies (x.at i))
@@ -168,7 +169,7 @@ module _ (n q i : ℕ) (x : World) (l : i < n) (v : Good n q x) where
       }))
       (λ t. good_same n q i x l v))
 
-  -- Once the end is known all children are to be told.
+  -- Once the end is known all children are to be notified.
   ends_posts : Posts n v.wave x.controls i (ends (x.at i))
   ends_posts =
       let p : EpochState = x.at i in
@@ -322,7 +323,7 @@ good_moves n q i x l v =
     (fun_ext (put_put i (acts r).state r x.at)) named
 
 module _ (n q i : ℕ) (x : World) (l : i < n) (v : Good n q x) where
-  good_takes : (from wave : ℕ) (c : Token) → Told n v.wave v.gifts x from wave c
+  good_takes : (from wave : ℕ) (c : Token) → Known n v.wave v.gifts x from wave c
       → Good n q (record x { at = put i (takes from wave c (x.at i)) x.at })
   good_takes from wave Down t =
       let p : EpochState = x.at i in
@@ -346,7 +347,7 @@ module _ (n q i : ℕ) (x : World) (l : i < n) (v : Good n q x) where
       let c = and_parts p.here (eqb wave p.wave) b.0 in
       let hold : Holds n v.wave v.floor v.gifts x.at i p = v.inv.each i l in
       let newest : wave ≡ v.wave = eqb-true wave p.wave c.1 ∙ (hold.here c.0).wave in
-      let told : Reported v.wave v.gifts x.at from s r = t.1 newest in
+      let known_of : Reported v.wave v.gifts x.at from s r = t.1 newest in
       cond_both (is_left from p) (takes_left s r p) (cond (is_right from p) (takes_right s r p) p)
       (λ z. Good n q (record x { at = put i z x.at }))
       (λ d.
@@ -356,7 +357,7 @@ module _ (n q i : ℕ) (x : World) (l : i < n) (v : Good n q x) where
         wave = v.wave;
         floor = v.floor;
         gifts = v.gifts;
-        inv = left_step n q v.wave i v.floor v.gifts x l v.inv s r c.0 f.0 (rw e at told);
+        inv = left_step n q v.wave i v.floor v.gifts x l v.inv s r c.0 f.0 (rw e at known_of);
       })
       (λ d.
       cond_both (is_right from p) (takes_right s r p) p (λ z. Good n q (record x { at = put i z x.at }))
@@ -367,7 +368,7 @@ module _ (n q i : ℕ) (x : World) (l : i < n) (v : Good n q x) where
         wave = v.wave;
         floor = v.floor;
         gifts = v.gifts;
-        inv = right_step n q v.wave i v.floor v.gifts x l v.inv s r c.0 f.0 (rw e at told);
+        inv = right_step n q v.wave i v.floor v.gifts x l v.inv s r c.0 f.0 (rw e at known_of);
       })
       (λ d. good_same n q i x l v)))
       (λ d. good_same n q i x l v)
@@ -380,16 +381,17 @@ module _ (n q i : ℕ) (x : World) (l : i < n) (v : Good n q x) where
       (λ e. owes_ended n q i x l v p.down_left p.down_right true (has p (left_of p)) (has p (right_of p)) x.controls (λ e. refl) t)
       (λ t. t) (λ a h. h) (ends_posts n q i x l v))
 
-abbrev pub IsTold : ℕ → ℕ → Gifts → World → Option ControlMessage → Type 0
-IsTold n w g x None = Unit {0}
-IsTold n w g x (Some a) = Told n w g x a.from a.wave a.token
+abbrev pub IsKnown : ℕ → ℕ → Gifts → World → Option ControlMessage → Type 0
+IsKnown n w g x None = Unit {0}
+IsKnown n w g x (Some a) = Known n w g x a.from a.wave a.token
 
-pub told_at : (n w : ℕ) (g : Gifts) (x : World) (ls : List ControlMessage) (k : ℕ) → AllTold n w g x ls → IsTold n w g x (control_at ls k)
-told_at n w g x [] k t = tt
-told_at n w g x (a ∷ ls) zero t = t.0
-told_at n w g x (a ∷ ls) (suc k) t = told_at n w g x ls k t.1
+pub known_at : (n w : ℕ) (g : Gifts) (x : World) (ls : List ControlMessage) (k : ℕ) → AllKnown n w g x ls
+    → IsKnown n w g x (control_at ls k)
+known_at n w g x [] k t = tt
+known_at n w g x (a ∷ ls) zero t = t.0
+known_at n w g x (a ∷ ls) (suc k) t = known_at n w g x ls k t.1
 
-good_came : (n q : ℕ) (x : World) (v : Good n q x) (o : Option ControlMessage) → IsTold n v.wave v.gifts x o → Good n q (came n x o)
+good_came : (n q : ℕ) (x : World) (v : Good n q x) (o : Option ControlMessage) → IsKnown n v.wave v.gifts x o → Good n q (came n x o)
 good_came n q x v None t = v
 good_came n q x v (Some a) t =
     cond_both (ltb a.to n) (record x { at = put a.to (took a (x.at a.to)) x.at }) x (Good n q)
@@ -425,7 +427,7 @@ pub good_happens : (n q : ℕ) (x : World) (e : Event) → Good n q x → (c : �
 good_happens n q x (Does i a) v =
     cond_both (ltb i n) (does n x i a) x (λ z. (c : ℕ) × Good n c z) (λ t. good_does n q x i a (ltb-true i n t) v) (λ t. (q, v))
 good_happens n q x (Comes k) v =
-    (q, good_came n q x v (control_at x.controls k) (told_at n v.wave v.gifts x x.controls k v.inv.controls))
+    (q, good_came n q x v (control_at x.controls k) (known_at n v.wave v.gifts x x.controls k v.inv.controls))
 
 pub good_after : (n : ℕ) (events : List Event) → (c : ℕ) × Good n c (after n events)
 good_after n [] = (0, begins n)
@@ -572,7 +574,7 @@ calm_does n q x i Moves l z v = good_moves n q i x l v
 
 pub calm_happens : (n q : ℕ) (x : World) (e : Event) → IsQuiet n x → Good n q x → Good n q (happens n x e)
 calm_happens n q x (Does i a) z v = cond_both (ltb i n) (does n x i a) x (Good n q) (λ t. calm_does n q x i a (ltb-true i n t) z v) (λ t. v)
-calm_happens n q x (Comes k) z v = good_came n q x v (control_at x.controls k) (told_at n v.wave v.gifts x x.controls k v.inv.controls)
+calm_happens n q x (Comes k) z v = good_came n q x v (control_at x.controls k) (known_at n v.wave v.gifts x x.controls k v.inv.controls)
 
 pub calm_after : (n q : ℕ) (later events : List Event) → IsQuiet n (after n events) → Good n q (after n events)
     → Good n q (after n (later ++ events))

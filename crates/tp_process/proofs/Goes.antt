@@ -1,19 +1,20 @@
 -- Until each process knows the end, something can be done.
-use Rattle.std.proofs.Common.{◌≡◌, ℕ, zero, suc, ◌+◌, ◌-◌, ◌*◌, ◌/◌, ◌^◌, ◌<◌, ◌≤◌, ◌⊎◌, true, false, eqb, ltb, not, ◌&&◌, ◌||◌}
+use Rattle.std.proofs.Common.{◌≡◌, ℕ, zero, suc, ◌+◌, ◌*◌, ◌^◌, ◌<◌, ◌≤◌, ◌⊎◌, true, false, eqb, ltb, not, ◌&&◌, ◌||◌}
 use Rattle.std.proofs.Common.{List, Option, Some, None, refl, sym, subst, inl, inr, arith}
 use Rattle.std.proofs.lemmas.Bool.{ltb-true, cases_eq, cases_Bool, lt-ltb, eq-eqb, not-true, not_from_false, and_parts, and_from}
 use Rattle.std.proofs.lemmas.Bool.{or_left, or_right, cond_both}
+use Rattle.tp_base.specs.Tree.{parent}
 use Rattle.tp_process.specs.declared.control_message.ControlMessage.{ControlMessage}
 use Rattle.tp_process.specs.declared.control_message.Token.TheVariants.{Up}
 use Rattle.tp_process.specs.declared.outcome.Next.TheVariants.{Ended}
-use Rattle.tp_process.specs.declared.epoch_state.EpochState.{EpochState}
+use Rattle.tp_process.specs.State.{EpochState}
 use Rattle.tp_process.specs.declared.epoch_state.TheConstants.{LIMIT}
 use Rattle.tp_process.specs.Calls.{opens, Move, acts, gives, is_end, can_give, ready, can_start, moved, do_fit, left_of, right_of}
 use Rattle.tp_process.specs.Calls.{has, is_due, is_left, is_right}
 use Rattle.tp_process.specs.World.{World, IsQuiet, after, control_at, Event, Moves, Does, Comes, is_step, is_taken, is_useful, GoesOnLaw}
 use Rattle.tp_process.proofs.Inv.{HasGiven, Here, Holds, Reported, Good, taken, Has, Posts, down_control, up_control, over_control}
 use Rattle.tp_process.proofs.Size.{size, size_at, size-le, IsSmallGift, gift_small, taken-le}
-use Rattle.tp_process.proofs.Early.{good_after, IsTold, told_at}
+use Rattle.tp_process.proofs.Early.{good_after, IsKnown, known_at}
 
 -- a process that does something
 abbrev DoesStep : Move → Type 0
@@ -125,13 +126,14 @@ module _ (n q : ℕ) (x : World) (few : n ≤ 2 ^ 20) (quiet : IsQuiet n x) (v :
       (eq-eqb _ _ (omega (arith, hold.near, hold.close, other))))
 
   -- What child c gave is on its way to its parent.
-  up_comes : (i c s r : ℕ) → i < n → (x.at i).here ≡ true → c < n → (c - 1) / 2 ≡ i
+  up_comes : (i c s r : ℕ) → i < n → (x.at i).here ≡ true → c < n → parent c ≡ i
       → (x.at i).taken_sent + LIMIT * size n c < 2 ^ 64 → (x.at i).taken_received + LIMIT * size n c < 2 ^ 64
       → HasGiven v.wave (x.at c) → (is_left c (x.at i) || is_right c (x.at i)) ≡ true
       → Has x.controls (up_control c v.wave s r) → Useful
   up_comes i c s r l here m e room_sent room_received k d h =
-      let told : IsTold n v.wave v.gifts x (control_at x.controls h.which) = told_at n v.wave v.gifts x x.controls h.which v.inv.controls in
-      let report : Reported v.wave v.gifts x.at c s r = (rw h.there at told).1 refl in
+      let known_of : IsKnown n v.wave v.gifts x (control_at x.controls h.which) =
+      known_at n v.wave v.gifts x x.controls h.which v.inv.controls in
+      let report : Reported v.wave v.gifts x.at c s r = (rw h.there at known_of).1 refl in
       let small : IsSmallGift n c v.gifts = gift_small n q v.wave v.floor v.gifts x v.inv c (λ z. k) in
       let wave : (x.at i).wave ≡ v.wave = ((v.inv.each i l).here here).wave in
       comes_on (record { from = c; to = i; wave = v.wave; token = Up s r }) (rw e at h) l
@@ -145,7 +147,7 @@ module _ (n q : ℕ) (x : World) (few : n ≤ 2 ^ 20) (quiet : IsQuiet n x) (v :
   -- Where no process knows the end and a wave is at process i, something can be done there or below.
   module _ (open_yet : (i : ℕ) → i < n → (x.at i).over ≡ false) where
     -- a child that has not given
-    below : (i c : ℕ) → i < n → (x.at i).here ≡ true → c < n → (c - 1) / 2 ≡ i → 0 < c
+    below : (i c : ℕ) → i < n → (x.at i).here ≡ true → c < n → parent c ≡ i → 0 < c
         → (x.at i).taken_sent + LIMIT * size n c < 2 ^ 64 → (x.at i).taken_received + LIMIT * size n c < 2 ^ 64
         → (is_left c (x.at i) || is_right c (x.at i)) ≡ true
         → Has x.controls (down_control i c v.wave) → ((x.at c).here ≡ true → Useful) → Useful
@@ -296,20 +298,20 @@ module _ (n q : ℕ) (x : World) (few : n ≤ 2 ^ 20) (quiet : IsQuiet n x) (v :
                   elim (cases_eq b 0) [
                     | inl e ↦ absurd (cc (rw e at f, o))
                     | inr off ↦
-                        let parent : ℕ = (b - 1) / 2 in
-                        let less : parent < b = omega (arith, off) in
-                        let d : IsDone (x.at parent) = all parent less in
-                        let posts : Posts n v.wave x.controls parent (x.at parent) = v.inv.posts parent (omega (arith, less, l)) in
-                        elim (cases_eq b (2 * parent + 1)) [
+                        let above : ℕ = parent b in
+                        let less : above < b = omega (arith, off) in
+                        let d : IsDone (x.at above) = all above less in
+                        let posts : Posts n v.wave x.controls above (x.at above) = v.inv.posts above (omega (arith, less, l)) in
+                        elim (cases_eq b (2 * above + 1)) [
                           | inl e ↦
                               let z = posts.over_left d.over d.left (omega (arith, e, l)) in
-                              inr (over_comes parent b z.0 (omega (arith, l)) f (subst
-                              (λ c. Has x.controls (over_control parent c z.0)) (sym e) z.1))
+                              inr (over_comes above b z.0 (omega (arith, l)) f (subst
+                              (λ c. Has x.controls (over_control above c z.0)) (sym e) z.1))
                           | inr other ↦
-                              let e : b ≡ 2 * parent + 2 = omega (arith, other, off) in
+                              let e : b ≡ 2 * above + 2 = omega (arith, other, off) in
                               let z = posts.over_right d.over d.right (omega (arith, e, l)) in
-                              inr (over_comes parent b z.0 (omega (arith, l)) f (subst
-                              (λ c. Has x.controls (over_control parent c z.0)) (sym e) z.1))
+                              inr (over_comes above b z.0 (omega (arith, l)) f (subst
+                              (λ c. Has x.controls (over_control above c z.0)) (sym e) z.1))
                         ]
                   ]
             ]

@@ -1,12 +1,13 @@
 -- What holds at all times.
-use Rattle.std.proofs.Common.{◌≡◌, ℕ, ◌+◌, ◌-◌, ◌*◌, ◌/◌, ◌<◌, Some, ◌≤◌, ◌⊎◌, Bool, true, false, cond, List, [], ◌∷◌}
+use Rattle.std.proofs.Common.{◌≡◌, ℕ, ◌+◌, ◌*◌, ◌<◌, Some, ◌≤◌, ◌⊎◌, Bool, true, false, cond, List, [], ◌∷◌}
+use Rattle.tp_base.specs.Tree.{parent}
 use Rattle.tp_process.specs.declared.control_message.Token.{Token}
 use Rattle.tp_process.specs.declared.control_message.Token.TheVariants.{Down, Up, Over}
 use Rattle.tp_process.specs.declared.control_message.ControlMessage.{ControlMessage}
-use Rattle.tp_process.specs.declared.epoch_state.EpochState.{EpochState}
+use Rattle.tp_process.specs.State.{EpochState}
 use Rattle.tp_process.specs.declared.epoch_state.TheConstants.{LIMIT}
 use Rattle.tp_process.specs.World.{World, IsQuiet, control_at}
-use Rattle.tp_process.proofs.Totals.{total}
+use Rattle.tp_base.specs.Totals.{total}
 
 -- what was counted as sent and received
 pub record Counts : Type 0 where
@@ -87,7 +88,7 @@ abbrev pub down_control : ℕ → ℕ → ℕ → ControlMessage
 down_control from to w = record { from = from; to = to; wave = w; token = Down }
 
 abbrev pub up_control : ℕ → ℕ → ℕ → ℕ → ControlMessage
-up_control from w s r = record { from = from; to = (from - 1) / 2; wave = w; token = Up s r }
+up_control from w s r = record { from = from; to = parent from; wave = w; token = Up s r }
 
 abbrev pub over_control : ℕ → ℕ → ℕ → ControlMessage
 over_control from to w = record { from = from; to = to; wave = w; token = Over }
@@ -106,14 +107,14 @@ pub record IsSmall (p : EpochState) : Type 0 where
   pub received : p.received ≤ LIMIT
 
 -- what is known of a control message
-abbrev pub Told : ℕ → ℕ → Gifts → World → ℕ → ℕ → Token → Type 0
-Told n w g x from wave Down = wave ≤ w
-Told n w g x from wave (Up s r) = (wave ≤ w) × (wave ≡ w → Reported w g x.at from s r)
-Told n w g x from wave Over = Finished n x
+abbrev pub Known : ℕ → ℕ → Gifts → World → ℕ → ℕ → Token → Type 0
+Known n w g x from wave Down = wave ≤ w
+Known n w g x from wave (Up s r) = (wave ≤ w) × (wave ≡ w → Reported w g x.at from s r)
+Known n w g x from wave Over = Finished n x
 
-abbrev pub AllTold : ℕ → ℕ → Gifts → World → List ControlMessage → Type 0
-AllTold n w g x [] = Unit {0}
-AllTold n w g x (l ∷ ls) = Told n w g x l.from l.wave l.token × AllTold n w g x ls
+abbrev pub AllKnown : ℕ → ℕ → Gifts → World → List ControlMessage → Type 0
+AllKnown n w g x [] = Unit {0}
+AllKnown n w g x (l ∷ ls) = Known n w g x l.from l.wave l.token × AllKnown n w g x ls
 
 -- what is known of process 0
 pub record Root (n w : ℕ) (floor : ℕ → ℕ) (g : Gifts) (x : World) : Type 0 where
@@ -137,7 +138,7 @@ pub record Inv (n q w : ℕ) (floor : ℕ → ℕ) (g : Gifts) (x : World) : Typ
   pub beyond : (c : ℕ) → n ≤ c → g.all c ≡ none
   pub root : Root n w floor g x
   pub over : (i : ℕ) → i < n → (x.at i).over ≡ true → Finished n x
-  pub controls : AllTold n w g x x.controls
+  pub controls : AllKnown n w g x x.controls
   pub pace : Pace n q w g x
   pub posts : (i : ℕ) → i < n → Posts n w x.controls i (x.at i)
   pub small : (i : ℕ) → i < n → IsSmall (x.at i)

@@ -1,17 +1,19 @@
 -- A process gives; process 0 judges, and starts the next wave.
-use Rattle.std.proofs.Common.{◌≡◌, ℕ, zero, suc, ◌+◌, ◌-◌, ◌*◌, ◌/◌, ◌<◌, ◌≤◌, ◌⊎◌, Bool, true, false, List, [], ◌∷◌, refl, sym}
+use Rattle.std.proofs.Common.{◌≡◌, ℕ, zero, suc, ◌+◌, ◌*◌, ◌<◌, ◌≤◌, ◌⊎◌, Bool, true, false, List, [], ◌∷◌, refl, sym}
 use Rattle.std.proofs.Common.{◌∙◌, ap, inl, inr, arith, eqb}
 use Rattle.std.proofs.lemmas.Bool.{ltb-false, cases_eq, cases_lt, eq-eqb, ne_eqb, and_from}
+use Rattle.tp_base.specs.Tree.{parent}
 use Rattle.tp_process.specs.declared.control_message.ControlMessage.{ControlMessage}
 use Rattle.tp_process.specs.declared.control_message.Token.{Token}
 use Rattle.tp_process.specs.declared.control_message.Token.TheVariants.{Down, Up, Over}
-use Rattle.tp_process.specs.declared.epoch_state.EpochState.{EpochState}
+use Rattle.tp_process.specs.State.{EpochState}
 use Rattle.tp_process.specs.Calls.{opens, control, is_end}
 use Rattle.tp_process.specs.World.{World, IsQuiet, put}
-use Rattle.tp_process.proofs.Totals.{total, total-le, total_same, total-zero, total-equal}
+use Rattle.tp_base.specs.Totals.{total}
+use Rattle.tp_base.proofs.Totals.{total-le, total_same, total-zero, total-equal}
 use Rattle.tp_process.proofs.Tree.{tree_sum}
 use Rattle.tp_process.proofs.Put.{put_holds, put_keeps, put_same, put_other, total_same-put}
-use Rattle.tp_process.proofs.Inv.{Counts, Gifts, HasGiven, Visited, Here, Holds, Told, AllTold, Inv, plus, none, mine, Pace}
+use Rattle.tp_process.proofs.Inv.{Counts, Gifts, HasGiven, Visited, Here, Holds, Known, AllKnown, Inv, plus, none, mine, Pace}
 use Rattle.tp_process.proofs.Inv.{Finished, Posts, IsSmall}
 use Rattle.tp_process.proofs.Update.{Keeps, given_kept, holds_kept, controls_kept, has_more}
 use Rattle.tp_process.proofs.Wave.{control_step, opens_here}
@@ -79,7 +81,7 @@ module _ (n q w i : ℕ) (low : ℕ → ℕ) (g : Gifts) (x : World) (l : i < n)
       → Inv n q w low (with_gift i (x.at i) g)
       (record x {
         at = put i (record (x.at i) { here = false }) x.at;
-        controls = control (x.at i) (((x.at i).number - 1) / 2)
+        controls = control (x.at i) (parent (x.at i).number)
             (Up ((x.at i).taken_sent + (x.at i).sent) ((x.at i).taken_received + (x.at i).received)) ∷ x.controls;
       })
   give_step below =
@@ -88,7 +90,7 @@ module _ (n q w i : ℕ) (low : ℕ → ℕ) (g : Gifts) (x : World) (l : i < n)
       let sums : Token = Up ((x.at i).taken_sent + (x.at i).sent) ((x.at i).taken_received + (x.at i).received) in
       control_step n q w i low g (with_gift i (x.at i) g) x l v new (give_keeps (x.at i).known (x.at i).last_received)
       (record { pending = refl; sent = refl; received = refl; over = refl; known = refl; last = refl })
-      (control (x.at i) (((x.at i).number - 1) / 2) sums ∷ x.controls)
+      (control (x.at i) (parent (x.at i).number) sums ∷ x.controls)
       (give_own low (x.at i).known (x.at i).last_received hold.floor)
       (λ e. absurd (below e))
       (λ y. (rw (eq-eqb i i refl) hold.floor, rw (eq-eqb i i refl)))
@@ -105,7 +107,7 @@ module _ (n q w i : ℕ) (low : ℕ → ℕ) (g : Gifts) (x : World) (l : i < n)
         ),
         t,
       ))
-      (λ a h. has_more (control (x.at i) (((x.at i).number - 1) / 2) sums) a x.controls h)
+      (λ a h. has_more (control (x.at i) (parent (x.at i).number) sums) a x.controls h)
       (record {
         down_left = λ f. absurd (cc f);
         down_right = λ f. absurd (cc f);
@@ -123,8 +125,8 @@ given_below : (n q w : ℕ) (low : ℕ → ℕ) (g : Gifts) (x : World) → Inv 
     → ((c : ℕ) → c < n → (c ≡ 1) ⊎ (c ≡ 2) → HasGiven w (x.at c)) → (b j : ℕ) → j < b → 0 < j → j < n → HasGiven w (x.at j)
 given_below n q w low g x v top zero j k p m = absurd (omega arith)
 given_below n q w low g x v top (suc b) j k p m =
-    let parent : ℕ = (j - 1) / 2 in
-    elim (cases_eq parent 0) [
+    let above : ℕ = parent j in
+    elim (cases_eq above 0) [
       | inl e ↦
           let small : j < 3 = omega (arith, e) in
           elim (cases_eq j 1) [
@@ -132,12 +134,12 @@ given_below n q w low g x v top (suc b) j k p m =
             | inr other ↦ top j m (inr (omega (arith, small, p, other)))
           ]
       | inr off ↦
-          let up : HasGiven w (x.at parent) = given_below n q w low g x v top b parent (omega arith) (omega (arith, off)) (omega arith) in
-          let z : Visited n w g x.at parent (x.at parent) = (v.each parent (omega arith)).given up in
-          elim (cases_eq j (2 * parent + 1)) [
+          let up : HasGiven w (x.at above) = given_below n q w low g x v top b above (omega arith) (omega (arith, off)) (omega arith) in
+          let z : Visited n w g x.at above (x.at above) = (v.each above (omega arith)).given up in
+          elim (cases_eq j (2 * above + 1)) [
             | inl e ↦ rw e (z.left (omega (arith, e)))
             | inr other ↦
-                let e : j ≡ 2 * parent + 2 = omega (arith, other) in
+                let e : j ≡ 2 * above + 2 = omega (arith, other) in
                 rw e (z.right (omega (arith, e)))
           ]
     ]
@@ -145,7 +147,7 @@ given_below n q w low g x v top (suc b) j k p m =
 -- The wave ends at process 0, all other processes having given.
 module _ (n q w : ℕ) (low : ℕ → ℕ) (g : Gifts) (x : World) (l : 0 < n) (v : Inv n q w low g x) (there : (x.at 0).here ≡ true)
     (idle : (x.at 0).pending ≡ 0) (no_left : (x.at 0).up_left ≡ false) (no_right : (x.at 0).up_right ≡ false) where
-  all_given : (j : ℕ) → 0 < j → j < n → HasGiven w (x.at j)
+  pub all_given : (j : ℕ) → 0 < j → j < n → HasGiven w (x.at j)
   all_given j p m =
       let z : Here n w g x.at 0 (x.at 0) = (v.each 0 l).here there in
       given_below n q w low g x v
@@ -157,9 +159,6 @@ module _ (n q w : ℕ) (low : ℕ → ℕ) (g : Gifts) (x : World) (l : 0 < n) (
 
   given : Gifts
   given = with_gift 0 (x.at 0) g
-
-  gone_world : Bool → ℕ → World
-  gone_world known last = record x { at = put 0 (gone (x.at 0) known last) x.at }
 
   -- what is known of all of them then
   held : (roof : ℕ → ℕ) (known : Bool) (last : ℕ) → ((j : ℕ) → j < n → roof j ≤ (x.at j).sent) → (j : ℕ) → j < n
@@ -352,10 +351,10 @@ module _ (n q w : ℕ) (low : ℕ → ℕ) (g : Gifts) (x : World) (l : 0 < n) (
             (suc j) j (omega arith) (omega (arith, off)) m
       ]
 
-  later_told : (ls : List ControlMessage) (y : World) → (Finished n x → Finished n y) → AllTold n w g x ls → AllTold n (w + 1) g y ls
-  later_told [] y quiet t = t
-  later_told (a ∷ ls) y quiet t = (later a.from a.wave a.token t.0, later_told ls y quiet t.1) where
-    later : (from wave : ℕ) (c : Token) → Told n w g x from wave c → Told n (w + 1) g y from wave c
+  later_known : (ls : List ControlMessage) (y : World) → (Finished n x → Finished n y) → AllKnown n w g x ls → AllKnown n (w + 1) g y ls
+  later_known [] y quiet t = t
+  later_known (a ∷ ls) y quiet t = (later a.from a.wave a.token t.0, later_known ls y quiet t.1) where
+    later : (from wave : ℕ) (c : Token) → Known n w g x from wave c → Known n (w + 1) g y from wave c
     later from wave Down t = omega (arith, t)
     later from wave (Up s r) t = (omega (arith, t.0), λ e. absurd (omega (arith, t.0, e)))
     later from wave Over t = quiet t
@@ -417,7 +416,7 @@ module _ (n q w : ℕ) (low : ℕ → ℕ) (g : Gifts) (x : World) (l : 0 < n) (
           last = λ f. elim (v.root.last f) [ inl less ↦ inl less | inr z ↦ inr (quiet z) ];
         };
         over = λ j m f. ended (v.over j m (sym (put_same (λ z. z.over) 0 j new x.at refl) ∙ f));
-        controls = later_told x.controls y ended v.controls;
+        controls = later_known x.controls y ended v.controls;
         pace =
             record {
               past = omega (arith, v.pace.past);

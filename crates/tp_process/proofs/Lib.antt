@@ -1,5 +1,4 @@
 -- The files of this folder.
-pub mod Totals
 pub mod Tree
 pub mod Put
 pub mod Inv
@@ -19,4 +18,8 @@ pub mod Epochs
 pub mod Ahead
 pub mod Few
 pub mod Ties
+pub mod Network
 pub mod Opening
+pub mod Sent
+pub mod Through
+pub mod Late

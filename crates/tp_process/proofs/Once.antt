@@ -7,7 +7,7 @@ use Rattle.std.proofs.lemmas.Bool.{and_cases, and_from, or_from, cond_both}
 use Rattle.tp_process.specs.declared.control_message.ControlMessage.{ControlMessage}
 use Rattle.tp_process.specs.declared.control_message.Token.{Token}
 use Rattle.tp_process.specs.declared.control_message.Token.TheVariants.{Down, Up, Over}
-use Rattle.tp_process.specs.declared.epoch_state.EpochState.{EpochState}
+use Rattle.tp_process.specs.State.{EpochState}
 use Rattle.tp_process.specs.declared.epoch_state.TheConstants.{LIMIT}
 use Rattle.tp_process.specs.Calls.{opens, Move, acts, ends, is_end, can_give, ready, can_start, moved, do_fit, left_of, right_of}
 use Rattle.tp_process.specs.Calls.{took, takes, is_due, is_down_due, is_up_due, is_left, is_right, takes_left, takes_right, opened}
@@ -15,10 +15,10 @@ use Rattle.tp_process.specs.Calls.{closed, sent, can_send, received, can_receive
 use Rattle.tp_process.specs.World.{World, put, does, came, happens, after, control_at, Act, Event, Opens, Closes, Sends, Receives}
 use Rattle.tp_process.specs.World.{Moves, Does, Comes, OnceLaw}
 use Rattle.tp_process.proofs.Put.{put_holds}
-use Rattle.tp_process.proofs.Inv.{Here, Holds, Reported, Told, Good, taken}
+use Rattle.tp_process.proofs.Inv.{Here, Holds, Reported, Known, Good, taken}
 use Rattle.tp_process.proofs.Size.{size, size_at, size-le, IsSmallGift, gift_small, taken-le}
 use Rattle.tp_process.proofs.Route.{Path, path_at, route_after}
-use Rattle.tp_process.proofs.Early.{good_after, told_at}
+use Rattle.tp_process.proofs.Early.{good_after, known_at}
 
 -- what does not come back
 pub record Later (p r : EpochState) : Type 0 where
@@ -258,7 +258,7 @@ module _ (n q : ℕ) (x : World) (few : n ≤ 2 ^ 20) (v : Good n q x) (i : ℕ)
             (fits p.taken_received r (omega (arith, rw b.0 at z.received, lr, rw e at t.received, here_small.received, sum, whole, few)))
       ]
 
-  first_spent : (from u : ℕ) (c : Token) → Told n v.wave v.gifts x from u c → Path (x.at 0).wave x.at from i u c
+  first_spent : (from u : ℕ) (c : Token) → Known n v.wave v.gifts x from u c → Path (x.at 0).wave x.at from i u c
       → Spent from u c (takes from u c (x.at i))
   first_spent from u Down t way =
       let p : EpochState = x.at i in
@@ -287,10 +287,10 @@ module _ (n q : ℕ) (x : World) (few : n ≤ 2 ^ 20) (v : Good n q x) (i : ℕ)
             elim (cases_Bool p.here) [
               | inr away ↦ inr (same, inl away)
               | inl here ↦
-                  let told : Reported v.wave v.gifts x.at from s r = t.1 (same ∙ (hold.here here).wave) in
+                  let known_of : Reported v.wave v.gifts x.at from s r = t.1 (same ∙ (hold.here here).wave) in
                   let none : (is_left from p || is_right from p) ≡ false
                   = false_from_ne_true _ (λ d.
-                  let fits = and_parts _ _ (room from s r here told d) in
+                  let fits = and_parts _ _ (room from s r here known_of d) in
                   no
                   (and_from _ _
                   (and_from _ _ (and_from _ _ (and_from p.here (eqb u p.wave) here (eq-eqb u p.wave same)) fits.0) fits.1)
@@ -335,7 +335,7 @@ module _ (n q : ℕ) (x : World) (few : n ≤ 2 ^ 20) (v : Good n q x) (i : ℕ)
       cond_both p.over p (ends p) (λ z. z.over ≡ true) (λ d. d) (λ d. refl)
 
 -- what is known of a control message that has come
-spent_came : (n q : ℕ) (x : World) → n ≤ 2 ^ 20 → (v : Good n q x) (l : ControlMessage) → Told n v.wave v.gifts x l.from l.wave l.token
+spent_came : (n q : ℕ) (x : World) → n ≤ 2 ^ 20 → (v : Good n q x) (l : ControlMessage) → Known n v.wave v.gifts x l.from l.wave l.token
     → Path (x.at 0).wave x.at l.from l.to l.wave l.token → l.to < n
     → Spent l.from l.wave l.token ((came n x (Some l)).at l.to)
 spent_came n q x few v l t way m =
@@ -347,15 +347,15 @@ pub once : OnceLaw
 once n k later events l few there =
     let x : World = after n events in
     let v = good_after n events in
-    let told : Told n v.1.wave v.1.gifts x l.from l.wave l.token = rw there at
-    (told_at n v.1.wave v.1.gifts x x.controls k v.1.inv.controls) in
+    let known_of : Known n v.1.wave v.1.gifts x l.from l.wave l.token = rw there at
+    (known_at n v.1.wave v.1.gifts x x.controls k v.1.inv.controls) in
     let way : Path (x.at 0).wave x.at l.from l.to l.wave l.token = rw there at
     (path_at (x.at 0).wave x.at x.controls k (route_after n events).paths) in
     let y : World = after n (later ++ Comes k ∷ events) in
     elim (cases_lt l.to n) [
       | inl m ↦
           let came_so : Spent l.from l.wave l.token ((after n (Comes k ∷ events)).at l.to)
-          = subst (λ o. Spent l.from l.wave l.token ((came n x o).at l.to)) (sym there) (spent_came n v.0 x few v.1 l told way m) in
+          = subst (λ o. Spent l.from l.wave l.token ((came n x o).at l.to)) (sym there) (spent_came n v.0 x few v.1 l known_of way m) in
           let now : Spent l.from l.wave l.token (y.at l.to) =
           spent_later l.from l.wave l.token _ _ (later_after n later (Comes k ∷ events) l.to) came_so in
           and_right _ _ (and_right _ _ (spent_is_not_due l.from l.wave l.token (y.at l.to) now))

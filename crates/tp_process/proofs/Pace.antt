@@ -2,9 +2,9 @@
 use Rattle.std.proofs.Common.{◌≡◌, ℕ, ◌<◌, List, refl, sym, ◌∙◌, subst, inl, inr}
 use Rattle.std.proofs.lemmas.Bool.{cases_eq, eq-eqb, ne_eqb}
 use Rattle.tp_process.specs.declared.control_message.ControlMessage.{ControlMessage}
-use Rattle.tp_process.specs.declared.epoch_state.EpochState.{EpochState}
+use Rattle.tp_process.specs.State.{EpochState}
 use Rattle.tp_process.specs.World.{World, put}
-use Rattle.tp_process.proofs.Totals.{total}
+use Rattle.tp_base.specs.Totals.{total}
 use Rattle.tp_process.proofs.Put.{put_holds, put_same, total_same-put}
 use Rattle.tp_process.proofs.Inv.{Gifts, HasGiven, Pace, mine}
 

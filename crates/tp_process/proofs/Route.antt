@@ -1,12 +1,13 @@
 -- The newest wave comes down the tree, and up it again.
-use Rattle.std.proofs.Common.{◌≡◌, ℕ, zero, suc, ◌+◌, ◌-◌, ◌/◌, ◌<◌, Bool, true, false, eqb, ltb, not, ◌&&◌, List, [], ◌∷◌, Option}
+use Rattle.std.proofs.Common.{◌≡◌, ℕ, zero, suc, ◌+◌, ◌-◌, ◌<◌, Bool, true, false, eqb, ltb, not, ◌&&◌, List, [], ◌∷◌, Option}
 use Rattle.std.proofs.Common.{Some, None, refl, sym, ◌∙◌, subst, arith}
 use Rattle.std.proofs.lemmas.Bool.{ltb-true, eqb-true, eqb-false, ne_eqb, and_parts, cond_both}
 use std.Path.{fun_ext}
+use Rattle.tp_base.specs.Tree.{parent}
 use Rattle.tp_process.specs.declared.control_message.ControlMessage.{ControlMessage}
 use Rattle.tp_process.specs.declared.control_message.Token.{Token}
 use Rattle.tp_process.specs.declared.control_message.Token.TheVariants.{Down, Up, Over}
-use Rattle.tp_process.specs.declared.epoch_state.EpochState.{EpochState}
+use Rattle.tp_process.specs.State.{EpochState}
 use Rattle.tp_process.specs.declared.epoch_state.TheConstants.{LIMIT}
 use Rattle.tp_process.specs.Calls.{opens, control, Move, acts, ends, is_end, can_give, ready, can_start, moved, do_fit, left_of}
 use Rattle.tp_process.specs.Calls.{right_of, took, takes, is_down_due, is_up_due, is_left, is_right, takes_left, takes_right}
@@ -14,12 +15,12 @@ use Rattle.tp_process.specs.Calls.{closed, sent, can_send, received, can_receive
 use Rattle.tp_process.specs.World.{World, put, posted, does, came, happens, after, control_at, Act, Event, Opens, Closes, Sends}
 use Rattle.tp_process.specs.World.{Receives, Moves, Does, Comes}
 use Rattle.tp_process.proofs.Put.{put_here, put_put, put_holds, put_same}
-use Rattle.tp_process.proofs.Inv.{Told, AllTold, Good}
-use Rattle.tp_process.proofs.Early.{good_after, good_ready, IsTold, told_at}
+use Rattle.tp_process.proofs.Inv.{Known, AllKnown, Good}
+use Rattle.tp_process.proofs.Early.{good_after, good_ready, IsKnown, known_at}
 
 -- A wave's control message goes down from a process that the wave has come to, and up to one.
 abbrev pub Path : ℕ → (ℕ → EpochState) → ℕ → ℕ → ℕ → Token → Type 0
-Path w at from to u Down = (from ≡ (to - 1) / 2) × (u ≡ w → (at from).wave ≡ w)
+Path w at from to u Down = (from ≡ parent to) × (u ≡ w → (at from).wave ≡ w)
 Path w at from to u (Up s r) = u ≡ w → (at to).wave ≡ w
 Path w at from to u Over = Unit {0}
 
@@ -28,7 +29,7 @@ AllPaths w at [] = Unit {0}
 AllPaths w at (l ∷ ls) = Path w at l.from l.to l.wave l.token × AllPaths w at ls
 
 pub record Route (x : World) (n : ℕ) : Type 0 where
-  pub tree : (i : ℕ) → 0 < i → i < n → (x.at i).wave ≡ (x.at 0).wave → (x.at ((i - 1) / 2)).wave ≡ (x.at 0).wave
+  pub tree : (i : ℕ) → 0 < i → i < n → (x.at i).wave ≡ (x.at 0).wave → (x.at (parent i)).wave ≡ (x.at 0).wave
   pub paths : AllPaths (x.at 0).wave x.at x.controls
 
 paths_kept : (w : ℕ) (at new : ℕ → EpochState) (ls : List ControlMessage) → ((j : ℕ) → (at j).wave ≡ w → (new j).wave ≡ w)
@@ -44,25 +45,25 @@ paths_kept w at new (l ∷ ls) f t = (one l.from l.to l.wave l.token t.0, paths_
 route_step : (n i : ℕ) (x : World) (new : EpochState) (under : ℕ → ℕ) (ls : List ControlMessage) → Route x n
     → (i ≡ 0 → new.wave ≡ (x.at 0).wave)
     → ((x.at i).wave ≡ (x.at 0).wave → new.wave ≡ (x.at 0).wave)
-    → (0 < i → new.wave ≡ (x.at 0).wave → (x.at ((i - 1) / 2)).wave ≡ (x.at 0).wave)
+    → (0 < i → new.wave ≡ (x.at 0).wave → (x.at (parent i)).wave ≡ (x.at 0).wave)
     → (AllPaths (x.at 0).wave (put i new x.at) x.controls → AllPaths (x.at 0).wave (put i new x.at) ls)
     → Route (record { at = put i new x.at; under_way = under; controls = ls }) n
-route_step n i x new under ls v root keeps own told =
+route_step n i x new under ls v root keeps own known_of =
     let w : ℕ = (x.at 0).wave in
     let same : (put i new x.at 0).wave ≡ w =
     put_holds (λ j z. j ≡ 0 → z.wave ≡ w) i 0 new x.at (λ e f. root (sym e)) (λ off f. refl) refl in
     let kept : (j : ℕ) → (x.at j).wave ≡ w → (put i new x.at j).wave ≡ w
     = λ j e. put_holds (λ j z. (x.at j).wave ≡ w → z.wave ≡ w) i j new x.at (λ d f. keeps (rw d at f)) (λ off f. f) e in
-    let P : ℕ → Type 0 = λ u. (j : ℕ) → 0 < j → j < n → (put i new x.at j).wave ≡ u → (put i new x.at ((j - 1) / 2)).wave ≡ u in
+    let P : ℕ → Type 0 = λ u. (j : ℕ) → 0 < j → j < n → (put i new x.at j).wave ≡ u → (put i new x.at (parent j)).wave ≡ u in
     record {
       tree =
           subst P (sym same)
           (λ j p l e.
-          kept ((j - 1) / 2)
-          (put_holds (λ j z. 0 < j → j < n → z.wave ≡ w → (x.at ((j - 1) / 2)).wave ≡ w) i j new x.at
+          kept (parent j)
+          (put_holds (λ j z. 0 < j → j < n → z.wave ≡ w → (x.at (parent j)).wave ≡ w) i j new x.at
           (λ d p l f. rw d (own (rw d at p) f)) (λ off p l f. v.tree j p l f) p l e));
       paths =
-          subst (λ u. AllPaths u (put i new x.at) ls) (sym same) (told (paths_kept w x.at (put i new x.at) x.controls kept v.paths));
+          subst (λ u. AllPaths u (put i new x.at) ls) (sym same) (known_of (paths_kept w x.at (put i new x.at) x.controls kept v.paths));
     }
 
 -- where its wave is the same
@@ -70,8 +71,8 @@ route_same : (n i : ℕ) (x : World) (new : EpochState) (under : ℕ → ℕ) (l
     → new.wave ≡ (x.at i).wave
     → (AllPaths (x.at 0).wave (put i new x.at) x.controls → AllPaths (x.at 0).wave (put i new x.at) ls)
     → Route (record { at = put i new x.at; under_way = under; controls = ls }) n
-route_same n i x new under ls l v same told =
-    route_step n i x new under ls v (λ e. same ∙ rw e) (λ e. same ∙ e) (λ p e. v.tree i p l (sym same ∙ e)) told
+route_same n i x new under ls l v same known_of =
+    route_step n i x new under ls v (λ e. same ∙ rw e) (λ e. same ∙ e) (λ p e. v.tree i p l (sym same ∙ e)) known_of
 
 route_acts : (n q i : ℕ) (x : World) → i < n → Good n q x → Route x n
     → Route (record x { at = put i (acts (x.at i)).state x.at; controls = posted (acts (x.at i)).next x.controls }) n
@@ -80,7 +81,7 @@ route_acts n q i x l v u =
     let w : ℕ = (x.at 0).wave in
     let number : p.number ≡ i = (v.inv.each i l).number in
     let P : Move → Type 0 = λ m. Route (record x { at = put i m.state x.at; controls = posted m.next x.controls }) n in
-    let plain : (dl dr : Bool) (to : ℕ) → (p.number ≡ (to - 1) / 2)
+    let plain : (dl dr : Bool) (to : ℕ) → (p.number ≡ parent to)
     → Route (record x { at = put i (record p { down_left = dl; down_right = dr }) x.at; controls = control p to Down ∷ x.controls }) n
     = λ dl dr to e.
     route_same n i x (record p { down_left = dl; down_right = dr }) x.under_way (control p to Down ∷ x.controls) l u refl
@@ -109,13 +110,13 @@ route_acts n q i x l v u =
     (λ t. cond_both (is_end p) _ _ P (λ t. same (ends p) refl)
     (λ t. same (record p { here = false; known = true; last_received = p.taken_received + p.received }) refl))
     (λ t.
-    let to : ℕ = (p.number - 1) / 2 in
+    let to : ℕ = parent p.number in
     let up : ControlMessage = control p to (Up (p.taken_sent + p.sent) (p.taken_received + p.received)) in
     route_same n i x (record p { here = false }) x.under_way (up ∷ x.controls) l u refl
     (λ t2. (
       λ f.
           put_same (λ z. z.wave) i to (record p { here = false }) x.at refl
-          ∙ subst (λ j. (x.at ((j - 1) / 2)).wave ≡ w) (sym number)
+          ∙ subst (λ j. (x.at (parent j)).wave ≡ w) (sym number)
           (u.tree i (omega (arith, eqb-false p.number 0 t, number)) l f),
       t2,
     ))))
@@ -149,11 +150,11 @@ route_ready n q i x l v u =
     subst (λ z. Route (record x { at = put z (opens ((x.at z).wave + 1) (x.at z)) x.at }) n) (sym e) starts)
     (λ t. route_same n i x p x.under_way x.controls l u refl (λ t. t))
   where
-    none_yet : (ls : List ControlMessage) → AllTold n v.wave v.gifts x ls → AllPaths (x.at 0).wave x.at ls
+    none_yet : (ls : List ControlMessage) → AllKnown n v.wave v.gifts x ls → AllPaths (x.at 0).wave x.at ls
         → AllPaths ((x.at 0).wave + 1) (put 0 (opens ((x.at 0).wave + 1) (x.at 0)) x.at) ls
     none_yet [] t p = tt
     none_yet (l ∷ ls) t p = (one l.from l.to l.wave l.token t.0 p.0, none_yet ls t.1 p.1) where
-      one : (from to u : ℕ) (c : Token) → Told n v.wave v.gifts x from u c → Path (x.at 0).wave x.at from to u c
+      one : (from to u : ℕ) (c : Token) → Known n v.wave v.gifts x from u c → Path (x.at 0).wave x.at from to u c
           → Path ((x.at 0).wave + 1) (put 0 (opens ((x.at 0).wave + 1) (x.at 0)) x.at) from to u c
       one from to u Down t p = (p.0, λ e. absurd (omega (arith, e, t, v.inv.root.wave)))
       one from to u (Up s r) t p = λ e. absurd (omega (arith, e, t.0, v.inv.root.wave))
@@ -182,7 +183,7 @@ path_at w at (a ∷ ls) zero t = t.0
 path_at w at (a ∷ ls) (suc k) t = path_at w at ls k t.1
 
 route_takes : (n q i : ℕ) (x : World) (from u : ℕ) (c : Token) → i < n → Good n q x → Route x n → (v : Good n q x)
-    → Told n v.wave v.gifts x from u c → Path (x.at 0).wave x.at from i u c
+    → Known n v.wave v.gifts x from u c → Path (x.at 0).wave x.at from i u c
     → Route (record x { at = put i (takes from u c (x.at i)) x.at }) n
 route_takes n q i x from u Down l v r good t way =
     let p : EpochState = x.at i in
@@ -196,7 +197,7 @@ route_takes n q i x from u Down l v r good t way =
     (λ positive e. subst (λ j. (x.at j).wave ≡ (x.at 0).wave) way.0 (way.1 newest))
     (λ t. t))
     (λ d. route_same n i x p x.under_way x.controls l r refl (λ t. t))
-route_takes n q i x from u (Up s t) l v r good told way =
+route_takes n q i x from u (Up s t) l v r good known_of way =
     let p : EpochState = x.at i in
     let P : EpochState → Type 0 = λ z. Route (record x { at = put i z x.at }) n in
     let same : (new : EpochState) → new.wave ≡ p.wave → P new = λ new e. route_same n i x new x.under_way x.controls l r e (λ t. t) in
@@ -205,13 +206,13 @@ route_takes n q i x from u (Up s t) l v r good told way =
     cond_both (is_left from p) (takes_left s t p) _ P (λ d. same (takes_left s t p) refl)
     (λ d. cond_both (is_right from p) (takes_right s t p) p P (λ d. same (takes_right s t p) refl) (λ d. same p refl)))
     (λ d. same p refl)
-route_takes n q i x from u Over l v r good told way =
+route_takes n q i x from u Over l v r good known_of way =
     let p : EpochState = x.at i in
     let P : EpochState → Type 0 = λ z. Route (record x { at = put i z x.at }) n in
     let same : (new : EpochState) → new.wave ≡ p.wave → P new = λ new e. route_same n i x new x.under_way x.controls l r e (λ t. t) in
     cond_both p.over p (ends p) P (λ d. same p refl) (λ d. same (ends p) refl)
 
-route_came : (n q : ℕ) (x : World) (v : Good n q x) (o : Option ControlMessage) → IsTold n v.wave v.gifts x o
+route_came : (n q : ℕ) (x : World) (v : Good n q x) (o : Option ControlMessage) → IsKnown n v.wave v.gifts x o
     → IsPath (x.at 0).wave x.at o → Route x n
     → Route (came n x o) n
 route_came n q x v None t w r = r
@@ -260,7 +261,7 @@ route_happens : (n q : ℕ) (x : World) (e : Event) → Good n q x → Route x n
 route_happens n q x (Does i a) v r =
     cond_both (ltb i n) (does n x i a) x (λ z. Route z n) (λ t. route_does n q x i a (ltb-true i n t) v r) (λ t. r)
 route_happens n q x (Comes k) v r =
-    route_came n q x v (control_at x.controls k) (told_at n v.wave v.gifts x x.controls k v.inv.controls)
+    route_came n q x v (control_at x.controls k) (known_at n v.wave v.gifts x x.controls k v.inv.controls)
     (path_at (x.at 0).wave x.at x.controls k r.paths) r
 
 pub route_after : (n : ℕ) (events : List Event) → Route (after n events) n

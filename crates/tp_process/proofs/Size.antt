@@ -1,10 +1,11 @@
 -- How many processes there are below one, and what they can have counted at most.
-use Rattle.std.proofs.Common.{◌≡◌, ℕ, zero, suc, ◌+◌, ◌-◌, ◌*◌, ◌/◌, ◌<◌, ◌≤◌, Bool, true, false, cond, ltb, refl, sym, ◌∙◌, ap}
+use Rattle.std.proofs.Common.{◌≡◌, ℕ, zero, suc, ◌+◌, ◌*◌, ◌<◌, ◌≤◌, Bool, true, false, cond, ltb, refl, sym, ◌∙◌, ap}
 use Rattle.std.proofs.Common.{inl, inr, arith}
 use Rattle.std.proofs.lemmas.Bool.{cases_eq, cases_lt, lt-ltb, le-ltb}
+use Rattle.tp_base.specs.Tree.{parent}
 use Rattle.tp_process.specs.declared.epoch_state.TheConstants.{LIMIT}
 use Rattle.tp_process.specs.World.{World}
-use Rattle.tp_process.proofs.Totals.{total}
+use Rattle.tp_base.specs.Totals.{total}
 use Rattle.tp_process.proofs.Tree.{tree_sum}
 use Rattle.tp_process.proofs.Inv.{Gifts, HasGiven, Visited, Inv, taken}
 
@@ -48,13 +49,13 @@ size_below n (suc b) i m l =
     elim (cases_eq i 0) [
       | inl e ↦ rw e (omega (arith, size_all n))
       | inr off ↦
-          let parent : ℕ = (i - 1) / 2 in
-          let less : parent < i = omega (arith, off) in
-          let up : size n parent ≤ n = size_below n b parent (omega (arith, less, m)) (omega (arith, less, l)) in
-          let sum : size n parent ≡ 1 + (size n (2 * parent + 1) + size n (2 * parent + 2)) = size_at n parent (omega (arith, less, l)) in
-          elim (cases_eq i (2 * parent + 1)) [
+          let above : ℕ = parent i in
+          let less : above < i = omega (arith, off) in
+          let up : size n above ≤ n = size_below n b above (omega (arith, less, m)) (omega (arith, less, l)) in
+          let sum : size n above ≡ 1 + (size n (2 * above + 1) + size n (2 * above + 2)) = size_at n above (omega (arith, less, l)) in
+          elim (cases_eq i (2 * above + 1)) [
             | inl e ↦ rw e (omega (arith, sum, up))
-            | inr other ↦ let e : i ≡ 2 * parent + 2 = omega (arith, other, off) in rw e (omega (arith, sum, up))
+            | inr other ↦ let e : i ≡ 2 * above + 2 = omega (arith, other, off) in rw e (omega (arith, sum, up))
           ]
     ]
 

@@ -7,18 +7,19 @@ use std.Path.{fun_ext}
 use Rattle.tp_process.specs.declared.control_message.ControlMessage.{ControlMessage}
 use Rattle.tp_process.specs.declared.control_message.Token.{Token}
 use Rattle.tp_process.specs.declared.control_message.Token.TheVariants.{Down, Up, Over}
-use Rattle.tp_process.specs.declared.epoch_state.EpochState.{EpochState}
+use Rattle.tp_process.specs.State.{EpochState}
 use Rattle.tp_process.specs.declared.epoch_state.TheConstants.{LIMIT}
 use Rattle.tp_process.specs.Calls.{opens, Move, acts, ends, is_end, can_give, ready, can_start, moved, do_fit, left_of, right_of}
 use Rattle.tp_process.specs.Calls.{has, took, takes, is_due, is_down_due, is_up_due, is_left, is_right, takes_left, takes_right}
 use Rattle.tp_process.specs.Calls.{opened, closed, sent, can_send, received, can_receive}
 use Rattle.tp_process.specs.World.{World, IsQuiet, put, does, came, happens, after, control_at, Act, Event, Opens, Closes, Sends}
 use Rattle.tp_process.specs.World.{Receives, Moves, Does, Comes, is_step, is_taken, is_useful, useful, SoonLaw}
-use Rattle.tp_process.proofs.Totals.{total, total-le, total-equal}
+use Rattle.tp_base.specs.Totals.{total}
+use Rattle.tp_base.proofs.Totals.{total-le, total-equal}
 use Rattle.tp_process.proofs.Put.{put_here, put_put, put_holds, put_other}
-use Rattle.tp_process.proofs.Inv.{Gifts, HasGiven, Holds, Told, Good}
+use Rattle.tp_process.proofs.Inv.{Gifts, HasGiven, Holds, Known, Good}
 use Rattle.tp_process.proofs.Judge.{given_before}
-use Rattle.tp_process.proofs.Early.{good_after, good_ready, quiet_stays, calm_after, IsTold, told_at, nothing_under_way}
+use Rattle.tp_process.proofs.Early.{good_after, good_ready, quiet_stays, calm_after, IsKnown, known_at, nothing_under_way}
 
 abbrev pub bit : Bool → ℕ
 bit b = cond b 1 0
@@ -104,7 +105,7 @@ acts_wave p =
     (λ t. refl))
 
 -- what a control message does, that has come to a process
-takes_cost : (n w : ℕ) (g : Gifts) (x : World) (from u : ℕ) (c : Token) (p : EpochState) → Told n w g x from u c → w ≤ p.wave + 1
+takes_cost : (n w : ℕ) (g : Gifts) (x : World) (from u : ℕ) (c : Token) (p : EpochState) → Known n w g x from u c → w ≤ p.wave + 1
     → (p.here ≡ true → p.wave ≡ w) → cost w (takes from u c p) + bit (is_due from u c p) ≤ cost w p
 takes_cost n w g x from u Down p t close here =
     cond_both (is_down_due u p) (opens u p) p (λ z. cost w z + bit (is_down_due u p) ≤ cost w p)
@@ -146,7 +147,7 @@ takes_cost n w g x from u Over p t close here =
     (λ d. omega (arith, ap (λ b. bit (not b)) d))
     (λ d. omega (arith, ends_cost w p d, bit-le (not p.over)))
 
-pub takes_wave : (n w : ℕ) (g : Gifts) (x : World) (from u : ℕ) (c : Token) (p : EpochState) → Told n w g x from u c → p.wave ≡ w
+pub takes_wave : (n w : ℕ) (g : Gifts) (x : World) (from u : ℕ) (c : Token) (p : EpochState) → Known n w g x from u c → p.wave ≡ w
     → (takes from u c p).wave ≡ p.wave
 takes_wave n w g x from u Down p t e =
     cond_both (is_down_due u p) (opens u p) p (λ z. z.wave ≡ p.wave)
@@ -176,7 +177,7 @@ module _ (n q : ℕ) (x : World) (v : Good n q x) where
       (root_stays i (acts (x.at i)).state (λ e. acts_wave (x.at i) ∙ rw e))
       (acts_cost (x.at 0).wave (x.at i) (newest i l))
 
-  came_cost : (o : Option ControlMessage) → IsTold n v.wave v.gifts x o → costs n q (came n x o).at + bit (is_taken n x o) ≤ costs n q x.at
+  came_cost : (o : Option ControlMessage) → IsKnown n v.wave v.gifts x o → costs n q (came n x o).at + bit (is_taken n x o) ≤ costs n q x.at
   came_cost None t = omega arith
   came_cost (Some a) t =
       let p : EpochState = x.at a.to in
@@ -186,13 +187,13 @@ module _ (n q : ℕ) (x : World) (v : Good n q x) where
       let l : a.to < n = ltb-true a.to n m in
       let hold : Holds n v.wave v.floor v.gifts x.at a.to p = v.inv.each a.to l in
       let mine : eqb a.to p.number ≡ true = eq-eqb a.to p.number (sym hold.number) in
-      let told : Told n (x.at 0).wave v.gifts x a.from a.wave a.token
-      = subst (λ w. Told n w v.gifts x a.from a.wave a.token) (sym v.inv.root.wave) t in
+      let known_of : Known n (x.at 0).wave v.gifts x a.from a.wave a.token
+      = subst (λ w. Known n w v.gifts x a.from a.wave a.token) (sym v.inv.root.wave) t in
       rw (m, mine)
       (cost_put n q a.to x.at (takes a.from a.wave a.token p) (bit (is_due a.from a.wave a.token p)) l
       (root_stays a.to (takes a.from a.wave a.token p)
       (λ e. takes_wave n v.wave v.gifts x a.from a.wave a.token p t (subst (λ z. (x.at z).wave ≡ v.wave) (sym e) v.inv.root.wave) ∙ rw e))
-      (takes_cost n (x.at 0).wave v.gifts x a.from a.wave a.token p told (omega (arith, v.inv.root.wave, hold.close)) (newest a.to l))))
+      (takes_cost n (x.at 0).wave v.gifts x a.from a.wave a.token p known_of (omega (arith, v.inv.root.wave, hold.close)) (newest a.to l))))
       (λ f. rw f (omega arith))
 
 -- what is left to tell the end
@@ -312,7 +313,7 @@ module _ (n q : ℕ) (x : World) (quiet : IsQuiet n x) (v : Good n q x) where
       cond_both (ltb i n) (does n x i a) x (λ z. costs n q z.at + bit (is_useful n x (Does i a)) ≤ costs n q x.at)
       (λ t. does_cost i a (ltb-true i n t))
       (λ t. omega (arith, ap bit (useless i a t)))
-  happens_cost (Comes k) = came_cost n q x v (control_at x.controls k) (told_at n v.wave v.gifts x x.controls k v.inv.controls)
+  happens_cost (Comes k) = came_cost n q x v (control_at x.controls k) (known_at n v.wave v.gifts x x.controls k v.inv.controls)
 
 soon_from : (n q : ℕ) (later events : List Event) → IsQuiet n (after n events) → Good n q (after n events)
     → useful n later events + costs n q (after n (later ++ events)).at ≤ costs n q (after n events).at

@@ -4,9 +4,9 @@ use Rattle.std.proofs.lemmas.Bool.{eq-eqb, ne_eqb, cases_eq}
 use Rattle.tp_process.specs.declared.control_message.Token.{Token}
 use Rattle.tp_process.specs.declared.control_message.Token.TheVariants.{Down, Up, Over}
 use Rattle.tp_process.specs.declared.control_message.ControlMessage.{ControlMessage}
-use Rattle.tp_process.specs.declared.epoch_state.EpochState.{EpochState}
+use Rattle.tp_process.specs.State.{EpochState}
 use Rattle.tp_process.specs.World.{World, put}
-use Rattle.tp_process.proofs.Inv.{Gifts, HasGiven, Visited, Here, Holds, Reported, Told, AllTold, taken, Finished, Has, Posts}
+use Rattle.tp_process.proofs.Inv.{Gifts, HasGiven, Visited, Here, Holds, Reported, Known, AllKnown, taken, Finished, Has, Posts}
 
 pub record Keeps (w : ℕ) (g h : Gifts) (i : ℕ) (old new : EpochState) : Type 0 where
   pub given : HasGiven w old → HasGiven w new × (h.own i ≡ g.own i) × (h.all i ≡ g.all i)
@@ -88,9 +88,9 @@ module _ (n w i : ℕ) (g h : Gifts) (at : ℕ → EpochState) (p : EpochState) 
 
 module _ (n w i : ℕ) (g h : Gifts) (x y : World) (p : EpochState) (k : Keeps w g h i (x.at i) p) (moves : y.at ≡ put i p x.at)
     (ended : Finished n x → Finished n y) where
-  told_kept : (from wave : ℕ) (c : Token) → Told n w g x from wave c → Told n w h y from wave c
-  told_kept from wave Down t = t
-  told_kept from wave (Up s r) t = (
+  known_kept : (from wave : ℕ) (c : Token) → Known n w g x from wave c → Known n w h y from wave c
+  known_kept from wave Down t = t
+  known_kept from wave (Up s r) t = (
     t.0,
     λ e.
         let old : Reported w g x.at from s r = t.1 e in
@@ -100,11 +100,11 @@ module _ (n w i : ℕ) (g h : Gifts) (x y : World) (p : EpochState) (k : Keeps w
           received = rw (all_kept n w i g h x.at p k from old.given) old.received;
         },
   )
-  told_kept from wave Over t = ended t
+  known_kept from wave Over t = ended t
 
-  pub controls_kept : (ls : List ControlMessage) → AllTold n w g x ls → AllTold n w h y ls
+  pub controls_kept : (ls : List ControlMessage) → AllKnown n w g x ls → AllKnown n w h y ls
   controls_kept [] t = t
-  controls_kept (l ∷ ls) t = (told_kept l.from l.wave l.token t.0, controls_kept ls t.1)
+  controls_kept (l ∷ ls) t = (known_kept l.from l.wave l.token t.0, controls_kept ls t.1)
 
 -- more control messages
 pub has_more : (a l : ControlMessage) (ls : List ControlMessage) → Has ls l → Has (a ∷ ls) l

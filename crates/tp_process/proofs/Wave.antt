@@ -2,12 +2,12 @@
 use Rattle.std.proofs.Common.{◌≡◌, ℕ, ◌+◌, ◌*◌, ◌<◌, ◌≤◌, Bool, true, false, ltb, List, refl, sym, ◌∙◌, ap, subst, inl, inr, arith}
 use Rattle.std.proofs.lemmas.Bool.{ltb-true, cases_eq, ltb-false, eq-eqb, ne_eqb}
 use Rattle.tp_process.specs.declared.control_message.ControlMessage.{ControlMessage}
-use Rattle.tp_process.specs.declared.epoch_state.EpochState.{EpochState}
+use Rattle.tp_process.specs.State.{EpochState}
 use Rattle.tp_process.specs.Calls.{opens, takes_left, takes_right}
 use Rattle.tp_process.specs.World.{World, IsQuiet, put}
-use Rattle.tp_process.proofs.Totals.{total}
+use Rattle.tp_base.specs.Totals.{total}
 use Rattle.tp_process.proofs.Put.{put_holds, put_keeps, put_same, total_same-put}
-use Rattle.tp_process.proofs.Inv.{Counts, Gifts, HasGiven, Here, Holds, Reported, AllTold, Inv, taken, none, mine, Finished, Has}
+use Rattle.tp_process.proofs.Inv.{Gifts, HasGiven, Here, Holds, Reported, AllKnown, Inv, taken, none, mine, Finished, Has}
 use Rattle.tp_process.proofs.Inv.{Posts, IsSmall}
 use Rattle.tp_process.proofs.Update.{Keeps, holds_kept, controls_kept, posts_more}
 use Rattle.tp_process.proofs.Pace.{changed, pace_kept}
@@ -45,11 +45,11 @@ module _ (n q w i : ℕ) (low : ℕ → ℕ) (g h : Gifts) (x : World) (l : i < 
   pub control_step : (ls : List ControlMessage) → Holds n w low h (put i new x.at) i new
       → (i ≡ 0 → (new.wave ≡ (x.at i).wave) × (new.here ≡ (x.at i).here))
       → (HasGiven w new → (low i ≤ (h.own i).sent) × (h.own i ≡ mine new))
-      → (AllTold n w h (changed i new x.under_way ls x) x.controls → AllTold n w h (changed i new x.under_way ls x) ls)
+      → (AllKnown n w h (changed i new x.under_way ls x) x.controls → AllKnown n w h (changed i new x.under_way ls x) ls)
       → ((a : ControlMessage) → Has x.controls a → Has ls a)
       → Posts n w ls i new
       → Inv n q w low h (changed i new x.under_way ls x)
-  control_step ls own root given told more posts =
+  control_step ls own root given known_of more posts =
       record {
         balance = same_balance;
         each = λ j m.
@@ -76,7 +76,7 @@ module _ (n q w i : ℕ) (low : ℕ → ℕ) (g h : Gifts) (x : World) (l : i < 
               ];
         };
         over = λ j m f. same_ended ls (v.over j m (sym (put_same (λ z. z.over) i j new x.at s.over) ∙ f));
-        controls = told (controls_kept n w i g h x (changed i new x.under_way ls x) new k refl (same_ended ls) x.controls v.controls);
+        controls = known_of (controls_kept n w i g h x (changed i new x.under_way ls x) new k refl (same_ended ls) x.controls v.controls);
         pace =
             pace_kept n q w i g h x new ls l v.pace s.received s.known s.last (λ e. (root e).1) k.own (λ m y. (given y).1);
         posts = λ j m.
@@ -91,10 +91,6 @@ module _ (n q w i : ℕ) (low : ℕ → ℕ) (g h : Gifts) (x : World) (l : i < 
 nothing_taken : (b : Bool) (u : ℕ) → (b ≡ false → u ≡ 0) → taken b u ≡ 0
 nothing_taken true u z = refl
 nothing_taken false u z = z refl
-
-beyond_end : (n m number : ℕ) (i : ℕ) (c : ℕ) (all : ℕ → Counts) → ((c : ℕ) → n ≤ c → all c ≡ none) → n ≤ c
-    → (all c).sent + (all c).received ≡ 0
-beyond_end n m number i c all z l = rw (z c l)
 
 -- how it is at a process when wave w comes
 pub opens_here : (n w i : ℕ) (low : ℕ → ℕ) (g : Gifts) (at : ℕ → EpochState) (p : EpochState) → p.number ≡ i → p.processes ≡ n → 0 < w
@@ -151,7 +147,8 @@ module _ (n q w i : ℕ) (low : ℕ → ℕ) (g : Gifts) (x : World) (l : i < n)
         given = λ y. absurd (cc y.gone);
         here = λ f. rw newest (opens_here n w i low g x.at (x.at i) hold.number hold.processes (omega (arith, newest, next)) v.beyond);
       } in
-      control_step n q w i low g g x l v new k (record { pending = refl; sent = refl; received = refl; over = refl; known = refl; last = refl })
+      control_step n q w i low g g x l v new k
+      (record { pending = refl; sent = refl; received = refl; over = refl; known = refl; last = refl })
       x.controls
       (holds_kept n w i g g x.at new k l low low i new (λ y. (refl, refl)) hold.floor old)
       (λ e. absurd (omega (arith, subst (λ z. (x.at z).wave ≡ w) (sym e) v.root.wave, newest, next)))
@@ -195,7 +192,8 @@ module _ (n q w i : ℕ) (low : ℕ → ℕ) (g : Gifts) (x : World) (l : i < n)
               received = omega (arith, rw waits at z.received, t.received);
             };
       } in
-      control_step n q w i low g g x l v new k (record { pending = refl; sent = refl; received = refl; over = refl; known = refl; last = refl })
+      control_step n q w i low g g x l v new k
+      (record { pending = refl; sent = refl; received = refl; over = refl; known = refl; last = refl })
       x.controls
       (holds_kept n w i g g x.at new k l low low i new (λ y. (refl, refl)) hold.floor old)
       (λ e. (refl, refl))
@@ -238,7 +236,8 @@ module _ (n q w i : ℕ) (low : ℕ → ℕ) (g : Gifts) (x : World) (l : i < n)
               received = omega (arith, rw waits at z.received, t.received);
             };
       } in
-      control_step n q w i low g g x l v new k (record { pending = refl; sent = refl; received = refl; over = refl; known = refl; last = refl })
+      control_step n q w i low g g x l v new k
+      (record { pending = refl; sent = refl; received = refl; over = refl; known = refl; last = refl })
       x.controls
       (holds_kept n w i g g x.at new k l low low i new (λ y. (refl, refl)) hold.floor old)
       (λ e. (refl, refl))

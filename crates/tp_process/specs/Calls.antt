@@ -1,6 +1,7 @@
 -- What each call does to the state of one process in one epoch, and when it is refused. A refused call changes nothing.
-use Rattle.std.specs.Prelude.{ℕ, ◌+◌, ◌-◌, ◌*◌, ◌^◌, ◌/◌, ◌==◌, ◌&&◌, ◌||◌, Bool, true, false, not, nat_lt, if◌then◌else◌, Option}
+use Rattle.std.specs.Prelude.{ℕ, ◌+◌, ◌-◌, ◌*◌, ◌^◌, ◌==◌, ◌&&◌, ◌||◌, Bool, true, false, not, nat_lt, if◌then◌else◌, Option}
 use Rattle.std.specs.Prelude.{Some, None}
+use Rattle.tp_base.specs.Tree.{parent}
 use Rattle.tp_process.specs.declared.control_message.Token.{Token}
 use Rattle.tp_process.specs.declared.control_message.Token.TheVariants.{Down, Up, Over}
 use Rattle.tp_process.specs.declared.control_message.ControlMessage.{ControlMessage}
@@ -8,7 +9,7 @@ use Rattle.tp_process.specs.declared.outcome.Next.{Next}
 use Rattle.tp_process.specs.declared.outcome.Next.TheVariants.{Send, Again, Ended, Nothing}
 use Rattle.tp_process.specs.declared.outcome.Refusal.{Refusal}
 use Rattle.tp_process.specs.declared.outcome.Refusal.TheVariants.{Inactive, Full, NotDue}
-use Rattle.tp_process.specs.declared.epoch_state.EpochState.{EpochState}
+use Rattle.tp_process.specs.State.{EpochState}
 use Rattle.tp_process.specs.declared.epoch_state.TheConstants.{LIMIT}
 
 -- the state at the beginning of an epoch: one piece of work is open
@@ -182,7 +183,7 @@ gives p =
     if p.number == 0 then judges p
     else record {
       state = record p { here = false };
-      next = Send (control p ((p.number - 1) / 2) (Up (p.taken_sent + p.sent) (p.taken_received + p.received)));
+      next = Send (control p (parent p.number) (Up (p.taken_sent + p.sent) (p.taken_received + p.received)));
     }
 
 -- The newest wave is here: it goes down to the children, and after they have reported the process passes it up.

@@ -1,44 +1,49 @@
 -- Which processes are open: those that `new` returned. Every call refuses any other.
-use Rattle.std.specs.Prelude.{ℕ, ◌==◌, ◌≡◌, Bool, true, nat_lt, if◌then◌else◌, List, Option, Some, None, Result, Ok, Err}
+use Rattle.std.specs.Prelude.{ℕ, ◌==◌, ◌≡◌, Bool, true, nat_lt, if◌then◌else◌, List, Option, Some, Result, Ok, Err}
 use Rattle.tp_process.specs.declared.outcome.Next.{Next}
 use Rattle.tp_process.specs.declared.outcome.Refusal.{Refusal}
 use Rattle.tp_process.specs.declared.outcome.Refusal.TheVariants.{NotOpen, NoProcess}
 use Rattle.tp_process.specs.declared.process.Process.{Process}
+use Rattle.tp_process.specs.State.{ProcessState, stored}
 use Rattle.tp_process.specs.declared.process.TheConstants.{MARK}
 use Rattle.tp_process.specs.Calls.{blank, moved}
-use Rattle.tp_process.specs.Epochs.{Occasion, first, passed}
+use Rattle.tp_process.specs.Epochs.{of_epoch, EpochEvent, initial_process, epochs_after}
 
-abbrev pub is_open : Process → Bool
+abbrev pub is_open : ProcessState → Bool
 is_open r = r.mark == MARK
 
 -- what `new` returns
 abbrev pub new_process : ℕ → ℕ → Result Process Refusal
-new_process number processes = if nat_lt number processes then Ok (first number processes) else Err NoProcess
+new_process number processes = if nat_lt number processes then Ok (stored (initial_process number processes)) else Err NoProcess
 
 -- what storage holds before
 abbrev pub unopened : Process
-unopened = record { mark = 0; epoch = 0; state = blank 0 0 }
+unopened = stored (record { mark = 0; epoch = 0; state = blank 0 0 })
 
 -- why a call is refused: first that the process is not open, then the call's own reason
-abbrev pub checked : Process → Option Refusal → Option Refusal
+abbrev pub checked : ProcessState → Option Refusal → Option Refusal
 checked r refusal = if is_open r then refusal else Some NotOpen
 
+-- the same of a call with a message or a control message of an epoch
+abbrev pub checked_in : ℕ → ProcessState → Option Refusal → Option Refusal
+checked_in e r refusal = checked r (of_epoch e r refusal)
+
 -- what a call does to a process: nothing if it is not open
-abbrev pub if_open : Process → Process → Process
+abbrev pub if_open : ProcessState → ProcessState → ProcessState
 if_open r new = if is_open r then new else r
 
-abbrev pub next_of : Process → Result Next Refusal
+abbrev pub next_of : ProcessState → Result Next Refusal
 next_of r = if is_open r then Ok (moved r.state).next else Err NotOpen
 
 -- Every process is open, at all times: no call is refused because it is not.
 abbrev pub OpenLaw : Type 0
-OpenLaw = (n i : ℕ) (all : List Occasion) → is_open ((passed n all).at i) ≡ true
+OpenLaw = (n i : ℕ) (all : List EpochEvent) → is_open ((epochs_after n all).at i) ≡ true
 
 -- On an open process the contracts say no more than the call's own reason, state and result.
-pub record AreOpenCalls (r : Process) : Type 0 where
+pub record AreOpenCalls (r : ProcessState) : Type 0 where
   pub refusals : (refusal : Option Refusal) → checked r refusal ≡ refusal
-  pub states : (new : Process) → if_open r new ≡ new
+  pub states : (new : ProcessState) → if_open r new ≡ new
   pub next : next_of r ≡ Ok (moved r.state).next
 
 abbrev pub OpenCallsLaw : Type 0
-OpenCallsLaw = (n i : ℕ) (all : List Occasion) → AreOpenCalls ((passed n all).at i)
+OpenCallsLaw = (n i : ℕ) (all : List EpochEvent) → AreOpenCalls ((epochs_after n all).at i)

@@ -4,7 +4,7 @@ use Rattle.std.specs.Prelude.{false, IsTrue, IsFalse, length, nat_lt, ifâ—Œthenâ
 use Rattle.tp_process.specs.declared.control_message.ControlMessage.{ControlMessage}
 use Rattle.tp_process.specs.declared.outcome.Next.{Next}
 use Rattle.tp_process.specs.declared.outcome.Next.TheVariants.{Send, Again, Ended}
-use Rattle.tp_process.specs.declared.epoch_state.EpochState.{EpochState}
+use Rattle.tp_process.specs.State.{EpochState}
 use Rattle.tp_process.specs.Calls.{blank, opened, closed, sent, can_send, received, can_receive, took, moved, is_due}
 
 pub record World : Type 0 where

@@ -1,4 +1,4 @@
-//! What one process knows in one epoch, and its calls: its counters, and how far the newest wave has come here.
+//! What one process knows in one epoch, as it is stored, and its calls: its counters, and how far the newest wave has come here.
 
 ghost use Rattle.std.specs.Prelude.{◌≡◌, ◌+◌, not, OnErr};
 ghost use Rattle.std.specs.Result.{result_err};
@@ -6,6 +6,7 @@ ghost use Rattle.tp_process.specs.Calls.{acts, blank, closed, control, ends, giv
 ghost use Rattle.tp_process.specs.Calls.{moved, opened, opens, ready, received, right_of, sent, takes, notifies, took, due};
 ghost use Rattle.tp_process.specs.Calls.{close_refusal, open_refusal, receive_refusal, send_refusal, take_refusal};
 ghost use Rattle.tp_process.specs.Epochs.{has_notified};
+ghost use Rattle.tp_process.specs.State.{is_set, read_state, stored_state};
 
 use crate::control_message::{ControlMessage, Token};
 use crate::outcome::{Next, Refusal};
@@ -14,9 +15,11 @@ use crate::outcome::{Next, Refusal};
 const LIMIT: u64 = 1 << 43;
 
 /// What one process knows in one epoch. The processes form a binary tree: the children of process i are 2i + 1 and 2i + 2.
+///
+/// A flag is a byte, which is set if it is not 0: a C program may write any byte to it.
 #[derive(Clone, Copy, Debug, PartialEq, Eq)]
 #[repr(C)]
-pub struct EpochState {
+pub struct StoredState {
     number: u32,
     processes: u32,
     pending: u64,
@@ -29,27 +32,27 @@ pub struct EpochState {
     taken_received: u64,
     /// At process 0: how much the wave before saw received, and whether there was one (`known`).
     last_received: u64,
-    known: bool,
+    known: u8,
     /// The newest wave is here: the process has not passed it up.
-    here: bool,
+    here: u8,
     /// To which children the wave still has to go down.
-    down_left: bool,
-    down_right: bool,
+    down_left: u8,
+    down_right: u8,
     /// Which children have not reported.
-    up_left: bool,
-    up_right: bool,
+    up_left: u8,
+    up_right: u8,
     /// The process knows the end, and which children it still has to notify.
-    over: bool,
-    over_left: bool,
-    over_right: bool,
+    over: u8,
+    over_left: u8,
+    over_right: u8,
 }
 
-impl EpochState {
+impl StoredState {
     /// Process `number` of `processes` at the beginning of an epoch: one piece of work is open.
-    pub fn new(number: u32, processes: u32) -> EpochState
-        ensures { result ≡ blank number processes }
+    pub fn new(number: u32, processes: u32) -> StoredState
+        ensures { result ≡ stored_state (blank number processes) }
     {
-        EpochState {
+        StoredState {
             number,
             processes,
             pending: 1,
@@ -59,15 +62,15 @@ impl EpochState {
             taken_sent: 0,
             taken_received: 0,
             last_received: 0,
-            known: false,
-            here: false,
-            down_left: false,
-            down_right: false,
-            up_left: false,
-            up_right: false,
-            over: false,
-            over_left: false,
-            over_right: false,
+            known: 0,
+            here: 0,
+            down_left: 0,
+            down_right: 0,
+            up_left: 0,
+            up_right: 0,
+            over: 0,
+            over_left: 0,
+            over_right: 0,
         }
     }
 
@@ -75,8 +78,8 @@ impl EpochState {
     ///
     /// Refused: `Inactive` if none is open; `Full` if 2^43 are.
     pub fn add_work(&mut self) -> Result<(), Refusal>
-        ensures refused { result_err result ≡ open_refusal self.old }
-        ensures state { self.new ≡ opened self.old }
+        ensures refused { result_err result ≡ open_refusal (read_state self.old) }
+        ensures state { read_state self.new ≡ opened (read_state self.old) }
         ensures kept { OnErr result (self.new ≡ self.old) }
     {
         if self.pending == 0 {
@@ -93,8 +96,8 @@ impl EpochState {
     ///
     /// Refused: `Inactive` if none is open.
     pub fn finish_work(&mut self) -> Result<(), Refusal>
-        ensures refused { result_err result ≡ close_refusal self.old }
-        ensures state { self.new ≡ closed self.old }
+        ensures refused { result_err result ≡ close_refusal (read_state self.old) }
+        ensures state { read_state self.new ≡ closed (read_state self.old) }
         ensures kept { OnErr result (self.new ≡ self.old) }
     {
         if self.pending == 0 {
@@ -108,8 +111,8 @@ impl EpochState {
     ///
     /// Refused: `Inactive` if no work is open; `Full` if 2^43 messages were sent.
     pub fn count_sent(&mut self) -> Result<(), Refusal>
-        ensures refused { result_err result ≡ send_refusal self.old }
-        ensures state { self.new ≡ sent self.old }
+        ensures refused { result_err result ≡ send_refusal (read_state self.old) }
+        ensures state { read_state self.new ≡ sent (read_state self.old) }
         ensures kept { OnErr result (self.new ≡ self.old) }
     {
         if self.pending == 0 {
@@ -126,8 +129,8 @@ impl EpochState {
     ///
     /// Refused: `Full` if 2^43 pieces of work are open, or 2^43 messages were received.
     pub fn count_received(&mut self) -> Result<(), Refusal>
-        ensures refused { result_err result ≡ receive_refusal self.old }
-        ensures state { self.new ≡ received self.old }
+        ensures refused { result_err result ≡ receive_refusal (read_state self.old) }
+        ensures state { read_state self.new ≡ received (read_state self.old) }
         ensures kept { OnErr result (self.new ≡ self.old) }
     {
         if self.pending >= LIMIT || self.received >= LIMIT {
@@ -142,8 +145,8 @@ impl EpochState {
     ///
     /// Refused: `NotDue` if it is for another process or of another wave, or was taken before.
     pub fn take(&mut self, message: ControlMessage) -> Result<(), Refusal>
-        ensures refused { result_err result ≡ take_refusal message self.old }
-        ensures state { self.new ≡ took message self.old }
+        ensures refused { result_err result ≡ take_refusal message (read_state self.old) }
+        ensures state { read_state self.new ≡ took message (read_state self.old) }
         ensures kept { OnErr result (self.new ≡ self.old) }
     {
         if message.to != self.number as u64 {
@@ -157,11 +160,11 @@ impl EpochState {
     }
 
     fn take_down(&mut self, wave: u64) -> Result<(), Refusal>
-        ensures refused { result_err result ≡ due (is_down_due wave self.old) }
-        ensures state { self.new ≡ takes 0 wave Token.Down self.old }
+        ensures refused { result_err result ≡ due (is_down_due wave (read_state self.old)) }
+        ensures state { read_state self.new ≡ takes 0 wave Token.Down (read_state self.old) }
         ensures kept { OnErr result (self.new ≡ self.old) }
     {
-        if self.here || self.wave.checked_add(1) != Some(wave) {
+        if self.here != 0 || self.wave.checked_add(1) != Some(wave) {
             return Err(Refusal::NotDue);
         }
         self.visit(wave);
@@ -169,11 +172,11 @@ impl EpochState {
     }
 
     fn take_up(&mut self, from: u64, wave: u64, sent: u64, received: u64) -> Result<(), Refusal>
-        ensures refused { result_err result ≡ due (is_due from wave (Token.Up sent received) self.old) }
-        ensures state { self.new ≡ takes from wave (Token.Up sent received) self.old }
+        ensures refused { result_err result ≡ due (is_due from wave (Token.Up sent received) (read_state self.old)) }
+        ensures state { read_state self.new ≡ takes from wave (Token.Up sent received) (read_state self.old) }
         ensures kept { OnErr result (self.new ≡ self.old) }
     {
-        if !self.here || wave != self.wave {
+        if self.here == 0 || wave != self.wave {
             return Err(Refusal::NotDue);
         }
         let (Some(all_sent), Some(all_received)) = (
@@ -182,10 +185,10 @@ impl EpochState {
         ) else {
             return Err(Refusal::NotDue);
         };
-        if self.up_left && from == self.left() {
-            self.up_left = false;
-        } else if self.up_right && from == self.right() {
-            self.up_right = false;
+        if self.up_left != 0 && from == self.left() {
+            self.up_left = 0;
+        } else if self.up_right != 0 && from == self.right() {
+            self.up_right = 0;
         } else {
             return Err(Refusal::NotDue);
         }
@@ -195,11 +198,11 @@ impl EpochState {
     }
 
     fn take_over(&mut self) -> Result<(), Refusal>
-        ensures refused { result_err result ≡ due (not self.old.over) }
-        ensures state { self.new ≡ takes 0 0 Token.Over self.old }
+        ensures refused { result_err result ≡ due (not (read_state self.old).over) }
+        ensures state { read_state self.new ≡ takes 0 0 Token.Over (read_state self.old) }
         ensures kept { OnErr result (self.new ≡ self.old) }
     {
-        if self.over {
+        if self.over != 0 {
             return Err(Refusal::NotDue);
         }
         self.end();
@@ -207,53 +210,53 @@ impl EpochState {
     }
 
     pub fn pending(&self) -> u64
-        ensures { result ≡ self.now.pending }
+        ensures { result ≡ (read_state self.now).pending }
     {
         self.pending
     }
 
     pub fn sent(&self) -> u64
-        ensures { result ≡ self.now.sent }
+        ensures { result ≡ (read_state self.now).sent }
     {
         self.sent
     }
 
     pub fn received(&self) -> u64
-        ensures { result ≡ self.now.received }
+        ensures { result ≡ (read_state self.now).received }
     {
         self.received
     }
 
     pub fn wave(&self) -> u64
-        ensures { result ≡ self.now.wave }
+        ensures { result ≡ (read_state self.now).wave }
     {
         self.wave
     }
 
     pub fn is_over(&self) -> bool
-        ensures { result ≡ self.now.over }
+        ensures { result ≡ (read_state self.now).over }
     {
-        self.over
+        self.over != 0
     }
 
     /// The process knows the end, and has notified its children.
     pub fn has_notified(&self) -> bool
-        ensures { result ≡ has_notified self.now }
+        ensures { result ≡ has_notified (read_state self.now) }
     {
-        self.over && !self.over_left && !self.over_right
+        self.over != 0 && self.over_left == 0 && self.over_right == 0
     }
 
     /// The process at the beginning of the next epoch.
-    pub fn again(&self) -> EpochState
-        ensures { result ≡ blank self.now.number self.now.processes }
+    pub fn again(&self) -> StoredState
+        ensures { result ≡ stored_state (blank self.now.number self.now.processes) }
     {
-        EpochState::new(self.number, self.processes)
+        StoredState::new(self.number, self.processes)
     }
 
     /// What the process has to do next.
     pub fn next(&mut self) -> Next
-        ensures state { self.new ≡ (moved self.old).state }
-        ensures next { result ≡ (moved self.old).next }
+        ensures state { read_state self.new ≡ (moved (read_state self.old)).state }
+        ensures next { result ≡ (moved (read_state self.old)).next }
     {
         self.start();
         self.act()
@@ -261,9 +264,9 @@ impl EpochState {
 
     /// Process 0 starts the next wave if it is idle and no wave is open.
     fn start(&mut self)
-        ensures { self.new ≡ ready self.old }
+        ensures { read_state self.new ≡ ready (read_state self.old) }
     {
-        if self.number == 0 && !self.over && !self.here && self.pending == 0 {
+        if self.number == 0 && self.over == 0 && self.here == 0 && self.pending == 0 {
             if let Some(wave) = self.wave.checked_add(1) {
                 self.visit(wave);
             }
@@ -271,24 +274,24 @@ impl EpochState {
     }
 
     fn act(&mut self) -> Next
-        ensures state { self.new ≡ (acts self.old).state }
-        ensures next { result ≡ (acts self.old).next }
+        ensures state { read_state self.new ≡ (acts (read_state self.old)).state }
+        ensures next { result ≡ (acts (read_state self.old)).next }
     {
-        if self.over {
+        if self.over != 0 {
             return self.notify();
         }
-        if !self.here {
+        if self.here == 0 {
             return Next::Nothing;
         }
-        if self.down_left {
-            self.down_left = false;
+        if self.down_left != 0 {
+            self.down_left = 0;
             return Next::Send(self.control(self.left(), Token::Down));
         }
-        if self.down_right {
-            self.down_right = false;
+        if self.down_right != 0 {
+            self.down_right = 0;
             return Next::Send(self.control(self.right(), Token::Down));
         }
-        if self.up_left || self.up_right || self.pending > 0 {
+        if self.up_left != 0 || self.up_right != 0 || self.pending > 0 {
             return Next::Nothing;
         }
         match (
@@ -302,15 +305,15 @@ impl EpochState {
 
     /// Notifies the next child of the end.
     fn notify(&mut self) -> Next
-        ensures state { self.new ≡ (notifies self.old).state }
-        ensures next { result ≡ (notifies self.old).next }
+        ensures state { read_state self.new ≡ (notifies (read_state self.old)).state }
+        ensures next { result ≡ (notifies (read_state self.old)).next }
     {
-        if self.over_left {
-            self.over_left = false;
+        if self.over_left != 0 {
+            self.over_left = 0;
             return Next::Send(self.control(self.left(), Token::Over));
         }
-        if self.over_right {
-            self.over_right = false;
+        if self.over_right != 0 {
+            self.over_right = 0;
             return Next::Send(self.control(self.right(), Token::Over));
         }
         Next::Ended
@@ -318,29 +321,29 @@ impl EpochState {
 
     /// Passes the wave up with what this process and all below it have counted; process 0 judges the wave instead.
     fn give(&mut self, sent: u64, received: u64) -> Next
-        requires sent { sent ≡ self.old.taken_sent + self.old.sent }
-        requires received { received ≡ self.old.taken_received + self.old.received }
-        ensures state { self.new ≡ (gives self.old).state }
-        ensures next { result ≡ (gives self.old).next }
+        requires sent { sent ≡ (read_state self.old).taken_sent + (read_state self.old).sent }
+        requires received { received ≡ (read_state self.old).taken_received + (read_state self.old).received }
+        ensures state { read_state self.new ≡ (gives (read_state self.old)).state }
+        ensures next { result ≡ (gives (read_state self.old)).next }
     {
         if self.number == 0 {
             return self.judge(sent, received);
         }
-        self.here = false;
+        self.here = 0;
         Next::Send(self.control((self.number as u64 - 1) / 2, Token::Up(sent, received)))
     }
 
     fn judge(&mut self, sent: u64, received: u64) -> Next
-        requires sent { sent ≡ self.old.taken_sent + self.old.sent }
-        requires received { received ≡ self.old.taken_received + self.old.received }
-        ensures state { self.new ≡ (judges self.old).state }
-        ensures next { result ≡ (judges self.old).next }
+        requires sent { sent ≡ (read_state self.old).taken_sent + (read_state self.old).sent }
+        requires received { received ≡ (read_state self.old).taken_received + (read_state self.old).received }
+        ensures state { read_state self.new ≡ (judges (read_state self.old)).state }
+        ensures next { result ≡ (judges (read_state self.old)).next }
     {
-        if self.known && self.last_received == sent {
+        if self.known != 0 && self.last_received == sent {
             self.end();
         } else {
-            self.here = false;
-            self.known = true;
+            self.here = 0;
+            self.known = 1;
             self.last_received = received;
         }
         Next::Again
@@ -348,41 +351,41 @@ impl EpochState {
 
     /// The process learns of the end.
     fn end(&mut self)
-        ensures { self.new ≡ ends self.old }
+        ensures { read_state self.new ≡ ends (read_state self.old) }
     {
-        self.over = true;
-        self.over_left = self.left() < self.processes as u64;
-        self.over_right = self.right() < self.processes as u64;
+        self.over = 1;
+        self.over_left = flag(self.left() < self.processes as u64);
+        self.over_right = flag(self.right() < self.processes as u64);
     }
 
     /// A wave comes here.
     fn visit(&mut self, wave: u64)
-        ensures { self.new ≡ opens wave self.old }
+        ensures { read_state self.new ≡ opens wave (read_state self.old) }
     {
         self.wave = wave;
-        self.here = true;
+        self.here = 1;
         self.taken_sent = 0;
         self.taken_received = 0;
-        self.down_left = self.left() < self.processes as u64;
-        self.down_right = self.right() < self.processes as u64;
+        self.down_left = flag(self.left() < self.processes as u64);
+        self.down_right = flag(self.right() < self.processes as u64);
         self.up_left = self.down_left;
         self.up_right = self.down_right;
     }
 
     fn left(&self) -> u64
-        ensures { result ≡ left_of self.now }
+        ensures { result ≡ left_of (read_state self.now) }
     {
         2 * self.number as u64 + 1
     }
 
     fn right(&self) -> u64
-        ensures { result ≡ right_of self.now }
+        ensures { result ≡ right_of (read_state self.now) }
     {
         2 * self.number as u64 + 2
     }
 
     fn control(&self, to: u64, token: Token) -> ControlMessage
-        ensures { result ≡ control self.now to token }
+        ensures { result ≡ control (read_state self.now) to token }
     {
         ControlMessage {
             from: self.number as u64,
@@ -391,4 +394,11 @@ impl EpochState {
             token,
         }
     }
+}
+
+/// The byte of a flag.
+fn flag(set: bool) -> u8
+    ensures { is_set result ≡ set }
+{
+    if set { 1 } else { 0 }
 }

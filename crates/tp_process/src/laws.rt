@@ -3,6 +3,7 @@
 ghost use Rattle.tp_process.specs.World.{ControlMessagesLaw, EndedLaw, FewWavesLaw, GoesOnLaw, NeverEarlyLaw, OnceLaw, QuietLaw, SoonLaw};
 ghost use Rattle.tp_process.specs.Epochs.{AheadLaw, CallsLaw, ControlMessagesEpochLaw, EpochLaw, FewWavesEpochLaw, GoesOnEpochLaw, LagsLaw};
 ghost use Rattle.tp_process.specs.Epochs.{LeftEpochLaw, MessageLaw, NearLaw, NeverEarlyEpochLaw, NoneLateLaw, OnceEpochLaw, SoonEpochLaw};
+ghost use Rattle.tp_process.specs.Network.{AllEndLaw, HandedLaw, NeverLateLaw};
 ghost use Rattle.tp_process.specs.Opening.{OpenCallsLaw, OpenLaw};
 
 /// Safety: if a process knows the end, or `next` returns `Ended`, no process has work and no message is under way, whatever the
@@ -76,4 +77,16 @@ pub fn goes_on_each()
 pub fn few_each()
     ensures waves { FewWavesEpochLaw }
     ensures controls { ControlMessagesEpochLaw }
+{}
+
+/// Liveness of all epochs together, over a network that brings each control message once, in any order: if nothing is left to do, all
+/// processes have come to the last epoch and know its end.
+pub fn all_end()
+    ensures ends { AllEndLaw }
+    ensures handed { HandedLaw }
+{}
+
+/// Over a network that brings each control message once, in any order, no control message is refused as `Late`.
+pub fn never_late()
+    ensures { NeverLateLaw }
 {}

@@ -1,14 +1,16 @@
-//! The process that a program holds: the detector's state in the present epoch, the epoch, and a mark that says it is open.
+//! The process that a program holds: the detector's state in the present epoch, the epoch, and a mark that says it is open. Any bytes
+//! are such a struct, and every call is defined for them.
 
 ghost use Rattle.std.specs.Prelude.{◌≡◌, ◌&&◌, None, OnErr};
 ghost use Rattle.std.specs.Result.{result_err};
 ghost use Rattle.tp_process.specs.Calls.{close_refusal, closed, moved, open_refusal, opened};
 ghost use Rattle.tp_process.specs.Calls.{receive_refusal, send_refusal, sent, take_refusal};
-ghost use Rattle.tp_process.specs.Epochs.{becomes, of_epoch, received_in, reopen_refusal, reopened, took_in};
-ghost use Rattle.tp_process.specs.Opening.{checked, if_open, is_open, new_process, next_of, unopened};
+ghost use Rattle.tp_process.specs.Epochs.{with_state, of_epoch, received_in, reopen_refusal, reopened, took_in};
+ghost use Rattle.tp_process.specs.Opening.{checked, checked_in, if_open, is_open, new_process, next_of, unopened};
+ghost use Rattle.tp_process.specs.State.{read};
 
 use crate::control_message::ControlMessage;
-use crate::epoch_state::EpochState;
+use crate::epoch_state::StoredState;
 use crate::outcome::{Next, Refusal};
 
 /// What an open process has in `mark`: `gerfmuod` in ASCII.
@@ -24,7 +26,7 @@ const MARK: u64 = 0x6765_7266_6d75_6f64;
 pub struct Process {
     mark: u64,
     epoch: u64,
-    state: EpochState,
+    state: StoredState,
 }
 
 impl Process {
@@ -40,7 +42,7 @@ impl Process {
         Ok(Process {
             mark: MARK,
             epoch: 0,
-            state: EpochState::new(number, processes),
+            state: StoredState::new(number, processes),
         })
     }
 
@@ -51,55 +53,55 @@ impl Process {
         Process {
             mark: 0,
             epoch: 0,
-            state: EpochState::new(0, 0),
+            state: StoredState::new(0, 0),
         }
     }
 
-    /// The process is open: it comes from `new`.
+    /// The process is open: its mark is the one that `new` gives it.
     pub fn is_open(&self) -> bool
-        ensures { result ≡ is_open self.now }
+        ensures { result ≡ is_open (read self.now) }
     {
         self.mark == MARK
     }
 
     /// The present epoch, from 0.
     pub fn epoch(&self) -> u64
-        ensures { result ≡ self.now.epoch }
+        ensures { result ≡ (read self.now).epoch }
     {
         self.epoch
     }
 
     /// How many pieces of work are open here. The process is idle if there are none.
     pub fn pending(&self) -> u64
-        ensures { result ≡ self.now.state.pending }
+        ensures { result ≡ (read self.now).state.pending }
     {
         self.state.pending()
     }
 
     /// How many messages were counted as sent in this epoch.
     pub fn sent(&self) -> u64
-        ensures { result ≡ self.now.state.sent }
+        ensures { result ≡ (read self.now).state.sent }
     {
         self.state.sent()
     }
 
     /// How many messages were counted as received in this epoch.
     pub fn received(&self) -> u64
-        ensures { result ≡ self.now.state.received }
+        ensures { result ≡ (read self.now).state.received }
     {
         self.state.received()
     }
 
     /// The number of the newest wave that came here in this epoch, from 1; 0 before the first.
     pub fn wave(&self) -> u64
-        ensures { result ≡ self.now.state.wave }
+        ensures { result ≡ (read self.now).state.wave }
     {
         self.state.wave()
     }
 
     /// The process knows that this epoch has terminated: no process has work, and no message is under way.
     pub fn is_over(&self) -> bool
-        ensures { result ≡ is_open self.now && self.now.state.over }
+        ensures { result ≡ is_open (read self.now) && (read self.now).state.over }
     {
         self.mark == MARK && self.state.is_over()
     }
@@ -108,8 +110,8 @@ impl Process {
     ///
     /// Refused: `NotOpen`; `Inactive` if no work is open; `Full` if 2^43 pieces are.
     pub fn add_work(&mut self) -> Result<(), Refusal>
-        ensures refused { result_err result ≡ checked self.old (open_refusal self.old.state) }
-        ensures state { self.new ≡ if_open self.old (becomes self.old (opened self.old.state)) }
+        ensures refused { result_err result ≡ checked (read self.old) (open_refusal (read self.old).state) }
+        ensures state { read self.new ≡ if_open (read self.old) (with_state (read self.old) (opened (read self.old).state)) }
         ensures kept { OnErr result (self.new ≡ self.old) }
     {
         self.check_open()?;
@@ -120,8 +122,8 @@ impl Process {
     ///
     /// Refused: `NotOpen`; `Inactive` if no work is open.
     pub fn finish_work(&mut self) -> Result<(), Refusal>
-        ensures refused { result_err result ≡ checked self.old (close_refusal self.old.state) }
-        ensures state { self.new ≡ if_open self.old (becomes self.old (closed self.old.state)) }
+        ensures refused { result_err result ≡ checked (read self.old) (close_refusal (read self.old).state) }
+        ensures state { read self.new ≡ if_open (read self.old) (with_state (read self.old) (closed (read self.old).state)) }
         ensures kept { OnErr result (self.new ≡ self.old) }
     {
         self.check_open()?;
@@ -132,8 +134,8 @@ impl Process {
     ///
     /// Refused: `NotOpen`; `Inactive` if no work is open; `Full` if 2^43 messages were sent.
     pub fn count_sent(&mut self) -> Result<(), Refusal>
-        ensures refused { result_err result ≡ checked self.old (send_refusal self.old.state) }
-        ensures state { self.new ≡ if_open self.old (becomes self.old (sent self.old.state)) }
+        ensures refused { result_err result ≡ checked (read self.old) (send_refusal (read self.old).state) }
+        ensures state { read self.new ≡ if_open (read self.old) (with_state (read self.old) (sent (read self.old).state)) }
         ensures kept { OnErr result (self.new ≡ self.old) }
     {
         self.check_open()?;
@@ -146,8 +148,8 @@ impl Process {
     /// Refused: `NotOpen`; `NotYet` if its epoch is later: keep the message, and count it again after `reopen`; `Late` if its epoch is
     /// older, which no counted message is; `Full` if 2^43 pieces of work are open, or 2^43 messages were received.
     pub fn count_received(&mut self, epoch: u64) -> Result<(), Refusal>
-        ensures refused { result_err result ≡ checked self.old (of_epoch epoch self.old (receive_refusal self.old.state)) }
-        ensures state { self.new ≡ if_open self.old (received_in epoch self.old) }
+        ensures refused { result_err result ≡ checked_in epoch (read self.old) (receive_refusal (read self.old).state) }
+        ensures state { read self.new ≡ if_open (read self.old) (received_in epoch (read self.old)) }
         ensures kept { OnErr result (self.new ≡ self.old) }
     {
         self.check_open()?;
@@ -157,8 +159,8 @@ impl Process {
 
     /// `count_sent` by its name in the monitor.
     pub fn outgoing_message_start(&mut self) -> Result<(), Refusal>
-        ensures refused { result_err result ≡ checked self.old (send_refusal self.old.state) }
-        ensures state { self.new ≡ if_open self.old (becomes self.old (sent self.old.state)) }
+        ensures refused { result_err result ≡ checked (read self.old) (send_refusal (read self.old).state) }
+        ensures state { read self.new ≡ if_open (read self.old) (with_state (read self.old) (sent (read self.old).state)) }
         ensures kept { OnErr result (self.new ≡ self.old) }
     {
         self.count_sent()
@@ -166,8 +168,8 @@ impl Process {
 
     /// `count_received` by its name in the monitor.
     pub fn incoming_message_start(&mut self, epoch: u64) -> Result<(), Refusal>
-        ensures refused { result_err result ≡ checked self.old (of_epoch epoch self.old (receive_refusal self.old.state)) }
-        ensures state { self.new ≡ if_open self.old (received_in epoch self.old) }
+        ensures refused { result_err result ≡ checked_in epoch (read self.old) (receive_refusal (read self.old).state) }
+        ensures state { read self.new ≡ if_open (read self.old) (received_in epoch (read self.old)) }
         ensures kept { OnErr result (self.new ≡ self.old) }
     {
         self.count_received(epoch)
@@ -175,8 +177,8 @@ impl Process {
 
     /// `finish_work` by its name in the monitor: the piece of work that the message opened is done.
     pub fn incoming_message_end(&mut self) -> Result<(), Refusal>
-        ensures refused { result_err result ≡ checked self.old (close_refusal self.old.state) }
-        ensures state { self.new ≡ if_open self.old (becomes self.old (closed self.old.state)) }
+        ensures refused { result_err result ≡ checked (read self.old) (close_refusal (read self.old).state) }
+        ensures state { read self.new ≡ if_open (read self.old) (with_state (read self.old) (closed (read self.old).state)) }
         ensures kept { OnErr result (self.new ≡ self.old) }
     {
         self.finish_work()
@@ -187,8 +189,8 @@ impl Process {
     /// Refused: `NotOpen`; `NotYet` if its epoch is later: keep it, and take it again after `reopen`; `Late` if its epoch is older;
     /// `NotDue` if it is for another process or of another wave, or was taken before.
     pub fn take(&mut self, epoch: u64, message: ControlMessage) -> Result<(), Refusal>
-        ensures refused { result_err result ≡ checked self.old (of_epoch epoch self.old (take_refusal message self.old.state)) }
-        ensures state { self.new ≡ if_open self.old (took_in epoch message self.old) }
+        ensures refused { result_err result ≡ checked_in epoch (read self.old) (take_refusal message (read self.old).state) }
+        ensures state { read self.new ≡ if_open (read self.old) (took_in epoch message (read self.old)) }
         ensures kept { OnErr result (self.new ≡ self.old) }
     {
         self.check_open()?;
@@ -201,8 +203,9 @@ impl Process {
     ///
     /// Refused: `NotOpen`.
     pub fn next(&mut self) -> Result<Next, Refusal>
-        ensures next { result ≡ next_of self.old }
-        ensures state { self.new ≡ if_open self.old (becomes self.old (moved self.old.state).state) }
+        ensures next { result ≡ next_of (read self.old) }
+        ensures state { read self.new ≡ if_open (read self.old) (with_state (read self.old) (moved (read self.old).state).state) }
+        ensures kept { OnErr result (self.new ≡ self.old) }
     {
         self.check_open()?;
         Ok(self.state.next())
@@ -212,8 +215,8 @@ impl Process {
     ///
     /// Refused: `NotOpen`; `NotEnded` if `next` has not returned `Ended`; `Full` in epoch 2^64 - 1.
     pub fn reopen(&mut self) -> Result<(), Refusal>
-        ensures refused { result_err result ≡ checked self.old (reopen_refusal self.old) }
-        ensures state { self.new ≡ if_open self.old (reopened self.old) }
+        ensures refused { result_err result ≡ checked (read self.old) (reopen_refusal (read self.old)) }
+        ensures state { read self.new ≡ if_open (read self.old) (reopened (read self.old)) }
         ensures kept { OnErr result (self.new ≡ self.old) }
     {
         self.check_open()?;
@@ -229,7 +232,7 @@ impl Process {
     }
 
     fn check_open(&self) -> Result<(), Refusal>
-        ensures { result_err result ≡ checked self.now None }
+        ensures { result_err result ≡ checked (read self.now) None }
     {
         if self.mark == MARK {
             Ok(())
@@ -239,7 +242,7 @@ impl Process {
     }
 
     fn check_epoch(&self, epoch: u64) -> Result<(), Refusal>
-        ensures { result_err result ≡ of_epoch epoch self.now None }
+        ensures { result_err result ≡ of_epoch epoch (read self.now) None }
     {
         if epoch == self.epoch {
             Ok(())

@@ -3,19 +3,13 @@ use Rattle.std.proofs.Common.{◌≡◌, ◌≢◌, ◌∙◌, ap, subst, inl, i
 use Rattle.clap.specs.Faults.{fault_of, is_simple_and_free}
 use Rattle.clap.specs.Kinds.{HasKind, IsAmong}
 use Rattle.clap.specs.Values.{kind_of}
-use Rattle.clap.specs.Words.{App, HasMatchesOf, Text, found_of, is_simple, matches_of, rows_of}
+use Rattle.clap.specs.Words.{App, Text}
 use Rattle.clap.specs.declared.error.Error.{Error}
 use Rattle.clap.specs.declared.error.kind.ErrorKind.{ErrorKind}
 use Rattle.clap.specs.declared.error.kind.ErrorKind.TheVariants.{OutOfMemory}
-use Rattle.clap.specs.declared.parser.matches.ArgMatches.{ArgMatches}
 use Rattle.tp_shell.specs.Command.{AreAtFault, AsksToBeShown, FailsAs, IsMetBy, IsToBeShown, IsWordsFault}
 use Rattle.tp_shell.specs.declared.words.WordsFault.{WordsFault}
 use Rattle.tp_shell.specs.declared.words.WordsFault.TheVariants as faults
-
--- what was found is what the words ask for
-pub rows_asked : (asked app : App) (words : List Text) (m : ArgMatches) → is_simple asked ≡ true → app ≡ asked → HasMatchesOf app words m
-    → rows_of (found_of m) ≡ matches_of asked words
-rows_asked asked app words m simple is has = (has (ap is_simple is ∙ simple)).0 ∙ ap (λ (a : App). matches_of a words) is
 
 -- why a parse fails
 pub fails_as : (asked app : App) (missing : ErrorKind) (Lacks : Type 0) (words : List Text) (e : Error) → is_simple_and_free asked ≡ true
@@ -34,26 +28,26 @@ module _ (app : App) (missing : ErrorKind) (Lacks : Type 0) (words : List Text) 
   shown_asked hidden (inr (inl among)) (inr version) = inr (subst (λ (k : ErrorKind). IsAmong k (fault_of app words)) version among)
   shown_asked hidden (inr (inr lacks)) shown = absurd (hidden (subst IsToBeShown lacks.0 shown))
 
-  -- what is neither shown nor want of memory is a fault of the words
+  -- what is neither shown nor an allocation failure is a fault of the arguments
   pub at_fault : FailsAs app missing Lacks words kind → kind ≢ OutOfMemory → ¬ IsToBeShown kind → AreAtFault app Lacks words
   at_fault (inl no_memory) other unasked = absurd (other no_memory)
   at_fault (inr (inl among)) other unasked = inl (kind, unasked, among)
   at_fault (inr (inr lacks)) other unasked = inr lacks.1
 
-  -- what is met where words fail by this kind
+  -- the fault if arguments fail with this kind
   pub words_fault : (fault : WordsFault) → ¬ IsToBeShown missing → FailsAs app missing Lacks words kind → IsMetBy kind fault
       → IsWordsFault app Lacks words fault
   words_fault (faults.Words text) hidden fails met = at_fault fails met.0 met.1
   words_fault faults.Memory hidden fails met = met
   words_fault faults.Write hidden fails met = shown_asked hidden fails met
 
--- what is met where words are at fault
+-- the fault if arguments are at fault
 pub met_else : (kind : ErrorKind) (fault : WordsFault) → fault ≢ faults.Write → kind ≢ OutOfMemory → ¬ IsToBeShown kind → IsMetBy kind fault
 met_else kind (faults.Words text) other memory hidden = (memory, hidden)
 met_else kind faults.Memory other memory hidden = tt
 met_else kind faults.Write other memory hidden = absurd (other refl)
 
--- what holds of nothing that was found
+-- what holds if nothing was found
 pub none_asked : {X : Type 0} (o : Option X) (P : Type 0) (Q : X → Type 0) → o ≡ None → MatchOption o P Q → P
 none_asked None P Q is p = p
 none_asked (Some x) P Q is p = cc

@@ -15,15 +15,3 @@ is_fault Done is = cc
 is_fault Fault is = refl
 is_fault Refused is = cc
 is_fault Failed is = cc
-
-pub is_refused : (s : Status) → code_of s ≡ 2 → s ≡ Refused
-is_refused Done is = cc
-is_refused Fault is = cc
-is_refused Refused is = refl
-is_refused Failed is = cc
-
-pub is_failed : (s : Status) → code_of s ≡ 3 → s ≡ Failed
-is_failed Done is = cc
-is_failed Fault is = cc
-is_failed Refused is = cc
-is_failed Failed is = refl

@@ -1,4 +1,4 @@
--- What was written and told.
+-- What was written and printed.
 use Rattle.std.proofs.Common.{◌∙◌, ℕ, true, false, true≢false, List, Option, Some, None, Result, Ok, Err, OnOk, IfSome, sym}
 use Rattle.std.specs.Io.KnownBytes.{Appends, Keeps}
 use Rattle.tp_shell.specs.Streams.{IsToldTo}
@@ -10,12 +10,12 @@ appends_kept (Some xs) None new text wrote kept = absurd wrote
 appends_kept (Some xs) (Some ys) None text wrote kept = absurd kept
 appends_kept (Some xs) (Some ys) (Some zs) text wrote kept = kept ∙ wrote
 
--- what holds, holds where there is a value
+-- what holds, holds if there is a value
 pub on_ok : {T E P : Type 0} (r : Result T E) → P → OnOk r P
 on_ok (Ok x) p = p
 on_ok (Err e) p = tt
 
--- a text that was tried to be written was told
+-- a text that the program tried to write was printed
 pub told : {T E : Type 0} (text : Option (List ℕ)) (r : Result T E) (old new : Option (List ℕ)) → OnOk r (IfSome text (Appends old new))
     → IfSome text (IsToldTo old new)
 told None r old new wrote = tt

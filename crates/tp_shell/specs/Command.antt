@@ -1,5 +1,5 @@
--- The options of a pool as plain data, and what the words of a command line ask for. Of a parse clap says what it finds for each
--- argument, and by which faults it fails, as functions of the command and the words.
+-- The options of a pool as plain data, and what arguments ask for. What clap finds for each argument, and why a parse fails, are
+-- functions of the command and the arguments.
 use Rattle.std.specs.Prelude.{ℕ, ◌≡◌, ◌<◌, ◌≤◌, ◌^◌, ◌⊎◌, List, [], ◌∷◌, Some, pos, true, codes}
 use Rattle.std.specs.Str.Parse.{IsNumeral, without_leading_plus, digits_value}
 use Rattle.tp_base.specs.declared.limits.TheConstants.{MAX_NODES, MAX_WORKERS}
@@ -12,7 +12,7 @@ use Rattle.clap.specs.declared.error.kind.ErrorKind.TheVariants.{DisplayHelp, Di
 use Rattle.tp_shell.specs.declared.words.WordsFault.{WordsFault}
 use Rattle.tp_shell.specs.declared.words.WordsFault.TheVariants as faults
 
--- an option that takes a number from 1 to so many, and is 1 where it is left out
+-- an option that takes a number from 1 to `most`, and is 1 if it is left out
 abbrev pub count_rule : Text → ℕ → Rule
 count_rule name most = record (new_rule name) {
   long = Some name;
@@ -30,53 +30,54 @@ with_version a = record a { top = record a.top { has_version = true } }
 
 -- ---- what was found for the options
 
--- Where the option's text spells a number from 1 to so many, that is this one.
+-- If the option's text is a number in that range, this is that number.
 abbrev pub IsCount : ℕ → Text → List Row → ℕ → Type 0
 IsCount most name rows k = (t : Text) → one_of name rows ≡ Some t → IsNumeral 10 (without_leading_plus t)
     → 1 ≤ digits_value 10 (without_leading_plus t) → digits_value 10 (without_leading_plus t) ≤ most
     → k ≡ digits_value 10 (without_leading_plus t)
 
--- at so many nodes with so many workers
+-- this many nodes with this many workers
 abbrev pub AreCountsIn : List Row → ℕ → ℕ → Type 0
 AreCountsIn rows nodes workers = IsCount MAX_NODES (codes "nodes") rows nodes × IsCount MAX_WORKERS (codes "workers") rows workers
 
 -- ---- what was found for the arguments
 
--- The word of the argument of this name spells this number.
+-- The argument of this name is this number.
 abbrev pub IsNumberOf : Text → List Row → ℕ → Type 0
 IsNumberOf name rows n = (t : Text) × (one_of name rows ≡ Some t) × IsNumeral 10 (without_leading_plus t)
     × (n ≡ digits_value 10 (without_leading_plus t))
 
--- The argument of this name has no word that spells a number of so many bits.
+-- The argument of this name is no number of this many bits.
 abbrev pub LacksNumber : ℕ → Text → List Row → Type 0
 LacksNumber bits name rows = (n : ℕ) → n < 2 ^ bits → ¬ IsNumberOf name rows n
 
--- ---- words that make no request
+-- ---- arguments that make no request
 
 -- help or the version is to be shown
 abbrev pub IsToBeShown : ErrorKind → Type 0
 IsToBeShown kind = (kind ≡ DisplayHelp) ⊎ (kind ≡ DisplayVersion)
 
--- The words ask for help or for the version.
+-- The arguments ask for help or for the version.
 abbrev pub AsksToBeShown : App → List Text → Type 0
 AsksToBeShown app words = IsAmong DisplayHelp (fault_of app words) ⊎ IsAmong DisplayVersion (fault_of app words)
 
--- The words make no request by this kind: there was no memory; or it is among the faults of the words; or it is the one for what
--- the program itself finds them to lack.
+-- The arguments make no request, and fail with this kind: an allocation failed; or it is among the faults of the arguments; or it
+-- is the one for what the program itself finds missing.
 abbrev pub FailsAs : App → ErrorKind → Type 0 → List Text → ErrorKind → Type 0
 FailsAs app missing Lacks words kind = (kind ≡ OutOfMemory) ⊎ (IsAmong kind (fault_of app words) ⊎ ((kind ≡ missing) × Lacks))
 
--- The words are at fault: of their faults one asks for neither help nor the version, or they lack what the program itself wants.
+-- The arguments are at fault: one of their faults asks for neither help nor the version, or something is missing that the program
+-- itself requires.
 abbrev pub AreAtFault : App → Type 0 → List Text → Type 0
 AreAtFault app Lacks words = ((kind : ErrorKind) × ¬ IsToBeShown kind × IsAmong kind (fault_of app words)) ⊎ Lacks
 
--- what is met where words fail by this kind, and the parser's own text is to be shown or told
+-- the fault if arguments fail with this kind, and the parser's own text is to be shown or printed
 abbrev pub IsMetBy : ErrorKind → WordsFault → Type 0
 IsMetBy kind (faults.Words text) = ¬ (kind ≡ OutOfMemory) × ¬ IsToBeShown kind
 IsMetBy kind faults.Memory = Unit {0}
 IsMetBy kind faults.Write = IsToBeShown kind
 
--- why words make no request, and nothing is shown for them
+-- why arguments make no request, and nothing is shown for them
 abbrev pub IsWordsFault : App → Type 0 → List Text → WordsFault → Type 0
 IsWordsFault app Lacks words (faults.Words text) = AreAtFault app Lacks words
 IsWordsFault app Lacks words faults.Memory = Unit {0}

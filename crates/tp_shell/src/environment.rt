@@ -1,3 +1,4 @@
+//! The arguments of the command line.
 ghost use Rattle.std.specs.Prelude.{◌≡◌, ◌≢◌};
 
 use crate::status::Status;
@@ -5,8 +6,8 @@ use std::alloc::{AllocError, Global};
 use std::env::{self, Env};
 use std::io::ErrorKind;
 
-/// The words of the command line, the program's own name first. Refused with `OutOfMemory` where there is no memory for them, and
-/// with another kind where one of them is not UTF-8.
+/// Returns the arguments of the command line, beginning with the program's own name. Refused with `OutOfMemory` if
+/// there is no memory for them, and with another kind if an argument is not UTF-8.
 pub fn arguments<R: Env + AllocGlobal>(rt: &R) -> Result<Vec<String>, ErrorKind> {
     match env::args(rt) {
         Ok(arguments) => arguments
@@ -16,7 +17,7 @@ pub fn arguments<R: Env + AllocGlobal>(rt: &R) -> Result<Vec<String>, ErrorKind>
     }
 }
 
-/// The same words, lent.
+/// Returns the arguments as borrowed texts. Refused if an allocation fails.
 pub fn words_of(alloc: Global, arguments: &[String]) -> Result<Vec<&str>, AllocError> {
     let mut words = Vec::with_capacity(alloc, arguments.len())?;
     for argument in arguments {
@@ -25,8 +26,8 @@ pub fn words_of(alloc: Global, arguments: &[String]) -> Result<Vec<&str>, AllocE
     Ok(words)
 }
 
-/// What is told, and the exit status, where the words of the command line could not be had: memory was refused, or one of them
-/// is not UTF-8. What is told of both is the caller's.
+/// Returns the error line and the exit status for arguments that could not be read: an allocation failed, or one of
+/// them is not UTF-8. The caller gives the line for each of the two.
 pub fn without_words(
     fault: ErrorKind,
     no_memory: &'static str,

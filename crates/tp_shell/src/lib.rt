@@ -1,4 +1,5 @@
-//! What programs of the command line share: the options of a pool, what is told of a fault, and the exit statuses.
+//! What the command-line programs share: the options of a pool, error lines, input and output, and exit statuses. What
+//! each program does is not here.
 #![tactic(auto)]
 
 mod diagnostics;

@@ -1,3 +1,4 @@
+//! The options of a pool: its numbers of nodes and workers.
 ghost use Rattle.std.specs.Prelude.{◌≡◌, ◌≤◌, IfOk, List, Some, ℕ, false};
 ghost use Rattle.std.specs.Str.Parse.{IsNumeral, digits_value, without_leading_plus};
 ghost use Rattle.clap.specs.Words.{app_of, found_of, one_text, rows_of, rule_of};
@@ -13,7 +14,7 @@ use tp_work::Config;
 /// The version of the programs.
 pub static VERSION: &str = "0.1.0";
 
-/// The command with the options that say how many nodes and workers there are.
+/// Returns the command with the options for the numbers of nodes and workers. Refused if an allocation fails.
 pub fn with_counts<'a>(alloc: Global, command: Command<'a>) -> Result<Command<'a>, AllocError>
     ensures app { IfOk result (λ counted. app_of counted ≡ with_count_rules (app_of command.entry)) }
     ensures local { (out-Command command.entry).has_globals ≡ false → IfOk result (λ counted. (out-Command counted).has_globals ≡ false) }
@@ -25,8 +26,8 @@ pub fn with_counts<'a>(alloc: Global, command: Command<'a>) -> Result<Command<'a
     command.arg(nodes)?.arg(workers)
 }
 
-/// An option that takes a number from 1 to so many. Its value is named by that range, so that a complaint of any other word
-/// says what is wanted.
+/// Returns an option that takes a number from 1 to `most`. The name of its value is that range, so that an error line
+/// for any other argument shows what is allowed.
 pub fn count_option<'a>(alloc: Global, name: &'a str, range: &'a str, most: u32) -> Arg<'a>
     ensures rule { rule_of result ≡ count_rule name.entry.now most }
     ensures local { result.global ≡ false }
@@ -38,7 +39,8 @@ pub fn count_option<'a>(alloc: Global, name: &'a str, range: &'a str, most: u32)
         .default_value("1")
 }
 
-/// How pools run: at so many nodes and with so many workers as the words ask for, as patient as [`Config::new`] makes them.
+/// Returns how pools run: with the numbers of nodes and workers of the arguments, and the default limit of idle turns
+/// of [`Config::new`].
 pub fn config_of(matches: &ArgMatches) -> Config
     ensures limits { IsWithinLimits result }
     ensures asked { AreCountsIn (rows_of (found_of matches.now)) result.nodes result.workers }
@@ -49,11 +51,11 @@ pub fn config_of(matches: &ArgMatches) -> Config
     Config::new(nodes, workers)
 }
 
-/// The value of an option that takes a number from 1 to so many. The parser has let no other through.
+/// Returns the value of an option that takes a number from 1 to `most`. The parser has refused all others.
 pub fn count_of(matches: &ArgMatches, id: &str, most: u32) -> u32
     requires { 1 ≤ most }
     ensures range { (1 ≤ result) × (result ≤ most) }
-    // Where the option's text spells a number in that range, it is that number.
+    // If the option's text is a number in that range, it is that number.
     ensures asked { (t : List ℕ) → one_text (found_of matches.now) id.now ≡ Some t → IsNumeral 10 (without_leading_plus t)
         → 1 ≤ digits_value 10 (without_leading_plus t) → digits_value 10 (without_leading_plus t) ≤ most
         → result ≡ digits_value 10 (without_leading_plus t) }

@@ -1,21 +1,22 @@
+//! The exit statuses.
 ghost use Rattle.std.specs.Prelude.{◌≡◌, ◌≤◌};
 ghost use Rattle.tp_shell.specs.Statuses.{code_of};
 
 /// The exit status of a program.
 #[derive(Clone, Copy, Debug, PartialEq, Eq)]
 pub enum Status {
-    /// It is done, or help or the version was asked for.
+    /// The program is done, or help or the version was asked for.
     Done,
-    /// The words of the command line, the reading or the writing are at fault.
+    /// The arguments, the reading or the writing failed.
     Fault,
-    /// What was read is refused.
+    /// The input is refused.
     Refused,
-    /// A run was refused, or memory was.
+    /// A run was refused, or an allocation failed.
     Failed,
 }
 
 impl Status {
-    /// The number that the system is told: 0 to 3, in the order above.
+    /// Returns the number for the operating system: 0 `Done`, 1 `Fault`, 2 `Refused`, 3 `Failed`.
     pub fn code(self) -> u8
         ensures range { result ≤ 3 }
         ensures value { result ≡ code_of self }

@@ -1,3 +1,4 @@
+//! Reading all of an input, and writing a text.
 ghost use Rattle.std.specs.Prelude.{◌≡◌, ℕ, List, MatchResult, OnOk, ⊤};
 ghost use Rattle.std.specs.Io.KnownBytes.{Appends};
 ghost use Rattle.tp_shell.specs.Streams.{ReadsAll};
@@ -5,33 +6,33 @@ ghost use Rattle.tp_shell.specs.Streams.{ReadsAll};
 use std::alloc::Global;
 use std::io::{self, ErrorKind, Read, Write};
 
-/// Why not all was read.
+/// Why the input was not read to its end.
 #[derive(Clone, Copy, Debug, PartialEq, Eq)]
 pub enum ReadFault {
     /// The reader failed.
     Failed,
-    /// There was no memory for what was read.
+    /// An allocation failed.
     Memory,
 }
 
-/// What a program reads, as standard input is.
+/// An input of a program, such as standard input.
 ///
-/// In code that is generic over it, that all was read, or that not all could be, is known by a call of `read_all` alone.
+/// In code that is generic over it, only a call of `read_all` shows that all was read, or that it could not be.
 pub trait Source {
     ghost use Rattle.tp_shell.specs.declared.streams.ReadFault.{ReadFault};
 
-    // Relates what was there before, bytes, and what is there after all was read and these were all there were.
+    // Relates the input before, bytes, and the input after all was read and these were all there were.
     ghost gives: { Self → List ℕ → Self → Type 0 };
 
-    // Relates what was there before, a fault, and what is there after not all could be read, by this fault.
+    // Relates the input before, a fault, and the input after reading failed with this fault.
     ghost fails: { Self → ReadFault → Self → Type 0 };
 
-    /// Reads all there is.
+    /// Reads the input to its end, and returns its bytes.
     fn read_all(&mut self, alloc: Global) -> Result<Vec<u8>, ReadFault>
         ensures { MatchResult result (λ bytes. gives self.old bytes.items self.new) (λ fault. fails self.old fault self.new) };
 }
 
-// Of a reader that failed nothing is known.
+// Nothing is known of a reader that failed.
 impl<I: Read> Source for I {
     ghost gives = { λ old bytes new. ReadsAll (I.remaining old) (I.remaining new) bytes };
 
@@ -46,7 +47,7 @@ impl<I: Read> Source for I {
     }
 }
 
-/// Why not all was read, where the reader failed by this kind of error.
+/// Returns the fault for this kind of error.
 fn read_fault(kind: ErrorKind) -> ReadFault
     ensures memory { kind ≡ ErrorKind.OutOfMemory → result ≡ ReadFault.Memory }
     ensures other { result ≡ ReadFault.Memory → kind ≡ ErrorKind.OutOfMemory }

@@ -1,3 +1,4 @@
+//! What happens if arguments make no request: help or the version is shown, or they are at fault.
 ghost use Rattle.std.specs.Prelude.{◌≡◌, ◌≢◌, IfErr, OnOk};
 ghost use Rattle.clap.specs.Values.{kind_of};
 ghost use Rattle.tp_shell.specs.Command.{IsMetBy, IsToBeShown};
@@ -8,18 +9,18 @@ use clap::error::ErrorKind;
 use std::alloc::{AllocError, Global};
 use std::io::{self, Write};
 
-/// Why words make no request, and nothing is shown for them.
+/// Why arguments make no request, and nothing is shown for them.
 #[derive(Drop)]
 pub enum WordsFault {
-    /// They are at fault. This is what the parser says of it, but for the line feed at its end.
+    /// The arguments are at fault. This is the parser's message, without the line feed at its end.
     Words(String),
-    /// There was no memory for them.
+    /// An allocation failed.
     Memory,
     /// Help or the version was asked for, and could not be written.
     Write,
 }
 
-/// Shows help or the version where the words asked for it, and else answers what is wrong with them.
+/// Shows help or the version if the arguments asked for it, and else returns what is wrong with them.
 pub fn show<O: Write>(alloc: Global, error: &Error, out: &mut O) -> Result<(), WordsFault>
     ensures shown { OnOk result (IsToBeShown (kind_of error.now) × HasShown (O.contents out.old) (O.contents out.new)) }
     ensures why { IfErr result (IsMetBy (kind_of error.now)) }
@@ -49,7 +50,7 @@ fn show_text<O: Write>(alloc: Global, error: &Error, out: &mut O) -> Result<(), 
     }
 }
 
-/// What is wrong with the words.
+/// Returns what is wrong with the arguments.
 fn words_fault(alloc: Global, error: &Error) -> WordsFault
     ensures { result ≢ WordsFault.Write }
 {
@@ -59,7 +60,7 @@ fn words_fault(alloc: Global, error: &Error) -> WordsFault
     }
 }
 
-/// The parser's own text, but for the line feed at its end.
+/// Returns the parser's message, without the line feed at its end.
 fn text_of(alloc: Global, error: &Error) -> Result<String, AllocError> {
     let mut text = format!(in alloc; "{error}")?;
     if text.ends_with('\n') {
@@ -68,7 +69,7 @@ fn text_of(alloc: Global, error: &Error) -> Result<String, AllocError> {
     Ok(text)
 }
 
-/// Writes a text as a line.
+/// Writes a text and a line feed.
 fn write_line<O: Write>(out: &mut O, text: &str) -> io::Result<()>
     ensures { OnOk result (HasShown (O.contents out.old) (O.contents out.new)) }
 {

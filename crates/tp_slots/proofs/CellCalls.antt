@@ -1,5 +1,5 @@
--- How a call on raw cells meets its contract: what it is given, and what it has to leave. Assumes `Logic`.
--- docs/PROOFS-OF-CELLS.md tells how such a proof goes, step by step.
+-- How a call on raw cells meets its contract: what it gets, and what it has to leave. Assumes `Logic`. docs/PROOFS-OF-CELLS.md
+-- explains such a proof step by step.
 use mathlib.Core.Path.{◌≡◌}
 use Prim.Native.Nat.{ℕ}
 use mathlib.Core.List.{List, [], ◌∷◌}
@@ -60,7 +60,7 @@ module _ {n : ℕ} where
     all_gone [] ks u = tt
     all_gone (s ∷ ss) ks u = (Goes-blank 𝓛 n s ks.0 u.0, all_gone ss ks.1 u.1)
 
-    -- and what the call has left of them is had for nothing
+    -- and what the call has left of them is obtained without any
     nothing_left : (ss : List (Slot n)) (ks : Kepts ss) (κs : Lfts n) (a : Denots (types_at ss κs)) (ws : Fins κs ss ks a)
         (vss : Valss (types_at ss κs)) → ent 𝓤 (emp 𝓤) (sem 𝓛 (has_of κs ss ks (let_go ss ks) a ws vss))
     nothing_left [] ks κs a ws vss = id⊢ 𝓤 (emp 𝓤)
@@ -68,8 +68,8 @@ module _ {n : ℕ} where
         let rest : SProp 𝓤 = sem 𝓛 (has_of κs ss ks.1 (let_go ss ks.1) a.1 ws.1 vss.1) in
         via 𝓤 rest (nothing_left ss ks.1 κs a.1 ws.1 vss.1) (emp∗ 𝓤 rest)
 
--- The contract of a call that gives no argument back is met, once its walk is shown. The walk is given what the tokens,
--- the arguments' types and the `requires` own, and has to leave the tokens, the result and the `ensures`.
+-- The contract of a call that returns no argument is met, once its walk is shown. The walk gets what the tokens, the arguments'
+-- types and the `requires` own, and has to leave the tokens, the result and the `ensures`.
 module _ {M : Type 1} {𝓤 : Ura M} (𝓛 : Logic 𝓤) (T : Ended) (c : Clauses 𝓤 T) (𝓜 : Model 𝓤 𝓛.H) (𝓡 : Running 𝓤 𝓛.H 𝓜) where
   open 𝓛 use {H}
 
@@ -102,7 +102,7 @@ module _ {M : Type 1} {𝓤 : Ura M} (𝓛 : Logic 𝓤) (T : Ended) (c : Clause
       use0 𝓛 (‵ (has_of κs S.params T.kept gone a ws vss)) (nothing_left 𝓛 S.params T.kept κs a ws vss) $ move ! (1 ∷ 0 ∷ []) $
       by ! (leaves 𝓛 T gone c y v r ws (all_fit S.params T.kept κs a ws))))
 
--- A call that is lent the cells by `&mut`, beside the parameters ss of which it gives nothing back.
+-- A call that borrows the cells by `&mut`, with further parameters ss of which it returns nothing.
 module _ (E : El) (outlives : List (Outlives 2)) (ss : List (Slot 2)) (ks : Kepts ss) (res : Slot 2) where
   abbrev pub Lent : Ended
   Lent = record {
@@ -127,7 +127,7 @@ module _ (E : El) (outlives : List (Outlives 2)) (ss : List (Slot 2)) (ks : Kept
     abbrev held : Stays B.params Lent.kept
     held = (stay_ref (0 ∷ []) tt (plain (λ _. Cr E)), let_go ss ks)
 
-    -- Its contract is met, once its walk is shown. The walk is given the borrow of the cells, the tokens, and what the other
+    -- Its contract is met, once its walk is shown. The walk gets the borrow of the cells, the tokens, and what the other
     -- arguments and the `requires` own, and has to leave the borrow at the new cells, the tokens, the result and the `ensures`.
     pub gives_back : Unsaid ss ks → (k : Callee) (e : Fn) → Closed 𝓤 H 𝓑.C 𝓑.Λ k e
         → ((κs : Lfts 2) (qs : Shares 2) (a : Args B κs) (vss : Vals B κs) (g : (c κs a).ghost) → vss.0 ≡ mut_vals a.0

@@ -1,5 +1,5 @@
 -- Steps of the walks of calls on raw cells: between a borrow of all cells and the one cell at an address. Assumes `Logic`.
--- docs/PROOFS-OF-CELLS.md tells how such a proof goes, step by step.
+-- docs/PROOFS-OF-CELLS.md explains such a proof step by step.
 use mathlib.Core.Path.{◌≡◌, refl, sym, subst}
 use Prim.Native.Nat.{ℕ, ◌<◌}
 use mathlib.Core.List.{List, [], ◌∷◌, ◌++◌}
@@ -42,22 +42,22 @@ module _ (E : El) where
   pub owner_is : (vs : List Val) → Is (Mark E) (tt, tt) vs → vs ≡ mark ∷ []
   owner_is vs is = subst (λ (ws : List Val). vs ≡ vstruct (of_list (ws ++ [])) ∷ []) is.1.1.0.1.0 is.1.0
 
-  -- a value of the cells' type is passed as one machine value of that type, which the value does not tell
+  -- a value of the cells' type is passed as one machine value of that type, which the value does not determine
   pub value_is : {M : Type 1} {𝓤 : Ura M} (𝓛 : Logic 𝓤) (x : (R E).Denot) (vs : List Val) → Is (R E) x vs
       → (v : Val) × (vs ≡ v ∷ []) × Good E v
   value_is 𝓛 x vs is = one E vs ((lawful E 𝓛).typed x vs is)
 
--- ---- the two parts of a borrow of the cells by `&mut`, beside the token of its lifetime
+-- ---- the two parts of a borrow of the cells by `&mut`, and the token of its lifetime
 module _ (E : El) where
   -- under the borrow's name the cells are now those of d
   abbrev pub seen : MutBor (Cr E).Denot → (Cr E).Denot → Fml
   seen r d = fobs r.ghost_name ((Cr E).coded.code d)
 
-  -- while κ lasts, whoever holds this may open it to the cells, and has to close it again
+  -- while κ lasts, the holder of this may open it to the cells, and has to close it again
   abbrev pub borrow : MutBor (Cr E).Denot → Lft → Fml
   borrow r κ = fbor κ (Borrowed (mem (Cr E)) r.ref_ptr.0 r.ref_ptr.1 r.ghost_name)
 
-  -- what is owed while it is open: with the cells as they are then, the borrow and its token come back
+  -- what is owed while it is open: with the cells as they are then, the borrow and its token are returned
   abbrev pub owed : MutBor (Cr E).Denot → Lft → Share → Fml
   owed r κ q = fobor κ q (Borrowed (mem (Cr E)) r.ref_ptr.0 r.ref_ptr.1 r.ghost_name)
 
@@ -65,7 +65,7 @@ module _ (E : El) where
   abbrev pub kept_in : ℕ → Ptr → Fml
   kept_in b p = fat full_share (layout (Bs E)) b 0 (word p)
 
-  -- what is left of the open cells while the i-th is lent on: the others, the owner's own value, and where that lies
+  -- what is left of the open cells while the i-th is reborrowed: the others, the owner's own value, and its address
   abbrev pub Around : MutBor (Cr E).Denot → ℕ → List Val → Fml
   Around r i vs = fsep (Besides E r.now.cells i)
       (fsep ((Mark E).own_val (tt, tt) vs) (mem_cell full_share (Cr E).mir vs r.ref_ptr.0 r.ref_ptr.1))
@@ -98,7 +98,7 @@ module _ {M : Type 1} {𝓤 : Ura M} {𝓛 : Logic 𝓤} {K : Type 0} {Γ : List
     pub asked : K → (φ ψ : Type 0) → (ψ → Seq K 𝓛 Γ G) → Seq K 𝓛 (raw (sep 𝓤 (fact 𝓤 φ) (fact 𝓤 ψ)) ∷ Γ) G
     asked t φ ψ k = use1 𝓛 (raw (fact 𝓤 φ) ⊛ raw (fact 𝓤 ψ)) (id⊢ 𝓤 _) $ split t $ heard t φ (λ _. heard t ψ k)
 
-    -- the same where an allocator's type comes second: the fact on its lifetime, and the rest
+    -- the same if an allocator's type comes second: the fact on its lifetime, and the rest
     pub asked_beside : K → (φ ψ χ : Type 0) → (ψ → χ → Seq K 𝓛 Γ G)
         → Seq K 𝓛 (raw (sep 𝓤 (fact 𝓤 φ) (sep 𝓤 (fact 𝓤 ψ) (fact 𝓤 χ))) ∷ Γ) G
     asked_beside t φ ψ χ k = use1 𝓛 (raw (fact 𝓤 φ) ⊛ raw (fact 𝓤 ψ) ⊛ raw (fact 𝓤 χ)) (id⊢ 𝓤 _) $
@@ -114,17 +114,17 @@ module _ {M : Type 1} {𝓤 : Ura M} {𝓛 : Logic 𝓤} {K : Type 0} {Γ : List
         (mono∗ 𝓤 (fact_i 𝓤 φ (emp 𝓤) x) (fact_i 𝓤 ψ (emp 𝓤) y)))
 
     module _ (E : El) where
-      -- the own value of an owner or a deed is had for nothing: it takes no bytes
+      -- the own value of an owner or a deed is obtained from nothing: it takes no bytes
       pub mark_put : K → Step K 𝓛 (‵ ((Mark E).own_val (tt, tt) (mark ∷ [])) ∷ Γ) G Γ G
       mark_put t = use0 𝓛 (‵ ((Mark E).own_val (tt, tt) (mark ∷ []))) (mark_made E 𝓛)
 
-      -- the owner of cells is made: its own value, and what it owns
+      -- the owner of cells is created: its own value, and what it owns
       pub owner_made : K → (cells : List (Cell E)) → Step K 𝓛
           (‵ ((Cr E).own_val (record { mark = record {}; cells = cells }) (mark ∷ [])) ∷ Γ) G (‵ (cells_own (R E) cells) ∷ Γ) G
       owner_made t cells = step (λ s. use0 𝓛 (‵ ((Mark E).own_val (tt, tt) (mark ∷ []))) (mark_made E 𝓛) $ fjoin t $ s)
 
       module _ (r : MutBor (Cr E).Denot) {κ : Lft} {q : Share} where
-        -- the borrow is opened: the cells, the owner's own value, where that lies, what is owed, and the name's two parts
+        -- the borrow is opened: the cells, the owner's own value, its address, what is owed, and the name's two parts
         pub cells_opened : K → Soaks G → (d : (Cr E).Denot) → ((vs : List Val) → Seq K 𝓛
             (‵ (cells_own (R E) d.cells) ∷ ‵ ((Mark E).own_val (tt, tt) vs) ∷ ‵ (mem_cell full_share (Cr E).mir vs r.ref_ptr.0 r.ref_ptr.1)
             ∷ ‵ (owed E r κ q) ∷ ‵ (seen E r d) ∷ ‵ (fauth r.ghost_name ((Cr E).coded.code d)) ∷ Γ) G)

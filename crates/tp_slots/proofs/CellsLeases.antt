@@ -24,7 +24,7 @@ use Rattle.std.proofs.alloc.Calls.{Al}
 use Rattle.tp_slots.specs.Cells.{empty_at}
 use Rattle.tp_slots.specs.CellsOwnership.{cell_owns, cells_own, row_from}
 
--- where the product fits a word, the count is zero or the size fits too
+-- if the product fits a word, the count is zero or the size fits too
 pub uncapped : (i k : ℕ) → i * k < 2 ^ 64 → i * capped k ≡ i * k
 uncapped zero k h = zero-mul (capped k) ∙ sym (zero-mul k)
 uncapped (suc i) k h = let up = suc-mul i k in ap (λ (j : ℕ). suc i * j) (capped_is k (omega arith))
@@ -34,7 +34,7 @@ module _ (E : El) where
   abbrev pub sz : ℕ
   sz = type_size (R E)
 
-  -- where so many cells side by side lie
+  -- the addresses of this many cells next to each other
   abbrev pub pointers_from : Ptr → ℕ → List Ptr
   pointers_from p zero = []
   pointers_from p (suc n) = p ∷ pointers_from (p +ₚ sz) n
@@ -48,7 +48,7 @@ module _ (E : El) where
   abbrev pub block_ty : ℕ → Ty
   block_ty n = bare (ty_array (elτ E) n)
 
-  -- its bytes, where they fit a word
+  -- its bytes, if they fit a word
   pub block_size : (n : ℕ) → n * sz < 2 ^ 64 → capped (size (block_ty n)) ≡ n * sz
   block_size n fits = ap capped (size-raw (ty_array (elτ E) n)) ∙ capped_is (n * sz) fits
 
@@ -81,7 +81,7 @@ module _ (E : El) {M : Type 1} {𝓤 : Ura M} (𝓛 : Logic 𝓤) (b : ℕ) wher
       use1 𝓛 (‵ (froom (elτ E) b o)) (𝓛.laws.raw-room (elτ E) b o) $ move ! (1 ∷ []) $
       use1 𝓛 (‵ (froom (ty_array (elτ E) n) b (o + sz E))) (to_room n (o + sz E)) $ move ! (1 ∷ []) $ by ! (𝓛.laws.room_cons (elτ E) n b o)
 
-  -- a block that is not empty does not lie at null
+  -- a block that is not empty is not at the null address
   pub no_block : (n : ℕ) → 0 < n → ent 𝓤 (sem 𝓛 (cells_own (R E) (row_from (R E) null_ptr n))) (never 𝓤)
   no_block zero lt = absurd (omega arith)
   no_block (suc n) lt = fst∗ 𝓤 (never 𝓤) (sem 𝓛 (cells_own (R E) (row_from (R E) null_ptr n)))

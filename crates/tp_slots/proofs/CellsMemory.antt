@@ -66,7 +66,7 @@ Word = Struct one_field
 abbrev pub mark : Val
 mark = vstruct (vcons (vstruct vnil) vnil)
 
--- it owns nothing, so it is made of nothing
+-- it owns nothing, so it is created from nothing
 pub mark_made : (E : El) {M : Type 1} {𝓤 : Ura M} (𝓛 : Logic 𝓤) → ent 𝓤 (emp 𝓤) (sem 𝓛 ((Mark E).own_val (tt, tt) (mark ∷ [])))
 mark_made E 𝓛 = makes_shadow 𝓛 ((Mark E).own_val (tt, tt) (mark ∷ [])) (λ vss. (tt, ((λ uss. (tt, tt)), tt))) (
   (vstruct vnil ∷ [], tt),
@@ -84,7 +84,7 @@ module _ {M : Type 1} {𝓤 : Ura M} {𝓛 : Logic 𝓤} {K : Type 0} {Γ : List
 module _ (i : ℕ) (Y : RattleType) (L : Laws Y) {M : Type 1} {𝓤 : Ura M} (𝓛 : Logic 𝓤) where
   open 𝓛 use {H}
 
-  -- a value at an address is memory with a machine value, of its type, beside what the value owns
+  -- a value at an address is memory with a machine value, of its type, and separately what the value owns
   pub value_out : (x : Y.Denot) (b o : ℕ) → ent 𝓤 (sem 𝓛 (part_at (param i Y) full_share x b o))
       (ex 𝓤 (λ (v : Val). guard 𝓤 (Good (layout Y) v) (sep 𝓤 (H.at full_share (layout Y) b o v) (sem 𝓛 (Y.own_val x (v ∷ []))))))
   value_out x b o = qed 𝓛 (‵ (part_at (param i Y) full_share x b o) ∷ []) ∵
@@ -146,21 +146,21 @@ module _ (E : El) {M : Type 1} {𝓤 : Ura M} (𝓛 : Logic 𝓤) where
       move ! (2 ∷ 1 ∷ []) $
       use2 𝓛 (‵ (cells_own (R E) (set cs i c))) (cell_in cs i (omega arith) c) $ move ! (1 ∷ 0 ∷ []) $ fjoin ! $ done !
 
-  -- of a `&` to the cells, what the i-th one lends
+  -- what the i-th cell lends, of a `&` to the cells
   pub cell_seen : (κ : Lft) (cs : List (Cell E)) (i : ℕ) → i < length cs
       → ent 𝓤 (sem 𝓛 (cells_lent (R E) cs κ)) (sem 𝓛 (cell_lent (R E) (cell_at cs i).0 (cell_at cs i).1 κ))
   cell_seen κ [] i lt = absurd (omega arith)
   cell_seen κ (c ∷ cs) zero lt = fst∗ 𝓤 _ (sem 𝓛 (cells_lent (R E) cs κ))
   cell_seen κ (c ∷ cs) (suc i) lt = via 𝓤 _ (snd∗ 𝓤 (sem 𝓛 (cell_lent (R E) c.0 c.1 κ)) _) (cell_seen κ cs i (omega arith))
 
-  -- whoever owns two lists of cells owns the one after the other
+  -- the owner of two lists of cells owns the one after the other
   pub cells_glue : (xs ys : List (Cell E)) → ent 𝓤 (sep 𝓤 (sem 𝓛 (cells_own (R E) xs)) (sem 𝓛 (cells_own (R E) ys)))
       (sem 𝓛 (cells_own (R E) (xs ++ ys)))
   cells_glue [] ys = qed 𝓛 (‵ ftrue ∷ ‵ (cells_own (R E) ys) ∷ []) ∵ skip ! $ done !
   cells_glue (x ∷ xs) ys = qed 𝓛 (‵ (cells_own (R E) (x ∷ xs)) ∷ ‵ (cells_own (R E) ys) ∷ []) ∵ fsplit ! $ move ! (1 ∷ 2 ∷ []) $
       use2 𝓛 (‵ (cells_own (R E) (xs ++ ys))) (cells_glue xs ys) $ move ! (1 ∷ 0 ∷ []) $ fjoin ! $ done !
 
-  -- whoever owns a list of cells owns its first n and the rest
+  -- the owner of a list of cells owns its first n and the rest
   pub cells_cut : (n : ℕ) (cs : List (Cell E)) → ent 𝓤 (sem 𝓛 (cells_own (R E) cs))
       (sep 𝓤 (sem 𝓛 (cells_own (R E) (take n cs))) (sem 𝓛 (cells_own (R E) (drop n cs))))
   cells_cut zero cs = qed 𝓛 (‵ (cells_own (R E) cs) ∷ []) ∵ nothing ! $ done !

@@ -1,4 +1,4 @@
--- How the changes of a chain keep it one.
+-- The changes of a linked list keep its invariant.
 use Rattle.std.proofs.Common.{◌≡◌, ◌≢◌, ℕ, zero, suc, ◌<◌, ◌≤◌, List, [], ◌∷◌, ◌++◌, length, Option, Some, None, is_some, refl, sym, ap, subst, ◌∙◌, inl, inr, arith, append_assoc}
 use Rattle.std.proofs.lemmas.Bool.{cases_eq}
 use Rattle.std.proofs.lemmas.Bool.Decides.{nat_tests}
@@ -152,7 +152,7 @@ module _ {T : Type 0} where
       let at : IsPath cs (Some l) (p ∷ ps) = subst (λ o. IsPath cs o (p ∷ ps)) e h in
       (at.1, ps, ap (λ q. q ∷ ps) (sym at.0), subst (λ q. IsPath cs (next_at cs q) ps) (sym at.0) at.2)
 
-  -- the back stays where the front leaves and others remain
+  -- the back stays if the front is removed and others remain
   pub back_of_rest : (cs : List (Ptr × Option (Slot T))) (back : Option (Link T)) (x y : ℕ) (rest : List ℕ) → IsBack cs back (x ∷ y ∷ rest) → IsBack cs back (y ∷ rest)
   back_of_rest cs None x y rest h = cc
   back_of_rest cs (Some b) x y rest h = cut h.1 h.2

@@ -1,4 +1,4 @@
--- Where the cells of a block lie, and how blocks leave.
+-- The addresses of the cells of a block, and how blocks are freed.
 use Rattle.std.proofs.Common.{◌≡◌, ℕ, zero, suc, ◌+◌, ◌*◌, ◌<◌, ◌≤◌, List, [], ◌∷◌, ◌++◌, length, take, drop, map as each, get_or, set}
 use Rattle.std.proofs.Common.{Option, None, inl, inr, refl, sym, ap, subst, ◌∙◌, arith, append_assoc, append-nil}
 use Rattle.std.proofs.lemmas.Bool.{cases_eq}
@@ -18,7 +18,7 @@ use Rattle.tp_slots.specs.declared.blocks.Block.{Block}
 use Rattle.tp_slots.specs.CellsOwnership.{row_from}
 use Rattle.tp_slots.specs.declared.chains.Slot.{Slot}
 
--- so many pointers, each s bytes after the one before
+-- this many pointers, each s bytes after the one before
 abbrev pub pointers_from : ℕ → Ptr → ℕ → List Ptr
 pointers_from s p zero = []
 pointers_from s p (suc n) = pointers_from s p n ++ (p +ₚ (n * s)) ∷ []

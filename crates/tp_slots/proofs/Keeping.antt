@@ -144,7 +144,7 @@ module _ {T : Type 0} where
   pointers_same (c ∷ cs) (d ∷ ds) long same =
       let here : d.0 ≡ c.0 = same 0 in let rest = pointers_same cs ds (omega (arith, long)) (λ i. same (suc i)) in λ i. here i ∷ rest i
 
-  -- where the table says that a cell lies
+  -- the address of a cell according to the table
   pub located : (table : List (At (Slot T))) (cs : List (Ptr × Option (Slot T))) (place : ℕ) (d : At (Slot T))
       → pointers_in table ≡ pointers_of cs → place < length table → (cell_at cs place).0 ≡ (get_or table place d).ptr
   located table cs place d e lt =
@@ -269,7 +269,7 @@ module _ {T : Type 0} where
       fresh = λ j above. ap (λ (c : Ptr × Option (Slot T)). c.1) (other_slot j (λ e. omega (arith, e))) ∙ h.fresh j (omega arith);
     }
 
-    -- where the place is in no free list, that stays one of free slots
+    -- if the place is in no free list, that stays one of free slots
     pub put_empty : (ps : List ℕ) → stands place ps ≡ 0 → ((q : ℕ) → 0 < stands q ps → item_in (cell_at cs q).1 ≡ None) → (q : ℕ)
         → 0 < stands q ps → item_in (cell_at ds q).1 ≡ None
     put_empty ps none empty q more =

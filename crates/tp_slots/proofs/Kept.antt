@@ -42,13 +42,13 @@ module _ {T : Type 0} where
         cc
   ]
 
--- a refusal that `?` makes of want of memory
+-- the refusal into which `?` converts an allocation failure
 pub told : {X : Type 0} (r : Result X Refusal) (w : Refusal) → IsErrAnd r (λ e. e ≡ NoMemory) → NoMemory ≡ w → IfErr r (λ e. e ≡ w)
 told (Ok x) w h is = tt
 told (Err e) w h is = h ∙ is
 
 module _ {T A : Type 0} where
-  -- what is held is counted by the slab
+  -- the number of held items is counted by the slab
   pub held : (s : Slab T) (r : List (VecDeque ℕ A)) {room : ℕ} (seen : Roomy T) → record { content = content_of s r; room = room } ≡ seen
       → held_count seen.content ≡ slab_len s
   held s r seen is = ap (λ (v : Roomy T). held_count v.content) (sym is) ∙ len-items_of s

@@ -1,4 +1,4 @@
--- What each call leaves.
+-- The slots after each call.
 use Rattle.std.proofs.Common.{◌≡◌, ◌≢◌, ℕ, zero, suc, ◌+◌, ◌*◌, ◌<◌, ◌≤◌, false, cond, List, [], ◌∷◌, ◌++◌, length, get_or, set, Option}
 use Rattle.std.proofs.Common.{Some, None, is_some, refl, sym, ap, subst, ◌∙◌, inl, inr, arith}
 use Rattle.std.proofs.lemmas.Bool.{cases_eq}
@@ -35,7 +35,7 @@ use Rattle.tp_slots.proofs.Chained.{KeepsLinks, others_kept, next_kept, chain_sa
 use Rattle.tp_slots.proofs.Keeping.{decide_lt, RawBy, raw_item, taken_slot, items_same, pointers_same, put_linked, put_tabled, put_first}
 use Rattle.tp_slots.proofs.Keeping.{put_pointers, content_put, content_cleared, length_put, put_links}
 
--- no place stands in more lists without the front
+-- no place is in more lists without the front
 fewer : (rs : List (List ℕ)) (p : ℕ) → times p (without_front rs) ≤ times p rs
 fewer rs p = by_front (front rs) refl
   where
@@ -134,7 +134,7 @@ module _ {T : Type 0} where
       → content_of (cs ++ empty_at row) lists ≡ content_of cs lists
   longer_content cs row lists = ap (λ (es : List (ℕ × T)). record { items = map.from_entries es; ready = lists }) (same_entries 0 cs row)
 
-  -- what holds once the item of an idle place is out
+  -- what holds after the item of an idle place was removed
   pub record Cleared (alloc : Global) (blocks : List (Block T)) (table : List (At (Slot T))) (cs : List (Ptr × Option (Slot T)))
       (used : ℕ) (free : Chain T) (ready : List (Chain T)) (vacant : List ℕ) (lists : List (List ℕ)) (place : ℕ) : Type 0 where
     pub ds : List (Ptr × Option (Slot T))
@@ -197,7 +197,7 @@ module _ {T : Type 0} where
           content,
         )
 
-    -- the lists change where no cell does
+    -- the lists change and no cell does
     pub popped : (later : List (Chain T)) → AreChains cs later (without_front lists)
         → RawBy alloc blocks table cs used room free later vacant (without_front lists)
     popped later chains = record {

@@ -1,21 +1,19 @@
--- How the commands keep what `Tells` says.
+-- How the commands keep `Tells`: what the names say of a state.
 use Rattle.std.proofs.Common.{◌≡◌, ◌≢◌, ℕ, zero, suc, ◌+◌, ◌<◌, ◌≤◌, ◌==◌, nat_lt, Bool, true, false, cond, List, [], ◌∷◌, ◌++◌, map}
-use Rattle.std.proofs.Common.{length, get_or, set, drop, Option, Some, None, is_some, IsSome, count_by, refl, sym, ap, subst, ◌∙◌, inl, inr}
+use Rattle.std.proofs.Common.{length, get_or, set, Option, Some, None, is_some, IsSome, count_by, refl, sym, ap, subst, ◌∙◌, inl, inr}
 use Rattle.std.proofs.Common.{arith}
 use Rattle.std.proofs.lemmas.Bool.{cases_eq, cases_lt}
 use Rattle.std.proofs.lemmas.Bool.Decides.{nat_tests}
-use Rattle.std.proofs.lemmas.List.{length-set, length-append, get_or-set_same, get_or-set_other, get_or_past, append_assoc, at_drop_more}
+use Rattle.std.proofs.lemmas.List.{length-set, length-append, get_or-set_same, get_or-set_other, get_or_past}
 use Rattle.std.proofs.lemmas.List.Sums.{sum_by-cons, sum_by-append, sum_by-set}
 use Rattle.std.specs.Ordering.{nat_cmp, eq_by_cmp}
 use Rattle.std.specs.Cmp.{nat_cmp_total, unsigned_tied}
 use Rattle.std.specs.FinMap as map
 use Rattle.tp_slots.specs.Content.{Content, times, front, without_front, with_last, item_at, IsIdle, held_count, with_item, without_item}
 use Rattle.tp_slots.specs.Content.{with_ready, without_next, nothing_held}
-use Rattle.tp_slots.specs.Commands.{State, start, held, is_listed, is_full, reply_of, after, replies_of}
-use Rattle.tp_base.specs.declared.Refusal.TheVariants.{StoreFull, BadSpec}
-use Rattle.tp_slots.specs.declared.run.Command.{Command}
+use Rattle.tp_slots.specs.Commands.{State, start, held, is_listed, is_full, reply_of, after}
+use Rattle.tp_base.specs.declared.Refusal.TheVariants.{StoreFull}
 use Rattle.tp_slots.specs.declared.run.Command.TheVariants.{Take, PushReady, GiveBack}
-use Rattle.tp_slots.specs.declared.run.Reply.{Reply}
 use Rattle.tp_slots.specs.declared.run.Reply.TheVariants.{Taken, Refused, Plain, Item}
 use Rattle.tp_slots.specs.Names.{name_at, place_of, Agrees, Tells}
 use Rattle.tp_slots.specs.declared.run.Standing.{Standing}
@@ -57,7 +55,7 @@ times-each f p (r ∷ rs) h = omega (arith, none_in_list f p r (λ k more. h k (
 pub elsewhere : (p q : ℕ) → q ≢ p → eq_by_cmp nat_cmp p q ≡ false
 elsewhere p q differs = unsigned_tied p q ∙ grind (arith, nat_tests)
 
--- ---- what `Agrees` says
+-- ---- what follows from `Agrees`
 pub agrees_held : (c : Content ℕ) (n : Standing) (p : ℕ) (f : Bool) (o : Option ℕ) (l : Bool) → n ≡ Held p f → Agrees c n o l
     → (item_at c p ≡ o) × IsSome o × (f ≡ l)
 agrees_held c n p f o l e a = subst (λ m. Agrees c m o l) e a
@@ -101,7 +99,7 @@ unlisted : (k : ℕ) (rs : List (List ℕ)) → nat_lt 0 (times k rs) ≡ false 
 unlisted k rs h = grind (arith, nat_tests)
 
 module _ (c : Content ℕ) (names : List Standing) (numbers : ℕ → Option ℕ) (s : State) (t : Tells c names numbers s) where
-  -- the place that stands for a number
+  -- the place of a number
   abbrev at : ℕ → ℕ
   at k = place_of (name_at names k)
 
@@ -332,7 +330,7 @@ module _ (c : Content ℕ) (names : List Standing) (numbers : ℕ → Option ℕ
             omega (arith, now, set_count, was, t.count);
       }
 
-  -- what a name tells of the state
+  -- what follows from a name for the state
   pub known : (k p v : ℕ) (f : Bool) → name_at names k ≡ Held p f → item_at c p ≡ Some v → (held s k ≡ Some v) × (is_listed s k ≡ f)
   known k p v f e item =
       let a = agrees_held c (name_at names k) p f (held s k) (is_listed s k) e (t.agree k) in (sym a.0 ∙ item, sym a.2)
@@ -376,24 +374,6 @@ Take_reply s v lt = let room : is_full s ≡ false = grind (arith, nat_tests) in
 pub Take_refused : (s : State) (v : ℕ) → count_by is_some s.items ≡ 65536 → (Refused StoreFull ≡ reply_of (Take v) s)
     × (record s { items = s.items ++ None ∷ [] } ≡ after (Take v) s)
 Take_refused s v all = let full : is_full s ≡ true = grind (arith, nat_tests) in (rw full refl, rw full refl)
-
-pub PushReady_refused : (s : State) (k class v : ℕ) → held s k ≡ Some v → is_listed s k ≡ false → 4 ≤ class
-    → (Refused BadSpec ≡ reply_of (PushReady k class) s) × (s ≡ after (PushReady k class) s)
-PushReady_refused s k class v h l le = let high : nat_lt class 4 ≡ false =
-    grind (arith, nat_tests) in (rw (h, l, high) refl, rw (h, l, high) refl)
-
--- the replies so far with those to what is left, after one more command
-pub replies_go_on : (commands : List Command) (i : ℕ) (d : Command) → i < length commands
-    → (s : State) (replies next : List Reply) (reply : Reply) → reply ≡ reply_of (get_or commands i d) s → next ≡ replies ++ reply ∷ []
-    → replies ++ replies_of (drop i commands) s ≡ replies_of commands start → next
-    ++ replies_of (drop (i + 1) commands) (after (get_or commands i d) s) ≡ replies_of commands start
-replies_go_on commands i d h s replies next reply is more all =
-    let rest = replies_of (drop (i + 1) commands) (after (get_or commands i d) s) in
-    ap (λ l. l ++ rest) more
-    ∙ append_assoc replies (reply ∷ []) rest
-    ∙ ap (λ r. replies ++ r ∷ rest) is
-    ∙ ap (λ l. replies ++ l) (sym (at_drop_more (λ l. replies_of l s) commands i d h))
-    ∙ all
 
 -- nothing was taken yet
 pub Tells-start : (numbers : ℕ → Option ℕ) → Tells nothing_held [] numbers start

@@ -11,7 +11,7 @@ use Rattle.std.specs.FinMap as map
 use Rattle.tp_slots.specs.Content.{Content, times, item_at, front, without_front, with_last, nothing_held, IsTaken, IsIdle, held_count}
 use Rattle.tp_slots.specs.Content.{with_item, without_item, with_ready, without_next, IsSound}
 
--- how often a place stands in one list
+-- how often a place is in one list
 abbrev pub stands : ℕ → List ℕ → ℕ
 stands p = count_by (λ x. x == p)
 

@@ -1,4 +1,4 @@
--- The blocks of slots, and the table of where each slot lies.
+-- The blocks of slots, and the table of the addresses of slots.
 use Rattle.std.specs.Prelude.{◌≡◌, ℕ, ◌<◌, ◌≤◌, List, [], ◌∷◌, ◌++◌, map, length, Option, None, is_some, true}
 use denote.RawPtr.{Ptr}
 use Rattle.std.specs.declared.alloc.Global.{Global}
@@ -9,14 +9,14 @@ use Rattle.tp_slots.specs.declared.blocks.Block.{Block}
 use Rattle.tp_slots.specs.declared.blocks.TheConstants.{BLOCK}
 
 module _ {T : Type 0} where
-  -- the right to give the block back is to so many cells, from where it begins, and to this allocator
+  -- the right to free the block covers its number of cells, from its address on, and this allocator
   pub record IsBlock (alloc : Global) (block : Block T) : Type 0 where
     pub at : block.deed.at ≡ block.at.ptr
     pub len : block.deed.len ≡ BLOCK
     pub row : length block.deed.row ≡ BLOCK
     pub alloc_is : block.deed.alloc ≡ alloc
 
-  -- where the cells of the blocks lie, in order
+  -- the addresses of the cells of the blocks, in order
   abbrev pub rows_of : List (Block T) → List Ptr
   rows_of [] = []
   rows_of (block ∷ blocks) = block.deed.row ++ rows_of blocks
@@ -27,7 +27,7 @@ module _ {T : Type 0} where
   abbrev pub pointers_of : List (Ptr × Option (Slot T)) → List Ptr
   pointers_of = map (λ c. c.0)
 
-  -- the table tells where each cell lies, and so many cells from the first on hold a slot, and no later one
+  -- the table has the address of each cell; the first `used` cells hold a slot, and no later one does
   pub record HoldsFirst (table : List (At (Slot T))) (cells : List (Ptr × Option (Slot T))) (used : ℕ) : Type 0 where
     pub table_is : pointers_in table ≡ pointers_of cells
     pub filled : (place : ℕ) → place < used → is_some (cell_at cells place).1 ≡ true

@@ -1,4 +1,4 @@
--- What raw cells own and lend, at values of the row R.
+-- The memory that raw cells own and lend, for values of the row R.
 use Rattle.std.specs.Prelude.{ℕ, zero, suc, ◌*◌, ◌^◌, List, [], ◌∷◌, Option, Some, None}
 use base.Fraction.{full_share}
 use base.Fml.{Lft, Fml, ftrue, fsep, flt, feq}
@@ -13,7 +13,7 @@ use Rattle.std.specs.Mem.{type_size}
 use Rattle.tp_slots.specs.Cells.{empty_at}
 
 module _ (R : RattleType) where
-  -- one cell: its value, or room for one
+  -- one cell: its value, or the memory for one
   abbrev pub cell_owns : Ptr → Option R.Denot → Fml
   cell_owns p (Some x) = lies_at R full_share p x
   cell_owns p None = room_for (raw (lone R.mir)) p
@@ -30,12 +30,12 @@ module _ (R : RattleType) where
   cells_lent [] = nothing
   cells_lent (c ∷ cs) = beside (cell_lent c.0 c.1) (cells_lent cs)
 
-  -- so many empty cells side by side, from p on
+  -- empty cells next to each other, from p on
   abbrev pub row_from : Ptr → ℕ → List (Ptr × Option R.Denot)
   row_from p zero = []
   row_from p (suc n) = (p, None) ∷ row_from (p +ₚ type_size R) n
 
-  -- the allocator's token for a block of n cells, which take fewer than 2 ^ 63 bytes, and where they lie
+  -- the allocator's token for a block of n cells, which take fewer than 2 ^ 63 bytes, and their addresses
   abbrev pub deed_owns : (Ty → Ptr → Fml) → Ptr → ℕ → List Ptr → Fml
   deed_owns token p n row =
       fsep (token (raw (ty_array (lone R.mir) n)) p)

@@ -1,4 +1,4 @@
--- What slots end as, once a `&mut` to an item has ended.
+-- The slots after a `&mut` to an item has ended.
 use Rattle.std.specs.Prelude.{ℕ, List, slice_set, Option, Some, None}
 use Rattle.std.specs.Borrow.{Fml, RattleType, MutBor, Lends}
 use denote.RawPtr.{Ptr}

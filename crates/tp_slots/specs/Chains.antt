@@ -1,4 +1,4 @@
--- Lists that run through the slots.
+-- Linked lists of slots.
 use Rattle.std.specs.Prelude.{◌≡◌, ℕ, ◌≤◌, ◌==◌, List, [], ◌∷◌, ◌++◌, length, count_by, slice_set, Option, None, Some, is_some}
 use denote.RawPtr.{Ptr}
 use Rattle.tp_slots.specs.Cells.{cell_at, IsFull}
@@ -7,7 +7,7 @@ use Rattle.tp_slots.specs.declared.chains.Slot.{Slot}
 use Rattle.tp_slots.specs.declared.chains.Chain.{Chain}
 
 module _ {T : Type 0} where
-  -- the link leads to its slot
+  -- the link has the address of its slot
   abbrev pub IsLink : List (Ptr × Option (Slot T)) → Link T → Type 0
   IsLink cells link = IsFull cells link.place link.ptr
 
@@ -22,7 +22,7 @@ module _ {T : Type 0} where
   abbrev pub next_at : List (Ptr × Option (Slot T)) → ℕ → Option (Link T)
   next_at cells i = next_in (cell_at cells i).1
 
-  -- the slot with another next one
+  -- the slot with another next slot
   abbrev pub led_to : Option (Link T) → Option (Slot T) → Option (Slot T)
   led_to next None = None
   led_to next (Some slot) = Some (record slot { next = next })
@@ -30,7 +30,7 @@ module _ {T : Type 0} where
   abbrev pub with_next : List (Ptr × Option (Slot T)) → ℕ → Option (Link T) → List (Ptr × Option (Slot T))
   with_next cells i next = slice_set cells i ((cell_at cells i).0, led_to next (cell_at cells i).1)
 
-  -- from this link on, the slots are those of these places, in order
+  -- the slots from this link on are at these places, in order
   abbrev pub IsPath : List (Ptr × Option (Slot T)) → Option (Link T) → List ℕ → Type 0
   IsPath cells link [] = link ≡ None
   IsPath cells None (place ∷ places) = ⊥
@@ -47,7 +47,7 @@ module _ {T : Type 0} where
     pub back : IsBack cells chain.back places
     pub once : (place : ℕ) → count_by (λ x. x == place) places ≤ 1
 
-  -- the slots of the other places stay as they are, and every slot keeps its pointer and its item, if it has one
+  -- the slots at other places are unchanged, and every slot keeps its pointer and its item, if it has one
   pub record KeepsOthers (old new : List (Ptr × Option (Slot T))) (places : List ℕ) : Type 0 where
     pub long : length new ≡ length old
     pub others : (i : ℕ) → count_by (λ x. x == i) places ≡ 0 → cell_at new i ≡ cell_at old i

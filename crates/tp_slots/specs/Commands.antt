@@ -1,4 +1,4 @@
--- What a run of commands answers. Items go by the number of their take, counted from 0, so nothing here speaks of places.
+-- The replies of a run of commands. Items are numbered by their `Take` commands, from 0, so nothing here depends on places.
 use Rattle.std.specs.Prelude.{ℕ, ◌==◌, nat_lt, List, [], ◌∷◌, ◌++◌, length, count_by, slice_index_or, slice_set, Option, None, Some}
 use Rattle.std.specs.Prelude.{is_some, Bool, if◌then◌else◌}
 use Rattle.tp_base.specs.declared.limits.TheConstants.{CLASSES, MAX_LIVE_TASKS}
@@ -9,7 +9,7 @@ use Rattle.tp_slots.specs.declared.run.Reply.{Reply}
 use Rattle.tp_slots.specs.declared.run.Reply.TheVariants.{Taken, Refused, Plain, Next, Item}
 use Rattle.tp_slots.specs.Content.{times, front, without_front, with_last}
 
--- what each take left, which is nothing where it was refused or its item was given back; and the numbers in the four lists
+-- the item of each `Take`, or none if it was refused or given back; and the numbers in the four queues
 pub record State : Type 0 where
   pub items : List (Option ℕ)
   pub ready : List (List ℕ)
@@ -27,12 +27,12 @@ is_listed s k = nat_lt 0 (times k s.ready)
 abbrev pub is_full : State → Bool
 is_full s = count_by is_some s.items == MAX_LIVE_TASKS
 
--- what a command answers to an item that is held, and `NoTask` where it is not
+-- the reply for an item that is held, and `NoTask` if it is not
 abbrev pub reply_if_held : Option ℕ → (ℕ → Reply) → Reply
 reply_if_held None reply = Refused NoTask
 reply_if_held (Some v) reply = reply v
 
--- what it leaves where the item is held, and no change where it is not
+-- the state afterwards if the item is held, and no change if it is not
 abbrev pub after_if_held : Option ℕ → State → State → State
 after_if_held None s t = s
 after_if_held (Some v) s t = t
@@ -46,7 +46,7 @@ reply_of PopReady s = Next (front s.ready)
 reply_of (Get k) s = reply_if_held (held s k) Item
 reply_of (GiveBack k) s = reply_if_held (held s k) (λ v. if is_listed s k then Refused WrongLife else Item v)
 
--- the state that it leaves
+-- the state after a command
 abbrev pub after : Command → State → State
 after (Take v) s = record s { items = s.items ++ (if is_full s then None else Some v) ∷ [] }
 after (PushReady k class) s =

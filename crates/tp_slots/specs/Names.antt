@@ -1,4 +1,4 @@
--- How a run of commands tells the numbers of takes from places.
+-- How a run of commands maps the numbers of `Take` commands to places.
 use Rattle.std.specs.Prelude.{◌≡◌, ℕ, ◌≤◌, List, map, length, count_by, slice_index_or, Option, None, Some, is_some, IsSome, Bool, false}
 use Rattle.std.specs.Ordering.{nat_cmp}
 use Rattle.std.specs.BTreeMap.{get}
@@ -15,7 +15,7 @@ abbrev pub place_of : Standing → ℕ
 place_of Gone = 0
 place_of (Held place listed) = place
 
--- what stands for a number agrees with its item and with whether it is in a list
+-- the state of a number agrees with its item and with whether it is in a queue
 abbrev pub Agrees : Content ℕ → Standing → Option ℕ → Bool → Type 0
 Agrees c Gone item listed = (item ≡ None) × (listed ≡ false)
 Agrees c (Held place flag) item listed = (item_at c place ≡ item) × IsSome item × (flag ≡ listed)

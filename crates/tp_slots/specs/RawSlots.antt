@@ -19,7 +19,7 @@ use Rattle.tp_slots.specs.declared.blocks.Block.{Block}
 use Rattle.tp_slots.specs.declared.blocks.TheConstants.{BLOCKS}
 
 module _ {T : Type 0} where
-  -- the places from this link on, so many at most
+  -- the places from this link on, up to this count
   abbrev pub places_from : List (Ptr × Option (Slot T)) → Option (Link T) → ℕ → List ℕ
   places_from cells link zero = []
   places_from cells None (suc n) = []
@@ -32,15 +32,15 @@ module _ {T : Type 0} where
   abbrev pub items_in : List (Ptr × Option (Slot T)) → List (Option T)
   items_in = each (λ c. item_in c.1)
 
-  -- the items of these cells, and these lists of ready places
+  -- the items of these cells, and these queues of ready places
   abbrev pub content_of : List (Ptr × Option (Slot T)) → List (List ℕ) → Content T
   content_of cells lists = record { items = map.from_entries (entries_from 0 (items_in cells)); ready = lists }
 
   abbrev pub raw_content : List (Ptr × Option (Slot T)) → List (Chain T) → Content T
   raw_content cells ready = content_of cells (each (places_of cells) ready)
 
-  -- the free places and the ready ones are those of the lists that run through the slots; no place stands in two lists;
-  -- a free one has no item, and a ready one has
+  -- the free places and the ready ones are those of the linked lists; no place is in two lists; a free one has no item, and a
+  -- ready one has
   pub record IsLinked (cells : List (Ptr × Option (Slot T))) (free : Chain T) (ready : List (Chain T)) (vacant : List ℕ)
       (lists : List (List ℕ)) : Type 0 where
     pub free_list : IsChain cells free vacant
@@ -49,18 +49,19 @@ module _ {T : Type 0} where
     pub empty : (place : ℕ) → 0 < count_by (λ x. x == place) vacant → item_in (cell_at cells place).1 ≡ None
     pub sound : IsSound (content_of cells lists)
 
-  -- the room is the free slots and the cells that were never used, which is all that hold no item
+  -- the room is the free slots and the cells that were never used, which are all that hold no item
   pub record IsCounted (cells : List (Ptr × Option (Slot T))) (used room free : ℕ) : Type 0 where
     pub within : used ≤ length cells
     pub spare : room + used ≡ free + length cells
     pub held : map.len (map.from_entries {R = nat_cmp} (entries_from 0 (items_in cells))) + room ≡ length cells
 
-  -- there are at most 256 blocks, each with its right to be given back, and the cells are those of the blocks
+  -- there are at most 256 blocks, each with the right to free it, and the cells are those of the blocks
   pub record IsHoused (alloc : Global) (blocks : List (Block T)) (pointers : List Ptr) : Type 0 where
     pub each_block : All (IsBlock alloc) blocks
     pub most : length blocks ≤ BLOCKS
     pub cells : rows_of blocks ≡ pointers
 
+  -- the slots are linked, counted, in the table and in their blocks
   pub record IsRaw (alloc : Global) (blocks : List (Block T)) (table : List (At (Slot T))) (cells : List (Ptr × Option (Slot T)))
       (used room : ℕ) (free : Chain T) (ready : List (Chain T)) : Type 0 where
     pub linked : IsLinked cells free ready (places_of cells free) (each (places_of cells) ready)

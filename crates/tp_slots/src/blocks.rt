@@ -1,4 +1,4 @@
-//! The blocks, and where their slots lie.
+//! Blocks of slots, which are allocated one at a time and never move, and the table of their addresses.
 ghost use Rattle.std.specs.Prelude.{◌≡◌, ◌+◌, ◌<◌, ◌≤◌, ◌*◌, ℕ, List, [], ◌∷◌, ◌++◌, length, All, IsTrue, OnOk, OnErr, None};
 ghost use Rattle.std.specs.Vec.{vec_len, vec_capacity};
 ghost use Rattle.std.specs.Vec.Ownership.{FitsInBlock};
@@ -12,13 +12,13 @@ use crate::{At, Cells, Deed, Slot, allocate, deallocate};
 use std::alloc::{AllocError, Global};
 use std_alloc::room::may_hold;
 
-/// How many slots a block has.
+/// The number of slots in a block.
 pub(crate) const BLOCK: usize = 256;
 
-/// How many blocks there are at most.
+/// The most blocks.
 pub(crate) const BLOCKS: usize = 256;
 
-/// A block: where it begins, and the right to give it back.
+/// A block: its address, and the right to free it.
 pub(crate) struct Block<T> {
     at: At<Slot<T>>,
     deed: Deed<Slot<T>, Global>,
@@ -31,7 +31,7 @@ fn may_make_block<T>() -> bool
     may_hold::<Slot<T>>(BLOCK)
 }
 
-// Lists where the cells of a block lie.
+// Appends the addresses of a block's cells to the table.
 fn list_cells<T>(table: &mut Vec<At<Slot<T>>>, at: At<Slot<T>>)
     requires room { vec_len table.old + BLOCK ≤ vec_capacity table.old }
     requires in_block { InBlock at.ptr }
@@ -44,7 +44,7 @@ fn list_cells<T>(table: &mut Vec<At<Slot<T>>>, at: At<Slot<T>>)
     }
 }
 
-// Makes a block, whose cells come after the others.
+// Allocates a block, whose cells come after the others.
 pub(crate) fn add_block<T>(
     alloc: Global,
     blocks: &mut Vec<Block<T>>,
@@ -70,7 +70,7 @@ pub(crate) fn add_block<T>(
     Ok(())
 }
 
-// Drops what the first cells hold.
+// Drops the values of the first `used` cells.
 pub(crate) fn empty_cells<T: Drop>(table: &[At<Slot<T>>], cells: &mut Cells<Slot<T>>, used: usize)
     requires { (used ≤ length table.now) × HoldsFirst table.now cells.old.cells used }
     ensures { cells.new.cells ≡ empty_at (pointers_in table.now) }
@@ -81,7 +81,7 @@ pub(crate) fn empty_cells<T: Drop>(table: &[At<Slot<T>>], cells: &mut Cells<Slot
     }
 }
 
-// Gives every block back.
+// Frees every block.
 pub(crate) fn free_blocks<T>(alloc: Global, mut blocks: Vec<Block<T>>, mut cells: Cells<Slot<T>>)
     requires blocks { All (IsBlock alloc) blocks.items }
     requires most { length blocks.items ≤ BLOCKS }

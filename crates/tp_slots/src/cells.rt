@@ -1,4 +1,4 @@
-//! Raw cells: each lies where it lies, and is empty or holds a value.
+//! Raw cells: each has a fixed address, and is empty or holds a value.
 ghost use Rattle.std.specs.Prelude.{◌≡◌, ℕ, ◌<◌, ◌*◌, ◌^◌, [], ◌++◌, List, Option, Some, None, length, take, drop, slice_set, IfOk, ⊤};
 ghost use base.Fml.{ftrue};
 ghost use Rattle.std.specs.Borrow.{sem};
@@ -12,7 +12,7 @@ use std::alloc::{AllocError, Allocator};
 use std::marker::{Model, PhantomData, Send, Sync};
 use std::mem::{align_of, size_of};
 
-/// Where a cell lies. It owns nothing.
+/// The address of a cell. It owns nothing.
 pub struct At<X> {
     pub ptr: *mut X,
 }
@@ -34,7 +34,7 @@ unsafe impl<X> Send for At<X> {}
 unsafe impl<X> Sync for At<X> {}
 
 impl<X> At<X> {
-    /// The cell that lies so many cells further in the row.
+    /// Returns the address of the cell `index` cells further in the row.
     pub fn nth(self, index: usize) -> At<X>
         requires in_block { InBlock self.ptr }
         requires size { type_size X.row < 2 ^ 63 }
@@ -47,7 +47,7 @@ impl<X> At<X> {
     }
 }
 
-/// The owner of cells. It takes no space: whoever uses it has the pointers.
+/// The owner of cells. It takes no space at run time: its user has the addresses.
 pub struct Cells<X> {
     mark: PhantomData<*const X>,
     ghost cells: { List (Ptr × Option X) },
@@ -63,7 +63,7 @@ unsafe impl<X: Send> Send for Cells<X> {}
 
 unsafe impl<X: Sync> Sync for Cells<X> {}
 
-/// The right to give the block of `len` cells at `at` back to `alloc`. It takes no space.
+/// The right to free the block of `len` cells at `at`, which came from `alloc`. It takes no space at run time.
 pub struct Deed<X, A: Allocator> {
     mark: PhantomData<*const (X, A)>,
     ghost at: { Ptr },
@@ -80,10 +80,10 @@ impl<X, A: Allocator> Model for Deed<X, A> {
 
 unsafe impl<X, A: Allocator + Send> Send for Deed<X, A> {}
 
-// A `&` to it holds nothing.
+// A `&` to it gives access to nothing.
 unsafe impl<X, A: Allocator> Sync for Deed<X, A> {}
 
-/// Makes a block of empty cells that lie in a row.
+/// Allocates a block of empty cells in a row.
 pub fn allocate<X, A: Allocator>(
     alloc: &A,
     len: usize,
@@ -103,7 +103,7 @@ pub fn allocate<X, A: Allocator>(
     }
 }
 
-/// Gives a block of empty cells back.
+/// Frees a block of empty cells.
 pub fn deallocate<X, A: Allocator>(
     alloc: &A,
     at: At<X>,
@@ -123,21 +123,21 @@ pub fn deallocate<X, A: Allocator>(
 impl<X> Cells<X> {
     ghost use Rattle.tp_slots.specs.CellsLends.{lends_cell};
 
-    /// The owner of no cells.
+    /// Returns the owner of no cells.
     pub fn new() -> Cells<X>
         ensures { result.cells ≡ [] }
     {
         Cells { mark: PhantomData }
     }
 
-    /// Ends the owner of no cells.
+    /// Drops the owner of no cells.
     pub fn end(self)
         requires { self.cells ≡ [] }
     {
         let Cells { mark: _ } = self;
     }
 
-    /// The value in the cell.
+    /// Returns the value in the cell.
     pub fn get(&self, at: At<X>, index: usize) -> &X
         requires { IsFull self.now.cells index at.ptr }
         ensures { cell_at self.now.cells index ≡ (at.ptr, Some result.now) }
@@ -146,7 +146,7 @@ impl<X> Cells<X> {
         unsafe { &*at.ptr }
     }
 
-    /// The value in the cell, for writing.
+    /// Returns the value in the cell, for writing.
     pub fn get_mut(&mut self, at: At<X>, index: usize) -> &mut X
         requires { IsFull self.old.cells index at.ptr }
         ensures* writes_back { sem 𝓛 (lends_cell X.row self.entry at.ptr index result) }
@@ -156,14 +156,14 @@ impl<X> Cells<X> {
         unsafe { &mut *at.ptr }
     }
 
-    /// Takes over other cells, which come after its own.
+    /// Takes over the cells of another owner, which come after its own.
     pub fn join(&mut self, other: Cells<X>)
         ensures { self.new.cells ≡ self.old.cells ++ other.cells }
     {
         let Cells { mark: _ } = other;
     }
 
-    /// Keeps so many cells, and gives up those that come after them.
+    /// Keeps the first `len` cells, and returns the owner of the others.
     pub fn split_off(&mut self, len: usize) -> Cells<X>
         ensures kept { self.new.cells ≡ take len self.old.cells }
         ensures given { result.cells ≡ drop len self.old.cells }
@@ -172,7 +172,7 @@ impl<X> Cells<X> {
         Cells { mark: PhantomData }
     }
 
-    /// Moves the value into the empty cell.
+    /// Moves a value into the empty cell.
     pub fn write(&mut self, at: At<X>, index: usize, value: X)
         requires { IsEmpty self.old.cells index at.ptr }
         ensures { self.new.cells ≡ slice_set self.old.cells index (at.ptr, Some value) }
@@ -181,7 +181,7 @@ impl<X> Cells<X> {
         unsafe { at.ptr.write(value) }
     }
 
-    /// Moves the value out of the cell.
+    /// Moves the value out of the cell, which is empty afterwards.
     pub fn read(&mut self, at: At<X>, index: usize) -> X
         requires { IsFull self.old.cells index at.ptr }
         ensures value { cell_at self.old.cells index ≡ (at.ptr, Some result) }

@@ -1,4 +1,4 @@
-//! Lists that run through the slots: each slot has a pointer to the next.
+//! Linked lists of slots: each slot has a pointer to the next, so that a list takes no memory of its own.
 ghost use Rattle.std.specs.Prelude.{◌≡◌, ◌==◌, ℕ, List, [], ◌∷◌, ◌++◌, count_by, MatchOption, IsSome, None, Some, ⊤};
 ghost use Rattle.std.specs.Borrow.{sem};
 ghost use Rattle.tp_slots.specs.Cells.{cell_at};
@@ -10,7 +10,7 @@ use std::alloc::AllocError;
 use std::marker::{Send, Sync};
 use std::mem::replace;
 
-/// A slot and its number.
+/// The address of a slot, and its number.
 pub struct Link<T> {
     pub ptr: *mut Slot<T>,
     pub place: usize,
@@ -33,6 +33,7 @@ unsafe impl<T> Send for Link<T> {}
 unsafe impl<T> Sync for Link<T> {}
 
 impl<T> Link<T> {
+    /// Returns the address of the slot.
     pub fn at(self) -> At<Slot<T>>
         ensures { result.ptr ≡ self.ptr }
     {
@@ -40,14 +41,14 @@ impl<T> Link<T> {
     }
 }
 
-/// What lies at a place.
+/// The content of a cell: an item, if there is one, and the next slot of its list.
 #[derive(Drop)]
 pub struct Slot<T> {
     pub next: Option<Link<T>>,
     pub item: Option<T>,
 }
 
-/// The ends of a list of slots.
+/// The two ends of a list of slots.
 #[derive(Drop)]
 pub struct Chain<T> {
     pub front: Option<Link<T>>,
@@ -67,7 +68,7 @@ impl<T> Slot<T> {
     }
 }
 
-/// Lends the item of a slot for writing.
+/// Borrows the item of a slot for writing.
 pub fn item_mut<T>(cells: &mut Cells<Slot<T>>, link: Link<T>) -> &mut T
     requires link { IsLink cells.old.cells link }
     requires item { IsSome (item_in (cell_at cells.old.cells link.place).1) }
@@ -77,7 +78,7 @@ pub fn item_mut<T>(cells: &mut Cells<Slot<T>>, link: Link<T>) -> &mut T
     cells.get_mut(link.at(), link.place).item_mut()
 }
 
-/// Lends the item of a slot.
+/// Borrows the item of a slot.
 pub fn item<T>(cells: &Cells<Slot<T>>, link: Link<T>) -> &T
     requires link { IsLink cells.now.cells link }
     requires item { IsSome (item_in (cell_at cells.now.cells link.place).1) }
@@ -102,7 +103,7 @@ pub fn put_item<T>(cells: &mut Cells<Slot<T>>, link: Link<T>, item: T)
     }
 }
 
-/// Takes the item out of a slot.
+/// Removes and returns the item of a slot.
 pub fn take_item<T>(cells: &mut Cells<Slot<T>>, link: Link<T>) -> T
     requires link { IsLink cells.old.cells link }
     requires item { IsSome (item_in (cell_at cells.old.cells link.place).1) }
@@ -115,7 +116,7 @@ pub fn take_item<T>(cells: &mut Cells<Slot<T>>, link: Link<T>) -> T
     }
 }
 
-// Has the slot lead to another one.
+// Sets the next slot of a slot.
 fn set_next<T>(cells: &mut Cells<Slot<T>>, link: Link<T>, next: Option<Link<T>>)
     requires { IsLink cells.old.cells link }
     ensures { cells.new.cells ≡ with_next cells.old.cells link.place next }
@@ -158,7 +159,7 @@ pub fn put_front<T>(cells: &mut Cells<Slot<T>>, chain: &mut Chain<T>, link: Link
     };
 }
 
-/// Takes the front slot out of the list.
+/// Removes and returns the first slot of the list, or returns `None` if the list is empty.
 pub fn take_front<T>(cells: &Cells<Slot<T>>, chain: &mut Chain<T>) -> Option<Link<T>>
     requires { (places : List ℕ) × IsChain cells.now.cells chain.old places }
     ensures { (places : List ℕ) → IsChain cells.now.cells chain.old places

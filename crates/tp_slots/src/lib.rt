@@ -1,4 +1,5 @@
-//! Items under places that stay where they are, and four lists of ready places.
+//! Slots: items at places that stay the same while an item is held, and four queues of ready places. What the items are
+//! is not known here.
 #![tactic(auto)]
 
 mod blocks;

@@ -1,4 +1,4 @@
-//! The lists of ready places.
+//! The four queues of ready places, as linked lists of slots.
 ghost use Rattle.std.specs.Prelude.{◌≡◌, ℕ, ◌<◌, ◌≤◌, List, ◌∷◌, [], length, slice_index_or, MatchOption, IfSome, None, Some};
 ghost use Rattle.tp_slots.specs.Chains.{IsLink, KeepsOthers};
 ghost use Rattle.tp_slots.specs.Content.{times, front, without_front, with_last};
@@ -6,7 +6,7 @@ ghost use Rattle.tp_slots.specs.Lists.{AreChains};
 
 use crate::{Cells, Chain, Link, Slot, append, take_front};
 
-// Appends the slot to the list of its class.
+// Appends the slot to the queue of its class.
 pub(crate) fn push_to<T>(
     cells: &mut Cells<Slot<T>>,
     ready: &mut [Chain<T>],
@@ -24,7 +24,7 @@ pub(crate) fn push_to<T>(
     append(cells, &mut ready[class], link);
 }
 
-// Takes the front slot out of the first list that has one.
+// Removes and returns the first slot of the first queue that is not empty.
 pub(crate) fn pop_from<T>(cells: &Cells<Slot<T>>, ready: &mut [Chain<T>]) -> Option<Link<T>>
     requires { (lists : List (List ℕ)) × AreChains cells.now.cells ready.old lists }
     ensures next { (lists : List (List ℕ)) → AreChains cells.now.cells ready.old lists

@@ -1,4 +1,4 @@
-//! Slots over raw memory.
+//! The slots that pools use, over raw memory.
 ghost use Rattle.std.specs.Prelude.{◌≡◌, None};
 
 use crate::blocks::{BLOCK, BLOCKS, Block, add_block, empty_cells, free_blocks};
@@ -11,17 +11,17 @@ use std::alloc::Global;
 use std::marker::Model;
 use tp_base::Refusal;
 
-/// Slots in blocks of 256 that never move. The free list and the four ready lists run through the slots themselves, so only a
-/// new block takes memory: up to 256 of them, a block at a time.
+/// Slots in blocks of 256 that never move. The free list and the four ready queues are linked through the slots
+/// themselves, so only a new block allocates. There are at most 256 blocks.
 pub struct RawSlots<T> {
     alloc: Global,
     blocks: Vec<Block<T>>,
-    // Where each slot lies.
+    // The address of each slot.
     table: Vec<At<Slot<T>>>,
     cells: Cells<Slot<T>>,
-    // How many slots were ever used: the first ones.
+    // The number of slots that were ever used: the first ones.
     used: usize,
-    // How many slots hold no item.
+    // The number of slots without an item.
     room: usize,
     free: Chain<T>,
     ready: [Chain<T>; 4],
@@ -40,7 +40,7 @@ impl<T> Model for RawSlots<T> {
     ghost invariant = { λ s. IsRaw s.alloc s.blocks.items s.table.items s.cells.cells s.used s.room s.free s.ready };
 }
 
-// A list of no slots.
+// Returns a list without slots.
 fn no_slots<T>() -> Chain<T>
     ensures front { result.front ≡ None }
     ensures back { result.back ≡ None }

@@ -1,4 +1,4 @@
-//! Runs of commands, whose replies say nothing of places.
+//! Runs of commands, whose replies do not depend on places, so that two kinds of slots can be compared.
 ghost use Rattle.std.specs.Prelude.{◌≡◌, ℕ, ◌<◌, IfOk, IfErr};
 ghost use Rattle.tp_slots.specs.Commands.{State, start, reply_of, after, replies_of};
 
@@ -7,30 +7,30 @@ use std::alloc::Global;
 use std::collections::BTreeMap;
 use tp_base::{CLASSES, Refusal};
 
-/// A command. Items go by the number of their take, counted from 0, refused takes included.
+/// A command. Items are numbered in the order of their `Take` commands, from 0 and including refused ones.
 #[derive(Clone, Copy, Debug, PartialEq, Eq)]
 pub enum Command {
     /// Takes an item in.
     Take(u64),
-    /// Puts the item of this number at the end of the list of a class.
+    /// Puts the item of this number at the end of the queue of a class.
     PushReady(usize, u8),
-    /// Takes the next item out of its list.
+    /// Removes the next item from its queue.
     PopReady,
     /// Reads the item of this number.
     Get(usize),
-    /// Takes the item of this number out of the slots.
+    /// Removes the item of this number from the slots.
     GiveBack(usize),
 }
 
-/// What a command answers.
+/// The reply to a command.
 #[derive(Clone, Copy, Debug, PartialEq, Eq)]
 pub enum Reply {
     /// The number of the item that was taken in.
     Taken(usize),
-    /// `StoreFull` where 65,536 items are held, `NoTask` where the item is not held, `WrongLife` where it is in a list,
-    /// `BadSpec` where the class is above 3.
+    /// `StoreFull` if 65,536 items are held, `NoTask` if the item is not held, `WrongLife` if it is in a queue,
+    /// `BadSpec` if the class is above 3.
     Refused(Refusal),
-    /// It was done.
+    /// The command was carried out.
     Plain,
     /// The number of the item that was next, if there was one.
     Next(Option<usize>),
@@ -38,14 +38,14 @@ pub enum Reply {
     Item(u64),
 }
 
-// What stands for the number of a take: its place, and whether that is in a list.
+// The state of the item of a number: its place, and whether that is in a queue.
 #[derive(Clone, Copy)]
 enum Standing {
     Gone,
     Held(Place, bool),
 }
 
-// What stands for each number, and the number of the item at each place.
+// The state of each number, and the number of the item at each place.
 #[derive(Drop)]
 struct Names {
     standings: Vec<Standing>,
@@ -176,10 +176,10 @@ impl Names {
     }
 }
 
-/// Runs commands in order over empty slots, and answers one reply for each. The replies are the same for every kind of
+/// Runs commands in order on empty slots, and returns a reply for each. The replies are the same for every kind of
 /// slots.
 ///
-/// `NoMemory` where a growth was refused, which ends the run.
+/// Refused with `NoMemory` if an allocation fails, which ends the run.
 pub fn run_slots<S: Slots<u64> + Drop>(
     alloc: Global,
     commands: &[Command],

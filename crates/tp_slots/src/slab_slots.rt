@@ -1,4 +1,4 @@
-//! Slots over `slab` and four queues.
+//! Simple slots over `slab` and four queues, with which the fast ones are compared.
 ghost use Rattle.std.specs.Prelude.{◌≡◌, ℕ, ◌≤◌, ◌<◌, OnOk, length, slice_index_or};
 ghost use Rattle.std.specs.VecDeque.{deque_len, deque_capacity};
 ghost use Rattle.tp_slots.specs.SlabSlots.{places_of, EachHolds};
@@ -11,12 +11,12 @@ use std::collections::VecDeque;
 use std::marker::Model;
 use tp_base::{MAX_LIVE_TASKS, Refusal};
 
-/// Slots that keep the items in a `Slab`, their places being its keys.
+/// Slots that keep the items in a `Slab`; a place is a key of the slab.
 #[derive(Drop)]
 pub struct SlabSlots<T> {
     items: Slab<T>,
     ready: [VecDeque<Place>; 4],
-    // How many more items fit, a place in each queue included.
+    // How many more items fit, including a place in each queue.
     room: usize,
 }
 
@@ -32,7 +32,7 @@ impl<T> Model for SlabSlots<T> {
     ghost invariant = { λ s. IsKept s.items s.ready s.room };
 }
 
-// Gives each queue room for this many places.
+// Reserves room for `places` more places in each queue.
 fn reserve_each(queues: &mut [VecDeque<Place>], places: usize) -> Result<(), AllocError>
     ensures places { places_of queues.new ≡ places_of queues.old }
     ensures capacity { (n : ℕ) → EachHolds n queues.old → EachHolds n queues.new }
@@ -54,7 +54,7 @@ fn push_to(queues: &mut [VecDeque<Place>], class: usize, place: Place)
     queues[class].push_back_reserved(place);
 }
 
-// Takes the front place out of the first queue that has one.
+// Removes and returns the first place of the first queue that is not empty.
 fn pop_from(queues: &mut [VecDeque<Place>]) -> Option<Place>
     ensures next { result ≡ front (places_of queues.old) }
     ensures places { places_of queues.new ≡ without_front (places_of queues.old) }
@@ -100,7 +100,7 @@ impl<T> Slots<T> for SlabSlots<T> {
         if count == most {
             return Err(Refusal::StoreFull);
         }
-        // As many again, so that growing costs each item a constant share.
+        // Doubles the slots, so that the cost of growing is amortized.
         let more = count.max(1).min(most - count);
         reserve_each(&mut self.ready, count + more)?;
         self.items.reserve(more)?;

@@ -1,4 +1,4 @@
-//! What every kind of slots keeps to.
+//! The trait of all kinds of slots, with its contracts.
 ghost use Rattle.std.specs.Prelude.{◌≡◌, ℕ, ◌+◌, ◌<◌, ◌≤◌, None, Some, IsOk, IfOk, IfErr, IfSome, OnOk};
 ghost use Rattle.std.specs.Borrow.{sem, Lends};
 ghost use Rattle.tp_slots.specs.Content.{Content, nothing_held, item_at, IsTaken, IsIdle, held_count, refusal_of_take, with_item};
@@ -7,42 +7,42 @@ ghost use Rattle.tp_slots.specs.Content.{without_item, with_ready, without_next,
 use std::alloc::Global;
 use tp_base::{CLASSES, MAX_LIVE_TASKS, Refusal};
 
-/// Where an item lies, from when it is taken in until it is given back.
+/// The place of an item, from when it is taken in until it is given back.
 pub type Place = usize;
 
-/// Items under places, at most 65,536, and a list of ready places for each of four classes.
+/// Items at places, at most 65,536, and a queue of ready places for each of four classes.
 ///
-/// Contracts see the items as a map from place to item beside the four lists, and apart from these the room: how many more
-/// items can be taken in before memory has to grow.
+/// Contracts see the items as a map from place to item, the four queues, and separately the room: how many more items
+/// can be taken in before memory has to grow.
 pub trait Slots<T> {
-    /// What they hold, however it is kept.
+    /// The items and queues, however they are stored.
     ghost content: { Self → Content T };
 
-    /// How many more items they can take in with the memory that they have.
+    /// How many more items fit into the memory that is allocated.
     ghost room: { Self → ℕ };
 
     /// The same slots with this item at the place.
     ghost rewritten: { Self → ℕ → T → Self };
 
-    /// Empty slots. They take no memory yet.
+    /// Returns empty slots. It allocates nothing.
     fn new(alloc: Global) -> Self
         ensures { content result ≡ nothing_held };
 
-    /// Makes room for one more item. No room is lost, also where it is refused.
+    /// Reserves room for one more item. The room never shrinks, even if the call is refused.
     ///
-    /// `StoreFull` where 65,536 items are held, `NoMemory` where a growth was refused.
+    /// Refused with `StoreFull` if 65,536 items are held, `NoMemory` if an allocation fails.
     fn reserve(&mut self) -> Result<(), Refusal>
         ensures content { content self.new ≡ content self.old }
         ensures room { OnOk result (0 < room self.new) }
         ensures keeps { room self.old ≤ room self.new }
         ensures not_full { OnOk result (held_count (content self.old) < MAX_LIVE_TASKS) }
 
-        // It fails only where there was no room.
+        // It fails only if there was no room.
         ensures refusal { IfErr result (λ e. e ≡ refusal_of_take (content self.old)) }
         ensures had_room { 0 < room self.old → IsOk result };
 
-    /// Takes the item in at a place that was free, into the room that was made for it. A later `push_ready` of the place has
-    /// its room too.
+    /// Takes the item in at a free place and returns the place. The caller has reserved the room, so nothing is
+    /// allocated, neither here nor in a later `push_ready` of the place.
     fn take_reserved(&mut self, item: T) -> Place
         requires { 0 < room self.old }
         ensures fresh { item_at (content self.old) result ≡ None }
@@ -51,9 +51,10 @@ pub trait Slots<T> {
         ensures room { room self.new + 1 ≡ room self.old }
         ensures not_full { held_count (content self.old) < MAX_LIVE_TASKS };
 
-    /// Takes the item in at a place that was free: `reserve`, then `take_reserved`. A refused item comes back.
+    /// Takes the item in at a free place and returns the place: `reserve`, then `take_reserved`. A refused item is
+    /// returned.
     ///
-    /// `StoreFull` where 65,536 items are held, `NoMemory` where a growth was refused.
+    /// Refused with `StoreFull` if 65,536 items are held, `NoMemory` if an allocation fails.
     fn take(&mut self, item: T) -> Result<Place, (Refusal, T)>
         ensures fresh { IfOk result (λ place. item_at (content self.old) place ≡ None) }
         ensures content { IfOk result (λ place. content self.new ≡ with_item (content self.old) place item) }
@@ -72,35 +73,37 @@ pub trait Slots<T> {
         }
     }
 
-    /// Puts the place at the end of the list of its class, 0 to 3.
+    /// Puts the place at the end of the queue of its class, 0 to 3.
     fn push_ready(&mut self, place: Place, class: u8)
         requires idle { IsIdle (content self.old) place }
         requires class_in_range { class < CLASSES }
         ensures content { content self.new ≡ with_ready (content self.old) class place }
         ensures room { room self.old ≤ room self.new };
 
-    /// Takes the front place out of the first list that has one. The place stays taken.
+    /// Removes and returns the first place of the first queue that is not empty, or returns `None`. The place stays
+    /// taken.
     fn pop_ready(&mut self) -> Option<Place>
         ensures next { result ≡ front (content self.old).ready }
         ensures content { content self.new ≡ without_next (content self.old) }
         ensures idle { IfSome result (IsIdle (content self.new)) }
         ensures room { room self.old ≤ room self.new };
 
-    /// The item at a taken place.
+    /// Returns the item at a taken place.
     fn get(&self, place: Place) -> &T
         requires { IsTaken (content self.now) place }
         ensures { item_at (content self.now) place ≡ Some result.now };
 
-    /// The item at a taken place, for writing.
+    /// Returns the item at a taken place, for writing.
     fn get_mut(&mut self, place: Place) -> &mut T
         requires { IsTaken (content self.old) place }
-        // The slots end as `rewritten` of what is last written there, and hold that item there.
+        // Once the borrow ends, the slots are `rewritten` of the last value written, which is the item there.
         ensures* writes_back { sem 𝓛 (Lends Self.row T.row self.entry result (rewritten self.old place)) }
         ensures value { item_at (content self.old) place ≡ Some result.now }
         ensures content { (w : T) → content (rewritten self.old place w) ≡ with_item (content self.old) place w }
         ensures room { (w : T) → room (rewritten self.old place w) ≡ room self.old };
 
-    /// Takes the item out of a place that is in no list. The place is free from then on, and its room is back.
+    /// Removes and returns the item at a place that is in no queue. The place is then free, and its room is available
+    /// again.
     fn give_back(&mut self, place: Place) -> T
         requires { IsIdle (content self.old) place }
         ensures value { item_at (content self.old) place ≡ Some result }

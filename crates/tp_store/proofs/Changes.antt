@@ -50,7 +50,7 @@ item t x = record { number = t; task = x }
 
 -- ---- One task is changed, with the item at one place or the entry under its number
 module _ {V A : Type 0} where
-  -- what stands there afterwards
+  -- the entry afterwards
   pub record Stands (now : Parts V A) (t : TaskId) (p : ℕ) (x : Task V) : Type 0 where
     pub live : (q : ℕ) → entry_at now.index t.0 ≡ Some (Live q) → IsSomeAnd (slots.item_at now.places q) (λ j. j.number.0 ≡ t.0)
     pub owner : (j : Item V) → slots.item_at now.places p ≡ Some j → entry_at now.index j.number.0 ≡ Some (Live p)
@@ -70,7 +70,7 @@ module _ {V A : Type 0} where
     task = ap (task_under now.places) entry ∙ ap (option_map (λ j. j.task)) at;
   }
 
-  -- the task had this life before, and the ready ones stand in these lists afterwards
+  -- the task had this life before, and the ready tasks are in these queues afterwards
   pub record IsPut (parts now : Parts V A) (t : TaskId) (p : ℕ) (x : Task V) (was : Option Life) (ready : List (List TaskId)) : Type 0 where
     -- all else is as before, and the place was of no other task
     pub items : (q : ℕ) → q ≢ p → slots.item_at now.places q ≡ slots.item_at parts.places q
@@ -166,7 +166,7 @@ module _ {V A : Type 0} {parts : Parts V A} (kept : IsKept parts) (t : TaskId) {
     pub life_is : life_of (content_of parts) t ≡ Some x.life
     life_is = ap (option_map (λ y. y.life)) task_is
 
-    -- it is in no list where it is not ready
+    -- it is in no queue unless it is ready
     idle : is_ready x.life ≡ false → slots.IsIdle parts.places p
     idle h = record {
       taken = taken_there;
@@ -178,7 +178,7 @@ module _ {V A : Type 0} {parts : Parts V A} (kept : IsKept parts) (t : TaskId) {
     counted : IsCounted (Some x.life) parts.counts
     counted = is_counted (content_of parts) t x parts.counts task_is kept.counted (few_live kept refl)
 
-    -- as many items with another one there
+    -- the number of items is the same with another one there
     same_count : (i : Item V) → slots.held_count (slots.with_item parts.places p i) ≡ slots.held_count parts.places
     same_count i =
         finite.len-insert nat_cmp_total parts.places.items p i
@@ -240,7 +240,7 @@ module _ {V A : Type 0} {parts : Parts V A} (kept : IsKept parts) (new : Entries
           } in
           leaves kept put (with_task old t x) n refl (omega (arith, more, one_more))
 
--- ---- A new task enters right after room was made for it
+-- ---- a new task enters right after room was reserved for it
 module _ {V A : Type 0} {parts : Parts V A} (kept : IsKept parts) {e : slots.Content (Item V)} {index : Entries}
     {results : Vec (TaskId × V) A}
     (grown : IsGrown parts.places e parts.index index parts.results results) where
@@ -293,7 +293,7 @@ module _ {V A : Type 0} {parts : Parts V A} (kept : IsKept parts) {e : slots.Con
         }),
       )
 
--- ---- what the check of a delivery tells of a known task
+-- ---- what follows for a known task from the check of a delivery
 module _ {V : Type 0} where
   none_counted : (xs : List (Option V)) (k : ℕ) → k < length xs → get_or xs k None ≡ None → 0 < count_by is_none xs
   none_counted [] k h e = absurd (omega arith)
@@ -385,7 +385,7 @@ module _ {V A : Type 0} {parts : Parts V A} (kept : IsKept parts) {s : Content V
         },
       )
 
-  -- the call can be made
+  -- the precondition of the call holds
   pub can_supply : slots.IsIdle parts.places p × IfSome (slots.item_at parts.places p) (λ i. is_waiting i.task.life ≡ true)
       × IfSome (slots.item_at parts.places p) (λ i. slot < i.task.arity)
       × IfSome (slots.item_at parts.places p) (λ i. get_or i.task.values slot None ≡ None)
@@ -399,7 +399,7 @@ module _ {V A : Type 0} {parts : Parts V A} (kept : IsKept parts) {s : Content V
         rw k.1.at (counted kept t stands k.0 k.1.at),
       )
 
-  -- and what it leaves
+  -- and its effect
   pub supplied_all : (class : ℕ) (value : V) (d : slots.Content (Item V)) (now : Counts)
       → IfSome (slots.item_at parts.places p) (λ i. d ≡ with_supplied parts.places p i slot value)
       → IfSome (slots.item_at parts.places p) (λ i. now ≡ moved_counts parts.counts (Some i.task.life) (with_value i.task slot value).life)

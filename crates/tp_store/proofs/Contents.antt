@@ -34,7 +34,7 @@ module _ {X : Type 0} where
   pub count-push : (p : X → Bool) (xs : List X) (y : X) → count_by p (xs ++ y ∷ []) ≡ count_by p xs + cond (p y) 1 0
   count-push p xs y = omega (arith, sum_by-append (λ x. cond (p x) 1 0) xs (y ∷ []), sum_by-cons (λ x. cond (p x) 1 0) y [])
 
-  -- the front stands first in some list
+  -- the front is the first of some queue
   pub front_place : (rs : List (List X)) (x : X) → front rs ≡ Some x → (k : ℕ) × (later : List X) × (k < length rs)
       × (get_or rs k [] ≡ x ∷ later) × (without_front rs ≡ set rs k later)
   front_place [] x e = cc
@@ -360,7 +360,7 @@ module _ {V : Type 0} (s : Content V) (t : TaskId) where
     | inr apart ↦ omega (arith, ap (λ o. stage (option_map (λ y. y.life) o)) (task_there s t u x apart))
   ]
 
-  -- where it is known
+  -- if it is known
   changed_goes_on : (change : Task V → Task V)
       → ((x : Task V) → task_of s t ≡ Some x → stage (Some x.life) ≤ stage (Some (change x).life)) → (u : TaskId)
       → stage (life_of s u) ≤ stage (option_map (λ y. y.life) (finite.get (changed_tasks s t change) u.0))
@@ -391,8 +391,8 @@ module _ {V : Type 0} (s : Content V) (t : TaskId) where
   pub done_goes_on : (value : V) → NoneGoesBack s (with_done s t value)
   done_goes_on value = changed_goes_on done (λ x e. last_stage (Some x.life))
 
--- ---- Whether a task is ready: the counts tell
--- none has a front where all are empty
+-- ---- whether a task is ready, by the counts
+-- no queue has a front if all are empty
 no_front : {X : Type 0} (rs : List (List X)) (k : ℕ) → front rs ≡ None → get_or rs k [] ≡ []
 no_front [] k e = refl
 no_front ([] ∷ rest) zero e = refl
@@ -411,7 +411,7 @@ module _ {X : Type 0} where
         | Greater ↦ λ later. absurd later
       ]) h
 
-  -- where the test fails at each key, it counts none
+  -- if the test fails at each key, it counts none
   none_passing : (test : X → Bool) (es : List (ℕ × X)) → T (is_sorted nat_cmp es)
       → ((k : ℕ) (x : X) → find nat_cmp k es ≡ Some x → test x ≡ false) → passing test es ≡ 0
   none_passing test [] h fails = refl
@@ -436,11 +436,11 @@ module _ {X : Type 0} where
       untied : (k : ℕ) → k ≢ e.0 → find nat_cmp k (e ∷ es) ≡ find nat_cmp k es
       untied k apart = let is : (k == e.0) ≡ false = grind (arith, nat_tests) in rw (unsigned_tied k e.0, is) refl
 
--- a task is ready where one is counted
+-- a task is ready if one is counted
 pub available : {V : Type 0} (c : Content V) → IsSound c → is_some (front c.ready) ≡ nat_lt 0 (count_lives is_ready c)
 available {V} c sound = go (front c.ready) refl
   where
-    -- a ready task would stand in a list
+    -- a ready task would be in a queue
     none_ready : front c.ready ≡ None → (k : ℕ) (x : Task V) → find nat_cmp k (finite.entries c.tasks) ≡ Some x → is_ready x.life ≡ false
     none_ready empty k x at = elim (is_ready x.life) as (λ b. is_ready x.life ≡ b → b ≡ false) [
       | false ↦ λ e. refl

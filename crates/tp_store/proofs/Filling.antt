@@ -1,4 +1,4 @@
--- How a task's item keeps what it says.
+-- How a task's item keeps its invariant.
 use Rattle.std.proofs.Common.{◌≡◌, ℕ, zero, suc, ◌+◌, ◌-◌, ◌<◌, ◌≤◌, Bool, true, false, cond, List, [], length, take, set, get_or, map}
 use Rattle.std.proofs.Common.{replicate, insert, Option, Some, None, is_some}
 use Rattle.std.proofs.Common.{is_none, count_by, refl, sym, ap, ◌∙◌, arith, ◌∷◌, add-one}
@@ -62,7 +62,7 @@ module _ {V : Type 0} where
   length-spread (true ∷ fs) [] = ap suc (length-spread fs [])
   length-spread (true ∷ fs) (v ∷ vs) = ap suc (length-spread fs vs)
 
-  -- a slot has a value where its flag is set
+  -- a slot has a value if its flag is set
   pub spread-get : (fs : List Bool) (vs : List V) (k : ℕ) → count_set fs ≡ length vs
       → is_some (get_or (spread fs vs) k None) ≡ get_or fs k false
   spread-get [] vs k e = refl
@@ -83,7 +83,7 @@ module _ {V : Type 0} where
   spread-set (true ∷ fs) (w ∷ vs) (suc k) v h e n =
       rw (add-one (count_set (take k fs))) (ap (λ l. Some w ∷ l) (spread-set fs vs k v (omega arith) e (omega arith)))
 
-  -- where no slot lacks its value, the slots are the values
+  -- if no slot lacks its value, the slots are the values
   pub spread-all : (fs : List Bool) (vs : List V) → count_set fs ≡ length vs → count_by is_none (spread fs vs) ≡ 0
       → map (λ v. Some v) vs ≡ spread fs vs
   spread-all [] vs e none = rw (no_values vs e) refl
@@ -98,7 +98,7 @@ module _ {V : Type 0} where
   spread_none zero = refl
   spread_none (suc n) = ap (λ l. None ∷ l) (spread_none n)
 
--- so many empty slots
+-- this many empty slots
 pub count_none-fresh : (V : Type 0) (n : ℕ) → count_by is_none (spread {V = V} (replicate n false) []) ≡ n
 count_none-fresh V zero = refl
 count_none-fresh V (suc n) =
@@ -255,7 +255,7 @@ module _ {V : Type 0} where
   has_slot life arity class slot filled values e is low =
       rw e (sym (get_or-take arity filled slot false low) ∙ sym (spread-get (take arity filled) values.items slot is.each))
 
-  -- ---- the same where only a test says that the task waits
+  -- ---- the same if only a test shows that the task waits
   abbrev pub item_task : Life → ℕ → ℕ → List Bool → List V → Task V
   item_task life arity class filled values =
       record { life = life; arity = arity; class = class; values = slots_of life arity filled values }

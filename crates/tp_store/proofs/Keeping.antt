@@ -1,4 +1,4 @@
--- How the slots and the index give the content, what they tell of one task, and how a change of one task moves it.
+-- The content that the slots and the index represent, what they say of one task, and how a change of one task changes it.
 use Rattle.std.proofs.Common.{◌≡◌, ◌≢◌, ℕ, zero, suc, ◌<◌, ◌==◌, ◌^◌, Bool, true, false, cond, List, length, map, Option, Some, None}
 use Rattle.std.proofs.Common.{IsSome, unwrap_or, IfSome, refl, sym, ap, subst, ◌∙◌}
 use Rattle.std.proofs.Common.{inl, inr, arith, ◌≤◌, [], ◌∷◌, get_or, count_by, ◌+◌, is_some, MatchOption, Result, Ok, Err, OnOk, IfErr}
@@ -32,7 +32,7 @@ use Rattle.tp_store.proofs.Counting.{unfinished_counted}
 use Rattle.std.specs.Result.{IsErrAnd}
 use Rattle.std.specs.declared.vec.Vec.{Vec}
 
--- there is room where something stands
+-- there is room for each entry
 pub room_under : (index : Entries) (t : ℕ) (e : Entry) → entry_at index t ≡ Some e → IsSome (lookup index t)
 room_under index t e is = go (nat_lt t (2 ^ 32)) (lookup index t) is
   where
@@ -65,7 +65,7 @@ module _ {V : Type 0} where
             rw (there, low) refl
       ])
 
-  -- what is known of a task is what stands under its number
+  -- the state of a task is what the entry of its number says
   pub get-tasks_of : (c : slots.Content (Item V)) (index : Entries) (q : ℕ)
       → finite.get (tasks_of c index) q ≡ task_under c (entry_at index q)
   get-tasks_of c index q =
@@ -74,7 +74,7 @@ module _ {V : Type 0} where
       ≡ task_under c (if b then unwrap_or
       (lookup index q) None else None)) [ true ↦ refl | false ↦ refl ]
 
-  -- an entry says the same where the item at its place, if it has one, stays
+  -- an entry says the same if the item at its place, if it has one, stays
   under_same : (c d : slots.Content (Item V)) (p : ℕ) (e : Option Entry) → ((q : ℕ) → q ≢ p → slots.item_at d q ≡ slots.item_at c q)
       → (e ≡ Some (Live p) → ⊥) → task_under d e ≡ task_under c e
   under_same c d p None items apart = refl
@@ -105,7 +105,7 @@ module _ {V : Type 0} where
   tasks-same c index new same =
       finite.same_map nat_cmp_total finite.nat_cmp-IsAntisymmetric _ _ (λ q. get-tasks_of c new q ∙ same q ∙ sym (get-tasks_of c index q))
 
-  -- the numbers at listed places, where only an unlisted place is changed
+  -- the numbers at queued places, if only a place in no queue is changed
   pub numbers_same : (c d : slots.Content (Item V)) (p : ℕ) (lists : List (List ℕ))
       → ((q : ℕ) → q ≢ p → slots.item_at d q ≡ slots.item_at c q) → slots.times p lists ≡ 0
       → map (map (number_at d)) lists ≡ map (map (number_at c)) lists
@@ -130,7 +130,7 @@ module _ {V : Type 0} where
   gone_here c p = let e : (p == p) ≡ true =
       grind (arith, nat_tests) in get_removed c.items p p ∙ ap (λ b. cond b None (finite.get c.items p)) e
 
-  -- ---- a place is listed where its task is ready
+  -- ---- a place is queued if its task is ready
   abbrev pub listed : Bool → slots.Content (Item V) → ℕ → ℕ → slots.Content (Item V)
   listed b c p class = if b then slots.with_ready c class p else c
 
@@ -153,7 +153,7 @@ module _ {V : Type 0} where
   at_item None i P e h = let clash : None ≡ Some i = e in cc
   at_item (Some j) i P e h = let same : j ≡ i = cc in subst P same h
 
--- ---- a place is listed only where its task is
+-- ---- a place is queued only if its task is
 module _ (f : ℕ → TaskId) (p : ℕ) where
   times_below : (xs : List ℕ) → count_by (λ x. x == p) xs ≤ count_by (is_task (f p)) (map f xs)
   times_below [] = omega arith
@@ -176,7 +176,7 @@ module _ (f : ℕ → TaskId) (p : ℕ) where
   none_listed [] h = refl
   none_listed (r ∷ rs) h = omega (arith, h 0, times_below r, none_listed rs (λ class. h (suc class)))
 
--- ---- What is told of one task
+-- ---- what is known of one task
 module _ {V A : Type 0} {parts : Parts V A} (kept : IsKept parts) {s : Content V} (view : content_of parts ≡ s) (t : TaskId) where
   pub seen : (e : Option Entry) → entry_at parts.index t.0 ≡ e → task_of s t ≡ task_under parts.places e
   seen e is = ap (λ v. task_of v t) (sym view) ∙ get-tasks_of parts.places parts.index t.0 ∙ ap (task_under parts.places) is
@@ -214,7 +214,7 @@ module _ {V A : Type 0} {parts : Parts V A} (kept : IsKept parts) {s : Content V
   new_answer (Ok x) ok err = let e : (unfinished s == 65536) ≡ false = grind (arith, nat_tests, live_count, ok) in rw e refl
   new_answer (Err x) ok err = let e : (unfinished s == 65536) ≡ true = grind (arith, nat_tests, live_count, err.1) in rw e (ap Err err.0)
 
--- what a call is refused for, by what is known of the task
+-- what a call is refused for, by the state of the task
 pub insert_refusal : {V : Type 0} (s : Content V) (t : TaskId) (o : Option (Task V)) → task_of s t ≡ o
     → refusal_of_insert s t ≡ (if is_some o then Some TaskKnown else refusal_of_new s)
 insert_refusal s t o e = rw e refl
@@ -226,7 +226,7 @@ module _ {V : Type 0} (s : Content V) (t : TaskId) (arity slot : ℕ) where
   pub known_refusal : (x : Task V) → task_of s t ≡ Some x → refusal_of_deliver s t arity slot ≡ refusal_of_value x arity slot
   known_refusal x e = rw e refl
 
--- what a check answers
+-- the result of a check
 pub answers : {o w : Option Refusal} (r : Result (Unit {0}) Refusal) → o ≡ w → MatchOption w (r ≡ Ok tt) (λ e. r ≡ Err e)
     → MatchOption o (r ≡ Ok tt) (λ e. r ≡ Err e)
 answers r e is = rw e is
@@ -249,7 +249,7 @@ insertable {V} s t e = go (task_of s t) (refusal_of_new s) e
     go None w h = (refl, h)
     go (Some x) w h = cc
 
--- ---- Room is made for a task
+-- ---- room is reserved for a task
 module _ {V A : Type 0} {parts : Parts V A} (kept : IsKept parts)
     {s : Content V} (view : content_of parts ≡ s) where
   -- ---- what is kept with other room
@@ -281,9 +281,9 @@ module _ {V A : Type 0} {parts : Parts V A} (kept : IsKept parts)
           space = omega (arith, kept.space, grown.long, grown.capacity);
         }
 
-  -- ---- a task that may be made room for
+  -- ---- a task for which room may be reserved
   module _ (t : TaskId) where
-    -- what is known of the task tells what stands under its number
+    -- the state of the task determines the entry of its number
     pub unknown : entry_at parts.index t.0 ≡ None → task_of s t ≡ None
     unknown e = seen kept view t None e
 
@@ -311,7 +311,7 @@ module _ {V A : Type 0} {parts : Parts V A} (kept : IsKept parts)
         ≡ unwrap_or (if b then Some StoreFull else None) NoMemory) [ true ↦ refl | false ↦ refl ])
         ∙ ap (λ n. unwrap_or (if n == 65536 then Some StoreFull else None) NoMemory) (kept.held ∙ ap (λ v. unfinished v) view)
 
--- ---- what a refusal says
+-- ---- what follows from a refusal
 pub on_err : {X E : Type 0} (r : Result X E) (P : Type 0) → P → OnErr r P
 on_err (Ok x) P h = tt
 on_err (Err e) P h = h

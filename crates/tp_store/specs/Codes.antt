@@ -1,4 +1,4 @@
--- How a proof tells the contents of stores apart.
+-- How proofs distinguish the contents of stores.
 use Rattle.std.specs.Prelude.{ℕ, Option, List, refl}
 use Rattle.std.specs.Ordering.{nat_cmp}
 use Rattle.std.specs.FinMap as map

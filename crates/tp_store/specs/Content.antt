@@ -1,4 +1,4 @@
--- What a store keeps: its tasks, the ready ones in four lists, and the results.
+-- The content of a store: its tasks, the ready queues, and the results.
 use Rattle.std.specs.Prelude.{ℕ, zero, suc, ◌-◌, ◌≤◌, ◌==◌, ◌||◌, Bool, true, false, not, List, [], ◌∷◌, ◌++◌, count_by, replicate}
 use Rattle.std.specs.Prelude.{slice_index_or, slice_set, Option, None, Some, is_some}
 use Rattle.std.specs.Prelude.{unwrap_or, if◌then◌else◌}
@@ -17,15 +17,15 @@ use Rattle.tp_store.specs.declared.life.Counts.{Counts}
 use Rattle.tp_store.specs.declared.life.Delivered.{Delivered}
 use Rattle.tp_store.specs.declared.life.Delivered.TheVariants.{Inserted, Filled}
 
--- what is known of a task: its life, how many inputs it takes, its class, and what each of its input slots has. A task that
--- has begun has given its values away.
+-- the state of a task: its life, how many inputs it takes, its class, and the value of each input slot. A task that has begun has
+-- no values any more.
 pub record Task (V : Type 0) : Type 0 where
   pub life : Life
   pub arity : ℕ
   pub class : ℕ
   pub values : List (Option V)
 
--- all tasks by their numbers, done ones too; the ready ones in a list for each class; each done task with its result, in
+-- all tasks by their numbers, including done ones; the ready ones in a queue for each class; each done task with its result, in
 -- the order in which they were done
 pub record Content (V : Type 0) : Type 0 where
   pub tasks : map.FinMap nat_cmp (Task V)
@@ -55,7 +55,7 @@ is_unfinished life = not (is_done life)
 abbrev pub has_begun : Life → Bool
 has_begun life = is_running life || is_done life
 
--- the life of a task that lacks so many inputs
+-- the life of a task that lacks this many inputs
 abbrev pub life_lacking : ℕ → Life
 life_lacking zero = Ready
 life_lacking (suc k) = Waiting (suc k)
@@ -73,11 +73,11 @@ stage (Some Ready) = 2
 stage (Some Running) = 3
 stage (Some Done) = 4
 
--- a task is recorded as done where it was inserted and runs
+-- a task can be done if it was inserted and runs
 abbrev pub done_checks : Option Life → List Check
 done_checks life = (not (is_some life), NoTask) ∷ (not (unwrap_or (option_map is_running life) false), WrongLife) ∷ []
 
--- why a task of this life is not recorded as done
+-- why a task of this life cannot be done
 abbrev pub refusal_of_done : Option Life → Option Refusal
 refusal_of_done life = first_refusal (done_checks life)
 
@@ -113,7 +113,7 @@ module _ {V : Type 0} where
   abbrev pub values_of : Content V → TaskId → List (Option V)
   values_of c t = unwrap_or (option_map (λ x. x.values) (task_of c t)) []
 
-  -- each task has come as far as it was, or farther
+  -- the life of each task is the same as before or a later one
   abbrev pub NoneGoesBack : Content V → Content V → Type 0
   NoneGoesBack old new = (t : TaskId) → stage (life_of old t) ≤ stage (life_of new t)
 
@@ -128,8 +128,8 @@ module _ {V : Type 0} where
   abbrev pub counts_of : Content V → Counts
   counts_of c = record { waiting = count_lives is_waiting c; ready = count_lives is_ready c; running = count_lives is_running c }
 
-  -- ---- why a call is refused, want of memory apart
-  -- an unknown task is inserted where the store is not full
+  -- ---- why a call is refused, apart from failures of allocations
+  -- an unknown task is inserted if the store is not full
   abbrev pub new_checks : Content V → List Check
   new_checks c = (unfinished c == MAX_LIVE_TASKS, StoreFull) ∷ []
 
@@ -158,7 +158,7 @@ module _ {V : Type 0} where
   abbrev pub nothing_stored : Content V
   nothing_stored = record { tasks = map.empty; ready = [] ∷ [] ∷ [] ∷ [] ∷ []; results = [] }
 
-  -- the task is this from now on; where it is ready, it goes to the end of the list of its class
+  -- the task has this state from now on; if it is ready, it goes to the end of the queue of its class
   abbrev pub with_task : Content V → TaskId → Task V → Content V
   with_task c t x =
       record c { tasks = map.insert c.tasks t.0 x; ready = (if is_ready x.life then with_last c.ready x.class t else c.ready) }
@@ -171,7 +171,7 @@ module _ {V : Type 0} where
   abbrev pub with_inserted : Content V → TaskId → ℕ → Content V
   with_inserted c t class = with_task c t (fresh 0 class)
 
-  -- a value comes to its slot; an unknown task is inserted by it
+  -- a value is put into its slot; an unknown task is inserted by it
   abbrev pub with_delivered : Content V → TaskId → ℕ → ℕ → ℕ → V → Content V
   with_delivered c t arity class slot value = with_task c t (with_value (unwrap_or (task_of c t) (fresh arity class)) slot value)
 
@@ -183,6 +183,6 @@ module _ {V : Type 0} where
   abbrev pub with_done : Content V → TaskId → V → Content V
   with_done c t value = record c { tasks = changed_tasks c t done; results = c.results ++ (t, value) ∷ [] }
 
-  -- what a delivery answers
+  -- the effect of a delivery
   abbrev pub delivered_to : Content V → TaskId → ℕ → Delivered
   delivered_to c t arity = if is_some (task_of c t) then Filled else Inserted (arity - 1)

@@ -1,4 +1,4 @@
--- How a store keeps its content.
+-- The invariant of a store: how its slots, entries and results represent its content.
 use Rattle.std.specs.Prelude.{◌≡◌, ℕ, zero, suc, ◌+◌, ◌-◌, ◌^◌, ◌≤◌, ◌==◌, Bool, [], map as each, Option, None, Some, unwrap_or, vec_len}
 use Rattle.std.specs.Prelude.{vec_capacity, if◌then◌else◌}
 use Rattle.std.specs.Option.{option_map, IsSomeAnd}
@@ -19,12 +19,12 @@ use Rattle.tp_store.specs.declared.life.Counts.{Counts}
 use Rattle.tp_store.specs.declared.index.Entry.{Entry}
 use Rattle.tp_store.specs.declared.index.Entry.TheVariants.{Live, Done}
 
--- how much one task adds to the count of such lives, if there is one
+-- how much one task adds to the count of these lives, if there is one
 abbrev pub one : (Life → Bool) → Option Life → ℕ
 one test None = 0
 one test (Some life) = if test life then 1 else 0
 
--- the counts where a task goes from one life to another; a new one had none
+-- the counts after a task goes from one life to another; a new task had none
 abbrev pub moved_counts : Counts → Option Life → Life → Counts
 moved_counts counts was life = record {
   waiting = counts.waiting + one is_waiting (Some life) - one is_waiting was;
@@ -39,8 +39,8 @@ pub record IsCounted (was : Option Life) (counts : Counts) : Type 0 where
   pub running : one is_running was ≤ counts.running
   pub few : counts.waiting + counts.ready + counts.running ≤ MAX_LIVE_TASKS
 
--- what a store is made of: the items at their places, what stands under each number, the results, and how many tasks of
--- each life there are
+-- the parts of a store: the items at their places, the entry of each number, the results, and how many tasks of each life there
+-- are
 pub record Parts (V A : Type 0) : Type 0 where
   pub places : slots.Content (Item V)
   pub index : Entries
@@ -51,13 +51,13 @@ abbrev pub parts_of : {V A : Type 0} → slots.Content (Item V) → Entries → 
 parts_of places index results counts = record { places = places; index = index; results = results; counts = counts }
 
 module _ {V : Type 0} where
-  -- what the entry under a number says of its task
+  -- the state of the task that an entry refers to
   abbrev pub task_under : slots.Content (Item V) → Option Entry → Option (Task V)
   task_under c None = None
   task_under c (Some (Live place)) = option_map (λ i. i.task) (slots.item_at c place)
   task_under c (Some (Done arity class)) = Some (record { life = is_over; arity = arity; class = class; values = [] })
 
-  -- the tasks with what stands under one more number
+  -- the tasks with the one of another number, if it has an entry
   abbrev pub with_found : map.FinMap nat_cmp (Task V) → ℕ → Option (Task V) → map.FinMap nat_cmp (Task V)
   with_found tasks k None = map.remove tasks k
   with_found tasks k (Some x) = map.insert tasks k x
@@ -82,11 +82,11 @@ module _ {V : Type 0} where
   content_of s =
       record { tasks = tasks_of s.places s.index; ready = each (each (number_at s.places)) s.places.ready; results = s.results.items }
 
-  -- the same with the place of a ready task at the end of its list
+  -- the same with the place of a ready task at the end of its queue
   abbrev pub with_listed : slots.Content (Item V) → ℕ → Task V → slots.Content (Item V)
   with_listed c place x = if is_ready x.life then slots.with_ready c x.class place else c
 
-  -- the item at a place has one more value, and the place is in the list of its class where that makes its task ready
+  -- the item at a place has one more value, and the place is in the queue of its class if that makes its task ready
   abbrev pub with_supplied : slots.Content (Item V) → ℕ → Item V → ℕ → V → slots.Content (Item V)
   with_supplied c place i slot value =
       with_listed (slots.with_item c place (record i { task = with_value i.task slot value })) place (with_value i.task slot value)
@@ -111,7 +111,7 @@ module _ {V : Type 0} where
       pub long : vec_len after ≡ vec_len results
       pub capacity : vec_capacity results ≤ vec_capacity after
 
-    -- the store is kept with this content, and so many of its tasks are not done
+    -- the store keeps this content, and this many of its tasks are not done
     pub record Leaves (new : Parts V A) (c : Content V) (live : ℕ) : Type 0 where
       pub content : content_of new ≡ c
       pub count : unfinished (content_of new) ≡ live

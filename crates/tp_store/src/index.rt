@@ -1,4 +1,4 @@
-//! What stands under the numbers of tasks.
+//! The index of a store: an entry for each task number.
 ghost use Rattle.std.specs.Prelude.{◌≡◌, ◌==◌, ℕ, Some, None, IsSome, OnOk, OnErr, false, if◌then◌else◌};
 ghost use Rattle.tp_base.specs.Table.{lookup, has_place};
 ghost use Rattle.tp_store.specs.Entries.{entry_at};
@@ -7,19 +7,19 @@ use std::alloc::AllocError;
 use tp_base::{Table, TaskId};
 use tp_slots::Place;
 
-/// What stands under a task's number.
+/// The entry of a task.
 #[derive(Clone, Copy)]
 pub(crate) enum Entry {
     /// The place of a task that is not done.
     Live(Place),
-    /// How many inputs a done task took, and its class.
+    /// The number of inputs of a done task, and its class.
     Done(u8, u8),
 }
 
-/// What stands under each number. Where there is only room, nothing does.
+/// The entries by task number. A number that has only room has no entry.
 pub(crate) type Index = Table<Option<Entry>>;
 
-/// What stands under a number.
+/// Returns the entry of a number, or `None`.
 #[inline(always)]
 pub(crate) fn entry_of(index: &Index, task: TaskId) -> Option<Entry>
     ensures { result ≡ entry_at index.now task.0 }
@@ -30,7 +30,7 @@ pub(crate) fn entry_of(index: &Index, task: TaskId) -> Option<Entry>
     }
 }
 
-/// Makes room under a number where nothing stands. A number that has a place takes no memory.
+/// Reserves room for an entry. A number with a place allocates nothing.
 pub(crate) fn make_room(index: &mut Index, task: TaskId) -> Result<(), AllocError>
     requires { entry_at index.old task.0 ≡ None }
     ensures entries { (q : ℕ) → entry_at index.new q ≡ entry_at index.old q }
@@ -40,7 +40,7 @@ pub(crate) fn make_room(index: &mut Index, task: TaskId) -> Result<(), AllocErro
     index.insert(task.0, None)
 }
 
-/// Replaces what stands under a number that has room, which takes no memory.
+/// Sets the entry of a number that has room, which allocates nothing.
 #[inline(always)]
 pub(crate) fn set_entry(index: &mut Index, task: TaskId, to: Entry)
     requires { IsSome (lookup index.old task.0) }

@@ -1,4 +1,4 @@
-//! A task that is not done, with the inputs that it has.
+//! A task that is not done, with the inputs that have arrived.
 ghost use Rattle.std.specs.Prelude.{◌≡◌, ◌<◌, ◌≤◌, [], length, map, insert, Some, None, is_some, slice_index_or, true, false, MatchOption};
 ghost use Rattle.std.specs.Prelude.{IsOk, IfOk, IfErr};
 ghost use Rattle.smallvec.specs.SmallVec.{small_vec_len, HasRoomFor};
@@ -13,14 +13,14 @@ use std::marker::Model;
 use std::mem;
 use tp_base::{CLASSES, MAX_INPUTS, Refusal, TaskId};
 
-/// A task that is not done, with the inputs that it has: what a store keeps in its slots.
+/// A task that is not done, with the inputs that have arrived. A store keeps these in its slots.
 #[derive(Drop)]
 pub struct TaskItem<V> {
     number: TaskId,
     life: Life,
     arity: u8,
     class: u8,
-    // Which slots are filled, and their values in the order of the slots.
+    // Which slots are filled, and their values in slot order.
     filled: [bool; 16],
     values: SmallVec<V, 4>,
 }
@@ -41,28 +41,28 @@ impl<V> Model for TaskItem<V> {
 }
 
 impl<V> TaskItem<V> {
-    /// Its number.
+    /// Returns the task's number.
     pub(crate) fn number(&self) -> TaskId
         ensures { result ≡ self.now.number }
     {
         self.number
     }
 
-    /// What it has come to.
+    /// Returns the task's life.
     pub(crate) fn life(&self) -> Life
         ensures { result ≡ self.now.task.life }
     {
         self.life
     }
 
-    /// How many inputs it takes.
+    /// Returns the number of inputs it takes.
     pub(crate) fn arity(&self) -> u8
         ensures { result ≡ self.now.task.arity }
     {
         self.arity
     }
 
-    /// Its class.
+    /// Returns its class.
     pub(crate) fn class(&self) -> u8
         ensures value { result ≡ self.now.task.class }
         ensures in_range { result < CLASSES }
@@ -70,9 +70,10 @@ impl<V> TaskItem<V> {
         self.class
     }
 
-    /// Whether a value can come to a slot of this task, if it takes so many inputs.
+    /// Checks whether a value can be delivered to a slot of this task, if the task takes `arity` inputs.
     ///
-    /// `TaskKnown` where it has begun or takes another number of inputs, `SlotTaken` where the slot has its value.
+    /// Refused with `TaskKnown` if the task has begun or takes another number of inputs, `SlotTaken` if the slot has
+    /// its value.
     pub(crate) fn check(&self, arity: u8, slot: u8) -> Result<(), Refusal>
         ensures { MatchOption (refusal_of_value self.now.task arity slot) (result ≡ Ok tt) (λ e. result ≡ Err e) }
     {
@@ -85,7 +86,7 @@ impl<V> TaskItem<V> {
         Ok(())
     }
 
-    /// Whether a slot has its value, before the task has begun.
+    /// Returns whether a slot has its value, before the task has begun.
     fn has_value(&self, slot: u8) -> bool
         requires { has_begun self.now.task.life ≡ false }
         ensures { result ≡ is_some (slice_index_or self.now.task.values slot None) }
@@ -95,7 +96,7 @@ impl<V> TaskItem<V> {
 }
 
 impl<V: MadeWith<Global> + Drop> TaskItem<V> {
-    /// A task that has none of its inputs, with room for them. Up to four take no memory.
+    /// Returns a task without inputs, with room for all of them. Up to four inputs allocate nothing.
     pub(crate) fn new(number: TaskId, arity: u8, class: u8, alloc: Global) -> Result<Self, Refusal>
         requires arity_in_range { arity ≤ MAX_INPUTS }
         requires class_in_range { class < CLASSES }
@@ -115,7 +116,7 @@ impl<V: MadeWith<Global> + Drop> TaskItem<V> {
         })
     }
 
-    /// Puts a value into a free slot of a task that waits.
+    /// Puts a value into a free slot of a waiting task.
     #[inline(always)]
     pub(crate) fn fill(&mut self, slot: u8, value: V)
         requires waiting { is_waiting self.old.task.life ≡ true }
@@ -129,7 +130,7 @@ impl<V: MadeWith<Global> + Drop> TaskItem<V> {
         self.life = self.life.supplied();
     }
 
-    /// A ready task begins. Its inputs are moved out, in the order of the slots.
+    /// Begins a ready task. Returns its inputs, moved out in slot order.
     pub(crate) fn begin(&mut self) -> SmallVec<V, 4>
         requires { self.old.task.life ≡ Life.Ready }
         ensures inputs { map (λ v. Some v) result.items ≡ self.old.task.values }
@@ -142,7 +143,7 @@ impl<V: MadeWith<Global> + Drop> TaskItem<V> {
     }
 }
 
-// Inserts a value into a vector with room for it.
+// Inserts a value into a vector that has room for it.
 #[inline(always)]
 fn insert_reserved<V: MadeWith<Global> + Drop>(values: &mut SmallVec<V, 4>, at: usize, value: V)
     requires in_range { at ≤ small_vec_len values.old }
@@ -150,7 +151,7 @@ fn insert_reserved<V: MadeWith<Global> + Drop>(values: &mut SmallVec<V, 4>, at: 
     ensures items { values.new.items ≡ insert values.old.items at value }
     ensures capacity { values.new.capacity ≡ values.old.capacity }
 {
-    // Inputs mostly come in the order of their slots, and then none has to move.
+    // Inputs mostly arrive in slot order, and then no value has to move.
     if at == values.len() {
         values.push_reserved(value);
         return;
@@ -158,7 +159,7 @@ fn insert_reserved<V: MadeWith<Global> + Drop>(values: &mut SmallVec<V, 4>, at: 
     let _room_was_made = values.insert(at, value);
 }
 
-// How many flags are set.
+// Returns the number of flags that are set.
 #[inline(always)]
 fn count_set(flags: &[bool]) -> usize
     ensures value { result ≡ count_set flags.now }

@@ -1,5 +1,5 @@
-//! The tasks of a node: those that wait for inputs, those that are ready, those that run, and the results of those that
-//! are done.
+//! The tasks of one node: those that wait for inputs, the ready ones, the running ones, and the results of the done
+//! ones. Threads and other nodes are not here.
 #![tactic(auto)]
 
 mod index;

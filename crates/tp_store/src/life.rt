@@ -1,24 +1,25 @@
+//! The life of a task, from waiting to done, and the counts of tasks by life.
 ghost use Rattle.std.specs.Prelude.{◌≡◌, ◌+◌, ◌≤◌};
 ghost use Rattle.tp_store.specs.Content.{life_lacking, supplied, is_waiting, is_ready, is_running};
 ghost use Rattle.tp_store.specs.Kept.{one};
 
 use tp_base::MAX_LIVE_TASKS;
 
-/// What a task has come to. It goes from each of these to the next, and never back.
+/// The life of a task. It goes from each of these to the next, and never back.
 #[derive(Clone, Copy, Debug, PartialEq, Eq)]
 pub enum Life {
-    /// It waits for so many inputs, at least one.
+    /// It waits for this many inputs, at least one.
     Waiting(u8),
-    /// It has all its inputs, and stands in the list of its class.
+    /// It has all its inputs, and is in the ready queue of its class.
     Ready,
-    /// It has begun, and its inputs were given away.
+    /// It has begun, and its inputs were moved out.
     Running,
     /// It has its result.
     Done,
 }
 
 impl Life {
-    /// The life of a task that lacks so many inputs.
+    /// Returns the life of a task that lacks `count` inputs.
     #[tactic(auto, using(crate::proofs::Filling::ready_life, crate::proofs::Filling::waiting_life))]
     pub(crate) fn lacking(count: u8) -> Life
         ensures { result ≡ life_lacking count }
@@ -30,7 +31,7 @@ impl Life {
         }
     }
 
-    /// The life after one more input.
+    /// Returns the life after one more input.
     pub(crate) fn supplied(self) -> Life
         ensures { result ≡ supplied self }
     {
@@ -41,16 +42,16 @@ impl Life {
     }
 }
 
-/// What a delivery did.
+/// The effect of a delivery.
 #[derive(Clone, Copy, Debug, PartialEq, Eq)]
 pub enum Delivered {
-    /// It inserted the task, which waits for so many more inputs.
+    /// It inserted the task, which waits for this many more inputs.
     Inserted(u8),
-    /// It filled a slot of a task that was waiting.
+    /// It filled a slot of a waiting task.
     Filled,
 }
 
-/// How many tasks wait, are ready, and run.
+/// The numbers of tasks that wait, are ready, and run.
 #[derive(Clone, Copy, Debug, PartialEq, Eq)]
 pub struct Counts {
     /// Tasks that wait for an input.
@@ -61,7 +62,7 @@ pub struct Counts {
     pub running: u32,
 }
 
-// How much a task adds to the counts, if there is one: of those that wait, are ready, and run.
+// Returns how much a task adds to the three counts, if there is one.
 #[inline(always)]
 fn shares(life: Option<Life>) -> (u32, u32, u32)
     ensures waiting { result.0 ≡ one is_waiting life }
@@ -79,7 +80,7 @@ fn shares(life: Option<Life>) -> (u32, u32, u32)
 impl Counts {
     ghost use Rattle.tp_store.specs.Kept.{moved_counts, IsCounted};
 
-    /// How many tasks are not done.
+    /// Returns the number of tasks that are not done.
     #[inline(always)]
     pub(crate) fn live(&self) -> u32
         requires { self.now.waiting + self.now.ready + self.now.running ≤ MAX_LIVE_TASKS }
@@ -88,7 +89,7 @@ impl Counts {
         self.waiting + self.ready + self.running
     }
 
-    /// A task goes from one life to another; a new one had none.
+    /// Counts a task that goes from one life to another; a new task had none.
     #[inline(always)]
     pub(crate) fn moved(&mut self, was: Option<Life>, life: Life)
         requires { IsCounted was self.old }

@@ -1,4 +1,4 @@
-//! What the store does to the items in its slots.
+//! The operations of a store on the items in its slots.
 ghost use Rattle.std.specs.Prelude.{◌≡◌, ◌<◌, None, Some, IfSome, map, slice_index_or, true};
 ghost use Rattle.std.specs.Mem.{FitsInMemory};
 ghost use Rattle.tp_slots.specs.Content.{item_at, IsTaken, IsIdle, with_item};
@@ -14,7 +14,7 @@ use std::default::MadeWith;
 use tp_base::TaskId;
 use tp_slots::{Place, Slots};
 
-/// Puts a value into a free slot of the waiting task at a place, and lists it where that was its last.
+/// Puts a value into a free slot of the waiting task at a place, and queues the task if that was its last input.
 pub(crate) fn supply<S: Slots<TaskItem<V>>, V: MadeWith<Global> + Drop>(
     slots: &mut S,
     counts: &mut Counts,
@@ -39,7 +39,7 @@ pub(crate) fn supply<S: Slots<TaskItem<V>>, V: MadeWith<Global> + Drop>(
     counts.moved(Some(was), list_if_ready(slots, place));
 }
 
-/// The ready task at a place begins: its number, and its inputs in the order of the slots.
+/// Begins the ready task at a place. Returns its number, and its inputs in slot order.
 pub(crate) fn begin_at<S: Slots<TaskItem<V>>, V: MadeWith<Global> + Drop>(
     slots: &mut S,
     place: Place,
@@ -56,7 +56,7 @@ pub(crate) fn begin_at<S: Slots<TaskItem<V>>, V: MadeWith<Global> + Drop>(
     (item.number(), item.begin())
 }
 
-/// Puts an idle place at the end of the list of its task's class, where the task is ready, and answers the task's life.
+/// Queues an idle place by its task's class if the task is ready, and returns the task's life.
 #[inline(always)]
 pub(crate) fn list_if_ready<S: Slots<TaskItem<V>>, V>(slots: &mut S, place: Place) -> Life
     requires fits { FitsInMemory (the_row V.row) }

@@ -1,4 +1,4 @@
-//! A new task, and the room that is made for it.
+//! The insertion of a new task, and the memory that is reserved for it.
 ghost use Rattle.std.specs.Prelude.{◌≡◌, ◌<◌, ◌≤◌, ◌+◌, None, Some, IsSome, IsTrue, IsOk, OnOk, OnErr, IfOk, IfErr, unwrap_or, vec_len};
 ghost use Rattle.std.specs.Prelude.{vec_capacity};
 ghost use Rattle.std.specs.Mem.{FitsInMemory};
@@ -18,7 +18,7 @@ use std::default::MadeWith;
 use tp_base::{CLASSES, MAX_INPUTS, MAX_LIVE_TASKS, Refusal, TaskId};
 use tp_slots::{Place, Slots};
 
-/// Inserts a task that is not known, with none of its inputs, and answers its place.
+/// Inserts an unknown task without inputs, and returns its place.
 pub(crate) fn insert_fresh<S: Slots<TaskItem<V>>, V: MadeWith<Global> + Drop>(
     slots: &mut S,
     index: &mut Index,
@@ -61,9 +61,9 @@ pub(crate) fn insert_fresh<S: Slots<TaskItem<V>>, V: MadeWith<Global> + Drop>(
     Ok(place)
 }
 
-// Makes room for a task that is not known in the slots and under its number, and for its result beside those of so many
-// tasks that are not done. The item that comes back has room for the inputs. Where all have their room, and the inputs lie in
-// the item itself, it is not refused.
+// Reserves what an unknown task needs: a slot, an entry, and room for its result in addition to those of the `live`
+// unfinished tasks. The returned item has room for the inputs. If all of these have room and the inputs fit in the item
+// itself, the call is not refused.
 fn make_item<S: Slots<TaskItem<V>>, V: MadeWith<Global> + Drop>(
     slots: &mut S,
     index: &mut Index,

@@ -1,4 +1,4 @@
-//! The store of a node's tasks.
+//! The store of a node's tasks, with its calls.
 ghost use Rattle.std.specs.Prelude.{◌≡◌, ◌≢◌, ℕ, ◌+◌, ◌<◌, ◌≤◌, None, Some, is_some, IsOk, IfOk, IfErr, IfSome, OnOk, OnErr, MatchOption};
 ghost use Rattle.std.specs.Prelude.{unwrap_or, map, IsSome};
 ghost use Rattle.std.specs.Option.{option_map};
@@ -17,16 +17,16 @@ use std::mem;
 use tp_base::{CLASSES, MAX_INPUTS, MAX_LIVE_TASKS, Refusal, Table, TaskId};
 use tp_slots::Slots;
 
-/// A task that has begun, with its inputs in the order of its slots.
+/// A task that has begun, with its inputs in slot order.
 #[derive(Drop)]
 pub struct Begun<V> {
-    /// Its number.
+    /// The task's number.
     pub task: TaskId,
     /// The value of each of its inputs.
     pub inputs: SmallVec<V, 4>,
 }
 
-/// The tasks of a node, of which at most 65,536 are not done: what each has come to, which are ready in which class, and the
+/// The tasks of a node, of which at most 65,536 are not done: the life of each, the ready queues by class, and the
 /// results of those that are done.
 ///
 /// Contracts see the content.
@@ -36,7 +36,8 @@ pub struct TaskStore<S: Slots<TaskItem<V>>, V> {
     index: Index,
     results: Vec<(TaskId, V)>,
     counts: Counts,
-    // Always `None`: a store whose own type has an item in it is one whose items fit in memory, which its calls stand on.
+    // Always `None`. A store whose own type contains an item shows that its items fit in memory, which its calls rely
+    // on.
     no_item: Option<TaskItem<V>>,
     alloc: Global,
 }
@@ -61,7 +62,7 @@ impl<S: Slots<TaskItem<V>>, V> TaskStore<S, V> {
     ghost use Rattle.tp_store.specs.Content.{refusal_of_insert, refusal_of_deliver};
     ghost use Rattle.tp_store.specs.Sound.{IsSound};
 
-    /// A store with no task. It takes no memory yet.
+    /// Returns a store without tasks. It allocates nothing.
     pub fn new(alloc: Global) -> Self
         ensures content { result ≡ nothing_stored }
         ensures unfinished { unfinished result ≡ 0 }
@@ -80,7 +81,7 @@ impl<S: Slots<TaskItem<V>>, V> TaskStore<S, V> {
         }
     }
 
-    /// What a task has come to, or `None` where it was never inserted.
+    /// Returns the life of a task, or `None` if it was never inserted.
     #[inline(always)]
     pub fn life(&self, task: TaskId) -> Option<Life>
         ensures life { result ≡ life_of self.now task }
@@ -93,14 +94,14 @@ impl<S: Slots<TaskItem<V>>, V> TaskStore<S, V> {
         }
     }
 
-    /// Whether a task was ever inserted.
+    /// Returns whether a task was ever inserted.
     pub fn knows(&self, task: TaskId) -> bool
         ensures { result ≡ is_some (task_of self.now task) }
     {
         entry_of(&self.index, task).is_some()
     }
 
-    /// How many tasks wait, are ready, and run.
+    /// Returns the numbers of tasks that wait, are ready, and run.
     pub fn counts(&self) -> Counts
         ensures counts { result ≡ counts_of self.now }
         ensures unfinished { unfinished self.now ≡ result.waiting + result.ready + result.running }
@@ -109,14 +110,14 @@ impl<S: Slots<TaskItem<V>>, V> TaskStore<S, V> {
         self.counts
     }
 
-    /// Whether a task is ready: whether `begin` answers one.
+    /// Returns whether a task is ready, which is whether `begin` returns one.
     pub fn has_ready(&self) -> bool
         ensures { result ≡ is_some (front self.now.ready) }
     {
         self.counts.ready > 0
     }
 
-    /// Each task that is done with its result, in the order in which they were done.
+    /// Returns each done task with its result, in the order in which they were done.
     pub fn results(&self) -> &[(TaskId, V)]
         ensures results { result.now ≡ self.now.results }
         ensures sound { IsSound self.now }
@@ -124,9 +125,9 @@ impl<S: Slots<TaskItem<V>>, V> TaskStore<S, V> {
         self.results.as_slice()
     }
 
-    /// Whether an input-free task can be inserted.
+    /// Checks whether a task without inputs can be inserted.
     ///
-    /// `TaskKnown` where it was inserted before, `StoreFull` where 65,536 tasks are not done.
+    /// Refused with `TaskKnown` if it was inserted before, `StoreFull` if 65,536 tasks are not done.
     pub fn check_insert(&self, task: TaskId) -> Result<(), Refusal>
         ensures { MatchOption (refusal_of_insert self.now task) (result ≡ Ok tt) (λ e. result ≡ Err e) }
     {
@@ -136,10 +137,10 @@ impl<S: Slots<TaskItem<V>>, V> TaskStore<S, V> {
         }
     }
 
-    /// Whether a value can be delivered: what `deliver` answers, want of memory apart.
+    /// Checks whether a value can be delivered: returns what `deliver` would, apart from failures of allocations.
     ///
-    /// `TaskKnown` where the task has begun or is done, or was inserted with another number of inputs, `SlotTaken` where the
-    /// slot has its value, `StoreFull` where the task is unknown and 65,536 tasks are not done.
+    /// Refused with `TaskKnown` if the task has begun or is done, or was inserted with another number of inputs;
+    /// `SlotTaken` if the slot has its value; `StoreFull` if the task is unknown and 65,536 tasks are not done.
     #[inline(always)]
     pub fn check(&self, task: TaskId, arity: u8, slot: u8) -> Result<(), Refusal>
         ensures { MatchOption (refusal_of_deliver self.now task arity slot) (result ≡ Ok tt) (λ e. result ≡ Err e) }
@@ -152,7 +153,7 @@ impl<S: Slots<TaskItem<V>>, V> TaskStore<S, V> {
     }
 }
 
-// Whether one more task may live.
+// Checks whether one more task can be inserted.
 fn check_new(counts: &Counts) -> Result<(), Refusal>
     requires { counts.now.waiting + counts.now.ready + counts.now.running ≤ MAX_LIVE_TASKS }
     ensures ok { OnOk result (counts.now.waiting + counts.now.ready + counts.now.running < MAX_LIVE_TASKS) }
@@ -168,8 +169,8 @@ fn check_new(counts: &Counts) -> Result<(), Refusal>
 impl<S: Slots<TaskItem<V>> + Drop, V: Drop> TaskStore<S, V> {
     ghost use Rattle.tp_store.specs.Content.{nothing_stored};
 
-    /// Hands out each task that is done with its result, in the order in which they were done. The store is then as a new
-    /// one. It takes no memory.
+    /// Returns each done task with its result, in the order in which they were done, and leaves the store as new. It
+    /// allocates nothing.
     pub fn take_results(&mut self) -> Vec<(TaskId, V)>
         ensures results { result.items ≡ self.old.results }
         ensures emptied { self.new ≡ nothing_stored }
@@ -185,10 +186,10 @@ impl<S: Slots<TaskItem<V>>, V: MadeWith<Global> + Drop> TaskStore<S, V> {
     ghost use Rattle.tp_store.specs.Content.{with_inserted, with_delivered, with_begun, with_done, delivered_to, inserted_by, NoneGoesBack};
     ghost use Rattle.tp_store.specs.Sound.{IsSound};
 
-    /// Inserts an input-free task, ready at once. Its class is 0 to 3.
+    /// Inserts a task without inputs, which is ready at once. Its class is 0 to 3.
     ///
-    /// `TaskKnown` where it was inserted before, `StoreFull` where 65,536 tasks are not done, `NoMemory` where a growth was
-    /// refused.
+    /// Refused with `TaskKnown` if it was inserted before, `StoreFull` if 65,536 tasks are not done, `NoMemory` if an
+    /// allocation fails.
     pub fn insert(&mut self, task: TaskId, class: u8) -> Result<(), Refusal>
         requires { class < CLASSES }
         ensures checked { OnOk result (refusal_of_insert self.old task ≡ None) }
@@ -213,13 +214,12 @@ impl<S: Slots<TaskItem<V>>, V: MadeWith<Global> + Drop> TaskStore<S, V> {
         Ok(())
     }
 
-    /// Delivers a value to a slot of a task that takes 1 to 16 inputs. An unknown task is inserted by it. With
-    /// its last input a task is ready, in the class that it was inserted with: the class, 0 to 3, is looked at for an unknown
-    /// task alone. A refused value comes back.
+    /// Delivers a value to a slot of a task that takes 1 to 16 inputs. The first value inserts the task; with the last
+    /// one it is ready. The class, 0 to 3, counts only if the task is unknown. A refused value is returned.
     ///
-    /// `TaskKnown` where the task has begun or is done, or was inserted with another number of inputs, `SlotTaken` where the
-    /// slot has its value, `StoreFull` where the task is unknown and 65,536 tasks are not done, `NoMemory` where the task is
-    /// unknown and a growth was refused: a task that waits takes no memory.
+    /// Refused with `TaskKnown` if the task has begun or is done, or was inserted with another number of inputs;
+    /// `SlotTaken` if the slot has its value; `StoreFull` if the task is unknown and 65,536 tasks are not done;
+    /// `NoMemory` if the task is unknown and an allocation fails. A delivery to a waiting task allocates nothing.
     #[inline(always)]
     pub fn deliver(
         &mut self,
@@ -256,7 +256,7 @@ impl<S: Slots<TaskItem<V>>, V: MadeWith<Global> + Drop> TaskStore<S, V> {
         Ok(Delivered::Filled)
     }
 
-    // Inserts a task that is not known with its first value.
+    // Inserts an unknown task with its first value.
     fn deliver_unknown(
         &mut self,
         task: TaskId,
@@ -290,12 +290,13 @@ impl<S: Slots<TaskItem<V>>, V: MadeWith<Global> + Drop> TaskStore<S, V> {
             Ok(new_place) => new_place,
             Err(refusal) => return Err((refusal, value)),
         };
-        // The value comes once the item lies where it stays, so that the item moves once.
+        // The value is added once the item is in its slot, so that the item moves only once.
         supply(&mut self.slots, &mut self.counts, new_place, slot, value);
         Ok(Delivered::Inserted(arity - 1))
     }
 
-    /// The next ready task, of the lowest class that has one, begins: its inputs are moved out.
+    /// Begins the next ready task, of the lowest class that has one, and returns it with its inputs, or returns `None`
+    /// if none is ready.
     pub fn begin(&mut self) -> Option<Begun<V>>
         ensures next { option_map (λ b. b.task) result ≡ front self.old.ready }
         ensures life { IfSome result (λ b. life_of self.old b.task ≡ Some Life.Ready) }
@@ -313,9 +314,9 @@ impl<S: Slots<TaskItem<V>>, V: MadeWith<Global> + Drop> TaskStore<S, V> {
         Some(Begun { task, inputs })
     }
 
-    /// A running task is done, with this result. A refused result comes back.
+    /// Records that a running task is done, with its result. A refused result is returned.
     ///
-    /// `NoTask` where the task was never inserted, `WrongLife` where it does not run.
+    /// Refused with `NoTask` if the task was never inserted, `WrongLife` if it does not run.
     pub fn done(&mut self, task: TaskId, value: V) -> Result<(), (Refusal, V)>
         ensures checked { OnOk result (refusal_of_done (life_of self.old task) ≡ None) }
         ensures content { OnOk result (self.new ≡ with_done self.old task value) }

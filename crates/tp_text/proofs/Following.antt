@@ -180,9 +180,6 @@ oldest k h = drop (length h - k) h
 pub oldest_none : (h : List Event) → oldest 0 h ≡ []
 oldest_none h = drop_all (length h - 0) h (omega arith)
 
-pub oldest_all : (h : List Event) (k : ℕ) → k ≡ length h → oldest k h ≡ h
-oldest_all h k all = let none : length h - k ≡ 0 = omega (arith, all) in ap (λ i. drop i h) none
-
 pub oldest_next : (h : List Event) (k : ℕ) (e : Event) → k < length h → slice_get (reverse h) k ≡ Some e → oldest (k + 1) h ≡ e ∷ oldest k h
 oldest_next h k e within at =
     let place : suc (length h - (k + 1)) ≡ length h - k = omega (arith, within) in
@@ -209,9 +206,6 @@ pub spelled_there : (v : Version) (h : List Event) (k : ℕ) (e : Event) → k <
 spelled_there v h k e within at p =
     All-head (IsSpelled v) e.1 (steps_of (oldest k h))
     (subst (λ x. All (IsSpelled v) (steps_of x)) (oldest_next h k e within at) (spelled-drop v (length h - (k + 1)) h p))
-
-pub spelled_none : (v : Version) (h : List Event) → All (IsSpelled v) (steps_of (oldest 0 h))
-spelled_none v h = subst (λ x. All (IsSpelled v) (steps_of x)) (sym (oldest_none h)) (All-nil (IsSpelled v))
 
 pub spelled_next : (v : Version) (h : List Event) (k : ℕ) (e : Event) → k < length h → slice_get (reverse h) k ≡ Some e → IsSpelled v e.1
     → All (IsSpelled v) (steps_of (oldest k h)) → All (IsSpelled v) (steps_of (oldest (k + 1) h))
@@ -262,9 +256,6 @@ may_follow_next n h k e within at each l =
     may_follow n (oldest k h) e
     (subst (histories.InEach (IsRun n)) (oldest_next h k e within at) (each-drop (IsRun n) (length h - (k + 1)) h each))
     (omega (arith, within, l, length-drop (length h - k) h))
-
-pub followed_none : (n : ℕ) (h : History) (t : Tracer) → HasFollowed n [] t → HasFollowed n (present (steps_of (oldest 0 h))) t
-followed_none n h t f = subst (λ x. HasFollowed n (present (steps_of x)) t) (sym (oldest_none h)) f
 
 pub followed_next : (n : ℕ) (h : History) (k : ℕ) (e : Event) (t : Tracer) → k < length h → slice_get (reverse h) k ≡ Some e
     → HasFollowed n (present (e.1 ∷ steps_of (oldest k h))) t → HasFollowed n (present (steps_of (oldest (k + 1) h))) t

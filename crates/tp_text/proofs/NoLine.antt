@@ -3,18 +3,15 @@ use Rattle.std.proofs.Common.{◌≡◌, ◌≢◌, ℕ, ◌≤◌, Bool, true, 
 use Rattle.std.proofs.lemmas.Slice.Eq.{bytes_eq-Decides}
 use Rattle.std.specs.List.{All}
 use Rattle.std.specs.Str.{bytes_eq}
-use Rattle.tp_base.specs.declared.Step.{Step}
-use Rattle.tp_base.specs.declared.Step.TheVariants as steps
 use Rattle.tp_text.specs.declared.keyword.Keyword.{Keyword}
 use Rattle.tp_text.specs.declared.words.Operands.{Operands}
 use Rattle.tp_text.specs.Keywords.{keyword_text}
 use Rattle.tp_text.specs.Script.{BeginsWithStep, BeginsWithNodes, IsNodeCount, nodes_line}
-use Rattle.tp_text.specs.Spelling.{IsNumber, IsSpelled, spaced, word_of, numbers_of}
+use Rattle.tp_text.specs.Spelling.{IsNumber, spaced, word_of, numbers_of}
 use Rattle.tp_text.specs.Words.{IsWordByte, Splits, numbers_in}
 use Rattle.tp_text.proofs.Splits.{All-nil, All-cons}
 use Rattle.tp_text.proofs.Spelled.{line_parts, one_word, same_numbers, step_word, keyword_of_step}
 use Rattle.tp_text.specs.declared.version.Version.{Version}
-use Rattle.tp_text.specs.declared.version.Version.TheVariants as versions
 
 not_false : (b : Bool) → false ≡ not b → b ≡ true
 not_false true e = refl
@@ -34,41 +31,6 @@ no_keyword v text word a h none (s, rest, p, e) =
     let words = one_word text word a (word_of s) (numbers_of v s) rest h (step_word s) e in
     let key = keyword_of_step s in
     none key.0 (words.0 ∙ key.1)
-
-pub few_numbers : (v : Version) (s : Step) → length (numbers_of v s) ≤ 4
-few_numbers v (steps.Insert i t k) = lit≤ tt
-few_numbers v (steps.Supply t) = lit≤ tt
-few_numbers v (steps.Begin t) = lit≤ tt
-few_numbers v (steps.Done t) = lit≤ tt
-few_numbers v (steps.ActionOpen i a) = lit≤ tt
-few_numbers v (steps.ActionClose i a) = lit≤ tt
-few_numbers v (steps.Ready i) = lit≤ tt
-few_numbers versions.One (steps.Send i j m g) = lit≤ tt
-few_numbers versions.Two (steps.Send i j m g) = lit≤ tt
-few_numbers versions.One (steps.Recv j m g) = lit≤ tt
-few_numbers versions.Two (steps.Recv j m g) = lit≤ tt
-few_numbers versions.One (steps.MessageEnd j m g) = lit≤ tt
-few_numbers versions.Two (steps.MessageEnd j m g) = lit≤ tt
-few_numbers v steps.Start = lit≤ tt
-few_numbers v (steps.Down i) = lit≤ tt
-few_numbers v (steps.Give i) = lit≤ tt
-few_numbers v (steps.Up i) = lit≤ tt
-few_numbers v steps.Judge = lit≤ tt
-few_numbers v steps.Reopen = lit≤ tt
-
-pub no_operands : (v : Version) (text word a : List ℕ) → Splits IsWordByte text word a
-    → ((ks rest : List ℕ) → All IsNumber ks → length ks ≤ 4 → a ≢ spaced ks ++ 10 ∷ rest) → ¬ BeginsWithStep v text
-no_operands v text word a h none (s, rest, p, e) =
-    let words = one_word text word a (word_of s) (numbers_of v s) rest h (step_word s) e in
-    none (numbers_of v s) rest p.0 (few_numbers v s) words.1
-
-pub no_named : (v : Version) (text word a : List ℕ) (k : Keyword) (os : Operands) (after : List ℕ)
-    → Splits IsWordByte text word a → word ≡ keyword_text k
-    → All IsNumber (numbers_in os) × (a ≡ spaced (numbers_in os) ++ 10 ∷ after)
-    → ((s : Step) → IsSpelled v s → word_of s ≡ keyword_text k → numbers_of v s ≢ numbers_in os) → ¬ BeginsWithStep v text
-no_named v text word a k os after h is found none (s, rest, p, e) =
-    let words = one_word text word a (word_of s) (numbers_of v s) rest h (step_word s) e in
-    none s p (sym words.0 ∙ is) (same_numbers (numbers_of v s) (numbers_in os) rest after p.0 found.0 (sym words.1 ∙ found.1)).0
 
 pub no_nodes : (text word a : List ℕ) → Splits IsWordByte text word a → word ≢ codes "nodes" → ¬ BeginsWithNodes text
 no_nodes text word a h none (n, rest, p, e) = none (one_word text word a (codes "nodes") (n ∷ []) rest h refl e).0

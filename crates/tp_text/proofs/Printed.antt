@@ -8,21 +8,13 @@ use Rattle.std.specs.List.{list_any, slice_index_or}
 use Rattle.tp_core.specs.declared.NodeNumbers.{NodeNumbers}
 use Rattle.tp_core.specs.Accepted.{Accepted, world_of, numbers_at, no_numbers}
 use Rattle.tp_core.specs.World.{World, Action, Message, IsQuiet, is_done, is_quiet}
-use Rattle.tp_wave.specs.Sums.{total}
+use Rattle.tp_base.specs.Totals.{total}
 use Rattle.tp_text.specs.Printed.{listed}
 use Rattle.tp_text.specs.SimText.{node_lines, node_line, counts, all_numbers, closing}
 use Rattle.tp_text.specs.Spelling.{line}
 
 pub lines_more : (n : ℕ) (f : ℕ → NodeNumbers) → node_lines (n + 1) f ≡ node_lines n f ++ node_line n (f n)
 lines_more n f = rw add-one refl
-
--- one line more behind what was written
-pub lines_written : (n : ℕ) (f : ℕ → NodeNumbers) (start old new : List ℕ) (x : NodeNumbers) → x ≡ f n → old ≡ start ++ node_lines n f
-    → new ≡ old ++ node_line n x → new ≡ start ++ node_lines (n + 1) f
-lines_written n f start old new x is before e =
-    e ∙ ap (λ y. old ++ node_line n y) is ∙ ap (λ l. l ++ node_line n (f n)) before
-    ∙ append_assoc start (node_lines n f) (node_line n (f n))
-    ∙ ap (λ l. start ++ l) (sym (lines_more n f))
 
 -- what is written in four pieces
 pub four_pieces : (out a b d e f x y z w : List ℕ) → x ≡ out ++ a → y ≡ x ++ b → z ≡ y ++ (d ++ e) → w ≡ z ++ f

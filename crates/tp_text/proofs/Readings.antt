@@ -1,5 +1,5 @@
 -- What is read of a trace, from the lines that were taken; and that one thing is read of some bytes.
-use Rattle.std.proofs.Common.{◌≡◌, ℕ, ◌+◌, ◌≤◌, ◌<◌, ◌++◌, List, [], ◌∷◌, true, false, Option, Some, None, length, take, reverse, is_some}
+use Rattle.std.proofs.Common.{◌≡◌, ℕ, ◌+◌, ◌<◌, ◌++◌, List, [], ◌∷◌, true, Option, Some, None, length, take, reverse, is_some}
 use Rattle.std.proofs.Common.{refl, sym, ap, subst, ◌∙◌, inl, inr, arith, append-nil, length-append}
 use Rattle.std.proofs.lemmas.List.{length-reverse, reverse-append, reverse-reverse}
 use Rattle.std.proofs.Math.Seq.{take-append_seam}
@@ -20,17 +20,11 @@ use Rattle.tp_text.specs.AuditText.{account, flaw_line, steps_in, summary, IsAud
 use Rattle.tp_text.specs.Reading.{syntax_text, AreSoundPart, AreStepsBeforeFault, HasLines, IsSoundTraceOf, LacksHead}
 use Rattle.tp_text.specs.Reading.{ReadingsAreDetermined, TellsLineBehind}
 use Rattle.tp_text.specs.Trace.{trace, BreaksOff, IsTrace}
-use Rattle.tp_text.proofs.Recounting.{answer_found, length_steps, none_found}
+use Rattle.tp_text.proofs.Recounting.{answer_found, length_steps}
 use Rattle.tp_text.proofs.UniqueAudits.{audits_determined, has_format, has_nodes, same_place, sound_or_flawed}
 use Rattle.tp_text.proofs.UniqueTraces.{no_line_in_nothing, same_trace, traces_determined}
 
 -- ---- the steps that are handed out
-
-pub few_counted : (n : ℕ) (lines : List TraceLine) (a : Auditor) (o : Option (ℕ × Flaw)) → IsFound n lines a o
-    → a.account.steps ≤ length a.core.steps
-few_counted n lines a None h = omega (arith, ap (λ (x : Account). x.steps) h.account, ap (λ (x : Accepted). length x.steps) h.core)
-few_counted n lines a (Some f) h =
-    omega (arith, ap (λ (x : Account). x.steps) h.account, ap length h.core, length-append h.newest (steps_in h.past))
 
 -- the older of some steps, the oldest first
 older : (newest past core steps : List Step) (k : ℕ) → core ≡ newest ++ past → k ≡ length past → steps ≡ take k (reverse core)
@@ -75,13 +69,6 @@ handed_runs n lines a steps h e =
     let part = part_handed n lines a a.flaw steps h e in
     let sound : IsSound n part.0 = part_sound n lines part.0 part.1 in
     subst (AreRuns n) part.2 sound.run
-
-pub sound_read : (v : Version) (bytes : List ℕ) (n : ℕ) (lines : List TraceLine) (a : Auditor) (steps : List Step)
-    → false ≡ is_some a.flaw → IsTrace bytes v n lines → Knows n lines a → steps ≡ take a.account.steps (reverse a.core.steps)
-    → IsSoundTraceOf bytes n steps
-sound_read v bytes n lines a steps none t h e =
-    let known = none_found n lines a a.flaw none h in
-    (v, lines, t, known.sound, all_handed n lines a steps known e)
 
 -- the lines of a trace are all that it has
 has_all : (bytes : List ℕ) (v : Version) (n : ℕ) (lines : List TraceLine) → IsTrace bytes v n lines → HasLines bytes v n lines []

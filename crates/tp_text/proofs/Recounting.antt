@@ -1,6 +1,6 @@
 -- The lines of a trace, taken one by one.
-use Rattle.std.proofs.Common.{◌≡◌, ◌≢◌, ℕ, ◌+◌, ◌≤◌, ◌<◌, Bool, true, false, List, [], ◌∷◌, ◌++◌, length, Option, Some, None, Result, Ok}
-use Rattle.std.proofs.Common.{Err, refl, sym, ap, subst, ◌∙◌, append_assoc, append-nil, length-append, arith, inl, inr, is_some}
+use Rattle.std.proofs.Common.{◌≡◌, ◌≢◌, ℕ, ◌+◌, ◌≤◌, Bool, true, false, List, [], ◌∷◌, ◌++◌, length, Option, Some, None, Result, Ok}
+use Rattle.std.proofs.Common.{Err, refl, sym, ap, subst, ◌∙◌, append_assoc, length-append, arith, inl, inr, is_some}
 use Rattle.std.specs.Prelude.{MatchOption}
 use Rattle.std.specs.List.{All}
 use Rattle.tp_base.specs.declared.Refusal.{Refusal}
@@ -23,10 +23,10 @@ use Rattle.tp_text.specs.AuditText.{account, flaw_line, steps_in, step_in, summa
 use Rattle.tp_text.specs.Auditing.{AreStopped, AreTaken, IsFound, IsTold}
 use Rattle.tp_text.specs.Reading.{syntax_text, LacksHead}
 use Rattle.tp_text.specs.Script.{nodes_line, IsNodeCount, BeginsWithNodes}
-use Rattle.tp_text.specs.Trace.{format_line, trace, trace_line, words, BeginsWithFormat, BeginsWithLine, BreaksOff, IsTrace, IsWritten}
+use Rattle.tp_text.specs.Trace.{format_line, trace, trace_line, words, BeginsWithFormat, BreaksOff, IsTrace, IsWritten}
 use Rattle.tp_text.specs.Trace.{LacksNodes}
 use Rattle.tp_text.proofs.Splits.{All-nil, All-cons}
-use Rattle.tp_text.proofs.Taking.{is_over, step_counts}
+use Rattle.tp_text.proofs.Taking.{step_counts}
 use Rattle.tp_text.proofs.TraceLines.{judge_parts}
 use Rattle.tp_text.specs.declared.version.Version.{Version}
 
@@ -174,9 +174,6 @@ line_counts : (v : Version) (l : TraceLine) (behind : List ℕ) → length behin
 line_counts v (Plain s) behind = step_counts v s behind
 line_counts v (Judged o) behind = let e = judge_parts v o behind in omega (arith, ap length e, length-append (words o) (10 ∷ behind))
 
-pub line_shorter : (v : Version) (l : TraceLine) (rest behind : List ℕ) → rest ≡ trace_line v l ++ behind → length behind < length rest
-line_shorter v l rest behind e = omega (arith, ap length e, line_counts v l behind)
-
 pub reads_one : (v : Version) (text : List ℕ) (n : ℕ) (lines : List TraceLine) (rest : List ℕ) (number : ℕ) (l : TraceLine)
     (behind : List ℕ)
     → Reads v text n lines rest number → IsWritten v l × (rest ≡ trace_line v l ++ behind) → Reads v text n (l ∷ lines) behind (number + 1)
@@ -186,14 +183,6 @@ reads_one v text n lines rest number l behind h found = record {
   text_is = h.text_is ∙ ap (λ x. trace v n lines ++ x) found.1 ∙ sym (append_assoc (trace v n lines) (trace_line v l) behind);
   number_is = omega (arith, h.number_is);
   short = omega (arith, h.short, ap length found.1, line_counts v l behind);
-}
-
-pub reads_trace : (v : Version) (text : List ℕ) (n : ℕ) (lines : List TraceLine) (rest : List ℕ) (number : ℕ)
-    → Reads v text n lines rest number → length rest ≡ 0 → IsTrace text v n lines
-reads_trace v text n lines rest number h none = record {
-  nodes = h.count;
-  written = h.written;
-  text = h.text_is ∙ ap (λ x. trace v n lines ++ x) (is_over rest none) ∙ append-nil (trace v n lines);
 }
 
 -- what is answered once all lines were taken
@@ -218,18 +207,6 @@ answer_found v text n lines a None verdict out t h (is, e) =
     subst (λ w. IsAuditText text w out) (sym is) (v, n, lines, t, h.sound, e ∙ ap (summary v) h.account)
 answer_found v text n lines a (Some found) verdict out t h (is, e) =
     subst (λ w. IsAuditText text w out) (sym is) (inr (v, n, lines, found.0, found.1, t, has_flaw n lines a found.0 found.1 h, e))
-
--- a line that is not of the grammar
-pub breaks_off : (v : Version) (text : List ℕ) (n : ℕ) (lines : List TraceLine) (rest : List ℕ) (number : ℕ)
-    → Reads v text n lines rest number → 0 < length rest → ¬ BeginsWithLine v rest → BreaksOff text v n lines rest
-breaks_off v text n lines rest number h some none =
-    let before : IsTrace (trace v n lines) v n lines = record { nodes = h.count; written = h.written; text = refl } in
-    record {
-      before = before;
-      text = h.text_is;
-      more = λ e. omega (arith, some, ap length e);
-      no_line = none;
-    }
 
 pub broken_answered : (v : Version) (text : List ℕ) (n : ℕ) (lines : List TraceLine) (rest out : List ℕ) → BreaksOff text v n lines rest
     → out ≡ syntax_text (length lines + 3) → IsAuditText text Refused out

@@ -1,8 +1,6 @@
 -- The lines of a trace are told apart.
 use Rattle.std.proofs.Common.{◌≡◌, ◌≢◌, ℕ, ◌≤◌, nat_eq, true, false, List, [], ◌∷◌, ◌++◌, Option, Some, None, length, drop, take, codes}
 use Rattle.std.proofs.Common.{refl, sym, ap, ◌∙◌, append_assoc, arith}
-use Rattle.std.specs.Borrow.{Bor}
-use Rattle.std.specs.Prelude.{MatchOption, slice_index_or}
 use Rattle.std.specs.Cmp.Lexicographic.{same_text, pointwise}
 use Rattle.std.proofs.lemmas.List.{take-append-drop}
 use Rattle.std.specs.List.{All}
@@ -13,11 +11,10 @@ use Rattle.tp_text.specs.declared.keyword.Keyword.TheVariants as keywords
 use Rattle.tp_text.specs.declared.traced.TraceLine.TheVariants.{Plain, Judged}
 use Rattle.tp_text.specs.declared.words.Operands.{Operands}
 use Rattle.tp_text.specs.Keywords.{keyword_text}
-use Rattle.tp_text.specs.Script.{step_line, BeginsWithStep}
+use Rattle.tp_text.specs.Script.{step_line}
 use Rattle.tp_text.specs.Spelling.{IsNumber, IsSpelled, IsOfVersion, spaced, word_of, numbers_of}
-use Rattle.tp_text.specs.Trace.{trace_line, words, AreWords, BeginsWithLine, IsWritten}
+use Rattle.tp_text.specs.Trace.{trace_line, words, AreWords, BeginsWithLine}
 use Rattle.tp_text.specs.Words.{IsWordByte, BeginsWithout, Splits, numbers_in}
-use Rattle.tp_text.proofs.NoLine.{few_numbers}
 use Rattle.tp_text.proofs.Spelled.{line_parts, one_word, same_numbers, step_word, word_bytes, keyword_of_step, step_spelled, step_again}
 use Rattle.tp_text.proofs.Splits.{split_unique, All-nil, All-cons}
 use Rattle.tp_text.specs.declared.version.Version.{Version}
@@ -58,11 +55,6 @@ no_wave_words a os after found none w rest p e =
 
 -- ---- the numbers of a step
 
-pub no_numbers_behind : (v : Version) (a : List ℕ) (k : Keyword)
-    → ((ks rest : List ℕ) → All IsNumber ks → length ks ≤ 4 → a ≢ spaced ks ++ 10 ∷ rest)
-    → (s : Step) (rest : List ℕ) → IsSpelled v s → word_of s ≡ keyword_text k → a ≢ spaced (numbers_of v s) ++ 10 ∷ rest
-no_numbers_behind v a k none s rest p is e = none (numbers_of v s) rest p.0 (few_numbers v s) e
-
 pub no_step_behind : (v : Version) (a : List ℕ) (k : Keyword) (os : Operands) (after : List ℕ)
     → All IsNumber (numbers_in os) × (a ≡ spaced (numbers_in os) ++ 10 ∷ after)
     → ((s : Step) → IsSpelled v s → word_of s ≡ keyword_text k → numbers_of v s ≢ numbers_in os)
@@ -72,30 +64,14 @@ no_step_behind v a k os after found none s rest p is e =
 
 -- ---- a line for a step
 
-abbrev NoStep : Version → List ℕ → Keyword → Type 0
-NoStep v a k = (s : Step) (rest : List ℕ) → IsSpelled v s → word_of s ≡ keyword_text k → a ≢ spaced (numbers_of v s) ++ 10 ∷ rest
-
 abbrev StepFound : Version → List ℕ → Keyword → Step → List ℕ → Type 0
 StepFound v a k s after = IsSpelled v s × (word_of s ≡ keyword_text k) × (a ≡ spaced (numbers_of v s) ++ 10 ∷ after)
-
-pub no_line_of : (v : Version) (text word a : List ℕ) (k : Keyword) → Splits IsWordByte text word a → word ≡ keyword_text k
-    → NoStep v a k → ¬ BeginsWithStep v text
-no_line_of v text word a k h is none (s, rest, p, e) =
-    let parts = one_word text word a (word_of s) (numbers_of v s) rest h (step_word s) e in
-    none s rest p (sym parts.0 ∙ is) parts.1
 
 pub line_of : (v : Version) (text word a : List ℕ) (k : Keyword) (s : Step) (after : List ℕ) → Splits IsWordByte text word a
     → word ≡ keyword_text k → StepFound v a k s after
     → text ≡ step_line v s ++ after
 line_of v text word a k s after h is found =
     h.0 ∙ ap (λ w. w ++ a) (is ∙ sym found.1) ∙ ap (λ l. word_of s ++ l) found.2 ∙ sym (line_parts (word_of s) (numbers_of v s) after)
-
-pub step_found : (v : Version) (text word a : List ℕ) (k : Keyword) (r : Option (Step × Bor (List ℕ)))
-    → Splits IsWordByte text word a → word ≡ keyword_text k
-    → MatchOption r (NoStep v a k) (λ found. StepFound v a k found.0 found.1.now)
-    → MatchOption r (¬ BeginsWithStep v text) (λ found. IsSpelled v found.0 × (text ≡ step_line v found.0 ++ found.1.now))
-step_found v text word a k None h is none = no_line_of v text word a k h is none
-step_found v text word a k (Some found) h is f = (f.0, line_of v text word a k found.0 found.1.now h is f)
 
 -- ---- a line of a trace
 
@@ -117,24 +93,6 @@ judge_word v text word a o rest h e =
 pub is_judgement : (v : Version) (s : Step) → IsOfVersion v s → word_of s ≡ codes "judge" → s ≡ steps.Judge
 is_judgement v s h e = sym (step_again v s h) ∙ ap (λ w. step_spelled v w (numbers_of v s)) e
 
-pub keyword_judge : (k : Keyword) → keyword_text k ≡ codes "judge" → k ≡ keywords.Judge
-keyword_judge keywords.Judge e = refl
-keyword_judge keywords.Insert e = absurd (omega (arith, ap (λ l. slice_index_or l 0 0) e))
-keyword_judge keywords.Supply e = absurd (omega (arith, ap (λ l. slice_index_or l 0 0) e))
-keyword_judge keywords.Begin e = absurd (omega (arith, ap (λ l. slice_index_or l 0 0) e))
-keyword_judge keywords.Done e = absurd (omega (arith, ap (λ l. slice_index_or l 0 0) e))
-keyword_judge keywords.Open e = absurd (omega (arith, ap (λ l. slice_index_or l 0 0) e))
-keyword_judge keywords.Close e = absurd (omega (arith, ap (λ l. slice_index_or l 0 0) e))
-keyword_judge keywords.Ready e = absurd (omega (arith, ap (λ l. slice_index_or l 0 0) e))
-keyword_judge keywords.Send e = absurd (omega (arith, ap (λ l. slice_index_or l 0 0) e))
-keyword_judge keywords.Recv e = absurd (omega (arith, ap (λ l. slice_index_or l 0 0) e))
-keyword_judge keywords.End e = absurd (omega (arith, ap (λ l. slice_index_or l 0 0) e))
-keyword_judge keywords.Start e = absurd (omega (arith, ap (λ l. slice_index_or l 0 0) e))
-keyword_judge keywords.Down e = absurd (omega (arith, ap (λ l. slice_index_or l 0 0) e))
-keyword_judge keywords.Give e = absurd (omega (arith, ap (λ l. slice_index_or l 0 0) e))
-keyword_judge keywords.Up e = absurd (omega (arith, ap (λ l. slice_index_or l 0 0) e))
-keyword_judge keywords.Reopen e = absurd (omega (arith, ap (λ l. slice_index_or l 0 0) e))
-
 pub no_line_keyword : (v : Version) (text word a : List ℕ) → Splits IsWordByte text word a
     → ((k : Keyword) → word ≢ keyword_text k) → ¬ BeginsWithLine v text
 no_line_keyword v text word a h none (Plain s, rest, p, e) =
@@ -142,27 +100,3 @@ no_line_keyword v text word a h none (Plain s, rest, p, e) =
     let key = keyword_of_step s in
     none key.0 (parts.0 ∙ key.1)
 no_line_keyword v text word a h none (Judged o, rest, p, e) = none keywords.Judge (judge_word v text word a o rest h e).0
-
-pub no_judge_line : (v : Version) (text word a : List ℕ) → Splits IsWordByte text word a → word ≡ codes "judge"
-    → ((o : Option ℕ) (rest : List ℕ) → AreWords o → a ≢ words o ++ 10 ∷ rest) → ¬ BeginsWithLine v text
-no_judge_line v text word a h is none (Plain s, rest, p, e) =
-    p.1 (is_judgement v s p.0.2 (sym (one_word text word a (word_of s) (numbers_of v s) rest h (step_word s) e).0 ∙ is))
-no_judge_line v text word a h is none (Judged o, rest, p, e) = none o rest p (judge_word v text word a o rest h e).1
-
-pub no_plain_line : (v : Version) (text word a : List ℕ) (k : Keyword) → Splits IsWordByte text word a → word ≡ keyword_text k
-    → k ≢ keywords.Judge → NoStep v a k → ¬ BeginsWithLine v text
-no_plain_line v text word a k h is other none (Plain s, rest, p, e) = no_line_of v text word a k h is none (s, rest, p.0, e)
-no_plain_line v text word a k h is other none (Judged o, rest, p, e) =
-    other (keyword_judge k (sym is ∙ (judge_word v text word a o rest h e).0))
-
-pub judge_line : (v : Version) (text word a : List ℕ) (o : Option ℕ) (after : List ℕ) → Splits IsWordByte text word a
-    → word ≡ codes "judge" → AreWords o × (a ≡ words o ++ 10 ∷ after)
-    → IsWritten v (Judged o) × (text ≡ trace_line v (Judged o) ++ after)
-judge_line v text word a o after h is found =
-    (found.0, h.0 ∙ ap (λ w. w ++ a) is ∙ ap (λ l. codes "judge" ++ l) found.1 ∙ sym (judge_parts v o after))
-
-pub plain_line : (v : Version) (text word a : List ℕ) (k : Keyword) (s : Step) (after : List ℕ) → Splits IsWordByte text word a
-    → word ≡ keyword_text k → k ≢ keywords.Judge
-    → StepFound v a k s after → IsWritten v (Plain s) × (text ≡ trace_line v (Plain s) ++ after)
-plain_line v text word a k s after h is other found =
-    ((found.0, λ e. other (keyword_judge k (sym found.1 ∙ ap word_of e))), line_of v text word a k s after h is found)

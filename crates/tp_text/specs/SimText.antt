@@ -4,7 +4,7 @@ use Rattle.std.specs.List.{flat_map}
 use Rattle.tp_base.specs.declared.Refusal.{Refusal}
 use Rattle.tp_base.specs.declared.Step.{Step}
 use Rattle.tp_base.specs.Refusals.{number_of, name_of}
-use Rattle.tp_wave.specs.Sums.{total}
+use Rattle.tp_base.specs.Totals.{total}
 use Rattle.tp_core.specs.declared.NodeNumbers.{NodeNumbers}
 use Rattle.tp_core.specs.declared.Reply.{Reply}
 use Rattle.tp_core.specs.declared.Reply.TheVariants.{Plain, WaveSums, Not, Over, Opened}

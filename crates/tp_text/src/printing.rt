@@ -1,6 +1,6 @@
 ghost use Rattle.std.specs.Prelude.{◌≡◌, ◌++◌, ◌+◌, ◌^◌, ◌<◌, ◌≤◌, ℕ, length, decimal, codes, if◌then◌else◌, OnOk, IfOk, Err};
 ghost use Rattle.tp_base.specs.declared.limits.TheConstants.{MAX_NODES};
-ghost use Rattle.tp_wave.specs.Sums.{total};
+ghost use Rattle.tp_base.specs.Totals.{total};
 ghost use Rattle.tp_text.specs.Printed.{listed};
 ghost use Rattle.tp_text.specs.Spelling.{line};
 ghost use Rattle.tp_text.specs.SimText.{answer_line, counts, node_line, node_lines, closing};

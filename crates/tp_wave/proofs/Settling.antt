@@ -8,12 +8,14 @@ use Rattle.tp_base.specs.declared.NodeId.{NodeId}
 use Rattle.tp_base.specs.declared.Step.{Step}
 use Rattle.tp_base.specs.declared.Step.TheVariants.{Start, Down, Give, Up, Judge}
 use Rattle.tp_wave.specs.Steps.{before, count, any, is_start, is_down, is_give, is_up, is_judge}
-use Rattle.tp_wave.specs.Sums.{waves, earlier, total, four_equal, judgement, is_ended}
-use Rattle.tp_wave.specs.Control.{parent, in_wave, has_ended, is_reached, is_control, IsDue, IsControlStep, AreLawfulWaves}
+use Rattle.tp_base.specs.Totals.{total}
+use Rattle.tp_wave.specs.Sums.{waves, earlier, four_equal, judgement, is_ended}
+use Rattle.tp_base.specs.Tree.{parent}
+use Rattle.tp_wave.specs.Control.{in_wave, has_ended, is_reached, is_control, IsDue, IsControlStep, AreLawfulWaves}
 use Rattle.tp_wave.specs.Machine.{History, steps_of, IsRun}
 use Rattle.tp_wave.specs.Cut.{IsQuietHistory}
 use Rattle.tp_wave.specs.Settling.{SoonLaw, ComesNext, GoesOnLaw}
-use Rattle.tp_wave.proofs.Totals.{total_one-changes, total-zero}
+use Rattle.tp_base.proofs.Totals.{total_one-changes, total-zero}
 use Rattle.tp_wave.proofs.Positions.{before-all, before-append, length-steps_of}
 use Rattle.tp_wave.proofs.Visits.{lawful_waves, judged_ended, ended_given, all_given, newest-here, newest-past}
 use Rattle.tp_wave.proofs.Given.{none_reached, waves-earlier}

@@ -1,9 +1,9 @@
--- Where there is one node, each task runs there.
+-- If there is one node, each task runs there.
 use Rattle.std.specs.Prelude.{◌≡◌, ◌<◌, ℕ}
 use Rattle.std.proofs.Common.{arith}
 use Rattle.tp_graph.specs.Graphs.{IsLawful, TaskGraph}
 
--- what a feed of a task goes to runs at node 0
+-- the target of each feed runs at node 0
 pub home_alone : (g : TaskGraph) → IsLawful g → (t k : ℕ) → t < g.tasks → k < g.feeds t → g.home (g.target t k) 1 ≡ 0
 home_alone g law t k known within =
     let target = law.feeds_fill t k known within in

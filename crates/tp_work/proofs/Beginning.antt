@@ -1,4 +1,4 @@
--- Tasks of a node that begin in a row, told by their works.
+-- Tasks of a node that begin in a row, described by their work.
 use Rattle.std.proofs.Common.{◌≡◌, ◌≤◌, ℕ, List, [], ◌∷◌, ◌++◌, Option, Some, None, length, take, drop, refl, sym, ap, subst, ◌∙◌, arith}
 use Rattle.std.proofs.Common.{append-nil}
 use Rattle.std.specs.Prelude.{MatchOption, reverse}
@@ -48,7 +48,7 @@ module _ {G : Type 0} where
   pub nothing_begun : (n : NodeState G) (b : BoardState) → Rests n n b b
   nothing_begun n b = (record { history = refl; limit = refl; reserved = omega arith; fault = refl }, refl)
 
-  -- one more behind them
+  -- one more after them
   pub then_one : (ws : List (Begun G)) (old mid new : NodeState G) (b m l : BoardState) (w : Begun G) → BeginsEach ws old mid b m
       → Begins mid new m l w → BeginsEach (ws ++ w ∷ []) old new b l
   then_one [] old mid new b m l w each begins = (new, l, first_rests old mid new b m l w each begins, nothing_begun new l)
@@ -62,7 +62,7 @@ module _ {G : Type 0} where
   then_rests (v ∷ ws) old mid new b m l each rest =
       (each.0, each.1, each.2, then_rests ws each.0 mid new each.1 m l each.3 rest)
 
-  -- what a call of `begin` comes to, before others
+  -- the result of a call of `begin`, before others
   pub begun_before : (o : Option (Begun G)) (ws : List (Begun G)) (old mid new : NodeState G) (b m l : BoardState)
       → MatchOption o ((next_task old ≡ None) × Rests old mid b m) (Begins old mid b m) → BeginsEach ws mid new m l
       → BeginsEach (option_to_list o ++ ws) old new b l
@@ -118,7 +118,7 @@ module _ {G : Type 0} where
       let few = it.few in
       record { few = omega (arith, few); graph = All-tail (λ (x : Begun G). x.graph ≡ n.graph) w rest it.graph }
 
--- the last one is taken of a list that is read from behind
+-- the last element is taken from a list that is read from its end
 pub popped : {X : Type 0} (o : Option X) (all rest : List X) → all ≡ rest ++ option_to_list o
     → reverse all ≡ option_to_list o ++ reverse rest
 popped None all rest e = ap reverse (e ∙ append-nil rest)

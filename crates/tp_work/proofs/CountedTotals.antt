@@ -1,4 +1,4 @@
--- Where each task has one of some things, and no other task has any, there are as many as tasks.
+-- If each task has one of some things, and no other task has any, their number is that of the tasks.
 use Rattle.std.proofs.Common.{◌≡◌, ◌∙◌, ◌+◌, ◌<◌, ◌≤◌, ◌==◌, ℕ, zero, suc, Bool, true, false, cond, Some, List, [], ◌∷◌, length, refl, sym}
 use Rattle.std.proofs.Common.{ap, arith}
 use Rattle.std.proofs.lemmas.Bool.Decides.{nat_tests}
@@ -76,11 +76,11 @@ module _ {X : Type 0} (task : X → ℕ) where
   length-each_once tasks xs once =
       omega (arith, below-once tasks tasks xs once (omega arith), below-all tasks xs (λ t le. once t ∙ bit-above t tasks le))
 
--- There are as many results as tasks.
+-- The number of results is that of the tasks.
 pub length-once : (tasks : ℕ) (rs : Results) → HasEachOnce tasks rs → length rs ≡ tasks
 length-once tasks rs once = length-each_once (λ r. r.0.0) tasks rs once
 
--- ---- as many tasks are done
+-- ---- the number of tasks done
 -- the tasks that are done
 abbrev done_in : List Step → List ℕ
 done_in [] = []
@@ -93,11 +93,11 @@ length-done_in (Done t ∷ past) = let more : suc (length (done_in past)) ≡ le
     omega arith in more ∙ ap (λ k. k + 1) (length-done_in past)
 length-done_in (_ ∷ past) = length-done_in past
 
--- how often a task is done, of its moments
+-- how often a task is done, by its stages
 abbrev dones : List ℕ → ℕ
 dones ms = count_by (λ m. m == 2) ms
 
--- A step at which task u has this moment, or another step of a life.
+-- A step at which task u has this stage, or another step of a life.
 one_more : (t u : ℕ) (past : List Step) → times_of (λ u. u) t (done_in past) ≡ dones (moments t past)
     → times_of (λ u. u) t (u ∷ done_in past) ≡ dones (with_moment t (Some (u, 2)) (moments t past))
 one_more t u past before =
@@ -125,7 +125,7 @@ done_moments t (_ ∷ past) = done_moments t past
 dones-life : (tasks t : ℕ) → dones (life tasks t) ≡ bit (nat_lt t tasks)
 dones-life tasks t = elim (nat_lt t tasks) as (λ b. dones (cond b (2 ∷ 1 ∷ 0 ∷ []) []) ≡ bit b) [ true ↦ refl | false ↦ refl ]
 
--- There are as many tasks done as tasks.
+-- The number of tasks done is that of the tasks.
 pub count-done : (tasks : ℕ) (steps : List Step) → LivesOnce tasks steps → count is_done steps ≡ tasks
 count-done tasks steps lives =
     sym (length-done_in steps)

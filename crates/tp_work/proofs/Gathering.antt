@@ -1,4 +1,4 @@
--- What nodes in a row add up to.
+-- The sums over consecutive nodes.
 use Rattle.std.proofs.Common.{◌≡◌, ℕ, ◌+◌, List, [], ◌∷◌, length, map, refl, sym, ap, subst, ◌∙◌}
 use Rattle.std.specs.Prelude.{sum_by}
 use Rattle.std.specs.List.{All, flat_map}
@@ -9,7 +9,7 @@ use Rattle.tp_node.specs.Nodes.{NodeState, counted_of}
 use Rattle.tp_node.proofs.Gathering.{results_of}
 
 module _ {G : Type 0} where
-  -- as many tasks were done as there are results
+  -- the number of tasks done is the number of results
   pub done_by : (nodes : List (NodeState G))
       → sum_by (λ (s : ShareNumbers). s.done) (map counted_of nodes) ≡ length (flat_map results_of nodes)
   done_by [] = refl
@@ -18,7 +18,7 @@ module _ {G : Type 0} where
       ∙ ap (λ k. length (results_of n) + k) (done_by nodes)
       ∙ sym (length-append (results_of n) (flat_map results_of nodes))
 
--- what holds of each image holds of each element
+-- what holds for each image holds for each element
 pub All-of_map : {X Y : Type 0} (P : Y → Type 0) (f : X → Y) (xs : List X) → All P (map f xs) → All (λ x. P (f x)) xs
 All-of_map P f xs all = λ k d within. subst P (get_or-map f xs k d (f d) within) (all k (f d) (rw (length-map xs f) within))
 

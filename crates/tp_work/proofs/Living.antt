@@ -16,7 +16,7 @@ use Rattle.tp_wave.specs.Steps.{any, is_reopen}
 use Rattle.tp_work.specs.Lives.{AreStages, LivesOnce, first_moments, life, moment_of, moments, stage, with_moment}
 
 -- ---- events in the order of time
--- the oldest events, so many, the newest first
+-- the oldest events, this many, newest first
 abbrev pub oldest : ℕ → List Event → List Event
 oldest k h = drop (length h - k) h
 
@@ -64,7 +64,7 @@ length-first_moments : (k : ℕ) → length (first_moments k) ≡ k
 length-first_moments zero = refl
 length-first_moments (suc k) = ap suc (length-first_moments k)
 
--- what is told of a step: it is no moment, and nothing is reopened; or the next moment of its task; or it is refused
+-- what is shown of a step: it is no stage, and nothing is reopened; or the next stage of its task; or it is refused
 abbrev pub ToldOf : Option (ℕ × ℕ) → Bool → Bool → List ℕ → List ℕ → Type 0
 ToldOf o reopens answer stages new =
     (o ≡ None → (IsTrue answer ↔ IsFalse reopens) × (new ≡ stages))
@@ -110,7 +110,7 @@ pub one_generation-next : (s : Step) (past : List Step) (answer : Bool) (stages 
 one_generation-next s past answer stages new is_yes told before = rw (not_reopened s answer stages new is_yes told) before
 
 -- ---- a step that is refused
--- Of a whole life the moment after the first ones is the next.
+-- In a whole life the stage after the first ones is the next.
 next_of_life : (newer : List ℕ) (k n : ℕ) → newer ++ k ∷ first_moments n ≡ 2 ∷ 1 ∷ 0 ∷ [] → n ≡ k
 next_of_life [] k n e =
     let long : suc (length (first_moments n)) ≡ 3 = ap length e in
@@ -188,7 +188,7 @@ over_if_lives steps stages are once t d within =
     let life : first_moments (stage stages t) ≡ 2 ∷ 1 ∷ 0 ∷ [] = sym (are t) ∙ once.each t ∙ grind (arith, nat_tests, within) in
     get_or_default stages t d 0 within ∙ sym (length-first_moments (stage stages t)) ∙ ap length life
 
--- What all stages together tell.
+-- What follows from all stages together.
 pub stages-tell : (steps : List Step) (stages : List ℕ) (n : ℕ) (answer : Bool) → AreStages steps stages × IsFalse (any is_reopen steps)
     → length stages ≡ n
     → (IsTrue answer ↔ All (λ k. k ≡ 3) stages) → (IsTrue answer ↔ LivesOnce n steps)

@@ -21,7 +21,7 @@ count_by-take p xs i =
     ∙ ap (λ ys. length (filter p ys)) (take-append-drop i xs) in
     omega (arith, split, length-filter p (take i xs), length-filter p xs)
 
--- Where the next result is of a task that has no mark, or is marked, not each task below a number has its one result.
+-- If the next result is of a task that has no mark, or is marked, not each task below a number has its one result.
 pub not_once : (results : Results) (marks : List Bool) (i t : ℕ) (d : TaskId × List ℤ) → i < length results → (get_or results i d).0.0 ≡ t
     → AreMarks (take i results) marks → ((t < length marks) × (is_marked marks t ≡ false) → ⊥) → HasEachOnce (length marks) results → ⊥
 not_once results marks i t d within here marked not_fresh once =
@@ -32,7 +32,7 @@ not_once results marks i t d within here marked not_fresh once =
     let wanted = once t in
     grind (arith, nat_tests)
 
--- Where the marks of all results are set, each task has its one result; and only there.
+-- The marks of all results are set exactly if each task has its one result.
 pub once_if_marked : (results : Results) (marks : List Bool) → AreMarks results marks → All (λ mark. mark ≡ true) marks
     → HasEachOnce (length marks) results
 once_if_marked results marks marked all t =
@@ -45,7 +45,7 @@ pub marked_if_once : (results : Results) (marks : List Bool) → AreMarks result
     → All (λ mark. mark ≡ true) marks
 marked_if_once results marks marked once = λ t d within. get_or_default marks t d false within ∙ grind (arith, nat_tests, marked t, once t)
 
--- What all marks together tell.
+-- What follows from all marks together.
 pub marks-tell : (results : Results) (marks : List Bool) (n : ℕ) (answer : Bool) → AreMarks results marks → length marks ≡ n
     → (IsTrue answer ↔ All (λ mark. mark ≡ true) marks) → (IsTrue answer ↔ HasEachOnce n results)
 marks-tell results marks n answer marked long told =

@@ -1,4 +1,4 @@
--- Parts that stand at their places, and what they add up to.
+-- Parts that are at their places, and their sums.
 use Rattle.std.proofs.Common.{◌≡◌, ℕ, zero, suc, ◌+◌, ◌-◌, ◌*◌, ◌<◌, ◌≤◌, List, [], ◌∷◌, ◌++◌, length, map, get_or, take, refl, sym, ap}
 use Rattle.std.proofs.Common.{◌∙◌, add-zero, zero-mul, suc-mul, arith, length-append, append-nil}
 use Rattle.std.specs.Prelude.{sum_by}
@@ -9,7 +9,7 @@ use Rattle.std.proofs.lemmas.List.FromFn.{length-map-range_with_len}
 use Rattle.std.proofs.lemmas.List.Sums.{sum_by-append, sum_by-cons}
 use Rattle.tp_board.proofs.Links.{length-links_of}
 use Rattle.tp_board.specs.Numbers.{first_links, first_numbers, first_shares, links_of}
-use Rattle.tp_wave.specs.Sums.{total}
+use Rattle.tp_base.specs.Totals.{total}
 
 -- ---- numbers in a row
 range_from : (a n : ℕ) → range_with_len a (suc n) ≡ range_with_len a n ++ (a + n) ∷ []
@@ -49,11 +49,11 @@ total-range f (suc n) =
     ∙ ap (λ k. k + sum_by f (n ∷ [])) (total-range f n)
     ∙ ap (λ k. total n f + k) (sum_by-cons f n [] ∙ rw add-zero refl)
 
--- ---- how many parts there are
+-- ---- the number of parts
 pub length-first_shares : (n : ℕ) → length (first_shares n) ≡ n
 length-first_shares n = length-map-range_with_len first_numbers 0 n
 
--- each of so many nodes has a link to each other one
+-- each of this many nodes has a link to each other one
 length-links : (n k : ℕ) → k ≤ n → length (flat_map (links_of n) (range_with_len 0 k)) ≡ k * (n - 1)
 length-links n zero few = sym (zero-mul (n - 1))
 length-links n (suc k) few =

@@ -1,4 +1,4 @@
--- What a report tells of a pool whose nodes are at their places.
+-- What a report shows of a pool whose nodes are at their places.
 use Rattle.std.proofs.Common.{◌≡◌, ◌*◌, ◌↔◌, ℕ, List, [], ◌∷◌, Bool, true, false, Option, None, Some, Result, Ok, Err, IfOk, MatchResult}
 use Rattle.std.proofs.Common.{IsFalse, IsTrue, MatchOption, length, refl, sym, ap, subst, ◌∙◌, inl, inr}
 use Rattle.std.proofs.lemmas.Bool.{cases_Bool}
@@ -17,7 +17,8 @@ use Rattle.tp_wave.proofs.Generations.{present-goes_on, present_run, steps-prese
 use Rattle.tp_wave.specs.Generations.{present, present_events}
 use Rattle.tp_wave.specs.Machine.{History, IsRun, pending_at, steps_of}
 use Rattle.tp_wave.specs.Steps.{any, count, is_reopen}
-use Rattle.tp_wave.specs.Sums.{is_ended, total}
+use Rattle.tp_base.specs.Totals.{total}
+use Rattle.tp_wave.specs.Sums.{is_ended}
 use Rattle.tp_work.proofs.Gathering.{sum_by-map}
 use Rattle.tp_work.proofs.Placing.{sum_by-same, total-range}
 use Rattle.tp_work.specs.Lives.{LivesOnce}
@@ -53,20 +54,20 @@ module _ {G : Type 0} where
         right = right graph whole.of_graph;
       }
 
--- ---- a refusal that workers answered
+-- ---- a refusal that workers returned
 -- The first fault of two is one.
 kept-first : (kept : Option Refusal) (e : Refusal) → option_or kept (Some e) ≡ None → ⊥
 kept-first None e none = let bad : Some e ≡ None = none in cc
 kept-first (Some first) e none = let bad : Some first ≡ None = none in cc
 
--- Where a board to which this was told has no fault, nothing was told.
+-- If a board has no fault after this was set, nothing was set.
 pub untold : (told : Option Refusal) (old new : BoardState) → MatchOption told (new ≡ old) (λ fault. new ≡ with_fault fault old)
     → new.fault ≡ None → told ≡ None
 untold None old new is none = refl
 untold (Some e) old new is none = absurd (kept-first old.fault e (sym (ap (λ (b : BoardState). b.fault) is) ∙ none))
 
 -- ---- one generation
--- Where nothing was reopened, all events are of the present generation.
+-- If nothing was reopened, all events are of the present generation.
 pub all_present : (h : History) → IsFalse (any is_reopen (steps_of h)) → present_events h ≡ h
 all_present [] none = refl
 all_present (e ∷ past) none =
@@ -75,7 +76,7 @@ all_present (e ∷ past) none =
       | inr on ↦ present-goes_on e past on ∙ ap (λ (xs : History). e ∷ xs) (all_present past (rw on at none))
     ]
 
--- What a pool lacks whose end was judged and told to each node, by whether it was made once.
+-- What is missing in a pool whose termination was detected and announced to each node, by whether each task was done once.
 pub lack_by_made : {E : Type 0} (n tasks : ℕ) (r : Report) (made : Result Bool E) (answer : Option Refusal) → IsTrue r.ended
     → r.announced ≡ n
     → IfOk made (λ yes. IsTrue yes ↔ (HasEachOnce tasks r.results.items × LivesOnce tasks (steps_of r.history.events)))
@@ -91,7 +92,7 @@ lack_by_made n tasks r (Ok false) answer ended announced told is =
 lack_by_made n tasks r (Err e) answer ended announced told is =
     subst (λ (o : Option Refusal). MatchOption o (IsComplete n tasks r) (IsLack n tasks r)) (sym is) (inr (refl, ended, announced))
 
--- What is told of a complete pool is its outcome.
+-- The report of a complete pool gives its outcome.
 pub is_outcome : (n workers answered : ℕ) (g : TaskGraph) (r : Report) → IsReport n g r → IsComplete n g.tasks r → answered ≡ n * workers
     → IsOutcome n workers g
     (record {
@@ -118,7 +119,7 @@ is_outcome n workers answered g r report complete all_answered =
       answered = all_answered;
     }
 
--- What is told of a pool that has no outcome, and of which this was gathered, is its fault.
+-- The report of a pool that has no outcome gives its fault.
 pub is_fault : (n tasks : ℕ) (g : TaskGraph) (f : Fault) (r : Report) → tasks ≡ g.tasks → IsReport n g r → f.report ≡ Some r
     → MatchOption r.fault (IsLack n tasks r f.refusal) (λ e. IsAnswer (length r.history.events) e f.refusal) → IsFault n g f
 is_fault n tasks g f r same report is why =

@@ -1,4 +1,4 @@
--- Rounds beside the events of their generations.
+-- Rounds compared with the events of their generations.
 use Rattle.std.proofs.Common.{◌≡◌, ◌∙◌, ◌+◌, ◌<◌, ◌≤◌, ◌⊎◌, ℕ, true, false, List, [], ◌∷◌, ◌++◌, length, map, reverse, Option, Some, None}
 use Rattle.std.proofs.Common.{IfErr, IsTrue, MatchOption, OnOk, Result, Ok, Err, refl, sym, ap, subst, inl, inr, arith, get_or, vec_len}
 use Rattle.std.specs.List.{All, AllZip}
@@ -49,12 +49,12 @@ some_of : {X : Type 0} (xs : List X) (k : ℕ) → k < length xs → X
 some_of [] k within = absurd (omega (arith, within))
 some_of (x ∷ xs) k within = x
 
--- ---- answers
+-- ---- results
 pub both_ok : {T E P Q R : Type 0} (r : Result T E) → (P → Q → R) → OnOk r P → OnOk r Q → OnOk r R
 both_ok (Ok x) f p q = f p q
 both_ok (Err e) f p q = p
 
--- ---- messages that are told
+-- ---- numbers of messages
 module _ (old new : List Round) (sent : List ℕ) (many : length new ≡ length old)
     (told : (k : ℕ) (r : Round) → k < length old → get_or new k r ≡ with_messages (get_or sent k 0) (get_or old k r)) where
   pub kept-told : (n workers : ℕ) (g : TaskGraph) → All (IsKept n workers g) old → All (IsKept n workers g) new
@@ -111,7 +111,7 @@ all_well n tasks h runs ended lives =
     ((ended_generations_law n h runs).0 k d within).ended) in
     λ k d within. record { ended = ends k d within; lives = lives k d within }
 
--- What is told of a series that lacks nothing.
+-- The result for a series in which nothing is missing.
 pub is_series : (n workers : ℕ) (g : TaskGraph) (count : ℕ) (s : Series) → AreRuns n s.history.events
     → IsTrue (is_ended n (present (steps_of s.history.events)))
     → LivesInEach g.tasks s.history.events → All (IsKept n workers g) s.rounds.items
@@ -148,13 +148,13 @@ module _ {G : Type 0} where
         (subst (IsSeriesLack n g.tasks count r) (sym told.0) (lacks r told.1)),
   )
 
-  -- The fault of a pool that stops for a refusal, where no fault was set and this is what it lacks.
+  -- The fault of a pool that stops for a refusal, if no fault was set and this is what is missing.
   pub is_fault : (n : ℕ) (g : TaskGraph) (count : ℕ) (f : Fault) (refusal : Refusal) (nodes : List (NodeState G)) (board : BoardState)
       → IsTold n g refusal nodes board f → board.fault ≡ None
       → ((r : Report) → IsReportOf n g nodes board r → IsSeriesLack n g.tasks count r refusal) → IsSeriesFault n g count f
   is_fault n g count f refusal nodes board told none lacks = is_fault-with n g count f.report f.refusal refusal nodes board told none lacks
 
--- Where nothing has happened in the present generation, its end was not judged.
+-- If nothing has happened in the present generation, its termination was not detected.
 pub not_ended : (n : ℕ) (g : TaskGraph) (r : Report) (h : History) → IsReport n g r → r.history.events ≡ h → present_events h ≡ []
     → IsTrue r.ended → ⊥
 not_ended n g r h report events opened ended =
@@ -183,7 +183,7 @@ refused_by {A} {P} {T} b self pool ended token refusal result is answers =
           (ap (λ (e : Refusal × P × T). e.1) parts, inl (ap (λ (e : Refusal × P × T). e.0) parts))
     ]
 
--- What a pool lacks that was to be reopened for another round, and was refused: memory or a place.
+-- What is missing in a pool whose reopening for another round was refused: memory or a place.
 pub lack_of_refusal : (n tasks count : ℕ) (r : Report) (b : BoardState) (refusal : Refusal) → IsTrue r.ended → r.announced ≡ n
     → length r.history.events ≤ MAX_STEPS → r.history.events ≡ b.history → b.limit ≡ MAX_STEPS
     → length (generations b.history) < count → (refusal ≡ NoMemory)
@@ -201,7 +201,7 @@ lack_of_refusal n tasks count r b refusal ended announced few events limit wante
       },
     ))
 
--- The fault of a pool that was to be reopened for another round, where it and what came back are the same.
+-- The fault of a pool whose reopening for another round was refused, if it and what was returned are the same.
 module _ {G : Type 0} where
   pub not_reopened : (n : ℕ) (g : TaskGraph) (count : ℕ) (f : Fault) (refusal : Refusal) (nodes : List (NodeState G)) (b : BoardState)
       → IsTold n g refusal nodes b f → b.fault ≡ None → b.limit ≡ MAX_STEPS

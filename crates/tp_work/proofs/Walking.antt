@@ -30,7 +30,7 @@ ended-reopened e past r = rw r
 ended-goes_on : (e : Event) (past : History) → IsFalse (is_reopen (step_of e)) → ended_generations (e ∷ past) ≡ ended_generations past
 ended-goes_on e past on = rw on
 
--- There are as many generations as the number of the present one says.
+-- The number of generations is the number of the present one.
 pub many_generations : (h : History) → length (generations h) ≡ generation (steps_of h)
 many_generations [] = refl
 many_generations (e ∷ past) =
@@ -48,7 +48,7 @@ one_present (e ∷ past) =
       | inr on ↦ rw (present-goes_on e past on, on) (one_present past)
     ]
 
--- With each event there are as many generations, or more.
+-- With each event the number of generations stays the same or grows.
 pub ended-grow : (later past : History) → length (ended_generations past) ≤ length (ended_generations (later ++ past))
 ended-grow [] past = omega arith
 ended-grow (e ∷ later) past =
@@ -59,7 +59,7 @@ ended-grow (e ∷ later) past =
       | false ↦ ended-grow later past
     ]
 
--- Where a place has a reopening, a generation ended there.
+-- At the position of a reopening, a generation ended.
 pub ended-before : (h : History) (k : ℕ) (e : Event) → k < length h → slice_get (reverse h) k ≡ Some e → IsTrue (is_reopen (step_of e))
     → length (ended_generations (oldest k h)) + 1 ≤ length (ended_generations h)
 ended-before h k e within at reopens =
@@ -184,7 +184,7 @@ no_life-on later past e stages new sent messages answer on followed is_no told a
     no_life_on (step_of e) (λ t. (now t).0) (steps_of (present_events past)) stages new answer is_no told on followed.present (λ t.
     (now t).1)
 
--- What all stages together tell of all generations.
+-- What follows from all stages for all generations.
 pub stages-tell-all : (h : History) (stages sent : List ℕ) (messages n : ℕ) (answer : Bool) → IsFollowed h stages sent messages
     → length stages ≡ n
     → (IsTrue answer ↔ All (λ k. k ≡ 3) stages) → (IsTrue answer ↔ LivesInEach n h)

@@ -1,4 +1,4 @@
--- What a worker knows of a finished task and of its node while it passes feeds on.
+-- What is known of a finished task and of its node while a worker passes feeds on.
 use Rattle.std.specs.Prelude.{ℕ, ◌≡◌, ◌<◌}
 use Rattle.tp_graph.specs.Carried.{Ran}
 use Rattle.tp_graph.specs.Graphs.{TaskGraph}
@@ -6,7 +6,7 @@ use Rattle.tp_node.specs.Feeds.{HasFeed, next_home}
 use Rattle.tp_node.specs.Nodes.{NodeState}
 
 module _ {G : Type 0} where
-  -- the next feed goes to this node, of so many
+  -- the next feed goes to this node, out of this many
   abbrev pub GoesTo : TaskGraph → Ran G → ℕ → ℕ → Type 0
   GoesTo g f nodes home = HasFeed g f × (home ≡ next_home g f nodes) × (home < nodes)
 

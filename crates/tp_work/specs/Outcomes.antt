@@ -1,4 +1,4 @@
--- What a pool answers once all its threads have ended.
+-- The outcome of a pool once all its threads have ended, or its fault.
 use Rattle.std.specs.Prelude.{ℕ, List, Bool, false, length, slice_index_or, ◌≡◌, ◌+◌, ◌*◌, ◌≤◌, ◌⊎◌, if◌then◌else◌, IsTrue}
 use Rattle.std.specs.Prelude.{MatchOption, vec_len}
 use Rattle.tp_base.specs.declared.limits.TheConstants.{MAX_IDLE_TURNS, MAX_NODES, MAX_STEPS, MAX_WORKERS}
@@ -19,7 +19,7 @@ use Rattle.tp_work.specs.declared.config.Fault.{Fault}
 use Rattle.tp_work.specs.declared.config.Outcome.{Outcome}
 use Rattle.tp_work.specs.declared.gathered.Report.{Report}
 
--- how a pool may run
+-- the limits of a configuration
 pub record IsWithinLimits (c : Config) : Type 0 where
   pub nodes : (1 ≤ c.nodes) × (c.nodes ≤ MAX_NODES)
   pub workers : (1 ≤ c.workers) × (c.workers ≤ MAX_WORKERS)
@@ -33,10 +33,10 @@ is_marked marks t = slice_index_or marks t false
 abbrev pub AreMarks : Results → List Bool → Type 0
 AreMarks results marks = (t : ℕ) → times t results ≡ (if is_marked marks t then 1 else 0)
 
--- Each task of the graph has a value and one result, which is that value where the graph keeps it, and else no numbers;
--- and no other task has any result. The events are a run on n nodes whose end was judged and told to each node, in which
--- each task of the graph was inserted, began and was done once, with as many tasks done as there are results, and with
--- the messages that are answered. So many workers at each node have answered.
+-- The outcome of a run. Each task of the graph has a value and one result, which is that value if the graph keeps it, and else no
+-- numbers; no other task has a result. The events are a run on n nodes whose termination was detected and announced to each node.
+-- In it each task of the graph was inserted, began and was done once. The numbers of tasks done, results and messages agree with
+-- it. This many workers at each node have returned.
 pub record IsOutcome (n workers : ℕ) (g : TaskGraph) (o : Outcome) : Type 0 where
   pub each_once : HasEachOnce g.tasks o.results.items
   pub right : AreResults g o.results.items
@@ -48,24 +48,24 @@ pub record IsOutcome (n workers : ℕ) (g : TaskGraph) (o : Outcome) : Type 0 wh
   pub messages : o.messages ≡ count is_send (steps_of o.history.events)
   pub answered : o.workers ≡ n * workers
 
--- The end was judged and told to each of n nodes, each task has one result, and each task lived once.
+-- Termination was detected and announced to each of n nodes, each task has one result, and each task lived once.
 pub record IsComplete (n tasks : ℕ) (r : Report) : Type 0 where
   pub ended : IsTrue r.ended
   pub announced : r.announced ≡ n
   pub each_once : HasEachOnce tasks r.results.items
   pub lives : LivesOnce tasks (steps_of r.history.events)
 
--- Why a pool of so many tasks, in which no fault was set, has no outcome: it is not complete; or its end was judged and told
--- to each of n nodes, and there was no memory to tell whether each task has one result and lived once.
+-- Why a pool in which no fault was set has no outcome: it is not complete; or termination was detected and announced to each of n
+-- nodes, and an allocation failed in the check that each task has one result and lived once.
 abbrev pub IsLack : ℕ → ℕ → Report → Refusal → Type 0
 IsLack n tasks r e =
     ((e ≡ Missing) × (IsComplete n tasks r → ⊥)) ⊎ ((e ≡ NoMemory) × IsTrue r.ended × (r.announced ≡ n))
 
--- At most one place for an event is left.
+-- There is room for at most one more event.
 abbrev pub IsFull : ℕ → Type 0
 IsFull events = (events ≤ MAX_STEPS) × (MAX_STEPS ≤ events + 1)
 
--- What is answered for a fault, after so many events: that the history is full is told with its length, and only where it is.
+-- The refusal for a fault, after this many events: `HistoryFull` has their number, and is returned only if the history is full.
 abbrev pub IsAnswer : ℕ → Refusal → Refusal → Type 0
 IsAnswer events (HistoryFull k) e = ((e ≡ HistoryFull events) × IsFull events) ⊎ ((e ≡ Missing) × (IsFull events → ⊥))
 IsAnswer events fault e = e ≡ fault
@@ -74,11 +74,11 @@ IsAnswer events fault e = e ≡ fault
 abbrev pub IsMisplaced : Refusal → Type 0
 IsMisplaced e = (e ≡ NoNode) ⊎ (e ≡ Stranger)
 
--- why nothing was gathered: there was no memory, or a part of the pool was not at its place
+-- why there is no report: an allocation failed, or a part of the pool was not at its place
 abbrev pub IsUngathered : Refusal → Type 0
 IsUngathered e = (e ≡ NoMemory) ⊎ IsMisplaced e
 
--- Where a report was gathered and a fault was set, that is the refusal; a full history is told only where it is full.
+-- If there is a report and a fault was set, that is the refusal; `HistoryFull` is returned only if the history is full.
 abbrev pub IsFault : ℕ → TaskGraph → Fault → Type 0
 IsFault n g f =
     MatchOption

@@ -1,4 +1,4 @@
--- Where the parts of a pool stand.
+-- The places of the parts of a pool.
 use Rattle.std.specs.Prelude.{ℕ, ◌+◌, ◌-◌, ◌*◌, ◌≡◌, List, length, map, nat_lt, if◌then◌else◌}
 use Rattle.std.specs.List.{All, range_with_len}
 use Rattle.tp_node.specs.Nodes.{NodeState}
@@ -21,7 +21,7 @@ module _ {G : Type 0} where
   abbrev pub AreLinksInOrder : ℕ → List (PoolLinkState G) → Type 0
   AreLinksInOrder n links = map (λ w. link_place n w.from w.to) links ≡ range_with_len 0 (length links)
 
-  -- All nodes and links of a pool of n nodes, where each node is at its place and of the graph.
+  -- All nodes and links of a pool of n nodes, if each node is at its place and of the graph.
   pub record IsWhole (n : ℕ) (graph : G) (nodes : List (NodeState G)) (links : List (PoolLinkState G)) : Type 0 where
     pub nodes_are : length nodes ≡ n
     pub links_are : length links ≡ n * (n - 1)

@@ -1,4 +1,4 @@
--- What is gathered of a pool.
+-- The report of a pool.
 use Rattle.std.specs.Prelude.{ℕ, ◌+◌, ◌≡◌, ◌≤◌, List, IsTrue, length, sum_by, vec_len}
 use Rattle.std.specs.List.{All, count_by, flat_map}
 use Rattle.tp_base.specs.declared.limits.TheConstants.{MAX_STEPS}
@@ -13,15 +13,16 @@ use Rattle.tp_wave.specs.Cut.{IsQuietHistory}
 use Rattle.tp_wave.specs.Generations.{AreRuns, present, present_events}
 use Rattle.tp_wave.specs.Machine.{pending_at, steps_of, under_way}
 use Rattle.tp_wave.specs.Steps.{count}
-use Rattle.tp_wave.specs.Sums.{is_ended, total}
+use Rattle.tp_base.specs.Totals.{total}
+use Rattle.tp_wave.specs.Sums.{is_ended}
 use Rattle.tp_work.specs.declared.gathered.Report.{Report}
 
--- how many of these nodes were told of the end
+-- to how many of these nodes termination was announced
 abbrev pub told_of_end : {G : Type 0} → List (NodeState G) → ℕ
 told_of_end nodes = count_by (λ n. n.state.ended) nodes
 
--- The report has the sums over the nodes and the links, each counted over its own state, how many nodes were told of the end,
--- and the results of all nodes. Fault and events are the board's.
+-- The report has the sums over the nodes and the links, each counted over its own state, the number of nodes to which termination
+-- was announced, and the results of all nodes. Fault and events are the board's.
 pub record IsGathered {G : Type 0} (nodes : List (NodeState G)) (links : List (PoolLinkState G)) (board : BoardState) (r : Report) : Type 0
   where
     pub pending : r.pending ≡ sum_by (λ n. pending_here n.state) nodes
@@ -35,7 +36,7 @@ pub record IsGathered {G : Type 0} (nodes : List (NodeState G)) (links : List (P
     pub fault : r.fault ≡ board.fault
     pub history : r.history.events ≡ board.history
 
--- The events are runs on n nodes, and the report has the numbers of the present generation. Where it ended nothing is left.
+-- The events are runs on n nodes, and the report has the numbers of the present generation. If that ended, nothing is left.
 pub record IsOfItsRun (n : ℕ) (r : Report) : Type 0 where
   pub run : AreRuns n r.history.events
   pub few : length r.history.events ≤ MAX_STEPS
@@ -50,8 +51,8 @@ pub record IsOfItsRun (n : ℕ) (r : Report) : Type 0 where
 abbrev pub AreOfTheRun : {G : Type 0} → List (NodeState G) → Report → Type 0
 AreOfTheRun nodes r = All (λ n. pending_here n.state ≡ pending_at n.numbers.node (present_events r.history.events)) nodes
 
--- A report of a pool of n nodes, each at its place, that works a graph out: its numbers are those of the present generation,
--- what was sent less what was received is under way, and its results are what is left of values of the graph.
+-- The report of a pool of n nodes, each at its place, that computes a graph: its numbers are those of the present generation,
+-- messages sent minus messages received are in flight, and its results are what is left of values of the graph.
 pub record IsReport (n : ℕ) (g : TaskGraph) (r : Report) : Type 0 where
   pub of_run : IsOfItsRun n r
   pub balance : r.sent ≡ r.received + r.under
@@ -59,8 +60,8 @@ pub record IsReport (n : ℕ) (g : TaskGraph) (r : Report) : Type 0 where
   pub done : r.done ≡ vec_len r.results
   pub right : AreResults g r.results.items
 
--- The report of a pool with these nodes and this board: it tells how many of them were told of the end, and the fault and the
--- events that the board has.
+-- The report of a pool with these nodes and this board: it has the number of nodes to which termination was announced, and the
+-- board's fault and events.
 pub record IsReportOf (n : ℕ) (g : TaskGraph) {G : Type 0} (nodes : List (NodeState G)) (board : BoardState) (r : Report) : Type 0 where
   pub report : IsReport n g r
   pub announced : r.announced ≡ told_of_end nodes

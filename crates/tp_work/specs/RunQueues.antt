@@ -1,4 +1,4 @@
--- What lies under a node's lock: the node, and the works that have begun there and wait for a worker.
+-- What a node's lock protects: the node, and the begun work that waits for a worker.
 use Rattle.std.specs.Prelude.{ℕ, ℤ, ◌≡◌, ◌≤◌, List, [], ◌∷◌, length, refl}
 use Rattle.std.specs.List.{All}
 use Rattle.std.specs.Coded.{Coded, code_by, coded×, coded_ℕ, coded_ℤ, coded_list}
@@ -7,23 +7,23 @@ use Rattle.tp_graph.specs.Carried.{Begun}
 use Rattle.tp_node.specs.Calls.{Begins, Rests}
 use Rattle.tp_node.specs.Nodes.{NodeState, node_code}
 
--- a node, and the works that wait there, the next one first
+-- a node, and the work that waits there, next one first
 pub record RunQueueState (G : Type 0) : Type 0 where
   pub node : NodeState G
   pub begun : List (Begun G)
 
--- At most seven works wait, each of the node's graph.
+-- At most seven wait, each of the node's graph.
 pub record IsRunQueue {G : Type 0} (d : RunQueueState G) : Type 0 where
   pub few : length d.begun ≤ 7
   pub graph : All (λ w. w.graph ≡ d.node.graph) d.begun
 
--- The node begins these works one after another, each as one that is the next then, and no more.
+-- The node begins these one after another, each of them the next at that time, and no more.
 abbrev pub BeginsEach : {G : Type 0} → List (Begun G) → NodeState G → NodeState G → BoardState → BoardState → Type 0
 BeginsEach [] old new before later = Rests old new before later
 BeginsEach {G} (work ∷ rest) old new before later =
     (mid : NodeState G) × (between : BoardState) × Begins old mid before between work × BeginsEach rest mid new between later
 
--- how a proof tells run queues apart
+-- how proofs distinguish run queues
 abbrev pub begun_code : {G : Type 0} → Coded G → Coded (Begun G)
 begun_code {G} code =
     code_by

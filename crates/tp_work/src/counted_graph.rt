@@ -1,4 +1,4 @@
-//! A graph whose tasks are counted while it runs.
+//! A graph whose finished bodies are counted while it runs, for a progress line.
 ghost use Rattle.std.specs.Prelude.{◌≡◌, ⊤};
 
 use crate::progress::Progress;
@@ -6,16 +6,17 @@ use std::alloc::{AllocError, Global};
 use tp_base::{NodeId, Refusal, TaskId};
 use tp_graph::{Graph, Value};
 
-/// A graph whose tasks are counted; it has the same meaning. (Stencils are counted by it too: crate pool_blocks.)
+/// A graph whose finished bodies are counted; it has the same meaning as the inner graph. (The crate pool_blocks counts
+/// stencils with it too.)
 pub struct Counted<'a, T: Copy> {
-    /// The graph itself.
+    /// The graph.
     pub inner: T,
-    /// Where its tasks are counted.
+    /// The counter.
     pub progress: &'a Progress,
 }
 
 impl<'a, T: Copy> Counted<'a, T> {
-    /// The same, with its tasks counted.
+    /// Returns the graph with its finished bodies counted.
     pub fn new(inner: T, progress: &'a Progress) -> Self
         ensures { result.inner ≡ inner }
     {
@@ -78,7 +79,7 @@ impl<'a, G: Graph> Graph for Counted<'a, G> {
         self.inner.keeps(task)
     }
 
-    /// What the graph's own body makes. The task is counted then.
+    /// Runs the graph's own body, and then counts the task.
     #[inline]
     fn body(&self, alloc: Global, task: TaskId, inputs: &[Value]) -> Result<Value, Refusal> {
         let made = self.inner.body(alloc, task, inputs);

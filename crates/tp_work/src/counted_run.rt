@@ -12,7 +12,8 @@ use std::sync::Wait;
 use std::thread::Threads;
 use tp_graph::Graph;
 
-/// [`run_pool`] with a gate that lets all through. The tasks are counted where there is a progress.
+/// Runs a pool like [`run_pool`], with a gate that never stops it, and returns its outcome. The tasks are counted if
+/// there is a progress.
 pub fn run_pool_counted<G: Graph, R: Threads + Wait + Sync>(
     rt: &R,
     alloc: Global,
@@ -24,14 +25,14 @@ pub fn run_pool_counted<G: Graph, R: Threads + Wait + Sync>(
     ensures outcome { IfOk result (IsOutcome config.nodes config.workers (G.meaning graph)) }
     ensures fault { IfErr result (IsFault config.nodes (G.meaning graph)) }
 {
-    // Not one wrapper that looks each time whether to count: that costs a task some twenty instructions.
+    // Not one wrapper that tests each time whether to count: that would cost about twenty instructions a task.
     match progress {
         Some(progress) => run_pool_told(rt, alloc, graph, config, progress),
         None => run_pool(rt, alloc, graph, config, &OpenGate),
     }
 }
 
-/// The same, with its tasks counted.
+/// Runs the pool with its tasks counted.
 fn run_pool_told<G: Graph, R: Threads + Wait + Sync>(
     rt: &R,
     alloc: Global,

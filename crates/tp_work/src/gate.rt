@@ -1,16 +1,18 @@
+//! Gates, with which a caller can stop a pool from outside.
 use tp_base::{NodeId, TaskId};
 
-/// Asked by a pool's workers as they go. Where it answers false the pool ends with the fault `Stalled`, which carries the
-/// worker's idle turns in a row at that moment.
+/// A gate, which a pool's workers ask whether to continue. If it returns `false`, the pool ends with the fault
+/// `Stalled`, which has the worker's number of idle turns in a row at that time.
 pub trait Gate: Sync {
-    /// Whether the body of a task may run. It is asked before each body, under no lock.
+    /// Returns whether the body of a task may run. It is called before each body, while the worker holds no lock.
     fn before(&self, task: TaskId) -> bool;
 
-    /// Whether a worker of a node may go on with its turn. It is asked at each turn, with that node's lock held and no other.
+    /// Returns whether a worker of a node may continue with its turn. It is called in each turn, while the worker holds
+    /// that node's lock and no other.
     fn inside(&self, node: NodeId) -> bool;
 }
 
-/// Lets everything through.
+/// The gate that always returns `true`.
 #[derive(Clone, Copy, Debug)]
 pub struct OpenGate;
 

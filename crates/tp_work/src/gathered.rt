@@ -1,3 +1,4 @@
+//! The report of a pool: the sums over its nodes and links, and what its board kept.
 ghost use Rattle.std.specs.Prelude.{◌≡◌, ◌<◌, ◌≤◌, ◌+◌, ◌-◌, ◌*◌, ◌++◌, ◌∷◌, [], IfErr, IfOk, length, map, sum_by, vec_capacity, vec_len};
 ghost use Rattle.std.specs.List.{All, flat_map};
 ghost use Rattle.tp_base.specs.declared.refusal.Refusal.TheVariants.{NoMemory};
@@ -13,7 +14,7 @@ use tp_graph::{Graph, Value};
 use tp_monitor::TaskpoolState;
 use tp_node::{Node, Pool, PoolLink, count_results};
 
-/// What was gathered of a pool.
+/// The report of a pool.
 #[derive(Drop)]
 pub struct Report {
     /// Unfinished tasks and open actions, over all nodes.
@@ -22,25 +23,25 @@ pub struct Report {
     pub sent: u32,
     /// Messages received, over all nodes.
     pub received: u32,
-    /// Messages under way, over all links.
+    /// Messages in flight, over all links.
     pub under: u32,
     /// Tasks done, over all nodes.
     pub done: u32,
-    /// Whether the end was judged.
+    /// Whether termination was detected.
     pub ended: bool,
-    /// How many nodes were told of the end.
+    /// The number of nodes to which termination was announced.
     pub announced: u32,
     /// The first fault.
     pub fault: Option<Refusal>,
-    /// The results of all nodes, each a task and what is left of its value.
+    /// The results of all nodes: each task with what is left of its value.
     pub results: Vec<(TaskId, Value)>,
-    /// The events.
+    /// The events of the pool.
     pub history: History,
 }
 
-/// Gathers a pool: what its nodes and links count, and what its board has kept.
+/// Takes a pool apart and returns its report: the sums over its nodes and links, and what its board kept.
 ///
-/// Refused: `NoMemory` where memory has to grow and does not; the pool comes back then.
+/// Refused with `NoMemory` if an allocation fails; the pool is then returned.
 pub fn finish<G: Graph, K: Ledgers>(
     alloc: Global,
     pool: Pool<G, K>,
@@ -109,7 +110,8 @@ fn gather<G: Graph, K: Ledgers>(pool: Pool<G, K>, room: ReportRoom<K>) -> Report
         mut links,
         mut results,
     } = room;
-    // That there are at most 8 nodes is known by the board alone. The answer is not used, so it costs no instruction.
+    // Only this call of the board shows that there are at most 8 nodes. Its result is not used, so it costs no
+    // instruction.
     let _nodes = board.nodes();
     let announced = count_told(&nodes);
     take_nodes(nodes, &mut shares, &mut results);
@@ -133,7 +135,7 @@ fn gather<G: Graph, K: Ledgers>(pool: Pool<G, K>, room: ReportRoom<K>) -> Report
     }
 }
 
-/// How many nodes were told of the end.
+/// Returns the number of nodes to which termination was announced.
 pub(crate) fn count_told<G: Graph, K: Ledgers>(nodes: &[Node<G, K>]) -> u32
     requires { length nodes.now ≤ 8 }
     ensures { result ≡ told_of_end nodes.now }
@@ -147,7 +149,7 @@ pub(crate) fn count_told<G: Graph, K: Ledgers>(nodes: &[Node<G, K>]) -> u32
     told
 }
 
-/// The shares and the results of all nodes, in their order.
+/// Returns the shares and the results of all nodes, in order.
 fn take_nodes<G: Graph, K: Ledgers>(
     nodes: Vec<Node<G, K>>,
     shares: &mut Vec<Shares<K>>,
@@ -165,7 +167,7 @@ fn take_nodes<G: Graph, K: Ledgers>(
     }
 }
 
-/// The shares and the results of a node.
+/// Returns the shares and the results of a node.
 fn take_node<G: Graph, K: Ledgers>(
     node: Node<G, K>,
     shares: &mut Vec<Shares<K>>,
@@ -185,7 +187,7 @@ fn take_node<G: Graph, K: Ledgers>(
     };
 }
 
-/// The shares of all links, in their order.
+/// Returns the shares of all links, in order.
 fn take_pool_links<G: Graph, K: Ledgers>(
     pool_links: Vec<PoolLink<G, K>>,
     links: &mut Vec<LinkShare<K>>,

@@ -1,4 +1,5 @@
-//! A pool's run by worker threads, and what its nodes, its links and its board add up to in one hand.
+//! Runs a pool with worker threads: locks, run queues, workers, and the outcome. Contracts here cover the outcome,
+//! whatever the scheduling of threads; nothing says that a run ends.
 #![tactic(auto)]
 
 mod config;

@@ -1,3 +1,4 @@
+//! Checks in the history that each task was inserted, began and was done exactly once.
 ghost use Rattle.std.specs.Prelude.{◌≡◌, ◌<◌, ◌≤◌, ◌+◌, ◌↔◌, ◌++◌, ◌∷◌, [], length, map, reverse, slice_set, vec_capacity, vec_len, All};
 ghost use Rattle.std.specs.Prelude.{IfOk, IfSome, IsFalse, IsTrue, List, MatchOption, None};
 ghost use Rattle.tp_base.specs.History.{Event};
@@ -10,8 +11,8 @@ ghost use Rattle.tp_work.specs.Lives.{AreStages, IsFollowed, LivesInEach, LivesO
 use std::alloc::{AllocError, Global};
 use tp_base::{History, Step};
 
-/// Whether each of so many tasks was inserted, then began, and then was done, each once, no other task ever was, and nothing
-/// was reopened. It takes O(tasks + events).
+/// Returns whether each of `tasks` tasks was inserted, then began, and then was done, each once, no other task ever
+/// was, and nothing was reopened. Takes O(tasks + events) time.
 pub(crate) fn each_lives(alloc: Global, tasks: u32, history: &History) -> Result<bool, AllocError>
     ensures { IfOk result (λ yes. IsTrue yes ↔ LivesOnce tasks (steps_of history.now.events)) }
 {
@@ -23,8 +24,8 @@ pub(crate) fn each_lives(alloc: Global, tasks: u32, history: &History) -> Result
     Ok(all_over(stages))
 }
 
-/// How many messages each of so many generations sent, the oldest first, where each of so many tasks lived once in each of
-/// them; `None` where one did not. It takes O(tasks * generations + events).
+/// Returns the number of messages sent in each of `generations` generations, oldest first, or `None` unless each task
+/// lived once in each of them. Takes O(tasks * generations + events) time.
 pub(crate) fn sent_in_each(
     alloc: Global,
     tasks: u32,
@@ -45,8 +46,8 @@ pub(crate) fn sent_in_each(
     Ok(Some(sent))
 }
 
-/// Follows all events, where each task's moments come in their order, there is a stage for it, and nothing is reopened.
-/// Whether that was so is answered.
+/// Follows all events. Returns whether each task's stages come in order, there is an entry for each task, and nothing
+/// is reopened.
 fn follow_each(stages: &mut [u8], history: &History) -> bool
     requires { All (λ stage. stage ≡ 0) stages.old }
     ensures followed { IsTrue result → AreStages (steps_of history.now.events) stages.new
@@ -64,8 +65,8 @@ fn follow_each(stages: &mut [u8], history: &History) -> bool
     true
 }
 
-/// Follows all events through all generations, and puts the messages of each behind one another. Whether each task lived
-/// once in each is answered.
+/// Follows all events through all generations, and lists the number of messages of each. Returns whether each task
+/// lived once in each.
 fn follow_all(stages: &mut [u8], sent: &mut Vec<u32>, history: &History) -> bool
     requires few { length history.now.events ≤ MAX_STEPS }
     requires first { All (λ stage. stage ≡ 0) stages.old }
@@ -86,7 +87,7 @@ fn follow_all(stages: &mut [u8], sent: &mut Vec<u32>, history: &History) -> bool
     all_over(stages)
 }
 
-/// Follows a step, from one generation to the next too. Whether each task can still live once in each is answered.
+/// Follows a step, which may begin the next generation. Returns whether each task can still live once in each.
 fn follow_on(stages: &mut [u8], sent: &mut Vec<u32>, messages: &mut u32, step: Step) -> bool
     requires few { messages.old < MAX_STEPS }
     requires room { IsTrue (is_reopen step) → vec_len sent.old < vec_capacity sent.old }
@@ -114,7 +115,8 @@ fn follow_on(stages: &mut [u8], sent: &mut Vec<u32>, messages: &mut u32, step: S
     }
 }
 
-/// Follows a step of one generation, where it is no moment of a task, or the next one of a task that has a stage.
+/// Follows a step of one generation. Returns whether it is no stage of a task, or the next one of a task that has an
+/// entry.
 fn follow(stages: &mut [u8], step: Step) -> bool
     ensures none { lives.moment_of step ≡ None → (IsTrue result ↔ IsFalse (is_reopen step)) × (stages.new ≡ stages.old) }
     ensures moment { MatchOption (lives.moment_of step) (Unit {0}) (λ m.
@@ -127,7 +129,7 @@ fn follow(stages: &mut [u8], step: Step) -> bool
     }
 }
 
-/// The task of which a step is a moment, and which.
+/// Returns the task of which a step is a stage, and which stage.
 fn moment_of(step: Step) -> Option<(u32, u8)>
     ensures moment { result ≡ lives.moment_of step }
     ensures three { IfSome result (λ m. m.1 ≤ 2) }
@@ -140,7 +142,7 @@ fn moment_of(step: Step) -> Option<(u32, u8)>
     }
 }
 
-/// Advances a task by a moment, where that is its next one.
+/// Advances a task to a stage. Returns whether that is its next one.
 fn advance(stages: &mut [u8], task: usize, moment: u8) -> bool
     requires { moment ≤ 2 }
     ensures next { IsTrue result ↔ ((task < length stages.old) × (stage stages.old task ≡ moment)) }
@@ -159,7 +161,7 @@ fn all_over(stages: &[u8]) -> bool
     stages.iter().all(|stage| *stage == 3)
 }
 
-/// No task has had a moment.
+/// Resets all stages.
 fn clear(stages: &mut [u8])
     ensures { All (λ stage. stage ≡ 0) stages.new }
 {

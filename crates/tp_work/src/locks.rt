@@ -1,3 +1,4 @@
+//! The locks of a pool, in their order, and how a thread waits for one that is held.
 ghost use Rattle.std.specs.Prelude.{◌≡◌, ◌≤◌, ◌<◌, ◌+◌, [], IfErr, IfOk, OnOk, vec_capacity, vec_len};
 ghost use Rattle.tp_base.specs.declared.refusal.Refusal.TheVariants.{NoMemory, NoNode};
 ghost use Rattle.tp_work.specs.Places as places;
@@ -15,8 +16,8 @@ use tp_board::{Board, Ended, Ledgers};
 use tp_graph::{Comparable, Graph, is_same};
 use tp_node::{Node, Pool, PoolLink};
 
-/// The locks of a pool. They are taken in this order: a node's, a link's, the board's; the token's is taken alone. The words
-/// beside them are hints, which save a look under a lock; no contract rests on them.
+/// The locks of a pool. To avoid deadlock they are acquired in this order: a node's, a link's, the board's; the token's
+/// is acquired alone. The atomics next to them are hints, which save acquiring a lock; no contract depends on them.
 #[derive(Drop)]
 pub(crate) struct Locks<G: Graph, K: Ledgers> {
     /// The nodes, in rising order.
@@ -25,29 +26,29 @@ pub(crate) struct Locks<G: Graph, K: Ledgers> {
     pub link_slots: Vec<LinkSlot<G, K>>,
     /// The board.
     pub board: Mutex<Board<K>>,
-    /// The token of the end, once each node was told of it.
+    /// The termination token, once termination was announced to each node.
     pub token: Mutex<Option<Ended<K>>>,
-    /// How many control steps were made.
+    /// The number of control steps.
     pub control_steps: AtomicU64,
-    /// Whether a fault was set, or the end was announced to each node.
+    /// Whether a fault was set, or termination was announced to each node.
     pub is_stopped: AtomicBool,
 }
 
-/// A node's lock.
+/// The slot of a node: its lock, with the hints and the parker of the node.
 #[derive(Drop)]
 pub(crate) struct NodeSlot<D> {
-    /// The node, and the works that wait there.
+    /// The node, and the work that waits there.
     pub run_queue: Mutex<D>,
-    /// How many tasks wait there for a worker: those that are ready, and those that have begun.
+    /// The number of tasks that wait there for a worker: ready ones, and begun ones.
     pub waiting: AtomicU64,
-    /// How many messages are on the links to it.
+    /// The number of messages on the links to the node.
     pub mail: AtomicU64,
     /// Where its idle workers sleep.
     pub parker: Parker,
 }
 
 impl<D> NodeSlot<D> {
-    /// Tells how many tasks wait for a worker. Most turns leave as many as before, and write nothing.
+    /// Stores the number of tasks that wait for a worker. Most turns leave it the same, and write nothing.
     #[inline(always)]
     pub fn tell_waiting(&self, waiting: u64) {
         if self.waiting.load(Ordering::SeqCst) != waiting {
@@ -55,7 +56,7 @@ impl<D> NodeSlot<D> {
         }
     }
 
-    /// Calls a worker for the tasks that wait, where there are any.
+    /// Wakes a worker if any tasks wait.
     #[inline(always)]
     pub fn call_for_waiting(&self) {
         if self.waiting.load(Ordering::SeqCst) > 0 {
@@ -64,29 +65,30 @@ impl<D> NodeSlot<D> {
     }
 }
 
-/// A link's lock.
+/// The slot of a link: its lock, with a hint.
 #[derive(Drop)]
 pub(crate) struct LinkSlot<G: Graph, K: Ledgers> {
     /// The link.
     pub pool_link: Mutex<PoolLink<G, K>>,
-    /// How many messages are on it.
+    /// The number of messages on it.
     pub length: AtomicU64,
 }
 
-/// How often a held lock is tried again, after a moment's spin each time, before a thread sleeps on it: a lock is mostly free
-/// before so many tries are over, and a sleep and its wake cost more. docs/DECISIONS.md has the measurements.
+/// How often a contended lock is retried, each time after a backoff, before the thread blocks. A lock is mostly free
+/// before that, and blocking and being woken costs more. docs/measurements/locks.md has the measurements.
 const TRIES: u32 = 12;
 
-/// How many spins the first of these moments takes. Each further one takes twice as many: a try takes the lock's word away from
-/// whoever holds the lock, and what lies beside it.
+/// The first backoff, in spins. Each further one is twice as long: a retry takes the cache line away from the thread
+/// that holds the lock, and with it the data next to the lock.
 const FIRST_SPINS: u32 = 32;
 
-/// How many spins a moment takes at most. No moment takes more of them than all before it together and one first moment.
+/// The longest backoff, in spins. Until it is reached, a backoff is as long as all before it together and one first
+/// backoff.
 const MOST_SPINS: u32 = 1024;
 
-/// Takes a lock. Where it is held, the thread tries it again for a moment, and then sleeps as std has it. It does not yield: one
-/// that yielded would wait for all others that want its processor, and many that yield keep it from the one that holds the
-/// lock.
+/// Acquires a lock. If it is contended, the thread retries it with exponential backoff, and then blocks as std does. It
+/// does not yield: a yielding thread would wait for all others that want its processor, and many of them would keep the
+/// processor from the thread that holds the lock.
 #[inline(always)]
 pub(crate) fn lock_soon<'l, T, R: Wait>(rt: &R, lock: &'l Mutex<T>) -> MutexGuard<'l, T> {
     match lock.try_lock() {
@@ -95,7 +97,7 @@ pub(crate) fn lock_soon<'l, T, R: Wait>(rt: &R, lock: &'l Mutex<T>) -> MutexGuar
     }
 }
 
-/// Takes a lock that was held a moment ago.
+/// Acquires a lock that was contended.
 #[cold]
 #[inline(never)]
 fn lock_later<'l, T, R: Wait>(rt: &R, lock: &'l Mutex<T>) -> MutexGuard<'l, T> {
@@ -120,7 +122,7 @@ pub(crate) struct Room<N, W> {
 }
 
 impl<N: Drop, W: Drop> Room<N, W> {
-    /// Room for so many nodes and links.
+    /// Reserves room for this many nodes and links. Refused if an allocation fails.
     pub fn new(alloc: Global, nodes: usize, links: usize) -> Result<Self, AllocError>
         ensures nodes { IfOk result (λ r. (r.nodes.items ≡ []) × (nodes ≤ vec_capacity r.nodes)) }
         ensures links { IfOk result (λ r. (r.links.items ≡ []) × (links ≤ vec_capacity r.links)) }
@@ -133,7 +135,7 @@ impl<N: Drop, W: Drop> Room<N, W> {
 }
 
 impl<G: Graph, K: Ledgers> Locks<G, K> {
-    /// Puts the parts of a pool under locks, into the room that was made for them.
+    /// Puts the parts of a pool under locks, in the room that was reserved for them.
     pub fn new(
         alloc: Global,
         pool: Pool<G, K>,
@@ -165,7 +167,7 @@ impl<G: Graph, K: Ledgers> Locks<G, K> {
         }
     }
 
-    /// Stops all workers, also those that sleep.
+    /// Stops all workers, including those that sleep.
     pub fn stop(&self) {
         self.is_stopped.store(true, Ordering::SeqCst);
         for node_slot in &self.node_slots {
@@ -173,8 +175,8 @@ impl<G: Graph, K: Ledgers> Locks<G, K> {
         }
     }
 
-    /// Rings at the nodes that the waves' tree has beside a node, its parent and its children: a control step of one may
-    /// allow one of the other.
+    /// Wakes a worker at the parent and the children of a node in the tree of the waves: a control step of one may
+    /// enable one of the other.
     pub fn ring_beside(&self, node: NodeId) {
         let place = node.0 as usize;
         for beside in [place.saturating_sub(1) / 2, 2 * place + 1, 2 * place + 2] {
@@ -186,7 +188,7 @@ impl<G: Graph, K: Ledgers> Locks<G, K> {
         }
     }
 
-    /// Takes the parts out of their locks, into the room that was made for them, and the token of the end, where it lies
+    /// Takes the parts out of their locks, in the room that was reserved for them, and the termination token if it is
     /// there.
     pub fn into_pool(self, room: Room<Node<G, K>, PoolLink<G, K>>) -> (Pool<G, K>, Option<Ended<K>>)
         requires nodes { (room.nodes.items ≡ []) × (vec_len self.node_slots ≤ vec_capacity room.nodes) }
@@ -217,7 +219,7 @@ impl<G: Graph, K: Ledgers> Locks<G, K> {
     }
 }
 
-/// Puts the parts of a pool under locks, and makes room to take them out again.
+/// Puts the parts of a pool under locks, and reserves room to take them out again.
 pub(crate) fn lock_pool<G: Graph, K: Ledgers>(
     alloc: Global,
     pool: Pool<G, K>,
@@ -232,7 +234,7 @@ pub(crate) fn lock_pool<G: Graph, K: Ledgers>(
     Ok((Locks::new(alloc, pool, locked), room))
 }
 
-/// Room for so many nodes and links, twice.
+/// Reserves room for this many nodes and links, twice.
 fn two_rooms<S: Drop, L: Drop, N: Drop, W: Drop>(
     alloc: Global,
     nodes: usize,
@@ -306,9 +308,9 @@ fn unlock_links<G: Graph, K: Ledgers>(
     }
 }
 
-/// Whether each part of a pool is at its place.
+/// Checks that each part of a pool is at its place.
 ///
-/// Refused: `NoNode` where a node or a link is not; `Stranger` where a node is of another graph.
+/// Refused with `NoNode` if a node or a link is not; `Stranger` if a node is of another graph.
 pub(crate) fn check_places<G: Comparable, K: Ledgers>(
     pool: &Pool<G, K>,
     graph: &G,
@@ -352,7 +354,7 @@ fn check_links<G: Graph, K: Ledgers>(links: &[PoolLink<G, K>], nodes: u32) -> Re
     Ok(())
 }
 
-/// The place of the link from one node to another of so many.
+/// Returns the index of the link from one node to another of `nodes` nodes.
 pub(crate) fn link_place(from: u32, to: u32, nodes: u32) -> usize
     requires ends { (from < nodes) × (to < nodes) }
     requires few { nodes ≤ 8 }
@@ -362,7 +364,7 @@ pub(crate) fn link_place(from: u32, to: u32, nodes: u32) -> usize
     from as usize * (nodes as usize - 1) + before as usize
 }
 
-/// Whether a link goes from a node to another.
+/// Checks that a link goes from one node to another.
 pub(crate) fn check_pool_link<G: Graph, K: Ledgers>(
     pool_link: &PoolLink<G, K>,
     from: NodeId,

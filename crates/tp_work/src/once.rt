@@ -1,3 +1,4 @@
+//! Checks that each task has exactly one result.
 ghost use Rattle.std.specs.Prelude.{◌≡◌, ◌<◌, ◌↔◌, false, true, length, slice_set, All, IfOk, IsTrue};
 ghost use Rattle.tp_work.specs.Outcomes.{AreMarks, is_marked};
 ghost use Rattle.tp_graph.specs.Found.{HasEachOnce};
@@ -6,7 +7,7 @@ use std::alloc::{AllocError, Global};
 use tp_base::TaskId;
 use tp_graph::Value;
 
-/// Whether each of so many tasks has one result, and no other task has any. It takes O(tasks + results).
+/// Returns whether each of `tasks` tasks has one result, and no other task has any. Takes O(tasks + results) time.
 pub(crate) fn each_once(
     alloc: Global,
     tasks: u32,
@@ -22,7 +23,7 @@ pub(crate) fn each_once(
     Ok(all_marked(marks))
 }
 
-/// Marks the tasks of all results, where there is a mark for each and none has two. Whether that was so is answered.
+/// Marks the tasks of all results. Returns whether there is a mark for each and none has two results.
 fn mark_each(marks: &mut [bool], results: &[(TaskId, Value)]) -> bool
     requires { All (λ mark. mark ≡ false) marks.old }
     ensures marked { IsTrue result → AreMarks results.now marks.new }
@@ -36,7 +37,7 @@ fn mark_each(marks: &mut [bool], results: &[(TaskId, Value)]) -> bool
     true
 }
 
-/// Marks a task, where there is a mark for it that is not set.
+/// Marks a task. Returns whether there is a mark for it that was not set.
 fn mark(marks: &mut [bool], task: usize) -> bool
     ensures fresh { IsTrue result ↔ ((task < length marks.old) × (is_marked marks.old task ≡ false)) }
     ensures marked { IsTrue result → marks.new ≡ slice_set marks.old task true }

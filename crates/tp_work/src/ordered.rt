@@ -1,3 +1,4 @@
+//! A run whose results are in the order of tasks.
 ghost use Rattle.std.specs.Prelude.{IfErr, IfOk};
 ghost use Rattle.tp_graph.specs.Graphs.{KeepsAll};
 ghost use Rattle.tp_graph.specs.Left.{AreResults};
@@ -13,9 +14,9 @@ use std::thread::Threads;
 use tp_base::TaskId;
 use tp_graph::{Graph, Value, in_order};
 
-/// What a run leaves of each task of a graph, in rising order, worked out by a pool of threads: the value where the graph keeps
-/// it, and else no numbers. Of a graph that keeps all it is what [`serial`](tp_graph::serial) gives. Refused for what
-/// [`run_pool`] is refused for.
+/// Returns what a run leaves of each task of a graph, in rising order of tasks, computed by a pool of threads: the
+/// value if the graph keeps it, and else no numbers. For a graph that keeps all values this is what
+/// [`serial`](tp_graph::serial) returns. Refused as [`run_pool`] is.
 pub fn run_in_order<G: Graph, R: Threads + Wait + Sync>(
     rt: &R,
     alloc: Global,

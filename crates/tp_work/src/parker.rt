@@ -1,23 +1,24 @@
+//! Parkers, at which idle workers sleep until there is work.
 use std::sync::Wait;
 use std::sync::atomic::{AtomicU64, Ordering};
 use std::time::Duration;
 
-/// How long a worker sleeps at most, in milliseconds.
+/// The longest sleep of a worker, in milliseconds.
 const LONGEST: u64 = 10;
 
-/// Where the idle workers of a node sleep. Whoever has work for the node rings, which wakes one of them. Each sleep has a
-/// limit, so that a ring that nobody hears costs time alone. Nothing is claimed of sleeps and rings, and no contract rests on
-/// them.
+/// Where the idle workers of a node sleep. A thread that has work for the node rings, which wakes one of them. Each
+/// sleep has a limit, so a lost wakeup costs time and nothing else. No contract depends on sleeps and rings.
 #[derive(Drop)]
 pub(crate) struct Parker {
-    /// How many workers sleep, or are about to.
+    /// The number of workers that sleep, or are about to.
     sleepers: AtomicU64,
-    /// How often it was rung and answered: odd from a ring until a worker answers it. Threads sleep on this word.
+    /// Counts rings and their acknowledgements: odd from a ring until a worker acknowledges it. Threads sleep on this
+    /// word.
     rings: AtomicU64,
 }
 
 impl Parker {
-    /// A parker at which nobody sleeps.
+    /// Returns a parker without sleepers.
     pub const fn new() -> Self {
         Parker {
             sleepers: AtomicU64::new(0),
@@ -25,27 +26,27 @@ impl Parker {
         }
     }
 
-    /// Announces a worker that is about to sleep, and answers what `sleep` takes. It then looks for work once more: for what
-    /// was made before this call nobody rings.
+    /// Announces a worker that is about to sleep, and returns what `sleep` needs. The worker then polls for work once
+    /// more, because there was no ring for what came before this call.
     pub fn listen(&self) -> u64 {
         self.sleepers.fetch_add(1, Ordering::SeqCst);
         self.answer()
     }
 
-    /// Sleeps after so many idle turns in a row, as many milliseconds and at most 10, or until a ring since `listen`.
+    /// Sleeps after `idle` idle turns in a row for `idle` milliseconds, at most 10, or until a ring since `listen`.
     pub fn sleep<R: Wait>(&self, rt: &R, heard: u64, idle: u32) {
         let limit = Duration::from_millis((idle as u64).min(LONGEST));
         self.rings
             .park_timeout(rt, (heard % (1 << 32)) as u32, limit);
     }
 
-    /// Takes back what `listen` has announced.
+    /// Takes back what `listen` announced.
     pub fn get_up(&self) {
         self.sleepers.fetch_sub(1, Ordering::SeqCst);
         self.answer();
     }
 
-    /// Answers a ring, and tells what the word is then.
+    /// Acknowledges a ring, and returns the word afterwards.
     fn answer(&self) -> u64 {
         let rings = self.rings.load(Ordering::SeqCst);
         if rings % 2 == 0 {
@@ -58,7 +59,7 @@ impl Parker {
         answered
     }
 
-    /// Wakes a worker, where one sleeps and no ring waits for its answer.
+    /// Wakes a worker, if one sleeps and no ring is unacknowledged.
     #[inline(always)]
     pub fn ring(&self) {
         if self.sleepers.load(Ordering::SeqCst) > 0 {

@@ -1,23 +1,24 @@
+//! The progress of a run, which is counted outside all locks.
 use std::sync::Wait;
 use std::sync::atomic::{AtomicU64, Ordering};
 use std::time::Duration;
 
-/// How long whoever tells of a run rests between two lines, in milliseconds.
+/// How long the thread that shows the progress sleeps between two lines, in milliseconds.
 const REST: u64 = 500;
 
 /// What a run has to do.
 #[derive(Clone, Copy, Debug, PartialEq, Eq)]
 pub struct Plan {
-    /// How many tasks a step has.
+    /// The number of tasks of a step.
     pub tasks: u64,
-    /// How many steps there are.
+    /// The number of steps.
     pub steps: u64,
-    /// How many steps a part has, of which one is run after the other. The last may have fewer.
+    /// The number of steps of a part. Parts run one after the other; the last may have fewer steps.
     pub part: u64,
 }
 
 impl Plan {
-    /// So many tasks, in one part.
+    /// Returns the plan of `tasks` tasks in one part.
     pub fn of_tasks(tasks: u64) -> Self {
         Plan {
             tasks,
@@ -27,20 +28,20 @@ impl Plan {
     }
 }
 
-/// How far a run is: what it has to do, and how many of its tasks are done. The tasks are counted under no lock. Nothing is
-/// claimed of these numbers, and no contract rests on them.
+/// The progress of a run: its plan, and how many of its tasks are done. The tasks are counted outside all locks. No
+/// contract depends on these numbers.
 #[derive(Drop)]
 pub struct Progress {
     tasks: AtomicU64,
     steps: AtomicU64,
     part: AtomicU64,
     done: AtomicU64,
-    /// 1 when the run has ended. Whoever tells of it sleeps on this word.
+    /// 1 once the run has ended. The thread that shows the progress sleeps on this word.
     ended: AtomicU64,
 }
 
 impl Progress {
-    /// Of a run of which nothing is known yet.
+    /// Returns the progress of a run without a plan.
     pub const fn new() -> Self {
         Progress {
             tasks: AtomicU64::new(0),
@@ -51,7 +52,7 @@ impl Progress {
         }
     }
 
-    /// Says what the run has to do.
+    /// Sets the plan of the run.
     pub fn begin(&self, plan: Plan) {
         self.tasks.store(plan.tasks, Ordering::SeqCst);
         self.part.store(plan.part, Ordering::SeqCst);
@@ -64,7 +65,7 @@ impl Progress {
         self.done.fetch_add(1, Ordering::SeqCst);
     }
 
-    /// Says that the run has ended.
+    /// Records that the run has ended.
     pub(crate) fn end(&self) {
         self.ended.store(1, Ordering::SeqCst);
         self.ended.wake_all();
@@ -79,9 +80,9 @@ impl Progress {
         self.ended.load(Ordering::SeqCst) != 0
     }
 
-    /// What the run has to do: nothing where it has not been said.
+    /// Returns the plan of the run, which is empty if none was set.
     pub fn plan(&self) -> Plan {
-        // What is said last is read first, so that no half of it is taken for the whole.
+        // The field that is written last is read first, so that a half-written plan is never used.
         let steps = self.steps.load(Ordering::SeqCst);
         Plan {
             tasks: self.tasks.load(Ordering::SeqCst),
@@ -90,7 +91,7 @@ impl Progress {
         }
     }
 
-    /// How many tasks are done.
+    /// Returns the number of tasks done.
     pub fn done(&self) -> u64 {
         self.done.load(Ordering::SeqCst)
     }

@@ -1,11 +1,11 @@
-//! The line that says how far a run is.
+//! The text of the progress line.
 ghost use Rattle.std.specs.Prelude.{◌≤◌};
 
 use crate::progress::Plan;
 use std::alloc::{AllocError, Global};
 
-/// The line that tells how far a run is: how many tasks are done of all, and of a run in several parts how many steps the parts
-/// that are done have.
+/// Returns the progress line: how many of all tasks are done, and for a run in several parts, how many steps the
+/// finished parts have.
 pub(crate) fn line_of(alloc: Global, plan: Plan, done: u64) -> Result<String, AllocError> {
     let all = grouped(alloc, plan.tasks.saturating_mul(plan.steps))?;
     let tasks = grouped(alloc, done)?;
@@ -17,7 +17,7 @@ pub(crate) fn line_of(alloc: Global, plan: Plan, done: u64) -> Result<String, Al
     format!(in alloc; "\r{tasks} of {all} tasks, {steps} of {all_steps} steps")
 }
 
-/// How many steps those parts have of which all tasks are done, when so many tasks are done.
+/// Returns how many steps the finished parts have when `done` tasks are done.
 fn steps_done(plan: Plan, done: u64) -> u64
     requires { (1 ≤ plan.tasks) × (1 ≤ plan.part) }
 {
@@ -25,7 +25,7 @@ fn steps_done(plan: Plan, done: u64) -> u64
     steps.saturating_sub(steps % plan.part)
 }
 
-/// A number with a comma before each three digits, as 1,048,576.
+/// Returns a number with a comma before each three digits, such as 1,048,576.
 fn grouped(alloc: Global, number: u64) -> Result<String, AllocError> {
     let digits = format!(in alloc; "{number}")?;
     let first = digits.len() % 3;

@@ -1,3 +1,4 @@
+//! Running a pool once, and its outcome.
 ghost use Rattle.std.specs.Prelude.{◌≡◌, ◌↔◌, ◌*◌, length, IfErr, IfNone, IfOk, IfSome, IsTrue, MatchOption, MatchResult, None, OnOk, Some};
 ghost use Rattle.std.specs.Prelude.{if◌then◌else◌};
 ghost use Rattle.tp_base.specs.declared.refusal.Refusal.TheVariants.{Missing, NoMemory};
@@ -22,14 +23,16 @@ use tp_base::{MAX_STEPS, Refusal};
 use tp_board::{Blanks, Brand, Ledgers};
 use tp_graph::{Graph, Named, Only};
 
-/// Runs a pool that works a graph out, by so many threads at each node, and gathers what it has made when all have ended.
+/// Runs a pool that computes a graph, and returns its outcome: each task ran once, and each result is the value that the
+/// graph defines. `config` gives the nodes, and the threads at each. The call returns when all threads have ended.
 ///
-/// Refused: `Stalled` where a gate answered false or a worker's idle turns ran out; `BodyFailed` where a task has no value;
-/// `HistoryFull` where the pool needs more than 1,048,576 events; `StoreFull` where more than 65,536 tasks live at a node;
-/// `NoNode` and `Stranger` where a part is not at its place; `NoMemory` where memory has to grow and does not, or a thread
-/// cannot be started; `Missing` where the end was not judged or not told to each node, or a task has no result or more than
-/// one, or was not inserted, begun and done once. The first fault that a worker set is the refusal, also after a judged end;
-/// `HistoryFull` tells the events that there are, where at most one more has a place, and else is `Missing`.
+/// Refused with `Stalled` if a gate returned `false` or a worker's idle turns ran out; `BodyFailed` if a task has no
+/// value; `HistoryFull` if the pool needs more than 1,048,576 events; `StoreFull` if more than 65,536 tasks are
+/// unfinished at a node; `NoNode` and `Stranger` if a part is not at its place; `NoMemory` if an allocation fails or a
+/// thread cannot be started; `Missing` if termination was not detected or not announced to each node, or a task has no
+/// result or more than one, or was not inserted, begun and done once. The first fault that a worker set is the refusal,
+/// even after termination was detected. `HistoryFull` has the number of events, if there is room for at most one more;
+/// otherwise the refusal is `Missing`.
 pub fn run_pool<G: Graph, A: Gate, R: Threads + Wait + Sync>(
     rt: &R,
     alloc: Global,
@@ -45,8 +48,8 @@ pub fn run_pool<G: Graph, A: Gate, R: Threads + Wait + Sync>(
     run_only::<G, Brand, Brand, A, R>(rt, alloc, graph, config, gate, blanks)
 }
 
-/// Opens a pool over the one graph that `D` names, so that no two parts of it have to be compared, with the ledgers that `K`
-/// names. Runs it, and tells what it has made when all its threads have ended.
+/// Opens a pool over the one graph that `D` names, so that comparing graphs costs nothing, with the ledgers that `K`
+/// names. Runs it, and returns its outcome when all its threads have ended.
 fn run_only<
     'a,
     G: Graph,
@@ -86,11 +89,11 @@ fn run_only<
     }
 }
 
-/// What a pool has made that has run, or why it has no outcome.
+/// Returns the outcome of a pool that has run, or why it has none.
 ///
-/// Refused: the fault that was set, where one was; else `Missing` where the end was not judged or not told to each node, or a
-/// task has no result or more than one, or was not inserted, begun and done once; `NoMemory` where memory has to grow and does
-/// not.
+/// Refused with the fault that was set, if there is one; else `Missing` if termination was not detected or not
+/// announced to each node, or a task has no result or more than one, or was not inserted, begun and done once;
+/// `NoMemory` if an allocation fails.
 fn outcome_of<G: Graph, K: Ledgers>(
     alloc: Global,
     graph: &G,
@@ -118,7 +121,7 @@ fn outcome_of<G: Graph, K: Ledgers>(
     }
 }
 
-/// The outcome of a pool of so many tasks, of which this was gathered, and of which so many workers have answered; or why it has
+/// Returns the outcome of a pool of `tasks` tasks with this report and number of workers that returned, or why it has
 /// none.
 fn outcome_from(
     alloc: Global,
@@ -152,8 +155,8 @@ fn outcome_from(
     }
 }
 
-/// Why a pool of so many nodes and tasks, of which this was gathered, has no outcome. None only where no fault was set, its end
-/// was judged and told to each node, and each task has one result and lived once.
+/// Returns why a pool with this report has no outcome. `None` only if no fault was set, termination was detected and
+/// announced to each node, and each task has one result and lived once.
 fn refusal_of(alloc: Global, nodes: u32, tasks: u32, report: &Report) -> Option<Refusal>
     ensures no_fault { IfNone result (report.now.fault ≡ None) }
     ensures complete { IfNone result (IsComplete nodes tasks report.now) }
@@ -166,7 +169,7 @@ fn refusal_of(alloc: Global, nodes: u32, tasks: u32, report: &Report) -> Option<
     }
 }
 
-/// What a fault is answered by, after so many events.
+/// Returns the refusal for a fault, after `events` events.
 pub(crate) fn answer_to(fault: Refusal, events: usize) -> Refusal
     ensures { IsAnswer events fault result }
 {
@@ -179,7 +182,7 @@ pub(crate) fn answer_to(fault: Refusal, events: usize) -> Refusal
     Refusal::Missing
 }
 
-/// What a pool in which no fault was set lacks of an outcome.
+/// Returns what is missing for an outcome of a pool in which no fault was set.
 fn lack_of(alloc: Global, nodes: u32, tasks: u32, report: &Report) -> Option<Refusal>
     ensures { MatchOption result (IsComplete nodes tasks report.now) (IsLack nodes tasks report.now) }
 {
@@ -189,8 +192,8 @@ fn lack_of(alloc: Global, nodes: u32, tasks: u32, report: &Report) -> Option<Ref
     lack_by(is_made_once(alloc, tasks, report))
 }
 
-/// What a pool lacks of an outcome whose end was judged and told to each node, where it was looked whether it was made once:
-/// `Missing` where it was not, and `NoMemory` where there was no memory to look.
+/// Returns what is missing after termination was detected and announced: `Missing` if not each task was done once, and
+/// `NoMemory` if the check of that had no memory.
 fn lack_by(made: Result<bool, AllocError>) -> Option<Refusal>
     ensures { MatchResult made (λ yes. result ≡ (if yes then None else Some Missing)) (λ _. result ≡ Some NoMemory) }
 {
@@ -201,7 +204,7 @@ fn lack_by(made: Result<bool, AllocError>) -> Option<Refusal>
     }
 }
 
-/// Whether each of so many tasks has one result and lived once, and no other task.
+/// Returns whether each of `tasks` tasks has one result and lived once, and no other task has any.
 fn is_made_once(alloc: Global, tasks: u32, report: &Report) -> Result<bool, AllocError>
     ensures { IfOk result (λ yes. IsTrue yes
         ↔ (HasEachOnce tasks report.now.results.items × LivesOnce tasks (steps_of report.now.history.events))) }

@@ -1,3 +1,4 @@
+//! The run queue of a node: begun tasks that wait for a worker, and how many of the ready ones begin at a time.
 ghost use Rattle.std.specs.Prelude.{◌≡◌, ◌≢◌, ◌⊎◌, ◌+◌, ◌-◌, ◌++◌, ◌*◌, ◌/◌, ◌<◌, ◌≤◌, [], None, Some, IfErr, IfNone, IsFalse, IsOk, IsTrue};
 ghost use Rattle.std.specs.Prelude.{MatchOption, OnErr, OnOk, length, max, min, reverse, vec_capacity, vec_len};
 ghost use Rattle.std.specs.Option.{option_to_list};
@@ -15,20 +16,20 @@ use tp_board::{Board, Ledgers};
 use tp_graph::Graph;
 use tp_node::{Node, Work};
 
-/// How the ready tasks of a node are shared out among its workers.
+/// How the ready tasks of a node are divided among its workers.
 #[derive(Clone, Copy)]
 pub(crate) struct Share {
-    // How many work at the node.
+    // The number of workers at the node.
     workers: u32,
-    // How many tasks begin in one hold at most.
+    // The most tasks that begin in one critical section.
     most: u32,
     ghost some_workers: { 1 ≤ workers },
     ghost few: { (1 ≤ most) × (most ≤ 8) },
 }
 
 impl Share {
-    /// Up to 8 tasks begin at a time, so that the board's lock is taken less often. A worker that is alone in its pool waits
-    /// for nobody, and begins one at a time.
+    /// Returns the share of a worker: up to 8 tasks begin at a time, as a batch, so that the board's lock is acquired
+    /// less often. The only worker of a pool with one node begins one at a time.
     pub fn new(nodes: u32, workers: u32) -> Self
         requires { 1 ≤ workers }
         ensures workers { result.workers ≡ workers }
@@ -41,8 +42,9 @@ impl Share {
         }
     }
 
-    /// A worker's share of so many ready tasks, at least 1, where the history has so many events. More than one are no more
-    /// than it has places left, so a history is full where it would be if one began at a time.
+    /// Returns a worker's share of `ready` ready tasks, at least 1, if the history has `events` events. A batch is
+    /// never larger than the number of places left, so a history is full at the same event as if tasks began one at a
+    /// time.
     #[inline(always)]
     fn of_ready(self, ready: u32, events: usize) -> u32
         requires { events ≤ 1048576 }
@@ -59,14 +61,14 @@ impl Share {
     }
 }
 
-/// What lies under a node's lock: the node, and the works that have begun and wait for a worker. Whoever is free takes the
-/// next one, whoever began it, so that none waits behind a long body while another worker of the node is idle. Its type keeps
-/// that at most seven wait, each of the node's graph. Contracts see the node and the works, the next one first.
+/// What a node's lock protects: the node, and the begun work that waits for a worker. Any free worker takes the next
+/// one, whichever worker began it, so that none waits behind a long body while another worker of the node is idle. Its
+/// invariant: at most seven wait, each of the node's graph. Contracts see the node and the work, next one first.
 #[derive(Drop)]
 pub(crate) struct RunQueue<G: Graph, K: Ledgers> {
     /// The node.
     pub node: Node<G, K>,
-    // The next one last.
+    // The next one is last.
     begun: Vec<Work<G>>,
 }
 
@@ -84,7 +86,7 @@ impl<G: Graph, K: Ledgers> Model for RunQueue<G, K> {
 }
 
 impl<G: Graph, K: Ledgers> RunQueue<G, K> {
-    /// A node at which no work waits. It takes no memory.
+    /// Returns the run queue of a node, without work. It allocates nothing.
     pub fn new(alloc: Global, node: Node<G, K>) -> Self
         ensures node { result.node ≡ node }
         ensures none { result.begun ≡ [] }
@@ -95,7 +97,7 @@ impl<G: Graph, K: Ledgers> RunQueue<G, K> {
         }
     }
 
-    /// The node alone. Works that wait are dropped: there are some only where a fault has stopped the pool.
+    /// Returns the node. Work that waits is dropped; there is some only if a fault has stopped the pool.
     pub fn into_node(self) -> Node<G, K>
         ensures { result ≡ self.node }
     {
@@ -103,8 +105,8 @@ impl<G: Graph, K: Ledgers> RunQueue<G, K> {
         node
     }
 
-    /// Takes the next work that waits and puts it where the worker wants it, so that it is moved once. It answers whether there
-    /// was one; where none waits, nothing changes.
+    /// Removes the next waiting work and puts it into `begun`, where the worker needs it, so that it is moved only
+    /// once. Returns whether there was one; if not, nothing changes.
     #[inline(always)]
     pub fn take(&mut self, begun: &mut Option<Work<G>>) -> bool
         ensures node { self.new.node ≡ self.old.node }
@@ -119,7 +121,7 @@ impl<G: Graph, K: Ledgers> RunQueue<G, K> {
         true
     }
 
-    /// Takes the next work that waits, where there is one. Apart from `take`, since mostly none does.
+    /// Removes the next waiting work, if there is one. It is separate from `take`, since mostly there is none.
     #[inline(never)]
     fn take_last(&mut self) -> Option<Work<G>>
         ensures node { self.new.node ≡ self.old.node }
@@ -129,7 +131,7 @@ impl<G: Graph, K: Ledgers> RunQueue<G, K> {
         self.begun.pop()
     }
 
-    /// How many tasks wait for a worker: those that are ready, and those that have begun.
+    /// Returns the number of tasks that wait for a worker: ready ones, and begun ones.
     #[inline(always)]
     pub fn waiting(&self) -> u64
         ensures { result ≡ ready_count self.now.node + length self.now.begun }
@@ -137,11 +139,12 @@ impl<G: Graph, K: Ledgers> RunQueue<G, K> {
         self.node.counts().ready as u64 + self.begun.len() as u64
     }
 
-    /// Begins a worker's share of the node's ready tasks, and puts the first of them where the worker wants it, so that it is
-    /// moved once; `None` where no task is ready. No work may wait, so that works are taken in the order in which they began.
+    /// Begins a worker's share of the node's ready tasks, and sets `begun` to the first of them, or to `None` if no
+    /// task is ready. So the worker gets the task where it needs it, and it is moved only once. The queue has to be
+    /// empty, so that work is taken in the order in which it began.
     ///
-    /// Refused, where a task is ready: `HistoryFull` where the history has reached its limit; `NoMemory` where the board has
-    /// to ask for memory for the first event. Nothing changes then.
+    /// Refused, if a task is ready: `HistoryFull` if the history has reached its limit; `NoMemory` if the board has to
+    /// allocate for the first event and the allocation fails. Nothing changes then.
     #[inline(always)]
     pub(crate) fn begin(
         &mut self,
@@ -167,7 +170,8 @@ impl<G: Graph, K: Ledgers> RunQueue<G, K> {
         Ok(())
     }
 
-    /// Begins as many more ready tasks, whose works then wait. A refusal ends it: whoever begins the next task is told.
+    /// Begins `count` more ready tasks, which then wait. A refusal ends the loop: the worker that begins the next task
+    /// gets it again.
     fn begin_more(&mut self, board: &mut Board<K>, count: u32)
         requires empty { self.old.begun ≡ [] }
         requires few { count ≤ 7 }
@@ -181,8 +185,8 @@ impl<G: Graph, K: Ledgers> RunQueue<G, K> {
     }
 }
 
-/// Begins so many ready tasks of a node, or fewer where a call is refused or no more are ready, and adds their works to a list
-/// in that order.
+/// Begins `count` ready tasks of a node, or fewer if a call is refused or no more are ready, and appends their work to
+/// a list in that order.
 fn begin_works<G: Graph, K: Ledgers>(
     node: &mut Node<G, K>,
     board: &mut Board<K>,
@@ -203,7 +207,7 @@ fn begin_works<G: Graph, K: Ledgers>(
     }
 }
 
-/// Turns a list round.
+/// Reverses a list.
 fn turn_round<T>(items: &mut Vec<T>)
     ensures { items.new.items ≡ reverse items.old.items }
 {

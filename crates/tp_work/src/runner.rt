@@ -1,3 +1,4 @@
+//! Runs one generation of a pool: starts the workers, waits for them, and takes the pool out of its locks.
 ghost use Rattle.std.specs.Prelude.{◌≡◌, ◌≤◌, ◌*◌, ◌-◌, length, vec_len, IfErr, IfOk, IfSome, MatchOption, None, OnOk, Some};
 ghost use Rattle.tp_base.specs.declared.limits.TheConstants.{MAX_STEPS};
 ghost use Rattle.tp_base.specs.declared.refusal.Refusal.TheVariants.{NoMemory};
@@ -22,7 +23,7 @@ use tp_board::{Blanks, Board, Ended, Ledgers};
 use tp_graph::{Comparable, Graph};
 use tp_node::{Pool, open_pool};
 
-/// What the generations of a pool are run with.
+/// What is common to the generations of a pool: the graph, the gate and the configuration.
 #[derive(Drop)]
 pub(crate) struct Runner<'a, G: Graph, A: Gate, R: Wait> {
     pub rt: &'a R,
@@ -33,7 +34,7 @@ pub(crate) struct Runner<'a, G: Graph, A: Gate, R: Wait> {
 }
 
 impl<G: Comparable, A: Gate, R: Threads + Wait + Sync> Runner<'_, G, A, R> {
-    /// Opens a pool that may have as many events as any.
+    /// Opens a pool with the highest limit of events.
     pub fn open<K: Ledgers>(&self, blanks: Blanks) -> Result<Pool<G, K>, Refusal>
         requires limits { IsWithinLimits self.now.config }
         requires names { blanks ≡ K.names }
@@ -46,10 +47,10 @@ impl<G: Comparable, A: Gate, R: Threads + Wait + Sync> Runner<'_, G, A, R> {
         open_pool(self.alloc, blanks, self.graph, self.config.nodes, MAX_STEPS)
     }
 
-    /// Runs a pool's generation of this number.
+    /// Runs the generation of this number.
     ///
-    /// Refused: `NoMemory` where memory has to grow and does not; `NoNode` and `Stranger` where a part of the pool is not at
-    /// its place afterwards. The pool is lost then.
+    /// Refused with `NoMemory` if an allocation fails; `NoNode` and `Stranger` if a part of the pool is not at its
+    /// place afterwards. The pool is lost then.
     pub fn run_generation<K: Ledgers + Send + Sync>(
         &self,
         pool: Pool<G, K>,
@@ -71,8 +72,9 @@ impl<G: Comparable, A: Gate, R: Threads + Wait + Sync> Runner<'_, G, A, R> {
         }
     }
 
-    /// Puts a pool under locks, and takes it out when all its threads have ended, with the token of the end where it lies
-    /// there. Where a worker answered a refusal, or not all could be started, that is the pool's fault unless it has one.
+    /// Puts a pool under locks, runs it, and takes it out when all its threads have ended, with the termination token
+    /// if it is there. If a worker returned a refusal, or not all could be started, that is the pool's fault unless it
+    /// has one.
     fn run_round<K: Ledgers + Send + Sync>(&self, pool: Pool<G, K>) -> Result<Ran<G, K>, Refusal>
         requires limits { IsWithinLimits self.now.config }
         ensures nodes { IfOk result (λ r. vec_len r.pool.nodes ≡ vec_len pool.nodes) }
@@ -91,7 +93,7 @@ impl<G: Comparable, A: Gate, R: Threads + Wait + Sync> Runner<'_, G, A, R> {
         })
     }
 
-    /// Starts all workers, and waits for their answers. Where one cannot be started, `NoMemory` is among the refusals.
+    /// Starts all workers, and waits for their results. If one cannot be started, `NoMemory` is among the refusals.
     fn run_workers<K: Ledgers + Send + Sync>(&self, locks: &Locks<G, K>) -> WorkerAnswers
         requires limits { IsWithinLimits self.now.config }
         ensures all { result.refusal ≡ None → result.workers ≡ self.now.config.nodes * self.now.config.workers }
@@ -129,28 +131,29 @@ impl<G: Comparable, A: Gate, R: Threads + Wait + Sync> Runner<'_, G, A, R> {
     }
 }
 
-/// What is left of a pool when its threads have ended.
+/// A pool whose threads have ended.
 #[derive(Drop)]
 pub(crate) struct Ran<G: Graph, K: Ledgers> {
     /// The pool.
     pub pool: Pool<G, K>,
-    /// The token of the end, where the end was judged and told to each node.
+    /// The termination token, if termination was detected and announced to each node.
     pub token: Option<Ended<K>>,
-    /// How many workers have answered.
+    /// The number of workers that returned.
     pub workers: u32,
 }
 
-/// What the workers of a pool have answered.
+/// The results of the workers of a pool.
 #[derive(Clone, Copy)]
 struct WorkerAnswers {
-    /// How many have answered.
+    /// The number of workers that returned.
     workers: u32,
-    /// A refusal that one of them answered, where there is one.
+    /// A refusal that one of them returned, if there is one.
     refusal: Option<Refusal>,
 }
 
 impl WorkerAnswers {
-    /// The same, where so many workers were wanted: a worker that has not answered could not be started.
+    /// Returns the same, or adds the refusal `NoMemory` if fewer than `wanted` workers returned and none returned a
+    /// refusal: the others could not be started.
     fn of_all(self, wanted: u32) -> Self
         ensures workers { result.workers ≡ self.workers }
         ensures all { result.refusal ≡ None → result.workers ≡ wanted }
@@ -166,7 +169,7 @@ impl WorkerAnswers {
     }
 }
 
-/// Keeps the handle of a thread, where it could be started and there is room.
+/// Keeps the handle of a thread, if it could be started and there is room.
 fn keep<T: Drop, F: Drop>(
     handles: &mut Vec<JoinHandle<T>>,
     started: Result<JoinHandle<T>, SpawnError<F>>,
@@ -175,7 +178,7 @@ fn keep<T: Drop, F: Drop>(
     Ok(())
 }
 
-/// Waits for each thread, and counts those that have answered.
+/// Joins each thread, and counts those that returned.
 fn answers_of<R: Threads>(rt: &R, handles: Vec<JoinHandle<Option<Refusal>>>) -> WorkerAnswers
     ensures { result.workers ≤ vec_len handles }
 {
@@ -191,8 +194,8 @@ fn answers_of<R: Threads>(rt: &R, handles: Vec<JoinHandle<Option<Refusal>>>) -> 
     answers
 }
 
-/// Sets a refusal that a worker answered as the fault, where none was set. The first one was set under the board's lock when
-/// its worker ended.
+/// Sets a refusal that a worker returned as the fault, if none was set. The first one was set under the board's lock
+/// when its worker ended.
 fn tell_fault<K: Ledgers>(board: &mut Board<K>, refusal: Option<Refusal>)
     ensures { MatchOption refusal (board.new ≡ board.old) (λ fault. board.new ≡ with_fault fault board.old) }
 {
@@ -201,9 +204,9 @@ fn tell_fault<K: Ledgers>(board: &mut Board<K>, refusal: Option<Refusal>)
     }
 }
 
-/// Gathers a pool of so many nodes.
+/// Returns the report of a pool of `nodes` nodes.
 ///
-/// Refused: `NoMemory` where memory has to grow and does not. The pool is lost then.
+/// Refused with `NoMemory` if an allocation fails. The pool is lost then.
 pub(crate) fn report_of<G: Graph, K: Ledgers>(
     alloc: Global,
     nodes: u32,
@@ -222,7 +225,7 @@ pub(crate) fn report_of<G: Graph, K: Ledgers>(
     }
 }
 
-/// The fault of a pool of which nothing was gathered.
+/// Returns the fault of a pool without a report.
 pub(crate) fn ungathered(refusal: Refusal) -> Fault
     ensures { result ≡ record { refusal = refusal; report = None } }
 {
@@ -232,11 +235,11 @@ pub(crate) fn ungathered(refusal: Refusal) -> Fault
     }
 }
 
-/// Whether each part of a pool is at its place, and the board has the generation of this number and place for as many events
-/// as any.
+/// Checks that each part of a pool is at its place, and that the board has this generation and the highest limit of
+/// events.
 ///
-/// Refused: `NoNode` where a node or a link is not at its place; `Stranger` where a node is of another graph, or the board is
-/// not that of the pool.
+/// Refused with `NoNode` if a node or a link is not at its place; `Stranger` if a node is of another graph, or the
+/// board is not that of the pool.
 fn check_whole<G: Comparable, K: Ledgers>(
     pool: &Pool<G, K>,
     graph: &G,

@@ -1,3 +1,4 @@
+//! Running a pool through several generations, reopened after each but the last.
 ghost use Rattle.std.specs.Prelude.{◌≡◌, ◌≤◌, ◌<◌, ◌+◌, ◌*◌, ◌-◌, [], ℕ, length, map, reverse, slice_index, slice_index_or, vec_capacity};
 ghost use Rattle.std.specs.Prelude.{vec_len, IfErr, IfOk, IfSome, IsTrue, MatchOption, None, OnOk, Some};
 ghost use Rattle.std.specs.List.{All};
@@ -28,35 +29,36 @@ use tp_board::{Blanks, Brand, Ended, Ledgers};
 use tp_graph::{Comparable, Graph, Named, Only, Value};
 use tp_node::{Pool, Reopened};
 
-/// What a generation of a series has made.
+/// The outcome of one generation of a series.
 #[derive(Drop)]
 pub struct Round {
-    /// Each task of the graph, in no particular order, with its value where the graph keeps that, and else with no numbers.
+    /// Each task of the graph, in no particular order, with its value if the graph keeps it, and else without numbers.
     pub results: Vec<(TaskId, Value)>,
-    /// How many tasks were done.
+    /// The number of tasks done.
     pub tasks: u32,
-    /// How many messages were sent.
+    /// The number of messages sent.
     pub messages: u32,
-    /// How many workers there were, at all nodes together: those that have answered, each at its end.
+    /// The number of workers at all nodes together: those that have returned.
     pub workers: u32,
 }
 
-/// What the generations of a pool have made.
+/// The outcome of a series of generations.
 #[derive(Drop)]
 pub struct Series {
-    /// What each generation has made, the oldest first.
+    /// The outcome of each generation, oldest first.
     pub rounds: Vec<Round>,
     /// The events of all generations.
     pub history: History,
 }
 
-/// Runs a pool that works a graph out through so many generations, 1 to 9: after each but the last the pool is reopened, and
-/// works the graph out anew. The threads of a generation have ended before the next begins.
+/// Runs a pool that computes a graph through `count` generations, 1 to 9, and returns the outcome of each: each
+/// task ran once in it, and each result is the value that the graph defines. After each but the last the pool is
+/// reopened and computes the graph anew. The threads of a generation have ended before the next begins.
 ///
-/// Refused as [`run_pool`](crate::run_pool) is, by the first generation that is refused; the rounds before it are dropped. And
-/// refused: `HistoryFull` where the history, which all generations share, has no place for a reopening; `NoMemory` where
-/// memory has to grow for a reopening or for the list of rounds and does not. The report of a fault has the numbers of the
-/// generation that was present, and all events.
+/// Refused as [`run_pool`](crate::run_pool) is, by the first generation that is refused; the rounds before it are
+/// dropped. Also refused with `HistoryFull` if the history, which all generations share, has no place for a reopening;
+/// `NoMemory` if an allocation for a reopening or for the list of rounds fails. The report of a fault has the numbers
+/// of the present generation, and all events.
 pub fn run_generations<G: Graph, A: Gate, R: Threads + Wait + Sync>(
     rt: &R,
     alloc: Global,
@@ -74,7 +76,7 @@ pub fn run_generations<G: Graph, A: Gate, R: Threads + Wait + Sync>(
     run_only::<G, Brand, Brand, A, R>(rt, alloc, graph, config, gate, count, blanks)
 }
 
-/// Opens a pool over the one graph that `D` names, so that no two parts of it have to be compared, with the ledgers that `K`
+/// Opens a pool over the one graph that `D` names, so that comparing graphs costs nothing, with the ledgers that `K`
 /// names. Runs all its generations, and keeps their rounds.
 fn run_only<
     'a,
@@ -156,7 +158,7 @@ fn run_earlier<G: Comparable, K: Ledgers + Send + Sync, A: Gate, R: Threads + Wa
     Ok(pool)
 }
 
-/// Runs a pool's generation of this number, which is not the last that is wanted, keeps its round, and reopens the pool.
+/// Runs the generation of this number, which is not the last, keeps its round, and reopens the pool.
 fn run_and_reopen<G: Comparable, K: Ledgers + Send + Sync, A: Gate, R: Threads + Wait + Sync>(
     runner: &Runner<'_, G, A, R>,
     pool: Pool<G, K>,
@@ -183,8 +185,8 @@ fn run_and_reopen<G: Comparable, K: Ledgers + Send + Sync, A: Gate, R: Threads +
     }
 }
 
-/// Reopens a pool that has run, where its end was judged and told to each node and no fault was set, and keeps the round of the
-/// generation that ended.
+/// Reopens a pool that has run, if termination was detected and announced to each node and no fault was set, and keeps
+/// the round of the generation that ended.
 fn next_generation<G: Graph, K: Ledgers>(
     alloc: Global,
     graph: G,
@@ -217,7 +219,7 @@ fn next_generation<G: Graph, K: Ledgers>(
     }
 }
 
-/// Whether no fault was set in a pool, and each node was told of the end.
+/// Returns whether no fault was set in a pool, and termination was announced to each node.
 fn is_free_of_fault<G: Graph, K: Ledgers>(pool: &Pool<G, K>) -> bool
     requires { vec_len pool.now.nodes ≡ K.names.nodes }
     ensures no_fault { IsTrue result → pool.now.board.fault ≡ None }
@@ -227,8 +229,8 @@ fn is_free_of_fault<G: Graph, K: Ledgers>(pool: &Pool<G, K>) -> bool
     pool.board.fault().is_none() && count_told(&pool.nodes) == nodes
 }
 
-/// Reopens a pool in which no fault was set, with the token of its end, which each node was told, and keeps the round of the
-/// generation that ended, with so many workers.
+/// Reopens a pool in which no fault was set and termination was announced to each node, given its token, and keeps the
+/// round of the generation that ended.
 fn reopen<G: Graph, K: Ledgers>(
     alloc: Global,
     graph: G,
@@ -259,8 +261,8 @@ fn reopen<G: Graph, K: Ledgers>(
     }
 }
 
-/// Keeps the round of a generation that ended, with these results, where each task has one, and so many workers. The pool was
-/// reopened, and no fault was set.
+/// Keeps the round of a generation that ended, with these results, if each task has one. The pool was reopened, and no
+/// fault was set.
 fn keep<G: Graph, K: Ledgers>(
     alloc: Global,
     graph: G,
@@ -297,8 +299,8 @@ fn keep<G: Graph, K: Ledgers>(
     }
 }
 
-/// The fault of a pool that is not reopened, since a fault was set there, its end was not judged or not told to each node, or
-/// the token of the end is not at its place.
+/// Returns the fault of a pool that is not reopened: a fault was set there, termination was not detected or not
+/// announced to each node, or the termination token is not at its place.
 fn stopped<G: Graph, K: Ledgers>(alloc: Global, graph: G, pool: Pool<G, K>) -> Fault
     requires whole { IsWhole K.names.nodes graph pool.nodes.items pool.links.items }
     ensures { (count : ℕ) → IsSeriesFault K.names.nodes (G.meaning graph) count result }
@@ -310,7 +312,7 @@ fn stopped<G: Graph, K: Ledgers>(alloc: Global, graph: G, pool: Pool<G, K>) -> F
     }
 }
 
-/// The fault of a pool of so many nodes that is not reopened, of which this was gathered.
+/// Returns the fault of a pool that is not reopened, with its report.
 fn fault_of<G: Graph>(nodes: u32, graph: G, report: Report) -> Fault
     requires report { IsReport nodes (G.meaning graph) report }
     ensures { (count : ℕ) → IsSeriesFault nodes (G.meaning graph) count result }
@@ -325,7 +327,7 @@ fn fault_of<G: Graph>(nodes: u32, graph: G, report: Report) -> Fault
     }
 }
 
-/// Why a pool of so many nodes is not reopened, where its report tells.
+/// Returns why a pool is not reopened, if its report shows it.
 fn reason_of(nodes: u32, report: &Report) -> Option<Refusal>
     ensures { IfSome result (λ e. (tasks count : ℕ)
         → MatchOption report.now.fault (IsSeriesLack nodes tasks count report.now e) (λ fault.
@@ -338,7 +340,7 @@ fn reason_of(nodes: u32, report: &Report) -> Option<Refusal>
     }
 }
 
-/// The fault of a pool that stops for a refusal.
+/// Returns the fault of a pool that stops for a refusal.
 fn stopped_for<G: Graph, K: Ledgers>(
     alloc: Global,
     graph: G,
@@ -358,7 +360,7 @@ fn stopped_for<G: Graph, K: Ledgers>(
     }
 }
 
-/// The series of a pool that has run its last generation, with the rounds of the earlier ones.
+/// Returns the series of a pool that has run its last generation, with the rounds of the earlier ones.
 fn series_of<G: Graph, K: Ledgers>(
     alloc: Global,
     graph: &G,
@@ -388,8 +390,8 @@ fn series_of<G: Graph, K: Ledgers>(
     }
 }
 
-/// The series of a pool of which this was gathered in its last generation, of which so many workers have answered, with the
-/// rounds of the earlier ones; or why there is none.
+/// Returns the series of a pool from the report of its last generation, the number of workers that returned, and the
+/// rounds of the earlier generations, or why there is none.
 fn series_from<G: Graph>(
     alloc: Global,
     graph: &G,
@@ -429,7 +431,7 @@ fn series_from<G: Graph>(
     }
 }
 
-/// The rounds with one more, each told how many messages its generation sent.
+/// Returns the rounds with one more, each with the number of messages of its generation.
 fn told_rounds(rounds: Vec<Round>, last: Round, sent: &[u32]) -> Vec<Round>
     requires room { vec_len rounds < vec_capacity rounds }
     requires sent { length sent.now ≡ vec_len rounds + 1 }
@@ -444,7 +446,7 @@ fn told_rounds(rounds: Vec<Round>, last: Round, sent: &[u32]) -> Vec<Round>
     rounds
 }
 
-/// How many messages each of so many generations sent, the oldest first, where nothing is lacking of a series.
+/// Returns the number of messages of each generation, oldest first, if nothing is missing for a series.
 fn sent_of(
     alloc: Global,
     nodes: u32,
@@ -476,7 +478,8 @@ fn sent_of(
     }
 }
 
-/// The messages of each generation, where each task has one result in the present one, and lived once in each.
+/// Returns the number of messages of each generation, if each task has one result in the present one, and lived once in
+/// each.
 fn sent_where_once(
     alloc: Global,
     tasks: u32,
@@ -496,7 +499,7 @@ fn sent_where_once(
     sent_in_each(alloc, tasks, count, &report.history)
 }
 
-/// Tells each round how many messages its generation sent.
+/// Sets in each round the number of messages of its generation.
 fn tell(rounds: &mut [Round], sent: &[u32])
     requires { length rounds.old ≡ length sent.now }
     ensures length { length rounds.new ≡ length rounds.old }

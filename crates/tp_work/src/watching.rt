@@ -1,3 +1,4 @@
+//! Shows the progress of a call on a terminal.
 use crate::progress::Progress;
 use crate::progress_line::line_of;
 use crate::screen::Screen;
@@ -6,9 +7,9 @@ use std::io::Write;
 use std::sync::Wait;
 use std::thread::{Threads, join};
 
-/// Calls some work and answers what it answers. Meanwhile a thread tells a screen how far it is: a line, twice a second at
-/// most, which is cleared before this returns. The work says by `progress` what it has to do, and counts its tasks there. Where
-/// no thread can be made, nothing is told.
+/// Calls `work` and returns its result. Meanwhile a thread shows on a screen how far the work is, in a line that is
+/// written at most twice a second and cleared before this call returns. The work sets its plan in `progress`, and
+/// counts its tasks there. If no thread can be started, nothing is shown.
 pub fn watched<R: Threads + Wait + Sync, W: Write + Send + Drop, T, F: FnOnce() -> T>(
     rt: &R,
     alloc: Global,
@@ -19,7 +20,8 @@ pub fn watched<R: Threads + Wait + Sync, W: Write + Send + Drop, T, F: FnOnce() 
     requires { F.pre work }
     ensures { F.post work result }
 {
-    // The first closure has the new thread. Where none can be made it is called last, and finds that the work has ended.
+    // The first closure gets the new thread. If no thread can be started, it is called last, and finds that the work
+    // has ended.
     let (_, made) = join(
         rt,
         move || tell(rt, alloc, screen, progress),
@@ -31,7 +33,7 @@ pub fn watched<R: Threads + Wait + Sync, W: Write + Send + Drop, T, F: FnOnce() 
     made
 }
 
-/// Calls the work, and says that it has ended.
+/// Calls the work, and records that it has ended.
 fn worked<T, F: FnOnce() -> T>(progress: &Progress, work: F) -> T
     requires { F.pre work }
     ensures { F.post work result }
@@ -41,7 +43,7 @@ fn worked<T, F: FnOnce() -> T>(progress: &Progress, work: F) -> T
     made
 }
 
-/// Tells a screen how far a run is until it has ended, and clears the line then.
+/// Shows on a screen how far a run is until it has ended, and then clears the line.
 fn tell<R: Wait, W: Write + Drop>(
     rt: &R,
     alloc: Global,
@@ -63,7 +65,8 @@ fn tell<R: Wait, W: Write + Drop>(
     }
 }
 
-/// Tells a screen how far a run is, where that has been said and there is memory for the line. Whether it has.
+/// Shows once how far a run is, if there is a plan and the allocation of the line succeeds. Returns whether it was
+/// shown.
 fn tell_once<W: Write>(alloc: Global, screen: &mut Screen<W>, progress: &Progress) -> bool {
     let plan = progress.plan();
     if plan.steps == 0 {

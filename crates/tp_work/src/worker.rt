@@ -1,3 +1,5 @@
+//! The worker: a thread that takes turns at a node until the pool has ended. How it passes on feeds and receives
+//! messages is in its submodules.
 ghost use Rattle.std.specs.Prelude.{◌≡◌, IfOk, None, OnOk, Some, if◌then◌else◌};
 
 mod passing;
@@ -16,17 +18,17 @@ use tp_graph::{Comparable, Graph, Value, is_same};
 use tp_monitor::TaskpoolState;
 use tp_node::{Finished, Node, Turn as ControlTurn, Work};
 
-/// How many messages are received in one hold of the node's lock at most, each in a turn of its own.
+/// The most messages that are received in one critical section of the node's lock, each in a turn of its own.
 const MESSAGES_IN_A_HOLD: u32 = 8;
 
-/// How many tasks are inserted in one hold of the board's lock.
+/// The number of tasks that are inserted in one critical section of the board's lock.
 const SEEDS_IN_A_HOLD: u32 = 64;
 
-/// How often an idle worker looks at the hints before its first sleep, with a moment's spin before each look: a message or a
-/// task mostly comes before so many looks are over. docs/DECISIONS.md has the measurements.
+/// How often an idle worker polls the hints before its first sleep, with a short spin before each poll. A message or a
+/// task mostly comes before that. docs/measurements/locks.md has the measurements.
 const LOOKS: u32 = 300;
 
-/// How long that moment is, in spins: the looks themselves are not to slow down those who write the hints.
+/// The length of that spin: the polls must not slow down the threads that write the hints.
 const SPINS_BEFORE_A_LOOK: u32 = 4;
 
 /// A worker of a node, with what it shares with the others.
@@ -36,39 +38,39 @@ pub(crate) struct Worker<'a, G: Graph, K: Ledgers, A: Gate, R: Wait> {
     pub alloc: Global,
     pub graph: G,
     pub place: NodeId,
-    /// How it shares its node's ready tasks with the others there.
+    /// How it divides its node's ready tasks with the other workers there.
     pub share: Share,
     pub idle_turns: u32,
     pub locks: &'a Locks<G, K>,
     pub gate: &'a A,
 }
 
-/// What a worker has in its hands between two holds of its node's lock. It lends them to each turn, so that a task, which is
-/// large, is put where it stays until it has run.
+/// The task that a worker has in flight between two critical sections of its node's lock. Each turn borrows it, so that
+/// a task, which is large, stays at one address until it has run.
 #[derive(Drop)]
 struct InFlight<G: Graph> {
     /// A task that has begun.
     begun: Option<Work<G>>,
-    /// A task that has run, whose feeds are not passed on.
+    /// A task that has run, whose feeds are not all passed on.
     finished: Option<Finished<G>>,
 }
 
-/// What a turn did.
+/// The result of a turn.
 enum WorkerTurn<K: Ledgers> {
     /// There was nothing to do.
     Idle,
     /// Something was done.
     Moved,
-    /// A task lies in the worker's hands. It has begun, or had begun before and waited for a worker.
+    /// A task is in flight. It began in this turn, or before and waited for a worker.
     Begun,
-    /// The end was judged.
+    /// Termination was detected.
     Over(Ended<K>),
-    /// A fault was set, or the end was announced.
+    /// A fault was set, or termination was announced.
     Stop,
 }
 
-/// What a worker saw when its node could make no control step: how many there were, and whether the node was idle. Which step
-/// comes next depends on nothing else, so as long as it sees the same it need not ask again.
+/// What a worker observed when its node could make no control step: the number of control steps, and whether the node
+/// was idle. Which step is enabled depends on nothing else, so while both are the same the worker need not try again.
 #[derive(Clone, Copy, PartialEq, Eq)]
 struct Seen {
     control_steps: u64,
@@ -76,7 +78,7 @@ struct Seen {
 }
 
 impl<'a, G: Comparable, K: Ledgers, A: Gate, R: Wait> Worker<'a, G, K, A, R> {
-    /// The same worker, of another node.
+    /// Returns the same worker at another node.
     pub fn at(&self, place: NodeId) -> Self {
         Worker {
             rt: self.rt,
@@ -90,7 +92,7 @@ impl<'a, G: Comparable, K: Ledgers, A: Gate, R: Wait> Worker<'a, G, K, A, R> {
         }
     }
 
-    /// Works until the pool has ended. What stops it before is the pool's fault, which it sets and answers.
+    /// Works until the pool has ended. Returns the refusal that stops it before, which it sets as the pool's fault.
     pub fn run(&self) -> Option<Refusal> {
         match self.take_turns() {
             Ok(()) => None,
@@ -112,7 +114,8 @@ impl<'a, G: Comparable, K: Ledgers, A: Gate, R: Wait> Worker<'a, G, K, A, R> {
         self.work_at(node_slot, &mut in_flight)
     }
 
-    /// Takes turns until the pool has ended. The hands are lent, so that no way out of it has to drop what they hold.
+    /// Takes turns until the pool has ended. The in-flight task is borrowed, so that no way out of this function has to
+    /// drop it.
     fn work_at(
         &self,
         node_slot: &NodeSlot<RunQueue<G, K>>,
@@ -142,8 +145,8 @@ impl<'a, G: Comparable, K: Ledgers, A: Gate, R: Wait> Worker<'a, G, K, A, R> {
         unreachable!()
     }
 
-    /// Looks around for a moment after the first idle turn in a row, and sleeps after each further one, as long as the hints
-    /// tell of nothing that a turn may find to do.
+    /// After the first idle turn in a row, polls the hints; after each further one, sleeps unless the hints show
+    /// something that a turn may do.
     #[cold]
     #[inline(never)]
     fn rest(&self, node_slot: &NodeSlot<RunQueue<G, K>>, seen: Option<Seen>, idle: u32) {
@@ -167,7 +170,8 @@ impl<'a, G: Comparable, K: Ledgers, A: Gate, R: Wait> Worker<'a, G, K, A, R> {
         }
     }
 
-    /// Whether the hints tell of a stop, a task that waits, a message, or a control step since the worker last asked for one.
+    /// Returns whether the hints show a stop, a task that waits, a message, or a control step since the worker last
+    /// tried one.
     fn is_wanted(&self, node_slot: &NodeSlot<RunQueue<G, K>>, seen: Option<Seen>) -> bool {
         if node_slot.waiting.load(Ordering::SeqCst) > 0
             || node_slot.mail.load(Ordering::SeqCst) > 0
@@ -179,7 +183,8 @@ impl<'a, G: Comparable, K: Ledgers, A: Gate, R: Wait> Worker<'a, G, K, A, R> {
             || !seen.is_some_and(|seen| seen.control_steps == control_steps)
     }
 
-    /// Passes on what a task that was begun before has made, and takes a turn, all in one hold of the node's lock.
+    /// Passes on what the worker's last task computed, and takes a turn, all in one critical section of the node's
+    /// lock.
     #[inline(always)]
     fn turn(
         &self,
@@ -188,14 +193,14 @@ impl<'a, G: Comparable, K: Ledgers, A: Gate, R: Wait> Worker<'a, G, K, A, R> {
         idle: u32,
         seen: &mut Option<Seen>,
     ) -> Result<WorkerTurn<K>, Refusal> {
-        // It is dropped after the lock, which comes later: its numbers may be many.
+        // It is dropped after the lock, which is acquired later: it may have many numbers.
         let mut spent = None;
         let mut run_queue = lock_soon(self.rt, &node_slot.run_queue);
         self.turn_at(&mut run_queue, node_slot, in_flight, idle, seen, &mut spent)
     }
 
-    /// Passes on what the worker's last task has made, and takes a turn of the node. A copy of what the graph does not keep is
-    /// left in `spent`, so that the one that the node drops is not the last.
+    /// Passes on what the worker's last task computed, and takes a turn of the node. A copy of a value that the graph
+    /// does not keep is left in `spent`, so that the node does not drop the last copy under its lock.
     #[inline(always)]
     fn turn_at(
         &self,
@@ -224,7 +229,7 @@ impl<'a, G: Comparable, K: Ledgers, A: Gate, R: Wait> Worker<'a, G, K, A, R> {
         }
     }
 
-    /// Inserts input-free tasks, and closes the opening action after the last.
+    /// Inserts tasks without inputs, and closes the opening action after the last.
     fn open(
         &self,
         here: &mut Node<G, K>,
@@ -240,8 +245,8 @@ impl<'a, G: Comparable, K: Ledgers, A: Gate, R: Wait> Worker<'a, G, K, A, R> {
         Ok(WorkerTurn::Moved)
     }
 
-    /// A turn of a node whose opening action is closed. Where messages were received, those turns and the one that begins a task
-    /// are taken in one hold of the node's lock.
+    /// Takes a turn of a node whose opening action is closed. If messages were received, those turns and the one that
+    /// begins a task share one critical section of the node's lock.
     #[inline(always)]
     fn go_on(
         &self,
@@ -267,7 +272,7 @@ impl<'a, G: Comparable, K: Ledgers, A: Gate, R: Wait> Worker<'a, G, K, A, R> {
         self.control(&mut run_queue.node, seen)
     }
 
-    /// Puts the next work of the run queue into the worker's hands. Where none waits there, the worker's share of the ready tasks
+    /// Takes the next work of the run queue in flight. If none waits there, the worker's share of the ready tasks
     /// begins.
     #[inline(always)]
     fn next_work(
@@ -282,7 +287,7 @@ impl<'a, G: Comparable, K: Ledgers, A: Gate, R: Wait> Worker<'a, G, K, A, R> {
         run_queue.begin(&mut board, self.share, begun)
     }
 
-    /// Makes a control step, where the node can make one.
+    /// Makes a control step, if one is enabled for the node.
     fn control(
         &self,
         here: &mut Node<G, K>,
@@ -319,7 +324,7 @@ impl<'a, G: Comparable, K: Ledgers, A: Gate, R: Wait> Worker<'a, G, K, A, R> {
         here.control_turn(&mut board)
     }
 
-    /// Runs the body of the task in the worker's hands, under no lock.
+    /// Runs the body of the in-flight task, while the worker holds no lock.
     #[inline(always)]
     fn perform(&self, in_flight: &mut InFlight<G>, idle: u32) -> Result<(), Refusal> {
         if let Some(work) = &in_flight.begun {
@@ -332,7 +337,7 @@ impl<'a, G: Comparable, K: Ledgers, A: Gate, R: Wait> Worker<'a, G, K, A, R> {
         Ok(())
     }
 
-    /// Announces the end to each node, and then puts the token of the end into the locks.
+    /// Announces termination to each node, stores the termination token and stops the workers.
     fn announce(&self, ended: Ended<K>) -> Result<(), Refusal> {
         let mut ended = ended;
         for place in 0..MAX_NODES {
@@ -362,7 +367,7 @@ impl<'a, G: Comparable, K: Ledgers, A: Gate, R: Wait> Worker<'a, G, K, A, R> {
     }
 }
 
-/// Announces the end to the node of a run queue.
+/// Announces termination to the node of a run queue.
 fn tell_end<G: Graph, K: Ledgers>(
     run_queue: &mut RunQueue<G, K>,
     ended: &mut Ended<K>,
@@ -371,7 +376,7 @@ fn tell_end<G: Graph, K: Ledgers>(
     run_queue.node.quiet_under(ended, board);
 }
 
-/// Lets a moment pass, and keeps the processor.
+/// Spins for a short time, and keeps the processor.
 #[inline(always)]
 fn spin() {
     for _ in 0..SPINS_BEFORE_A_LOOK {
@@ -379,7 +384,7 @@ fn spin() {
     }
 }
 
-/// A copy of a finished task's value, where the graph does not keep it.
+/// Returns a copy of a finished task's value, if the graph does not keep it.
 #[inline(always)]
 fn unkept<G: Graph>(finished: &Finished<G>) -> Result<Option<Value>, AllocError>
     ensures { IfOk result (λ copy.
@@ -391,7 +396,7 @@ fn unkept<G: Graph>(finished: &Finished<G>) -> Result<Option<Value>, AllocError>
     Ok(Some(finished.value().clone()?))
 }
 
-/// Inserts input-free tasks, and closes the opening action after the last.
+/// Inserts tasks without inputs, and closes the opening action after the last.
 fn open_tasks<G: Graph, K: Ledgers>(
     here: &mut Node<G, K>,
     board: &mut Board<K>,
@@ -406,7 +411,7 @@ fn open_tasks<G: Graph, K: Ledgers>(
     Ok(())
 }
 
-/// Whether a node is the one of a place, of a graph.
+/// Checks that a node has this number and is of this graph.
 fn check_node<G: Comparable, K: Ledgers>(
     node: &Node<G, K>,
     place: NodeId,
@@ -424,7 +429,7 @@ fn check_node<G: Comparable, K: Ledgers>(
     Ok(())
 }
 
-/// Sets the pool's fault, where it is the first, and stops the workers.
+/// Sets the pool's fault, unless one was set before, and stops the workers.
 pub(crate) fn set_fault<G: Graph, K: Ledgers, R: Wait>(
     rt: &R,
     locks: &Locks<G, K>,

@@ -1,15 +1,18 @@
 """What is measured: for each measurement its cases, and the programs that are compared on them."""
+import dataclasses
+
 from ..repository import TOP
-from . import inputs, patterns
+from . import inputs, patterns, processes
+from .dag import dag
 from .measuring import Candidate, Case, by_workers, measure
 
 TP, SAMPLES = f"{TOP}/bin/tp", f"{TOP}/bin/samples"
-HEAT, PRODUCT, PATTERNS = ([SAMPLES, it] for it in ("heat", "product", "patterns"))
+HEAT, PRODUCT, PATTERNS = ([SAMPLES, name] for name in ("heat", "product", "patterns"))
 ARCHIVE = f"{TOP}/lib/libgerfmuod.a"
 # what each measurement measures
 PROGRAMS = {
     "sim": TP, "audit": TP, "run": TP, "patterns": SAMPLES, "rod": SAMPLES, "body": SAMPLES, "product": SAMPLES,
-    "library": ARCHIVE,
+    "library": ARCHIVE, "dag": ARCHIVE, "processes": ARCHIVE,
 }
 
 TASKS = {"product:64:4:0": 4_096, "wavefront:64:64:0": 4_096, "reduce:1024:0": 2_047, "product:64:1:0": 262_144}
@@ -24,17 +27,17 @@ GRID_WIDTH, GRID_STEPS = 16, 100
 GRID_TASKS = GRID_WIDTH * GRID_STEPS
 GRID_PLACES = [(1, 1), (1, 4), (2, 2), (4, 1)]
 # iterations of the kernel in a task, and which of these sizes one worker has, and four workers
-ITERATIONS = [50 * 2**it for it in range(11)]
+ITERATIONS = [50 * 2**power for power in range(11)]
 ALONE, TOGETHER = ITERATIONS[:8], ITERATIONS[3:]
 # how many the one task has by which an iteration is timed
 KERNEL_ITERATIONS = 20_000_000
-# up to how many the answer is worked out in Python too
+# up to how many the output is computed in Python too
 FEW_ITERATIONS = 400
 
 
 def there(*candidates):
-    """Those whose program could be compiled."""
-    return [it for it in candidates if it.words[0]]
+    """Returns those whose program could be compiled."""
+    return [candidate for candidate in candidates if candidate.command[0]]
 
 
 def chosen(bench, *names):
@@ -42,7 +45,7 @@ def chosen(bench, *names):
 
 
 def texts(bench, measurement, kind, lines, write):
-    """`tp sim` or `tp audit` on a text, beside the core by hand with each kind of map."""
+    """`tp sim` or `tp audit` on a text, compared with the hand-written core with each kind of map."""
     name = f"{kind}, {lines:,} lines"
     if not chosen(bench, name):
         return []
@@ -75,12 +78,12 @@ def audit(bench):
 
 
 def run(bench):
-    """`tp run`, at nodes by workers, beside the other runtimes and the tasks one after the other."""
+    """`tp run`, at nodes by workers, compared with the other runtimes and with the tasks in sequence."""
     peers = bench.peers
     for pool, tasks in TASKS.items():
-        # the events of the last pool are too many at two nodes and more
-        places = [it for it in PLACES if pool != "product:64:1:0" or it[0] == 1]
-        places = [it for it in places if not bench.is_quick or it in [(1, 1), (2, 2), (8, 8)]]
+        # the last pool has too many events at two nodes and more
+        places = [place for place in PLACES if pool != "product:64:1:0" or place[0] == 1]
+        places = [place for place in places if not bench.is_quick or place in [(1, 1), (2, 2), (8, 8)]]
         for place in places if chosen(bench, pool) else []:
             candidates = there(
                 *by_workers("tp", [TP, "run", pool], [place]),
@@ -94,19 +97,19 @@ def run(bench):
             yield from measure(bench, Case("run", pool, "task", tasks), candidates)
 
 
-def grid_programs(bench, words, places):
-    peers, shared = bench.peers, [it for it in places if it[0] == 1]
+def grid_programs(bench, arguments, places):
+    peers, shared = bench.peers, [place for place in places if place[0] == 1]
     return there(
-        *by_workers("patterns", [*PATTERNS, *words], places),
-        *by_workers("runtime by hand", [peers.rust("runtime", "runtime/main.rs"), *words], places),
-        *by_workers("oneTBB flow graph", [peers.flow_graph("flow_graph_patterns"), *words], shared),
-        *by_workers("OpenMP tasks", [peers.depend("depend_patterns"), *words], shared),
-        *by_workers("threads and a barrier", [peers.rust("barrier_patterns", "barrier_patterns.rs"), *words], shared),
+        *by_workers("patterns", [*PATTERNS, *arguments], places),
+        *by_workers("runtime by hand", [peers.rust("runtime", "runtime/main.rs"), *arguments], places),
+        *by_workers("oneTBB flow graph", [peers.flow_graph("flow_graph_patterns"), *arguments], shared),
+        *by_workers("OpenMP tasks", [peers.depend("depend_patterns"), *arguments], shared),
+        *by_workers("threads and a barrier", [peers.rust("barrier_patterns", "barrier_patterns.rs"), *arguments], shared),
     )
 
 
 def kernel(bench):
-    """A task of no iterations and one of many: between them lies what an iteration takes."""
+    """A task of no iterations and one of many: their difference is the time of the iterations."""
     for iterations in (0, KERNEL_ITERATIONS):
         candidates = grid_programs(bench, ["no_comm", "1", "1", str(iterations)], GRID_PLACES[:1])
         yield from measure(bench, Case("patterns", f"one task, {iterations:,} iterations", "task", 1), candidates)
@@ -115,61 +118,61 @@ def kernel(bench):
 def grid(bench, pattern, steps, iterations, places):
     size = f"{iterations:,} iterations" if steps > 1 else "one step"
     few = iterations <= FEW_ITERATIONS
-    answer = patterns.answer(pattern, GRID_WIDTH, steps, iterations) if few else None
-    case = Case("patterns", f"{pattern}, {size}", "task", GRID_WIDTH * steps, answer=answer)
-    words = [pattern, str(GRID_WIDTH), str(steps), str(iterations), *patterns.OPTIONS.get(pattern, [])]
-    return measure(bench, case, grid_programs(bench, words, places))
+    output = patterns.output_of(pattern, GRID_WIDTH, steps, iterations) if few else None
+    case = Case("patterns", f"{pattern}, {size}", "task", GRID_WIDTH * steps, output=output)
+    arguments = [pattern, str(GRID_WIDTH), str(steps), str(iterations), *patterns.OPTIONS.get(pattern, [])]
+    return measure(bench, case, grid_programs(bench, arguments, places))
 
 
 def grids(bench):
-    """`patterns` on grids of Task Bench, with tasks of many sizes, and beginning and ending alone."""
-    bench = bench._replace(counts=False)
-    names = [it for it in (patterns.QUICK if bench.is_quick else patterns.NAMES) if chosen(bench, it)]
+    """`patterns` on grids of Task Bench, with tasks of many sizes, and with one step for the start and the end alone."""
+    bench = dataclasses.replace(bench, counts=False)
+    names = [name for name in (patterns.QUICK if bench.is_quick else patterns.NAMES) if chosen(bench, name)]
     if names:
         yield from kernel(bench)
     for name in names:
         yield from grid(bench, name, 1, 0, GRID_PLACES)
         for iterations in ITERATIONS[::2] if bench.is_quick else ITERATIONS:
-            places = [it for it in GRID_PLACES if iterations in (ALONE if it == (1, 1) else TOGETHER)]
+            places = [place for place in GRID_PLACES if iterations in (ALONE if place == (1, 1) else TOGETHER)]
             yield from grid(bench, name, GRID_STEPS, iterations, places)
 
 
-def rod_peers(bench, words, places):
+def rod_peers(bench, arguments, places):
     return [
-        *by_workers("oneTBB flow graph", [bench.peers.flow_graph("flow_graph_rod"), *words], places),
-        *by_workers("OpenMP tasks", [bench.peers.depend("depend_rod"), *words], places),
+        *by_workers("oneTBB flow graph", [bench.peers.flow_graph("flow_graph_rod"), *arguments], places),
+        *by_workers("OpenMP tasks", [bench.peers.depend("depend_rod"), *arguments], places),
     ]
 
 
 def rod(bench):
-    """`heat` on a rod of cells, with reading and printing, which are measured apart by no steps at all."""
+    """`heat` on a rod of cells, including reading and printing, which a run of no steps measures alone."""
     loop = bench.peers.rust("rod", "rod.rs")
     for cells, block, steps in [RODS[0][:2] + (0,), *(RODS[-1:] if bench.is_quick else RODS)]:
         name = f"{cells:,} cells in blocks of {block:,}, {steps} steps"
         if not chosen(bench, name):
             continue
         path = bench.file(f"cells-{cells}", lambda out, cells=cells: inputs.write_cells(out, cells))
-        words = [str(steps), str(block)]
+        arguments = [str(steps), str(block)]
         places = ROD_PLACES if steps else ROD_PLACES[:1]
-        candidates = [*by_workers("heat", [*HEAT, *words], places), Candidate("plain loop", [loop, *words])]
+        candidates = [*by_workers("heat", [*HEAT, *arguments], places), Candidate("plain loop", [loop, *arguments])]
         if steps:
-            candidates += by_workers("threads and a barrier", [loop, *words, "--threads"], places)
-        candidates += rod_peers(bench, words, places)
+            candidates += by_workers("threads and a barrier", [loop, *arguments, "--threads"], places)
+        candidates += rod_peers(bench, arguments, places)
         yield from measure(bench, Case("rod", name, "cell", cells, path), there(*candidates))
 
 
 def body(bench):
-    """`heat` in blocks of many sizes, after one step and after many: bodies and handing them out lie between."""
+    """`heat` in blocks of many sizes, after one step and after many: the difference is the bodies and their scheduling."""
     path = bench.file(f"cells-{BODY_CELLS}", lambda out: inputs.write_cells(out, BODY_CELLS))
     for block in BODIES[::2] if bench.is_quick else BODIES:
         for count in (1, BODY_STEPS + 1):
-            words = [str(count), str(block)]
+            arguments = [str(count), str(block)]
             name = f"blocks of {block:,}, {count} steps"
             if chosen(bench, name):
-                candidates = by_workers("heat", [*HEAT, *words], [(1, 1), (1, 4), (2, 2), (4, 1)])
-                candidates += rod_peers(bench, words, [(1, 1), (1, 4)])
+                candidates = by_workers("heat", [*HEAT, *arguments], [(1, 1), (1, 4), (2, 2), (4, 1)])
+                candidates += rod_peers(bench, arguments, [(1, 1), (1, 4)])
                 case = Case("body", name, "body", -(-BODY_CELLS // block) * count, path)
-                yield from measure(bench._replace(counts=False), case, there(*candidates))
+                yield from measure(dataclasses.replace(bench, counts=False), case, there(*candidates))
 
 
 def product(bench):
@@ -184,17 +187,19 @@ def product(bench):
 
 
 def library(bench):
-    """Steps that a program in C tells the library, and the same steps told the core by hand: none of them, and many."""
+    """Steps that a program in C reports to the library, and the same steps of the hand-written core: none of them, and many."""
     for kind in ("tasks", "messages"):
         for steps in (0, LIBRARY_STEPS) if chosen(bench, f"steps of {kind}") else ():
-            words = [kind, str(steps)]
+            arguments = [kind, str(steps)]
             candidates = there(
-                Candidate("library from C", [bench.peers.library_steps(), *words]),
-                Candidate("core with a HashMap", [bench.peers.rust("core_steps", "core_steps.rs"), *words]),
+                Candidate("library from C", [bench.peers.library_steps(), *arguments]),
+                Candidate("core with a HashMap", [bench.peers.rust("core_steps", "core_steps.rs"), *arguments]),
             )
             yield from measure(bench, Case("library", f"{steps:,} steps of {kind}", "step", steps), candidates)
 
 
 MEASUREMENTS = dict(
-    sim=sim, audit=audit, run=run, patterns=grids, rod=rod, body=body, product=product, library=library
+    sim=sim, audit=audit, run=run, patterns=grids, rod=rod, body=body, product=product, library=library,
+    dag=dag,
+    processes=processes.measure,
 )

@@ -1,4 +1,4 @@
-"""The tables in docs/PERFORMANCE.md, between marks."""
+"""The tables in docs/PERFORMANCE.md, docs/YOUR-BODIES.md, docs/measurements/details.md and README.md, between marks."""
 import re
 
 from ..repository import TOP, text_of
@@ -6,9 +6,12 @@ from . import figures, tables
 from .cases import MEASUREMENTS
 from .rows import kept, origins
 
-PAGE = "docs/PERFORMANCE.md"
+DETAILS = "docs/measurements/details.md"
+PAGES = "docs/PERFORMANCE.md", DETAILS, "README.md", "docs/YOUR-BODIES.md"
+# tables of details.md, each with its measurement
+MORE = {"more": ("run", tables.more_of_pools), "kernels": ("patterns", tables.kernels)}
 BLOCK = re.compile(r"(<!-- bench (\w+) -->\n).*?(<!-- end of bench -->\n)", re.S)
-PLOT_WORDS = {
+PLOT_TITLES = {
     "time-by-nodes": "Microseconds a task against nodes and workers, for three pools and four programs",
     "instructions-a-task": "Instructions a task of each program at one node with one worker",
     "efficiency-by-task": "Which part of four workers' time is kernels, against the size of a task, for two patterns",
@@ -17,34 +20,46 @@ PLOT_WORDS = {
 }
 
 
-def block(name):
-    """What stands between the marks of a measurement, or of the table of all of them."""
+def block(name, folder="measurements/"):
+    """Returns what is between the marks of a measurement, or of the table of all of them; its rows are in a folder next to the page."""
     if name == "origins":
-        every = origins()
-        return tables.of_origins([every[it] for it in MEASUREMENTS if it in every]) if every else "Nothing is kept yet."
+        known = origins()
+        return tables.of_origins([known[name] for name in MEASUREMENTS if name in known]) if known else "Nothing is stored yet."
+    if name == "front":
+        return tables.front(kept("run"), kept("body"), kept("rod"))
+    if name in MORE:
+        measurement, more = MORE[name]
+        return f"{more(kept(measurement))}\n\nAll rows: [{measurement}.csv]({folder}{measurement}.csv)."
     rows = kept(name)
     if not rows:
         return f"Not kept yet: `tools/dev bench {name} --full --write` does it."
-    plots = [f"![{PLOT_WORDS[plot]}](figures/{plot}.svg)" for plot in figures.of(name)]
-    return "\n\n".join([tables.of(name, rows), *plots, f"All rows: [{name}.csv](measurements/{name}.csv)."])
+    pictures = "figures/" if folder else "../figures/"
+    plots = [f"![{PLOT_TITLES[plot]}]({pictures}{plot}.svg)" for plot in figures.of(name)]
+    return "\n\n".join([tables.of(name, rows), *plots, f"All rows: [{name}.csv]({folder}{name}.csv)."])
 
 
-def made(text):
-    """The page with the blocks of today's rows."""
-    return BLOCK.sub(lambda it: f"{it[1]}\n{block(it[2])}\n\n{it[3]}", text)
+def folder_of(page):
+    """Returns the folder of the rows, as the page links it."""
+    return "" if page == DETAILS else "measurements/"
+
+
+def updated(page):
+    """Returns the page with the blocks of the stored rows."""
+    return BLOCK.sub(lambda found: f"{found[1]}\n{block(found[2], folder_of(page))}\n\n{found[3]}", text_of(f"{TOP}/{page}"))
 
 
 def write():
-    text = text_of(f"{TOP}/{PAGE}")
-    with open(f"{TOP}/{PAGE}", "w", encoding="utf-8") as out:
-        out.write(made(text))
+    for page in PAGES:
+        text = updated(page)
+        with open(f"{TOP}/{page}", "w", encoding="utf-8") as file:
+            file.write(text)
 
 
 def check(tally):
-    text = text_of(f"{TOP}/{PAGE}")
-    names = [it[2] for it in BLOCK.finditer(text)]
-    for name in ["origins", *MEASUREMENTS]:
-        tally.judge(names.count(name) == 1, f"{PAGE} has {names.count(name)} blocks for {name}")
-    for found in BLOCK.finditer(text):
-        is_well = found[0] == f"{found[1]}\n{block(found[2])}\n\n{found[3]}"
-        tally.judge(is_well, f"{PAGE}: the tables of {found[2]} are not those of the rows: tools/dev bench --draw")
+    names = [found[2] for page in PAGES for found in BLOCK.finditer(text_of(f"{TOP}/{page}"))]
+    for name in ["origins", "front", *MORE, *MEASUREMENTS]:
+        tally.judge(names.count(name) == 1, f"{' and '.join(PAGES)} have {names.count(name)} blocks for {name}")
+    for page in PAGES:
+        for found in BLOCK.finditer(text_of(f"{TOP}/{page}")):
+            is_well = found[0] == f"{found[1]}\n{block(found[2], folder_of(page))}\n\n{found[3]}"
+            tally.judge(is_well, f"{page}: the tables of {found[2]} are not those of the stored rows: tools/dev bench --draw")

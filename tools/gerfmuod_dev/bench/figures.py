@@ -1,4 +1,4 @@
-"""The plots of docs/figures, each out of the rows of one measurement."""
+"""The plots of docs/figures, each drawn from the rows of one measurement."""
 import os
 from xml.dom import minidom
 
@@ -10,7 +10,7 @@ from .rows import kept
 
 FOLDER = f"{TOP}/docs/figures"
 RUNTIMES = ["tp", "runtime by hand", "oneTBB flow graph", "OpenMP tasks"]
-POOLS = [it for it in TASKS if it != "product:64:1:0"]
+POOLS = [pool for pool in TASKS if pool != "product:64:1:0"]
 GRID_PROGRAMS = ["patterns", "runtime by hand", "oneTBB flow graph", "OpenMP tasks", "threads and a barrier"]
 CURVES = ["stencil", "spread"]
 
@@ -18,16 +18,16 @@ CURVES = ["stencil", "spread"]
 def time_by_nodes(rows):
     """Microseconds a task against nodes and workers, a panel for each pool."""
     rows = rest(rows)
-    programs = [name for name in RUNTIMES if any(it.program == name for it in rows)]
+    programs = [name for name in RUNTIMES if any(row.program == name for row in rows)]
     panels = []
-    words = [f"{nodes}×{workers}" for nodes, workers in PLACES]
-    for pool in [it for it in POOLS if any(row.case == it for row in rows)]:
+    labels = [f"{nodes}×{workers}" for nodes, workers in PLACES]
+    for pool in [pool for pool in POOLS if any(row.case == pool for row in rows)]:
         lines = []
         for program in programs:
-            mine = [it for it in rows if (it.case, it.program) == (pool, program)]
-            lines.append([(PLACES.index((it.nodes, it.workers)), it.milliseconds * 1000 / it.units) for it in mine])
+            own = [row for row in rows if (row.case, row.program) == (pool, program)]
+            lines.append([(PLACES.index((row.nodes, row.workers)), row.milliseconds * 1000 / row.units) for row in own])
         panel, names = charts.Panel(len(panels), 300), ("microseconds a task", "nodes × workers")
-        panels.append(charts.lines_panel(panel, pool, lines, *names, True, words))
+        panels.append(charts.lines_panel(panel, pool, lines, *names, True, labels))
     return charts.picture(panels, programs) if panels else ""
 
 
@@ -36,7 +36,7 @@ def instructions_a_task(rows):
     names = [*RUNTIMES, "one after the other"]
     groups = []
     for pool in TASKS:
-        found = {it.program: it.instructions / it.units for it in rows if it.case == pool and it.instructions}
+        found = {row.program: row.instructions / row.units for row in rows if row.case == pool and row.instructions}
         if found:
             groups.append((pool, [found.get(name) for name in names]))
     if not groups:
@@ -45,15 +45,15 @@ def instructions_a_task(rows):
 
 
 def grid_programs(rows):
-    return [name for name in GRID_PROGRAMS if any(it.program == name for it in rows)]
+    return [name for name in GRID_PROGRAMS if any(row.program == name for row in rows)]
 
 
 def efficiency_by_task(rows):
-    """Which part of four workers' time is kernels, against the size of a task, a panel for each of two patterns."""
+    """The part of four workers' time that is kernels, against the size of a task, a panel for each of two patterns."""
     programs, panels = grid_programs(rows), []
-    for pattern in [it for it in CURVES if it in metg.patterns_of(rows)]:
+    for pattern in [pattern for pattern in CURVES if pattern in metg.patterns_of(rows)]:
         curves = [metg.curve(rows, pattern, name, 1, 4) for name in programs]
-        lines = [[(it.task, it.efficiency) for it in points if it.task > 0] for points in curves]
+        lines = [[(point.task, point.efficiency) for point in points if point.task > 0] for points in curves]
         panel, names = charts.Panel(len(panels), 380), ("kernels by time of four workers", "microseconds a task")
         panels.append(charts.lines_panel(panel, pattern, lines, *names))
     return charts.picture(panels, [f"{name}, 1×4" for name in programs]) if panels else ""
@@ -64,20 +64,20 @@ def metg_by_pattern(rows):
     programs, groups = grid_programs(rows), []
     for pattern in metg.patterns_of(rows):
         found = [metg.metg(metg.curve(rows, pattern, name, 1, 4)) for name in programs]
-        groups.append((pattern, [it.microseconds if it and not it.bound else None for it in found]))
-    if not any(it is not None for _, values in groups for it in values):
+        groups.append((pattern, [size.microseconds if size and not size.bound else None for size in found]))
+    if not any(value is not None for _, values in groups for value in values):
         return ""
     panel = charts.bars_panel(charts.Panel(0, 960), "", groups, "METG(50%), microseconds")
     return charts.picture([panel], [f"{name}, 1×4" for name in programs], 30)
 
 
 def speed_up_by_body(rows):
-    """How many times as fast as one worker, against the length of a body."""
+    """The speed-up over one worker, against the length of a body."""
     names = ["heat, 1×4", "heat, 2×2", "heat, 4×1", "oneTBB, 4 threads", "OpenMP, 4 threads"]
     lines = []
     for place in BODY_PLACES:
-        mine = [it for it in bodies(rows) if place in it.speed_ups]
-        lines.append([(it.microseconds[place[0]], it.speed_ups[place]) for it in mine])
+        own = [body for body in bodies(rows) if place in body.speed_ups]
+        lines.append([(body.microseconds[place[0]], body.speed_ups[place]) for body in own])
     if not any(lines):
         return ""
     across = "microseconds of a body at one worker"
@@ -85,7 +85,7 @@ def speed_up_by_body(rows):
     return charts.picture([panel], names)
 
 
-# each plot with the measurement that it is of
+# each plot with its measurement
 PLOTS = {
     "time-by-nodes": ("run", time_by_nodes),
     "instructions-a-task": ("run", instructions_a_task),
@@ -96,7 +96,7 @@ PLOTS = {
 
 
 def drawn():
-    """Each plot's name and its text, of the rows that are kept; an empty text where there are none."""
+    """Yields each plot's name and its text, drawn from the stored rows; an empty text if there are none."""
     for name, (measurement, draw) in PLOTS.items():
         rows = kept(measurement)
         yield name, draw(rows) if rows else ""
@@ -107,15 +107,15 @@ def path_of(name):
 
 
 def of(measurement):
-    """The plots that there are of a measurement."""
+    """Returns the names of the plots of a measurement."""
     return [name for name, text in drawn() if text and PLOTS[name][0] == measurement]
 
 
 def write():
     for name, text in drawn():
         if text:
-            with open(path_of(name), "w", encoding="utf-8") as out:
-                out.write(text)
+            with open(path_of(name), "w", encoding="utf-8") as file:
+                file.write(text)
         elif os.path.exists(path_of(name)):
             os.remove(path_of(name))
 
@@ -124,5 +124,5 @@ def check(tally):
     for name, text in drawn():
         if text:
             minidom.parseString(text)
-        told = os.path.relpath(path_of(name), TOP)
-        tally.judge(text_of(path_of(name), "") == text, f"{told} is not drawn of today's rows: tools/dev bench --draw")
+        path = os.path.relpath(path_of(name), TOP)
+        tally.judge(text_of(path_of(name), "") == text, f"{path} is not drawn from the stored rows: tools/dev bench --draw")

@@ -1,16 +1,17 @@
-"""METG(50%) of a program, out of the rows of `patterns`: the smallest task at which it uses half of the machine.
+"""METG(50%) of a program, from the rows of `patterns`: the smallest task at which it uses half of the machine.
 
-How much of the machine works at kernels is the time that the kernels of all tasks take one after the other, by the time
-of an iteration of that program, divided by the workers and by the time of the run. A task's size is the time of the run
-times the workers, divided by the tasks: the runtime's part is in it.
+The part of the machine that works at kernels is the sequential time of all tasks' kernels, by the time of an iteration of
+that program, divided by the workers and by the time of the run. A task's size is the time of the run times the workers,
+divided by the tasks, so it includes the runtime's overhead.
 """
-from typing import NamedTuple
+from dataclasses import dataclass
 
 from .cases import GRID_TASKS, KERNEL_ITERATIONS
 
 
-class Point(NamedTuple):
-    """A size of tasks, in microseconds: how long a task takes, and its kernel alone."""
+@dataclass(frozen=True)
+class Point:
+    """A size of tasks, in microseconds: of a task, and of its kernel alone."""
 
     task: float
     kernel: float
@@ -21,12 +22,13 @@ class Point(NamedTuple):
 
     @property
     def lacks(self):
-        """How much longer a task takes than one whose kernel is half of it."""
+        """By how much a task is longer than one whose kernel is half of it."""
         return self.task - 2 * self.kernel
 
 
-class Metg(NamedTuple):
-    """Microseconds of the smallest task; it is under or over them where no measured size lies on the other side."""
+@dataclass(frozen=True)
+class Metg:
+    """Microseconds of the smallest task; the bound is `under` or `over` if no measured size is on the other side, or empty."""
 
     bound: str
     microseconds: float
@@ -37,50 +39,50 @@ class Metg(NamedTuple):
 
 
 def pattern_of(case):
-    """The pattern of a case; none of the cases of one task."""
+    """Returns the pattern of a case; an empty text for the cases of one task."""
     name = case.split(", ")[0]
     return "" if name == "one task" else name
 
 
 def patterns_of(rows):
-    return [it for it in dict.fromkeys(pattern_of(row.case) for row in rows) if it]
+    return [pattern for pattern in dict.fromkeys(pattern_of(row.case) for row in rows) if pattern]
 
 
 def iterations_of(case):
-    """The iterations of each task of a case; none where they are not told."""
+    """Returns the iterations of each task of a case; None if its name does not have them."""
     size = case.split(", ")[1]
     return int(size.split()[0].replace(",", "")) if size.endswith(" iterations") else None
 
 
 def kernels(rows):
-    """Nanoseconds of one iteration, by program: a task of many, without what a task of none takes."""
-    times = {(it.program, iterations_of(it.case)): it.milliseconds for it in rows if not pattern_of(it.case)}
+    """Returns the nanoseconds of one iteration by program: those of a task of many, without those of a task of none."""
+    times = {(row.program, iterations_of(row.case)): row.milliseconds for row in rows if not pattern_of(row.case)}
     return {
-        program: (took - times[program, 0]) * 1e6 / iterations
-        for (program, iterations), took in times.items()
+        program: (milliseconds - times[program, 0]) * 1e6 / iterations
+        for (program, iterations), milliseconds in times.items()
         if iterations == KERNEL_ITERATIONS and (program, 0) in times
     }
 
 
 def curve(rows, pattern, program, nodes, workers):
-    """The sizes of tasks that were measured, the smallest first, without what a run of one step takes."""
+    """Returns the sizes of tasks that were measured, the smallest first, without the time of a run of one step."""
     each = kernels(rows).get(program)
-    mine = [it for it in rows if (it.program, it.nodes, it.workers) == (program, nodes, workers)]
-    mine = [it for it in mine if pattern_of(it.case) == pattern]
-    start = next((it.milliseconds for it in mine if iterations_of(it.case) is None), None)
+    own = [row for row in rows if (row.program, row.nodes, row.workers) == (program, nodes, workers)]
+    own = [row for row in own if pattern_of(row.case) == pattern]
+    start = next((row.milliseconds for row in own if iterations_of(row.case) is None), None)
     if each is None or start is None:
         return []
     points = []
-    for row in mine:
+    for row in own:
         iterations = iterations_of(row.case)
         if iterations is not None:
             task = (row.milliseconds - start) * 1000 * nodes * workers / GRID_TASKS
             points.append(Point(task, iterations * each / 1000))
-    return sorted(points, key=lambda it: it.kernel)
+    return sorted(points, key=lambda point: point.kernel)
 
 
 def metg(points):
-    """The task from which on all larger ones that were measured use half, on a straight line between two sizes."""
+    """Returns the size from which on all larger ones that were measured use half, interpolated between two sizes."""
     larger = None
     for point in reversed(points):
         if point.lacks > 0:

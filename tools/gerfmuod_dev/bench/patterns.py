@@ -1,4 +1,4 @@
-"""Task Bench's patterns, worked out row by row with no tasks: what every program has to answer on a small grid."""
+"""Task Bench's patterns, computed row by row without tasks: what every program has to print for a small grid."""
 
 LIMIT = 2**31
 NAMES = [
@@ -16,22 +16,22 @@ OPTIONS = {
 
 
 def stirred(x):
-    """One iteration of the kernel."""
+    """Returns the number after one iteration of the kernel."""
     return (x * (2 * x + 1) + 1013904223) % LIMIT
 
 
 def distance(width, step):
-    """How far the partners of a column are in the butterfly: 1, 2, 4 and so on up to half of the width, and again."""
+    """Returns the distance of a column's partners in the butterfly: 1, 2, 4 and so on up to half of the width, and again."""
     return 2 ** ((step - 1) % max(width.bit_length() - 1, 1))
 
 
 def is_fifth(width, step, from_column, to):
-    """Whether a column is so many fifths of a row to the right of another, moved by one from row to row."""
+    """Whether a column is one to four fifths of a row to the right of another, moved by one from row to row."""
     return any(from_column == (to + fifths * width // 5 + step - 1 + SEED) % width for fifths in range(1, 5))
 
 
 def is_drawn(step, from_column, to):
-    """One bit, by chance."""
+    """Returns a pseudo-random bit."""
     mixed = SEED + 7919 * step + 104729 * from_column + 1299709 * to
     return stirred(stirred(mixed % LIMIT)) // 2**20 % 2 == 0
 
@@ -61,21 +61,21 @@ def relates(pattern, width, step, from_column, to):
 
 
 def next_row(pattern, row, step, iterations):
-    """A row out of the one before; for the first that has no number."""
-    made = []
+    """Returns a row, computed from the one before, whose numbers do not count for the first row."""
+    numbers = []
     width = len(row)
     for to in range(width):
-        total = sum(row[it] for it in range(width) if step and relates(pattern, width, step, it, to))
+        total = sum(row[column] for column in range(width) if step and relates(pattern, width, step, column, to))
         number = (total + to + 1) % LIMIT
         for _ in range(iterations):
             number = stirred(number)
-        made.append(number)
-    return made
+        numbers.append(number)
+    return numbers
 
 
-def answer(pattern, width, steps, iterations):
-    """The lines of a run, its messages apart."""
+def output_of(pattern, width, steps, iterations):
+    """Returns the lines that a run prints, without its messages."""
     row = [0] * width
     for step in range(steps):
         row = next_row(pattern, row, step, iterations)
-    return [f"{it}\n".encode() for it in (f"checksum {sum(row) % LIMIT}", f"tasks {width * steps}", "ended")]
+    return [f"{line}\n".encode() for line in (f"checksum {sum(row) % LIMIT}", f"tasks {width * steps}", "ended")]

@@ -1,4 +1,4 @@
-"""What was measured, as rows of CSV files."""
+"""The rows of measurements, as CSV files."""
 import csv
 import io
 import os
@@ -10,7 +10,7 @@ FOLDER = f"{TOP}/docs/measurements"
 
 
 class Row(NamedTuple):
-    """One program on one case, at so many nodes and workers, with so many busy processes beside it.
+    """A program on a case, with its nodes and workers; `load` is the number of busy processes that ran at the same time.
 
     A number that was not measured is None. `milliseconds` is the median of the rounds, as are processor time, context
     switches, page faults and memory.
@@ -40,6 +40,30 @@ class Row(NamedTuple):
         return f"{self.nodes} by {self.workers}"
 
 
+class ProcessRow(NamedTuple):
+    """One detector for distributed programs in one case, with so many processes. A number that was not measured is None.
+
+    Microseconds are from the last piece of work to the last process that knows the end: the median of the rounds, their
+    quartiles, and what nine rounds of ten stay below. Control messages, waves and steps are those of one round: waves are
+    reductions or rounds of the token too, and steps are those of a network in which a control message takes one.
+    """
+
+    measurement: str
+    case: str
+    detector: str
+    processes: int
+    rounds: int
+    microseconds: float
+    lower_quartile: float
+    upper_quartile: float
+    slowest_tenth: float
+    control_messages: float
+    waves: float
+    steps: int
+    nanoseconds_a_call: float
+    instructions: float
+
+
 class Origin(NamedTuple):
     """When and where a measurement was made, and how long it took."""
 
@@ -59,65 +83,70 @@ class Origin(NamedTuple):
 
 
 def named(kind):
-    return [it.replace("_", " ") for it in kind._fields]
+    return [field.replace("_", " ") for field in kind._fields]
 
 
 def spelt(value):
-    """A number with as many digits as it is good for."""
+    """Returns a number with the digits that are significant."""
     if isinstance(value, float):
         return f"{value:.4g}" if abs(value) < 1000 else f"{value:.0f}"
     return "" if value is None else str(value)
 
 
 def text_of(rows, kind=Row):
-    out = io.StringIO()
-    lines = csv.writer(out, lineterminator="\n")
+    text = io.StringIO()
+    lines = csv.writer(text, lineterminator="\n")
     lines.writerow(named(kind))
-    lines.writerows([spelt(it) for it in row] for row in rows)
-    return out.getvalue()
+    lines.writerows([spelt(value) for value in row] for row in rows)
+    return text.getvalue()
 
 
-def read_word(to, word):
-    """The value of a word, which is None where a number is not there."""
-    return to(word) if word or to is str else None
+def value_of(text, kind):
+    """Returns the value of a field; None if a number is missing."""
+    return kind(text) if text or kind is str else None
 
 
 def read(path, kind=Row):
-    """The rows of a file; none where it is not there."""
+    """Returns the rows of a file; none if it does not exist."""
     if not os.path.exists(path):
         return []
     with open(path, encoding="utf-8", newline="") as text:
         first, *lines = csv.reader(text)
     if first != named(kind):
         raise SystemExit(f"{path}: its columns are not {','.join(named(kind))}")
-    types = [kind.__annotations__[it] for it in kind._fields]
+    kinds = [kind.__annotations__[field] for field in kind._fields]
     try:
-        return [kind(*(read_word(to, it) for to, it in zip(types, line))) for line in lines]
-    except (TypeError, ValueError) as why:
-        raise SystemExit(f"{path}: a row is not one: {why}") from None
+        return [kind(*map(value_of, line, kinds)) for line in lines]
+    except (TypeError, ValueError) as error:
+        raise SystemExit(f"{path}: a row cannot be read: {error}") from None
 
 
 def write(path, rows, kind=Row):
     os.makedirs(os.path.dirname(path) or ".", exist_ok=True)
-    with open(path, "w", encoding="utf-8") as out:
-        out.write(text_of(rows, kind))
+    with open(path, "w", encoding="utf-8") as file:
+        file.write(text_of(rows, kind))
 
 
 def path_of(measurement):
     return f"{FOLDER}/{measurement}.csv"
 
 
+def kind_of(measurement):
+    """Returns the kind of a measurement's rows."""
+    return ProcessRow if measurement == "processes" else Row
+
+
 def kept(measurement):
-    """The rows of a measurement that are kept in docs."""
-    return read(path_of(measurement))
+    """Returns the rows of a measurement that are stored in docs."""
+    return read(path_of(measurement), kind_of(measurement))
 
 
 def origins():
-    return {it.measurement: it for it in read(f"{FOLDER}/origins.csv", Origin)}
+    return {origin.measurement: origin for origin in read(f"{FOLDER}/origins.csv", Origin)}
 
 
 def keep(measurement, rows, origin):
-    """Keeps the rows of a measurement in docs, in place of those that were there."""
-    write(path_of(measurement), rows)
-    every = {**origins(), measurement: origin}
-    write(f"{FOLDER}/origins.csv", every.values(), Origin)
+    """Stores the rows of a measurement in docs, instead of those that were there."""
+    write(path_of(measurement), rows, kind_of(measurement))
+    all_origins = {**origins(), measurement: origin}
+    write(f"{FOLDER}/origins.csv", all_origins.values(), Origin)

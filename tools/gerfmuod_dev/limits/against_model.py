@@ -1,34 +1,35 @@
-"""Runs the built program on scripts and traces, and compares its answers and statuses with those of the second model."""
-from typing import NamedTuple
+"""Runs the built program on scripts and traces, and compares its output and status with those of the second model."""
+from dataclasses import dataclass
 
 from .. import running
 from .second_model import audittext, simtext
 
 
-class Case(NamedTuple):
-    """A text for `sim` or for `audit`, how it is called where it fails, and what of it is shown then."""
+@dataclass(frozen=True)
+class Case:
+    """A text for `sim` or for `audit`, its name if it fails, and what of it is shown then."""
 
     name: str
-    word: str
+    command: str
     text: bytes
     shown: bytes = b""
 
     @property
-    def wanted(self):
-        status, out = {"sim": simtext, "audit": audittext}[self.word](self.text)
-        return running.Answer(status, out.encode(), b"")
+    def expected(self):
+        status, out = {"sim": simtext, "audit": audittext}[self.command](self.text)
+        return running.Result(status, out.encode(), b"")
 
 
 def try_all(program, cases, tally):
-    """Tries each case, several beside each other; gives what was wanted of each."""
+    """Tries the cases, several at the same time; returns the expected output of each."""
 
-    def one(case):
-        return case, case.wanted, running.run([program, case.word], case.text)
+    def try_one(case):
+        return case, case.expected, running.run([program, case.command], case.text)
 
-    answers = []
-    for case, wanted, came in running.beside_each_other(cases, one):
-        said = b"%s--- said:\n%s--- wanted:\n%s%s" % (case.shown, came.out, wanted.out, came.err)
-        why = f"{case.name}: status {came.status} where {wanted.status} was wanted\n{said.decode(errors='replace')}"
-        tally.judge(came == wanted, why)
-        answers.append(wanted.out.decode())
-    return answers
+    outputs = []
+    for case, expected, result in running.in_parallel(cases, try_one):
+        details = b"%s--- printed:\n%s--- expected:\n%s%s" % (case.shown, result.out, expected.out, result.err)
+        reason = f"{case.name}: status {result.status}, expected {expected.status}\n{details.decode(errors='replace')}"
+        tally.judge(result == expected, reason)
+        outputs.append(expected.out.decode())
+    return outputs

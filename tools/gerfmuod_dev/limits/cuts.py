@@ -1,7 +1,7 @@
 """Cuts each stored script and trace after each of its bytes.
 
-The program's answers and statuses to the pieces are compared with those of a second model (second_model.py). Prints
-each piece that is answered otherwise. The last line is `N passed, M failed`; the status is 1 where one failed.
+The program's output and status for each piece are compared with those of a second model (second_model.py). Prints each
+piece for which they differ. The last line is `N passed, M failed`; the status is 1 if one failed.
 """
 import os
 
@@ -15,18 +15,18 @@ def pieces():
     for name in sorted(os.listdir(FOLDER)):
         with open(f"{FOLDER}/{name}", "rb") as file:
             text = file.read()
-        word = "audit" if text.startswith(b"trace") else "sim"
+        command = "audit" if text.startswith(b"trace") else "sim"
         for count in range(len(text) + 1):
-            yield Case(f"{name}, {count} bytes", word, text[:count])
+            yield Case(f"{name}, {count} bytes", command, text[:count])
 
 
 def arguments(parser):
     running.program_argument(parser)
 
 
-def run(words):
-    running.want(words.tp)
+def run(options):
+    running.require(options.tp)
     repository.go_to_top()
     tally = running.Tally()
-    try_all(words.tp, list(pieces()), tally)
+    try_all(options.tp, list(pieces()), tally)
     return tally.end()

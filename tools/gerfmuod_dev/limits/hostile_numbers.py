@@ -1,11 +1,11 @@
-"""Tells what a line costs where a stranger chose the numbers.
+"""Measures what a line costs if an attacker chose the numbers.
 
 They are those of tasks, actions and messages. Every script has the same lines, eight a round: a task, an action and a
-message from their beginning to their end, all under the round's number. An ordinary script has the numbers 0, 1, 2
-and so on. In the others each is renamed: rising by 61, falling, by chance, or all equal modulo a power of two (where
-there are fewer such numbers than rounds they come again, in the ordinary script that it is compared with too). Prints
-the instructions a line, by `valgrind --tool=cachegrind`, those of the program's start left out, and how many times
-those of the ordinary script they are. The status is 1 where that is more than 2.
+message from their beginning to their end, all with the round's number. An ordinary script has the numbers 0, 1, 2 and so
+on. In the others each is replaced: rising by 61, falling, random, or all equal modulo a power of two (if there are fewer
+such numbers than rounds they repeat, in the ordinary script that it is compared with too). Prints the instructions of a
+line, by `valgrind --tool=cachegrind`, without those of the program's start, and their ratio to those of the ordinary
+script. The status is 1 if a ratio is more than 2.
 """
 import random
 import tempfile
@@ -28,38 +28,38 @@ def script(names, rounds):
 
 
 def choices(rounds):
-    """Each choice of numbers with its name."""
+    """Yields each choice of numbers with its name."""
     yield "rising by 61", [61 * turn for turn in range(min(rounds, NUMBERS // 61))]
     yield "falling from 999,999", [NUMBERS - 1 - turn for turn in range(rounds)]
-    by_chance = random.Random(1)
-    yield "by chance", by_chance.sample(range(NUMBERS), rounds)
+    generator = random.Random(1)
+    yield "random", generator.sample(range(NUMBERS), rounds)
     for power in range(1, 20):
         step = 2**power
         first = 7 % step
         equal = list(range(first, NUMBERS, step))[:rounds]
         yield f"equal modulo 2^{power}, rising", equal
-        by_chance.shuffle(equal)
-        yield f"equal modulo 2^{power}, by chance", equal
+        generator.shuffle(equal)
+        yield f"equal modulo 2^{power}, random", equal
 
 
-def table(program, rounds, folder):
-    """Prints a line for each choice of numbers, and gives the worst ratio."""
-    start = instructions(program, "sim", ["nodes 2\n"], folder)
+def print_table(program, rounds, folder):
+    """Prints a line for each choice of numbers, and returns the worst ratio."""
+    start = instructions([program, "sim"], ["nodes 2\n"], folder)
     ordinary, worst = {}, 0.0
 
-    def a_line(names):
-        return (instructions(program, "sim", script(names, rounds), folder) - start) / (LINES * rounds)
+    def cost_of_a_line(names):
+        return (instructions([program, "sim"], script(names, rounds), folder) - start) / (LINES * rounds)
 
     print(f"{LINES * rounds} lines a script\n")
-    print("| Numbers | how many | instructions a line | of an ordinary script | ratio |\n|---|---|---|---|---|")
+    print("| Numbers | count | instructions a line | of an ordinary script | ratio |\n|---|---|---|---|---|")
     for name, numbers in choices(rounds):
-        many = len(numbers)
-        if many not in ordinary:
-            ordinary[many] = a_line(range(many))
-        cost = a_line(numbers)
-        ratio = cost / ordinary[many]
+        count = len(numbers)
+        if count not in ordinary:
+            ordinary[count] = cost_of_a_line(range(count))
+        cost = cost_of_a_line(numbers)
+        ratio = cost / ordinary[count]
         worst = max(worst, ratio)
-        print(f"| {name} | {many} | {cost:.0f} | {ordinary[many]:.0f} | {ratio:.2f} |", flush=True)
+        print(f"| {name} | {count} | {cost:.0f} | {ordinary[count]:.0f} | {ratio:.2f} |", flush=True)
     return worst
 
 
@@ -68,9 +68,9 @@ def arguments(parser):
     parser.add_argument("--rounds", type=int, default=12_500, metavar="N", help="rounds of eight lines a script (12,500)")
 
 
-def run(words):
-    running.want(words.tp)
+def run(options):
+    running.require(options.tp)
     with tempfile.TemporaryDirectory() as folder:
-        worst = table(words.tp, words.rounds, folder)
+        worst = print_table(options.tp, options.rounds, folder)
     print(f"\nthe worst ratio is {worst:.2f}")
     return 1 if worst > 2 else 0

@@ -1,11 +1,11 @@
-"""Tells how large the pictures of long traces are, and what they cost beside `tp audit`.
+"""Measures how large the pictures of long traces are, and their cost compared with `tp audit`.
 
-The traces have a million lines, or as many as are asked for, and are made here: all kinds of steps over eight nodes, each
-node sending to each; waves without work; messages that are never received; pools reopened again and again; messages
-that are on their way for long; nodes that rest in turn. Draws each with `bin/samples draw run`, reads the picture with a parser of XML,
-and prints its bytes and seconds, and of the first trace the instructions of `draw run` as a multiple of those of `tp audit`,
-by `valgrind --tool=cachegrind`. The status is 1 where a picture is no XML or has more than 250,000 bytes, or where the trace of all
-kinds of steps takes more than twice the instructions.
+The traces have a million lines by default: all kinds of steps over eight nodes, each node sending to each; waves without
+work; messages that are never received; pools that are reopened again and again; messages that are under way for long;
+nodes that are idle in turn. Draws each with `bin/samples draw run`, reads the picture with an XML parser, and prints its
+bytes and seconds, and for the first trace the instructions of `draw run` as a multiple of those of `tp audit`, by
+`valgrind --tool=cachegrind`. The status is 1 if a picture is not XML or has more than 250,000 bytes, or if the trace of
+all kinds of steps takes more than twice the instructions.
 """
 import heapq
 import io
@@ -24,22 +24,22 @@ NODES = 8
 
 
 class Waves:
-    """Writes waves over nodes that are idle, or have been."""
+    """Writes waves over idle nodes."""
 
     def __init__(self, nodes):
         self.nodes, self.wave, self.last = nodes, 0, None
 
     def lines(self, sums):
-        """A wave that adds up these, and its judgement."""
+        """Yields a wave with these sums, and its judgement."""
         others = range(1, self.nodes)
         self.wave += 1
         is_over = self.last == sums and sums[0] == sums[1]
         self.last = sums
         yield "start"
-        yield from (f"down {it}" for it in others)
-        for it in reversed(others):
-            yield f"give {it}"
-            yield f"up {it}"
+        yield from (f"down {node}" for node in others)
+        for node in reversed(others):
+            yield f"give {node}"
+            yield f"up {node}"
         yield "give 0"
         yield f"judge ended {self.wave - 1}" if is_over else "judge not"
 
@@ -49,7 +49,7 @@ class Waves:
 
 
 def ready(nodes):
-    return [f"ready {it}" for it in range(nodes)]
+    return [f"ready {node}" for node in range(nodes)]
 
 
 def all_steps(lines):
@@ -67,7 +67,7 @@ def waves_alone(lines):
 
 
 def never_received(lines):
-    return ["trace 1", f"nodes {NODES}", *[f"send {it % NODES} {(it + 1) % NODES} {it}" for it in range(lines)]]
+    return ["trace 1", f"nodes {NODES}", *[f"send {number % NODES} {(number + 1) % NODES} {number}" for number in range(lines)]]
 
 
 def reopened(lines):
@@ -77,13 +77,13 @@ def reopened(lines):
     return text[:-1]
 
 
-def long_on_their_way(lines):
-    chance, under, text, count = random.Random(3), [], ["trace 1", f"nodes {NODES}"], 0
+def long_under_way(lines):
+    generator, under, text, count = random.Random(3), [], ["trace 1", f"nodes {NODES}"], 0
     while len(text) + 2 * len(under) < lines:
-        sender = chance.randrange(NODES)
-        receiver = (sender + chance.randrange(1, NODES)) % NODES
+        sender = generator.randrange(NODES)
+        receiver = (sender + generator.randrange(1, NODES)) % NODES
         text.append(f"send {sender} {receiver} {count}")
-        heapq.heappush(under, (len(text) + chance.randrange(1, lines), receiver, count))
+        heapq.heappush(under, (len(text) + generator.randrange(1, lines), receiver, count))
         count += 1
         while under and under[0][0] <= len(text):
             _, receiver, message = heapq.heappop(under)
@@ -93,12 +93,13 @@ def long_on_their_way(lines):
     return [*text, *ready(NODES), *Waves(NODES).end((count, count))]
 
 
-def resting_in_turn(lines):
+def idle_in_turn(lines):
     text, message = ["trace 1", f"nodes {NODES}", *ready(NODES)[1:]], 0
     while len(text) < lines:
-        at, to = message % NODES, (message + 1) % NODES
-        text += [f"open {at} 1", f"close {at} 1"] * (lines // 3_000 + 1)
-        text += [f"send {at} {to} {message}", f"recv {to} {message}", f"end {at} {message - 1}" if message else "ready 0"]
+        sender, receiver = message % NODES, (message + 1) % NODES
+        text += [f"open {sender} 1", f"close {sender} 1"] * (lines // 3_000 + 1)
+        text += [f"send {sender} {receiver} {message}", f"recv {receiver} {message}"]
+        text.append(f"end {sender} {message - 1}" if message else "ready 0")
         message += 1
     text.append(f"end {message % NODES} {message - 1}")
     return [*text, *Waves(NODES).end((message, message))]
@@ -109,8 +110,8 @@ KINDS = {
     "waves alone": waves_alone,
     "messages never received": never_received,
     "a pool reopened again and again": reopened,
-    "messages long on their way": long_on_their_way,
-    "nodes that rest in turn": resting_in_turn,
+    "messages long under way": long_under_way,
+    "nodes idle in turn": idle_in_turn,
 }
 
 
@@ -121,30 +122,36 @@ def arguments(parser):
     parser.add_argument("--bytes-alone", action="store_true", help="count no instructions")
 
 
-def drawn(samples, lines):
-    """The bytes of a picture, which a parser has read, and the seconds that it took."""
-    text = "".join(f"{it}\n" for it in lines)
+def draw(samples, lines):
+    """Draws a trace, and has a parser read the picture; returns its bytes, and the seconds that drawing took."""
+    text = "".join(f"{line}\n" for line in lines)
     began = time.time()
-    ran = subprocess.run([samples, "draw", "run"], input=text, capture_output=True, text=True, check=True)
-    took = time.time() - began
-    xml.etree.ElementTree.fromstring(ran.stdout)
-    return len(ran.stdout.encode()), took
+    result = subprocess.run([samples, "draw", "run"], input=text, capture_output=True, text=True, check=True)
+    seconds = time.time() - began
+    xml.etree.ElementTree.fromstring(result.stdout)
+    return len(result.stdout.encode()), seconds
 
 
-def run(words):
-    running.want(words.tp, words.samples)
+def compare(options, lines, folder):
+    """Returns the instructions a line of `draw run`, and by how many times they are those of `tp audit`."""
+    text = [f"{line}\n" for line in lines]
+    drawing = instructions([options.samples, "draw", "run"], text, folder)
+    audit = instructions([options.tp, "audit"], text, folder)
+    return drawing / len(lines), drawing / audit
+
+
+def run(options):
+    running.require(options.tp, options.samples)
     is_well = True
     with tempfile.TemporaryDirectory() as folder:
-        for name, made in KINDS.items():
-            lines = made(words.lines)
-            size, took = drawn(words.samples, lines)
-            told, times = f"{name}, {len(lines):,} lines: {size:,} bytes, {took:.1f} s", 0
+        for name, lines_of in KINDS.items():
+            lines = lines_of(options.lines)
+            size, seconds = draw(options.samples, lines)
+            line, ratio = f"{name}, {len(lines):,} lines: {size:,} bytes, {seconds:.1f} s", 0
             # (counting takes fifty times as long)
-            if made is all_steps and not words.bytes_alone:
-                text = [f"{it}\n" for it in lines]
-                of_draw, of_audit = (instructions(*it, text, folder) for it in ((words.samples, "draw", "run"), (words.tp, "audit")))
-                times = of_draw / of_audit
-                told += f"; {of_draw / len(lines):,.0f} instructions a line, {times:.2f} times `tp audit`"
-            print(told, flush=True)
-            is_well = is_well and size <= MOST_BYTES and times <= 2
+            if lines_of is all_steps and not options.bytes_alone:
+                count, ratio = compare(options, lines, folder)
+                line += f"; {count:,.0f} instructions a line, {ratio:.2f} times `tp audit`"
+            print(line, flush=True)
+            is_well = is_well and size <= MOST_BYTES and ratio <= 2
     return 0 if is_well else 1

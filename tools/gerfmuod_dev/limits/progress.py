@@ -1,11 +1,11 @@
 """Runs the samples over lent data at a terminal, and on inputs that are too large to be stored.
 
-Standard error of `samples heat`, `product` and `relax` is a pseudo-terminal. Runs that have no end in sight have to
-tell there how far they are; they are killed then. Runs that end have to leave the terminal clear, and to write to
-standard output what they write where there is no terminal. With `--quiet` nothing is told. Where standard input is a
-pseudo-terminal, too, what is read is told once. Blocks of which a step takes too many events are refused with a line,
-as is a run that has no room for its tasks, and a word that is not UTF-8. The last line is `N passed, M failed`; the
-status is 1 where one failed.
+Standard error of `samples heat`, `product` and `relax` is a pseudo-terminal. Runs without an end in sight have to print
+their progress there, and are then killed. Runs that end have to leave the terminal clear, and to print on standard output
+what they print without a terminal. With `--quiet` they print no progress. If standard input is a pseudo-terminal too, they
+announce once what they read. Blocks for which a step needs too many events are refused with a line, as are a run that has
+no room for its tasks, and an argument that is not UTF-8. The last line is `N passed, M failed`; the status is 1 if one
+failed.
 """
 import os
 import pty
@@ -15,35 +15,41 @@ import subprocess
 import tempfile
 import threading
 import time
-from typing import NamedTuple
+from dataclasses import dataclass
 
 from .. import running
 
-# how long a run may take to tell how far it is, in seconds
+# the seconds after which a run must have printed its progress
 PATIENCE = 120
 LINE = rb"\r[0-9,]+ of [0-9,]+ tasks(, [0-9,]+ of [0-9,]+ steps)?"
 CLEARED = rb"\r\x1b\[K"
-# what a run that ended has told: nothing, or lines, the last of them cleared
-TOLD = re.compile(rb"((" + LINE + rb")+" + CLEARED + rb")?")
+# what a run that ended has printed: nothing, or lines of progress, the last of them cleared
+PRINTED = re.compile(rb"((" + LINE + rb")+" + CLEARED + rb")?")
 END_OF_INPUT = b"\x04"
-
-
-# cells of which a step, in blocks of one, has the events at one node, and at two takes too many
+# the most cells whose step, in blocks of one, has enough events at one node; at two nodes it needs more than there are
 MOST_CELLS = 131_072
 LONG_STEP = b"a run may have 1,048,576 events, and one step takes more: make the blocks larger\n"
 
 
-class Case(NamedTuple):
+@dataclass(frozen=True)
+class Case:
+    """A run of `samples`: the program, its arguments, and its input."""
+
     samples: str
-    words: list
+    arguments: list
     stdin: str
 
-    def all_words(self):
-        return [self.samples, *self.words]
+    @property
+    def name(self):
+        return " ".join(map(str, self.arguments))
+
+    @property
+    def command(self):
+        return [self.samples, *self.arguments]
 
 
-class Told(threading.Thread):
-    """Reads what is written to a pseudo-terminal until nobody has it any more."""
+class Terminal(threading.Thread):
+    """A pseudo-terminal, whose text it reads until no process has it open."""
 
     def __init__(self):
         super().__init__()
@@ -62,135 +68,139 @@ class Told(threading.Thread):
         os.close(self.master)
 
 
-def at_terminal(words, stdin):
-    """Runs a program with standard error a pseudo-terminal: its status, its output, and what the terminal was told."""
-    told = Told()
+def run_at_terminal(command, stdin):
+    """Runs a program with a pseudo-terminal as its standard error."""
+    terminal = Terminal()
     with open(stdin, "rb") as file:
-        program = subprocess.Popen(words, stdin=file, stdout=subprocess.PIPE, stderr=told.slave)
-    os.close(told.slave)
-    told.start()
-    out, _ = program.communicate()
-    told.join()
-    return running.Answer(running.status_of(program.returncode), out, told.text)
+        process = subprocess.Popen(command, stdin=file, stdout=subprocess.PIPE, stderr=terminal.slave)
+    os.close(terminal.slave)
+    terminal.start()
+    out, _ = process.communicate()
+    terminal.join()
+    return running.Result(running.status_of(process.returncode), out, terminal.text)
 
 
-def typed_at_terminal(words, text):
-    """The same where standard input is a pseudo-terminal, too, at which a text is typed."""
-    told = Told()
+def run_typed(command, text):
+    """Runs a program with another pseudo-terminal as its standard input, at which a text is typed."""
+    terminal = Terminal()
     master, slave = pty.openpty()
-    program = subprocess.Popen(words, stdin=slave, stdout=subprocess.PIPE, stderr=told.slave)
-    os.close(told.slave)
-    told.start()
+    process = subprocess.Popen(command, stdin=slave, stdout=subprocess.PIPE, stderr=terminal.slave)
+    os.close(terminal.slave)
+    terminal.start()
     os.write(master, text + END_OF_INPUT)
-    out, _ = program.communicate()
-    told.join()
+    out, _ = process.communicate()
+    terminal.join()
     os.close(slave)
     os.close(master)
-    return running.Answer(running.status_of(program.returncode), out, told.text)
+    return running.Result(running.status_of(process.returncode), out, terminal.text)
 
 
-def first_line(words, stdin):
-    """Runs a program until it has told how far it is, or for some time, and kills it: what it told."""
+def first_progress(command, stdin):
+    """Runs a program until it has printed its progress, or until PATIENCE is over, and kills it; returns what it printed."""
     master, slave = pty.openpty()
     with open(stdin, "rb") as file:
-        program = subprocess.Popen(words, stdin=file, stdout=subprocess.DEVNULL, stderr=slave)
+        process = subprocess.Popen(command, stdin=file, stdout=subprocess.DEVNULL, stderr=slave)
     os.close(slave)
     text, last = b"", time.monotonic() + PATIENCE
-    while not re.match(LINE, text) and time.monotonic() < last and program.poll() is None:
+    while not re.match(LINE, text) and time.monotonic() < last and process.poll() is None:
         if select.select([master], [], [], 1)[0]:
             text += os.read(master, 65_536)
-    program.kill()
-    program.wait()
+    process.kill()
+    process.wait()
     os.close(master)
     return text
 
 
 def try_endless(tally, case):
-    """A run that has no end in sight tells how far it is."""
-    told = first_line(case.all_words(), case.stdin)
-    tally.judge(re.match(LINE, told), f"{named(case)} told no line: {told[:200]}")
+    """A run without an end in sight prints its progress."""
+    text = first_progress(case.command, case.stdin)
+    tally.judge(re.match(LINE, text), f"{case.name} printed no progress: {text[:200]}")
 
 
 def try_ending(tally, case):
-    """A run that ends leaves the terminal clear, and writes what it writes elsewhere; with --quiet it tells nothing."""
-    words = case.all_words()
-    piped = running.run(words, case.stdin)
-    tally.judge(piped.status == 0 and piped.out and not piped.err, f"{named(case)}, piped: {piped.told()}")
-    came = at_terminal(words, case.stdin)
-    is_well = came.status == 0 and came.out == piped.out and TOLD.fullmatch(came.err)
-    tally.judge(is_well, f"{named(case)} at a terminal: {came.told()}")
-    quiet = at_terminal([*words, "--quiet"], case.stdin)
-    tally.judge(quiet == piped, f"{named(case)} --quiet at a terminal: {quiet.told()}")
-    return came.err.count(b" tasks")
+    """A run that ends leaves the terminal clear, and prints what it prints elsewhere; with --quiet it prints no progress."""
+    piped = running.run(case.command, case.stdin)
+    tally.judge(piped.status == 0 and piped.out and not piped.err, f"{case.name}, piped: {piped.description()}")
+    result = run_at_terminal(case.command, case.stdin)
+    is_well = result.status == 0 and result.out == piped.out and PRINTED.fullmatch(result.err)
+    tally.judge(is_well, f"{case.name} at a terminal: {result.description()}")
+    quiet = run_at_terminal([*case.command, "--quiet"], case.stdin)
+    tally.judge(quiet == piped, f"{case.name} --quiet at a terminal: {quiet.description()}")
+    return result.err.count(b" tasks")
 
 
 def try_typed(tally, case, what, lines):
-    """What is read is told once where it has to be typed, and not with --quiet; and never for help."""
-    words = case.all_words()
-    piped = running.run(words, case.stdin)
+    """A run announces once what has to be typed, but not with --quiet, and never for help."""
+    piped = running.run(case.command, case.stdin)
     with open(case.stdin, "rb") as file:
         text = file.read()
-    came = typed_at_terminal(words, text)
-    invitation = f"Reading {what} from standard input up to Ctrl-D, {lines} < FILE\r\n"
-    wanted = running.Answer(0, piped.out, invitation.encode())
-    tally.judge(came == wanted, f"{named(case)} typed: {came.told()}")
-    quiet = typed_at_terminal([*words, "--quiet"], text)
-    tally.judge(quiet == piped, f"{named(case)} --quiet typed: {quiet.told()}")
-    help_of_it = [case.samples, case.words[0], "--help"]
-    asked = typed_at_terminal(help_of_it, b"")
-    tally.judge(asked == running.run(help_of_it), f"{named(case)}, help at a terminal: {asked.told()}")
+    result = run_typed(case.command, text)
+    announced = f"Reading {what} from standard input up to Ctrl-D, {lines} < FILE\r\n"
+    expected = running.Result(0, piped.out, announced.encode())
+    tally.judge(result == expected, f"{case.name} typed: {result.description()}")
+    quiet = run_typed([*case.command, "--quiet"], text)
+    tally.judge(quiet == piped, f"{case.name} --quiet typed: {quiet.description()}")
+    help_command = [case.samples, case.arguments[0], "--help"]
+    result = run_typed(help_command, b"")
+    tally.judge(result == running.run(help_command), f"{case.name}, help at a terminal: {result.description()}")
 
 
 def try_refused(tally, case, status, line):
-    """A run that is refused has this status and this line, and writes nothing."""
-    came = running.run(case.all_words(), case.stdin)
-    tally.judge(came == running.Answer(status, b"", line), f"{named(case)}: {came.told()}")
+    """A run that is refused has this status and this line, and no output."""
+    result = running.run(case.command, case.stdin)
+    tally.judge(result == running.Result(status, b"", line), f"{case.name}: {result.description()}")
 
 
 def try_steps_of_many_events(tally, samples, folder):
-    """As many cells as a step of one node has the events for, at one node, which has no room for them, and at two; one cell more."""
+    """The most cells whose step has enough events at one node: at one node, where the store is full, and at two; and one cell more."""
     most = running.write(f"{folder}/most", [0] * MOST_CELLS)
     more = running.write(f"{folder}/more", [0] * (MOST_CELLS + 1))
-    for words in (["heat", "1", "1"], ["relax", "1", "1"]):
-        try_refused(tally, Case(samples, words, most), 3, b"refused 23 StoreFull\n")
-        try_refused(tally, Case(samples, [*words, "--nodes", "2"], most), 2, LONG_STEP)
-        try_refused(tally, Case(samples, words, more), 2, LONG_STEP)
-
-
-def named(case):
-    return " ".join(str(it) for it in case.words)
+    for command in (["heat", "1", "1"], ["relax", "1", "1"]):
+        try_refused(tally, Case(samples, command, most), 3, b"refused 23 StoreFull\n")
+        try_refused(tally, Case(samples, [*command, "--nodes", "2"], most), 2, LONG_STEP)
+        try_refused(tally, Case(samples, command, more), 2, LONG_STEP)
 
 
 def rows(count, width):
-    return [" ".join(str((i * 37 + j * 101) % 1000) for j in range(width)) for i in range(count)]
+    return [" ".join(str((row * 37 + column * 101) % 1000) for column in range(width)) for row in range(count)]
+
+
+def try_runs(tally, samples, folder):
+    """Runs without an end in sight, and runs that end."""
+    rod = running.write(f"{folder}/rod", [number * 7919 % 100_003 for number in range(2000)])
+    grid = running.write(f"{folder}/grid", rows(100, 200))
+    matrices = running.write(f"{folder}/matrices", [*rows(420, 420), "", *rows(420, 420)])
+    two_by_two = ["--nodes", "2", "--workers", "2"]
+    try_endless(tally, Case(samples, ["heat", "1000000000000", "50"], rod))
+    try_endless(tally, Case(samples, ["heat", "1000000000000", "50", *two_by_two], rod))
+    try_endless(tally, Case(samples, ["relax", "1000000000000", "4"], grid))
+    lines = try_ending(tally, Case(samples, ["heat", "20000", "50", *two_by_two], rod))
+    lines += try_ending(tally, Case(samples, ["relax", "10000", "4", *two_by_two], grid))
+    lines += try_ending(tally, Case(samples, ["product", "10", *two_by_two], matrices))
+    print(f"runs that ended printed {lines} lines of progress", flush=True)
+
+
+def try_small_inputs(tally, samples, folder):
+    """Inputs that are typed."""
+    rod = running.write(f"{folder}/small_rod", [9000, 300, -60])
+    grid = running.write(f"{folder}/small_grid", ["0 16 32 0", "8 0 0 24", "0 0 64 0"])
+    matrices = running.write(f"{folder}/small_matrices", ["1 2", "3 4", "", "5 6", "7 8"])
+    try_typed(tally, Case(samples, ["heat", "1", "2"], rod), "the rod", "one whole number a line: samples heat STEPS BLOCK")
+    try_typed(tally, Case(samples, ["relax", "2", "1"], grid), "the grid", "one row a line: samples relax STEPS ROWS_A_BLOCK")
+    lines_of_two = "an empty line between them: samples product SIDE"
+    try_typed(tally, Case(samples, ["product", "1"], matrices), "two matrices", lines_of_two)
 
 
 def arguments(parser):
     running.program_argument(parser, "samples")
 
 
-def run(words):
-    running.want(words.samples)
-    tally, samples = running.Tally(), words.samples
+def run(options):
+    running.require(options.samples)
+    tally, samples = running.Tally(), options.samples
     with tempfile.TemporaryDirectory() as folder:
-        rod = running.write(f"{folder}/rod", [i * 7919 % 100_003 for i in range(2000)])
-        grid = running.write(f"{folder}/grid", rows(100, 200))
-        matrices = running.write(f"{folder}/matrices", [*rows(420, 420), "", *rows(420, 420)])
-        small_rod = running.write(f"{folder}/small_rod", [9000, 300, -60])
-        small_grid = running.write(f"{folder}/small_grid", ["0 16 32 0", "8 0 0 24", "0 0 64 0"])
-        small_matrices = running.write(f"{folder}/small_matrices", ["1 2", "3 4", "", "5 6", "7 8"])
-        several = ["--nodes", "2", "--workers", "2"]
-        try_endless(tally, Case(samples, ["heat", "1000000000000", "50"], rod))
-        try_endless(tally, Case(samples, ["heat", "1000000000000", "50", *several], rod))
-        try_endless(tally, Case(samples, ["relax", "1000000000000", "4"], grid))
-        lines = try_ending(tally, Case(samples, ["heat", "20000", "50", *several], rod))
-        lines += try_ending(tally, Case(samples, ["relax", "10000", "4", *several], grid))
-        lines += try_ending(tally, Case(samples, ["product", "10", *several], matrices))
-        print(f"{lines} lines were told by runs that ended", flush=True)
-        try_typed(tally, Case(samples, ["heat", "1", "2"], small_rod), "the rod", "one whole number a line: samples heat STEPS BLOCK")
-        try_typed(tally, Case(samples, ["relax", "2", "1"], small_grid), "the grid", "one row a line: samples relax STEPS ROWS_A_BLOCK")
-        lines_of_two = "an empty line between them: samples product SIDE"
-        try_typed(tally, Case(samples, ["product", "1"], small_matrices), "two matrices", lines_of_two)
+        try_runs(tally, samples, folder)
+        try_small_inputs(tally, samples, folder)
         try_steps_of_many_events(tally, samples, folder)
         try_refused(tally, Case(samples, ["heat", b"\xff"], os.devnull), 1, b"the words are not UTF-8\n")
     return tally.end()

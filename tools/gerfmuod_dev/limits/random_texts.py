@@ -1,9 +1,9 @@
-"""Makes scripts and traces of both versions by chance.
+"""Creates random scripts and traces of both versions.
 
-The program's answers and statuses are compared with those of a second model (second_model.py). Half of a script's
-steps are lawful ones, so that pools come to their end and are reopened; the others may be of any kind and number.
-Prints each text that is answered otherwise, and how many of the answers tell what is rare. The last line is `N
-passed, M failed`; the status is 1 where one failed.
+The program's output and status are compared with those of a second model (second_model.py). Half of a script's steps are
+lawful ones, so that pools end and are reopened; the others may be of any kind and number. Prints each text for which they
+differ, and how many of the outputs have what is rare. The last line is `N passed, M failed`; the status is 1 if one
+failed.
 """
 import copy
 import random
@@ -13,29 +13,29 @@ from .against_model import Case, try_all
 from .second_model import COUNTS_OF, World
 
 
-def any_step(chance, version, world):
-    """A step of small numbers, lawful or not."""
-    word = chance.choice([*COUNTS_OF[version]])
-    counts = COUNTS_OF[version][word]
-    numbers = [chance.randrange(4) for _ in range(counts)]
-    if version == 2 and word in ("send", "recv", "end"):
-        numbers[-1] = chance.choice([world.generation] * 6 + [world.generation - 1, world.generation + 1])
-    return word, *numbers
+def any_step(generator, version, world):
+    """Returns a step of small numbers, lawful or not."""
+    name = generator.choice([*COUNTS_OF[version]])
+    numbers = [generator.randrange(4) for _ in range(COUNTS_OF[version][name])]
+    if version == 2 and name in ("send", "recv", "end"):
+        numbers[-1] = generator.choice([world.generation] * 6 + [world.generation - 1, world.generation + 1])
+    return name, *numbers
 
 
 def generation_of(version, world):
     return (world.generation,) if version == 2 else ()
 
 
-def ways_on(version, world):
-    """The steps that bring the pool nearer to its end, and then to its reopening."""
-    g = generation_of(version, world)
+def helpful_steps(version, world):
+    """Yields the steps that bring the pool nearer to its end, and then to its reopening."""
+    generation = generation_of(version, world)
     for task, life in world.life.items():
         yield {"ready": "begin", "running": "done"}.get(life, "supply"), task
     for message, node in world.under.items():
-        yield "recv", node, message, *g
+        yield "recv", node, message, *generation
     for kind, node, number in sorted(world.actions):
-        yield {"opening": ("ready", node), "named": ("close", node, number), "message": ("end", node, number, *g)}[kind]
+        steps = {"opening": ("ready", node), "named": ("close", node, number), "message": ("end", node, number, *generation)}
+        yield steps[kind]
     yield from [("start",), ("judge",)]
     for node in range(world.nodes):
         yield from [("give", node), ("down", node), ("up", node)]
@@ -47,81 +47,82 @@ def is_lawful(world, step):
     return not copy.deepcopy(world).take(step).startswith("refused")
 
 
-def steps_by_chance(chance, version, nodes, count):
-    """Steps, each with its answer."""
-    world, found = World(nodes), []
-    while len(found) < count:
-        step = any_step(chance, version, world)
-        if chance.random() < 0.7:
-            lawful = [it for it in ways_on(version, world) if is_lawful(world, it)]
-            step = chance.choice(lawful) if lawful else step
-        found.append((step, world.take(step)))
-    return found
+def random_steps(generator, version, nodes, count):
+    """Returns steps, each with its reply."""
+    world, steps = World(nodes), []
+    while len(steps) < count:
+        step = any_step(generator, version, world)
+        if generator.random() < 0.7:
+            lawful = [other for other in helpful_steps(version, world) if is_lawful(world, other)]
+            step = generator.choice(lawful) if lawful else step
+        steps.append((step, world.take(step)))
+    return steps
 
 
 def line(step):
     return " ".join(map(str, step)) + "\n"
 
 
-def script(chance, version, nodes, steps):
+def script(generator, version, nodes, steps):
     text = ("script 2\n" if version == 2 else "") + f"nodes {nodes}\n" + "".join(line(step) for step, _ in steps)
-    return marred(chance, text)
+    return damaged(generator, text)
 
 
-def trace(chance, version, nodes, steps):
-    """The trace of the steps that were accepted; now and then a refused one stands among them, or a judgement is another."""
+def trace(generator, version, nodes, steps):
+    """Returns the trace of the accepted steps; sometimes with a refused one among them, or with a changed judgement."""
     text = f"trace {version}\nnodes {nodes}\n"
-    for step, answer in steps:
-        if answer.startswith("refused") and chance.random() < 0.97:
+    for step, reply in steps:
+        if reply.startswith("refused") and generator.random() < 0.97:
             continue
-        said = ""
+        judgement = ""
         if step == ("judge",):
-            said = " " + (answer if chance.random() < 0.97 else chance.choice(["not", "ended 1", "ended 2"]))
-        text += line(step)[:-1] + said + "\n"
-    return marred(chance, text)
+            judgement = " " + (reply if generator.random() < 0.97 else generator.choice(["not", "ended 1", "ended 2"]))
+        text += line(step)[:-1] + judgement + "\n"
+    return damaged(generator, text)
 
 
-def marred(chance, text):
-    """Now and then one byte of the text is another."""
-    bytes_of = bytearray(text.encode())
-    if chance.random() < 0.15:
-        bytes_of[chance.randrange(len(bytes_of))] = chance.choice(b"0129 \n\rxjr")
-    return bytes(bytes_of)
+def damaged(generator, text):
+    """Returns a text in which sometimes one byte is changed."""
+    result = bytearray(text.encode())
+    if generator.random() < 0.15:
+        result[generator.randrange(len(result))] = generator.choice(b"0129 \n\rxjr")
+    return bytes(result)
 
 
 def many_generations(count):
-    """A script and a trace of one node that is reopened again and again."""
+    """Yields a script and a trace of one node that is reopened again and again."""
     waves = "start\ngive 0\njudge{}\nstart\ngive 0\njudge{}\n"
-    for word, head, words in ("sim", "script 2", ("", "")), ("audit", "trace 2", (" not", " ended 1")):
-        text = (f"{head}\nnodes 1\n" + f"ready 0\n{waves.format(*words)}reopen\n" * count).encode()
-        yield Case(f"{word} of {count} generations", word, text)
+    for command, head, judgements in ("sim", "script 2", ("", "")), ("audit", "trace 2", (" not", " ended 1")):
+        text = (f"{head}\nnodes 1\n" + f"ready 0\n{waves.format(*judgements)}reopen\n" * count).encode()
+        yield Case(f"{command} of {count} generations", command, text)
 
 
-def texts_by_chance(chance, count):
+def random_texts(generator, count):
     for _ in range(count):
-        version, nodes = chance.choice([1, 2]), chance.choice([1, 1, 2, 2, 3, 5])
-        steps = steps_by_chance(chance, version, nodes, chance.randrange(10, 160))
-        for word, text in (("sim", script(chance, version, nodes, steps)), ("audit", trace(chance, version, nodes, steps))):
-            yield Case(word, word, text, shown=text)
+        version, nodes = generator.choice([1, 2]), generator.choice([1, 1, 2, 2, 3, 5])
+        steps = random_steps(generator, version, nodes, generator.randrange(10, 160))
+        texts = ("sim", script(generator, version, nodes, steps)), ("audit", trace(generator, version, nodes, steps))
+        for command, text in texts:
+            yield Case(command, command, text, shown=text)
 
 
 def arguments(parser):
     running.program_argument(parser)
-    parser.add_argument("--texts", type=int, default=400, metavar="N", help="how many scripts, and as many traces (400)")
-    parser.add_argument("--seed", type=int, default=1, metavar="N", help="what chance begins with (1)")
+    parser.add_argument("--texts", type=int, default=400, metavar="N", help="how many scripts, and the same number of traces (400)")
+    parser.add_argument("--seed", type=int, default=1, metavar="N", help="the seed of the generator (1)")
 
 
-def run(words):
-    running.want(words.tp)
+def run(options):
+    running.require(options.tp)
     tally = running.Tally()
-    work = [*many_generations(100), *texts_by_chance(random.Random(words.seed), words.texts)]
-    wanted = try_all(words.tp, work, tally)
+    cases = [*many_generations(100), *random_texts(random.Random(options.seed), options.texts)]
+    outputs = try_all(options.tp, cases, tally)
 
-    def told(rare):
-        return sum(rare in it for it in wanted)
+    def count(text):
+        return sum(text in output for output in outputs)
 
     print(
-        f"{told('generation ')} answers tell a generation, {told('generation 3')} a third one, "
-        f"{told('unjustified')} an unjustified judgement, {told('Stranger')} a stranger"
+        f"{count('generation ')} outputs have a generation, {count('generation 3')} a third one, "
+        f"{count('unjustified')} an unjustified judgement, {count('Stranger')} a stranger"
     )
     return tally.end()

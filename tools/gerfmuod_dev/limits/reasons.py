@@ -1,27 +1,27 @@
 """Runs the program with and without a terminal as its standard error.
 
-Output and status are the same. Without a terminal a fault is told by one line, as ever; at one a second line says why,
-where there is a reason, and a script or a trace that is read from a terminal is announced. A run of over a second tells
-a terminal how far it is, and leaves it clear. Prints each case that ends otherwise. The last line is `N passed, M
-failed`; the status is 1 where one failed. It needs pseudo-terminals, and /proc.
+Output and status are the same. Without a terminal an error is one line; at a terminal a second line gives the reason, if
+there is one, and the program announces that it reads a script or a trace from the terminal. A run of over a second prints
+its progress to a terminal, and clears it at its end. Prints each case that ends differently. The last line is `N passed, M
+failed`; the status is 1 if one failed. It needs pseudo-terminals, and /proc.
 """
+import dataclasses
 import os
 import pty
 import re
 import signal
 import subprocess
 import termios
-import threading
 import time
 
 from .. import running
-from ..running import Answer
+from ..running import Result
 from . import progress
 
 BAD_SPEC = b"refused 26 BadSpec\n"
 FIELD = b" is no number of at most six digits without leading zeros\n"
-# each a pool's word that names none, and why
-WORDS = [
+# specifications of no pool, and why they are none
+SPECIFICATIONS = [
     (b"", b"its kind is none of product, wavefront and reduce\n"),
     (b"prodct:4:2:0", b"its kind is none of product, wavefront and reduce\n"),
     (b"Product:4:2:0", b"its kind is none of product, wavefront and reduce\n"),
@@ -49,7 +49,7 @@ WORDS = [
     (b"reduce:4:0:0", b"its form is reduce:LEAVES:SEED\n"),
     (b"reduce:4:-1", b"SEED" + FIELD),
 ]
-# each the words of several pools, the first line, and why
+# specifications of several pools, the first line, and the reason
 SEVERAL = [
     (["reduce:4:0", "product:4:3:0"], BAD_SPEC, b"SPEC 2: SIDE 3 does not divide ORDER 4\n"),
     (["x", "y"], BAD_SPEC, b"SPEC 1: its kind is none of product, wavefront and reduce\n"),
@@ -59,7 +59,7 @@ SEVERAL = [
 ]
 NO_NUMBER = b" of at most six digits without leading zeros\n"
 NO_NODES = b" is not `nodes N`, N from 1 to 8\n"
-# each a text for `sim`, the first line that is not of the grammar, and what is wrong with it
+# texts for `sim`, the first line that is not in the grammar, and the reason
 SCRIPTS = [
     (b"", 1, b" is missing\n"),
     (b"nodes 9\n", 1, NO_NODES),
@@ -83,7 +83,7 @@ SCRIPTS = [
     (b"script 2\nnodes 2\nsend 0 1 5\n", 3, b": the step has 4 numbers, and not 3\n"),
     (b"nodes 1\ninsert 0 1 17\n", 2, b": a task has at most 16 inputs\n"),
 ]
-# and for `audit`
+# the same for `audit`
 TRACES = [
     (b"", 1, b" is missing\n"),
     (b"trace 3\nnodes 1\n", 1, b" is neither `trace 1` nor `trace 2`\n"),
@@ -95,123 +95,114 @@ TRACES = [
     (b"trace 2\nnodes 2\nrecv 1 5\n", 3, b": the step has 3 numbers, and not 2\n"),
     (b"trace 1\nnodes 1\ndone 1\nsuply 1\n", 4, b": no step `suply`\n"),
 ]
-# a run that is stopped on its way takes over a second
+# a run that takes over a second if it is stopped on its way
 LONG = ["run", "product:64:2:0", "--workers", "2", "--generations", "9"]
-# lines of how far a run is, the last of them cleared
+# lines of progress, the last of them cleared
 PROGRESS = re.compile(rb"(" + progress.LINE + rb")+" + progress.CLEARED)
-# what is answered to a script without steps
+# the output for a script without steps
 STARTED = b"node 0 pending 1 sent 0 received 0\ntotal pending 1 sent 0 received 0 under 0\nquiet no\n"
-# what ends in other ways tells the same at a terminal: the words, the input, and the answer
+# what ends in other ways prints the same at a terminal: the arguments, the input, and the result
 OTHERS = [
-    (["run", "reduce:4:0"], b"", Answer(0, b"66\ntasks 7\nmessages 0\nended\n", b"")),
-    (["run", "product:64:1:0", "--nodes", "2"], b"", Answer(3, b"", b"refused 16 HistoryFull\n")),
-    (["sim"], b"nodes 1\n", Answer(0, STARTED, b"")),
-    (["audit"], b"trace 1\nnodes 1\ndone 1\n", Answer(2, b"line 3 refused 4 NoTask\n", b"")),
+    (["run", "reduce:4:0"], b"", Result(0, b"66\ntasks 7\nmessages 0\nended\n", b"")),
+    (["run", "product:64:1:0", "--nodes", "2"], b"", Result(3, b"", b"refused 16 HistoryFull\n")),
+    (["sim"], b"nodes 1\n", Result(0, STARTED, b"")),
+    (["audit"], b"trace 1\nnodes 1\ndone 1\n", Result(2, b"line 3 refused 4 NoTask\n", b"")),
 ]
 
 
-def at_terminal(program, words, stdin):
-    """Runs the program with a terminal as its standard error, and gives what it tells with plain ends of lines."""
-    master, slave = pty.openpty()
-    told = []
-
-    def listen():
-        while True:
-            try:
-                piece = os.read(master, 4096)
-            except OSError:
-                return
-            if not piece:
-                return
-            told.append(piece)
-
-    listener = threading.Thread(target=listen)
-    listener.start()
-    came = running.run([program, *words], stdin, stderr=slave)
-    os.close(slave)
-    listener.join()
-    os.close(master)
-    plain = PROGRESS.sub(b"", b"".join(told))
-    return came._replace(err=plain.replace(b"\r\n", b"\n"))
+def with_plain_ends(text):
+    return text.replace(b"\r\n", b"\n")
 
 
-def paused(program, words):
+def run_at_terminal(program, arguments_of, stdin):
+    """Runs the program with a terminal as its standard error, of which the result has the text without the progress."""
+    terminal = progress.Terminal()
+    terminal.start()
+    result = running.run([program, *arguments_of], stdin, stderr=terminal.slave)
+    os.close(terminal.slave)
+    terminal.join()
+    return dataclasses.replace(result, err=with_plain_ends(PROGRESS.sub(b"", terminal.text)))
+
+
+def run_paused(program, arguments_of):
     """Runs the program with a terminal as its standard error, and stops it for a second once it has several threads."""
-    told = progress.Told()
-    ran = subprocess.Popen([program, *words], stdin=subprocess.DEVNULL, stdout=subprocess.PIPE, stderr=told.slave)
-    os.close(told.slave)
-    told.start()
-    while ran.poll() is None and len(os.listdir(f"/proc/{ran.pid}/task")) == 1:
+    terminal = progress.Terminal()
+    process = subprocess.Popen([program, *arguments_of], stdin=subprocess.DEVNULL, stdout=subprocess.PIPE, stderr=terminal.slave)
+    os.close(terminal.slave)
+    terminal.start()
+    while process.poll() is None and len(os.listdir(f"/proc/{process.pid}/task")) == 1:
         time.sleep(0.001)
     time.sleep(0.05)
-    ran.send_signal(signal.SIGSTOP)
+    process.send_signal(signal.SIGSTOP)
     time.sleep(1)
-    ran.send_signal(signal.SIGCONT)
-    out, _ = ran.communicate()
-    told.join()
-    return Answer(running.status_of(ran.returncode), out, told.text)
+    process.send_signal(signal.SIGCONT)
+    out, _ = process.communicate()
+    terminal.join()
+    return Result(running.status_of(process.returncode), out, terminal.text)
 
 
-def typed(program, words, text):
+def run_typed(program, arguments_of, text):
     """Runs the program with a terminal as standard input and standard error; the text and its end are typed there."""
-    master, slave = pty.openpty()
-    modes = termios.tcgetattr(slave)
+    terminal = progress.Terminal()
+    modes = termios.tcgetattr(terminal.slave)
     modes[3] &= ~termios.ECHO
-    termios.tcsetattr(slave, termios.TCSANOW, modes)
-    ran = subprocess.Popen([program, *words], stdin=slave, stdout=subprocess.PIPE, stderr=slave)
-    os.close(slave)
-    os.write(master, text + b"\x04")
-    out = ran.stdout.read()
-    status = running.status_of(ran.wait())
-    told = []
-    while True:
-        try:
-            piece = os.read(master, 4096)
-        except OSError:
-            break
-        if not piece:
-            break
-        told.append(piece)
-    os.close(master)
-    return Answer(status, out, b"".join(told).replace(b"\r\n", b"\n"))
+    termios.tcsetattr(terminal.slave, termios.TCSANOW, modes)
+    process = subprocess.Popen([program, *arguments_of], stdin=terminal.slave, stdout=subprocess.PIPE, stderr=terminal.slave)
+    os.close(terminal.slave)
+    os.write(terminal.master, text + progress.END_OF_INPUT)
+    terminal.start()
+    out, _ = process.communicate()
+    terminal.join()
+    return Result(running.status_of(process.returncode), out, with_plain_ends(terminal.text))
 
 
-def judge(tally, name, program, words, stdin, wanted, reason):
-    """Without a terminal the wanted answer, and at one the reason behind what is told."""
-    came = running.run([program, *words], stdin)
-    tally.judge(came == wanted, f"{name}, without a terminal: {came.told()}")
-    came = at_terminal(program, words, stdin)
-    tally.judge(came == wanted._replace(err=wanted.err + reason), f"{name}, at a terminal: {came.told()}")
+class Trial:
+    """The program, and a count of the cases."""
+
+    def __init__(self, program):
+        self.program, self.tally = program, running.Tally()
+
+    def judge(self, name, is_well, result):
+        self.tally.judge(is_well, f"{name}: {result.description()}")
+
+    def check(self, arguments_of, stdin, expected, reason):
+        """Checks the result without a terminal, and at one with the reason after the line."""
+        name = f"{arguments_of} {stdin}"
+        result = running.run([self.program, *arguments_of], stdin)
+        self.judge(f"{name}, without a terminal", result == expected, result)
+        result = run_at_terminal(self.program, arguments_of, stdin)
+        self.judge(f"{name}, at a terminal", result == dataclasses.replace(expected, err=expected.err + reason), result)
+
+    def check_progress(self):
+        piped = running.run([self.program, *LONG])
+        self.judge("a long run, piped", piped.status == 0 and piped.out and not piped.err, piped)
+        result = run_paused(self.program, LONG)
+        is_well = result.status == 0 and result.out == piped.out and PROGRESS.fullmatch(result.err)
+        self.judge("a long run at a terminal", is_well, result)
+
+    def check_typed(self, command, text, out):
+        result = run_typed(self.program, [command], text)
+        announced = b"reads standard input: tp %s < FILE\n" % command.encode()
+        self.judge(f"{command}, typed", result == Result(0, out, announced), result)
 
 
 def arguments(parser):
     running.program_argument(parser)
 
 
-def run(words):
-    running.want(words.tp)
-    tally = running.Tally()
-    for word, reason in WORDS:
-        judge(tally, f"run {word}", words.tp, ["run", word], b"", Answer(1, b"", BAD_SPEC), word + b": " + reason)
-    for several, line, reason in SEVERAL:
-        judge(tally, f"pools {several}", words.tp, ["pools", *several], b"", Answer(1, b"", line), reason)
-    for name, texts in ("sim", SCRIPTS), ("audit", TRACES):
+def run(options):
+    running.require(options.tp)
+    trial = Trial(options.tp)
+    for specification, reason in SPECIFICATIONS:
+        trial.check(["run", specification], b"", Result(1, b"", BAD_SPEC), specification + b": " + reason)
+    for specifications, line, reason in SEVERAL:
+        trial.check(["pools", *specifications], b"", Result(1, b"", line), reason)
+    for command, texts in ("sim", SCRIPTS), ("audit", TRACES):
         for text, line, reason in texts:
-            wanted = Answer(2, b"syntax line %d\n" % line, b"")
-            judge(tally, f"{name} {text}", words.tp, [name], text, wanted, b"line %d" % line + reason)
-    piped = running.run([words.tp, *LONG])
-    tally.judge(piped.status == 0 and piped.out and not piped.err, f"a long run, piped: {piped.told()}")
-    came = paused(words.tp, LONG)
-    is_well = came.status == 0 and came.out == piped.out and PROGRESS.fullmatch(came.err)
-    tally.judge(is_well, f"a long run at a terminal: {came.told()}")
-    for asked, stdin, wanted in OTHERS:
-        judge(tally, f"{asked}", words.tp, asked, stdin, wanted, b"")
-    came = typed(words.tp, ["sim"], b"nodes 1\n")
-    wanted = Answer(0, STARTED, b"reads standard input: tp sim < FILE\n")
-    tally.judge(came == wanted, f"a script that is typed: {came.told()}")
-    came = typed(words.tp, ["audit"], b"trace 1\nnodes 1\n")
-    wanted = Answer(
-        0, b"steps 0\ntasks 0 done 0\nmessages 0 received 0\nnot ended\n", b"reads standard input: tp audit < FILE\n"
-    )
-    tally.judge(came == wanted, f"a trace that is typed: {came.told()}")
-    return tally.end()
+            trial.check([command], text, Result(2, b"syntax line %d\n" % line, b""), b"line %d" % line + reason)
+    trial.check_progress()
+    for arguments_of, stdin, expected in OTHERS:
+        trial.check(arguments_of, stdin, expected, b"")
+    trial.check_typed("sim", b"nodes 1\n", STARTED)
+    trial.check_typed("audit", b"trace 1\nnodes 1\n", b"steps 0\ntasks 0 done 0\nmessages 0 received 0\nnot ended\n")
+    return trial.tally.end()

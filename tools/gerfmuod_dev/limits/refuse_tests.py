@@ -1,10 +1,10 @@
-"""Refuses each growth of the memory of the proved tests.
+"""Fails each allocation of the proved tests of memory in turn.
 
-Each test runs again and again, with its first growth refused, then its second, until it has none left. Each time it
-has to pass, for it makes a call that was refused memory again, once it has seen that nothing was changed. Prints how
-many growths each test had, and then how often each call was refused, as the tests name it. The last line is `N
-passed, M failed`; the status is 1 where one failed. It needs a C compiler, and the programs of tests that `rt test`
-leaves in crates/*/out.
+Each test runs again and again, with its first allocation failing, then its second, until it has no more. Each time it has
+to pass, because it repeats a call that ran out of memory, after it has checked that nothing changed. Prints the number
+of allocations of each test, and then how often each call failed, as the tests name it. The last line is `N passed, M
+failed`; the status is 1 if one failed. Needs a C compiler, and the programs of tests that `rt test` leaves in
+crates/*/out.
 """
 import collections
 import os
@@ -31,20 +31,20 @@ TESTS = [
 
 
 def tests_of(program):
-    """Those of the tests that the program has."""
-    listed = running.run([program, "--list"]).out.decode(errors="replace")
-    return [it for it in TESTS if re.search(f"^{it}: ", listed, re.M)]
+    """Returns those of the tests that the program has."""
+    listing = running.run([program, "--list"]).out.decode(errors="replace")
+    return [test for test in TESTS if re.search(f"^{test}: ", listing, re.M)]
 
 
 def try_test(tally, refusing, program, test):
-    """Runs the test with each growth refused; gives the calls that it names as refused."""
-    growths, calls = 0, []
-    for growth, came in refusing.answers([program, test]):
-        growths = growth - 1
-        is_well = came.status == 0 and re.search(rb"^test result: ok", came.out, re.M) is not None
-        tally.judge(is_well, f"{test}, growth {growth} refused: {running.short(came.err, 300)}")
-        calls += re.findall(r"^refused: (.*)", came.err.decode(errors="replace"), re.M)
-    print(f"{test}: {growths} growths", flush=True)
+    """Runs the test with each allocation failing; returns the calls that it prints as failed."""
+    allocations, calls = 0, []
+    for allocation, result in refusing.results([program, test]):
+        allocations = allocation - 1
+        is_well = result.status == 0 and re.search(rb"^test result: ok", result.out, re.M) is not None
+        tally.judge(is_well, f"{test}, allocation {allocation} failed: {running.short(result.err, 300)}")
+        calls += re.findall(r"^refused: (.*)", result.err.decode(errors="replace"), re.M)
+    print(f"{test}: {allocations} allocations", flush=True)
     return calls
 
 
@@ -52,18 +52,18 @@ def arguments(parser):
     del parser
 
 
-def run(words):
-    del words
+def run(options):
+    del options
     repository.go_to_top()
     tally, calls = running.Tally(), collections.Counter()
     with tempfile.TemporaryDirectory() as folder:
-        library = running.library("refuse", folder)
+        library = running.preload_library("refuse", folder)
         if not library:
             return 1
         for crate in CRATES:
             program = f"crates/{crate}/out/{crate}_tests"
             if not os.access(program, os.X_OK):
-                print(f"{program} is not there: rt test makes it", file=sys.stderr)
+                print(f"{program} is missing: `rt test` builds it", file=sys.stderr)
                 tally.failed += 1
                 continue
             for test in tests_of(program):

@@ -1,8 +1,9 @@
-"""A second model of the answers to scripts and traces, of both versions.
+"""A second model of what the program prints for scripts and traces, of both versions.
 
-It is written after the rules alone: the steps' table of checks, the grammar, and the four counters, counted afresh
-over the steps of the present generation at each wave. It serves the tools that try the built program.
+It is written from the rules alone: the steps' table of checks, the grammar, and the four counters, which it counts anew
+over the steps of the present generation at each wave. The tools that try the built program use it.
 """
+import collections
 import re
 
 NAMES = {
@@ -14,7 +15,7 @@ COUNTS = {
     "insert": 3, "supply": 1, "begin": 1, "done": 1, "open": 2, "close": 2, "ready": 1, "send": 3, "recv": 2, "end": 2,
     "start": 0, "down": 1, "give": 1, "up": 1, "judge": 0,
 }
-# in version 2 the lines of a message have its generation behind, and a pool can be reopened
+# in version 2 the lines of a message end with its generation, and a pool can be reopened
 COUNTS_OF = {1: COUNTS, 2: {**COUNTS, "send": 4, "recv": 3, "end": 3, "reopen": 0}}
 FORMS = {
     version: {word: re.compile(word + rf" {NUMBER}" * count + r"\Z", re.ASCII) for word, count in counts.items()}
@@ -23,16 +24,17 @@ FORMS = {
 
 
 class Refused(Exception):
-    pass
+    """A step is refused; the argument is the number of the refusal."""
 
 
 def check(holds, number):
+    """Refuses the step if a check holds."""
     if holds:
         raise Refused(number)
 
 
 class World:
-    """A world of tasks, actions and messages, and the list of the accepted steps of its generation."""
+    """The tasks, actions and messages, and the list of the accepted steps of the present generation."""
 
     def __init__(self, nodes, generation=1):
         self.nodes, self.generation = nodes, generation
@@ -44,7 +46,7 @@ class World:
 
     def pending(self, i):
         unfinished = sum(self.home[t] == i and self.life[t] != "done" for t in self.home)
-        return unfinished + sum(it[1] == i for it in self.actions)
+        return unfinished + sum(action[1] == i for action in self.actions)
 
     def sent(self, i):
         return sum(step[0] == "send" and step[1] == i for step in self.list)
@@ -53,25 +55,25 @@ class World:
         return sum(step[0] == "recv" and step[1] == i for step in self.list)
 
     def quiet(self):
-        return not self.actions and not self.under and all(it == "done" for it in self.life.values())
+        return not self.actions and not self.under and all(life == "done" for life in self.life.values())
 
     def since_start(self):
-        """The steps since the last `start`, that one with them; none where there was none."""
+        """Returns the steps since the last `start`, including it; an empty list if there was none."""
         for place in range(len(self.list) - 1, -1, -1):
             if self.list[place][0] == "start":
                 return self.list[place:]
         return []
 
     def take(self, step):
-        """The line that answers a step."""
+        """Takes a step, and returns the line that the program prints for it."""
         try:
-            answer = getattr(self, step[0])(*step[1:])
+            reply = getattr(self, step[0])(*step[1:])
         except Refused as refused:
             number = refused.args[0]
             return f"refused {number} {NAMES[number]}"
         if step[0] != "reopen":
             self.list.append(step)
-        return answer or "ok"
+        return reply or "ok"
 
     def insert(self, i, t, k):
         check(i >= self.nodes, 1)
@@ -138,7 +140,7 @@ class World:
         check(since and ("judge",) not in since, 13)
 
     def wave(self):
-        """The steps of the open wave, none where none is open."""
+        """Returns the steps of the open wave; an empty list if none is open."""
         since = self.since_start()
         return [] if ("give", 0) in since else since
 
@@ -170,7 +172,7 @@ class World:
         check(i == 0 or ("give", i) not in wave or ("up", i) in wave, 12)
 
     def sums(self, steps):
-        """Of each ended wave its number and its sums, counted at each node's own visit."""
+        """Returns for each ended wave its number and its sums, counted at each node's own visit."""
         ended, visits, number = [], {}, 0
         for place, step in enumerate(steps):
             if step[0] == "start":
@@ -178,9 +180,8 @@ class World:
             if step[0] == "give":
                 visits[step[1]] = place
                 if step[1] == 0:
-                    sent = sum(s[0] == "send" for i, at in visits.items() for s in steps[:at] if s[1:2] == (i,))
-                    received = sum(s[0] == "recv" for i, at in visits.items() for s in steps[:at] if s[1:2] == (i,))
-                    ended.append((number, sent, received))
+                    before = [other[0] for node, visit in visits.items() for other in steps[:visit] if other[1:2] == (node,)]
+                    ended.append((number, before.count("send"), before.count("recv")))
         return ended
 
     def judge(self):
@@ -200,7 +201,7 @@ class World:
 
 
 def parsed(line, version):
-    """A step, or nothing where the line is no step."""
+    """Returns the step of a line, or None if it is not a step."""
     word = line.split(" ")[0]
     found = FORMS[version][word].match(line) if word in FORMS[version] else None
     if not found:
@@ -215,7 +216,7 @@ def nodes_of(line):
 
 
 def lines_of(text):
-    """The lines with an end, and whether there are bytes behind the last."""
+    """Returns the lines that have an end, and whether bytes follow the last one."""
     lines = text.decode("latin-1").split("\n")
     return lines[:-1], lines[-1] != ""
 
@@ -239,7 +240,7 @@ def simtext(text):
 
 
 def judged(line, version):
-    """A step of a trace, with what is said of it where it is a judgement."""
+    """Returns the step of a line of a trace, and its judgement if it has one; None if it is not a step."""
     if line == "judge not":
         return ("judge",), "not"
     found = re.match(rf"judge ended {NUMBER}\Z", line, re.ASCII)
@@ -261,15 +262,16 @@ def audittext(text):
     if None in steps or has_rest:
         return 2, f"syntax line {(steps.index(None) if None in steps else len(steps)) + 3}\n"
     world, last = World(nodes), "not"
-    for number, (step, said) in enumerate(steps, 3):
-        answer = world.take(step)
-        if answer.startswith("refused"):
-            return 2, f"line {number} {answer}\n"
-        if said and said != answer:
+    for number, (step, judgement) in enumerate(steps, 3):
+        reply = world.take(step)
+        if reply.startswith("refused"):
+            return 2, f"line {number} {reply}\n"
+        if judgement and judgement != reply:
             return 2, f"line {number} unjustified\n"
-        last = "not" if step == ("reopen",) else said or last
-    many = lambda word: sum(step[0] == word for step, _ in steps)
+        last = "not" if step == ("reopen",) else judgement or last
+    counts = collections.Counter(step[0] for step, _ in steps)
     return 0, (
-        f"steps {len(steps)}\ntasks {many('insert')} done {many('done')}\nmessages {many('send')} received {many('recv')}\n"
+        f"steps {len(steps)}\ntasks {counts['insert']} done {counts['done']}\n"
+        f"messages {counts['send']} received {counts['recv']}\n"
         f"{f'generation {world.generation}{chr(10)}' if version == 2 else ''}{last if last != 'not' else 'not ended'}\n"
     )

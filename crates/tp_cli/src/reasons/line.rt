@@ -1,4 +1,4 @@
-//! What is wrong with the first line of a script or a trace that is not of the grammar.
+//! The reason for the first line of a script or a trace that is not of the grammar.
 ghost use Rattle.tp_cli.specs.Reasons.{MayExplain};
 
 use crate::reasons::number::{cut, number_of, short_number_of};
@@ -6,14 +6,14 @@ use crate::text::TextKind;
 use tp_base::MAX_INPUTS;
 use tp_shell::Diagnostics;
 
-/// The numbers behind a keyword.
+/// The numbers after a keyword.
 #[derive(Clone, Copy)]
 struct Numbers {
     count: usize,
     last: u32,
 }
 
-/// Writes what is wrong with the line of a text that the answer names as not of the grammar, if it names one.
+/// Prints what is wrong with the line that the reply names as not of the grammar, if it names one.
 pub(crate) fn explain_text<E: Diagnostics>(kind: TextKind, text: &[u8], answer: &[u8], err: &mut E)
     ensures { MayExplain E.tells err.old err.new }
 {
@@ -22,12 +22,12 @@ pub(crate) fn explain_text<E: Diagnostics>(kind: TextKind, text: &[u8], answer: 
     }
 }
 
-/// The L of the answer `syntax line L`. A text that is read has fewer than 1,000,000,000 lines.
+/// Returns the L of the reply `syntax line L`. A text has fewer than 1,000,000,000 lines.
 fn line_named(answer: &[u8]) -> Option<u32> {
     number_of(answer.strip_prefix(b"syntax line ")?.strip_suffix(b"\n")?)
 }
 
-/// Writes what is wrong with a line. Of several reasons it is the first, in this order.
+/// Prints what is wrong with a line: the first of the reasons that apply, in this order.
 fn explain_line<E: Diagnostics>(kind: TextKind, text: &[u8], line: u32, err: &mut E)
     ensures { MayExplain E.tells err.old err.new }
 {
@@ -46,7 +46,7 @@ fn explain_line<E: Diagnostics>(kind: TextKind, text: &[u8], line: u32, err: &mu
     }
 }
 
-/// Whether a text says that it is of version 2.
+/// Returns whether a text is of version 2.
 fn is_second(kind: TextKind, text: &[u8]) -> bool {
     let head: &[u8] = match kind {
         TextKind::Script => b"script 2\n",
@@ -55,7 +55,7 @@ fn is_second(kind: TextKind, text: &[u8]) -> bool {
     text.strip_prefix(head).is_some()
 }
 
-/// The line of a text, and whether a line feed ends it.
+/// Returns the line of a text, and whether a line feed ends it.
 fn find_line(text: &[u8], line: u32) -> (&[u8], bool) {
     let mut rest = text;
     for _ in 1..line {
@@ -68,7 +68,7 @@ fn find_line(text: &[u8], line: u32) -> (&[u8], bool) {
     (words, behind.is_some())
 }
 
-/// The line in which the number of nodes is.
+/// Returns the line that has the number of nodes.
 fn nodes_at(kind: TextKind, is_second: bool) -> u32 {
     match kind {
         TextKind::Script if !is_second => 1,
@@ -76,7 +76,7 @@ fn nodes_at(kind: TextKind, is_second: bool) -> u32 {
     }
 }
 
-/// Writes why a line is no step.
+/// Prints why a line is no step.
 fn explain_step<E: Diagnostics>(
     kind: TextKind,
     is_second: bool,
@@ -101,7 +101,8 @@ fn explain_step<E: Diagnostics>(
     }
 }
 
-/// How many numbers are behind a keyword, if the word is one. In version 2 a message has the number of its generation too.
+/// Returns how many numbers follow a keyword, if the word is one. In version 2 a message also has the number of its
+/// generation.
 fn numbers_due(is_second: bool, word: &[u8]) -> Option<usize> {
     match word {
         b"start" | b"judge" | b"reopen" => Some(0),
@@ -114,7 +115,7 @@ fn numbers_due(is_second: bool, word: &[u8]) -> Option<usize> {
     }
 }
 
-/// Writes that a line begins with no step.
+/// Prints that a line begins with no step.
 fn explain_unknown<E: Diagnostics>(line: u32, word: &[u8], err: &mut E)
     ensures { MayExplain E.tells err.old err.new }
 {
@@ -124,7 +125,7 @@ fn explain_unknown<E: Diagnostics>(line: u32, word: &[u8], err: &mut E)
     }
 }
 
-/// Writes why what is behind a keyword, of which so many numbers are due, is not these.
+/// Prints why the text after a keyword is not the required count of numbers.
 fn explain_numbers<E: Diagnostics>(
     line: u32,
     word: &[u8],
@@ -149,7 +150,7 @@ fn explain_numbers<E: Diagnostics>(
     }
 }
 
-/// Writes that a word behind a keyword is no number.
+/// Prints that a word after a keyword is no number.
 fn explain_other<E: Diagnostics>(line: u32, word: &[u8], err: &mut E)
     ensures { MayExplain E.tells err.old err.new }
 {
@@ -163,7 +164,7 @@ fn explain_other<E: Diagnostics>(line: u32, word: &[u8], err: &mut E)
     }
 }
 
-/// The numbers behind a keyword, or the first word that is none.
+/// Returns the numbers after a keyword, or the first word that is none.
 fn numbers_in(behind: Option<&[u8]>) -> Result<Numbers, &[u8]> {
     let mut rest = behind;
     let mut last = 0;
@@ -182,7 +183,7 @@ fn numbers_in(behind: Option<&[u8]>) -> Result<Numbers, &[u8]> {
     Ok(Numbers { count, last })
 }
 
-/// The text of a word of 1 to 32 bytes, each a visible character of ASCII. Others could garble a terminal.
+/// Returns the text of a word of 1 to 32 bytes, each a visible ASCII character. Others could garble a terminal.
 fn shown(word: &[u8]) -> Option<&str> {
     let is_shown = matches!(word.len(), 1..=32) && word.iter().all(|byte| byte.is_ascii_graphic());
     if is_shown {

@@ -1,6 +1,6 @@
-//! Numbers as words and scripts spell them, and the parts of a text.
+//! Parses numbers as specifications and scripts spell them, and cuts texts into parts.
 
-/// The number that a text is, of at most nine digits, without leading zeros.
+/// Returns the number that a text spells with at most nine digits, without leading zeros.
 pub(crate) fn number_of(text: &[u8]) -> Option<u32> {
     match text {
         [] | [b'0', _, ..] => return None,
@@ -18,12 +18,12 @@ pub(crate) fn number_of(text: &[u8]) -> Option<u32> {
     Some(value)
 }
 
-/// The number that a text is, of at most six digits, without leading zeros.
+/// Returns the number that a text spells with at most six digits, without leading zeros.
 pub(crate) fn short_number_of(text: &[u8]) -> Option<u32> {
     number_of(text).filter(|number| *number < 1_000_000)
 }
 
-/// The first part of a text up to the first of these bytes, and what is behind that byte, if there is one.
+/// Returns the text before the first such byte, and the text after it, if there is one.
 pub(crate) fn cut(text: &[u8], byte: u8) -> (&[u8], Option<&[u8]>) {
     let end = text.iter().position(|it| *it == byte);
     let (front, rest) = text.split_at(end.unwrap_or(text.len()));

@@ -1,16 +1,16 @@
-//! Why a word names no pool, and why several words may not be registered.
+//! The reasons why a specification names no pool, and why several may not be registered.
 ghost use Rattle.tp_cli.specs.Reasons.{MayExplain};
 
 use crate::reasons::number::short_number_of;
 use tp_base::{MAX_ORDER, MAX_POOLS, MAX_SEED, MAX_SIDE};
 use tp_shell::Diagnostics;
 
-/// How a message names the word of each place.
+/// How a message names the specification of each place.
 const SPECS: [&str; MAX_POOLS as usize] = [
     "SPEC 1", "SPEC 2", "SPEC 3", "SPEC 4", "SPEC 5", "SPEC 6", "SPEC 7", "SPEC 8",
 ];
 
-/// The numbers of a word that names a pool.
+/// The numbers of a specification.
 #[derive(Clone, Copy)]
 enum Field {
     /// The order of a product's matrices: 1 to 64.
@@ -23,28 +23,28 @@ enum Field {
     Columns,
     /// The leaves of a tree: a power of two from 1 to 1,024.
     Leaves,
-    /// What a pool's numbers start from: 0 to 9,999.
+    /// The seed of a pool: 0 to 9,999.
     Seed,
 }
 
-/// Why a word names no pool.
+/// Why a specification names no pool.
 #[derive(Clone, Copy)]
 enum WordReason {
-    /// It begins with none of the kinds.
+    /// It begins with no known kind.
     UnknownKind,
-    /// It has more or fewer numbers than its kind, whose words are of this form.
+    /// It has more or fewer numbers than its kind, whose specifications have this form.
     Form(&'static str),
-    /// This is the first of its numbers that is not right: it is no number of at most six digits without leading zeros.
+    /// This is the first of its numbers that is wrong: it is no number of at most six digits without leading zeros.
     NoNumber(Field),
-    /// This is the first of its numbers that is not right: it is this one, which is out of range.
+    /// This is the first of its numbers that is wrong: it is this one, which is out of range.
     OutOfRange(Field, u32),
     /// The side of its tiles, the first, does not divide its order.
     Undivided(u32, u32),
-    /// It names a pool, and so does the same word before it.
+    /// It names a pool, and so does the same specification before it.
     Repeated,
 }
 
-/// Writes why a word names no pool, if it names none.
+/// Prints why a specification names no pool, if it names none.
 pub(crate) fn explain_word<E: Diagnostics>(word: &str, err: &mut E)
     ensures { MayExplain E.tells err.old err.new }
 {
@@ -53,8 +53,8 @@ pub(crate) fn explain_word<E: Diagnostics>(word: &str, err: &mut E)
     }
 }
 
-/// Writes why several words may not be registered, if they may not: they are too many, or for the first that names no pool or
-/// repeats one.
+/// Prints why several specifications may not be registered, if they may not: they are too many, or the first that names
+/// no pool or repeats another.
 pub(crate) fn explain_words<E: Diagnostics>(words: &[&str], err: &mut E)
     ensures { MayExplain E.tells err.old err.new }
 {
@@ -66,7 +66,8 @@ pub(crate) fn explain_words<E: Diagnostics>(words: &[&str], err: &mut E)
     }
 }
 
-/// How a message names the first of several words that may not be registered, and why that is, if there is one.
+/// Returns how a message names the first of several specifications that may not be registered, and why, if there is
+/// one.
 fn words_reason(words: &[&str]) -> Option<(&'static str, WordReason)> {
     for (before, (word, spec)) in words.iter().zip(SPECS).enumerate() {
         if let Some(reason) = word_reason(word) {
@@ -79,7 +80,7 @@ fn words_reason(words: &[&str]) -> Option<(&'static str, WordReason)> {
     None
 }
 
-/// Why a word names no pool, if it names none.
+/// Returns why a specification names no pool, if it names none.
 fn word_reason(word: &str) -> Option<WordReason> {
     let mut parts = word.split(':');
     let kind = parts.next();
@@ -102,7 +103,7 @@ fn word_reason(word: &str) -> Option<WordReason> {
     }
 }
 
-/// Why these numbers are not those of a product, if they are not.
+/// Returns why these numbers are not those of a product, if they are not.
 fn product_reason(order: &str, side: &str, seed: &str) -> Option<WordReason> {
     let wrong = field_reason(Field::Order, order)
         .or(field_reason(Field::Side, side))
@@ -118,7 +119,7 @@ fn product_reason(order: &str, side: &str, seed: &str) -> Option<WordReason> {
     }
 }
 
-/// Why a text may not be this number of a word, if it may not.
+/// Returns why a text may not be this number of a specification, if it may not.
 fn field_reason(field: Field, text: &str) -> Option<WordReason> {
     match short_number_of(text.as_bytes()) {
         None => Some(WordReason::NoNumber(field)),
@@ -127,7 +128,7 @@ fn field_reason(field: Field, text: &str) -> Option<WordReason> {
     }
 }
 
-/// Writes the reason behind what names the word.
+/// Prints the reason after the name of the specification.
 fn write_reason<E: Diagnostics>(word: &str, reason: WordReason, err: &mut E)
     ensures { MayExplain E.tells err.old err.new }
 {
@@ -155,7 +156,7 @@ fn write_reason<E: Diagnostics>(word: &str, reason: WordReason, err: &mut E)
 }
 
 impl Field {
-    /// As the help of `tp run` names it.
+    /// The name that the help of `tp run` uses.
     fn name(self) -> &'static str {
         match self {
             Field::Order => "ORDER",
@@ -167,7 +168,7 @@ impl Field {
         }
     }
 
-    /// How a message describes a number that is out of its range.
+    /// Returns how a message describes the range of a number.
     fn range(self) -> &'static str {
         match self {
             Field::Order | Field::Side | Field::Rows | Field::Columns => "not from 1 to 64",
@@ -176,7 +177,7 @@ impl Field {
         }
     }
 
-    /// Whether a number is in its range.
+    /// Returns whether a number is in its range.
     fn allows(self, n: u32) -> bool {
         match self {
             Field::Order | Field::Side => 1 <= n && n <= MAX_ORDER,

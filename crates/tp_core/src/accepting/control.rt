@@ -1,78 +1,73 @@
-ghost use Rattle.std.specs.Prelude.{◌≡◌};
+ghost use Rattle.std.specs.Prelude.{◌≡◌, ℕ, List, IsTrue};
+ghost use Rattle.tp_base.specs.declared.Step.{Step};
+ghost use Rattle.tp_wave.specs.Control.{is_control};
+ghost use Rattle.tp_core.specs.Advancing.{Advances, HasWaves};
 
 use super::{Core, make_room};
+use crate::numbers::NodeNumbers;
 use crate::reply::Reply;
-use tp_base::{NodeId, Refusal, Step};
+use tp_base::{MAX_NODES, NodeId, Refusal, Step};
+use tp_wave::Wave;
 
-// Each step of the waves is tried on a copy of the wave, since room is asked for last.
 impl Core {
     ghost use Rattle.tp_core.specs.Accepted.{Answers};
 
-    pub(super) fn start(&mut self) -> Result<Reply, Refusal>
-        ensures { Answers self.old Step.Start result self.new }
+    // The step is tried on a copy of the waves, since room is asked for last.
+    pub(super) fn control(&mut self, step: Step) -> Result<Reply, Refusal>
+        requires { IsTrue (is_control step) }
+        ensures { Answers self.old step result self.new }
     {
         let mut wave = self.wave;
-        wave.start()?;
+        let reply = advance(&mut wave, &self.numbers, step)?;
         make_room(&mut self.steps)?;
         self.wave = wave;
-        self.steps.push_reserved(Step::Start);
-        Ok(Reply::Plain)
+        self.steps.push_reserved(step);
+        Ok(reply)
     }
+}
 
-    pub(super) fn down(&mut self, node: NodeId) -> Result<Reply, Refusal>
-        ensures { Answers self.old (Step.Down node) result self.new }
-    {
-        let mut wave = self.wave;
-        wave.down(node)?;
-        make_room(&mut self.steps)?;
-        self.wave = wave;
-        self.steps.push_reserved(Step::Down(node));
-        Ok(Reply::Plain)
+// Takes a control step with the waves alone.
+pub(super) fn advance(
+    wave: &mut Wave,
+    numbers: &[NodeNumbers; 8],
+    step: Step,
+) -> Result<Reply, Refusal>
+    requires control { IsTrue (is_control step) }
+    requires waves { (n : ℕ) × (steps : List Step) × HasWaves n numbers.now steps wave.old }
+    ensures { (n : ℕ) (steps : List Step) → HasWaves n numbers.now steps wave.old → Advances n steps step result wave.new }
+{
+    match step {
+        Step::Start => wave.start()?,
+        Step::Down(node) => wave.down(node)?,
+        Step::Give(node) => return give(wave, numbers, node),
+        Step::Up(node) => wave.up(node)?,
+        Step::Judge => {
+            return match wave.judge()? {
+                Some(ended) => Ok(Reply::Over(ended)),
+                None => Ok(Reply::Not),
+            };
+        }
+        _ => unreachable!(),
     }
+    Ok(Reply::Plain)
+}
 
-    pub(super) fn give(&mut self, node: NodeId) -> Result<Reply, Refusal>
-        ensures { Answers self.old (Step.Give node) result self.new }
-    {
-        if node.0 >= self.nodes {
-            return Err(Refusal::NoNode);
-        }
-        let numbers = self.numbers[node.0 as usize];
-        let mut wave = self.wave;
-        let sums = wave.give(node, numbers.sent, numbers.received)?;
-        if numbers.pending > 0 {
-            return Err(Refusal::NotIdle);
-        }
-        make_room(&mut self.steps)?;
-        self.wave = wave;
-        self.steps.push_reserved(Step::Give(node));
-        match sums {
-            Some(sums) => Ok(Reply::WaveSums(sums)),
-            None => Ok(Reply::Plain),
-        }
+// A node gives its numbers, unless it is active.
+fn give(wave: &mut Wave, numbers: &[NodeNumbers; 8], node: NodeId) -> Result<Reply, Refusal>
+    requires waves { (n : ℕ) × (steps : List Step) × HasWaves n numbers.now steps wave.old }
+    ensures { (n : ℕ) (steps : List Step) → HasWaves n numbers.now steps wave.old
+        → Advances n steps (Step.Give node) result wave.new }
+{
+    if node.0 >= MAX_NODES {
+        return Err(Refusal::NoNode);
     }
-
-    pub(super) fn up(&mut self, node: NodeId) -> Result<Reply, Refusal>
-        ensures { Answers self.old (Step.Up node) result self.new }
-    {
-        let mut wave = self.wave;
-        wave.up(node)?;
-        make_room(&mut self.steps)?;
-        self.wave = wave;
-        self.steps.push_reserved(Step::Up(node));
-        Ok(Reply::Plain)
+    let own = numbers[node.0 as usize];
+    let sums = wave.give(node, own.sent, own.received)?;
+    if own.pending > 0 {
+        return Err(Refusal::NotIdle);
     }
-
-    pub(super) fn judge(&mut self) -> Result<Reply, Refusal>
-        ensures { Answers self.old Step.Judge result self.new }
-    {
-        let mut wave = self.wave;
-        let judged = wave.judge()?;
-        make_room(&mut self.steps)?;
-        self.wave = wave;
-        self.steps.push_reserved(Step::Judge);
-        match judged {
-            Some(ended) => Ok(Reply::Over(ended)),
-            None => Ok(Reply::Not),
-        }
+    match sums {
+        Some(sums) => Ok(Reply::WaveSums(sums)),
+        None => Ok(Reply::Plain),
     }
 }

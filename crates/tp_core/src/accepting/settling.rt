@@ -7,6 +7,7 @@ ghost use Rattle.tp_core.specs.Kept.{HasPieces, IsFrugal};
 ghost use Rattle.tp_core.specs.Settled.{ends_before, rooms_check};
 ghost use Rattle.tp_core.specs.ToTheEnd.{AreTaken, IsTaken, MaySettle};
 
+use super::control::advance;
 use super::{Core, PIECE};
 use crate::numbers::NodeNumbers;
 use tp_base::{MAX_STEPS, Refusal, Step};
@@ -99,16 +100,5 @@ fn take_due(numbers: &[NodeNumbers; 8], steps: &mut Vec<Step>, wave: &mut Wave) 
 {
     let step = wave.next_step();
     steps.push_reserved(step);
-    match step {
-        Step::Start => wave.start().unwrap(),
-        Step::Down(node) => wave.down(node).unwrap(),
-        Step::Give(node) => {
-            let own = numbers[node.0 as usize];
-            let _ = wave.give(node, own.sent, own.received).unwrap();
-        }
-        Step::Up(node) => wave.up(node).unwrap(),
-        Step::Judge => return wave.judge().unwrap(),
-        _ => unreachable!(),
-    }
-    None
+    advance(wave, numbers, step).unwrap().over()
 }

@@ -1,3 +1,4 @@
+//! The calls of a node that open and close actions, and the announcement of termination.
 ghost use Rattle.std.specs.Prelude.{◌≡◌, [], ◌∷◌, IfErr, OnErr, OnOk};
 ghost use Rattle.tp_monitor.specs.declared.state.TaskpoolState.TheVariants.{Terminated};
 ghost use Rattle.tp_board.specs.Calls.{AnswersFirst, Appends};
@@ -14,10 +15,10 @@ use tp_board::{Board, Ended, Ledgers};
 use tp_graph::Graph;
 
 impl<G: Graph, K: Ledgers> Node<G, K> {
-    /// Closes the opening action. Each input-free task of the node has to be inserted before.
+    /// Closes the opening action. Each task of the node without inputs has to be inserted before.
     ///
-    /// Refused: `NoAction` where it is closed; `HistoryFull` where the history has reached its limit; `NoMemory` where the
-    /// board has to ask for memory for the event.
+    /// Refused with `NoAction` if it is closed; `HistoryFull` if the history has reached its limit; `NoMemory` if the
+    /// board has to allocate for the event and the allocation fails.
     pub fn ready(&mut self, board: &mut Board<K>) -> Result<(), Refusal>
         requires seeded { HasNoSeed (G.meaning self.old.graph) self.old }
         ensures event { OnOk result (Appends (event_of self.old (closing self.old) ∷ []) board.old board.new) }
@@ -38,7 +39,7 @@ impl<G: Graph, K: Ledgers> Node<G, K> {
 
     /// Opens a named action.
     ///
-    /// Refused: `ActionKnown` where it is open; `Inactive` where nothing is pending; `HistoryFull` where the history has
+    /// Refused with `ActionKnown` if it is open; `Inactive` if nothing is pending; `HistoryFull` if the history has
     /// reached its limit; `NoMemory`.
     pub fn action_open(&mut self, board: &mut Board<K>, action: ActionId) -> Result<(), Refusal>
         ensures event { OnOk result (Appends (event_of self.old (opening_of action.0 self.old) ∷ []) board.old board.new) }
@@ -64,8 +65,8 @@ impl<G: Graph, K: Ledgers> Node<G, K> {
 
     /// Closes a named action.
     ///
-    /// Refused: `NoAction` where it is not open; `HistoryFull` where the history has reached its limit; `NoMemory` where the
-    /// board has to ask for memory for the event.
+    /// Refused with `NoAction` if it is not open; `HistoryFull` if the history has reached its limit; `NoMemory` if the
+    /// board has to allocate for the event and the allocation fails.
     pub fn action_close(&mut self, board: &mut Board<K>, action: ActionId) -> Result<(), Refusal>
         ensures event { OnOk result (Appends (event_of self.old (closing_of action.0 self.old) ∷ []) board.old board.new) }
         ensures closed { OnOk result (self.new ≡ closed_with action.0 self.old) }
@@ -84,9 +85,9 @@ impl<G: Graph, K: Ledgers> Node<G, K> {
         Ok(())
     }
 
-    /// The end of the pool's present generation is announced to the node, which may have been told before. Nothing is
-    /// pending: each task that was inserted here in that generation is done, and has its one result. Nothing else changes, and
-    /// it takes no memory.
+    /// Announces termination of the pool's present generation to the node, which may know it already. Nothing is
+    /// pending: each task that was inserted here in that generation is done, and has exactly one result. Nothing else
+    /// changes, and it allocates nothing.
     pub fn quiet_under(&mut self, ended: &mut Ended<K>, board: &mut Board<K>)
         ensures board { board.new ≡ board.old }
         ensures over { self.new ≡ over self.old }
@@ -96,7 +97,7 @@ impl<G: Graph, K: Ledgers> Node<G, K> {
     {
         board.audit_ended(ended);
         board.audit(&mut self.shares);
-        // That each task has one result is known by a call of the store alone, and the announcement calls none. The answer is
+        // Only this call shows that each task has one result, and the announcement makes no such call. Its result is
         // not used, so it costs no instruction.
         let _results = self.local.results();
         self.local.announce();

@@ -1,3 +1,4 @@
+//! Beginning several ready tasks at once.
 ghost use Rattle.std.specs.Prelude.{◌≡◌, ◌≤◌, ◌<◌, [], ◌∷◌, None, Some, min, IfErr, IfOk, IfSome, IsOk, MatchOption, OnErr};
 ghost use Rattle.tp_board.specs.Calls.{Appends};
 ghost use Rattle.tp_board.specs.States.{AnswersBy, IsPastPiece, full_check};
@@ -16,13 +17,12 @@ use tp_board::{Board, Ledgers};
 use tp_graph::Graph;
 
 impl<G: Graph, K: Ledgers> Node<G, K> {
-    /// Begins the next ready tasks, each as [`begin`](Node::begin) does: `max` of them, 1 to 8, or all where fewer are ready.
-    /// Each place of the answer has the work of one of them, in the order in which they began. Room for all their events is
-    /// made first.
+    /// Begins the next ready tasks, each as [`begin`](Node::begin) does: `max` of them, 1 to 8, or all if fewer are
+    /// ready. Returns their work in the order in which they began. Room for all their events is reserved first.
     ///
-    /// Refused: `HistoryFull` where fewer events may be than tasks would begin; `NoMemory` where the board has to ask for
-    /// memory for some of their events, as it may have to where a piece of 1,024 events or messages ends. No task has begun
-    /// then.
+    /// Refused with `HistoryFull` if the history has room for fewer events than tasks would begin; `NoMemory` if the
+    /// board has to allocate for some of the events, as it may at the end of a piece of 1,024 events or messages, and
+    /// the allocation fails. No task has begun then.
     pub fn begin_some(
         &mut self,
         board: &mut Board<K>,
@@ -42,7 +42,7 @@ impl<G: Graph, K: Ledgers> Node<G, K> {
         Ok(self.begin_each(board, count))
     }
 
-    /// Begins so many ready tasks, in the places that were reserved for their events.
+    /// Begins `count` ready tasks, in the places that were reserved for their events.
     fn begin_each(&mut self, board: &mut Board<K>, count: u32) -> SmallVec<Option<Work<G>>, 8>
         requires few { count ≤ 8 }
         requires ready { count ≤ ready_count self.old }
@@ -56,7 +56,7 @@ impl<G: Graph, K: Ledgers> Node<G, K> {
         works
     }
 
-    /// Begins the next ready task, where one is ready, in the place that was reserved for its event.
+    /// Begins the next ready task, if one is ready, in the place that was reserved for its event.
     #[inline(always)]
     pub(crate) fn begin_next(&mut self, board: &mut Board<K>) -> Option<Work<G>>
         requires { 0 < board.old.reserved }

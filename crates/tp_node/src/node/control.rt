@@ -1,3 +1,4 @@
+//! The control turn of a node.
 ghost use Rattle.std.specs.Prelude.{◌≡◌, [], ◌∷◌, IfErr, IfNone, IfOk, IfSome, OnErr, OnOk};
 ghost use Rattle.tp_board.specs.States.{AnswersBy, IsAtPiece, full_check};
 ghost use Rattle.tp_board.specs.Calls.{Appends};
@@ -10,16 +11,17 @@ use tp_board::{Board, Ledgers, Turn, make_first};
 use tp_graph::Graph;
 
 impl<G: Graph, K: Ledgers> Node<G, K> {
-    /// Makes the first step of the control waves that is lawful for this node, in the order judge, start, down, up of the
-    /// lower child, up of the higher child, give. The root alone judges and starts the waves. A node with something pending
-    /// starts no wave and gives nothing. It answers `Idle` where no step is lawful, and `Over` with the one token of the present
-    /// generation's end where it judged that the pool has ended. After a fault of the board it makes none: it answers `Idle`, and no end is
-    /// judged.
+    /// Makes the first control step that is enabled for this node, in the order judge, start, down, up of the lower
+    /// child, up of the higher child, give. Only the root judges and starts waves. A node with something pending starts
+    /// no wave and gives nothing. Returns `Idle` if no step is enabled, and `Over` with the one termination token of
+    /// the present generation if the step detected termination. If the board has a fault, no step is made, `Idle` is
+    /// returned, and no termination is detected.
     ///
-    /// The waves are those of the four counter method of F. Mattern, "Algorithms for Distributed Termination Detection" (1987).
+    /// The waves are those of the four counter method of F. Mattern, "Algorithms for Distributed Termination Detection"
+    /// (1987).
     ///
-    /// Refused, where it makes a step: `HistoryFull` where the history has reached its limit; `NoMemory` where the board has
-    /// to ask for memory for the event, as it may have to at each 1,024th.
+    /// Refused, if it makes a step: `HistoryFull` if the history has reached its limit; `NoMemory` if the board has to
+    /// allocate for the event, as it may at each 1,024th, and the allocation fails.
     pub fn control_turn(&mut self, board: &mut Board<K>) -> Result<Turn<K>, Refusal>
         ensures node { self.new ≡ self.old }
         ensures fault { IfSome board.old.fault (λ _. (result ≡ Ok Turn.Idle) × (board.new ≡ board.old)) }

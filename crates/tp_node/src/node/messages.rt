@@ -1,3 +1,4 @@
+//! The calls of a node that send, receive and deliver messages.
 ghost use Rattle.std.specs.Prelude.{◌≡◌, ◌≤◌, ◌<◌, ◌+◌, [], ◌∷◌, false, Some, None, slice_get, IfOk, IsTrue, MatchOption, OnErr, OnOk};
 ghost use Rattle.tp_board.specs.Numbers.{is_send, receiving, sending};
 ghost use Rattle.tp_graph.specs.Carried.{IsFeed};
@@ -23,10 +24,10 @@ use tp_board::{Board, Ledgers};
 use tp_graph::{Comparable, Feed, Graph, Message, Parcel};
 
 impl<G: Graph, K: Ledgers> Node<G, K> {
-    /// Passes the next feed of a task that runs here on to the node at the end of a link. The number of the message is
-    /// answered: how many messages were sent before it in the present generation, which the message carries.
+    /// Sends the next feed of a task that runs here to the node at the end of a link, and returns the number of the
+    /// message. That is how many messages were sent before it in the present generation; the message carries it.
     ///
-    /// Refused: `WrongLife` where the finished task does not run here; `HistoryFull` where the history has reached its
+    /// Refused with `WrongLife` if the finished task does not run here; `HistoryFull` if the history has reached its
     /// limit; `NoMemory`.
     pub fn send(
         &mut self,
@@ -66,13 +67,14 @@ impl<G: Graph, K: Ledgers> Node<G, K> {
         Ok(number)
     }
 
-    /// Delivers the value of a received message, whose action is open with this feed, to its task, which lives here and is
-    /// inserted where it is unknown and else supplied, and then closes the action of the message: two events. The closing is
-    /// of the present generation, also where the parcel is of an earlier one whose number is open again with this feed.
+    /// Delivers the value of a received message to its task, and then closes the action of the message: two events. The
+    /// action has to be open with this feed. The task belongs to this node; it is inserted if it is unknown, and else
+    /// supplied. The action is closed in the present generation, even if the parcel is of an earlier one whose number
+    /// is open again with this feed.
     ///
-    /// Refused: `TaskKnown` where the target has begun or is done; `SlotTaken` where its slot has its value; `HistoryFull`
-    /// where fewer than two more events may be; `StoreFull` where the target is unknown and 65,536 tasks are not done;
-    /// `NoMemory`. The parcel comes back then.
+    /// Refused, and the parcel returned, with `TaskKnown` if the target has begun or is done; `SlotTaken` if its slot
+    /// has its value; `HistoryFull` if the history has room for fewer than two more events; `StoreFull` if the target
+    /// is unknown and 65,536 tasks are not done; `NoMemory`.
     pub fn deliver(
         &mut self,
         board: &mut Board<K>,
@@ -109,13 +111,13 @@ impl<G: Graph, K: Ledgers> Node<G, K> {
 }
 
 impl<G: Comparable, K: Ledgers> Node<G, K> {
-    /// Receives the oldest message of a link to this node: it is counted, and its action opens, with the feed that it brings.
-    /// It answers `None` where the link is empty.
+    /// Receives the oldest message of a link to this node, or returns `None` if the link is empty. The message is
+    /// counted, and its action opens with the feed that it brings.
     ///
-    /// Refused, where there is a message, which stays: `WrongLife` where the end was announced; `Stranger` where the message
-    /// is of another graph or of another generation, where the board never gave its number to this pair of nodes in the
-    /// present generation, and where the action of that number is open here; `HistoryFull` where the history has reached its
-    /// limit; `NoMemory`.
+    /// Refused, if there is a message, which stays on the link: `WrongLife` if termination was announced; `Stranger` if
+    /// the message is of another graph or of another generation, if the board never gave its number to this pair of
+    /// nodes in the present generation, or if the action of that number is open here; `HistoryFull` if the history has
+    /// reached its limit; `NoMemory`.
     pub fn receive(
         &mut self,
         pool_link: &mut PoolLink<G, K>,
@@ -144,7 +146,7 @@ impl<G: Comparable, K: Ledgers> Node<G, K> {
         Ok(Some(message.receive()))
     }
 
-    /// Whether a message of a link can be received, places and memory apart.
+    /// Checks whether a message of a link can be received, apart from places and memory.
     fn check_message(
         &self,
         pool_link: &PoolLink<G, K>,
@@ -175,7 +177,7 @@ impl<G: Comparable, K: Ledgers> Node<G, K> {
 
 // The parts of these calls.
 impl<G: Graph, K: Ledgers> Node<G, K> {
-    /// Makes sure that a received value can be put, and of both events.
+    /// Reserves what a delivery needs: room for the value, and for both events.
     fn room_to_deliver(&self, board: &mut Board<K>, feed: Feed) -> Result<(), Refusal>
         requires active { 0 < self.now.numbers.pending }
         requires feed { IsFeed (G.meaning self.now.graph) feed }
@@ -190,7 +192,7 @@ impl<G: Graph, K: Ledgers> Node<G, K> {
         make_room(board, 2, is_full)
     }
 
-    /// Closes the action of a message, in the place that was reserved for the event.
+    /// Closes the action of a message, in the place that was reserved for its event.
     fn end(&mut self, board: &mut Board<K>, message: MessageId)
         requires reserved { 0 < board.old.reserved }
         requires few { message.0 < 1048576 }

@@ -1,3 +1,4 @@
+//! The calls of a node that insert, begin and finish tasks, and pass on their feeds within the node.
 ghost use Rattle.std.specs.Prelude.{◌≡◌, ◌≤◌, ◌<◌, ◌+◌, ◌-◌, ℕ, [], ◌∷◌, false, Some, None, if◌then◌else◌, is_some, IfErr, IfOk, IsTrue};
 ghost use Rattle.std.specs.Prelude.{MatchBool, MatchOption, OnErr, OnOk};
 ghost use Rattle.tp_base.specs.declared.refusal.Refusal.TheVariants.{NoMemory, StoreFull, WrongLife};
@@ -25,10 +26,10 @@ use tp_graph::{Feed, Graph, Value};
 use tp_store::Life;
 
 impl<G: Graph, K: Ledgers> Node<G, K> {
-    /// Inserts the lowest input-free task of this node that was not inserted yet. It answers false where none is left.
+    /// Inserts the lowest task of this node without inputs that was not inserted yet. Returns `false` if none is left.
     ///
-    /// Refused, where one is left: `Inactive` where nothing is pending; `HistoryFull` where the history has reached its
-    /// limit; `StoreFull` where 65,536 tasks are not done; `NoMemory`.
+    /// Refused, if one is left: `Inactive` if nothing is pending; `HistoryFull` if the history has reached its limit;
+    /// `StoreFull` if 65,536 tasks are not done; `NoMemory`.
     pub fn seed(&mut self, board: &mut Board<K>) -> Result<bool, Refusal>
         ensures none { HasNoSeed (G.meaning self.old.graph) self.old → result ≡ Ok false }
         ensures seeded { IfOk result (SeedsIf self.old self.new board.old board.new (G.meaning self.old.graph)) }
@@ -43,11 +44,11 @@ impl<G: Graph, K: Ledgers> Node<G, K> {
         Ok(true)
     }
 
-    /// Begins the next ready task, of the lowest class that has one. Its inputs are moved out. It answers `None` where no
-    /// task is ready.
+    /// Begins the next ready task, of the lowest class that has one, and returns it with its inputs, or returns `None`
+    /// if no task is ready.
     ///
-    /// Refused, where a task is ready: `HistoryFull` where the history has reached its limit; `NoMemory` where the board has
-    /// to ask for memory for the event, as it may have to at each 1,024th event or message.
+    /// Refused, if a task is ready: `HistoryFull` if the history has reached its limit; `NoMemory` if the board has to
+    /// allocate for the event, as it may at each 1,024th event or message, and the allocation fails.
     pub fn begin(&mut self, board: &mut Board<K>) -> Result<Option<Work<G>>, Refusal>
         ensures none { front self.old.state.store.ready ≡ None → result ≡ Ok None }
         ensures begun { IfOk result (λ work. MatchOption work
@@ -65,12 +66,12 @@ impl<G: Graph, K: Ledgers> Node<G, K> {
         Ok(self.begin_next(board))
     }
 
-    /// Passes the next feed of a task that runs here on to a task of this node, which is inserted where it is unknown and
+    /// Passes the next feed of a task that runs here on to a task of this node, which is inserted if it is unknown and
     /// else supplied.
     ///
-    /// Refused: `WrongLife` where the finished task does not run here; `TaskKnown` where the target has begun or is done;
-    /// `SlotTaken` where its slot has its value; `HistoryFull` where the history has reached its limit; `StoreFull` where
-    /// the target is unknown and 65,536 tasks are not done; `NoMemory`.
+    /// Refused with `WrongLife` if the finished task does not run here; `TaskKnown` if the target has begun or is done;
+    /// `SlotTaken` if its slot has its value; `HistoryFull` if the history has reached its limit; `StoreFull` if the
+    /// target is unknown and 65,536 tasks are not done; `NoMemory`.
     pub fn feed(&mut self, board: &mut Board<K>, finished: &mut Finished<G>) -> Result<(), Refusal>
         requires graph { finished.old.graph ≡ self.old.graph }
         requires next { HasFeed (G.meaning self.old.graph) finished.old }
@@ -100,12 +101,13 @@ impl<G: Graph, K: Ledgers> Node<G, K> {
         }
     }
 
-    /// A task that runs here, and whose feeds were all passed on, is done. Its value goes to the end of the results where the
-    /// graph keeps it; else no numbers go there, and the value is dropped. A finished task that outlives its generation is
-    /// taken where its task runs again in a later one: its value is the right one, and its feeds count as passed on.
+    /// Records that a task that runs here is done, after all its feeds were passed on. Its value is appended to the
+    /// results if the graph keeps it; else the value is dropped, and the result has no numbers. A finished task that
+    /// outlives its generation is accepted if its task runs again in a later one: its value is the right one, and its
+    /// feeds count as passed on.
     ///
-    /// Refused: `WrongLife` where the task does not run here; `HistoryFull` where the history has reached its limit;
-    /// `NoMemory` where the board has to ask for memory for the event. The finished task comes back then.
+    /// Refused, and the finished task returned, with `WrongLife` if the task does not run here; `HistoryFull` if the
+    /// history has reached its limit; `NoMemory` if the board has to allocate for the event and the allocation fails.
     pub fn done(
         &mut self,
         board: &mut Board<K>,
@@ -137,7 +139,7 @@ impl<G: Graph, K: Ledgers> Node<G, K> {
 
 // The parts of these calls.
 impl<G: Graph, K: Ledgers> Node<G, K> {
-    /// The lowest input-free task of this node that was not inserted yet.
+    /// Returns the lowest task of this node without inputs that was not inserted yet.
     fn next_seed(&mut self) -> Option<u32>
         ensures same { self.new ≡ self.old }
         ensures next { MatchOption result (HasNoSeed (G.meaning self.old.graph) self.old) (IsNextSeed (G.meaning self.old.graph) self.old) }
@@ -150,7 +152,7 @@ impl<G: Graph, K: Ledgers> Node<G, K> {
         next
     }
 
-    /// Inserts an input-free task of this node.
+    /// Inserts a task of this node without inputs.
     fn insert_seed(&mut self, board: &mut Board<K>, task: u32) -> Result<(), Refusal>
         requires seed { IsSeedOf (G.meaning self.old.graph) self.old task }
         ensures event { OnOk result (Appends (event_of self.old (seeding self.old task) ∷ []) board.old board.new) }
@@ -175,7 +177,7 @@ impl<G: Graph, K: Ledgers> Node<G, K> {
         Ok(())
     }
 
-    /// Whether the task runs here.
+    /// Checks whether the task runs here.
     #[inline(always)]
     pub(crate) fn check_runs(&self, task: TaskId) -> Result<(), Refusal>
         ensures running { MatchBool (runs self.now.state.store task) (result ≡ Ok tt) (result ≡ Err WrongLife) }
@@ -187,8 +189,8 @@ impl<G: Graph, K: Ledgers> Node<G, K> {
         }
     }
 
-    /// Whether a value can be put to where a feed ends, a full store apart. It answers whether the task is unknown and no
-    /// more may live.
+    /// Checks whether a value can be put at the end of a feed, apart from a full store. Returns whether the task is
+    /// unknown and no more tasks can be inserted.
     #[inline(always)]
     pub(crate) fn check_put(&self, feed: Feed) -> Result<bool, Refusal>
         requires active { 0 < self.now.numbers.pending }
@@ -208,8 +210,8 @@ impl<G: Graph, K: Ledgers> Node<G, K> {
         }
     }
 
-    /// Puts a value to where a feed ends, in the place that was reserved for the event. Refused with `NoMemory` alone; the
-    /// value comes back then.
+    /// Puts a value at the end of a feed, in the place that was reserved for the event. Refused only with `NoMemory`;
+    /// the value is then returned.
     #[inline(always)]
     pub(crate) fn put(
         &mut self,
@@ -242,7 +244,7 @@ impl<G: Graph, K: Ledgers> Node<G, K> {
         Ok(())
     }
 
-    /// The step that puts a value to a task.
+    /// Returns the step that puts a value to a task.
     #[inline(always)]
     fn putting_step(&self, task: TaskId, arity: u8) -> Step
         requires { (0 < arity) × (arity ≤ 16) }
@@ -260,7 +262,7 @@ impl<G: Graph, K: Ledgers> Node<G, K> {
     }
 }
 
-/// The lowest input-free task of a node, from a number on, that was not inserted.
+/// Returns the lowest task of a node without inputs, from a number on, that was not inserted.
 fn find_seed<G: Graph>(graph: &G, nodes: u32, node: NodeId, local: &Local, from: u32) -> Option<u32>
     requires nodes { (1 ≤ nodes) × (nodes ≤ 8) }
     ensures next { IsFirst (IsSeed (G.meaning graph.now) nodes node.0 local.now.store) from result }
@@ -273,7 +275,7 @@ fn find_seed<G: Graph>(graph: &G, nodes: u32, node: NodeId, local: &Local, from:
     None
 }
 
-/// Whether a task is an input-free one of a node and was not inserted.
+/// Returns whether a task is one of a node without inputs and was not inserted.
 fn is_seed<G: Graph>(graph: &G, nodes: u32, node: NodeId, local: &Local, task: u32) -> bool
     requires known { task < (G.meaning graph.now).tasks }
     requires nodes { (1 ≤ nodes) × (nodes ≤ 8) }
@@ -284,7 +286,7 @@ fn is_seed<G: Graph>(graph: &G, nodes: u32, node: NodeId, local: &Local, task: u
     graph.arity(task) == 0 && graph.home(task, nodes) == node && !local.is_known(task)
 }
 
-/// Makes sure of places and of memory for so many events. A full store is refused before want of memory.
+/// Reserves places and memory for `events` events. A full store is refused before an allocation failure.
 pub(crate) fn make_room<K: Ledgers>(
     board: &mut Board<K>,
     events: u32,

@@ -1,3 +1,4 @@
+//! A node without its shares, which a reopening takes away and gives back.
 ghost use Rattle.std.specs.Prelude.{◌≡◌, ◌≤◌};
 ghost use Rattle.tp_graph.specs.Left.{AreResults};
 ghost use Rattle.tp_node.specs.Nodes.{IsOfPool, anew};
@@ -10,8 +11,8 @@ use tp_base::{NodeId, TaskId};
 use tp_board::{Board, Ended, Ledgers, Shares};
 use tp_graph::{Graph, Value};
 
-/// A node of which nothing has happened in its generation, while its shares are elsewhere. Contracts see the node that it is
-/// with its first shares.
+/// A node at the beginning of its generation, while its shares are elsewhere. Contracts see it as the node with its
+/// first shares.
 #[derive(Drop)]
 pub(crate) struct UnsharedNode<G: Graph> {
     graph: G,
@@ -36,7 +37,7 @@ impl<G: Graph> Model for UnsharedNode<G> {
 }
 
 impl<G: Graph, K: Ledgers> Node<G, K> {
-    /// The node in parts, once its end is announced: its shares, its results, and what is left for the next generation.
+    /// Splits a node whose termination is announced into its shares, its results, and the node of the next generation.
     pub(crate) fn apart(
         self,
         ended: &mut Ended<K>,
@@ -72,7 +73,7 @@ impl<G: Graph, K: Ledgers> Node<G, K> {
 }
 
 impl<G: Graph> UnsharedNode<G> {
-    /// The node with its first shares.
+    /// Returns the node with its first shares.
     pub(crate) fn with_shares<K: Ledgers>(self, shares: Shares<K>) -> Node<G, K>
         requires pool { IsOfPool K.names.nodes self }
         requires first { shares ≡ self.numbers }

@@ -1,3 +1,4 @@
+//! How a worker passes on the feeds of a finished task, in as few critical sections as possible.
 ghost use Rattle.std.specs.Prelude.{◌≡◌, ◌<◌, ◌≤◌, IfOk, MatchOption, OnOk};
 ghost use Rattle.tp_node.specs.Feeds as feeds;
 ghost use Rattle.tp_node.specs.Feeds.{HasFeed};
@@ -14,7 +15,7 @@ use tp_board::{Board, Ledgers};
 use tp_graph::{Comparable, Graph, is_same};
 use tp_node::{Finished, Node, PoolLink};
 
-/// What passing on a task's feeds leaves: the board's lock, and the node to be rung once it is free.
+/// What passing on a task's feeds leaves: the guard of the board's lock, and the node to wake after it is released.
 #[derive(Drop)]
 struct Passed<'a, G: Graph, K: Ledgers> {
     board: MutexGuard<'a, Board<K>>,
@@ -22,9 +23,9 @@ struct Passed<'a, G: Graph, K: Ledgers> {
 }
 
 impl<'a, G: Comparable, K: Ledgers, A: Gate, R: Wait> Worker<'a, G, K, A, R> {
-    /// Passes the feeds of the finished task on that lies in the worker's hands, where one does, and records it as done. One hold
-    /// of the board's lock serves all feeds in a row that stay at the node, the one that was sent to another node just before
-    /// them, and the record. The task is taken out of the hands for the record alone, so that it is moved once.
+    /// Passes on the feeds of the finished task in flight, if there is one, and records the task as done. One critical
+    /// section of the board's lock covers all consecutive feeds that stay at the node, the one that was sent to another
+    /// node just before them, and the record. The task is moved out only for the record, so that it is moved once.
     pub fn pass_on(
         &self,
         here: &mut Node<G, K>,
@@ -51,7 +52,8 @@ impl<'a, G: Comparable, K: Ledgers, A: Gate, R: Wait> Worker<'a, G, K, A, R> {
         done
     }
 
-    /// Passes all feeds of a finished task on. It hands out the board's lock of the last of them, which is still held.
+    /// Passes on all feeds of a finished task. Returns the guard of the board's lock of the last of them, which is
+    /// still held.
     fn pass_feeds(
         &self,
         here: &mut Node<G, K>,
@@ -92,8 +94,8 @@ impl<'a, G: Comparable, K: Ledgers, A: Gate, R: Wait> Worker<'a, G, K, A, R> {
         })
     }
 
-    /// Passes the next feed on to another node, and those after it, as long as they go there. It hands out the board's lock,
-    /// which is still held: whoever drops it rings there.
+    /// Sends the next feed to another node, and those after it as long as they go to the same node. Returns the guard
+    /// of the board's lock, which is still held; the caller wakes that node after releasing it.
     fn send(
         &self,
         here: &mut Node<G, K>,
@@ -126,7 +128,7 @@ impl<'a, G: Comparable, K: Ledgers, A: Gate, R: Wait> Worker<'a, G, K, A, R> {
     }
 }
 
-/// Passes the next feed on over a link, where that goes from the node to another.
+/// Sends the next feed over a link, if the link goes from the node to the feed's node.
 fn send_next<G: Graph, K: Ledgers>(
     here: &mut Node<G, K>,
     pool_link: &mut PoolLink<G, K>,
@@ -145,7 +147,7 @@ fn send_next<G: Graph, K: Ledgers>(
     Ok(())
 }
 
-/// Passes the next feed on over a link, and those after it, as long as they go to the same node.
+/// Sends the next feed over a link, and those after it as long as they go to the same node.
 fn send_row<G: Graph, K: Ledgers>(
     here: &mut Node<G, K>,
     pool_link: &mut PoolLink<G, K>,
@@ -170,7 +172,7 @@ fn send_row<G: Graph, K: Ledgers>(
     Ok(())
 }
 
-/// The node, of so many, that the next feed goes to, where one is left.
+/// Returns the node to which the next feed goes, if one is left.
 #[inline(always)]
 fn next_home<G: Graph>(finished: &Finished<G>, nodes: u32) -> Option<NodeId>
     requires { (1 ≤ nodes) × (nodes ≤ 8) }
@@ -189,8 +191,8 @@ fn next_home<G: Graph>(finished: &Finished<G>, nodes: u32) -> Option<NodeId>
     Some(finished.graph().home(feed.target, nodes))
 }
 
-/// Passes on the next feeds that stay at the node, where the next one does. It answers where the next one goes then, where one
-/// is left.
+/// Passes on the next feeds that stay at the node, if the next one does. Returns the node to which the feed after them
+/// goes, if one is left.
 fn feed_on<G: Graph, K: Ledgers>(
     here: &mut Node<G, K>,
     board: &mut Board<K>,
@@ -212,8 +214,8 @@ fn feed_on<G: Graph, K: Ledgers>(
     }
 }
 
-/// Passes the next feed on to the node itself, and those after it, as long as they stay there. It answers where the next one
-/// goes, where one is left.
+/// Passes the next feed on within the node, and those after it as long as they stay there. Returns the node to which
+/// the feed after them goes, if one is left.
 #[inline(always)]
 fn feed_here<G: Graph, K: Ledgers>(
     here: &mut Node<G, K>,
@@ -241,7 +243,7 @@ fn feed_here<G: Graph, K: Ledgers>(
     Ok(None)
 }
 
-/// Records a task as done, all of whose feeds were passed on.
+/// Records a task as done after all its feeds were passed on.
 fn record_done<G: Graph, K: Ledgers>(
     here: &mut Node<G, K>,
     board: &mut Board<K>,

@@ -1,3 +1,4 @@
+//! How a worker receives messages and delivers their values.
 ghost use Rattle.std.specs.Prelude.{◌≡◌, ◌+◌, length, IfOk, IsFalse, IsTrue};
 
 use crate::gate::Gate;
@@ -12,8 +13,8 @@ use tp_graph::Comparable;
 use tp_node::{Node, PoolLink};
 
 impl<'a, G: Comparable, K: Ledgers, A: Gate, R: Wait> Worker<'a, G, K, A, R> {
-    /// Receives messages, as long as there are any, each in a turn of its own: so whether the pool was stopped, and the gate, is
-    /// asked before each but the first. Answers whether there was one.
+    /// Receives messages, as long as there are any, each in a turn of its own: the stop flag and the gate are checked
+    /// before each but the first. Returns whether there was one.
     #[inline(never)]
     pub fn receive_some(
         &self,
@@ -36,7 +37,8 @@ impl<'a, G: Comparable, K: Ledgers, A: Gate, R: Wait> Worker<'a, G, K, A, R> {
         Ok(true)
     }
 
-    /// Whether another turn may follow in the same hold of the node's lock: none does where the pool was stopped.
+    /// Returns whether another turn may follow in the same critical section of the node's lock: none does if the pool
+    /// was stopped.
     pub fn may_go_on(&self) -> Result<bool, Refusal> {
         if self.locks.is_stopped.load(Ordering::SeqCst) {
             return Ok(false);
@@ -47,7 +49,7 @@ impl<'a, G: Comparable, K: Ledgers, A: Gate, R: Wait> Worker<'a, G, K, A, R> {
         Ok(true)
     }
 
-    /// Receives a message and delivers its value, where there is one.
+    /// Receives a message and delivers its value, if there is one.
     fn receive(
         &self,
         here: &mut Node<G, K>,
@@ -93,8 +95,8 @@ impl<'a, G: Comparable, K: Ledgers, A: Gate, R: Wait> Worker<'a, G, K, A, R> {
     }
 }
 
-/// Receives the next message of a link from a node, and delivers its value, where there is one. That takes three events: the
-/// receipt, the value that is put, and the end of the message's action.
+/// Receives the next message of a link from a node, and delivers its value, if there is one. That takes three events:
+/// the receipt, the delivered value, and the end of the message's action.
 fn receive_next<G: Comparable, K: Ledgers>(
     here: &mut Node<G, K>,
     pool_link: &mut PoolLink<G, K>,

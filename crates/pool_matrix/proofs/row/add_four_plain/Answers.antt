@@ -7,7 +7,7 @@ use Rattle.pool_matrix.proofs.Fours.{AreRead, AreFour, four_added}
 use Rattle.pool_matrix.proofs.row.add_four_plain.Goals as goal
 use Rattle.pool_matrix.proofs.row.add_four_plain.Goals.{In-loop-n}
 
--- what the code adds to sum n is what is to be added
+-- what the code adds to sum n is what has to be added
 four : (c : In-loop-n)
     → AreRead (get_or c.loop-n.sums (c.loop-n.n - 1) (pos 0)) (get_or c.right_part-first.result.now (c.loop-n.n - 1) (pos 0))
     (get_or c.right_part-second.result.now (c.loop-n.n - 1) (pos 0)) (get_or c.right_part-third.result.now (c.loop-n.n - 1) (pos 0))

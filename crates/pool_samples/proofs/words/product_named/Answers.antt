@@ -3,15 +3,6 @@ use Rattle.pool_samples.specs.Any.{product_same}
 use Rattle.pool_samples.proofs.Spelling.{order_is, each_of_three}
 use Rattle.pool_samples.proofs.words.product_named.Goals as goal
 
-pub returns-then-order-lt1-clause-named : goal.returns-then-order-lt1-clause-named
-returns-then-order-lt1-clause-named c = λ p same.
-    let rule = p.in_rules in
-    let order = order_is p.tiles p.side p.seed rule in
-    let read = each_of_three _ _ _ _ _ _
-    (c.in_ok-order.ensures.spelt (p.tiles * p.side) p.side p.seed (omega (arith, rule.small)) (omega (arith, order.few_sides))
-    (omega (arith, rule.seed_small)) same) in
-    absurd (omega (arith, read.0, read.1, read.2, rule.small, rule.some_side, rule.seed_small, order.some_order, c.then-order-lt1.either))
-
 pub returns-then-order-side-ne0-clause-named : goal.returns-then-order-side-ne0-clause-named
 returns-then-order-side-ne0-clause-named c = λ p same.
     let rule = p.in_rules in

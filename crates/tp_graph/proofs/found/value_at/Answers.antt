@@ -1,8 +1,5 @@
-use Rattle.std.proofs.Common.{◌≡◌, ℤ, IsTrue, List, Some, slice_index, rules}
-use Rattle.std.proofs.lemmas.List.Elements.{All-contains}
-use Rattle.tp_base.specs.declared.TaskId.{TaskId}
+use Rattle.std.proofs.Common.{slice_index, rules}
 use Rattle.tp_graph.proofs.Placed.{not_found}
-use Rattle.tp_graph.specs.Values.{value_of}
 use Rattle.tp_graph.proofs.found.value_at.Goals as goal
 
 pub returns-then-place-results-clause-missing : goal.returns-then-place-results-clause-missing
@@ -11,12 +8,6 @@ returns-then-place-results-clause-missing c =
 
 pub returns-then-eq-clause-found : goal.returns-then-eq-clause-found
 returns-then-eq-clause-found c = (slice_index c.args.places.now c.args.task.0, search rules, search rules)
-
-pub returns-then-eq-clause-kept : goal.returns-then-eq-clause-kept
-returns-then-eq-clause-kept c =
-    λ g all.
-    All-contains (λ (r : TaskId × List ℤ). IsTrue (g.keeps r.0.0) → value_of g r.0.0 ≡ Some r.1) c.args.results.now (c.args.task, _) all
-    (slice_index c.args.places.now c.args.task.0, search rules, search rules)
 
 pub returns-else-eq-clause-missing : goal.returns-else-eq-clause-missing
 returns-else-eq-clause-missing c =

@@ -3,10 +3,6 @@ use Rattle.std.proofs.lemmas.List.{length-append}
 use Rattle.tp_slots.proofs.Housed.{last_block}
 use Rattle.tp_slots.proofs.blocks.free_blocks.Goals as goal
 
-pub overflow_mul-len : goal.overflow_mul-len
-overflow_mul-len g c =
-    omega (arith, c.len.ensures, c.pop.new.self.ok, c.in-Some.ensures.len, c.loop-block.invariant.most, c.loop-block.blocks.ok)
-
 pub deallocate-requires : goal.deallocate-requires
 deallocate-requires g c =
     let last = last_block c.args.alloc c.loop-block.blocks.items c.pop.new.self.items c.in-Some.block c.loop-block.cells.cells

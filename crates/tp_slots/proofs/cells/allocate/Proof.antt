@@ -1,6 +1,6 @@
--- `allocate` makes a row of empty cells. Before: a `&` to the allocator. The raw call takes its token and gives room for an
--- array, and the right to free it. The room is cut into empty cells, side by side, and the right goes into the deed; if
--- memory is refused, nothing is owned but the refusal. Assumes `Logic`.
+-- `allocate` creates a row of empty cells. Before: a `&` to the allocator. The raw call takes its token and gives room for an
+-- array, and the right to free it. The room is cut into empty cells, next to each other, and the right goes into the deed; if the
+-- allocation fails, nothing is owned but the refusal. Assumes `Logic`.
 use Rattle.tp_slots.proofs.CellWords.{◌≡◌, refl, sym, ap, subst, ℕ, ◌*◌, ◌<◌, ◌^◌, arith, List, [], ◌∷◌, ◌++◌, true, false, lit<, Fn}
 use Rattle.tp_slots.proofs.CellWords.{Body, w64, ty_array, inst_fn, Val, vptr, vint, vstruct, vcons, vnil, Env, Wp, after_seq, at_return}
 use Rattle.tp_slots.proofs.CellWords.{tables, id⊢, Fml, Incl-trans, ftrue, fsep, flft, ◌⊑◌, Sq, prop, ‵, raw, ◌⊛◌, later, any_q, at_ret}
@@ -38,7 +38,7 @@ allocate_spec 𝓤 𝓛 𝓜 𝓡 wired X W LX LW g d dd met md =
     let others : Fml = fsep (flft κs.1.0 qs.1.0) (fsep (flft κs.1.1.0 qs.1.1.0) ftrue) in
     let Made : Out.Denot → Type 0 = λ r. IfOk r (λ t. (t.1.cells ≡ row_from (R E) t.0.ptr len) × (t.1.cells ≡ empty_at t.2.row)
     × (t.2.at ≡ t.0.ptr) × (t.2.len ≡ len) × (t.2.alloc ≡ heap) × InBlock t.0.ptr) in
-    -- how both cases end: the answer is owned, and the tokens are back
+    -- how both cases end: the result is owned, and the tokens are back
     let answered : (r : Out.Denot) (v : Val) → Made r
     → Sq 𝓛 (‵ (Out.own_val r (v ∷ [])) ∷ ‵ (flft κ q) ∷ ‵ others ∷ []) (prop (Post v)) = λ r v made.
     told ! (Made r) made $ move ! (2 ∷ 3 ∷ []) $ join ! $ keep ! (0 ∷ 2 ∷ 1 ∷ []) $ by ! (ends v r (tt, (tt, tt))) in
@@ -78,7 +78,7 @@ allocate_spec 𝓤 𝓛 𝓜 𝓡 wired X W LX LW g d dd met md =
     sets ! (agg ! (and_then ! (get ! refl) (and_then ! (get ! refl) (and_then ! (get ! refl) (no_more !))))) refl typed $
     sets_last ! (agg ! (and_then ! (lit ! tt) (and_then ! (get ! refl) (no_more !)))) refl ok $
     exec ! 𝓣.C 𝓣.Λ N (after 3 fn.body) (at_ret N Post) $ sets ! (of_opd ! (get ! refl)) refl ok $
-    -- the deed: where the block lies, how long it is, and the right to free it
+    -- the deed: the address of the block, its length, and the right to free it
     move ! (1 ∷ []) $ feq_i ! (List (Ptr × Option (R E).Denot)) row (empty_at (pointers_from E p len)) (row_is E p len) $
     flt_i ! (len * s) (2 ^ 63) small $ fjoin ! $ move ! (1 ∷ []) $ fjoin ! $ mark_put E ! $ fjoin ! $
     -- the owner of the cells, and the address of the first

@@ -1,6 +1,6 @@
--- `deallocate` gives a block back. Before: a `&` to the allocator, all cells of the block, each empty, and the deed, which
--- has the right to free it. The cells are joined to room for one array; the raw call takes that room and the right, and
--- gives the token back. Assumes `Logic`.
+-- `deallocate` frees a block. Before: a `&` to the allocator, all cells of the block, each empty, and the deed, which has the
+-- right to free it. The cells are joined to room for one array; the raw call takes that room and the right, and returns the
+-- token. Assumes `Logic`.
 use Rattle.tp_slots.proofs.CellWords.{◌≡◌, refl, sym, ap, subst, ◌∙◌, ℕ, ◌*◌, ◌<◌, ◌^◌, arith, List, [], ◌∷◌, ◌++◌, Fn, w64, ty_array}
 use Rattle.tp_slots.proofs.CellWords.{inst_fn, Val, vptr, vint, vunit, tables, id⊢, Fml, Incl-trans, ftrue, fsep, froom, flft, ◌⊑◌, ‵}
 use Rattle.tp_slots.proofs.CellWords.{raw, ◌⊛◌, later, given, at_ret, ◌$◌, !, by, move, keep, use1, split, join, group, rewrite, await}

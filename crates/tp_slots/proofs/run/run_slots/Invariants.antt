@@ -3,7 +3,7 @@ use Rattle.tp_slots.specs.Commands.{State, start, replies_of}
 use Rattle.tp_slots.specs.Names.{Told}
 use Rattle.tp_slots.proofs.run.run_slots.Given as goal
 
--- some state tells of the slots, and the replies so far with those to what is left are those to all
+-- the slots are in some state, and the replies so far with those to the remaining commands are those to all
 abbrev pub invariant-loop-command : goal.invariant-loop-command
 invariant-loop-command g l =
     (s : State) × Told (g.S.Slots.content l.slots) l.names s

@@ -17,7 +17,7 @@ make_item-requires g c = (
   ),
 )
 
--- ---- no room was to be had
+-- ---- an allocation failed
 pub returns-in_err-item-clause-refusal : goal.returns-in_err-item-clause-refusal
 returns-in_err-item-clause-refusal g c =
     told c.from_residual.result c.in_err-item.field-0.0 _ c.from_residual.ensures.1 (c.in_err-item.ensures.refusal
@@ -26,7 +26,7 @@ returns-in_err-item-clause-refusal g c =
 pub returns-in_err-item-clause-unchanged : goal.returns-in_err-item-clause-unchanged
 returns-in_err-item-clause-unchanged g c = on_err c.from_residual.result _ (only_grown c.requires.kept c.make_item.ensures.grown)
 
--- ---- room was made
+-- ---- room was reserved
 pub moved-requires : goal.moved-requires
 moved-requires g c = record { waiting = omega arith; ready = omega arith; running = omega arith; few = few_live c.requires.kept refl }
 

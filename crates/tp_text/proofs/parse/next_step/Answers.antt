@@ -1,9 +1,5 @@
 use Rattle.tp_text.proofs.NoLine.{no_keyword}
-use Rattle.tp_text.proofs.TraceLines.{step_found}
 use Rattle.tp_text.proofs.parse.next_step.Goals as goal
 
 pub returns-in_err-keyword_of : goal.returns-in_err-keyword_of
 returns-in_err-keyword_of c = rw c.from_residual.ensures (no_keyword c.args.version _ _ _ c.first_word.ensures c.in_err-keyword_of.ensures)
-
-pub returns : goal.returns
-returns c = step_found c.args.version _ _ _ _ c.step_behind.result c.first_word.ensures c.in_ok-keyword_of.ensures c.step_behind.ensures

@@ -1,5 +1,5 @@
 use Rattle.std.proofs.Common.{◌≡◌, ◌≤◌, ◌*◌, ◌^◌}
-use Rattle.tp_wave.specs.Sums.{total}
+use Rattle.tp_base.specs.Totals.{total}
 use Rattle.tp_text.specs.Printed.{listed}
 use Rattle.tp_text.proofs.printing.all_counts.Given as goal
 

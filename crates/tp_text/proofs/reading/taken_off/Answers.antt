@@ -1,8 +1,5 @@
-use Rattle.tp_text.proofs.Readings.{few_counted, flaw_answered, flawed_read, handed_runs, sound_read, whole_told}
+use Rattle.tp_text.proofs.Readings.{flaw_answered, flawed_read, whole_told}
 use Rattle.tp_text.proofs.reading.taken_off.Goals as goal
-
-pub steps-requires : goal.steps-requires
-steps-requires c = few_counted c.args.nodes c.requires.0 c.args.auditor.now c.args.auditor.now.flaw c.requires.1
 
 pub returns-then-is_flawed-clause-ok : goal.returns-then-is_flawed-clause-ok
 returns-then-is_flawed-clause-ok c = λ bytes lines trace knows. (
@@ -11,20 +8,7 @@ returns-then-is_flawed-clause-ok c = λ bytes lines trace knows. (
   flawed_read c.args.version bytes c.args.nodes lines c.args.auditor.now c.in_ok-steps.steps.items trace knows c.in_ok-steps.ensures,
 )
 
-pub returns-then-is_flawed-clause-runs : goal.returns-then-is_flawed-clause-runs
-returns-then-is_flawed-clause-runs c =
-    handed_runs c.args.nodes c.requires.0 c.args.auditor.now c.in_ok-steps.steps.items c.requires.1 c.in_ok-steps.ensures
-
 pub returns-then-is_flawed-clause-told : goal.returns-then-is_flawed-clause-told
 returns-then-is_flawed-clause-told c =
     whole_told c.args.version c.args.nodes c.requires.0 c.args.auditor.now c.args.auditor.now.flaw c.in_ok-steps.steps.items _ _
     c.if-is_flawed.ensures c.requires.1 c.in_ok-steps.ensures c.in_ok-complaint.ensures
-
-pub returns-clause-ok : goal.returns-clause-ok
-returns-clause-ok c = λ bytes lines trace knows.
-    sound_read c.args.version bytes c.args.nodes lines c.args.auditor.now c.in_ok-steps.steps.items
-    c.if-is_flawed.ensures trace knows c.in_ok-steps.ensures
-
-pub returns-clause-runs : goal.returns-clause-runs
-returns-clause-runs c =
-    handed_runs c.args.nodes c.requires.0 c.args.auditor.now c.in_ok-steps.steps.items c.requires.1 c.in_ok-steps.ensures

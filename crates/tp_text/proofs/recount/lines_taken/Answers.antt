@@ -1,7 +1,5 @@
-use Rattle.std.proofs.Common.{[], ◌∷◌, ◌∙◌, ap, arith}
-use Rattle.tp_text.specs.Reading.{syntax_text}
-use Rattle.tp_text.proofs.Recounting.{breaks_off, fault_format, fault_nodes, line_shorter, reads_none, reads_one, reads_trace}
-use Rattle.tp_text.proofs.Left.{some_left, none_left}
+use Rattle.std.proofs.Common.{[], ◌∷◌}
+use Rattle.tp_text.proofs.Recounting.{fault_format, fault_nodes, reads_none, reads_one}
 use Rattle.tp_text.proofs.recount.lines_taken.Goals as goal
 
 pub returns-in_default-clause-ok : goal.returns-in_default-clause-ok
@@ -23,28 +21,3 @@ loop-rest-preserved c =
       c.in_ok-take.ensures.ok c.in-Some.version _ c.loop-rest.invariant.0 c.loop-rest.invariant.2 c.in-Some-next_line.ensures.0
           reads.number_is,
     )
-
-pub loop-rest-smaller : goal.loop-rest-smaller
-loop-rest-smaller c = line_shorter c.in-Some.version c.in-Some-next_line.line _ _ c.in-Some-next_line.ensures.1
-
-pub overflow_add-number : goal.overflow_add-number
-overflow_add-number c = omega (arith, c.loop-rest.invariant.1.short)
-
-pub returns-in_default-next_line-clause-ok : goal.returns-in_default-next_line-clause-ok
-returns-in_default-next_line-clause-ok c =
-    let reads = c.loop-rest.invariant.1 in (
-      c.in-Some.version,
-      c.loop-rest.invariant.0,
-      _,
-      breaks_off c.in-Some.version _ _ _ _ _ reads (some_left c.loop-rest.rest.now c.loop-rest-test.ensures) c.in_default-next_line.ensures,
-      c.loop-rest.invariant.2,
-      c.in_ok-complaint.ensures ∙ ap syntax_text reads.number_is,
-    )
-
-pub returns-clause-ok : goal.returns-clause-ok
-returns-clause-ok c = (
-  c.loop-rest.invariant.0,
-  reads_trace c.in-Some.version _ _ c.loop-rest.invariant.0 _ _ c.loop-rest.invariant.1
-      (none_left c.loop-rest.rest.now c.loop-rest-test.ensures),
-  c.loop-rest.invariant.2,
-)

@@ -3,7 +3,7 @@ use Rattle.std.proofs.lemmas.Grind.{common_steps}
 use Rattle.tp_core.specs.Accepted.{Accepted}
 use Rattle.tp_text.specs.SimText.{fresh}
 use Rattle.tp_text.specs.Spelling.{line}
-use Rattle.tp_text.proofs.Taking.{fault_nodes, takes_none, takes_one, takes_all, takes_fault, nodes_kept, shorter, early}
+use Rattle.tp_text.proofs.Taking.{fault_nodes, takes_none, takes_one, takes_all, takes_fault, nodes_kept}
 use Rattle.tp_text.proofs.Left.{some_left, none_left}
 use Rattle.tp_text.proofs.simulation.answered.Goals as goal
 
@@ -12,9 +12,6 @@ returns-in_default-clause-ok c =
     fault_nodes c.script_head-version.result.0 c.args.text.now c.script_head-version.result.1.now _ c.script_head-version.ensures.text
     c.script_head-version.ensures.two c.in_default.ensures
     (c.in_ok-syntax_line.ensures ∙ ap (λ k. line (codes "syntax line " ++ decimal k)) c.nodes_at.ensures)
-
-pub returns-then-eq-clause-ok : goal.returns-then-eq-clause-ok
-returns-then-eq-clause-ok c = tt
 
 pub loop-rest-init : goal.loop-rest-init
 loop-rest-init c = (
@@ -30,15 +27,6 @@ loop-rest-preserved c =
       takes_one c.script_head-version.result.0 _ _ c.loop-rest.invariant.0 _ _ _ _ c.in-Some-next_step.step _ _ _ _
           c.loop-rest.invariant.1 c.in-Some-next_step.ensures ample.0 ample.1 c.in_ok-push_answer.ensures,
     )
-
-pub loop-rest-smaller : goal.loop-rest-smaller
-loop-rest-smaller c = shorter c.script_head-version.result.0 c.in-Some-next_step.step _ _ c.in-Some-next_step.ensures.1
-
-pub overflow_add-number : goal.overflow_add-number
-overflow_add-number c = omega (arith, c.nodes_at-number.ensures, early c.script_head-version.result.0)
-
-pub overflow_add-number-in-loop-rest : goal.overflow_add-number-in-loop-rest
-overflow_add-number-in-loop-rest c = omega (arith, c.loop-rest.invariant.1.short)
 
 pub push_closing-requires : goal.push_closing-requires
 push_closing-requires c =

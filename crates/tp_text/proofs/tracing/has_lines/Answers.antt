@@ -1,12 +1,6 @@
-use Rattle.std.proofs.Common.{◌∙◌, refl, subst, sym, rules}
-use Rattle.std.specs.List.{All}
-use Rattle.tp_wave.specs.Machine.{steps_of}
-use Rattle.tp_text.specs.Spelling.{IsSpelled}
-use Rattle.tp_text.proofs.Following.{oldest_all, spelled_next, spelled_none, spelled_there}
+use Rattle.std.proofs.Common.{◌∙◌, refl, sym, rules}
+use Rattle.tp_text.proofs.Following.{spelled_next, spelled_there}
 use Rattle.tp_text.proofs.tracing.has_lines.Goals as goal
-
-pub loop-place-init : goal.loop-place-init
-loop-place-init c = spelled_none c.args.version c.args.history.now.events
 
 pub loop-place-preserved : goal.loop-place-preserved
 loop-place-preserved c =
@@ -27,12 +21,4 @@ returns-then-not-has_line c = (
         c.in-Some.step,
       ) (search rules) (sym c.at.ensures ∙ c.in-Some.is) all) in
       search (rules, is_yes),
-)
-
-pub returns : goal.returns
-returns c = (
-  λ _. subst (λ x.
-      All (IsSpelled c.args.version) (steps_of x)) (oldest_all c.args.history.now.events c.loop-place.place (search rules))
-      c.loop-place.invariant,
-  λ _. refl,
 )

@@ -1,15 +1,7 @@
-use Rattle.std.proofs.Common.{◌∙◌, ap, sym, rules}
+use Rattle.std.proofs.Common.{◌∙◌, sym, rules}
 use Rattle.tp_wave.specs.Machine.{steps_of}
-use Rattle.tp_text.specs.Trace.{trace}
-use Rattle.tp_text.specs.TraceOf.{lines_of}
-use Rattle.tp_text.proofs.Following.{begun, followed_next, followed_none, oldest, oldest_all, may_follow_next, traced_next}
+use Rattle.tp_text.proofs.Following.{followed_next, oldest, may_follow_next, traced_next}
 use Rattle.tp_text.proofs.tracing.traced.Goals as goal
-
-pub loop-index-init : goal.loop-index-init
-loop-index-init c = record {
-  followed = followed_none c.args.nodes c.args.history.now.events c.new-tracer.result c.new-tracer.ensures;
-  written = begun c.args.version c.args.nodes c.args.history.now.events _ _ c.new-out.ensures.items c.in_ok-push_head.ensures;
-}
 
 pub line-requires : goal.line-requires
 line-requires c = (
@@ -36,9 +28,3 @@ loop-index-preserved c =
           (c.line.ensures.told c.args.nodes (steps_of (oldest k h)) c.loop-index.invariant.followed may) c.loop-index.invariant.written
           c.in_ok-push_line.ensures;
     }
-
-pub returns : goal.returns
-returns c =
-    c.loop-index.invariant.written
-    ∙ ap (λ x. trace c.args.version c.args.nodes (lines_of c.args.nodes (steps_of x)))
-    (oldest_all c.args.history.now.events c.loop-index.index (search rules))

@@ -5,7 +5,7 @@ use Rattle.pool_samples.specs.Products.{product_graph, tile, added}
 use Rattle.pool_samples.proofs.Sums.{tile_added, one_item}
 use Rattle.pool_samples.proofs.product.ProductGraph.body.Goals as goal
 
--- what the rule makes of the one input is the sum of the two lists that the call is passed
+-- the result of the rule on one input is the sum of the two lists that the call gets
 by_sums : (tiles side seed t : ℕ) (inputs : List (List ℤ)) (input made left right : List ℤ) → inputs ≡ input ∷ []
     → made ≡ tile side seed (t / tiles / tiles) (t / tiles % tiles) (t % tiles) →
     left ≡ input → right ≡ made → outcome (product_graph tiles side seed) t inputs ≡ added left right

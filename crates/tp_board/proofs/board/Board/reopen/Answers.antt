@@ -12,7 +12,7 @@ use Rattle.tp_wave.specs.Sums.{is_ended}
 use Rattle.tp_wave.specs.Wave.{Follows}
 use Rattle.tp_board.proofs.board.Board.reopen.Goals as goal
 
--- a list that was lent and came back unchanged
+-- a list that was borrowed and came back unchanged
 written_back : (n : ℕ) (new old : List ShareNumbers) → n ≡ length old → new ≡ old → take n (new ++ drop (length new) old) ≡ old
 written_back n new old is same = rw (same, is) (take-append_seam old (drop (length old) old))
 

@@ -1,5 +1,5 @@
-use Rattle.tp_core.proofs.Words.{arith, refl, ◌∙◌, err_from_is_err_and, ActionClose, Named, present, MayCome, IsLawful, accepted}
-use Rattle.tp_core.proofs.Lemmas.{places_next, agree_next, numbers_written, MayClose, may_close, named_closed, taken, no_room}
+use Rattle.tp_core.proofs.Words.{arith, refl, ◌∙◌, ActionClose, Named, present, MayCome, IsLawful, accepted}
+use Rattle.tp_core.proofs.Lemmas.{places_next, agree_next, numbers_written, MayClose, may_close, named_closed}
 use Rattle.tp_core.proofs.accepting.Core.close.Goals as goal
 use Rattle.tp_core.proofs.accepting.Core.close.Goals.{After-make_room}
 
@@ -32,16 +32,3 @@ invariant_of-self-2 c =
     (λ i. c.without.ensures i ∙ rw (← c.in-Some.ensures) refl))
     agree.messages
     (places_next s agree.places (λ k h. h) c.set.ensures.keeps (λ k h. h) (λ k h. cc) (λ k h. cc) (λ k h. cc))
-
-pub returns-in_err-make_room : goal.returns-in_err-make_room
-returns-in_err-make_room c =
-    let p = err_from_is_err_and c.from_residual.result c.from_residual.ensures.1 in
-    rw (p.1, p.2)
-    (no_room (ActionClose c.args.node c.args.action) c.self.invariant c.self.view_is
-    (comes (goal.at.returns-in_err-make_room c).After-make_room) _ c.in_err-make_room.ensures.err
-    c.make_room.ensures.items)
-
-pub returns : goal.returns
-returns c =
-    taken (ActionClose c.args.node c.args.action) c.self.invariant c.self.view_is (comes (goal.at.returns c).After-make_room)
-    (c.in_ok-make_room.ensures.ok).0 c.make_room.ensures.items c.push_reserved.ensures.items refl

@@ -1,5 +1,5 @@
 use Rattle.tp_core.proofs.Words.{arith, refl, err_from_is_err_and, Ready, Opening, present, MayCome, IsLawful, accepted}
-use Rattle.tp_core.proofs.Lemmas.{places_next, agree_next, numbers_written, MayClose, may_close, opening_closed, taken, no_room}
+use Rattle.tp_core.proofs.Lemmas.{places_next, agree_next, numbers_written, MayClose, may_close, opening_closed, no_room}
 use Rattle.tp_core.proofs.accepting.Core.ready.Goals as goal
 use Rattle.tp_core.proofs.accepting.Core.ready.Goals.{After-make_room}
 
@@ -37,8 +37,3 @@ returns-in_err-make_room c =
     (no_room (Ready c.args.node) c.self.invariant c.self.view_is (comes (goal.at.returns-in_err-make_room c).After-make_room) _
     c.in_err-make_room.ensures.err
     c.make_room.ensures.items)
-
-pub returns : goal.returns
-returns c =
-    taken (Ready c.args.node) c.self.invariant c.self.view_is (comes (goal.at.returns c).After-make_room) (c.in_ok-make_room.ensures.ok).0
-    c.make_room.ensures.items c.push_reserved.ensures.items refl

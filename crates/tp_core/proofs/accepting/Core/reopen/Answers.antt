@@ -1,6 +1,6 @@
-use Rattle.tp_core.proofs.Words.{◌≡◌, true, refl, ap, sym, ◌+◌, ◌∙◌, arith, IsTrue, nat_tests, err_from_is_err_and, Reopen, is_reopen}
+use Rattle.tp_core.proofs.Words.{◌≡◌, true, refl, ap, sym, ◌+◌, ◌∙◌, arith, IsTrue, nat_tests, Reopen, is_reopen}
 use Rattle.tp_core.proofs.Words.{is_ended, present, MayCome, accepted, Opened}
-use Rattle.tp_core.proofs.Lemmas.{count_bound, reopened_kept, taken, no_room}
+use Rattle.tp_core.proofs.Lemmas.{count_bound, reopened_kept, taken}
 use Rattle.tp_core.proofs.accepting.Core.reopen.Goals as goal
 use Rattle.tp_core.proofs.accepting.Core.reopen.Goals.{After-make_room}
 
@@ -12,14 +12,6 @@ ended c =
 
 comes : (c : After-make_room) → MayCome c.self.inside.nodes (accepted c.self.inside).steps Reopen
 comes c = record { reopens = λ f. ended c; goes_on = λ f. cc }
-
-pub returns-in_err-make_room : goal.returns-in_err-make_room
-returns-in_err-make_room c =
-    let p = err_from_is_err_and c.from_residual.result c.from_residual.ensures.1 in
-    rw (p.1, p.2)
-    (no_room Reopen c.self.invariant c.self.view_is (comes (goal.at.returns-in_err-make_room c).After-make_room) _
-    c.in_err-make_room.ensures.err
-    c.make_room.ensures.items)
 
 pub overflow_add-self : goal.overflow_add-self
 overflow_add-self c =

@@ -2,9 +2,6 @@ use Rattle.tp_core.proofs.Words.{subst, Accepted, IsNeverEarly, accepted, InEach
 use Rattle.tp_core.proofs.Lemmas.{never_early_in_each}
 use Rattle.tp_core.proofs.accepting.Core.settle.Goals as goal
 
-pub returns-clause-answers : goal.returns-clause-answers
-returns-clause-answers c = c.take_steps-settled.ensures
-
 pub returns-clause-never_early : goal.returns-clause-never_early
 returns-clause-never_early c =
     subst (λ (a : Accepted). InEach (IsNeverEarly a.nodes) a.steps) c.self.view_is

@@ -12,7 +12,7 @@ take_due-requires-clause-room c =
 pub returns-in-Some-clause-taken : goal.returns-in-Some-clause-taken
 returns-in-Some-clause-taken c =
     let g = c.loop-ended.invariant.goes_on in
-    ends c.requires.settling g (rw (g.settling.follows.stands.nodes, c.in-Some.is) at c.take_due.ensures.taken)
+    ends c.requires.settling g (rw (g.settling.waves.follows.stands.nodes, c.in-Some.is) at c.take_due.ensures.taken)
 
 pub loop-ended-smaller : goal.loop-ended-smaller
 loop-ended-smaller c =
@@ -24,6 +24,6 @@ loop-ended-preserved c =
     let none : c.take_due.result ≡ None = grind (arith, common_steps) in
     record {
       goes_on = goes_further c.requires.settling (rw (length-reverse c.args.steps.now.items) c.requires.few) g
-          (rw (g.settling.follows.stands.nodes, none) at c.take_due.ensures.taken);
+          (rw (g.settling.waves.follows.stands.nodes, none) at c.take_due.ensures.taken);
       room = c.take_due.ensures.capacity ∙ c.loop-ended.invariant.room;
     }

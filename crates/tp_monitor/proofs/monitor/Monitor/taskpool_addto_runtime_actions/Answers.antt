@@ -1,4 +1,3 @@
-use Rattle.std.proofs.Common.{rules}
 use Rattle.std.proofs.Common.{[], ◌∷◌}
 use Rattle.std.proofs.lemmas.Int.{to_z-of_z}
 use Rattle.std.proofs.lemmas.Result.{err_from_is_err_and}
@@ -18,9 +17,3 @@ returns-in_err-check_change-clause-refused c =
     let rest = (falls_below (m.numbers.actions - m.numbers.opening) c.args.delta, NoAction)
     ∷ (passes MAX_ACTIONS m.numbers.actions c.args.delta, HistoryFull MAX_ACTIONS) ∷ [] in
     rw (p.1, p.2) (first_refusal-append (change_checks m c.args.pool c.args.delta) rest _ first)
-
-pub invariant_of-self : goal.invariant_of-self
-invariant_of-self c = search rules
-
-pub returns-clause-refused : goal.returns-clause-refused
-returns-clause-refused c = search rules

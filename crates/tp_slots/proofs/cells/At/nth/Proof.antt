@@ -1,5 +1,5 @@
--- `nth` moves an address along a row of cells. Before: the address, which owns nothing; it lies in a block, and the way to
--- the cell wanted fits a word. So the machine's sum of the two is defined, and it is the new address. Assumes `Logic`.
+-- `nth` moves an address along a row of cells. Before: the address, which owns nothing; it is in a block, and the distance to the
+-- cell fits a word. So the machine's sum of the two is defined, and it is the new address. Assumes `Logic`.
 use Rattle.tp_slots.proofs.CellWords.{◌≡◌, refl, sym, ap, ◌∙◌, ℕ, ◌+◌, ◌*◌, ◌<◌, ◌^◌, arith, [], ◌∷◌, ◌++◌, Fn, w64, inst_fn, vint}
 use Rattle.tp_slots.proofs.CellWords.{tables, id⊢, fact, ◌⊑◌, ‵, raw, ◌⊛◌, at_ret, ◌$◌, !, by, keep, use1, split, split3, rewrite, whole}
 use Rattle.tp_slots.proofs.CellWords.{sub, agg, stop, fld, bin, size_lit, of_opd, and_then, no_more, first, blocks, exec, returns}

@@ -1,4 +1,4 @@
--- `new` makes the owner of no cells. Before: nothing. Owning no cells takes nothing, so the owner is made. Assumes `Logic`.
+-- `new` creates the owner of no cells. Before: nothing. Owning no cells takes nothing, so the owner is created. Assumes `Logic`.
 use Rattle.tp_slots.proofs.CellWords.{◌≡◌, refl, [], ◌∷◌, Fn, inst_fn, tables, ◌$◌, !, by, keep, agg, and_then, no_more, returns}
 use Rattle.tp_slots.proofs.CellWords.{alloc_all, pass_all, free_all, look_at, get, sets, nothing, El, args}
 use Rattle.tp_slots.proofs.CellsMemory.{Cr, mark}

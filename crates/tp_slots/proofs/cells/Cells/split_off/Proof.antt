@@ -1,5 +1,5 @@
--- `split_off` gives up the later cells. Before: the borrow of the cells. No memory is touched: the list is owned, so both
--- its parts are; the borrow is closed at the first, and a new owner is made of the second. Assumes `Logic`.
+-- `split_off` gives up the later cells. Before: the borrow of the cells. No memory is touched: the list is owned, so both its
+-- parts are; the borrow is closed at the first, and a new owner is created from the second. Assumes `Logic`.
 use Rattle.tp_slots.proofs.CellWords.{◌≡◌, refl, [], ◌∷◌, ◌++◌, take, drop, Fn, w64, inst_fn, vptr, vint, tables, ‵, ◌⊛◌, ◌$◌, ! }
 use Rattle.tp_slots.proofs.CellWords.{by, move, keep, use1, split, agg, and_then, no_more, returns, alloc_all, pass_all, free_all}
 use Rattle.tp_slots.proofs.CellWords.{look_at, get, sets, usize, plain, El, R, args, cells_own, with_cells}

@@ -1,5 +1,5 @@
-use Rattle.std.proofs.Common.{ap, sym, ◌∙◌}
-use Rattle.tp_slots.specs.Content.{front, without_next}
+use Rattle.std.proofs.Common.{ap, ◌∙◌}
+use Rattle.tp_slots.specs.Content.{without_next}
 use Rattle.tp_slots.proofs.Sound.{IsIdle-front}
 use Rattle.tp_slots.proofs.Keeping.{opened, settled, content_is}
 use Rattle.tp_slots.proofs.Moves.{popped}
@@ -11,10 +11,6 @@ invariant_of-self g c = settled (popped (opened c.self.invariant) _ (c.pop_from.
 pub invariant_of-self-2 : goal.invariant_of-self-2
 invariant_of-self-2 g c = settled (popped (opened c.self.invariant) _ (c.pop_from.ensures.lists _ c.self.invariant.linked.ready_lists))
 
-pub returns-in-Some-clause-next : goal.returns-in-Some-clause-next
-returns-in-Some-clause-next g c =
-    sym (c.in-Some.ensures.next _ c.self.invariant.linked.ready_lists) ∙ ap (λ s. front s.content.ready) c.self.view_is
-
 pub returns-in-Some-clause-content : goal.returns-in-Some-clause-content
 returns-in-Some-clause-content g c =
     content_is _ _ _ (c.pop_from.ensures.lists _ c.self.invariant.linked.ready_lists) ∙ ap (λ s. without_next s.content) c.self.view_is
@@ -23,10 +19,6 @@ pub returns-in-Some-clause-idle : goal.returns-in-Some-clause-idle
 returns-in-Some-clause-idle g c =
     rw (content_is _ _ _ (c.pop_from.ensures.lists _ c.self.invariant.linked.ready_lists))
     (IsIdle-front _ _ c.self.invariant.linked.sound (c.in-Some.ensures.next _ c.self.invariant.linked.ready_lists))
-
-pub returns-clause-next : goal.returns-clause-next
-returns-clause-next g c =
-    sym (c.in-None.ensures.next _ c.self.invariant.linked.ready_lists) ∙ ap (λ s. front s.content.ready) c.self.view_is
 
 pub returns-clause-content : goal.returns-clause-content
 returns-clause-content g c =

@@ -1,7 +1,7 @@
 use Rattle.std.proofs.Common.{◌≡◌, false}
 use Rattle.tp_slots.specs.Names.{name_at}
 use Rattle.tp_slots.specs.declared.run.Standing.TheVariants.{Held}
-use Rattle.tp_slots.proofs.Naming.{idle_at, pushed, known, has_item, PushReady_reply, PushReady_refused}
+use Rattle.tp_slots.proofs.Naming.{idle_at, pushed, known, has_item, PushReady_reply}
 use Rattle.tp_slots.proofs.run.Names.push_ready.Goals as goal
 
 pub push_ready-requires-clause-idle : goal.push_ready-requires-clause-idle
@@ -21,11 +21,3 @@ returns-else-class-ge-CLASSES g c s t =
         ← reply.1,
       ) (pushed _ _ _ s t c.args.k c.in-Held-default-false.place c.args.class name c.if-class-ge-CLASSES.false),
     )
-
-pub returns-then-class-ge-CLASSES : goal.returns-then-class-ge-CLASSES
-returns-then-class-ge-CLASSES g c s t =
-    let name : name_at c.args.self.now.standings.items c.args.k ≡ Held c.in-Held-default-false.place false = cc in
-    let item = has_item _ _ _ s t c.args.k c.in-Held-default-false.place false name in
-    let is = known _ _ _ s t c.args.k c.in-Held-default-false.place item.0 false name item.1 in
-    let reply = PushReady_refused s c.args.k c.args.class item.0 is.0 is.1 c.if-class-ge-CLASSES.true in
-    (reply.0, rw (← reply.1) t)

@@ -1,4 +1,4 @@
-use Rattle.std.proofs.Common.{ap, sym, ◌∙◌, arith}
+use Rattle.std.proofs.Common.{ap, sym, ◌∙◌}
 use Rattle.tp_slots.specs.Content.{item_at, without_item}
 use Rattle.tp_slots.proofs.SlabItems.{get-items_of}
 use Rattle.tp_slots.proofs.Kept.{has_key, IsKept-removed, without_items}
@@ -20,6 +20,3 @@ pub returns-clause-content : goal.returns-clause-content
 returns-clause-content g c =
     without_items c.self.inside.items _ _ c.args.place c.remove.ensures.updates
     ∙ ap (λ s. without_item s.content c.args.place) c.self.view_is
-
-pub returns-clause-room : goal.returns-clause-room
-returns-clause-room g c = omega (arith, ap (λ s. s.room) c.self.view_is)

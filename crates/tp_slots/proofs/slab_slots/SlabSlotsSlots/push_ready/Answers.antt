@@ -1,7 +1,6 @@
-use Rattle.std.proofs.Common.{ap, ◌∙◌, arith}
+use Rattle.std.proofs.Common.{arith}
 use Rattle.std.proofs.lemmas.List.{length-map}
-use Rattle.tp_slots.specs.Content.{with_ready}
-use Rattle.tp_slots.proofs.Kept.{has_room, with_places, IsKept-pushed}
+use Rattle.tp_slots.proofs.Kept.{has_room, IsKept-pushed}
 use Rattle.tp_slots.proofs.slab_slots.SlabSlotsSlots.push_ready.Goals as goal
 
 pub push_to-requires-clause-room : goal.push_to-requires-clause-room
@@ -15,8 +14,3 @@ invariant_of-self g c =
     IsKept-pushed c.self.inside.items c.self.inside.ready c.push_to.new.queues c.self.inside.room c.args.class c.args.place
     c.self.invariant (rw (← c.self.view_is) at c.requires.idle) c.requires.class_in_range c.push_to.ensures.places
     (c.push_to.ensures.capacity _ c.self.invariant.lists)
-
-pub returns-clause-content : goal.returns-clause-content
-returns-clause-content g c =
-    with_places c.self.inside.items c.self.inside.ready c.push_to.new.queues _ c.push_to.ensures.places
-    ∙ ap (λ s. with_ready s.content c.args.class c.args.place) c.self.view_is

@@ -1,5 +1,5 @@
 use Rattle.std.proofs.Common.{arith}
-use Rattle.tp_slots.proofs.Kept.{held, is_full, is_not_full, told, IsKept-reserved}
+use Rattle.tp_slots.proofs.Kept.{held, is_full, is_not_full, told}
 use Rattle.tp_slots.proofs.slab_slots.SlabSlotsSlots.reserve.Goals as goal
 
 pub returns-then-self-gt0-clause-not_full : goal.returns-then-self-gt0-clause-not_full
@@ -25,19 +25,3 @@ returns-in_err-reserve-clause-refusal g c =
 pub returns-clause-not_full : goal.returns-clause-not_full
 returns-clause-not_full g c =
     omega (arith, c.len-count.ensures, held c.self.inside.items c.self.inside.ready _ c.self.view_is, c.self.invariant.within)
-
-pub returns-then-self-gt0-clause-room : goal.returns-then-self-gt0-clause-room
-returns-then-self-gt0-clause-room g c = rw (← c.self.view_is) c.if-self-gt0.true
-
-pub invariant_of-self-2 : goal.invariant_of-self-2
-invariant_of-self-2 g c =
-    IsKept-reserved c.self.inside.items c.reserve.new.self c.self.inside.ready c.reserve_each.new.queues c.self.inside.room
-    c.min-more.result c.self.invariant c.reserve.ensures.rest_kept c.reserve_each.ensures.places c.in_ok-reserve.ensures.room
-    (λ k d h. omega (arith, c.in_ok-reserve_each.ensures.ok k d h, c.len-count.ensures))
-    (omega (arith, c.len-count.ensures, c.self.invariant.within))
-
-pub returns-clause-room : goal.returns-clause-room
-returns-clause-room g c = omega (arith, c.len-count.ensures, c.self.invariant.within)
-
-pub returns-then-self-gt0-clause-keeps : goal.returns-then-self-gt0-clause-keeps
-returns-then-self-gt0-clause-keeps g c = omega arith

@@ -37,7 +37,7 @@ begin_at-inputs-requires g c =
 pub moved-requires : goal.moved-requires
 moved-requires g c = some_ready c.self.invariant c.self.view_is c.in-Some.place c.in-Some.ensures.next
 
--- what the store is once it runs
+-- the store once it runs
 begun_now : (g : given.Over) (c : goal.After-moved g)
     → Leaves (record {
       places = g.S.Slots.content c.begin_at-inputs.new.slots;

@@ -85,7 +85,7 @@ supply-requires g c =
     c.requires.slot_in_range in
     record { fits = search rules; idle = can.0; waiting = can.1; slot_in_range = can.2; free = can.3; counted = can.4 }
 
--- what the store is with the value
+-- the store with the value
 supplied_now : (g : given.Over) (c : goal.After-supply g)
     → (refusal_of_deliver c.args.self.now c.args.task c.args.arity c.args.slot ≡ None)
     × (Filled ≡ delivered_to c.args.self.now c.args.task c.args.arity)

@@ -14,7 +14,7 @@ insert_fresh-requires g c = record {
   kept = c.self.invariant;
 }
 
--- ---- no room was to be had
+-- ---- an allocation failed
 pub invariant_of-self : goal.invariant_of-self
 invariant_of-self g c = c.in-Err.ensures.unchanged.kept
 

@@ -78,7 +78,7 @@ moved-requires g c =
     let runs = sym c.life.ensures ∙ c.in-Running.is in
     (can_finish c.self.invariant c.self.view_is c.args.task c.get-item.result.now c.in-Some-Live.place stands c.get-item.ensures runs).3
 
--- what the store is with the task done
+-- the store with the task done
 done_now : (g : given.Over) (c : goal.After-moved g)
     → (0 < unfinished c.args.self.now) × Leaves
     (record {

@@ -1,0 +1,80 @@
+// exceptions.cpp: what becomes of exceptions and refusals in gerfmuod.hpp, and a graph on two nodes with its trace.
+#include "gerfmuod.hpp"
+
+#include <cstdio>
+#include <memory>
+#include <numeric>
+
+// A sum of squares by ten tasks on two nodes, and one that adds their parts up. Bodies may own what they work on.
+static bool sums() {
+    std::vector<long> parts(10);
+    long total = 0;
+    gerfmuod::Pool pool(2);
+    std::vector<gerfmuod::Task> squares;
+    for (std::uint32_t k = 0; k < 10; k++) {
+        auto number = std::make_shared<long>(k + 1);
+        squares.push_back(pool.task([&parts, k, number] { parts[k] = *number * *number; }, {}, {k % 2, k % 4}));
+    }
+    pool.task([&] { total = std::accumulate(parts.begin(), parts.end(), 0L); }, squares);
+    pool.run(4);
+    return total == 385 && pool.size() == 11 && pool.trace().rfind("trace 1\nnodes 2\n", 0) == 0;
+}
+
+// A body throws: run() throws the same exception, and what waits for that task never runs.
+static bool stops() {
+    gerfmuod::Pool pool;
+    bool ran = false;
+    auto a = pool.task([] { throw std::domain_error("no root"); });
+    pool.task([&] { ran = true; }, {a});
+    try {
+        pool.run(2);
+    } catch (const std::domain_error &error) {
+        return !ran && std::string(error.what()) == "no root";
+    }
+    return false;
+}
+
+// What a call that has to be refused says.
+template <typename Call> static std::string refusal(Call call) {
+    try {
+        call();
+    } catch (const gerfmuod::Refused &refused) {
+        return refused.what();
+    }
+    return "";
+}
+
+static bool refuses() {
+    std::string no_thread = refusal([] {
+        gerfmuod::Pool pool(2);
+        pool.task([] {});
+        pool.task([] {}, {}, {1, 0});
+        pool.run(1);
+    });
+    std::string no_pool = refusal([] { gerfmuod::Pool pool(9); });
+    std::string no_task = refusal([] {
+        gerfmuod::Pool pool;
+        pool.task([] {}, {gerfmuod::Task{0}});
+    });
+    std::string again = refusal([] {
+        gerfmuod::Pool pool;
+        pool.run(1);
+        pool.run(1);
+    });
+    std::string inside = refusal([] {
+        gerfmuod::Pool pool;
+        pool.task([&] { pool.task([] {}); });
+        pool.run(2);
+    });
+    std::printf("%s\n%s\n%s\n%s\n%s\n", no_thread.c_str(), no_pool.c_str(), no_task.c_str(), again.c_str(),
+                inside.c_str());
+    return no_thread.rfind("NoThread at task 1:", 0) == 0 && no_pool.rfind("BadSpec:", 0) == 0 &&
+           no_task.rfind("NoTask at task 0:", 0) == 0 && again.rfind("Ended:", 0) == 0 &&
+           inside.rfind("WrongLife at task 1:", 0) == 0;
+}
+
+int main() {
+    bool well = sums() && stops() && refuses();
+    std::printf("%s\n", well ? "as it should be" : "not as it should be");
+    return well ? 0 : 1;
+}

@@ -1,0 +1,206 @@
+/* failures.c: a pool and a team when an allocation fails, or a thread cannot be started. For each N, the Nth allocation of the
+ * same run fails: the call is refused as NO_MEMORY. A description and a start are then repeated, and succeed; after another
+ * call the pool is closed. Then the memory of a large pool is measured. Prints what is not so; the exit status is 1 if there is
+ * something.
+ *
+ * Link with -Wl,--wrap=malloc,--wrap=calloc,--wrap=realloc,--wrap=free,--wrap=pthread_create. */
+#define _GNU_SOURCE
+#include "gerfmuod_team.h"
+#include <malloc.h>
+#include <pthread.h>
+#include <stdbool.h>
+#include <stdio.h>
+#include <stdlib.h>
+
+void *__real_malloc(size_t);
+void *__real_calloc(size_t, size_t);
+void *__real_realloc(void *, size_t);
+void __real_free(void *);
+int __real_pthread_create(pthread_t *, const pthread_attr_t *, void *(*)(void *), void *);
+void *__wrap_malloc(size_t);
+void *__wrap_calloc(size_t, size_t);
+void *__wrap_realloc(void *, size_t);
+void __wrap_free(void *);
+int __wrap_pthread_create(pthread_t *, const pthread_attr_t *, void *(*)(void *), void *);
+
+static long allocations_left = -1, threads_left = -1; /* until one fails; negative: none does */
+static size_t allocated;                              /* bytes, in all threads */
+static int checked, failed;
+
+static bool fails(long *left) {
+    if (*left > 0) --*left;
+    if (*left != 0) return false;
+    *left = -1;
+    return true;
+}
+static void *counted(void *block) {
+    __atomic_fetch_add(&allocated, block ? malloc_usable_size(block) : 0, __ATOMIC_RELAXED);
+    return block;
+}
+static void *uncounted(void *block) {
+    __atomic_fetch_sub(&allocated, block ? malloc_usable_size(block) : 0, __ATOMIC_RELAXED);
+    return block;
+}
+void *__wrap_malloc(size_t size) { return fails(&allocations_left) ? NULL : counted(__real_malloc(size)); }
+void *__wrap_calloc(size_t count, size_t size) { return fails(&allocations_left) ? NULL : counted(__real_calloc(count, size)); }
+void *__wrap_realloc(void *old, size_t size) {
+    if (fails(&allocations_left)) return NULL;
+    void *block = __real_realloc(uncounted(old), size);
+    if (!block) counted(old);
+    return counted(block);
+}
+void __wrap_free(void *block) { __real_free(uncounted(block)); }
+int __wrap_pthread_create(pthread_t *thread, const pthread_attr_t *attributes, void *(*body)(void *), void *argument) {
+    return fails(&threads_left) ? 11 : __real_pthread_create(thread, attributes, body, argument);
+}
+
+static void check(const char *what, bool holds) {
+    checked++;
+    if (holds) return;
+    failed++;
+    printf("%s\n", what);
+}
+
+enum { TASKS = 3000 }; /* a wave over two nodes: task t waits for t - 1 and t - 2 */
+
+/* A call that is repeated if it was refused for want of memory. Returns what it told, and counts the refusals. */
+static uint32_t refused_calls;
+static gerfmuod_dag_answer needed(gerfmuod_dag_answer first, gerfmuod_dag_answer (*again)(gerfmuod_dag *, uint32_t), gerfmuod_dag *dag,
+                                  uint32_t number) {
+    if (first.refused != GERFMUOD_DAG_NO_MEMORY) return first;
+    refused_calls++;
+    return again(dag, number);
+}
+static gerfmuod_dag_answer task_again(gerfmuod_dag *dag, uint32_t node) { return gerfmuod_dag_task(dag, node, 0); }
+static gerfmuod_dag_answer start_again(gerfmuod_dag *dag, uint32_t number) {
+    (void)number;
+    return gerfmuod_dag_start(dag);
+}
+
+static bool describe(gerfmuod_dag *dag) {
+    bool is_well = true;
+    for (uint32_t t = 0; t < TASKS; t++) {
+        is_well &= needed(gerfmuod_dag_task(dag, t % 2, 0), task_again, dag, t % 2).number == t;
+        for (uint32_t back = 1; back <= 2 && back <= t; back++)
+            is_well &= !needed(gerfmuod_dag_input(dag, t - back), gerfmuod_dag_input, dag, t - back).refused;
+    }
+    return is_well && !needed(gerfmuod_dag_start(dag), start_again, dag, 0).refused;
+}
+
+/* Whether the pool runs to its end, or to a call that was refused memory. */
+static bool runs(gerfmuod_dag *dag) {
+    for (uint32_t ran = 0, node = 0, waits = 0; waits < 3; node = 1 - node) {
+        gerfmuod_dag_answer answer = gerfmuod_dag_next(dag, node);
+        if (answer.refused) return refused_calls++, answer.refused == GERFMUOD_DAG_NO_MEMORY;
+        if (answer.told == GERFMUOD_DAG_OVER) return ran == TASKS;
+        waits = answer.told == GERFMUOD_DAG_WAIT ? waits + 1 : 0;
+        if (answer.told == GERFMUOD_DAG_WAIT) continue;
+        if (answer.number != ran++) return false;
+        uint32_t refused = gerfmuod_dag_done(dag, node, answer.number).refused;
+        if (refused) return refused_calls++, refused == GERFMUOD_DAG_NO_MEMORY;
+    }
+    return false;
+}
+
+static void check_pool(void) {
+    for (long n = 1;; n++) {
+        gerfmuod_dag dag;
+        gerfmuod_dag_open(&dag, 2);
+        refused_calls = 0;
+        allocations_left = n;
+        bool is_well = describe(&dag) && runs(&dag), has_failed = allocations_left < 0;
+        allocations_left = -1;
+        gerfmuod_dag_close(&dag);
+        check("a pool whose allocation failed", is_well);
+        check("the failure was reported", refused_calls == (has_failed ? 1 : 0));
+        if (!has_failed) return;
+    }
+}
+
+static int body(void *context, uint32_t task) {
+    uint8_t *ran = context;
+    ran[task]++;
+    return 0;
+}
+
+static bool is_complete(const uint8_t *ran) {
+    for (uint32_t t = 0; t < TASKS; t++)
+        if (ran[t] != 1) return false;
+    return true;
+}
+
+static void check_team(void) {
+    bool has_failed = true;
+    for (long n = 1; has_failed; n++) {
+        uint8_t ran[TASKS] = {0};
+        gerfmuod_team *team;
+        uint32_t refused = 0, inputs[2];
+        allocations_left = n;
+        uint32_t opened = gerfmuod_team_open(&team, 1);
+        for (uint32_t t = 0; t < TASKS && !opened && !refused; t++) {
+            inputs[0] = t - 1, inputs[1] = t - 2;
+            refused = gerfmuod_team_task(team, 0, 0, inputs, t < 2 ? t : 2, NULL);
+        }
+        if (!opened) refused = gerfmuod_team_run(team, 1, body, ran);
+        has_failed = allocations_left < 0;
+        allocations_left = -1;
+        check("a team without memory", !opened || (opened == GERFMUOD_DAG_NO_MEMORY && !team));
+        check("a task or a run without memory", !refused || refused == GERFMUOD_DAG_NO_MEMORY);
+        check("a failure is not hidden", has_failed == (opened || refused));
+        check("all ran if none failed", has_failed || is_complete(ran));
+        gerfmuod_team_close(team);
+    }
+}
+
+static void check_threads(void) {
+    for (long n = 1; n <= 3; n++) {
+        uint8_t ran[TASKS] = {0};
+        gerfmuod_team *team;
+        check("open", !gerfmuod_team_open(&team, 1));
+        for (uint32_t t = 0; t < TASKS; t++) check("task", !gerfmuod_team_task(team, 0, 0, NULL, 0, NULL));
+        threads_left = n;
+        check("a thread that does not start", gerfmuod_team_run(team, 4, body, ran) == GERFMUOD_TEAM_NOT_STARTED);
+        check("nothing ran", !ran[0]);
+        check("it runs when threads do start", gerfmuod_team_run(team, 4, body, ran) == GERFMUOD_DAG_OK);
+        check("each task once", is_complete(ran));
+        gerfmuod_team_close(team);
+    }
+}
+
+/* The bytes of a pool that has run, in which each task waits for so many before it. */
+static size_t bytes_of(uint32_t tasks, uint32_t nodes, uint32_t inputs) {
+    gerfmuod_dag dag;
+    gerfmuod_dag_answer answer;
+    size_t before = allocated;
+    gerfmuod_dag_open(&dag, nodes);
+    for (uint32_t t = 0; t < tasks; t++) {
+        gerfmuod_dag_task(&dag, t % nodes, 0);
+        for (uint32_t back = 1; back <= inputs && back <= t; back++) gerfmuod_dag_input(&dag, t - back);
+    }
+    gerfmuod_dag_start(&dag);
+    for (uint32_t node = 0; (answer = gerfmuod_dag_next(&dag, node)).told != GERFMUOD_DAG_OVER; node = (node + 1) % nodes)
+        if (answer.told == GERFMUOD_DAG_RUN) gerfmuod_dag_done(&dag, node, answer.number);
+    size_t used = allocated - before;
+    gerfmuod_dag_close(&dag);
+    check("all memory is given back", allocated == before);
+    return used;
+}
+
+/* 100,000 tasks: how many bytes a task, an input, and an input from another node take. */
+static void check_memory(void) {
+    size_t task = bytes_of(100000, 1, 0) / 100000, inputs = bytes_of(100000, 1, 4) / 100000;
+    size_t crossing = bytes_of(100000, 2, 1) / 100000;
+    printf("%zu bytes a task, with 4 inputs %zu, with an input from another node %zu\n", task, inputs, crossing);
+    check("a task takes at most 200 bytes", task <= 200);
+    check("an input takes at most 32 bytes more", inputs <= task + 4 * 32);
+    check("an input from another node takes at most 200 bytes more", crossing <= task + 200);
+}
+
+int main(void) {
+    check_pool();
+    check_team();
+    check_threads();
+    check_memory();
+    printf("%d results checked, %d not as they should be\n", checked, failed);
+    return failed != 0;
+}

@@ -1,0 +1,32 @@
+/* first.c: the graph of docs/YOUR-BODIES.md: two tasks, and a third one that waits for both.
+ *
+ *   cc -Icapi capi/dag/first.c -Llib -lgerfmuod -pthread -lm -o first && ./first
+ */
+#include "gerfmuod_team.h"
+#include <math.h>
+#include <stdio.h>
+
+static double x, y, z;
+
+static int body(void *context, uint32_t task) {
+    (void)context;
+    switch (task) {
+    case 0: x = sqrt(2); break;
+    case 1: y = exp(1); break;
+    case 2: z = x * y; break;
+    }
+    return 0;
+}
+
+int main(void) {
+    /* task t waits for inputs[offsets[t]] to inputs[offsets[t + 1] - 1] */
+    static const uint32_t offsets[] = {0, 0, 0, 2}, inputs[] = {0, 1};
+    gerfmuod_team *team;
+    uint32_t refused = gerfmuod_team_open(&team, 1);
+    if (!refused) refused = gerfmuod_team_describe(team, 3, NULL, NULL, offsets, inputs);
+    if (!refused) refused = gerfmuod_team_run(team, 4, body, NULL);
+    if (refused) fprintf(stderr, "task %u: %s\n", gerfmuod_team_at(team), gerfmuod_team_meaning(refused));
+    else printf("%.6f\n", z); /* 3.844231 */
+    gerfmuod_team_close(team);
+    return refused != 0;
+}

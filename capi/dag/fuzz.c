@@ -1,0 +1,150 @@
+/* fuzz.c: random calls on pools, right and wrong ones, compared with the plain model of model.h.
+ *
+ *   fuzz CALLS [SEED [forgets]]     forgets: a model that now and then drops an input, which has to be found out
+ *
+ * Each pool has up to 64 tasks. When its random calls are over, it is run to its end: then each call either makes progress or
+ * the end is judged, and the steps of the pool are counted. The exit status is 1 at the first difference. */
+#include "model.h"
+#include <inttypes.h>
+#include <stdio.h>
+#include <stdlib.h>
+
+static uint64_t seed, calls, counts[16];
+static gerfmuod_dag dag;
+static model m;
+static bool forgets;
+
+static uint32_t below(uint32_t limit) {
+    seed ^= seed << 13, seed ^= seed >> 7, seed ^= seed << 17;
+    return (uint32_t)((seed >> 11) % limit);
+}
+
+/* Mostly a number below the limit; sometimes the next ones, and sometimes a wild one. */
+static uint32_t about(uint32_t limit) {
+    uint32_t kind = below(16);
+    if (kind == 0) return limit + below(2);
+    if (kind == 1) return UINT32_MAX - below(3);
+    return below(limit ? limit : 1);
+}
+
+static void differ(const char *call, gerfmuod_dag_answer got, expected want) {
+    printf("call %" PRIu64 ", %s: refused %u told %u number %u news %u, expected %u %u %u %u or a bit of %" PRIx64 "\n", calls, call,
+           got.refused, got.told, got.number, got.news, want.refused, want.told, want.number, want.news, want.ready);
+    exit(1);
+}
+
+static bool is_same(gerfmuod_dag_answer got, expected want) {
+    if (got.refused != want.refused || got.told != want.told || got.news != want.news) return false;
+    if (want.told == GERFMUOD_DAG_RUN) return got.number < m.tasks && want.ready >> got.number & 1;
+    return want.told == GERFMUOD_DAG_OVER || got.number == want.number;
+}
+
+static void check(const char *call, gerfmuod_dag_answer got, expected want) {
+    calls++;
+    counts[want.refused ? 0 : want.told + 1]++;
+    if (!is_same(got, want)) differ(call, got, want);
+    if (want.told == GERFMUOD_DAG_RUN) m.task[got.number].stage = RUNNING;
+}
+
+static void task(void) {
+    uint32_t node = about(m.nodes), class_ = about(GERFMUOD_DAG_CLASSES);
+    check("task", gerfmuod_dag_task(&dag, node, class_), model_task(&m, node, class_));
+}
+
+static void input(void) {
+    uint32_t source = about(m.tasks ? m.tasks - 1 : 0);
+    check("input", gerfmuod_dag_input(&dag, source), model_input(&m, source));
+}
+
+static void next(uint32_t node) { check("next", gerfmuod_dag_next(&dag, node), model_next(&m, node)); }
+
+static void done(uint32_t node, uint32_t number) {
+    if (forgets && m.inputs && below(100) == 0) m.input[below(m.inputs)].way = CAME;
+    check("done", gerfmuod_dag_done(&dag, node, number), model_done(&m, node, number));
+}
+
+static void close_pool(void) { check("close", gerfmuod_dag_close(&dag), model_close(&m)); }
+
+static void start(void) { check("start", gerfmuod_dag_start(&dag), model_start(&m)); }
+
+static void describe(void) {
+    uint32_t tasks = below(MOST_TASKS);
+    for (uint32_t i = 0; i < tasks && m.tasks < MOST_TASKS - 2; i++) {
+        task();
+        for (uint32_t inputs = below(4); inputs > 0 && m.inputs < MOST_INPUTS; inputs--) input();
+        if (below(50) == 0) next(below(m.nodes));
+        if (below(50) == 0) done(about(m.nodes), about(m.tasks));
+    }
+}
+
+/* A call after the start, mostly a right one. */
+static void step(void) {
+    uint32_t kind = below(100), number = below(m.tasks + 1);
+    if (kind < 40) next(below(m.nodes));
+    else if (kind < 45) next(about(m.nodes));
+    else if (kind < 90 && number < m.tasks) done(m.task[number].node, number);
+    else if (kind < 95) done(about(m.nodes), about(m.tasks));
+    else if (kind < 97) task();
+    else if (kind < 99) input();
+    else start();
+}
+
+/* Runs the pool to its end, which has to come: at each round some task is returned or ends, or the pool is over. */
+static void finish(void) {
+    while (!m.is_over) {
+        bool goes_on = false;
+        for (uint32_t t = 0; t < m.tasks; t++)
+            if (m.task[t].stage == RUNNING) done(m.task[t].node, t), goes_on = true;
+        for (uint32_t node = 0; node < m.nodes && !m.is_over; node++) {
+            uint64_t before = counts[GERFMUOD_DAG_RUN + 1];
+            next(node);
+            goes_on |= counts[GERFMUOD_DAG_RUN + 1] != before || m.is_over;
+        }
+        if (!goes_on) {
+            printf("call %" PRIu64 ": the pool waits for ever\n", calls);
+            exit(1);
+        }
+    }
+    next(below(m.nodes));
+}
+
+/* The steps of a pool that is over: each task was inserted, begun and done, each message sent, received and ended. */
+static void count_steps(void) {
+    uint32_t found[15] = {0};
+    gerfmuod_dag_taken step;
+    for (uint32_t k = 0; (step = gerfmuod_dag_step(&dag, k)).kind < 15; k++) found[step.kind]++;
+    bool is_well = step.kind == 255;
+    for (uint32_t kind = 0; kind < 4; kind++) is_well &= found[kind] == (kind == 1 ? 0 : m.tasks);
+    for (uint32_t kind = 7; kind < 10; kind++) is_well &= found[kind] == m.messages;
+    if (!is_well) {
+        printf("call %" PRIu64 ": the steps are not those of %u tasks and %u messages\n", calls, m.tasks, m.messages);
+        exit(1);
+    }
+}
+
+int main(int argc, char **argv) {
+    uint64_t most = argc > 1 ? strtoull(argv[1], NULL, 10) : 100000, pools = 0;
+    seed = argc > 2 ? strtoull(argv[2], NULL, 10) * 2 + 1 : 88172645463325253u;
+    forgets = argc > 3;
+    for (; calls < most; pools++) {
+        uint32_t nodes = about(GERFMUOD_DAG_MAX_NODES) + 1;
+        if (gerfmuod_dag_open(&dag, nodes) != model_open(&m, nodes)) return printf("open %u\n", nodes), 1;
+        describe();
+        if (below(20) && m.is_open) { /* else it is closed before it is started */
+            start();
+            for (uint32_t i = below(100); i > 0; i--) step();
+            if (below(10)) { /* else it is closed in the middle */
+                finish();
+                count_steps();
+            }
+        }
+        task(), input(), start(), next(0), done(0, 0);
+        close_pool();
+        if (below(4) == 0) task(), input(), start(), next(about(1)), done(0, about(1)), close_pool();
+        if (gerfmuod_dag_step(&dag, 0).kind != 255) return printf("a closed pool has steps\n"), 1;
+    }
+    printf("%" PRIu64 " calls on %" PRIu64 " pools: %" PRIu64 " refused, %" PRIu64 " tasks run, %" PRIu64 " waits, ", calls, pools,
+           counts[0], counts[GERFMUOD_DAG_RUN + 1], counts[GERFMUOD_DAG_WAIT + 1]);
+    printf("as the model says\n");
+    return 0;
+}

@@ -1,0 +1,95 @@
+/* grain.c: what a task costs: graphs of small tasks with bodies of a chosen length.
+ *
+ *   grain SHAPE TASKS ITERATIONS ROUNDS WAY..     shapes.h says what a SHAPE is; a WAY is
+ *     NxT     a pool of N nodes with T threads each; task t is at node t modulo N
+ *     loop    the bodies one after the other
+ *     omp:T   OpenMP's tasks with `depend`     (built with -fopenmp)
+ *
+ * Each body checks that its inputs are done and that it runs for the first time. The times are of describing and running.
+ */
+#define _POSIX_C_SOURCE 200809L
+#include "gerfmuod_team.h"
+#include "shapes.h"
+#include "timing.h"
+
+static int body(void *context, uint32_t task) {
+    (void)context;
+    run_shape_task(task);
+    return 0;
+}
+
+static void by_pool(uint32_t nodes, uint32_t threads) {
+    gerfmuod_team *team;
+    uint8_t *homes = malloc((size_t)task_count + 1);
+    need(!homes, "malloc");
+    for (uint32_t t = 0; t < task_count; t++) homes[t] = (uint8_t)(t % nodes);
+    need(gerfmuod_team_open(&team, nodes), "open");
+    need(gerfmuod_team_describe(team, task_count, homes, NULL, offsets, inputs), "describe");
+    need(gerfmuod_team_run(team, nodes * threads, body, NULL), "run");
+    gerfmuod_team_close(team);
+    free(homes);
+}
+
+#ifdef _OPENMP
+static void by_openmp(int threads) {
+#pragma omp parallel num_threads(threads)
+#pragma omp single
+    for (uint32_t t = 0; t < task_count; t++) {
+        uint32_t k = offsets[t], count = offsets[t + 1] - k;
+        char *out = &has_ended[t], *a = &has_ended[count > 0 ? inputs[k] : t];
+        char *b = &has_ended[count > 1 ? inputs[k + 1] : t], *c = &has_ended[count > 2 ? inputs[k + 2] : t];
+        (void)out, (void)a, (void)b, (void)c;
+        switch (count) {
+        case 0:
+#pragma omp task depend(out : out[0]) firstprivate(t)
+            run_shape_task(t);
+            break;
+        case 1:
+#pragma omp task depend(out : out[0]) depend(in : a[0]) firstprivate(t)
+            run_shape_task(t);
+            break;
+        case 2:
+#pragma omp task depend(out : out[0]) depend(in : a[0], b[0]) firstprivate(t)
+            run_shape_task(t);
+            break;
+        default:
+#pragma omp task depend(out : out[0]) depend(in : a[0], b[0], c[0]) firstprivate(t)
+            run_shape_task(t);
+        }
+    }
+}
+#endif
+
+static void go(const char *way) {
+    unsigned nodes, threads;
+    if (sscanf(way, "%ux%u", &nodes, &threads) == 2) by_pool(nodes, threads);
+    else if (!strcmp(way, "loop"))
+        for (uint32_t t = 0; t < task_count; t++) run_shape_task(t);
+#ifdef _OPENMP
+    else if (!strncmp(way, "omp:", 4)) by_openmp(atoi(way + 4));
+#endif
+    else need(1, way);
+}
+
+int main(int argc, char **argv) {
+    static double times[MAX_WAYS][MAX_ROUNDS];
+    if (argc < 6 || argc - 5 > MAX_WAYS || atoi(argv[4]) >= MAX_ROUNDS) return 1;
+    task_count = (uint32_t)atol(argv[2]);
+    iterations = atol(argv[3]);
+    int rounds = atoi(argv[4]);
+    if (!draw_shape(argv[1])) return 1;
+    for (int r = 0; r <= rounds; r++) /* the first round is not counted */
+        for (int w = 5; w < argc; w++) {
+            clear_shape();
+            double from = seconds_now();
+            go(argv[w]);
+            times[w - 5][r ? r - 1 : 0] = seconds_now() - from;
+            if (memchr(has_ended, 0, task_count)) {
+                printf("%s: a task did not run\n", argv[w]);
+                return 2;
+            }
+        }
+    for (int w = 5; w < argc; w++) print_times(argv[w], task_count, times[w - 5], rounds);
+    free(offsets), free(inputs), free(has_ended);
+    return 0;
+}

@@ -1,0 +1,276 @@
+/* refusals.c: each refusal of a pool and of a team, one by one, and what a refused call leaves. Prints a line for each that is
+ * not as gerfmuod_dag.h and gerfmuod_team.h say; the exit status is 1 if there is one.
+ *
+ *   refusals [quick]     quick: without the graph that is too large
+ */
+#include "gerfmuod.h"
+#include "gerfmuod_team.h"
+#include <stdbool.h>
+#include <stdio.h>
+#include <stdlib.h>
+#include <string.h>
+
+#pragma weak gerfmuod_refusal_name
+
+static int checked, failed;
+
+static void check(const char *what, uint32_t got, uint32_t wanted) {
+    checked++;
+    if (got == wanted) return;
+    failed++;
+    printf("%s: %u (%s), expected %u (%s)\n", what, got, gerfmuod_team_name(got), wanted, gerfmuod_team_name(wanted));
+}
+
+/* ---- the pool */
+
+static void check_not_open(gerfmuod_dag *dag) {
+    check("task without a pool", gerfmuod_dag_task(dag, 9, 9).refused, GERFMUOD_DAG_NO_POOL);
+    check("input without a pool", gerfmuod_dag_input(dag, 0).refused, GERFMUOD_DAG_NO_POOL);
+    check("start without a pool", gerfmuod_dag_start(dag).refused, GERFMUOD_DAG_NO_POOL);
+    check("next without a pool", gerfmuod_dag_next(dag, 0).refused, GERFMUOD_DAG_NO_POOL);
+    check("done without a pool", gerfmuod_dag_done(dag, 0, 0).refused, GERFMUOD_DAG_NO_POOL);
+    check("step without a pool", gerfmuod_dag_step(dag, 0).kind, 255);
+    check("close without a pool", gerfmuod_dag_close(dag).refused, GERFMUOD_DAG_NO_POOL);
+}
+
+static void check_description(void) {
+    gerfmuod_dag dag;
+    const uint32_t counts[] = {0, 9, UINT32_MAX};
+    for (int i = 0; i < 3; i++) {
+        check("open with a wrong number of nodes", gerfmuod_dag_open(&dag, counts[i]), GERFMUOD_DAG_BAD_SPEC);
+        check_not_open(&dag);
+    }
+    check("open", gerfmuod_dag_open(&dag, 2), GERFMUOD_DAG_OK);
+    check("input without a task", gerfmuod_dag_input(&dag, 0).refused, GERFMUOD_DAG_NO_TASK);
+    check("task at no node", gerfmuod_dag_task(&dag, 2, 0).refused, GERFMUOD_DAG_NO_NODE);
+    check("task of no class", gerfmuod_dag_task(&dag, 0, 4).refused, GERFMUOD_DAG_BAD_SPEC);
+    check("task of no class at no node", gerfmuod_dag_task(&dag, 9, 9).refused, GERFMUOD_DAG_NO_NODE);
+    check("the first task", gerfmuod_dag_task(&dag, 0, 3).number, 0);
+    check("input of itself", gerfmuod_dag_input(&dag, 0).refused, GERFMUOD_DAG_NO_TASK);
+    check("input that is not there", gerfmuod_dag_input(&dag, UINT32_MAX).refused, GERFMUOD_DAG_NO_TASK);
+    check("the second task", gerfmuod_dag_task(&dag, 1, 0).number, 1);
+    check("its input", gerfmuod_dag_input(&dag, 0).refused, GERFMUOD_DAG_OK);
+    check("the same input again", gerfmuod_dag_input(&dag, 0).refused, GERFMUOD_DAG_OK);
+    check("close", gerfmuod_dag_close(&dag).refused, GERFMUOD_DAG_OK);
+    check_not_open(&dag);
+}
+
+static void check_run(void) {
+    gerfmuod_dag dag;
+    gerfmuod_dag_open(&dag, 2);
+    gerfmuod_dag_task(&dag, 0, 0);
+    gerfmuod_dag_task(&dag, 1, 0);
+    gerfmuod_dag_input(&dag, 0);
+    check("next before the start", gerfmuod_dag_next(&dag, 0).refused, GERFMUOD_DAG_WRONG_LIFE);
+    check("done before the start", gerfmuod_dag_done(&dag, 0, 0).refused, GERFMUOD_DAG_WRONG_LIFE);
+    check("start", gerfmuod_dag_start(&dag).refused, GERFMUOD_DAG_OK);
+    check("start again", gerfmuod_dag_start(&dag).refused, GERFMUOD_DAG_WRONG_LIFE);
+    check("task after the start", gerfmuod_dag_task(&dag, 0, 0).refused, GERFMUOD_DAG_WRONG_LIFE);
+    check("input after the start", gerfmuod_dag_input(&dag, 0).refused, GERFMUOD_DAG_WRONG_LIFE);
+    check("done before it was returned", gerfmuod_dag_done(&dag, 0, 0).refused, GERFMUOD_DAG_WRONG_LIFE);
+    check("done of no task", gerfmuod_dag_done(&dag, 0, 2).refused, GERFMUOD_DAG_NO_TASK);
+    check("next at no node", gerfmuod_dag_next(&dag, 2).refused, GERFMUOD_DAG_NO_NODE);
+    check("next at no node", gerfmuod_dag_next(&dag, UINT32_MAX).refused, GERFMUOD_DAG_NO_NODE);
+    check("next of a task that waits", gerfmuod_dag_next(&dag, 1).told, GERFMUOD_DAG_WAIT);
+    check("next", gerfmuod_dag_next(&dag, 0).told, GERFMUOD_DAG_RUN);
+    check("a task is returned once", gerfmuod_dag_next(&dag, 0).told, GERFMUOD_DAG_WAIT);
+    check("done at another node", gerfmuod_dag_done(&dag, 1, 0).refused, GERFMUOD_DAG_NO_NODE);
+    check("done at no node", gerfmuod_dag_done(&dag, 7, 0).refused, GERFMUOD_DAG_NO_NODE);
+    check("news for the other node", gerfmuod_dag_done(&dag, 0, 0).news, 2);
+    check("done twice", gerfmuod_dag_done(&dag, 0, 0).refused, GERFMUOD_DAG_WRONG_LIFE);
+    check("the other node runs", gerfmuod_dag_next(&dag, 0).told, GERFMUOD_DAG_WAIT);
+    check("its task", gerfmuod_dag_next(&dag, 1).number, 1);
+    check("not over while it runs", gerfmuod_dag_next(&dag, 0).told, GERFMUOD_DAG_WAIT);
+    check("done", gerfmuod_dag_done(&dag, 1, 1).refused, GERFMUOD_DAG_OK);
+    check("over", gerfmuod_dag_next(&dag, 0).told, GERFMUOD_DAG_OVER);
+    check("over again, at each node", gerfmuod_dag_next(&dag, 1).told, GERFMUOD_DAG_OVER);
+    check("task after the end", gerfmuod_dag_task(&dag, 0, 0).refused, GERFMUOD_DAG_WRONG_LIFE);
+    check("input after the end", gerfmuod_dag_input(&dag, 0).refused, GERFMUOD_DAG_WRONG_LIFE);
+    check("done after the end", gerfmuod_dag_done(&dag, 1, 1).refused, GERFMUOD_DAG_WRONG_LIFE);
+    check("no such step", gerfmuod_dag_step(&dag, UINT32_MAX).kind, 255);
+    gerfmuod_dag_close(&dag);
+}
+
+/* The library writes to the memory of the pool alone. */
+static void check_size(void) {
+    struct {
+        uint64_t before[16];
+        gerfmuod_dag dag;
+        uint64_t after[16];
+    } memory;
+    bool is_well = true;
+    memset(&memory, 0x5a, sizeof memory);
+    gerfmuod_dag_open(&memory.dag, 8);
+    for (uint32_t t = 0; t < 100; t++) gerfmuod_dag_task(&memory.dag, t % 8, t % 4);
+    gerfmuod_dag_start(&memory.dag);
+    for (uint32_t t = 0; t < 100; t++) gerfmuod_dag_done(&memory.dag, t % 8, gerfmuod_dag_next(&memory.dag, t % 8).number);
+    check("100 tasks at 8 nodes", gerfmuod_dag_next(&memory.dag, 7).told, GERFMUOD_DAG_OVER);
+    gerfmuod_dag_close(&memory.dag);
+    for (int i = 0; i < 16; i++) is_well &= memory.before[i] == 0x5a5a5a5a5a5a5a5a && memory.after[i] == 0x5a5a5a5a5a5a5a5a;
+    check("what lies round a pool stays", is_well, true);
+}
+
+static void check_limits(void) {
+    gerfmuod_dag dag;
+    gerfmuod_dag_answer answer;
+    uint32_t tasks = 0;
+    gerfmuod_dag_open(&dag, 1);
+    for (uint32_t t = 0; t < 349000; t++) gerfmuod_dag_task(&dag, 0, 0);
+    check("a graph of 349,000 tasks", gerfmuod_dag_start(&dag).refused, GERFMUOD_DAG_OK);
+    while ((answer = gerfmuod_dag_next(&dag, 0)).told == GERFMUOD_DAG_RUN) gerfmuod_dag_done(&dag, 0, answer.number);
+    check("runs to its end", answer.told, GERFMUOD_DAG_OVER);
+    gerfmuod_dag_close(&dag);
+    gerfmuod_dag_open(&dag, 1);
+    while (tasks <= GERFMUOD_DAG_MAX_STEPS && !(answer = gerfmuod_dag_task(&dag, 0, 0)).refused) tasks++;
+    check("too many tasks", answer.refused, GERFMUOD_DAG_HISTORY_FULL);
+    check("a graph that needs too many steps", gerfmuod_dag_start(&dag).refused, GERFMUOD_DAG_HISTORY_FULL);
+    check("none of it runs", gerfmuod_dag_next(&dag, 0).refused, GERFMUOD_DAG_WRONG_LIFE);
+    gerfmuod_dag_close(&dag);
+}
+
+/* ---- the team */
+
+static int count_body(void *context, uint32_t task) {
+    (void)task;
+    __atomic_fetch_add((uint32_t *)context, 1, __ATOMIC_RELAXED);
+    return 0;
+}
+
+static void check_team_limits(void) {
+    gerfmuod_team *team;
+    uint32_t ran = 0, refused = 0;
+    gerfmuod_team_open(&team, 1);
+    for (uint32_t t = 0; t < 349600; t++) refused |= gerfmuod_team_task(team, 0, 0, NULL, 0, NULL);
+    check("349,600 tasks", refused, GERFMUOD_DAG_OK);
+    check("take too many steps", gerfmuod_team_run(team, 4, count_body, &ran), GERFMUOD_DAG_HISTORY_FULL);
+    check("and again", gerfmuod_team_run(team, 1, count_body, &ran), GERFMUOD_DAG_HISTORY_FULL);
+    check("none of them runs", ran, 0);
+    gerfmuod_team_close(team);
+}
+
+struct seen {
+    gerfmuod_team *team;
+    uint32_t ran, refused_inside;
+};
+
+/* Task 2 fails. Task 0 tries to run the team from inside of it. */
+static int body(void *context, uint32_t task) {
+    struct seen *seen = context;
+    __atomic_fetch_add(&seen->ran, 1, __ATOMIC_RELAXED);
+    if (task == 0) seen->refused_inside = gerfmuod_team_run(seen->team, 1, body, seen);
+    return task == 2;
+}
+
+static void check_team_description(void) {
+    gerfmuod_team *team;
+    const uint32_t inputs[] = {0, 1}, offsets[] = {0, 0, 2, 2}, falling[] = {0, 1, 0, 0}, none[] = {0, 0, 0, 0};
+    const uint8_t far[] = {0, 7, 0}, classes[] = {0, 0, 4};
+    check("team of 9 nodes", gerfmuod_team_open(&team, 9), GERFMUOD_DAG_BAD_SPEC);
+    check("is none", team == NULL, 1);
+    gerfmuod_team_close(team);
+    gerfmuod_team_open(&team, 2);
+    check("task with an input that is not earlier", gerfmuod_team_task(team, 0, 0, inputs, 1, NULL), GERFMUOD_DAG_NO_TASK);
+    check("at task", gerfmuod_team_at(team), 0);
+    check("task at no node", gerfmuod_team_task(team, 2, 0, NULL, 0, NULL), GERFMUOD_DAG_NO_NODE);
+    check("task of no class", gerfmuod_team_task(team, 0, 4, NULL, 0, NULL), GERFMUOD_DAG_BAD_SPEC);
+    check("a graph with an input of itself", gerfmuod_team_describe(team, 3, NULL, NULL, offsets, inputs), GERFMUOD_DAG_NO_TASK);
+    check("at task", gerfmuod_team_at(team), 1);
+    check("a second graph", gerfmuod_team_describe(team, 3, NULL, NULL, offsets, inputs), GERFMUOD_DAG_WRONG_LIFE);
+    gerfmuod_team_close(team);
+    gerfmuod_team_open(&team, 2);
+    check("a graph with a task at no node", gerfmuod_team_describe(team, 3, far, NULL, none, NULL), GERFMUOD_DAG_NO_NODE);
+    check("at task", gerfmuod_team_at(team), 1);
+    gerfmuod_team_close(team);
+    gerfmuod_team_open(&team, 2);
+    check("a graph with a task of no class", gerfmuod_team_describe(team, 3, NULL, classes, none, NULL), GERFMUOD_DAG_BAD_SPEC);
+    check("at task", gerfmuod_team_at(team), 2);
+    gerfmuod_team_close(team);
+    gerfmuod_team_open(&team, 2);
+    check("offsets that fall", gerfmuod_team_describe(team, 3, NULL, NULL, falling + 1, inputs), GERFMUOD_DAG_BAD_SPEC);
+    check("at task", gerfmuod_team_at(team), 0);
+    gerfmuod_team_close(team);
+}
+
+static void check_team_run(void) {
+    struct seen seen = {0};
+    gerfmuod_team_open(&seen.team, 2);
+    gerfmuod_team_task(seen.team, 0, 0, NULL, 0, NULL);
+    gerfmuod_team_task(seen.team, 1, 0, NULL, 0, NULL);
+    check("a node without a thread", gerfmuod_team_run(seen.team, 1, body, &seen), GERFMUOD_TEAM_NO_THREAD);
+    check("at task", gerfmuod_team_at(seen.team), 1);
+    check("no thread at all", gerfmuod_team_run(seen.team, 0, body, &seen), GERFMUOD_TEAM_NO_THREAD);
+    check("nothing ran", seen.ran, 0);
+    check("a run of both", gerfmuod_team_run(seen.team, 2, body, &seen), GERFMUOD_DAG_OK);
+    check("each task ran", seen.ran, 2);
+    check("a run inside a run", seen.refused_inside, GERFMUOD_TEAM_RUNNING);
+    check("a second run", gerfmuod_team_run(seen.team, 2, body, &seen), GERFMUOD_DAG_ENDED);
+    check("a start after the end", gerfmuod_team_start(seen.team, 2), GERFMUOD_DAG_ENDED);
+    check("a task after the end", gerfmuod_team_task(seen.team, 0, 0, NULL, 0, NULL), GERFMUOD_DAG_WRONG_LIFE);
+    check("a turn at no node", gerfmuod_team_turn(seen.team, 2, GERFMUOD_DAG_NONE).refused, GERFMUOD_DAG_NO_NODE);
+    gerfmuod_team_stop(seen.team, 0);
+    check("a turn after the end", gerfmuod_team_turn(seen.team, 1, GERFMUOD_DAG_NONE).told, GERFMUOD_DAG_OVER);
+    gerfmuod_team_close(seen.team);
+}
+
+/* The trace of one task, as a whole and in a room that is too small. */
+static void check_trace(void) {
+    static const char wanted[] = "trace 1\nnodes 1\ninsert 0 0 0\nready 0\nbegin 0\ndone 0\nstart\ngive 0\njudge not\nstart\ngive 0\n"
+                                 "judge ended 1\n";
+    struct seen seen = {0};
+    char text[256], part[10];
+    gerfmuod_team_open(&seen.team, 1);
+    gerfmuod_team_task(seen.team, 0, 0, NULL, 0, NULL);
+    gerfmuod_team_run(seen.team, 1, body, &seen);
+    check("the length of the trace", (uint32_t)gerfmuod_team_trace(seen.team, NULL, 0), sizeof wanted - 1);
+    check("written", (uint32_t)gerfmuod_team_trace(seen.team, text, sizeof text), sizeof wanted - 1);
+    check("its text", strcmp(text, wanted) != 0, 0);
+    check("written in part", (uint32_t)gerfmuod_team_trace(seen.team, part, sizeof part), sizeof wanted - 1);
+    check("its beginning", strncmp(part, wanted, 9) != 0 || part[9], 0);
+    gerfmuod_team_close(seen.team);
+}
+
+static void check_team_stop(void) {
+    struct seen seen = {0};
+    uint32_t input = 2;
+    gerfmuod_team_open(&seen.team, 1);
+    for (int i = 0; i < 3; i++) gerfmuod_team_task(seen.team, 0, 0, NULL, 0, NULL);
+    gerfmuod_team_task(seen.team, 0, 0, &input, 1, NULL);
+    check("a body that fails", gerfmuod_team_run(seen.team, 1, body, &seen), GERFMUOD_TEAM_STOPPED);
+    check("at task", gerfmuod_team_at(seen.team), 2);
+    check("what waits for it does not run", seen.ran <= 3, 1);
+    check("a task after the stop", gerfmuod_team_task(seen.team, 0, 0, NULL, 0, NULL), GERFMUOD_TEAM_STOPPED);
+    check("a turn after the stop", gerfmuod_team_turn(seen.team, 0, GERFMUOD_DAG_NONE).refused, GERFMUOD_TEAM_STOPPED);
+    gerfmuod_team_close(seen.team);
+    gerfmuod_team_open(&seen.team, 1);
+    gerfmuod_team_task(seen.team, 0, 0, NULL, 0, NULL);
+    check("a start", gerfmuod_team_start(seen.team, 1), GERFMUOD_DAG_OK);
+    check("a run of a pool that was started", gerfmuod_team_run(seen.team, 1, body, &seen), GERFMUOD_DAG_WRONG_LIFE);
+    check("a turn that reports a wrong task", gerfmuod_team_turn(seen.team, 0, 0).refused, GERFMUOD_DAG_WRONG_LIFE);
+    check("ends the team", gerfmuod_team_turn(seen.team, 0, GERFMUOD_DAG_NONE).refused, GERFMUOD_DAG_WRONG_LIFE);
+    gerfmuod_team_close(seen.team);
+}
+
+/* The names of the team are those of the library, as far as it has them. */
+static void check_names(void) {
+    for (uint32_t i = 1; gerfmuod_refusal_name && i <= 26; i++) {
+        char name[16] = "";
+        gerfmuod_refusal_name(i, name, sizeof name - 1);
+        if (strcmp(gerfmuod_team_name(i), "Unknown")) check(name, strcmp(gerfmuod_team_name(i), name) != 0, 0);
+    }
+    check("a name of no refusal", strcmp(gerfmuod_team_name(1000), "Unknown") != 0, 0);
+}
+
+int main(int argc, char **argv) {
+    (void)argv;
+    check_description();
+    check_run();
+    check_size();
+    if (argc == 1) check_limits(), check_team_limits();
+    check_team_description();
+    check_team_run();
+    check_trace();
+    check_team_stop();
+    check_names();
+    printf("%d refusals and results checked, %d not as they should be\n", checked, failed);
+    return failed != 0;
+}

@@ -1,0 +1,76 @@
+/* shapes.h: graphs of small tasks for grain.c and its peers, in C and C++: which tasks each task waits for, and a body of so many
+ * iterations that checks the order. */
+#ifndef SHAPES_H
+#define SHAPES_H
+#include <stdint.h>
+#include <stdio.h>
+#include <stdlib.h>
+#include <string.h>
+
+enum { STENCIL_WIDTH = 16, MOST_INPUTS_OF_A_TASK = 3 };
+
+static uint32_t *offsets, *inputs; /* task t waits for inputs[offsets[t]] to inputs[offsets[t + 1] - 1] */
+static uint32_t task_count;
+static long iterations;
+static char *has_ended;
+
+static inline uint32_t shape_width(const char *shape) {
+    uint32_t width = 1;
+    if (!strcmp(shape, "stencil")) return STENCIL_WIDTH;
+    while ((width + 1) * (width + 1) <= task_count) width++;
+    return width;
+}
+
+/* wide: no inputs. chain: the task before. wave: the left and the upper neighbour in a square. stencil: three neighbours in the
+ * row before, of 16 tasks. three: up to three random tasks among the 100 before. Returns 0 if there is no such shape. */
+static inline int draw_shape(const char *shape) {
+    const char *const shapes[] = {"wide", "chain", "wave", "stencil", "three"};
+    uint32_t n = task_count, width = shape_width(shape), edges = 0, kind = 0;
+    uint64_t seed = 7;
+    while (kind < 5 && strcmp(shape, shapes[kind])) kind++;
+    offsets = (uint32_t *)malloc(((size_t)n + 1) * sizeof *offsets);
+    inputs = (uint32_t *)malloc(((size_t)n * MOST_INPUTS_OF_A_TASK + 1) * sizeof *inputs);
+    has_ended = (char *)malloc((size_t)n + 1);
+    if (kind == 5 || !offsets || !inputs || !has_ended) return 0;
+    for (uint32_t t = 0; t < n; t++) {
+        uint32_t row = t / width, column = t % width;
+        offsets[t] = edges;
+        if (kind == 1 && t) inputs[edges++] = t - 1;
+        if (kind == 2 && column) inputs[edges++] = t - 1;
+        if (kind == 2 && row) inputs[edges++] = t - width;
+        if (kind == 3 && row && column) inputs[edges++] = t - width - 1;
+        if (kind == 3 && row) inputs[edges++] = t - width;
+        if (kind == 3 && row && column < width - 1) inputs[edges++] = t - width + 1;
+        for (int k = 0; kind == 4 && k < 3; k++) {
+            seed = seed * 6364136223846793005u + 1442695040888963407u;
+            uint32_t back = 1 + (uint32_t)(seed >> 33) % 100;
+            if (back <= t) inputs[edges++] = t - back;
+        }
+    }
+    offsets[n] = edges;
+    return 1;
+}
+
+static inline void clear_shape(void) { memset(has_ended, 0, task_count); }
+
+/* The body of a task: a chain of multiplications, which no compiler shortens. Ends the program if an input is missing. */
+static inline void run_shape_task(uint32_t task) {
+    uint64_t x = task;
+    for (long i = 0; i < iterations; i++) {
+        x = x * 6364136223846793005u + 1;
+#if defined(__GNUC__)
+        __asm__ volatile("" : "+r"(x));
+#endif
+    }
+    for (uint32_t k = offsets[task]; k < offsets[task + 1]; k++)
+        if (!has_ended[inputs[k]]) {
+            fprintf(stderr, "task %u began before its input %u was done\n", (unsigned)task, (unsigned)inputs[k]);
+            exit(4);
+        }
+    if (has_ended[task]) {
+        fprintf(stderr, "task %u ran twice\n", (unsigned)task);
+        exit(4);
+    }
+    has_ended[task] = 1;
+}
+#endif

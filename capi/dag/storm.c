@@ -1,0 +1,154 @@
+/* storm.c: random graphs on teams of random sizes. Each body checks that its inputs are done and that it runs for the first
+ * time. Its data has no lock and no atomics, so ThreadSanitizer also checks that the pool orders the bodies.
+ *
+ *   storm ROUNDS [SEED [early]]     early: tasks report that they are done before they are, which has to be found out
+ *
+ * Every second round runs on threads of its own with gerfmuod_team_turn, which begin before the pool is started or after it, and
+ * some rounds have a body that fails. Every tenth graph is one task and then tasks that run on all threads at the same time. If
+ * the library has gerfmuod_audit, it judges the trace of each round. The exit status is 1 if something is wrong. */
+#define _POSIX_C_SOURCE 200809L
+#include "gerfmuod.h"
+#include "gerfmuod_team.h"
+#include "timing.h"
+#include <pthread.h>
+#include <sched.h>
+#include <string.h>
+
+#pragma weak gerfmuod_audit
+
+enum { MOST = 300, MOST_THREADS = 16, INPUTS = 4 };
+
+static uint64_t seed = 88172645463325253u;
+static uint32_t tasks, nodes, threads, failing;
+static uint32_t meeting, arrived; /* how many tasks have to run at the same time, and how many have begun */
+static uint8_t homes[MOST], classes[MOST];
+static uint32_t offsets[MOST + 1], inputs[MOST * INPUTS];
+static char has_ended[MOST];
+static int wrong; /* bodies that ran too early or twice; only written if there are some */
+static bool is_early;
+static gerfmuod_team *team;
+
+static uint32_t below(uint32_t limit) {
+    seed ^= seed << 13, seed ^= seed >> 7, seed ^= seed << 17;
+    return (uint32_t)((seed >> 11) % limit);
+}
+
+static void draw_graph(void) {
+    nodes = 1 + below(GERFMUOD_DAG_MAX_NODES);
+    threads = nodes + below(MOST_THREADS - nodes + 1);
+    tasks = below(MOST);
+    offsets[0] = 0;
+    for (uint32_t t = 0; t < tasks; t++) {
+        homes[t] = (uint8_t)below(nodes);
+        classes[t] = (uint8_t)below(GERFMUOD_DAG_CLASSES);
+        offsets[t + 1] = offsets[t];
+        for (uint32_t k = t ? below(INPUTS + 1) : 0; k > 0; k--) inputs[offsets[t + 1]++] = t - 1 - below(t < 20 ? t : 20);
+    }
+    failing = tasks && below(8) == 0 ? below(tasks) : GERFMUOD_DAG_NONE;
+    memset(has_ended, 0, sizeof has_ended);
+}
+
+/* One task, and then one for each thread, all of which have to run at the same time. */
+static void draw_meeting(void) {
+    nodes = 1, failing = GERFMUOD_DAG_NONE;
+    meeting = threads = 2 + below(MOST_THREADS - 1);
+    tasks = meeting + 1;
+    memset(homes, 0, sizeof homes), memset(classes, 0, sizeof classes), memset(has_ended, 0, sizeof has_ended);
+    for (uint32_t t = 0; t < tasks; t++) offsets[t + 1] = t, inputs[t] = 0;
+}
+
+/* Waits until all tasks of the meeting have begun, for 10 seconds at most. */
+static void meet(void) {
+    double from = seconds_now();
+    __atomic_fetch_add(&arrived, 1, __ATOMIC_RELAXED);
+    while (__atomic_load_n(&arrived, __ATOMIC_RELAXED) < meeting && seconds_now() - from < 10) sched_yield();
+    if (seconds_now() - from >= 10) wrong++;
+}
+
+static int body(void *context, uint32_t task) {
+    (void)context;
+    if (task == failing) return 1;
+    if (meeting && task) meet();
+    if (has_ended[task]) wrong++;
+    for (uint32_t k = offsets[task]; k < offsets[task + 1]; k++)
+        if (!has_ended[inputs[k]]) wrong++;
+    if (task % 7 == 0) sched_yield();
+    has_ended[task] = 1;
+    return 0;
+}
+
+static void *turns(void *argument) {
+    uint32_t node = (uint32_t)(uintptr_t)argument, ran = GERFMUOD_DAG_NONE;
+    for (;;) {
+        gerfmuod_dag_answer answer = gerfmuod_team_turn(team, node, ran);
+        if (answer.refused || answer.told == GERFMUOD_DAG_OVER) return NULL;
+        ran = answer.number;
+        if (is_early) { /* reports the task before it runs it */
+            answer = gerfmuod_team_turn(team, node, ran);
+            if (body(NULL, ran) || answer.refused || answer.told == GERFMUOD_DAG_OVER) return NULL;
+            ran = answer.number;
+        }
+        if (body(NULL, ran)) {
+            gerfmuod_team_stop(team, ran);
+            return NULL;
+        }
+    }
+}
+
+static uint32_t run_own_threads(bool is_started_first) {
+    pthread_t ids[MOST_THREADS];
+    if (is_started_first) need(gerfmuod_team_start(team, threads), "start");
+    for (uint32_t w = 0; w < threads; w++)
+        need(pthread_create(&ids[w], NULL, turns, (void *)(uintptr_t)(w % nodes)) != 0, "pthread_create");
+    if (!is_started_first) {
+        nanosleep(&(struct timespec){.tv_nsec = 1000000}, NULL); /* time for turns to begin */
+        need(gerfmuod_team_start(team, threads), "start");
+    }
+    for (uint32_t w = 0; w < threads; w++) pthread_join(ids[w], NULL);
+    return gerfmuod_team_turn(team, 0, GERFMUOD_DAG_NONE).refused;
+}
+
+static bool is_complete(void) {
+    for (uint32_t t = 0; t < tasks; t++)
+        if (!has_ended[t]) return false;
+    return true;
+}
+
+/* Whether the audit finds the trace sound, as far as the library can tell. */
+static bool is_sound(void) {
+    size_t length = gerfmuod_team_trace(team, NULL, 0);
+    char *text = malloc(length + 1), verdict[256];
+    if (!text || gerfmuod_team_trace(team, text, length + 1) != length) return false;
+    gerfmuod_written judged = {GERFMUOD_WRITTEN, 0};
+    if (gerfmuod_audit) judged = gerfmuod_audit(text, length, verdict, sizeof verdict);
+    if (judged.outcome != GERFMUOD_WRITTEN) printf("%.*s\n", (int)judged.length, verdict);
+    free(text);
+    return judged.outcome == GERFMUOD_WRITTEN;
+}
+
+static bool round_is_well(uint32_t round) {
+    meeting = arrived = 0;
+    if (round % 10 == 0) draw_meeting();
+    else draw_graph();
+    need(gerfmuod_team_open(&team, nodes), "open");
+    need(gerfmuod_team_describe(team, tasks, homes, classes, offsets, inputs), "describe");
+    uint32_t refused = round % 2 || is_early ? run_own_threads(round % 4 == 1) : gerfmuod_team_run(team, threads, body, NULL);
+    bool is_well = !wrong && is_sound();
+    if (failing == GERFMUOD_DAG_NONE) is_well &= !refused && is_complete();
+    else is_well &= refused == GERFMUOD_TEAM_STOPPED && gerfmuod_team_at(team) == failing && !has_ended[failing];
+    gerfmuod_team_close(team);
+    if (!is_well)
+        printf("round %u: %u tasks, %u nodes, %u threads: refused %u, %d bodies too early or twice\n", round, tasks, nodes, threads,
+               refused, wrong);
+    return is_well;
+}
+
+int main(int argc, char **argv) {
+    uint32_t rounds = argc > 1 ? (uint32_t)atoi(argv[1]) : 100;
+    if (argc > 2) seed = (uint64_t)atoll(argv[2]) * 2 + 1;
+    is_early = argc > 3;
+    for (uint32_t round = 0; round < rounds; round++)
+        if (!round_is_well(round)) return 1;
+    printf("%u rounds, each task once and after its inputs%s\n", rounds, gerfmuod_audit ? ", each trace sound" : "");
+    return 0;
+}

@@ -1,0 +1,159 @@
+! gerfmuod.f90: task graphs from Fortran, over gerfmuod_team.h, which says what each call does and when it is refused.
+!
+! Tasks, nodes and classes are counted from 0, as in C. Compile this file with your program and link with -lgerfmuod -pthread.
+module gerfmuod
+  use, intrinsic :: iso_c_binding
+  implicit none
+  public
+
+  ! no task
+  integer(c_int32_t), parameter :: gerfmuod_none = -1_c_int32_t
+  ! what a turn returned
+  integer(c_int32_t), parameter :: gerfmuod_run = 1, gerfmuod_over = 3
+  ! refusals; gerfmuod_name and gerfmuod_meaning have texts for them
+  integer(c_int32_t), parameter :: gerfmuod_ok = 0, gerfmuod_no_node = 1, gerfmuod_no_task = 4, gerfmuod_wrong_life = 5
+  integer(c_int32_t), parameter :: gerfmuod_inactive = 6, gerfmuod_ended = 15
+  integer(c_int32_t), parameter :: gerfmuod_history_full = 16, gerfmuod_no_memory = 17, gerfmuod_bad_spec = 26
+  integer(c_int32_t), parameter :: gerfmuod_no_thread = 64, gerfmuod_not_started = 65, gerfmuod_stopped = 66
+  integer(c_int32_t), parameter :: gerfmuod_running = 67
+
+  type, bind(c) :: gerfmuod_answer
+    integer(c_int32_t) :: refused, told, number, news
+  end type
+
+  abstract interface
+    ! The body of all tasks: runs one of them. 0: the task is done. Another value: it failed, and the team stops.
+    function gerfmuod_body(context, task) bind(c) result(failed)
+      import :: c_ptr, c_int, c_int32_t
+      type(c_ptr), value :: context
+      integer(c_int32_t), value :: task
+      integer(c_int) :: failed
+    end function
+  end interface
+
+  interface
+    function gerfmuod_team_open(team, nodes) bind(c) result(refused)
+      import :: c_ptr, c_int32_t
+      type(c_ptr), intent(out) :: team
+      integer(c_int32_t), value :: nodes
+      integer(c_int32_t) :: refused
+    end function
+
+    subroutine gerfmuod_team_close(team) bind(c)
+      import :: c_ptr
+      type(c_ptr), value :: team
+    end subroutine
+
+    function gerfmuod_team_task(team, node, class, inputs, count, number) bind(c) result(refused)
+      import :: c_ptr, c_int32_t, c_size_t
+      type(c_ptr), value :: team
+      integer(c_int32_t), value :: node, class
+      integer(c_int32_t), intent(in) :: inputs(*)
+      integer(c_size_t), value :: count
+      integer(c_int32_t), intent(out), optional :: number
+      integer(c_int32_t) :: refused
+    end function
+
+    ! offsets has tasks + 1 elements: the inputs of task t are inputs(offsets(t + 1) + 1 : offsets(t + 2)).
+    function gerfmuod_team_describe(team, tasks, nodes, classes, offsets, inputs) bind(c) result(refused)
+      import :: c_ptr, c_int8_t, c_int32_t
+      type(c_ptr), value :: team
+      integer(c_int32_t), value :: tasks
+      integer(c_int8_t), intent(in), optional :: nodes(*), classes(*)
+      integer(c_int32_t), intent(in) :: offsets(*), inputs(*)
+      integer(c_int32_t) :: refused
+    end function
+
+    ! body is c_funloc of a gerfmuod_body.
+    function gerfmuod_team_run(team, threads, body, context) bind(c) result(refused)
+      import :: c_ptr, c_funptr, c_int32_t
+      type(c_ptr), value :: team, context
+      integer(c_int32_t), value :: threads
+      type(c_funptr), value :: body
+      integer(c_int32_t) :: refused
+    end function
+
+    function gerfmuod_team_at(team) bind(c) result(task)
+      import :: c_ptr, c_int32_t
+      type(c_ptr), value :: team
+      integer(c_int32_t) :: task
+    end function
+
+    function gerfmuod_team_start(team, threads) bind(c) result(refused)
+      import :: c_ptr, c_int32_t
+      type(c_ptr), value :: team
+      integer(c_int32_t), value :: threads
+      integer(c_int32_t) :: refused
+    end function
+
+    function gerfmuod_team_turn(team, node, done) bind(c) result(answer)
+      import :: c_ptr, c_int32_t, gerfmuod_answer
+      type(c_ptr), value :: team
+      integer(c_int32_t), value :: node, done
+      type(gerfmuod_answer) :: answer
+    end function
+
+    subroutine gerfmuod_team_stop(team, task) bind(c)
+      import :: c_ptr, c_int32_t
+      type(c_ptr), value :: team
+      integer(c_int32_t), value :: task
+    end subroutine
+
+    function gerfmuod_team_trace(team, room, length) bind(c) result(written)
+      import :: c_ptr, c_char, c_size_t
+      type(c_ptr), value :: team
+      character(kind=c_char), intent(out) :: room(*)
+      integer(c_size_t), value :: length
+      integer(c_size_t) :: written
+    end function
+  end interface
+
+  interface
+    function name_in_c(refused) bind(c, name='gerfmuod_team_name') result(text)
+      import :: c_ptr, c_int32_t
+      integer(c_int32_t), value :: refused
+      type(c_ptr) :: text
+    end function
+
+    function meaning_in_c(refused) bind(c, name='gerfmuod_team_meaning') result(text)
+      import :: c_ptr, c_int32_t
+      integer(c_int32_t), value :: refused
+      type(c_ptr) :: text
+    end function
+
+    function length_in_c(text) bind(c, name='strlen') result(length)
+      import :: c_ptr, c_size_t
+      type(c_ptr), value :: text
+      integer(c_size_t) :: length
+    end function
+  end interface
+  private :: name_in_c, meaning_in_c, length_in_c, text_of
+
+contains
+
+  ! The name of a refusal, as 'NoTask'.
+  function gerfmuod_name(refused) result(text)
+    integer(c_int32_t), intent(in) :: refused
+    character(:), allocatable :: text
+    text = text_of(name_in_c(refused))
+  end function
+
+  ! A sentence that explains a refusal.
+  function gerfmuod_meaning(refused) result(text)
+    integer(c_int32_t), intent(in) :: refused
+    character(:), allocatable :: text
+    text = text_of(meaning_in_c(refused))
+  end function
+
+  function text_of(pointer) result(text)
+    type(c_ptr), intent(in) :: pointer
+    character(:), allocatable :: text
+    character(kind=c_char), pointer :: letters(:)
+    integer :: i
+    call c_f_pointer(pointer, letters, [length_in_c(pointer)])
+    allocate (character(size(letters)) :: text)
+    do i = 1, size(letters)
+      text(i:i) = letters(i)
+    end do
+  end function
+end module

@@ -1,0 +1,141 @@
+// gerfmuod.hpp: task graphs in C++17, with lambdas as bodies, over gerfmuod_team.h.
+//
+//     double x, y, z;
+//     gerfmuod::Pool pool;
+//     auto a = pool.task([&] { x = std::sqrt(2.0); });
+//     auto b = pool.task([&] { y = std::exp(1.0); });
+//     pool.task([&] { z = x * y; }, {a, b}); // waits for a and b
+//     pool.run(4);
+//
+// A body runs once, after all tasks that it waits for, and sees what they wrote. A pool is used by one thread, except that
+// run() calls the bodies on several threads. If a body throws, the pool stops, and run() throws that exception.
+// Link with -lgerfmuod -pthread.
+#ifndef GERFMUOD_HPP
+#define GERFMUOD_HPP
+
+#include "gerfmuod_team.h"
+
+#include <cstdint>
+#include <exception>
+#include <functional>
+#include <memory>
+#include <mutex>
+#include <stdexcept>
+#include <string>
+#include <thread>
+#include <utility>
+#include <vector>
+
+namespace gerfmuod {
+
+// A call was refused. what() is the refusal's name, the task that it is about, and what it means.
+class Refused : public std::runtime_error {
+  public:
+    Refused(std::uint32_t number, std::uint32_t about)
+        : std::runtime_error(text(number, about)), refusal(number), task(about) {}
+
+    const std::uint32_t refusal; // an enum gerfmuod_dag_refusal or gerfmuod_team_refusal
+    const std::uint32_t task;    // or GERFMUOD_DAG_NONE
+
+  private:
+    static std::string text(std::uint32_t number, std::uint32_t about) {
+        std::string where = about == GERFMUOD_DAG_NONE ? "" : " at task " + std::to_string(about);
+        return gerfmuod_team_name(number) + where + ": " + gerfmuod_team_meaning(number);
+    }
+};
+
+// A task of the pool that made it, for the inputs of later tasks.
+struct Task {
+    std::uint32_t number;
+};
+
+// Where a task runs, and how early: a node, below the pool's number of nodes, and a class, 0 (first) to 3.
+struct Place {
+    std::uint32_t node = 0;
+    std::uint32_t class_ = 0;
+};
+
+class Pool {
+  public:
+    using Body = std::function<void()>;
+
+    // Throws Refused: BadSpec if `nodes` is not 1 to 8, NoMemory.
+    explicit Pool(std::uint32_t nodes = 1) {
+        gerfmuod_team *opened;
+        std::uint32_t refused = gerfmuod_team_open(&opened, nodes);
+        team.reset(opened);
+        check(refused, GERFMUOD_DAG_NONE);
+    }
+
+    // Describes one more task, which waits for the tasks of `after`. Throws Refused, as gerfmuod_team_task says.
+    Task task(Body body, const std::vector<Task> &after = {}, Place place = {}) {
+        std::vector<std::uint32_t> inputs;
+        inputs.reserve(after.size());
+        for (Task input : after) inputs.push_back(input.number);
+        Task made{GERFMUOD_DAG_NONE};
+        check(gerfmuod_team_task(team.get(), place.node, place.class_, inputs.data(), inputs.size(), &made.number));
+        try {
+            bodies.push_back(std::move(body));
+        } catch (...) { // no memory: a task without a body must not run
+            gerfmuod_team_stop(team.get(), made.number);
+            throw;
+        }
+        return made;
+    }
+
+    // Runs all tasks on `threads` threads, of which the caller is one. Throws what a body threw first, or Refused, as
+    // gerfmuod_team_run says.
+    void run(std::uint32_t threads = default_threads()) {
+        std::uint32_t refused = gerfmuod_team_run(team.get(), threads, call, this);
+        if (thrown) std::rethrow_exception(std::exchange(thrown, nullptr));
+        check(refused);
+    }
+
+    // How many tasks were described.
+    std::size_t size() const { return bodies.size(); }
+
+    // The steps of the pool as a trace, which `tp audit` judges.
+    std::string trace() const {
+        std::string text(gerfmuod_team_trace(team.get(), nullptr, 0), '\0');
+        gerfmuod_team_trace(team.get(), &text[0], text.size() + 1);
+        return text;
+    }
+
+    static std::uint32_t default_threads() {
+        unsigned processors = std::thread::hardware_concurrency();
+        return processors ? processors : 1;
+    }
+
+  private:
+    struct Close {
+        void operator()(gerfmuod_team *it) const { gerfmuod_team_close(it); }
+    };
+
+    void check(std::uint32_t refused) const {
+        if (refused) check(refused, gerfmuod_team_at(team.get()));
+    }
+    static void check(std::uint32_t refused, std::uint32_t task) {
+        if (refused) throw Refused(refused, task);
+    }
+
+    // The body that the team calls: no exception leaves it.
+    static int call(void *context, std::uint32_t task) noexcept {
+        Pool *pool = static_cast<Pool *>(context);
+        try {
+            pool->bodies[task]();
+            return 0;
+        } catch (...) {
+            std::lock_guard<std::mutex> held(pool->lock);
+            if (!pool->thrown) pool->thrown = std::current_exception();
+            return 1;
+        }
+    }
+
+    std::unique_ptr<gerfmuod_team, Close> team;
+    std::vector<Body> bodies;
+    std::mutex lock; // of `thrown`
+    std::exception_ptr thrown;
+};
+
+} // namespace gerfmuod
+#endif

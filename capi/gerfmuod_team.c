@@ -1,0 +1,453 @@
+/* gerfmuod_team.c: a pool of gerfmuod_dag.h with its lock, its waiting and its threads. C over pthreads, not proved.
+ *
+ * One mutex protects the pool and every field. A thread that finds no task first spins on a counter of its node, if there
+ * is a processor for it, and then sleeps on a condition variable of its node. */
+#ifndef _GNU_SOURCE
+#define _GNU_SOURCE /* sched_getaffinity */
+#endif
+#include "gerfmuod_team.h"
+
+#include <pthread.h>
+#include <sched.h>
+#include <stdbool.h>
+#include <stdio.h>
+#include <stdlib.h>
+#include <string.h>
+#include <unistd.h>
+
+/* How often a thread polls in one turn before it sleeps: some 20 to 100 microseconds. */
+enum { SPINS = 2000, ALL_NODES = (1 << GERFMUOD_DAG_MAX_NODES) - 1 };
+
+struct gerfmuod_team {
+    gerfmuod_dag dag;
+    pthread_mutex_t lock;
+    pthread_cond_t news[GERFMUOD_DAG_MAX_NODES];
+    uint32_t sleeping[GERFMUOD_DAG_MAX_NODES];
+    uint32_t first_task[GERFMUOD_DAG_MAX_NODES]; /* of each node, or GERFMUOD_DAG_NONE */
+    uint32_t nodes, tasks, processors;
+    uint32_t threads;           /* 0 until the pool is started */
+    uint32_t fault, at;         /* the refusal that ends every turn, and the task of the last refusal */
+    uint32_t executing;         /* tasks that were returned and are not done */
+    uint32_t waiting, spinning; /* threads that wait, and those of them that spin */
+    bool is_over, is_in_run;
+    char apart[64]; /* keeps what spinning threads read off the cache lines above */
+    uint32_t version[GERFMUOD_DAG_MAX_NODES]; /* raised at news; read without the lock */
+};
+
+/* ---- opening and describing */
+
+static uint32_t processors(void) {
+#ifdef __linux__
+    cpu_set_t set;
+    if (sched_getaffinity(0, sizeof set, &set) == 0) return (uint32_t)CPU_COUNT(&set);
+#endif
+    long online = sysconf(_SC_NPROCESSORS_ONLN);
+    return online > 0 ? (uint32_t)online : 1;
+}
+
+uint32_t gerfmuod_team_open(gerfmuod_team **opened, uint32_t nodes) {
+    *opened = NULL;
+    gerfmuod_team *team = calloc(1, sizeof *team);
+    if (!team) return GERFMUOD_DAG_NO_MEMORY;
+    uint32_t refused = gerfmuod_dag_open(&team->dag, nodes);
+    if (refused) {
+        free(team);
+        return refused;
+    }
+    pthread_mutex_init(&team->lock, NULL);
+    for (uint32_t i = 0; i < GERFMUOD_DAG_MAX_NODES; i++) {
+        pthread_cond_init(&team->news[i], NULL);
+        team->first_task[i] = GERFMUOD_DAG_NONE;
+    }
+    team->nodes = nodes;
+    team->processors = processors();
+    team->at = GERFMUOD_DAG_NONE;
+    *opened = team;
+    return GERFMUOD_DAG_OK;
+}
+
+void gerfmuod_team_close(gerfmuod_team *team) {
+    if (!team) return;
+    gerfmuod_dag_close(&team->dag);
+    pthread_mutex_destroy(&team->lock);
+    for (uint32_t i = 0; i < GERFMUOD_DAG_MAX_NODES; i++) pthread_cond_destroy(&team->news[i]);
+    free(team);
+}
+
+/* Raises the counters of these nodes (bits) and wakes one sleeping thread of each, or all. */
+static void wake(gerfmuod_team *team, uint32_t nodes, bool wake_all) {
+    for (uint32_t i = 0; nodes >> i; i++) {
+        if (!(nodes >> i & 1)) continue;
+        __atomic_fetch_add(&team->version[i], 1, __ATOMIC_RELAXED);
+        if (team->sleeping[i] && wake_all) pthread_cond_broadcast(&team->news[i]);
+        else if (team->sleeping[i]) pthread_cond_signal(&team->news[i]);
+    }
+}
+
+static inline void tell(gerfmuod_team *team, uint32_t nodes, bool wake_all) {
+    if (nodes && team->waiting) wake(team, nodes, wake_all);
+}
+
+/* A refusal about a task. */
+static uint32_t refuse(gerfmuod_team *team, uint32_t refused, uint32_t task) {
+    team->at = task;
+    return refused;
+}
+
+/* A refusal after which the team cannot go on: every later turn gets it. */
+static uint32_t fail(gerfmuod_team *team, uint32_t refused, uint32_t task) {
+    if (!team->fault) {
+        team->fault = refuse(team, refused, task);
+        tell(team, ALL_NODES, true);
+    }
+    return team->fault;
+}
+
+/* Whether the pool is as it was before it refused. */
+static bool changes_nothing(uint32_t refused) {
+    return refused != GERFMUOD_DAG_NO_MEMORY && refused != GERFMUOD_DAG_HISTORY_FULL;
+}
+
+/* A task and its inputs, while the graph may grow. A refusal changes nothing, or ends the team. */
+static inline uint32_t describe_task(gerfmuod_team *team, uint32_t node, uint32_t class_, const uint32_t *inputs, size_t count) {
+    uint32_t number = team->tasks, refused;
+    for (size_t k = 0; k < count; k++)
+        if (inputs[k] >= number) return refuse(team, GERFMUOD_DAG_NO_TASK, number);
+    refused = gerfmuod_dag_task(&team->dag, node, class_).refused;
+    if (refused) return changes_nothing(refused) ? refuse(team, refused, number) : fail(team, refused, number);
+    team->tasks = number + 1;
+    if (team->first_task[node] == GERFMUOD_DAG_NONE) team->first_task[node] = number;
+    for (size_t k = 0; k < count; k++) {
+        refused = gerfmuod_dag_input(&team->dag, inputs[k]).refused;
+        if (refused) return fail(team, refused, number);
+    }
+    return GERFMUOD_DAG_OK;
+}
+
+/* Whether tasks may be described. */
+static uint32_t check_description(gerfmuod_team *team) {
+    if (team->fault) return team->fault;
+    return team->threads ? refuse(team, GERFMUOD_DAG_WRONG_LIFE, team->tasks) : GERFMUOD_DAG_OK;
+}
+
+uint32_t gerfmuod_team_task(gerfmuod_team *team, uint32_t node, uint32_t class_, const uint32_t *inputs, size_t count,
+                            uint32_t *number) {
+    pthread_mutex_lock(&team->lock);
+    uint32_t refused = check_description(team);
+    if (!refused) refused = describe_task(team, node, class_, inputs, count);
+    if (!refused && number) *number = team->tasks - 1;
+    pthread_mutex_unlock(&team->lock);
+    return refused;
+}
+
+uint32_t gerfmuod_team_describe(gerfmuod_team *team, uint32_t tasks, const uint8_t *nodes, const uint8_t *classes,
+                                const uint32_t *offsets, const uint32_t *inputs) {
+    pthread_mutex_lock(&team->lock);
+    uint32_t refused = check_description(team), from = offsets[0];
+    if (!refused && team->tasks) refused = refuse(team, GERFMUOD_DAG_WRONG_LIFE, GERFMUOD_DAG_NONE);
+    for (uint32_t t = 0; t < tasks && !refused; t++) {
+        uint32_t end = offsets[t + 1];
+        if (from > end || (from < end && !inputs)) refused = refuse(team, GERFMUOD_DAG_BAD_SPEC, t);
+        else refused = describe_task(team, nodes ? nodes[t] : 0, classes ? classes[t] : 0, inputs ? inputs + from : NULL, end - from);
+        from = end;
+    }
+    pthread_mutex_unlock(&team->lock);
+    return refused;
+}
+
+/* ---- running */
+
+/* Whether each node that has a task has one of so many threads. */
+static uint32_t check_threads(gerfmuod_team *team, uint32_t threads) {
+    for (uint32_t i = threads; i < team->nodes; i++)
+        if (!threads || team->first_task[i] != GERFMUOD_DAG_NONE)
+            return refuse(team, GERFMUOD_TEAM_NO_THREAD, team->first_task[i]);
+    return GERFMUOD_DAG_OK;
+}
+
+/* Whether the pool may be started with so many threads. */
+static uint32_t check_start(gerfmuod_team *team, uint32_t threads) {
+    if (team->fault) return team->fault;
+    if (team->is_in_run) return refuse(team, GERFMUOD_TEAM_RUNNING, GERFMUOD_DAG_NONE);
+    if (team->is_over) return refuse(team, GERFMUOD_DAG_ENDED, GERFMUOD_DAG_NONE);
+    if (team->threads) return refuse(team, GERFMUOD_DAG_WRONG_LIFE, GERFMUOD_DAG_NONE);
+    return check_threads(team, threads);
+}
+
+/* Starts the pool. Tasks may have been described since check_start, so it looks at the threads again. */
+static uint32_t start(gerfmuod_team *team, uint32_t threads) {
+    uint32_t refused = check_threads(team, threads);
+    if (refused) return refused;
+    refused = gerfmuod_dag_start(&team->dag).refused;
+    if (refused) return refuse(team, refused, GERFMUOD_DAG_NONE);
+    team->threads = threads;
+    tell(team, ALL_NODES, true);
+    return GERFMUOD_DAG_OK;
+}
+
+uint32_t gerfmuod_team_start(gerfmuod_team *team, uint32_t threads) {
+    pthread_mutex_lock(&team->lock);
+    uint32_t refused = check_start(team, threads);
+    if (!refused) refused = start(team, threads);
+    pthread_mutex_unlock(&team->lock);
+    return refused;
+}
+
+static inline void pause_processor(void) {
+#if defined(__x86_64__) || defined(__i386__)
+    __builtin_ia32_pause();
+#elif defined(__aarch64__)
+    __asm__ volatile("yield");
+#endif
+}
+
+static void sleep_until_news(gerfmuod_team *team, uint32_t node) {
+    team->sleeping[node]++;
+    pthread_cond_wait(&team->news[node], &team->lock);
+    team->sleeping[node]--;
+}
+
+/* Polls until there is news, without the lock. Returns the polls that are left. */
+static uint32_t spin_until_news(gerfmuod_team *team, uint32_t node, uint32_t spins) {
+    uint32_t seen = __atomic_load_n(&team->version[node], __ATOMIC_RELAXED);
+    team->spinning++;
+    pthread_mutex_unlock(&team->lock);
+    while (spins > 0 && __atomic_load_n(&team->version[node], __ATOMIC_RELAXED) == seen) {
+        pause_processor();
+        spins--;
+    }
+    pthread_mutex_lock(&team->lock);
+    team->spinning--;
+    return spins;
+}
+
+/* Waits for news at a node: spins if polls are left and a processor has nothing else to do. Returns the polls that are left. */
+static uint32_t wait_for_news(gerfmuod_team *team, uint32_t node, uint32_t spins) {
+    team->waiting++;
+    if (spins > 0 && team->spinning + team->executing < team->processors) spins = spin_until_news(team, node, spins);
+    else sleep_until_news(team, node);
+    team->waiting--;
+    return spins;
+}
+
+/* The next task of a node, as soon as there is one; the end; or the refusal that ends every turn. */
+static gerfmuod_dag_answer take(gerfmuod_team *team, uint32_t node) {
+    gerfmuod_dag_answer answer = {0, 0, 0, 0};
+    for (uint32_t spins = SPINS; !team->fault; spins = wait_for_news(team, node, spins)) {
+        if (!team->threads) continue; /* not started yet */
+        answer = gerfmuod_dag_next(&team->dag, node);
+        if (answer.refused) {
+            fail(team, answer.refused, GERFMUOD_DAG_NONE);
+        } else if (answer.told == GERFMUOD_DAG_RUN) {
+            team->executing++;
+            tell(team, answer.news, false);
+            return answer;
+        } else if (answer.told == GERFMUOD_DAG_OVER) {
+            if (!team->is_over) tell(team, ALL_NODES, true);
+            team->is_over = true;
+            return answer;
+        }
+        if (team->fault) break;
+    }
+    answer.refused = team->fault;
+    return answer;
+}
+
+gerfmuod_dag_answer gerfmuod_team_turn(gerfmuod_team *team, uint32_t node, uint32_t done) {
+    gerfmuod_dag_answer answer = {GERFMUOD_DAG_NO_NODE, 0, 0, 0};
+    pthread_mutex_lock(&team->lock);
+    if (node < team->nodes) {
+        if (done != GERFMUOD_DAG_NONE && !team->fault) {
+            answer = gerfmuod_dag_done(&team->dag, node, done);
+            if (answer.refused) fail(team, answer.refused, done);
+            else {
+                team->executing--;
+                tell(team, answer.news, false);
+            }
+        }
+        answer = take(team, node);
+    }
+    pthread_mutex_unlock(&team->lock);
+    return answer;
+}
+
+void gerfmuod_team_stop(gerfmuod_team *team, uint32_t task) {
+    pthread_mutex_lock(&team->lock);
+    if (!team->is_over) fail(team, GERFMUOD_TEAM_STOPPED, task);
+    pthread_mutex_unlock(&team->lock);
+}
+
+/* What the threads of one run share. They wait at the gate until it is known that all of them are there. */
+struct run {
+    gerfmuod_team *team;
+    gerfmuod_team_body body;
+    void *context;
+    pthread_cond_t gate;
+    enum { SHUT, OPEN, ABANDONED } state;
+};
+struct worker {
+    pthread_t thread;
+    struct run *run;
+    uint32_t node;
+};
+
+static void run_tasks(const struct run *run, uint32_t node) {
+    uint32_t done = GERFMUOD_DAG_NONE;
+    for (;;) {
+        gerfmuod_dag_answer answer = gerfmuod_team_turn(run->team, node, done);
+        if (answer.refused || answer.told == GERFMUOD_DAG_OVER) return;
+        done = answer.number;
+        if (run->body(run->context, done)) {
+            gerfmuod_team_stop(run->team, done);
+            return;
+        }
+    }
+}
+
+static void *worker_thread(void *argument) {
+    const struct worker *worker = argument;
+    struct run *run = worker->run;
+    pthread_mutex_lock(&run->team->lock);
+    while (run->state == SHUT) pthread_cond_wait(&run->gate, &run->team->lock);
+    bool is_open = run->state == OPEN;
+    pthread_mutex_unlock(&run->team->lock);
+    if (is_open) run_tasks(run, worker->node);
+    return NULL;
+}
+
+/* Runs the pool with these workers; the first one is the caller. */
+static uint32_t run_workers(gerfmuod_team *team, struct run *run, struct worker *workers, uint32_t threads) {
+    uint32_t begun = 1;
+    for (; begun < threads; begun++) {
+        workers[begun] = (struct worker){.run = run, .node = begun % team->nodes};
+        if (pthread_create(&workers[begun].thread, NULL, worker_thread, &workers[begun])) break;
+    }
+    pthread_mutex_lock(&team->lock);
+    uint32_t refused = begun < threads ? refuse(team, GERFMUOD_TEAM_NOT_STARTED, GERFMUOD_DAG_NONE) : start(team, threads);
+    run->state = refused ? ABANDONED : OPEN;
+    pthread_cond_broadcast(&run->gate);
+    pthread_mutex_unlock(&team->lock);
+    if (!refused) run_tasks(run, 0);
+    for (uint32_t w = 1; w < begun; w++) pthread_join(workers[w].thread, NULL);
+    return refused ? refused : team->fault;
+}
+
+uint32_t gerfmuod_team_run(gerfmuod_team *team, uint32_t threads, gerfmuod_team_body body, void *context) {
+    struct run run = {.team = team, .body = body, .context = context, .state = SHUT};
+    pthread_mutex_lock(&team->lock);
+    uint32_t refused = check_start(team, threads);
+    if (!refused) team->is_in_run = true;
+    pthread_mutex_unlock(&team->lock);
+    if (refused) return refused;
+    struct worker *workers = calloc(threads, sizeof *workers);
+    if (workers) {
+        pthread_cond_init(&run.gate, NULL);
+        refused = run_workers(team, &run, workers, threads);
+        pthread_cond_destroy(&run.gate);
+        free(workers);
+    } else {
+        refused = GERFMUOD_DAG_NO_MEMORY;
+    }
+    pthread_mutex_lock(&team->lock);
+    team->is_in_run = false;
+    pthread_mutex_unlock(&team->lock);
+    return refused;
+}
+
+uint32_t gerfmuod_team_at(gerfmuod_team *team) {
+    pthread_mutex_lock(&team->lock);
+    uint32_t at = team->at;
+    pthread_mutex_unlock(&team->lock);
+    return at;
+}
+
+/* ---- texts */
+
+static const struct refusal {
+    uint32_t number;
+    const char *name, *meaning;
+} refusals[] = {
+    {GERFMUOD_DAG_NO_NODE, "NoNode", "there is no such node, or the task is at another node"},
+    {GERFMUOD_DAG_NO_TASK, "NoTask", "there is no such task, or an input is not lower than its task"},
+    {GERFMUOD_DAG_WRONG_LIFE, "WrongLife", "the task or the pool is not in the state that the call needs"},
+    {GERFMUOD_DAG_INACTIVE, "Inactive", "a start that was refused memory has begun at this node"},
+    {GERFMUOD_DAG_ENDED, "Ended", "the pool is over"},
+    {GERFMUOD_DAG_HISTORY_FULL, "HistoryFull", "the graph needs more steps than a pool has"},
+    {GERFMUOD_DAG_NO_MEMORY, "NoMemory", "an allocation failed"},
+    {GERFMUOD_DAG_NO_POOL, "NoPool", "the pool is not open"},
+    {GERFMUOD_DAG_BAD_SPEC, "BadSpec", "a number of nodes, a class or an array is out of its range"},
+    {GERFMUOD_TEAM_NO_THREAD, "NoThread", "there are fewer threads than nodes, and a node without one has a task"},
+    {GERFMUOD_TEAM_NOT_STARTED, "NotStarted", "the operating system started too few threads"},
+    {GERFMUOD_TEAM_STOPPED, "Stopped", "a body failed, or the team was stopped"},
+    {GERFMUOD_TEAM_RUNNING, "Running", "the pool is running"},
+};
+
+static const struct refusal *refusal_of(uint32_t number) {
+    static const struct refusal none = {0, "Ok", "the call was not refused"}, unknown = {0, "Unknown", "no such refusal"};
+    for (size_t i = 0; i < sizeof refusals / sizeof *refusals; i++)
+        if (refusals[i].number == number) return &refusals[i];
+    return number ? &unknown : &none;
+}
+
+const char *gerfmuod_team_name(uint32_t refused) { return refusal_of(refused)->name; }
+
+const char *gerfmuod_team_meaning(uint32_t refused) { return refusal_of(refused)->meaning; }
+
+/* A step in the words of a trace, and how many of its numbers follow. The order is that of GERFMUOD_STEP_* in gerfmuod.h. */
+static const struct word {
+    const char *word;
+    int numbers;
+} words[] = {{"insert", 3}, {"supply", 1}, {"begin", 1}, {"done", 1}, {"open", 2},  {"close", 2}, {"ready", 1}, {"send", 3},
+             {"recv", 2},   {"end", 2},    {"start", 0}, {"down", 1}, {"give", 1},  {"up", 1},    {"judge", 0}};
+enum { STEP_START = 10, STEP_JUDGE = 14, NO_STEP = 255 };
+
+struct text {
+    char *room;
+    size_t length, written;
+};
+
+static void append(struct text *text, const char *word) {
+    size_t count = strlen(word);
+    for (size_t i = 0; i < count; i++)
+        if (text->written + i + 1 < text->length) text->room[text->written + i] = word[i];
+    text->written += count;
+}
+
+static void append_number(struct text *text, uint32_t number) {
+    char digits[16];
+    snprintf(digits, sizeof digits, " %u", (unsigned)number);
+    append(text, digits);
+}
+
+/* The last judgement of a pool that is over found its end, in the wave before it. */
+static void append_step(struct text *text, gerfmuod_dag_taken step, uint32_t waves, uint32_t last_wave) {
+    const uint32_t numbers[] = {step.first, step.second, step.third};
+    append(text, words[step.kind].word);
+    for (int i = 0; i < words[step.kind].numbers; i++) append_number(text, numbers[i]);
+    if (step.kind == STEP_JUDGE && waves == last_wave) {
+        append(text, " ended");
+        append_number(text, waves - 1);
+    } else if (step.kind == STEP_JUDGE) {
+        append(text, " not");
+    }
+    append(text, "\n");
+}
+
+size_t gerfmuod_team_trace(gerfmuod_team *team, char *room, size_t length) {
+    struct text text = {room, length, 0};
+    uint32_t last_wave = 0, waves = 0;
+    gerfmuod_dag_taken step;
+    pthread_mutex_lock(&team->lock);
+    if (team->is_over)
+        for (uint32_t k = 0; (step = gerfmuod_dag_step(&team->dag, k)).kind != NO_STEP; k++) last_wave += step.kind == STEP_START;
+    append(&text, "trace 1\nnodes");
+    append_number(&text, team->nodes);
+    append(&text, "\n");
+    for (uint32_t k = 0; (step = gerfmuod_dag_step(&team->dag, k)).kind <= STEP_JUDGE; k++) {
+        waves += step.kind == STEP_START;
+        append_step(&text, step, waves, last_wave);
+    }
+    pthread_mutex_unlock(&team->lock);
+    if (length) room[text.written < length ? text.written : length - 1] = 0;
+    return text.written;
+}

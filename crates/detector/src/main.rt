@@ -1,0 +1,115 @@
+//! Runs the processes of a distributed program as threads that talk over channels: a tree of tasks, drawn at random, epoch after
+//! epoch, with the detector of `tp_process`. What it prints does not depend on the schedule.
+#![tactic(auto)]
+
+mod member;
+mod tree;
+
+use crate::member::{Content, Fault, Mailbox, Member, Totals};
+use std::alloc::{AllocError, Global};
+use std::sync::Wait;
+use std::sync::atomic::{AtomicBool, Ordering};
+use std::thread::{JoinHandle, SpawnError, Threads};
+use std::time::Clock;
+use std::{io, thread};
+
+fn main(rt: HostRuntime) -> io::Result<()> {
+    for processes in [1, 2, 3, 8, 16] {
+        match run_processes(&rt, rt.alloc(), processes) {
+            Ok((totals, left)) => {
+                let Totals {
+                    tasks,
+                    checksum,
+                    sent,
+                    received,
+                } = totals;
+                println!(rt;
+                    "processes {processes} tasks {tasks} checksum {checksum:016x} sent {sent} received {received} left {left}"
+                )?;
+            }
+            Err(fault) => println!(rt; "processes {processes}: {fault:?}")?,
+        }
+    }
+    Ok(())
+}
+
+/// Runs so many processes, each in a thread of its own. Gives what they did, and how many tasks are left in the mailboxes.
+fn run_processes<R: Threads + Wait + Clock + Sync>(
+    rt: &R,
+    alloc: Global,
+    processes: u32,
+) -> Result<(Totals, u64), Fault> {
+    let mut mailboxes = Vec::new(alloc);
+    for _ in 0..processes {
+        let (sender, receiver) = crossbeam_channel::unbounded(alloc)?;
+        mailboxes.push(Mailbox { sender, receiver })?;
+    }
+    let totals = run_threads(rt, alloc, processes, &mailboxes)?;
+    let mut left = 0u64;
+    for mailbox in &mailboxes {
+        for message in mailbox.receiver.try_iter(rt) {
+            if let Content::Task(_) = message.content {
+                left = left.saturating_add(1);
+            }
+        }
+    }
+    Ok((totals, left))
+}
+
+/// Starts a thread for each process, and adds up what they did.
+fn run_threads<R: Threads + Wait + Clock + Sync>(
+    rt: &R,
+    alloc: Global,
+    processes: u32,
+    mailboxes: &[Mailbox],
+) -> Result<Totals, Fault> {
+    let has_failed = AtomicBool::new(false);
+    let failed = &has_failed;
+    let mut members = Vec::new(alloc);
+    for number in 0..processes {
+        members.push(Member::new(rt, alloc, number, processes, mailboxes, failed)?)?;
+    }
+    let totals = thread::scope(thread::scope_env(), rt, |scope| {
+        let mut handles = Vec::new(alloc);
+        for member in members {
+            if keep(&mut handles, scope.spawn(move || member.run())).is_err() {
+                failed.store(true, Ordering::SeqCst);
+                break;
+            }
+        }
+        totals_of(rt, handles)
+    })?;
+    if has_failed.load(Ordering::SeqCst) {
+        return Err(Fault::NoMemory);
+    }
+    Ok(totals)
+}
+
+/// Keeps the handle of a thread, if it could be started and there is memory.
+fn keep<T: Drop, F: Drop>(
+    handles: &mut Vec<JoinHandle<T>>,
+    started: Result<JoinHandle<T>, SpawnError<F>>,
+) -> Result<(), AllocError> {
+    handles.push(started?)?;
+    Ok(())
+}
+
+/// Waits for each thread, and adds up what they did. If some gave up, returns the fault of one that no other one stopped.
+fn totals_of<R: Threads>(
+    rt: &R,
+    handles: Vec<JoinHandle<Result<Totals, Fault>>>,
+) -> Result<Totals, Fault> {
+    let mut totals = Totals::none();
+    let mut fault = None;
+    for handle in handles {
+        match handle.join(rt) {
+            Ok(own) => totals = totals.plus(own),
+            Err(Fault::Stopped) => fault = fault.or(Some(Fault::Stopped)),
+            Err(own) => fault = Some(own),
+        }
+    }
+    match fault {
+        Some(fault) => Err(fault),
+        None => Ok(totals),
+    }
+}

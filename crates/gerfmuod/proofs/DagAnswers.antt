@@ -1,0 +1,172 @@
+-- What the answers of `next` and `done` on a pool show.
+use Rattle.std.proofs.Common.{ℕ, ◌≡◌, ◌≤◌, ◌+◌, Bool, true, false, List, [], ◌∷◌, refl, arith, ap, sym, subst, ◌∙◌, Some, None, Option, Result, IsTrue, IsFalse}
+use Rattle.std.specs.Prelude.{Ok, Err, IfSome, not, if◌then◌else◌}
+use Rattle.tp_base.specs.declared.Refusal.{Refusal}
+use Rattle.tp_base.specs.declared.Refusal.TheVariants as refusal
+use Rattle.tp_base.specs.Checks.{Check, first_refusal}
+use Rattle.tp_base.specs.Refusals.{number_of}
+use Rattle.tp_wave.specs.Steps.{count}
+use Rattle.tp_core.specs.NeverEarly.{is_begin_of}
+use Rattle.tp_dag.specs.declared.Next.{Next}
+use Rattle.tp_dag.specs.declared.Next.TheVariants.{Run, Wait, Finished}
+use Rattle.tp_dag.specs.State.{PoolState, AddsOnly, SameGraph, IsFinished, IsDispatched, IsCompleted, dispatched, is_sending, next_checks, done_checks}
+use Rattle.gerfmuod.specs.declared.dag.answer.DagAnswer.{DagAnswer}
+use Rattle.gerfmuod.specs.declared.dag.slot.PoolSlot.TheInside.{Inside}
+use Rattle.gerfmuod.specs.DagSlot.{state_of}
+use Rattle.gerfmuod.specs.Dag.{SlotState, RefusesBy, IsNext, IsDone, checks, next_answer, plain, refusal_answer}
+
+-- a refusal has a number
+pub some_number : (r : Refusal) → 1 ≤ number_of r
+some_number refusal.NoNode = omega arith
+some_number refusal.SameNode = omega arith
+some_number refusal.TaskKnown = omega arith
+some_number refusal.NoTask = omega arith
+some_number refusal.WrongLife = omega arith
+some_number refusal.Inactive = omega arith
+some_number refusal.ActionKnown = omega arith
+some_number refusal.NoAction = omega arith
+some_number refusal.MessageKnown = omega arith
+some_number refusal.NoMessage = omega arith
+some_number refusal.NotIdle = omega arith
+some_number refusal.NoToken = omega arith
+some_number refusal.WaveOpen = omega arith
+some_number refusal.WaveNotEnded = omega arith
+some_number refusal.Ended = omega arith
+some_number (refusal.HistoryFull n) = omega arith
+some_number refusal.NoMemory = omega arith
+some_number refusal.SlotTaken = omega arith
+some_number refusal.Stranger = omega arith
+some_number refusal.Missing = omega arith
+some_number (refusal.Stalled n) = omega arith
+some_number refusal.BodyFailed = omega arith
+some_number refusal.StoreFull = omega arith
+some_number refusal.NoPool = omega arith
+some_number refusal.PoolKnown = omega arith
+some_number refusal.BadSpec = omega arith
+
+not_zero : (r : Refusal) (n : ℕ) → n ≡ number_of r → n ≡ 0 → ⊥
+not_zero r n e z = let some = some_number r in omega (arith, some, e, z)
+
+pub opens : (b r : Bool) → r ≡ b → IsTrue r → IsTrue b
+opens b r e h = sym e ∙ h
+
+abbrev slot : Bool → PoolState → SlotState
+slot b p = record { is_open = b; pool = p }
+
+slot_same : (old new : SlotState) → new.is_open ≡ old.is_open → new.pool ≡ old.pool → new ≡ old
+slot_same old new e f = ap (λ (b : Bool). slot b new.pool) e ∙ ap (λ (p : PoolState). slot old.is_open p) f
+
+-- the first check is that the pool is open
+open_refuses : (old new : SlotState) (more : List Check) (a : DagAnswer) → IsTrue old.is_open
+    → IfSome (first_refusal more) (λ r. (a.refused ≡ number_of r) × (new ≡ old)) → RefusesBy (checks old more) old a new
+open_refuses old new more a live h =
+    subst (λ (b : Bool). IfSome (first_refusal ((not b, refusal.NoPool) ∷ more)) (λ r. (a.refused ≡ number_of r) × (new ≡ old))) (sym live) h
+
+abbrev Same : (A : Type 0) → Result A Refusal → Result A Refusal → Type 0
+Same A x y = x ≡ y
+
+same_err : (A : Type 0) (e r : Refusal) → Same A (Err e) (Err r) → e ≡ r
+same_err A e r h = cc
+
+never_ok : {A : Type 0} (x : A) (r : Refusal) → Same A (Ok x) (Err r) → ⊥
+never_ok x r h = cc
+
+-- a call that succeeded is not refused by a check, and one that failed is, for that
+passed : {A : Type 0} (o : Option Refusal) (x : A) (S : Type 0) (Q : Refusal → Type 0) → IfSome o (λ r. Same A (Ok x) (Err r) × S) → IfSome o Q
+passed None x S Q h = tt
+passed (Some r) x S Q h = absurd (never_ok x r h.0)
+
+failed : (A : Type 0) (o : Option Refusal) (e : Refusal) (S T : Type 0) → (S → T) → IfSome o (λ r. Same A (Err e) (Err r) × S)
+    → IfSome o (λ r. (number_of e ≡ number_of r) × T)
+failed A None e S T f h = tt
+failed A (Some r) e S T f h = (ap number_of (same_err A e r h.0), f h.1)
+
+-- ---- next
+pub next_done : (p : Inside) (now : SlotState) (pool : PoolState) (node news : ℕ) (n : Next) → state_of p ≡ now → IsTrue now.is_open
+    → IfSome (first_refusal (next_checks p.pool node)) (λ r. Same Next (Ok n) (Err r) × (pool ≡ p.pool))
+    → ((t : ℕ) → n ≡ Run t → IsDispatched node t p.pool pool) → ((w : ℕ) → n ≡ Finished w → IsFinished pool) → SameGraph p.pool pool
+    → ((t : ℕ) → count (is_begin_of t) pool.steps ≡ count (is_begin_of t) p.pool.steps + dispatched (Ok n) t)
+    → IsNext now node (next_answer n news) (state_of (record p { pool = pool }))
+next_done p now pool node news n same live check run finished graph begun =
+    subst (λ (a : SlotState). IsNext a node (next_answer n news) new) same (by_kind n check run finished begun)
+  where
+    new : SlotState
+    new = state_of (record p { pool = pool })
+
+    here : IsTrue (state_of p).is_open
+    here = ap (λ (a : SlotState). a.is_open) same ∙ live
+
+    by_kind : (m : Next) → IfSome (first_refusal (next_checks p.pool node)) (λ r. Same Next (Ok m) (Err r) × (pool ≡ p.pool))
+        → ((t : ℕ) → m ≡ Run t → IsDispatched node t p.pool pool) → ((w : ℕ) → m ≡ Finished w → IsFinished pool)
+        → ((t : ℕ) → count (is_begin_of t) pool.steps ≡ count (is_begin_of t) p.pool.steps + dispatched (Ok m) t)
+        → IsNext (state_of p) node (next_answer m news) new
+    by_kind (Run u) c r f b = record {
+      checked = open_refuses (state_of p) new (next_checks p.pool node) (next_answer (Run u) news) here
+          (passed {A = Next} (first_refusal (next_checks p.pool node)) (Run u) (pool ≡ p.pool) _ c);
+      run = λ z. r u refl;
+      finished = λ z. absurd (omega (arith, z));
+      graph = graph;
+      begun = b;
+    }
+    by_kind Wait c r f b = record {
+      checked = open_refuses (state_of p) new (next_checks p.pool node) (next_answer Wait news) here
+          (passed {A = Next} (first_refusal (next_checks p.pool node)) Wait (pool ≡ p.pool) _ c);
+      run = λ z. absurd (omega (arith, z));
+      finished = λ z. absurd (omega (arith, z));
+      graph = graph;
+      begun = b;
+    }
+    by_kind (Finished w) c r f b = record {
+      checked = open_refuses (state_of p) new (next_checks p.pool node) (next_answer (Finished w) news) here
+          (passed {A = Next} (first_refusal (next_checks p.pool node)) (Finished w) (pool ≡ p.pool) _ c);
+      run = λ z. absurd (omega (arith, z));
+      finished = λ z. f w refl;
+      graph = graph;
+      begun = b;
+    }
+
+pub next_refused : (p : Inside) (now : SlotState) (pool : PoolState) (node : ℕ) (e : Refusal) → state_of p ≡ now → IsTrue now.is_open
+    → IfSome (first_refusal (next_checks p.pool node)) (λ r. Same Next (Err e) (Err r) × (pool ≡ p.pool)) → SameGraph p.pool pool
+    → ((t : ℕ) → count (is_begin_of t) pool.steps ≡ count (is_begin_of t) p.pool.steps + dispatched (Err e) t)
+    → IsNext now node (refusal_answer e) (state_of (record p { pool = pool }))
+next_refused p now pool node e same live check graph begun =
+    subst (λ (a : SlotState). IsNext a node (refusal_answer e) (state_of (record p { pool = pool }))) same (record {
+      checked = open_refuses (state_of p) (state_of (record p { pool = pool })) (next_checks p.pool node) (refusal_answer e)
+          (ap (λ (a : SlotState). a.is_open) same ∙ live)
+          (failed Next (first_refusal (next_checks p.pool node)) e (pool ≡ p.pool) (state_of (record p { pool = pool }) ≡ state_of p)
+          (slot_same (state_of p) (state_of (record p { pool = pool })) refl) check);
+      run = λ z. absurd (omega (arith, z));
+      finished = λ z. absurd (omega (arith, z));
+      graph = graph;
+      begun = begun;
+    })
+
+-- ---- done
+pub done_done : (p : Inside) (now : SlotState) (pool : PoolState) (node task news : ℕ) → state_of p ≡ now → IsTrue now.is_open
+    → IfSome (first_refusal (done_checks p.pool node task)) (λ r. Same ℕ (Ok news) (Err r) × (pool ≡ p.pool))
+    → IsCompleted task p.pool pool → ((t : ℕ) → count (is_begin_of t) pool.steps ≡ count (is_begin_of t) p.pool.steps)
+    → IsDone now node task (plain 0 news) (state_of (record p { pool = pool }))
+done_done p now pool node task news same live check is begun =
+    subst (λ (a : SlotState). IsDone a node task (plain 0 news) (state_of (record p { pool = pool }))) same (record {
+      checked = open_refuses (state_of p) (state_of (record p { pool = pool })) (done_checks p.pool node task) (plain 0 news)
+          (ap (λ (a : SlotState). a.is_open) same ∙ live)
+          (passed {A = ℕ} (first_refusal (done_checks p.pool node task)) news (pool ≡ p.pool) _ check);
+      done = λ z. is;
+      refused = λ s. absurd (omega (arith, s));
+      begun = begun;
+    })
+
+pub done_refused : (p : Inside) (now : SlotState) (pool : PoolState) (node task : ℕ) (e : Refusal) → state_of p ≡ now → IsTrue now.is_open
+    → IfSome (first_refusal (done_checks p.pool node task)) (λ r. Same ℕ (Err e) (Err r) × (pool ≡ p.pool))
+    → AddsOnly is_sending p.pool pool → ((t : ℕ) → count (is_begin_of t) pool.steps ≡ count (is_begin_of t) p.pool.steps)
+    → IsDone now node task (refusal_answer e) (state_of (record p { pool = pool }))
+done_refused p now pool node task e same live check is begun =
+    subst (λ (a : SlotState). IsDone a node task (refusal_answer e) (state_of (record p { pool = pool }))) same (record {
+      checked = open_refuses (state_of p) (state_of (record p { pool = pool })) (done_checks p.pool node task) (refusal_answer e)
+          (ap (λ (a : SlotState). a.is_open) same ∙ live)
+          (failed ℕ (first_refusal (done_checks p.pool node task)) e (pool ≡ p.pool) (state_of (record p { pool = pool }) ≡ state_of p)
+          (slot_same (state_of p) (state_of (record p { pool = pool })) refl) check);
+      done = λ z. absurd (not_zero e (number_of e) refl z);
+      refused = λ s. is;
+      begun = begun;
+    })

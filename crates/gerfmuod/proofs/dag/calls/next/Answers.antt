@@ -1,0 +1,20 @@
+use Rattle.std.proofs.Common.{subst, sym, ◌∙◌, true, false, IsTrue, ◌≡◌, Bool, refl}
+use Rattle.gerfmuod.specs.declared.dag.answer.DagAnswer.{DagAnswer}
+use Rattle.gerfmuod.specs.Dag.{SlotState, IsNext}
+use Rattle.gerfmuod.specs.DagSlot.{state_of}
+use Rattle.gerfmuod.proofs.DagAnswers.{next_done, next_refused, opens}
+use Rattle.gerfmuod.proofs.dag.calls.next.Goals as goal
+
+pub returns-in-Ok : goal.returns-in-Ok
+returns-in-Ok c =
+    subst (λ (a : DagAnswer). IsNext c.args.slot.now c.args.node a (state_of (record c.slot.inside { pool = c.next.new.self }))) (sym c.of_next.ensures)
+    (next_done c.slot.inside c.args.slot.now c.next.new.self c.args.node _ c.in-Ok.next c.slot.view_is
+    (opens _ _ c.is_open.ensures c.if-not-is_open.false) c.in-Ok.ensures.checks c.in-Ok.ensures.run c.in-Ok.ensures.finished c.in-Ok.ensures.graph
+    c.in-Ok.ensures.begun)
+
+pub returns-in-Err : goal.returns-in-Err
+returns-in-Err c =
+    subst (λ (a : DagAnswer). IsNext c.args.slot.now c.args.node a (state_of (record c.slot.inside { pool = c.next.new.self })))
+    (sym c.refused-in-Err.ensures)
+    (next_refused c.slot.inside c.args.slot.now c.next.new.self c.args.node c.in-Err.refusal c.slot.view_is
+    (opens _ _ c.is_open.ensures c.if-not-is_open.false) c.in-Err.ensures.checks c.in-Err.ensures.graph c.in-Err.ensures.begun)

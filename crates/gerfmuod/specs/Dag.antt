@@ -1,0 +1,123 @@
+-- What the calls on a pool return to C, and what they do.
+use Rattle.std.specs.Prelude.{ℕ, ◌+◌, ◌≡◌, ◌≤◌, ◌==◌, ◌&&◌, Bool, false, not, nat_le, List, [], ◌∷◌, if◌then◌else◌, IsTrue, IfSome}
+use Rattle.std.specs.Prelude.{Option, Some, None, slice_get, reverse}
+use Rattle.tp_base.specs.declared.Step.{Step}
+use Rattle.tp_base.specs.declared.Step.TheVariants.{Insert, Supply, Begin, Done, ActionOpen, ActionClose, Ready, Send, Recv, MessageEnd}
+use Rattle.tp_base.specs.declared.Step.TheVariants.{Start, Down, Give, Up, Judge, Reopen}
+use Rattle.tp_base.specs.declared.Refusal.{Refusal}
+use Rattle.tp_base.specs.declared.Refusal.TheVariants.{HistoryFull, NoPool, BadSpec}
+use Rattle.tp_base.specs.Checks.{Check, first_refusal}
+use Rattle.tp_base.specs.Refusals.{number_of}
+use Rattle.tp_wave.specs.Steps.{count}
+use Rattle.tp_core.specs.NeverEarly.{is_begin_of}
+use Rattle.tp_dag.specs.State.{PoolState, AddsOnly, SameGraph, IsTaskAdded, IsInputAdded, IsStarted, IsDispatched, IsFinished, IsCompleted, is_readying, is_sending}
+use Rattle.tp_dag.specs.State.{task_checks, input_checks, start_checks, next_checks, done_checks}
+use Rattle.tp_dag.specs.declared.Next.{Next}
+use Rattle.tp_dag.specs.declared.Next.TheVariants.{Run, Wait, Finished}
+use Rattle.gerfmuod.specs.declared.dag.answer.DagAnswer.{DagAnswer}
+use Rattle.gerfmuod.specs.declared.dag.answer.DagStep.{DagStep}
+
+-- A pool in the caller's memory, and whether it is open.
+pub record SlotState : Type 0 where
+  pub is_open : Bool
+  pub pool : PoolState
+
+abbrev pub can_be : ℕ → Bool
+can_be n = nat_le 1 n && nat_le n 8
+
+abbrev pub empty : ℕ → PoolState
+empty n = record { nodes = n; started = false; tasks = []; stages = []; inputs = []; steps = [] }
+
+-- a pool as it is opened; it is not open if there cannot be so many nodes
+abbrev pub opened : ℕ → SlotState
+opened n = record { is_open = can_be n; pool = empty (if can_be n then n else 1) }
+
+abbrev pub opening : ℕ → ℕ
+opening n = if can_be n then 0 else number_of BadSpec
+
+abbrev pub closed : SlotState
+closed = record { is_open = false; pool = empty 1 }
+
+-- The first check is that the pool is open.
+abbrev pub checks : SlotState → List Check → List Check
+checks a more = (not a.is_open, NoPool) ∷ more
+
+-- If a check holds, the call is refused for the first that does, and nothing changes.
+abbrev pub RefusesBy : List Check → SlotState → DagAnswer → SlotState → Type 0
+RefusesBy tests old a new = IfSome (first_refusal tests) (λ r. (a.refused ≡ number_of r) × (new ≡ old))
+
+abbrev pub plain : ℕ → ℕ → DagAnswer
+plain number news = record { refused = 0; told = 0; number = number; news = news }
+
+-- how many steps there are, if there is no room for more
+abbrev pub limit_of : Refusal → ℕ
+limit_of (HistoryFull n) = n
+limit_of _ = 0
+
+abbrev pub refusal_answer : Refusal → DagAnswer
+refusal_answer r = record { refused = number_of r; told = 0; number = limit_of r; news = 0 }
+
+-- the answer of `next`: news are the nodes at which a thread may find something new
+abbrev pub next_answer : Next → ℕ → DagAnswer
+next_answer (Run t) news = record { refused = 0; told = 1; number = t; news = news }
+next_answer Wait news = record { refused = 0; told = 2; number = 0; news = 0 }
+next_answer (Finished w) news = record { refused = 0; told = 3; number = w; news = 0 }
+
+pub record IsTask (old : SlotState) (node class : ℕ) (a : DagAnswer) (new : SlotState) : Type 0 where
+  pub checked : RefusesBy (checks old (task_checks old.pool node class)) old a new
+  pub added : a.refused ≡ 0 → IsTaskAdded node class a.number old.pool new.pool
+  pub refused : 1 ≤ a.refused → new ≡ old
+
+pub record IsInput (old : SlotState) (source : ℕ) (a : DagAnswer) (new : SlotState) : Type 0 where
+  pub checked : RefusesBy (checks old (input_checks old.pool source)) old a new
+  pub added : a.refused ≡ 0 → IsInputAdded source old.pool new.pool
+  pub refused : 1 ≤ a.refused → new ≡ old
+
+pub record IsStart (old : SlotState) (a : DagAnswer) (new : SlotState) : Type 0 where
+  pub checked : RefusesBy (checks old (start_checks old.pool)) old a new
+  pub started : a.refused ≡ 0 → IsStarted old.pool new.pool
+  pub refused : 1 ≤ a.refused → AddsOnly is_readying old.pool new.pool
+
+-- how often a result of `next` dispatches task t
+abbrev pub dispatched_by : DagAnswer → ℕ → ℕ
+dispatched_by a t = if a.told == 1 then (if a.number == t then 1 else 0) else 0
+
+pub record IsNext (old : SlotState) (node : ℕ) (a : DagAnswer) (new : SlotState) : Type 0 where
+  pub checked : RefusesBy (checks old (next_checks old.pool node)) old a new
+  pub run : a.told ≡ 1 → IsDispatched node a.number old.pool new.pool
+  pub finished : a.told ≡ 3 → IsFinished new.pool
+  pub graph : SameGraph old.pool new.pool
+  pub begun : (t : ℕ) → count (is_begin_of t) new.pool.steps ≡ count (is_begin_of t) old.pool.steps + dispatched_by a t
+
+pub record IsDone (old : SlotState) (node task : ℕ) (a : DagAnswer) (new : SlotState) : Type 0 where
+  pub checked : RefusesBy (checks old (done_checks old.pool node task)) old a new
+  pub done : a.refused ≡ 0 → IsCompleted task old.pool new.pool
+  pub refused : 1 ≤ a.refused → AddsOnly is_sending old.pool new.pool
+  pub begun : (t : ℕ) → count (is_begin_of t) new.pool.steps ≡ count (is_begin_of t) old.pool.steps
+
+abbrev pub step_answer : Option Step → DagStep
+step_answer (Some (Insert i t k)) = record { kind = 0; first = i.0; second = t.0; third = k.count }
+step_answer (Some (Supply t)) = record { kind = 1; first = t.0; second = 0; third = 0 }
+step_answer (Some (Begin t)) = record { kind = 2; first = t.0; second = 0; third = 0 }
+step_answer (Some (Done t)) = record { kind = 3; first = t.0; second = 0; third = 0 }
+step_answer (Some (ActionOpen i a)) = record { kind = 4; first = i.0; second = a.0; third = 0 }
+step_answer (Some (ActionClose i a)) = record { kind = 5; first = i.0; second = a.0; third = 0 }
+step_answer (Some (Ready i)) = record { kind = 6; first = i.0; second = 0; third = 0 }
+step_answer (Some (Send i j m g)) = record { kind = 7; first = i.0; second = j.0; third = m.0 }
+step_answer (Some (Recv i m g)) = record { kind = 8; first = i.0; second = m.0; third = 0 }
+step_answer (Some (MessageEnd i m g)) = record { kind = 9; first = i.0; second = m.0; third = 0 }
+step_answer (Some Start) = record { kind = 10; first = 0; second = 0; third = 0 }
+step_answer (Some (Down i)) = record { kind = 11; first = i.0; second = 0; third = 0 }
+step_answer (Some (Give i)) = record { kind = 12; first = i.0; second = 0; third = 0 }
+step_answer (Some (Up i)) = record { kind = 13; first = i.0; second = 0; third = 0 }
+step_answer (Some Judge) = record { kind = 14; first = 0; second = 0; third = 0 }
+step_answer (Some Reopen) = record { kind = 15; first = 0; second = 0; third = 0 }
+step_answer None = record { kind = 255; first = 0; second = 0; third = 0 }
+
+pub record IsStep (old : SlotState) (k : ℕ) (a : DagStep) (new : SlotState) : Type 0 where
+  pub step : a ≡ (if old.is_open then step_answer (slice_get (reverse old.pool.steps) k) else step_answer None)
+  pub same : new ≡ old
+
+pub record IsClosed (old : SlotState) (a : DagAnswer) (new : SlotState) : Type 0 where
+  pub checked : RefusesBy (checks old []) old a new
+  pub closed : a.refused ≡ 0 → new ≡ closed

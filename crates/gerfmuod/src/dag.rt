@@ -1,0 +1,98 @@
+//! Task graphs with bodies of the caller, for programs in C: a pool in memory that the caller has. The header `capi/gerfmuod_dag.h` says
+//! what a caller owes.
+ghost use Rattle.std.specs.Prelude.{◌≡◌};
+ghost use Rattle.std.specs.Borrow.{full_share, sem};
+ghost use Rattle.std.specs.Ptr.{lies_at, room_at};
+ghost use Rattle.gerfmuod.specs.contracts.dag.slot.PoolSlot.{the_row as slot_row};
+ghost use Rattle.gerfmuod.specs.Dag.{SlotState, opened, opening, IsTask, IsInput, IsStart, IsNext, IsDone, IsStep, IsClosed};
+
+use crate::dag::answer::{DagAnswer, DagStep};
+use crate::dag::calls::{close, done, input, made, next, opening, start, step, task};
+use crate::dag::slot::PoolSlot;
+use std::alloc::Global;
+
+mod answer;
+mod calls;
+mod slot;
+
+/// Opens a pool of the nodes 0 to `nodes` - 1 in the memory at `pool`. It takes no other memory. It returns 0, or 26, `BadSpec`, if
+/// there are not 1 to 8 nodes: then the pool is not open.
+#[unsafe(no_mangle)]
+pub unsafe extern "C" fn gerfmuod_dag_open(alloc: Global, pool: *mut u8, nodes: u32) -> u32
+    requires* { sem 𝓛 (room_at slot_row pool) }
+    ensures* { sem 𝓛 (lies_at slot_row full_share pool (opened nodes)) ∗ ⌜ result ≡ opening nodes ⌝ }
+{
+    let made = made(alloc, nodes);
+    (pool as *mut PoolSlot).write(made);
+    opening(nodes)
+}
+
+/// Adds a task at a node, of a class 0 to 3, that waits for no input so far. `number` is the task's.
+#[unsafe(no_mangle)]
+pub unsafe extern "C" fn gerfmuod_dag_task(pool: *mut u8, node: u32, class: u32) -> DagAnswer
+    ghost old: { SlotState }
+    requires* { sem 𝓛 (lies_at slot_row full_share pool old) }
+    ensures* { ∃ₛ (λ (new : SlotState). sem 𝓛 (lies_at slot_row full_share pool new) ∗ ⌜ IsTask old node class result new ⌝) }
+{
+    task(&mut *(pool as *mut PoolSlot), node, class)
+}
+
+/// Lets the newest task wait for task `source`, which was added before it.
+#[unsafe(no_mangle)]
+pub unsafe extern "C" fn gerfmuod_dag_input(pool: *mut u8, source: u32) -> DagAnswer
+    ghost old: { SlotState }
+    requires* { sem 𝓛 (lies_at slot_row full_share pool old) }
+    ensures* { ∃ₛ (λ (new : SlotState). sem 𝓛 (lies_at slot_row full_share pool new) ∗ ⌜ IsInput old source result new ⌝) }
+{
+    input(&mut *(pool as *mut PoolSlot), source)
+}
+
+/// Starts the pool: all tasks and inputs were added.
+#[unsafe(no_mangle)]
+pub unsafe extern "C" fn gerfmuod_dag_start(pool: *mut u8) -> DagAnswer
+    ghost old: { SlotState }
+    requires* { sem 𝓛 (lies_at slot_row full_share pool old) }
+    ensures* { ∃ₛ (λ (new : SlotState). sem 𝓛 (lies_at slot_row full_share pool new) ∗ ⌜ IsStart old result new ⌝) }
+{
+    start(&mut *(pool as *mut PoolSlot))
+}
+
+/// What a thread of a node is to do next: run task `number`, wait, or stop.
+#[unsafe(no_mangle)]
+pub unsafe extern "C" fn gerfmuod_dag_next(pool: *mut u8, node: u32) -> DagAnswer
+    ghost old: { SlotState }
+    requires* { sem 𝓛 (lies_at slot_row full_share pool old) }
+    ensures* { ∃ₛ (λ (new : SlotState). sem 𝓛 (lies_at slot_row full_share pool new) ∗ ⌜ IsNext old node result new ⌝) }
+{
+    next(&mut *(pool as *mut PoolSlot), node)
+}
+
+/// Completes a task that a thread of its node ran. `news` has the nodes at which a thread may find something new.
+#[unsafe(no_mangle)]
+pub unsafe extern "C" fn gerfmuod_dag_done(pool: *mut u8, node: u32, task: u32) -> DagAnswer
+    ghost old: { SlotState }
+    requires* { sem 𝓛 (lies_at slot_row full_share pool old) }
+    ensures* { ∃ₛ (λ (new : SlotState). sem 𝓛 (lies_at slot_row full_share pool new) ∗ ⌜ IsDone old node task result new ⌝) }
+{
+    done(&mut *(pool as *mut PoolSlot), node, task)
+}
+
+/// The step that was taken as number `k`, the oldest being 0. Its kind is 255 if there is none, or the pool is not open.
+#[unsafe(no_mangle)]
+pub unsafe extern "C" fn gerfmuod_dag_step(pool: *mut u8, k: u32) -> DagStep
+    ghost old: { SlotState }
+    requires* { sem 𝓛 (lies_at slot_row full_share pool old) }
+    ensures* { ∃ₛ (λ (new : SlotState). sem 𝓛 (lies_at slot_row full_share pool new) ∗ ⌜ IsStep old k result new ⌝) }
+{
+    step(&mut *(pool as *mut PoolSlot), k)
+}
+
+/// Frees the memory that the pool has taken. After that the pool is not open.
+#[unsafe(no_mangle)]
+pub unsafe extern "C" fn gerfmuod_dag_close(pool: *mut u8) -> DagAnswer
+    ghost old: { SlotState }
+    requires* { sem 𝓛 (lies_at slot_row full_share pool old) }
+    ensures* { ∃ₛ (λ (new : SlotState). sem 𝓛 (lies_at slot_row full_share pool new) ∗ ⌜ IsClosed old result new ⌝) }
+{
+    close(&mut *(pool as *mut PoolSlot))
+}

@@ -1,0 +1,67 @@
+//! What is in the memory of a `gerfmuod_dag`: a pool, and a mark that says it is open.
+ghost use Rattle.std.specs.Prelude.{◌≡◌, ◌≤◌, Bool};
+ghost use Rattle.tp_base.specs.declared.limits.TheConstants.{MAX_NODES};
+ghost use Rattle.gerfmuod.specs.Dag.{closed, empty};
+
+use std::alloc::Global;
+use std::marker::Model;
+use tp_dag::Pool;
+
+/// What an open pool has in `mark`: `gerf_dag` in ASCII.
+const MARK: u64 = 0x6765_7266_5f64_6167;
+
+/// How many bytes the header gives to a pool.
+const ROOM: usize = 1_536;
+
+const _: () = prove!(size_of::<PoolSlot>() <= ROOM);
+
+const _: () = prove!(align_of::<PoolSlot>() <= 8);
+
+/// Compiles only for what may go from thread to thread, as a program in C may hand on its pool.
+fn can_be_sent<T: Send>() {}
+
+#[derive(Drop)]
+pub(crate) struct PoolSlot {
+    mark: u64,
+    pub(crate) pool: Pool,
+    alloc: Global,
+}
+
+impl Model for PoolSlot {
+    ghost use Rattle.gerfmuod.specs.Dag.{SlotState};
+
+    ghost Value = { SlotState };
+
+    ghost use Rattle.gerfmuod.specs.DagSlot.{state_of};
+
+    ghost view = { state_of };
+}
+
+impl PoolSlot {
+    /// A pool of the nodes 0 to `nodes` - 1, which is open or not. It takes no memory.
+    pub(crate) fn new(alloc: Global, nodes: u32, is_open: bool) -> PoolSlot
+        requires { (1 ≤ nodes) × (nodes ≤ MAX_NODES) }
+        ensures { result ≡ record { is_open = is_open; pool = empty nodes } }
+    {
+        can_be_sent::<PoolSlot>();
+        PoolSlot {
+            mark: if is_open { MARK } else { 0 },
+            pool: Pool::new(alloc, nodes),
+            alloc,
+        }
+    }
+
+    pub(crate) fn is_open(&self) -> bool
+        ensures { result ≡ self.now.is_open }
+    {
+        self.mark == MARK
+    }
+
+    /// Drops the pool.
+    pub(crate) fn close(&mut self)
+        ensures { self.new ≡ closed }
+    {
+        self.mark = 0;
+        self.pool = Pool::new(self.alloc, 1);
+    }
+}

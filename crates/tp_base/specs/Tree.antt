@@ -1,0 +1,6 @@
+-- The tree of nodes, or of processes, along which waves go.
+use Rattle.std.specs.Prelude.{ℕ, ◌-◌, ◌/◌}
+
+-- The numbers 0 to n - 1 are a binary tree: its root is 0, and the children of i are 2 * i + 1 and 2 * i + 2 where they are below n.
+abbrev pub parent : ℕ → ℕ
+parent i = (i - 1) / 2

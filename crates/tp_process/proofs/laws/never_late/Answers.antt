@@ -1,0 +1,6 @@
+-- The law that `never_late` names.
+use Rattle.tp_process.proofs.Late.{never_late}
+use Rattle.tp_process.proofs.laws.never_late.Goals as goal
+
+pub returns : goal.returns
+returns c = never_late

@@ -1,0 +1,20 @@
+"""Task graphs on threads, scheduled by a proved pool.
+
+    >>> import math, operator
+    >>> from gerfmuod import Pool
+    >>> pool = Pool()
+    >>> a = pool.task(math.sqrt, 2.0)
+    >>> b = pool.task(math.exp, 1.0)
+    >>> c = pool.task(operator.mul, a, b)     # waits for a and b, and gets their results
+    >>> pool.run(threads=4)
+    >>> round(c.result, 6)
+    3.844231
+
+The package loads the shared object libgerfmuod.so.0, which `make lib` builds. It looks at the path
+in the environment variable GERFMUOD_LIBRARY, next to the package, in lib/ of the repository, and
+where the system looks for libraries.
+"""
+from ._pool import Pool, Task
+from ._refused import Refused
+
+__all__ = ["Pool", "Refused", "Task"]

@@ -1,0 +1,68 @@
+"""The shared object, and the types of its calls. They are those of capi/gerfmuod_team.h."""
+from __future__ import annotations
+
+import ctypes
+import os
+from pathlib import Path
+from typing import Iterator
+
+NAME = "libgerfmuod.so.0"
+#: No task has this number.
+NONE = 0xFFFFFFFF
+OK = 0
+OVER = 3
+
+
+class Answer(ctypes.Structure):
+    """The result of a turn, as gerfmuod_dag_answer."""
+
+    _fields_ = [(name, ctypes.c_uint32) for name in ("refused", "told", "number", "news")]
+
+
+def _candidates() -> Iterator[str]:
+    """Where the shared object may be, the first choice first."""
+    chosen = os.environ.get("GERFMUOD_LIBRARY")
+    if chosen:
+        yield chosen
+        return
+    here = Path(__file__).resolve().parent
+    for folder in (here, here.parents[1] / "lib"):
+        if (folder / NAME).exists():
+            yield str(folder / NAME)
+    yield NAME
+
+
+def _load() -> ctypes.CDLL:
+    reasons = []
+    for path in _candidates():
+        try:
+            return ctypes.CDLL(path)
+        except OSError as error:
+            reasons.append(str(error))
+    advice = "build it, or set GERFMUOD_LIBRARY to its path"
+    raise ImportError(f"{NAME} was not found; {advice}: {'; '.join(reasons)}")
+
+
+def _declare(library: ctypes.CDLL) -> ctypes.CDLL:
+    """Sets the types of the calls."""
+    u32, size, team = ctypes.c_uint32, ctypes.c_size_t, ctypes.c_void_p
+    numbers = ctypes.POINTER(u32)
+    types = {
+        "gerfmuod_team_open": (u32, [ctypes.POINTER(ctypes.c_void_p), u32]),
+        "gerfmuod_team_close": (None, [team]),
+        "gerfmuod_team_task": (u32, [team, u32, u32, numbers, size, numbers]),
+        "gerfmuod_team_start": (u32, [team, u32]),
+        "gerfmuod_team_turn": (Answer, [team, u32, u32]),
+        "gerfmuod_team_stop": (None, [team, u32]),
+        "gerfmuod_team_at": (u32, [team]),
+        "gerfmuod_team_name": (ctypes.c_char_p, [u32]),
+        "gerfmuod_team_meaning": (ctypes.c_char_p, [u32]),
+        "gerfmuod_team_trace": (size, [team, ctypes.c_char_p, size]),
+    }
+    for name, (result, arguments) in types.items():
+        function = getattr(library, name)
+        function.restype, function.argtypes = result, arguments
+    return library
+
+
+library = _declare(_load())

@@ -1,0 +1,219 @@
+"""Pools and their tasks."""
+from __future__ import annotations
+
+import ctypes
+import os
+import threading
+import weakref
+from typing import Any, Callable, Generic, Iterable, List, NamedTuple, Optional, Tuple, TypeVar
+
+from ._library import NONE, OK, OVER, library
+from ._refused import Refused
+
+Result = TypeVar("Result")
+
+
+class Task(Generic[Result]):
+    """A task of a pool. As an argument of a later task it stands for its result."""
+
+    __slots__ = ("number", "_pool", "_result", "_is_done")
+
+    def __init__(self, pool: "Pool", number: int) -> None:
+        self.number = number
+        self._pool = pool
+        self._result: Any = None
+        self._is_done = False
+
+    @property
+    def result(self) -> Result:
+        """What the task's function returned.
+
+        Raises:
+            RuntimeError: the task did not run, or its function raised an exception.
+        """
+        if not self._is_done:
+            raise RuntimeError(f"task {self.number} has no result")
+        return self._result  # type: ignore[no-any-return]
+
+    def __repr__(self) -> str:
+        return f"<Task {self.number}{', done' if self._is_done else ''}>"
+
+
+class _Job(NamedTuple):
+    """What a task runs."""
+
+    task: "Task[Any]"
+    function: Callable[..., Any]
+    arguments: Tuple[Any, ...]
+
+    def run(self) -> None:
+        values = [it.result if isinstance(it, Task) else it for it in self.arguments]
+        self.task._result = self.function(*values)
+        self.task._is_done = True
+
+
+class Pool:
+    """A graph of tasks, which runs once.
+
+    Args:
+        nodes: how many groups of tasks there are, 1 to 8. One is right in most cases.
+
+    Raises:
+        Refused: ``BadSpec`` if ``nodes`` is not 1 to 8; ``NoMemory``.
+
+    A pool is used by one thread; :meth:`run` calls the functions of the tasks on several threads.
+    """
+
+    def __init__(self, nodes: int = 1) -> None:
+        team = ctypes.c_void_p()
+        refused = library.gerfmuod_team_open(ctypes.byref(team), _number(nodes))
+        if refused:
+            raise Refused(refused)
+        self._team: Optional[ctypes.c_void_p] = team
+        self._nodes = nodes
+        self._jobs: List[Optional[_Job]] = []
+        self._errors: List[BaseException] = []
+        self._close = weakref.finalize(self, library.gerfmuod_team_close, team)
+
+    def task(
+        self,
+        function: Callable[..., Result],
+        *arguments: Any,
+        after: "Iterable[Task[Any]]" = (),
+        node: int = 0,
+        priority: int = 0,
+    ) -> "Task[Result]":
+        """Describes a task: one call of a function.
+
+        Args:
+            function: what the task runs.
+            arguments: what the function gets. An argument that is a task of this pool stands for
+                its result, and the new task waits for it. Tasks inside of lists and other values
+                are not looked for.
+            after: further tasks that the new task waits for.
+            node: which group the task is in, below the pool's ``nodes``.
+            priority: 0 to 3. Ready tasks of a node with a lower number run first.
+
+        Raises:
+            ValueError: a task is of another pool, or the pool is closed.
+            Refused: ``WrongLife`` if the pool has run, ``NoNode``, ``BadSpec`` (priority),
+                ``HistoryFull`` or ``NoMemory``.
+        """
+        waits_for = [it for it in (*arguments, *after) if isinstance(it, Task)]
+        if any(it._pool is not self for it in waits_for):
+            raise ValueError("a task of another pool cannot be an input")
+        inputs = (ctypes.c_uint32 * len(waits_for))(*(it.number for it in waits_for))
+        number, team = ctypes.c_uint32(), self._open_team()
+        place = _number(node), _number(priority)
+        written = ctypes.byref(number)
+        _check(team, library.gerfmuod_team_task(team, *place, inputs, len(inputs), written))
+        task: "Task[Result]" = Task(self, number.value)
+        self._jobs.append(_Job(task, function, arguments))
+        return task
+
+    def run(self, threads: Optional[int] = None) -> None:
+        """Runs all tasks, and returns when they are done.
+
+        Args:
+            threads: on how many threads, of which the caller is one. The default is the number of
+                processors. Each node with tasks needs a thread. Functions run in parallel as far
+                as they release the interpreter's lock, as those of numpy do.
+
+        Raises:
+            ValueError: the pool is closed.
+            Refused: ``NoThread`` if a node has tasks and no thread, ``Ended`` if the pool has run,
+                ``HistoryFull`` if it has too many tasks, ``NoMemory``, and ``Stopped`` if an
+                exception has stopped it before.
+
+        An exception of a task's function stops the pool: tasks that run are finished, no further
+        one begins, and ``run`` raises that exception.
+        """
+        team = self._open_team()
+        count = _processors() if threads is None else threads
+        _check(team, library.gerfmuod_team_start(team, _number(count)))
+        begun: List[threading.Thread] = []
+        try:
+            for w in range(1, count):
+                worker = threading.Thread(target=self._work, args=(team, w % self._nodes))
+                worker.start()
+                begun.append(worker)
+            self._work(team, 0)
+        except BaseException as error:  # no thread could be started, or an interrupt
+            self._stop(team, NONE, error)
+        for worker in begun:
+            worker.join()
+        if self._errors:
+            raise self._errors[0]
+        _check(team, library.gerfmuod_team_turn(team, 0, NONE).refused)
+
+    def trace(self) -> str:
+        """The steps of the pool as a trace, which ``tp audit`` judges.
+
+        Raises:
+            ValueError: the pool is closed.
+        """
+        team = self._open_team()
+        length = library.gerfmuod_team_trace(team, None, 0)
+        room = ctypes.create_string_buffer(length + 1)
+        library.gerfmuod_team_trace(team, room, length + 1)
+        return room.value.decode()
+
+    def close(self) -> None:
+        """Frees the pool. Results may still be used.
+
+        A pool that is no longer referenced is closed as well.
+        """
+        self._close()
+        self._team = None
+
+    def __enter__(self) -> "Pool":
+        return self
+
+    def __exit__(self, *_: object) -> None:
+        self.close()
+
+    def __len__(self) -> int:
+        """How many tasks were described."""
+        return len(self._jobs)
+
+    def _open_team(self) -> ctypes.c_void_p:
+        if self._team is None:
+            raise ValueError("the pool is closed")
+        return self._team
+
+    def _work(self, team: ctypes.c_void_p, node: int) -> None:
+        """Runs tasks of a node until the pool is over or stops."""
+        done = NONE
+        while True:
+            answer = library.gerfmuod_team_turn(team, node, done)
+            if answer.refused or answer.told == OVER:
+                return
+            done = answer.number
+            job, self._jobs[done] = self._jobs[done], None
+            try:
+                assert job is not None
+                job.run()
+            except BaseException as error:
+                self._stop(team, done, error)
+                return
+
+    def _stop(self, team: ctypes.c_void_p, task: int, error: BaseException) -> None:
+        self._errors.append(error)
+        library.gerfmuod_team_stop(team, task)
+
+
+def _check(team: ctypes.c_void_p, refused: int) -> None:
+    if refused != OK:
+        raise Refused(refused, library.gerfmuod_team_at(team))
+
+
+def _processors() -> int:
+    """How many processors this process may use."""
+    if hasattr(os, "sched_getaffinity"):
+        return len(os.sched_getaffinity(0))
+    return os.cpu_count() or 1
+
+
+def _number(value: int) -> int:
+    """A number for the library; one that is not of 32 bits becomes one that is refused."""
+    return value if 0 <= value <= NONE else NONE

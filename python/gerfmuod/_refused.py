@@ -1,0 +1,25 @@
+"""The exception for a call that the library refused."""
+from __future__ import annotations
+
+from typing import Optional
+
+from ._library import NONE, library
+
+
+class Refused(Exception):
+    """The library refused a call.
+
+    Attributes:
+        name: the refusal's name, such as ``"NoThread"``.
+        number: its number, as in gerfmuod_dag.h and gerfmuod_team.h.
+        meaning: a sentence that explains it.
+        task: the number of the task that it is about, or None.
+    """
+
+    def __init__(self, number: int, task: int = NONE) -> None:
+        self.number = number
+        self.name: str = library.gerfmuod_team_name(number).decode()
+        self.meaning: str = library.gerfmuod_team_meaning(number).decode()
+        self.task: Optional[int] = None if task == NONE else task
+        where = "" if self.task is None else f" at task {self.task}"
+        super().__init__(f"{self.name}{where}: {self.meaning}")

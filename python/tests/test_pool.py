@@ -1,0 +1,155 @@
+"""Tests of the package: results, order, threads, refusals, exceptions, traces."""
+import random
+import signal
+import threading
+import unittest
+
+from gerfmuod import Pool, Refused, Task
+
+
+class Results(unittest.TestCase):
+    def test_arguments_that_are_tasks_become_results(self):
+        pool = Pool()
+        a = pool.task(lambda: 2)
+        b = pool.task(lambda x, y: x + y, a, 3)
+        c = pool.task(lambda x, y: (x, y), a, b)
+        pool.run(threads=3)
+        self.assertEqual((a.result, b.result, c.result), (2, 5, (2, 5)))
+
+    def test_a_result_before_the_run_raises(self):
+        pool = Pool()
+        a = pool.task(int)
+        self.assertRaises(RuntimeError, lambda: a.result)
+        self.assertEqual(repr(a), "<Task 0>")
+        pool.run(1)
+        self.assertEqual(repr(a), "<Task 0, done>")
+
+    def test_an_empty_pool_ends(self):
+        pool = Pool(8)
+        pool.run(8)
+        self.assertEqual(len(pool), 0)
+
+    def test_results_outlive_the_pool(self):
+        with Pool() as pool:
+            a = pool.task(lambda: "kept")
+            pool.run(2)
+        self.assertEqual(a.result, "kept")
+
+
+class Order(unittest.TestCase):
+    def test_random_graphs_run_in_order_and_once(self):
+        draw = random.Random(1)
+        for nodes in range(1, 9):
+            pool, ended, tasks = Pool(nodes), [], []
+            inputs = []
+            for t in range(100):
+                mine = [draw.choice(tasks) for _ in range(draw.randrange(4))] if tasks else []
+                inputs.append([it.number for it in mine])
+                place = {"node": draw.randrange(nodes), "priority": draw.randrange(4)}
+                tasks.append(pool.task(ended.append, t, after=mine, **place))
+            pool.run(threads=nodes + 2)
+            self.assertEqual(sorted(ended), list(range(100)))
+            place = {t: k for k, t in enumerate(ended)}
+            for t, mine in enumerate(inputs):
+                self.assertTrue(all(place[s] < place[t] for s in mine))
+
+    def test_a_lower_priority_number_runs_first(self):
+        pool, ended = Pool(), []
+        for priority in (3, 0, 2, 1):
+            pool.task(ended.append, priority, priority=priority)
+        pool.run(1)
+        self.assertEqual(ended, [0, 1, 2, 3])
+
+    def test_tasks_run_on_several_threads(self):
+        pool, meeting = Pool(), threading.Barrier(3, timeout=10)
+        for _ in range(3):
+            pool.task(meeting.wait)  # passes when three tasks run at a time
+        pool.run(threads=3)
+
+
+class Refusals(unittest.TestCase):
+    def refused(self, name, call, task=None):
+        with self.assertRaises(Refused) as caught:
+            call()
+        self.assertEqual((caught.exception.name, caught.exception.task), (name, task))
+        self.assertTrue(str(caught.exception).startswith(name))
+
+    def test_numbers_of_nodes(self):
+        for nodes in (0, 9, -1, 2**40):
+            self.refused("BadSpec", lambda nodes=nodes: Pool(nodes))
+
+    def test_descriptions(self):
+        pool = Pool(2)
+        pool.task(int)
+        self.refused("NoNode", lambda: pool.task(int, node=2), 1)
+        self.refused("NoNode", lambda: pool.task(int, node=-1), 1)
+        self.refused("BadSpec", lambda: pool.task(int, priority=4), 1)
+        self.assertRaises(ValueError, lambda: pool.task(int, after=[Pool().task(int)]))
+        pool.run(2)
+        self.assertEqual(len(pool), 1)
+
+    def test_a_node_without_a_thread_is_refused_before_anything_runs(self):
+        pool, ran = Pool(3), []
+        pool.task(ran.append, 0)
+        pool.task(ran.append, 1, node=2)
+        self.refused("NoThread", lambda: pool.run(2), 1)
+        self.refused("NoThread", lambda: pool.run(0), 0)
+        self.assertEqual(ran, [])
+        pool.run(3)
+        self.assertEqual(sorted(ran), [0, 1])
+
+    def test_a_pool_runs_once(self):
+        pool = Pool()
+        pool.task(int)
+        pool.run(1)
+        self.refused("Ended", lambda: pool.run(1))
+        self.refused("WrongLife", lambda: pool.task(int), 1)
+
+    def test_a_closed_pool(self):
+        pool = Pool()
+        pool.close()
+        pool.close()
+        for call in (pool.run, pool.trace, lambda: pool.task(int)):
+            self.assertRaises(ValueError, call)
+
+
+class Exceptions(unittest.TestCase):
+    def test_an_exception_stops_the_pool_and_is_raised(self):
+        for threads in (1, 4):
+            pool, ran = Pool(), []
+            bad = pool.task(lambda: 1 // 0)
+            pool.task(ran.append, bad)
+            self.assertRaises(ZeroDivisionError, pool.run, threads)
+            self.assertEqual(ran, [])
+            self.assertRaises(RuntimeError, lambda bad=bad: bad.result)
+            self.assertRaises(Refused, pool.run, 1)
+
+    def test_an_interrupt_stops_the_pool(self):
+        pool, ran = Pool(), []
+        first = pool.task(signal.raise_signal, signal.SIGINT)
+        pool.task(ran.append, first)
+        self.assertRaises(KeyboardInterrupt, pool.run, 1)
+        self.assertEqual(ran, [])
+
+
+class Traces(unittest.TestCase):
+    def test_a_trace_has_each_task_and_message(self):
+        pool = Pool(2)
+        a = pool.task(int)
+        pool.task(int, after=[a], node=1)
+        pool.run(2)
+        lines = pool.trace().splitlines()
+        self.assertEqual(lines[:4], ["trace 1", "nodes 2", "insert 0 0 0", "insert 1 1 0"])
+        for line in ("begin 0", "done 0", "send 0 1 0", "recv 1 0", "begin 1", "done 1"):
+            self.assertEqual(lines.count(line), 1)
+        self.assertLess(lines.index("recv 1 0"), lines.index("begin 1"))
+        self.assertRegex(lines[-1], r"^judge ended \d+$")
+
+
+class Names(unittest.TestCase):
+    def test_what_the_package_exports(self):
+        self.assertIs(type(Pool().task(int)), Task)
+
+
+if __name__ == "__main__":
+    unittest.main()

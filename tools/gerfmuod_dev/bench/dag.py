@@ -1,0 +1,256 @@
+"""Task graphs with the caller's bodies: the programs of capi/dag, compared with OpenMP, oneTBB, StarPU and OpenBLAS.
+
+Each program measures all configurations of one process in turn, in each round, and checks each result against another
+method; a first round is not counted. Peers that need a process of their own run between. A program that cannot be
+compiled is named and left out.
+"""
+import functools
+import os
+import re
+import shutil
+import statistics
+import subprocess
+import sys
+from dataclasses import dataclass, field, replace
+
+from .. import running, shared_object
+from ..repository import TOP
+from .measuring import CACHEGRIND, busy_processes
+from .rows import Row
+
+SOURCES = f"{TOP}/capi/dag"
+C = ("gcc", "-std=gnu11", "-O2", "-fopenmp", f"-I{TOP}/capi")
+CPP = ("g++", "-std=c++17", "-O2")
+# what a program needs besides its compiler
+NEEDED = {
+    "cholesky": "OpenBLAS (Debian's libopenblas-dev)",
+    "cholesky_starpu": "StarPU (libstarpu-dev) and OpenBLAS",
+    "grain_tbb": "oneTBB (libtbb-dev)",
+}
+WORKERS = 4
+# how many rounds a process does before the next process runs
+ROUNDS_IN_TURN = 5
+# order and tiles
+CHOLESKY = [(2048, 64), (2048, 128), (2048, 256), (4096, 64), (4096, 128), (4096, 256)]
+# side, block, steps
+JACOBI = [(1024, 32, 100), (1024, 64, 100), (2048, 128, 50)]
+# length, leaf
+SORT = [(2_000_000, 2_000), (2_000_000, 20_000)]
+EMPTY_TASKS, COUNTED_TASKS, BODY_TASKS = 100_000, 20_000, 16_000
+SHAPES = ["wide", "chain", "wave", "three", "stencil"]
+# microseconds of a body
+BODIES = [0.5, 1, 2, 5, 10, 20, 50]
+CALIBRATION = 20_000_000
+
+# cachegrind counts an instruction that moves many bytes as one for each byte: this has glibc use loops
+STRINGS = [f"glibc.cpu.x86_rep_{name}_threshold=1000000000" for name in ("movsb", "stosb")]
+NO_STRING_MOVES = {"GLIBC_TUNABLES": ":".join(STRINGS)}
+
+
+@dataclass(frozen=True)
+class Way:
+    """A program of a comparison, the argument by which a process knows it, and its nodes and workers."""
+
+    program: str
+    argument: str
+    nodes: int = 1
+    workers: int = 1
+
+
+POOL = [Way("pool", "1x1"), Way("pool", "1x4", 1, WORKERS), Way("pool", "2x2", 2, 2)]
+LOOP, OPENMP = Way("one after the other", "loop"), Way("OpenMP tasks", f"omp:{WORKERS}", 1, WORKERS)
+OPENMP_ALONE = Way("OpenMP tasks", "omp:1")
+
+
+@dataclass(frozen=True)
+class Process:
+    """One process of a comparison: its program, or None if that does not compile; its first arguments; and the ways that it measures."""
+
+    program: str
+    size: list
+    ways: list
+    environment: dict = field(default_factory=dict)
+
+    def command(self, rounds):
+        return [self.program, *self.size, str(rounds), *(way.argument for way in self.ways)]
+
+
+@dataclass(frozen=True)
+class Times:
+    """The number of tasks of a way, and the milliseconds of each of its rounds."""
+
+    tasks: int
+    milliseconds: list
+
+
+class Programs:
+    """The compiled programs. Each is compiled at its first use, and is None if that fails, which is printed once."""
+
+    def __init__(self, folder):
+        self.folder = folder
+        self.team = shared_object.compile_team(folder)
+
+    @functools.lru_cache(maxsize=None)
+    def program(self, name, compiler, source, libraries):
+        path = f"{self.folder}/dag_{name}"
+        reason = f"{compiler[0]} is not installed"
+        if shutil.which(compiler[0]):
+            own = [self.team, f"-L{TOP}/lib", "-lgerfmuod"] if compiler[0] == "gcc" else []
+            command = [*compiler, f"{SOURCES}/{source}", "-o", path, *own, "-pthread", *libraries]
+            result = subprocess.run(command, capture_output=True, text=True)
+            if result.returncode == 0:
+                return path
+            needs = f", and needs {NEEDED[name]}" if name in NEEDED else ""
+            reason = f"it does not compile{needs}: {(result.stderr.splitlines() or ['?'])[0]}"
+        print(f"{source} is left out: {reason}", file=sys.stderr)
+        return None
+
+    def own(self, name):
+        return self.program(name, C, f"{name}.c", ("-lm",))
+
+    def cholesky(self):
+        return self.program("cholesky", (*C, "-DHAVE_BLAS"), "cholesky.c", ("-lopenblas", "-lm"))
+
+    def starpu(self):
+        output = running.run(["pkg-config", "--cflags", "--libs", "starpu-1.3"]).out
+        options = output.decode().split()
+        libraries = [option for option in options if option.startswith("-l")]
+        compiler = (*C, "-DHAVE_BLAS", "-DHAVE_STARPU", *(option for option in options if option not in libraries))
+        return self.program("cholesky_starpu", compiler, "cholesky.c", ("-lopenblas", "-lm", *libraries))
+
+    def tbb(self):
+        return self.program("grain_tbb", CPP, "peers/grain_tbb.cpp", ("-ltbb",))
+
+
+def times_of(process, rounds):
+    """Returns the times of each way of a process, in order; exits with status 1 if it fails."""
+    command = process.command(rounds)
+    result = subprocess.run(command, capture_output=True, text=True, env={**os.environ, **process.environment})
+    if result.returncode:
+        raise SystemExit(f"{' '.join(command)}: status {result.returncode}: {result.stdout} {result.stderr}")
+    lines = [line.split() for line in result.stdout.splitlines() if re.match(r"\S+ \d+( [\d.]+)+$", line)]
+    if len(lines) != len(process.ways):
+        raise SystemExit(f"{' '.join(command)}: {len(lines)} lines for {len(process.ways)} ways")
+    return [Times(int(tasks), [float(time) for time in times]) for _, tasks, *times in lines]
+
+
+def row_of(bench, case, way, times, counted):
+    """Returns the row of a way, with its instructions if they were counted."""
+    numbers = sorted(times.milliseconds)
+    lower, _, upper = statistics.quantiles(numbers, n=4, method="inclusive") if len(numbers) > 1 else numbers * 3
+    return Row(
+        "dag", case, "task", times.tasks, way.program, way.nodes, way.workers, bench.load, len(numbers), statistics.median(numbers),
+        lower, upper, numbers[int(0.9 * (len(numbers) - 1))], None, None, None, None, counted,
+    )
+
+
+def compare(bench, case, processes, counted=None):
+    """Returns a row for each way; `counted` has instructions by way. The processes take turns, a few rounds at a time."""
+    if bench.only not in f"dag {case}":
+        return []
+    print(f"dag: {case}", file=sys.stderr, flush=True)
+    processes = [process for process in processes if process.program]
+    found, left = {}, bench.rounds
+    with busy_processes(bench.load):
+        while left > 0:
+            rounds = min(left, ROUNDS_IN_TURN)
+            for process in processes:
+                for way, times in zip(process.ways, times_of(process, rounds)):
+                    found.setdefault(way, Times(times.tasks, [])).milliseconds.extend(times.milliseconds)
+            left -= rounds
+    return [row_of(bench, case, way, times, (counted or {}).get(way)) for way, times in found.items()]
+
+
+def cholesky(bench, programs):
+    """Measures Cholesky factorizations with kernels of OpenBLAS."""
+    sizes = [(1024, 128)] if bench.is_quick else CHOLESKY
+    whole = [Way("OpenBLAS dpotrf", f"whole:{workers}", 1, workers) for workers in (1, WORKERS)]
+    ways, with_starpu = [LOOP, *POOL, OPENMP, *whole], [Way("StarPU", "starpu", 1, WORKERS)]
+    one_thread = {"OPENBLAS_NUM_THREADS": "1"}
+    starpu = {**one_thread, "STARPU_NCPU": str(WORKERS), "STARPU_SCHED": "lws", "STARPU_SILENT": "1", "STARPU_HOME": bench.folder}
+    for order, tile in sizes:
+        size = [str(order), str(tile)]
+        yield from compare(bench, f"Cholesky, order {order}, tiles of {tile}", [
+            Process(programs.cholesky(), size, ways, one_thread),
+            Process(programs.starpu(), size, with_starpu, starpu),
+        ])
+
+
+def jacobi(bench, programs):
+    """Measures Jacobi steps on a grid in blocks."""
+    ways = [LOOP, *POOL, Way("OpenMP parallel for", f"omp:{WORKERS}", 1, WORKERS), replace(OPENMP, argument=f"dep:{WORKERS}")]
+    for side, block, steps in [(512, 64, 20)] if bench.is_quick else JACOBI:
+        name = f"Jacobi, {side} by {side} in blocks of {block}, {steps} steps"
+        yield from compare(bench, name, [Process(programs.own("jacobi"), [str(side), str(block), str(steps)], ways)])
+
+
+def recursion(bench, programs):
+    """Measures merge sort, whose tasks add further ones."""
+    for length, leaf in [(200_000, 2_000)] if bench.is_quick else SORT:
+        name = f"merge sort, {length:,} numbers, leaves of {leaf:,}"
+        yield from compare(bench, name, [Process(programs.own("recursion"), [str(length), str(leaf)], [LOOP, *POOL, OPENMP])])
+
+
+def instructions(process):
+    """Returns the instructions of one round, by the difference of processes with one round and none; None if nothing counts them."""
+    command, form = CACHEGRIND
+    counts = []
+    for rounds in (0, 1):
+        report = running.run([*command, *process.command(rounds)], env={**os.environ, **NO_STRING_MOVES}).err
+        found = re.search(form, report)
+        if not found:
+            return None
+        counts.append(int(found[1].replace(b",", b"")))
+    return counts[1] - counts[0]
+
+
+def on_tbb(programs, size, threads):
+    return Process(programs.tbb(), size, [Way("oneTBB flow graph", str(threads), 1, threads)])
+
+
+def size_of(shape, tasks, iterations):
+    """Returns the arguments of the programs `grain`: the graph, its number of tasks, and the iterations of each body."""
+    return [shape, str(tasks), str(iterations)]
+
+
+def instructions_by_way(bench, programs, shape):
+    """Returns the instructions of one round with empty bodies and one thread; none if they are not counted."""
+    if not bench.counts or bench.load or not shutil.which("valgrind"):
+        return {}
+    size = size_of(shape, COUNTED_TASKS, 0)
+    processes = [*(Process(programs.own("grain"), size, [way]) for way in (POOL[0], OPENMP_ALONE)), on_tbb(programs, size, 1)]
+    found = {process.ways[0]: instructions(process) for process in processes if process.program}
+    return {way: count and count * EMPTY_TASKS // COUNTED_TASKS for way, count in found.items()}
+
+
+def empty(bench, programs):
+    """Measures the overhead of a task: graphs with empty bodies."""
+    ways = [*POOL, OPENMP_ALONE, OPENMP]
+    for shape in ["wave", "three"] if bench.is_quick else SHAPES:
+        case = f"{shape}, empty bodies"
+        if bench.only in f"dag {case}":
+            counted, size = instructions_by_way(bench, programs, shape), size_of(shape, EMPTY_TASKS, 0)
+            own = Process(programs.own("grain"), size, ways)
+            yield from compare(bench, case, [own, *(on_tbb(programs, size, threads) for threads in (1, WORKERS))], counted)
+
+
+def iterations_per_microsecond(programs):
+    times, = times_of(Process(programs.own("grain"), size_of("wide", 1, CALIBRATION), [LOOP]), 3)
+    return CALIBRATION / (min(times.milliseconds) * 1000)
+
+
+def bodies(bench, programs):
+    """Measures graphs with bodies of a few microseconds, for METG(50%)."""
+    speed = iterations_per_microsecond(programs)
+    ways = [LOOP, *POOL[1:], OPENMP]
+    for shape in ["stencil"] if bench.is_quick else ["stencil", "wave", "three"]:
+        for microseconds in BODIES[1::2] if bench.is_quick else BODIES:
+            size = size_of(shape, BODY_TASKS, round(microseconds * speed))
+            case = f"{shape}, bodies of {microseconds:g} us"
+            yield from compare(bench, case, [Process(programs.own("grain"), size, ways), on_tbb(programs, size, WORKERS)])
+
+
+def dag(bench):
+    programs = Programs(bench.folder)
+    for part in (cholesky, jacobi, recursion, empty, bodies):
+        yield from part(bench, programs)

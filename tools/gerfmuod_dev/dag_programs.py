@@ -1,0 +1,252 @@
+"""Compiles and runs the programs of task graphs: capi/dag in C, C++ and Fortran, and the Python package.
+
+They are linked with lib/libgerfmuod.a, if it is there and was built from these sources (`make lib` builds it), or with the
+library of another folder. The fuzz of random calls runs under AddressSanitizer and UndefinedBehaviorSanitizer, random
+graphs on threads also under ThreadSanitizer, and each program once under valgrind. Programs with a fault must fail. It
+names what is not on this machine, and skips it; `tools/bench-packages` prints the packages. The last line is
+`N passed, M failed`; the status is 1 if one failed.
+"""
+import dataclasses
+import os
+import re
+import shutil
+import sys
+import tempfile
+from dataclasses import dataclass
+
+from . import library, repository, shared_object
+from .c_programs import VALGRIND, WARNINGS, Run, check_sources, judge, start
+from .running import Tally, short, write
+
+C = ["gcc", "-std=c11", *WARNINGS, "-O2", "-g"]
+CPP = ["g++", "-std=c++17", *WARNINGS, "-O2"]
+FORTRAN = ["gfortran", "-std=f2018", "-Wall", "-Wextra", "-Wno-unused-dummy-argument", "-Werror", "-O2", "-fopenmp"]
+ADDRESS = ["-fsanitize=address,undefined", "-fno-sanitize-recover=all"]
+THREAD = ["-fsanitize=thread"]
+WRAPPED = ["-Wl,--wrap=malloc,--wrap=calloc,--wrap=realloc,--wrap=free,--wrap=pthread_create"]
+# the endings of the files of capi/ that a compiler of each language checks
+ENDINGS = {"c": (".c", ".h"), "c++": (".cpp", ".hpp", ".h")}
+PAGE = "docs/YOUR-BODIES.md"
+SHAPES = ["wide", "chain", "wave", "stencil", "three"]
+# of the fuzz, in the quick form and in full
+CALLS, ALL_CALLS = 1_000_000, 10_000_000
+STORM, LONG_STORM = 100, 2000
+
+
+@dataclass(frozen=True)
+class Program:
+    """A source of capi/dag, the compiler with its options, the libraries that follow them, and its runs.
+
+    `small` has the arguments of further runs, under valgrind and as a build with ThreadSanitizer.
+    """
+
+    source: str
+    compiler: list
+    libraries: list
+    runs: list
+    small: list
+
+    @property
+    def sanitizer(self):
+        return [option for option in self.compiler if option in (*ADDRESS, *THREAD)]
+
+
+def programs(is_full):
+    """Returns the programs in C and C++, with short or long runs of the fuzz and of random graphs."""
+    calls, rounds = (ALL_CALLS, LONG_STORM) if is_full else (CALLS, STORM)
+    storm = [Run([str(rounds)], 0, f"{rounds} rounds"), Run(["200", "1", "early"], 1, "too early")]
+    fuzz = [Run(["200000", "2"], 0, "as the model says"), Run(["200000", "3", "forgets"], 1, "expected")]
+    small_grain = [[shape, "200", "1", "1", "3x1"] for shape in SHAPES]
+    ways = ["loop", "1x1", "1x4", "2x2", "8x1"]
+    return [
+        Program("first.c", C, ["-lm"], [Run([], 0, "3.844231")], [[]]),
+        Program("first.cpp", CPP, [], [Run([], 0, "3.844231")], [[]]),
+        Program("exceptions.cpp", CPP, [], [Run([], 0, "\nas it should be")], [[]]),
+        Program("refusals.c", C, [], [Run([], 0, ", 0 not as they should be")], [["quick"]]),
+        Program("jacobi.c", C, [], [Run(["128", "16", "20", "1", *ways], 0, "8x1 1280")], [["32", "16", "3", "1", "2x2"]]),
+        Program("cholesky.c", C, ["-lm"], [Run(["256", "32", "1", *ways, "whole:1"], 0, "8x1 120")], [["64", "16", "1", "2x2"]]),
+        Program("recursion.c", C, [], [Run(["100000", "500", "1", *ways], 0, "8x1 511")], [["2000", "100", "1", "2x2"]]),
+        Program("grain.c", C, [], [Run([shape, "5000", "10", "1", *ways], 0, "8x1 5000") for shape in SHAPES], small_grain),
+        Program("failures.c", C, WRAPPED, [Run([], 0, ", 0 not as they should be")], []),
+        Program("failures.c", [*C, *ADDRESS], WRAPPED, [Run([], 0, ", 0 not as they should be")], []),
+        Program("storm.c", C, [], storm, [["10"]]),
+        Program("storm.c", [*C, *THREAD], [], storm[:1], []),
+        Program("storm.c", [*C, *ADDRESS], [], storm[:1], []),
+        Program("fuzz.c", C, [], fuzz, [["20000"]]),
+        Program("fuzz.c", [*C, *ADDRESS], [], [Run([str(calls)], 0, "as the model says")], []),
+        Program("refusals.c", [*C, *ADDRESS], [], [Run([], 0, ", 0 not as they should be")], []),
+    ]
+
+
+def sources(language, standard):
+    """Returns the paths of the headers and of the programs of task graphs in a language; the programs need more than C99."""
+    endings = ENDINGS[language]
+    own = [f"capi/{name}" for name in sorted(os.listdir("capi")) if re.match(r"gerfmuod(_dag|_team)?\.", name)]
+    of_dag = [f"capi/dag/{name}" for name in sorted(os.listdir("capi/dag")) if name.endswith((".c", ".cpp")) and standard != "c99"]
+    return [path for path in own + of_dag if path.endswith(endings)]
+
+
+def check_page(tally):
+    """Counts whether each block of code of the page is part of the file that the line above it names."""
+    blocks = re.findall(r"(?:`([^`\n]+)`:\n\n)?```(\w+)\n(.*?\n)```\n", repository.text_of(PAGE), re.S)
+    for path, kind, code in blocks:
+        tally.judge(path and code in repository.text_of(path, ""), f"{PAGE}: a block of {kind} is not in {path or 'any file'}: {code}")
+    print(f"{PAGE}: {len(blocks)} blocks of code, each part of a file")
+
+
+def succeeds(command):
+    result = start(command)
+    return result is not None and result.status == 0
+
+
+def has_sanitizer(options, folder):
+    """Whether a program with this sanitizer can be built and run here."""
+    source, path = write(f"{folder}/empty.c", "int main(void) { return 0; }\n"), f"{folder}/empty"
+    return succeeds(["gcc", *options, source, "-o", path]) and succeeds([path])
+
+
+def compiles(tally, command):
+    """Runs a compiler, and counts and returns whether it succeeds."""
+    result = start(command)
+    has_compiled = result is not None and result.status == 0
+    tally.judge(has_compiled, f"{' '.join(command)}: {short(result.out, 2000) if result else 'did not end'}")
+    return has_compiled
+
+
+class Build:
+    """Compiles programs in a folder, and links them with the library of another one."""
+
+    def __init__(self, library_folder, folder):
+        self.folder = folder
+        self.link = [f"-L{library_folder}", "-lgerfmuod", "-pthread"]
+
+    def command(self, program, path):
+        """Returns the command line. A program in C is compiled with the team, so that a sanitizer checks the team too."""
+        team = shared_object.TEAM if program.source.endswith(".c") else shared_object.compile_team(self.folder)
+        return [*program.compiler, "-Icapi", f"capi/dag/{program.source}", team, "-o", path, *self.link, *program.libraries]
+
+    def compile(self, program, tally):
+        """Returns the path of the compiled program; None if it does not compile."""
+        path = tempfile.mkdtemp(dir=self.folder) + "/program"
+        return path if compiles(tally, self.command(program, path)) else None
+
+
+def run_program(tally, build, program, has_valgrind):
+    """Compiles a program and does its runs; prints how many there were."""
+    before, path = tally.failed, build.compile(program, tally)
+    if path is None:
+        return
+    checked = program.small if has_valgrind else []
+    for expected in program.runs:
+        judge(tally, [path, *expected.arguments], expected)
+    for arguments in checked:
+        judge(tally, [*VALGRIND, path, *arguments], Run([], 0, ""))
+    count = f"{len(program.runs)} run{'s' * (len(program.runs) != 1)}"
+    options = "".join(f" {option}" for option in program.sanitizer if option.startswith("-fsanitize"))
+    more = f", {len(checked)} more under valgrind" if checked else ""
+    print(f"capi/dag/{program.source}{options}: {count}{more}{', FAILED' * (tally.failed > before)}", flush=True)
+
+
+def with_threads_checked(program):
+    """Returns a program's small runs as a program that is built with ThreadSanitizer."""
+    runs = [Run(arguments, 0, "") for arguments in program.small]
+    return dataclasses.replace(program, compiler=[*program.compiler, *THREAD], runs=runs, small=[])
+
+
+def run_c(tally, build, is_full):
+    """Runs the programs in C and C++."""
+    has_valgrind = bool(shutil.which("valgrind"))
+    if not has_valgrind:
+        print("valgrind is not installed: no program runs under it")
+    is_available = {tuple(options): has_sanitizer(options, build.folder) for options in (ADDRESS, THREAD)}
+    for options in (key for key, is_here in is_available.items() if not is_here):
+        print(f"{' '.join(options)}: not on this machine, so no program runs under it")
+    own = programs(is_full)
+    for program in [*own, *(with_threads_checked(program) for program in own if program.small)]:
+        if not shutil.which(program.compiler[0]):
+            print(f"{program.compiler[0]} is not installed: capi/dag/{program.source} is skipped")
+        elif is_available.get(tuple(program.sanitizer), True):
+            run_program(tally, build, program, has_valgrind)
+
+
+def run_blas(tally, build):
+    """Runs Cholesky over OpenBLAS, if that is installed."""
+    program = Program("cholesky.c", [*C, "-DHAVE_BLAS"], ["-lopenblas", "-lm"], [], [])
+    path = f"{build.folder}/blas"
+    if not succeeds(build.command(program, path)):
+        print("OpenBLAS is not installed: cholesky.c ran with plain kernels alone")
+        return
+    environment = {**os.environ, "OPENBLAS_NUM_THREADS": "1"}
+    judge(tally, [path, "512", "64", "1", "1x4", "2x2", "whole:1"], Run([], 0, "2x2 120"), env=environment)
+    print("capi/dag/cholesky.c over OpenBLAS: 1 run")
+
+
+def run_fortran(tally, build):
+    """Runs the programs in Fortran."""
+    if not shutil.which("gfortran"):
+        print("gfortran is not installed: the programs in Fortran are skipped")
+        return
+    for name, output in (("first", "3.844231"), ("sums", "threads of OpenMP:  1.644918442")):
+        path = f"{build.folder}/{name}_f90"
+        team = shared_object.compile_team(build.folder)
+        command = [*FORTRAN, "-J", build.folder, "capi/gerfmuod.f90", f"capi/dag/{name}.f90", team, "-o", path, *build.link]
+        if compiles(tally, command):
+            judge(tally, [path], Run([], 0, output))
+            print(f"capi/dag/{name}.f90: 1 run")
+
+
+def python_with_numpy():
+    """Returns a Python that has numpy and scipy, or None."""
+    found = (sys.executable, shutil.which("python3", path="/usr/bin:/usr/local/bin"))
+    return next((path for path in found if path and succeeds([path, "-c", "import numpy, scipy.linalg"])), None)
+
+
+def run_python(tally, library_folder, folder):
+    """Checks the names that the shared object exports, and runs the tests and the examples of the Python package."""
+    path = f"{folder}/{shared_object.SONAME}"
+    shared_object.link(f"{library_folder}/libgerfmuod.a", path)
+    foreign = shared_object.foreign_names(path)
+    tally.judge(not foreign, f"{path} exports {' '.join(foreign)}")
+    package = {"GERFMUOD_LIBRARY": path, "PYTHONPATH": f"{repository.TOP}/python", "PYTHONDONTWRITEBYTECODE": "1"}
+    environment = {**os.environ, **package, "OPENBLAS_NUM_THREADS": "1"}
+    judge(tally, [sys.executable, "-m", "unittest", "discover", "-s", "python/tests"], Run([], 0, "OK"), env=environment)
+    judge(tally, [sys.executable, "python/examples/first.py"], Run([], 0, "3.844231"), env=environment)
+    with_numpy = python_with_numpy()
+    if with_numpy:
+        judge(tally, [with_numpy, "python/examples/cholesky.py", "512", "64", "4"], Run([], 0, "120 tasks"), env=environment)
+    else:
+        print("numpy and scipy are not installed: python/examples/cholesky.py is skipped")
+    print(f"{shared_object.SONAME} and the Python package: its tests and {2 if with_numpy else 1} examples")
+
+
+def arguments(parser):
+    parser.add_argument("--library", metavar="FOLDER", help="use libgerfmuod.a of this folder, whatever it was built from")
+    form = f"the long form: {ALL_CALLS:,} calls of the fuzz, {LONG_STORM:,} random graphs"
+    parser.add_argument("--full", action="store_true", help=form)
+
+
+def run_all(tally, library_folder, is_full):
+    """Runs the programs with the library of a folder, if it has task graphs."""
+    if "gerfmuod_dag_open" not in shared_object.symbols(f"{library_folder}/libgerfmuod.a"):
+        print(f"{library_folder}/libgerfmuod.a has no task graphs: no program was run")
+        return
+    with tempfile.TemporaryDirectory() as folder:
+        build = Build(library_folder, folder)
+        run_c(tally, build, is_full)
+        run_blas(tally, build)
+        run_fortran(tally, build)
+        run_python(tally, library_folder, folder)
+
+
+def run(options):
+    repository.go_to_top()
+    tally = Tally()
+    check_sources(tally, sources)
+    print("headers and programs of task graphs: checked as C99, C11 and C++17")
+    check_page(tally)
+    reason = "" if options.library else library.reason_not_built()
+    if reason:
+        print(f"{reason}: no program of capi/dag was linked and run. make lib builds it")
+    else:
+        run_all(tally, options.library or "lib", options.full)
+    return tally.end()

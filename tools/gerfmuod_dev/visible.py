@@ -1,0 +1,171 @@
+"""Finds the definitions of lower crates that a crate can see: those that its files import, those that these import, and so on.
+
+A file imports definitions by `use Rattle.CRATE.specs.FILE`, declarations of types by `use Rattle.CRATE.specs.declared.FILE.TYPE`, and
+types and calls by `use CRATE::NAME`. What a type or a call of a lower crate means is in its declaration and its contract, so these are
+followed to what they name; bodies and private fields are not. What is reached by none of this cannot change what the prover says.
+"""
+import functools
+import os
+import re
+from dataclasses import dataclass
+
+from . import repository
+from .contracts import TYPE, Function, block_at, contracts_of, items_of, owner_of
+from .mutant_files import Fault
+from .repository import text_of
+
+GHOST_IMPORT = re.compile(r"^ *(?:pub )?(?:ghost )?use Rattle\.(\w+)\.specs\.([\w.]+?)(?:\.\{([^}]*)\})?(?: as (\w+))?;?$", re.M)
+GHOST_PATH = re.compile(r"Rattle\.(\w+)\.specs\.([\w.]*\w)")
+IMPORT = re.compile(r"^ *(?:pub )?use (\w+)::(?:[\w:]*::)?(?:\{([^}]*)\}|(\w+));$", re.M)
+PATH = re.compile(r"\b(\w+)::(?:\{([^}]*)\}|(\w+))")
+DECLARATION = re.compile(r"(?:pub(?:\([^)]*\))? )?(?:struct|enum|trait|type|const|static) |(?:unsafe )?impl\b.* for ")
+# what an `impl` says of its type
+GHOST_VALUE = re.compile(r"^    ghost \w+ = \{.*?\};$", re.M | re.S)
+# a field of a struct that other crates cannot use
+PRIVATE_FIELD = re.compile(r"^    (?!pub |ghost )\w+: .*,\n", re.M)
+
+
+@dataclass(frozen=True)
+class Part:
+    """A part of a file that a crate can see. The kind is `definitions` for all of a file of specs/, `declaration` for what a file of
+    code declares under a name, or all that it declares if the name is empty, and `interface` for the declaration and the contracts."""
+
+    kind: str
+    crate: str
+    path: str
+    name: str = ""
+
+
+@functools.lru_cache(maxsize=None)
+def known(crate):
+    return crate in repository.crates()
+
+
+def listed(several, single=""):
+    return re.findall(r"[^\s,]+", several) if several else [single] if single else []
+
+
+@functools.lru_cache(maxsize=None)
+def blocks_in(path):
+    """Returns what a file of code declares, as pairs of a name and the text."""
+    lines, found = text_of(path).split("\n"), []
+    for place, line in enumerate(lines):
+        if DECLARATION.match(line):
+            block, declared = block_at(lines, place), TYPE.match(line)
+            found.append((declared[3], block) if declared else (owner_of(line), "\n".join(GHOST_VALUE.findall(block))))
+    return found
+
+
+@functools.lru_cache(maxsize=None)
+def files_with(crate, name):
+    """Returns the files of a crate that declare a type or a call of a name, or implement the type, as a tuple. A name that its lib.rt
+    passes on from another crate is looked up there."""
+    contracts = contracts_of(crate)
+    files = {function.file for function in contracts.functions.values() if name == (function.owner or function.name)}
+    files.update(path for path in repository.files_in(f"crates/{crate}/src") if any(name == declared for declared, _ in blocks_in(path)))
+    exports = IMPORT.findall(text_of(f"crates/{crate}/src/lib.rt", ""))
+    others = [other for other, several, single in exports if known(other) and name in listed(several, single)]
+    return tuple(sorted(files.union(*(files_with(other, name) for other in others if other != crate))))
+
+
+def without_private_fields(block):
+    declared = TYPE.match(block)
+    return PRIVATE_FIELD.sub("", block) if declared and declared[2] == "struct" else block
+
+
+def crate_of(path):
+    return path.split("/")[1]
+
+
+def interfaces(crate, name):
+    return [Part("interface", crate_of(path), path, name) for path in files_with(crate, name)]
+
+
+def declarations(crate, parts, names):
+    """Returns what `Rattle.CRATE.specs.declared.PARTS.{NAMES}` declares."""
+    paths = [f"crates/{crate}/src/{'/'.join(parts[:count])}.rt" for count in range(len(parts), 0, -1)]
+    paths = [path for path in paths if os.path.exists(path)][:1] or sorted({path for part in parts for path in files_with(crate, part)})
+    found = [
+        Part("declaration", crate_of(path), path, name)
+        for path in paths
+        for name in dict.fromkeys(name for name, _ in blocks_in(path))
+        if name in parts or name in names
+    ]
+    return found or [Part("declaration", crate_of(path), path) for path in paths]
+
+
+@functools.lru_cache(maxsize=None)
+def definitions(crate, file, names):
+    """Returns what `Rattle.CRATE.specs.FILE.{NAMES}` is, as a list. A fault says that there is no such thing."""
+    parts = file.split(".")
+    if parts[0] in ("declared", "contracts"):
+        found = declarations(crate, parts[1:], names)
+    else:
+        paths = [f"crates/{crate}/specs/{'/'.join(parts[:count])}.antt" for count in range(len(parts), 0, -1)]
+        found = [Part("definitions", crate, path) for path in paths if os.path.exists(path)][:1]
+    if not found:
+        raise Fault(f"Rattle.{crate}.specs.{file} is imported, and is in no file")
+    return found
+
+
+def ghost_imports_in(text):
+    """Returns what a text imports from specs, as pairs of a name and a part; a name that the text calls in full is empty."""
+    found = []
+    for crate, file, several, alias in GHOST_IMPORT.findall(text):
+        names = listed(several, alias or file.split(".")[-1])
+        found += [(name, part) for name in names for part in (definitions(crate, file, (name,)) if known(crate) else [])]
+    rest = GHOST_IMPORT.sub("", text)
+    return found + [("", part) for crate, file in GHOST_PATH.findall(rest) if known(crate) for part in definitions(crate, file, ())]
+
+
+def paths_in(text):
+    """Returns the interfaces that the paths `CRATE::NAME` in a text name."""
+    found = [(crate, name) for crate, several, single in PATH.findall(text) if known(crate) for name in listed(several, single)]
+    return [part for crate, name in found for part in interfaces(crate, name)]
+
+
+@functools.lru_cache(maxsize=None)
+def imports_of(path):
+    """Returns what a file of code imports, as pairs of a name and a part."""
+    text, found = text_of(path), []
+    for first, several, single in IMPORT.findall(text):
+        crate = crate_of(path) if first in ("crate", "super", "self") else first
+        found += [(name, part) for name in listed(several, single) if known(crate) for part in interfaces(crate, name)]
+    return ghost_imports_in(text) + found
+
+
+def text_of_part(part):
+    """Returns the text of definitions or of declarations; the contracts of an interface are not part of it."""
+    if part.kind == "definitions":
+        return text_of(part.path)
+    texts = [text for name, text in blocks_in(part.path) if part.name in (name, "")]
+    return "\n".join(texts if part.kind == "declaration" else map(without_private_fields, texts))
+
+
+@functools.lru_cache(maxsize=None)
+def parts_named_in(part):
+    """Returns what a part of a file names, in lower crates and in its own."""
+    if part.kind == "definitions":
+        return [named for _, named in ghost_imports_in(text_of(part.path))]
+    texts = [without_private_fields(text) for name, text in blocks_in(part.path) if part.name in (name, "")]
+    if part.kind == "interface":
+        functions = [item for item in items_of(part.crate, part.path) if isinstance(item, Function) and item.is_declared_public]
+        texts += [function.head for function in functions if part.name == (function.owner or function.name)]
+    text = "\n".join(texts)
+    names = set(re.findall(r"\w+", text))
+    # (a name with a sign in it, such as that of an operator, counts as used)
+    return paths_in(text) + [named for name, named in imports_of(part.path) if name in names or not name.isidentifier()]
+
+
+def definitions_seen(crate):
+    """Returns the parts of files of lower crates that a crate can see and that define or declare something, in a fixed order."""
+    paths = [path for folder in ("src", "specs", "proofs") for path in repository.files_in(f"crates/{crate}/{folder}")]
+    texts = [text_of(path) for path in paths]
+    left = [part for text in texts for _, part in ghost_imports_in(text)] + [part for text in texts for part in paths_in(text)]
+    found = set()
+    while left:
+        part = left.pop()
+        if part.crate != crate and part not in found:
+            found.add(part)
+            left += parts_named_in(part)
+    return sorted((part for part in found if text_of_part(part)), key=lambda part: (part.path, part.name, part.kind))
