@@ -1,11 +1,11 @@
--- What each refusal says, in words.
+-- The meaning of each refusal, as a text.
 use Rattle.std.specs.Prelude.{ℕ, List, codes}
 use Rattle.tp_base.specs.declared.Refusal.{Refusal}
 use Rattle.tp_base.specs.declared.Refusal.TheVariants.{NoNode, SameNode, TaskKnown, NoTask, WrongLife, Inactive, ActionKnown, NoAction}
 use Rattle.tp_base.specs.declared.Refusal.TheVariants.{MessageKnown, NoMessage, NotIdle, NoToken}
 use Rattle.tp_base.specs.declared.Refusal.TheVariants.{WaveOpen, WaveNotEnded, Ended, HistoryFull, NoMemory, Stranger, BadSpec}
 
--- where a call of this library tells it
+-- the meaning, if a call on a core can return the refusal
 abbrev pub meaning_of : Refusal → List ℕ
 meaning_of NoNode = codes "there is no node of this number"
 meaning_of SameNode = codes "the sender and the receiver are one node"
