@@ -1,7 +1,7 @@
 /* failures.c: a pool and a team when an allocation fails, or a thread cannot be started. For each N, the Nth allocation of the
  * same run fails: the call is refused as NO_MEMORY. A description and a start are then repeated, and succeed; after another
- * call the pool is closed. Then the memory of a large pool is measured. Prints what is not so; the exit status is 1 if there is
- * something.
+ * call the pool is closed. Then the memory of a large pool is measured. Prints each check that fails; the exit status is 1 if
+ * one failed.
  *
  * Link with -Wl,--wrap=malloc,--wrap=calloc,--wrap=realloc,--wrap=free,--wrap=pthread_create. */
 #define _GNU_SOURCE
@@ -23,7 +23,7 @@ void *__wrap_realloc(void *, size_t);
 void __wrap_free(void *);
 int __wrap_pthread_create(pthread_t *, const pthread_attr_t *, void *(*)(void *), void *);
 
-static long allocations_left = -1, threads_left = -1; /* until one fails; negative: none does */
+static long allocations_left = -1, threads_left = -1; /* until one fails; if negative, none fails */
 static size_t allocated;                              /* bytes, in all threads */
 static int checked, failed;
 
@@ -63,7 +63,7 @@ static void check(const char *what, bool holds) {
 
 enum { TASKS = 3000 }; /* a wave over two nodes: task t waits for t - 1 and t - 2 */
 
-/* A call that is repeated if it was refused for want of memory. Returns what it told, and counts the refusals. */
+/* Repeats a call that was refused because memory ran out. Returns its result, and counts the refusals. */
 static uint32_t refused_calls;
 static gerfmuod_dag_answer needed(gerfmuod_dag_answer first, gerfmuod_dag_answer (*again)(gerfmuod_dag *, uint32_t), gerfmuod_dag *dag,
                                   uint32_t number) {
@@ -87,7 +87,7 @@ static bool describe(gerfmuod_dag *dag) {
     return is_well && !needed(gerfmuod_dag_start(dag), start_again, dag, 0).refused;
 }
 
-/* Whether the pool runs to its end, or to a call that was refused memory. */
+/* Returns whether the pool runs to its end, or to a call that ran out of memory. */
 static bool runs(gerfmuod_dag *dag) {
     for (uint32_t ran = 0, node = 0, waits = 0; waits < 3; node = 1 - node) {
         gerfmuod_dag_answer answer = gerfmuod_dag_next(dag, node);
@@ -167,7 +167,7 @@ static void check_threads(void) {
     }
 }
 
-/* The bytes of a pool that has run, in which each task waits for so many before it. */
+/* Returns the bytes of a pool that has run, in which each task waits for the `inputs` tasks before it. */
 static size_t bytes_of(uint32_t tasks, uint32_t nodes, uint32_t inputs) {
     gerfmuod_dag dag;
     gerfmuod_dag_answer answer;
@@ -186,7 +186,7 @@ static size_t bytes_of(uint32_t tasks, uint32_t nodes, uint32_t inputs) {
     return used;
 }
 
-/* 100,000 tasks: how many bytes a task, an input, and an input from another node take. */
+/* 100,000 tasks: the bytes for a task, for an input, and for an input from another node. */
 static void check_memory(void) {
     size_t task = bytes_of(100000, 1, 0) / 100000, inputs = bytes_of(100000, 1, 4) / 100000;
     size_t crossing = bytes_of(100000, 2, 1) / 100000;
