@@ -20,8 +20,8 @@ pub record IsKept (p : Inside) : Type 0 where
 abbrev pub IsOver : Accepted → ℕ → Type 0
 IsOver a w = IsOverFrom a.nodes (visited_at w 0 (present a.steps)) (present a.steps)
 
--- Safety: if the call says that the pool had terminated with wave w, it had; and so it was at every judgement, in each
--- generation.
+-- Safety: if the call says that the pool had terminated with wave w, it had; and every judgement of termination so far,
+-- in each generation, was right.
 pub record TellsNoEarlyEnd (said : Type 0) (w : ℕ) (a : Accepted) : Type 0 where
   pub ended : said → IsOver a w
   pub never_early : InEach (IsNeverEarly a.nodes) a.steps

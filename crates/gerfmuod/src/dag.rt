@@ -29,6 +29,8 @@ pub unsafe extern "C" fn gerfmuod_dag_open(alloc: Global, pool: *mut u8, nodes: 
 
 /// Adds a task at a node, of a class 0 to 3, that waits for no input so far. `number` in the result is the number of
 /// the task.
+///
+/// Refused, and nothing changes: `NoPool` if the pool is not open; then as `Pool::task` is.
 #[unsafe(no_mangle)]
 pub unsafe extern "C" fn gerfmuod_dag_task(pool: *mut u8, node: u32, class: u32) -> DagAnswer
     ghost old: { SlotState }
@@ -39,6 +41,8 @@ pub unsafe extern "C" fn gerfmuod_dag_task(pool: *mut u8, node: u32, class: u32)
 }
 
 /// Makes the newest task wait for task `source`, which was added before it.
+///
+/// Refused, and nothing changes: `NoPool` if the pool is not open; then as `Pool::input` is.
 #[unsafe(no_mangle)]
 pub unsafe extern "C" fn gerfmuod_dag_input(pool: *mut u8, source: u32) -> DagAnswer
     ghost old: { SlotState }
@@ -49,6 +53,8 @@ pub unsafe extern "C" fn gerfmuod_dag_input(pool: *mut u8, source: u32) -> DagAn
 }
 
 /// Starts the pool: all tasks and inputs were added.
+///
+/// Refused, and the graph does not change: `NoPool` if the pool is not open; then as `Pool::start` is.
 #[unsafe(no_mangle)]
 pub unsafe extern "C" fn gerfmuod_dag_start(pool: *mut u8) -> DagAnswer
     ghost old: { SlotState }
@@ -59,6 +65,8 @@ pub unsafe extern "C" fn gerfmuod_dag_start(pool: *mut u8) -> DagAnswer
 }
 
 /// Returns what a thread of a node is to do next: run task `number`, wait, or stop.
+///
+/// Refused, and the graph does not change: `NoPool` if the pool is not open; then as `Pool::next` is.
 #[unsafe(no_mangle)]
 pub unsafe extern "C" fn gerfmuod_dag_next(pool: *mut u8, node: u32) -> DagAnswer
     ghost old: { SlotState }
@@ -70,6 +78,8 @@ pub unsafe extern "C" fn gerfmuod_dag_next(pool: *mut u8, node: u32) -> DagAnswe
 
 /// Completes a task that a thread of its node ran. `news` in the result is the set of nodes at which a thread may find
 /// something new, as bits.
+///
+/// Refused, and the graph does not change: `NoPool` if the pool is not open; then as `Pool::done` is.
 #[unsafe(no_mangle)]
 pub unsafe extern "C" fn gerfmuod_dag_done(pool: *mut u8, node: u32, task: u32) -> DagAnswer
     ghost old: { SlotState }
@@ -91,6 +101,8 @@ pub unsafe extern "C" fn gerfmuod_dag_step(pool: *mut u8, k: u32) -> DagStep
 }
 
 /// Frees the memory that the pool has allocated. After that the pool is not open.
+///
+/// Refused: `NoPool` if the pool is not open.
 #[unsafe(no_mangle)]
 pub unsafe extern "C" fn gerfmuod_dag_close(pool: *mut u8) -> DagAnswer
     ghost old: { SlotState }

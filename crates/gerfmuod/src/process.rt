@@ -41,7 +41,7 @@ pub extern "C" fn gerfmuod_process_init(process: &mut Process, number: u32, proc
     }
 }
 
-/// Opens one more piece of work. Returns 0 or the refusal.
+/// Opens one more piece of work. Returns 0 or the refusal, as in `Process::add_work`.
 #[unsafe(no_mangle)]
 pub extern "C" fn gerfmuod_process_add_work(process: &mut Process) -> u32
     ensures refused { result ≡ refused_by open_refusal (read process.old) }
@@ -54,7 +54,7 @@ pub extern "C" fn gerfmuod_process_add_work(process: &mut Process) -> u32
     }
 }
 
-/// Closes a piece of work. Returns 0 or the refusal.
+/// Closes a piece of work. Returns 0 or the refusal, as in `Process::finish_work`.
 #[unsafe(no_mangle)]
 pub extern "C" fn gerfmuod_process_finish_work(process: &mut Process) -> u32
     ensures refused { result ≡ refused_by close_refusal (read process.old) }
@@ -67,7 +67,7 @@ pub extern "C" fn gerfmuod_process_finish_work(process: &mut Process) -> u32
     }
 }
 
-/// Counts a message as sent. Returns 0 or the refusal.
+/// Counts a message as sent. Returns 0 or the refusal, as in `Process::count_sent`.
 #[unsafe(no_mangle)]
 pub extern "C" fn gerfmuod_process_count_sent(process: &mut Process) -> u32
     ensures refused { result ≡ refused_by send_refusal (read process.old) }
@@ -80,7 +80,8 @@ pub extern "C" fn gerfmuod_process_count_sent(process: &mut Process) -> u32
     }
 }
 
-/// Counts a message of an epoch as received, and opens its piece of work. Returns 0 or the refusal.
+/// Counts a message of an epoch as received, and opens its piece of work. Returns 0 or the refusal, as in
+/// `Process::count_received`.
 #[unsafe(no_mangle)]
 pub extern "C" fn gerfmuod_process_count_received(process: &mut Process, epoch: u64) -> u32
     ensures refused { result ≡ receipt_refused epoch (read process.old) }
@@ -132,7 +133,8 @@ pub extern "C" fn gerfmuod_process_incoming_message_end(process: &mut Process) -
     }
 }
 
-/// Takes a control message. Returns 0 or the refusal.
+/// Takes a control message. Returns 0 or the refusal: 107 if the process is not open; 109 if there is no such token;
+/// then as in `Process::take`.
 #[unsafe(no_mangle)]
 pub extern "C" fn gerfmuod_process_take(process: &mut Process, message: &WireMessage) -> u32
     ensures refused { result ≡ taken_as message.now.epoch (message_of message.now) (read process.old) }
@@ -173,7 +175,8 @@ pub extern "C" fn gerfmuod_process_next(process: &mut Process, message_out: &mut
     }
 }
 
-/// Begins the next epoch at the process, with one piece of work open. Returns 0 or the refusal.
+/// Begins the next epoch at the process, with one piece of work open. Returns 0 or the refusal, as in
+/// `Process::reopen`.
 #[unsafe(no_mangle)]
 pub extern "C" fn gerfmuod_process_reopen(process: &mut Process) -> u32
     ensures refused { result ≡ refused_as (checked (read process.old) (reopen_refusal (read process.old))) }

@@ -73,7 +73,7 @@ can_give_from p l r i s t =
     (fits p.taken_sent p.sent s))
     (fits p.taken_received p.received t)
 
--- A process that a wave has just come to has something to do.
+-- An idle process that a wave has just come to has something to do.
 acts_opened : (p : EpochState) (w : ℕ) → p.over ≡ false → p.pending ≡ 0 → p.sent ≤ LIMIT → p.received ≤ LIMIT → DoesStep (acts (opens w p))
 acts_opened p w o i s r =
     elim (cases_Bool (has p (left_of p))) [

@@ -16,8 +16,8 @@ use crate::outcome::{Next, Refusal};
 /// process in one epoch.
 const LIMIT: u64 = 1 << 43;
 
-/// What one process knows in one epoch. The processes form a binary tree: the children of process i are 2i + 1 and 2i +
-/// 2.
+/// What one process knows in one epoch. The processes form a binary tree: the children of process i are 2i + 1 and
+/// 2i + 2.
 ///
 /// A flag is a byte, which is set if it is not 0: a C program may write any byte to it.
 #[derive(Clone, Copy, Debug, PartialEq, Eq)]

@@ -1,5 +1,5 @@
 //! The process that a program owns: the detector's state in the present epoch, the number of the epoch, and a mark that
-//! it is open. Any bytes are a valid `Process`, and every call is defined for them.
+//! says whether it is open. Any bytes are a valid `Process`, and every call is defined for them.
 
 ghost use Rattle.std.specs.Prelude.{◌≡◌, ◌&&◌, None, OnErr};
 ghost use Rattle.std.specs.Result.{result_err};

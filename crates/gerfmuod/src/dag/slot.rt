@@ -1,4 +1,4 @@
-//! The content of a `gerfmuod_dag`: a pool, and a mark that it is open.
+//! The content of a `gerfmuod_dag`: a pool, and a mark that says whether it is open.
 ghost use Rattle.std.specs.Prelude.{◌≡◌, ◌≤◌, Bool};
 ghost use Rattle.tp_base.specs.declared.limits.TheConstants.{MAX_NODES};
 ghost use Rattle.gerfmuod.specs.Dag.{closed, empty};
