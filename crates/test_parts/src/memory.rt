@@ -1,5 +1,5 @@
-//! Each call of a pool's parts that can be refused memory, once with ample memory. Each of its growths is refused in turn by
-//! tools/dev limits refuse-tests; docs/MEMORY.md has the table.
+//! Each call of a pool's parts that can fail to allocate, once with enough memory. tools/dev limits refuse-tests makes
+//! each allocation fail in turn; docs/measurements/out-of-memory.md has the results.
 
 ghost use Rattle.std.specs.Prelude.{◌≡◌};
 
@@ -260,8 +260,8 @@ fn taken(answer: Result<Reply, Refusal>) -> Result<u32, Refusal> {
     }
 }
 
-/// Takes the 1,000 steps that lead a core over two nodes from its 24th step, a reopening, to its end. The first of them alone asks for
-/// memory.
+/// Takes the 1,000 steps that lead a core over two nodes from its 24th step, a reopening, to its end. The first of them
+/// alone asks for memory.
 fn to_end(core: &mut Core) -> Result<u32, Refusal> {
     for _ in 0..493 {
         core.step(Step::ActionOpen(NodeId(0), ActionId(3)))?;

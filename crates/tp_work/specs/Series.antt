@@ -34,8 +34,8 @@ pub record IsRound (n workers : ℕ) (g : TaskGraph) (h : History) (r : Round) :
   pub messages : r.messages ≡ sent_in h
   pub answered : r.workers ≡ n * workers
 
--- There are this many rounds, and the history is runs on n nodes through as many generations: each generation, oldest first, has
--- its round.
+-- There are this many rounds, and the history consists of runs on n nodes through that number of generations: each generation,
+-- oldest first, has its round.
 pub record IsSeries (n workers : ℕ) (g : TaskGraph) (rounds : ℕ) (s : Series) : Type 0 where
   pub many : vec_len s.rounds ≡ rounds
   pub runs : AreRuns n s.history.events
