@@ -22,8 +22,8 @@ NotEndedClaimsNoEnd = (n : ℕ) (lines : List TraceLine) → IsSound n lines →
     → (later : List TraceLine) (w : ℕ) (past : List TraceLine) → lines ≡ later ++ Judged (Some w) ∷ past
     → IsTrue (any is_reopen (steps_in later))
 
--- If a line reopens the pool, the end of the generation before it was judged. From the end of the wave that was named
--- there on, nothing was left of that generation, and each task that any of its lines inserts had run once by then.
+-- If a line reopens the pool, the end of the generation before it was judged: nothing of that generation was left from
+-- the end of the named wave on, and each task that any of its lines inserts had run once by then.
 abbrev pub ReopenedIsOver : Type 0
 ReopenedIsOver = (n : ℕ) (lines : List TraceLine) → IsSound n lines
     → (later past : List TraceLine) → lines ≡ later ++ Plain Reopen ∷ past

@@ -1,4 +1,4 @@
-//! Why a text was not read, or has no reply.
+//! The faults of reading a text and of replying to it.
 use std::alloc::AllocError;
 use thiserror::Error;
 

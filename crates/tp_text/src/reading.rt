@@ -30,7 +30,7 @@ pub struct Trace {
 /// What was read of a trace.
 #[derive(Drop)]
 pub enum Reading {
-    /// It is sound: all its steps.
+    /// It is sound: its number of nodes and its steps.
     Sound(Trace),
     /// A line is faulty: the steps before the first such line, and the line that `audit` writes.
     Flawed(Trace, Vec<u8>),
@@ -84,11 +84,11 @@ fn reading_of(alloc: Global, text: &[u8]) -> Result<Reading, TextFault>
 /// order with a new core.
 ///
 /// Returns `Sound` with the number of nodes and the steps if the trace is sound. Returns `Flawed` if a line is faulty:
-/// its step is refused, it is a judgement line with a wrong claim, or it does not match the grammar. The result then
-/// has the steps before the first such line, and the line that `audit` writes. That line reports the first line that
-/// does not match the grammar, if there is one, even if the step of an earlier line is refused. Returns `NoTrace` with
-/// the line that `audit` writes if the first two lines are not those of a trace. Takes memory for the text, for a core
-/// with its steps, and for the returned steps.
+/// its step is refused, its judgement (`judge not` or `judge ended W`) is wrong, or it does not match the grammar. The
+/// result then has the steps before the first such line, and the line that `audit` writes. That line reports the first
+/// line that does not match the grammar, if there is one, even if the step of an earlier line is refused. Returns
+/// `NoTrace` with the line that `audit` writes if the first two lines are not those of a trace. Takes memory for the
+/// text, for a core with its steps, and for the returned steps.
 ///
 /// Fails with `Read` if a read fails (an interrupted one is tried again), or if 67,108,864 reads did not reach the end;
 /// `TooLong` if there are more than 33,554,432 bytes; `Memory` if an allocation fails.

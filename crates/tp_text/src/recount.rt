@@ -74,11 +74,12 @@ fn audited(alloc: Global, text: &[u8]) -> Result<(Verdict, Vec<u8>), TextFault>
 /// Judges a trace, and writes the reply. It reads to the end of the reader, takes the steps in order with a new core,
 /// and counts the messages anew, so it believes no line.
 ///
-/// Returns `Sound` if the trace is sound, and writes four lines: the number of steps; the numbers of tasks inserted and
-/// done; the numbers of messages sent and received; and the last judgement, `ended W` or `not ended`. Otherwise it
-/// returns `Refused`, and writes one line: that of the first line that does not match the grammar, or else of the first
-/// whose step is refused or that is a judgement line with a wrong claim. It writes nothing before the whole reply is
-/// known. Takes memory for the text and for a core with its steps.
+/// Returns `Sound` if each line matches the grammar, no step is refused, and each line `judge not` or `judge ended W`
+/// has the right claim. Then it writes four lines: the number of steps; the numbers of tasks inserted and done; the
+/// numbers of messages sent and received; and the last judgement, `ended W` or `not ended`. Otherwise it returns
+/// `Refused` and writes one line, about the first line that does not match the grammar, or else the first whose step is
+/// refused or whose claim is wrong. It writes nothing before the whole reply is known. Takes memory for the text and
+/// for a core with its steps.
 ///
 /// A trace of version 1 begins with the line `trace 1`, and all its messages are of the first generation. One of
 /// version 2 begins with the line `trace 2`: the last number in the line of a message is its generation, and `reopen`

@@ -51,7 +51,7 @@ fn answered(alloc: Global, text: &[u8]) -> Result<(Verdict, Vec<u8>), TextFault>
 /// Replies to a script: reads to the end of the reader, takes the steps in order with a new core, and writes the reply
 /// to each step and the closing lines.
 ///
-/// Returns `Sound` then. If the text is no script, it returns `Refused`, and writes only the line that reports the
+/// Returns `Sound` if the text is a script. Otherwise it returns `Refused`, and writes only the line that reports the
 /// first line that does not match the grammar. It writes nothing before the whole reply is known.
 ///
 /// A script of version 1 begins with the line for the number of nodes, and all its messages are of the first

@@ -50,7 +50,7 @@ fn traced_version(history: &History) -> Option<Version>
     if history.len() > MAX_STEPS as usize {
         return None;
     }
-    // A history of one generation that can be traced is read only once.
+    // A history of one generation that can be traced is checked in one pass.
     if has_lines(Version::One, history) {
         return Some(Version::One);
     }
