@@ -1,4 +1,5 @@
 //! The verdict on a text.
+
 /// The verdict on a text.
 #[derive(Clone, Copy, Debug, PartialEq, Eq)]
 pub enum Verdict {
