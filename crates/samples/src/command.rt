@@ -5,7 +5,7 @@ use clap::{Arg, ArgAction, Command, value_parser};
 use std::alloc::{AllocError, Global};
 use tp_shell::{VERSION, with_counts};
 
-/// The program's command line.
+/// Returns the program's command line.
 pub(crate) fn samples_command<'a>(alloc: Global) -> Result<Command<'a>, AllocError> {
     // `draw` reads its own arguments: here it only has a line of the help.
     let draw = Command::new(alloc, "draw").about(
@@ -53,7 +53,7 @@ fn relax_command<'a>(alloc: Global) -> Result<Command<'a>, AllocError> {
     with_counts(alloc, command)?.arg(quiet_flag(alloc))
 }
 
-/// The command line of `patterns`. Its arguments are not required with `--list`.
+/// Returns the command line of `patterns`. Its arguments are not required with `--list`.
 pub(crate) fn patterns_command<'a>(alloc: Global) -> Result<Command<'a>, AllocError> {
     let pattern = Arg::new(alloc, "PATTERN").help(
         "The pattern's name; `samples patterns --list` names all",
@@ -93,7 +93,7 @@ fn steps_argument<'a>(alloc: Global, help: &'a str) -> Arg<'a> {
         .help(help)
 }
 
-/// An argument that takes a number of 32 bits, 1 or more.
+/// Returns an argument that takes a number of 32 bits, 1 or more.
 fn size_argument<'a>(alloc: Global, name: &'a str, help: &'a str) -> Arg<'a> {
     Arg::new(alloc, name)
         .required(true)
@@ -101,7 +101,7 @@ fn size_argument<'a>(alloc: Global, name: &'a str, help: &'a str) -> Arg<'a> {
         .help(help)
 }
 
-/// An option that takes a number of 32 bits.
+/// Returns an option that takes a number of 32 bits.
 fn option<'a>(alloc: Global, name: &'a str, value: &'a str, default: &'a str) -> Arg<'a> {
     Arg::new(alloc, name)
         .long(name)

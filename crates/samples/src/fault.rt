@@ -81,8 +81,8 @@ fn verb(count: usize) -> &'static str {
 }
 
 impl Fault {
-    /// The exit status: 1 for the arguments, the reading and the writing, 2 for an input without a run, 3 for a refused run
-    /// and for allocation failure.
+    /// Returns the exit status: 1 for the arguments, the reading and the writing, 2 for an input without a run, 3 for a
+    /// refused run and for allocation failure.
     fn status(&self) -> u8
         ensures { (1 ≤ result) × (result ≤ 3) }
     {
@@ -95,7 +95,7 @@ impl Fault {
     }
 }
 
-/// The exit status of an outcome. A fault is printed as a line.
+/// Returns the exit status of an outcome, and prints a fault as a line.
 pub(crate) fn status_of<E: Write>(outcome: Result<(), Fault>, err: &mut E) -> u8
     // The status is 0 only if all was printed.
     ensures { MatchResult outcome (λ _. result ≡ 0) (λ _. (1 ≤ result) × (result ≤ 3)) }
@@ -140,7 +140,7 @@ impl From<Refusal> for Fault {
 impl From<LentFault> for Fault {
     fn from(fault: LentFault) -> Self {
         match fault {
-            // There are cells, in whole rows, and a block is of some: only the events of a step are left.
+            // There are cells, in whole rows, and a block has some. So the fault is the number of events of a step.
             LentFault::BadInput => Fault::Input(InputFault::LongStep),
             _ => Fault::from(fault.refusal()),
         }

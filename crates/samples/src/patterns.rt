@@ -10,7 +10,7 @@ use std::sync::Wait;
 use std::thread::Threads;
 use tp_work::Config;
 
-/// The lines of a run of a grid.
+/// Runs a grid, and returns the lines of its result.
 pub(crate) fn pattern_text<R: Threads + Wait + Sync>(
     rt: &R,
     alloc: Global,
@@ -31,7 +31,7 @@ pub(crate) fn pattern_text<R: Threads + Wait + Sync>(
 }
 
 impl PatternGrid<'_> {
-    /// The pattern of the name, with its radius and its seed.
+    /// Returns the pattern of the name, with its radius and its seed.
     fn pattern(&self) -> Option<Pattern> {
         let (radius, seed) = (self.radius, self.seed);
         match self.name {
