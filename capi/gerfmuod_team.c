@@ -370,7 +370,7 @@ static const struct refusal {
     {GERFMUOD_DAG_NO_NODE, "NoNode", "there is no such node, or the task is at another node"},
     {GERFMUOD_DAG_NO_TASK, "NoTask", "there is no such task, or an input is not lower than its task"},
     {GERFMUOD_DAG_WRONG_LIFE, "WrongLife", "the task or the pool is not in the state that the call needs"},
-    {GERFMUOD_DAG_INACTIVE, "Inactive", "a start that was refused memory has begun at this node"},
+    {GERFMUOD_DAG_INACTIVE, "Inactive", "a start that ran out of memory has begun at this node"},
     {GERFMUOD_DAG_ENDED, "Ended", "the pool is over"},
     {GERFMUOD_DAG_HISTORY_FULL, "HistoryFull", "the graph needs more steps than a pool has"},
     {GERFMUOD_DAG_NO_MEMORY, "NoMemory", "an allocation failed"},

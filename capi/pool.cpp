@@ -44,7 +44,7 @@ class Detector {
             char name[16], meaning[128];
             int n = static_cast<int>(gerfmuod_refusal_name(why, name, sizeof name).length);
             int m = static_cast<int>(gerfmuod_refusal_meaning(why, meaning, sizeof meaning).length);
-            std::fprintf(stderr, "behind step %u, %s %u at node %u: refused %u %.*s: %.*s\n", gerfmuod_length(&core),
+            std::fprintf(stderr, "after step %u, %s %u at node %u: refused %u %.*s: %.*s\n", gerfmuod_length(&core),
                          what, number, node, why, n, name, m, meaning);
             std::_Exit(3);
         }
@@ -154,7 +154,7 @@ class Pool {
         if (sums.told != GERFMUOD_WAVE) return false;
         gerfmuod_answer judged = detector.ask(gerfmuod_judge);
         if (sums.sent != sums.received || judged.told == GERFMUOD_ENDED) return judged.told == GERFMUOD_ENDED;
-        std::fprintf(stderr, "behind step %u, the end after wave %u with %u sent and %u received: judged not\n",
+        std::fprintf(stderr, "after step %u, the end after wave %u with %u sent and %u received: judged not\n",
                      detector.ask(gerfmuod_length), sums.number, sums.sent, sums.received);
         std::_Exit(3);
     }

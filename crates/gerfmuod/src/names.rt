@@ -66,10 +66,10 @@ fn meaning(refusal: Refusal) -> &'static str
         Refusal::WaveNotEnded => "no ended wave waits for judgement",
         Refusal::Ended => "the end was judged",
         Refusal::HistoryFull(_) => "there is no room for more steps",
-        Refusal::NoMemory => "memory was refused",
+        Refusal::NoMemory => "an allocation failed",
         Refusal::Stranger => "the message is of another generation",
         Refusal::BadSpec => "there is no such step, or there cannot be so many nodes",
-        _ => "no call of this library tells it",
+        _ => "no call of this library returns it",
     }
 }
 
