@@ -8,7 +8,7 @@
 #define CHECK(what)                                                                                                    \
     do {                                                                                                               \
         if (!(what)) {                                                                                                 \
-            fprintf(stderr, "line %d: check failed: %s\n", __LINE__, #what);                                                 \
+            fprintf(stderr, "line %d: check failed: %s\n", __LINE__, #what);                                           \
             exit(1);                                                                                                   \
         }                                                                                                              \
     } while (0)
