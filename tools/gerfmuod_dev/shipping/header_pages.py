@@ -69,7 +69,7 @@ def described(code, comment):
     """Returns the declarations of functions, without the words `static inline`, and the comment about them."""
     lines = re.sub(r"^static inline ", "", code, flags=re.M).split("\n")
     prototypes = "\n".join(roff.bold(line) for line in lines)
-    return f".PP\n.EX\n{prototypes}\n.EE\n" + (f".RS 4\n{roff.paragraphs(comment)}.RE\n" if comment else "")
+    return ".PP\n" + roff.as_lines(prototypes) + (f".RS 4\n{roff.paragraphs(comment)}.RE\n" if comment else "")
 
 
 def body_of(code):

@@ -14,9 +14,14 @@ def bold(text):
     return f"\\fB{escaped(text)}\\fP"
 
 
+def as_lines(text):
+    """Returns text of `man` whose lines stay as they are. EE turns hyphens on again."""
+    return f".EX\n{text}\n.EE\n.nh\n"
+
+
 def kept(text):
     """Returns lines that stay as they are."""
-    return f".EX\n{escaped(text)}\n.EE\n"
+    return as_lines(escaped(text))
 
 
 def head(name, section, version, date, manual):
