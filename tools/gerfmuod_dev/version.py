@@ -8,12 +8,14 @@ from .repository import text_of
 
 PLACE = "crates/gerfmuod/src/exports.rt"
 NUMBER = re.compile(r"const VERSION: u32 = (\d+);")
-# the sources that repeat the version, as a number of the library or as a text
-AS_NUMBER = {"capi/gerfmuod.h": re.compile(r"#define GERFMUOD_VERSION (\d+)u")}
-AS_TEXT = {
-    "crates/tp_shell/src/options.rt": re.compile(r'static VERSION: &str = "([^"]*)"'),
-    "python/pyproject.toml": re.compile(r'^version = "([^"]*)"', re.M),
-}
+# the sources that repeat the version, as the number that the library returns or as a text
+REPEATED = (
+    ("capi/gerfmuod.h", re.compile(r"#define GERFMUOD_VERSION (\d+)u")),
+    ("capi/gerfmuod.h", re.compile(r"/\* ([\d.]+)\. gerfmuod_version\(\)")),
+    (PLACE, re.compile(r"The version of the library, ([\d.]+):")),
+    ("crates/tp_shell/src/options.rt", re.compile(r'static VERSION: &str = "([^"]*)"')),
+    ("python/pyproject.toml", re.compile(r'^version = "([^"]*)"', re.M)),
+)
 
 
 def number():
@@ -21,13 +23,17 @@ def number():
     return int(NUMBER.search(text_of(PLACE))[1])
 
 
+def parts():
+    """Returns the major, the minor and the patch number."""
+    return number() // 10_000, number() // 100 % 100, number() % 100
+
+
 def version():
     """Returns the version as a text, such as 0.1.0."""
-    return ".".join(str(part) for part in (number() // 10_000, number() // 100 % 100, number() % 100))
+    return ".".join(str(part) for part in parts())
 
 
 def differing():
-    """Returns the paths of the sources that repeat another version, or none."""
-    expected = {**dict.fromkeys(AS_NUMBER, str(number())), **dict.fromkeys(AS_TEXT, version())}
-    found = {path: pattern.findall(text_of(path)) for path, pattern in {**AS_NUMBER, **AS_TEXT}.items()}
-    return [path for path, values in found.items() if values != [expected[path]]]
+    """Returns the paths of the sources that repeat no version, or another one."""
+    allowed = ([str(number())], [version()])
+    return [path for path, pattern in REPEATED if pattern.findall(text_of(path)) not in allowed]

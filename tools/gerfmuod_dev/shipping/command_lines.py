@@ -19,7 +19,10 @@ SOURCES = {
 }
 # the subcommand of `samples` that has a command line of its own
 DRAW = "draw"
+TEXT = re.compile(r'static (\w+): &str =\s*"((?:\\.|[^"\\])*)"', re.S)
 FUNCTION = re.compile(r"\bfn (\w+)(?:<[^>]*>)?\(")
+# after the parameters, up to the first clause of the contract, or else to the body
+RESULT = re.compile(r"[^{]*?(?=\s(?:ensures|requires)\b|\{)")
 CONTRACT = re.compile(r"\s*(?:ensures|requires)\b[^{]*(?={)")
 TOKEN = re.compile(r'"((?:\\.|[^"\\])*)"|(\d[\d_]*)|(\w+!?(?:::(?:<[^>]*>|\w+))*)|(\.\.=?|\S)', re.S)
 ESCAPES = {"n": "\n", "t": "\t", '"': '"', "\\": "\\", "'": "'"}
@@ -132,7 +135,7 @@ class Source:
         self.functions, self.texts = {}, {}
         for path in paths:
             text = without_comments(repository.text_of(path))
-            self.texts.update((name, string(value)) for name, value in re.findall(r'static (\w+): &str =\s*"((?:\\.|[^"\\])*)"', text, re.S))
+            self.texts.update((name, string(literal)) for name, literal in TEXT.findall(text))
             for found in FUNCTION.finditer(text):
                 self.add(text, found)
 
@@ -140,9 +143,7 @@ class Source:
         """Adds a function: the names of its parameters, and the tokens of its body."""
         end = closing(text, found.end() - 1)
         parameters = re.findall(r"(\w+):", text[found.end() : end])
-        start = text.index("{", end)
-        head = re.compile(r"[^{]*?(?=\s(?:ensures|requires)\b)").match(text, end)
-        place = head.end() if head else start
+        place = RESULT.match(text, end).end()
         while contract := CONTRACT.match(text, place):
             place = closing(text, contract.end())
         start = text.index("{", place)

@@ -131,4 +131,6 @@ def run(options):
     except OSError as error:
         sys.exit(str(error))
     print(f"{count} files {'removed from' if options.remove else 'installed in'} {destination}{at['PREFIX']}")
+    if not destination and not options.remove:
+        print(f"If programs do not find the shared object, run ldconfig, or put {at['LIBDIR']} into LD_LIBRARY_PATH.")
     return 0

@@ -1,11 +1,11 @@
-"""Where the parts of an installation are: the folders that `make install` takes as variables, and what is in each."""
+"""What an installation has, and in which folders: those that `make install` takes as variables."""
 import os
 import re
 from dataclasses import dataclass
 
 from .. import library, repository
 from ..repository import text_of
-from ..version import number, version
+from ..version import parts, version
 from . import completion, manual
 
 # the folders, each with its default in terms of those before it
@@ -65,7 +65,7 @@ def package(at):
 
 def cmake_files(at):
     """Returns the files of the package for CMake by their names."""
-    major, minor = number() // 10_000, number() // 100 % 100
+    major, minor, _ = parts()
     here = f"{at['LIBDIR']}/cmake/Gerfmuod"
     values = {
         "VERSION": version(),

@@ -1,6 +1,6 @@
 """Installs into temporary folders and checks what is there: `make test`.
 
-It uses the built programs and the library, or stand-ins for what is not built from these sources. It compares
+It uses the built programs and the library, or placeholders for what is not built from these sources. It compares
 - the version in each source that repeats it;
 - the manual with what `--help` prints (the stored outputs of samples, and the built programs), and each page with groff;
 - what the completion for bash offers;
@@ -24,7 +24,7 @@ from dataclasses import dataclass
 from .. import docs, repository, running, shared_object, tries, version
 from ..repository import text_of
 from ..running import Tally, short, write
-from . import command_lines, completion, dist, header_pages, layout, manual, stand_ins
+from . import command_lines, completion, dist, header_pages, layout, manual, placeholders
 
 FILES = "tools/data/package/files"
 PROJECT = "tools/data/package"
@@ -96,9 +96,10 @@ def check_completion(tally):
         return
     scripts = completion.scripts()
     for line, expected in COMPLETED:
-        words = line.split(" ")
-        result = running.run(["bash", "--norc", "-c", COMPLETE, "bash", *words], scripts[words[0]].encode())
-        tally.judge(result.out.decode().split() == expected, f"{line}: completed as {result.out} {short(result.err)}, not {expected}")
+        arguments_of_line = line.split(" ")
+        result = running.run(["bash", "--norc", "-c", COMPLETE, "bash", *arguments_of_line], scripts[arguments_of_line[0]].encode())
+        is_well = result.out.decode().split() == expected
+        tally.judge(is_well, f"{line}: completed as {short(result.out + result.err)}, not as {expected}")
     print(f"the completion for bash: {len(COMPLETED)} lines")
 
 
@@ -145,11 +146,11 @@ def check_files(tally, tree):
     for path in sorted({*files} ^ {*expected}):
         tally.fails(f"{path} is {'not in ' + FILES if path in files else 'not installed'}")
     tally.passes(len({*files} & {*expected}))
-    for folder, _, names in os.walk(tree.destination):
-        paths = [f"{folder}/{name}" for name in names if not os.path.islink(f"{folder}/{name}")]
-        modes = {path: os.stat(path).st_mode & 0o777 for path in [folder, *paths] if path != tree.destination}
-        wrong = [path for path, mode in modes.items() if mode not in ((0o755,) if os.path.isdir(path) else (0o644, 0o755))]
-        tally.judge(not wrong, f"modes: {[(path, oct(modes[path])) for path in wrong]}")
+    executable = (tree.path("BINDIR"), f"{tree.path('LIBDIR')}/{SONAME}")
+    for folder, folders, names in os.walk(tree.destination):
+        for path in (f"{folder}/{name}" for name in [*folders, *names] if not os.path.islink(f"{folder}/{name}")):
+            mode, is_executable = os.stat(path).st_mode & 0o777, os.path.isdir(path) or path.startswith(executable)
+            tally.judge(mode == (0o755 if is_executable else 0o644), f"{path} has the mode {mode:o}")
     print(f"{len(files)} files are installed, as the list has them")
 
 
@@ -199,7 +200,7 @@ def check_cmake(tally, tree, folder):
         print("cmake or a compiler for C++ is not installed: the package for CMake was not tried")
         return
     build = tempfile.mkdtemp(dir=folder)
-    major, minor, patch = (int(part) for part in version.version().split("."))
+    major, minor, patch = version.parts()
     is_usual = tree.at["LIBDIR"] == f"{tree.at['PREFIX']}/lib"
     variables = {
         "FOUND": f"{major};{major}.{minor};{version.version()}",
@@ -207,7 +208,8 @@ def check_cmake(tally, tree, folder):
         **({"CMAKE_PREFIX_PATH": tree.path("PREFIX")} if is_usual else {"Gerfmuod_DIR": f"{tree.path('LIBDIR')}/cmake/Gerfmuod"}),
     }
     configure = ["cmake", "-S", PROJECT, "-B", build, *(f"-D{name}={value}" for name, value in variables.items())]
-    if check(tally, running.run(configure), " ".join(configure)) and check(tally, running.run(["cmake", "--build", build]), "cmake --build"):
+    is_configured = check(tally, running.run(configure), " ".join(configure))
+    if is_configured and check(tally, running.run(["cmake", "--build", build]), "cmake --build"):
         for name in ("shared", "static", "cpp"):
             check_program(tally, f"{build}/{name}", name != "static")
     print("a project with CMake: the shared object and the archive in C, the shared object in C++")
@@ -269,7 +271,7 @@ def check_tree(tally, tree, folder, reason):
     if tree.at["PREFIX"] == PREFIX:
         check_files(tally, tree)
         check_links(tally, tree)
-    if os.path.isfile(f"{tree.built}/lib/libgerfmuod.a") and shutil.which("cc"):
+    if shutil.which("cc"):
         check_pkg_config(tally, tree, folder)
         check_cmake(tally, tree, folder)
         if not reason:
@@ -308,12 +310,14 @@ def run(options):
     tally = Tally()
     with tempfile.TemporaryDirectory() as folder:
         built = f"{folder}/built"
-        reason = stand_ins.build(built, bool(shutil.which("cc")))
+        reason = placeholders.build(built, bool(shutil.which("cc")))
         if options.write:
             write_list(folder, built)
             return 0
+        if not shutil.which("cc"):
+            print("cc is not installed: no program is compiled")
         if reason:
-            print(f"{reason}: a stand-in is installed, and no example is run. make lib builds the library")
+            print(f"{reason}: a placeholder is installed, and no example is run. make lib builds the library")
         check_versions(tally)
         check_help(tally)
         check_manual(tally)

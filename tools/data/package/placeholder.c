@@ -1,4 +1,4 @@
-/* stand_in.c: what is installed for a test if the library is not built. */
+/* placeholder.c: what is installed for a test if the library is not built. */
 #include <gerfmuod.h>
 
 uint32_t gerfmuod_version(void) {

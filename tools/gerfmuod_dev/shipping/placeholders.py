@@ -1,4 +1,4 @@
-"""A folder as after `make` and `make lib`: with the built programs and the library, or stand-ins for what is not built."""
+"""A folder as after `make` and `make lib`: with the built programs and the library, or placeholders for what is not built."""
 import os
 import shutil
 import subprocess
@@ -8,7 +8,7 @@ from ..running import write
 from ..version import version
 from . import layout
 
-SOURCE = "tools/data/package/stand_in.c"
+SOURCE = "tools/data/package/placeholder.c"
 
 
 def program(path, name):
@@ -18,7 +18,7 @@ def program(path, name):
 
 def compiled(folder):
     """Writes a library with gerfmuod_version alone into a folder."""
-    compiler, object_file = shared_object.compiler(), f"{folder}/stand_in.o"
+    compiler, object_file = shared_object.compiler(), f"{folder}/placeholder.o"
     subprocess.run([compiler, "-fPIC", "-Icapi", "-c", SOURCE, "-o", object_file], check=True)
     subprocess.run(["ar", "rcs", f"{folder}/{library.ARCHIVE}", object_file], check=True)
     soname = f"-Wl,-soname,{shared_object.SONAME}"
@@ -27,7 +27,7 @@ def compiled(folder):
 
 
 def build(folder, has_compiler):
-    """Fills a folder; returns why the library in it is a stand-in, or an empty text."""
+    """Fills a folder; returns why the library in it is a placeholder, or an empty text."""
     for path in (*layout.PROGRAMS, library.ARCHIVE, library.SHARED):
         os.makedirs(os.path.dirname(f"{folder}/{path}"), exist_ok=True)
     for path in layout.PROGRAMS:
