@@ -2,8 +2,9 @@
 
 It uses the built programs and the library, or placeholders for what is not built from these sources. It compares
 - the version in each source that repeats it;
-- the manual with what `--help` prints (the stored outputs of samples, and the built programs), and each page with groff;
-- what the completion for bash offers;
+- the command lines, from which the manual is generated, with what `--help` prints: the stored outputs of samples, and
+  programs that are newer than their sources;
+- each page of the manual with groff's rules, and what the completion for bash offers;
 - the installed files with tools/data/package/files (--write writes this list), their modes, and the links of the documents;
 - what pkg-config prints, and programs that are compiled by it and by CMake, in C and C++, shared and static;
 - with the built library, its programs in C, C++, Fortran, Rust and Python with nothing but the installed files;
@@ -58,6 +59,12 @@ def check_versions(tally):
     tally.judge(not differing, f"{version.PLACE} has the version {version.version()}, and another one is in {' '.join(differing)}")
 
 
+def is_current(name):
+    """Whether a program is built, and newer than the sources of its command line."""
+    sources = [path for _, paths in command_lines.SOURCES.values() for path in paths]
+    return os.path.exists(f"bin/{name}") and os.path.getmtime(f"bin/{name}") >= max(os.path.getmtime(path) for path in sources)
+
+
 def check_help(tally):
     """Compares the command lines, from which the manual is generated, with what `--help` prints."""
     stored = {text for name, text in tries.stored_outputs(f"{tries.OUTPUTS}/samples").items() if "-help" in name}
@@ -65,7 +72,7 @@ def check_help(tally):
     texts = {names: command_lines.help_of(names, command) for names, command in generated}
     for text in stored:
         tally.judge(text in texts.values(), f"{tries.OUTPUTS}/samples: no command line has this help: {text[:300]}")
-    built = [names for names in texts if os.path.exists(f"bin/{names[0]}")]
+    built = [names for names in texts if is_current(names[0])]
     for names in built:
         output = running.run([f"bin/{names[0]}", *names[1:], "--help"]).out.decode()
         tally.judge(output == texts[names], f"{' '.join(names)} --help: the manual has another text: {texts[names]}")
@@ -201,10 +208,11 @@ def check_cmake(tally, tree, folder):
         return
     build = tempfile.mkdtemp(dir=folder)
     major, minor, patch = version.parts()
+    older = f"{major - 1}.9" if major else f"0.{minor - 1}"
     is_usual = tree.at["LIBDIR"] == f"{tree.at['PREFIX']}/lib"
     variables = {
         "FOUND": f"{major};{major}.{minor};{version.version()}",
-        "NOT_FOUND": f"{major}.{minor}.{patch + 1};{major}.{minor + 1};{major + 1}",
+        "NOT_FOUND": f"{older};{major}.{minor}.{patch + 1};{major}.{minor + 1};{major + 1}",
         **({"CMAKE_PREFIX_PATH": tree.path("PREFIX")} if is_usual else {"Gerfmuod_DIR": f"{tree.path('LIBDIR')}/cmake/Gerfmuod"}),
     }
     configure = ["cmake", "-S", PROJECT, "-B", build, *(f"-D{name}={value}" for name, value in variables.items())]
@@ -286,7 +294,7 @@ def check_dist(tally, folder):
         return
     with tarfile.open(dist.pack(folder)) as tarball:
         files = sorted(member.name for member in tarball.getmembers() if not member.isdir())
-        tarball.extractall(folder)
+        tarball.extractall(folder, **({"filter": "data"} if hasattr(tarfile, "data_filter") else {}))
     committed = dist.git("ls-tree", "-r", "--name-only", "-z", "HEAD").split("\0")
     tally.judge(files == sorted(f"{dist.name()}/{path}" for path in committed if path), "the tarball has not the committed files")
     for command in (["make", "-n", "all", "lib"], ["tools/dev", "manual", f"{folder}/man"]):
