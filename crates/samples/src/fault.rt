@@ -15,7 +15,7 @@ use tp_shell::{ReadFault, WordsFault};
 pub(crate) enum Fault {
     #[error("{0}")]
     Arguments(String),
-    #[error("the words are not UTF-8")]
+    #[error("the arguments are not UTF-8")]
     NotUtf8,
     #[error("PATTERN is none of those that `samples patterns --list` names")]
     NoPattern,
@@ -42,13 +42,13 @@ pub(crate) enum InputFault {
     NoNumber,
     #[error("the input has no line")]
     NoLine,
-    #[error("line {0} is no whole number of 64 bits")]
+    #[error("line {0} is not a 64-bit integer")]
     BadNumber(u64),
-    #[error("line {0} is not whole numbers of 64 bits by single spaces")]
+    #[error("line {0} is not 64-bit integers separated by single spaces")]
     BadRow(u64),
-    #[error("line {line} has {has} {numbers} where {due} {are} due", numbers = noun(*has), are = verb(*due))]
+    #[error("line {line} has {has} {numbers} instead of {due}", numbers = noun(*has))]
     Uneven { line: u64, has: usize, due: usize },
-    #[error("line {0} is not empty: an empty line is due between the matrices")]
+    #[error("line {0} is not empty: an empty line has to separate the matrices")]
     NotEmpty(u64),
     #[error("line {0} is one too many: the matrices are complete")]
     Extra(u64),
@@ -74,10 +74,6 @@ pub(crate) enum InputFault {
 
 fn noun(count: usize) -> &'static str {
     if count == 1 { "number" } else { "numbers" }
-}
-
-fn verb(count: usize) -> &'static str {
-    if count == 1 { "is" } else { "are" }
 }
 
 impl Fault {

@@ -52,8 +52,8 @@ impl PatternGrid<'_> {
 }
 
 /// The names of the patterns, each with the columns that feed a column.
-pub(crate) static NAMES: &str = "trivial           nobody: a task has no inputs
-no_comm           itself: chains that know nothing of each other
+pub(crate) static NAMES: &str = "trivial           none: a task has no inputs
+no_comm           itself: the columns are independent chains
 stencil           itself and its two neighbours
 stencil_periodic  the same, and the first and the last column are neighbours
 dom               itself and its left neighbour
