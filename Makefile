@@ -17,8 +17,8 @@
 # make docs     draws the pictures of docs/figures again: runs by bin/samples, the crates and a wave by tools/pictures.py
 # make install  installs the proved programs and the library, with the manual, the completion for bash, the documents, and
 #               packages for pkg-config and CMake. It takes DESTDIR, PREFIX (/usr/local), EXEC_PREFIX, BINDIR, LIBDIR,
-#               INCLUDEDIR, DATADIR, MANDIR, DOCDIR and PYTHONDIR (defaults: `tools/dev install --help`); BUILT=FOLDER
-#               installs what is in FOLDER/bin and FOLDER/lib instead of building it
+#               INCLUDEDIR, DATADIR, MANDIR, DOCDIR and PYTHONDIR (defaults: `tools/dev install --help`), also in small
+#               letters; BUILT=FOLDER installs what is in FOLDER/bin and FOLDER/lib instead of building it
 # make uninstall  removes what make install put there; it takes the same DESTDIR, PREFIX and DATADIR
 # make dist     packs the committed files into gerfmuod-VERSION.tar.gz
 # make clean    removes everything that was proved and built
@@ -85,6 +85,7 @@ docs: bin/samples
 
 BUILT ?= .
 FOLDERS := DESTDIR PREFIX EXEC_PREFIX BINDIR LIBDIR INCLUDEDIR DATADIR MANDIR DOCDIR PYTHONDIR
+FOLDERS += prefix exec_prefix bindir libdir includedir datadir mandir docdir pythondir
 GIVEN = $(foreach name,$(FOLDERS),$(if $($(name)),'$(name)=$($(name))'))
 
 install: $(BUILT)/bin/samples $(BUILT)/lib/libgerfmuod.a

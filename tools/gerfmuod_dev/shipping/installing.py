@@ -1,8 +1,9 @@
 """Installs the programs, the library, the manual and the documents, or removes them: `make install`, `make uninstall`.
 
-The arguments are variables as those of make: DESTDIR, a folder before all paths; PREFIX (/usr/local), EXEC_PREFIX (PREFIX),
-BINDIR (EXEC_PREFIX/bin), LIBDIR (EXEC_PREFIX/lib), INCLUDEDIR (PREFIX/include), DATADIR (PREFIX/share), MANDIR
-(DATADIR/man), DOCDIR (DATADIR/doc/gerfmuod) and PYTHONDIR (LIBDIR/gerfmuod/python). It proves and builds nothing.
+The arguments are variables as those of make, in capitals or in small letters: DESTDIR, a folder before all paths; PREFIX
+(/usr/local), EXEC_PREFIX (PREFIX), BINDIR (EXEC_PREFIX/bin), LIBDIR (EXEC_PREFIX/lib), INCLUDEDIR (PREFIX/include), DATADIR
+(PREFIX/share), MANDIR (DATADIR/man), DOCDIR (DATADIR/doc/gerfmuod) and PYTHONDIR (LIBDIR/gerfmuod/python). It proves and
+builds nothing.
 
 DATADIR/gerfmuod/installed lists what was installed, and which folders were created for it. A later installation removes
 files that it no longer has, and --remove removes all of them, and those folders if nothing else is in them. The status is
@@ -118,7 +119,8 @@ def arguments(parser):
 
 
 def run(options):
-    variables = dict(variable.partition("=")[::2] for variable in options.variables)
+    pairs = [variable.partition("=")[::2] for variable in options.variables]
+    variables = {name.upper(): path for name, path in pairs}
     unknown = [name for name in variables if name not in layout.FOLDERS and name != "DESTDIR"]
     destination = os.path.abspath(variables["DESTDIR"]) if variables.get("DESTDIR") else ""
     at, built = layout.folders(variables), os.path.abspath(options.built)

@@ -1,4 +1,4 @@
-"""What an installation has, and in which folders: those that `make install` takes as variables."""
+"""What is installed, and the folders for it: those that `make install` takes as variables."""
 import os
 import re
 from dataclasses import dataclass

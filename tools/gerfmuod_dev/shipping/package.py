@@ -2,10 +2,11 @@
 
 It uses the built programs and the library, or placeholders for what is not built from these sources. It compares
 - the version in each source that repeats it;
-- the command lines, from which the manual is generated, with what `--help` prints: the stored outputs of samples, and
+- the command lines that the manual is generated from, with what `--help` prints: the stored outputs of samples, and
   programs that are newer than their sources;
 - each page of the manual with groff's rules, and what the completion for bash offers;
-- the installed files with tools/data/package/files (--write writes this list), their modes, and the links of the documents;
+- the installed files with tools/data/package/files, the documents and the functions of the headers; their modes; and the
+  links of the documents;
 - what pkg-config prints, and programs that are compiled by it and by CMake, in C and C++, shared and static;
 - with the built library, its programs in C, C++, Fortran, Rust and Python with nothing but the installed files;
 - what `make uninstall` leaves: nothing;
@@ -14,7 +15,6 @@ It names what is not on this machine, and skips it. The last line is `N passed, 
 """
 import compileall
 import os
-import re
 import shutil
 import subprocess
 import sys
@@ -22,10 +22,10 @@ import tarfile
 import tempfile
 from dataclasses import dataclass
 
-from .. import docs, repository, running, shared_object, tries, version
+from .. import docs, repository, running, shared_object, version
 from ..repository import text_of
 from ..running import Tally, short, write
-from . import command_lines, completion, dist, header_pages, layout, manual, placeholders
+from . import dist, generated, layout, placeholders
 
 FILES = "tools/data/package/files"
 PROJECT = "tools/data/package"
@@ -33,81 +33,12 @@ SONAME = shared_object.SONAME
 PREFIX = "/opt/gerfmuod"
 # the folders of Debian, with headers in a folder of their own
 OTHER = {"PREFIX": "/usr", "LIBDIR": "/usr/lib/x86_64-linux-gnu", "INCLUDEDIR": "/usr/include/gerfmuod", "MANDIR": "/srv/man"}
-ONE_TO_EIGHT = [str(number) for number in range(1, 9)]
-# arguments, the last of which is to be completed, and what is offered
-COMPLETED = (
-    ("tp r", ["run"]),
-    ("tp help p", ["pools"]),
-    ("tp run reduce:4:0 --t", ["--trace"]),
-    ("tp run --nodes ", ONE_TO_EIGHT),
-    ("tp run --nodes = ", ONE_TO_EIGHT),
-    ("samples draw g", ["graph"]),
-    ("samples draw graph --d", ["--dot"]),
-    ("samples heat --q", ["--quiet"]),
-)
-COMPLETE = 'source /dev/stdin; COMP_WORDS=("$@"); COMP_CWORD=$(($# - 1)); _$1; echo "${COMPREPLY[@]}"'
 
 
 def check(tally, result, what):
     """Counts and returns whether a command succeeded."""
     tally.judge(result.status == 0, f"{what}: status {result.status}: {short(result.out + result.err, 3000)}")
     return result.status == 0
-
-
-def check_versions(tally):
-    differing = version.differing()
-    tally.judge(not differing, f"{version.PLACE} has the version {version.version()}, and another one is in {' '.join(differing)}")
-
-
-def is_current(name):
-    """Whether a program is built, and newer than the sources of its command line."""
-    sources = [path for _, paths in command_lines.SOURCES.values() for path in paths]
-    return os.path.exists(f"bin/{name}") and os.path.getmtime(f"bin/{name}") >= max(os.path.getmtime(path) for path in sources)
-
-
-def check_help(tally):
-    """Compares the command lines, from which the manual is generated, with what `--help` prints."""
-    stored = {text for name, text in tries.stored_outputs(f"{tries.OUTPUTS}/samples").items() if "-help" in name}
-    generated = [pair for program in command_lines.programs() for pair in command_lines.all_commands(program)]
-    texts = {names: command_lines.help_of(names, command) for names, command in generated}
-    for text in stored:
-        tally.judge(text in texts.values(), f"{tries.OUTPUTS}/samples: no command line has this help: {text[:300]}")
-    built = [names for names in texts if is_current(names[0])]
-    for names in built:
-        output = running.run([f"bin/{names[0]}", *names[1:], "--help"]).out.decode()
-        tally.judge(output == texts[names], f"{' '.join(names)} --help: the manual has another text: {texts[names]}")
-    print(f"{len(texts)} command lines: {len(stored)} as the stored help, {len(built)} as the built programs print it")
-
-
-def check_manual(tally):
-    """Lays out each page, and searches the page of each function that a header declares."""
-    pages = manual.pages()
-    for name in header_pages.HEADERS:
-        code = re.sub(r"/\*.*?\*/", "", text_of(f"capi/{name}"), flags=re.S)
-        for function in set(re.findall(r"\b(gerfmuod_\w+)\(", code)):
-            tally.judge(f"man3/{function}.3" in pages, f"the manual has no page for {function}")
-    if not shutil.which("groff"):
-        print("groff is not installed: no page of the manual was laid out")
-        return
-    for path, page in pages.items():
-        if not page.startswith(".so "):
-            result = running.run(["groff", "-man", "-Tutf8", "-ww", "-z"], page.encode())
-            tally.judge(not result.status and not result.err, f"{path}: {short(result.err, 1000)}")
-    print(f"{len(pages)} pages of the manual: laid out without a warning")
-
-
-def check_completion(tally):
-    """Has bash complete arguments."""
-    if not shutil.which("bash"):
-        print("bash is not installed: its completion was not tried")
-        return
-    scripts = completion.scripts()
-    for line, expected in COMPLETED:
-        arguments_of_line = line.split(" ")
-        result = running.run(["bash", "--norc", "-c", COMPLETE, "bash", *arguments_of_line], scripts[arguments_of_line[0]].encode())
-        is_well = result.out.decode().split() == expected
-        tally.judge(is_well, f"{line}: completed as {short(result.out + result.err)}, not as {expected}")
-    print(f"the completion for bash: {len(COMPLETED)} lines")
 
 
 @dataclass
@@ -129,7 +60,7 @@ class Tree:
     def make(self, target):
         """Runs make with a narrow umask, without the variables of a make around this program."""
         dropped = {*layout.FOLDERS, "DESTDIR", "BUILT", "MAKEFLAGS", "MFLAGS", "MAKELEVEL", "MAKEOVERRIDES"}
-        environment = {name: value for name, value in os.environ.items() if name not in dropped}
+        environment = {name: value for name, value in os.environ.items() if name.upper() not in dropped}
         values = {"DESTDIR": self.destination, "BUILT": self.built, **self.variables}
         command = ["make", "-s", target, *(f"{name}={value}" for name, value in values.items())]
         return running.run(["sh", "-c", 'umask 077; exec "$@"', "sh", *command], env=environment)
@@ -145,11 +76,15 @@ class Tree:
         return {**os.environ, **paths, **allowed, "LD_LIBRARY_PATH": self.path("LIBDIR")}
 
 
+def derived_files(tree):
+    """Returns the files that the list does not have: the documents, and the pages of functions."""
+    documents = [f"{tree.at['DOCDIR']}/{path}" for path in layout.document_paths()]
+    return documents + [f"{tree.at['MANDIR']}/man3/{name}.3" for name in generated.declared()]
+
+
 def check_files(tally, tree):
     """Compares the installed files with the list, and the modes of files and folders with the usual ones."""
-    documents = [f"{tree.at['DOCDIR']}/{path}" for path in layout.document_paths()]
-    files = tree.files()
-    expected = sorted([*text_of(FILES).splitlines(), *documents])
+    files, expected = tree.files(), [*text_of(FILES).splitlines(), *derived_files(tree)]
     for path in sorted({*files} ^ {*expected}):
         tally.fails(f"{path} is {'not in ' + FILES if path in files else 'not installed'}")
     tally.passes(len({*files} & {*expected}))
@@ -305,12 +240,12 @@ def check_dist(tally, folder):
 def write_list(folder, built):
     tree = Tree(f"{folder}/listed", {"PREFIX": PREFIX}, built)
     subprocess.run(["tools/dev", "install", "--built", built, f"DESTDIR={tree.destination}", f"PREFIX={PREFIX}"], check=True)
-    own = [path for path in tree.files() if not path.startswith(f"{tree.at['DOCDIR']}/")]
-    write(FILES, own)
+    derived = {*derived_files(tree)}
+    write(FILES, [path for path in tree.files() if path not in derived])
 
 
 def arguments(parser):
-    parser.add_argument("--write", action="store_true", help="write the list of the installed files, and check nothing")
+    parser.add_argument("--write", action="store_true", help="write tools/data/package/files, and check nothing")
 
 
 def run(options):
@@ -326,10 +261,7 @@ def run(options):
             print("cc is not installed: no program is compiled")
         if reason:
             print(f"{reason}: a placeholder is installed, and no example is run. make lib builds the library")
-        check_versions(tally)
-        check_help(tally)
-        check_manual(tally)
-        check_completion(tally)
+        generated.check(tally)
         for name, variables in (("usual", {"PREFIX": PREFIX}), ("other", OTHER)):
             check_tree(tally, Tree(f"{folder}/{name}", variables, built), folder, reason)
         check_dist(tally, folder)
