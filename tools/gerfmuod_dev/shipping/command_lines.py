@@ -6,7 +6,7 @@ and the completion, which are generated from these commands, say what `--help` s
 """
 import dataclasses
 import re
-from dataclasses import dataclass, field
+from dataclasses import dataclass
 
 from .. import repository
 
@@ -33,7 +33,7 @@ HELP_OF_HELP = "Print this message or the help of the given subcommand(s)"
 
 @dataclass(frozen=True)
 class Argument:
-    """An argument or, if `long` is set, an option; `metavar` is empty if the option has no value."""
+    """An argument or, if `long` is set, an option."""
 
     name: str
     long: str = ""
@@ -46,6 +46,7 @@ class Argument:
 
     @property
     def metavar(self):
+        """The name of its value; empty if the option has none."""
         return "" if self.is_flag else self.value or self.name
 
     @property
@@ -71,7 +72,7 @@ class Command:
     version: str = ""
     passes_version: bool = False
     subcommands: tuple = ()
-    arguments: tuple = field(default=())
+    arguments: tuple = ()
 
     @property
     def positionals(self):
@@ -81,7 +82,7 @@ class Command:
     def options(self):
         """The options, with those that clap adds."""
         own = [argument for argument in self.arguments if argument.long]
-        return [(f"    --{option.usage[2:]}", option.text) for option in own] + self.added_options
+        return [(f"    {option.usage}", option.text) for option in own] + self.added_options
 
     @property
     def added_options(self):
@@ -104,7 +105,7 @@ def changed(target, method, values):
         return dataclasses.replace(target, is_flag=value == "ArgAction::SetTrue", is_repeated=value == "ArgAction::Append")
     names = {"value_name": "value", "default_value": "default", "required": "is_required", "propagate_version": "passes_version"}
     name = names.get(method, method)
-    if name not in {field.name for field in dataclasses.fields(target)}:
+    if name not in (field.name for field in dataclasses.fields(target)):
         raise SyntaxError(f"a call of clap that the manual does not know: {method}")
     return dataclasses.replace(target, **{name: value})
 

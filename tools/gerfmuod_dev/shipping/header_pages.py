@@ -59,14 +59,16 @@ def functions_in(code):
     return FUNCTION.findall(code)
 
 
-def title(comment):
-    """Returns a comment that is a title, and the text after its first sentence."""
+def alone(comment):
+    """Returns a comment without code. If it is a title, its first sentence is a heading."""
+    if not comment.startswith(RULE):
+        return roff.paragraphs(comment)
     first, _, others = comment[len(RULE) :].partition(". ")
     return f".SS {roff.escaped(first[0].upper() + ' '.join(first.split())[1:].rstrip('.'))}\n" + roff.paragraphs(others)
 
 
 def described(code, comment):
-    """Returns the declarations of functions, without the words `static inline`, and the comment about them."""
+    """Returns the declarations of functions, without `static inline`, and the comment about them."""
     lines = re.sub(r"^static inline ", "", code, flags=re.M).split("\n")
     prototypes = "\n".join(roff.bold(line) for line in lines)
     return ".PP\n" + roff.as_lines(prototypes) + (f".RS 4\n{roff.paragraphs(comment)}.RE\n" if comment else "")
@@ -82,7 +84,7 @@ def body_of(code):
         elif block:
             types += (roff.paragraphs(comment) or ".PP\n") + roff.kept(block)
         else:
-            functions += title(comment)
+            functions += alone(comment)
     return types, functions, names
 
 
