@@ -2,10 +2,12 @@
 //! it. The pool never sees a value. It is used by one thread at a time; the lock is the caller's.
 #![tactic(auto)]
 
+mod board;
 mod entry;
 mod hints;
 mod laws;
 mod pool;
+mod scans;
 
 pub use entry::{Entry, Input, Stage};
 pub use laws::never_dispatched_twice;
