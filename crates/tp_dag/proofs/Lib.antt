@@ -1,5 +1,3 @@
-pub mod Lists
-pub mod Steps
-pub mod Ended
-pub mod Keeping
-pub mod Dispatching
+mod Lists
+mod Dispatching
+mod Silent

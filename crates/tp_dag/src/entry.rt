@@ -1,12 +1,10 @@
 //! What a graph consists of: tasks, their inputs, and how far each task is.
 
-/// A task as it was described: its home node, its class, and its inputs, which are those from `first` to before `end`.
+/// A task as it was described: its home node and its class.
 #[derive(Clone, Copy, Debug, PartialEq, Eq)]
 pub struct Entry {
     pub node: u32,
     pub class: u32,
-    pub first: u32,
-    pub end: u32,
 }
 
 /// An input: task `target` waits for task `source`.

@@ -3,12 +3,13 @@
 #![tactic(auto)]
 
 mod board;
+mod choice;
 mod entry;
 mod hints;
 mod laws;
 mod pool;
 mod scans;
 
-pub use entry::{Entry, Input, Stage};
-pub use laws::never_dispatched_twice;
+pub use entry::{Entry, Input, Stage, Way};
+pub use laws::{never_dispatched_twice, never_silent};
 pub use pool::{Next, Pool};
