@@ -3,3 +3,9 @@ pub mod Steps
 pub mod Ended
 pub mod Keeping
 pub mod Dispatching
+pub mod Counting
+pub mod Boards
+pub mod Reading
+pub mod Numbers
+pub mod Calls
+pub mod Results
