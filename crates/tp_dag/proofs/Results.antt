@@ -1,6 +1,6 @@
 -- What each call of a board ensures, from what its body found; and what its refusals mean.
-use Rattle.std.proofs.Common.{arith, ◌+◌, ◌-◌, ◌<◌, ◌≤◌, ℕ, ◌≡◌, ◌≢◌, List, length, Bool, true, false, IsTrue, IsFalse, Some, refl, ap, subst, sym, ◌∙◌}
-use Rattle.std.specs.Prelude.{slice_get, ◌==◌, ◌&&◌}
+use Rattle.std.proofs.Common.{arith, ◌+◌, ◌-◌, ◌<◌, ◌≤◌, ℕ, ◌≡◌, ◌≢◌, List, [], ◌∷◌, ◌++◌, length, Bool, true, false, IsTrue, IsFalse, Some, refl, ap, subst, sym, ◌∙◌}
+use Rattle.std.specs.Prelude.{slice_get, ◌==◌, ◌&&◌, vec_capacity}
 use Rattle.std.proofs.Math.ListN.{set}
 use Rattle.std.proofs.lemmas.Bool.{and_parts}
 use Rattle.std.proofs.lemmas.Bool.Decides.{nat_tests}
@@ -12,9 +12,9 @@ use Rattle.tp_dag.specs.declared.entry.Stage.TheVariants as stage
 use Rattle.tp_dag.specs.declared.entry.Way.{Way}
 use Rattle.tp_dag.specs.declared.entry.Way.TheVariants as way
 use Rattle.tp_dag.specs.declared.board.Board.TheInside.{Inside}
-use Rattle.tp_dag.specs.Board.{BoardState, LacksInput, MayArrive, MayLeave, IsUnsent, HasOutside, HasReleased, HasBegun, HasLeft, HasArrived, HasFinished}
+use Rattle.tp_dag.specs.Board.{BoardState, LacksInput, IsUnsent, with_open_edge, HasOutside, HasReleased, HasBegun, HasLeft, HasArrived, HasFinished}
 use Rattle.tp_dag.specs.Counts.{is_fresh, is_out, is_received, is_under_way, may_be, is_ready, BoardFacts, board_of}
-use Rattle.tp_dag.proofs.Boards.{moved, some_same}
+use Rattle.tp_dag.proofs.Boards.{moved, some_same, out_edge, lacking_more, owing_more}
 use Rattle.tp_dag.proofs.Reading.{all_received, all_sent, lacks_input, some_unsent}
 use Rattle.tp_dag.proofs.Calls.{running, done, waiting_more, waiting_less, owing_less, lacking_less}
 
@@ -94,3 +94,22 @@ has_arrived p now k e s x same at u from ended is =
       lacks_none = refl;
       becomes = refl;
     })
+
+-- ---- add_edge, from a task that is not done
+pub open_result : (p : Inside) (now : BoardState) (source target : ℕ) (task from x y : Task) (es : List Edge) (r : ℕ) → board_of p ≡ now
+    → slice_get p.tasks.items target ≡ Some task → slice_get p.tasks.items source ≡ Some from
+    → slice_get now.tasks target ≡ Some x → slice_get now.tasks source ≡ Some y
+    → es ≡ p.edges.items ++ out_edge source target task ∷ [] → r ≡ vec_capacity p.edges
+    → record (board_of p) { tasks = set (set p.tasks.items target (lacking_more task)) source (owing_more from); edges = es; edge_room = r }
+    ≡ with_open_edge source target x y now
+open_result p now source target task from x y es r same is of hx hy added room =
+    let New : List Edge → ℕ → BoardState = λ e q. record (board_of p) {
+      tasks = set (set p.tasks.items target (lacking_more task)) source (owing_more from); edges = e; edge_room = q;
+    } in
+    let ex = read_again p now target task x same is hx in
+    let ey = read_again p now source from y same of hy in
+    ap (λ (e : List Edge). New e r) added
+    ∙ (ap (λ (q : ℕ). New (p.edges.items ++ out_edge source target task ∷ []) q) room
+    ∙ (ap (λ (a : BoardState). with_open_edge source target task from a) same
+    ∙ (ap (λ (t : Task). with_open_edge source target t from now) ex
+    ∙ ap (λ (u : Task). with_open_edge source target x u now) ey)))
