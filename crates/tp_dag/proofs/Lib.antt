@@ -9,3 +9,4 @@ pub mod Reading
 pub mod Numbers
 pub mod Calls
 pub mod Results
+pub mod Finding
