@@ -1,3 +1,10 @@
-mod Lists
-mod Dispatching
-mod Silent
+pub mod Lists
+pub mod Dispatching
+pub mod Silent
+pub mod Counting
+pub mod Boards
+pub mod Reading
+pub mod Numbers
+pub mod Calls
+pub mod Results
+pub mod Finding

@@ -1,6 +1,7 @@
 -- Lists in which one place is written, or one thing is added, and what a function makes of them.
 use Rattle.std.proofs.Common.{arith, ◌+◌, ◌<◌, ◌≢◌, ◌⊎◌, ℕ, zero, suc, ◌≡◌, List, [], ◌∷◌, ◌++◌, length, map, Some, refl, ap, sym, ◌∙◌, inl, inr}
 use Rattle.std.specs.Prelude.{slice_get}
+use Rattle.std.specs.List.{slice_index_or}
 use Rattle.std.proofs.Math.ListN.{set}
 
 pub set_cases : {A : Type 0} (xs : List A) (i k : ℕ) (x y : A) → slice_get (set xs i y) k ≡ Some x
@@ -34,6 +35,11 @@ set_there (z ∷ xs) zero zero y o = absurd (o refl)
 set_there (z ∷ xs) zero (suc k) y o = refl
 set_there (z ∷ xs) (suc i) zero y o = refl
 set_there (z ∷ xs) (suc i) (suc k) y o = set_there xs i k y (λ h. o (ap suc h))
+
+pub at_index : {A : Type 0} (xs : List A) (i : ℕ) (x : A) → i < length xs → x ≡ slice_index_or xs i x → slice_get xs i ≡ Some x
+at_index [] i x l e = absurd (omega (arith, l))
+at_index (y ∷ xs) zero x l e = ap Some (sym e)
+at_index (y ∷ xs) (suc i) x l e = at_index xs i x (omega (arith, l)) e
 
 pub last_cases : {A : Type 0} (xs : List A) (k : ℕ) (x y : A) → slice_get (xs ++ y ∷ []) k ≡ Some x
     → (slice_get xs k ≡ Some x) ⊎ ((k ≡ length xs) × (x ≡ y))

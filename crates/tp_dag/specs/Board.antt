@@ -48,6 +48,13 @@ pub record IsComing (node k : ℕ) (a : BoardState) : Type 0 where
   pub may : MayArrive k a
   pub to : may.edge.to ≡ node
 
+-- Edge k is under way to the node.
+pub record IsUnderWayTo (node k : ℕ) (a : BoardState) : Type 0 where
+  pub edge : Edge
+  pub is : slice_get a.edges k ≡ Some edge
+  pub to : edge.to ≡ node
+  pub under_way : edge.way ≡ way.UnderWay
+
 -- No edge is under way to the node.
 abbrev pub HasNoneComing : ℕ → BoardState → Type 0
 HasNoneComing node a = (k : ℕ) (e : Edge) → slice_get a.edges k ≡ Some e → e.to ≡ node → e.way ≢ way.UnderWay

@@ -6,7 +6,7 @@ ghost use Rattle.tp_base.specs.declared.limits.TheConstants.{MAX_NODES, MAX_STEP
 ghost use Rattle.tp_dag.specs.declared.entry.Task.{Task};
 ghost use Rattle.tp_dag.specs.declared.entry.Stage.TheVariants as stage;
 ghost use Rattle.tp_dag.specs.declared.entry.Way.TheVariants as way;
-ghost use Rattle.tp_dag.specs.Board.{LacksInput, IsReady, HasNoneReady, IsComing, HasNoneComing, IsIdleAt, MayArrive, MayLeave, IsUnsent, with_task, with_edge, with_open_edge};
+ghost use Rattle.tp_dag.specs.Board.{LacksInput, IsReady, HasNoneReady, IsComing, HasNoneComing, IsIdleAt, MayArrive, MayLeave, IsUnderWayTo, IsUnsent, with_task, with_edge, with_open_edge};
 ghost use Rattle.tp_dag.specs.Board.{HasEdge, HasOutside, HasReleased, HasBegun, HasLeft, HasArrived, HasFinished};
 ghost use Rattle.tp_dag.specs.Counts.{BoardFacts};
 
@@ -130,6 +130,22 @@ impl Board {
         ensures { result ≡ slice_get self.now.edges edge }
     {
         self.edges.get(edge as usize).copied()
+    }
+
+    /// All tasks, in the order of their numbers.
+    #[inline]
+    pub fn tasks(&self) -> &[Task]
+        ensures { result.now ≡ self.now.tasks }
+    {
+        &self.tasks
+    }
+
+    /// All edges, in the order of their numbers.
+    #[inline]
+    pub fn edges(&self) -> &[Edge]
+        ensures { result.now ≡ self.now.edges }
+    {
+        &self.edges
     }
 
     /// Makes room for one more task.
@@ -352,7 +368,8 @@ impl Board {
     /// Whether a task of the node is ready.
     #[inline]
     pub fn has_ready(&self, node: u32) -> bool
-        ensures { IsFalse result → HasNoneReady node self.now }
+        ensures no { IsFalse result → HasNoneReady node self.now }
+        ensures yes { IsTrue result → (t : ℕ) × IsReady node t self.now }
     {
         count_at(&self.ready, node) != 0
     }
@@ -360,9 +377,22 @@ impl Board {
     /// Whether an edge is under way to the node.
     #[inline]
     pub fn has_coming(&self, node: u32) -> bool
-        ensures { IsFalse result → HasNoneComing node self.now }
+        ensures no { IsFalse result → HasNoneComing node self.now }
+        ensures yes { IsTrue result → (k : ℕ) × IsUnderWayTo node k self.now }
     {
         count_at(&self.coming, node) != 0
+    }
+
+    /// Whether an output of the task was not passed on.
+    #[inline]
+    pub fn has_unsent(&self, task: u32) -> bool
+        ensures no { IsFalse result → (k : ℕ) → IsUnsent task k self.now → ⊥ }
+        ensures yes { IsTrue result → (k : ℕ) × IsUnsent task k self.now }
+    {
+        let Some(&x) = self.tasks.get(task as usize) else {
+            return false;
+        };
+        x.unsent != 0
     }
 
     /// Whether the node has nothing to do now.
