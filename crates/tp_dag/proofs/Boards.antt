@@ -147,11 +147,13 @@ facts_push_task {a} y f few home outside missing unsent = record {
     none_missing = count_zero (is_missing (length a.tasks)) a.edges
         (λ k e at. let w = (f.placed k e at).within in let o : (e.target == length a.tasks) ≡ false = grind (arith, nat_tests, w) in
         ap (λ (b : Bool). one (b && not (is_received e.way))) o)
+
     none_unsent : count_where (is_unsent (length a.tasks)) a.edges ≡ 0
     none_unsent = count_zero (is_unsent (length a.tasks)) a.edges
         (λ k e at. let p = f.placed k e at in let b = p.before in let w = p.within in
         let o : (e.source == length a.tasks) ≡ false = grind (arith, nat_tests, b, w) in
         ap (λ (v : Bool). one (v && is_out e.way)) o)
+
     new_counted : IsCounted a.nodes a.edges (length a.tasks) y
     new_counted = record {
       home = home;

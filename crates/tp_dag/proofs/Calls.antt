@@ -164,8 +164,10 @@ lacking_ready {tasks} {rs} t h x y c is l home fresh some node same less =
   where
     was : one (may_begin x) ≡ 0
     was = grind (arith, nat_tests, some)
+
     last : (m : ℕ) → 1 ≤ m → one ((m - 1) == 0) ≡ one (m == 1)
     last m l = grind (arith, nat_tests, l)
+
     now : one (may_begin y) ≡ one (x.missing == 1)
     now = fresh_begins y (same ∙ fresh) ∙ (ap (λ (m : ℕ). one (m == 0)) less ∙ last x.missing some)
 

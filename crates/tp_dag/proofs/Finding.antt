@@ -109,7 +109,7 @@ some_coming_from {a} node c l some =
 pub ready_lacks_none : {a : BoardState} (node t : ℕ) → BoardFacts a → IsReady node t a → LacksInput t a → ⊥
 ready_lacks_none {a} node t f r (inl (k, e, at, same, lacks)) =
     let missing : IsTrue (is_missing t e) = both_true (e.target == t) (not (is_received e.way))
-        (subst (λ (n : ℕ). IsTrue (e.target == n)) same (same_true e.target)) (not_there e.way lacks) in
+    (subst (λ (n : ℕ). IsTrue (e.target == n)) same (same_true e.target)) (not_there e.way lacks) in
     let s = count_some (is_missing t) a.edges k e at (one_one (is_missing t e) missing) in
     let m = (f.counted t r.task r.is).missing in let z = r.lacks_none in omega (arith, s, m, z)
   where
@@ -180,6 +180,7 @@ within ns n long some = by_place (le_or n (length ns))
   where
     le_or : (a b : ℕ) → (a < b) ⊎ (b ≤ a)
     le_or a b = grind arith
+
     by_place : (n < length ns) ⊎ (length ns ≤ n) → n < MAX_NODES
     by_place (inl l) = omega (arith, l, long)
     by_place (inr l) = absurd (some (get_or_past ns n 0 l))

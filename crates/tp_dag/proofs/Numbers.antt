@@ -38,7 +38,7 @@ pub ready_set : {tasks : List Task} {rs : List ℕ} (t h m : ℕ) (x y : Task) �
     → AreCounts is_ready (set tasks t y) (set rs h m)
 ready_set {tasks} {rs} t h m x y c is l home same e = counts_set t h m x y c is l
     (λ n o. one_else y.node n (may_begin y) (λ g. o (sym g ∙ (same ∙ sym home)))
-        ∙ sym (one_else x.node n (may_begin x) (λ g. o (sym g ∙ sym home))))
+    ∙ sym (one_else x.node n (may_begin x) (λ g. o (sym g ∙ sym home))))
     (let a = here x home in let b = here y (home ∙ sym same) in omega (arith, a, b, e))
   where
     here : (z : Task) → h ≡ z.node → one (is_ready h z) ≡ one (may_begin z)
@@ -72,5 +72,6 @@ ready_same t x y c is f g = counts_same t x y c is (λ n. none n y g ∙ sym (no
     and_false : (b : Bool) → one (b && false) ≡ 0
     and_false true = refl
     and_false false = refl
+
     none : (n : ℕ) (z : Task) → is_fresh z.stage ≡ false → one (is_ready n z) ≡ 0
     none n z h = ap (λ (b : Bool). one ((z.node == n) && b)) (not_begin z h) ∙ and_false (z.node == n)

@@ -104,7 +104,9 @@ pub open_result : (p : Inside) (now : BoardState) (source target : ℕ) (task fr
     ≡ with_open_edge source target x y now
 open_result p now source target task from x y es r same is of hx hy added room =
     let New : List Edge → ℕ → BoardState = λ e q. record (board_of p) {
-      tasks = set (set p.tasks.items target (lacking_more task)) source (owing_more from); edges = e; edge_room = q;
+      tasks = set (set p.tasks.items target (lacking_more task)) source (owing_more from);
+      edges = e;
+      edge_room = q;
     } in
     let ex = read_again p now target task x same is hx in
     let ey = read_again p now source from y same of hy in
