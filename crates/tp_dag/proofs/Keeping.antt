@@ -191,7 +191,7 @@ is_dispatched p q now node t k same r may core h started =
 
 pub begins_surely : (p : Inside) (node t : ℕ) (r : Bool) → BoardFacts p.board → on_board.IsReady node t p.board
     → (IsFalse r → (x : Task) → slice_get p.board.tasks t ≡ Some x → x.stage ≡ stage.Fresh → on_board.LacksInput t p.board) → IsFalse r → ⊥
-begins_surely p node t r f ready exact no = ready_lacks_none node t f ready (exact no ready.task ready.is ready.fresh)
+begins_surely p node t r f ready exact fails = ready_lacks_none node t f ready (exact fails ready.task ready.is ready.fresh)
 
 pub dispatched_later : {node t : ℕ} {a b c : PoolState} → AddsOnly is_delivery a b → IsDispatched node t b c → IsDispatched node t a c
 dispatched_later {node} {t} {a} {b} {c} d h =
@@ -272,10 +272,10 @@ completed_ways p q now t same core h started =
 
 pub finishes_surely : (p : Inside) (now : PoolState) (t : ℕ) (r : Bool) → state_of p ≡ now → slice_get now.stages t ≡ Some stage.Running → AllPassed t now
     → (IsFalse r → (x : Task) → slice_get p.board.tasks t ≡ Some x → x.stage ≡ stage.Running → (k : ℕ) × on_board.IsUnsent t k p.board) → IsFalse r → ⊥
-finishes_surely p now t r same running passed exact no =
+finishes_surely p now t r same running passed exact fails =
     let run : slice_get (map stage_of p.board.tasks) t ≡ Some stage.Running = subst (λ (a : PoolState). slice_get a.stages t ≡ Some stage.Running) (sym same) running in
     let x = map_got stage_of p.board.tasks t stage.Running run in
-    let u = exact no x.0 x.1 x.2 in
+    let u = exact fails x.0 x.1 x.2 in
     let o = unsent_seen p.core.nodes p.started p.core.steps p.board t u.0 u.1 in
     (subst (λ (a : PoolState). AllPassed t a) (sym same) passed) u.0 o.0 o.1
 
@@ -363,10 +363,10 @@ output_edge p now t k w same o at =
 
 pub leaves_surely : (p : Inside) (now : PoolState) (t k : ℕ) (e : Edge) (r : Bool) → state_of p ≡ now → slice_get now.stages t ≡ Some stage.Running
     → slice_get p.board.edges k ≡ Some e → e.source ≡ t → e.way ≡ way.Out → (IsFalse r → on_board.MayLeave k p.board → ⊥) → IsFalse r → ⊥
-leaves_surely p now t k e r same running at source out exact no =
+leaves_surely p now t k e r same running at source out exact fails =
     let run : slice_get (map stage_of p.board.tasks) t ≡ Some stage.Running = subst (λ (a : PoolState). slice_get a.stages t ≡ Some stage.Running) (sym same) running in
     let x = map_got stage_of p.board.tasks t stage.Running run in
-    exact no (record {
+    exact fails (record {
       edge = e;
       is = at;
       out = out;
@@ -450,10 +450,10 @@ edge_state : (p q : Inside) (b : BoardState) (source r : ℕ) (u : Task) → q.c
       inputs = map input_of p.board.edges ++ record { source = source; target = h.newest } ∷ [];
       ways = map way_of p.board.edges ++ way.Out ∷ [];
     }
-edge_state p q b source r u core started room is open h =
+edge_state p q b source r u core started room is apart h =
     let tasks : b.tasks ≡ p.board.tasks = ap (λ (x : BoardState). x.tasks) room in
     let same : h.from ≡ u = some_same h.from u (sym h.of ∙ (ap (λ (xs : List Task). slice_get xs source) tasks ∙ is)) in
-    let becomes = h.open (λ d. open (ap (λ (x : Task). x.stage) (sym same) ∙ d)) in
+    let becomes = h.not_done (λ d. apart (ap (λ (x : Task). x.stage) (sym same) ∙ d)) in
     let seen_b = seen_edge p.core.nodes p.started p.core.steps b source h.newest h.task h.from h.is h.of h.before in
     ap (λ (c : Accepted). seen c.nodes q.started q.board c.steps) core
     ∙ (ap (λ (z : Bool). seen p.core.nodes z q.board p.core.steps) started
@@ -464,29 +464,29 @@ edge_state p q b source r u core started room is open h =
     }) room)))
 
 edge_nodes : {source : ℕ} {b c : BoardState} (h : HasEdge source b c) → h.from.stage ≢ stage.Done → c.nodes ≡ b.nodes
-edge_nodes h open = ap (λ (x : BoardState). x.nodes) (h.open open)
+edge_nodes h apart = ap (λ (x : BoardState). x.nodes) (h.not_done apart)
 
 pub kept_input : (p q : Inside) (b : BoardState) (source r : ℕ) (u : Task) → IsPool p → BoardFacts p.board → q.core ≡ p.core → q.nodes ≡ p.nodes
     → q.started ≡ p.started → q.ended_with ≡ p.ended_with → b ≡ record p.board { edge_room = r } → slice_get p.board.tasks source ≡ Some u
     → u.stage ≢ stage.Done → HasEdge source b q.board → IsPool q
-kept_input p q b source r u k f core nodes started ended room is open h =
+kept_input p q b source r u k f core nodes started ended room is apart h =
     let tasks : b.tasks ≡ p.board.tasks = ap (λ (x : BoardState). x.tasks) room in
     let same : h.from ≡ u = some_same h.from u (sym h.of ∙ (ap (λ (xs : List Task). slice_get xs source) tasks ∙ is)) in
     kept_same p q _ k core nodes
-    (edge_nodes h (λ d. open (ap (λ (x : Task). x.stage) (sym same) ∙ d)) ∙ ap (λ (x : BoardState). x.nodes) room) ended
-    (edge_state p q b source r u core started room is open h) refl refl refl
+    (edge_nodes h (λ d. apart (ap (λ (x : Task). x.stage) (sym same) ∙ d)) ∙ ap (λ (x : BoardState). x.nodes) room) ended
+    (edge_state p q b source r u core started room is apart h) refl refl refl
     (facts_input (record { source = source; target = h.newest }) k.facts
     (consistent p.core.nodes p.started p.core.steps p.board f (k.board ∙ sym k.nodes)))
 
 pub input_added : (p q : Inside) (b : BoardState) (now : PoolState) (source r : ℕ) (u : Task) → state_of p ≡ now → q.core ≡ p.core → q.started ≡ p.started
     → b ≡ record p.board { edge_room = r } → slice_get p.board.tasks source ≡ Some u → u.stage ≢ stage.Done → HasEdge source b q.board
     → IsInputAdded source now (state_of q)
-input_added p q b now source r u same core started room is open h =
+input_added p q b now source r u same core started room is apart h =
     let tasks : length b.tasks ≡ length p.board.tasks = ap (λ (x : BoardState). length x.tasks) room in
     let long : length (map entry_of p.board.tasks) ≡ length p.board.tasks = length-map p.board.tasks entry_of in
     let last = h.last in
     subst (λ (a : PoolState). IsInputAdded source a (state_of q)) same
-    (subst (λ (a : PoolState). IsInputAdded source (state_of p) a) (sym (edge_state p q b source r u core started room is open h)) (record {
+    (subst (λ (a : PoolState). IsInputAdded source (state_of p) a) (sym (edge_state p q b source r u core started room is apart h)) (record {
       nodes = refl;
       started = refl;
       newest = h.newest;

@@ -8,3 +8,8 @@ pub mod Numbers
 pub mod Calls
 pub mod Results
 pub mod Finding
+pub mod Steps
+pub mod Ended
+pub mod Views
+pub mod Going
+pub mod Keeping

@@ -121,6 +121,7 @@ impl Pool {
         if node >= self.nodes || number >= MAX_STEPS as usize {
             return Err(Refusal::NoNode);
         }
+        self.board.known();
         self.board.reserve_task()?;
         self.hints.add_task()?;
         take_step(
@@ -172,6 +173,7 @@ impl Pool {
             Stage::Fresh => {}
             _ => return Err(Refusal::WrongLife),
         }
+        self.board.known();
         self.board.reserve_edge()?;
         self.hints.add_input()?;
         if !self.board.add_edge(source) {
@@ -691,6 +693,7 @@ impl Pool {
         requires home { IsHome node task self.old }
         ensures { IsMarked task self.old self.new }
     {
+        self.board.known();
         let Some(edge) = output_of(&self.board, task, input, Way::UnderWay) else {
             return 0;
         };
