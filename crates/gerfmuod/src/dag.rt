@@ -4,10 +4,12 @@ ghost use Rattle.std.specs.Prelude.{◌≡◌};
 ghost use Rattle.std.specs.Borrow.{full_share, sem};
 ghost use Rattle.std.specs.Ptr.{lies_at, room_at};
 ghost use Rattle.gerfmuod.specs.contracts.dag.slot.PoolSlot.{the_row as slot_row};
-ghost use Rattle.gerfmuod.specs.Dag.{SlotState, opened, opening, IsTask, IsInput, IsStart, IsNext, IsDone, IsStep, IsClosed};
+ghost use Rattle.gerfmuod.specs.Dag.{SlotState, opened, opening, IsTask, IsInput, IsStart, IsOutside, IsRelease, IsNext, IsDone, IsStep, IsClosed};
 
 use crate::dag::answer::{DagAnswer, DagStep};
-use crate::dag::calls::{close, done, input, made, next, opening, start, step, task};
+use crate::dag::calls::{
+    close, done, input, made, next, opening, outside, release, start, step, task,
+};
 use crate::dag::slot::PoolSlot;
 use std::alloc::Global;
 
@@ -55,6 +57,26 @@ pub unsafe extern "C" fn gerfmuod_dag_start(pool: *mut u8) -> DagAnswer
     ensures* { ∃ₛ (λ (new : SlotState). sem 𝓛 (lies_at slot_row full_share pool new) ∗ ⌜ IsStart old result new ⌝) }
 {
     start(&mut *(pool as *mut PoolSlot))
+}
+
+/// Lets a task that was not returned by `gerfmuod_dag_next` wait for one more input from outside.
+#[unsafe(no_mangle)]
+pub unsafe extern "C" fn gerfmuod_dag_outside(pool: *mut u8, task: u32) -> DagAnswer
+    ghost old: { SlotState }
+    requires* { sem 𝓛 (lies_at slot_row full_share pool old) }
+    ensures* { ∃ₛ (λ (new : SlotState). sem 𝓛 (lies_at slot_row full_share pool new) ∗ ⌜ IsOutside old task result new ⌝) }
+{
+    outside(&mut *(pool as *mut PoolSlot), task)
+}
+
+/// One input from outside that a task waits for is there. `news` has the node of the task if the task lacks nothing now.
+#[unsafe(no_mangle)]
+pub unsafe extern "C" fn gerfmuod_dag_release(pool: *mut u8, task: u32) -> DagAnswer
+    ghost old: { SlotState }
+    requires* { sem 𝓛 (lies_at slot_row full_share pool old) }
+    ensures* { ∃ₛ (λ (new : SlotState). sem 𝓛 (lies_at slot_row full_share pool new) ∗ ⌜ IsRelease old task result new ⌝) }
+{
+    release(&mut *(pool as *mut PoolSlot), task)
 }
 
 /// What a thread of a node is to do next: run task `number`, wait, or stop.

@@ -6,9 +6,10 @@ use Rattle.tp_base.specs.declared.Step.{Step}
 use Rattle.tp_dag.specs.declared.entry.Entry.{Entry}
 use Rattle.tp_dag.specs.declared.entry.Input.{Input}
 use Rattle.tp_dag.specs.declared.entry.Stage.{Stage}
+use Rattle.tp_dag.specs.declared.entry.Stage.TheVariants as stage
 use Rattle.tp_dag.specs.declared.entry.Way.{Way}
 use Rattle.tp_dag.specs.declared.entry.Way.TheVariants as way
-use Rattle.tp_dag.specs.State.{PoolState, SameGraph, AddsOnly, IsComing, IsOutput, AreDelivered, AreSent, IsCompleted, is_delivery, is_sending}
+use Rattle.tp_dag.specs.State.{PoolState, SameGraph, AddsOnly, IsComing, IsOutput, IsIdle, HasNoneReady, AreDelivered, AreSent, IsCompleted, is_delivery, is_sending}
 use Rattle.tp_dag.specs.Kept.{AllPassed, IsHome, IsMarked}
 use Rattle.tp_dag.specs.Counts.{count_where, is_out, is_under_way}
 use Rattle.tp_dag.proofs.Lists.{set_here, set_there}
@@ -171,3 +172,30 @@ completed_marked t a b c h x =
             | inr now ↦ not_out_received (slice_get c.ways k) now.1 out
           ];
     }
+
+-- ---- calls as a whole
+pub delivered_after : (node : ℕ) (a b c : PoolState) → AreDelivered node a b → c.ways ≡ b.ways → AreDelivered node a c
+delivered_after node a b c x e = λ k.
+    let at : slice_get c.ways k ≡ slice_get b.ways k = ap (λ (ws : List Way). slice_get ws k) e in
+    elim (x k) [ inl same ↦ inl (at ∙ same) | inr now ↦ inr (now.0, at ∙ now.1) ]
+
+pub idle_now : (node : ℕ) (a b c : PoolState) → ((k : ℕ) → IsComing node k a → ⊥) → b ≡ a → HasNoneReady node b → c ≡ b → IsIdle node c
+idle_now node a b c none e ready f = record {
+  lacks = subst (λ (x : PoolState). HasNoneReady node x) (sym f) ready;
+  none = subst (λ (x : PoolState). (k : ℕ) → IsComing node k x → ⊥) (sym (f ∙ e)) none;
+}
+
+pub running_after : {test : Step → Bool} (t : ℕ) (g : Stage) (a b : PoolState) → AddsOnly test a b → slice_get a.stages t ≡ Some g → slice_get b.stages t ≡ Some g
+running_after t g a b x e = ap (λ (xs : List Stage). slice_get xs t) x.stages ∙ e
+
+pub done_after : (t : ℕ) (a b : PoolState) → IsCompleted t a b → slice_get b.stages t ≡ Some stage.Done
+done_after t a b h = ap (λ (xs : List Stage). slice_get xs t) h.stages ∙ set_here a.stages t stage.Running stage.Done h.running
+
+pub home_after : (node t : ℕ) (a b : PoolState) → b.tasks ≡ a.tasks → IsHome node t a → IsHome node t b
+home_after node t a b e h = λ x is. h x (ap (λ (xs : List Entry). slice_get xs t) (sym e) ∙ is)
+
+pub done_marked : (t : ℕ) (a b : PoolState) → IsMarked t a b → slice_get a.stages t ≡ Some stage.Done → slice_get b.stages t ≡ Some stage.Done
+done_marked t a b x e = ap (λ (z : PoolState). slice_get z.stages t) x.only ∙ e
+
+pub home_marked : (node t : ℕ) (a b : PoolState) → IsMarked t a b → IsHome node t a → IsHome node t b
+home_marked node t a b x h = home_after node t a b (ap (λ (z : PoolState). z.tasks) x.only) h

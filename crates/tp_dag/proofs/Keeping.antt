@@ -1,11 +1,13 @@
 -- What the pool keeps through its calls, and what each call has done.
 use Rattle.std.proofs.Common.{cond, ℕ, ◌≡◌, ◌≢◌, ◌<◌, ◌≤◌, ◌+◌, ◌-◌, ◌⊎◌, List, [], ◌∷◌, ◌++◌, Bool, true, false, length, map, refl, ap, subst, ◌∙◌, sym, arith, IsTrue, IsFalse, Result, Option, Some, None, append_assoc, inl, inr}
-use Rattle.std.specs.Prelude.{◌==◌, if◌then◌else◌, Ok, Err, IfOk, OnOk, OnErr, IfSome, IfNone, is_some, slice_get, slice_set}
+use Rattle.std.specs.Prelude.{◌==◌, ◌&&◌, if◌then◌else◌, Ok, Err, IfOk, OnOk, OnErr, IfSome, IfNone, is_some, slice_get, slice_set, nat_le}
 use Rattle.tp_base.specs.declared.limits.TheConstants.{MAX_NODES, MAX_STEPS}
 use Rattle.std.proofs.Math.ListN.{set}
 use Rattle.std.proofs.lemmas.List.{length-map}
 use Rattle.std.proofs.lemmas.Bool.Decides.{nat_tests}
 use Rattle.tp_base.specs.declared.Refusal.{Refusal}
+use Rattle.tp_base.specs.declared.Refusal.TheVariants as refusal
+use Rattle.tp_base.specs.Checks.{first_refusal}
 use Rattle.tp_base.specs.declared.Step.{Step}
 use Rattle.tp_base.specs.declared.Step.TheVariants.{Begin, Done, Judge}
 use Rattle.tp_wave.specs.Steps.{count, is_reopen}
@@ -36,13 +38,13 @@ use Rattle.tp_dag.specs.declared.pool.Pool.TheInside.{Inside}
 use Rattle.tp_dag.specs.Board as on_board
 use Rattle.tp_dag.specs.Board.{BoardState, HasBegun, HasEdge, HasOutside, HasReleased, HasLeft, HasArrived, HasFinished, with_task}
 use Rattle.tp_dag.specs.Counts.{BoardFacts}
-use Rattle.tp_dag.specs.State.{PoolState, SameGraph, AddsOnly, WasDone, WasReceived, IsReceived, IsComing, IsOutput, IsFinished, IsCompleted, IsInputAdded, IsTaskAdded, IsOutsideAdded, IsReleased, IsDispatched, LacksInput, HasNoneReady, AreSent, is_delivery, is_sending, dispatched}
-use Rattle.tp_dag.specs.Kept.{state_of, seen, entry_of, stage_of, outside_of, input_of, way_of, Facts, IsPool, IsFrom, AllPassed, IsMarked, SendsOne}
+use Rattle.tp_dag.specs.State.{PoolState, SameGraph, AddsOnly, WasDone, WasReceived, IsReceived, IsComing, IsOutput, IsFinished, IsCompleted, IsInputAdded, IsTaskAdded, IsOutsideAdded, IsReleased, IsDispatched, LacksInput, HasNoneReady, AreSent, is_delivery, is_sending, dispatched, outside_checks, release_checks}
+use Rattle.tp_dag.specs.Kept.{state_of, seen, entry_of, stage_of, outside_of, input_of, way_of, Facts, IsPool, IsFrom, IsHome, AllPassed, IsMarked, SendsOne}
 use Rattle.tp_dag.proofs.Lists.{set_here, map_get, map_got}
 use Rattle.tp_dag.proofs.Finding.{ready_lacks_none}
 use Rattle.tp_dag.proofs.Steps.{facts_step, facts_begin, facts_done, facts_way, facts_task, facts_input, done_now, same_trans, adds_none, received_steps, one_generation, count_only, count_adds, all_append, delivery_begins_none, sending_begins_none, control_begins_none}
 use Rattle.tp_dag.proofs.Ended.{finished, any_append}
-use Rattle.tp_dag.proofs.Views.{some_same, seen_stage, seen_outside, seen_way, seen_task, seen_edge, consistent, coming_board, lacks_seen, lacks_board, unsent_seen}
+use Rattle.tp_dag.proofs.Views.{some_same, seen_stage, seen_outside, seen_way, seen_task, seen_edge, consistent, coming_board, coming_seen, passed_seen, lacks_seen, lacks_board, unsent_seen}
 use Rattle.tp_dag.proofs.Going.{sent_one}
 
 pub not_ended : (o : Option ℕ) (P : ℕ → Type 0) → is_some o ≡ false → IfSome o P
@@ -610,3 +612,111 @@ none_begun_sent t d = count_adds is_sending t (sending_begins_none t) d
 pub none_begun_done : {a b : PoolState} (u t : ℕ) → IsCompleted u a b → count (is_begin_of t) b.steps ≡ count (is_begin_of t) a.steps
 none_begun_done {a} u t h =
     ap (count (is_begin_of t)) h.steps ∙ count_only is_sending t (sending_begins_none t) h.sent a.steps h.only
+
+-- ---- what the checks say
+abbrev Refused : Refusal → Result (Unit {0}) Refusal → Type 0
+Refused e r = Err e ≡ r
+
+pub refused_by : (o : Option Refusal) (e : Refusal) → o ≡ Some e → IfSome o (λ r. Refused e (Err r))
+refused_by o e h = rw h refl
+
+pub outside_full : (a : PoolState) (t n : ℕ) (x : Entry) → slice_get a.tasks t ≡ Some x → slice_get a.stages t ≡ Some stage.Fresh
+    → slice_get a.outside t ≡ Some n → MAX_STEPS ≤ n → first_refusal (outside_checks a t) ≡ Some (refusal.HistoryFull MAX_STEPS)
+outside_full a t n x is fresh at full = let h : nat_le MAX_STEPS n ≡ true = grind (arith, nat_tests, full) in rw (is, fresh, at, h) refl
+
+pub outside_passes : (a : PoolState) (t n : ℕ) (x : Entry) → slice_get a.tasks t ≡ Some x → slice_get a.stages t ≡ Some stage.Fresh
+    → slice_get a.outside t ≡ Some n → n < MAX_STEPS → first_refusal (outside_checks a t) ≡ None
+outside_passes a t n x is fresh at few = let h : nat_le MAX_STEPS n ≡ false = grind (arith, nat_tests, few) in rw (is, fresh, at, h) refl
+
+pub release_passes : (a : PoolState) (t n : ℕ) (x : Entry) → slice_get a.tasks t ≡ Some x → slice_get a.outside t ≡ Some n → 1 ≤ n
+    → first_refusal (release_checks a t) ≡ None
+release_passes a t n x is at some = let h : nat_le 1 n ≡ true = grind (arith, nat_tests, some) in rw (is, at, h) refl
+
+pub not_refused : (o : Option Refusal) (P : Refusal → Type 0) → o ≡ None → IfSome o P
+not_refused None P h = tt
+not_refused (Some r) P h = cc
+
+pub task_now : (p : Inside) (now : PoolState) (t : ℕ) (x : Task) → state_of p ≡ now → slice_get p.board.tasks t ≡ Some x
+    → (slice_get now.tasks t ≡ Some (entry_of x)) × (slice_get now.stages t ≡ Some x.stage) × (slice_get now.outside t ≡ Some x.outside)
+task_now p now t x same is = (
+  subst (λ (a : PoolState). slice_get a.tasks t ≡ Some (entry_of x)) same (map_get entry_of p.board.tasks t x is),
+  subst (λ (a : PoolState). slice_get a.stages t ≡ Some x.stage) same (map_get stage_of p.board.tasks t x is),
+  subst (λ (a : PoolState). slice_get a.outside t ≡ Some x.outside) same (map_get outside_of p.board.tasks t x is),
+)
+
+-- the refusal of `outside` for a task that is not released is for one of its checks
+pub full_now : (p : Inside) (now : PoolState) (t : ℕ) (x : Task) → state_of p ≡ now → slice_get p.board.tasks t ≡ Some x → x.stage ≡ stage.Fresh
+    → MAX_STEPS ≤ x.outside → first_refusal (outside_checks now t) ≡ Some (refusal.HistoryFull MAX_STEPS)
+full_now p now t x same is fresh full =
+    let e = task_now p now t x same is in outside_full now t x.outside (entry_of x) e.0 (e.1 ∙ ap Some fresh) e.2 full
+
+pub passes_now : (p : Inside) (now : PoolState) (t : ℕ) (x : Task) → state_of p ≡ now → slice_get p.board.tasks t ≡ Some x → x.stage ≡ stage.Fresh
+    → x.outside < MAX_STEPS → first_refusal (outside_checks now t) ≡ None
+passes_now p now t x same is fresh few =
+    let e = task_now p now t x same is in outside_passes now t x.outside (entry_of x) e.0 (e.1 ∙ ap Some fresh) e.2 few
+
+pub releases_now : (p : Inside) (now : PoolState) (t : ℕ) (x : Task) → state_of p ≡ now → slice_get p.board.tasks t ≡ Some x → 1 ≤ x.outside
+    → first_refusal (release_checks now t) ≡ None
+releases_now p now t x same is some =
+    let e = task_now p now t x same is in release_passes now t x.outside (entry_of x) e.0 e.2 some
+
+pub fresh_not_done : (g : Stage) → g ≡ stage.Fresh → g ≢ stage.Done
+fresh_not_done g e d = cc
+
+pub ready_if : (p : Inside) (t : ℕ) (x : Task) → slice_get p.board.tasks t ≡ Some x → x.stage ≡ stage.Fresh → x.missing ≡ 0
+    → on_board.IsReady x.node t p.board
+ready_if p t x is fresh none = record { task = x; is = is; home = refl; fresh = fresh; lacks_none = none }
+
+pub both_true : (a : Bool) (n : ℕ) → IsTrue (a && (n == 0)) → IsTrue a × (n ≡ 0)
+both_true true n h = (refl, grind (arith, nat_tests, h))
+both_true false n h = cc
+
+pub not_zero : (a : Bool) (n : ℕ) → IsFalse (a && (n == 0)) → IsTrue a → n ≢ 0
+not_zero true n h t z = grind (arith, nat_tests, h, z)
+not_zero false n h t z = cc
+
+-- ---- what is found
+pub some_coming : (p : Inside) (node : ℕ) (o : Option ℕ) → BoardFacts p.board → IfSome o (λ k. on_board.IsComing node k p.board)
+    → IfSome o (λ k. IsComing node k (state_of p))
+some_coming p node None f h = tt
+some_coming p node (Some k) f h = coming_seen p.core.nodes p.started p.core.steps p.board node k f h
+
+pub none_coming : (p : Inside) (node : ℕ) (o : Option ℕ) → BoardFacts p.board → IfNone o ((k : ℕ) → on_board.IsComing node k p.board → ⊥)
+    → IfNone o ((k : ℕ) → IsComing node k (state_of p) → ⊥)
+none_coming p node None f h = λ k c. h k (coming_board p.core.nodes p.started p.core.steps p.board node k f c)
+none_coming p node (Some k) f h = tt
+
+pub some_unsent : (p : Inside) (now : PoolState) (t : ℕ) (o : Option ℕ) → state_of p ≡ now → IfSome o (λ k. on_board.IsUnsent t k p.board)
+    → IfSome o (λ k. IsOutput t k now × (slice_get now.ways k ≡ Some way.Out))
+some_unsent p now t None same h = tt
+some_unsent p now t (Some k) same h =
+    subst (λ (a : PoolState). IsOutput t k a × (slice_get a.ways k ≡ Some way.Out)) same (unsent_seen p.core.nodes p.started p.core.steps p.board t k h)
+
+pub none_unsent : (p : Inside) (now : PoolState) (t : ℕ) (o : Option ℕ) → state_of p ≡ now → IfNone o ((k : ℕ) → on_board.IsUnsent t k p.board → ⊥)
+    → IfNone o (AllPassed t now)
+none_unsent p now t None same h = subst (λ (a : PoolState). AllPassed t a) same (passed_seen p.core.nodes p.started p.core.steps p.board t h)
+none_unsent p now t (Some k) same h = tt
+
+-- an output of a task that is done, at its own node
+pub output_coming : (p : Inside) (now : PoolState) (node t k : ℕ) (e : Edge) → state_of p ≡ now → BoardFacts p.board → slice_get p.board.edges k ≡ Some e
+    → e.source ≡ t → e.way ≡ way.UnderWay → e.to ≡ node → slice_get now.stages t ≡ Some stage.Done → IsComing node k now
+output_coming p now node t k e same f at source is to done =
+    let run : slice_get (map stage_of p.board.tasks) t ≡ Some stage.Done = subst (λ (a : PoolState). slice_get a.stages t ≡ Some stage.Done) (sym same) done in
+    let x = map_got stage_of p.board.tasks t stage.Done run in
+    subst (λ (a : PoolState). IsComing node k a) same (coming_seen p.core.nodes p.started p.core.steps p.board node k f (record {
+      may = record {
+        edge = e;
+        is = at;
+        under_way = is;
+        source = x.0;
+        from = ap (λ (m : ℕ). slice_get p.board.tasks m) source ∙ x.1;
+        done = x.2;
+      };
+      to = to;
+    }))
+
+pub output_from : (a : PoolState) (node t k : ℕ) → IsOutput t k a → IsHome node t a → IsFrom node k a
+output_from a node t k o home = λ i x at is.
+    let same : o.input ≡ i = some_same o.input i (sym o.is ∙ at) in
+    let source : i.source ≡ t = ap (λ (j : Input). j.source) (sym same) ∙ o.source in
+    home x (ap (λ (m : ℕ). slice_get a.tasks m) (sym source) ∙ is)

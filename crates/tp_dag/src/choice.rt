@@ -1,5 +1,5 @@
 //! What a thread finds on the board: by the hints, or by a look at all tasks or edges if a hint is wrong or missing.
-ghost use Rattle.std.specs.Prelude.{◌≡◌, ◌≢◌, ℕ, IfSome, IfNone, IsTrue, slice_get, Some};
+ghost use Rattle.std.specs.Prelude.{◌≡◌, ◌≢◌, ◌==◌, ◌&&◌, ℕ, IfSome, IfNone, IsTrue, slice_get, Some};
 ghost use Rattle.tp_dag.specs.declared.entry.Edge.{Edge};
 ghost use Rattle.tp_dag.specs.Board as on_board;
 
@@ -45,6 +45,27 @@ pub(crate) fn push_ready(board: &Board, hints: &mut Hints, task: u32) {
     if let Some(found) = board.task(task) {
         hints.push_ready(found.node, found.class, task);
     }
+}
+
+/// Adds a task that was released to the hints, if it lacks nothing now. Before the start all ready tasks are added at once.
+pub(crate) fn push_released(
+    board: &Board,
+    hints: &mut Hints,
+    task: u32,
+    is_started: bool,
+    last: bool,
+) {
+    if is_started && last {
+        push_ready(board, hints, task);
+    }
+}
+
+/// Whether a task that has not begun may begin at any time.
+#[inline]
+pub(crate) fn may_begin(is_started: bool, missing: u32) -> bool
+    ensures { result ≡ (is_started && (missing == 0)) }
+{
+    is_started && missing == 0
 }
 
 /// Adds the target of an input to the hints, if the input was the last that it lacked.

@@ -15,7 +15,9 @@ ghost use Rattle.tp_dag.specs.State.{is_delivery, is_sending, is_readying};
 ghost use Rattle.tp_dag.specs.Kept.{IsConsistent, IsFrom, IsHome, AllPassed, IsMarked, SendsOne};
 
 use crate::board::Board;
-use crate::choice::{find_coming, find_ready, node_bit, output_of, push_ready, push_woken};
+use crate::choice::{
+    find_coming, find_ready, may_begin, node_bit, output_of, push_ready, push_released, push_woken,
+};
 use crate::entry::{Stage, Way};
 use crate::hints::Hints;
 use std::alloc::Global;
@@ -207,7 +209,8 @@ impl Pool {
         ensures checks { IfSome (first_refusal (outside_checks self.old task)) (λ r. result ≡ Err r) }
         ensures ok { OnOk result (IsOutsideAdded task self.old self.new) }
         ensures err { OnErr result (self.new ≡ self.old) }
-        ensures exact { IfErr result (λ r. (first_refusal (outside_checks self.old task) ≡ Some r) ⊎ (IsTrue self.old.started × (LacksInput task self.old → ⊥))) }
+        ensures exact { IfErr result (λ r. (first_refusal (outside_checks self.old task) ≡ Some r) 
+            ⊎ ((r ≡ Refusal.WrongLife) × IsTrue self.old.started × (LacksInput task self.old → ⊥))) }
     {
         let Some(found) = self.board.task(task) else {
             return Err(Refusal::NoTask);
@@ -220,7 +223,7 @@ impl Pool {
             return Err(Refusal::HistoryFull(MAX_STEPS));
         }
         self.board.known();
-        if self.started && found.missing == 0 {
+        if may_begin(self.started, found.missing) {
             return Err(Refusal::WrongLife);
         }
         let added = self.board.add_outside(task);
@@ -244,9 +247,7 @@ impl Pool {
         let Some(last) = self.board.release(task) else {
             return Err(Refusal::WrongLife);
         };
-        if self.started && last {
-            self.hints.push_ready(found.node, found.class, task);
-        }
+        push_released(&self.board, &mut self.hints, task, self.started, last);
         Ok(node_bit(found.node, last))
     }
 
