@@ -10,3 +10,4 @@ pub mod Numbers
 pub mod Calls
 pub mod Results
 pub mod Finding
+pub mod Resetting
