@@ -15,7 +15,8 @@ use Rattle.tp_dag.specs.declared.entry.Way.{Way}
 use Rattle.tp_dag.specs.declared.entry.Way.TheVariants as way
 use Rattle.tp_dag.specs.declared.board.Board.TheInside.{Inside}
 use Rattle.tp_dag.specs.Board.{BoardState, described, not_passed_on, IsReset}
-use Rattle.tp_dag.specs.Counts.{count_where, is_fresh, is_out, is_received, is_under_way, may_be, is_missing, is_unsent, is_coming, is_ready, is_to, is_from, uncounted, recounted, AreRecounted, AreWritten, IsPlaced, IsCounted, BoardFacts, AreCounts, board_of}
+use Rattle.tp_dag.specs.Counts.{count_where, is_fresh, is_out, is_received, is_under_way, may_be, is_missing, is_unsent, is_coming, is_ready, IsPlaced, IsCounted, BoardFacts, AreCounts, board_of}
+use Rattle.tp_dag.specs.Resets.{is_to, is_from, uncounted, recounted, AreRecounted, AreWritten}
 use Rattle.tp_dag.proofs.Counting.{one, one_zero, zero_one, count_few, count_zero, count_next, count_push, at_below, same_or, counts_push, counts_few}
 use Rattle.tp_dag.proofs.Boards.{some_same, lacking_more, owing_more}
 use Rattle.tp_dag.proofs.Numbers.{one_if, one_else, may_begin}
@@ -80,6 +81,7 @@ written_more {write = write} {old = old} {now = now} k d w l = record {
   where
     long : k < length now
     long = (let s = w.long in omega (arith, s, l))
+
     same : (x : _) → slice_get old k ≡ Some x → x ≡ slice_index_or now k d
     same x h = some_same x (slice_index_or now k d) (sym (w.left k x (omega arith) h) ∙ slice_get-get_or now k d long)
 
@@ -124,6 +126,7 @@ recounted_to {to} {from} {old} {now} e x r is = record {
         ap lacking_more same
         ∙ ap (λ (n : ℕ). record y { missing = n; unsent = count_where (is_from e.target) from })
         (let q : count_where (is_to e.target) to + 1 ≡ count_where (is_to e.target) (to ++ e ∷ []) = omega (arith, p, o) in q)
+
     there : (t : ℕ) (y : Task) → t ≢ e.target → recounted to from t y ≡ recounted (to ++ e ∷ []) from t y
     there t y o =
         let p = count_push (is_to t) to e in let z = one_apart e.target t o in
@@ -149,6 +152,7 @@ recounted_from {to} {from} {old} {now} e x r is = record {
         ap owing_more same
         ∙ ap (λ (n : ℕ). record y { missing = count_where (is_to e.source) to; unsent = n })
         (let q : count_where (is_from e.source) from + 1 ≡ count_where (is_from e.source) (from ++ e ∷ []) = omega (arith, p, o) in q)
+
     there : (t : ℕ) (y : Task) → t ≢ e.source → recounted to from t y ≡ recounted to (from ++ e ∷ []) t y
     there t y o =
         let p = count_push (is_from t) from e in let z = one_apart e.source t o in

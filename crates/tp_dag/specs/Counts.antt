@@ -87,32 +87,6 @@ pub record BoardFacts (a : BoardState) : Type 0 where
   pub counted : (t : ℕ) (x : Task) → slice_get a.tasks t ≡ Some x → IsCounted a.nodes a.edges t x
   pub goes : (k : ℕ) (e : Edge) (x : Task) → slice_get a.edges k ≡ Some e → slice_get a.tasks e.source ≡ Some x → IsTrue (may_be e.way x.stage)
 
--- ---- counts that are made anew
-abbrev pub is_to : ℕ → Edge → Bool
-is_to t e = e.target == t
-
-abbrev pub is_from : ℕ → Edge → Bool
-is_from t e = e.source == t
-
--- a task that has not begun, before its edges are counted
-abbrev pub uncounted : Task → Task
-uncounted x = record { node = x.node; class = x.class; stage = stage.Fresh; missing = 0; unsent = 0; outside = 0 }
-
--- The task with its counts: so many of the first edges are to it, so many of the second from it.
-abbrev pub recounted : List Edge → List Edge → ℕ → Task → Task
-recounted to from t x = record x { missing = count_where (is_to t) to; unsent = count_where (is_from t) from }
-
--- Each task is as before, with its counts.
-pub record AreRecounted (to from : List Edge) (old new : List Task) : Type 0 where
-  pub long : length new ≡ length old
-  pub each : (t : ℕ) (x : Task) → slice_get old t ≡ Some x → slice_get new t ≡ Some (recounted to from t x)
-
--- The first of them were written, each from what it was.
-pub record AreWritten {A : Type 0} (write : A → A) (count : ℕ) (old new : List A) : Type 0 where
-  pub long : length new ≡ length old
-  pub written : (k : ℕ) (x : A) → k < count → slice_get old k ≡ Some x → slice_get new k ≡ Some (write x)
-  pub left : (k : ℕ) (x : A) → count ≤ k → slice_get old k ≡ Some x → slice_get new k ≡ Some x
-
 -- The list of numbers has, at each node, how many of the others pass the test of that node.
 pub record AreCounts {A : Type 0} (test : ℕ → A → Bool) (xs : List A) (ns : List ℕ) : Type 0 where
   pub nodes : length ns ≡ MAX_NODES

@@ -272,11 +272,11 @@ impl Board {
         if was.missing != 0 {
             return false;
         }
-        take_if(&mut self.ready, was.node, true);
         self.tasks[task as usize] = Task {
             stage: Stage::Running,
             ..was
         };
+        take_if(&mut self.ready, was.node, true);
         true
     }
 
@@ -298,7 +298,6 @@ impl Board {
             Stage::Running => {}
             _ => return false,
         }
-        add_if(&mut self.coming, was.to, true);
         self.tasks[was.source as usize] = Task {
             unsent: source.unsent - 1,
             ..source
@@ -307,6 +306,7 @@ impl Board {
             way: Way::UnderWay,
             ..was
         };
+        add_if(&mut self.coming, was.to, true);
         true
     }
 
@@ -330,8 +330,6 @@ impl Board {
         }
         let target = self.tasks[was.target as usize];
         let last = target.missing == 1;
-        take_if(&mut self.coming, was.to, true);
-        add_if(&mut self.ready, was.to, last);
         self.tasks[was.target as usize] = Task {
             missing: target.missing - 1,
             ..target
@@ -340,6 +338,8 @@ impl Board {
             way: Way::Received,
             ..was
         };
+        take_if(&mut self.coming, was.to, true);
+        add_if(&mut self.ready, was.to, last);
         Some(last)
     }
 

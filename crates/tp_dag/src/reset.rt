@@ -4,7 +4,8 @@ ghost use Rattle.tp_base.specs.declared.limits.TheConstants.{MAX_NODES, MAX_STEP
 ghost use Rattle.tp_dag.specs.declared.entry.Task.{Task};
 ghost use Rattle.tp_dag.specs.declared.entry.Edge.{Edge};
 ghost use Rattle.tp_dag.specs.Board.{not_passed_on};
-ghost use Rattle.tp_dag.specs.Counts.{AreCounts, AreRecounted, uncounted, is_ready};
+ghost use Rattle.tp_dag.specs.Counts.{AreCounts, is_ready};
+ghost use Rattle.tp_dag.specs.Resets.{AreRecounted, uncounted};
 
 use crate::board::add_if;
 use crate::entry::{Edge, Stage, Task, Way};

@@ -7,7 +7,7 @@ use Rattle.tp_base.specs.declared.limits.TheConstants.{MAX_STEPS}
 use Rattle.tp_dag.specs.declared.entry.Task.{Task}
 use Rattle.tp_dag.specs.declared.entry.Edge.{Edge}
 use Rattle.tp_dag.specs.declared.entry.Way.TheVariants as way
-use Rattle.tp_dag.specs.Counts.{AreRecounted}
+use Rattle.tp_dag.specs.Resets.{AreRecounted}
 use Rattle.tp_dag.proofs.Counting.{at_below}
 use Rattle.tp_dag.proofs.Resetting.{recounted_few, recounted_to, recounted_from}
 use Rattle.tp_dag.proofs.reset.count_edges.Goals as goal

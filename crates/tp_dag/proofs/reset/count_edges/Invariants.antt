@@ -1,5 +1,5 @@
 use Rattle.std.proofs.Common.{take}
-use Rattle.tp_dag.specs.Counts.{AreRecounted}
+use Rattle.tp_dag.specs.Resets.{AreRecounted}
 use Rattle.tp_dag.proofs.reset.count_edges.Given as goal
 
 abbrev pub invariant-loop-k : goal.invariant-loop-k

@@ -1,5 +1,5 @@
 use Rattle.tp_dag.specs.Board.{not_passed_on}
-use Rattle.tp_dag.specs.Counts.{AreWritten}
+use Rattle.tp_dag.specs.Resets.{AreWritten}
 use Rattle.tp_dag.proofs.reset.reset_edges.Given as goal
 
 abbrev pub invariant-loop-k : goal.invariant-loop-k

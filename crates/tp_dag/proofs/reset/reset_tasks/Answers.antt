@@ -1,4 +1,4 @@
-use Rattle.tp_dag.specs.Counts.{uncounted}
+use Rattle.tp_dag.specs.Resets.{uncounted}
 use Rattle.tp_dag.proofs.Resetting.{written_none, written_more, written_all}
 use Rattle.tp_dag.proofs.reset.reset_tasks.Goals as goal
 

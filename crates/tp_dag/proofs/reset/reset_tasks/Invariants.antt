@@ -1,5 +1,5 @@
-use Rattle.tp_dag.specs.Counts.{uncounted}
-use Rattle.tp_dag.specs.Counts.{AreWritten}
+use Rattle.tp_dag.specs.Resets.{uncounted}
+use Rattle.tp_dag.specs.Resets.{AreWritten}
 use Rattle.tp_dag.proofs.reset.reset_tasks.Given as goal
 
 abbrev pub invariant-loop-t : goal.invariant-loop-t

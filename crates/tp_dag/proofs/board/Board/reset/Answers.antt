@@ -5,7 +5,8 @@ use Rattle.std.proofs.lemmas.List.{with_items_is}
 use Rattle.tp_dag.specs.declared.entry.Task.{Task}
 use Rattle.tp_dag.specs.declared.entry.Edge.{Edge}
 use Rattle.tp_dag.specs.Board.{not_passed_on}
-use Rattle.tp_dag.specs.Counts.{AreCounts, AreRecounted, uncounted, is_ready, is_coming}
+use Rattle.tp_dag.specs.Counts.{AreCounts, is_ready, is_coming}
+use Rattle.tp_dag.specs.Resets.{AreRecounted, uncounted}
 use Rattle.tp_dag.proofs.Calls.{same_facts}
 use Rattle.tp_dag.proofs.Resetting.{reset_placed, reset_none, reset_homes, reset_facts, reset_coming, is_reset}
 use Rattle.tp_dag.proofs.board.Board.reset.Goals as goal
