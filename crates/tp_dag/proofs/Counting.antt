@@ -12,7 +12,7 @@ abbrev pub one : Bool → ℕ
 one true = 1
 one false = 0
 
-count_next : {A : Type 0} (test : A → Bool) (x : A) (xs : List A) → count_where test (x ∷ xs) ≡ count_where test xs + one (test x)
+pub count_next : {A : Type 0} (test : A → Bool) (x : A) (xs : List A) → count_where test (x ∷ xs) ≡ count_where test xs + one (test x)
 count_next test x xs = elim (test x) as (λ b. cond b (count_where test xs + 1) (count_where test xs) ≡ count_where test xs + one b) [ true ↦ refl | false ↦ omega arith ]
 
 one_few : (b : Bool) → one b ≤ 1

@@ -13,3 +13,4 @@ pub mod Ended
 pub mod Views
 pub mod Going
 pub mod Keeping
+pub mod Resetting

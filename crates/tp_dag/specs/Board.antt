@@ -1,5 +1,5 @@
 -- What contracts see of the board of a pool: tasks and edges, what each call does to them, and what a node has to do.
-use Rattle.std.specs.Prelude.{ℕ, ◌+◌, ◌-◌, ◌<◌, ◌≤◌, ◌==◌, ◌&&◌, ◌⊎◌, ◌≡◌, ◌≢◌, List, [], ◌∷◌, ◌++◌, Bool, true, false, not, length, slice_get, slice_set, Some, if◌then◌else◌}
+use Rattle.std.specs.Prelude.{ℕ, ◌+◌, ◌-◌, ◌<◌, ◌≤◌, ◌==◌, ◌&&◌, ◌⊎◌, ◌≡◌, ◌≢◌, List, [], ◌∷◌, ◌++◌, map, Bool, true, false, not, length, slice_get, slice_set, Some, if◌then◌else◌}
 use Rattle.tp_dag.specs.declared.entry.Task.{Task}
 use Rattle.tp_dag.specs.declared.entry.Edge.{Edge}
 use Rattle.tp_dag.specs.declared.entry.Stage.{Stage}
@@ -161,3 +161,22 @@ pub record HasFinished (t : ℕ) (old new : BoardState) : Type 0 where
   pub running : was.stage ≡ stage.Running
   pub sent : (k : ℕ) (e : Edge) → slice_get old.edges k ≡ Some e → e.source ≡ t → e.way ≢ way.Out
   pub becomes : new ≡ record old { tasks = slice_set old.tasks t (record was { stage = stage.Done }) }
+
+-- ---- the beginning
+-- a task as it was described
+abbrev pub described : Task → ℕ × ℕ
+described x = (x.node, x.class)
+
+-- an edge that was not passed on
+abbrev pub not_passed_on : Edge → Edge
+not_passed_on e = record e { way = way.Out }
+
+-- `reset`: no task has begun, none waits for an input from outside, and no edge was passed on; all else is as before.
+pub record IsReset (old new : BoardState) : Type 0 where
+  pub nodes : new.nodes ≡ old.nodes
+  pub task_room : new.task_room ≡ old.task_room
+  pub edge_room : new.edge_room ≡ old.edge_room
+  pub tasks : map described new.tasks ≡ map described old.tasks
+  pub fresh : (t : ℕ) (x : Task) → slice_get new.tasks t ≡ Some x → x.stage ≡ stage.Fresh
+  pub outside : (t : ℕ) (x : Task) → slice_get new.tasks t ≡ Some x → x.outside ≡ 0
+  pub edges : new.edges ≡ map not_passed_on old.edges

@@ -7,10 +7,11 @@ ghost use Rattle.tp_dag.specs.declared.entry.Task.{Task};
 ghost use Rattle.tp_dag.specs.declared.entry.Stage.TheVariants as stage;
 ghost use Rattle.tp_dag.specs.declared.entry.Way.TheVariants as way;
 ghost use Rattle.tp_dag.specs.Board.{LacksInput, IsReady, HasNoneReady, IsComing, HasNoneComing, IsIdleAt, MayArrive, MayLeave, IsUnderWayTo, IsUnsent, with_task, with_edge, with_open_edge};
-ghost use Rattle.tp_dag.specs.Board.{HasEdge, HasOutside, HasReleased, HasBegun, HasLeft, HasArrived, HasFinished};
+ghost use Rattle.tp_dag.specs.Board.{HasEdge, HasOutside, HasReleased, HasBegun, HasLeft, HasArrived, HasFinished, IsReset};
 ghost use Rattle.tp_dag.specs.Counts.{BoardFacts};
 
 use crate::entry::{Edge, Stage, Task, Way};
+use crate::reset::{count_edges, count_ready, reset_edges, reset_tasks};
 use crate::scans;
 use std::alloc::{AllocError, Global};
 use std::marker::Model;
@@ -55,7 +56,7 @@ fn take_if(counts: &mut [u32; 8], node: u32, less: bool)
 
 // adds 1 to the count of the node, if `more`
 #[inline]
-fn add_if(counts: &mut [u32; 8], node: u32, more: bool)
+pub fn add_if(counts: &mut [u32; 8], node: u32, more: bool)
     requires place { node < MAX_NODES }
     requires few { slice_index_or counts.old node 0 + 1 < 2 ^ 32 }
     ensures { counts.new ≡ slice_set counts.old node (slice_index_or counts.old node 0 + (if more then 1 else 0)) }
@@ -271,11 +272,11 @@ impl Board {
         if was.missing != 0 {
             return false;
         }
-        take_if(&mut self.ready, was.node, true);
         self.tasks[task as usize] = Task {
             stage: Stage::Running,
             ..was
         };
+        take_if(&mut self.ready, was.node, true);
         true
     }
 
@@ -297,7 +298,6 @@ impl Board {
             Stage::Running => {}
             _ => return false,
         }
-        add_if(&mut self.coming, was.to, true);
         self.tasks[was.source as usize] = Task {
             unsent: source.unsent - 1,
             ..source
@@ -306,6 +306,7 @@ impl Board {
             way: Way::UnderWay,
             ..was
         };
+        add_if(&mut self.coming, was.to, true);
         true
     }
 
@@ -329,8 +330,6 @@ impl Board {
         }
         let target = self.tasks[was.target as usize];
         let last = target.missing == 1;
-        take_if(&mut self.coming, was.to, true);
-        add_if(&mut self.ready, was.to, last);
         self.tasks[was.target as usize] = Task {
             missing: target.missing - 1,
             ..target
@@ -339,6 +338,8 @@ impl Board {
             way: Way::Received,
             ..was
         };
+        take_if(&mut self.coming, was.to, true);
+        add_if(&mut self.ready, was.to, last);
         Some(last)
     }
 
@@ -428,6 +429,17 @@ impl Board {
     {
         let k = scans::find_unsent(&self.edges, task)?;
         Some(k as u32)
+    }
+
+    /// Puts all tasks and edges back to the beginning: no task has begun or waits for an input from outside, and no edge was passed on.
+    pub fn reset(&mut self)
+        ensures { IsReset self.old self.new }
+    {
+        reset_tasks(&mut self.tasks);
+        reset_edges(&mut self.edges);
+        count_edges(&mut self.tasks, &self.edges);
+        self.ready = count_ready(&self.tasks);
+        self.coming = [0; 8];
     }
 
     // an edge from a task that is done

@@ -8,6 +8,7 @@ mod entry;
 mod hints;
 mod laws;
 mod pool;
+mod reset;
 mod scans;
 
 pub use entry::{Entry, Input, Stage, Way};
