@@ -1,5 +1,5 @@
 -- How inputs go on, over several calls.
-use Rattle.std.proofs.Common.{arith, ◌+◌, ◌<◌, ◌≤◌, ◌⊎◌, ℕ, ◌≡◌, ◌≢◌, List, Bool, IsTrue, Option, Some, refl, ap, subst, sym, ◌∙◌, inl, inr}
+use Rattle.std.proofs.Common.{arith, ◌<◌, ℕ, ◌≡◌, ◌≢◌, List, Bool, IsTrue, Option, Some, refl, ap, subst, sym, ◌∙◌, inl, inr}
 use Rattle.std.specs.Prelude.{slice_get}
 use Rattle.std.proofs.Math.ListN.{set}
 use Rattle.tp_base.specs.declared.Step.{Step}
@@ -9,12 +9,12 @@ use Rattle.tp_dag.specs.declared.entry.Stage.{Stage}
 use Rattle.tp_dag.specs.declared.entry.Stage.TheVariants as stage
 use Rattle.tp_dag.specs.declared.entry.Way.{Way}
 use Rattle.tp_dag.specs.declared.entry.Way.TheVariants as way
-use Rattle.tp_dag.specs.State.{PoolState, SameGraph, AddsOnly, IsComing, IsOutput, IsIdle, HasNoneReady, AreDelivered, AreSent, IsCompleted, is_delivery, is_sending}
-use Rattle.tp_dag.specs.Kept.{AllPassed, IsHome, IsMarked}
+use Rattle.tp_dag.specs.State.{PoolState, SameGraph, AddsOnly, IsComing, IsOutput, IsIdle, HasNoneReady, AreDelivered, AreSent, IsCompleted, is_delivery}
+use Rattle.tp_dag.specs.Kept.{IsHome, IsMarked}
 use Rattle.tp_dag.specs.Counts.{count_where, is_out, is_under_way}
 use Rattle.tp_dag.proofs.Lists.{set_here, set_there}
 use Rattle.tp_dag.proofs.Counting.{one, count_set, same_or}
-use Rattle.tp_dag.proofs.Steps.{same_trans, adds_trans}
+use Rattle.tp_dag.proofs.Steps.{same_trans}
 
 -- ---- another state with the same graph
 pub coming_in : {node k : ℕ} (a b : PoolState) → b.tasks ≡ a.tasks → b.inputs ≡ a.inputs → b.stages ≡ a.stages
@@ -64,8 +64,10 @@ pub delivered_one : (node k : ℕ) (a b : PoolState) → IsComing node k a → b
 delivered_one node k a b c e = λ j.
     let at : slice_get b.ways j ≡ slice_get (set a.ways k way.Received) j = ap (λ (ws : List Way). slice_get ws j) e in
     elim (same_or j k) [
-      | inl same ↦ inr (subst (λ (m : ℕ). IsComing node m a) (sym same) c,
-          at ∙ (ap (λ (m : ℕ). slice_get (set a.ways k way.Received) m) same ∙ set_here a.ways k way.UnderWay way.Received c.under_way))
+      | inl same ↦ inr (
+        subst (λ (m : ℕ). IsComing node m a) (sym same) c,
+        at ∙ (ap (λ (m : ℕ). slice_get (set a.ways k way.Received) m) same ∙ set_here a.ways k way.UnderWay way.Received c.under_way),
+      )
       | inr apart ↦ inl (at ∙ set_there a.ways k j way.Received apart)
     ]
 
@@ -108,9 +110,11 @@ pub sent_one : (t k : ℕ) (a b : PoolState) → IsOutput t k a → slice_get a.
 sent_one t k a b o out e = λ j.
     let at : slice_get b.ways j ≡ slice_get (set a.ways k way.UnderWay) j = ap (λ (ws : List Way). slice_get ws j) e in
     elim (same_or j k) [
-      | inl same ↦ inr (subst (λ (m : ℕ). IsOutput t m a) (sym same) o,
-          not_out_under_way (slice_get b.ways j)
-          (at ∙ (ap (λ (m : ℕ). slice_get (set a.ways k way.UnderWay) m) same ∙ set_here a.ways k way.Out way.UnderWay out)))
+      | inl same ↦ inr (
+        subst (λ (m : ℕ). IsOutput t m a) (sym same) o,
+        not_out_under_way (slice_get b.ways j)
+            (at ∙ (ap (λ (m : ℕ). slice_get (set a.ways k way.UnderWay) m) same ∙ set_here a.ways k way.Out way.UnderWay out)),
+      )
       | inr apart ↦ inl (at ∙ set_there a.ways k j way.UnderWay apart)
     ]
 
@@ -133,8 +137,10 @@ marked_one t k node a b o c e = subst (λ (x : PoolState). IsMarked t a x) (sym 
   only = refl;
   ways = λ j.
       elim (same_or j k) [
-        | inl same ↦ inr (subst (λ (m : ℕ). IsOutput t m a) (sym same) o,
-            ap (λ (m : ℕ). slice_get (set a.ways k way.Received) m) same ∙ set_here a.ways k way.UnderWay way.Received c.under_way)
+        | inl same ↦ inr (
+          subst (λ (m : ℕ). IsOutput t m a) (sym same) o,
+          ap (λ (m : ℕ). slice_get (set a.ways k way.Received) m) same ∙ set_here a.ways k way.UnderWay way.Received c.under_way,
+        )
         | inr apart ↦ inl (set_there a.ways k j way.Received apart)
       ];
 })

@@ -1,5 +1,5 @@
 -- Lists in which one place is written, or one thing is added, and what a function makes of them.
-use Rattle.std.proofs.Common.{arith, ◌+◌, ◌<◌, ◌≢◌, ◌⊎◌, ℕ, zero, suc, ◌≡◌, List, [], ◌∷◌, ◌++◌, length, map, Some, refl, ap, sym, ◌∙◌, inl, inr}
+use Rattle.std.proofs.Common.{arith, ◌<◌, ◌≢◌, ◌⊎◌, ℕ, zero, suc, ◌≡◌, List, [], ◌∷◌, ◌++◌, length, map, Some, refl, ap, sym, ◌∙◌, inl, inr}
 use Rattle.std.specs.Prelude.{slice_get}
 use Rattle.std.specs.List.{slice_index_or}
 use Rattle.std.proofs.Math.ListN.{set}

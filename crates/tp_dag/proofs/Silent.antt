@@ -1,5 +1,5 @@
 -- If each node has nothing to do, no task runs and nothing from outside is awaited, all tasks are done: by the numbers of the tasks.
-use Rattle.std.proofs.Common.{arith, ◌+◌, ◌<◌, ℕ, zero, suc, ◌≡◌, ◌≢◌, List, [], ◌∷◌, length, Some, refl, ap, sym, ◌∙◌, inl, inr}
+use Rattle.std.proofs.Common.{arith, ◌+◌, ◌<◌, ℕ, zero, suc, ◌≡◌, ◌≢◌, List, [], ◌∷◌, length, Some, refl, inl, inr}
 use Rattle.std.specs.Prelude.{slice_get}
 use Rattle.tp_dag.specs.declared.entry.Entry.{Entry}
 use Rattle.tp_dag.specs.declared.entry.Input.{Input}
@@ -7,7 +7,7 @@ use Rattle.tp_dag.specs.declared.entry.Stage.{Stage}
 use Rattle.tp_dag.specs.declared.entry.Stage.TheVariants as stage
 use Rattle.tp_dag.specs.declared.entry.Way.{Way}
 use Rattle.tp_dag.specs.declared.entry.Way.TheVariants as way
-use Rattle.tp_dag.specs.State.{PoolState, IsIdle, IsMissing, IsComing}
+use Rattle.tp_dag.specs.State.{PoolState, IsIdle, IsMissing}
 use Rattle.tp_dag.specs.Kept.{IsConsistent}
 use Rattle.tp_dag.specs.Laws.{NoneRuns, NoneAwaited, NeverSilent}
 use Rattle.tp_dag.proofs.Lists.{at_below}

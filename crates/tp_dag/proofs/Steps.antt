@@ -1,5 +1,5 @@
 -- What a step, a task and an input more leave of what is known.
-use Rattle.std.proofs.Common.{ℕ, ◌≡◌, ◌≢◌, ◌<◌, ◌≤◌, ◌+◌, ◌⊎◌, List, [], ◌∷◌, ◌++◌, Bool, true, false, length, refl, ap, subst, ◌∙◌, sym, arith, IsTrue, IsFalse, inl, inr, length-append, append_assoc, Option}
+use Rattle.std.proofs.Common.{ℕ, ◌≡◌, ◌<◌, ◌+◌, ◌⊎◌, List, [], ◌∷◌, ◌++◌, Bool, true, false, length, refl, ap, subst, ◌∙◌, sym, arith, IsTrue, IsFalse, inl, inr, length-append, append_assoc}
 use Rattle.std.specs.Prelude.{◌||◌, ◌&&◌, Some, slice_get, nat_lt}
 use Rattle.std.specs.List.{list_all}
 use Rattle.std.proofs.Math.ListN.{set}
@@ -21,7 +21,7 @@ use Rattle.tp_dag.specs.declared.entry.Way.{Way}
 use Rattle.tp_dag.specs.declared.entry.Way.TheVariants as way
 use Rattle.tp_dag.specs.State.{PoolState, SameGraph, AddsOnly, WasDone, WasReceived, IsReceived, is_recv_of, is_delivery, is_sending}
 use Rattle.tp_dag.specs.Kept.{StepFacts, Facts, IsConsistent}
-use Rattle.tp_dag.proofs.Lists.{set_cases, set_apart, last_cases}
+use Rattle.tp_dag.proofs.Lists.{set_cases, last_cases}
 
 pub or_right : (a b : Bool) → IsTrue b → IsTrue (a || b)
 or_right true b h = refl

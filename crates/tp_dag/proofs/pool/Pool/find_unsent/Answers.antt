@@ -1,4 +1,4 @@
-use Rattle.std.proofs.Common.{ℕ, None}
+use Rattle.std.proofs.Common.{None}
 use Rattle.tp_dag.proofs.Keeping.{some_unsent, none_unsent}
 use Rattle.tp_dag.proofs.pool.Pool.find_unsent.Goals as goal
 

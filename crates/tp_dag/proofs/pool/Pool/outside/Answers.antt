@@ -1,6 +1,4 @@
-use Rattle.std.proofs.Common.{◌≡◌, ◌≤◌, ◌<◌, Some, refl, ap, sym, subst, ◌∙◌, arith, inl, inr, IsTrue}
-use Rattle.std.specs.Prelude.{slice_get}
-use Rattle.tp_base.specs.declared.limits.TheConstants.{MAX_STEPS}
+use Rattle.std.proofs.Common.{refl, sym, subst, ◌∙◌, inl, inr, IsTrue}
 use Rattle.tp_dag.specs.State.{PoolState}
 use Rattle.tp_dag.proofs.Reading.{lacks_input}
 use Rattle.tp_dag.proofs.Keeping.{kept_outside, outside_added, full_now, passes_now, refused_by, not_refused, both_true, not_zero, ready_if, lacks_none}
@@ -23,9 +21,12 @@ returns-then-may_begin-clause-checks c =
 pub returns-then-may_begin-clause-exact : goal.returns-then-may_begin-clause-exact
 returns-then-may_begin-clause-exact c =
     let both = both_true c.self.inside.started c.in-Some.found.missing (sym c.may_begin.ensures ∙ c.if-may_begin.true) in
-    inr (refl, subst (λ (a : PoolState). IsTrue a.started) c.self.view_is both.0,
-    lacks_none c.self.inside c.args.self.now c.in-Some.found.node c.args.task c.self.view_is c.known.ensures
-    (ready_if c.self.inside c.args.task c.in-Some.found (sym c.task.ensures ∙ c.in-Some.is) c.in-Fresh.is both.1))
+    inr (
+      refl,
+      subst (λ (a : PoolState). IsTrue a.started) c.self.view_is both.0,
+      lacks_none c.self.inside c.args.self.now c.in-Some.found.node c.args.task c.self.view_is c.known.ensures
+          (ready_if c.self.inside c.args.task c.in-Some.found (sym c.task.ensures ∙ c.in-Some.is) c.in-Fresh.is both.1),
+    )
 
 pub invariant_of-self : goal.invariant_of-self
 invariant_of-self c =

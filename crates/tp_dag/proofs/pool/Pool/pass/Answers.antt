@@ -1,4 +1,4 @@
-use Rattle.std.proofs.Common.{refl, inl, sym, ◌∙◌}
+use Rattle.std.proofs.Common.{inl}
 use Rattle.tp_dag.proofs.Going.{marked_one}
 use Rattle.tp_dag.proofs.Keeping.{output_coming, output_from, output_now}
 use Rattle.tp_dag.proofs.pool.Pool.pass.Goals as goal

@@ -1,4 +1,4 @@
-use Rattle.std.proofs.Common.{refl, sym, ◌∙◌}
+use Rattle.std.proofs.Common.{refl}
 use Rattle.tp_dag.proofs.Keeping.{kept_release, is_released, releases_now, not_refused}
 use Rattle.tp_dag.proofs.pool.Pool.release.Goals as goal
 
