@@ -91,9 +91,11 @@ pub record IsComing (node k : ℕ) (a : PoolState) : Type 0 where
 
 -- Each task of the node that was not dispatched lacks an input.
 abbrev pub HasNoneReady : ℕ → PoolState → Type 0
-HasNoneReady node a = (t : ℕ) (x : Entry) → slice_get a.tasks t ≡ Some x → x.node ≡ node → slice_get a.stages t ≡ Some stage.Fresh → LacksInput t a
+HasNoneReady node a = (t : ℕ) (x : Entry) → slice_get a.tasks t ≡ Some x → x.node ≡ node → slice_get a.stages t ≡ Some stage.Fresh
+    → LacksInput t a
 
--- The node has nothing to do: each of its tasks that was not dispatched lacks an input, and none is under way to it from a task that is done.
+-- The node has nothing to do: each of its tasks that was not dispatched lacks an input, and none is under way to it from a task that
+-- is done.
 pub record IsIdle (node : ℕ) (a : PoolState) : Type 0 where
   pub lacks : HasNoneReady node a
   pub none : (k : ℕ) → IsComing node k a → ⊥

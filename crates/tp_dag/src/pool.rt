@@ -88,7 +88,8 @@ impl Pool {
     /// A pool of the nodes 0 to `nodes` - 1, without a task. It takes no memory.
     pub fn new(alloc: Global, nodes: u32) -> Pool
         requires { (1 ≤ nodes) × (nodes ≤ MAX_NODES) }
-        ensures { result ≡ record { nodes = nodes; started = false; tasks = []; stages = []; inputs = []; ways = []; outside = []; steps = [] } }
+        ensures { result ≡ record {
+            nodes = nodes; started = false; tasks = []; stages = []; inputs = []; ways = []; outside = []; steps = [] } }
     {
         Pool {
             core: Core::new(alloc, nodes),
@@ -254,7 +255,8 @@ impl Pool {
     /// The graph is described: tasks may be dispatched.
     ///
     /// Refused, and the graph is as before: `WrongLife` if the pool was started; `HistoryFull` if the graph would need more than
-    /// 1,048,576 steps, which are 3 a task, 3 an input from another node and 10 a node; `NoMemory`, after which `start` may be called again.
+    /// 1,048,576 steps, which are 3 a task, 3 an input from another node and 10 a node; `NoMemory`, after which `start` may be
+    /// called again.
     pub fn start(&mut self) -> Result<(), Refusal>
         ensures checks { IfSome (first_refusal (start_checks self.old)) (λ r. (result ≡ Err r) × (self.new ≡ self.old)) }
         ensures ok { OnOk result (IsStarted self.old self.new) }
@@ -556,8 +558,8 @@ impl Pool {
     /// Completes a task that a thread of its node ran. An input of another node is sent there as a message. It returns the nodes at which
     /// a thread may find something new, as bits.
     ///
-    /// Refused, and nothing changes: `NoTask`; `WrongLife` if the task was not dispatched, or is done; `NoNode` if its home is another node.
-    /// `NoMemory` if a message found no memory: some were sent, the task is still running, and `done` may be called again.
+    /// Refused, and nothing changes: `NoTask`; `WrongLife` if the task was not dispatched, or is done; `NoNode` if its home is another
+    /// node. `NoMemory` if a message found no memory: some were sent, the task is still running, and `done` may be called again.
     pub fn done(&mut self, node: u32, task: u32) -> Result<u32, Refusal>
         ensures checks { IfSome (first_refusal (done_checks self.old node task)) (λ r. (result ≡ Err r) × (self.new ≡ self.old)) }
         ensures ok { OnOk result (IsCompleted task self.old self.new) }
