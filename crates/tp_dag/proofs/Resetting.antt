@@ -159,6 +159,24 @@ recounted_from {to} {from} {old} {now} e x r is = record {
         ap (λ (n : ℕ). record y { missing = count_where (is_to t) to; unsent = n })
         (let q : count_where (is_from t) from ≡ count_where (is_from t) (from ++ e ∷ []) = omega (arith, p, z) in q)
 
+-- the same, from what the calls that write a task ensure
+pub to_counted : {to from : List Edge} {old now mid : List Task} (e : Edge) → AreRecounted to from old now → e.target < length now
+    → ((x : Task) → slice_get now e.target ≡ Some x → mid ≡ set now e.target (lacking_more x)) → AreRecounted (to ++ e ∷ []) from old mid
+to_counted {to} {from} {old} {now} e r l becomes =
+    let x = at_below now e.target l in
+    subst (λ (ts : List Task). AreRecounted (to ++ e ∷ []) from old ts) (sym (becomes x.0 x.1)) (recounted_to e x.0 r x.1)
+
+pub from_counted : {to from : List Edge} {old now new : List Task} (e : Edge) → AreRecounted to from old now → e.source < length now
+    → ((x : Task) → slice_get now e.source ≡ Some x → new ≡ set now e.source (owing_more x)) → AreRecounted to (from ++ e ∷ []) old new
+from_counted {to} {from} {old} {now} e r l becomes =
+    let x = at_below now e.source l in
+    subst (λ (ts : List Task). AreRecounted to (from ++ e ∷ []) old ts) (sym (becomes x.0 x.1)) (recounted_from e x.0 r x.1)
+
+pub next_counted : {old new : List Task} (edges : List Edge) (k : ℕ) (d : Edge) → k < length edges
+    → AreRecounted (take k edges ++ slice_index_or edges k d ∷ []) (take k edges ++ slice_index_or edges k d ∷ []) old new
+    → AreRecounted (take (k + 1) edges) (take (k + 1) edges) old new
+next_counted {old} {new} edges k d l r = subst (λ (es : List Edge). AreRecounted es es old new) (sym (take_more edges k d l)) r
+
 -- ---- a pass that counts ready tasks
 pub counted_more : {rs : List ℕ} (xs : List Task) (k : ℕ) (x : Task) (d : Task) → AreCounts is_ready (take k xs) rs → k < length xs
     → x ≡ slice_index_or xs k d → x.node < MAX_NODES
