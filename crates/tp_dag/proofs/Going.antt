@@ -199,3 +199,16 @@ done_marked t a b x e = ap (λ (z : PoolState). slice_get z.stages t) x.only ∙
 
 pub home_marked : (node t : ℕ) (a b : PoolState) → IsMarked t a b → IsHome node t a → IsHome node t b
 home_marked node t a b x h = home_after node t a b (ap (λ (z : PoolState). z.tasks) x.only) h
+
+pub falls_coming : (ws ms ns : List Way) (k : ℕ) → ms ≡ ws → ns ≡ set ms k way.Received → slice_get ms k ≡ Some way.UnderWay
+    → count_where is_under_way ns < count_where is_under_way ws
+falls_coming ws ms ns k e f at =
+    let l = fewer_coming ms k at in
+    let a : count_where is_under_way ns ≡ count_where is_under_way (set ms k way.Received) = ap (λ (xs : List Way). count_where is_under_way xs) f in
+    let b : count_where is_under_way ms ≡ count_where is_under_way ws = ap (λ (xs : List Way). count_where is_under_way xs) e in omega (arith, l, a, b)
+
+pub falls_unsent : (ws ns : List Way) (k : ℕ) → ns ≡ set ws k way.UnderWay → slice_get ws k ≡ Some way.Out
+    → count_where is_out ns < count_where is_out ws
+falls_unsent ws ns k f at =
+    let l = fewer_unsent ws k at in
+    let a : count_where is_out ns ≡ count_where is_out (set ws k way.UnderWay) = ap (λ (xs : List Way). count_where is_out xs) f in omega (arith, l, a)

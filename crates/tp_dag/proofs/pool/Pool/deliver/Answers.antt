@@ -10,10 +10,10 @@ use Rattle.std.proofs.Common.{List}
 
 pub returns-clause-adds : goal.returns-clause-adds
 returns-clause-adds c =
-    adds_trans (adds_ways c.args.self.now c.receive.new.self c.arrive.new.self _ c.receive.ensures.adds c.arrive.ensures) c.end_message.ensures.adds
+    adds_trans (adds_ways c.args.self.now c.receive.new.self c.arrive-2.new.self _ c.receive.ensures.adds c.arrive-2.ensures) c.end_message.ensures.adds
 
 pub returns-clause-ways : goal.returns-clause-ways
 returns-clause-ways c =
     delivered_one c.args.node c.args.input c.args.self.now c.end_message.new.self c.requires
-    (c.end_message.ensures.ways ∙ (ap (λ (a : PoolState). a.ways) c.arrive.ensures
+    (c.end_message.ensures.ways ∙ (ap (λ (a : PoolState). a.ways) c.arrive-2.ensures
     ∙ ap (λ (ws : List Way). set ws c.args.input way.Received) c.receive.ensures.ways))

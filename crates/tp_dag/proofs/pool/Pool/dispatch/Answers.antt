@@ -16,13 +16,13 @@ prove-unreachable-requires c =
 
 pub invariant_of-self-2 : goal.invariant_of-self-2
 invariant_of-self-2 c =
-    let ok = c.in_default.ensures.ok in
+    let ok = c.in_default-take_step.ensures.ok in
     kept_dispatch c.self.inside _ c.in-Some.task c.self.invariant (sym c.is_some.ensures ∙ c.if-is_some.false) ok.0 ok.1
     (c.begin-begun.ensures.ok c.if-prove.false) refl refl refl
 
 pub returns-clause-ok : goal.returns-clause-ok
 returns-clause-ok c = λ t e.
-    let ok = c.in_default.ensures.ok in
+    let ok = c.in_default-take_step.ensures.ok in
     subst (λ (u : ℕ). IsDispatched c.args.node u c.args.self.now (state_of (record c.self.inside {
       core = c.take_step.new.core;
       board = c.begin-begun.new.self;

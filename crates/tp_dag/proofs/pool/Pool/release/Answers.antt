@@ -2,8 +2,8 @@ use Rattle.std.proofs.Common.{refl, sym, ◌∙◌}
 use Rattle.tp_dag.proofs.Keeping.{kept_release, is_released, releases_now, not_refused}
 use Rattle.tp_dag.proofs.pool.Pool.release.Goals as goal
 
-pub invariant_of-self : goal.invariant_of-self
-invariant_of-self c = kept_release c.self.inside _ c.args.task c.in-Some-release.last c.self.invariant c.in-Some-release.ensures.ok refl refl refl refl
+pub invariant_of-self-2 : goal.invariant_of-self-2
+invariant_of-self-2 c = kept_release c.self.inside _ c.args.task c.in-Some-release.last c.self.invariant c.in-Some-release.ensures.ok refl refl refl refl
 
 pub returns-clause-checks : goal.returns-clause-checks
 returns-clause-checks c =

@@ -12,4 +12,4 @@ invariant_of-self-2 c =
     let s : Step = Insert (record { 0 = c.args.node }) (record { 0 = c.task_count-number.result }) c.in-Some-new.inputs in
     let of : IsTrue (is_insert_of (length c.self.inside.board.tasks) s) = grind (arith, nat_tests, c.task_count-number.ensures) in
     kept_task c.self.inside _ c.reserve_task.new.self c.args.node c.args.class c.reserve_task.new.self.task_room s c.self.invariant c.known.ensures
-    (sym c.is_some.ensures ∙ c.if-is_some.false) ok.0 refl of ok.1 refl refl refl c.reserve_task.ensures.same c.add_task.ensures.added
+    (sym c.is_some.ensures ∙ c.if-is_some.false) ok.0 refl of ok.1 refl refl refl c.reserve_task.ensures.same c.add_task-2.ensures.added
