@@ -64,8 +64,10 @@ pub delivered_one : (node k : ℕ) (a b : PoolState) → IsComing node k a → b
 delivered_one node k a b c e = λ j.
     let at : slice_get b.ways j ≡ slice_get (set a.ways k way.Received) j = ap (λ (ws : List Way). slice_get ws j) e in
     elim (same_or j k) [
-      | inl same ↦ inr (subst (λ (m : ℕ). IsComing node m a) (sym same) c,
-          at ∙ (ap (λ (m : ℕ). slice_get (set a.ways k way.Received) m) same ∙ set_here a.ways k way.UnderWay way.Received c.under_way))
+      | inl same ↦ inr (
+        subst (λ (m : ℕ). IsComing node m a) (sym same) c,
+        at ∙ (ap (λ (m : ℕ). slice_get (set a.ways k way.Received) m) same ∙ set_here a.ways k way.UnderWay way.Received c.under_way),
+      )
       | inr apart ↦ inl (at ∙ set_there a.ways k j way.Received apart)
     ]
 
@@ -108,9 +110,11 @@ pub sent_one : (t k : ℕ) (a b : PoolState) → IsOutput t k a → slice_get a.
 sent_one t k a b o out e = λ j.
     let at : slice_get b.ways j ≡ slice_get (set a.ways k way.UnderWay) j = ap (λ (ws : List Way). slice_get ws j) e in
     elim (same_or j k) [
-      | inl same ↦ inr (subst (λ (m : ℕ). IsOutput t m a) (sym same) o,
-          not_out_under_way (slice_get b.ways j)
-          (at ∙ (ap (λ (m : ℕ). slice_get (set a.ways k way.UnderWay) m) same ∙ set_here a.ways k way.Out way.UnderWay out)))
+      | inl same ↦ inr (
+        subst (λ (m : ℕ). IsOutput t m a) (sym same) o,
+        not_out_under_way (slice_get b.ways j)
+            (at ∙ (ap (λ (m : ℕ). slice_get (set a.ways k way.UnderWay) m) same ∙ set_here a.ways k way.Out way.UnderWay out)),
+      )
       | inr apart ↦ inl (at ∙ set_there a.ways k j way.UnderWay apart)
     ]
 
@@ -133,8 +137,10 @@ marked_one t k node a b o c e = subst (λ (x : PoolState). IsMarked t a x) (sym 
   only = refl;
   ways = λ j.
       elim (same_or j k) [
-        | inl same ↦ inr (subst (λ (m : ℕ). IsOutput t m a) (sym same) o,
-            ap (λ (m : ℕ). slice_get (set a.ways k way.Received) m) same ∙ set_here a.ways k way.UnderWay way.Received c.under_way)
+        | inl same ↦ inr (
+          subst (λ (m : ℕ). IsOutput t m a) (sym same) o,
+          ap (λ (m : ℕ). slice_get (set a.ways k way.Received) m) same ∙ set_here a.ways k way.UnderWay way.Received c.under_way,
+        )
         | inr apart ↦ inl (set_there a.ways k j way.Received apart)
       ];
 })

@@ -1,6 +1,6 @@
 -- The beginning of the same graph once more.
 use Rattle.std.proofs.Common.{arith, ℕ, ◌+◌, ◌<◌, ◌≤◌, ◌⊎◌, ◌≡◌, ◌≢◌, List, [], ◌∷◌, map, Bool, true, false, length, refl, ap, subst, ◌∙◌, sym, IsTrue, IsFalse, Option, Some, None, Result, inl, inr}
-use Rattle.std.specs.Prelude.{slice_get, ◌||◌, ◌&&◌, ◌==◌, IfSome, OnOk, OnErr, Ok, Err}
+use Rattle.std.specs.Prelude.{slice_get, ◌||◌, ◌&&◌, IfSome, is_some, OnOk, OnErr, Ok, Err}
 use Rattle.std.specs.List.{list_all}
 use Rattle.std.proofs.lemmas.List.{length-map}
 use Rattle.std.proofs.lemmas.Bool.Decides.{nat_tests}
@@ -143,3 +143,7 @@ is_again p core board now k same r b =
       outside = λ t n h. let x = map_got outside_of board.tasks t n h in sym x.2 ∙ r.outside t x.0 x.1;
       steps = b.only;
     })
+
+pub ended_before : (o : Option ℕ) (P : Type 0) → IfSome o (λ w. P) → is_some o ≡ true → P
+ended_before None P h e = cc
+ended_before (Some w) P h e = h

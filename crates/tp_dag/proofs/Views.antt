@@ -125,20 +125,28 @@ consistent n s st b f same = record {
 }
 
 pub lacks_seen : (n : ℕ) (s : Bool) (st : List Step) (b : BoardState) (t : ℕ) → on_board.LacksInput t b → LacksInput t (seen n s b st)
-lacks_seen n s st b t (inl h) = inl (h.0, record {
-  input = input_of h.1;
-  is = map_get input_of b.edges h.0 h.1 h.2;
-  target = h.3;
-  not_received = λ r. h.4 (some_same h.1.way way.Received (sym (map_get way_of b.edges h.0 h.1 h.2) ∙ r));
-})
+lacks_seen n s st b t (inl h) = inl (
+  h.0,
+  record {
+    input = input_of h.1;
+    is = map_get input_of b.edges h.0 h.1 h.2;
+    target = h.3;
+    not_received = λ r. h.4 (some_same h.1.way way.Received (sym (map_get way_of b.edges h.0 h.1 h.2) ∙ r));
+  },
+)
 lacks_seen n s st b t (inr h) = inr (h.0.outside, map_get outside_of b.tasks t h.0 h.1, h.2)
 
 pub lacks_board : (n : ℕ) (s : Bool) (st : List Step) (b : BoardState) (t : ℕ) → LacksInput t (seen n s b st) → on_board.LacksInput t b
 lacks_board n s st b t (inl h) =
     let m = h.1 in
     let e = map_got input_of b.edges h.0 m.input m.is in
-    inl (h.0, e.0, e.1, ap (λ (z : Input). z.target) e.2 ∙ m.target,
-    λ r. m.not_received (map_get way_of b.edges h.0 e.0 e.1 ∙ ap Some r))
+    inl (
+      h.0,
+      e.0,
+      e.1,
+      ap (λ (z : Input). z.target) e.2 ∙ m.target,
+      λ r. m.not_received (map_get way_of b.edges h.0 e.0 e.1 ∙ ap Some r),
+    )
 lacks_board n s st b t (inr h) =
     let x = map_got outside_of b.tasks t h.0 h.1 in
     let some = h.2 in

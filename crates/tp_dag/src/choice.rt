@@ -131,9 +131,5 @@ pub(crate) fn output_of(board: &Board, task: u32, input: u32, way: Way) -> Optio
 
 /// The node as a bit, if it is to be set.
 pub(crate) fn node_bit(node: u32, is_set: bool) -> u32 {
-    if is_set && node < 8 {
-        1u32 << node
-    } else {
-        0
-    }
+    if is_set && node < 8 { 1u32 << node } else { 0 }
 }

@@ -213,7 +213,7 @@ impl Pool {
         ensures checks { IfSome (first_refusal (outside_checks self.old task)) (λ r. result ≡ Err r) }
         ensures ok { OnOk result (IsOutsideAdded task self.old self.new) }
         ensures err { OnErr result (self.new ≡ self.old) }
-        ensures exact { IfErr result (λ r. (first_refusal (outside_checks self.old task) ≡ Some r) 
+        ensures exact { IfErr result (λ r. (first_refusal (outside_checks self.old task) ≡ Some r)
             ⊎ ((r ≡ Refusal.WrongLife) × IsTrue self.old.started × (LacksInput task self.old → ⊥))) }
     {
         let Some(found) = self.board.task(task) else {

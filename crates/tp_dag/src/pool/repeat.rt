@@ -2,6 +2,7 @@
 ghost use Rattle.std.specs.Prelude.{◌≡◌, ◌≤◌, ℕ, [], length, IfOk, OnOk, OnErr};
 ghost use Rattle.tp_base.specs.declared.limits.TheConstants.{MAX_NODES, MAX_STEPS};
 ghost use Rattle.tp_dag.specs.Again.{IsAgain, IsBeginning};
+ghost use Rattle.tp_dag.specs.State.{IsFinished};
 
 use crate::board::Board;
 use crate::entry::Task;
@@ -58,6 +59,7 @@ impl Pool {
     ///
     /// Refused, and nothing changes: `WrongLife` if `next` has not returned `Finished`; `NoMemory`.
     pub fn again(&mut self) -> Result<(), Refusal>
+        ensures finished { OnOk result (IsFinished self.old) }
         ensures ok { OnOk result (IsAgain self.old self.new) }
         ensures err { OnErr result (self.new ≡ self.old) }
     {

@@ -1,6 +1,13 @@
-use Rattle.std.proofs.Common.{refl}
-use Rattle.tp_dag.proofs.Repeating.{kept_again, is_again}
+use Rattle.std.proofs.Common.{refl, ap, not, subst, ◌∙◌}
+use Rattle.tp_dag.proofs.Repeating.{kept_again, is_again, ended_before}
+use Rattle.tp_dag.specs.State.{PoolState, IsFinished}
+use Rattle.tp_dag.specs.Kept.{state_of}
 use Rattle.tp_dag.proofs.pool.Pool.again.Goals as goal
+
+pub returns-clause-finished : goal.returns-clause-finished
+returns-clause-finished c =
+    subst (λ (a : PoolState). IsFinished a) c.self.view_is
+    (ended_before c.self.inside.ended_with (IsFinished (state_of c.self.inside)) c.self.invariant.ended_with (c.is_none.ensures ∙ ap not c.if-is_none.false))
 
 pub invariant_of-self : goal.invariant_of-self
 invariant_of-self c = kept_again c.self.inside _ c.self.invariant c.reset.ensures c.in_ok-core.ensures refl refl

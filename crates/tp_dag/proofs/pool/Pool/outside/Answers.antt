@@ -23,9 +23,12 @@ returns-then-may_begin-clause-checks c =
 pub returns-then-may_begin-clause-exact : goal.returns-then-may_begin-clause-exact
 returns-then-may_begin-clause-exact c =
     let both = both_true c.self.inside.started c.in-Some.found.missing (sym c.may_begin.ensures ∙ c.if-may_begin.true) in
-    inr (refl, subst (λ (a : PoolState). IsTrue a.started) c.self.view_is both.0,
-    lacks_none c.self.inside c.args.self.now c.in-Some.found.node c.args.task c.self.view_is c.known.ensures
-    (ready_if c.self.inside c.args.task c.in-Some.found (sym c.task.ensures ∙ c.in-Some.is) c.in-Fresh.is both.1))
+    inr (
+      refl,
+      subst (λ (a : PoolState). IsTrue a.started) c.self.view_is both.0,
+      lacks_none c.self.inside c.args.self.now c.in-Some.found.node c.args.task c.self.view_is c.known.ensures
+          (ready_if c.self.inside c.args.task c.in-Some.found (sym c.task.ensures ∙ c.in-Some.is) c.in-Fresh.is both.1),
+    )
 
 pub invariant_of-self : goal.invariant_of-self
 invariant_of-self c =

@@ -15,7 +15,8 @@ returns-in_err-deliver-clause-adds c =
 
 pub loop-input-preserved : goal.loop-input-preserved
 loop-input-preserved c =
-    let adds = subst (λ (a : PoolState). AddsOnly is_delivery c.args.self.now a) (sym c.find_message.ensures.same) c.loop-input.invariant.0 in
-    (adds_trans adds c.deliver.ensures.adds,
-    delivered_trans c.args.node c.args.self.now c.find_message.new.self c.deliver.new.self adds
-    (subst (λ (a : PoolState). AreDelivered c.args.node c.args.self.now a) (sym c.find_message.ensures.same) c.loop-input.invariant.1) c.deliver.ensures.ways)
+    let adds = subst (λ (a : PoolState). AddsOnly is_delivery c.args.self.now a) (sym c.find_message.ensures.same) c.loop-input.invariant.0 in (
+      adds_trans adds c.deliver.ensures.adds,
+      delivered_trans c.args.node c.args.self.now c.find_message.new.self c.deliver.new.self adds
+          (subst (λ (a : PoolState). AreDelivered c.args.node c.args.self.now a) (sym c.find_message.ensures.same) c.loop-input.invariant.1) c.deliver.ensures.ways,
+    )
