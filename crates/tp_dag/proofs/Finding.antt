@@ -1,11 +1,11 @@
 -- What the tests of a task and of an edge mean, and what a scan that finds one, or none, tells of a board.
-use Rattle.std.proofs.Common.{arith, ◌+◌, ◌<◌, ◌≤◌, ◌⊎◌, ℕ, ◌≡◌, ◌≢◌, List, length, Bool, true, false, IsTrue, IsFalse, Option, Some, None, refl, ap, subst, sym, ◌∙◌, inl, inr}
+use Rattle.std.proofs.Common.{arith, ◌<◌, ◌≤◌, ◌⊎◌, ℕ, ◌≡◌, ◌≢◌, List, length, Bool, true, false, IsTrue, IsFalse, Option, Some, None, refl, ap, subst, sym, ◌∙◌, inl, inr}
 use Rattle.std.specs.Prelude.{slice_get, ◌==◌, ◌&&◌, not}
 use Rattle.std.specs.List.{slice_index_or}
 use Rattle.std.proofs.lemmas.Bool.{and_parts}
 use Rattle.std.proofs.lemmas.Bool.Decides.{nat_tests}
 use Rattle.std.proofs.lemmas.List.{get_or_past}
-use Rattle.tp_base.specs.declared.limits.TheConstants.{MAX_NODES, MAX_STEPS}
+use Rattle.tp_base.specs.declared.limits.TheConstants.{MAX_NODES}
 use Rattle.tp_dag.specs.declared.entry.Task.{Task}
 use Rattle.tp_dag.specs.declared.entry.Edge.{Edge}
 use Rattle.tp_dag.specs.declared.entry.Stage.{Stage}
@@ -13,12 +13,11 @@ use Rattle.tp_dag.specs.declared.entry.Stage.TheVariants as stage
 use Rattle.tp_dag.specs.declared.entry.Way.{Way}
 use Rattle.tp_dag.specs.declared.entry.Way.TheVariants as way
 use Rattle.tp_dag.specs.declared.board.Board.TheInside.{Inside}
-use Rattle.tp_dag.specs.Board.{BoardState, LacksInput, IsReady, HasNoneReady, IsComing, MayArrive, IsUnderWayTo, IsUnsent}
-use Rattle.tp_dag.specs.Counts.{count_where, is_fresh, is_out, is_received, is_under_way, may_be, is_done, arrives, is_missing, is_unsent, is_coming, is_ready, BoardFacts, AreCounts, board_of}
-use Rattle.tp_dag.proofs.Counting.{one, find_one, at_below, same_or, count_some, one_one}
+use Rattle.tp_dag.specs.Board.{BoardState, LacksInput, IsReady, HasNoneReady, IsComing, IsUnderWayTo, IsUnsent}
+use Rattle.tp_dag.specs.Counts.{is_fresh, is_out, is_received, is_under_way, may_be, is_done, arrives, is_missing, is_unsent, is_coming, is_ready, BoardFacts, AreCounts, board_of}
+use Rattle.tp_dag.proofs.Counting.{find_one, at_below, count_some, one_one}
 use Rattle.tp_dag.proofs.Boards.{some_same}
-use Rattle.tp_dag.proofs.Numbers.{one_here}
-use Rattle.tp_dag.proofs.Reading.{none_ready_if, unsent_from_test, some_unsent, all_sent}
+use Rattle.tp_dag.proofs.Reading.{none_ready_if, unsent_from_test, all_sent}
 
 -- ---- what tests mean
 fresh_stage : (s : Stage) → IsTrue (is_fresh s) → s ≡ stage.Fresh

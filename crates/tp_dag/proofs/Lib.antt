@@ -14,3 +14,4 @@ pub mod Views
 pub mod Going
 pub mod Keeping
 pub mod Resetting
+pub mod Repeating

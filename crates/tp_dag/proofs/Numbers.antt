@@ -1,15 +1,15 @@
 -- How the numbers of ready tasks and of edges under way go on when a task or an edge is written.
-use Rattle.std.proofs.Common.{arith, ◌+◌, ◌-◌, ◌<◌, ◌≤◌, ℕ, ◌≡◌, ◌≢◌, List, [], ◌∷◌, ◌++◌, Bool, true, false, IsTrue, IsFalse, Some, refl, ap, subst, sym, ◌∙◌}
-use Rattle.std.specs.Prelude.{slice_get, ◌==◌, ◌&&◌, not, if◌then◌else◌}
+use Rattle.std.proofs.Common.{arith, ◌+◌, ◌-◌, ◌<◌, ◌≤◌, ℕ, ◌≡◌, ◌≢◌, List, Bool, true, false, IsTrue, Some, refl, ap, sym, ◌∙◌}
+use Rattle.std.specs.Prelude.{slice_get, ◌==◌, ◌&&◌, if◌then◌else◌}
 use Rattle.std.specs.List.{slice_index_or}
 use Rattle.std.proofs.Math.ListN.{set}
 use Rattle.std.proofs.lemmas.Bool.Decides.{nat_tests}
-use Rattle.tp_base.specs.declared.limits.TheConstants.{MAX_NODES, MAX_STEPS}
+use Rattle.tp_base.specs.declared.limits.TheConstants.{MAX_NODES}
 use Rattle.tp_dag.specs.declared.entry.Task.{Task}
 use Rattle.tp_dag.specs.declared.entry.Edge.{Edge}
 use Rattle.tp_dag.specs.declared.entry.Way.{Way}
 use Rattle.tp_dag.specs.declared.entry.Way.TheVariants as way
-use Rattle.tp_dag.specs.Counts.{is_fresh, is_out, is_received, is_under_way, is_coming, is_ready, AreCounts}
+use Rattle.tp_dag.specs.Counts.{is_fresh, is_under_way, is_coming, is_ready, AreCounts}
 use Rattle.tp_dag.proofs.Counting.{one, counts_some, counts_set, counts_same}
 use Rattle.tp_dag.proofs.Boards.{moved}
 

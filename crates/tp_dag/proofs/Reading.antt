@@ -1,5 +1,5 @@
 -- What the counts of a board tell of its edges, and how many there may be.
-use Rattle.std.proofs.Common.{arith, ◌+◌, ◌-◌, ◌*◌, ◌<◌, ◌≤◌, ◌⊎◌, ℕ, ◌≡◌, ◌≢◌, List, [], ◌∷◌, length, Bool, true, false, IsTrue, IsFalse, Some, refl, ap, subst, sym, ◌∙◌, inl, inr}
+use Rattle.std.proofs.Common.{arith, ◌*◌, ◌<◌, ◌≤◌, ◌⊎◌, ℕ, ◌≡◌, ◌≢◌, List, IsTrue, IsFalse, Some, refl, subst, sym, inl, inr}
 use Rattle.std.specs.Prelude.{slice_get, ◌==◌, ◌&&◌, not}
 use Rattle.std.specs.List.{slice_index_or}
 use Rattle.std.proofs.lemmas.Bool.{and_parts}
@@ -7,15 +7,12 @@ use Rattle.std.proofs.lemmas.Bool.Decides.{nat_tests}
 use Rattle.tp_base.specs.declared.limits.TheConstants.{MAX_NODES, MAX_STEPS}
 use Rattle.tp_dag.specs.declared.entry.Task.{Task}
 use Rattle.tp_dag.specs.declared.entry.Edge.{Edge}
-use Rattle.tp_dag.specs.declared.entry.Stage.{Stage}
 use Rattle.tp_dag.specs.declared.entry.Stage.TheVariants as stage
 use Rattle.tp_dag.specs.declared.entry.Way.{Way}
 use Rattle.tp_dag.specs.declared.entry.Way.TheVariants as way
-use Rattle.tp_dag.specs.declared.board.Board.TheInside.{Inside}
 use Rattle.tp_dag.specs.Board.{BoardState, LacksInput, HasNoneReady, HasNoneComing, IsUnsent}
-use Rattle.tp_dag.specs.Counts.{count_where, is_fresh, is_out, is_received, is_under_way, may_be, is_missing, is_unsent, is_coming, is_ready, IsCounted, BoardFacts, AreCounts, board_of}
-use Rattle.tp_dag.proofs.Counting.{one, one_zero, count_none, count_few, find_one, at_below, same_or, counts_none}
-use Rattle.tp_dag.proofs.Boards.{some_same}
+use Rattle.tp_dag.specs.Counts.{is_out, is_received, is_missing, is_unsent, is_coming, is_ready, BoardFacts, AreCounts}
+use Rattle.tp_dag.proofs.Counting.{one, count_none, count_few, find_one, at_below, same_or, counts_none}
 
 -- ---- bounds
 pub home_few : {a : BoardState} (t : ℕ) (x : Task) → BoardFacts a → slice_get a.tasks t ≡ Some x → x.node < MAX_NODES

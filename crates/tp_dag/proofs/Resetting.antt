@@ -1,5 +1,5 @@
 -- Passes that write each place of a list, and that count edges at their tasks; and the board that they leave.
-use Rattle.std.proofs.Common.{arith, ◌+◌, ◌-◌, ◌<◌, ◌≤◌, ◌⊎◌, ℕ, zero, suc, ◌≡◌, ◌≢◌, List, [], ◌∷◌, ◌++◌, map, replicate, length, length-set, Bool, true, false, IsTrue, IsFalse, Some, refl, ap, subst, sym, ◌∙◌, inl, inr}
+use Rattle.std.proofs.Common.{arith, ◌+◌, ◌<◌, ◌≤◌, ℕ, zero, suc, ◌≡◌, ◌≢◌, List, [], ◌∷◌, ◌++◌, map, replicate, length, length-set, Bool, true, false, IsTrue, Some, refl, ap, subst, sym, ◌∙◌, inl, inr}
 use Rattle.std.specs.Prelude.{slice_get, ◌==◌, ◌&&◌, not, take, if◌then◌else◌, vec_capacity}
 use Rattle.std.specs.List.{slice_index_or}
 use Rattle.std.proofs.Math.ListN.{set}
@@ -15,9 +15,9 @@ use Rattle.tp_dag.specs.declared.entry.Way.{Way}
 use Rattle.tp_dag.specs.declared.entry.Way.TheVariants as way
 use Rattle.tp_dag.specs.declared.board.Board.TheInside.{Inside}
 use Rattle.tp_dag.specs.Board.{BoardState, described, not_passed_on, IsReset}
-use Rattle.tp_dag.specs.Counts.{count_where, is_fresh, is_out, is_received, is_under_way, may_be, is_missing, is_unsent, is_coming, is_ready, IsPlaced, IsCounted, BoardFacts, AreCounts, board_of}
+use Rattle.tp_dag.specs.Counts.{count_where, is_out, is_received, is_under_way, may_be, is_missing, is_unsent, is_coming, is_ready, IsPlaced, IsCounted, BoardFacts, AreCounts, board_of}
 use Rattle.tp_dag.specs.Resets.{is_to, is_from, uncounted, recounted, AreRecounted, AreWritten}
-use Rattle.tp_dag.proofs.Counting.{one, one_zero, zero_one, count_few, count_zero, count_next, count_push, at_below, same_or, counts_push, counts_few}
+use Rattle.tp_dag.proofs.Counting.{one, count_few, count_zero, count_next, count_push, at_below, same_or, counts_push, counts_few}
 use Rattle.tp_dag.proofs.Boards.{some_same, lacking_more, owing_more}
 use Rattle.tp_dag.proofs.Numbers.{one_if, one_else, may_begin}
 
@@ -158,6 +158,24 @@ recounted_from {to} {from} {old} {now} e x r is = record {
         let p = count_push (is_from t) from e in let z = one_apart e.source t o in
         ap (λ (n : ℕ). record y { missing = count_where (is_to t) to; unsent = n })
         (let q : count_where (is_from t) from ≡ count_where (is_from t) (from ++ e ∷ []) = omega (arith, p, z) in q)
+
+-- the same, from what the calls that write a task ensure
+pub to_counted : {to from : List Edge} {old now mid : List Task} (e : Edge) → AreRecounted to from old now → e.target < length now
+    → ((x : Task) → slice_get now e.target ≡ Some x → mid ≡ set now e.target (lacking_more x)) → AreRecounted (to ++ e ∷ []) from old mid
+to_counted {to} {from} {old} {now} e r l becomes =
+    let x = at_below now e.target l in
+    subst (λ (ts : List Task). AreRecounted (to ++ e ∷ []) from old ts) (sym (becomes x.0 x.1)) (recounted_to e x.0 r x.1)
+
+pub from_counted : {to from : List Edge} {old now new : List Task} (e : Edge) → AreRecounted to from old now → e.source < length now
+    → ((x : Task) → slice_get now e.source ≡ Some x → new ≡ set now e.source (owing_more x)) → AreRecounted to (from ++ e ∷ []) old new
+from_counted {to} {from} {old} {now} e r l becomes =
+    let x = at_below now e.source l in
+    subst (λ (ts : List Task). AreRecounted to (from ++ e ∷ []) old ts) (sym (becomes x.0 x.1)) (recounted_from e x.0 r x.1)
+
+pub next_counted : {old new : List Task} (edges : List Edge) (k : ℕ) (d : Edge) → k < length edges
+    → AreRecounted (take k edges ++ slice_index_or edges k d ∷ []) (take k edges ++ slice_index_or edges k d ∷ []) old new
+    → AreRecounted (take (k + 1) edges) (take (k + 1) edges) old new
+next_counted {old} {new} edges k d l r = subst (λ (es : List Edge). AreRecounted es es old new) (sym (take_more edges k d l)) r
 
 -- ---- a pass that counts ready tasks
 pub counted_more : {rs : List ℕ} (xs : List Task) (k : ℕ) (x : Task) (d : Task) → AreCounts is_ready (take k xs) rs → k < length xs

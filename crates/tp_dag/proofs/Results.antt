@@ -1,19 +1,14 @@
 -- What each call of a board ensures, from what its body found; and what its refusals mean.
-use Rattle.std.proofs.Common.{arith, ◌+◌, ◌-◌, ◌<◌, ◌≤◌, ℕ, ◌≡◌, ◌≢◌, List, [], ◌∷◌, ◌++◌, length, Bool, true, false, IsTrue, IsFalse, Some, refl, ap, subst, sym, ◌∙◌}
-use Rattle.std.specs.Prelude.{slice_get, ◌==◌, ◌&&◌, vec_capacity}
+use Rattle.std.proofs.Common.{arith, ℕ, ◌≡◌, ◌≢◌, List, [], ◌∷◌, ◌++◌, Some, refl, ap, subst, sym, ◌∙◌}
+use Rattle.std.specs.Prelude.{slice_get, ◌==◌, vec_capacity}
 use Rattle.std.proofs.Math.ListN.{set}
-use Rattle.std.proofs.lemmas.Bool.{and_parts}
-use Rattle.std.proofs.lemmas.Bool.Decides.{nat_tests}
-use Rattle.tp_base.specs.declared.limits.TheConstants.{MAX_NODES, MAX_STEPS}
 use Rattle.tp_dag.specs.declared.entry.Task.{Task}
 use Rattle.tp_dag.specs.declared.entry.Edge.{Edge}
-use Rattle.tp_dag.specs.declared.entry.Stage.{Stage}
 use Rattle.tp_dag.specs.declared.entry.Stage.TheVariants as stage
-use Rattle.tp_dag.specs.declared.entry.Way.{Way}
 use Rattle.tp_dag.specs.declared.entry.Way.TheVariants as way
 use Rattle.tp_dag.specs.declared.board.Board.TheInside.{Inside}
 use Rattle.tp_dag.specs.Board.{BoardState, LacksInput, IsUnsent, with_open_edge, HasOutside, HasReleased, HasBegun, HasLeft, HasArrived, HasFinished}
-use Rattle.tp_dag.specs.Counts.{is_fresh, is_out, is_received, is_under_way, may_be, is_ready, BoardFacts, board_of}
+use Rattle.tp_dag.specs.Counts.{BoardFacts, board_of}
 use Rattle.tp_dag.proofs.Boards.{moved, some_same, out_edge, lacking_more, owing_more}
 use Rattle.tp_dag.proofs.Reading.{all_received, all_sent, lacks_input, some_unsent}
 use Rattle.tp_dag.proofs.Calls.{running, done, waiting_more, waiting_less, owing_less, lacking_less}

@@ -1,8 +1,7 @@
 -- What contracts see of the board of a pool: tasks and edges, what each call does to them, and what a node has to do.
-use Rattle.std.specs.Prelude.{ℕ, ◌+◌, ◌-◌, ◌<◌, ◌≤◌, ◌==◌, ◌&&◌, ◌⊎◌, ◌≡◌, ◌≢◌, List, [], ◌∷◌, ◌++◌, map, Bool, true, false, not, length, slice_get, slice_set, Some, if◌then◌else◌}
+use Rattle.std.specs.Prelude.{ℕ, ◌+◌, ◌-◌, ◌<◌, ◌≤◌, ◌==◌, ◌⊎◌, ◌≡◌, ◌≢◌, List, [], ◌∷◌, ◌++◌, map, Bool, length, slice_get, slice_set, Some}
 use Rattle.tp_dag.specs.declared.entry.Task.{Task}
 use Rattle.tp_dag.specs.declared.entry.Edge.{Edge}
-use Rattle.tp_dag.specs.declared.entry.Stage.{Stage}
 use Rattle.tp_dag.specs.declared.entry.Stage.TheVariants as stage
 use Rattle.tp_dag.specs.declared.entry.Way.{Way}
 use Rattle.tp_dag.specs.declared.entry.Way.TheVariants as way

@@ -132,6 +132,13 @@ impl Hints {
         Some(newest)
     }
 
+    /// No task is known to be ready, and no message to be under way. The outputs of each task stay.
+    pub(crate) fn forget(&mut self) {
+        self.newest_ready = [NONE; 32];
+        self.newest_message = [NONE; 8];
+        self.open_message = [NONE; 8];
+    }
+
     /// The message that a node received and has not ended.
     #[inline]
     pub(crate) fn open_message(&self, node: u32) -> Option<u32> {

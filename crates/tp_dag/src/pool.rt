@@ -25,6 +25,8 @@ use std::marker::Model;
 use tp_base::{Generation, Inputs, MAX_STEPS, MessageId, NodeId, Refusal, Step, TaskId};
 use tp_core::Core;
 
+mod repeat;
+
 /// What a thread of a node is to do next.
 #[derive(Clone, Copy, Debug, PartialEq, Eq)]
 pub enum Next {
@@ -47,6 +49,7 @@ pub struct Pool {
     // the wave that detected termination
     ended_with: Option<u32>,
     hints: Hints,
+    alloc: Global,
 }
 
 impl Model for Pool {
@@ -98,6 +101,7 @@ impl Pool {
             board: Board::new(alloc, nodes),
             ended_with: None,
             hints: Hints::new(alloc),
+            alloc,
         }
     }
 

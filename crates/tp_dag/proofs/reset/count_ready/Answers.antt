@@ -1,11 +1,8 @@
-use Rattle.std.proofs.Common.{◌≡◌, ◌<◌, ◌≤◌, ◌+◌, Bool, List, ℕ, Some, arith, refl, sym, subst, ◌∙◌}
-use Rattle.std.specs.Prelude.{slice_get, slice_set, take, if◌then◌else◌}
+use Rattle.std.proofs.Common.{arith, refl}
 use Rattle.std.specs.List.{slice_index_or}
 use Rattle.std.proofs.lemmas.Option.{slice_get-get_or}
-use Rattle.tp_base.specs.declared.limits.TheConstants.{MAX_STEPS}
 use Rattle.tp_dag.specs.declared.entry.Task.{Task}
 use Rattle.tp_dag.specs.declared.entry.Stage.TheVariants as stage
-use Rattle.tp_dag.specs.Counts.{AreCounts, is_ready}
 use Rattle.tp_dag.proofs.Resetting.{counted_more, count_fits}
 use Rattle.tp_dag.proofs.reset.count_ready.Goals as goal
 

@@ -1,15 +1,6 @@
-use Rattle.std.proofs.Common.{◌≡◌, ◌≢◌, ◌+◌, ◌*◌, ◌<◌, ◌≤◌, Some, IsTrue, length, arith, refl, sym, ap, subst, ◌∙◌}
-use Rattle.std.specs.Prelude.{slice_get, vec_len}
-use Rattle.std.specs.List.{slice_index_or}
-use Rattle.std.proofs.lemmas.Grind.{common_steps}
-use Rattle.std.proofs.lemmas.Bool.Decides.{nat_tests}
-use Rattle.std.proofs.lemmas.Option.{gets}
-use Rattle.tp_base.specs.declared.limits.TheConstants.{MAX_NODES, MAX_STEPS}
-use Rattle.tp_dag.specs.declared.entry.Task.{Task}
-use Rattle.tp_dag.specs.declared.entry.Edge.{Edge}
-use Rattle.tp_dag.specs.declared.entry.Stage.TheVariants as stage
+use Rattle.std.proofs.Common.{◌<◌, length, arith, refl, sym, subst}
+use Rattle.tp_base.specs.declared.limits.TheConstants.{MAX_STEPS}
 use Rattle.tp_dag.specs.Board.{BoardState}
-use Rattle.tp_dag.proofs.Lists.{at_index}
 use Rattle.tp_dag.proofs.Counting.{counts_few}
 use Rattle.tp_dag.proofs.Calls.{same_facts, added_task_facts, added_task_ready}
 use Rattle.tp_dag.proofs.board.Board.add_task.Goals as goal

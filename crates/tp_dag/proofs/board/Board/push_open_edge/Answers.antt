@@ -1,17 +1,11 @@
-use Rattle.std.proofs.Common.{◌≡◌, ◌≢◌, ◌+◌, ◌*◌, ◌<◌, ◌≤◌, Some, IsTrue, length, arith, refl, sym, ap, subst, ◌∙◌}
-use Rattle.std.specs.Prelude.{slice_get, vec_len}
-use Rattle.std.specs.List.{slice_index_or}
-use Rattle.std.proofs.lemmas.Grind.{common_steps}
-use Rattle.std.proofs.lemmas.Bool.Decides.{nat_tests}
-use Rattle.std.proofs.lemmas.Option.{gets}
-use Rattle.tp_base.specs.declared.limits.TheConstants.{MAX_NODES, MAX_STEPS}
+use Rattle.std.proofs.Common.{◌≡◌, ◌+◌, ◌<◌, Some, length, arith, refl, sym, ap, subst}
+use Rattle.std.specs.Prelude.{slice_get}
+use Rattle.tp_base.specs.declared.limits.TheConstants.{MAX_STEPS}
 use Rattle.tp_dag.specs.declared.entry.Task.{Task}
-use Rattle.tp_dag.specs.declared.entry.Edge.{Edge}
 use Rattle.tp_dag.specs.declared.entry.Stage.TheVariants as stage
 use Rattle.tp_dag.specs.Board.{BoardState}
 use Rattle.tp_dag.proofs.Lists.{at_index}
-use Rattle.std.specs.Prelude.{vec_capacity}
-use Rattle.tp_dag.proofs.Boards.{facts_open, lacking_more, owing_more}
+use Rattle.tp_dag.proofs.Boards.{facts_open}
 use Rattle.tp_dag.proofs.Reading.{home_few, missing_few, unsent_few}
 use Rattle.tp_dag.specs.Counts.{is_fresh}
 use Rattle.tp_dag.proofs.Calls.{same_facts, outside_some, open_ready, open_coming, may_wait}
