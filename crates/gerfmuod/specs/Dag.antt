@@ -12,6 +12,7 @@ use Rattle.tp_wave.specs.Steps.{count}
 use Rattle.tp_core.specs.NeverEarly.{is_begin_of}
 use Rattle.tp_dag.specs.State.{PoolState, AddsOnly, SameGraph, IsTaskAdded, IsInputAdded, IsStarted, IsOutsideAdded, IsReleased, IsDispatched, IsFinished, IsCompleted}
 use Rattle.tp_dag.specs.State.{IsIdle, AreDelivered, AreSent, is_readying, is_delivery, is_sending}
+use Rattle.tp_dag.specs.Again.{IsAgain}
 use Rattle.tp_dag.specs.State.{task_checks, input_checks, start_checks, outside_checks, release_checks, next_checks, done_checks}
 use Rattle.tp_dag.specs.declared.Next.{Next}
 use Rattle.tp_dag.specs.declared.Next.TheVariants.{Run, Wait, Finished}
@@ -110,6 +111,12 @@ pub record IsDone (old : SlotState) (node task : ℕ) (a : DagAnswer) (new : Slo
   pub refused : 1 ≤ a.refused → AddsOnly is_sending old.pool new.pool
   pub ways : AreSent task old.pool new.pool
   pub begun : (t : ℕ) → count (is_begin_of t) new.pool.steps ≡ count (is_begin_of t) old.pool.steps
+
+pub record IsAgainCall (old : SlotState) (a : DagAnswer) (new : SlotState) : Type 0 where
+  pub checked : RefusesBy (checks old []) old a new
+  pub finished : a.refused ≡ 0 → IsFinished old.pool
+  pub again : a.refused ≡ 0 → IsAgain old.pool new.pool
+  pub refused : 1 ≤ a.refused → new ≡ old
 
 abbrev pub step_answer : Option Step → DagStep
 step_answer (Some (Insert i t k)) = record { kind = 0; first = i.0; second = t.0; third = k.count }

@@ -4,11 +4,11 @@ ghost use Rattle.std.specs.Prelude.{◌≡◌};
 ghost use Rattle.std.specs.Borrow.{full_share, sem};
 ghost use Rattle.std.specs.Ptr.{lies_at, room_at};
 ghost use Rattle.gerfmuod.specs.contracts.dag.slot.PoolSlot.{the_row as slot_row};
-ghost use Rattle.gerfmuod.specs.Dag.{SlotState, opened, opening, IsTask, IsInput, IsStart, IsOutside, IsRelease, IsNext, IsDone, IsStep, IsClosed};
+ghost use Rattle.gerfmuod.specs.Dag.{SlotState, opened, opening, IsTask, IsInput, IsStart, IsOutside, IsRelease, IsNext, IsDone, IsAgainCall, IsStep, IsClosed};
 
 use crate::dag::answer::{DagAnswer, DagStep};
 use crate::dag::calls::{
-    close, done, input, made, next, opening, outside, release, start, step, task,
+    again, close, done, input, made, next, opening, outside, release, start, step, task,
 };
 use crate::dag::slot::PoolSlot;
 use std::alloc::Global;
@@ -97,6 +97,16 @@ pub unsafe extern "C" fn gerfmuod_dag_done(pool: *mut u8, node: u32, task: u32) 
     ensures* { ∃ₛ (λ (new : SlotState). sem 𝓛 (lies_at slot_row full_share pool new) ∗ ⌜ IsDone old node task result new ⌝) }
 {
     done(&mut *(pool as *mut PoolSlot), node, task)
+}
+
+/// Starts the same graph once more, after `gerfmuod_dag_next` returned the end. Inputs from outside have to be declared again.
+#[unsafe(no_mangle)]
+pub unsafe extern "C" fn gerfmuod_dag_again(pool: *mut u8) -> DagAnswer
+    ghost old: { SlotState }
+    requires* { sem 𝓛 (lies_at slot_row full_share pool old) }
+    ensures* { ∃ₛ (λ (new : SlotState). sem 𝓛 (lies_at slot_row full_share pool new) ∗ ⌜ IsAgainCall old result new ⌝) }
+{
+    again(&mut *(pool as *mut PoolSlot))
 }
 
 /// The step that was taken as number `k`, the oldest being 0. Its kind is 255 if there is none, or the pool is not open.

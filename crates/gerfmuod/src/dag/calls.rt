@@ -1,6 +1,6 @@
 //! The calls on a pool, as C gets their results.
 ghost use Rattle.std.specs.Prelude.{◌≡◌, ◌≤◌, Option, Result, ℕ};
-ghost use Rattle.gerfmuod.specs.Dag.{can_be, opened, opening, IsTask, IsInput, IsStart, IsOutside, IsRelease, IsNext, IsDone, IsStep, IsClosed};
+ghost use Rattle.gerfmuod.specs.Dag.{can_be, opened, opening, IsTask, IsInput, IsStart, IsOutside, IsRelease, IsNext, IsDone, IsAgainCall, IsStep, IsClosed};
 ghost use Rattle.gerfmuod.specs.Dag.{limit_of, plain, refusal_answer, next_answer, step_answer};
 
 use super::answer::{DagAnswer, DagStep};
@@ -175,6 +175,18 @@ pub(crate) fn done(slot: &mut PoolSlot, node: u32, task: u32) -> DagAnswer
     }
     match slot.pool.done(node, task) {
         Ok(news) => with_news(news),
+        Err(refusal) => refused(refusal),
+    }
+}
+
+pub(crate) fn again(slot: &mut PoolSlot) -> DagAnswer
+    ensures { IsAgainCall slot.old result slot.new }
+{
+    if !slot.is_open() {
+        return refused(Refusal::NoPool);
+    }
+    match slot.pool.again() {
+        Ok(()) => PLAIN,
         Err(refusal) => refused(refusal),
     }
 }
