@@ -7,13 +7,14 @@ use Rattle.tp_base.specs.Checks.{Check, first_refusal}
 use Rattle.tp_base.specs.Refusals.{number_of}
 use Rattle.tp_wave.specs.Steps.{count}
 use Rattle.tp_core.specs.NeverEarly.{is_begin_of}
+use Rattle.tp_dag.specs.Again.{IsAgain}
 use Rattle.tp_dag.specs.declared.Next.{Next}
 use Rattle.tp_dag.specs.declared.Next.TheVariants.{Run, Wait, Finished}
 use Rattle.tp_dag.specs.State.{PoolState, AddsOnly, SameGraph, IsFinished, IsDispatched, IsCompleted, IsIdle, AreDelivered, AreSent, dispatched, is_delivery, is_sending, next_checks, done_checks}
 use Rattle.gerfmuod.specs.declared.dag.answer.DagAnswer.{DagAnswer}
 use Rattle.gerfmuod.specs.declared.dag.slot.PoolSlot.TheInside.{Inside}
 use Rattle.gerfmuod.specs.DagSlot.{state_of}
-use Rattle.gerfmuod.specs.Dag.{SlotState, RefusesBy, IsNext, IsDone, checks, next_answer, plain, refusal_answer}
+use Rattle.gerfmuod.specs.Dag.{SlotState, RefusesBy, IsNext, IsDone, IsAgainCall, checks, next_answer, plain, refusal_answer}
 
 -- a refusal has a number
 pub some_number : (r : Refusal) → 1 ≤ number_of r
@@ -187,4 +188,25 @@ done_refused p now pool node task e same live check is ways begun =
       refused = λ s. is;
       ways = ways;
       begun = begun;
+    })
+
+-- ---- again
+pub again_done : (p : Inside) (now : SlotState) (pool : PoolState) → state_of p ≡ now → IsTrue now.is_open → IsFinished p.pool
+    → IsAgain p.pool pool → IsAgainCall now (plain 0 0) (state_of (record p { pool = pool }))
+again_done p now pool same live finished is =
+    subst (λ (a : SlotState). IsAgainCall a (plain 0 0) (state_of (record p { pool = pool }))) same (record {
+      checked = open_refuses (state_of p) (state_of (record p { pool = pool })) [] (plain 0 0) (ap (λ (a : SlotState). a.is_open) same ∙ live) tt;
+      finished = λ z. finished;
+      again = λ z. is;
+      refused = λ s. absurd (omega (arith, s));
+    })
+
+pub again_refused : (p : Inside) (now : SlotState) (pool : PoolState) (e : Refusal) → state_of p ≡ now → IsTrue now.is_open → pool ≡ p.pool
+    → IsAgainCall now (refusal_answer e) (state_of (record p { pool = pool }))
+again_refused p now pool e same live is =
+    subst (λ (a : SlotState). IsAgainCall a (refusal_answer e) (state_of (record p { pool = pool }))) same (record {
+      checked = open_refuses (state_of p) (state_of (record p { pool = pool })) [] (refusal_answer e) (ap (λ (a : SlotState). a.is_open) same ∙ live) tt;
+      finished = λ z. absurd (not_zero e (number_of e) refl z);
+      again = λ z. absurd (not_zero e (number_of e) refl z);
+      refused = λ s. slot_same (state_of p) (state_of (record p { pool = pool })) refl is;
     })
