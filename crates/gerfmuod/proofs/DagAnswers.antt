@@ -7,13 +7,14 @@ use Rattle.tp_base.specs.Checks.{Check, first_refusal}
 use Rattle.tp_base.specs.Refusals.{number_of}
 use Rattle.tp_wave.specs.Steps.{count}
 use Rattle.tp_core.specs.NeverEarly.{is_begin_of}
+use Rattle.tp_dag.specs.Again.{IsAgain}
 use Rattle.tp_dag.specs.declared.Next.{Next}
 use Rattle.tp_dag.specs.declared.Next.TheVariants.{Run, Wait, Finished}
-use Rattle.tp_dag.specs.State.{PoolState, AddsOnly, SameGraph, IsFinished, IsDispatched, IsCompleted, dispatched, is_sending, next_checks, done_checks}
+use Rattle.tp_dag.specs.State.{PoolState, AddsOnly, SameGraph, IsFinished, IsDispatched, IsCompleted, IsIdle, AreDelivered, AreSent, dispatched, is_delivery, is_sending, next_checks, done_checks}
 use Rattle.gerfmuod.specs.declared.dag.answer.DagAnswer.{DagAnswer}
 use Rattle.gerfmuod.specs.declared.dag.slot.PoolSlot.TheInside.{Inside}
 use Rattle.gerfmuod.specs.DagSlot.{state_of}
-use Rattle.gerfmuod.specs.Dag.{SlotState, RefusesBy, IsNext, IsDone, checks, next_answer, plain, refusal_answer}
+use Rattle.gerfmuod.specs.Dag.{SlotState, RefusesBy, IsNext, IsDone, IsAgainCall, checks, next_answer, plain, refusal_answer}
 
 -- The number of a refusal is at least 1.
 pub some_number : (r : Refusal) → 1 ≤ number_of r
@@ -85,11 +86,13 @@ failed A (Some r) e S T f h = (ap number_of (same_err A e r h.0), f h.1)
 -- ---- next
 pub next_done : (p : Inside) (now : SlotState) (pool : PoolState) (node news : ℕ) (n : Next) → state_of p ≡ now → IsTrue now.is_open
     → IfSome (first_refusal (next_checks p.pool node)) (λ r. Same Next (Ok n) (Err r) × (pool ≡ p.pool))
-    → ((t : ℕ) → n ≡ Run t → IsDispatched node t p.pool pool) → ((w : ℕ) → n ≡ Finished w → IsFinished pool) → SameGraph p.pool pool
+    → ((t : ℕ) → n ≡ Run t → IsDispatched node t p.pool pool) → ((w : ℕ) → n ≡ Finished w → IsFinished pool)
+    → (Same Next (Ok n) (Ok Wait) → IsIdle node pool) → (Same Next (Ok n) (Ok Wait) → AddsOnly is_delivery p.pool pool) → SameGraph p.pool pool
+    → AreDelivered node p.pool pool
     → ((t : ℕ) → count (is_begin_of t) pool.steps ≡ count (is_begin_of t) p.pool.steps + dispatched (Ok n) t)
     → IsNext now node (next_answer n news) (state_of (record p { pool = pool }))
-next_done p now pool node news n same live check run finished graph begun =
-    subst (λ (a : SlotState). IsNext a node (next_answer n news) new) same (by_kind n check run finished begun)
+next_done p now pool node news n same live check run finished wait waiting graph ways begun =
+    subst (λ (a : SlotState). IsNext a node (next_answer n news) new) same (by_kind n check run finished wait waiting begun)
   where
     new : SlotState
     new = state_of (record p { pool = pool })
@@ -99,38 +102,49 @@ next_done p now pool node news n same live check run finished graph begun =
 
     by_kind : (m : Next) → IfSome (first_refusal (next_checks p.pool node)) (λ r. Same Next (Ok m) (Err r) × (pool ≡ p.pool))
         → ((t : ℕ) → m ≡ Run t → IsDispatched node t p.pool pool) → ((w : ℕ) → m ≡ Finished w → IsFinished pool)
+        → (Same Next (Ok m) (Ok Wait) → IsIdle node pool) → (Same Next (Ok m) (Ok Wait) → AddsOnly is_delivery p.pool pool)
         → ((t : ℕ) → count (is_begin_of t) pool.steps ≡ count (is_begin_of t) p.pool.steps + dispatched (Ok m) t)
         → IsNext (state_of p) node (next_answer m news) new
-    by_kind (Run u) c r f b = record {
+    by_kind (Run u) c r f w d b = record {
       checked = open_refuses (state_of p) new (next_checks p.pool node) (next_answer (Run u) news) here
           (passed {A = Next} (first_refusal (next_checks p.pool node)) (Run u) (pool ≡ p.pool) _ c);
       run = λ z. r u refl;
       finished = λ z. absurd (omega (arith, z));
+      wait = λ z. absurd (omega (arith, z));
+      refused = λ z. absurd (omega (arith, z));
       graph = graph;
+      ways = ways;
       begun = b;
     }
-    by_kind Wait c r f b = record {
+    by_kind Wait c r f w d b = record {
       checked = open_refuses (state_of p) new (next_checks p.pool node) (next_answer Wait news) here
           (passed {A = Next} (first_refusal (next_checks p.pool node)) Wait (pool ≡ p.pool) _ c);
       run = λ z. absurd (omega (arith, z));
       finished = λ z. absurd (omega (arith, z));
+      wait = λ z. (w refl, d refl);
+      refused = λ z. absurd (omega (arith, z));
       graph = graph;
+      ways = ways;
       begun = b;
     }
-    by_kind (Finished w) c r f b = record {
-      checked = open_refuses (state_of p) new (next_checks p.pool node) (next_answer (Finished w) news) here
-          (passed {A = Next} (first_refusal (next_checks p.pool node)) (Finished w) (pool ≡ p.pool) _ c);
+    by_kind (Finished v) c r f w d b = record {
+      checked = open_refuses (state_of p) new (next_checks p.pool node) (next_answer (Finished v) news) here
+          (passed {A = Next} (first_refusal (next_checks p.pool node)) (Finished v) (pool ≡ p.pool) _ c);
       run = λ z. absurd (omega (arith, z));
-      finished = λ z. f w refl;
+      finished = λ z. f v refl;
+      wait = λ z. absurd (omega (arith, z));
+      refused = λ z. absurd (omega (arith, z));
       graph = graph;
+      ways = ways;
       begun = b;
     }
 
 pub next_refused : (p : Inside) (now : SlotState) (pool : PoolState) (node : ℕ) (e : Refusal) → state_of p ≡ now → IsTrue now.is_open
-    → IfSome (first_refusal (next_checks p.pool node)) (λ r. Same Next (Err e) (Err r) × (pool ≡ p.pool)) → SameGraph p.pool pool
+    → IfSome (first_refusal (next_checks p.pool node)) (λ r. Same Next (Err e) (Err r) × (pool ≡ p.pool)) → AddsOnly is_delivery p.pool pool
+    → SameGraph p.pool pool → AreDelivered node p.pool pool
     → ((t : ℕ) → count (is_begin_of t) pool.steps ≡ count (is_begin_of t) p.pool.steps + dispatched (Err e) t)
     → IsNext now node (refusal_answer e) (state_of (record p { pool = pool }))
-next_refused p now pool node e same live check graph begun =
+next_refused p now pool node e same live check err graph ways begun =
     subst (λ (a : SlotState). IsNext a node (refusal_answer e) (state_of (record p { pool = pool }))) same (record {
       checked = open_refuses (state_of p) (state_of (record p { pool = pool })) (next_checks p.pool node) (refusal_answer e)
           (ap (λ (a : SlotState). a.is_open) same ∙ live)
@@ -138,30 +152,34 @@ next_refused p now pool node e same live check graph begun =
           (slot_same (state_of p) (state_of (record p { pool = pool })) refl) check);
       run = λ z. absurd (omega (arith, z));
       finished = λ z. absurd (omega (arith, z));
+      wait = λ z. absurd (omega (arith, z));
+      refused = λ z. err;
       graph = graph;
+      ways = ways;
       begun = begun;
     })
 
 -- ---- done
 pub done_done : (p : Inside) (now : SlotState) (pool : PoolState) (node task news : ℕ) → state_of p ≡ now → IsTrue now.is_open
     → IfSome (first_refusal (done_checks p.pool node task)) (λ r. Same ℕ (Ok news) (Err r) × (pool ≡ p.pool))
-    → IsCompleted task p.pool pool → ((t : ℕ) → count (is_begin_of t) pool.steps ≡ count (is_begin_of t) p.pool.steps)
+    → IsCompleted task p.pool pool → AreSent task p.pool pool → ((t : ℕ) → count (is_begin_of t) pool.steps ≡ count (is_begin_of t) p.pool.steps)
     → IsDone now node task (plain 0 news) (state_of (record p { pool = pool }))
-done_done p now pool node task news same live check is begun =
+done_done p now pool node task news same live check is ways begun =
     subst (λ (a : SlotState). IsDone a node task (plain 0 news) (state_of (record p { pool = pool }))) same (record {
       checked = open_refuses (state_of p) (state_of (record p { pool = pool })) (done_checks p.pool node task) (plain 0 news)
           (ap (λ (a : SlotState). a.is_open) same ∙ live)
           (passed {A = ℕ} (first_refusal (done_checks p.pool node task)) news (pool ≡ p.pool) _ check);
       done = λ z. is;
       refused = λ s. absurd (omega (arith, s));
+      ways = ways;
       begun = begun;
     })
 
 pub done_refused : (p : Inside) (now : SlotState) (pool : PoolState) (node task : ℕ) (e : Refusal) → state_of p ≡ now → IsTrue now.is_open
     → IfSome (first_refusal (done_checks p.pool node task)) (λ r. Same ℕ (Err e) (Err r) × (pool ≡ p.pool))
-    → AddsOnly is_sending p.pool pool → ((t : ℕ) → count (is_begin_of t) pool.steps ≡ count (is_begin_of t) p.pool.steps)
+    → AddsOnly is_sending p.pool pool → AreSent task p.pool pool → ((t : ℕ) → count (is_begin_of t) pool.steps ≡ count (is_begin_of t) p.pool.steps)
     → IsDone now node task (refusal_answer e) (state_of (record p { pool = pool }))
-done_refused p now pool node task e same live check is begun =
+done_refused p now pool node task e same live check is ways begun =
     subst (λ (a : SlotState). IsDone a node task (refusal_answer e) (state_of (record p { pool = pool }))) same (record {
       checked = open_refuses (state_of p) (state_of (record p { pool = pool })) (done_checks p.pool node task) (refusal_answer e)
           (ap (λ (a : SlotState). a.is_open) same ∙ live)
@@ -169,5 +187,27 @@ done_refused p now pool node task e same live check is begun =
           (slot_same (state_of p) (state_of (record p { pool = pool })) refl) check);
       done = λ z. absurd (not_zero e (number_of e) refl z);
       refused = λ s. is;
+      ways = ways;
       begun = begun;
+    })
+
+-- ---- again
+pub again_done : (p : Inside) (now : SlotState) (pool : PoolState) → state_of p ≡ now → IsTrue now.is_open → IsFinished p.pool
+    → IsAgain p.pool pool → IsAgainCall now (plain 0 0) (state_of (record p { pool = pool }))
+again_done p now pool same live finished is =
+    subst (λ (a : SlotState). IsAgainCall a (plain 0 0) (state_of (record p { pool = pool }))) same (record {
+      checked = open_refuses (state_of p) (state_of (record p { pool = pool })) [] (plain 0 0) (ap (λ (a : SlotState). a.is_open) same ∙ live) tt;
+      finished = λ z. finished;
+      again = λ z. is;
+      refused = λ s. absurd (omega (arith, s));
+    })
+
+pub again_refused : (p : Inside) (now : SlotState) (pool : PoolState) (e : Refusal) → state_of p ≡ now → IsTrue now.is_open → pool ≡ p.pool
+    → IsAgainCall now (refusal_answer e) (state_of (record p { pool = pool }))
+again_refused p now pool e same live is =
+    subst (λ (a : SlotState). IsAgainCall a (refusal_answer e) (state_of (record p { pool = pool }))) same (record {
+      checked = open_refuses (state_of p) (state_of (record p { pool = pool })) [] (refusal_answer e) (ap (λ (a : SlotState). a.is_open) same ∙ live) tt;
+      finished = λ z. absurd (not_zero e (number_of e) refl z);
+      again = λ z. absurd (not_zero e (number_of e) refl z);
+      refused = λ s. slot_same (state_of p) (state_of (record p { pool = pool })) refl is;
     })

@@ -10,8 +10,10 @@ use Rattle.tp_base.specs.Checks.{Check, first_refusal}
 use Rattle.tp_base.specs.Refusals.{number_of}
 use Rattle.tp_wave.specs.Steps.{count}
 use Rattle.tp_core.specs.NeverEarly.{is_begin_of}
-use Rattle.tp_dag.specs.State.{PoolState, AddsOnly, SameGraph, IsTaskAdded, IsInputAdded, IsStarted, IsDispatched, IsFinished, IsCompleted, is_readying, is_sending}
-use Rattle.tp_dag.specs.State.{task_checks, input_checks, start_checks, next_checks, done_checks}
+use Rattle.tp_dag.specs.State.{PoolState, AddsOnly, SameGraph, IsTaskAdded, IsInputAdded, IsStarted, IsOutsideAdded, IsReleased, IsDispatched, IsFinished, IsCompleted}
+use Rattle.tp_dag.specs.State.{IsIdle, AreDelivered, AreSent, is_readying, is_delivery, is_sending}
+use Rattle.tp_dag.specs.Again.{IsAgain}
+use Rattle.tp_dag.specs.State.{task_checks, input_checks, start_checks, outside_checks, release_checks, next_checks, done_checks}
 use Rattle.tp_dag.specs.declared.Next.{Next}
 use Rattle.tp_dag.specs.declared.Next.TheVariants.{Run, Wait, Finished}
 use Rattle.gerfmuod.specs.declared.dag.answer.DagAnswer.{DagAnswer}
@@ -26,7 +28,7 @@ abbrev pub can_be : ℕ → Bool
 can_be n = nat_le 1 n && nat_le n 8
 
 abbrev pub empty : ℕ → PoolState
-empty n = record { nodes = n; started = false; tasks = []; stages = []; inputs = []; steps = [] }
+empty n = record { nodes = n; started = false; tasks = []; stages = []; inputs = []; ways = []; outside = []; steps = [] }
 
 -- a new pool; it is not open if a pool cannot have n nodes
 abbrev pub opened : ℕ → SlotState
@@ -78,6 +80,17 @@ pub record IsStart (old : SlotState) (a : DagAnswer) (new : SlotState) : Type 0 
   pub checked : RefusesBy (checks old (start_checks old.pool)) old a new
   pub started : a.refused ≡ 0 → IsStarted old.pool new.pool
   pub refused : 1 ≤ a.refused → AddsOnly is_readying old.pool new.pool
+  pub ways : new.pool.ways ≡ old.pool.ways
+
+pub record IsOutside (old : SlotState) (task : ℕ) (a : DagAnswer) (new : SlotState) : Type 0 where
+  pub checked : RefusesBy (checks old (outside_checks old.pool task)) old a new
+  pub added : a.refused ≡ 0 → IsOutsideAdded task old.pool new.pool
+  pub refused : 1 ≤ a.refused → new ≡ old
+
+pub record IsRelease (old : SlotState) (task : ℕ) (a : DagAnswer) (new : SlotState) : Type 0 where
+  pub checked : RefusesBy (checks old (release_checks old.pool task)) old a new
+  pub released : a.refused ≡ 0 → IsReleased task old.pool new.pool
+  pub refused : 1 ≤ a.refused → new ≡ old
 
 -- 1 if a result of `next` dispatches task t, else 0
 abbrev pub dispatched_by : DagAnswer → ℕ → ℕ
@@ -87,14 +100,24 @@ pub record IsNext (old : SlotState) (node : ℕ) (a : DagAnswer) (new : SlotStat
   pub checked : RefusesBy (checks old (next_checks old.pool node)) old a new
   pub run : a.told ≡ 1 → IsDispatched node a.number old.pool new.pool
   pub finished : a.told ≡ 3 → IsFinished new.pool
+  pub wait : a.told ≡ 2 → IsIdle node new.pool × AddsOnly is_delivery old.pool new.pool
+  pub refused : 1 ≤ a.refused → AddsOnly is_delivery old.pool new.pool
   pub graph : SameGraph old.pool new.pool
+  pub ways : AreDelivered node old.pool new.pool
   pub begun : (t : ℕ) → count (is_begin_of t) new.pool.steps ≡ count (is_begin_of t) old.pool.steps + dispatched_by a t
 
 pub record IsDone (old : SlotState) (node task : ℕ) (a : DagAnswer) (new : SlotState) : Type 0 where
   pub checked : RefusesBy (checks old (done_checks old.pool node task)) old a new
   pub done : a.refused ≡ 0 → IsCompleted task old.pool new.pool
   pub refused : 1 ≤ a.refused → AddsOnly is_sending old.pool new.pool
+  pub ways : AreSent task old.pool new.pool
   pub begun : (t : ℕ) → count (is_begin_of t) new.pool.steps ≡ count (is_begin_of t) old.pool.steps
+
+pub record IsAgainCall (old : SlotState) (a : DagAnswer) (new : SlotState) : Type 0 where
+  pub checked : RefusesBy (checks old []) old a new
+  pub finished : a.refused ≡ 0 → IsFinished old.pool
+  pub again : a.refused ≡ 0 → IsAgain old.pool new.pool
+  pub refused : 1 ≤ a.refused → new ≡ old
 
 abbrev pub step_answer : Option Step → DagStep
 step_answer (Some (Insert i t k)) = record { kind = 0; first = i.0; second = t.0; third = k.count }

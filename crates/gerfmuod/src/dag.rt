@@ -4,10 +4,12 @@ ghost use Rattle.std.specs.Prelude.{◌≡◌};
 ghost use Rattle.std.specs.Borrow.{full_share, sem};
 ghost use Rattle.std.specs.Ptr.{lies_at, room_at};
 ghost use Rattle.gerfmuod.specs.contracts.dag.slot.PoolSlot.{the_row as slot_row};
-ghost use Rattle.gerfmuod.specs.Dag.{SlotState, opened, opening, IsTask, IsInput, IsStart, IsNext, IsDone, IsStep, IsClosed};
+ghost use Rattle.gerfmuod.specs.Dag.{SlotState, opened, opening, IsTask, IsInput, IsStart, IsOutside, IsRelease, IsNext, IsDone, IsAgainCall, IsStep, IsClosed};
 
 use crate::dag::answer::{DagAnswer, DagStep};
-use crate::dag::calls::{close, done, input, made, next, opening, start, step, task};
+use crate::dag::calls::{
+    again, close, done, input, made, next, opening, outside, release, start, step, task,
+};
 use crate::dag::slot::PoolSlot;
 use std::alloc::Global;
 
@@ -64,6 +66,31 @@ pub unsafe extern "C" fn gerfmuod_dag_start(pool: *mut u8) -> DagAnswer
     start(&mut *(pool as *mut PoolSlot))
 }
 
+/// Makes a task that has not been dispatched wait for one more input from outside.
+///
+/// Refused, and nothing changes: `NoPool` if the pool is not open; then as `Pool::outside` is.
+#[unsafe(no_mangle)]
+pub unsafe extern "C" fn gerfmuod_dag_outside(pool: *mut u8, task: u32) -> DagAnswer
+    ghost old: { SlotState }
+    requires* { sem 𝓛 (lies_at slot_row full_share pool old) }
+    ensures* { ∃ₛ (λ (new : SlotState). sem 𝓛 (lies_at slot_row full_share pool new) ∗ ⌜ IsOutside old task result new ⌝) }
+{
+    outside(&mut *(pool as *mut PoolSlot), task)
+}
+
+/// Reports that one input from outside is there. `news` in the result has the bit of the task's node if the task now
+/// lacks nothing.
+///
+/// Refused, and nothing changes: `NoPool` if the pool is not open; then as `Pool::release` is.
+#[unsafe(no_mangle)]
+pub unsafe extern "C" fn gerfmuod_dag_release(pool: *mut u8, task: u32) -> DagAnswer
+    ghost old: { SlotState }
+    requires* { sem 𝓛 (lies_at slot_row full_share pool old) }
+    ensures* { ∃ₛ (λ (new : SlotState). sem 𝓛 (lies_at slot_row full_share pool new) ∗ ⌜ IsRelease old task result new ⌝) }
+{
+    release(&mut *(pool as *mut PoolSlot), task)
+}
+
 /// Returns what a thread of a node is to do next: run task `number`, wait, or stop.
 ///
 /// Refused, and the graph does not change: `NoPool` if the pool is not open; then as `Pool::next` is.
@@ -87,6 +114,18 @@ pub unsafe extern "C" fn gerfmuod_dag_done(pool: *mut u8, node: u32, task: u32) 
     ensures* { ∃ₛ (λ (new : SlotState). sem 𝓛 (lies_at slot_row full_share pool new) ∗ ⌜ IsDone old node task result new ⌝) }
 {
     done(&mut *(pool as *mut PoolSlot), node, task)
+}
+
+/// Starts the same graph once more, after the end was reported. Inputs from outside have to be declared again.
+///
+/// Refused, and nothing changes: `NoPool` if the pool is not open; then as `Pool::again` is.
+#[unsafe(no_mangle)]
+pub unsafe extern "C" fn gerfmuod_dag_again(pool: *mut u8) -> DagAnswer
+    ghost old: { SlotState }
+    requires* { sem 𝓛 (lies_at slot_row full_share pool old) }
+    ensures* { ∃ₛ (λ (new : SlotState). sem 𝓛 (lies_at slot_row full_share pool new) ∗ ⌜ IsAgainCall old result new ⌝) }
+{
+    again(&mut *(pool as *mut PoolSlot))
 }
 
 /// Returns the step that was taken as number `k`; the oldest is 0. Its kind is 255 if there is none, or the pool is not

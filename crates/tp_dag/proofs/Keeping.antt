@@ -1,13 +1,13 @@
--- The calls preserve the pool's invariant and meet their contracts.
-use Rattle.std.proofs.Common.{cond, ℕ, ◌≡◌, ◌<◌, ◌≤◌, ◌+◌, ◌⊎◌, List, [], ◌∷◌, ◌++◌, Bool, true, false, length, refl, ap, subst, ◌∙◌, sym, arith, IsTrue, IsFalse, Result, Option, Some, None, append_assoc}
-use Rattle.std.specs.Prelude.{◌==◌, if◌then◌else◌, Ok, Err, IfOk, OnOk, OnErr, IfSome, is_some, slice_get, slice_set}
+-- What the pool keeps through its calls, and what each call has done.
+use Rattle.std.proofs.Common.{cond, ℕ, ◌≡◌, ◌≢◌, ◌<◌, ◌≤◌, ◌+◌, ◌-◌, ◌⊎◌, List, [], ◌∷◌, ◌++◌, Bool, true, false, length, map, refl, ap, subst, ◌∙◌, sym, arith, IsTrue, IsFalse, Result, Option, Some, None, append_assoc, inl, inr}
+use Rattle.std.specs.Prelude.{◌==◌, ◌&&◌, if◌then◌else◌, Ok, Err, IfOk, OnOk, OnErr, IfSome, IfNone, is_some, slice_get, slice_set, nat_le}
 use Rattle.tp_base.specs.declared.limits.TheConstants.{MAX_NODES, MAX_STEPS}
-use Rattle.std.specs.Vec.{with_item}
-use Rattle.std.specs.List.{slice_index_or}
 use Rattle.std.proofs.Math.ListN.{set}
-use Rattle.tp_dag.proofs.Lists.{set_last, at_index}
+use Rattle.std.proofs.lemmas.List.{length-map}
 use Rattle.std.proofs.lemmas.Bool.Decides.{nat_tests}
 use Rattle.tp_base.specs.declared.Refusal.{Refusal}
+use Rattle.tp_base.specs.declared.Refusal.TheVariants as refusal
+use Rattle.tp_base.specs.Checks.{first_refusal}
 use Rattle.tp_base.specs.declared.Step.{Step}
 use Rattle.tp_base.specs.declared.Step.TheVariants.{Begin, Done, Judge}
 use Rattle.tp_wave.specs.Steps.{count, is_reopen}
@@ -24,150 +24,109 @@ use Rattle.tp_core.specs.Settled.{IsSettled}
 use Rattle.tp_core.specs.Laws.{begins}
 use Rattle.tp_core.proofs.Generations.{present_run}
 use Rattle.tp_core.proofs.Once.{tasks_run_once}
+use Rattle.tp_dag.specs.declared.entry.Edge.{Edge}
 use Rattle.tp_dag.specs.declared.entry.Entry.{Entry}
 use Rattle.tp_dag.specs.declared.entry.Input.{Input}
 use Rattle.tp_dag.specs.declared.entry.Stage.{Stage}
 use Rattle.tp_dag.specs.declared.entry.Stage.TheVariants as stage
-use Rattle.tp_dag.specs.declared.pool.Pool.TheInside.{Inside}
-use Rattle.tp_dag.specs.State.{PoolState, SameGraph, AddsOnly, WasDone, WasReceived, IsReceived, IsCompleted, IsInputAdded, with_end, IsDispatched, is_delivery, is_sending, dispatched}
+use Rattle.tp_dag.specs.declared.entry.Task.{Task}
+use Rattle.tp_dag.specs.declared.entry.Way.{Way}
+use Rattle.tp_dag.specs.declared.entry.Way.TheVariants as way
 use Rattle.tp_dag.specs.declared.pool.Next.{Next}
 use Rattle.tp_dag.specs.declared.pool.Next.TheVariants as next
-use Rattle.tp_dag.specs.Kept.{state_of, Facts, IsPool, IsFrom}
-use Rattle.tp_dag.proofs.Steps.{facts_step, facts_begin, facts_done, facts_mark, done_now, same_trans, adds_none, facts_task, facts_input, received_steps, one_generation, count_only, count_adds, all_append, delivery_begins_none, sending_begins_none, control_begins_none}
+use Rattle.tp_dag.specs.declared.pool.Pool.TheInside.{Inside}
+use Rattle.tp_dag.specs.Board as on_board
+use Rattle.tp_dag.specs.Board.{BoardState, HasBegun, HasEdge, HasOutside, HasReleased, HasLeft, HasArrived, HasFinished, with_task}
+use Rattle.tp_dag.specs.Counts.{BoardFacts}
+use Rattle.tp_dag.specs.State.{PoolState, SameGraph, AddsOnly, WasDone, WasReceived, IsReceived, IsComing, IsOutput, IsFinished, IsCompleted, IsInputAdded, IsOutsideAdded, IsReleased, IsDispatched, LacksInput, AreSent, is_delivery, is_sending, dispatched, outside_checks, release_checks}
+use Rattle.tp_dag.specs.Kept.{state_of, seen, entry_of, stage_of, outside_of, input_of, way_of, Facts, IsPool, IsFrom, IsHome, AllPassed, SendsOne}
+use Rattle.tp_dag.proofs.Lists.{map_get, map_got}
+use Rattle.tp_dag.proofs.Finding.{ready_lacks_none}
+use Rattle.tp_dag.proofs.Steps.{facts_step, facts_begin, facts_done, facts_way, facts_task, facts_input, done_now, same_trans, adds_none, received_steps, one_generation, count_only, count_adds, all_append, delivery_begins_none, sending_begins_none, control_begins_none}
 use Rattle.tp_dag.proofs.Ended.{finished, any_append}
-
-some_same : {A : Type 0} (x y : A) → Some x ≡ Some y → x ≡ y
-some_same x y e = cc
+use Rattle.tp_dag.proofs.Views.{some_same, seen_stage, seen_outside, seen_way, seen_task, seen_edge, consistent, coming_board, coming_seen, passed_seen, lacks_seen, lacks_board, unsent_seen}
+use Rattle.tp_dag.proofs.Going.{sent_one}
 
 pub not_ended : (o : Option ℕ) (P : ℕ → Type 0) → is_some o ≡ false → IfSome o P
 not_ended None P e = tt
 not_ended (Some w) P e = cc
 
--- ---- one more step
-pub kept_step : (p : Inside) (core : Accepted) (s : Step) (r : Result (Unit {0}) Refusal) → IsPool p → is_some p.ended_with ≡ false
+-- ---- what is kept of another state
+-- the steps go on, and the end was not detected
+kept_on : (p q : Inside) (a : PoolState) → IsPool p → is_some p.ended_with ≡ false → q.core.nodes ≡ p.core.nodes → q.nodes ≡ p.nodes
+    → q.board.nodes ≡ p.board.nodes → q.ended_with ≡ p.ended_with → state_of q ≡ a → Facts a → IsPool q
+kept_on p q a k none core nodes board ended same f = record {
+  nodes = core ∙ (k.nodes ∙ sym nodes);
+  board = board ∙ (k.board ∙ sym nodes);
+  facts = subst (λ (x : PoolState). Facts x) (sym same) f;
+  ended_with = not_ended q.ended_with _ (ap is_some ended ∙ none);
+}
+
+still_finished : (a b : PoolState) → b.nodes ≡ a.nodes → b.steps ≡ a.steps → length b.tasks ≡ length a.tasks → IsFinished a → IsFinished b
+still_finished a b nodes steps tasks f = record {
+  quiet = rw (nodes, steps) f.quiet;
+  once = λ t l. rw steps (f.once t (omega (arith, l, tasks)));
+}
+
+still_ended : (o : Option ℕ) (P Q : Type 0) → (P → Q) → IfSome o (λ w. P) → IfSome o (λ w. Q)
+still_ended None P Q f h = tt
+still_ended (Some w) P Q f h = f h
+
+-- the steps and the tasks are as they were
+kept_same : (p q : Inside) (a : PoolState) → IsPool p → q.core ≡ p.core → q.nodes ≡ p.nodes → q.board.nodes ≡ p.board.nodes
+    → q.ended_with ≡ p.ended_with → state_of q ≡ a → a.nodes ≡ p.core.nodes → a.steps ≡ p.core.steps → length a.tasks ≡ length (state_of p).tasks
+    → Facts a → IsPool q
+kept_same p q a k core nodes board ended same one two three f = record {
+  nodes = ap (λ (x : Accepted). x.nodes) core ∙ (k.nodes ∙ sym nodes);
+  board = board ∙ (k.board ∙ sym nodes);
+  facts = subst (λ (x : PoolState). Facts x) (sym same) f;
+  ended_with = subst (λ (o : Option ℕ). IfSome o (λ w. IsFinished (state_of q))) (sym ended)
+      (still_ended p.ended_with (IsFinished (state_of p)) (IsFinished (state_of q))
+      (λ h. subst (λ (x : PoolState). IsFinished x) (sym same) (still_finished (state_of p) a one two three h)) k.ended_with);
+}
+
+-- ---- one step more
+pub kept_step : (p q : Inside) (core : Accepted) (s : Step) (r : Result (Unit {0}) Refusal) → IsPool p → is_some p.ended_with ≡ false
     → IsFalse (is_reopen s) → OnOk r (MayCome p.core.nodes p.core.steps s × (core ≡ with_step p.core s)) → OnErr r (core ≡ p.core)
-    → IsPool (record p { core = core })
-kept_step p core s (Ok u) k none on ok err =
-    subst (λ (c : Accepted). IsPool (record p { core = c })) (sym ok.1)
-    (record { nodes = k.nodes; facts = facts_step s k.facts ok.0 on; ended_with = not_ended p.ended_with _ none })
-kept_step p core s (Err e) k none on ok err = subst (λ (c : Accepted). IsPool (record p { core = c })) (sym err) k
+    → q.core ≡ core → q.nodes ≡ p.nodes → q.started ≡ p.started → q.board ≡ p.board → q.ended_with ≡ p.ended_with → IsPool q
+kept_step p q core s (Ok u) k none on ok err is nodes started board ended =
+    kept_on p q (record (state_of p) { steps = s ∷ p.core.steps }) k none (ap (λ (x : Accepted). x.nodes) (is ∙ ok.1)) nodes
+    (ap (λ (x : BoardState). x.nodes) board) ended (rw (is, ok.1, started, board) refl) (facts_step s k.facts ok.0 on)
+kept_step p q core s (Err e) k none on ok err is nodes started board ended =
+    kept_on p q (state_of p) k none (ap (λ (x : Accepted). x.nodes) (is ∙ err)) nodes
+    (ap (λ (x : BoardState). x.nodes) board) ended (rw (is, err, started, board) refl) k.facts
 
 pub adds_step : (p : Inside) (now : PoolState) (core : Accepted) (s : Step) (r : Result (Unit {0}) Refusal) (test : Step → Bool)
     → state_of p ≡ now → IsTrue (test s)
     → OnOk r (MayCome p.core.nodes p.core.steps s × (core ≡ with_step p.core s)) → OnErr r (core ≡ p.core)
-    → AddsOnly test now (state_of (record p { core = core }))
+    → AddsOnly test now (seen core.nodes p.started p.board core.steps)
 adds_step p now core s (Ok u) test same h ok err =
-    subst (λ (a : PoolState). AddsOnly test a (state_of (record p { core = core }))) same
-    (subst (λ (c : Accepted). AddsOnly test (state_of p) (state_of (record p { core = c }))) (sym ok.1)
-    (record { graph = record { nodes = refl; started = refl; tasks = refl; inputs = refl }; stages = refl; later = s ∷ []; steps = refl; only = rw h refl }))
-adds_step p now core s (Err e) test same h ok err =
-    subst (λ (a : PoolState). AddsOnly test a (state_of (record p { core = core }))) same
-    (subst (λ (c : Accepted). AddsOnly test (state_of p) (state_of (record p { core = c }))) (sym err) (adds_none test (state_of p)))
-
-pub kept_complete : (p : Inside) (core : Accepted) (t : ℕ) → IsPool p → is_some p.ended_with ≡ false
-    → MayCome p.core.nodes p.core.steps (Done (record { 0 = t })) → core ≡ with_step p.core (Done (record { 0 = t }))
-    → IsPool (record p { core = core; stages = with_item p.stages t stage.Done })
-kept_complete p core t k none may is =
-    subst (λ (c : Accepted). IsPool (record p { core = c; stages = with_item p.stages t stage.Done })) (sym is)
+    subst (λ (a : PoolState). AddsOnly test a (seen core.nodes p.started p.board core.steps)) same
+    (subst (λ (c : Accepted). AddsOnly test (state_of p) (seen c.nodes p.started p.board c.steps)) (sym ok.1)
     (record {
-      nodes = k.nodes;
-      facts = facts_done t (facts_step (Done (record { 0 = t })) k.facts may refl) (done_now t p.core.steps);
-      ended_with = not_ended p.ended_with _ none;
-    })
-
-pub kept_dispatch : (p : Inside) (core : Accepted) (t : ℕ) → IsPool p → is_some p.ended_with ≡ false
-    → MayCome p.core.nodes p.core.steps (Begin (record { 0 = t })) → core ≡ with_step p.core (Begin (record { 0 = t }))
-    → IsPool (record p { core = core; stages = with_item p.stages t stage.Running })
-kept_dispatch p core t k none may is =
-    subst (λ (c : Accepted). IsPool (record p { core = c; stages = with_item p.stages t stage.Running })) (sym is)
-    (record {
-      nodes = k.nodes;
-      facts = facts_begin t (facts_step (Begin (record { 0 = t })) k.facts may refl);
-      ended_with = not_ended p.ended_with _ none;
-    })
-
-pub kept_mark : (p : Inside) (now : PoolState) (node k : ℕ) (i : Input) (e : Entry) → IsPool p → state_of p ≡ now
-    → slice_get p.inputs.items k ≡ Some i → slice_get p.tasks.items i.target ≡ Some e → e.node ≡ node
-    → slice_get p.stages.items i.source ≡ Some stage.Done → IsFrom node k now ⊎ WasReceived node k now.steps
-    → IsPool (record p { received = with_item p.received k true })
-kept_mark p now node k i e kept same at is home was how = record {
-  nodes = kept.nodes;
-  facts = facts_mark node k i e kept.facts at is home was
-      (subst (λ (a : PoolState). IsFrom node k a ⊎ WasReceived node k a.steps) (sym same) how);
-  ended_with = kept.ended_with;
-}
-
-pub is_completed : (p : Inside) (now : PoolState) (core : Accepted) (t : ℕ) → state_of p ≡ now
-    → slice_get p.stages.items t ≡ Some stage.Running → core ≡ with_step p.core (Done (record { 0 = t }))
-    → IsCompleted t now (record (state_of p) { nodes = core.nodes; stages = set p.stages.items t stage.Done; steps = core.steps })
-is_completed p now core t same was is =
-    subst (λ (a : PoolState). IsCompleted t a (record (state_of p) {
-      nodes = core.nodes;
-      stages = set p.stages.items t stage.Done;
-      steps = core.steps;
-    })) same
-    (subst (λ (c : Accepted). IsCompleted t (state_of p) (record (state_of p) {
-      nodes = c.nodes;
-      stages = set p.stages.items t stage.Done;
-      steps = c.steps;
-    })) (sym is) (record {
-      graph = record { nodes = refl; started = refl; tasks = refl; inputs = refl };
-      running = was;
+      graph = record { nodes = refl; started = refl; tasks = refl; inputs = refl; outside = refl };
       stages = refl;
-      sent = [];
-      only = refl;
+      later = s ∷ [];
       steps = refl;
+      only = rw h refl;
     }))
+adds_step p now core s (Err e) test same h ok err =
+    subst (λ (a : PoolState). AddsOnly test a (seen core.nodes p.started p.board core.steps)) same
+    (subst (λ (c : Accepted). AddsOnly test (state_of p) (seen c.nodes p.started p.board c.steps)) (sym err) (adds_none test (state_of p)))
 
--- ---- one more task, and one more input
-pub kept_task : (p q : Inside) (e : Entry) (s : Step) → IsPool p → is_some p.ended_with ≡ false → MayCome p.core.nodes p.core.steps s
-    → IsFalse (is_reopen s) → IsTrue (is_insert_of (length p.tasks.items) s) → length p.tasks.items < MAX_STEPS
-    → e.first ≡ length p.inputs.items
-    → q.core ≡ with_step p.core s → q.nodes ≡ p.nodes → q.started ≡ p.started → q.tasks.items ≡ p.tasks.items ++ e ∷ []
-    → q.stages.items ≡ p.stages.items ++ stage.Fresh ∷ [] → q.inputs ≡ p.inputs → q.received ≡ p.received
-    → q.ended_with ≡ p.ended_with → IsPool q
-kept_task p q e s k none may on of few begins core nodes started tasks stages inputs received ended_with = record {
-  nodes = ap (λ (c : Accepted). c.nodes) core ∙ (k.nodes ∙ sym nodes);
-  facts = rw (core, started, tasks, stages, inputs, received) (facts_task e s k.facts may on of few begins);
-  ended_with = rw ended_with (not_ended p.ended_with _ none);
-}
+-- ---- a task begins
+begun_state : (p q : Inside) (t : ℕ) → q.core ≡ with_step p.core (Begin (record { 0 = t })) → q.started ≡ p.started → HasBegun t p.board q.board
+    → state_of q ≡ record (state_of p) { stages = set (map stage_of p.board.tasks) t stage.Running; steps = Begin (record { 0 = t }) ∷ p.core.steps }
+begun_state p q t core started h =
+    rw (core, started, h.becomes)
+    (seen_stage p.core.nodes p.started (Begin (record { 0 = t }) ∷ p.core.steps) p.board t h.was stage.Running h.is)
 
-pub kept_input : (p q : Inside) (u n m : ℕ) (e : Entry) → IsPool p → is_some p.ended_with ≡ false
-    → n + 1 ≡ length p.tasks.items → u < n → m ≡ length p.inputs.items → m < MAX_STEPS → e ≡ slice_index_or p.tasks.items n e
-    → q.core ≡ p.core → q.nodes ≡ p.nodes → q.started ≡ p.started
-    → q.tasks.items ≡ set p.tasks.items n (record { node = e.node; class = e.class; first = e.first; end = m + 1 }) → q.stages ≡ p.stages
-    → q.inputs.items ≡ p.inputs.items ++ record { source = u; target = n } ∷ [] → q.received.items ≡ p.received.items ++ false ∷ []
-    → q.ended_with ≡ p.ended_with → IsPool q
-kept_input p q u n m e k none last before long few is core nodes started tasks stages inputs received ended_with = record {
-  nodes = ap (λ (c : Accepted). c.nodes) core ∙ (k.nodes ∙ sym nodes);
-  facts = rw (core, started, tasks, stages, inputs, received, long)
-      (facts_input u n e k.facts (at_index p.tasks.items n e (omega (arith, last)) is) (omega (arith, last)) before
-      (omega (arith, long, few)));
-  ended_with = rw ended_with (not_ended p.ended_with _ none);
-}
-
-pub input_added : (p : Inside) (now : PoolState) (u n m : ℕ) (inputs : List Input) (e : Entry) → state_of p ≡ now
-    → n + 1 ≡ length p.tasks.items → u < n → m ≡ length p.inputs.items → e ≡ slice_index_or p.tasks.items n e
-    → inputs ≡ p.inputs.items ++ record { source = u; target = n } ∷ []
-    → IsInputAdded u now (record (state_of p) {
-      tasks = set p.tasks.items n (record { node = e.node; class = e.class; first = e.first; end = m + 1 });
-      inputs = inputs;
-    })
-input_added p now u n m inputs e same last before long is added =
-    subst (λ (a : PoolState). IsInputAdded u a (record (state_of p) {
-      tasks = set p.tasks.items n (record { node = e.node; class = e.class; first = e.first; end = m + 1 });
-      inputs = inputs;
-    })) same (record {
-      nodes = refl;
-      started = refl;
-      newest = n;
-      last = last;
-      before = before;
-      tasks = set_last p.tasks.items n (m + 1) e last is ∙ ap (λ (j : ℕ). with_end p.tasks.items (j + 1)) long;
-      stages = refl;
-      inputs = added;
-      steps = refl;
-    })
+pub kept_dispatch : (p q : Inside) (t : ℕ) → IsPool p → is_some p.ended_with ≡ false
+    → MayCome p.core.nodes p.core.steps (Begin (record { 0 = t })) → q.core ≡ with_step p.core (Begin (record { 0 = t }))
+    → HasBegun t p.board q.board → q.nodes ≡ p.nodes → q.started ≡ p.started → q.ended_with ≡ p.ended_with → IsPool q
+kept_dispatch p q t k none may core h nodes started ended =
+    kept_on p q _ k none (ap (λ (x : Accepted). x.nodes) core) nodes (ap (λ (x : BoardState). x.nodes) h.becomes) ended
+    (begun_state p q t core started h) (facts_begin t (facts_step (Begin (record { 0 = t })) k.facts may refl))
 
 -- ---- a task is dispatched
 begins_few : (o : Option Life) → begins o ≤ 1
@@ -185,7 +144,7 @@ begin_counts t u past =
     elim (t == u) as (λ b. cond b (count (is_begin_of u) past + 1) (count (is_begin_of u) past) ≡ count (is_begin_of u) past + (if b then 1 else 0))
     [ true ↦ refl | false ↦ omega arith ]
 
-pub begun_once : {a : PoolState} {received : List Bool} (t : ℕ) → Facts a received → count (is_begin_of t) a.steps ≤ 1
+pub begun_once : {a : PoolState} (t : ℕ) → Facts a → count (is_begin_of t) a.steps ≤ 1
 begun_once {a} t f =
     let one : present a.steps ≡ a.steps = one_generation a.steps f.by_steps.first in
     let run : IsLawfulRun a.nodes a.steps = subst (λ (xs : List Step). IsLawfulRun a.nodes xs) one (present_run a.nodes a.steps f.by_steps.runs) in
@@ -193,7 +152,7 @@ begun_once {a} t f =
     let few : begins (life_of t (world a.nodes a.steps)) ≤ 1 = begins_few (life_of t (world a.nodes a.steps)) in
     omega (arith, once, few)
 
-first_begin : {a : PoolState} {received : List Bool} (t : ℕ) → Facts a received
+first_begin : {a : PoolState} (t : ℕ) → Facts a
     → MayCome a.nodes a.steps (Begin (record { 0 = t })) → count (is_begin_of t) a.steps ≡ 0
 first_begin {a} t f may =
     let few : count (is_begin_of t) (Begin (record { 0 = t }) ∷ a.steps) ≤ 1 =
@@ -201,42 +160,40 @@ first_begin {a} t f may =
     let more : count (is_begin_of t) (Begin (record { 0 = t }) ∷ a.steps) ≡ count (is_begin_of t) a.steps + 1 = begin_counted t a.steps in
     omega (arith, few, more)
 
-inputs_there : {a : PoolState} {received : List Bool} (node t : ℕ) (e : Entry) → Facts a received → slice_get a.tasks t ≡ Some e
-    → e.node ≡ node → ((k : ℕ) → e.first ≤ k → k < e.end → slice_get received k ≡ Some true)
-    → (k : ℕ) (i : Input) → slice_get a.inputs k ≡ Some i → i.target ≡ t → IsReceived node k i a.tasks a.steps
-inputs_there {a} {received} node t e f is home all k i at to =
-    let here : slice_get a.tasks i.target ≡ Some e = ap (λ (j : ℕ). slice_get a.tasks j) to ∙ is in
-    let own = (f.graph.placed k i at).own e here in
-    subst (λ (n : ℕ). IsReceived n k i a.tasks a.steps) home (f.arrived k i e (all k own.0 own.1) at here)
+inputs_there : (b : BoardState) (n : ℕ) (s : Bool) (st : List Step) (node t : ℕ) (x : Task) → Facts (seen n s b st) → slice_get b.tasks t ≡ Some x
+    → x.node ≡ node → ((k : ℕ) (e : Edge) → slice_get b.edges k ≡ Some e → e.target ≡ t → e.way ≡ way.Received)
+    → (k : ℕ) (i : Input) → slice_get (map input_of b.edges) k ≡ Some i → i.target ≡ t → IsReceived node k i (map entry_of b.tasks) st
+inputs_there b n s st node t x f is home all k i at to =
+    let e = map_got input_of b.edges k i at in
+    let there : slice_get (map way_of b.edges) k ≡ Some way.Received =
+    map_get way_of b.edges k e.0 e.1 ∙ ap Some (all k e.0 e.1 (ap (λ (z : Input). z.target) e.2 ∙ to)) in
+    let here : slice_get (map entry_of b.tasks) i.target ≡ Some (entry_of x) =
+    ap (λ (j : ℕ). slice_get (map entry_of b.tasks) j) to ∙ map_get entry_of b.tasks t x is in
+    subst (λ (m : ℕ). IsReceived m k i (map entry_of b.tasks) st) home (f.arrived k i (entry_of x) there at here)
 
-pub is_dispatched : (p : Inside) (now : PoolState) (core : Accepted) (node t : ℕ) (e : Entry) → IsPool p → state_of p ≡ now
-    → slice_get p.tasks.items t ≡ Some e → e.node ≡ node → slice_get p.stages.items t ≡ Some stage.Fresh
-    → ((k : ℕ) → e.first ≤ k → k < e.end → slice_get p.received.items k ≡ Some true)
-    → MayCome p.core.nodes p.core.steps (Begin (record { 0 = t })) → core ≡ with_step p.core (Begin (record { 0 = t }))
-    → IsDispatched node t now (record (state_of p) { nodes = core.nodes; stages = set p.stages.items t stage.Running; steps = core.steps })
-is_dispatched p now core node t e k same is home fresh all may next =
-    subst (λ (a : PoolState). IsDispatched node t a (record (state_of p) {
-      nodes = core.nodes;
-      stages = set p.stages.items t stage.Running;
-      steps = core.steps;
-    })) same
-    (subst (λ (c : Accepted). IsDispatched node t (state_of p) (record (state_of p) {
-      nodes = c.nodes;
-      stages = set p.stages.items t stage.Running;
-      steps = c.steps;
-    })) (sym next) (record {
-      graph = record { nodes = refl; started = refl; tasks = refl; inputs = refl };
-      entry = e;
-      is = is;
-      home = home;
-      fresh = fresh;
+pub is_dispatched : (p q : Inside) (now : PoolState) (node t : ℕ) → IsPool p → state_of p ≡ now → on_board.IsReady node t p.board
+    → MayCome p.core.nodes p.core.steps (Begin (record { 0 = t })) → q.core ≡ with_step p.core (Begin (record { 0 = t }))
+    → HasBegun t p.board q.board → q.started ≡ p.started → IsDispatched node t now (state_of q)
+is_dispatched p q now node t k same r may core h started =
+    subst (λ (a : PoolState). IsDispatched node t a (state_of q)) same
+    (subst (λ (a : PoolState). IsDispatched node t (state_of p) a) (sym (begun_state p q t core started h)) (record {
+      graph = record { nodes = refl; started = refl; tasks = refl; inputs = refl; outside = refl };
+      entry = entry_of r.task;
+      is = map_get entry_of p.board.tasks t r.task r.is;
+      home = r.home;
+      fresh = map_get stage_of p.board.tasks t r.task r.is ∙ ap Some r.fresh;
       stages = refl;
       received = [];
       only = refl;
       steps = refl;
-      inputs = λ j i at to. inputs_there node t e k.facts is home all j i at to;
+      inputs = inputs_there p.board p.core.nodes p.started p.core.steps node t r.task k.facts r.is r.home h.received;
+      awaits_none = map_get outside_of p.board.tasks t h.was h.is ∙ ap Some h.outside;
       before = first_begin t k.facts may;
     }))
+
+pub begins_surely : (p : Inside) (node t : ℕ) (r : Bool) → BoardFacts p.board → on_board.IsReady node t p.board
+    → (IsFalse r → (x : Task) → slice_get p.board.tasks t ≡ Some x → x.stage ≡ stage.Fresh → on_board.LacksInput t p.board) → IsFalse r → ⊥
+begins_surely p node t r f ready exact fails = ready_lacks_none node t f ready (exact fails ready.task ready.is ready.fresh)
 
 pub dispatched_later : {node t : ℕ} {a b c : PoolState} → AddsOnly is_delivery a b → IsDispatched node t b c → IsDispatched node t a c
 dispatched_later {node} {t} {a} {b} {c} d h =
@@ -252,6 +209,7 @@ dispatched_later {node} {t} {a} {b} {c} d h =
       only = all_append is_delivery h.received d.later h.only d.only;
       steps = h.steps ∙ ap (λ (xs : List Step). Begin (record { 0 = t }) ∷ xs) joined;
       inputs = λ k i at to. subst (λ (xs : List Step). IsReceived node k i c.tasks xs) joined (h.inputs k i at to);
+      awaits_none = h.awaits_none;
       before = sym (count_adds is_delivery t (delivery_begins_none t) d) ∙ h.before;
     }
 
@@ -272,38 +230,366 @@ completed_later {t} {a} {b} {c} d h = record {
   steps = h.steps
       ∙ ap (λ (xs : List Step). Done (record { 0 = t }) ∷ xs)
       (ap (λ (xs : List Step). h.sent ++ xs) d.steps ∙ sym (append_assoc h.sent d.later a.steps));
+  passed = λ k o. h.passed k (record {
+    input = o.input;
+    is = ap (λ (xs : List Input). slice_get xs k) d.graph.inputs ∙ o.is;
+    source = o.source;
+  });
 }
 
--- ---- termination is detected
-pub kept_end : (p : Inside) (core : Accepted) (w count : ℕ) → IsPool p → IsSettled p.core core w count
-    → InEach (IsNeverEarly core.nodes) core.steps → IsPool (record p { core = core; ended_with = Some w })
-kept_end p core w count k is never =
-    let all = finished (length p.tasks.items) p.core core w count is never k.facts.by_steps.first k.facts.by_steps.known in
+-- ---- a task is done
+finished_state : (p q : Inside) (t : ℕ) → q.core ≡ with_step p.core (Done (record { 0 = t })) → q.started ≡ p.started → HasFinished t p.board q.board
+    → state_of q ≡ record (state_of p) { stages = set (map stage_of p.board.tasks) t stage.Done; steps = Done (record { 0 = t }) ∷ p.core.steps }
+finished_state p q t core started h =
+    rw (core, started, h.becomes)
+    (seen_stage p.core.nodes p.started (Done (record { 0 = t }) ∷ p.core.steps) p.board t h.was stage.Done h.is)
+
+pub kept_complete : (p q : Inside) (t : ℕ) → IsPool p → is_some p.ended_with ≡ false
+    → MayCome p.core.nodes p.core.steps (Done (record { 0 = t })) → q.core ≡ with_step p.core (Done (record { 0 = t }))
+    → HasFinished t p.board q.board → q.nodes ≡ p.nodes → q.started ≡ p.started → q.ended_with ≡ p.ended_with → IsPool q
+kept_complete p q t k none may core h nodes started ended =
+    kept_on p q _ k none (ap (λ (x : Accepted). x.nodes) core) nodes (ap (λ (x : BoardState). x.nodes) h.becomes) ended
+    (finished_state p q t core started h)
+    (facts_done t (facts_step (Done (record { 0 = t })) k.facts may refl) (done_now t p.core.steps))
+
+pub is_completed : (p q : Inside) (now : PoolState) (t : ℕ) → state_of p ≡ now → AllPassed t now
+    → q.core ≡ with_step p.core (Done (record { 0 = t })) → HasFinished t p.board q.board → q.started ≡ p.started
+    → IsCompleted t now (state_of q)
+is_completed p q now t same passed core h started =
+    subst (λ (a : PoolState). IsCompleted t a (state_of q)) same
+    (subst (λ (a : PoolState). IsCompleted t (state_of p) a) (sym (finished_state p q t core started h)) (record {
+      graph = record { nodes = refl; started = refl; tasks = refl; inputs = refl; outside = refl };
+      running = map_get stage_of p.board.tasks t h.was h.is ∙ ap Some h.running;
+      stages = refl;
+      sent = [];
+      only = refl;
+      steps = refl;
+      passed = subst (λ (a : PoolState). AllPassed t a) (sym same) passed;
+    }))
+
+pub completed_ways : (p q : Inside) (now : PoolState) (t : ℕ) → state_of p ≡ now → q.core ≡ with_step p.core (Done (record { 0 = t }))
+    → HasFinished t p.board q.board → q.started ≡ p.started → (state_of q).ways ≡ now.ways
+completed_ways p q now t same core h started =
+    ap (λ (a : PoolState). a.ways) (finished_state p q t core started h) ∙ ap (λ (a : PoolState). a.ways) same
+
+pub finishes_surely : (p : Inside) (now : PoolState) (t : ℕ) (r : Bool) → state_of p ≡ now → slice_get now.stages t ≡ Some stage.Running → AllPassed t now
+    → (IsFalse r → (x : Task) → slice_get p.board.tasks t ≡ Some x → x.stage ≡ stage.Running → (k : ℕ) × on_board.IsUnsent t k p.board) → IsFalse r → ⊥
+finishes_surely p now t r same running passed exact fails =
+    let run : slice_get (map stage_of p.board.tasks) t ≡ Some stage.Running = subst (λ (a : PoolState). slice_get a.stages t ≡ Some stage.Running) (sym same) running in
+    let x = map_got stage_of p.board.tasks t stage.Running run in
+    let u = exact fails x.0 x.1 x.2 in
+    let o = unsent_seen p.core.nodes p.started p.core.steps p.board t u.0 u.1 in
+    (subst (λ (a : PoolState). AllPassed t a) (sym same) passed) u.0 o.0 o.1
+
+-- ---- an input is passed on
+left_state : (p q : Inside) (k : ℕ) → q.started ≡ p.started → HasLeft k p.board q.board
+    → state_of q ≡ record (seen q.core.nodes p.started p.board q.core.steps) { ways = set (map way_of p.board.edges) k way.UnderWay }
+left_state p q k started h =
+    rw (started, h.becomes)
+    (seen_way q.core.nodes p.started q.core.steps p.board h.may.edge.source k h.may.source _ h.may.edge way.UnderWay h.may.from refl refl refl h.may.is)
+
+not_received : way.UnderWay ≡ way.Received → ⊥
+not_received e = cc
+
+pub kept_send : (p q : Inside) (core : Accepted) (k : ℕ) → IsPool p → is_some p.ended_with ≡ false → SendsOne p.core core → q.core ≡ core
+    → HasLeft k p.board q.board → q.nodes ≡ p.nodes → q.started ≡ p.started → q.ended_with ≡ p.ended_with → IsPool q
+kept_send p q core k kept none (inl same) is h nodes started ended =
+    kept_on p q (record (state_of p) { ways = set (map way_of p.board.edges) k way.UnderWay }) kept none
+    (ap (λ (x : Accepted). x.nodes) (is ∙ same)) nodes (ap (λ (x : BoardState). x.nodes) h.becomes) ended
+    (left_state p q k started h
+    ∙ ap (λ (x : Accepted). record (seen x.nodes p.started p.board x.steps) { ways = set (map way_of p.board.edges) k way.UnderWay }) (is ∙ same))
+    (facts_way k way.UnderWay kept.facts (λ e. absurd (not_received e)))
+kept_send p q core k kept none (inr more) is h nodes started ended =
+    kept_on p q (record (state_of p) { ways = set (map way_of p.board.edges) k way.UnderWay; steps = more.0 ∷ p.core.steps }) kept none
+    (ap (λ (x : Accepted). x.nodes) (is ∙ more.4)) nodes (ap (λ (x : BoardState). x.nodes) h.becomes) ended
+    (left_state p q k started h
+    ∙ ap (λ (x : Accepted). record (seen x.nodes p.started p.board x.steps) { ways = set (map way_of p.board.edges) k way.UnderWay }) (is ∙ more.4))
+    (facts_way k way.UnderWay (facts_step more.0 kept.facts more.3 more.2) (λ e. absurd (not_received e)))
+
+sends_only : (p : Inside) (core : Accepted) (ws : List Way) → SendsOne p.core core
+    → AddsOnly is_sending (state_of p) (record (seen core.nodes p.started p.board core.steps) { ways = ws })
+sends_only p core ws (inl same) =
+    subst (λ (c : Accepted). AddsOnly is_sending (state_of p) (record (seen c.nodes p.started p.board c.steps) { ways = ws })) (sym same) (record {
+      graph = record { nodes = refl; started = refl; tasks = refl; inputs = refl; outside = refl };
+      stages = refl;
+      later = [];
+      steps = refl;
+      only = refl;
+    })
+sends_only p core ws (inr more) =
+    subst (λ (c : Accepted). AddsOnly is_sending (state_of p) (record (seen c.nodes p.started p.board c.steps) { ways = ws })) (sym more.4) (record {
+      graph = record { nodes = refl; started = refl; tasks = refl; inputs = refl; outside = refl };
+      stages = refl;
+      later = more.0 ∷ [];
+      steps = refl;
+      only = rw more.1 refl;
+    })
+
+pub adds_send : (p q : Inside) (now : PoolState) (k : ℕ) → state_of p ≡ now → SendsOne p.core q.core → HasLeft k p.board q.board
+    → q.started ≡ p.started → AddsOnly is_sending now (state_of q)
+adds_send p q now k same sends h started =
+    subst (λ (a : PoolState). AddsOnly is_sending a (state_of q)) same
+    (subst (λ (a : PoolState). AddsOnly is_sending (state_of p) a) (sym (left_state p q k started h))
+    (sends_only p q.core (set (map way_of p.board.edges) k way.UnderWay) sends))
+
+pub left_ways : (p q : Inside) (now : PoolState) (k : ℕ) → state_of p ≡ now → HasLeft k p.board q.board → q.started ≡ p.started
+    → (state_of q).ways ≡ set now.ways k way.UnderWay
+left_ways p q now k same h started =
+    ap (λ (a : PoolState). a.ways) (left_state p q k started h) ∙ ap (λ (a : PoolState). set a.ways k way.UnderWay) same
+
+output_board : (p : Inside) (t k : ℕ) (e : Edge) → slice_get p.board.edges k ≡ Some e → e.source ≡ t → IsOutput t k (state_of p)
+output_board p t k e at source = record { input = input_of e; is = map_get input_of p.board.edges k e at; source = source }
+
+pub output_now : (p : Inside) (now : PoolState) (t k : ℕ) (e : Edge) → state_of p ≡ now → slice_get p.board.edges k ≡ Some e → e.source ≡ t
+    → IsOutput t k now
+output_now p now t k e same at source = subst (λ (a : PoolState). IsOutput t k a) same (output_board p t k e at source)
+
+pub way_now : (p : Inside) (now : PoolState) (k : ℕ) (e : Edge) (w : Way) → state_of p ≡ now → slice_get p.board.edges k ≡ Some e → e.way ≡ w
+    → slice_get now.ways k ≡ Some w
+way_now p now k e w same at is =
+    subst (λ (a : PoolState). slice_get a.ways k ≡ Some w) same (map_get way_of p.board.edges k e at ∙ ap Some is)
+
+pub sent_ways : (p q : Inside) (now : PoolState) (t k : ℕ) (e : Edge) → state_of p ≡ now → slice_get p.board.edges k ≡ Some e → e.source ≡ t
+    → e.way ≡ way.Out → HasLeft k p.board q.board → q.started ≡ p.started → AreSent t now (state_of q)
+sent_ways p q now t k e same at source out h started =
+    sent_one t k now (state_of q) (output_now p now t k e same at source) (way_now p now k e way.Out same at out) (left_ways p q now k same h started)
+
+-- the edge of an input that comes from the task is there
+pub output_edge : (p : Inside) (now : PoolState) (t k : ℕ) (w : Way) → state_of p ≡ now → IsOutput t k now → slice_get now.ways k ≡ Some w
+    → (e : Edge) × (slice_get p.board.edges k ≡ Some e) × (e.source ≡ t) × (e.way ≡ w)
+output_edge p now t k w same o at =
+    let o' : IsOutput t k (state_of p) = subst (λ (a : PoolState). IsOutput t k a) (sym same) o in
+    let e = map_got input_of p.board.edges k o'.input o'.is in
+    let w' : slice_get (map way_of p.board.edges) k ≡ Some w = subst (λ (a : PoolState). slice_get a.ways k ≡ Some w) (sym same) at in
+    (e.0, e.1, ap (λ (z : Input). z.source) e.2 ∙ o'.source, some_same e.0.way w (sym (map_get way_of p.board.edges k e.0 e.1) ∙ w'))
+
+pub leaves_surely : (p : Inside) (now : PoolState) (t k : ℕ) (e : Edge) (r : Bool) → state_of p ≡ now → slice_get now.stages t ≡ Some stage.Running
+    → slice_get p.board.edges k ≡ Some e → e.source ≡ t → e.way ≡ way.Out → (IsFalse r → on_board.MayLeave k p.board → ⊥) → IsFalse r → ⊥
+leaves_surely p now t k e r same running at source out exact fails =
+    let run : slice_get (map stage_of p.board.tasks) t ≡ Some stage.Running = subst (λ (a : PoolState). slice_get a.stages t ≡ Some stage.Running) (sym same) running in
+    let x = map_got stage_of p.board.tasks t stage.Running run in
+    exact fails (record {
+      edge = e;
+      is = at;
+      out = out;
+      source = x.0;
+      from = ap (λ (m : ℕ). slice_get p.board.tasks m) source ∙ x.1;
+      running = x.2;
+    })
+
+-- ---- an input is received
+arrived_state : (p q : Inside) (k : ℕ) (last : Bool) → q.core ≡ p.core → q.started ≡ p.started → HasArrived k last p.board q.board
+    → state_of q ≡ record (state_of p) { ways = set (map way_of p.board.edges) k way.Received }
+arrived_state p q k last core started h =
+    rw (core, started, h.becomes)
+    (seen_way p.core.nodes p.started p.core.steps p.board h.may.edge.target k h.target _ h.may.edge way.Received h.of refl refl refl h.may.is)
+
+received_by : (a : PoolState) (node k : ℕ) (i : Input) → WasDone i.source a.steps → slice_get a.inputs k ≡ Some i
+    → IsFrom node k a ⊎ WasReceived node k a.steps → IsReceived node k i a.tasks a.steps
+received_by a node k i done at (inl h) = record { done = done; message = λ x is o. absurd (o (h i x at is)) }
+received_by a node k i done at (inr h) = record { done = done; message = λ x is o. h }
+
+coming_there : (a : PoolState) (node k : ℕ) → Facts a → IsComing node k a → IsFrom node k a ⊎ WasReceived node k a.steps
+    → (i : Input) (x : Entry) → slice_get a.inputs k ≡ Some i → slice_get a.tasks i.target ≡ Some x → IsReceived x.node k i a.tasks a.steps
+coming_there a node k f c how i x at is =
+    let same : c.input ≡ i = some_same c.input i (sym c.is ∙ at) in
+    let target : c.target ≡ x = some_same c.target x (sym c.at ∙ (ap (λ (j : Input). slice_get a.tasks j.target) same ∙ is)) in
+    let home : node ≡ x.node = sym c.home ∙ ap (λ (y : Entry). y.node) target in
+    let done : slice_get a.stages i.source ≡ Some stage.Done = ap (λ (j : Input). slice_get a.stages j.source) (sym same) ∙ c.done in
+    subst (λ (n : ℕ). IsReceived n k i a.tasks a.steps) home (received_by a node k i (f.by_steps.done i.source done) at how)
+
+pub arrives_surely : (p : Inside) (now : PoolState) (node k : ℕ) (r : Option Bool) (b : BoardState) → state_of p ≡ now → BoardFacts p.board
+    → IsComing node k now → IfSome r (λ last. HasArrived k last p.board b) → IfNone r (on_board.MayArrive k p.board → ⊥)
+    → (last : Bool) × HasArrived k last p.board b
+arrives_surely p now node k None b same f c ok exact =
+    absurd (exact (coming_board p.core.nodes p.started p.core.steps p.board node k f (subst (λ (a : PoolState). IsComing node k a) (sym same) c)).may)
+arrives_surely p now node k (Some last) b same f c ok exact = (last, ok)
+
+pub kept_arrive : (p q : Inside) (now : PoolState) (node k : ℕ) → IsPool p → state_of p ≡ now → IsComing node k now
+    → IsFrom node k now ⊎ WasReceived node k now.steps → (last : Bool) × HasArrived k last p.board q.board
+    → q.core ≡ p.core → q.nodes ≡ p.nodes → q.started ≡ p.started → q.ended_with ≡ p.ended_with → IsPool q
+kept_arrive p q now node k kept same c how h core nodes started ended =
+    kept_same p q (record (state_of p) { ways = set (map way_of p.board.edges) k way.Received }) kept core nodes
+    (ap (λ (x : BoardState). x.nodes) h.1.becomes) ended (arrived_state p q k h.0 core started h.1) refl refl refl
+    (facts_way k way.Received kept.facts (λ e. coming_there (state_of p) node k kept.facts
+    (subst (λ (a : PoolState). IsComing node k a) (sym same) c)
+    (subst (λ (a : PoolState). IsFrom node k a ⊎ WasReceived node k a.steps) (sym same) how)))
+
+pub has_arrived : (p q : Inside) (now : PoolState) (k : ℕ) → state_of p ≡ now → (last : Bool) × HasArrived k last p.board q.board
+    → q.core ≡ p.core → q.started ≡ p.started → state_of q ≡ record now { ways = slice_set now.ways k way.Received }
+has_arrived p q now k same h core started =
+    arrived_state p q k h.0 core started h.1 ∙ ap (λ (a : PoolState). record a { ways = set a.ways k way.Received }) same
+
+-- ---- a task more
+task_state : (p q : Inside) (b : BoardState) (node class r : ℕ) (s : Step) → q.core ≡ with_step p.core s → q.started ≡ p.started
+    → b ≡ record p.board { task_room = r } → q.board ≡ with_task node class b
+    → state_of q ≡ record (state_of p) {
+      tasks = map entry_of p.board.tasks ++ record { node = node; class = class } ∷ [];
+      stages = map stage_of p.board.tasks ++ stage.Fresh ∷ [];
+      outside = map outside_of p.board.tasks ++ 0 ∷ [];
+      steps = s ∷ p.core.steps;
+    }
+task_state p q b node class r s core started room added =
+    rw (core, started, added, room) (seen_task p.core.nodes p.started (s ∷ p.core.steps) p.board node class)
+
+pub kept_task : (p q : Inside) (b : BoardState) (node class r : ℕ) (s : Step) → IsPool p → BoardFacts p.board → is_some p.ended_with ≡ false
+    → MayCome p.core.nodes p.core.steps s → IsFalse (is_reopen s) → IsTrue (is_insert_of (length p.board.tasks) s)
+    → q.core ≡ with_step p.core s → q.nodes ≡ p.nodes → q.started ≡ p.started → q.ended_with ≡ p.ended_with
+    → b ≡ record p.board { task_room = r } → q.board ≡ with_task node class b → IsPool q
+kept_task p q b node class r s k f none may on of core nodes started ended room added =
+    let long : length (map entry_of p.board.tasks) ≡ length p.board.tasks = length-map p.board.tasks entry_of in
+    kept_on p q _ k none (ap (λ (x : Accepted). x.nodes) core) nodes
+    (ap (λ (x : BoardState). x.nodes) added ∙ ap (λ (x : BoardState). x.nodes) room) ended
+    (task_state p q b node class r s core started room added)
+    (facts_task (record { node = node; class = class }) (map outside_of p.board.tasks ++ 0 ∷ []) s k.facts
+    (consistent p.core.nodes p.started p.core.steps p.board f (k.board ∙ sym k.nodes)) may on
+    (subst (λ (m : ℕ). IsTrue (is_insert_of m s)) (sym long) of))
+
+-- ---- an input more
+edge_state : (p q : Inside) (b : BoardState) (source r : ℕ) (u : Task) → q.core ≡ p.core → q.started ≡ p.started
+    → b ≡ record p.board { edge_room = r } → slice_get p.board.tasks source ≡ Some u → u.stage ≢ stage.Done → (h : HasEdge source b q.board)
+    → state_of q ≡ record (state_of p) {
+      inputs = map input_of p.board.edges ++ record { source = source; target = h.newest } ∷ [];
+      ways = map way_of p.board.edges ++ way.Out ∷ [];
+    }
+edge_state p q b source r u core started room is apart h =
+    let tasks : b.tasks ≡ p.board.tasks = ap (λ (x : BoardState). x.tasks) room in
+    let same : h.from ≡ u = some_same h.from u (sym h.of ∙ (ap (λ (xs : List Task). slice_get xs source) tasks ∙ is)) in
+    let becomes = h.not_done (λ d. apart (ap (λ (x : Task). x.stage) (sym same) ∙ d)) in
+    let seen_b = seen_edge p.core.nodes p.started p.core.steps b source h.newest h.task h.from h.is h.of h.before in
+    ap (λ (c : Accepted). seen c.nodes q.started q.board c.steps) core
+    ∙ (ap (λ (z : Bool). seen p.core.nodes z q.board p.core.steps) started
+    ∙ (ap (λ (x : BoardState). seen p.core.nodes p.started x p.core.steps) becomes
+    ∙ (seen_b ∙ ap (λ (x : BoardState). record (seen p.core.nodes p.started x p.core.steps) {
+      inputs = map input_of x.edges ++ record { source = source; target = h.newest } ∷ [];
+      ways = map way_of x.edges ++ way.Out ∷ [];
+    }) room)))
+
+edge_nodes : {source : ℕ} {b c : BoardState} (h : HasEdge source b c) → h.from.stage ≢ stage.Done → c.nodes ≡ b.nodes
+edge_nodes h apart = ap (λ (x : BoardState). x.nodes) (h.not_done apart)
+
+pub kept_input : (p q : Inside) (b : BoardState) (source r : ℕ) (u : Task) → IsPool p → BoardFacts p.board → q.core ≡ p.core → q.nodes ≡ p.nodes
+    → q.started ≡ p.started → q.ended_with ≡ p.ended_with → b ≡ record p.board { edge_room = r } → slice_get p.board.tasks source ≡ Some u
+    → u.stage ≢ stage.Done → HasEdge source b q.board → IsPool q
+kept_input p q b source r u k f core nodes started ended room is apart h =
+    let tasks : b.tasks ≡ p.board.tasks = ap (λ (x : BoardState). x.tasks) room in
+    let same : h.from ≡ u = some_same h.from u (sym h.of ∙ (ap (λ (xs : List Task). slice_get xs source) tasks ∙ is)) in
+    kept_same p q _ k core nodes
+    (edge_nodes h (λ d. apart (ap (λ (x : Task). x.stage) (sym same) ∙ d)) ∙ ap (λ (x : BoardState). x.nodes) room) ended
+    (edge_state p q b source r u core started room is apart h) refl refl refl
+    (facts_input (record { source = source; target = h.newest }) k.facts
+    (consistent p.core.nodes p.started p.core.steps p.board f (k.board ∙ sym k.nodes)))
+
+pub input_added : (p q : Inside) (b : BoardState) (now : PoolState) (source r : ℕ) (u : Task) → state_of p ≡ now → q.core ≡ p.core → q.started ≡ p.started
+    → b ≡ record p.board { edge_room = r } → slice_get p.board.tasks source ≡ Some u → u.stage ≢ stage.Done → HasEdge source b q.board
+    → IsInputAdded source now (state_of q)
+input_added p q b now source r u same core started room is apart h =
+    let tasks : length b.tasks ≡ length p.board.tasks = ap (λ (x : BoardState). length x.tasks) room in
+    let long : length (map entry_of p.board.tasks) ≡ length p.board.tasks = length-map p.board.tasks entry_of in
+    let last = h.last in
+    subst (λ (a : PoolState). IsInputAdded source a (state_of q)) same
+    (subst (λ (a : PoolState). IsInputAdded source (state_of p) a) (sym (edge_state p q b source r u core started room is apart h)) (record {
+      nodes = refl;
+      started = refl;
+      newest = h.newest;
+      last = omega (arith, last, tasks, long);
+      before = h.before;
+      tasks = refl;
+      stages = refl;
+      inputs = refl;
+      ways = refl;
+      outside = refl;
+      steps = refl;
+    }))
+
+-- ---- inputs from outside
+facts_outside : {a : PoolState} (o : List ℕ) → Facts a → Facts (record a { outside = o })
+facts_outside o f = record { by_steps = f.by_steps; arrived = f.arrived }
+
+outside_state : (p q : Inside) (t m o : ℕ) (x : Task) → q.core ≡ p.core → q.started ≡ p.started → slice_get p.board.tasks t ≡ Some x
+    → q.board ≡ record p.board { tasks = set p.board.tasks t (record x { missing = m; outside = o }) }
+    → state_of q ≡ record (state_of p) { outside = set (map outside_of p.board.tasks) t o }
+outside_state p q t m o x core started is becomes =
+    rw (core, started, becomes) (seen_outside p.core.nodes p.started p.core.steps p.board t m o x is)
+
+kept_count : (p q : Inside) (t m o : ℕ) (x : Task) → IsPool p → q.core ≡ p.core → q.nodes ≡ p.nodes → q.started ≡ p.started
+    → q.ended_with ≡ p.ended_with → slice_get p.board.tasks t ≡ Some x
+    → q.board ≡ record p.board { tasks = set p.board.tasks t (record x { missing = m; outside = o }) } → IsPool q
+kept_count p q t m o x k core nodes started ended is becomes =
+    kept_same p q _ k core nodes (ap (λ (b : BoardState). b.nodes) becomes) ended (outside_state p q t m o x core started is becomes) refl refl refl
+    (facts_outside (set (map outside_of p.board.tasks) t o) k.facts)
+
+pub kept_outside : (p q : Inside) (t : ℕ) → IsPool p → HasOutside t p.board q.board → q.core ≡ p.core → q.nodes ≡ p.nodes → q.started ≡ p.started
+    → q.ended_with ≡ p.ended_with → IsPool q
+kept_outside p q t k h core nodes started ended = kept_count p q t (h.was.missing + 1) (h.was.outside + 1) h.was k core nodes started ended h.is h.becomes
+
+pub kept_release : (p q : Inside) (t : ℕ) (last : Bool) → IsPool p → HasReleased t last p.board q.board → q.core ≡ p.core → q.nodes ≡ p.nodes
+    → q.started ≡ p.started → q.ended_with ≡ p.ended_with → IsPool q
+kept_release p q t last k h core nodes started ended =
+    kept_count p q t (h.was.missing - 1) (h.was.outside - 1) h.was k core nodes started ended h.is h.becomes
+
+pub outside_added : (p q : Inside) (now : PoolState) (t : ℕ) → state_of p ≡ now → HasOutside t p.board q.board → q.core ≡ p.core
+    → q.started ≡ p.started → (IsTrue p.started → on_board.LacksInput t p.board) → IsOutsideAdded t now (state_of q)
+outside_added p q now t same h core started lacking =
+    subst (λ (a : PoolState). IsOutsideAdded t a (state_of q)) same (record {
+      fresh = map_get stage_of p.board.tasks t h.was h.is ∙ ap Some h.fresh;
+      lacking = λ s. lacks_seen p.core.nodes p.started p.core.steps p.board t (lacking s);
+      was = h.was.outside;
+      awaited = map_get outside_of p.board.tasks t h.was h.is;
+      becomes = outside_state p q t (h.was.missing + 1) (h.was.outside + 1) h.was core started h.is h.becomes;
+    })
+
+pub is_released : (p q : Inside) (now : PoolState) (t : ℕ) (last : Bool) → state_of p ≡ now → HasReleased t last p.board q.board → q.core ≡ p.core
+    → q.started ≡ p.started → IsReleased t now (state_of q)
+is_released p q now t last same h core started =
+    subst (λ (a : PoolState). IsReleased t a (state_of q)) same (record {
+      was = h.was.outside;
+      awaited = map_get outside_of p.board.tasks t h.was h.is;
+      some = h.some;
+      becomes = outside_state p q t (h.was.missing - 1) (h.was.outside - 1) h.was core started h.is h.becomes;
+    })
+
+-- a task that lacks nothing, in the words of the pool
+pub lacks_none : (p : Inside) (now : PoolState) (node t : ℕ) → state_of p ≡ now → BoardFacts p.board → on_board.IsReady node t p.board
+    → LacksInput t now → ⊥
+lacks_none p now node t same f r h =
+    ready_lacks_none node t f r
+    (lacks_board p.core.nodes p.started p.core.steps p.board t (subst (λ (a : PoolState). LacksInput t a) (sym same) h))
+
+-- ---- the end is judged
+pub kept_end : (p q : Inside) (core : Accepted) (w count : ℕ) → IsPool p → IsSettled p.core core w count
+    → InEach (IsNeverEarly core.nodes) core.steps → q.core ≡ core → q.nodes ≡ p.nodes → q.started ≡ p.started → q.board ≡ p.board
+    → q.ended_with ≡ Some w → IsPool q
+kept_end p q core w count k is never core_is nodes started board ended =
+    let all = finished (length (map entry_of p.board.tasks)) p.core core w count is never k.facts.by_steps.first k.facts.by_steps.known in
     let more = λ (t : ℕ) (h : WasDone t p.core.steps). subst (λ (xs : List Step). WasDone t xs) (sym is.steps)
     (any_append (is_done_of t) (Judge ∷ is.taken) p.core.steps h) in
-    record {
-      nodes = is.nodes ∙ k.nodes;
-      facts = record {
-        by_steps = record {
-          some_node = subst (λ (n : ℕ). 1 ≤ n) (sym is.nodes) k.facts.by_steps.some_node;
-          few_nodes = subst (λ (n : ℕ). n ≤ MAX_NODES) (sym is.nodes) k.facts.by_steps.few_nodes;
-          runs = rw (is.nodes, is.steps) is.run;
-          first = all.0;
-          known = all.1;
-          done = λ t h. more t (k.facts.by_steps.done t h);
-        };
-        graph = k.facts.graph;
-        arrived = λ j i x h at to. subst (λ (xs : List Step). IsReceived x.node j i p.tasks.items xs) (sym is.steps)
-            (received_steps (Judge ∷ is.taken) (k.facts.arrived j i x h at to));
+    let same : state_of q ≡ record (state_of p) { nodes = core.nodes; steps = core.steps } = rw (core_is, started, board) refl in
+    let f : Facts (record (state_of p) { nodes = core.nodes; steps = core.steps }) = record {
+      by_steps = record {
+        some_node = subst (λ (n : ℕ). 1 ≤ n) (sym is.nodes) k.facts.by_steps.some_node;
+        few_nodes = subst (λ (n : ℕ). n ≤ MAX_NODES) (sym is.nodes) k.facts.by_steps.few_nodes;
+        runs = rw (is.nodes, is.steps) is.run;
+        first = all.0;
+        known = all.1;
+        done = λ t h. more t (k.facts.by_steps.done t h);
       };
-      ended_with = record { quiet = all.2; once = all.3 };
+      arrived = λ j i x h at to. subst (λ (xs : List Step). IsReceived x.node j i (map entry_of p.board.tasks) xs) (sym is.steps)
+          (received_steps (Judge ∷ is.taken) (k.facts.arrived j i x h at to));
+    } in
+    let done : IsFinished (record (state_of p) { nodes = core.nodes; steps = core.steps }) = record { quiet = all.2; once = all.3 } in
+    record {
+      nodes = ap (λ (x : Accepted). x.nodes) core_is ∙ (is.nodes ∙ (k.nodes ∙ sym nodes));
+      board = ap (λ (x : BoardState). x.nodes) board ∙ (k.board ∙ sym nodes);
+      facts = subst (λ (a : PoolState). Facts a) (sym same) f;
+      ended_with = rw ended (subst (λ (a : PoolState). IsFinished a) (sym same) done);
     }
 
 pub end_graph : (p : Inside) (now : PoolState) (core : Accepted) (w count : ℕ) → state_of p ≡ now → IsSettled p.core core w count
-    → SameGraph now (record (state_of p) { nodes = core.nodes; steps = core.steps })
+    → SameGraph now (seen core.nodes p.started p.board core.steps)
 end_graph p now core w count same is =
-    subst (λ (a : PoolState). SameGraph a (record (state_of p) { nodes = core.nodes; steps = core.steps })) same
-    (record { nodes = is.nodes; started = refl; tasks = refl; inputs = refl })
+    subst (λ (a : PoolState). SameGraph a (seen core.nodes p.started p.board core.steps)) same
+    (record { nodes = is.nodes; started = refl; tasks = refl; inputs = refl; outside = refl })
 
 pub end_begins_none : (p : Inside) (now : PoolState) (core : Accepted) (w count' t : ℕ) → state_of p ≡ now → IsSettled p.core core w count'
     → count (is_begin_of t) core.steps ≡ count (is_begin_of t) now.steps
@@ -326,3 +612,111 @@ none_begun_sent t d = count_adds is_sending t (sending_begins_none t) d
 pub none_begun_done : {a b : PoolState} (u t : ℕ) → IsCompleted u a b → count (is_begin_of t) b.steps ≡ count (is_begin_of t) a.steps
 none_begun_done {a} u t h =
     ap (count (is_begin_of t)) h.steps ∙ count_only is_sending t (sending_begins_none t) h.sent a.steps h.only
+
+-- ---- what the checks say
+abbrev Refused : Refusal → Result (Unit {0}) Refusal → Type 0
+Refused e r = Err e ≡ r
+
+pub refused_by : (o : Option Refusal) (e : Refusal) → o ≡ Some e → IfSome o (λ r. Refused e (Err r))
+refused_by o e h = rw h refl
+
+pub outside_full : (a : PoolState) (t n : ℕ) (x : Entry) → slice_get a.tasks t ≡ Some x → slice_get a.stages t ≡ Some stage.Fresh
+    → slice_get a.outside t ≡ Some n → MAX_STEPS ≤ n → first_refusal (outside_checks a t) ≡ Some (refusal.HistoryFull MAX_STEPS)
+outside_full a t n x is fresh at full = let h : nat_le MAX_STEPS n ≡ true = grind (arith, nat_tests, full) in rw (is, fresh, at, h) refl
+
+pub outside_passes : (a : PoolState) (t n : ℕ) (x : Entry) → slice_get a.tasks t ≡ Some x → slice_get a.stages t ≡ Some stage.Fresh
+    → slice_get a.outside t ≡ Some n → n < MAX_STEPS → first_refusal (outside_checks a t) ≡ None
+outside_passes a t n x is fresh at few = let h : nat_le MAX_STEPS n ≡ false = grind (arith, nat_tests, few) in rw (is, fresh, at, h) refl
+
+pub release_passes : (a : PoolState) (t n : ℕ) (x : Entry) → slice_get a.tasks t ≡ Some x → slice_get a.outside t ≡ Some n → 1 ≤ n
+    → first_refusal (release_checks a t) ≡ None
+release_passes a t n x is at some = let h : nat_le 1 n ≡ true = grind (arith, nat_tests, some) in rw (is, at, h) refl
+
+pub not_refused : (o : Option Refusal) (P : Refusal → Type 0) → o ≡ None → IfSome o P
+not_refused None P h = tt
+not_refused (Some r) P h = cc
+
+pub task_now : (p : Inside) (now : PoolState) (t : ℕ) (x : Task) → state_of p ≡ now → slice_get p.board.tasks t ≡ Some x
+    → (slice_get now.tasks t ≡ Some (entry_of x)) × (slice_get now.stages t ≡ Some x.stage) × (slice_get now.outside t ≡ Some x.outside)
+task_now p now t x same is = (
+  subst (λ (a : PoolState). slice_get a.tasks t ≡ Some (entry_of x)) same (map_get entry_of p.board.tasks t x is),
+  subst (λ (a : PoolState). slice_get a.stages t ≡ Some x.stage) same (map_get stage_of p.board.tasks t x is),
+  subst (λ (a : PoolState). slice_get a.outside t ≡ Some x.outside) same (map_get outside_of p.board.tasks t x is),
+)
+
+-- the refusal of `outside` for a task that is not released is for one of its checks
+pub full_now : (p : Inside) (now : PoolState) (t : ℕ) (x : Task) → state_of p ≡ now → slice_get p.board.tasks t ≡ Some x → x.stage ≡ stage.Fresh
+    → MAX_STEPS ≤ x.outside → first_refusal (outside_checks now t) ≡ Some (refusal.HistoryFull MAX_STEPS)
+full_now p now t x same is fresh full =
+    let e = task_now p now t x same is in outside_full now t x.outside (entry_of x) e.0 (e.1 ∙ ap Some fresh) e.2 full
+
+pub passes_now : (p : Inside) (now : PoolState) (t : ℕ) (x : Task) → state_of p ≡ now → slice_get p.board.tasks t ≡ Some x → x.stage ≡ stage.Fresh
+    → x.outside < MAX_STEPS → first_refusal (outside_checks now t) ≡ None
+passes_now p now t x same is fresh few =
+    let e = task_now p now t x same is in outside_passes now t x.outside (entry_of x) e.0 (e.1 ∙ ap Some fresh) e.2 few
+
+pub releases_now : (p : Inside) (now : PoolState) (t : ℕ) (x : Task) → state_of p ≡ now → slice_get p.board.tasks t ≡ Some x → 1 ≤ x.outside
+    → first_refusal (release_checks now t) ≡ None
+releases_now p now t x same is some =
+    let e = task_now p now t x same is in release_passes now t x.outside (entry_of x) e.0 e.2 some
+
+pub fresh_not_done : (g : Stage) → g ≡ stage.Fresh → g ≢ stage.Done
+fresh_not_done g e d = cc
+
+pub ready_if : (p : Inside) (t : ℕ) (x : Task) → slice_get p.board.tasks t ≡ Some x → x.stage ≡ stage.Fresh → x.missing ≡ 0
+    → on_board.IsReady x.node t p.board
+ready_if p t x is fresh none = record { task = x; is = is; home = refl; fresh = fresh; lacks_none = none }
+
+pub both_true : (a : Bool) (n : ℕ) → IsTrue (a && (n == 0)) → IsTrue a × (n ≡ 0)
+both_true true n h = (refl, grind (arith, nat_tests, h))
+both_true false n h = cc
+
+pub not_zero : (a : Bool) (n : ℕ) → IsFalse (a && (n == 0)) → IsTrue a → n ≢ 0
+not_zero true n h t z = grind (arith, nat_tests, h, z)
+not_zero false n h t z = cc
+
+-- ---- what is found
+pub some_coming : (p : Inside) (node : ℕ) (o : Option ℕ) → BoardFacts p.board → IfSome o (λ k. on_board.IsComing node k p.board)
+    → IfSome o (λ k. IsComing node k (state_of p))
+some_coming p node None f h = tt
+some_coming p node (Some k) f h = coming_seen p.core.nodes p.started p.core.steps p.board node k f h
+
+pub none_coming : (p : Inside) (node : ℕ) (o : Option ℕ) → BoardFacts p.board → IfNone o ((k : ℕ) → on_board.IsComing node k p.board → ⊥)
+    → IfNone o ((k : ℕ) → IsComing node k (state_of p) → ⊥)
+none_coming p node None f h = λ k c. h k (coming_board p.core.nodes p.started p.core.steps p.board node k f c)
+none_coming p node (Some k) f h = tt
+
+pub some_unsent : (p : Inside) (now : PoolState) (t : ℕ) (o : Option ℕ) → state_of p ≡ now → IfSome o (λ k. on_board.IsUnsent t k p.board)
+    → IfSome o (λ k. IsOutput t k now × (slice_get now.ways k ≡ Some way.Out))
+some_unsent p now t None same h = tt
+some_unsent p now t (Some k) same h =
+    subst (λ (a : PoolState). IsOutput t k a × (slice_get a.ways k ≡ Some way.Out)) same (unsent_seen p.core.nodes p.started p.core.steps p.board t k h)
+
+pub none_unsent : (p : Inside) (now : PoolState) (t : ℕ) (o : Option ℕ) → state_of p ≡ now → IfNone o ((k : ℕ) → on_board.IsUnsent t k p.board → ⊥)
+    → IfNone o (AllPassed t now)
+none_unsent p now t None same h = subst (λ (a : PoolState). AllPassed t a) same (passed_seen p.core.nodes p.started p.core.steps p.board t h)
+none_unsent p now t (Some k) same h = tt
+
+-- an output of a task that is done, at its own node
+pub output_coming : (p : Inside) (now : PoolState) (node t k : ℕ) (e : Edge) → state_of p ≡ now → BoardFacts p.board → slice_get p.board.edges k ≡ Some e
+    → e.source ≡ t → e.way ≡ way.UnderWay → e.to ≡ node → slice_get now.stages t ≡ Some stage.Done → IsComing node k now
+output_coming p now node t k e same f at source is to done =
+    let run : slice_get (map stage_of p.board.tasks) t ≡ Some stage.Done = subst (λ (a : PoolState). slice_get a.stages t ≡ Some stage.Done) (sym same) done in
+    let x = map_got stage_of p.board.tasks t stage.Done run in
+    subst (λ (a : PoolState). IsComing node k a) same (coming_seen p.core.nodes p.started p.core.steps p.board node k f (record {
+      may = record {
+        edge = e;
+        is = at;
+        under_way = is;
+        source = x.0;
+        from = ap (λ (m : ℕ). slice_get p.board.tasks m) source ∙ x.1;
+        done = x.2;
+      };
+      to = to;
+    }))
+
+pub output_from : (a : PoolState) (node t k : ℕ) → IsOutput t k a → IsHome node t a → IsFrom node k a
+output_from a node t k o home = λ i x at is.
+    let same : o.input ≡ i = some_same o.input i (sym o.is ∙ at) in
+    let source : i.source ≡ t = ap (λ (j : Input). j.source) (sym same) ∙ o.source in
+    home x (ap (λ (m : ℕ). slice_get a.tasks m) (sym source) ∙ is)

@@ -1,9 +1,7 @@
--- Lists with one element replaced or one added.
-use Rattle.std.proofs.Common.{arith, ◌+◌, ◌<◌, ◌≢◌, ◌⊎◌, ℕ, zero, suc, ◌≡◌, List, [], ◌∷◌, ◌++◌, length, Some, refl, ap, sym, inl, inr}
+-- Lists in which one place is written, or one thing is added, and what a function makes of them.
+use Rattle.std.proofs.Common.{arith, ◌<◌, ◌≢◌, ◌⊎◌, ℕ, zero, suc, ◌≡◌, List, [], ◌∷◌, ◌++◌, length, map, Some, refl, ap, sym, ◌∙◌, inl, inr}
 use Rattle.std.specs.Prelude.{slice_get}
 use Rattle.std.specs.List.{slice_index_or}
-use Rattle.tp_dag.specs.declared.entry.Entry.{Entry}
-use Rattle.tp_dag.specs.State.{with_end}
 use Rattle.std.proofs.Math.ListN.{set}
 
 pub set_cases : {A : Type 0} (xs : List A) (i k : ℕ) (x y : A) → slice_get (set xs i y) k ≡ Some x
@@ -15,7 +13,7 @@ set_cases (z ∷ xs) (suc i) zero x y e = inl e
 set_cases (z ∷ xs) (suc i) (suc k) x y e =
     elim (set_cases xs i k x y e) [ inl h ↦ inl h | inr h ↦ inr (ap suc h.0, h.1) ]
 
--- The same, and in the second case the value that was written.
+-- the same, and which
 pub set_apart : {A : Type 0} (xs : List A) (i k : ℕ) (x y : A) → slice_get (set xs i y) k ≡ Some x
     → ((slice_get xs k ≡ Some x) × (k ≢ i)) ⊎ ((k ≡ i) × (x ≡ y))
 set_apart [] i k x y e = cc
@@ -24,6 +22,19 @@ set_apart (z ∷ xs) zero (suc k) x y e = inl (e, λ h. omega (arith, h))
 set_apart (z ∷ xs) (suc i) zero x y e = inl (e, λ h. omega (arith, h))
 set_apart (z ∷ xs) (suc i) (suc k) x y e =
     elim (set_apart xs i k x y e) [ inl h ↦ inl (h.0, λ g. h.1 (omega (arith, g))) | inr h ↦ inr (ap suc h.0, h.1) ]
+
+pub set_here : {A : Type 0} (xs : List A) (i : ℕ) (x y : A) → slice_get xs i ≡ Some x → slice_get (set xs i y) i ≡ Some y
+set_here [] i x y e = cc
+set_here (z ∷ xs) zero x y e = refl
+set_here (z ∷ xs) (suc i) x y e = set_here xs i x y e
+
+-- another place is as it was
+pub set_there : {A : Type 0} (xs : List A) (i k : ℕ) (y : A) → k ≢ i → slice_get (set xs i y) k ≡ slice_get xs k
+set_there [] i k y o = refl
+set_there (z ∷ xs) zero zero y o = absurd (o refl)
+set_there (z ∷ xs) zero (suc k) y o = refl
+set_there (z ∷ xs) (suc i) zero y o = refl
+set_there (z ∷ xs) (suc i) (suc k) y o = set_there xs i k y (λ h. o (ap suc h))
 
 pub at_index : {A : Type 0} (xs : List A) (i : ℕ) (x : A) → i < length xs → x ≡ slice_index_or xs i x → slice_get xs i ≡ Some x
 at_index [] i x l e = absurd (omega (arith, l))
@@ -37,14 +48,36 @@ last_cases [] (suc k) x y e = inl e
 last_cases (z ∷ xs) zero x y e = inl e
 last_cases (z ∷ xs) (suc k) x y e = elim (last_cases xs k x y e) [ inl h ↦ inl h | inr h ↦ inr (ap suc h.0, h.1) ]
 
--- ---- the newest task is replaced
-pub set_last : (xs : List Entry) (i end : ℕ) (e : Entry) → i + 1 ≡ length xs → e ≡ slice_index_or xs i e
-    → set xs i (record { node = e.node; class = e.class; first = e.first; end = end }) ≡ with_end xs end
-set_last [] i end e l is = absurd (omega (arith, l))
-set_last (x ∷ []) zero end e l is = ap (λ (y : Entry). record y { end = end } ∷ []) is
-set_last (x ∷ []) (suc i) end e l is = absurd (omega (arith, l))
-set_last (x ∷ y ∷ xs) zero end e l is = absurd (omega (arith, l))
-set_last (x ∷ y ∷ xs) (suc i) end e l is = ap (λ (zs : List Entry). x ∷ zs) (set_last (y ∷ xs) i end e (omega (arith, l)) is)
+pub at_below : {A : Type 0} (xs : List A) (k : ℕ) → k < length xs → (x : A) × (slice_get xs k ≡ Some x)
+at_below [] k l = absurd (omega (arith, l))
+at_below (x ∷ xs) zero l = (x, refl)
+at_below (x ∷ xs) (suc k) l = at_below xs k (omega (arith, l))
 
-pub pushed : {A : Type 0} (xs ys zs : List A) (x : A) → zs ≡ ys ++ x ∷ [] → ys ≡ xs → zs ≡ xs ++ x ∷ []
-pushed {A = A} xs ys zs x e f = rw e (ap (λ (us : List A). us ++ x ∷ []) f)
+-- ---- what a function makes of a list
+pub map_get : {A B : Type 0} (f : A → B) (xs : List A) (k : ℕ) (x : A) → slice_get xs k ≡ Some x → slice_get (map f xs) k ≡ Some (f x)
+map_get f [] k x e = cc
+map_get f (z ∷ xs) zero x e = (let same : z ≡ x = cc in ap (λ y. Some (f y)) same)
+map_get f (z ∷ xs) (suc k) x e = map_get f xs k x e
+
+pub map_got : {A B : Type 0} (f : A → B) (xs : List A) (k : ℕ) (y : B) → slice_get (map f xs) k ≡ Some y
+    → (x : A) × (slice_get xs k ≡ Some x) × (f x ≡ y)
+map_got f [] k y e = cc
+map_got f (z ∷ xs) zero y e = (z, refl, cc)
+map_got f (z ∷ xs) (suc k) y e = map_got f xs k y e
+
+pub map_write : {A B : Type 0} (f : A → B) (xs : List A) (k : ℕ) (x : A) → map f (set xs k x) ≡ set (map f xs) k (f x)
+map_write f [] k x = refl
+map_write f (z ∷ xs) zero x = refl
+map_write f (z ∷ xs) (suc k) x = ap (λ ys. f z ∷ ys) (map_write f xs k x)
+
+-- a place is written with what the function cannot tell from what was there
+pub map_same : {A B : Type 0} (f : A → B) (xs : List A) (k : ℕ) (x y : A) → slice_get xs k ≡ Some x → f y ≡ f x
+    → map f (set xs k y) ≡ map f xs
+map_same f [] k x y e s = refl
+map_same f (z ∷ xs) zero x y e s =
+    (let same : z ≡ x = cc in ap (λ (b : _). b ∷ map f xs) (s ∙ ap f (sym same)))
+map_same f (z ∷ xs) (suc k) x y e s = ap (λ ys. f z ∷ ys) (map_same f xs k x y e s)
+
+pub map_push : {A B : Type 0} (f : A → B) (xs : List A) (x : A) → map f (xs ++ x ∷ []) ≡ map f xs ++ f x ∷ []
+map_push f [] x = refl
+map_push f (z ∷ xs) x = ap (λ ys. f z ∷ ys) (map_push f xs x)

@@ -1,64 +1,108 @@
 -- The invariant of a pool.
-use Rattle.std.specs.Prelude.{ℕ, ◌≡◌, ◌<◌, ◌≤◌, List, Bool, true, length, slice_get, IsTrue, IsFalse, Some, IfSome}
-use Rattle.tp_base.specs.declared.limits.TheConstants.{MAX_NODES, MAX_STEPS}
+use Rattle.std.specs.Prelude.{ℕ, ◌≡◌, ◌≢◌, ◌<◌, ◌≤◌, ◌⊎◌, Bool, List, length, map, slice_get, IsTrue, IsFalse, Some, IfSome}
+use Rattle.tp_base.specs.declared.limits.TheConstants.{MAX_NODES}
+use Rattle.tp_base.specs.declared.Step.{Step}
 use Rattle.tp_wave.specs.Steps.{any, is_reopen}
-use Rattle.tp_core.specs.Generations.{AreRuns}
+use Rattle.tp_core.specs.Accepted.{Accepted, with_step}
+use Rattle.tp_core.specs.Generations.{AreRuns, MayCome}
 use Rattle.tp_core.specs.NeverEarly.{is_insert_of}
+use Rattle.tp_dag.specs.declared.entry.Edge.{Edge}
 use Rattle.tp_dag.specs.declared.entry.Entry.{Entry}
 use Rattle.tp_dag.specs.declared.entry.Input.{Input}
 use Rattle.tp_dag.specs.declared.entry.Stage.{Stage}
 use Rattle.tp_dag.specs.declared.entry.Stage.TheVariants as stage
+use Rattle.tp_dag.specs.declared.entry.Task.{Task}
+use Rattle.tp_dag.specs.declared.entry.Way.{Way}
+use Rattle.tp_dag.specs.declared.entry.Way.TheVariants as way
 use Rattle.tp_dag.specs.declared.pool.Pool.TheInside.{Inside}
-use Rattle.tp_dag.specs.State.{PoolState, WasDone, IsReceived, IsFinished}
+use Rattle.tp_dag.specs.Board.{BoardState}
+use Rattle.tp_dag.specs.State.{PoolState, WasDone, IsReceived, IsFinished, IsOutput, is_sending}
 
-abbrev pub state_of : Inside → PoolState
-state_of p = record {
-  nodes = p.core.nodes;
-  started = p.started;
-  tasks = p.tasks.items;
-  stages = p.stages.items;
-  inputs = p.inputs.items;
-  steps = p.core.steps;
+-- ---- what is true of each pool, in the words of its callers
+-- Each task is at a node of the pool. Each input is from a task to a later one, and was passed on if its source is done.
+pub record IsConsistent (a : PoolState) : Type 0 where
+  pub stages : length a.stages ≡ length a.tasks
+  pub outside : length a.outside ≡ length a.tasks
+  pub ways : length a.ways ≡ length a.inputs
+  pub homes : (t : ℕ) (x : Entry) → slice_get a.tasks t ≡ Some x → x.node < a.nodes
+  pub placed : (k : ℕ) (i : Input) → slice_get a.inputs k ≡ Some i → (i.source < i.target) × (i.target < length a.tasks)
+  pub passed : (k : ℕ) (i : Input) → slice_get a.inputs k ≡ Some i → slice_get a.stages i.source ≡ Some stage.Done
+      → slice_get a.ways k ≢ Some way.Out
+
+-- ---- what contracts see of a pool's parts
+abbrev pub entry_of : Task → Entry
+entry_of x = record { node = x.node; class = x.class }
+
+abbrev pub stage_of : Task → Stage
+stage_of x = x.stage
+
+abbrev pub outside_of : Task → ℕ
+outside_of x = x.outside
+
+abbrev pub input_of : Edge → Input
+input_of e = record { source = e.source; target = e.target }
+
+abbrev pub way_of : Edge → Way
+way_of e = e.way
+
+abbrev pub seen : ℕ → Bool → BoardState → List Step → PoolState
+seen nodes started board steps = record {
+  nodes = nodes;
+  started = started;
+  tasks = map entry_of board.tasks;
+  stages = map stage_of board.tasks;
+  inputs = map input_of board.edges;
+  ways = map way_of board.edges;
+  outside = map outside_of board.tasks;
+  steps = steps;
 }
 
+abbrev pub state_of : Inside → PoolState
+state_of p = seen p.core.nodes p.started p.board p.core.steps
+
+-- ---- the invariant
 -- The steps are a run of one generation, in which each task was inserted, and each that is kept as done was done.
-pub record StepFacts (a : PoolState) : Type 0 where
-  pub some_node : 1 ≤ a.nodes
-  pub few_nodes : a.nodes ≤ MAX_NODES
-  pub runs : AreRuns a.nodes a.steps
-  pub first : IsFalse (any is_reopen a.steps)
-  pub known : (t : ℕ) → t < length a.tasks → IsTrue (any (is_insert_of t) a.steps)
-  pub done : (t : ℕ) → slice_get a.stages t ≡ Some stage.Done → WasDone t a.steps
-
--- Input k is from a task to a later one, and among the inputs of that.
-pub record IsPlaced (tasks : List Entry) (k : ℕ) (i : Input) : Type 0 where
-  pub before : i.source < i.target
-  pub within : i.target < length tasks
-  pub own : (x : Entry) → slice_get tasks i.target ≡ Some x → (x.first ≤ k) × (k < x.end)
-
-pub record GraphFacts (tasks : List Entry) (stages : List Stage) (inputs : List Input) (received : List Bool) : Type 0 where
-  pub same : length stages ≡ length tasks
-  pub paired : length received ≡ length inputs
-  pub few_tasks : length tasks ≤ MAX_STEPS
-  pub few_inputs : length inputs ≤ MAX_STEPS
-  pub placed : (k : ℕ) (i : Input) → slice_get inputs k ≡ Some i → IsPlaced tasks k i
-  pub first : (t : ℕ) (x : Entry) → slice_get tasks t ≡ Some x → x.first ≤ length inputs
+pub record StepFacts (nodes : ℕ) (tasks : List Entry) (stages : List Stage) (steps : List Step) : Type 0 where
+  pub some_node : 1 ≤ nodes
+  pub few_nodes : nodes ≤ MAX_NODES
+  pub runs : AreRuns nodes steps
+  pub first : IsFalse (any is_reopen steps)
+  pub known : (t : ℕ) → t < length tasks → IsTrue (any (is_insert_of t) steps)
+  pub done : (t : ℕ) → slice_get stages t ≡ Some stage.Done → WasDone t steps
 
 -- An input that is kept as received is there.
-abbrev pub AreReceived : PoolState → List Bool → Type 0
-AreReceived a received = (k : ℕ) (i : Input) (x : Entry) → slice_get received k ≡ Some true → slice_get a.inputs k ≡ Some i
-    → slice_get a.tasks i.target ≡ Some x → IsReceived x.node k i a.tasks a.steps
+abbrev pub AreReceived : List Entry → List Input → List Way → List Step → Type 0
+AreReceived tasks inputs ways steps = (k : ℕ) (i : Input) (x : Entry) → slice_get ways k ≡ Some way.Received → slice_get inputs k ≡ Some i
+    → slice_get tasks i.target ≡ Some x → IsReceived x.node k i tasks steps
 
-pub record Facts (a : PoolState) (received : List Bool) : Type 0 where
-  pub by_steps : StepFacts a
-  pub graph : GraphFacts a.tasks a.stages a.inputs received
-  pub arrived : AreReceived a received
+pub record Facts (a : PoolState) : Type 0 where
+  pub by_steps : StepFacts a.nodes a.tasks a.stages a.steps
+  pub arrived : AreReceived a.tasks a.inputs a.ways a.steps
 
 pub record IsPool (p : Inside) : Type 0 where
   pub nodes : p.core.nodes ≡ p.nodes
-  pub facts : Facts (state_of p) p.received.items
+  pub board : p.board.nodes ≡ p.nodes
+  pub facts : Facts (state_of p)
   pub ended_with : IfSome p.ended_with (λ w. IsFinished (state_of p))
 
 -- The source of input k is at home at this node.
 abbrev pub IsFrom : ℕ → ℕ → PoolState → Type 0
 IsFrom node k a = (i : Input) (x : Entry) → slice_get a.inputs k ≡ Some i → slice_get a.tasks i.source ≡ Some x → x.node ≡ node
+
+-- Task t is at home at this node.
+abbrev pub IsHome : ℕ → ℕ → PoolState → Type 0
+IsHome node t a = (x : Entry) → slice_get a.tasks t ≡ Some x → x.node ≡ node
+
+-- Each input that comes from task t was passed on.
+abbrev pub AllPassed : ℕ → PoolState → Type 0
+AllPassed t a = (k : ℕ) → IsOutput t k a → slice_get a.ways k ≢ Some way.Out
+
+-- Some inputs that come from task t were received; all else is as before.
+pub record IsMarked (t : ℕ) (old new : PoolState) : Type 0 where
+  pub only : new ≡ record old { ways = new.ways }
+  pub ways : (k : ℕ) → (slice_get new.ways k ≡ slice_get old.ways k) ⊎ (IsOutput t k old × (slice_get new.ways k ≡ Some way.Received))
+
+-- Nothing was sent, or one message.
+abbrev pub SendsOne : Accepted → Accepted → Type 0
+SendsOne old new =
+    (new ≡ old) ⊎ ((s : Step) × IsTrue (is_sending s) × IsFalse (is_reopen s) × MayCome old.nodes old.steps s × (new ≡ with_step old s))

@@ -1,10 +1,12 @@
 -- Theorems about all sequences of calls.
-use Rattle.std.specs.Prelude.{ℕ, ◌+◌, ◌≡◌, ◌≤◌, List, [], ◌∷◌, Option, Some, None, Result}
+use Rattle.std.specs.Prelude.{ℕ, ◌+◌, ◌≡◌, ◌≢◌, ◌<◌, ◌≤◌, List, [], ◌∷◌, Option, Some, None, Result, length, slice_get}
 use Rattle.tp_base.specs.declared.Refusal.{Refusal}
 use Rattle.tp_wave.specs.Steps.{count}
 use Rattle.tp_core.specs.NeverEarly.{is_begin_of}
 use Rattle.tp_dag.specs.declared.pool.Next.{Next}
-use Rattle.tp_dag.specs.State.{PoolState, dispatched}
+use Rattle.tp_dag.specs.declared.entry.Stage.TheVariants as stage
+use Rattle.tp_dag.specs.State.{PoolState, dispatched, IsIdle, IsAwaited}
+use Rattle.tp_dag.specs.Kept.{IsConsistent}
 
 -- a call: a `next` with its result, or any other
 abbrev pub Call : Type 0
@@ -34,3 +36,17 @@ Lead old (c ∷ calls) new = (mid : PoolState) × Begins old c mid × Lead mid c
 abbrev pub NeverDispatchedTwice : Type 0
 NeverDispatchedTwice = (old new : PoolState) (calls : List Call) (t : ℕ) → Lead old calls new → count (is_begin_of t) new.steps ≤ 1
     → dispatched_by_all calls t ≤ 1
+
+-- ---- no silent wait
+-- No task was dispatched that is not done.
+abbrev pub NoneRuns : PoolState → Type 0
+NoneRuns a = (t : ℕ) → slice_get a.stages t ≢ Some stage.Running
+
+-- No task waits for an input from outside.
+abbrev pub NoneAwaited : PoolState → Type 0
+NoneAwaited a = (t : ℕ) → IsAwaited t a → ⊥
+
+-- If each node has nothing to do, no task is running and nothing from outside is awaited, then each task is done.
+abbrev pub NeverSilent : Type 0
+NeverSilent = (a : PoolState) → IsConsistent a → ((node : ℕ) → node < a.nodes → IsIdle node a) → NoneRuns a → NoneAwaited a
+    → (t : ℕ) → t < length a.tasks → slice_get a.stages t ≡ Some stage.Done

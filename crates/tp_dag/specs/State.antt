@@ -1,5 +1,5 @@
--- The view of a pool in contracts, the checks of each call, and the effect of each call.
-use Rattle.std.specs.Prelude.{ℕ, ◌+◌, ◌≡◌, ◌≢◌, ◌<◌, ◌==◌, ◌&&◌, List, [], ◌∷◌, ◌++◌, Bool, true, false, not, length, slice_get, slice_set, IsTrue}
+-- What contracts see of a pool, the checks of each call, and what each call does.
+use Rattle.std.specs.Prelude.{ℕ, ◌+◌, ◌-◌, ◌≡◌, ◌≢◌, ◌<◌, ◌≤◌, ◌==◌, ◌&&◌, ◌⊎◌, List, [], ◌∷◌, ◌++◌, Bool, true, false, not, length, slice_get, slice_set, IsTrue}
 use Rattle.std.specs.Prelude.{Option, Some, None, is_some, nat_le, nat_lt, Result, Ok, if◌then◌else◌}
 use Rattle.std.specs.List.{list_all}
 use Rattle.tp_base.specs.declared.limits.TheConstants.{MAX_STEPS}
@@ -16,17 +16,21 @@ use Rattle.tp_dag.specs.declared.entry.Entry.{Entry}
 use Rattle.tp_dag.specs.declared.entry.Input.{Input}
 use Rattle.tp_dag.specs.declared.entry.Stage.{Stage}
 use Rattle.tp_dag.specs.declared.entry.Stage.TheVariants as stage
+use Rattle.tp_dag.specs.declared.entry.Way.{Way}
+use Rattle.tp_dag.specs.declared.entry.Way.TheVariants as way
 use Rattle.tp_dag.specs.declared.pool.Next.{Next}
 use Rattle.tp_dag.specs.declared.pool.Next.TheVariants.{Run}
 
--- The number of nodes, whether the pool was started, the tasks as they were described and the progress of each, their
--- inputs, and the steps so far, the newest first.
+-- The number of nodes, whether the pool was started, the tasks as they were described and how far each is, their inputs and how far each
+-- is, how many inputs from outside each task waits for, and the steps so far, the newest first.
 pub record PoolState : Type 0 where
   pub nodes : ℕ
   pub started : Bool
   pub tasks : List Entry
   pub stages : List Stage
   pub inputs : List Input
+  pub ways : List Way
+  pub outside : List ℕ
   pub steps : List Step
 
 -- ---- what the steps show
@@ -59,6 +63,49 @@ abbrev pub is_readying : Step → Bool
 is_readying (Ready i) = true
 is_readying _ = false
 
+-- ---- what a node has to do
+-- Input k is one of task t, and was not received.
+pub record IsMissing (t k : ℕ) (a : PoolState) : Type 0 where
+  pub input : Input
+  pub is : slice_get a.inputs k ≡ Some input
+  pub target : input.target ≡ t
+  pub not_received : slice_get a.ways k ≢ Some way.Received
+
+-- Task t waits for an input from outside.
+abbrev pub IsAwaited : ℕ → PoolState → Type 0
+IsAwaited t a = (n : ℕ) × (slice_get a.outside t ≡ Some n) × (1 ≤ n)
+
+-- Task t lacks an input: of another task, or from outside.
+abbrev pub LacksInput : ℕ → PoolState → Type 0
+LacksInput t a = ((k : ℕ) × IsMissing t k a) ⊎ IsAwaited t a
+
+-- Input k is of a task of this node, and is under way to it from a task that is done.
+pub record IsComing (node k : ℕ) (a : PoolState) : Type 0 where
+  pub input : Input
+  pub is : slice_get a.inputs k ≡ Some input
+  pub under_way : slice_get a.ways k ≡ Some way.UnderWay
+  pub done : slice_get a.stages input.source ≡ Some stage.Done
+  pub target : Entry
+  pub at : slice_get a.tasks input.target ≡ Some target
+  pub home : target.node ≡ node
+
+-- Each task of the node that was not dispatched lacks an input.
+abbrev pub HasNoneReady : ℕ → PoolState → Type 0
+HasNoneReady node a = (t : ℕ) (x : Entry) → slice_get a.tasks t ≡ Some x → x.node ≡ node → slice_get a.stages t ≡ Some stage.Fresh
+    → LacksInput t a
+
+-- The node has nothing to do: each of its tasks that was not dispatched lacks an input, and none is under way to it from a task that
+-- is done.
+pub record IsIdle (node : ℕ) (a : PoolState) : Type 0 where
+  pub lacks : HasNoneReady node a
+  pub none : (k : ℕ) → IsComing node k a → ⊥
+
+-- Input k comes from task t.
+pub record IsOutput (t k : ℕ) (a : PoolState) : Type 0 where
+  pub input : Input
+  pub is : slice_get a.inputs k ≡ Some input
+  pub source : input.source ≡ t
+
 -- ---- the checks of each call, in their order
 abbrev pub is_running : Option Stage → Bool
 is_running (Some stage.Running) = true
@@ -89,14 +136,33 @@ done_checks a node t =
     (not (is_some (slice_get a.tasks t)), refusal.NoTask) ∷ (not (is_running (slice_get a.stages t)), refusal.WrongLife)
     ∷ (not (is_at node (slice_get a.tasks t)), refusal.NoNode) ∷ []
 
--- ---- the effect of each call
+abbrev pub is_fresh : Option Stage → Bool
+is_fresh (Some stage.Fresh) = true
+is_fresh _ = false
+
+-- so many inputs from outside are waited for, or more
+abbrev pub awaits : ℕ → Option ℕ → Bool
+awaits least (Some n) = nat_le least n
+awaits least None = false
+
+abbrev pub outside_checks : PoolState → ℕ → List Check
+outside_checks a t =
+    (not (is_some (slice_get a.tasks t)), refusal.NoTask) ∷ (not (is_fresh (slice_get a.stages t)), refusal.WrongLife)
+    ∷ (awaits MAX_STEPS (slice_get a.outside t), refusal.HistoryFull MAX_STEPS) ∷ []
+
+abbrev pub release_checks : PoolState → ℕ → List Check
+release_checks a t =
+    (not (is_some (slice_get a.tasks t)), refusal.NoTask) ∷ (not (awaits 1 (slice_get a.outside t)), refusal.WrongLife) ∷ []
+
+-- ---- what each call does
 pub record SameGraph (old new : PoolState) : Type 0 where
   pub nodes : new.nodes ≡ old.nodes
   pub started : new.started ≡ old.started
   pub tasks : new.tasks ≡ old.tasks
   pub inputs : new.inputs ≡ old.inputs
+  pub outside : new.outside ≡ old.outside
 
--- Steps that pass this test were added, and all else is as before.
+-- Steps that pass this test were added; the graph and the stages of its tasks are as before.
 pub record AddsOnly (test : Step → Bool) (old new : PoolState) : Type 0 where
   pub graph : SameGraph old new
   pub stages : new.stages ≡ old.stages
@@ -104,21 +170,26 @@ pub record AddsOnly (test : Step → Bool) (old new : PoolState) : Type 0 where
   pub steps : new.steps ≡ later ++ old.steps
   pub only : IsTrue (list_all test later)
 
--- `task`: the number of the new task is the number of tasks before it, and it has no input so far.
+-- Each input is as it was, or it was under way to this node from a task that was done, and was received.
+abbrev pub AreDelivered : ℕ → PoolState → PoolState → Type 0
+AreDelivered node old new =
+    (k : ℕ) → (slice_get new.ways k ≡ slice_get old.ways k) ⊎ (IsComing node k old × (slice_get new.ways k ≡ Some way.Received))
+
+-- Each input is as it was, or comes from task t and was passed on.
+abbrev pub AreSent : ℕ → PoolState → PoolState → Type 0
+AreSent t old new = (k : ℕ) → (slice_get new.ways k ≡ slice_get old.ways k) ⊎ (IsOutput t k old × (slice_get new.ways k ≢ Some way.Out))
+
+-- `task`: its number is how many tasks there were, and it has no input so far.
 pub record IsTaskAdded (node class t : ℕ) (old new : PoolState) : Type 0 where
   pub nodes : new.nodes ≡ old.nodes
   pub started : new.started ≡ old.started
   pub number : t ≡ length old.tasks
-  pub tasks : new.tasks ≡ old.tasks ++ record { node = node; class = class; first = length old.inputs; end = length old.inputs } ∷ []
+  pub tasks : new.tasks ≡ old.tasks ++ record { node = node; class = class } ∷ []
   pub stages : new.stages ≡ old.stages ++ stage.Fresh ∷ []
   pub inputs : new.inputs ≡ old.inputs
+  pub ways : new.ways ≡ old.ways
+  pub outside : new.outside ≡ old.outside ++ 0 ∷ []
   pub steps : new.steps ≡ Insert (record { 0 = node }) (record { 0 = t }) (record { count = 0 }) ∷ old.steps
-
--- the tasks if the inputs of the newest end here
-abbrev pub with_end : List Entry → ℕ → List Entry
-with_end [] end = []
-with_end (x ∷ []) end = record x { end = end } ∷ []
-with_end (x ∷ y ∷ xs) end = x ∷ with_end (y ∷ xs) end
 
 -- `input`: the newest task waits for one more task, which was described before it.
 pub record IsInputAdded (source : ℕ) (old new : PoolState) : Type 0 where
@@ -127,9 +198,11 @@ pub record IsInputAdded (source : ℕ) (old new : PoolState) : Type 0 where
   pub newest : ℕ
   pub last : newest + 1 ≡ length old.tasks
   pub before : source < newest
-  pub tasks : new.tasks ≡ with_end old.tasks (length old.inputs + 1)
+  pub tasks : new.tasks ≡ old.tasks
   pub stages : new.stages ≡ old.stages
   pub inputs : new.inputs ≡ old.inputs ++ record { source = source; target = newest } ∷ []
+  pub ways : new.ways ≡ old.ways ++ way.Out ∷ []
+  pub outside : new.outside ≡ old.outside
   pub steps : new.steps ≡ old.steps
 
 -- `start`: the nodes' opening actions ended.
@@ -137,8 +210,23 @@ pub record IsStarted (old new : PoolState) : Type 0 where
   pub started : IsTrue new.started
   pub adds : AddsOnly is_readying old (record new { started = old.started })
 
--- `next` with `Run t`: messages were received, then task t began. It is at home at this node and had not begun before,
--- and before it began each of its inputs was there.
+-- `outside`: task t, which was not dispatched, waits for one more input from outside. If the pool was started, it lacked an input before.
+pub record IsOutsideAdded (t : ℕ) (old new : PoolState) : Type 0 where
+  pub fresh : slice_get old.stages t ≡ Some stage.Fresh
+  pub lacking : IsTrue old.started → LacksInput t old
+  pub was : ℕ
+  pub awaited : slice_get old.outside t ≡ Some was
+  pub becomes : new ≡ record old { outside = slice_set old.outside t (was + 1) }
+
+-- `release`: an input from outside that task t waits for is there.
+pub record IsReleased (t : ℕ) (old new : PoolState) : Type 0 where
+  pub was : ℕ
+  pub awaited : slice_get old.outside t ≡ Some was
+  pub some : 1 ≤ was
+  pub becomes : new ≡ record old { outside = slice_set old.outside t (was - 1) }
+
+-- `next` with `Run t`: messages were received, then task t began. It is at home at this node and had not begun before; before it began
+-- each of its inputs was there, and it waits for none from outside.
 pub record IsDispatched (node t : ℕ) (old new : PoolState) : Type 0 where
   pub graph : SameGraph old new
   pub entry : Entry
@@ -150,19 +238,20 @@ pub record IsDispatched (node t : ℕ) (old new : PoolState) : Type 0 where
   pub only : IsTrue (list_all is_delivery received)
   pub steps : new.steps ≡ Begin (record { 0 = t }) ∷ received ++ old.steps
   pub inputs : (k : ℕ) (i : Input) → slice_get new.inputs k ≡ Some i → i.target ≡ t → IsReceived node k i new.tasks (received ++ old.steps)
+  pub awaits_none : slice_get new.outside t ≡ Some 0
   pub before : count (is_begin_of t) old.steps ≡ 0
 
--- 1 if a result of `next` dispatches task t, else 0
+-- how often a result of `next` dispatches task t
 abbrev pub dispatched : Result Next Refusal → ℕ → ℕ
 dispatched (Ok (Run u)) t = if u == t then 1 else 0
 dispatched _ t = 0
 
--- `next` with `Finished`: the pool is quiet, and each task of the graph was inserted, begun and done, each once.
+-- `next` with `Finished`: nothing is left, and each task of the graph was inserted, begun and done, each once.
 pub record IsFinished (a : PoolState) : Type 0 where
   pub quiet : IsQuiet (world a.nodes a.steps)
   pub once : (t : ℕ) → t < length a.tasks → HasRunOnce t a.steps
 
--- `done`: task t was running; messages were sent, then it ended.
+-- `done`: task t was running; messages were sent, then it ended. Each input that comes from it was passed on.
 pub record IsCompleted (t : ℕ) (old new : PoolState) : Type 0 where
   pub graph : SameGraph old new
   pub running : slice_get old.stages t ≡ Some stage.Running
@@ -170,3 +259,4 @@ pub record IsCompleted (t : ℕ) (old new : PoolState) : Type 0 where
   pub sent : List Step
   pub only : IsTrue (list_all is_sending sent)
   pub steps : new.steps ≡ Done (record { 0 = t }) ∷ sent ++ old.steps
+  pub passed : (k : ℕ) → IsOutput t k old → slice_get new.ways k ≢ Some way.Out

@@ -1,7 +1,7 @@
-//! Hints: which tasks may be ready, and which messages may be under way. The pool checks each hint before it acts on
-//! it, so these calls have no contract: a wrong hint can delay a task, and cannot break a guarantee.
+//! Hints: which tasks may be ready, which messages may be under way, and the outputs of each task. The pool checks each hint before it
+//! acts on it and looks at all tasks or inputs if a hint is missing, so these calls have no contract: a wrong hint costs time, and
+//! cannot break a guarantee.
 
-use crate::entry::Input;
 use std::alloc::{AllocError, Global};
 
 /// No task and no input has this number.
@@ -12,19 +12,21 @@ const CLASSES: u32 = 4;
 
 #[derive(Drop)]
 pub(crate) struct Hints {
-    // the number of inputs of each task that were not received, and the ready task before each task
-    missing: Vec<u32>,
-    older_ready: Vec<u32>,
-    // the newest ready task of each node and class
+    // the newest ready task of each node and class, and the ready task before each
     newest_ready: [u32; 32],
-    // the newest message under way to each node, and the message before each message
+    older_ready: Vec<u32>,
+    // the newest message under way to each node, and the message before each
     newest_message: [u32; 8],
     older_message: Vec<u32>,
-    // the inputs, ordered by their source, and the position where the outputs of each task begin
-    outputs: Vec<u32>,
-    first_outputs: Vec<u32>,
+    // the message that each node received and has not ended
+    open_message: [u32; 8],
+    // the inputs that come from each task, in their order
+    first_output: Vec<u32>,
+    last_output: Vec<u32>,
+    next_output: Vec<u32>,
 }
 
+#[inline]
 fn number_at(numbers: &[u32], k: u32) -> u32 {
     match numbers.get(k as usize) {
         Some(number) => *number,
@@ -32,89 +34,69 @@ fn number_at(numbers: &[u32], k: u32) -> u32 {
     }
 }
 
+#[inline]
 fn set_number(numbers: &mut [u32], k: u32, number: u32) {
     if let Some(place) = numbers.get_mut(k as usize) {
         *place = number;
     }
 }
 
+#[inline]
+fn known(number: u32) -> Option<u32> {
+    if number == NONE {
+        return None;
+    }
+    Some(number)
+}
+
 impl Hints {
     pub(crate) fn new(alloc: Global) -> Hints {
         Hints {
-            missing: Vec::new(alloc),
-            older_ready: Vec::new(alloc),
             newest_ready: [NONE; 32],
+            older_ready: Vec::new(alloc),
             newest_message: [NONE; 8],
             older_message: Vec::new(alloc),
-            outputs: Vec::new(alloc),
-            first_outputs: Vec::new(alloc),
+            open_message: [NONE; 8],
+            first_output: Vec::new(alloc),
+            last_output: Vec::new(alloc),
+            next_output: Vec::new(alloc),
         }
     }
 
+    /// Makes room for the hints of one more task. Room for more tasks than there are does no harm.
     pub(crate) fn add_task(&mut self) -> Result<(), AllocError> {
-        self.missing.push(0)?;
         self.older_ready.push(NONE)?;
+        self.first_output.push(NONE)?;
+        self.last_output.push(NONE)?;
         Ok(())
     }
 
-    pub(crate) fn add_input(&mut self, task: u32) -> Result<(), AllocError> {
+    /// Makes room for the hints of one more input.
+    pub(crate) fn add_input(&mut self) -> Result<(), AllocError> {
         self.older_message.push(NONE)?;
-        let missing = number_at(&self.missing, task);
-        set_number(&mut self.missing, task, missing.saturating_add(1));
+        self.next_output.push(NONE)?;
         Ok(())
     }
 
-    /// Orders the inputs by their source.
-    pub(crate) fn order_outputs(
-        &mut self,
-        alloc: Global,
-        inputs: &[Input],
-    ) -> Result<(), AllocError> {
-        let mut firsts = Vec::from_elem(alloc, 0u32, self.missing.len())?;
-        firsts.push(0)?;
-        for input in inputs {
-            let next = input.source.saturating_add(1);
-            let count = number_at(&firsts, next);
-            set_number(&mut firsts, next, count.saturating_add(1));
+    /// Adds an input to the outputs of its source.
+    pub(crate) fn add_output(&mut self, source: u32, input: u32) {
+        match known(number_at(&self.last_output, source)) {
+            Some(last) => set_number(&mut self.next_output, last, input),
+            None => set_number(&mut self.first_output, source, input),
         }
-        let mut sum = 0u32;
-        for first in firsts.iter_mut() {
-            sum = sum.saturating_add(*first);
-            *first = sum;
-        }
-        let mut ends = Vec::from_slice(alloc, &firsts)?;
-        let mut outputs = Vec::from_elem(alloc, NONE, inputs.len())?;
-        for (k, input) in inputs.iter().enumerate() {
-            let place = number_at(&ends, input.source);
-            set_number(&mut outputs, place, u32::try_from(k).unwrap_or(NONE));
-            set_number(&mut ends, input.source, place.saturating_add(1));
-        }
-        self.first_outputs = firsts;
-        self.outputs = outputs;
-        Ok(())
+        set_number(&mut self.last_output, source, input);
     }
 
-    /// Returns the positions where the outputs of a task begin and end.
-    pub(crate) fn outputs(&self, task: u32) -> (u32, u32) {
-        (
-            number_at(&self.first_outputs, task),
-            number_at(&self.first_outputs, task.saturating_add(1)),
-        )
+    /// The first input that comes from a task.
+    #[inline]
+    pub(crate) fn first_output(&self, task: u32) -> Option<u32> {
+        known(number_at(&self.first_output, task))
     }
 
-    pub(crate) fn output(&self, k: u32) -> u32 {
-        number_at(&self.outputs, k)
-    }
-
-    pub(crate) fn has_all_inputs(&self, task: u32) -> bool {
-        number_at(&self.missing, task) == 0
-    }
-
-    /// Counts a received input of a task. Returns whether it was the last one.
-    pub(crate) fn count_received(&mut self, task: u32) -> bool {
-        let left = number_at(&self.missing, task).saturating_sub(1);
-        set_number(&mut self.missing, task, left);
-        left == 0
+    /// The input that comes after this one from the same task.
+    #[inline]
+    pub(crate) fn next_output(&self, input: u32) -> Option<u32> {
+        known(number_at(&self.next_output, input))
     }
 
     pub(crate) fn push_ready(&mut self, node: u32, class: u32, task: u32) {
@@ -137,16 +119,6 @@ impl Hints {
         None
     }
 
-    pub(crate) fn has_ready(&self, node: u32) -> bool {
-        for class in 0..CLASSES {
-            let list = node.saturating_mul(CLASSES).saturating_add(class);
-            if number_at(&self.newest_ready, list) != NONE {
-                return true;
-            }
-        }
-        false
-    }
-
     pub(crate) fn push_message(&mut self, node: u32, input: u32) {
         let newest = number_at(&self.newest_message, node);
         set_number(&mut self.older_message, input, newest);
@@ -154,12 +126,30 @@ impl Hints {
     }
 
     pub(crate) fn pop_message(&mut self, node: u32) -> Option<u32> {
-        let newest = number_at(&self.newest_message, node);
-        if newest == NONE {
-            return None;
-        }
+        let newest = known(number_at(&self.newest_message, node))?;
         let older = number_at(&self.older_message, newest);
         set_number(&mut self.newest_message, node, older);
         Some(newest)
+    }
+
+    /// No task is known to be ready, and no message to be under way. The outputs of each task stay.
+    pub(crate) fn forget(&mut self) {
+        self.newest_ready = [NONE; 32];
+        self.newest_message = [NONE; 8];
+        self.open_message = [NONE; 8];
+    }
+
+    /// The message that a node received and has not ended.
+    #[inline]
+    pub(crate) fn open_message(&self, node: u32) -> Option<u32> {
+        known(number_at(&self.open_message, node))
+    }
+
+    pub(crate) fn open(&mut self, node: u32, input: u32) {
+        set_number(&mut self.open_message, node, input);
+    }
+
+    pub(crate) fn close(&mut self, node: u32) {
+        set_number(&mut self.open_message, node, NONE);
     }
 }

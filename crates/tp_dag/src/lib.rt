@@ -2,11 +2,15 @@
 //! runs it and completes it. The pool never sees a value. One thread at a time uses it: the caller locks it.
 #![tactic(auto)]
 
+mod board;
+mod choice;
 mod entry;
 mod hints;
 mod laws;
 mod pool;
+mod reset;
+mod scans;
 
-pub use entry::{Entry, Input, Stage};
-pub use laws::never_dispatched_twice;
+pub use entry::{Entry, Input, Stage, Way};
+pub use laws::{never_dispatched_twice, never_silent};
 pub use pool::{Next, Pool};

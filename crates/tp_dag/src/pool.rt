@@ -1,24 +1,33 @@
-//! The pool: the calls that describe a graph, dispatch its tasks and record their completions. Bodies and values are
-//! the caller's.
-ghost use Rattle.std.specs.Prelude.{◌≡◌, ◌≤◌, ◌<◌, ◌+◌, ◌⊎◌, ℕ, [], ◌∷◌, ◌++◌, length, IfOk, IfSome, OnOk, OnErr, IsTrue, slice_get, reverse, true, false, Ok, Err};
-ghost use Rattle.tp_base.specs.declared.limits.TheConstants.{MAX_NODES};
+//! The pool: the calls that describe a graph, dispatch its tasks and take their completions. Bodies and values are the caller's.
+ghost use Rattle.std.specs.Prelude.{◌≡◌, ◌≢◌, ◌≤◌, ◌<◌, ◌+◌, ◌⊎◌, ℕ, [], ◌∷◌, ◌++◌, length, IfOk, IfErr, IfSome, IfNone, OnOk, OnErr, IsTrue, IsFalse, slice_get, slice_set, reverse, true, false, Ok, Err, Some, None};
+ghost use Rattle.tp_base.specs.declared.limits.TheConstants.{MAX_NODES, MAX_STEPS};
 ghost use Rattle.tp_base.specs.Checks.{first_refusal};
 ghost use Rattle.tp_wave.specs.Steps.{count};
 ghost use Rattle.tp_core.specs.NeverEarly.{is_begin_of};
 ghost use Rattle.tp_core.specs.Generations.{AreRuns, MayCome};
 ghost use Rattle.tp_core.specs.Accepted.{with_step};
-ghost use Rattle.tp_dag.specs.State.{AddsOnly, IsTaskAdded, IsInputAdded, IsStarted, IsDispatched, IsFinished, IsCompleted, SameGraph, WasReceived};
-ghost use Rattle.tp_dag.specs.State.{task_checks, input_checks, start_checks, next_checks, done_checks, dispatched, is_delivery, is_sending, is_readying};
-ghost use Rattle.tp_dag.specs.Kept.{IsFrom};
+ghost use Rattle.tp_dag.specs.declared.entry.Stage.TheVariants as stage;
+ghost use Rattle.tp_dag.specs.declared.entry.Way.TheVariants as way;
+ghost use Rattle.tp_dag.specs.State.{AddsOnly, IsTaskAdded, IsInputAdded, IsStarted, IsOutsideAdded, IsReleased, IsDispatched, IsFinished, IsCompleted, SameGraph, WasReceived};
+ghost use Rattle.tp_dag.specs.State.{IsIdle, IsComing, IsOutput, LacksInput, HasNoneReady, AreDelivered, AreSent};
+ghost use Rattle.tp_dag.specs.State.{task_checks, input_checks, start_checks, outside_checks, release_checks, next_checks, done_checks, dispatched};
+ghost use Rattle.tp_dag.specs.State.{is_delivery, is_sending, is_readying};
+ghost use Rattle.tp_dag.specs.Kept.{IsConsistent, IsFrom, IsHome, AllPassed, IsMarked, SendsOne};
 
-use crate::entry::{Entry, Input, Stage};
+use crate::board::Board;
+use crate::choice::{
+    find_coming, find_ready, may_begin, node_bit, output_of, push_ready, push_released, push_woken,
+};
+use crate::entry::{Stage, Way};
 use crate::hints::Hints;
 use std::alloc::Global;
 use std::marker::Model;
 use tp_base::{Generation, Inputs, MAX_STEPS, MessageId, NodeId, Refusal, Step, TaskId};
 use tp_core::Core;
 
-/// The result of `next`: what a thread of a node is to do.
+mod repeat;
+
+/// What a thread of a node is to do next.
 #[derive(Clone, Copy, Debug, PartialEq, Eq)]
 pub enum Next {
     /// Run this task.
@@ -29,17 +38,14 @@ pub enum Next {
     Finished(u32),
 }
 
-/// A pool of tasks that the caller runs. Contracts see the graph as it was described, the progress of each task, and
-/// the steps so far.
+/// A pool of tasks that the caller runs. Contracts see the graph as it was described, how far each task and each input is, and the steps
+/// so far.
 #[derive(Drop)]
 pub struct Pool {
     core: Core,
     nodes: u32,
     started: bool,
-    tasks: Vec<Entry>,
-    stages: Vec<Stage>,
-    inputs: Vec<Input>,
-    received: Vec<bool>,
+    board: Board,
     // the wave that detected termination
     ended_with: Option<u32>,
     hints: Hints,
@@ -58,19 +64,6 @@ impl Model for Pool {
     ghost invariant = { IsPool };
 }
 
-/// Returns whether all inputs from `first` to before `end` were received.
-fn all_received(received: &[bool], first: u32, end: u32) -> bool
-    ensures { IsTrue result → (k : ℕ) → first ≤ k → k < end → slice_get received.now k ≡ Some true }
-{
-    for k in first..end {
-        match received.get(k as usize) {
-            Some(true) => {}
-            _ => return false,
-        }
-    }
-    true
-}
-
 /// Takes a step of one generation.
 fn take_step(core: &mut Core, step: Step) -> Result<(), Refusal>
     ensures ok { OnOk result (MayCome core.old.nodes core.old.steps step × (core.new ≡ with_step core.old step)) }
@@ -80,32 +73,43 @@ fn take_step(core: &mut Core, step: Step) -> Result<(), Refusal>
     Ok(())
 }
 
+/// Sends an input as a message, if it is one of another node.
+fn send_message(core: &mut Core, from: u32, to: u32, input: u32) -> Result<(), Refusal>
+    ensures ok { OnOk result (SendsOne core.old core.new) }
+    ensures err { OnErr result (core.new ≡ core.old) }
+{
+    if from == to {
+        return Ok(());
+    }
+    take_step(
+        core,
+        Step::Send(NodeId(from), NodeId(to), MessageId(input), Generation(1)),
+    )
+}
+
 impl Pool {
-    /// Returns a pool of the nodes 0 to `nodes` - 1, without tasks. It allocates nothing.
+    /// A pool of the nodes 0 to `nodes` - 1, without a task. It takes no memory.
     pub fn new(alloc: Global, nodes: u32) -> Pool
         requires { (1 ≤ nodes) × (nodes ≤ MAX_NODES) }
-        ensures { result ≡ record { nodes = nodes; started = false; tasks = []; stages = []; inputs = []; steps = [] } }
+        ensures { result ≡ record {
+            nodes = nodes; started = false; tasks = []; stages = []; inputs = []; ways = []; outside = []; steps = [] } }
     {
         Pool {
             core: Core::new(alloc, nodes),
             nodes,
             started: false,
-            tasks: Vec::new(alloc),
-            stages: Vec::new(alloc),
-            inputs: Vec::new(alloc),
-            received: Vec::new(alloc),
+            board: Board::new(alloc, nodes),
             ended_with: None,
             hints: Hints::new(alloc),
             alloc,
         }
     }
 
-    /// Adds a task at a node, of a class 0 (which is dispatched first) to 3, that waits for no input so far. It returns
-    /// the number of the task, which is the number of tasks before it.
+    /// Adds a task at a node, of a class 0 (which is dispatched first) to 3, that waits for no input so far. Its number is how many
+    /// tasks there were before it.
     ///
-    /// Refused, and nothing changes: `WrongLife` if the pool was started; `NoNode`; `BadSpec` if the class is above 3;
-    /// `HistoryFull` if there are 1,048,576 tasks or steps; `NoMemory`; `Inactive` if a `start` that ran out of memory
-    /// has begun at this node.
+    /// Refused, and nothing changes: `WrongLife` if the pool was started; `NoNode`; `BadSpec` if the class is above 3; `HistoryFull`
+    /// if there are 1,048,576 tasks or steps; `NoMemory`; `Inactive` if a `start` that was refused memory has begun at this node.
     pub fn task(&mut self, node: u32, class: u32) -> Result<u32, Refusal>
         ensures checks { IfSome (first_refusal (task_checks self.old node class)) (λ r. result ≡ Err r) }
         ensures ok { IfOk result (λ t. IsTaskAdded node class t self.old self.new) }
@@ -120,30 +124,21 @@ impl Pool {
         if self.ended_with.is_some() {
             return Err(Refusal::Ended);
         }
-        let (tasks, first) = (self.tasks.len(), self.inputs.len());
-        if tasks >= MAX_STEPS as usize || first > MAX_STEPS as usize {
-            return Err(Refusal::HistoryFull(MAX_STEPS));
+        let number = self.board.task_count();
+        if node >= self.nodes || number >= MAX_STEPS as usize {
+            return Err(Refusal::NoNode);
         }
-        let number = tasks as u32;
-        let first = first as u32;
-        self.tasks.reserve(1)?;
-        self.stages.reserve(1)?;
+        self.board.known();
+        self.board.reserve_task()?;
         self.hints.add_task()?;
         take_step(
             &mut self.core,
-            Step::Insert(NodeId(node), TaskId(number), inputs),
+            Step::Insert(NodeId(node), TaskId(number as u32), inputs),
         )?;
-        self.tasks.push_reserved(Entry {
-            node,
-            class,
-            first,
-            end: first,
-        });
-        self.stages.push_reserved(Stage::Fresh);
-        Ok(number)
+        Ok(self.board.add_task(node, class))
     }
 
-    // the refusal of the first check of `task` that fails
+    // the first check of `task` that holds
     fn task_refusal(&self, node: u32, class: u32) -> Option<Refusal>
         ensures { result ≡ first_refusal (task_checks self.now node class) }
     {
@@ -156,16 +151,16 @@ impl Pool {
         if class > 3 {
             return Some(Refusal::BadSpec);
         }
-        if self.tasks.len() >= MAX_STEPS as usize {
+        if self.board.task_count() >= MAX_STEPS as usize {
             return Some(Refusal::HistoryFull(MAX_STEPS));
         }
         None
     }
 
-    /// Makes the newest task wait for task `source`, which was added before it.
+    /// Lets the newest task wait for task `source`, which was added before it.
     ///
-    /// Refused, and nothing changes: `WrongLife` if the pool was started; `NoTask` if there is no newest task or
-    /// `source` is not below its number; `HistoryFull` if there are 1,048,576 inputs; `NoMemory`.
+    /// Refused, and nothing changes: `WrongLife` if the pool was started; `NoTask` if there is no newest task or `source` is not below
+    /// its number; `HistoryFull` if there are 1,048,576 inputs; `NoMemory`.
     pub fn input(&mut self, source: u32) -> Result<(), Refusal>
         ensures checks { IfSome (first_refusal (input_checks self.old source)) (λ r. result ≡ Err r) }
         ensures ok { OnOk result (IsInputAdded source self.old self.new) }
@@ -174,55 +169,103 @@ impl Pool {
         if let Some(refusal) = self.input_refusal(source) {
             return Err(refusal);
         }
-        if self.ended_with.is_some() {
-            return Err(Refusal::Ended);
-        }
-        let (count, inputs) = (self.tasks.len(), self.inputs.len());
-        if count == 0 || source as usize >= count - 1 {
+        let (tasks, inputs) = (self.board.task_count(), self.board.edge_count());
+        if source as usize + 1 >= tasks || inputs >= MAX_STEPS as usize {
             return Err(Refusal::NoTask);
         }
-        if count > MAX_STEPS as usize || inputs >= MAX_STEPS as usize {
-            return Err(Refusal::HistoryFull(MAX_STEPS));
-        }
-        let target = (count - 1) as u32;
-        self.inputs.reserve(1)?;
-        self.received.reserve(1)?;
-        self.hints.add_input(target)?;
-        self.inputs.push_reserved(Input { source, target });
-        self.received.push_reserved(false);
-        let newest = self.tasks[count - 1];
-        self.tasks[count - 1] = Entry {
-            end: (inputs + 1) as u32,
-            ..newest
+        let Some(from) = self.board.task(source) else {
+            return Err(Refusal::NoTask);
         };
+        match from.stage {
+            Stage::Fresh => {}
+            _ => return Err(Refusal::WrongLife),
+        }
+        self.board.known();
+        self.board.reserve_edge()?;
+        self.hints.add_input()?;
+        if !self.board.add_edge(source) {
+            return Err(Refusal::WrongLife);
+        }
+        self.hints.add_output(source, inputs as u32);
         Ok(())
     }
 
-    // the refusal of the first check of `input` that fails
+    // the first check of `input` that holds
     fn input_refusal(&self, source: u32) -> Option<Refusal>
         ensures { result ≡ first_refusal (input_checks self.now source) }
     {
         if self.started {
             return Some(Refusal::WrongLife);
         }
-        if source as usize + 1 >= self.tasks.len() {
+        if source as usize + 1 >= self.board.task_count() {
             return Some(Refusal::NoTask);
         }
-        if self.inputs.len() >= MAX_STEPS as usize {
+        if self.board.edge_count() >= MAX_STEPS as usize {
             return Some(Refusal::HistoryFull(MAX_STEPS));
         }
         None
     }
 
-    /// Starts the pool: all tasks and inputs were added.
+    /// Lets a task that was not dispatched wait for one more input from outside, which the caller reports by `release`.
     ///
-    /// Refused, and the graph is as before: `WrongLife` if the pool was started; `HistoryFull` if the graph would need
-    /// more than 1,048,576 steps, which are 3 a task, 3 an input from another node and 10 a node; `NoMemory`, after
-    /// which `start` may be called again.
+    /// Refused, and nothing changes: `NoTask`; `WrongLife` if the task was dispatched; `HistoryFull` if it waits for 1,048,576 inputs from
+    /// outside; `WrongLife` if the pool was started and the task lacks nothing, since it may be dispatched at any time.
+    pub fn outside(&mut self, task: u32) -> Result<(), Refusal>
+        ensures checks { IfSome (first_refusal (outside_checks self.old task)) (λ r. result ≡ Err r) }
+        ensures ok { OnOk result (IsOutsideAdded task self.old self.new) }
+        ensures err { OnErr result (self.new ≡ self.old) }
+        ensures exact { IfErr result (λ r. (first_refusal (outside_checks self.old task) ≡ Some r)
+            ⊎ ((r ≡ Refusal.WrongLife) × IsTrue self.old.started × (LacksInput task self.old → ⊥))) }
+    {
+        let Some(found) = self.board.task(task) else {
+            return Err(Refusal::NoTask);
+        };
+        match found.stage {
+            Stage::Fresh => {}
+            _ => return Err(Refusal::WrongLife),
+        }
+        if found.outside >= MAX_STEPS {
+            return Err(Refusal::HistoryFull(MAX_STEPS));
+        }
+        self.board.known();
+        if may_begin(self.started, found.missing) {
+            return Err(Refusal::WrongLife);
+        }
+        let added = self.board.add_outside(task);
+        prove!(added);
+        Ok(())
+    }
+
+    /// One input from outside that a task waits for is there. It returns the node of the task as a bit if the task lacks nothing now:
+    /// a thread may find something new there.
+    ///
+    /// Refused, and nothing changes: `NoTask`; `WrongLife` if the task waits for no input from outside.
+    pub fn release(&mut self, task: u32) -> Result<u32, Refusal>
+        ensures checks { IfSome (first_refusal (release_checks self.old task)) (λ r. result ≡ Err r) }
+        ensures ok { OnOk result (IsReleased task self.old self.new) }
+        ensures err { OnErr result (self.new ≡ self.old) }
+        ensures exact { IfErr result (λ r. first_refusal (release_checks self.old task) ≡ Some r) }
+    {
+        let Some(found) = self.board.task(task) else {
+            return Err(Refusal::NoTask);
+        };
+        let Some(last) = self.board.release(task) else {
+            return Err(Refusal::WrongLife);
+        };
+        push_released(&self.board, &mut self.hints, task, self.started, last);
+        Ok(node_bit(found.node, last))
+    }
+
+    /// The graph is described: tasks may be dispatched.
+    ///
+    /// Refused, and the graph is as before: `WrongLife` if the pool was started; `HistoryFull` if the graph would need more than
+    /// 1,048,576 steps, which are 3 a task, 3 an input from another node and 10 a node; `NoMemory`, after which `start` may be
+    /// called again.
     pub fn start(&mut self) -> Result<(), Refusal>
         ensures checks { IfSome (first_refusal (start_checks self.old)) (λ r. (result ≡ Err r) × (self.new ≡ self.old)) }
         ensures ok { OnOk result (IsStarted self.old self.new) }
         ensures err { OnErr result (AddsOnly is_readying self.old self.new) }
+        ensures ways { self.new.ways ≡ self.old.ways }
     {
         if self.started {
             return Err(Refusal::WrongLife);
@@ -231,16 +274,16 @@ impl Pool {
         if self.steps_needed() > (MAX_STEPS as usize).saturating_sub(taken) {
             return Err(Refusal::HistoryFull(MAX_STEPS));
         }
-        self.hints.order_outputs(self.alloc, &self.inputs)?;
         self.ready_all()?;
         self.set_started();
         self.push_ready_tasks();
         Ok(())
     }
 
-    // closes the opening action of each node at which it is open
+    // ends the opening action of each node where it is open
     fn ready_all(&mut self) -> Result<(), Refusal>
-        ensures { AddsOnly is_readying self.old self.new }
+        ensures adds { AddsOnly is_readying self.old self.new }
+        ensures ways { self.new.ways ≡ self.old.ways }
     {
         for node in 0..self.nodes {
             match self.ready(node) {
@@ -258,23 +301,26 @@ impl Pool {
         self.started = true;
     }
 
-    // the number of steps still to come: two a task, three an input from another node, at most ten a node
+    // how many steps are to come: two a task, three an input from another node, at most ten a node
     fn steps_needed(&self) -> usize {
         let mut steps_needed = self
-            .tasks
-            .len()
+            .board
+            .task_count()
             .saturating_mul(2)
             .saturating_add((self.nodes as usize).saturating_mul(10));
-        for input in self.inputs.iter() {
-            if self.home_of(input.source, 0) != self.home_of(input.target, 0) {
-                steps_needed = steps_needed.saturating_add(3);
+        for edge in self.board.edges() {
+            if let Some(source) = self.board.task(edge.source) {
+                if source.node != edge.to {
+                    steps_needed = steps_needed.saturating_add(3);
+                }
             }
         }
         steps_needed
     }
 
     fn ready(&mut self, node: u32) -> Result<(), Refusal>
-        ensures { AddsOnly is_readying self.old self.new }
+        ensures adds { AddsOnly is_readying self.old self.new }
+        ensures ways { self.new.ways ≡ self.old.ways }
     {
         if self.ended_with.is_some() {
             return Err(Refusal::Ended);
@@ -285,26 +331,28 @@ impl Pool {
     fn push_ready_tasks(&mut self)
         ensures { self.new ≡ self.old }
     {
-        for (task, entry) in self.tasks.iter().enumerate() {
-            let task = u32::try_from(task).unwrap_or(0);
-            if self.hints.has_all_inputs(task) {
-                self.hints.push_ready(entry.node, entry.class, task);
+        for (number, task) in self.board.tasks().iter().enumerate() {
+            if task.missing == 0 {
+                let number = u32::try_from(number).unwrap_or(0);
+                self.hints.push_ready(task.node, task.class, number);
             }
         }
     }
 
-    /// Returns what a thread of a node is to do next. It receives the messages that are under way to the node, and
-    /// dispatches a task of the node that has all its inputs.
+    /// What a thread of a node is to do next: it receives the messages that are under way to the node, and dispatches a task of the node
+    /// whose inputs are all there.
     ///
-    /// Refused: `WrongLife` if the pool was not started, and `NoNode`, and nothing changes; `NoMemory`, and the graph
-    /// is as before.
+    /// Refused: `WrongLife` if the pool was not started, and `NoNode`, and nothing changes; `NoMemory`, and the graph is as before: `next`
+    /// may be called again.
     pub fn next(&mut self, node: u32) -> Result<Next, Refusal>
         ensures checks { IfSome (first_refusal (next_checks self.old node)) (λ r. (result ≡ Err r) × (self.new ≡ self.old)) }
         ensures run { IfOk result (λ next. (t : ℕ) → next ≡ Next.Run t → IsDispatched node t self.old self.new) }
         ensures finished { IfOk result (λ next. (w : ℕ) → next ≡ Next.Finished w → IsFinished self.new) }
-        ensures wait { result ≡ Ok Next.Wait → AddsOnly is_delivery self.old self.new }
+        ensures wait { result ≡ Ok Next.Wait → IsIdle node self.new }
+        ensures waiting { result ≡ Ok Next.Wait → AddsOnly is_delivery self.old self.new }
         ensures err { OnErr result (AddsOnly is_delivery self.old self.new) }
         ensures graph { SameGraph self.old self.new }
+        ensures ways { AreDelivered node self.old self.new }
         ensures begun { (t : ℕ) → count (is_begin_of t) self.new.steps ≡ count (is_begin_of t) self.old.steps + dispatched result t }
     {
         if let Some(refusal) = self.next_refusal(node) {
@@ -313,19 +361,14 @@ impl Pool {
         if let Some(wave) = self.ended_with {
             return Ok(Next::Finished(wave));
         }
-        if let Err(refusal) = self.receive_all(node) {
-            return Err(refusal);
-        }
-        let Some(task) = self.pop_ready(node) else {
-            return self.detect_end();
-        };
-        match self.dispatch(node, task) {
-            Ok(()) => Ok(Next::Run(task)),
-            Err(refusal) => Err(refusal),
+        self.receive_all(node)?;
+        match self.dispatch(node)? {
+            Some(task) => Ok(Next::Run(task)),
+            None => self.detect_end(),
         }
     }
 
-    // the refusal of the first check of `next` that fails
+    // the first check of `next` that holds
     fn next_refusal(&self, node: u32) -> Option<Refusal>
         ensures { result ≡ first_refusal (next_checks self.now node) }
     {
@@ -338,45 +381,43 @@ impl Pool {
         None
     }
 
-    fn pop_ready(&mut self, node: u32) -> Option<u32>
-        ensures { self.new ≡ self.old }
-    {
-        self.hints.pop_ready(node)
-    }
-
-    fn pop_message(&mut self, node: u32) -> Option<u32>
-        ensures { self.new ≡ self.old }
-    {
-        self.hints.pop_message(node)
-    }
-
-    /// Returns the step that was taken as number `k`; the oldest is 0.
+    /// The step that was taken as number `k`, the oldest being 0.
     pub fn step(&self, k: u32) -> Option<Step>
         ensures { result ≡ slice_get (reverse self.now.steps) k }
     {
         self.core.steps().get(k as usize).copied()
     }
 
-    /// Shows that each task was dispatched at most once, whatever was called.
+    /// Each task was dispatched at most once, whatever was called.
     pub fn dispatched_once(&self)
         ensures runs { AreRuns self.now.nodes self.now.steps }
         ensures once { (t : ℕ) → count (is_begin_of t) self.now.steps ≤ 1 }
     {
-        let _ = &self.tasks;
+        let _ = &self.board;
     }
 
-    /// Returns whether a node seems to have another task that is ready.
-    pub fn has_ready(&self, node: u32) -> bool {
-        self.hints.has_ready(node)
+    /// What is true of the graph and of its tasks and inputs at any time.
+    pub fn known(&self)
+        ensures { IsConsistent self.now }
+    {
+        self.board.known();
     }
 
-    // runs control waves until termination is detected, if the pool is quiet
+    /// Whether a node has another task that is ready.
+    pub fn has_ready(&self, node: u32) -> bool
+        ensures { IsFalse result → HasNoneReady node self.now }
+    {
+        self.board.has_ready(node)
+    }
+
+    // runs the waves if nothing is left
     fn detect_end(&mut self) -> Result<Next, Refusal>
         ensures finished { IfOk result (λ next. (w : ℕ) → next ≡ Next.Finished w → IsFinished self.new) }
         ensures none { IfOk result (λ next. (t : ℕ) → next ≡ Next.Run t → ⊥) }
         ensures wait { result ≡ Ok Next.Wait → self.new ≡ self.old }
         ensures err { OnErr result (self.new ≡ self.old) }
         ensures graph { SameGraph self.old self.new }
+        ensures ways { self.new.ways ≡ self.old.ways }
         ensures begun { (t : ℕ) → count (is_begin_of t) self.new.steps ≡ count (is_begin_of t) self.old.steps }
     {
         if !self.core.quiet() {
@@ -387,69 +428,101 @@ impl Pool {
         Ok(Next::Finished(wave))
     }
 
-    // dispatches a task of this node, if all its inputs were received
-    fn dispatch(&mut self, node: u32, task: u32) -> Result<(), Refusal>
-        ensures ok { OnOk result (IsDispatched node task self.old self.new) }
+    // dispatches a task of this node that is ready, if there is one
+    fn dispatch(&mut self, node: u32) -> Result<Option<u32>, Refusal>
+        ensures ok { IfOk result (λ found. (t : ℕ) → found ≡ Some t → IsDispatched node t self.old self.new) }
+        ensures none { result ≡ Ok None → (self.new ≡ self.old) × HasNoneReady node self.new }
         ensures err { OnErr result (self.new ≡ self.old) }
+        ensures ways { self.new.ways ≡ self.old.ways }
     {
-        let Some(&entry) = self.tasks.get(task as usize) else {
-            return Err(Refusal::NoTask);
-        };
         if self.ended_with.is_some() {
             return Err(Refusal::Ended);
         }
-        if entry.node != node {
-            return Err(Refusal::NoNode);
+        self.board.known();
+        let Some(task) = find_ready(&self.board, &mut self.hints, node) else {
+            return Ok(None);
+        };
+        if let Err(refusal) = take_step(&mut self.core, Step::Begin(TaskId(task))) {
+            push_ready(&self.board, &mut self.hints, task);
+            return Err(refusal);
         }
-        if !all_received(&self.received, entry.first, entry.end) {
-            return Err(Refusal::WrongLife);
-        }
-        match self.stages.get(task as usize) {
-            Some(Stage::Fresh) => {}
-            _ => return Err(Refusal::WrongLife),
-        }
-        take_step(&mut self.core, Step::Begin(TaskId(task)))?;
-        self.stages[task as usize] = Stage::Running;
-        Ok(())
+        let begun = self.board.begin(task);
+        prove!(begun);
+        Ok(Some(task))
     }
 
-    // receives the messages that are under way to a node
+    // receives the inputs that are under way to a node
     fn receive_all(&mut self, node: u32) -> Result<(), Refusal>
-        ensures { AddsOnly is_delivery self.old self.new }
+        ensures adds { AddsOnly is_delivery self.old self.new }
+        ensures ways { AreDelivered node self.old self.new }
+        ensures ok { OnOk result ((k : ℕ) → IsComing node k self.new → ⊥) }
     {
-        for _turn in 0..MAX_STEPS {
-            let Some(input) = self.pop_message(node) else {
-                return Ok(());
-            };
+        self.end_open_message(node)?;
+        while let Some(input) = self.find_message(node) {
             self.deliver(node, input)?;
         }
         Ok(())
     }
 
-    // receives a message, and marks its input as received
-    fn deliver(&mut self, node: u32, input: u32) -> Result<(), Refusal>
-        ensures { AddsOnly is_delivery self.old self.new }
+    // ends a message for which an earlier call found no memory
+    fn end_open_message(&mut self, node: u32) -> Result<(), Refusal>
+        ensures adds { AddsOnly is_delivery self.old self.new }
+        ensures ways { self.new.ways ≡ self.old.ways }
     {
+        if let Some(input) = self.hints.open_message(node) {
+            self.end_message(node, input)?;
+        }
+        Ok(())
+    }
+
+    // an input that is under way to a node: that of the hint, if it is
+    fn find_message(&mut self, node: u32) -> Option<u32>
+        ensures same { self.new ≡ self.old }
+        ensures some { IfSome result (λ k. IsComing node k self.new) }
+        ensures none { IfNone result ((k : ℕ) → IsComing node k self.new → ⊥) }
+    {
+        self.board.known();
+        find_coming(&self.board, &mut self.hints, node)
+    }
+
+    // receives an input
+    fn deliver(&mut self, node: u32, input: u32) -> Result<(), Refusal>
+        requires { IsComing node input self.old }
+        ensures adds { AddsOnly is_delivery self.old self.new }
+        ensures ways { AreDelivered node self.old self.new }
+        ensures ok { OnOk result (self.new.ways ≡ slice_set self.old.ways input way.Received) }
+    {
+        if self.is_from(node, input) {
+            self.arrive(node, input);
+            return Ok(());
+        }
         self.receive(node, input)?;
-        self.input_arrived(node, input);
+        self.arrive(node, input);
         self.end_message(node, input)
     }
 
     fn receive(&mut self, node: u32, input: u32) -> Result<(), Refusal>
         ensures adds { AddsOnly is_delivery self.old self.new }
+        ensures ways { self.new.ways ≡ self.old.ways }
         ensures ok { OnOk result (WasReceived node input self.new.steps) }
     {
         if self.ended_with.is_some() {
             return Err(Refusal::Ended);
         }
-        take_step(
+        if let Err(refusal) = take_step(
             &mut self.core,
             Step::Recv(NodeId(node), MessageId(input), Generation(1)),
-        )
+        ) {
+            self.hints.push_message(node, input);
+            return Err(refusal);
+        }
+        self.hints.open(node, input);
+        Ok(())
     }
 
     fn end_message(&mut self, node: u32, input: u32) -> Result<(), Refusal>
-        ensures { AddsOnly is_delivery self.old self.new }
+        ensures adds { AddsOnly is_delivery self.old self.new }
+        ensures ways { self.new.ways ≡ self.old.ways }
     {
         if self.ended_with.is_some() {
             return Err(Refusal::Ended);
@@ -457,190 +530,185 @@ impl Pool {
         take_step(
             &mut self.core,
             Step::MessageEnd(NodeId(node), MessageId(input), Generation(1)),
-        )
+        )?;
+        self.hints.close(node);
+        Ok(())
     }
 
-    fn input_arrived(&mut self, node: u32, input: u32)
-        requires { IsFrom node input self.old ⊎ WasReceived node input self.old.steps }
-        ensures { self.new ≡ self.old }
+    // marks an input of a task at this node as received
+    fn arrive(&mut self, node: u32, input: u32)
+        requires coming { IsComing node input self.old }
+        requires there { IsFrom node input self.old ⊎ WasReceived node input self.old.steps }
+        ensures { self.new ≡ record self.old { ways = slice_set self.old.ways input way.Received } }
     {
-        if self.mark_received(node, input) {
-            self.count_input(input);
-        }
-    }
-
-    // marks an input of a task at this node as received, if its source is done
-    fn mark_received(&mut self, node: u32, input: u32) -> bool
-        requires { IsFrom node input self.old ⊎ WasReceived node input self.old.steps }
-        ensures { self.new ≡ self.old }
-    {
-        let Some(&of) = self.inputs.get(input as usize) else {
-            return false;
-        };
-        let Some(&target) = self.tasks.get(of.target as usize) else {
-            return false;
-        };
-        if target.node != node {
-            return false;
-        }
-        match self.stages.get(of.source as usize) {
-            Some(Stage::Done) => {}
-            _ => return false,
-        }
-        if input as usize >= self.received.len() {
-            return false;
-        }
-        self.received[input as usize] = true;
-        true
-    }
-
-    // counts a received input; its task is ready if it was the last one
-    fn count_input(&mut self, input: u32)
-        ensures { self.new ≡ self.old }
-    {
-        let Some(&of) = self.inputs.get(input as usize) else {
-            return;
-        };
-        let task = of.target;
-        if self.hints.count_received(task) {
-            if let Some(&entry) = self.tasks.get(task as usize) {
-                self.hints.push_ready(entry.node, entry.class, task);
-            }
-        }
+        self.board.known();
+        let last = self.board.arrive(input);
+        push_woken(&self.board, &mut self.hints, input, last);
     }
 
     // whether the source of an input is at home at this node
     fn is_from(&self, node: u32, input: u32) -> bool
         ensures { IsTrue result → IsFrom node input self.now }
     {
-        let Some(&of) = self.inputs.get(input as usize) else {
+        let Some(edge) = self.board.edge(input) else {
             return false;
         };
-        let Some(&source) = self.tasks.get(of.source as usize) else {
+        let Some(source) = self.board.task(edge.source) else {
             return false;
         };
         source.node == node
     }
 
-    /// Completes a task that a thread of its node ran. An input of another node is sent there as a message. It returns
-    /// the set of nodes at which a thread may find something new, as bits.
+    /// Completes a task that a thread of its node ran. An input of another node is sent there as a message. It returns the nodes at which
+    /// a thread may find something new, as bits.
     ///
-    /// Refused, and nothing changes: `NoTask`; `WrongLife` if the task was not dispatched, or is done; `NoNode` if its
-    /// home is another node. `NoMemory` if there is no memory for a message: some messages were sent, and the task
-    /// cannot be completed any more.
+    /// Refused, and nothing changes: `NoTask`; `WrongLife` if the task was not dispatched, or is done; `NoNode` if its home is another
+    /// node. `NoMemory` if a message found no memory: some were sent, the task is still running, and `done` may be called again.
     pub fn done(&mut self, node: u32, task: u32) -> Result<u32, Refusal>
         ensures checks { IfSome (first_refusal (done_checks self.old node task)) (λ r. (result ≡ Err r) × (self.new ≡ self.old)) }
         ensures ok { OnOk result (IsCompleted task self.old self.new) }
         ensures err { OnErr result (AddsOnly is_sending self.old self.new) }
+        ensures ways { AreSent task self.old self.new }
         ensures begun { (t : ℕ) → count (is_begin_of t) self.new.steps ≡ count (is_begin_of t) self.old.steps }
     {
         if let Some(refusal) = self.done_refusal(node, task) {
             return Err(refusal);
         }
-        let news = self.send_all(node, task)?;
+        self.send_all(node, task)?;
         self.complete(task)?;
-        self.pass_on(node, task);
-        Ok(news)
+        Ok(self.pass_on(node, task))
     }
 
-    // the refusal of the first check of `done` that fails
+    // the first check of `done` that holds
     fn done_refusal(&self, node: u32, task: u32) -> Option<Refusal>
-        ensures { result ≡ first_refusal (done_checks self.now node task) }
+        ensures refusal { result ≡ first_refusal (done_checks self.now node task) }
+        ensures running { IfNone result (slice_get self.now.stages task ≡ Some stage.Running) }
+        ensures home { IfNone result (IsHome node task self.now) }
     {
-        let Some(&entry) = self.tasks.get(task as usize) else {
+        let Some(found) = self.board.task(task) else {
             return Some(Refusal::NoTask);
         };
-        match self.stages.get(task as usize) {
-            Some(Stage::Running) => {}
+        match found.stage {
+            Stage::Running => {}
             _ => return Some(Refusal::WrongLife),
         }
-        if entry.node != node {
+        if found.node != node {
             return Some(Refusal::NoNode);
         }
         None
     }
 
-    // sends the outputs of a task that are inputs at other nodes
-    fn send_all(&mut self, node: u32, task: u32) -> Result<u32, Refusal>
-        ensures { AddsOnly is_sending self.old self.new }
+    // passes on all inputs that come from a running task; those of other nodes are sent
+    fn send_all(&mut self, node: u32, task: u32) -> Result<(), Refusal>
+        requires { slice_get self.old.stages task ≡ Some stage.Running }
+        ensures adds { AddsOnly is_sending self.old self.new }
+        ensures ways { AreSent task self.old self.new }
+        ensures ok { OnOk result (AllPassed task self.new) }
     {
-        let (first, end) = self.hints.outputs(task);
-        let mut news = 0u32;
-        for k in first..end {
-            let bit = self.send_one(node, k)?;
-            news |= bit;
+        self.send_hinted(node, task)?;
+        while let Some(input) = self.find_unsent(task) {
+            self.send(node, task, input)?;
         }
-        Ok(news)
+        Ok(())
     }
 
-    // sends an output if it is an input at another node, which is returned as a bit
-    fn send_one(&mut self, node: u32, k: u32) -> Result<u32, Refusal>
-        ensures { AddsOnly is_sending self.old self.new }
+    // the same, of the inputs that the hints know
+    fn send_hinted(&mut self, node: u32, task: u32) -> Result<(), Refusal>
+        requires { slice_get self.old.stages task ≡ Some stage.Running }
+        ensures adds { AddsOnly is_sending self.old self.new }
+        ensures ways { AreSent task self.old self.new }
     {
-        let input = self.hints.output(k);
-        let to = self.target_home(input, node);
-        if to == node || to > 7 {
-            return Ok(0);
+        let mut next = self.hints.first_output(task);
+        for _turn in 0..MAX_STEPS {
+            let Some(input) = next else {
+                return Ok(());
+            };
+            self.send(node, task, input)?;
+            next = self.hints.next_output(input);
         }
-        self.send(node, to, input)?;
-        self.hints.push_message(to, input);
-        Ok(1u32 << to)
+        Ok(())
     }
 
-    // the home of a task, or the given node if there is no such task
-    fn home_of(&self, task: u32, node: u32) -> u32 {
-        match self.tasks.get(task as usize) {
-            Some(entry) => entry.node,
-            None => node,
+    // an input that comes from a task and was not passed on
+    fn find_unsent(&self, task: u32) -> Option<u32>
+        ensures some { IfSome result (λ k. IsOutput task k self.now × (slice_get self.now.ways k ≡ Some way.Out)) }
+        ensures none { IfNone result (AllPassed task self.now) }
+    {
+        if !self.board.has_unsent(task) {
+            return None;
         }
+        self.board.find_unsent(task)
     }
 
-    // the home of an input's target, or the given node if there is no such input
-    fn target_home(&self, input: u32, node: u32) -> u32 {
-        match self.inputs.get(input as usize) {
-            Some(of) => self.home_of(of.target, node),
-            None => node,
-        }
-    }
-
-    fn send(&mut self, from: u32, to: u32, input: u32) -> Result<(), Refusal>
-        ensures { AddsOnly is_sending self.old self.new }
+    // passes an input on that comes from a running task, if it was not
+    fn send(&mut self, node: u32, task: u32, input: u32) -> Result<(), Refusal>
+        requires { slice_get self.old.stages task ≡ Some stage.Running }
+        ensures adds { AddsOnly is_sending self.old self.new }
+        ensures ways { AreSent task self.old self.new }
+        ensures ok { OnOk result (IsOutput task input self.old → slice_get self.old.ways input ≡ Some way.Out
+            → self.new.ways ≡ slice_set self.old.ways input way.UnderWay) }
     {
         if self.ended_with.is_some() {
             return Err(Refusal::Ended);
         }
-        take_step(
-            &mut self.core,
-            Step::Send(NodeId(from), NodeId(to), MessageId(input), Generation(1)),
-        )
+        let Some(edge) = output_of(&self.board, task, input, Way::Out) else {
+            return Ok(());
+        };
+        send_message(&mut self.core, node, edge.to, input)?;
+        let left = self.board.leave(input);
+        prove!(left);
+        Ok(())
     }
 
     fn complete(&mut self, task: u32) -> Result<(), Refusal>
+        requires running { slice_get self.old.stages task ≡ Some stage.Running }
+        requires passed { AllPassed task self.old }
         ensures ok { OnOk result (IsCompleted task self.old self.new) }
+        ensures ways { self.new.ways ≡ self.old.ways }
         ensures err { OnErr result (self.new ≡ self.old) }
     {
         if self.ended_with.is_some() {
             return Err(Refusal::Ended);
         }
-        match self.stages.get(task as usize) {
-            Some(Stage::Running) => {}
-            _ => return Err(Refusal::WrongLife),
-        }
         take_step(&mut self.core, Step::Done(TaskId(task)))?;
-        self.stages[task as usize] = Stage::Done;
+        let finished = self.board.finish(task);
+        prove!(finished);
         Ok(())
     }
 
-    // marks the outputs of a task that are inputs at its own node as received
-    fn pass_on(&mut self, node: u32, task: u32)
-        ensures { self.new ≡ self.old }
+    // marks the inputs that come from a task and are at its own node as received; returns the other nodes to which one is under way
+    fn pass_on(&mut self, node: u32, task: u32) -> u32
+        requires done { slice_get self.old.stages task ≡ Some stage.Done }
+        requires home { IsHome node task self.old }
+        ensures { IsMarked task self.old self.new }
     {
-        let (first, end) = self.hints.outputs(task);
-        for k in first..end {
-            let input = self.hints.output(k);
-            if self.is_from(node, input) {
-                self.input_arrived(node, input);
-            }
+        let mut news = 0u32;
+        let mut next = self.hints.first_output(task);
+        for _turn in 0..MAX_STEPS {
+            let Some(input) = next else {
+                return news;
+            };
+            news |= self.pass(node, task, input);
+            next = self.hints.next_output(input);
         }
+        news
+    }
+
+    // the same, of one input
+    fn pass(&mut self, node: u32, task: u32, input: u32) -> u32
+        requires done { slice_get self.old.stages task ≡ Some stage.Done }
+        requires home { IsHome node task self.old }
+        ensures { IsMarked task self.old self.new }
+    {
+        self.board.known();
+        let Some(edge) = output_of(&self.board, task, input, Way::UnderWay) else {
+            return 0;
+        };
+        if edge.to != node {
+            self.hints.push_message(edge.to, input);
+            return node_bit(edge.to, true);
+        }
+        self.arrive(node, input);
+        0
     }
 }

@@ -1,6 +1,6 @@
 //! The calls on a pool of task graphs, as C gets their results.
 ghost use Rattle.std.specs.Prelude.{◌≡◌, ◌≤◌, Option, Result, ℕ};
-ghost use Rattle.gerfmuod.specs.Dag.{can_be, opened, opening, IsTask, IsInput, IsStart, IsNext, IsDone, IsStep, IsClosed};
+ghost use Rattle.gerfmuod.specs.Dag.{can_be, opened, opening, IsTask, IsInput, IsStart, IsOutside, IsRelease, IsNext, IsDone, IsAgainCall, IsStep, IsClosed};
 ghost use Rattle.gerfmuod.specs.Dag.{limit_of, plain, refusal_answer, next_answer, step_answer};
 
 use super::answer::{DagAnswer, DagStep};
@@ -103,6 +103,30 @@ pub(crate) fn start(slot: &mut PoolSlot) -> DagAnswer
     }
 }
 
+pub(crate) fn outside(slot: &mut PoolSlot, task: u32) -> DagAnswer
+    ensures { IsOutside slot.old task result slot.new }
+{
+    if !slot.is_open() {
+        return refused(Refusal::NoPool);
+    }
+    match slot.pool.outside(task) {
+        Ok(()) => PLAIN,
+        Err(refusal) => refused(refusal),
+    }
+}
+
+pub(crate) fn release(slot: &mut PoolSlot, task: u32) -> DagAnswer
+    ensures { IsRelease slot.old task result slot.new }
+{
+    if !slot.is_open() {
+        return refused(Refusal::NoPool);
+    }
+    match slot.pool.release(task) {
+        Ok(news) => with_news(news),
+        Err(refusal) => refused(refusal),
+    }
+}
+
 pub(crate) fn next(slot: &mut PoolSlot, node: u32) -> DagAnswer
     ensures { IsNext slot.old node result slot.new }
 {
@@ -134,7 +158,7 @@ fn of_next(next: Next, news: u32) -> DagAnswer
     }
 }
 
-// the bit of a node that seems to have another ready task
+// the bit of a node that has another ready task
 fn other_ready(slot: &PoolSlot, node: u32) -> u32 {
     if node < 8 && slot.pool.has_ready(node) {
         1u32 << node
@@ -151,6 +175,18 @@ pub(crate) fn done(slot: &mut PoolSlot, node: u32, task: u32) -> DagAnswer
     }
     match slot.pool.done(node, task) {
         Ok(news) => with_news(news),
+        Err(refusal) => refused(refusal),
+    }
+}
+
+pub(crate) fn again(slot: &mut PoolSlot) -> DagAnswer
+    ensures { IsAgainCall slot.old result slot.new }
+{
+    if !slot.is_open() {
+        return refused(Refusal::NoPool);
+    }
+    match slot.pool.again() {
+        Ok(()) => PLAIN,
         Err(refusal) => refused(refusal),
     }
 }

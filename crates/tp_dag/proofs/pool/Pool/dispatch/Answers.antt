@@ -1,22 +1,37 @@
-use Rattle.std.proofs.Common.{◌≡◌, ◌<◌, ◌≤◌, ℕ, Some, true, sym, ◌∙◌, arith}
-use Rattle.std.specs.Prelude.{slice_get}
-use Rattle.std.proofs.lemmas.Grind.{common_steps}
-use Rattle.std.proofs.lemmas.Option.{gets}
-use Rattle.tp_dag.specs.declared.entry.Stage.TheVariants as stage
-use Rattle.tp_dag.proofs.Keeping.{kept_dispatch, is_dispatched}
+use Rattle.std.proofs.Common.{ℕ, refl, sym, subst, ◌∙◌}
+use Rattle.tp_dag.proofs.Views.{some_same, none_ready_seen}
+use Rattle.tp_dag.specs.State.{IsDispatched}
+use Rattle.tp_dag.specs.Kept.{state_of}
+use Rattle.tp_dag.proofs.Keeping.{begins_surely, kept_dispatch, is_dispatched}
 use Rattle.tp_dag.proofs.pool.Pool.dispatch.Goals as goal
+
+pub returns-in_default-clause-none : goal.returns-in_default-clause-none
+returns-in_default-clause-none c = λ e. (
+  c.self.view_is,
+  none_ready_seen c.self.inside.core.nodes c.self.inside.started c.self.inside.core.steps c.self.inside.board c.args.node c.in_default.ensures.none,
+)
+
+pub prove-unreachable-requires : goal.prove-unreachable-requires
+prove-unreachable-requires c =
+    begins_surely c.self.inside c.args.node c.in-Some.task c.begin-begun.result c.known.ensures c.in-Some.ensures.some c.begin-begun.ensures.exact c.if-prove.true
 
 pub invariant_of-self-2 : goal.invariant_of-self-2
 invariant_of-self-2 c =
-    let ok = c.in_ok-take_step.ensures.ok in
-    kept_dispatch c.self.inside c.take_step.new.core c.args.task c.self.invariant (sym c.is_some.ensures ∙ c.if-is_some.false) ok.0 ok.1
+    let ok = c.in_default-take_step.ensures.ok in
+    kept_dispatch c.self.inside _ c.in-Some.task c.self.invariant (sym c.is_some.ensures ∙ c.if-is_some.false) ok.0 ok.1
+    (c.begin-begun.ensures.ok c.if-prove.false) refl refl refl
 
 pub returns-clause-ok : goal.returns-clause-ok
-returns-clause-ok c =
-    let ok = c.in_ok-take_step.ensures.ok in
-    let is : slice_get c.self.inside.tasks.items c.args.task ≡ Some c.in-Some.entry = grind (arith, common_steps, gets) in
-    let fresh : slice_get c.self.inside.stages.items c.args.task ≡ Some stage.Fresh = grind (arith, common_steps, gets) in
-    let all : (k : ℕ) → c.in-Some.entry.first ≤ k → k < c.in-Some.entry.end → slice_get c.self.inside.received.items k ≡ Some true =
-    rw (sym c.in-Some.entry-is, sym c.deref-2.ensures.value) (c.all_received.ensures c.if-not-all_received.false) in
-    is_dispatched c.self.inside c.args.self.now c.take_step.new.core c.args.node c.args.task c.in-Some.entry c.self.invariant c.self.view_is is
-    (rw (sym c.in-Some.entry-is) c.if-entry-node.false) fresh all ok.0 ok.1
+returns-clause-ok c = λ t e.
+    let ok = c.in_default-take_step.ensures.ok in
+    subst (λ (u : ℕ). IsDispatched c.args.node u c.args.self.now (state_of (record c.self.inside {
+      core = c.take_step.new.core;
+      board = c.begin-begun.new.self;
+      hints = c.find_ready.new.hints;
+    }))) (some_same c.in-Some.task t e)
+    (is_dispatched c.self.inside (record c.self.inside {
+      core = c.take_step.new.core;
+      board = c.begin-begun.new.self;
+      hints = c.find_ready.new.hints;
+    }) c.args.self.now c.args.node c.in-Some.task c.self.invariant c.self.view_is c.in-Some.ensures.some ok.0 ok.1
+    (c.begin-begun.ensures.ok c.if-prove.false) refl)

@@ -1,8 +1,13 @@
-use Rattle.std.proofs.Common.{◌≡◌, ◌+◌, ℕ, ap, subst, sym, ◌∙◌, arith}
+use Rattle.std.proofs.Common.{◌≡◌, ◌+◌, ℕ, Result, Option, ap, subst, refl, ◌∙◌, arith}
+use Rattle.std.specs.Prelude.{Ok, Err}
+use Rattle.std.proofs.lemmas.Result.{err_from_is_err_and}
+use Rattle.tp_base.specs.declared.Refusal.{Refusal}
 use Rattle.tp_wave.specs.Steps.{count}
 use Rattle.tp_core.specs.NeverEarly.{is_begin_of}
-use Rattle.tp_dag.specs.State.{PoolState, AddsOnly, IsDispatched, is_delivery, dispatched}
+use Rattle.tp_dag.specs.State.{PoolState, IsDispatched, dispatched}
+use Rattle.tp_dag.specs.declared.pool.Next.{Next}
 use Rattle.tp_dag.specs.declared.pool.Next.TheVariants as next
+use Rattle.tp_dag.proofs.Going.{idle_now}
 use Rattle.tp_dag.proofs.Keeping.{dispatched_later, dispatch_counts, none_begun, end_dispatches_none}
 use Rattle.tp_dag.proofs.pool.Pool.next.Goals as goal
 
@@ -12,27 +17,44 @@ and_none a b z e f = omega (arith, e, f)
 same_run : (u t : ℕ) → next.Run u ≡ next.Run t → u ≡ t
 same_run u t e = cc
 
-pub returns-in-Err-clause-begun : goal.returns-in-Err-clause-begun
-returns-in-Err-clause-begun c = λ t. and_none _ _ 0 (none_begun t c.receive_all.ensures) (omega arith)
+refused_none : (r : Result Next Refusal) (e : Refusal) (t : ℕ) → r ≡ Err e → dispatched r t ≡ 0
+refused_none r e t h = rw h refl
 
-pub returns-in_default-pop_ready-clause-begun : goal.returns-in_default-pop_ready-clause-begun
-returns-in_default-pop_ready-clause-begun c = λ t.
+abbrev ok : Option ℕ → Result (Option ℕ) Refusal
+ok o = Ok o
+
+pub returns-in_err-receive_all-clause-begun : goal.returns-in_err-receive_all-clause-begun
+returns-in_err-receive_all-clause-begun c = λ t.
+    let p = err_from_is_err_and c.from_residual.result c.from_residual.ensures.1 in
+    and_none _ _ (dispatched c.from_residual.result t) (none_begun t c.receive_all.ensures.adds) (refused_none c.from_residual.result p.0 t p.1)
+
+pub returns-in_err-task-clause-begun : goal.returns-in_err-task-clause-begun
+returns-in_err-task-clause-begun c = λ t.
+    let p = err_from_is_err_and c.from_residual-in_err-task.result c.from_residual-in_err-task.ensures.1 in
+    and_none _ _ (dispatched c.from_residual-in_err-task.result t)
+    (ap (λ (a : PoolState). count (is_begin_of t) a.steps) c.in_err-task.ensures.err ∙ none_begun t c.receive_all.ensures.adds)
+    (refused_none c.from_residual-in_err-task.result p.0 t p.1)
+
+pub returns-in-Some-2-clause-run : goal.returns-in-Some-2-clause-run
+returns-in-Some-2-clause-run c = λ t e.
+    subst (λ (u : ℕ). IsDispatched c.args.node u c.args.self.now c.dispatch.new.self) (same_run c.in-Some-2.task t e)
+    (dispatched_later c.receive_all.ensures.adds (c.in_ok-task.ensures.ok c.in-Some-2.task c.in-Some-2.is))
+
+pub returns-in-Some-2-clause-graph : goal.returns-in-Some-2-clause-graph
+returns-in-Some-2-clause-graph c = (dispatched_later c.receive_all.ensures.adds (c.in_ok-task.ensures.ok c.in-Some-2.task c.in-Some-2.is)).graph
+
+pub returns-in-Some-2-clause-begun : goal.returns-in-Some-2-clause-begun
+returns-in-Some-2-clause-begun c = λ u.
+    dispatch_counts u (dispatched_later c.receive_all.ensures.adds (c.in_ok-task.ensures.ok c.in-Some-2.task c.in-Some-2.is))
+
+pub returns-in-None-clause-wait : goal.returns-in-None-clause-wait
+returns-in-None-clause-wait c = λ e.
+    let none = c.in_ok-task.ensures.none (ap ok c.in-None.is) in
+    idle_now c.args.node c.receive_all.new.self c.dispatch.new.self c.detect_end.new.self c.in_ok-receive_all.ensures.ok none.0 none.1 (c.detect_end.ensures.wait e)
+
+pub returns-in-None-clause-begun : goal.returns-in-None-clause-begun
+returns-in-None-clause-begun c = λ t.
+    let none = c.in_ok-task.ensures.none (ap ok c.in-None.is) in
     and_none _ _ (dispatched c.detect_end.result t)
-    (c.detect_end.ensures.begun t ∙ (ap (λ (a : PoolState). count (is_begin_of t) a.steps) c.pop_ready.ensures ∙ none_begun t c.receive_all.ensures))
+    (c.detect_end.ensures.begun t ∙ (ap (λ (a : PoolState). count (is_begin_of t) a.steps) none.0 ∙ none_begun t c.receive_all.ensures.adds))
     (end_dispatches_none c.detect_end.result t c.detect_end.ensures.none)
-
-pub returns-in-Ok-clause-run : goal.returns-in-Ok-clause-run
-returns-in-Ok-clause-run c = λ t e.
-    subst (λ (u : ℕ). IsDispatched c.args.node u c.args.self.now c.dispatch.new.self) (same_run c.in-Some-pop_ready.task t e)
-    (dispatched_later (subst (λ (a : PoolState). AddsOnly is_delivery c.args.self.now a) (sym c.pop_ready.ensures) c.receive_all.ensures) c.in-Ok.ensures.ok)
-
-pub returns-in-Ok-clause-begun : goal.returns-in-Ok-clause-begun
-returns-in-Ok-clause-begun c = λ u.
-    dispatch_counts u (dispatched_later
-    (subst (λ (a : PoolState). AddsOnly is_delivery c.args.self.now a) (sym c.pop_ready.ensures) c.receive_all.ensures) c.in-Ok.ensures.ok)
-
-pub returns-in-Err-dispatch-clause-begun : goal.returns-in-Err-dispatch-clause-begun
-returns-in-Err-dispatch-clause-begun c = λ t.
-    and_none _ _ 0
-    (ap (λ (a : PoolState). count (is_begin_of t) a.steps) c.in-Err-dispatch.ensures.err
-    ∙ (ap (λ (a : PoolState). count (is_begin_of t) a.steps) c.pop_ready.ensures ∙ none_begun t c.receive_all.ensures)) (omega arith)

@@ -1,12 +1,22 @@
-use Rattle.std.proofs.Common.{subst, sym}
-use Rattle.tp_dag.specs.State.{PoolState, AddsOnly, is_delivery}
+use Rattle.std.proofs.Common.{ap, subst, sym}
+use Rattle.tp_dag.specs.State.{PoolState, AddsOnly, AreDelivered, is_delivery}
 use Rattle.tp_dag.proofs.Steps.{adds_trans}
+use Rattle.tp_dag.proofs.Going.{delivered_trans, falls_coming}
 use Rattle.tp_dag.proofs.pool.Pool.receive_all.Goals as goal
 
-pub returns-in_err-deliver : goal.returns-in_err-deliver
-returns-in_err-deliver c =
-    adds_trans (subst (λ (a : PoolState). AddsOnly is_delivery c.args.self.now a) (sym c.pop_message.ensures) c.loop-turn.invariant) c.deliver.ensures
+pub loop-input-smaller : goal.loop-input-smaller
+loop-input-smaller c =
+    falls_coming c.loop-input.self.ways c.find_message.new.self.ways c.deliver.new.self.ways c.in-Some.input
+    (ap (λ (a : PoolState). a.ways) c.find_message.ensures.same) c.in_ok-deliver.ensures.ok c.in-Some.ensures.some.under_way
 
-pub loop-turn-preserved : goal.loop-turn-preserved
-loop-turn-preserved c =
-    adds_trans (subst (λ (a : PoolState). AddsOnly is_delivery c.args.self.now a) (sym c.pop_message.ensures) c.loop-turn.invariant) c.deliver.ensures
+pub returns-in_err-deliver-clause-adds : goal.returns-in_err-deliver-clause-adds
+returns-in_err-deliver-clause-adds c =
+    adds_trans (subst (λ (a : PoolState). AddsOnly is_delivery c.args.self.now a) (sym c.find_message.ensures.same) c.loop-input.invariant.0) c.deliver.ensures.adds
+
+pub loop-input-preserved : goal.loop-input-preserved
+loop-input-preserved c =
+    let adds = subst (λ (a : PoolState). AddsOnly is_delivery c.args.self.now a) (sym c.find_message.ensures.same) c.loop-input.invariant.0 in (
+      adds_trans adds c.deliver.ensures.adds,
+      delivered_trans c.args.node c.args.self.now c.find_message.new.self c.deliver.new.self adds
+          (subst (λ (a : PoolState). AreDelivered c.args.node c.args.self.now a) (sym c.find_message.ensures.same) c.loop-input.invariant.1) c.deliver.ensures.ways,
+    )

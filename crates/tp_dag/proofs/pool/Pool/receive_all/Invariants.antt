@@ -1,5 +1,9 @@
-use Rattle.tp_dag.specs.State.{AddsOnly, is_delivery}
+use Rattle.tp_dag.specs.Counts.{count_where, is_under_way}
+use Rattle.tp_dag.specs.State.{AddsOnly, AreDelivered, is_delivery}
 use Rattle.tp_dag.proofs.pool.Pool.receive_all.Given as goal
 
-abbrev pub invariant-loop-turn : goal.invariant-loop-turn
-invariant-loop-turn l = AddsOnly is_delivery l.fn.self l.self
+abbrev pub invariant-loop-input : goal.invariant-loop-input
+invariant-loop-input l = AddsOnly is_delivery l.fn.self l.self × AreDelivered l.node l.fn.self l.self
+
+abbrev pub decreases-loop-input : goal.decreases-loop-input
+decreases-loop-input l = count_where is_under_way l.self.ways

@@ -1,12 +1,36 @@
-use Rattle.std.proofs.Common.{sym, refl, ◌∙◌}
-use Rattle.tp_dag.specs.State.{is_sending}
-use Rattle.tp_dag.proofs.Keeping.{kept_step, adds_step}
+use Rattle.std.proofs.Common.{refl, sym, ◌∙◌}
+use Rattle.tp_dag.specs.declared.entry.Way.TheVariants as way
+use Rattle.tp_dag.proofs.Keeping.{output_edge, leaves_surely, kept_send, adds_send, sent_ways, left_ways}
 use Rattle.tp_dag.proofs.pool.Pool.send.Goals as goal
 
-pub invariant_of-self : goal.invariant_of-self
-invariant_of-self c =
-    kept_step c.self.inside c.take_step.new.core _ c.take_step.result c.self.invariant (sym c.is_some.ensures ∙ c.if-is_some.false) refl c.take_step.ensures.ok c.take_step.ensures.err
+pub returns-in_default-clause-ok : goal.returns-in_default-clause-ok
+returns-in_default-clause-ok c = λ o at.
+    let e = output_edge c.self.inside c.args.self.now c.args.task c.args.input way.Out c.self.view_is o at in
+    absurd (c.in_default.ensures.none e.0 e.1 e.2 e.3)
 
-pub returns : goal.returns
-returns c =
-    adds_step c.self.inside c.args.self.now c.take_step.new.core _ c.take_step.result is_sending c.self.view_is refl c.take_step.ensures.ok c.take_step.ensures.err
+pub prove-unreachable-requires : goal.prove-unreachable-requires
+prove-unreachable-requires c =
+    let some = c.in-Some.ensures.some in
+    leaves_surely c.self.inside c.args.self.now c.args.task c.args.input c.in-Some.edge c.leave-left.result c.self.view_is c.requires some.0 some.1 some.2
+    c.leave-left.ensures.exact c.if-prove.true
+
+pub invariant_of-self-2 : goal.invariant_of-self-2
+invariant_of-self-2 c =
+    kept_send c.self.inside _ c.send_message.new.core c.args.input c.self.invariant (sym c.is_some.ensures ∙ c.if-is_some.false)
+    c.in_ok-send_message.ensures.ok refl (c.leave-left.ensures.ok c.if-prove.false) refl refl refl
+
+pub returns-clause-adds : goal.returns-clause-adds
+returns-clause-adds c =
+    adds_send c.self.inside (record c.self.inside { core = c.send_message.new.core; board = c.leave-left.new.self }) c.args.self.now c.args.input
+    c.self.view_is c.in_ok-send_message.ensures.ok (c.leave-left.ensures.ok c.if-prove.false) refl
+
+pub returns-clause-ways : goal.returns-clause-ways
+returns-clause-ways c =
+    let some = c.in-Some.ensures.some in
+    sent_ways c.self.inside (record c.self.inside { core = c.send_message.new.core; board = c.leave-left.new.self }) c.args.self.now c.args.task c.args.input
+    c.in-Some.edge c.self.view_is some.0 some.1 some.2 (c.leave-left.ensures.ok c.if-prove.false) refl
+
+pub returns-clause-ok : goal.returns-clause-ok
+returns-clause-ok c = λ o at.
+    left_ways c.self.inside (record c.self.inside { core = c.send_message.new.core; board = c.leave-left.new.self }) c.args.self.now c.args.input
+    c.self.view_is (c.leave-left.ensures.ok c.if-prove.false) refl

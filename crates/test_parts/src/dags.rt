@@ -1,0 +1,92 @@
+//! The pool of tasks that a caller runs: two nodes, an input that is sent, one from outside, call by call.
+
+use tp_base::Refusal;
+use tp_dag::{Next, Pool};
+
+/// A call of `Pool`.
+#[derive(Clone, Copy, Debug, PartialEq, Eq)]
+enum Call {
+    Task(u32, u32),
+    Input(u32),
+    Outside(u32),
+    Release(u32),
+    Start,
+    Next(u32),
+    Done(u32, u32),
+}
+
+/// What a call returns: of `next` the task to be run, or one of these.
+type Answer = Result<u32, Refusal>;
+
+const WAIT: Answer = Ok(100);
+const FINISHED: Answer = Ok(200);
+
+type Row = (Call, Answer);
+
+fn of_unit(returned: Result<(), Refusal>) -> Answer {
+    match returned {
+        Ok(()) => Ok(0),
+        Err(refusal) => Err(refusal),
+    }
+}
+
+fn of_next(returned: Result<Next, Refusal>) -> Answer {
+    match returned {
+        Ok(Next::Run(task)) => Ok(task),
+        Ok(Next::Wait) => WAIT,
+        Ok(Next::Finished(_)) => FINISHED,
+        Err(refusal) => Err(refusal),
+    }
+}
+
+fn returned(pool: &mut Pool, what: Call) -> Answer {
+    match what {
+        Call::Task(node, class) => pool.task(node, class),
+        Call::Input(source) => of_unit(pool.input(source)),
+        Call::Outside(task) => of_unit(pool.outside(task)),
+        Call::Release(task) => pool.release(task),
+        Call::Start => of_unit(pool.start()),
+        Call::Next(node) => of_next(pool.next(node)),
+        Call::Done(node, task) => pool.done(node, task),
+    }
+}
+
+/// The first row whose call returns something else, and what it returns.
+fn first_wrong(pool: &mut Pool, rows: &[Row]) -> Option<Row> {
+    for (what, answer) in rows {
+        let result = returned(pool, *what);
+        if result != *answer {
+            return Some((*what, result));
+        }
+    }
+    None
+}
+
+#[test]
+fn a_task_waits_for_a_message_and_for_the_outside(rt: HostRuntime) {
+    let rows = [
+        (Call::Task(0, 0), Ok(0)),
+        (Call::Task(1, 3), Ok(1)),
+        (Call::Input(0), Ok(0)),
+        (Call::Outside(1), Ok(0)),
+        (Call::Next(0), Err(Refusal::WrongLife)),
+        (Call::Start, Ok(0)),
+        // task 0 may be dispatched at any time, task 1 lacks an input
+        (Call::Outside(0), Err(Refusal::WrongLife)),
+        (Call::Outside(1), Ok(0)),
+        (Call::Next(1), WAIT),
+        (Call::Next(0), Ok(0)),
+        (Call::Next(0), WAIT),
+        (Call::Release(1), Ok(0)),
+        (Call::Done(0, 0), Ok(2)),
+        (Call::Next(1), WAIT),
+        (Call::Release(1), Ok(2)),
+        (Call::Release(1), Err(Refusal::WrongLife)),
+        (Call::Next(1), Ok(1)),
+        (Call::Done(1, 1), Ok(0)),
+        (Call::Next(0), FINISHED),
+        (Call::Next(1), FINISHED),
+    ];
+    let mut pool = Pool::new(rt.alloc(), 2);
+    assert_eq!(rt; first_wrong(&mut pool, rows.as_slice()), None);
+}
