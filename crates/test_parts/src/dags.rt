@@ -19,6 +19,7 @@ enum Call {
 type Answer = Result<u32, Refusal>;
 
 const WAIT: Answer = Ok(100);
+
 const FINISHED: Answer = Ok(200);
 
 type Row = (Call, Answer);

@@ -92,7 +92,15 @@ impl Pool {
     pub fn new(alloc: Global, nodes: u32) -> Pool
         requires { (1 ≤ nodes) × (nodes ≤ MAX_NODES) }
         ensures { result ≡ record {
-            nodes = nodes; started = false; tasks = []; stages = []; inputs = []; ways = []; outside = []; steps = [] } }
+          nodes = nodes;
+          started = false;
+          tasks = [];
+          stages = [];
+          inputs = [];
+          ways = [];
+          outside = [];
+          steps = [];
+        } }
     {
         Pool {
             core: Core::new(alloc, nodes),
