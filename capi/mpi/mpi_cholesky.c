@@ -179,18 +179,17 @@ static void send_tile(int at_place) {
             MPI_Isend(numbers[at_place], tile * tile, MPI_DOUBLE, to, at_place, MPI_COMM_WORLD, &requests[sent++]);
 }
 
+static void release(int at_place) { need(gerfmuod_team_release(team, writer[at_place]), "release"); }
+
 /* Receives a tile, if one has come, and releases its arrival. */
 static bool receive_tile(void) {
     MPI_Status s;
     int is_there;
     MPI_Iprobe(MPI_ANY_SOURCE, MPI_ANY_TAG, MPI_COMM_WORLD, &is_there, &s);
     if (!is_there) return false;
-    if (is_early) {
-        need(gerfmuod_team_release(team, writer[s.MPI_TAG]), "release");
-        nanosleep(&(struct timespec){.tv_nsec = 1000000}, NULL);
-    }
+    if (is_early) release(s.MPI_TAG), nanosleep(&(struct timespec){.tv_nsec = 1000000}, NULL);
     MPI_Recv(numbers[s.MPI_TAG], tile * tile, MPI_DOUBLE, s.MPI_SOURCE, s.MPI_TAG, MPI_COMM_WORLD, MPI_STATUS_IGNORE);
-    if (!is_early) need(gerfmuod_team_release(team, writer[s.MPI_TAG]), "release");
+    if (!is_early) release(s.MPI_TAG);
     return true;
 }
 
