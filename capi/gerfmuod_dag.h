@@ -17,7 +17,7 @@
  *   - a call is refused for the first reason that holds, in the order named below, and then changes nothing. Refused because
  *     steps or memory run out, it leaves the graph as it was described, and may be repeated if memory ran out.
  *
- * Not proved: that a thread ever makes the call that the third guarantee names, anything about time, the two headers and
+ * Not proved: that any thread makes the call that the third guarantee names, anything about time, the two headers and
  * gerfmuod_team.c, which are C, and your bodies. What the caller owes:
  *   - one call on a pool at a time: put a mutex round the calls. Different pools may be used at once;
  *   - memory of a pool that was opened at least once, at an address that is a multiple of 8. No other code reads or writes it;
@@ -56,7 +56,7 @@ enum gerfmuod_dag_refusal {
     GERFMUOD_DAG_WRONG_LIFE = 5,    /* the task, or the pool, is not in the state that the call needs */
     GERFMUOD_DAG_INACTIVE = 6,      /* a start that was refused memory has begun at this node */
     GERFMUOD_DAG_ENDED = 15,        /* the pool is over */
-    GERFMUOD_DAG_HISTORY_FULL = 16, /* the graph needs more steps than GERFMUOD_DAG_MAX_STEPS, or a task too many inputs */
+    GERFMUOD_DAG_HISTORY_FULL = 16, /* a number would be above GERFMUOD_DAG_MAX_STEPS: of steps, or what the call says */
     GERFMUOD_DAG_NO_MEMORY = 17,    /* an allocation failed */
     GERFMUOD_DAG_NO_POOL = 24,      /* the pool is not open: it was closed, or its opening was refused */
     GERFMUOD_DAG_BAD_SPEC = 26      /* a pool cannot have that many nodes, or there is no such class */
@@ -66,7 +66,7 @@ enum gerfmuod_dag_refusal {
 enum gerfmuod_dag_told {
     GERFMUOD_DAG_PLAIN = 0, /* nothing more */
     GERFMUOD_DAG_RUN = 1,   /* run the task `number`, then call gerfmuod_dag_done */
-    GERFMUOD_DAG_WAIT = 2,  /* no task of this node is ready: wait for news of it, then ask again */
+    GERFMUOD_DAG_WAIT = 2,  /* no task of this node is ready: wait for news, then ask again */
     GERFMUOD_DAG_OVER = 3   /* all tasks are done. `number` is the wave that confirmed it */
 };
 

@@ -398,7 +398,7 @@ static const struct refusal {
     {GERFMUOD_DAG_WRONG_LIFE, "WrongLife", "the task or the pool is not in the state that the call needs"},
     {GERFMUOD_DAG_INACTIVE, "Inactive", "a start that was refused memory has begun at this node"},
     {GERFMUOD_DAG_ENDED, "Ended", "the pool is over"},
-    {GERFMUOD_DAG_HISTORY_FULL, "HistoryFull", "the graph needs more steps than a pool has, or a task too many inputs"},
+    {GERFMUOD_DAG_HISTORY_FULL, "HistoryFull", "the graph needs more steps than a pool has, or a task awaits too many inputs"},
     {GERFMUOD_DAG_NO_MEMORY, "NoMemory", "an allocation failed"},
     {GERFMUOD_DAG_NO_POOL, "NoPool", "the pool is not open"},
     {GERFMUOD_DAG_BAD_SPEC, "BadSpec", "a number of nodes, a class or an array is out of its range"},
