@@ -11,9 +11,9 @@
  * processes: each is awaited by a task of the graph, its arrival, which the main thread then releases. One call of MPI cannot
  * wait for a message and for a body, so this thread polls. Another thread runs the graph.
  *
- * The end needs no detector here: a process knows which tiles it will get, since each one is a task of its graph. Once its pool
- * is over, all of them came; once its own sends are complete, it has nothing left, and MPI_Barrier tells that all processes are
- * so far. A program whose processes cannot count their messages before needs gerfmuod_process.h, as uts_mpi.c does.
+ * The end needs no detector here: a process knows which tiles it will get, since each one is a task of its graph. If its pool
+ * is over, all of them came; when its own sends are complete, it has nothing left, and MPI_Barrier waits for the others. A
+ * program whose processes do not know their messages before needs gerfmuod_process.h, as uts_mpi.c does.
  *
  * Process 0 compares the result with one factorization of the whole matrix. The exit status is not 0 if they differ by 1e-9. */
 #define _POSIX_C_SOURCE 200809L
@@ -226,7 +226,8 @@ static double distance(void) {
             if (from) MPI_Recv(at(i, j), tile * tile, MPI_DOUBLE, from, tag, MPI_COMM_WORLD, MPI_STATUS_IGNORE);
             for (int c = 0; c < tile; c++)
                 for (int r = i == j ? c : 0; r < tile; r++) {
-                    double d = fabs(at(i, j)[c * tile + r] - whole[(size_t)(j * tile + c) * (size_t)order + (size_t)(i * tile + r)]);
+                    size_t column = (size_t)(j * tile + c) * (size_t)order;
+                    double d = fabs(at(i, j)[c * tile + r] - whole[column + (size_t)(i * tile + r)]);
                     if (!(d <= most)) most = d;
                 }
         }
@@ -241,9 +242,10 @@ static int report(uint32_t threads, double seconds) {
     int is_right = apart < 1e-9;
     MPI_Reduce(mine, all, 3, MPI_UNSIGNED_LONG, MPI_SUM, 0, MPI_COMM_WORLD);
     if (me == 0)
-        printf("Cholesky, order %d in tiles of %d: %d processes (%d x %d) with %u threads each, %lu tasks, %lu tiles sent, %lu received, "
-               "%.3f s, %.1e from the whole: %s\n",
-               order, tile, processes, grid[0], grid[1], threads, all[0], all[2], all[1], seconds, apart, is_right ? "right" : "WRONG");
+        printf("Cholesky, order %d in tiles of %d: %d processes (%d x %d) with %u threads each, %lu tasks, %lu tiles sent, "
+               "%lu received, %.3f s, %.1e from the whole: %s\n",
+               order, tile, processes, grid[0], grid[1], threads, all[0], all[2], all[1], seconds, apart,
+               is_right ? "right" : "WRONG");
     MPI_Bcast(&is_right, 1, MPI_INT, 0, MPI_COMM_WORLD);
     return is_right;
 }
