@@ -241,11 +241,13 @@ static int report(uint32_t threads, double seconds) {
     double apart = distance();
     int is_right = apart < 1e-9;
     MPI_Reduce(mine, all, 3, MPI_UNSIGNED_LONG, MPI_SUM, 0, MPI_COMM_WORLD);
-    if (me == 0)
+    if (me == 0) {
+        is_right &= all[1] == all[2];
         printf("Cholesky, order %d in tiles of %d: %d processes (%d x %d) with %u threads each, %lu tasks, %lu tiles sent, "
                "%lu received, %.3f s, %.1e from the whole: %s\n",
                order, tile, processes, grid[0], grid[1], threads, all[0], all[2], all[1], seconds, apart,
                is_right ? "right" : "WRONG");
+    }
     MPI_Bcast(&is_right, 1, MPI_INT, 0, MPI_COMM_WORLD);
     return is_right;
 }
