@@ -1,21 +1,22 @@
-# make          proves all that the programs stand on, and builds them: bin/tp and bin/samples (half an hour on four cores
-#               the first time); what tp stands on comes first, and `make bin/tp` builds nothing else
-# make demo     two runs of the program, unproved (a minute)
-# make test     every test and every program, unproved (some minutes)
+# make          proves the programs with all that they use, and builds them: bin/tp and bin/samples (half an hour on four
+#               cores the first time); tp comes first, and `make bin/tp` builds nothing else
+# make demo     two runs of the program, without proofs (a minute)
+# make test     every test and every program, without proofs (some minutes)
 # make mpi      tree search with the detector for distributed programs, and Cholesky with a task graph in each process, over
 #               Open MPI, up to 16 processes (a few minutes)
-# make gate     the gate: every proof from nothing, its mutants, each test, each program (see docs/GATE.md)
+# make gate     the gate: every proof from scratch, its mutants, each test, each program (see docs/GATE.md)
 # make mutants  tries all mutants of the crates that changed (ALL=1: of every crate; CRATE=tp_wave: of one)
-# make times    the gate, and its processor seconds by crate
-# make soak     each sample pool 200 times at 8 nodes with 8 workers each, compares what they make and audits their traces;
-#               then the program with strange streams and texts, at a terminal, every stored text cut after each byte, and
-#               texts by chance; the programs over lent data at a terminal
+# make times    the gate, with the processor seconds of each crate
+# make soak     runs each sample pool 200 times at 8 nodes with 8 workers each, compares the outputs and audits the traces;
+#               then runs the program with unusual streams and texts, at a terminal, with every stored text truncated after
+#               each byte, and with random texts; and the programs over borrowed data at a terminal
 # make lib      proves the library for other languages, and builds it: lib/libgerfmuod.a, libgerfmuod.so.0, the headers for C
 #               and C++, the module for Fortran and a pkg-config file
-# make bench    what a step costs that a program in C tells the library, and all programs beside others that do the same, in a
-#               quick form of some minutes (FULL=1: all cases, kept as the numbers of docs/PERFORMANCE.md; see bench/README.md)
-# make docs     draws the pictures of docs/figures anew: of runs by bin/samples, of the crates and of a wave by tools/pictures.py
-# make install PREFIX=/usr/local     puts the proved programs and the library in place
+# make bench    measures the cost of a step that a program in C reports to the library, and compares all programs with others
+#               that do the same; the quick form takes some minutes (FULL=1: all cases, stored as the numbers of
+#               docs/PERFORMANCE.md; see bench/README.md)
+# make docs     draws the pictures of docs/figures again: runs by bin/samples, the crates and a wave by tools/pictures.py
+# make install PREFIX=/usr/local     installs the proved programs and the library
 .PHONY: all lib demo test mpi gate mutants times soak bench docs install clean
 
 PREFIX ?= /usr/local
@@ -27,7 +28,7 @@ SOURCES := $(shell find crates -name out -prune -o \( -name '*.rt' -o -name '*.a
 bin/tp: $(SOURCES) crates.txt
 	@tools/dev build tp
 
-# (it builds bin/tp, too)
+# (also builds bin/tp)
 bin/samples: $(SOURCES) crates.txt
 	@tools/dev build
 
@@ -52,7 +53,7 @@ test:
 mpi: lib/libgerfmuod.a
 	@tools/dev mpi
 
-# (one job a check: each further job of a check loads the libraries anew)
+# (one job per check: each further job of a check loads the libraries again)
 gate:
 	RT_JOBS=$$(tools/dev lanes) rt ci
 

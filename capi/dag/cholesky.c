@@ -3,10 +3,10 @@
  *
  *   cholesky ORDER TILE ROUNDS WAY..     ORDER is a multiple of TILE; a WAY is
  *     NxT       a pool of N nodes with T threads each
- *     loop      the tiles one after the other
+ *     loop      the tiles in sequence
  *     omp:T     OpenMP's tasks with `depend`                     (built with -fopenmp)
  *     whole:T   one call of OpenBLAS's dpotrf, with T threads    (built with -DHAVE_BLAS)
- *     starpu    StarPU, with STARPU_NCPU workers                 (built with -DHAVE_STARPU, for this way alone)
+ *     starpu    StarPU, with STARPU_NCPU workers                 (built with -DHAVE_STARPU, only for this way)
  *
  * With -DHAVE_BLAS the kernels are those of BLAS and LAPACK, else plain loops. OPENBLAS_NUM_THREADS=1 has to be set.
  */
@@ -75,7 +75,7 @@ static graph graph_of(uint32_t node_count) {
                .classes = malloc(most),
                .node_count = node_count};
     memset(g.writer, 255, (size_t)(tiles * tiles) * sizeof(uint32_t));
-    for (int k = 0; k < tiles; k++) { /* the classes prefer what the next steps wait for */
+    for (int k = 0; k < tiles; k++) { /* the classes prefer tasks that the next steps wait for */
         add(&g, (job){FACTOR, k, k, k}, k, k, 0);
         for (int i = k + 1; i < tiles; i++) add(&g, (job){SOLVE, i, k, k}, i, k, i == k + 1 ? 0 : 1);
         for (int i = k + 1; i < tiles; i++) {
@@ -164,7 +164,7 @@ static void to_tiles(const double *a) {
                 memcpy(at(i, j) + c * tile, a + (size_t)(j * tile + c) * (size_t)order + i * tile, (size_t)tile * sizeof *a);
 }
 
-/* The largest difference of the lower triangles. */
+/* Returns the largest difference of the lower triangles. */
 static double distance(const double *a) {
     double most = 0;
     for (int j = 0; j < order; j++)
@@ -188,7 +188,7 @@ static void go(const char *way) {
     else need(1, way);
 }
 
-/* Seconds of one call of dpotrf on a copy of the matrix. */
+/* Returns the seconds of one call of dpotrf on a copy of the matrix. */
 static double whole(const double *start, double *copy, int threads) {
     memcpy(copy, start, (size_t)order * (size_t)order * sizeof *copy);
 #ifdef HAVE_BLAS

@@ -1,4 +1,4 @@
-// exceptions.cpp: what becomes of exceptions and refusals in gerfmuod.hpp, a graph on two nodes with its trace, and inputs from
+// exceptions.cpp: tests of exceptions and refusals in gerfmuod.hpp, of a graph on two nodes with its trace, and of inputs from
 // outside.
 #include "gerfmuod.hpp"
 
@@ -7,7 +7,7 @@
 #include <numeric>
 #include <thread>
 
-// A sum of squares by ten tasks on two nodes, and one that adds their parts up. Bodies may own what they work on.
+// A sum of squares: ten tasks on two nodes, and one that adds up their parts. Bodies may own their data.
 static bool sums() {
     std::vector<long> parts(10);
     long total = 0;
@@ -22,7 +22,7 @@ static bool sums() {
     return total == 385 && pool.size() == 11 && pool.trace().rfind("trace 1\nnodes 2\n", 0) == 0;
 }
 
-// A body throws: run() throws the same exception, and what waits for that task never runs.
+// A body throws: run() throws the same exception, and tasks that wait for that task never run.
 static bool stops() {
     gerfmuod::Pool pool;
     bool ran = false;
@@ -36,7 +36,7 @@ static bool stops() {
     return false;
 }
 
-// What a call that has to be refused says.
+// Returns the text of the refusal of a call that must be refused.
 template <typename Call> static std::string refusal(Call call) {
     try {
         call();

@@ -1,6 +1,6 @@
 /* failures.c: a pool and a team when an allocation fails, or a thread cannot be started. For each N, the Nth allocation of the
  * same run fails: the call is refused as NO_MEMORY, is repeated, and succeeds; the pool then runs to its end. A team stops
- * instead. Then the memory of a large pool is measured. Prints what is not so; the exit status is 1 if there is something.
+ * instead. Then the memory of a large pool is measured. Prints each check that fails; the exit status is 1 if one failed.
  *
  * Link with -Wl,--wrap=malloc,--wrap=calloc,--wrap=realloc,--wrap=free,--wrap=pthread_create. */
 #define _GNU_SOURCE
@@ -23,7 +23,7 @@ void *__wrap_realloc(void *, size_t);
 void __wrap_free(void *);
 int __wrap_pthread_create(pthread_t *, const pthread_attr_t *, void *(*)(void *), void *);
 
-static long allocations_left = -1, threads_left = -1; /* until one fails; negative: none does */
+static long allocations_left = -1, threads_left = -1; /* until one fails; if negative, none fails */
 static size_t allocated;                              /* bytes, in all threads */
 static int checked, failed;
 
@@ -67,7 +67,7 @@ enum { TASKS = 3000, PHASES = 8, NODES = 3 };
 static uint32_t pool_tasks;
 static uint32_t refused_calls, refused_next, refused_done, refused_between; /* between: a done that had sent a message */
 
-/* Repeats a call if it was refused because an allocation failed, and counts it. Returns the last result. */
+/* Repeats a call that was refused because memory ran out. Returns its result, and counts the refusals. */
 static gerfmuod_dag_answer needed(gerfmuod_dag_answer first, gerfmuod_dag_answer (*again)(gerfmuod_dag *, uint32_t), gerfmuod_dag *dag,
                                   uint32_t number) {
     if (first.refused != GERFMUOD_DAG_NO_MEMORY) return first;
@@ -97,7 +97,7 @@ static uint32_t newest_step(const gerfmuod_dag *dag) {
     return steps ? gerfmuod_dag_step(dag, steps - 1).kind : 255;
 }
 
-/* Reports a task as done, again if it was refused. Returns whether the news has the nodes of all the messages that it sent. */
+/* Reports a task as done, again if memory ran out. Returns whether `news` has the nodes of all messages that it sent. */
 static bool is_done(gerfmuod_dag *dag, uint32_t task) {
     uint32_t node = task % NODES, wanted = 0;
     for (uint32_t to = task + 1; to <= task + 2 && to < pool_tasks; to++) wanted |= 1u << to % NODES;
@@ -110,7 +110,7 @@ static bool is_done(gerfmuod_dag *dag, uint32_t task) {
     return !answer.refused && answer.news == wanted;
 }
 
-/* Whether the pool runs to its end, each task once and in order. */
+/* Returns whether the pool runs to its end, each task once and in order. */
 static bool runs(gerfmuod_dag *dag) {
     uint32_t before = refused_calls;
     for (uint32_t ran = 0, node = 0, waits = 0; waits <= NODES; node = (node + 1) % NODES) {
@@ -200,7 +200,7 @@ static void check_threads(void) {
     }
 }
 
-/* The bytes of a pool that has run, in which each task waits for so many before it. */
+/* Returns the bytes of a pool that has run, in which each task waits for the `inputs` tasks before it. */
 static size_t bytes_of(uint32_t tasks, uint32_t nodes, uint32_t inputs) {
     gerfmuod_dag dag;
     gerfmuod_dag_answer answer;
@@ -219,7 +219,7 @@ static size_t bytes_of(uint32_t tasks, uint32_t nodes, uint32_t inputs) {
     return used;
 }
 
-/* 100,000 tasks: how many bytes a task, an input, and an input from another node take. */
+/* 100,000 tasks: the bytes for a task, for an input, and for an input from another node. */
 static void check_memory(void) {
     size_t task = bytes_of(100000, 1, 0) / 100000, inputs = bytes_of(100000, 1, 4) / 100000;
     size_t crossing = bytes_of(100000, 2, 1) / 100000;

@@ -1,11 +1,11 @@
-/* fuzz.c: random calls on pools, right and wrong ones, compared with the plain model of model.h.
+/* fuzz.c: random calls on pools, valid and invalid ones, compared with the plain model of model.h.
  *
- *   fuzz CALLS [SEED [forgets|loses]]     forgets: a model that now and then drops an input; loses: one that drops an input
- *                                         from outside. Both have to be found out
+ *   fuzz CALLS [SEED [forgets|loses]]     forgets: the model sometimes drops an input; loses: it sometimes drops an input from
+ *                                         outside. Both have to be detected
  *
- * Each pool has up to 64 tasks. When its random calls are over, it is run to its end. Then no wait is silent: each round of
- * calls makes progress, or the end is judged, or an input from outside is awaited. The steps of the pool are counted. The exit
- * status is 1 at the first difference. */
+ * Each pool has up to 64 tasks. After its random calls it is run to its end. Then no wait is silent: each round of calls makes
+ * progress or detects termination, or an input from outside is awaited. The steps of the pool are counted. The exit status is 1
+ * at the first difference. */
 #include "model.h"
 #include <inttypes.h>
 #include <stdio.h>
@@ -21,7 +21,7 @@ static uint32_t below(uint32_t limit) {
     return (uint32_t)((seed >> 11) % limit);
 }
 
-/* Mostly a number below the limit; sometimes the next ones, and sometimes a wild one. */
+/* Returns mostly a number below the limit, sometimes one of the next numbers, and sometimes any number. */
 static uint32_t about(uint32_t limit) {
     uint32_t kind = below(16);
     if (kind == 0) return limit + below(2);
@@ -88,7 +88,7 @@ static void describe(void) {
     }
 }
 
-/* A call after the start, mostly a right one. */
+/* Makes a call after the start, mostly a valid one. */
 static void step(void) {
     uint32_t kind = below(100), number = below(m.tasks + 1);
     if (kind < 35) next(below(m.nodes));
@@ -112,8 +112,8 @@ static bool release_any(void) {
     return false;
 }
 
-/* Runs the pool to its end, which has to come: at each round some task is returned or ends, or the pool is over; or an input
- * from outside is awaited, and then one is released. */
+/* Runs the pool to its end. In each round some task is returned or ends, or the pool is over, or an input from outside is
+ * awaited; then one is released. */
 static void finish(void) {
     while (!m.is_over) {
         bool goes_on = false;
@@ -132,7 +132,7 @@ static void finish(void) {
     next(below(m.nodes));
 }
 
-/* The steps of a pool that is over: each task was inserted, begun and done, each message sent, received and ended. */
+/* Checks the steps of a pool that is over: each task was inserted, begun and done, each message sent, received and ended. */
 static void count_steps(void) {
     uint32_t found[15] = {0};
     gerfmuod_dag_taken step;

@@ -1,4 +1,4 @@
-/* model.h: what a pool of gerfmuod_dag.h has to return, as plain C that scans all tasks and inputs in each call. It shares no
+/* model.h: a model of the pool of gerfmuod_dag.h in plain C, which scans all tasks and inputs in each call. It shares no
  * code with the library. fuzz.c compares the two. */
 #ifndef MODEL_H
 #define MODEL_H
@@ -23,7 +23,7 @@ typedef struct {
     } input[MOST_INPUTS];
 } model;
 
-/* What a call may return. Any task with a bit in `ready` will do as the number of GERFMUOD_DAG_RUN. */
+/* What a call may return. The number at GERFMUOD_DAG_RUN may be any task with a bit in `ready`. */
 typedef struct {
     uint32_t refused, told, number, news;
     uint64_t ready;
@@ -96,7 +96,7 @@ static bool model_is_ready(const model *m, uint32_t task, uint32_t node) {
     return m->task[task].node == node && m->task[task].stage == FRESH && !model_waits(m, task);
 }
 
-/* The tasks of one node that are ready, as bits: all, and those of the lowest class. */
+/* The ready tasks of one node, as bits: all, and those of the lowest class. */
 static uint64_t model_ready(const model *m, uint32_t node, uint64_t *first) {
     uint64_t all = 0;
     uint32_t lowest = GERFMUOD_DAG_CLASSES;
@@ -115,7 +115,7 @@ static expected model_next(model *m, uint32_t node) {
     if (!m->is_started) return (expected){.refused = GERFMUOD_DAG_WRONG_LIFE};
     if (node >= m->nodes) return (expected){.refused = GERFMUOD_DAG_NO_NODE};
     if (m->is_over) return (expected){.told = GERFMUOD_DAG_OVER};
-    for (uint32_t k = 0; k < m->inputs; k++) /* the node takes in its messages */
+    for (uint32_t k = 0; k < m->inputs; k++) /* the node receives its messages */
         if (m->input[k].way == UNDER_WAY && m->task[m->input[k].target].node == node) m->input[k].way = CAME;
     uint64_t first, all = model_ready(m, node, &first);
     if (all) return (expected){.told = GERFMUOD_DAG_RUN, .ready = first, .news = all & (all - 1) ? 1u << node : 0};

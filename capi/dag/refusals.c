@@ -1,5 +1,5 @@
-/* refusals.c: each refusal of a pool and of a team, one by one, and what a refused call leaves. Prints a line for each that is
- * not as gerfmuod_dag.h and gerfmuod_team.h say; the exit status is 1 if there is one.
+/* refusals.c: tests each refusal of a pool and of a team, and the state after a refused call. Prints a line for each that
+ * differs from gerfmuod_dag.h and gerfmuod_team.h; the exit status is 1 if there is one.
  *
  *   refusals [quick]     quick: without what is too large
  */
@@ -144,7 +144,7 @@ static void check_outside(void) {
     gerfmuod_dag_close(&dag);
 }
 
-/* The library writes to the memory of the pool alone. */
+/* The library writes only to the memory of the pool. */
 static void check_size(void) {
     struct {
         uint64_t before[16];
@@ -223,7 +223,7 @@ struct seen {
     uint32_t ran, refused_inside;
 };
 
-/* Task 2 fails. Task 0 tries to run the team from inside of it. */
+/* Task 2 fails. Task 0 tries to run the team while it runs. */
 static int body(void *context, uint32_t task) {
     struct seen *seen = context;
     __atomic_fetch_add(&seen->ran, 1, __ATOMIC_RELAXED);
@@ -312,7 +312,7 @@ static void check_team_outside(void) {
     gerfmuod_team_close(team);
 }
 
-/* The trace of one task, as a whole and in a room that is too small. */
+/* The trace of one task, in full and in a buffer that is too small. */
 static void check_trace(void) {
     static const char wanted[] = "trace 1\nnodes 1\ninsert 0 0 0\nready 0\nbegin 0\ndone 0\nstart\ngive 0\njudge not\nstart\ngive 0\n"
                                  "judge ended 1\n";
@@ -350,7 +350,7 @@ static void check_team_stop(void) {
     gerfmuod_team_close(seen.team);
 }
 
-/* The names of the team are those of the library, as far as it has them. */
+/* The names of the team's refusals are those of the library, for the refusals that the library has. */
 static void check_names(void) {
     for (uint32_t i = 1; gerfmuod_refusal_name && i <= 26; i++) {
         char name[16] = "";

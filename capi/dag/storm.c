@@ -2,12 +2,12 @@
  * there, and that it runs for the first time. Its data has no lock and no atomics, so ThreadSanitizer also checks that the pool
  * orders the bodies.
  *
- *   storm ROUNDS [SEED [early]]     early: tasks report that they are done before they are, which has to be found out
+ *   storm ROUNDS [SEED [early]]     early: threads report tasks as done before they run them; this has to be detected
  *
- * Every second round runs on threads of its own with gerfmuod_team_turn, which begin before the pool is started or after it, and
- * some rounds have a body that fails. One more thread releases the inputs from outside, before the start and after it, in random
- * order. Every tenth graph is one task and then tasks that run on all threads at the same time. If
- * the library has gerfmuod_audit, it judges the trace of each round. The exit status is 1 if something is wrong. */
+ * Every second round runs on its own threads with gerfmuod_team_turn, which begin before the pool is started or after it.
+ * Some rounds have a body that fails. One more thread releases the inputs from outside in random order, before the start and
+ * after it. Every tenth graph is one task and then tasks that run on all threads at the same time. If the library has
+ * gerfmuod_audit, it judges the trace of each round. The exit status is 1 if a check failed. */
 #define _POSIX_C_SOURCE 200809L
 #include "gerfmuod.h"
 #include "gerfmuod_team.h"
@@ -22,7 +22,7 @@ enum { MOST = 300, MOST_THREADS = 16, INPUTS = 4, OUTSIDE = 2 };
 
 static uint64_t seed = 88172645463325253u;
 static uint32_t tasks, nodes, threads, failing;
-static uint32_t meeting, arrived; /* how many tasks have to run at the same time, and how many have begun */
+static uint32_t meeting, arrived; /* the number of tasks that have to run at the same time, and the number that have begun */
 static uint8_t homes[MOST], classes[MOST];
 static uint32_t offsets[MOST + 1], inputs[MOST * INPUTS];
 static uint32_t releases[MOST * OUTSIDE], release_count; /* the tasks of the inputs from outside, in the order of their release */
@@ -122,7 +122,7 @@ static uint32_t run_own_threads(bool is_started_first) {
     for (uint32_t w = 0; w < threads; w++)
         need(pthread_create(&ids[w], NULL, turns, (void *)(uintptr_t)(w % nodes)) != 0, "pthread_create");
     if (!is_started_first) {
-        nanosleep(&(struct timespec){.tv_nsec = 1000000}, NULL); /* time for turns to begin */
+        nanosleep(&(struct timespec){.tv_nsec = 1000000}, NULL); /* lets turns begin */
         need(gerfmuod_team_start(team, threads), "start");
     }
     for (uint32_t w = 0; w < threads; w++) pthread_join(ids[w], NULL);
@@ -135,7 +135,7 @@ static bool is_complete(void) {
     return true;
 }
 
-/* Whether the audit finds the trace sound, as far as the library can tell. */
+/* Returns whether the audit finds the trace sound; true if the library has no audit. */
 static bool is_sound(void) {
     size_t length = gerfmuod_team_trace(team, NULL, 0);
     char *text = malloc(length + 1), verdict[256];

@@ -1,6 +1,6 @@
 ! sums.f90: the sum of squares of an array, by blocks: a task for each block, and a chain of tasks that adds the parts in order.
-! It runs twice, by gerfmuod_team_run and on OpenMP's threads, and is compared with one sum over the whole array. In the second
-! run, the first block is an input from outside.
+! It runs twice, with gerfmuod_team_run and on OpenMP's threads, and is compared with one sum over the whole array. In the
+! second run, the first block is an input from outside.
 !
 !   gfortran -fopenmp capi/gerfmuod.f90 capi/dag/sums.f90 -Llib -lgerfmuod -pthread -o sums && ./sums
 module blocks

@@ -14,13 +14,13 @@ OVER = 3
 
 
 class Answer(ctypes.Structure):
-    """The result of a turn, as gerfmuod_dag_answer."""
+    """The result of a turn: gerfmuod_dag_answer."""
 
     _fields_ = [(name, ctypes.c_uint32) for name in ("refused", "told", "number", "news")]
 
 
 def _candidates() -> Iterator[str]:
-    """Where the shared object may be, the first choice first."""
+    """Yields the paths where the shared object may be, in order of preference."""
     chosen = os.environ.get("GERFMUOD_LIBRARY")
     if chosen:
         yield chosen

@@ -4,7 +4,7 @@
 - each block of code in docs/RUNNING-A-POOL.md and docs/PROVING-A-POOL.md is part of the file that the line above it names
 - each relative link of README.md, CONTRIBUTING.md, bench/README.md, docs/*.md and docs/guarantees leads to a file, and to a
   heading if it names one
-- README.md has at most 150 lines, and none of over 120 columns: only warnings, unless --strict is given
+- README.md has at most 130 lines, and none of over 120 columns: only warnings, unless --strict is given
 - the pictures are those that tools/pictures.py draws (its --check)
 - docs/guarantees is what tools/dev proved writes from the contracts, and docs/PROVED.md names only calls and clauses that exist
 
@@ -28,7 +28,7 @@ CODE = re.compile(r"^ *```.*?^ *```[^\n]*$|`[^`\n]*`", re.S | re.M)
 LINK = re.compile(r'\]\(<?([^()\s>]+)>?(?:\s+"[^"]*")?\)|^ *\[[^\]\n]+\]: *(\S+)|\b(?:src|srcset|href)="([^"]+)"', re.M)
 ELSEWHERE = re.compile(r"[a-z][a-z0-9+.-]*:|//", re.I)
 PICTURES = "tools/pictures.py"
-MOST_COLUMNS, MOST_LINES = 120, 150
+MOST_COLUMNS, MOST_LINES = 120, 130
 
 
 def check_page(page, tally):

@@ -1,4 +1,4 @@
--- What the pool keeps through its calls, and what each call has done.
+-- The calls preserve the pool's invariant and meet their contracts.
 use Rattle.std.proofs.Common.{cond, ℕ, ◌≡◌, ◌<◌, ◌≤◌, ◌+◌, ◌⊎◌, List, [], ◌∷◌, ◌++◌, Bool, true, false, length, refl, ap, subst, ◌∙◌, sym, arith, IsTrue, IsFalse, Result, Option, Some, None, append_assoc}
 use Rattle.std.specs.Prelude.{◌==◌, if◌then◌else◌, Ok, Err, IfOk, OnOk, OnErr, IfSome, is_some, slice_get, slice_set}
 use Rattle.tp_base.specs.declared.limits.TheConstants.{MAX_NODES, MAX_STEPS}
@@ -43,7 +43,7 @@ pub not_ended : (o : Option ℕ) (P : ℕ → Type 0) → is_some o ≡ false �
 not_ended None P e = tt
 not_ended (Some w) P e = cc
 
--- ---- one step more
+-- ---- one more step
 pub kept_step : (p : Inside) (core : Accepted) (s : Step) (r : Result (Unit {0}) Refusal) → IsPool p → is_some p.ended_with ≡ false
     → IsFalse (is_reopen s) → OnOk r (MayCome p.core.nodes p.core.steps s × (core ≡ with_step p.core s)) → OnErr r (core ≡ p.core)
     → IsPool (record p { core = core })
@@ -119,7 +119,7 @@ is_completed p now core t same was is =
       steps = refl;
     }))
 
--- ---- a task more, and an input more
+-- ---- one more task, and one more input
 pub kept_task : (p q : Inside) (e : Entry) (s : Step) → IsPool p → is_some p.ended_with ≡ false → MayCome p.core.nodes p.core.steps s
     → IsFalse (is_reopen s) → IsTrue (is_insert_of (length p.tasks.items) s) → length p.tasks.items < MAX_STEPS
     → e.first ≡ length p.inputs.items
@@ -274,7 +274,7 @@ completed_later {t} {a} {b} {c} d h = record {
       (ap (λ (xs : List Step). h.sent ++ xs) d.steps ∙ sym (append_assoc h.sent d.later a.steps));
 }
 
--- ---- the end is judged
+-- ---- termination is detected
 pub kept_end : (p : Inside) (core : Accepted) (w count : ℕ) → IsPool p → IsSettled p.core core w count
     → InEach (IsNeverEarly core.nodes) core.steps → IsPool (record p { core = core; ended_with = Some w })
 kept_end p core w count k is never =

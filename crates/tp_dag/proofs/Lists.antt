@@ -1,4 +1,4 @@
--- Lists in which one place is written, or one thing is added.
+-- Lists with one element replaced or one added.
 use Rattle.std.proofs.Common.{arith, ◌+◌, ◌<◌, ◌≢◌, ◌⊎◌, ℕ, zero, suc, ◌≡◌, List, [], ◌∷◌, ◌++◌, length, Some, refl, ap, sym, inl, inr}
 use Rattle.std.specs.Prelude.{slice_get}
 use Rattle.std.specs.List.{slice_index_or}
@@ -15,7 +15,7 @@ set_cases (z ∷ xs) (suc i) zero x y e = inl e
 set_cases (z ∷ xs) (suc i) (suc k) x y e =
     elim (set_cases xs i k x y e) [ inl h ↦ inl h | inr h ↦ inr (ap suc h.0, h.1) ]
 
--- the same, and which
+-- The same, and in the second case the value that was written.
 pub set_apart : {A : Type 0} (xs : List A) (i k : ℕ) (x y : A) → slice_get (set xs i y) k ≡ Some x
     → ((slice_get xs k ≡ Some x) × (k ≢ i)) ⊎ ((k ≡ i) × (x ≡ y))
 set_apart [] i k x y e = cc
@@ -37,7 +37,7 @@ last_cases [] (suc k) x y e = inl e
 last_cases (z ∷ xs) zero x y e = inl e
 last_cases (z ∷ xs) (suc k) x y e = elim (last_cases xs k x y e) [ inl h ↦ inl h | inr h ↦ inr (ap suc h.0, h.1) ]
 
--- ---- the newest task is written
+-- ---- the newest task is replaced
 pub set_last : (xs : List Entry) (i end : ℕ) (e : Entry) → i + 1 ≡ length xs → e ≡ slice_index_or xs i e
     → set xs i (record { node = e.node; class = e.class; first = e.first; end = end }) ≡ with_end xs end
 set_last [] i end e l is = absurd (omega (arith, l))

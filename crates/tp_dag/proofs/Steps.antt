@@ -1,4 +1,4 @@
--- What a step, a task and an input more leave of what is known.
+-- One more step, task or input preserves what held before.
 use Rattle.std.proofs.Common.{ℕ, ◌≡◌, ◌<◌, ◌≤◌, ◌+◌, ◌⊎◌, List, [], ◌∷◌, ◌++◌, Bool, true, false, length, refl, ap, subst, ◌∙◌, sym, arith, IsTrue, IsFalse, inl, inr, length-append, append_assoc}
 use Rattle.std.specs.Prelude.{◌||◌, ◌&&◌, Some, slice_get, nat_lt}
 use Rattle.std.specs.List.{list_all}
@@ -63,7 +63,7 @@ received_end {node} {k} {i} {tasks} {past} n end e is r = record {
       ];
 }
 
--- ---- one step more
+-- ---- one more step
 pub steps_step : {a : PoolState} (s : Step) → StepFacts a → MayCome a.nodes a.steps s → IsFalse (is_reopen s)
     → StepFacts (record a { steps = s ∷ a.steps })
 steps_step {a} s f may on = record {
@@ -168,7 +168,7 @@ facts_mark {a} {received} node k i e f at is home was how = record {
       ];
 }
 
--- ---- a task more
+-- ---- one more task
 below_or : (t n : ℕ) → t < n + 1 → (t < n) ⊎ (t ≡ n)
 below_or t n l = elim (cases_Bool (nat_lt t n)) [ inl h ↦ inl (grind (arith, nat_tests, h)) | inr h ↦ inr (grind (arith, nat_tests, h)) ]
 
@@ -240,7 +240,7 @@ facts_task {a} e s f may on of few begins = record {
       ];
 }
 
--- ---- an input more
+-- ---- one more input
 placed_old : {tasks : List Entry} {k : ℕ} {i : Input} (n m : ℕ) (e : Entry) → slice_get tasks n ≡ Some e → k < m → IsPlaced tasks k i
     → IsPlaced (set tasks n (record e { end = m })) k i
 placed_old {tasks} {k} {i} n m e is less p =
@@ -367,7 +367,7 @@ adds_trans {test} {a} {b} {c} x y = record {
   only = all_append test y.later x.later y.only x.only;
 }
 
--- ---- what begins no task
+-- ---- steps that begin no task
 pub count_only : (test : Step → Bool) (t : ℕ) → ((s : Step) → IsTrue (test s) → IsFalse (is_begin_of t s)) → (later past : List Step)
     → IsTrue (list_all test later) → count (is_begin_of t) (later ++ past) ≡ count (is_begin_of t) past
 count_only test t f [] past h = refl

@@ -1,4 +1,4 @@
--- What contracts see of a pool, the checks of each call, and what each call does.
+-- The view of a pool in contracts, the checks of each call, and the effect of each call.
 use Rattle.std.specs.Prelude.{ℕ, ◌+◌, ◌≡◌, ◌≢◌, ◌<◌, ◌==◌, ◌&&◌, List, [], ◌∷◌, ◌++◌, Bool, true, false, not, length, slice_get, slice_set, IsTrue}
 use Rattle.std.specs.Prelude.{Option, Some, None, is_some, nat_le, nat_lt, Result, Ok, if◌then◌else◌}
 use Rattle.std.specs.List.{list_all}
@@ -19,8 +19,8 @@ use Rattle.tp_dag.specs.declared.entry.Stage.TheVariants as stage
 use Rattle.tp_dag.specs.declared.pool.Next.{Next}
 use Rattle.tp_dag.specs.declared.pool.Next.TheVariants.{Run}
 
--- The number of nodes, whether the pool was started, the tasks as they were described and how far each is, their inputs, and the steps so
--- far, the newest first.
+-- The number of nodes, whether the pool was started, the tasks as they were described and the progress of each, their
+-- inputs, and the steps so far, the newest first.
 pub record PoolState : Type 0 where
   pub nodes : ℕ
   pub started : Bool
@@ -89,7 +89,7 @@ done_checks a node t =
     (not (is_some (slice_get a.tasks t)), refusal.NoTask) ∷ (not (is_running (slice_get a.stages t)), refusal.WrongLife)
     ∷ (not (is_at node (slice_get a.tasks t)), refusal.NoNode) ∷ []
 
--- ---- what each call does
+-- ---- the effect of each call
 pub record SameGraph (old new : PoolState) : Type 0 where
   pub nodes : new.nodes ≡ old.nodes
   pub started : new.started ≡ old.started
@@ -104,7 +104,7 @@ pub record AddsOnly (test : Step → Bool) (old new : PoolState) : Type 0 where
   pub steps : new.steps ≡ later ++ old.steps
   pub only : IsTrue (list_all test later)
 
--- `task`: its number is how many tasks there were, and it has no input so far.
+-- `task`: the number of the new task is the number of tasks before it, and it has no input so far.
 pub record IsTaskAdded (node class t : ℕ) (old new : PoolState) : Type 0 where
   pub nodes : new.nodes ≡ old.nodes
   pub started : new.started ≡ old.started
@@ -137,8 +137,8 @@ pub record IsStarted (old new : PoolState) : Type 0 where
   pub started : IsTrue new.started
   pub adds : AddsOnly is_readying old (record new { started = old.started })
 
--- `next` with `Run t`: messages were received, then task t began. It is at home at this node and had not begun before, and before it began
--- each of its inputs was there.
+-- `next` with `Run t`: messages were received, then task t began. It is at home at this node and had not begun before,
+-- and before it began each of its inputs was there.
 pub record IsDispatched (node t : ℕ) (old new : PoolState) : Type 0 where
   pub graph : SameGraph old new
   pub entry : Entry
@@ -152,12 +152,12 @@ pub record IsDispatched (node t : ℕ) (old new : PoolState) : Type 0 where
   pub inputs : (k : ℕ) (i : Input) → slice_get new.inputs k ≡ Some i → i.target ≡ t → IsReceived node k i new.tasks (received ++ old.steps)
   pub before : count (is_begin_of t) old.steps ≡ 0
 
--- how often a result of `next` dispatches task t
+-- 1 if a result of `next` dispatches task t, else 0
 abbrev pub dispatched : Result Next Refusal → ℕ → ℕ
 dispatched (Ok (Run u)) t = if u == t then 1 else 0
 dispatched _ t = 0
 
--- `next` with `Finished`: nothing is left, and each task of the graph was inserted, begun and done, each once.
+-- `next` with `Finished`: the pool is quiet, and each task of the graph was inserted, begun and done, each once.
 pub record IsFinished (a : PoolState) : Type 0 where
   pub quiet : IsQuiet (world a.nodes a.steps)
   pub once : (t : ℕ) → t < length a.tasks → HasRunOnce t a.steps

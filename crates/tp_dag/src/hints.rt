@@ -1,5 +1,5 @@
-//! Hints: which tasks may be ready, and which messages may be under way. The pool checks each hint before it acts on it, so these calls
-//! have no contract: a wrong hint can delay a task, and cannot break a guarantee.
+//! Hints: which tasks may be ready, and which messages may be under way. The pool checks each hint before it acts on
+//! it, so these calls have no contract: a wrong hint can delay a task, and cannot break a guarantee.
 
 use crate::entry::Input;
 use std::alloc::{AllocError, Global};
@@ -12,15 +12,15 @@ const CLASSES: u32 = 4;
 
 #[derive(Drop)]
 pub(crate) struct Hints {
-    // how many inputs of each task were not received, and the ready task before each
+    // the number of inputs of each task that were not received, and the ready task before each task
     missing: Vec<u32>,
     older_ready: Vec<u32>,
     // the newest ready task of each node and class
     newest_ready: [u32; 32],
-    // the newest message under way to each node, and the message before each
+    // the newest message under way to each node, and the message before each message
     newest_message: [u32; 8],
     older_message: Vec<u32>,
-    // the inputs, ordered by their source, and where the outputs of each task begin
+    // the inputs, ordered by their source, and the position where the outputs of each task begin
     outputs: Vec<u32>,
     first_outputs: Vec<u32>,
 }
@@ -94,7 +94,7 @@ impl Hints {
         Ok(())
     }
 
-    /// Where the outputs of a task begin and end.
+    /// Returns the positions where the outputs of a task begin and end.
     pub(crate) fn outputs(&self, task: u32) -> (u32, u32) {
         (
             number_at(&self.first_outputs, task),
@@ -110,7 +110,7 @@ impl Hints {
         number_at(&self.missing, task) == 0
     }
 
-    /// Counts a received input of a task. It returns whether that was the last one.
+    /// Counts a received input of a task. Returns whether it was the last one.
     pub(crate) fn count_received(&mut self, task: u32) -> bool {
         let left = number_at(&self.missing, task).saturating_sub(1);
         set_number(&mut self.missing, task, left);

@@ -1,4 +1,5 @@
-//! The pool: the calls that describe a graph, dispatch its tasks and take their completions. Bodies and values are the caller's.
+//! The pool: the calls that describe a graph, dispatch its tasks and record their completions. Bodies and values are
+//! the caller's.
 ghost use Rattle.std.specs.Prelude.{◌≡◌, ◌≤◌, ◌<◌, ◌+◌, ◌⊎◌, ℕ, [], ◌∷◌, ◌++◌, length, IfOk, IfSome, OnOk, OnErr, IsTrue, slice_get, reverse, true, false, Ok, Err};
 ghost use Rattle.tp_base.specs.declared.limits.TheConstants.{MAX_NODES};
 ghost use Rattle.tp_base.specs.Checks.{first_refusal};
@@ -17,7 +18,7 @@ use std::marker::Model;
 use tp_base::{Generation, Inputs, MAX_STEPS, MessageId, NodeId, Refusal, Step, TaskId};
 use tp_core::Core;
 
-/// What a thread of a node is to do next.
+/// The result of `next`: what a thread of a node is to do.
 #[derive(Clone, Copy, Debug, PartialEq, Eq)]
 pub enum Next {
     /// Run this task.
@@ -28,7 +29,8 @@ pub enum Next {
     Finished(u32),
 }
 
-/// A pool of tasks that the caller runs. Contracts see the graph as it was described, how far each task is, and the steps so far.
+/// A pool of tasks that the caller runs. Contracts see the graph as it was described, the progress of each task, and
+/// the steps so far.
 #[derive(Drop)]
 pub struct Pool {
     core: Core,
@@ -56,7 +58,7 @@ impl Model for Pool {
     ghost invariant = { IsPool };
 }
 
-/// Whether all inputs from `first` to before `end` have come.
+/// Returns whether all inputs from `first` to before `end` were received.
 fn all_received(received: &[bool], first: u32, end: u32) -> bool
     ensures { IsTrue result → (k : ℕ) → first ≤ k → k < end → slice_get received.now k ≡ Some true }
 {
@@ -79,7 +81,7 @@ fn take_step(core: &mut Core, step: Step) -> Result<(), Refusal>
 }
 
 impl Pool {
-    /// A pool of the nodes 0 to `nodes` - 1, without a task. It takes no memory.
+    /// Returns a pool of the nodes 0 to `nodes` - 1, without tasks. It allocates nothing.
     pub fn new(alloc: Global, nodes: u32) -> Pool
         requires { (1 ≤ nodes) × (nodes ≤ MAX_NODES) }
         ensures { result ≡ record { nodes = nodes; started = false; tasks = []; stages = []; inputs = []; steps = [] } }
@@ -98,11 +100,12 @@ impl Pool {
         }
     }
 
-    /// Adds a task at a node, of a class 0 (which is dispatched first) to 3, that waits for no input so far. Its number is how many
-    /// tasks there were before it.
+    /// Adds a task at a node, of a class 0 (which is dispatched first) to 3, that waits for no input so far. It returns
+    /// the number of the task, which is the number of tasks before it.
     ///
-    /// Refused, and nothing changes: `WrongLife` if the pool was started; `NoNode`; `BadSpec` if the class is above 3; `HistoryFull`
-    /// if there are 1,048,576 tasks or steps; `NoMemory`; `Inactive` if a `start` that was refused memory has begun at this node.
+    /// Refused, and nothing changes: `WrongLife` if the pool was started; `NoNode`; `BadSpec` if the class is above 3;
+    /// `HistoryFull` if there are 1,048,576 tasks or steps; `NoMemory`; `Inactive` if a `start` that ran out of memory
+    /// has begun at this node.
     pub fn task(&mut self, node: u32, class: u32) -> Result<u32, Refusal>
         ensures checks { IfSome (first_refusal (task_checks self.old node class)) (λ r. result ≡ Err r) }
         ensures ok { IfOk result (λ t. IsTaskAdded node class t self.old self.new) }
@@ -140,7 +143,7 @@ impl Pool {
         Ok(number)
     }
 
-    // the first check of `task` that holds
+    // the refusal of the first check of `task` that fails
     fn task_refusal(&self, node: u32, class: u32) -> Option<Refusal>
         ensures { result ≡ first_refusal (task_checks self.now node class) }
     {
@@ -159,10 +162,10 @@ impl Pool {
         None
     }
 
-    /// Lets the newest task wait for task `source`, which was added before it.
+    /// Makes the newest task wait for task `source`, which was added before it.
     ///
-    /// Refused, and nothing changes: `WrongLife` if the pool was started; `NoTask` if there is no newest task or `source` is not below
-    /// its number; `HistoryFull` if there are 1,048,576 inputs; `NoMemory`.
+    /// Refused, and nothing changes: `WrongLife` if the pool was started; `NoTask` if there is no newest task or
+    /// `source` is not below its number; `HistoryFull` if there are 1,048,576 inputs; `NoMemory`.
     pub fn input(&mut self, source: u32) -> Result<(), Refusal>
         ensures checks { IfSome (first_refusal (input_checks self.old source)) (λ r. result ≡ Err r) }
         ensures ok { OnOk result (IsInputAdded source self.old self.new) }
@@ -195,7 +198,7 @@ impl Pool {
         Ok(())
     }
 
-    // the first check of `input` that holds
+    // the refusal of the first check of `input` that fails
     fn input_refusal(&self, source: u32) -> Option<Refusal>
         ensures { result ≡ first_refusal (input_checks self.now source) }
     {
@@ -213,8 +216,9 @@ impl Pool {
 
     /// Starts the pool: all tasks and inputs were added.
     ///
-    /// Refused, and the graph is as before: `WrongLife` if the pool was started; `HistoryFull` if the graph would need more than
-    /// 1,048,576 steps, which are 3 a task, 3 an input from another node and 10 a node; `NoMemory`, after which `start` may be called again.
+    /// Refused, and the graph is as before: `WrongLife` if the pool was started; `HistoryFull` if the graph would need
+    /// more than 1,048,576 steps, which are 3 a task, 3 an input from another node and 10 a node; `NoMemory`, after
+    /// which `start` may be called again.
     pub fn start(&mut self) -> Result<(), Refusal>
         ensures checks { IfSome (first_refusal (start_checks self.old)) (λ r. (result ≡ Err r) × (self.new ≡ self.old)) }
         ensures ok { OnOk result (IsStarted self.old self.new) }
@@ -234,7 +238,7 @@ impl Pool {
         Ok(())
     }
 
-    // ends the opening action of each node where it is open
+    // closes the opening action of each node at which it is open
     fn ready_all(&mut self) -> Result<(), Refusal>
         ensures { AddsOnly is_readying self.old self.new }
     {
@@ -254,7 +258,7 @@ impl Pool {
         self.started = true;
     }
 
-    // how many steps are to come: two a task, three an input from another node, at most ten a node
+    // the number of steps still to come: two a task, three an input from another node, at most ten a node
     fn steps_needed(&self) -> usize {
         let mut steps_needed = self
             .tasks
@@ -289,10 +293,11 @@ impl Pool {
         }
     }
 
-    /// What a thread of a node is to do next: it receives the messages that are under way to the node, and dispatches a task of the node
-    /// whose inputs are all there.
+    /// Returns what a thread of a node is to do next. It receives the messages that are under way to the node, and
+    /// dispatches a task of the node that has all its inputs.
     ///
-    /// Refused: `WrongLife` if the pool was not started, and `NoNode`, and nothing changes; `NoMemory`, and the graph is as before.
+    /// Refused: `WrongLife` if the pool was not started, and `NoNode`, and nothing changes; `NoMemory`, and the graph
+    /// is as before.
     pub fn next(&mut self, node: u32) -> Result<Next, Refusal>
         ensures checks { IfSome (first_refusal (next_checks self.old node)) (λ r. (result ≡ Err r) × (self.new ≡ self.old)) }
         ensures run { IfOk result (λ next. (t : ℕ) → next ≡ Next.Run t → IsDispatched node t self.old self.new) }
@@ -320,7 +325,7 @@ impl Pool {
         }
     }
 
-    // the first check of `next` that holds
+    // the refusal of the first check of `next` that fails
     fn next_refusal(&self, node: u32) -> Option<Refusal>
         ensures { result ≡ first_refusal (next_checks self.now node) }
     {
@@ -345,14 +350,14 @@ impl Pool {
         self.hints.pop_message(node)
     }
 
-    /// The step that was taken as number `k`, the oldest being 0.
+    /// Returns the step that was taken as number `k`; the oldest is 0.
     pub fn step(&self, k: u32) -> Option<Step>
         ensures { result ≡ slice_get (reverse self.now.steps) k }
     {
         self.core.steps().get(k as usize).copied()
     }
 
-    /// Each task was dispatched at most once, whatever was called.
+    /// Shows that each task was dispatched at most once, whatever was called.
     pub fn dispatched_once(&self)
         ensures runs { AreRuns self.now.nodes self.now.steps }
         ensures once { (t : ℕ) → count (is_begin_of t) self.now.steps ≤ 1 }
@@ -360,12 +365,12 @@ impl Pool {
         let _ = &self.tasks;
     }
 
-    /// Whether a node seems to have another task that is ready.
+    /// Returns whether a node seems to have another task that is ready.
     pub fn has_ready(&self, node: u32) -> bool {
         self.hints.has_ready(node)
     }
 
-    // runs the waves if nothing is left
+    // runs control waves until termination is detected, if the pool is quiet
     fn detect_end(&mut self) -> Result<Next, Refusal>
         ensures finished { IfOk result (λ next. (w : ℕ) → next ≡ Next.Finished w → IsFinished self.new) }
         ensures none { IfOk result (λ next. (t : ℕ) → next ≡ Next.Run t → ⊥) }
@@ -517,11 +522,12 @@ impl Pool {
         source.node == node
     }
 
-    /// Completes a task that a thread of its node ran. An input of another node is sent there as a message. It returns the nodes at which
-    /// a thread may find something new, as bits.
+    /// Completes a task that a thread of its node ran. An input of another node is sent there as a message. It returns
+    /// the set of nodes at which a thread may find something new, as bits.
     ///
-    /// Refused, and nothing changes: `NoTask`; `WrongLife` if the task was not dispatched, or is done; `NoNode` if its home is another node.
-    /// `NoMemory` if a message found no memory: some were sent, and the task cannot be completed any more.
+    /// Refused, and nothing changes: `NoTask`; `WrongLife` if the task was not dispatched, or is done; `NoNode` if its
+    /// home is another node. `NoMemory` if there is no memory for a message: some messages were sent, and the task
+    /// cannot be completed any more.
     pub fn done(&mut self, node: u32, task: u32) -> Result<u32, Refusal>
         ensures checks { IfSome (first_refusal (done_checks self.old node task)) (λ r. (result ≡ Err r) × (self.new ≡ self.old)) }
         ensures ok { OnOk result (IsCompleted task self.old self.new) }
@@ -537,7 +543,7 @@ impl Pool {
         Ok(news)
     }
 
-    // the first check of `done` that holds
+    // the refusal of the first check of `done` that fails
     fn done_refusal(&self, node: u32, task: u32) -> Option<Refusal>
         ensures { result ≡ first_refusal (done_checks self.now node task) }
     {
@@ -581,7 +587,7 @@ impl Pool {
         Ok(1u32 << to)
     }
 
-    // the home of a task, or the node that is given if there is no such task
+    // the home of a task, or the given node if there is no such task
     fn home_of(&self, task: u32, node: u32) -> u32 {
         match self.tasks.get(task as usize) {
             Some(entry) => entry.node,
@@ -589,7 +595,7 @@ impl Pool {
         }
     }
 
-    // the home of an input's target, or the node that is given if there is no such input
+    // the home of an input's target, or the given node if there is no such input
     fn target_home(&self, input: u32, node: u32) -> u32 {
         match self.inputs.get(input as usize) {
             Some(of) => self.home_of(of.target, node),
