@@ -16,10 +16,14 @@
 #               that do the same; the quick form takes some minutes (FULL=1: all cases, stored as the numbers of
 #               docs/PERFORMANCE.md; see bench/README.md)
 # make docs     draws the pictures of docs/figures again: runs by bin/samples, the crates and a wave by tools/pictures.py
-# make install PREFIX=/usr/local     installs the proved programs and the library
-.PHONY: all lib demo test mpi gate mutants times soak bench docs install clean
-
-PREFIX ?= /usr/local
+# make install  installs the proved programs and the library, with the manual, the completion for bash, the documents, and
+#               packages for pkg-config and CMake. It takes DESTDIR, PREFIX (/usr/local), EXEC_PREFIX, BINDIR, LIBDIR,
+#               INCLUDEDIR, DATADIR, MANDIR, DOCDIR and PYTHONDIR (defaults: `tools/dev install --help`), also in small
+#               letters; BUILT=FOLDER installs what is in FOLDER/bin and FOLDER/lib instead of building it
+# make uninstall  removes what make install put there; it takes the same DESTDIR, PREFIX and DATADIR
+# make dist     packs the committed files into gerfmuod-VERSION.tar.gz
+# make clean    removes everything that was proved and built
+.PHONY: all lib demo test mpi gate mutants times soak bench docs install uninstall dist clean
 
 all: bin/samples
 
@@ -46,6 +50,7 @@ test:
 	@tools/dev try
 	@tools/dev capi
 	@tools/dev dag
+	@tools/dev package
 	@tools/dev docs
 	@tools/dev bench --check
 	@tools/dev mutants --stale
@@ -79,16 +84,19 @@ docs: bin/samples
 	@tools/dev draw
 	@tools/pictures.py
 
-install: bin/samples lib/libgerfmuod.a
-	install -D -m 755 bin/tp $(DESTDIR)$(PREFIX)/bin/tp
-	install -D -m 755 bin/samples $(DESTDIR)$(PREFIX)/bin/samples
-	install -D -m 644 lib/libgerfmuod.a $(DESTDIR)$(PREFIX)/lib/libgerfmuod.a
-	install -D -m 755 lib/libgerfmuod.so.0 $(DESTDIR)$(PREFIX)/lib/libgerfmuod.so.0
-	ln -sf libgerfmuod.so.0 $(DESTDIR)$(PREFIX)/lib/libgerfmuod.so
-	install -d $(DESTDIR)$(PREFIX)/include
-	install -m 644 $(addprefix capi/,$(HEADERS)) $(DESTDIR)$(PREFIX)/include
-	install -d $(DESTDIR)$(PREFIX)/lib/pkgconfig
-	sed 's|@LIBRARIES@|$(PREFIX)/lib|; s|@HEADERS@|$(PREFIX)/include|' capi/gerfmuod.pc.in > $(DESTDIR)$(PREFIX)/lib/pkgconfig/gerfmuod.pc
+BUILT ?= .
+FOLDERS := DESTDIR PREFIX EXEC_PREFIX BINDIR LIBDIR INCLUDEDIR DATADIR MANDIR DOCDIR PYTHONDIR
+FOLDERS += prefix exec_prefix bindir libdir includedir datadir mandir docdir pythondir
+GIVEN = $(foreach name,$(FOLDERS),$(if $($(name)),'$(name)=$($(name))'))
+
+install: $(BUILT)/bin/samples $(BUILT)/lib/libgerfmuod.a
+	@tools/dev install --built '$(BUILT)' $(GIVEN)
+
+uninstall:
+	@tools/dev install --remove $(GIVEN)
+
+dist:
+	@tools/dev dist
 
 clean:
 	rm -rf bin lib crates/*/out
