@@ -2,7 +2,8 @@
 #               cores the first time); tp comes first, and `make bin/tp` builds nothing else
 # make demo     two runs of the program, without proofs (a minute)
 # make test     every test and every program, without proofs (some minutes)
-# make mpi      tree search over Open MPI with the detector for distributed programs, up to 16 processes (a few minutes)
+# make mpi      tree search with the detector for distributed programs, and Cholesky with a task graph in each process, over
+#               Open MPI, up to 16 processes (a few minutes)
 # make gate     the gate: every proof from scratch, its mutants, each test, each program (see docs/GATE.md)
 # make mutants  tries all mutants of the crates that changed (ALL=1: of every crate; CRATE=tp_wave: of one)
 # make times    the gate, with the processor seconds of each crate

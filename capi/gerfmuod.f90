@@ -64,6 +64,22 @@ module gerfmuod
       integer(c_int32_t) :: refused
     end function
 
+    ! One more input from outside for a task: it does not run before gerfmuod_team_release was called once for each.
+    function gerfmuod_team_outside(team, task) bind(c) result(refused)
+      import :: c_ptr, c_int32_t
+      type(c_ptr), value :: team
+      integer(c_int32_t), value :: task
+      integer(c_int32_t) :: refused
+    end function
+
+    ! One input from outside of a task is there. Any thread may call it.
+    function gerfmuod_team_release(team, task) bind(c) result(refused)
+      import :: c_ptr, c_int32_t
+      type(c_ptr), value :: team
+      integer(c_int32_t), value :: task
+      integer(c_int32_t) :: refused
+    end function
+
     ! body is c_funloc of a gerfmuod_body.
     function gerfmuod_team_run(team, threads, body, context) bind(c) result(refused)
       import :: c_ptr, c_funptr, c_int32_t

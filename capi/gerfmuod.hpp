@@ -8,7 +8,8 @@
 //     pool.run(4);
 //
 // A body runs once, after all tasks that it waits for, and sees what they wrote. A pool is used by one thread, except that
-// run() calls the bodies on several threads. If a body throws, the pool stops, and run() throws that exception.
+// run() calls the bodies on several threads, and that any thread may call outside() and release(). If a body throws, the
+// pool stops, and run() throws that exception.
 // Link with -lgerfmuod -pthread.
 #ifndef GERFMUOD_HPP
 #define GERFMUOD_HPP
@@ -82,6 +83,15 @@ class Pool {
         }
         return made;
     }
+
+    // One more input from outside for a task, such as a message, a timer or a device: its body does not run before release()
+    // was called once for each. A body may call it, for a task that waits for that body. Throws Refused when
+    // gerfmuod_team_outside is refused.
+    void outside(Task task) { check(gerfmuod_team_outside(team.get(), task.number)); }
+
+    // One input from outside of a task is there; the body sees what this thread wrote before. If the input cannot come, release
+    // it all the same, and let the body throw. Throws Refused when gerfmuod_team_release is refused.
+    void release(Task task) { check(gerfmuod_team_release(team.get(), task.number)); }
 
     // Runs all tasks on `threads` threads, of which the caller is one. Throws the first exception that a body threw, or
     // Refused when gerfmuod_team_run is refused.

@@ -1,7 +1,8 @@
 /* gerfmuod_team.c: a pool of gerfmuod_dag.h with a lock and threads that wait. C over pthreads, not proved.
  *
  * One mutex protects the pool and every field. A thread that finds no task first spins on a counter of its node, if there
- * is a processor for it, and then sleeps on a condition variable of its node. */
+ * is a processor for it, and then sleeps on a condition variable of its node. News of a node, from a task that is done or
+ * from outside, raises its counter and wakes one of its threads. */
 #ifndef _GNU_SOURCE
 #define _GNU_SOURCE /* sched_getaffinity */
 #endif
@@ -151,6 +152,31 @@ uint32_t gerfmuod_team_describe(gerfmuod_team *team, uint32_t tasks, const uint8
         else refused = describe_task(team, nodes ? nodes[t] : 0, classes ? classes[t] : 0, inputs ? inputs + from : NULL, end - from);
         from = end;
     }
+    pthread_mutex_unlock(&team->lock);
+    return refused;
+}
+
+/* ---- inputs from outside */
+
+/* Returns the refusal of a call about a task, which left the pool as it was. If there is none, wakes the threads with news. */
+static uint32_t result_of(gerfmuod_team *team, gerfmuod_dag_answer answer, uint32_t task) {
+    if (answer.refused) return refuse(team, answer.refused, task);
+    tell(team, answer.news, false);
+    return GERFMUOD_DAG_OK;
+}
+
+uint32_t gerfmuod_team_outside(gerfmuod_team *team, uint32_t task) {
+    pthread_mutex_lock(&team->lock);
+    uint32_t refused = team->fault;
+    if (!refused) refused = result_of(team, gerfmuod_dag_outside(&team->dag, task), task);
+    pthread_mutex_unlock(&team->lock);
+    return refused;
+}
+
+uint32_t gerfmuod_team_release(gerfmuod_team *team, uint32_t task) {
+    pthread_mutex_lock(&team->lock);
+    uint32_t refused = team->fault;
+    if (!refused) refused = result_of(team, gerfmuod_dag_release(&team->dag, task), task);
     pthread_mutex_unlock(&team->lock);
     return refused;
 }
@@ -372,7 +398,7 @@ static const struct refusal {
     {GERFMUOD_DAG_WRONG_LIFE, "WrongLife", "the task or the pool is not in the state that the call needs"},
     {GERFMUOD_DAG_INACTIVE, "Inactive", "a start that ran out of memory has begun at this node"},
     {GERFMUOD_DAG_ENDED, "Ended", "the pool is over"},
-    {GERFMUOD_DAG_HISTORY_FULL, "HistoryFull", "the graph needs more steps than a pool has"},
+    {GERFMUOD_DAG_HISTORY_FULL, "HistoryFull", "the graph needs more steps than a pool has, or a task awaits too many inputs"},
     {GERFMUOD_DAG_NO_MEMORY, "NoMemory", "an allocation failed"},
     {GERFMUOD_DAG_NO_POOL, "NoPool", "the pool is not open"},
     {GERFMUOD_DAG_BAD_SPEC, "BadSpec", "a number of nodes, a class or an array is out of its range"},

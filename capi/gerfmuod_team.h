@@ -14,8 +14,8 @@
  * returned before those of classes 1 to 3.
  *
  * This file and gerfmuod_team.c are C: they are tested, not proved. What the pool below guarantees is in gerfmuod_dag.h.
- * Every function except open, run and close may be called by several threads at once, also from a body. Each returns
- * GERFMUOD_DAG_OK or the refusal: an enum gerfmuod_dag_refusal or an enum gerfmuod_team_refusal.
+ * Every function except open, run and close may be called by several threads at once, also from a body, and by threads that
+ * run no tasks. Each returns GERFMUOD_DAG_OK or the refusal: an enum gerfmuod_dag_refusal or an enum gerfmuod_team_refusal.
  *
  * Link with -lgerfmuod -pthread.
  */
@@ -60,6 +60,17 @@ uint32_t gerfmuod_team_task(gerfmuod_team *team, uint32_t node, uint32_t class_,
  * gerfmuod_team_task. gerfmuod_team_at then returns the first invalid task, and the graph has the tasks before it. */
 uint32_t gerfmuod_team_describe(gerfmuod_team *team, uint32_t tasks, const uint8_t *nodes, const uint8_t *classes,
                                 const uint32_t *offsets, const uint32_t *inputs);
+
+/* One more input from outside for a task, such as a message, a timer or a device: the task does not run before
+ * gerfmuod_team_release was called once for each of them. The call is valid while the graph is described, and later for a task
+ * that still waits: a body can begin a transfer, and let a task that waits for the body wait for the transfer, too. Refused,
+ * and nothing changes: as gerfmuod_dag_outside, and for the reason that ends every turn. */
+uint32_t gerfmuod_team_outside(gerfmuod_team *team, uint32_t task);
+
+/* One input from outside of a task is there. The task sees what the calling thread wrote before. While inputs are awaited,
+ * threads that find no task sleep; if an input never comes, gerfmuod_team_run returns only after gerfmuod_team_stop. Refused,
+ * and nothing changes: as gerfmuod_dag_release, and for the reason that ends every turn. */
+uint32_t gerfmuod_team_release(gerfmuod_team *team, uint32_t task);
 
 /* Runs all tasks on `threads` threads, of which the caller is one, and returns when all are done. Thread w is at node
  * w modulo the number of nodes. Refused before any body runs: RUNNING, ENDED, WRONG_LIFE if gerfmuod_team_start was called;

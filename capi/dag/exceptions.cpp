@@ -1,9 +1,11 @@
-// exceptions.cpp: tests of exceptions and refusals in gerfmuod.hpp, and of a graph on two nodes with its trace.
+// exceptions.cpp: tests of exceptions and refusals in gerfmuod.hpp, of a graph on two nodes with its trace, and of inputs from
+// outside.
 #include "gerfmuod.hpp"
 
 #include <cstdio>
 #include <memory>
 #include <numeric>
+#include <thread>
 
 // A sum of squares: ten tasks on two nodes, and one that adds up their parts. Bodies may own their data.
 static bool sums() {
@@ -73,8 +75,33 @@ static bool refuses() {
            inside.rfind("WrongLife at task 1:", 0) == 0;
 }
 
+// A task waits for a thread of the program's own. A body announces the input of the second one.
+static bool waits() {
+    int sent[2] = {0, 0}, seen = 0;
+    std::vector<std::thread> devices;
+    gerfmuod::Pool pool;
+    gerfmuod::Task last{GERFMUOD_DAG_NONE};
+    auto send = [&](int k, gerfmuod::Task to) {
+        devices.emplace_back([&, k, to] {
+            sent[k] = k + 1;
+            pool.release(to);
+        });
+    };
+    auto first = pool.task([&] {
+        pool.outside(last);
+        send(1, last);
+    });
+    last = pool.task([&] { seen = 10 * sent[0] + sent[1]; }, {first});
+    pool.outside(first);
+    send(0, first);
+    pool.run(2);
+    for (auto &device : devices) device.join();
+    std::string again = refusal([&] { pool.release(last); }), late = refusal([&] { pool.outside(first); });
+    return seen == 12 && again.rfind("WrongLife at task 1:", 0) == 0 && late.rfind("WrongLife at task 0:", 0) == 0;
+}
+
 int main() {
-    bool well = sums() && stops() && refuses();
+    bool well = sums() && stops() && refuses() && waits();
     std::printf("%s\n", well ? "as it should be" : "not as it should be");
     return well ? 0 : 1;
 }

@@ -62,6 +62,7 @@ class Pool:
         Refused: ``BadSpec`` if ``nodes`` is not 1 to 8; ``NoMemory``.
 
     One thread uses a pool; :meth:`run` calls the functions of the tasks on several threads.
+    Any thread may call :meth:`outside` and :meth:`release`.
     """
 
     def __init__(self, nodes: int = 1) -> None:
@@ -111,6 +112,34 @@ class Pool:
         self._jobs.append(_Job(task, function, arguments))
         return task
 
+    def outside(self, task: "Task[Any]") -> None:
+        """Lets a task wait for one more input from outside, such as a message or a timer.
+
+        The task does not run before :meth:`release` was called once for each of them. A function of
+        a task may call this while it runs, for a task that waits for its own.
+
+        Raises:
+            ValueError: the task is of another pool, or the pool is closed.
+            Refused: ``WrongLife`` if the task has begun, or if the pool runs and the task waits for
+                nothing; ``HistoryFull`` if it awaits 1,048,576 of them; ``Stopped`` if an exception
+                has stopped the pool.
+        """
+        team = self._open_team()
+        _check(team, library.gerfmuod_team_outside(team, self._number_of(task)))
+
+    def release(self, task: "Task[Any]") -> None:
+        """Reports that one input from outside of a task is there.
+
+        If it cannot come, release it all the same, and let the task's function raise an exception.
+
+        Raises:
+            ValueError: the task is of another pool, or the pool is closed.
+            Refused: ``WrongLife`` if the task awaits none; ``Stopped`` if an exception has stopped
+                the pool.
+        """
+        team = self._open_team()
+        _check(team, library.gerfmuod_team_release(team, self._number_of(task)))
+
     def run(self, threads: Optional[int] = None) -> None:
         """Runs all tasks, and returns when they are done.
 
@@ -126,7 +155,8 @@ class Pool:
                 exception has stopped it before.
 
         An exception of a task's function stops the pool: tasks that run are finished, no further
-        one begins, and ``run`` raises that exception.
+        one begins, and ``run`` raises that exception. While the caller waits for inputs from
+        outside, it does not see an interrupt from the keyboard.
         """
         team = self._open_team()
         count = _processors() if threads is None else threads
@@ -175,6 +205,11 @@ class Pool:
     def __len__(self) -> int:
         """Returns the number of tasks that were described."""
         return len(self._jobs)
+
+    def _number_of(self, task: "Task[Any]") -> int:
+        if task._pool is not self:
+            raise ValueError("the task is of another pool")
+        return task.number
 
     def _open_team(self) -> ctypes.c_void_p:
         if self._team is None:
