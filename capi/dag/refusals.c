@@ -297,8 +297,9 @@ static void check_team_outside(void) {
     check("release", gerfmuod_team_release(team, 1), GERFMUOD_DAG_OK);
     check("release once too often", gerfmuod_team_release(team, 1), GERFMUOD_DAG_WRONG_LIFE);
     check("at task", gerfmuod_team_at(team), 1);
-    gerfmuod_team_turn(team, 0, gerfmuod_team_turn(team, 0, GERFMUOD_DAG_NONE).number);
-    check("the end", gerfmuod_team_turn(team, 0, 1).told, GERFMUOD_DAG_OVER);
+    uint32_t first = gerfmuod_team_turn(team, 0, GERFMUOD_DAG_NONE).number;
+    uint32_t second = gerfmuod_team_turn(team, 0, first).number;
+    check("the end", gerfmuod_team_turn(team, 0, second).told, GERFMUOD_DAG_OVER);
     check("release after the end", gerfmuod_team_release(team, 1), GERFMUOD_DAG_WRONG_LIFE);
     gerfmuod_team_close(team);
     gerfmuod_team_open(&team, 1);
