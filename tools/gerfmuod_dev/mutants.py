@@ -67,20 +67,25 @@ def own_files(crate):
     return [path for part in ("src", "specs", "proofs") for path in files_in(f"crates/{crate.name}/{part}")]
 
 
-def hash_of(crate, texts):
-    """Returns a hash of texts, given as pairs of a name and a text, and of a crate's mutants."""
+def hash_of(texts):
+    """Returns a hash of texts, given as pairs of a name and a text."""
     result = hashlib.sha256()
-    for name, text in [*texts, *((name, mutant.text) for name, mutant in sorted(mutants_of(crate.name).items()))]:
+    for name, text in texts:
         result.update(f"{name}\n{text}\n".encode())
     return result.hexdigest()
+
+
+def texts_seen(crate):
+    """Returns the texts that a crate's proofs depend on, by their names: its own files, and the definitions of lower crates that it can
+    see."""
+    own = [(path, meaning_of(path)) for path in own_files(crate)]
+    return own + [(f"{part.kind} {part.path} {part.name}", meaning_seen(part)) for part in visible.definitions_seen(crate.name)]
 
 
 def digest(crate):
     """Returns a hash of all that the verdicts on a crate's mutants depend on: its own files, its mutants, and the definitions of lower
     crates that it can see. Neither the verdicts themselves nor whether the gate tries a mutant is part of it."""
-    own = [(path, meaning_of(path)) for path in own_files(crate)]
-    seen = [(f"{part.kind} {part.path} {part.name}", meaning_seen(part)) for part in visible.definitions_seen(crate.name)]
-    return hash_of(crate, own + seen)
+    return hash_of([*texts_seen(crate), *((name, mutant.text) for name, mutant in sorted(mutants_of(crate.name).items()))])
 
 
 def note_of(crate, word):
@@ -178,14 +183,16 @@ def in_copies(copies, jobs):
 
 
 class Verdicts:
-    """What the prover said of each mutant of a crate, by name. Those of a run that was cut off are taken over if the crate's digest and
-    the toolchain are the same."""
+    """What the prover said of each mutant of a crate, by name. The verdict of an earlier run that was cut off is taken over if what the
+    crate's proofs depend on, the mutant and the toolchain are the same."""
 
     def __init__(self, crate):
         self.crate, self.path, self.lock = crate, f"crates/{crate.name}/out/mutants.json", threading.Lock()
-        self.basis = [digest(crate), toolchain()]
+        self.basis = [hash_of(texts_seen(crate)), toolchain()]
         kept = json.loads(text_of(self.path, "{}"))
-        self.messages = kept["messages"] if kept.get("basis") == self.basis else {}
+        texts = {name: mutant.text for name, mutant in mutants_of(crate.name).items()}
+        earlier = kept["verdicts"] if kept.get("basis") == self.basis else {}
+        self.messages = {name: message for name, (text, message) in earlier.items() if texts.get(name) == text}
         self.is_recorded = False
         if self.messages:
             print(f"{crate.name}: {len(self.messages)} verdicts taken over from a run that was cut off", flush=True)
@@ -201,7 +208,8 @@ class Verdicts:
             self.messages.update(messages)
             os.makedirs(os.path.dirname(self.path), exist_ok=True)
             decided = {name: message for name, message in self.messages.items() if not UNDECIDED.search(message)}
-            together.write(f"{self.path}.new", json.dumps({"basis": self.basis, "messages": decided}))
+            verdicts = {name: [mutants_of(self.crate.name)[name].text, message] for name, message in decided.items()}
+            together.write(f"{self.path}.new", json.dumps({"basis": self.basis, "verdicts": verdicts}))
             os.replace(f"{self.path}.new", self.path)
             if not self.left and not self.is_recorded:
                 self.is_recorded = record(self.crate, self.messages)
